@@ -1,0 +1,5 @@
+pub mod Tags
+pub mod Ranges
+pub mod Kinds
+pub mod Objects
+pub mod Applying

@@ -1,0 +1,26 @@
+//! The numbers, objects, events and steps that every other crate speaks of.
+//!
+//! An object map is what a list of events leaves: for each key the first entry of the greatest version.
+//! `specs/Objects.antt` and `specs/Applying.antt` say so. A copy costs the size of what is copied, a look-up
+//! among tags the logarithm of their number, and everything else a constant.
+#![tactic(auto)]
+
+mod event;
+mod ids;
+mod lists;
+mod location;
+mod memory;
+mod objects;
+mod steps;
+mod tags;
+mod text;
+
+pub use event::Event;
+pub use ids::{Dir, Key, NodeId, RelationId, Sequence, Step, WayId};
+pub use lists::{Drive, Keys, Refs, Ways};
+pub use location::Location;
+pub use memory::NoMemory;
+pub use objects::{Body, Member, Members, Node, Relation, Way};
+pub use steps::Steps;
+pub use tags::Tags;
+pub use text::Text;

@@ -1,0 +1,145 @@
+//! Nodes, ways and relations.
+ghost use Rattle.std.specs.Prelude.{◌≡◌, IfOk, ◌≤◌, length};
+
+use crate::{Key, Location, NoMemory, Refs, Tags, Text};
+use std::marker::Model;
+
+/// A node. Its location is missing where the source doesn't tell it.
+#[derive(Drop)]
+pub struct Node {
+    pub tags: Tags,
+    pub location: Option<Location>,
+}
+
+/// A way.
+#[derive(Drop)]
+pub struct Way {
+    pub tags: Tags,
+    pub refs: Refs,
+}
+
+/// An object that a relation names, and the role that it plays there.
+#[derive(Drop)]
+pub struct Member {
+    pub item: Key,
+    pub role: Text,
+}
+
+/// The members of a relation, at most 65,535 of them.
+#[derive(Drop)]
+pub struct Members {
+    list: Vec<Member>,
+}
+
+impl Model for Members {
+    ghost use Rattle.std.specs.Prelude.{List, ◌≤◌, length};
+    ghost use Rattle.road_base.specs.declared.objects.Member.{Member};
+
+    ghost Value = { List Member };
+
+    ghost view = { λ m. m.list.items };
+
+    ghost invariant = { λ m. length m.list.items ≤ 65535 };
+}
+
+/// A relation.
+#[derive(Drop)]
+pub struct Relation {
+    pub tags: Tags,
+    pub members: Members,
+}
+
+/// What an object is after an event.
+#[derive(Drop)]
+pub enum Body {
+    Node(Node),
+    Way(Way),
+    Relation(Relation),
+    Deleted,
+}
+
+impl Node {
+    pub fn copy(&self) -> Result<Node, NoMemory>
+        ensures { IfOk result (λ n. n ≡ self.now) }
+    {
+        let tags = self.tags.copy()?;
+        Ok(Node {
+            tags,
+            location: self.location,
+        })
+    }
+}
+
+impl Way {
+    pub fn copy(&self) -> Result<Way, NoMemory>
+        ensures { IfOk result (λ w. w ≡ self.now) }
+    {
+        let tags = self.tags.copy()?;
+        let refs = self.refs.copy()?;
+        Ok(Way { tags, refs })
+    }
+}
+
+impl Member {
+    pub fn copy(&self) -> Result<Member, NoMemory>
+        ensures { IfOk result (λ m. m ≡ self.now) }
+    {
+        let role = self.role.copy()?;
+        Ok(Member {
+            item: self.item,
+            role,
+        })
+    }
+}
+
+impl Members {
+    /// Takes no memory.
+    pub fn from_list(list: Vec<Member>) -> Members
+        requires { length list.items ≤ 65535 }
+        ensures { result ≡ list.items }
+    {
+        Members { list }
+    }
+
+    /// In the order in which the relation names them.
+    pub fn items(&self) -> &[Member]
+        ensures items { result.now ≡ self.now }
+        ensures short { length self.now ≤ 65535 }
+    {
+        self.list.as_slice()
+    }
+
+    pub fn copy(&self) -> Result<Members, NoMemory>
+        ensures { IfOk result (λ m. m ≡ self.now) }
+    {
+        let from = self.list.as_slice();
+        let mut list = Vec::with_capacity(*self.list.allocator(), from.len())?;
+        for member in from {
+            list.push(member.copy()?)?;
+        }
+        Ok(Members { list })
+    }
+}
+
+impl Relation {
+    pub fn copy(&self) -> Result<Relation, NoMemory>
+        ensures { IfOk result (λ r. r ≡ self.now) }
+    {
+        let tags = self.tags.copy()?;
+        let members = self.members.copy()?;
+        Ok(Relation { tags, members })
+    }
+}
+
+impl Body {
+    pub fn copy(&self) -> Result<Body, NoMemory>
+        ensures { IfOk result (λ b. b ≡ self.now) }
+    {
+        match self {
+            Body::Node(node) => Ok(Body::Node(node.copy()?)),
+            Body::Way(way) => Ok(Body::Way(way.copy()?)),
+            Body::Relation(relation) => Ok(Body::Relation(relation.copy()?)),
+            Body::Deleted => Ok(Body::Deleted),
+        }
+    }
+}

@@ -1,0 +1,65 @@
+//! The tags of an object.
+ghost use Rattle.std.specs.Prelude.{◌≡◌, IfOk, ◌≤◌, length, option_copied};
+ghost use Rattle.road_base.specs.Tags.{IsAscending, value_of};
+
+use crate::{NoMemory, Text};
+use std::marker::Model;
+
+/// Keys with their values, the keys strictly ascending by bytes, at most 65,535 of them.
+#[derive(Drop)]
+pub struct Tags {
+    list: Vec<(Text, Text)>,
+}
+
+impl Model for Tags {
+    ghost use Rattle.std.specs.Prelude.{List, ℕ, ◌≤◌, length};
+    ghost use Rattle.road_base.specs.Tags.{IsAscending};
+
+    ghost Value = { List (List ℕ × List ℕ) };
+
+    ghost view = { λ t. t.list.items };
+
+    ghost invariant = { λ t. IsAscending t.list.items × (length t.list.items ≤ 65535) };
+}
+
+impl Tags {
+    /// Takes no memory.
+    pub fn from_list(list: Vec<(Text, Text)>) -> Tags
+        requires ascending { IsAscending list.items }
+        requires short { length list.items ≤ 65535 }
+        ensures { result ≡ list.items }
+    {
+        Tags { list }
+    }
+
+    /// The pairs, in the order of their keys.
+    pub fn items(&self) -> &[(Text, Text)]
+        ensures items { result.now ≡ self.now }
+        ensures ascending { IsAscending self.now }
+        ensures short { length self.now ≤ 65535 }
+    {
+        self.list.as_slice()
+    }
+
+    /// The value of a key, None exactly where the key isn't carried.
+    pub fn get(&self, key: &str) -> Option<&str>
+        ensures { option_copied result ≡ value_of key.now self.now }
+    {
+        let list = self.list.as_slice();
+        match list.binary_search_by(|pair| pair.0.as_str().cmp(key)) {
+            Ok(at) => Some(list[at].1.as_str()),
+            Err(_) => None,
+        }
+    }
+
+    pub fn copy(&self) -> Result<Tags, NoMemory>
+        ensures { IfOk result (λ t. t ≡ self.now) }
+    {
+        let from = self.list.as_slice();
+        let mut list = Vec::with_capacity(*self.list.allocator(), from.len())?;
+        for pair in from {
+            list.push((pair.0.copy()?, pair.1.copy()?))?;
+        }
+        Ok(Tags { list })
+    }
+}
