@@ -1,1 +1,3 @@
 pub mod TagSearch
+pub mod KeyOrder
+pub mod Applied

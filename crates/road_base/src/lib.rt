@@ -7,6 +7,7 @@
 
 mod event;
 mod ids;
+pub mod laws;
 mod lists;
 mod location;
 mod memory;

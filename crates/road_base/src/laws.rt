@@ -1,0 +1,34 @@
+//! Laws of what events leave of an object map, each the contract of a function that does nothing.
+ghost use Rattle.std.specs.Prelude.{◌≡◌, List, ◌++◌, Contains, map};
+ghost use Rattle.std.specs.FinMap.{empty, from_entries};
+ghost use Rattle.road_base.specs.Applying.{IsApplied, entry_of};
+ghost use Rattle.road_base.specs.Objects.{Objects};
+ghost use Rattle.road_base.specs.declared.event.Event.{Event};
+
+/// Events leave at most one map of a map.
+pub fn one_map()
+    ensures { (M N O : Objects) (events : List Event)
+        → IsApplied M events N
+        → IsApplied M events O
+        → N ≡ O }
+{}
+
+/// Events leave some map of every map.
+pub fn applied_stands()
+    ensures { (M : Objects) (events : List Event) → (N : Objects) × IsApplied M events N }
+{}
+
+/// Events that come in turn leave what they leave when they come at once.
+pub fn applied_in_turn()
+    ensures { (M N O : Objects) (first second : List Event)
+        → IsApplied M first N
+        → IsApplied N second O
+        → IsApplied M (first ++ second) O }
+{}
+
+/// Where all versions are 0, the first event of each key stands.
+pub fn applied_alone()
+    ensures { (events : List Event)
+        → ((e : Event) → Contains events e → e.version ≡ 0)
+        → IsApplied empty events (from_entries (map (λ e. (e.key, entry_of e)) events)) }
+{}
