@@ -1,9 +1,16 @@
-//! Laws of what events leave of an object map, each the contract of a function that does nothing.
+//! Laws of keys and of what events leave of an object map, each the contract of a function that does nothing.
 ghost use Rattle.std.specs.Prelude.{◌≡◌, List, ◌++◌, Contains, map};
-ghost use Rattle.std.specs.FinMap.{empty, from_entries};
+ghost use Rattle.std.specs.Cmp.{IsTotalOrder};
+ghost use Rattle.std.specs.FinMap.{IsAntisymmetric, empty, from_entries};
 ghost use Rattle.road_base.specs.Applying.{IsApplied, entry_of};
-ghost use Rattle.road_base.specs.Objects.{Objects};
+ghost use Rattle.road_base.specs.Objects.{Objects, key_cmp};
 ghost use Rattle.road_base.specs.declared.event.Event.{Event};
+
+/// Keys stand in a total order, in which only equal keys tie.
+pub fn key_order()
+    ensures total { IsTotalOrder key_cmp }
+    ensures ties { IsAntisymmetric key_cmp }
+{}
 
 /// Events leave at most one map of a map.
 pub fn one_map()
