@@ -1,0 +1,68 @@
+-- What the block of a way lists.
+use Rattle.std.specs.Prelude.{◌≡◌, ℕ, ◌+◌, ◌-◌, List, [], ◌∷◌, ◌++◌, length, map, Some, slice_get}
+use Rattle.road_base.specs.declared.ids.WayId.{WayId}
+use Rattle.road_base.specs.declared.ids.Dir.{Dir}
+use Rattle.road_base.specs.declared.ids.Dir.TheVariants.{Forward, Backward}
+use Rattle.road_base.specs.declared.objects.Node.{Node}
+use Rattle.road_base.specs.Objects.{Objects, node_of}
+use Rattle.road_model.specs.declared.lists.PieceName.{PieceName}
+use Rattle.road_model.specs.declared.lists.Place.{Place}
+use Rattle.road_model.specs.declared.lists.TurnArc.{TurnArc}
+use Rattle.road_model.specs.declared.lists.Context.{Context}
+use Rattle.road_model.specs.declared.lists.Piece.{Piece as PieceEntry}
+use Rattle.road_model.specs.declared.blocks.Block.{Block}
+use Rattle.road_model.specs.Rules.{Rules}
+use Rattle.road_model.specs.Lines.{node_at}
+use Rattle.road_model.specs.Pieces.{Piece, IsPiece}
+use Rattle.road_model.specs.Network.{IsContext, IsArc}
+use Rattle.road_model.specs.Orders.{Lists, name_cmp, names_cmp}
+
+abbrev pub name_of : Piece → PieceName
+name_of p = record { way = p.way; index = p.index; dir = p.dir }
+
+-- an arc as it is written: its piece's name, and how many pieces its target has
+pub record IsArcEntry (M : Objects) (P : Rules) (c : List Piece) (a : TurnArc) : Type 0 where
+  pub piece : Piece
+  pub target : List Piece
+  pub arc : IsArc M P c piece target
+  pub named : a.piece ≡ name_of piece
+  pub length_is : a.length ≡ length target
+
+-- a context of the piece as it is written: the names of the pieces before it, and its arcs
+pub record IsContextEntry (M : Objects) (P : Rules) (p : Piece) (e : Context) : Type 0 where
+  pub before : List Piece
+  pub context : IsContext M P (before ++ p ∷ [])
+  pub named : e.before ≡ map name_of before
+  pub arcs : Lists (λ a. a.piece) name_cmp (IsArcEntry M P (before ++ p ∷ [])) e.arcs
+
+-- the position on the way's line at which a piece is after k steps
+abbrev pub place_position : Piece → ℕ → ℕ
+place_position p k = elim p.dir [ Forward ↦ p.index + k | Backward ↦ p.end - k ]
+
+-- the k-th node of a piece in order of travel, with its location
+pub record IsPlaceOf (M : Objects) (p : Piece) (k : ℕ) (e : Place) : Type 0 where
+  pub node : node_at M p.way (place_position p k) ≡ Some e.node
+  pub body : Node
+  pub visible : node_of M e.node ≡ Some body
+  pub location : body.location ≡ Some e.location
+
+-- a piece of the way as it is written: its name and end, all its nodes in order of travel, and its contexts
+pub record IsPieceEntry (M : Objects) (P : Rules) (w : WayId) (e : PieceEntry) : Type 0 where
+  pub piece : Piece
+  pub is : IsPiece M P piece
+  pub of : piece.way ≡ w
+  pub named : e.name ≡ name_of piece
+  pub end_is : e.end ≡ piece.end
+  pub count : length e.places ≡ piece.end - piece.index + 1
+  pub places : (k : ℕ) (x : Place) → slice_get e.places k ≡ Some x → IsPlaceOf M piece k x
+  pub contexts : Lists (λ c. c.before) names_cmp (IsContextEntry M P piece) e.contexts
+
+-- the block of a way
+pub record IsBlock (M : Objects) (P : Rules) (w : WayId) (b : Block) : Type 0 where
+  pub way : b.way ≡ w
+  pub pieces : Lists (λ p. p.name) name_cmp (IsPieceEntry M P w) b.pieces
+
+-- the block of a way that has pieces
+pub record IsRoadBlock (M : Objects) (P : Rules) (b : Block) : Type 0 where
+  pub block : IsBlock M P b.way b
+  pub some : b.pieces ≡ [] → ⊥

@@ -1,0 +1,14 @@
+pub mod Rules
+pub mod Lines
+pub mod Driving
+pub mod Restrictions
+pub mod Words
+pub mod Legal
+pub mod Pieces
+pub mod Contexts
+pub mod Network
+pub mod Orders
+pub mod Blocks
+pub mod Format
+pub mod BlockMap
+pub mod Naming

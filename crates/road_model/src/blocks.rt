@@ -1,0 +1,94 @@
+//! Blocks of the graph, one for each way with pieces.
+ghost use Rattle.std.specs.Prelude.{◌≡◌, ◌+◌, ◌≤◌, map, None, IfOk, OnOk, OnErr, IsTrue};
+ghost use Rattle.std.specs.FinMap.{empty, get, entries, insert as inserted};
+ghost use Rattle.road_model.specs.Orders.{way_cmp, rises};
+
+use crate::Pieces;
+use road_base::{NoMemory, WayId};
+use std::alloc::Global;
+use std::marker::Model;
+
+/// The part of the graph that belongs to a way.
+#[derive(Drop)]
+pub struct Block {
+    pub way: WayId,
+    pub pieces: Pieces,
+}
+
+impl Block {
+    pub fn copy(&self) -> Result<Block, NoMemory>
+        ensures { IfOk result (λ b. b ≡ self.now) }
+    {
+        let pieces = self.pieces.copy()?;
+        Ok(Block {
+            way: self.way,
+            pieces,
+        })
+    }
+}
+
+/// Blocks, each at its way. Contracts see a finite map from ways to blocks, and how many blocks may be put without
+/// taking memory.
+#[derive(Drop)]
+pub struct Blocks {
+    list: Vec<Block>,
+}
+
+impl Model for Blocks {
+    ghost use Rattle.std.specs.Prelude.{◌-◌, map, IsTrue, vec_len};
+    ghost use Rattle.std.specs.Vec.{vec_capacity};
+    ghost use Rattle.road_model.specs.BlockMap.{BlockMap, block_map, coded_block_map};
+    ghost use Rattle.road_model.specs.Orders.{way_cmp, rises};
+
+    ghost Value = { BlockMap };
+
+    ghost coded = { coded_block_map };
+
+    ghost view = { λ b. record { map = block_map b.list.items; spare = vec_capacity b.list - vec_len b.list } };
+
+    ghost invariant = { λ b. IsTrue (rises way_cmp (map (λ x. x.way) b.list.items)) };
+}
+
+impl Blocks {
+    ghost use Rattle.road_model.specs.BlockMap.{entry_of};
+
+    /// No blocks. Takes no memory.
+    pub fn new(alloc: Global) -> Blocks
+        ensures { result.map ≡ empty }
+    {
+        Blocks {
+            list: Vec::new(alloc),
+        }
+    }
+
+    /// Puts the block at its way, in place of an older one. Where no memory is found nothing changes and the block is
+    /// dropped; that never comes where the way has a block or there is room to spare.
+    pub fn insert(&mut self, block: Block) -> Result<(), NoMemory>
+        ensures ok { OnOk result (self.new.map ≡ inserted self.old.map block.way block) }
+        ensures err { OnErr result (self.new.map ≡ self.old.map) }
+        ensures new_way { OnErr result (get self.old.map block.way ≡ None) }
+        ensures no_room { OnErr result (self.old.spare ≡ 0) }
+        ensures spare { self.old.spare ≤ self.new.spare + 1 }
+    {
+        let way = block.way;
+        if self.list.last().is_none_or(|last| last.way < way) {
+            self.list.push(block)?;
+            return Ok(());
+        }
+        match self.list.binary_search_by(|other| other.way.cmp(&way)) {
+            Ok(at) => {
+                self.list[at] = block;
+                Ok(())
+            }
+            Err(at) => Ok(self.list.insert(at, block)?),
+        }
+    }
+
+    /// All blocks, ascending by way.
+    pub fn items(&self) -> &[Block]
+        ensures entries { entries self.now.map ≡ map entry_of result.now }
+        ensures ascending { IsTrue (rises way_cmp (map (λ b. b.way) result.now)) }
+    {
+        self.list.as_slice()
+    }
+}

@@ -1,0 +1,268 @@
+//! Pieces, contexts and arcs of the turn-expanded graph, and lists of them.
+ghost use Rattle.std.specs.Prelude.{◌≡◌, IfOk};
+
+use road_base::{Dir, Location, NoMemory, NodeId, WayId};
+use std::marker::Model;
+
+/// What names a piece: its way, its lower position on the way's line, and its direction. Names are compared in this order.
+#[derive(Clone, Copy, PartialEq, Eq, PartialOrd, Ord, Debug)]
+pub struct PieceName {
+    pub way: WayId,
+    pub index: u32,
+    pub dir: Dir,
+}
+
+/// A node that a piece passes, and where it lies.
+#[derive(Clone, Copy, PartialEq, Eq, Debug)]
+pub struct Place {
+    pub node: NodeId,
+    pub location: Location,
+}
+
+/// An arc: the piece by which it leads on, and how many pieces the context has to which it leads. These are the last
+/// pieces of the context from which it comes, and then that piece.
+#[derive(Clone, Copy, PartialEq, Eq, Debug)]
+pub struct TurnArc {
+    pub piece: PieceName,
+    pub length: u32,
+}
+
+/// A context of a piece: the pieces driven before it, as far as they matter, and the arcs from there.
+#[derive(Drop)]
+pub struct Context {
+    pub before: Names,
+    pub arcs: Arcs,
+}
+
+/// A run of a way between two junctions in one direction: its name, its upper position on the way's line, the nodes in
+/// order of travel, and its contexts.
+#[derive(Drop)]
+pub struct Piece {
+    pub name: PieceName,
+    pub end: u32,
+    pub places: Places,
+    pub contexts: Contexts,
+}
+
+impl Context {
+    pub fn copy(&self) -> Result<Context, NoMemory>
+        ensures { IfOk result (λ c. c ≡ self.now) }
+    {
+        let before = self.before.copy()?;
+        let arcs = self.arcs.copy()?;
+        Ok(Context { before, arcs })
+    }
+}
+
+impl Piece {
+    pub fn copy(&self) -> Result<Piece, NoMemory>
+        ensures { IfOk result (λ p. p ≡ self.now) }
+    {
+        let places = self.places.copy()?;
+        let contexts = self.contexts.copy()?;
+        Ok(Piece {
+            name: self.name,
+            end: self.end,
+            places,
+            contexts,
+        })
+    }
+}
+
+/// Names of pieces.
+#[derive(Drop)]
+pub struct Names {
+    list: Vec<PieceName>,
+}
+
+impl Model for Names {
+    ghost use Rattle.std.specs.Prelude.{List};
+    ghost use Rattle.road_model.specs.declared.lists.PieceName.{PieceName};
+
+    ghost Value = { List PieceName };
+
+    ghost view = { λ l. l.list.items };
+}
+
+impl Names {
+    /// Takes no memory.
+    pub fn from_list(list: Vec<PieceName>) -> Names
+        ensures { result ≡ list.items }
+    {
+        Names { list }
+    }
+
+    /// In their stated order: of travel, or ascending.
+    pub fn items(&self) -> &[PieceName]
+        ensures { result.now ≡ self.now }
+    {
+        self.list.as_slice()
+    }
+
+    pub fn copy(&self) -> Result<Names, NoMemory>
+        ensures { IfOk result (λ l. l ≡ self.now) }
+    {
+        let list = self.list.clone()?;
+        Ok(Names { list })
+    }
+}
+
+/// Arcs from a context.
+#[derive(Drop)]
+pub struct Arcs {
+    list: Vec<TurnArc>,
+}
+
+impl Model for Arcs {
+    ghost use Rattle.std.specs.Prelude.{List};
+    ghost use Rattle.road_model.specs.declared.lists.TurnArc.{TurnArc};
+
+    ghost Value = { List TurnArc };
+
+    ghost view = { λ l. l.list.items };
+}
+
+impl Arcs {
+    /// Takes no memory.
+    pub fn from_list(list: Vec<TurnArc>) -> Arcs
+        ensures { result ≡ list.items }
+    {
+        Arcs { list }
+    }
+
+    /// Ascending by name, in a graph.
+    pub fn items(&self) -> &[TurnArc]
+        ensures { result.now ≡ self.now }
+    {
+        self.list.as_slice()
+    }
+
+    pub fn copy(&self) -> Result<Arcs, NoMemory>
+        ensures { IfOk result (λ l. l ≡ self.now) }
+    {
+        let list = self.list.clone()?;
+        Ok(Arcs { list })
+    }
+}
+
+/// The nodes that a piece passes.
+#[derive(Drop)]
+pub struct Places {
+    list: Vec<Place>,
+}
+
+impl Model for Places {
+    ghost use Rattle.std.specs.Prelude.{List};
+    ghost use Rattle.road_model.specs.declared.lists.Place.{Place};
+
+    ghost Value = { List Place };
+
+    ghost view = { λ l. l.list.items };
+}
+
+impl Places {
+    /// Takes no memory.
+    pub fn from_list(list: Vec<Place>) -> Places
+        ensures { result ≡ list.items }
+    {
+        Places { list }
+    }
+
+    /// In order of travel.
+    pub fn items(&self) -> &[Place]
+        ensures { result.now ≡ self.now }
+    {
+        self.list.as_slice()
+    }
+
+    pub fn copy(&self) -> Result<Places, NoMemory>
+        ensures { IfOk result (λ l. l ≡ self.now) }
+    {
+        let list = self.list.clone()?;
+        Ok(Places { list })
+    }
+}
+
+/// The contexts of a piece.
+#[derive(Drop)]
+pub struct Contexts {
+    list: Vec<Context>,
+}
+
+impl Model for Contexts {
+    ghost use Rattle.std.specs.Prelude.{List};
+    ghost use Rattle.road_model.specs.declared.lists.Context.{Context};
+
+    ghost Value = { List Context };
+
+    ghost view = { λ l. l.list.items };
+}
+
+impl Contexts {
+    /// Takes no memory.
+    pub fn from_list(list: Vec<Context>) -> Contexts
+        ensures { result ≡ list.items }
+    {
+        Contexts { list }
+    }
+
+    /// By length and then by names, in a graph.
+    pub fn items(&self) -> &[Context]
+        ensures { result.now ≡ self.now }
+    {
+        self.list.as_slice()
+    }
+
+    pub fn copy(&self) -> Result<Contexts, NoMemory>
+        ensures { IfOk result (λ l. l ≡ self.now) }
+    {
+        let from = self.list.as_slice();
+        let mut list = Vec::with_capacity(*self.list.allocator(), from.len())?;
+        for item in from {
+            list.push(item.copy()?)?;
+        }
+        Ok(Contexts { list })
+    }
+}
+
+/// The pieces of a way.
+#[derive(Drop)]
+pub struct Pieces {
+    list: Vec<Piece>,
+}
+
+impl Model for Pieces {
+    ghost use Rattle.std.specs.Prelude.{List};
+    ghost use Rattle.road_model.specs.declared.lists.Piece.{Piece};
+
+    ghost Value = { List Piece };
+
+    ghost view = { λ l. l.list.items };
+}
+
+impl Pieces {
+    /// Takes no memory.
+    pub fn from_list(list: Vec<Piece>) -> Pieces
+        ensures { result ≡ list.items }
+    {
+        Pieces { list }
+    }
+
+    /// Ascending by name, in a graph.
+    pub fn items(&self) -> &[Piece]
+        ensures { result.now ≡ self.now }
+    {
+        self.list.as_slice()
+    }
+
+    pub fn copy(&self) -> Result<Pieces, NoMemory>
+        ensures { IfOk result (λ l. l ≡ self.now) }
+    {
+        let from = self.list.as_slice();
+        let mut list = Vec::with_capacity(*self.list.allocator(), from.len())?;
+        for item in from {
+            list.push(item.copy()?)?;
+        }
+        Ok(Pieces { list })
+    }
+}
