@@ -1,0 +1,4 @@
+pub mod TotalOrders
+pub mod Members
+pub mod Unique
+pub mod OneWriting

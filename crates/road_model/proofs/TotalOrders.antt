@@ -1,0 +1,43 @@
+-- The orders of ways, names and lists of names are total.
+use Rattle.std.proofs.Common.{◌≡◌, length, refl, Ordering}
+use Rattle.std.specs.declared.cmp.Ordering.TheVariants.{Less, Equal, Greater}
+use Rattle.std.specs.Ordering.{ordering_reverse}
+use Rattle.std.specs.Cmp.{IsTotalOrder}
+use Rattle.std.proofs.lemmas.Cmp.{nat_cmp_total, int_cmp_total, on_total, then_total, lists_total}
+use Rattle.road_base.specs.declared.ids.WayId.{WayId}
+use Rattle.road_base.specs.declared.ids.Dir.{Dir}
+use Rattle.road_base.specs.declared.ids.Dir.TheVariants.{Forward, Backward}
+use Rattle.road_model.specs.declared.lists.PieceName.{PieceName}
+use Rattle.road_model.specs.Orders.{way_cmp, dir_cmp, name_cmp, names_cmp}
+
+pub way_cmp_total : IsTotalOrder way_cmp
+way_cmp_total = on_total (λ (w : WayId). w.0) int_cmp_total
+
+dir_antisymm : (a b : Dir) → dir_cmp a b ≡ ordering_reverse (dir_cmp b a)
+dir_antisymm Forward Forward = refl
+dir_antisymm Forward Backward = refl
+dir_antisymm Backward Forward = refl
+dir_antisymm Backward Backward = refl
+
+dir_trans : (a b c : Dir) → dir_cmp a b ≡ Less → dir_cmp b c ≡ Less → dir_cmp a c ≡ Less
+dir_trans Forward Forward c h k = k
+dir_trans Forward Backward Forward h k = cc
+dir_trans Forward Backward Backward h k = refl
+dir_trans Backward Forward c h k = cc
+dir_trans Backward Backward c h k = k
+
+dir_congr : (a b c : Dir) → dir_cmp a b ≡ Equal → dir_cmp a c ≡ dir_cmp b c
+dir_congr Forward Forward c h = refl
+dir_congr Forward Backward c h = cc
+dir_congr Backward Forward c h = cc
+dir_congr Backward Backward c h = refl
+
+pub dir_cmp_total : IsTotalOrder dir_cmp
+dir_cmp_total = record { antisymm = dir_antisymm; trans = dir_trans; congr = dir_congr }
+
+pub name_cmp_total : IsTotalOrder name_cmp
+name_cmp_total = then_total (on_total (λ (n : PieceName). n.way) way_cmp_total)
+    (then_total (on_total (λ (n : PieceName). n.index) nat_cmp_total) (on_total (λ (n : PieceName). n.dir) dir_cmp_total))
+
+pub names_cmp_total : IsTotalOrder names_cmp
+names_cmp_total = then_total (on_total length nat_cmp_total) (lists_total name_cmp_total)

@@ -1,0 +1,5 @@
+use Rattle.road_model.proofs.OneWriting.{one_graph}
+use Rattle.road_model.proofs.laws.one_graph.Goals as goal
+
+pub returns : goal.returns
+returns g c = λ M. one_graph M _
