@@ -1,0 +1,6 @@
+pub mod Numbers
+pub mod PlainForm
+pub mod PlainRules
+pub mod PlainMap
+pub mod Streets
+pub mod PlainGraph

@@ -1,0 +1,7 @@
+//! osmroad compiles what a car may drive in OpenStreetMap data to a turn-expanded graph.
+#![tactic(auto)]
+
+mod plain_piece;
+mod street;
+
+fn main(_rt: HostRuntime) {}
