@@ -1,0 +1,10 @@
+-- What a site tells of the outside.
+use Rattle.std.specs.Prelude.{ℕ, List, ◌++◌}
+
+-- what has been put so far, the first byte first
+pub record World : Type 0 where
+  pub output : List ℕ
+
+-- the world with a piece behind its output
+abbrev pub extended : List ℕ → World → World
+extended piece w = record { output = w.output ++ piece }
