@@ -2,3 +2,4 @@ pub mod TotalOrders
 pub mod Members
 pub mod Unique
 pub mod OneWriting
+pub mod SortedMaps

@@ -5,7 +5,7 @@ abbrev pub In : {A : Type 0} → A → List A → Type 0
 In a [] = ⊥
 In a (x ∷ xs) = (a ≡ x) ⊎ In a xs
 
-at_place : {A : Type 0} (xs : List A) (x : A) (k : ℕ) → k < length xs → slice_index_or xs k x ≡ x → In x xs
+pub at_place : {A : Type 0} (xs : List A) (x : A) (k : ℕ) → k < length xs → slice_index_or xs k x ≡ x → In x xs
 at_place [] x k l e = absurd (omega arith)
 at_place (y ∷ xs) x zero l e = inl (sym e)
 at_place (y ∷ xs) x (suc k) l e = inr (at_place xs x k (omega arith) e)

@@ -1,17 +1,15 @@
 -- Pieces are told apart by their names; what is written of a piece, of a way and of an object map is one thing.
-use Rattle.std.proofs.Common.{◌≡◌, ◌+◌, ◌-◌, ℕ, ◌<◌, List, length, ◌⊎◌, inl, inr, refl, sym, ap, ◌∙◌, subst, arith, Some, slice_get}
+use Rattle.std.proofs.Common.{◌≡◌, ℕ, ◌<◌, List, length, ◌⊎◌, inl, inr, sym, ap, ◌∙◌, subst, arith, Some, slice_get}
 use Rattle.road_base.specs.declared.ids.WayId.{WayId}
-use Rattle.road_base.specs.Objects.{Objects, node_of}
+use Rattle.road_base.specs.Objects.{Objects}
 use Rattle.road_model.specs.declared.lists.Place.{Place}
 use Rattle.road_model.specs.declared.lists.Context.{Context}
 use Rattle.road_model.specs.declared.lists.Piece.{Piece as PieceEntry}
 use Rattle.road_model.specs.declared.blocks.Block.{Block}
 use Rattle.road_model.specs.Rules.{Rules}
-use Rattle.road_model.specs.Lines.{node_at}
 use Rattle.road_model.specs.Pieces.{IsPlain, Piece, IsPiece}
 use Rattle.road_model.specs.Orders.{Lists, name_cmp, names_cmp, way_cmp}
-use Rattle.road_model.specs.Blocks.{name_of, place_position, IsPlaceOf, IsContextEntry, IsPieceEntry, IsBlock, IsRoadBlock}
-use Rattle.road_model.specs.Format.{IsGraph}
+use Rattle.road_model.specs.Blocks.{IsPlaceOf, IsContextEntry, IsPieceEntry, IsRoadBlock}
 use Rattle.road_model.specs.Naming.{OnePiece, OneEntry, OneBlock, OneGraph}
 use Rattle.road_model.proofs.TotalOrders.{way_cmp_total, name_cmp_total, names_cmp_total}
 use Rattle.road_model.proofs.Unique.{lists_unique, same_by_place}

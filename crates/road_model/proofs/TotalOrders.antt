@@ -1,8 +1,9 @@
 -- The orders of ways, names and lists of names are total.
-use Rattle.std.proofs.Common.{◌≡◌, length, refl, Ordering}
-use Rattle.std.specs.declared.cmp.Ordering.TheVariants.{Less, Equal, Greater}
+use Rattle.std.proofs.Common.{◌≡◌, length, refl}
+use Rattle.std.specs.declared.cmp.Ordering.TheVariants.{Less, Equal}
 use Rattle.std.specs.Ordering.{ordering_reverse}
 use Rattle.std.specs.Cmp.{IsTotalOrder}
+use Rattle.std.specs.FinMap.{IsAntisymmetric, int_cmp-IsAntisymmetric}
 use Rattle.std.proofs.lemmas.Cmp.{nat_cmp_total, int_cmp_total, on_total, then_total, lists_total}
 use Rattle.road_base.specs.declared.ids.WayId.{WayId}
 use Rattle.road_base.specs.declared.ids.Dir.{Dir}
@@ -41,3 +42,6 @@ name_cmp_total = then_total (on_total (λ (n : PieceName). n.way) way_cmp_total)
 
 pub names_cmp_total : IsTotalOrder names_cmp
 names_cmp_total = then_total (on_total length nat_cmp_total) (lists_total name_cmp_total)
+
+pub way_cmp_exact : IsAntisymmetric way_cmp
+way_cmp_exact a b e = let f = int_cmp-IsAntisymmetric a.0 b.0 e in λ i. record { 0 = f i }

@@ -1,5 +1,5 @@
 -- A strictly ascending list is known by its members, and any list by what stands at each place.
-use Rattle.std.proofs.Common.{◌≡◌, ℕ, zero, suc, ◌<◌, List, [], ◌∷◌, length, map, ◌⊎◌, inl, inr, refl, sym, ap, ◌∙◌, subst, arith, Some, slice_get, IsTrue, Ordering}
+use Rattle.std.proofs.Common.{◌≡◌, ℕ, suc, List, [], ◌∷◌, length, map, inl, inr, refl, sym, ap, ◌∙◌, subst, arith, Some, slice_get, IsTrue, Ordering}
 use Rattle.std.specs.declared.cmp.Ordering.TheVariants.{Less, Equal, Greater}
 use Rattle.std.specs.Ordering.{is_lt}
 use Rattle.std.specs.Cmp.{IsTotalOrder}
@@ -20,7 +20,7 @@ module _ {A N : Type 0} (name : A → N) (R : N → N → Ordering) (total : IsT
   not_itself : (a : N) → IsTrue (is_lt (R a a)) → ⊥
   not_itself a h = let e = less _ h in let f = tied_itself total a in cc
 
-  above : (n : N) (xs : List A) → IsTrue (rises_from R n (map name xs)) → (x : A) → In x xs → IsTrue (is_lt (R n (name x)))
+  pub above : (n : N) (xs : List A) → IsTrue (rises_from R n (map name xs)) → (x : A) → In x xs → IsTrue (is_lt (R n (name x)))
   above n [] h x i = absurd i
   above n (y ∷ xs) h x (inl e) = subst (λ z. IsTrue (is_lt (R n (name z)))) (sym e) (and_parts _ _ h).0
   above n (y ∷ xs) h x (inr i) = let p = and_parts _ _ h in over n (name y) (name x) p.0 (above (name y) xs p.1 x i)

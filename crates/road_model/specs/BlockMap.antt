@@ -1,5 +1,5 @@
 -- Blocks as a finite map from ways, and how many more may be put without taking memory.
-use Rattle.std.specs.Prelude.{◌≡◌, ℕ, List, map, refl}
+use Rattle.std.specs.Prelude.{ℕ, List, map, refl}
 use Rattle.std.specs.Coded.{Coded, code_by, coded×, coded_ℕ}
 use Rattle.std.specs.FinMap.{FinMap, from_entries, code}
 use Rattle.road_base.specs.declared.ids.WayId.{WayId}

@@ -1,5 +1,5 @@
 -- The orders of names, and strictly ascending lists that have exactly what is asked for.
-use Rattle.std.specs.Prelude.{ℕ, List, [], ◌∷◌, length, map, Bool, true, ◌&&◌, IsTrue, Contains}
+use Rattle.std.specs.Prelude.{List, [], ◌∷◌, length, map, Bool, true, ◌&&◌, IsTrue, Contains}
 use Rattle.std.specs.Ordering.{nat_cmp, int_cmp, is_lt, ordering_then}
 use Rattle.std.specs.declared.cmp.Ordering.{Ordering}
 use Rattle.std.specs.declared.cmp.Ordering.TheVariants.{Less, Equal, Greater}

@@ -1,5 +1,5 @@
 -- The members of a restriction, and the causes for which it may be of no use (OSM wiki, Relation:restriction).
-use Rattle.std.specs.Prelude.{◌≡◌, ℕ, ◌+◌, ◌-◌, nat_le, nat_lt, ◌&&◌, ◌||◌, not, is_some, sum_by, List, [], ◌∷◌, ◌++◌, length, Option, Some, None, Bool, true, false, IsTrue, Contains, map, filter, codes}
+use Rattle.std.specs.Prelude.{◌≡◌, ℕ, ◌-◌, nat_le, nat_lt, ◌&&◌, ◌||◌, not, is_some, sum_by, List, [], ◌∷◌, ◌++◌, length, Option, Some, None, Bool, true, false, IsTrue, map, filter, codes}
 use Rattle.std.specs.Str.{bytes_eq}
 use Rattle.std.specs.List.{list_all, list_any}
 use Rattle.road_base.specs.declared.ids.NodeId.{NodeId}

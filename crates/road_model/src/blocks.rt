@@ -1,5 +1,8 @@
 //! Blocks of the graph, one for each way with pieces.
-ghost use Rattle.std.specs.Prelude.{◌≡◌, ◌+◌, ◌≤◌, map, None, IfOk, OnOk, OnErr, IsTrue};
+ghost use Rattle.std.specs.Prelude.{◌≡◌, ◌+◌, ◌≤◌, length, map, None, IfOk, IfErr, OnOk, OnErr, IsTrue};
+ghost use Rattle.std.specs.List.{HoldsAt, AllWithin};
+ghost use Rattle.std.specs.List.Sorted.{IsSearchInRange};
+ghost use Rattle.std.specs.declared.cmp.Ordering.TheVariants.{Less, Greater};
 ghost use Rattle.std.specs.FinMap.{empty, get, entries, insert as inserted};
 ghost use Rattle.road_model.specs.Orders.{way_cmp, rises};
 
@@ -70,12 +73,7 @@ impl Blocks {
         ensures no_room { OnErr result (self.old.spare ≡ 0) }
         ensures spare { self.old.spare ≤ self.new.spare + 1 }
     {
-        let way = block.way;
-        if self.list.last().is_none_or(|last| last.way < way) {
-            self.list.push(block)?;
-            return Ok(());
-        }
-        match self.list.binary_search_by(|other| other.way.cmp(&way)) {
+        match place_of(self.list.as_slice(), block.way) {
             Ok(at) => {
                 self.list[at] = block;
                 Ok(())
@@ -90,5 +88,20 @@ impl Blocks {
         ensures ascending { IsTrue (rises way_cmp (map (λ b. b.way) result.now)) }
     {
         self.list.as_slice()
+    }
+}
+
+/// Where the way's block stands in the list, or else where it would stand: behind all blocks of lower ways. Behind all
+/// others is looked at first.
+fn place_of(list: &[Block], way: WayId) -> Result<usize, usize>
+    requires { IsTrue (rises way_cmp (map (λ b. b.way) list.now)) }
+    ensures within { IsSearchInRange result (length list.now) }
+    ensures found { IfOk result (HoldsAt (λ b. b.way ≡ way) list.now) }
+    ensures below { IfErr result (AllWithin (λ b. way_cmp b.way way ≡ Less) list.now 0) }
+    ensures behind { IfErr result (λ at. AllWithin (λ b. way_cmp b.way way ≡ Greater) list.now at (length list.now)) }
+{
+    match list.last() {
+        Some(last) if last.way >= way => list.binary_search_by_key(&way, |block| block.way),
+        _ => Err(list.len()),
     }
 }

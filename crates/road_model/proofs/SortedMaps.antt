@@ -1,0 +1,170 @@
+-- Strictly ascending lists of named things, and the finite maps from the names that they stand for.
+use Rattle.std.proofs.Common.{◌≡◌, ℕ, zero, suc, ◌+◌, ◌<◌, ◌≤◌, List, [], ◌∷◌, length, map, inl, inr, refl, sym, ap, ◌∙◌, subst, arith, None, ◌-◌, Some, slice_get, Result, Ok, Err, IfOk, IfErr, IsTrue, Ordering, slice_index_or, slice_set}
+use Rattle.std.specs.declared.cmp.Ordering.TheVariants.{Less, Equal, Greater}
+use Rattle.std.specs.List.{AllWithin, HoldsAt, insert}
+use Rattle.std.specs.List.Sorted.{IsSortedBy, IsBinarySearchResult}
+use Rattle.std.specs.Ordering.{is_lt, ordering_reverse}
+use Rattle.std.specs.Cmp.{IsTotalOrder}
+use Rattle.std.specs.FinMap.{FinMap, IsAntisymmetric, empty, get, entries, from_entries, find, put, len-empty, len-entries, entries-insert, get-from_entries, same_entries_map}
+use Rattle.std.specs.FinMap.{insert as inserted}
+use Rattle.std.proofs.lemmas.Bool.{and_parts, and_from}
+use Rattle.std.proofs.lemmas.Cmp.{tied_itself}
+use Rattle.std.proofs.lemmas.List.Sorted.{searchable_from_sorted}
+use Rattle.road_model.specs.Orders.{rises, rises_from}
+use Rattle.road_model.proofs.Members.{In}
+use Rattle.road_model.proofs.Unique.{less, above}
+
+none_there : {A : Type 0} (es : List A) → length es ≡ 0 → es ≡ []
+none_there [] e = refl
+none_there (x ∷ es) e = absurd (omega arith)
+
+module _ {A N : Type 0} (name : A → N) (R : N → N → Ordering) (total : IsTotalOrder R) where
+  abbrev entry : A → N × A
+  entry a = (name a, a)
+
+  -- the map of a list
+  abbrev pub map_of : List A → FinMap R A
+  map_of xs = from_entries (map entry xs)
+
+  turned : (a b : N) (r : Ordering) → R a b ≡ r → R b a ≡ ordering_reverse r
+  turned a b r e = total.antisymm b a ∙ ap ordering_reverse e
+
+  put_front : (x : A) (xs : List A) → IsTrue (rises_from R (name x) (map name xs)) → put R (name x) x (map entry xs) ≡ (name x, x) ∷ map entry xs
+  put_front x [] h = refl
+  put_front x (y ∷ ys) h = let e : R (name x) (name y) ≡ Less = less _ (and_parts _ _ h).0 in rw e refl
+
+  rest_rises : (n : N) (l : List N) → IsTrue (rises_from R n l) → IsTrue (rises R l)
+  rest_rises n [] h = refl
+  rest_rises n (y ∷ l) h = (and_parts _ _ h).1
+
+  no_entries : entries (empty {X = A} {R = R}) ≡ []
+  no_entries = none_there _ (sym (len-entries empty) ∙ len-empty R A)
+
+  -- an ascending list has the entries of its map, in order
+  pub entries_of : (xs : List A) → IsTrue (rises R (map name xs)) → entries (map_of xs) ≡ map entry xs
+  entries_of [] h = no_entries
+  entries_of (x ∷ xs) h =
+      entries-insert total (map_of xs) (name x) x ∙ ap (put R (name x) x) (entries_of xs (rest_rises (name x) (map name xs) h)) ∙ put_front x xs h
+
+  neighbours : (xs : List A) → IsTrue (rises R (map name xs)) → (k : ℕ) (d : A) → suc k < length xs → R (name (slice_index_or xs k d)) (name (slice_index_or xs (suc k) d)) ≡ Less
+  neighbours [] h k d l = absurd (omega arith)
+  neighbours (x ∷ []) h k d l = absurd (omega arith)
+  neighbours (x ∷ y ∷ ys) h zero d l = less _ (and_parts _ _ h).0
+  neighbours (x ∷ y ∷ ys) h (suc k) d l = neighbours (y ∷ ys) (and_parts _ _ h).1 k d (omega arith)
+
+  is_sorted : (xs : List A) → IsTrue (rises R (map name xs)) → IsSortedBy (λ a b. is_lt (R (name a) (name b))) xs
+  is_sorted xs h k d z l = let e : k + 1 ≡ suc k = omega arith in rw e (ap is_lt (turned _ _ _ (neighbours xs h k d (omega arith))))
+
+  -- ---- what a search for n finds
+
+  pub search_found : IsAntisymmetric R → (n : N) (xs : List A) (r : Result ℕ ℕ) → IsBinarySearchResult (λ y. R (name y) n) xs r → IfOk r (HoldsAt (λ y. name y ≡ n) xs)
+  search_found same n xs (Ok i) h = λ d. same _ _ (h d)
+  search_found same n xs (Err i) h = tt
+
+  pub search_below : (n : N) (xs : List A) (r : Result ℕ ℕ) → IsTrue (rises R (map name xs)) → IsBinarySearchResult (λ y. R (name y) n) xs r → IfErr r (AllWithin (λ y. R (name y) n ≡ Less) xs 0)
+  search_below n xs (Ok i) s h = tt
+  search_below n xs (Err i) s h = (h (searchable_from_sorted total name xs n (is_sorted xs s))).0
+
+  pub search_behind : (n : N) (xs : List A) (r : Result ℕ ℕ) → IsTrue (rises R (map name xs)) → IsBinarySearchResult (λ y. R (name y) n) xs r → IfErr r (λ i. AllWithin (λ y. R (name y) n ≡ Greater) xs i (length xs))
+  search_behind n xs (Ok i) s h = tt
+  search_behind n xs (Err i) s h = (h (searchable_from_sorted total name xs n (is_sorted xs s))).1
+
+  all_below : (n : N) (xs : List A) (x : A) (i : ℕ) → IsTrue (rises R (map name xs)) → i + 1 ≡ length xs → slice_get xs i ≡ Some x → R (name x) n ≡ Less → (k : ℕ) (d : A) → k < length xs → R (name (slice_index_or xs k d)) n ≡ Less
+  all_below n [] x i h j e l k d w = absurd (omega arith)
+  all_below n (y ∷ []) x zero h j e l zero d w = let f : x ≡ y = cc in subst (λ z. R (name z) n ≡ Less) f l
+  all_below n (y ∷ []) x zero h j e l (suc k) d w = absurd (omega arith)
+  all_below n (y ∷ []) x (suc i) h j e l k d w = absurd (omega arith)
+  all_below n (y ∷ z ∷ zs) x zero h j e l k d w = absurd (omega arith)
+  all_below n (y ∷ z ∷ zs) x (suc i) h j e l zero d w =
+      let p = and_parts _ _ h in total.trans (name y) (name z) n (less _ p.0) (all_below n (z ∷ zs) x i p.1 (omega arith) e l 0 d (omega arith))
+  all_below n (y ∷ z ∷ zs) x (suc i) h j e l (suc k) d w = all_below n (z ∷ zs) x i (and_parts _ _ h).1 (omega arith) e l k d (omega arith)
+
+  -- a list is below n where its last is
+  pub below_last : (n : N) (xs : List A) (x : A) → IsTrue (rises R (map name xs)) → 0 < length xs → slice_get xs (length xs - 1) ≡ Some x → R (name x) n ≡ Less → AllWithin (λ y. R (name y) n ≡ Less) xs 0 (length xs)
+  below_last n xs x h some e l k d z w = all_below n xs x (length xs - 1) h (omega arith) e l k d w
+
+  -- ---- a list whose names below a place are below n, and from there on above
+
+  pub record IsGap (n : N) (xs : List A) (i : ℕ) : Type 0 where
+    pub within : i ≤ length xs
+    pub below : AllWithin (λ x. R (name x) n ≡ Less) xs 0 i
+    pub behind : AllWithin (λ x. R (name x) n ≡ Greater) xs i (length xs)
+
+  tail_gap : (n : N) (y : A) (ys : List A) (i : ℕ) → IsGap n (y ∷ ys) (suc i) → IsGap n ys i
+  tail_gap n y ys i g = let w = g.within in record {
+    within = omega arith;
+    below = λ k d l h. g.below (suc k) d (omega arith) (omega arith);
+    behind = λ k d l h. g.behind (suc k) d (omega arith) (omega arith);
+  }
+
+  rest_gap : (n : N) (y : A) (ys : List A) → IsGap n (y ∷ ys) 0 → IsGap n ys 0
+  rest_gap n y ys g = record {
+    within = omega arith;
+    below = λ k d l h. absurd (omega arith);
+    behind = λ k d l h. g.behind (suc k) d (omega arith) (omega arith);
+  }
+
+  put_gap : (x : A) (xs : List A) (i : ℕ) → IsGap (name x) xs i → put R (name x) x (map entry xs) ≡ map entry (insert xs i x)
+  put_gap x [] zero g = refl
+  put_gap x [] (suc i) g = refl
+  put_gap x (y ∷ ys) zero g = let e : R (name x) (name y) ≡ Less = turned _ _ _ (g.behind 0 y (omega arith) (omega arith)) in rw e refl
+  put_gap x (y ∷ ys) (suc i) g =
+      let e : R (name x) (name y) ≡ Greater = turned _ _ _ (g.below 0 y (omega arith) (omega arith)) in
+      rw e (ap (λ es. entry y ∷ es) (put_gap x ys i (tail_gap (name x) y ys i g)))
+
+  rises_gap : (m : N) (x : A) (xs : List A) (i : ℕ) → R m (name x) ≡ Less → IsTrue (rises_from R m (map name xs)) → IsGap (name x) xs i → IsTrue (rises_from R m (map name (insert xs i x)))
+  rises_gap m x [] zero e h g = and_from _ _ (ap is_lt e) refl
+  rises_gap m x [] (suc i) e h g = and_from _ _ (ap is_lt e) refl
+  rises_gap m x (y ∷ ys) zero e h g = and_from _ _ (ap is_lt e) (and_from _ _ (ap is_lt (turned _ _ _ (g.behind 0 y (omega arith) (omega arith)))) (and_parts _ _ h).1)
+  rises_gap m x (y ∷ ys) (suc i) e h g =
+      let p = and_parts _ _ h in and_from _ _ p.0 (rises_gap (name y) x ys i (g.below 0 y (omega arith) (omega arith)) p.1 (tail_gap (name x) y ys i g))
+
+  -- what is put into its gap leaves the list ascending
+  pub rises_insert : (x : A) (xs : List A) (i : ℕ) → IsTrue (rises R (map name xs)) → IsGap (name x) xs i → IsTrue (rises R (map name (insert xs i x)))
+  rises_insert x [] zero h g = refl
+  rises_insert x [] (suc i) h g = refl
+  rises_insert x (y ∷ ys) zero h g = and_from _ _ (ap is_lt (turned _ _ _ (g.behind 0 y (omega arith) (omega arith)))) h
+  rises_insert x (y ∷ ys) (suc i) h g = rises_gap (name y) x ys i (g.below 0 y (omega arith) (omega arith)) h (tail_gap (name x) y ys i g)
+
+  -- and puts it into the map
+  pub map_insert : (x : A) (xs : List A) (i : ℕ) → IsTrue (rises R (map name xs)) → IsGap (name x) xs i → map_of (insert xs i x) ≡ inserted (map_of xs) (name x) x
+  map_insert x xs i h g = same_entries_map _ _
+      (entries_of (insert xs i x) (rises_insert x xs i h g) ∙ sym (put_gap x xs i g) ∙ ap (put R (name x) x) (sym (entries_of xs h)) ∙ sym (entries-insert total (map_of xs) (name x) x))
+
+  find_gap : (n : N) (xs : List A) (i : ℕ) → IsGap n xs i → find R n (map entry xs) ≡ None
+  find_gap n [] i g = refl
+  find_gap n (y ∷ ys) zero g = let e : R n (name y) ≡ Less = turned _ _ _ (g.behind 0 y (omega arith) (omega arith)) in rw e (find_gap n ys zero (rest_gap n y ys g))
+  find_gap n (y ∷ ys) (suc i) g = let e : R n (name y) ≡ Greater = turned _ _ _ (g.below 0 y (omega arith) (omega arith)) in rw e (find_gap n ys i (tail_gap n y ys i g))
+
+  -- nothing of that name is in the map
+  pub get_gap : (n : N) (xs : List A) (i : ℕ) → IsGap n xs i → get (map_of xs) n ≡ None
+  get_gap n xs i g = get-from_entries total (map entry xs) n ∙ find_gap n xs i g
+
+  -- ---- one put in the place of another of its name
+
+  names_set : (x : A) (xs : List A) (i : ℕ) → i < length xs → HoldsAt (λ y. name y ≡ name x) xs i → map name (slice_set xs i x) ≡ map name xs
+  names_set x [] i w e = refl
+  names_set x (y ∷ ys) zero w e = ap (λ n. n ∷ map name ys) (sym (e y))
+  names_set x (y ∷ ys) (suc i) w e = ap (λ ns. name y ∷ ns) (names_set x ys i (omega arith) e)
+
+  pub rises_set : (x : A) (xs : List A) (i : ℕ) → IsTrue (rises R (map name xs)) → i < length xs → HoldsAt (λ y. name y ≡ name x) xs i → IsTrue (rises R (map name (slice_set xs i x)))
+  rises_set x xs i h w e = subst (λ ns. IsTrue (rises R ns)) (sym (names_set x xs i w e)) h
+
+  put_set : (x : A) (xs : List A) (i : ℕ) → IsTrue (rises R (map name xs)) → i < length xs → HoldsAt (λ y. name y ≡ name x) xs i → put R (name x) x (map entry xs) ≡ map entry (slice_set xs i x)
+  put_set x [] i h w e = absurd (omega arith)
+  put_set x (y ∷ ys) zero h w e =
+      let tied : R (name x) (name y) ≡ Equal = subst (λ n. R (name x) n ≡ Equal) (sym (e y)) (tied_itself total (name x)) in
+      rw tied (ap (λ n. (n, x) ∷ map entry ys) (e y))
+  put_set x (y ∷ ys) (suc i) h w e =
+      let l : R (name y) (name x) ≡ Less = less _ (subst (λ n. IsTrue (is_lt (R (name y) n))) (e y) (above name R total (name y) ys h (slice_index_or ys i y) (at_index ys i y (omega arith)))) in
+      let g : R (name x) (name y) ≡ Greater = turned _ _ _ l in
+      rw g (ap (λ es. entry y ∷ es) (put_set x ys i (rest_rises (name y) (map name ys) h) (omega arith) e))
+    where
+      at_index : (zs : List A) (k : ℕ) (d : A) → k < length zs → In (slice_index_or zs k d) zs
+      at_index [] k d v = absurd (omega arith)
+      at_index (z ∷ zs) zero d v = inl refl
+      at_index (z ∷ zs) (suc k) d v = inr (at_index zs k d (omega arith))
+
+  pub map_set : (x : A) (xs : List A) (i : ℕ) → IsTrue (rises R (map name xs)) → i < length xs → HoldsAt (λ y. name y ≡ name x) xs i → map_of (slice_set xs i x) ≡ inserted (map_of xs) (name x) x
+  map_set x xs i h w e = same_entries_map _ _
+      (entries_of (slice_set xs i x) (rises_set x xs i h w e) ∙ sym (put_set x xs i h w e) ∙ ap (put R (name x) x) (sym (entries_of xs h)) ∙ sym (entries-insert total (map_of xs) (name x) x))
