@@ -1,0 +1,46 @@
+-- Bytes that are appended one after another, and the spelling of a list.
+use Rattle.std.proofs.Common.{◌≡◌, ℕ, zero, suc, ◌+◌, ◌<◌, List, [], ◌∷◌, ◌++◌, length, get_or, take, drop, refl, sym, ap, subst, ◌∙◌, arith, append_assoc, append-nil, add-one, Result, OnOk}
+use Rattle.std.proofs.lemmas.List.{take_at, take-append-drop}
+use Rattle.std.proofs.lemmas.Result.{IfOk-equal}
+use Rattle.std.specs.List.{AllByRecursion}
+use Rattle.road_model.specs.Format.{joined}
+use Rattle.graph_file.specs.Appending.{Keeps}
+
+-- what stood before an append stands in front of what comes later
+pub keeps_more : (old added mid new : List ℕ) → mid ≡ old ++ added → Keeps mid new → Keeps old new
+keeps_more old added mid new is kept =
+    let whole : new ≡ old ++ (added ++ drop (length mid) new) =
+        sym (take-append-drop (length mid) new) ∙ ap (λ l. l ++ drop (length mid) new) (kept ∙ is) ∙ append_assoc old added (drop (length mid) new) in
+    subst (λ l. take (length old) l ≡ old) (sym whole) (take_at old (added ++ drop (length mid) new) (length old) refl)
+
+joined_one_more : {A : Type 0} (spell : A → List ℕ) (xs : List A) (i : ℕ) (d : A) → i < length xs → joined spell (take (suc i) xs) ≡ joined spell (take i xs) ++ spell (get_or xs i d)
+joined_one_more spell [] i d within = absurd (omega arith)
+joined_one_more spell (x ∷ xs) zero d within = append-nil (spell x)
+joined_one_more spell (x ∷ xs) (suc i) d within =
+    ap (λ l. spell x ++ l) (joined_one_more spell xs i d (omega arith)) ∙ sym (append_assoc (spell x) (joined spell (take i xs)) (spell (get_or xs i d)))
+
+-- the spelling of one member more
+pub joined-take : {A : Type 0} (spell : A → List ℕ) (xs : List A) (i : ℕ) (d : A) → i < length xs → joined spell (take (i + 1) xs) ≡ joined spell (take i xs) ++ spell (get_or xs i d)
+joined-take spell xs i d within = rw add-one (joined_one_more spell xs i d within)
+
+-- what holds of each member holds of the one at a place
+pub at_place : {A : Type 0} (P : A → Type 0) (xs : List A) (i : ℕ) (d : A) → i < length xs → AllByRecursion P xs → P (get_or xs i d)
+at_place P [] i d within all = absurd (omega arith)
+at_place P (x ∷ xs) zero d within all = all.0
+at_place P (x ∷ xs) (suc i) d within all = at_place P xs i d (omega arith) all.1
+
+-- two appends before a last one, whose answer is returned as it is
+pub third : {T E : Type 0} (r : Result T E) (old a mid b next c new : List ℕ) → mid ≡ old ++ a → next ≡ mid ++ b → OnOk r (new ≡ next ++ c) → OnOk r (new ≡ old ++ (a ++ (b ++ c)))
+third r old a mid b next c new first second last =
+    IfOk-equal r new (next ++ c) (old ++ (a ++ (b ++ c))) last
+    (ap (λ l. l ++ c) second ∙ append_assoc mid b c ∙ ap (λ l. l ++ (b ++ c)) first ∙ append_assoc old a (b ++ c))
+
+-- the loop over a list spells one member more
+pub one_more : {A : Type 0} (spell : A → List ℕ) (xs : List A) (i : ℕ) (x : A) (old mid new : List ℕ) → i < length xs → x ≡ get_or xs i x → mid ≡ old ++ joined spell (take i xs) → new ≡ mid ++ spell x → new ≡ old ++ joined spell (take (i + 1) xs)
+one_more spell xs i x old mid new within is so_far next =
+    next ∙ ap (λ l. l ++ spell x) so_far ∙ append_assoc old (joined spell (take i xs)) (spell x)
+        ∙ ap (λ y. old ++ (joined spell (take i xs) ++ spell y)) is ∙ ap (λ l. old ++ l) (sym (joined-take spell xs i x within))
+
+-- two appends as one
+pub both : (old a mid b new : List ℕ) → mid ≡ old ++ a → new ≡ mid ++ b → new ≡ old ++ (a ++ b)
+both old a mid b new first second = second ∙ ap (λ l. l ++ b) first ∙ append_assoc old a b

@@ -1,0 +1,7 @@
+use Rattle.std.proofs.Common.{◌≡◌, ◌++◌, take}
+use Rattle.road_model.specs.Format.{joined}
+use Rattle.graph_file.proofs.spelling.put_all.Given as goal
+
+-- the members so far are spelled
+abbrev pub invariant-loop-item : goal.invariant-loop-item
+invariant-loop-item g l = l.out.items ≡ l.initial.out.items ++ joined g.T.Spell.spelling (take l.item-index l.items)

@@ -1,0 +1,55 @@
+//! The bytes of a graph file.
+//!
+//! `write` goes once over the blocks and appends each number where it stands in the file, so its cost grows with the
+//! bytes that it writes, and it takes no memory beside them.
+#![tactic(auto)]
+
+ghost use Rattle.std.specs.Prelude.{◌≡◌, ◌++◌, OnOk, OnErr, codes};
+ghost use Rattle.std.specs.List.{AllByRecursion};
+ghost use Rattle.std.specs.FinMap.{values};
+ghost use Rattle.road_model.specs.Format.{u32_bytes, u64_bytes, graph_bytes, IsBlockForm, IsGraphFile};
+ghost use Rattle.graph_file.specs.Appending.{Keeps};
+
+mod numbers;
+mod pieces;
+mod spelling;
+
+use road_base::NoMemory;
+use road_model::{Block, Blocks};
+use spelling::{Spell, put_all};
+
+/// Appends the bytes of a graph file: the magic, the profile's number, how many blocks there are, and the blocks in
+/// ascending order of their ways. Where no memory is found nothing is appended. Costs as many steps as it appends
+/// bytes.
+pub fn write(profile: u32, blocks: &Blocks, out: &mut Vec<u8>) -> Result<(), NoMemory>
+    requires profile { profile ≡ 1 }
+    requires forms { AllByRecursion IsBlockForm (values blocks.now.map) }
+    ensures bytes { OnOk result (out.new.items ≡ out.old.items ++ graph_bytes profile (values blocks.now.map)) }
+    ensures grammar { IsGraphFile (graph_bytes profile (values blocks.now.map)) }
+    ensures err { OnErr result (out.new.items ≡ out.old.items) }
+{
+    let before = out.len();
+    let written = put_graph(profile, blocks.items(), out);
+    if written.is_err() {
+        out.truncate(before);
+    }
+    written
+}
+
+fn put_graph(profile: u32, blocks: &[Block], out: &mut Vec<u8>) -> Result<(), NoMemory>
+    requires { AllByRecursion IsBlockForm blocks.now }
+    ensures ok { OnOk result (out.new.items ≡ out.old.items ++ graph_bytes profile blocks.now) }
+    ensures err { OnErr result (Keeps out.old.items out.new.items) }
+{
+    put_header(profile, blocks.len() as u64, out)?;
+    put_all(blocks, out)
+}
+
+fn put_header(profile: u32, count: u64, out: &mut Vec<u8>) -> Result<(), NoMemory>
+    ensures ok { OnOk result (out.new.items ≡ out.old.items ++ (codes "OSMROAD1" ++ (u32_bytes profile ++ u64_bytes count))) }
+    ensures err { OnErr result (Keeps out.old.items out.new.items) }
+{
+    out.extend_from_slice(b"OSMROAD1")?;
+    profile.put(out)?;
+    count.put(out)
+}

@@ -1,0 +1,45 @@
+//! Numbers and directions, little endian.
+ghost use Rattle.road_model.specs.Format.{u32_bytes, u64_bytes, i32_bytes, i64_bytes, dir_bytes};
+
+use crate::spelling::Spell;
+use road_base::{Dir, NoMemory};
+
+impl Spell for u32 {
+    ghost spelling = { u32_bytes };
+
+    fn put(&self, out: &mut Vec<u8>) -> Result<(), NoMemory> {
+        Ok(out.extend_from_slice(&self.to_le_bytes())?)
+    }
+}
+
+impl Spell for u64 {
+    ghost spelling = { u64_bytes };
+
+    fn put(&self, out: &mut Vec<u8>) -> Result<(), NoMemory> {
+        Ok(out.extend_from_slice(&self.to_le_bytes())?)
+    }
+}
+
+impl Spell for i32 {
+    ghost spelling = { i32_bytes };
+
+    fn put(&self, out: &mut Vec<u8>) -> Result<(), NoMemory> {
+        Ok(out.extend_from_slice(&self.to_le_bytes())?)
+    }
+}
+
+impl Spell for i64 {
+    ghost spelling = { i64_bytes };
+
+    fn put(&self, out: &mut Vec<u8>) -> Result<(), NoMemory> {
+        Ok(out.extend_from_slice(&self.to_le_bytes())?)
+    }
+}
+
+impl Spell for Dir {
+    ghost spelling = { dir_bytes };
+
+    fn put(&self, out: &mut Vec<u8>) -> Result<(), NoMemory> {
+        Ok(out.push(*self as u8)?)
+    }
+}
