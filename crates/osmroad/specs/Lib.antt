@@ -3,4 +3,5 @@ pub mod PlainForm
 pub mod PlainRules
 pub mod PlainMap
 pub mod Streets
+pub mod Town
 pub mod PlainGraph

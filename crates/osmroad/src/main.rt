@@ -3,5 +3,6 @@
 
 mod plain_piece;
 mod street;
+mod town;
 
 fn main(_rt: HostRuntime) {}
