@@ -1,0 +1,2 @@
+pub mod NodeOrder
+pub mod SortedSearch
