@@ -1,2 +1,3 @@
 pub mod NodeOrder
 pub mod SortedSearch
+pub mod Marking

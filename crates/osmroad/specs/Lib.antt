@@ -4,4 +4,5 @@ pub mod PlainRules
 pub mod PlainMap
 pub mod Streets
 pub mod Town
+pub mod Junctions
 pub mod PlainGraph
