@@ -1,3 +1,4 @@
 pub mod NodeOrder
 pub mod SortedSearch
 pub mod Marking
+pub mod Cutting

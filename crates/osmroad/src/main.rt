@@ -1,6 +1,7 @@
 //! osmroad compiles what a car may drive in OpenStreetMap data to a turn-expanded graph.
 #![tactic(auto)]
 
+mod cuts;
 mod junctions;
 mod plain_piece;
 mod street;
