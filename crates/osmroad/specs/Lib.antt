@@ -1,6 +1,7 @@
 pub mod Numbers
 pub mod PlainForm
 pub mod PlainRules
+pub mod PlainProfile
 pub mod PlainMap
 pub mod Streets
 pub mod Town

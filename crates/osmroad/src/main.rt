@@ -3,6 +3,7 @@
 
 mod cuts;
 mod junctions;
+mod plain;
 mod plain_piece;
 mod street;
 mod town;
