@@ -2,3 +2,8 @@ pub mod NodeOrder
 pub mod SortedSearch
 pub mod Marking
 pub mod Cutting
+pub mod KeyOrder
+pub mod Members
+pub mod PlainObjects
+pub mod Lines
+pub mod TownRoads

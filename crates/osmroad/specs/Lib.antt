@@ -6,4 +6,5 @@ pub mod PlainMap
 pub mod Streets
 pub mod Town
 pub mod Junctions
+pub mod PlainEvents
 pub mod PlainGraph

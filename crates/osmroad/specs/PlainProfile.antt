@@ -1,5 +1,5 @@
 -- What the plain profile takes for a road carries the key `highway`.
-use Rattle.std.specs.Prelude.{◌≡◌, ℕ, List, [], ◌∷◌, Bool, true, false, cond, ◌&&◌, IsTrue, Some, None, is_some, codes, refl}
+use Rattle.std.specs.Prelude.{ℕ, List, [], ◌∷◌, Bool, true, false, cond, ◌&&◌, IsTrue, Some, None, is_some, codes, refl}
 use Rattle.std.specs.List.{list_any}
 use Rattle.std.specs.Str.{bytes_eq}
 use Rattle.road_base.specs.Tags.{TagList}
