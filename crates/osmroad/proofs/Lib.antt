@@ -7,3 +7,5 @@ pub mod Members
 pub mod PlainObjects
 pub mod Lines
 pub mod TownRoads
+pub mod Reading
+pub mod Decimals

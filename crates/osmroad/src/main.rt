@@ -4,6 +4,7 @@
 mod cuts;
 mod junctions;
 mod plain;
+mod numbers;
 mod plain_piece;
 mod street;
 mod town;
