@@ -9,3 +9,6 @@ pub mod Lines
 pub mod TownRoads
 pub mod Reading
 pub mod Decimals
+pub mod SourceReading
+pub mod TwoWords
+pub mod Ending

@@ -28,9 +28,9 @@ mark_one often m n node q again met is marks =
     is
     ∙ elim (same_node node q) as (λ b. same_node node q ≡ b → cond b (Some again) (get node_cmp m q) ≡ mark (often q + cond b 1 0)) [
       | true ↦ λ e.
-        let same : node ≡ q = node_from_same node q e in
-        let seen : again ≡ is_some (mark (often q)) = met ∙ ap is_some (ap (get node_cmp m) same ∙ marks q) in
-        ap (λ b. Some b) seen ∙ mark_again (often q)
+          let same : node ≡ q = node_from_same node q e in
+          let seen : again ≡ is_some (mark (often q)) = met ∙ ap is_some (ap (get node_cmp m) same ∙ marks q) in
+          ap (λ b. Some b) seen ∙ mark_again (often q)
       | false ↦ λ e. marks q ∙ ap mark (sym (add-zero (often q)))
     ] refl
     ∙ ap (λ b. mark (often q + cond b 1 0)) (same_node_flips node q)

@@ -8,3 +8,5 @@ pub mod Town
 pub mod Junctions
 pub mod PlainEvents
 pub mod PlainGraph
+pub mod Input
+pub mod Run

@@ -9,7 +9,11 @@ use road_base::NoMemory;
 use std::alloc::Global;
 
 /// The pieces of a street, ascending by name.
-pub fn pieces_of(alloc: Global, junctions: &Junctions, street: &Street) -> Result<Vec<PlainPiece>, NoMemory>
+pub fn pieces_of(
+    alloc: Global,
+    junctions: &Junctions,
+    street: &Street,
+) -> Result<Vec<PlainPiece>, NoMemory>
     ensures { IfOk result (λ pieces. pieces.items ≡ street_pieces (is_shared junctions.now) street.now) }
 {
     let mut pieces = Vec::new(alloc);
@@ -32,7 +36,12 @@ fn is_cut(junctions: &Junctions, street: &Street, at: usize) -> bool
     at + 1 == refs.len() || junctions.is_shared(refs[at])
 }
 
-fn push_both(pieces: &mut Vec<PlainPiece>, street: &Street, start: usize, end: usize) -> Result<(), NoMemory>
+fn push_both(
+    pieces: &mut Vec<PlainPiece>,
+    street: &Street,
+    start: usize,
+    end: usize,
+) -> Result<(), NoMemory>
     requires ascends { start < end }
     requires within { end < length street.now.refs }
     ensures { OnOk result (pieces.new.items ≡ pieces.old.items ++ both_ways street.now (start, end)) }

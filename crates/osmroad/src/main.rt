@@ -2,10 +2,14 @@
 #![tactic(auto)]
 
 mod cuts;
+mod input;
 mod junctions;
-mod plain;
 mod numbers;
+mod plain;
+mod plain_graph;
 mod plain_piece;
+mod run;
+mod status;
 mod street;
 mod town;
 

@@ -12,13 +12,13 @@ loop-at-preserved c =
     let within : at < length s.refs = search rules in
     elim c.if-is_cut.branch [
       | then-is_cut+in_ok-push_both w ↦
-        rw (w.pieces-is, w.start-is) (record {
-          ascends = omega arith;
-          rest = remains_cut shared s c.loop-at.pieces.items w.push_both.new.pieces.items c.loop-at.start at within (sym c.is_cut.ensures ∙ w.if-is_cut.true) w.in_ok-push_both.ensures c.loop-at.invariant.rest;
-        })
+          rw (w.pieces-is, w.start-is) (record {
+            ascends = omega arith;
+            rest = remains_cut shared s c.loop-at.pieces.items w.push_both.new.pieces.items c.loop-at.start at within (sym c.is_cut.ensures ∙ w.if-is_cut.true) w.in_ok-push_both.ensures c.loop-at.invariant.rest;
+          })
       | else-is_cut w ↦
-        rw (w.pieces-is, w.start-is) (record {
-          ascends = omega arith;
-          rest = remains_uncut shared s c.loop-at.pieces.items c.loop-at.start at within (sym c.is_cut.ensures ∙ w.if-is_cut.false) c.loop-at.invariant.rest;
-        })
+          rw (w.pieces-is, w.start-is) (record {
+            ascends = omega arith;
+            rest = remains_uncut shared s c.loop-at.pieces.items c.loop-at.start at within (sym c.is_cut.ensures ∙ w.if-is_cut.false) c.loop-at.invariant.rest;
+          })
     ]

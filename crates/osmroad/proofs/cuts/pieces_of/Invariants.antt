@@ -6,5 +6,5 @@ abbrev pub invariant-loop-at : goal.invariant-loop-at
 invariant-loop-at l =
     record {
       ascends : l.start < l.at;
-      rest : l.pieces.items ++ flat_map (both_ways l.street) (spans (is_shared l.junctions) l.start l.at (drop l.at l.street.refs)) ≡ street_pieces (is_shared l.junctions) l.street
+      rest : l.pieces.items ++ flat_map (both_ways l.street) (spans (is_shared l.junctions) l.start l.at (drop l.at l.street.refs)) ≡ street_pieces (is_shared l.junctions) l.street;
     }

@@ -1,0 +1,119 @@
+-- How a run ends, from how it read and put.
+use Rattle.std.proofs.Common.{◌≡◌, ◌⊎◌, ◌^◌, ◌<◌, ◌≤◌, ℕ, List, [], ◌∷◌, ◌++◌, length, Option, None, Some, inl, inr, refl, sym, ◌∙◌, subst, arith}
+use Rattle.std.proofs.lemmas.List.{append-nil}
+use Rattle.std.specs.Prelude.{unwrap_or}
+use Rattle.road_base.specs.declared.event.Event.{Event}
+use Rattle.road_io.specs.Told.{Told, Rose}
+use Rattle.road_io.specs.World.{World}
+use Rattle.osmroad.specs.declared.status.Status.{Status}
+use Rattle.osmroad.specs.declared.status.Status.TheVariants.{Done, Usage, ReadFault, SiteFault, Refused, OutOfSequence, NoStore, StoreExists, Damaged, Limit, NoMemory, Unbuilt}
+use Rattle.osmroad.specs.PlainForm.{IsPlainForm}
+use Rattle.osmroad.specs.PlainMap.{IsBuilt}
+use Rattle.osmroad.specs.Input.{Took}
+use Rattle.osmroad.specs.Run.{IsCompile, IsUnbuilt, Gives, OfOtherWords, OfTooMuch, OfUnbuilt, OfExtract, Grows, GrowsInto, EndsPut, PutsAll, PutsFront, EndsWith, Left, Reads, Ends}
+
+-- ---- what was read
+
+abbrev pub behind_of : Option (List ℕ) → List ℕ
+behind_of left = unwrap_or left []
+
+pub held_whole : (bytes : List ℕ) (held left : Option (List ℕ)) → Told (λ was now. (was ≡ bytes) × (now ≡ [])) held left → Left held bytes
+held_whole bytes None None t = tt
+held_whole bytes None (Some y) t = absurd t
+held_whole bytes (Some x) None t = absurd t
+held_whole bytes (Some x) (Some y) t = t.0
+
+pub left_nothing : (bytes : List ℕ) (held left : Option (List ℕ)) → Told (λ was now. (was ≡ bytes) × (now ≡ [])) held left → Left left []
+left_nothing bytes None None t = tt
+left_nothing bytes None (Some y) t = absurd t
+left_nothing bytes (Some x) None t = absurd t
+left_nothing bytes (Some x) (Some y) t = t.1
+
+pub held_part : (read : List ℕ) (held left : Option (List ℕ)) → Took read held left → Left held (read ++ behind_of left)
+held_part read None None t = tt
+held_part read None (Some y) t = absurd t
+held_part read (Some x) None t = absurd t
+held_part read (Some x) (Some y) t = t
+
+pub left_behind : (left : Option (List ℕ)) → Left left (behind_of left)
+left_behind None = tt
+left_behind (Some y) = refl
+
+-- ---- what was put
+
+-- nothing was put
+pub grows_nothing : (x : Option World) → Grows [] x x
+grows_nothing None = tt
+grows_nothing (Some w) = sym (append-nil w.output)
+
+-- the last put ended
+pub ends_put : (words : List (List ℕ)) (bytes read behind out : List ℕ) (wanted result : Status) (held left : Option (List ℕ)) (before now : Option World) (faults_before faults_now : ℕ)
+    → bytes ≡ read ++ behind → Left held bytes → Left left behind → Reads wanted bytes read
+    → Gives words bytes wanted out
+    → (PutsAll words bytes wanted before now → EndsWith words bytes wanted before now)
+    → EndsPut out wanted result before now faults_before faults_now
+    → Ends words result held left before now
+ends_put words bytes read behind out wanted result held left before now fb fn all h l r g to (inl p) =
+    subst (λ (s : Status). Ends words s held left before now) (sym p.0)
+    (record { bytes = bytes; read = read; behind = behind; all = all; held_is = h; left_is = l; reads = r; puts = to (record { out = out; gives = g; grows = p.1 }) })
+ends_put words bytes read behind out wanted result held left before now fb fn all h l r g to (inr p) =
+    subst (λ (s : Status). Ends words s held left before now) (sym p.0)
+    (record { bytes = bytes; read = read; behind = behind; all = all; held_is = h; left_is = l; reads = tt; puts = record { status = wanted; out = out; gives = g; grows = p.1 } })
+
+-- a put ends with the status that was wanted, or with a fault that came
+pub put_fault : (out : List ℕ) (wanted result : Status) (before now : Option World) (faults_before faults_now : ℕ)
+    → (wanted ≡ SiteFault → ⊥) → EndsPut out wanted result before now faults_before faults_now → result ≡ SiteFault → Rose faults_before faults_now
+put_fault out wanted result before now fb fn n (inl p) e = absurd (n (sym p.0 ∙ e))
+put_fault out wanted result before now fb fn n (inr p) e = p.2
+
+pub put_no_read_fault : (out : List ℕ) (wanted result : Status) (before now : Option World) (faults_before faults_now : ℕ)
+    → (wanted ≡ ReadFault → ⊥) → EndsPut out wanted result before now faults_before faults_now → result ≡ ReadFault → ⊥
+put_no_read_fault out wanted result before now fb fn n (inl p) e = n (sym p.0 ∙ e)
+put_no_read_fault out wanted result before now fb fn n (inr p) e = let q : SiteFault ≡ ReadFault = sym p.0 ∙ e in cc
+
+-- ---- what must be done is done
+
+same_held : (bytes held_bytes : List ℕ) (held : Option (List ℕ)) → held ≡ Some bytes → Left held held_bytes → bytes ≡ held_bytes
+same_held bytes held_bytes None e l = cc
+same_held bytes held_bytes (Some x) e l = let k : Some x ≡ Some bytes = e in let m : x ≡ held_bytes = l in cc
+
+not_usage : (words : List (List ℕ)) (bytes out : List ℕ) → IsCompile words → Gives words bytes Usage out → ⊥
+not_usage words bytes out is (OfOtherWords other e o) = other is
+not_usage words bytes out is (OfTooMuch i n e o) = cc
+not_usage words bytes out is (OfUnbuilt i n u e o) = cc
+not_usage words bytes out is (OfExtract i n c e) = cc
+
+not_limit : (words : List (List ℕ)) (bytes out : List ℕ) → length bytes ≤ 2 ^ 30 → Gives words bytes Limit out → ⊥
+not_limit words bytes out short (OfOtherWords other e o) = cc
+not_limit words bytes out short (OfTooMuch i n e o) = omega arith
+not_limit words bytes out short (OfUnbuilt i n u e o) = cc
+not_limit words bytes out short (OfExtract i n c e) = cc
+
+not_unbuilt : (words : List (List ℕ)) (bytes out : List ℕ) (events : List Event) → IsPlainForm bytes events → IsBuilt events → Gives words bytes Unbuilt out → ⊥
+not_unbuilt words bytes out events f b (OfOtherWords other e o) = cc
+not_unbuilt words bytes out events f b (OfTooMuch i n e o) = cc
+not_unbuilt words bytes out events f b (OfUnbuilt i n u e o) = u events f b
+not_unbuilt words bytes out events f b (OfExtract i n c e) = cc
+
+-- where words and bytes are good and nothing failed, a run is done, or memory ended
+pub completes : (words : List (List ℕ)) (bytes : List ℕ) (events : List Event) (status : Status) (held left : Option (List ℕ)) (before now : Option World)
+    → Ends words status held left before now
+    → IsCompile words → held ≡ Some bytes → length bytes ≤ 2 ^ 30 → IsPlainForm bytes events → IsBuilt events
+    → (status ≡ ReadFault → ⊥) → (status ≡ SiteFault → ⊥)
+    → (status ≡ Done) ⊎ (status ≡ NoMemory)
+completes words bytes events Done held left before now e is h short f b nr ns = inl refl
+completes words bytes events Usage held left before now e is h short f b nr ns = absurd (not_usage words e.bytes e.puts.out is e.puts.gives)
+completes words bytes events ReadFault held left before now e is h short f b nr ns = absurd (nr refl)
+completes words bytes events SiteFault held left before now e is h short f b nr ns = absurd (ns refl)
+completes words bytes events Refused held left before now e is h short f b nr ns = absurd e.puts
+completes words bytes events OutOfSequence held left before now e is h short f b nr ns = absurd e.puts
+completes words bytes events NoStore held left before now e is h short f b nr ns = absurd e.puts
+completes words bytes events StoreExists held left before now e is h short f b nr ns = absurd e.puts
+completes words bytes events Damaged held left before now e is h short f b nr ns = absurd e.puts
+completes words bytes events Limit held left before now e is h short f b nr ns =
+    let same = same_held bytes e.bytes held h e.held_is in
+    absurd (not_limit words e.bytes e.puts.out (subst (λ (l : List ℕ). length l ≤ 2 ^ 30) same short) e.puts.gives)
+completes words bytes events NoMemory held left before now e is h short f b nr ns = inr refl
+completes words bytes events Unbuilt held left before now e is h short f b nr ns =
+    let same = same_held bytes e.bytes held h e.held_is in
+    absurd (not_unbuilt words e.bytes e.puts.out events (subst (λ (l : List ℕ). IsPlainForm l events) same f) b e.puts.gives)

@@ -1,0 +1,127 @@
+-- What a run gives, and how it may end.
+use Rattle.std.specs.Prelude.{◌≡◌, ℕ, ◌≤◌, ◌<◌, ◌^◌, ◌⊎◌, List, [], ◌∷◌, ◌++◌, length, take, Option, None, Some, codes, map}
+use Rattle.std.specs.FinMap.{empty}
+use Rattle.road_base.specs.declared.event.Event.{Event}
+use Rattle.road_base.specs.Objects.{Objects}
+use Rattle.road_base.specs.Applying.{IsApplied}
+use Rattle.road_model.specs.Format.{IsGraph}
+use Rattle.road_io.specs.Told.{Told, Rose}
+use Rattle.road_io.specs.World.{World, extended}
+use Rattle.osmroad.specs.declared.status.Status.{Status}
+use Rattle.osmroad.specs.declared.status.Status.TheVariants.{Done, Usage, ReadFault, SiteFault, Refused, OutOfSequence, NoStore, StoreExists, Damaged, Limit, NoMemory, Unbuilt}
+use Rattle.osmroad.specs.PlainForm.{IsPlainForm}
+use Rattle.osmroad.specs.PlainMap.{IsBuilt}
+use Rattle.osmroad.specs.PlainRules.{plain_rules}
+
+-- ---- what is asked
+
+-- the words `- compile`
+abbrev pub IsCompile : List (List ℕ) → Type 0
+IsCompile words = words ≡ codes "-" ∷ codes "compile" ∷ []
+
+abbrev pub usage_line : List ℕ
+usage_line = codes "usage: osmroad STORE create N|apply N|session|graph|audit|checkpoint, or osmroad - compile|inspect|sample N" ++ 10 ∷ []
+
+abbrev pub limit_line : List ℕ
+limit_line = codes "limit" ++ 10 ∷ []
+
+abbrev pub unbuilt_line : List ℕ
+unbuilt_line = codes "unbuilt" ++ 10 ∷ []
+
+-- ---- what is given
+
+-- the bytes are a plain extract that is built, and `out` is the graph of the objects that its lines leave
+pub record IsCompiled (bytes out : List ℕ) : Type 0 where
+  pub events : List Event
+  pub form : IsPlainForm bytes events
+  pub built : IsBuilt events
+  pub objects : Objects
+  pub applied : IsApplied empty events objects
+  pub graph : IsGraph objects plain_rules out
+
+-- the bytes aren't a plain extract that is built
+abbrev pub IsUnbuilt : List ℕ → Type 0
+IsUnbuilt bytes = (events : List Event) → IsPlainForm bytes events → IsBuilt events → ⊥
+
+-- The status and the output for these words, where the source holds these bytes and nothing fails. Exactly one line of this
+-- table fits.
+pub data Gives (words : List (List ℕ)) (bytes : List ℕ) (status : Status) (out : List ℕ) : Type 0 where
+  OfOtherWords : (IsCompile words → ⊥) → status ≡ Usage → out ≡ usage_line → Gives words bytes status out
+  OfTooMuch : IsCompile words → 2 ^ 30 < length bytes → status ≡ Limit → out ≡ limit_line → Gives words bytes status out
+  OfUnbuilt : IsCompile words → length bytes ≤ 2 ^ 30 → IsUnbuilt bytes → status ≡ Unbuilt → out ≡ unbuilt_line → Gives words bytes status out
+  OfExtract : IsCompile words → length bytes ≤ 2 ^ 30 → IsCompiled bytes out → status ≡ Done → Gives words bytes status out
+
+-- ---- how a run ends
+
+-- the output grew by these bytes
+abbrev pub Grows : List ℕ → Option World → Option World → Type 0
+Grows out = Told (λ w v. v.output ≡ w.output ++ out)
+
+-- the output grew by a front of these bytes
+abbrev pub GrowsInto : List ℕ → Option World → Option World → Type 0
+GrowsInto out = Told (λ w v. (n : ℕ) × (v.output ≡ w.output ++ take n out))
+
+-- how the last put ended: the status that was wanted, and all of the piece; or a fault, and a front of it
+abbrev pub EndsPut : List ℕ → Status → Status → Option World → Option World → ℕ → ℕ → Type 0
+EndsPut piece wanted status before now faults_before faults_now =
+    ((status ≡ wanted) × Grows piece before now) ⊎ ((status ≡ SiteFault) × GrowsInto piece before now × Rose faults_before faults_now)
+
+-- what is given was put whole
+pub record PutsAll (words : List (List ℕ)) (bytes : List ℕ) (status : Status) (before now : Option World) : Type 0 where
+  pub out : List ℕ
+  pub gives : Gives words bytes status out
+  pub grows : Grows out before now
+
+-- a front of what is given was put
+pub record PutsFront (words : List (List ℕ)) (bytes : List ℕ) (before now : Option World) : Type 0 where
+  pub status : Status
+  pub out : List ℕ
+  pub gives : Gives words bytes status out
+  pub grows : GrowsInto out before now
+
+-- What was put, by the status. Nothing is put where the source fails or memory ends. The other statuses don't come yet.
+abbrev pub EndsWith : List (List ℕ) → List ℕ → Status → Option World → Option World → Type 0
+EndsWith words bytes Done before now = PutsAll words bytes Done before now
+EndsWith words bytes Usage before now = PutsAll words bytes Usage before now
+EndsWith words bytes ReadFault before now = IsCompile words × Grows [] before now
+EndsWith words bytes SiteFault before now = PutsFront words bytes before now
+EndsWith words bytes Refused before now = ⊥
+EndsWith words bytes OutOfSequence before now = ⊥
+EndsWith words bytes NoStore before now = ⊥
+EndsWith words bytes StoreExists before now = ⊥
+EndsWith words bytes Damaged before now = ⊥
+EndsWith words bytes Limit before now = PutsAll words bytes Limit before now
+EndsWith words bytes NoMemory before now = IsCompile words × Grows [] before now
+EndsWith words bytes Unbuilt before now = PutsAll words bytes Unbuilt before now
+
+-- these bytes are left, where it is told
+abbrev pub Left : Option (List ℕ) → List ℕ → Type 0
+Left None bytes = Unit {0}
+Left (Some left) bytes = left ≡ bytes
+
+-- What was read, by the status: all of the bytes; none; no more than the limit; or more than the limit.
+abbrev pub Reads : Status → List ℕ → List ℕ → Type 0
+Reads Done bytes read = read ≡ bytes
+Reads Usage bytes read = read ≡ []
+Reads ReadFault bytes read = length read ≤ 2 ^ 30
+Reads SiteFault bytes read = Unit {0}
+Reads Refused bytes read = Unit {0}
+Reads OutOfSequence bytes read = Unit {0}
+Reads NoStore bytes read = Unit {0}
+Reads StoreExists bytes read = Unit {0}
+Reads Damaged bytes read = Unit {0}
+Reads Limit bytes read = 2 ^ 30 < length read
+Reads NoMemory bytes read = Unit {0}
+Reads Unbuilt bytes read = read ≡ bytes
+
+-- How a run ends: the bytes that the source held, those of them that were read, and what was put. Where nothing is told of
+-- the source, these are some bytes that begin with those that were read.
+pub record Ends (words : List (List ℕ)) (status : Status) (held left : Option (List ℕ)) (before now : Option World) : Type 0 where
+  pub bytes : List ℕ
+  pub read : List ℕ
+  pub behind : List ℕ
+  pub all : bytes ≡ read ++ behind
+  pub held_is : Left held bytes
+  pub left_is : Left left behind
+  pub reads : Reads status bytes read
+  pub puts : EndsWith words bytes status before now

@@ -1,0 +1,93 @@
+//! The one top call: what the program does for its words, over any source and site.
+ghost use Rattle.std.specs.Prelude.{◌≡◌, ◌⊎◌, ◌↔◌, ◌≤◌, ◌^◌, List, ℕ, map, length, IsTrue, Some};
+ghost use Rattle.road_base.specs.declared.event.Event.{Event};
+ghost use Rattle.road_io.specs.Told.{Rose};
+ghost use Rattle.osmroad.specs.PlainForm.{IsPlainForm};
+ghost use Rattle.osmroad.specs.PlainMap.{IsBuilt};
+ghost use Rattle.osmroad.specs.Run.{IsCompile, Ends, EndsPut};
+
+use crate::input::{InputError, read_whole};
+use crate::plain_graph::plain_graph;
+use crate::status::Status;
+use road_base::{NoMemory, Steps};
+use road_io::{Site, Source};
+use std::alloc::Global;
+use std::sync::ledger::Ledger;
+
+/// The last line where the words aren't known.
+const USAGE: &[u8] =
+    b"usage: osmroad STORE create N|apply N|session|graph|audit|checkpoint, or osmroad - compile|inspect|sample N\n";
+
+fn is_compile(words: &[&str]) -> bool
+    ensures { IsTrue result ↔ IsCompile (map (λ w. w.now) words.now) }
+{
+    if words.len() != 2 || words[0] != "-" {
+        return false;
+    }
+    words[1] == "compile"
+}
+
+// Puts what is last put, and answers the status that it stands for.
+fn put_last<W: Site>(site: &mut W, piece: &[u8], status: Status) -> Status
+    ensures { EndsPut piece.now status result (W.world site.old) (W.world site.new) (W.faults site.old) (W.faults site.new) }
+{
+    match site.put(piece) {
+        Ok(()) => status,
+        Err(_) => Status::SiteFault,
+    }
+}
+
+// The extract on the source, compiled.
+fn compile<S: Source, W: Site>(alloc: Global, source: &mut S, site: &mut W) -> Status
+    ensures ends { (words : List (List ℕ)) → IsCompile words → Ends words result (S.bytes_left source.old) (S.bytes_left source.new) (W.world site.old) (W.world site.new) }
+    ensures read_fault { result ≡ Status.ReadFault → Rose (S.faults source.old) (S.faults source.new) }
+    ensures site_fault { result ≡ Status.SiteFault → Rose (W.faults site.old) (W.faults site.new) }
+{
+    let bytes = match read_whole(alloc, source) {
+        Ok(bytes) => bytes,
+        Err(InputError::Fault) => return Status::ReadFault,
+        Err(InputError::TooLong) => return put_last(site, b"limit\n", Status::Limit),
+        Err(InputError::NoMemory) => return Status::NoMemory,
+    };
+    match plain_graph(alloc, bytes) {
+        Ok(Some(graph)) => put_last(site, &graph, Status::Done),
+        Ok(None) => put_last(site, b"unbuilt\n", Status::Unbuilt),
+        Err(NoMemory) => Status::NoMemory,
+    }
+}
+
+/// Does what the words ask, reading from the source and putting to the site, and answers how it ended. It returns for any
+/// words, source and site: a source that never ends is left as soon as it gave more than 2^30 bytes.
+///
+/// `- compile` puts the graph's bytes of the extract on the source. Other words are answered by the usage line.
+pub fn run<S: Source, W: Site, L: Ledger>(
+    alloc: Global,
+    words: &[&str],
+    source: &mut S,
+    site: &mut W,
+    _steps: &mut Steps<L>,
+) -> Status
+    // What is read and put, by the status: the graph, byte for byte, where it is Done.
+    ensures ends { Ends (map (λ w. w.now) words.now) result (S.bytes_left source.old) (S.bytes_left source.new) (W.world site.old) (W.world site.new) }
+
+    // A fault is answered only where it came.
+    ensures read_fault { result ≡ Status.ReadFault → Rose (S.faults source.old) (S.faults source.new) }
+    ensures site_fault { result ≡ Status.SiteFault → Rose (W.faults site.old) (W.faults site.new) }
+
+    // Where the words, the bytes and the outside are good, it is done, or memory ended.
+    ensures complete { (bytes : List ℕ) (events : List Event)
+        → IsCompile (map (λ w. w.now) words.now)
+        → S.bytes_left source.old ≡ Some bytes
+        → length bytes ≤ 2 ^ 30
+        → IsPlainForm bytes events
+        → IsBuilt events
+        → (Rose (S.faults source.old) (S.faults source.new) → ⊥)
+        → (Rose (W.faults site.old) (W.faults site.new) → ⊥)
+        → (result ≡ Status.Done) ⊎ (result ≡ Status.NoMemory) }
+{
+    if is_compile(words) {
+        compile(alloc, source, site)
+    } else {
+        put_last(site, USAGE, Status::Usage)
+    }
+}
