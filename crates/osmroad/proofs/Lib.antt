@@ -12,3 +12,8 @@ pub mod Decimals
 pub mod SourceReading
 pub mod TwoWords
 pub mod Ending
+pub mod PlainMembers
+pub mod PlainOrders
+pub mod PlainStands
+pub mod PlainPositions
+pub mod PlainSpans
