@@ -17,3 +17,5 @@ pub mod PlainOrders
 pub mod PlainStands
 pub mod PlainPositions
 pub mod PlainSpans
+pub mod PlainSteps
+pub mod PlainPieces
