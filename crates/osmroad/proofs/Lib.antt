@@ -19,3 +19,5 @@ pub mod PlainPositions
 pub mod PlainSpans
 pub mod PlainSteps
 pub mod PlainPieces
+pub mod PlainNames
+pub mod PlainEnds

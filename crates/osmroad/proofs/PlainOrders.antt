@@ -41,12 +41,12 @@ way_cmp_total = on_total (λ w. w.0) int_cmp_total
 pub name_cmp_total : IsTotalOrder name_cmp
 name_cmp_total = then_total (on_total (λ n. n.way) way_cmp_total) (then_total (on_total (λ n. n.index) nat_cmp_total) (on_total (λ n. n.dir) dir_cmp_total))
 
-less_from_lt : (o : Ordering) → IsTrue (is_lt o) → o ≡ Less
+pub less_from_lt : (o : Ordering) → IsTrue (is_lt o) → o ≡ Less
 less_from_lt Less h = refl
 less_from_lt Equal h = absurd (false≢true h)
 less_from_lt Greater h = absurd (false≢true h)
 
-lt_from_less : (o : Ordering) → o ≡ Less → IsTrue (is_lt o)
+pub lt_from_less : (o : Ordering) → o ≡ Less → IsTrue (is_lt o)
 lt_from_less o e = ap is_lt e
 
 module _ {N : Type 0} (R : N → N → Ordering) (total : IsTotalOrder R) where

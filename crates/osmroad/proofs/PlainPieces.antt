@@ -58,7 +58,7 @@ pub in_from_cut_of : (streets : List Street) (p : PlainPiece) → IsCutOf street
 in_from_cut_of streets p c = in_flat_map (street_pieces (is_shared streets)) streets c.street p c.one (in_from_cut (is_shared streets) c.street p c.cut)
 
 -- the two ways of cutting
-cut_cases : (f : NodeId → Bool) (s : Street) (p : PlainPiece) (Q : PlainPiece → Type 0) → IsCut f s p → ((span : ℕ × ℕ) → IsSpan f s.refs span → Q (forward_piece s span)) → ((span : ℕ × ℕ) → IsSpan f s.refs span → Q (backward_piece s span)) → Q p
+pub cut_cases : (f : NodeId → Bool) (s : Street) (p : PlainPiece) (Q : PlainPiece → Type 0) → IsCut f s p → ((span : ℕ × ℕ) → IsSpan f s.refs span → Q (forward_piece s span)) → ((span : ℕ × ℕ) → IsSpan f s.refs span → Q (backward_piece s span)) → Q p
 cut_cases f s p Q c a b = elim c.is [ inl e ↦ subst Q (sym e) (a c.span c.is_span) | inr e ↦ subst Q (sym e) (b c.span c.is_span) ]
 
 -- ---- drivable steps
