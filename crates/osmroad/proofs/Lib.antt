@@ -21,3 +21,5 @@ pub mod PlainSteps
 pub mod PlainPieces
 pub mod PlainNames
 pub mod PlainEnds
+pub mod PlainLegal
+pub mod PlainLeaving
