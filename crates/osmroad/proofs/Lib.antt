@@ -23,3 +23,5 @@ pub mod PlainNames
 pub mod PlainEnds
 pub mod PlainLegal
 pub mod PlainLeaving
+pub mod PlainFollowing
+pub mod PlainArcs
