@@ -48,7 +48,7 @@ followed_by out p t false e i =
     let r = from_filter (λ x. not (same_node x.second p.before_last)) out t i in
     (r.0, inr (λ same. true≢false (sym (same_from_node t.second p.before_last same) ∙ not-true _ r.1)))
 
-followers_are : (out : List PlainPiece) (p t : PlainPiece) → In t (followers out p) → In t out × ((length out ≡ 1) ⊎ (t.second ≡ p.before_last → ⊥))
+pub followers_are : (out : List PlainPiece) (p t : PlainPiece) → In t (followers out p) → In t out × ((length out ≡ 1) ⊎ (t.second ≡ p.before_last → ⊥))
 followers_are out p t i = followed_by out p t (length out == 1) refl i
 
 follows_by : (out : List PlainPiece) (p t : PlainPiece) (b : Bool) → (length out == 1) ≡ b → In t out → (t.second ≡ p.before_last → length out ≡ 1) → In t (cond b out (filter (λ x. not (same_node x.second p.before_last)) out))

@@ -32,7 +32,7 @@ each_append : {S : Type 0} (Q : S → Type 0) (xs ys : List S) → AllByRecursio
 each_append Q [] ys a b = b
 each_append Q (x ∷ xs) ys a b = (a.0, each_append Q xs ys a.1 b)
 
-cons_not_nil : {S : Type 0} (a : List S) (x : S) (b : List S) → a ++ x ∷ b ≡ [] → ⊥
+pub cons_not_nil : {S : Type 0} (a : List S) (x : S) (b : List S) → a ++ x ∷ b ≡ [] → ⊥
 cons_not_nil [] x b e = cc
 cons_not_nil (y ∷ a) x b e = cc
 
