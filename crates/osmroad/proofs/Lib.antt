@@ -25,3 +25,6 @@ pub mod PlainLegal
 pub mod PlainLeaving
 pub mod PlainFollowing
 pub mod PlainArcs
+pub mod PlainPlaces
+pub mod PlainBlocks
+pub mod PlainForms
