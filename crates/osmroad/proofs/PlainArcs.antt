@@ -1,19 +1,17 @@
 -- The arcs and contexts of a piece of a street.
-use Rattle.std.proofs.Common.{◌≡◌, ℕ, ◌+◌, ◌<◌, ◌≤◌, List, [], ◌∷◌, ◌++◌, length, map, ◌⊎◌, inl, inr, refl, sym, ap, ◌∙◌, subst, arith, Some, Option, IsTrue, Bool, true, false, cond, Contains, ◌==◌, not}
+use Rattle.std.proofs.Common.{◌≡◌, List, [], ◌∷◌, ◌++◌, length, map, inl, inr, refl, sym, ap, ◌∙◌, subst, arith, Option, IsTrue, Bool, true, false, cond, ◌==◌, not}
 use Rattle.std.specs.List.{filter}
 use Rattle.std.specs.Ordering.{on}
 use Rattle.road_base.specs.declared.ids.NodeId.{NodeId}
-use Rattle.road_base.specs.declared.ids.Step.{Step}
 use Rattle.road_base.specs.declared.location.Location.{Location}
 use Rattle.road_base.specs.Objects.{Objects}
-use Rattle.road_model.specs.declared.lists.PieceName.{PieceName}
 use Rattle.road_model.specs.declared.lists.TurnArc.{TurnArc}
 use Rattle.road_model.specs.declared.lists.Context.{Context}
 use Rattle.road_model.specs.Rules.{Rules}
 use Rattle.road_model.specs.Lines.{same_node}
 use Rattle.road_model.specs.Pieces.{Piece, IsPiece, spell}
-use Rattle.road_model.specs.Contexts.{IsContextBy, One, Many, IsMany, IsLongestEnd}
-use Rattle.road_model.specs.Network.{AnyWord, Legal, IsContext, IsContextOf, IsArc, spell_pieces}
+use Rattle.road_model.specs.Contexts.{One, Many}
+use Rattle.road_model.specs.Network.{Legal, IsContext, IsContextOf, spell_pieces}
 use Rattle.road_model.specs.Orders.{Lists, rises, name_cmp, names_cmp}
 use Rattle.road_model.specs.Blocks.{name_of, IsArcEntry, IsContextEntry}
 use Rattle.osmroad.specs.declared.street.Street.{Street}
@@ -22,7 +20,7 @@ use Rattle.osmroad.specs.Streets.{all_pieces, leaving, followers, arc_to, arcs_f
 use Rattle.osmroad.specs.PlainGraph.{AreRoads}
 use Rattle.osmroad.proofs.PlainMembers.{In, in_map, from_map, map-map, in_from_contains, contains_from_in}
 use Rattle.osmroad.proofs.PlainOrders.{Climbs, climbs_filter, names_rise, name_cmp_total, lists_unique}
-use Rattle.osmroad.proofs.PlainPieces.{piece_of, listed_is_piece, Listed, piece_is_listed}
+use Rattle.osmroad.proofs.PlainPieces.{piece_of, listed_is_piece, piece_is_listed}
 use Rattle.osmroad.proofs.PlainEnds.{all_climb}
 use Rattle.osmroad.proofs.PlainLegal.{two_legal, legal_passes, cons_not_nil}
 use Rattle.osmroad.proofs.PlainFollowing.{from_leaving, followers_are, followers_pass, passes_follow}

@@ -1,15 +1,13 @@
 -- The blocks that the plain program lists are the graph's.
-use Rattle.std.proofs.Common.{◌≡◌, ℕ, ◌+◌, ◌<◌, ◌≤◌, List, [], ◌∷◌, length, map, inl, inr, refl, sym, ap, ◌∙◌, subst, arith, Option, IsTrue, Contains}
+use Rattle.std.proofs.Common.{◌≡◌, ℕ, List, [], ◌∷◌, map, inl, refl, sym, ap, ◌∙◌, subst, arith, Option}
 use Rattle.road_base.specs.declared.ids.NodeId.{NodeId}
-use Rattle.road_base.specs.declared.ids.WayId.{WayId}
 use Rattle.road_base.specs.declared.location.Location.{Location}
 use Rattle.road_base.specs.Objects.{Objects}
 use Rattle.road_model.specs.declared.lists.Piece.{Piece as PieceEntry}
 use Rattle.road_model.specs.declared.blocks.Block.{Block}
 use Rattle.road_model.specs.Rules.{Rules}
-use Rattle.road_model.specs.Pieces.{Piece, IsPiece}
 use Rattle.road_model.specs.Orders.{Lists, rises, way_cmp, name_cmp}
-use Rattle.road_model.specs.Blocks.{name_of, IsPieceEntry, IsBlock, IsRoadBlock}
+use Rattle.road_model.specs.Blocks.{name_of, IsPieceEntry, IsRoadBlock}
 use Rattle.road_model.specs.Naming.{OneEntry, OnePiece}
 use Rattle.osmroad.specs.declared.street.Street.{Street}
 use Rattle.osmroad.specs.declared.plain_piece.PlainPiece.{PlainPiece}
@@ -18,7 +16,7 @@ use Rattle.osmroad.specs.PlainGraph.{AreRoads}
 use Rattle.osmroad.proofs.PlainMembers.{In, at_each, in_map, from_map, map-map, in_from_contains, contains_from_in}
 use Rattle.osmroad.proofs.PlainOrders.{name_cmp_total, lists_unique}
 use Rattle.osmroad.proofs.PlainSpans.{span_behind}
-use Rattle.osmroad.proofs.PlainPieces.{IsCut, IsCutOf, cut_from_in, in_from_cut, in_from_cut_of, piece_of, listed_is_piece, Cuts, cuts, street_of_piece}
+use Rattle.osmroad.proofs.PlainPieces.{IsCut, cut_from_in, in_from_cut, in_from_cut_of, piece_of, listed_is_piece, cuts, street_of_piece}
 use Rattle.osmroad.proofs.PlainNames.{cut_way, name_by_place, street_rises}
 use Rattle.osmroad.proofs.PlainArcs.{contexts_listed}
 use Rattle.osmroad.proofs.PlainPlaces.{places_count, places_at}
@@ -59,8 +57,8 @@ module _ (M : Objects) (P : Rules) (locations : NodeId → Option Location) (str
   entries_listed one s i = record {
     ascending = ap (rises name_cmp) (map-map (λ p. p.name) (piece_in locations (all_pieces streets) s) (street_pieces (is_shared streets) s)) ∙ street_rises name_cmp (is_shared streets) s (name_by_place s.way);
     sound = λ x c.
-      let r = from_map (piece_in locations (all_pieces streets) s) (street_pieces (is_shared streets) s) x (in_from_contains (entries s) x c) in
-      subst (IsPieceEntry M P s.way) (sym r.2) (piece_entry s i r.0 (cut_from_in (is_shared streets) s r.0 r.1));
+        let r = from_map (piece_in locations (all_pieces streets) s) (street_pieces (is_shared streets) s) x (in_from_contains (entries s) x c) in
+        subst (IsPieceEntry M P s.way) (sym r.2) (piece_entry s i r.0 (cut_from_in (is_shared streets) s r.0 r.1));
     complete = λ x e. contains_from_in (entries s) x (entry_listed one s i x e);
   }
 
@@ -97,7 +95,7 @@ unfolding plain_blocks
 plain_blocks_listed M P locations streets entry piece roads = record {
   ascending = ap (rises way_cmp) (map-map (λ b. b.way) (block_in locations streets) streets) ∙ roads.ascend;
   sound = λ b c.
-    let r = from_map (block_in locations streets) streets b (in_from_contains (map (block_in locations streets) streets) b c) in
-    subst (IsRoadBlock M P) (sym r.2) (road_block M P locations streets roads entry r.0 r.1);
+      let r = from_map (block_in locations streets) streets b (in_from_contains (map (block_in locations streets) streets) b c) in
+      subst (IsRoadBlock M P) (sym r.2) (road_block M P locations streets roads entry r.0 r.1);
   complete = λ b r. contains_from_in (map (block_in locations streets) streets) b (block_listed M P locations streets roads entry b r);
 }

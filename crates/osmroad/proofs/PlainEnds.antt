@@ -1,9 +1,8 @@
 -- The first and the last step of a piece, and the nodes at their ends.
-use Rattle.std.proofs.Common.{◌≡◌, ◌≢◌, ℕ, zero, suc, ◌+◌, ◌-◌, ◌<◌, ◌≤◌, List, [], ◌∷◌, length, ◌⊎◌, inl, inr, refl, sym, ap, ◌∙◌, subst, arith, slice_get, Some, None, Option, Bool, pos}
+use Rattle.std.proofs.Common.{◌≡◌, ℕ, ◌+◌, ◌-◌, ◌<◌, List, length, refl, sym, ap, ◌∙◌, subst, arith, Some, Option, Bool, pos}
 use Rattle.std.proofs.lemmas.Option.{slice_get-get_or}
 use Rattle.std.specs.Ordering.{on}
 use Rattle.road_base.specs.declared.ids.NodeId.{NodeId}
-use Rattle.road_base.specs.declared.ids.WayId.{WayId}
 use Rattle.road_base.specs.declared.ids.Dir.{Dir}
 use Rattle.road_base.specs.declared.ids.Dir.TheVariants.{Forward, Backward}
 use Rattle.road_base.specs.declared.ids.Step.{Step}
@@ -21,7 +20,7 @@ use Rattle.osmroad.proofs.PlainOrders.{Climbs, same_by_name, name_cmp_total}
 use Rattle.osmroad.proofs.PlainSpans.{IsSpan, same_start}
 use Rattle.osmroad.proofs.PlainSteps.{step, first_index, last_index}
 use Rattle.osmroad.proofs.PlainPositions.{one_street, node_is, ways_climb}
-use Rattle.osmroad.proofs.PlainPieces.{IsCut, IsCutOf, cut_of_from_in, cut_cases}
+use Rattle.osmroad.proofs.PlainPieces.{IsCut, cut_of_from_in, cut_cases}
 use Rattle.osmroad.proofs.PlainNames.{pieces_climb, cut_way}
 
 abbrev pub first_step : PlainPiece → Step

@@ -1,5 +1,5 @@
 -- The pieces that the plain program lets follow a piece are those whose first step may follow its last.
-use Rattle.std.proofs.Common.{◌≡◌, ◌≢◌, ℕ, ◌+◌, ◌<◌, ◌≤◌, List, [], ◌∷◌, length, ◌⊎◌, inl, inr, refl, sym, ap, ◌∙◌, subst, arith, Some, Option, IsTrue, IsFalse, Bool, true, false, not, cond, ◌==◌, eqb-true, is_lt}
+use Rattle.std.proofs.Common.{◌≡◌, List, [], ◌∷◌, length, ◌⊎◌, inl, inr, refl, sym, ap, ◌∙◌, subst, arith, Some, Option, IsTrue, Bool, true, false, not, cond, ◌==◌, eqb-true, is_lt}
 use Rattle.std.specs.List.{filter}
 use Rattle.std.specs.Ordering.{on}
 use Rattle.std.specs.Cmp.{IsTotalOrder}
@@ -12,8 +12,8 @@ use Rattle.road_base.specs.declared.ids.Step.{Step}
 use Rattle.road_base.specs.declared.location.Location.{Location}
 use Rattle.road_base.specs.Objects.{Objects}
 use Rattle.road_model.specs.Rules.{Rules}
-use Rattle.road_model.specs.Lines.{same_node, tail_of, head_of}
-use Rattle.road_model.specs.Driving.{Leaves, MayTurn, AtPlace, AtShut, AtDeadEnd, Passes, turning_place, shut}
+use Rattle.road_model.specs.Lines.{same_node, tail_of}
+use Rattle.road_model.specs.Driving.{Leaves, MayTurn, AtPlace, AtShut, AtDeadEnd, Passes}
 use Rattle.road_model.specs.Orders.{name_cmp}
 use Rattle.osmroad.specs.declared.street.Street.{Street}
 use Rattle.osmroad.specs.declared.plain_piece.PlainPiece.{PlainPiece}
@@ -22,8 +22,8 @@ use Rattle.osmroad.specs.PlainGraph.{AreRoads}
 use Rattle.osmroad.proofs.PlainMembers.{In, in_filter, from_filter}
 use Rattle.osmroad.proofs.PlainOrders.{Climbs, climbs_filter, not_below_itself, name_cmp_total}
 use Rattle.osmroad.proofs.PlainStands.{node_from_same, same_from_node}
-use Rattle.osmroad.proofs.PlainEnds.{first_step, last_step, HasEnds, has_ends, one_first, all_climb}
-use Rattle.osmroad.proofs.PlainLeaving.{IsJunctionOf, Begins, leaves_begins, first_leaves, ends_at_junction}
+use Rattle.osmroad.proofs.PlainEnds.{first_step, last_step, has_ends, one_first, all_climb}
+use Rattle.osmroad.proofs.PlainLeaving.{IsJunctionOf, leaves_begins, first_leaves, ends_at_junction}
 
 -- an ascending list of which all members are one has one
 single : {N : Type 0} (R : N → N → Ordering) → IsTotalOrder R → (xs : List N) → Climbs R xs → (x : N) → In x xs → ((y : N) → In y xs → y ≡ x) → length xs ≡ 1
@@ -95,10 +95,10 @@ module _ (M : Objects) (P : Rules) (locations : NodeId → Option Location) (str
   one_leaving : (v : NodeId) (t : PlainPiece) → In t (all_pieces streets) → t.from ≡ v → ((u : Step) → Leaves M P v u → u ≡ first_step t) → length (leaving v (all_pieces streets)) ≡ 1
   one_leaving v t i e only =
       single (on (λ p. p.name) name_cmp) (on_total (λ p. p.name) name_cmp_total) (leaving v (all_pieces streets))
-        (climbs_filter (on (λ p. p.name) name_cmp) (λ p. same_node p.from v) (all_pieces streets) (all_climb M P locations streets roads))
-        t (in_leaving v (all_pieces streets) t i e) (λ y k.
-          let o = from_leaving v (all_pieces streets) y k in
-          one_first M P locations streets roads y t o.0 i (only (first_step y) (subst (λ w. Leaves M P w (first_step y)) o.1 (first_leaves M P locations streets roads y o.0))))
+      (climbs_filter (on (λ p. p.name) name_cmp) (λ p. same_node p.from v) (all_pieces streets) (all_climb M P locations streets roads))
+      t (in_leaving v (all_pieces streets) t i e) (λ y k.
+      let o = from_leaving v (all_pieces streets) y k in
+      one_first M P locations streets roads y t o.0 i (only (first_step y) (subst (λ w. Leaves M P w (first_step y)) o.1 (first_leaves M P locations streets roads y o.0))))
 
   turn_alone : (v : NodeId) (t : PlainPiece) → In t (all_pieces streets) → t.from ≡ v → MayTurn M P v (first_step t) → length (leaving v (all_pieces streets)) ≡ 1
   turn_alone v t i e (AtPlace h) = absurd (false≢true (sym (roads.no_turning v) ∙ h))
@@ -112,4 +112,4 @@ module _ (M : Objects) (P : Rules) (locations : NodeId → Option Location) (str
       let here : h.node ≡ p.to = same_Some _ _ (sym h.from ∙ a.last_head) in
       let from : t.from ≡ p.to = same_Some _ _ (sym b.first_tail ∙ h.to) ∙ here in
       are_followers (leaving p.to (all_pieces streets)) p t (in_leaving p.to (all_pieces streets) t j from)
-        (λ same. turn_alone p.to t j from (subst (λ v. MayTurn M P v (first_step t)) here (h.back (b.first_head ∙ (ap Some same ∙ sym a.last_tail)))))
+      (λ same. turn_alone p.to t j from (subst (λ v. MayTurn M P v (first_step t)) here (h.back (b.first_head ∙ (ap Some same ∙ sym a.last_tail)))))

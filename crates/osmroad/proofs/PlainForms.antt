@@ -1,13 +1,9 @@
 -- The blocks that the plain program lists are in the form of a graph file.
-use Rattle.std.proofs.Common.{◌≡◌, ℕ, ◌+◌, ◌<◌, ◌≤◌, List, [], ◌∷◌, length, map, inl, inr, refl, sym, ap, ◌∙◌, subst, arith, Option, IsTrue}
+use Rattle.std.proofs.Common.{◌+◌, ◌≤◌, List, [], refl, ap, ◌∙◌, arith, Option}
 use Rattle.std.specs.List.{AllByRecursion}
 use Rattle.road_base.specs.declared.ids.NodeId.{NodeId}
 use Rattle.road_base.specs.declared.location.Location.{Location}
 use Rattle.road_base.specs.Objects.{Objects}
-use Rattle.road_model.specs.declared.lists.TurnArc.{TurnArc}
-use Rattle.road_model.specs.declared.lists.Context.{Context}
-use Rattle.road_model.specs.declared.lists.Piece.{Piece as PieceEntry}
-use Rattle.road_model.specs.declared.blocks.Block.{Block}
 use Rattle.road_model.specs.Rules.{Rules}
 use Rattle.road_model.specs.Orders.{rises}
 use Rattle.road_model.specs.Format.{IsContextForm, IsPieceForm, IsBlockForm, place_cmp}

@@ -1,28 +1,27 @@
 -- The drivable steps that leave the last node of a piece are the first steps of the pieces that leave it.
-use Rattle.std.proofs.Common.{◌≡◌, ◌≢◌, ℕ, ◌+◌, ◌-◌, ◌<◌, ◌≤◌, List, [], ◌∷◌, length, ◌⊎◌, inl, inr, refl, sym, ap, ◌∙◌, subst, arith, slice_get, Some, None, Option, IsTrue, Bool, true, false, pos}
+use Rattle.std.proofs.Common.{◌≡◌, ℕ, ◌+◌, ◌-◌, ◌<◌, ◌≤◌, List, length, inl, inr, refl, sym, ap, ◌∙◌, subst, arith, slice_get, Some, Option, pos}
 use Rattle.std.proofs.lemmas.Bool.{ltb-false}
 use Rattle.std.proofs.lemmas.Option.{slice_get-get_or}
 use Rattle.road_base.specs.declared.ids.NodeId.{NodeId}
-use Rattle.road_base.specs.declared.ids.WayId.{WayId}
 use Rattle.road_base.specs.declared.ids.Dir.{Dir}
 use Rattle.road_base.specs.declared.ids.Dir.TheVariants.{Forward, Backward}
 use Rattle.road_base.specs.declared.ids.Step.{Step}
 use Rattle.road_base.specs.declared.location.Location.{Location}
 use Rattle.road_base.specs.Objects.{Objects}
 use Rattle.road_model.specs.Rules.{Rules}
-use Rattle.road_model.specs.Lines.{node_at, tail_of, head_of, tail_position, head_position}
-use Rattle.road_model.specs.Driving.{Leaves, drivable}
+use Rattle.road_model.specs.Lines.{node_at, tail_position}
+use Rattle.road_model.specs.Driving.{Leaves}
 use Rattle.osmroad.specs.declared.street.Street.{Street}
 use Rattle.osmroad.specs.declared.plain_piece.PlainPiece.{PlainPiece}
 use Rattle.osmroad.specs.Streets.{is_shared, stands, node_on, forward_piece, backward_piece, all_pieces}
 use Rattle.osmroad.specs.PlainGraph.{AreRoads}
 use Rattle.osmroad.proofs.PlainMembers.{In, in_at}
 use Rattle.osmroad.proofs.PlainStands.{distinct_at, alone_on}
-use Rattle.osmroad.proofs.PlainSpans.{IsSpan, span_behind, span_before}
+use Rattle.osmroad.proofs.PlainSpans.{span_behind, span_before}
 use Rattle.osmroad.proofs.PlainSteps.{step, first_index}
-use Rattle.osmroad.proofs.PlainPositions.{IsInside, mark_at, at_place, node_is, distinct}
-use Rattle.osmroad.proofs.PlainPieces.{IsCut, IsCutOf, cut_of_from_in, in_from_cut_of, cut_cases, LiesOn, lies_on, drives_on, listed_is_piece}
-use Rattle.osmroad.proofs.PlainEnds.{first_step, HasEnds, has_ends}
+use Rattle.osmroad.proofs.PlainPositions.{IsInside, mark_at, node_is, distinct}
+use Rattle.osmroad.proofs.PlainPieces.{IsCutOf, cut_of_from_in, in_from_cut_of, cut_cases, lies_on, listed_is_piece}
+use Rattle.osmroad.proofs.PlainEnds.{first_step, has_ends}
 
 -- a node stands at a junction of a street
 pub record IsJunctionOf (streets : List Street) (n : NodeId) : Type 0 where
@@ -52,8 +51,8 @@ module _ (M : Objects) (P : Rules) (locations : NodeId → Option Location) (str
   ends_at_junction p i =
       let c = cut_of_from_in streets p i in
       cut_cases (is_shared streets) c.street p (λ q. IsJunctionOf streets q.to) c.cut
-        (λ span h. junction_at c.street c.one span.1 h.within h.last)
-        (λ span h. let up = h.ascends in let within = h.within in junction_at c.street c.one span.0 (omega arith) h.first)
+      (λ span h. junction_at c.street c.one span.1 h.within h.last)
+      (λ span h. let up = h.ascends in let within = h.within in junction_at c.street c.one span.0 (omega arith) h.first)
 
   pub record Begins (u : Step) : Type 0 where
     pub piece : PlainPiece

@@ -1,5 +1,5 @@
 -- Which lists of steps of one piece, or of two, are legal.
-use Rattle.std.proofs.Common.{◌≡◌, ◌≢◌, ℕ, ◌+◌, ◌-◌, ◌<◌, ◌≤◌, List, [], ◌∷◌, ◌++◌, length, inl, inr, refl, sym, ap, ap₂, ◌∙◌, subst, arith, Some, Option, IsTrue, Bool, append-nil, append_assoc}
+use Rattle.std.proofs.Common.{◌≡◌, ℕ, ◌+◌, ◌-◌, ◌<◌, List, [], ◌∷◌, ◌++◌, length, inl, refl, sym, ap₂, ◌∙◌, subst, arith, Some, Option, append-nil, append_assoc}
 use Rattle.std.specs.List.{AllByRecursion}
 use Rattle.road_base.specs.declared.ids.NodeId.{NodeId}
 use Rattle.road_base.specs.declared.ids.WayId.{WayId}
@@ -9,19 +9,18 @@ use Rattle.road_base.specs.declared.ids.Step.{Step}
 use Rattle.road_base.specs.declared.location.Location.{Location}
 use Rattle.road_base.specs.Objects.{Objects}
 use Rattle.road_model.specs.Rules.{Rules}
-use Rattle.road_model.specs.Lines.{node_at, tail_of, head_of, steps_from}
-use Rattle.road_model.specs.Driving.{Passes, drivable}
-use Rattle.road_model.specs.Pieces.{Piece, IsPiece, spell}
-use Rattle.road_model.specs.Legal.{MustBy}
+use Rattle.road_model.specs.Lines.{node_at, steps_from}
+use Rattle.road_model.specs.Driving.{Passes}
+use Rattle.road_model.specs.Pieces.{spell}
 use Rattle.road_model.specs.Network.{Drives, NoWord, OnlyWord, Legal, spell_pieces}
 use Rattle.osmroad.specs.declared.street.Street.{Street}
 use Rattle.osmroad.specs.declared.plain_piece.PlainPiece.{PlainPiece}
 use Rattle.osmroad.specs.Streets.{is_shared, all_pieces}
 use Rattle.osmroad.specs.PlainGraph.{AreRoads}
-use Rattle.osmroad.proofs.PlainMembers.{In, at_each, each_at, in_left, in_right, in_cases}
-use Rattle.osmroad.proofs.PlainSteps.{step, earlier, later, first_index, last_index, BeginsWith, EndsWith, run_begins, run_ends, run_each, run_chain, Chain, chain_at, chain_join}
+use Rattle.osmroad.proofs.PlainMembers.{In, at_each, in_right}
+use Rattle.osmroad.proofs.PlainSteps.{step, earlier, later, BeginsWith, EndsWith, run_begins, run_ends, run_each, run_chain, Chain, chain_at, chain_join}
 use Rattle.osmroad.proofs.PlainPositions.{at_place, node_is, apart}
-use Rattle.osmroad.proofs.PlainPieces.{IsCut, IsCutOf, cut_of_from_in, piece_of, listed_is_piece}
+use Rattle.osmroad.proofs.PlainPieces.{cut_of_from_in, piece_of, listed_is_piece}
 use Rattle.osmroad.proofs.PlainEnds.{first_step, last_step, cut_span}
 use Rattle.osmroad.proofs.PlainNames.{cut_way}
 

@@ -1,5 +1,5 @@
 -- The pieces that the plain program lists ascend by name.
-use Rattle.std.proofs.Common.{◌≡◌, ℕ, zero, suc, ◌+◌, ◌<◌, ◌≤◌, List, [], ◌∷◌, ◌++◌, length, drop, map, ◌⊎◌, inl, inr, refl, sym, ap, ◌∙◌, subst, arith, Bool, true, false, cond, ◌&&◌, IsTrue, Ordering, Less, Equal, Greater, is_lt, nat_cmp}
+use Rattle.std.proofs.Common.{◌≡◌, ℕ, ◌+◌, ◌<◌, List, [], ◌∷◌, drop, map, inl, inr, refl, ap, ◌∙◌, arith, Bool, true, false, cond, IsTrue, Ordering, Less, Equal, Greater, is_lt, nat_cmp}
 use Rattle.std.specs.List.{flat_map}
 use Rattle.std.specs.Ordering.{on, ordering_then}
 use Rattle.std.proofs.lemmas.Bool.{and_from}
@@ -10,12 +10,12 @@ use Rattle.road_base.specs.declared.ids.WayId.{WayId}
 use Rattle.road_base.specs.declared.ids.Dir.{Dir}
 use Rattle.road_base.specs.declared.ids.Dir.TheVariants.{Forward, Backward}
 use Rattle.road_model.specs.declared.lists.PieceName.{PieceName}
-use Rattle.road_model.specs.Orders.{rises, rises_from, way_cmp, dir_cmp, name_cmp}
+use Rattle.road_model.specs.Orders.{rises, rises_from, way_cmp, name_cmp}
 use Rattle.road_model.specs.Format.{place_cmp}
 use Rattle.osmroad.specs.declared.street.Street.{Street}
 use Rattle.osmroad.specs.declared.plain_piece.PlainPiece.{PlainPiece}
-use Rattle.osmroad.specs.Streets.{is_shared, spans, street_spans, forward_piece, backward_piece, both_ways, street_pieces, all_pieces}
-use Rattle.osmroad.proofs.PlainMembers.{In, in_flat_map, from_flat_map}
+use Rattle.osmroad.specs.Streets.{spans, both_ways, street_pieces}
+use Rattle.osmroad.proofs.PlainMembers.{In, from_flat_map}
 use Rattle.osmroad.proofs.PlainOrders.{Climbs, climbs_append, climbs_by_name, way_cmp_total, name_cmp_total, less_from_lt, lt_from_less}
 use Rattle.osmroad.proofs.PlainPieces.{IsCut, cut_from_in}
 
@@ -52,19 +52,23 @@ module _ (R : PieceName → PieceName → Ordering) (f : NodeId → Bool) (s : S
   abbrev names : List (ℕ × ℕ) → List PieceName
   names l = map (λ p. p.name) (flat_map (both_ways s) l)
 
-  rise_at : (h start i : ℕ) (rest : List (ℕ × ℕ)) → h < start → IsTrue (rises_from R (name s.way start Backward) (names rest)) → IsTrue (rises_from R (name s.way h Backward) (names ((start, i) ∷ rest)))
+  -- the names of these pairs' pieces rise from the backward piece at h on
+  abbrev Above : ℕ → List (ℕ × ℕ) → Type 0
+  Above h l = IsTrue (rises_from R (name s.way h Backward) (names l))
+
+  rise_at : (h start i : ℕ) (rest : List (ℕ × ℕ)) → h < start → Above start rest → Above h ((start, i) ∷ rest)
   rise_at h start i rest l up = and_from _ _ (lt_from_less _ (by.along h start l)) (and_from _ _ (lt_from_less _ (by.turned start)) up)
 
-  rise_more : (n : NodeId) (h start i : ℕ) (rest : List NodeId) (b : Bool) → h < start → IsTrue (rises_from R (name s.way start Backward) (names (spans f i (i + 1) rest))) → IsTrue (rises_from R (name s.way h Backward) (names (spans f start (i + 1) rest))) → IsTrue (rises_from R (name s.way h Backward) (names (cond b ((start, i) ∷ spans f i (i + 1) rest) (spans f start (i + 1) rest))))
+  rise_more : (n : NodeId) (h start i : ℕ) (rest : List NodeId) (b : Bool) → h < start → Above start (spans f i (i + 1) rest) → Above h (spans f start (i + 1) rest) → Above h (cond b ((start, i) ∷ spans f i (i + 1) rest) (spans f start (i + 1) rest))
   rise_more n h start i rest true l cut on = rise_at h start i (spans f i (i + 1) rest) l cut
   rise_more n h start i rest false l cut on = on
 
-  spans_rise_from : (rest : List NodeId) (h start i : ℕ) → h < start → start < i → IsTrue (rises_from R (name s.way h Backward) (names (spans f start i rest)))
+  spans_rise_from : (rest : List NodeId) (h start i : ℕ) → h < start → start < i → Above h (spans f start i rest)
   spans_rise_from [] h start i l k = refl
   spans_rise_from (n ∷ []) h start i l k = rise_at h start i [] l refl
   spans_rise_from (n ∷ m ∷ r) h start i l k = rise_more n h start i (m ∷ r) (f n) l (spans_rise_from (m ∷ r) start i (i + 1) k (omega arith)) (spans_rise_from (m ∷ r) h start (i + 1) l (omega arith))
 
-  start_more : (n : NodeId) (start i : ℕ) (rest : List NodeId) (b : Bool) → IsTrue (rises_from R (name s.way start Backward) (names (spans f i (i + 1) rest))) → IsTrue (rises R (names (spans f start (i + 1) rest))) → IsTrue (rises R (names (cond b ((start, i) ∷ spans f i (i + 1) rest) (spans f start (i + 1) rest))))
+  start_more : (n : NodeId) (start i : ℕ) (rest : List NodeId) (b : Bool) → Above start (spans f i (i + 1) rest) → IsTrue (rises R (names (spans f start (i + 1) rest))) → IsTrue (rises R (names (cond b ((start, i) ∷ spans f i (i + 1) rest) (spans f start (i + 1) rest))))
   start_more n start i rest true cut on = and_from _ _ (lt_from_less _ (by.turned start)) cut
   start_more n start i rest false cut on = on
 

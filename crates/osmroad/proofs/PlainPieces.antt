@@ -1,12 +1,11 @@
 -- The pieces that the plain program lists are the pieces of the object map.
-use Rattle.std.proofs.Common.{◌≡◌, ◌≢◌, ℕ, zero, suc, ◌+◌, ◌-◌, ◌<◌, ◌≤◌, List, [], ◌∷◌, length, drop, ◌⊎◌, inl, inr, refl, sym, ap, ◌∙◌, subst, arith, Bool, true, false, slice_get, Some, None, Option, IsTrue, IsFalse}
+use Rattle.std.proofs.Common.{◌≡◌, ℕ, ◌+◌, ◌-◌, ◌<◌, List, length, ◌⊎◌, inl, inr, refl, sym, ap, ◌∙◌, subst, arith, Bool, Option, IsTrue}
 use Rattle.std.proofs.lemmas.Bool.{false≢true, and_parts, and_from, cases_lt}
 use Rattle.std.proofs.lemmas.Option.{slice_get_past}
 use Rattle.road_base.specs.declared.ids.NodeId.{NodeId}
 use Rattle.road_base.specs.declared.ids.WayId.{WayId}
 use Rattle.road_base.specs.declared.ids.Dir.{Dir}
 use Rattle.road_base.specs.declared.ids.Dir.TheVariants.{Forward, Backward}
-use Rattle.road_base.specs.declared.ids.Step.{Step}
 use Rattle.road_base.specs.declared.location.Location.{Location}
 use Rattle.road_base.specs.Objects.{Objects}
 use Rattle.road_model.specs.Rules.{Rules}
@@ -20,7 +19,7 @@ use Rattle.osmroad.specs.PlainGraph.{AreRoads}
 use Rattle.osmroad.proofs.PlainMembers.{In, in_flat_map, from_flat_map}
 use Rattle.osmroad.proofs.PlainSpans.{IsSpan, listed_is_span, span_is_listed}
 use Rattle.osmroad.proofs.PlainSteps.{step}
-use Rattle.osmroad.proofs.PlainPositions.{IsInside, one_street, node_is, located_within, open_on, street_at, plain_from, plain_to}
+use Rattle.osmroad.proofs.PlainPositions.{IsInside, node_is, located_within, open_on, street_at, plain_from, plain_to}
 
 abbrev pub piece_of : PlainPiece → Piece
 piece_of p = record { way = p.name.way; index = p.name.index; end = p.end; dir = p.name.dir }

@@ -1,5 +1,5 @@
 -- The places of a piece of a street.
-use Rattle.std.proofs.Common.{◌≡◌, ℕ, zero, suc, ◌+◌, ◌-◌, ◌<◌, ◌≤◌, min, List, [], ◌∷◌, ◌++◌, length, take, drop, reverse, map, ◌⊎◌, inl, inr, refl, sym, ap, ◌∙◌, subst, arith, slice_get, slice_index_or, Some, None, Option, option_map, filter_map, length-take, length-drop, get_or-take, get_or-drop}
+use Rattle.std.proofs.Common.{◌≡◌, ℕ, zero, suc, ◌+◌, ◌-◌, ◌<◌, List, [], ◌∷◌, length, take, drop, reverse, inl, inr, refl, sym, ap, ◌∙◌, subst, arith, slice_get, slice_index_or, Some, None, Option, option_map, filter_map, length-take, length-drop, get_or-take, get_or-drop}
 use Rattle.std.specs.List.{cons_option}
 use Rattle.std.proofs.lemmas.List.{get_or-reverse, length-reverse}
 use Rattle.std.proofs.lemmas.Option.{same_Some, slice_get_within, slice_get-get_or, get_or_from_slice_get}
@@ -12,7 +12,6 @@ use Rattle.road_base.specs.Objects.{Objects}
 use Rattle.road_model.specs.declared.lists.Place.{Place}
 use Rattle.road_model.specs.Rules.{Rules}
 use Rattle.road_model.specs.Lines.{node_at}
-use Rattle.road_model.specs.Pieces.{Piece}
 use Rattle.road_model.specs.Blocks.{IsPlaceOf, place_position}
 use Rattle.osmroad.specs.declared.street.Street.{Street}
 use Rattle.osmroad.specs.declared.plain_piece.PlainPiece.{PlainPiece}

@@ -1,9 +1,7 @@
 -- Which positions of streets are plain.
-use Rattle.std.proofs.Common.{◌≡◌, ◌≢◌, ℕ, zero, suc, ◌+◌, ◌-◌, ◌<◌, ◌≤◌, List, [], ◌∷◌, length, ◌⊎◌, inl, inr, refl, sym, ap, ◌∙◌, subst, arith, Bool, true, false, cond, slice_get, Some, None, Option, IsTrue, IsFalse, Contains, is_some}
-use Rattle.std.specs.List.{AllByRecursion}
+use Rattle.std.proofs.Common.{◌≡◌, ◌≢◌, ℕ, zero, suc, ◌+◌, ◌-◌, ◌<◌, ◌≤◌, List, [], ◌∷◌, length, inl, inr, refl, sym, ap, ◌∙◌, subst, arith, Bool, true, false, slice_get, Some, None, Option, IsTrue, is_some}
 use Rattle.std.specs.Ordering.{on}
-use Rattle.std.proofs.lemmas.Bool.{ltb-true, ltb-false, lt-ltb, le-ltb, false≢true, or_cases, or_left, cases_lt}
-use Rattle.std.proofs.lemmas.Option.{slice_get_within, same_Some}
+use Rattle.std.proofs.lemmas.Bool.{ltb-false, le-ltb, or_cases, or_left, cases_lt}
 use Rattle.road_base.specs.declared.ids.NodeId.{NodeId}
 use Rattle.road_base.specs.declared.ids.WayId.{WayId}
 use Rattle.road_base.specs.declared.ids.Dir.{Dir}
@@ -19,7 +17,7 @@ use Rattle.road_model.specs.Orders.{way_cmp}
 use Rattle.osmroad.specs.declared.street.Street.{Street}
 use Rattle.osmroad.specs.Streets.{is_shared, stands}
 use Rattle.osmroad.specs.PlainMap.{AreDistinct}
-use Rattle.osmroad.specs.PlainGraph.{AreRoads, LiesAt}
+use Rattle.osmroad.specs.PlainGraph.{AreRoads}
 use Rattle.osmroad.proofs.PlainMembers.{In, in_at, at_in, at_each, in_from_contains, contains_from_in}
 use Rattle.osmroad.proofs.PlainOrders.{Climbs, climbs_by_name, same_by_name, way_cmp_total}
 use Rattle.osmroad.proofs.PlainStands.{distinct_at, alone_on, elsewhere}
@@ -127,9 +125,9 @@ module _ (M : Objects) (P : Rules) (locations : NodeId → Option Location) (str
   not_shared : (s : Street) → In s streets → (k : ℕ) (n : NodeId) → slice_get s.refs k ≡ Some n → ((v : WayId) (j : ℕ) → IsTrue (is_road M P v) → node_at M v j ≡ Some n → (v ≡ s.way) × (j ≡ k)) → stands n streets ≤ 1
   not_shared s i k n e alone = elim (cases_lt 1 (stands n streets)) [
     | inl more ↦
-      let o = elsewhere n streets ways_climb roads.once s i more in
-      let at = at_in (o.street).refs n o.stands in
-      absurd (o.other (alone (o.street).way at.0 (road_of o.street o.one) (node_is o.street o.one at.0 ∙ at.1)).0)
+        let o = elsewhere n streets ways_climb roads.once s i more in
+        let at = at_in (o.street).refs n o.stands in
+        absurd (o.other (alone (o.street).way at.0 (road_of o.street o.one) (node_is o.street o.one at.0 ∙ at.1)).0)
     | inr less ↦ less
   ]
 

@@ -1,10 +1,10 @@
 -- The pairs of neighbouring junctions of a street.
-use Rattle.std.proofs.Common.{◌≡◌, ◌≢◌, ℕ, zero, suc, ◌+◌, ◌-◌, ◌<◌, ◌≤◌, List, [], ◌∷◌, length, drop, ◌⊎◌, inl, inr, refl, sym, ap, ◌∙◌, subst, arith, Bool, true, false, cond, slice_get, Some, None, Option, add-one, length-drop}
+use Rattle.std.proofs.Common.{◌≡◌, ℕ, zero, suc, ◌+◌, ◌-◌, ◌<◌, ◌≤◌, List, [], ◌∷◌, length, drop, inl, inr, refl, sym, ap, ◌∙◌, subst, arith, Bool, true, false, cond, slice_get, Some, add-one, length-drop}
 use Rattle.std.proofs.lemmas.Bool.{false≢true, cases_Bool, cases_lt, cases_eq, cases_order}
 use Rattle.road_base.specs.declared.ids.NodeId.{NodeId}
 use Rattle.osmroad.specs.Streets.{spans}
 use Rattle.osmroad.proofs.PlainMembers.{In}
-use Rattle.osmroad.proofs.PlainPositions.{mark, mark_of, mark_at, IsInside}
+use Rattle.osmroad.proofs.PlainPositions.{mark, mark_at, IsInside}
 
 -- n stands at position i, and r stands behind it
 record IsFront (i : ℕ) (ns : List NodeId) (n : NodeId) (r : List NodeId) : Type 0 where
@@ -56,9 +56,9 @@ module _ (f : NodeId → Bool) (ns : List NodeId) where
   inside_by n m r i fr l e = let long = fr.long in record { low = l; high = omega arith; once = mark_at f ns i n fr.at ∙ e }
 
   sound_by : (n m : NodeId) (r : List NodeId) (start i : ℕ) (b : Bool) → f n ≡ b → IsFront i ns n (m ∷ r) → start < i → (IsInside f ns start → ⊥) → Run start i → (span : ℕ × ℕ)
-    → ((IsInside f ns i → ⊥) → In span (spans f i (i + 1) (m ∷ r)) → IsSpan f ns span)
-    → (Run start (i + 1) → In span (spans f start (i + 1) (m ∷ r)) → IsSpan f ns span)
-    → In span (cond b ((start, i) ∷ spans f i (i + 1) (m ∷ r)) (spans f start (i + 1) (m ∷ r))) → IsSpan f ns span
+      → ((IsInside f ns i → ⊥) → In span (spans f i (i + 1) (m ∷ r)) → IsSpan f ns span)
+      → (Run start (i + 1) → In span (spans f start (i + 1) (m ∷ r)) → IsSpan f ns span)
+      → In span (cond b ((start, i) ∷ spans f i (i + 1) (m ∷ r)) (spans f start (i + 1) (m ∷ r))) → IsSpan f ns span
   sound_by n m r start i true e fr l first run span cut on (inl g) = let long = fr.long in first_span start i l (omega arith) first (marked_junction i (mark_at f ns i n fr.at ∙ e)) run span g
   sound_by n m r start i true e fr l first run span cut on (inr g) = cut (marked_junction i (mark_at f ns i n fr.at ∙ e)) g
   sound_by n m r start i false e fr l first run span cut on g = on (run_more start i run (inside_by n m r i fr (omega arith) e)) g
@@ -72,17 +72,17 @@ module _ (f : NodeId → Bool) (ns : List NodeId) where
   spans_sound (n ∷ m ∷ r) start i e l first run span g =
       let fr = front i ns n (m ∷ r) e in
       sound_by n m r start i (f n) refl fr l first run span
-        (λ j. spans_sound (m ∷ r) i (i + 1) fr.next (omega arith) j (run_none i) span)
-        (λ more. spans_sound (m ∷ r) start (i + 1) fr.next (omega arith) first more span)
-        g
+      (λ j. spans_sound (m ∷ r) i (i + 1) fr.next (omega arith) j (run_none i) span)
+      (λ more. spans_sound (m ∷ r) start (i + 1) fr.next (omega arith) first more span)
+      g
 
   begins : (start i : ℕ) → Run start i → (span : ℕ × ℕ) → IsSpan f ns span → start ≤ span.0 → span.0 < i → span.0 ≡ start
   begins start i run span h low high = elim (cases_eq (span.0) start) [ inl e ↦ e | inr n ↦ absurd (h.first (run span.0 (omega arith) high)) ]
 
   complete_by : (n m : NodeId) (r : List NodeId) (start i : ℕ) (b : Bool) → f n ≡ b → IsFront i ns n (m ∷ r) → start < i → Run start i → (span : ℕ × ℕ) → IsSpan f ns span → start ≤ span.0 → i ≤ span.1
-    → (i ≤ span.0 → i + 1 ≤ span.1 → In span (spans f i (i + 1) (m ∷ r)))
-    → (Run start (i + 1) → i + 1 ≤ span.1 → In span (spans f start (i + 1) (m ∷ r)))
-    → In span (cond b ((start, i) ∷ spans f i (i + 1) (m ∷ r)) (spans f start (i + 1) (m ∷ r)))
+      → (i ≤ span.0 → i + 1 ≤ span.1 → In span (spans f i (i + 1) (m ∷ r)))
+      → (Run start (i + 1) → i + 1 ≤ span.1 → In span (spans f start (i + 1) (m ∷ r)))
+      → In span (cond b ((start, i) ∷ spans f i (i + 1) (m ∷ r)) (spans f start (i + 1) (m ∷ r)))
   complete_by n m r start i true e fr l run span h low high cut on =
       let here = marked_junction i (mark_at f ns i n fr.at ∙ e) in
       elim (cases_eq (span.1) i) [
@@ -107,8 +107,8 @@ module _ (f : NodeId → Bool) (ns : List NodeId) where
   spans_complete (n ∷ m ∷ r) start i e l run span h low high =
       let fr = front i ns n (m ∷ r) e in
       complete_by n m r start i (f n) refl fr l run span h low high
-        (λ a b. spans_complete (m ∷ r) i (i + 1) fr.next (omega arith) (run_none i) span h a b)
-        (λ more b. spans_complete (m ∷ r) start (i + 1) fr.next (omega arith) more span h low b)
+      (λ a b. spans_complete (m ∷ r) i (i + 1) fr.next (omega arith) (run_none i) span h a b)
+      (λ more b. spans_complete (m ∷ r) start (i + 1) fr.next (omega arith) more span h low b)
 
   -- what the program lists are the pairs of neighbouring junctions
   pub listed_is_span : (span : ℕ × ℕ) → In span (spans f 0 1 (drop 1 ns)) → IsSpan f ns span

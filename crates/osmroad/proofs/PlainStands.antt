@@ -1,8 +1,8 @@
 -- How often a node stands in a list, and on streets.
-use Rattle.std.proofs.Common.{◌≡◌, ℕ, zero, suc, ◌+◌, ◌<◌, ◌≤◌, List, [], ◌∷◌, length, ◌⊎◌, inl, inr, refl, sym, ap, ◌∙◌, subst, arith, Bool, true, false, cond, slice_get, Some, None, IsTrue, IsFalse, is_lt}
+use Rattle.std.proofs.Common.{◌≡◌, ℕ, zero, suc, ◌+◌, ◌≤◌, List, [], ◌∷◌, inl, inr, refl, sym, ap, ◌∙◌, subst, arith, Bool, true, false, cond, slice_get, Some, IsTrue, is_lt}
 use Rattle.std.specs.List.{AllByRecursion}
 use Rattle.std.specs.Ordering.{on}
-use Rattle.std.proofs.lemmas.Bool.{cases_lt, ltb-true, ltb-false, lt-ltb, false≢true}
+use Rattle.std.proofs.lemmas.Bool.{cases_lt, false≢true}
 use Rattle.std.proofs.lemmas.Bool.Decides.{Decides-int_eq}
 use Rattle.road_base.specs.declared.ids.NodeId.{NodeId}
 use Rattle.road_base.specs.declared.ids.WayId.{WayId}
@@ -10,7 +10,7 @@ use Rattle.road_model.specs.Lines.{same_node}
 use Rattle.road_model.specs.Orders.{way_cmp}
 use Rattle.osmroad.specs.declared.street.Street.{Street}
 use Rattle.osmroad.specs.PlainMap.{AreDistinct}
-use Rattle.osmroad.specs.Streets.{times, stands, is_shared}
+use Rattle.osmroad.specs.Streets.{times, stands}
 use Rattle.osmroad.proofs.PlainMembers.{In, in_at, at_each}
 use Rattle.osmroad.proofs.PlainOrders.{Climbs, not_below_itself, way_cmp_total}
 
