@@ -10,7 +10,7 @@ use Rattle.graph_file.specs.Appending.{Keeps}
 pub keeps_more : (old added mid new : List ℕ) → mid ≡ old ++ added → Keeps mid new → Keeps old new
 keeps_more old added mid new is kept =
     let whole : new ≡ old ++ (added ++ drop (length mid) new) =
-        sym (take-append-drop (length mid) new) ∙ ap (λ l. l ++ drop (length mid) new) (kept ∙ is) ∙ append_assoc old added (drop (length mid) new) in
+    sym (take-append-drop (length mid) new) ∙ ap (λ l. l ++ drop (length mid) new) (kept ∙ is) ∙ append_assoc old added (drop (length mid) new) in
     subst (λ l. take (length old) l ≡ old) (sym whole) (take_at old (added ++ drop (length mid) new) (length old) refl)
 
 joined_one_more : {A : Type 0} (spell : A → List ℕ) (xs : List A) (i : ℕ) (d : A) → i < length xs → joined spell (take (suc i) xs) ≡ joined spell (take i xs) ++ spell (get_or xs i d)
@@ -39,7 +39,7 @@ third r old a mid b next c new first second last =
 pub one_more : {A : Type 0} (spell : A → List ℕ) (xs : List A) (i : ℕ) (x : A) (old mid new : List ℕ) → i < length xs → x ≡ get_or xs i x → mid ≡ old ++ joined spell (take i xs) → new ≡ mid ++ spell x → new ≡ old ++ joined spell (take (i + 1) xs)
 one_more spell xs i x old mid new within is so_far next =
     next ∙ ap (λ l. l ++ spell x) so_far ∙ append_assoc old (joined spell (take i xs)) (spell x)
-        ∙ ap (λ y. old ++ (joined spell (take i xs) ++ spell y)) is ∙ ap (λ l. old ++ l) (sym (joined-take spell xs i x within))
+    ∙ ap (λ y. old ++ (joined spell (take i xs) ++ spell y)) is ∙ ap (λ l. old ++ l) (sym (joined-take spell xs i x within))
 
 -- two appends as one
 pub both : (old a mid b new : List ℕ) → mid ≡ old ++ a → new ≡ mid ++ b → new ≡ old ++ (a ++ b)

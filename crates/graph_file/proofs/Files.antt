@@ -23,5 +23,5 @@ is_graph_file profile m bs first is up forms =
       blocks = values m;
       ascend = subst (λ l. IsTrue (rises way_cmp (map (λ b. b.way) l))) (sym same) up;
       forms = forms;
-      spelled = ap (λ n. graph_bytes n (values m)) first
+      spelled = ap (λ n. graph_bytes n (values m)) first;
     }

@@ -53,3 +53,6 @@ fn put_header(profile: u32, count: u64, out: &mut Vec<u8>) -> Result<(), NoMemor
     profile.put(out)?;
     count.put(out)
 }
+
+#[cfg(test)]
+mod tests;
