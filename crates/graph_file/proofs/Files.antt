@@ -1,7 +1,10 @@
 -- The bytes of blocks are a graph file.
 use Rattle.std.proofs.Common.{◌≡◌, ℕ, List, [], ◌∷◌, map, IsTrue, refl, ap, subst, sym, ◌∙◌}
 use Rattle.std.specs.List.{AllByRecursion}
-use Rattle.std.specs.FinMap.{FinMap, entries, values}
+use Rattle.std.specs.FinMap.{FinMap, entries, values, empty, insert, entries-insert, put, len-entries, len-empty}
+use Rattle.std.specs.Cmp.{IsTotalOrder}
+use Rattle.std.proofs.lemmas.Cmp.{int_cmp_total}
+use Rattle.std.proofs.lemmas.List.{nil_from_length}
 use Rattle.road_model.specs.declared.blocks.Block.{Block}
 use Rattle.road_model.specs.Orders.{way_cmp, rises}
 use Rattle.road_model.specs.BlockMap.{entry_of}
@@ -25,3 +28,23 @@ is_graph_file profile m bs first is up forms =
       forms = forms;
       spelled = ap (λ n. graph_bytes n (values m)) first;
     }
+
+way_cmp_total : IsTotalOrder way_cmp
+way_cmp_total = record {
+  antisymm = λ x y. int_cmp_total.antisymm x.0 y.0;
+  trans = λ x y z. int_cmp_total.trans x.0 y.0 z.0;
+  congr = λ x y z. int_cmp_total.congr x.0 y.0 z.0;
+}
+
+no_entries : entries (empty {X = Block} {R = way_cmp}) ≡ []
+no_entries = nil_from_length _ (sym (len-entries empty) ∙ len-empty way_cmp Block)
+
+-- no blocks have a form
+pub forms_of_none : (m : FinMap way_cmp Block) → m ≡ empty → AllByRecursion IsBlockForm (values m)
+forms_of_none m is = subst (λ es. AllByRecursion IsBlockForm (map (λ e. e.1) es)) (sym (ap entries is ∙ no_entries)) tt
+
+-- a single block's form
+pub forms_of_one : (m n : FinMap way_cmp Block) (b : Block) → n ≡ empty → m ≡ insert n b.way b → IsBlockForm b → AllByRecursion IsBlockForm (values m)
+forms_of_one m n b none is form =
+    let one : entries m ≡ (b.way, b) ∷ [] = ap entries is ∙ entries-insert way_cmp_total n b.way b ∙ ap (put way_cmp b.way b) (ap entries none ∙ no_entries) in
+    subst (λ es. AllByRecursion IsBlockForm (map (λ e. e.1) es)) (sym one) (form, tt)

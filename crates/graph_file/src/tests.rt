@@ -1,6 +1,6 @@
 //! Graph files whose bytes were spelled by hand.
-ghost use Rattle.std.specs.Prelude.{◌≡◌, IfOk, IsTrue};
-ghost use Rattle.road_model.specs.Format.{IsBlockForm, IsPieceForm};
+ghost use Rattle.std.specs.Prelude.{◌≡◌, ◌+◌, ◌≤◌, IfOk, pos, vec_len};
+ghost use Rattle.road_model.specs.Format.{IsBlockForm, IsContextForm, IsPieceForm};
 
 use super::*;
 use road_base::{Dir, Location, NodeId, WayId};
@@ -10,7 +10,7 @@ use road_model::{
 use std::alloc::Global;
 use std::test::Fail;
 
-/// The graph of way 10 over the nodes 1, 2 and 3, driven both ways.
+/// Way 10 over the nodes 1, 2 and 3, which may be driven both ways and turned on at both ends.
 const THERE_AND_BACK: &[u8] = b"OSMROAD1\x01\0\0\0\x01\0\0\0\0\0\0\0\
     \x0a\0\0\0\0\0\0\0\x02\0\0\0\
     \0\0\0\0\x02\0\0\0\0\
@@ -30,7 +30,24 @@ const THERE_AND_BACK: &[u8] = b"OSMROAD1\x01\0\0\0\x01\0\0\0\0\0\0\0\
     \x01\0\0\0\0\0\0\0\
     \x0a\0\0\0\0\0\0\0\0\0\0\0\0\x01\0\0\0";
 
-fn name(way: i64, index: u32, dir: Dir) -> PieceName {
+/// Behind a byte 7: way -1, with a piece that has two contexts, the second of two pieces.
+const WITH_A_NAME: &[u8] = b"\x07OSMROAD1\x01\0\0\0\x01\0\0\0\0\0\0\0\
+    \xff\xff\xff\xff\xff\xff\xff\xff\x01\0\0\0\
+    \x03\0\0\0\x04\0\0\0\x01\
+    \xfb\xff\xff\xff\xff\xff\xff\xff\x00\x2e\xb6\x94\x00\xe9\xa4\x35\
+    \x06\0\0\0\0\0\0\0\x01\0\0\0\xfe\xff\xff\xff\
+    \x02\0\0\0\0\0\0\0\
+    \x01\0\0\0\
+    \x01\0\0\0\0\0\0\0\
+    \x07\0\0\0\0\0\0\0\0\0\0\0\0\x01\0\0\0\
+    \x02\0\0\0\
+    \x08\0\0\0\0\0\0\0\xfd\xff\0\0\0\
+    \x01\0\0\0\0\0\0\0\
+    \x07\0\0\0\0\0\0\0\0\0\0\0\0\x03\0\0\0";
+
+fn name(way: i64, index: u32, dir: Dir) -> PieceName
+    ensures { result ≡ record { way = record { 0 = way }; index = index; dir = dir } }
+{
     PieceName {
         way: WayId(way),
         index,
@@ -38,7 +55,19 @@ fn name(way: i64, index: u32, dir: Dir) -> PieceName {
     }
 }
 
-fn piece(alloc: Global, dir: Dir, places: Vec<Place>, back: Dir) -> Result<Piece, NoMemory> {
+fn place(node: i64, location: Location) -> Place {
+    Place {
+        node: NodeId(node),
+        location,
+    }
+}
+
+/// A piece of way 10 with one context, from which one arc leads back.
+fn along(alloc: Global, dir: Dir, places: Vec<Place>, back: Dir) -> Result<Piece, NoMemory>
+    requires { vec_len places ≡ 3 }
+    ensures form { IfOk result (λ p. IsPieceForm p) }
+    ensures named { IfOk result (λ p. p.name ≡ record { way = record { 0 = pos 10 }; index = 0; dir = dir }) }
+{
     let arc = TurnArc {
         piece: name(10, 0, back),
         length: 1,
@@ -55,54 +84,107 @@ fn piece(alloc: Global, dir: Dir, places: Vec<Place>, back: Dir) -> Result<Piece
     })
 }
 
-#[test]
-fn there_and_back(rt: HostRuntime) -> Result<(), Fail> {
-    let alloc = rt.alloc();
-    let first = Place {
-        node: NodeId(1),
-        location: Location { lon: 0, lat: 0 },
-    };
-    let middle = Place {
-        node: NodeId(2),
-        location: Location { lon: 10000, lat: 0 },
-    };
-    let last = Place {
-        node: NodeId(3),
-        location: Location { lon: 20000, lat: 0 },
-    };
-    let forward = piece(
-        alloc,
-        Dir::Forward,
-        vec![in alloc; first, middle, last]?,
-        Dir::Backward,
-    )?;
-    let backward = piece(
-        alloc,
-        Dir::Backward,
-        vec![in alloc; last, middle, first]?,
-        Dir::Forward,
-    )?;
-    let mut blocks = Blocks::new(alloc);
-    blocks.insert(Block {
+fn both_ways(alloc: Global) -> Result<Block, NoMemory>
+    ensures { IfOk result (λ b. IsBlockForm b) }
+{
+    let first = place(1, Location { lon: 0, lat: 0 });
+    let middle = place(2, Location { lon: 10000, lat: 0 });
+    let last = place(3, Location { lon: 20000, lat: 0 });
+    let there = vec![in alloc; first, middle, last]?;
+    let back = vec![in alloc; last, middle, first]?;
+    let forward = along(alloc, Dir::Forward, there, Dir::Backward)?;
+    let backward = along(alloc, Dir::Backward, back, Dir::Forward)?;
+    Ok(Block {
         way: WayId(10),
         pieces: Pieces::from_list(vec![in alloc; forward, backward]?),
-    })?;
+    })
+}
+
+/// A context with one arc, to a target of the length.
+fn context(alloc: Global, before: Vec<PieceName>, length: u32) -> Result<Context, NoMemory>
+    requires short { vec_len before ≤ 1 }
+    requires target { (1 ≤ length) × (length ≤ vec_len before + 2) }
+    ensures form { IfOk result (λ c. IsContextForm c) }
+    ensures before { IfOk result (λ c. c.before ≡ before.items) }
+{
+    let arc = TurnArc {
+        piece: name(7, 0, Dir::Forward),
+        length,
+    };
+    Ok(Context {
+        before: Names::from_list(before),
+        arcs: Arcs::from_list(vec![in alloc; arc]?),
+    })
+}
+
+fn with_two_contexts(alloc: Global) -> Result<Piece, NoMemory>
+    ensures { IfOk result (λ p. IsPieceForm p) }
+{
+    let first = place(
+        -5,
+        Location {
+            lon: -1800000000,
+            lat: 900000000,
+        },
+    );
+    let last = place(6, Location { lon: 1, lat: -2 });
+    let alone = context(alloc, Vec::new(alloc), 1)?;
+    let before = vec![in alloc; name(8, 65533, Dir::Forward)]?;
+    let behind_another = context(alloc, before, 3)?;
+    Ok(Piece {
+        name: name(-1, 3, Dir::Backward),
+        end: 4,
+        places: Places::from_list(vec![in alloc; first, last]?),
+        contexts: Contexts::from_list(vec![in alloc; alone, behind_another]?),
+    })
+}
+
+fn one_way(alloc: Global) -> Result<Block, NoMemory>
+    ensures { IfOk result (λ b. IsBlockForm b) }
+{
+    let piece = with_two_contexts(alloc)?;
+    Ok(Block {
+        way: WayId(-1),
+        pieces: Pieces::from_list(vec![in alloc; piece]?),
+    })
+}
+
+fn write_one(alloc: Global, block: Block, out: &mut Vec<u8>) -> Result<(), NoMemory>
+    requires { IsBlockForm block }
+{
+    let mut blocks = Blocks::new(alloc);
+    blocks.insert(block)?;
+    write(1, &blocks, out)
+}
+
+#[test]
+fn writes_one_block(rt: HostRuntime) -> Result<(), Fail> {
+    let alloc = rt.alloc();
     let mut out = Vec::new(alloc);
-    write(1, &blocks, &mut out)?;
+    write_one(alloc, both_ways(alloc)?, &mut out)?;
     assert_eq!(rt; out.len(), 220);
     assert_eq!(rt; out.as_slice(), THERE_AND_BACK);
     Ok(())
 }
 
 #[test]
-fn no_blocks(rt: HostRuntime) -> Result<(), Fail> {
+fn writes_behind_what_is_there(rt: HostRuntime) -> Result<(), Fail> {
+    let alloc = rt.alloc();
+    let mut out = vec![in alloc; 7]?;
+    write_one(alloc, one_way(alloc)?, &mut out)?;
+    assert_eq!(rt; out.as_slice(), WITH_A_NAME);
+    Ok(())
+}
+
+#[test]
+fn writes_no_blocks(rt: HostRuntime) -> Result<(), Fail> {
     let alloc = rt.alloc();
     let blocks = Blocks::new(alloc);
-    let mut out = vec![in alloc; 7]?;
+    let mut out = Vec::new(alloc);
     write(1, &blocks, &mut out)?;
     assert_eq!(rt;
         out.as_slice(),
-        b"\x07OSMROAD1\x01\0\0\0\0\0\0\0\0\0\0\0".as_slice()
+        b"OSMROAD1\x01\0\0\0\0\0\0\0\0\0\0\0".as_slice()
     );
     Ok(())
 }
