@@ -25,3 +25,6 @@ pub use objects::{Body, Member, Members, Node, Relation, Way};
 pub use steps::Steps;
 pub use tags::Tags;
 pub use text::Text;
+
+#[cfg(test)]
+mod tests;
