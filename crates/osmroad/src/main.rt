@@ -1,5 +1,12 @@
 //! osmroad compiles what a car may drive in OpenStreetMap data to a turn-expanded graph.
+//!
+//! `run` is the one call that does all that the program does, over any source and site; `main` hands it standard input
+//! and standard output. At this stage the words `- compile` build extracts in plain form: the input is read whole, its
+//! lines become events (`plain_form`), these a town of streets (`plain_town`), that its blocks (`builder`), and these the
+//! graph's bytes. Time grows with the input as n log n, and memory stays a small multiple of it.
 #![tactic(auto)]
+
+ghost use Rattle.std.specs.Prelude.{◌≡◌, ◌<◌};
 
 mod cuts;
 mod input;
@@ -13,4 +20,46 @@ mod status;
 mod street;
 mod town;
 
-fn main(_rt: HostRuntime) {}
+use crate::run::run;
+use crate::status::Status;
+use road_base::{NoMemory, Steps};
+use road_io::{RealSite, RealSource};
+use std::env;
+use std::io::ErrorKind;
+use std::marker::Brand;
+use std::process::ExitCode;
+use std::rt::Env;
+use std::sync::ledger::{Blank, Ledger};
+
+/// The words behind the program's name. Where one isn't UTF-8 they are one empty word, which no command has.
+fn words_of(rt: &(impl Env + AllocGlobal)) -> Result<Vec<String>, NoMemory> {
+    match env::args(rt) {
+        Ok(args) => Ok(args.skip(1).collect(rt.alloc())?),
+        Err(error) if error.kind() == ErrorKind::OutOfMemory => Err(NoMemory),
+        Err(_) => Ok(vec![in rt.alloc(); String::new(rt.alloc())]?),
+    }
+}
+
+fn start<L: Ledger>(rt: &HostRuntime, words: &[String], blank: Blank) -> Result<Status, NoMemory>
+    requires name { blank.name ≡ L.name }
+    requires parts { blank.parts ≡ L.parts }
+    requires some { 0 < L.parts }
+{
+    let alloc = rt.alloc();
+    let mut texts = Vec::with_capacity(alloc, words.len())?;
+    for word in words {
+        texts.push(word.as_str())?;
+    }
+    let mut source = RealSource::new(rt.stdin());
+    let mut site = RealSite::new(rt.stdout());
+    let mut steps = Steps::<L>::new(blank);
+    Ok(run(alloc, &texts, &mut source, &mut site, &mut steps))
+}
+
+fn main(rt: HostRuntime) -> ExitCode {
+    let status = match words_of(&rt) {
+        Ok(words) => start::<Brand>(&rt, &words, Blank::new(1)).unwrap_or(Status::NoMemory),
+        Err(NoMemory) => Status::NoMemory,
+    };
+    ExitCode::from(status.code())
+}
