@@ -28,3 +28,6 @@ pub mod PlainArcs
 pub mod PlainPlaces
 pub mod PlainBlocks
 pub mod PlainForms
+pub mod Ascents
+pub mod Kept
+pub mod PlainTown

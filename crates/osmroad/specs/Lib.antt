@@ -7,6 +7,7 @@ pub mod Streets
 pub mod Town
 pub mod Junctions
 pub mod PlainEvents
+pub mod PlainParts
 pub mod PlainGraph
 pub mod Input
 pub mod Run

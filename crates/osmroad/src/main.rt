@@ -15,6 +15,7 @@ mod numbers;
 mod plain;
 mod plain_graph;
 mod plain_piece;
+mod plain_town;
 mod run;
 mod status;
 mod street;
