@@ -31,3 +31,10 @@ pub mod PlainForms
 pub mod Ascents
 pub mod Kept
 pub mod PlainTown
+pub mod TextCutting
+pub mod Pairing
+pub mod Spaces
+pub mod Places
+pub mod PlainLines
+pub mod TextLines
+pub mod PlainEach

@@ -1,4 +1,5 @@
 pub mod Numbers
+pub mod Cuts
 pub mod PlainForm
 pub mod PlainRules
 pub mod PlainProfile

@@ -1,7 +1,7 @@
 -- The plain form of an extract: each line a node with its place, or a way with the one tag `highway`.
 use Rattle.std.specs.Prelude.{◌≡◌, ℕ, ℤ, ◌≤◌, ◌-◌, ◌==◌, ◌&&◌, ◌||◌, nat_le, List, [], ◌∷◌, ◌++◌, Bool, cond, length, take, slice_index, IsTrue, Some, codes, FitsSigned}
 use Rattle.std.specs.Int.{w64}
-use Rattle.std.specs.List.{list_all}
+use Rattle.std.specs.List.{list_all, slice_split, AllZip}
 use Rattle.std.specs.Str.Parse.{IsNumeral}
 use Rattle.road_base.specs.declared.ids.NodeId.{NodeId}
 use Rattle.road_base.specs.declared.ids.WayId.{WayId}
@@ -13,15 +13,9 @@ use Rattle.osmroad.specs.Numbers.{magnitude, whole_value, IsCoordinate}
 
 -- ---- lines
 
--- a byte put before the first piece
-abbrev pub onto : ℕ → List (List ℕ) → List (List ℕ)
-onto b [] = (b ∷ []) ∷ []
-onto b (piece ∷ pieces) = (b ∷ piece) ∷ pieces
-
 -- the pieces between the bytes that stop: always one more than these
-unfoldable pub split : ℕ → List ℕ → List (List ℕ)
-split stop [] = [] ∷ []
-split stop (b ∷ bs) = cond (b == stop) ([] ∷ split stop bs) (onto b (split stop bs))
+abbrev pub split : ℕ → List ℕ → List (List ℕ)
+split stop bs = slice_split (λ b. b == stop) bs
 
 -- all but an empty last piece
 unfoldable pub ended : List (List ℕ) → List (List ℕ)
@@ -47,13 +41,6 @@ pub record IsWhole (bs : List ℕ) (z : ℤ) : Type 0 where
 
 abbrev pub is_letter : ℕ → Bool
 is_letter b = (nat_le 97 b && nat_le b 122) || (b == 95)
-
--- each of the one list stands with the one at its place in the other
-abbrev pub Pairwise : {A B : Type 0} → (A → B → Type 0) → List A → List B → Type 0
-Pairwise R [] [] = Unit {0}
-Pairwise R [] (y ∷ ys) = ⊥
-Pairwise R (x ∷ xs) [] = ⊥
-Pairwise R (x ∷ xs) (y ∷ ys) = R x y × Pairwise R xs ys
 
 -- `n` and the node's number
 pub record IsRef (text : List ℕ) (n : NodeId) : Type 0 where
@@ -88,7 +75,7 @@ pub record IsWayLine (line : List ℕ) (e : Event) : Type 0 where
   pub nodes : List NodeId
   pub id_is : IsWhole number id.0
   pub letters : IsTrue (list_all is_letter value)
-  pub nodes_are : Pairwise IsRef (split 44 refs) nodes
+  pub nodes_are : AllZip IsRef (split 44 refs) nodes
   pub short : length nodes ≤ 65535
   pub key : e.key ≡ WayKey id
   pub version : e.version ≡ 0
@@ -101,4 +88,4 @@ pub data IsPlainLine (line : List ℕ) (e : Event) : Type 0 where
 -- The bytes are in the plain form, and these are the events of their lines, in order. A carriage return before a line's
 -- end is dropped.
 abbrev pub IsPlainForm : List ℕ → List Event → Type 0
-IsPlainForm bytes events = Pairwise (λ line e. IsPlainLine (without_return line) e) (lines bytes) events
+IsPlainForm bytes events = AllZip (λ line e. IsPlainLine (without_return line) e) (lines bytes) events

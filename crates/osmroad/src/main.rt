@@ -8,12 +8,15 @@
 
 ghost use Rattle.std.specs.Prelude.{◌≡◌, ◌<◌};
 
+mod cut;
 mod cuts;
 mod input;
 mod junctions;
 mod numbers;
 mod plain;
+mod plain_form;
 mod plain_graph;
+mod plain_line;
 mod plain_piece;
 mod plain_town;
 mod run;
