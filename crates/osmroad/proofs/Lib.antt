@@ -38,3 +38,4 @@ pub mod Places
 pub mod PlainLines
 pub mod TextLines
 pub mod PlainEach
+pub mod Departing

@@ -11,6 +11,7 @@ ghost use Rattle.std.specs.Prelude.{◌≡◌, ◌<◌};
 mod cut;
 mod cuts;
 mod input;
+mod departures;
 mod junctions;
 mod numbers;
 mod plain;
