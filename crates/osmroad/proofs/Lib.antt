@@ -39,3 +39,4 @@ pub mod PlainLines
 pub mod TextLines
 pub mod PlainEach
 pub mod Departing
+pub mod Building

@@ -9,6 +9,7 @@
 ghost use Rattle.std.specs.Prelude.{◌≡◌, ◌<◌};
 
 mod cut;
+mod builder;
 mod cuts;
 mod input;
 mod departures;
