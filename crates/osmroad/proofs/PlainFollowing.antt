@@ -19,9 +19,10 @@ use Rattle.osmroad.specs.declared.street.Street.{Street}
 use Rattle.osmroad.specs.declared.plain_piece.PlainPiece.{PlainPiece}
 use Rattle.osmroad.specs.Streets.{all_pieces, leaving, followers}
 use Rattle.osmroad.specs.PlainGraph.{AreRoads}
+use Rattle.osmroad.proofs.Marking.{node_from_same}
 use Rattle.osmroad.proofs.PlainMembers.{In, in_filter, from_filter}
 use Rattle.osmroad.proofs.PlainOrders.{Climbs, climbs_filter, not_below_itself, name_cmp_total}
-use Rattle.osmroad.proofs.PlainStands.{node_from_same, same_from_node}
+use Rattle.osmroad.proofs.PlainStands.{same_from_node}
 use Rattle.osmroad.proofs.PlainEnds.{first_step, last_step, has_ends, one_first, all_climb}
 use Rattle.osmroad.proofs.PlainLeaving.{IsJunctionOf, leaves_begins, first_leaves, ends_at_junction}
 

@@ -19,7 +19,7 @@ use Rattle.osmroad.proofs.PlainMembers.{In, in_at}
 use Rattle.osmroad.proofs.PlainStands.{distinct_at, alone_on}
 use Rattle.osmroad.proofs.PlainSpans.{span_behind, span_before}
 use Rattle.osmroad.proofs.PlainSteps.{step, first_index}
-use Rattle.osmroad.proofs.PlainPositions.{IsInside, mark_at, node_is, distinct}
+use Rattle.osmroad.proofs.PlainPositions.{IsInside, passes_at_is, node_is, distinct}
 use Rattle.osmroad.proofs.PlainPieces.{IsCutOf, cut_of_from_in, in_from_cut_of, cut_cases, lies_on, listed_is_piece}
 use Rattle.osmroad.proofs.PlainEnds.{first_step, has_ends}
 
@@ -39,7 +39,7 @@ module _ (M : Objects) (P : Rules) (locations : NodeId → Option Location) (str
   -- where a node stands at one junction, each position at which it stands is one
   junction_everywhere : (n : NodeId) → IsJunctionOf streets n → (s : Street) → In s streets → (k : ℕ) → slice_get s.refs k ≡ Some n → IsInside (is_shared streets) s.refs k → ⊥
   junction_everywhere n j s i k e h =
-      let once = ltb-false 1 (stands n streets) (sym (mark_at (is_shared streets) s.refs k n e) ∙ h.once) in
+      let once = ltb-false 1 (stands n streets) (sym (passes_at_is (is_shared streets) s.refs k n e) ∙ h.once) in
       let same = alone_on n streets once s j.street i j.one (in_at s.refs n k e) (in_at (j.street).refs n j.place j.at) in
       let place = distinct_at s.refs (distinct M P locations streets roads s i) n k j.place e (subst (λ x. slice_get x.refs j.place ≡ Some n) (sym same) j.at) in
       j.junction (subst (λ x. IsInside (is_shared streets) x.refs j.place) same (subst (IsInside (is_shared streets) s.refs) place h))

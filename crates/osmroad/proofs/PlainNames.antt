@@ -15,8 +15,9 @@ use Rattle.road_model.specs.Format.{place_cmp}
 use Rattle.osmroad.specs.declared.street.Street.{Street}
 use Rattle.osmroad.specs.declared.plain_piece.PlainPiece.{PlainPiece}
 use Rattle.osmroad.specs.Streets.{spans, both_ways, street_pieces}
+use Rattle.osmroad.proofs.NodeOrder.{way_cmp_total}
 use Rattle.osmroad.proofs.PlainMembers.{In, from_flat_map}
-use Rattle.osmroad.proofs.PlainOrders.{Climbs, climbs_append, climbs_by_name, way_cmp_total, name_cmp_total, less_from_lt, lt_from_less}
+use Rattle.osmroad.proofs.PlainOrders.{Climbs, climbs_append, climbs_by_name, name_cmp_total, less_from_lt, lt_from_less}
 use Rattle.osmroad.proofs.PlainPieces.{IsCut, cut_from_in}
 
 abbrev pub name : WayId → ℕ → Dir → PieceName
@@ -59,23 +60,23 @@ module _ (R : PieceName → PieceName → Ordering) (f : NodeId → Bool) (s : S
   rise_at : (h start i : ℕ) (rest : List (ℕ × ℕ)) → h < start → Above start rest → Above h ((start, i) ∷ rest)
   rise_at h start i rest l up = and_from _ _ (lt_from_less _ (by.along h start l)) (and_from _ _ (lt_from_less _ (by.turned start)) up)
 
-  rise_more : (n : NodeId) (h start i : ℕ) (rest : List NodeId) (b : Bool) → h < start → Above start (spans f i (i + 1) rest) → Above h (spans f start (i + 1) rest) → Above h (cond b ((start, i) ∷ spans f i (i + 1) rest) (spans f start (i + 1) rest))
-  rise_more n h start i rest true l cut on = rise_at h start i (spans f i (i + 1) rest) l cut
-  rise_more n h start i rest false l cut on = on
+  rise_more : (h start i : ℕ) (rest : List NodeId) (b : Bool) → h < start → Above start (spans f i (i + 1) rest) → Above h (spans f start (i + 1) rest) → Above h (cond b ((start, i) ∷ spans f i (i + 1) rest) (spans f start (i + 1) rest))
+  rise_more h start i rest true l cut on = rise_at h start i (spans f i (i + 1) rest) l cut
+  rise_more h start i rest false l cut on = on
 
   spans_rise_from : (rest : List NodeId) (h start i : ℕ) → h < start → start < i → Above h (spans f start i rest)
   spans_rise_from [] h start i l k = refl
   spans_rise_from (n ∷ []) h start i l k = rise_at h start i [] l refl
-  spans_rise_from (n ∷ m ∷ r) h start i l k = rise_more n h start i (m ∷ r) (f n) l (spans_rise_from (m ∷ r) start i (i + 1) k (omega arith)) (spans_rise_from (m ∷ r) h start (i + 1) l (omega arith))
+  spans_rise_from (n ∷ m ∷ r) h start i l k = rise_more h start i (m ∷ r) (f n) l (spans_rise_from (m ∷ r) start i (i + 1) k (omega arith)) (spans_rise_from (m ∷ r) h start (i + 1) l (omega arith))
 
-  start_more : (n : NodeId) (start i : ℕ) (rest : List NodeId) (b : Bool) → Above start (spans f i (i + 1) rest) → IsTrue (rises R (names (spans f start (i + 1) rest))) → IsTrue (rises R (names (cond b ((start, i) ∷ spans f i (i + 1) rest) (spans f start (i + 1) rest))))
-  start_more n start i rest true cut on = and_from _ _ (lt_from_less _ (by.turned start)) cut
-  start_more n start i rest false cut on = on
+  start_more : (start i : ℕ) (rest : List NodeId) (b : Bool) → Above start (spans f i (i + 1) rest) → IsTrue (rises R (names (spans f start (i + 1) rest))) → IsTrue (rises R (names (cond b ((start, i) ∷ spans f i (i + 1) rest) (spans f start (i + 1) rest))))
+  start_more start i rest true cut on = and_from _ _ (lt_from_less _ (by.turned start)) cut
+  start_more start i rest false cut on = on
 
   spans_rise : (rest : List NodeId) (start i : ℕ) → start < i → IsTrue (rises R (names (spans f start i rest)))
   spans_rise [] start i k = refl
   spans_rise (n ∷ []) start i k = and_from _ _ (lt_from_less _ (by.turned start)) refl
-  spans_rise (n ∷ m ∷ r) start i k = start_more n start i (m ∷ r) (f n) (spans_rise_from (m ∷ r) start i (i + 1) k (omega arith)) (spans_rise (m ∷ r) start (i + 1) (omega arith))
+  spans_rise (n ∷ m ∷ r) start i k = start_more start i (m ∷ r) (f n) (spans_rise_from (m ∷ r) start i (i + 1) k (omega arith)) (spans_rise (m ∷ r) start (i + 1) (omega arith))
 
   -- the pieces of a street ascend
   pub street_rises : IsTrue (rises R (map (λ p. p.name) (street_pieces f s)))

@@ -5,10 +5,11 @@ use Rattle.std.specs.Cmp.{IsTotalOrder}
 use Rattle.std.specs.Ordering.{on}
 use Rattle.std.specs.List.{filter}
 use Rattle.std.proofs.lemmas.Bool.{and_parts, and_from, false≢true}
-use Rattle.std.proofs.lemmas.Cmp.{int_cmp_total, nat_cmp_total, on_total, then_total, tied_itself}
+use Rattle.std.proofs.lemmas.Cmp.{nat_cmp_total, on_total, then_total, tied_itself}
 use Rattle.road_base.specs.declared.ids.Dir.{Dir}
 use Rattle.road_base.specs.declared.ids.Dir.TheVariants.{Forward, Backward}
-use Rattle.road_model.specs.Orders.{rises, rises_from, way_cmp, dir_cmp, name_cmp, Lists}
+use Rattle.road_model.specs.Orders.{rises, rises_from, dir_cmp, name_cmp, Lists}
+use Rattle.osmroad.proofs.NodeOrder.{way_cmp_total}
 use Rattle.osmroad.proofs.PlainMembers.{In, in_cases, from_filter, contains_from_in, in_from_contains}
 
 dirs_reverse : (x y : Dir) → dir_cmp x y ≡ ordering_reverse (dir_cmp y x)
@@ -32,9 +33,6 @@ dirs_alike Backward Backward z e = refl
 
 pub dir_cmp_total : IsTotalOrder dir_cmp
 dir_cmp_total = record { antisymm = dirs_reverse; trans = dirs_chain; congr = dirs_alike }
-
-pub way_cmp_total : IsTotalOrder way_cmp
-way_cmp_total = on_total (λ w. w.0) int_cmp_total
 
 pub name_cmp_total : IsTotalOrder name_cmp
 name_cmp_total = then_total (on_total (λ n. n.way) way_cmp_total) (then_total (on_total (λ n. n.index) nat_cmp_total) (on_total (λ n. n.dir) dir_cmp_total))

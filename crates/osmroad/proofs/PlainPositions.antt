@@ -18,8 +18,9 @@ use Rattle.osmroad.specs.declared.street.Street.{Street}
 use Rattle.osmroad.specs.Streets.{is_shared, stands}
 use Rattle.osmroad.specs.PlainMap.{AreDistinct}
 use Rattle.osmroad.specs.PlainGraph.{AreRoads}
+use Rattle.osmroad.proofs.NodeOrder.{way_cmp_total}
 use Rattle.osmroad.proofs.PlainMembers.{In, in_at, at_in, at_each, in_from_contains, contains_from_in}
-use Rattle.osmroad.proofs.PlainOrders.{Climbs, climbs_by_name, same_by_name, way_cmp_total}
+use Rattle.osmroad.proofs.PlainOrders.{Climbs, climbs_by_name, same_by_name}
 use Rattle.osmroad.proofs.PlainStands.{distinct_at, alone_on, elsewhere}
 
 pub at_place : {A : Type 0} (xs : List A) (k : ℕ) → k < length xs → (x : A) × (slice_get xs k ≡ Some x)
@@ -27,22 +28,22 @@ at_place [] k h = absurd (omega arith)
 at_place (x ∷ xs) zero h = (x, refl)
 at_place (x ∷ xs) (suc k) h = at_place xs k (omega arith)
 
-abbrev pub mark_of : (NodeId → Bool) → Option NodeId → Bool
-mark_of f None = false
-mark_of f (Some n) = f n
+abbrev pub passes_of : (NodeId → Bool) → Option NodeId → Bool
+passes_of f None = false
+passes_of f (Some n) = f n
 
 -- whether the node at the position passes the test
-abbrev pub mark : (NodeId → Bool) → List NodeId → ℕ → Bool
-mark f ns k = mark_of f (slice_get ns k)
+abbrev pub passes_at : (NodeId → Bool) → List NodeId → ℕ → Bool
+passes_at f ns k = passes_of f (slice_get ns k)
 
-pub mark_at : (f : NodeId → Bool) (ns : List NodeId) (k : ℕ) (n : NodeId) → slice_get ns k ≡ Some n → mark f ns k ≡ f n
-mark_at f ns k n e = ap (mark_of f) e
+pub passes_at_is : (f : NodeId → Bool) (ns : List NodeId) (k : ℕ) (n : NodeId) → slice_get ns k ≡ Some n → passes_at f ns k ≡ f n
+passes_at_is f ns k n e = ap (passes_of f) e
 
 -- inside the list, and the test fails
 pub record IsInside (f : NodeId → Bool) (ns : List NodeId) (k : ℕ) : Type 0 where
   pub low : 0 < k
   pub high : k + 1 < length ns
-  pub once : mark f ns k ≡ false
+  pub once : passes_at f ns k ≡ false
 
 located_by : (o : Option Node) (b : Node) (l : Location) → o ≡ Some b → b.location ≡ Some l → node_located o ≡ true
 located_by o b l e f = ap node_located e ∙ ap is_some f
@@ -117,7 +118,7 @@ module _ (M : Objects) (P : Rules) (locations : NodeId → Option Location) (str
         here = located_at s i k r.0 r.1;
         behind = located_within s i (k + 1) high;
         apart = λ e. absurd (apart s i (k - 1) (k + 1) (omega arith) (λ f. omega arith) e);
-        alone = alone s i k r.0 r.1 (sym (mark_at shared s.refs k r.0 r.1) ∙ h.once);
+        alone = alone s i k r.0 r.1 (sym (passes_at_is shared s.refs k r.0 r.1) ∙ h.once);
         not_shut = roads.never_shut r.0;
         no_turning = roads.no_turning r.0;
       }
@@ -137,5 +138,5 @@ module _ (M : Objects) (P : Rules) (locations : NodeId → Option Location) (str
       record {
         low = p.not_first;
         high = rw (line_is s i) at p.not_last;
-        once = mark_at shared s.refs k p.node here ∙ le-ltb 1 (stands p.node streets) (not_shared s i k p.node here p.alone);
+        once = passes_at_is shared s.refs k p.node here ∙ le-ltb 1 (stands p.node streets) (not_shared s i k p.node here p.alone);
       }

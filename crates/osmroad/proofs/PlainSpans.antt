@@ -4,7 +4,7 @@ use Rattle.std.proofs.lemmas.Bool.{false≢true, cases_Bool, cases_lt, cases_eq,
 use Rattle.road_base.specs.declared.ids.NodeId.{NodeId}
 use Rattle.osmroad.specs.Streets.{spans}
 use Rattle.osmroad.proofs.PlainMembers.{In}
-use Rattle.osmroad.proofs.PlainPositions.{mark, mark_at, IsInside}
+use Rattle.osmroad.proofs.PlainPositions.{passes_at, passes_at_is, IsInside}
 
 -- n stands at position i, and r stands behind it
 record IsFront (i : ℕ) (ns : List NodeId) (n : NodeId) (r : List NodeId) : Type 0 where
@@ -33,8 +33,8 @@ pair_is : (span : ℕ × ℕ) (a b : ℕ) → span.0 ≡ a → span.1 ≡ b → 
 pair_is span a b e f = λ i. (e i, f i)
 
 module _ (f : NodeId → Bool) (ns : List NodeId) where
-  marked_junction : (k : ℕ) → mark f ns k ≡ true → IsInside f ns k → ⊥
-  marked_junction k h i = false≢true (sym i.once ∙ h)
+  passing_junction : (k : ℕ) → passes_at f ns k ≡ true → IsInside f ns k → ⊥
+  passing_junction k h i = false≢true (sym i.once ∙ h)
 
   -- between the last junction and position i all are inside
   abbrev Run : ℕ → ℕ → Type 0
@@ -53,14 +53,14 @@ module _ (f : NodeId → Bool) (ns : List NodeId) where
   first_span start i l within first last run span e = subst (IsSpan f ns) (sym e) (record { ascends = l; within = within; first = first; last = last; inner = run })
 
   inside_by : (n m : NodeId) (r : List NodeId) (i : ℕ) → IsFront i ns n (m ∷ r) → 0 < i → f n ≡ false → IsInside f ns i
-  inside_by n m r i fr l e = let long = fr.long in record { low = l; high = omega arith; once = mark_at f ns i n fr.at ∙ e }
+  inside_by n m r i fr l e = let long = fr.long in record { low = l; high = omega arith; once = passes_at_is f ns i n fr.at ∙ e }
 
   sound_by : (n m : NodeId) (r : List NodeId) (start i : ℕ) (b : Bool) → f n ≡ b → IsFront i ns n (m ∷ r) → start < i → (IsInside f ns start → ⊥) → Run start i → (span : ℕ × ℕ)
       → ((IsInside f ns i → ⊥) → In span (spans f i (i + 1) (m ∷ r)) → IsSpan f ns span)
       → (Run start (i + 1) → In span (spans f start (i + 1) (m ∷ r)) → IsSpan f ns span)
       → In span (cond b ((start, i) ∷ spans f i (i + 1) (m ∷ r)) (spans f start (i + 1) (m ∷ r))) → IsSpan f ns span
-  sound_by n m r start i true e fr l first run span cut on (inl g) = let long = fr.long in first_span start i l (omega arith) first (marked_junction i (mark_at f ns i n fr.at ∙ e)) run span g
-  sound_by n m r start i true e fr l first run span cut on (inr g) = cut (marked_junction i (mark_at f ns i n fr.at ∙ e)) g
+  sound_by n m r start i true e fr l first run span cut on (inl g) = let long = fr.long in first_span start i l (omega arith) first (passing_junction i (passes_at_is f ns i n fr.at ∙ e)) run span g
+  sound_by n m r start i true e fr l first run span cut on (inr g) = cut (passing_junction i (passes_at_is f ns i n fr.at ∙ e)) g
   sound_by n m r start i false e fr l first run span cut on g = on (run_more start i run (inside_by n m r i fr (omega arith) e)) g
 
   spans_sound : (rest : List NodeId) (start i : ℕ) → drop i ns ≡ rest → start < i → (IsInside f ns start → ⊥) → Run start i → (span : ℕ × ℕ) → In span (spans f start i rest) → IsSpan f ns span
@@ -84,7 +84,7 @@ module _ (f : NodeId → Bool) (ns : List NodeId) where
       → (Run start (i + 1) → i + 1 ≤ span.1 → In span (spans f start (i + 1) (m ∷ r)))
       → In span (cond b ((start, i) ∷ spans f i (i + 1) (m ∷ r)) (spans f start (i + 1) (m ∷ r)))
   complete_by n m r start i true e fr l run span h low high cut on =
-      let here = marked_junction i (mark_at f ns i n fr.at ∙ e) in
+      let here = passing_junction i (passes_at_is f ns i n fr.at ∙ e) in
       elim (cases_eq (span.1) i) [
         | inl last ↦ let up = h.ascends in inl (pair_is span start i (begins start i run span h low (omega arith)) last)
         | inr other ↦ elim (cases_lt (span.0) i) [ inl under ↦ absurd (here (h.inner i under (omega arith))) | inr over ↦ inr (cut over (omega arith)) ]
@@ -122,8 +122,8 @@ module _ (f : NodeId → Bool) (ns : List NodeId) where
   next : (m start i : ℕ) → (IsInside f ns start → ⊥) → start < i → Run start i → i + m + 1 ≡ length ns → (b : ℕ) × IsSpan f ns (start, b)
   next zero start i first l run long =
       (i, record { ascends = l; within = omega arith; first = first; last = λ h. let high = h.high in omega arith; inner = run })
-  next (suc m) start i first l run long = elim (cases_Bool (mark f ns i)) [
-    | inl marked ↦ (i, record { ascends = l; within = omega arith; first = first; last = marked_junction i marked; inner = run })
+  next (suc m) start i first l run long = elim (cases_Bool (passes_at f ns i)) [
+    | inl passing ↦ (i, record { ascends = l; within = omega arith; first = first; last = passing_junction i passing; inner = run })
     | inr plain ↦ next m start (i + 1) first (omega arith) (run_more start i run (record { low = omega arith; high = omega arith; once = plain })) (omega arith)
   ]
 
@@ -133,8 +133,8 @@ module _ (f : NodeId → Bool) (ns : List NodeId) where
   previous : (i stop : ℕ) → (IsInside f ns stop → ⊥) → i < stop → stop < length ns → Run i stop → (a : ℕ) × IsSpan f ns (a, stop)
   previous zero stop last l within run =
       (0, record { ascends = l; within = within; first = λ h. let low = h.low in omega arith; last = last; inner = run })
-  previous (suc i) stop last l within run = elim (cases_Bool (mark f ns (suc i))) [
-    | inl marked ↦ (suc i, record { ascends = l; within = within; first = marked_junction (suc i) marked; last = last; inner = run })
+  previous (suc i) stop last l within run = elim (cases_Bool (passes_at f ns (suc i))) [
+    | inl passing ↦ (suc i, record { ascends = l; within = within; first = passing_junction (suc i) passing; last = last; inner = run })
     | inr plain ↦ previous i stop last (omega arith) within (run_before i stop run (record { low = omega arith; high = omega arith; once = plain }))
   ]
 

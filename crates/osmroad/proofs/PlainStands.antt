@@ -11,11 +11,10 @@ use Rattle.road_model.specs.Orders.{way_cmp}
 use Rattle.osmroad.specs.declared.street.Street.{Street}
 use Rattle.osmroad.specs.PlainMap.{AreDistinct}
 use Rattle.osmroad.specs.Streets.{times, stands}
+use Rattle.osmroad.proofs.NodeOrder.{way_cmp_total}
+use Rattle.osmroad.proofs.Marking.{node_from_same}
 use Rattle.osmroad.proofs.PlainMembers.{In, in_at, at_each}
-use Rattle.osmroad.proofs.PlainOrders.{Climbs, not_below_itself, way_cmp_total}
-
-pub node_from_same : (a b : NodeId) → same_node a b ≡ true → a ≡ b
-node_from_same a b h = let e = (Decides-int_eq a.0 b.0).0 h in λ i. record { 0 = e i }
+use Rattle.osmroad.proofs.PlainOrders.{Climbs, not_below_itself}
 
 pub same_from_node : (a b : NodeId) → a ≡ b → same_node a b ≡ true
 same_from_node a b e = (Decides-int_eq a.0 b.0).1 (ap (λ n. n.0) e)
