@@ -2,7 +2,6 @@
 use Rattle.std.proofs.Common.{◌≡◌, ℕ, zero, suc, ◌+◌, ◌<◌, List, [], ◌∷◌, ◌++◌, length, get_or, take, drop, refl, sym, ap, subst, ◌∙◌, arith, append_assoc, append-nil, add-one, Result, OnOk}
 use Rattle.std.proofs.lemmas.List.{take_at, take-append-drop}
 use Rattle.std.proofs.lemmas.Result.{IfOk-equal}
-use Rattle.std.specs.List.{AllByRecursion}
 use Rattle.road_model.specs.Format.{joined}
 use Rattle.graph_file.specs.Appending.{Keeps}
 
@@ -20,14 +19,8 @@ joined_one_more spell (x ∷ xs) (suc i) d within =
     ap (λ l. spell x ++ l) (joined_one_more spell xs i d (omega arith)) ∙ sym (append_assoc (spell x) (joined spell (take i xs)) (spell (get_or xs i d)))
 
 -- the spelling of one member more
-pub joined-take : {A : Type 0} (spell : A → List ℕ) (xs : List A) (i : ℕ) (d : A) → i < length xs → joined spell (take (i + 1) xs) ≡ joined spell (take i xs) ++ spell (get_or xs i d)
+joined-take : {A : Type 0} (spell : A → List ℕ) (xs : List A) (i : ℕ) (d : A) → i < length xs → joined spell (take (i + 1) xs) ≡ joined spell (take i xs) ++ spell (get_or xs i d)
 joined-take spell xs i d within = rw add-one (joined_one_more spell xs i d within)
-
--- what holds of each member holds of the one at a place
-pub at_place : {A : Type 0} (P : A → Type 0) (xs : List A) (i : ℕ) (d : A) → i < length xs → AllByRecursion P xs → P (get_or xs i d)
-at_place P [] i d within all = absurd (omega arith)
-at_place P (x ∷ xs) zero d within all = all.0
-at_place P (x ∷ xs) (suc i) d within all = at_place P xs i d (omega arith) all.1
 
 -- two appends before a last one, whose answer is returned as it is
 pub third : {T E : Type 0} (r : Result T E) (old a mid b next c new : List ℕ) → mid ≡ old ++ a → next ≡ mid ++ b → OnOk r (new ≡ next ++ c) → OnOk r (new ≡ old ++ (a ++ (b ++ c)))

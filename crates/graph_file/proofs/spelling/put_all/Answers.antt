@@ -1,5 +1,5 @@
 use Rattle.std.proofs.lemmas.Result.{err_from_is_err_and}
-use Rattle.graph_file.proofs.Appends.{keeps_more, one_more, at_place}
+use Rattle.graph_file.proofs.Appends.{keeps_more, one_more}
 use Rattle.graph_file.proofs.spelling.put_all.Goals as goal
 
 pub returns-in_err-put-clause-err : goal.returns-in_err-put-clause-err
