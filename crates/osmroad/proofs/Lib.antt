@@ -40,3 +40,5 @@ pub mod TextLines
 pub mod PlainEach
 pub mod Departing
 pub mod Building
+pub mod OneReading
+pub mod PlainCompiled
