@@ -40,3 +40,15 @@ length_paired R [] [] pairs = refl
 length_paired R [] (y ∷ ys) pairs = absurd pairs
 length_paired R (x ∷ xs) [] pairs = absurd pairs
 length_paired R (x ∷ xs) (y ∷ ys) pairs = ap suc (length_paired R xs ys pairs.1)
+
+-- where each item is paired with one alone, so is a list
+pub one_pairing : {A B : Type 0} (R : A → B → Type 0) → ((x : A) (y z : B) → R x y → R x z → y ≡ z) → (xs : List A) (ys zs : List B) → AllZip R xs ys → AllZip R xs zs → ys ≡ zs
+one_pairing R one [] [] [] p q = refl
+one_pairing R one [] [] (z ∷ zs) p q = absurd q
+one_pairing R one [] (y ∷ ys) zs p q = absurd p
+one_pairing R one (x ∷ xs) [] zs p q = absurd p
+one_pairing R one (x ∷ xs) (y ∷ ys) [] p q = absurd q
+one_pairing R one (x ∷ xs) (y ∷ ys) (z ∷ zs) p q =
+    let first : y ≡ z = one x y z p.0 q.0 in
+    let others : ys ≡ zs = one_pairing R one xs ys zs p.1 q.1 in
+    cc

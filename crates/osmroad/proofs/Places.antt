@@ -1,9 +1,8 @@
 -- What lies in range.
-use Rattle.std.specs.Prelude.{◌≡◌, ◌≤◌, ◌≤ℤ◌, ℕ, ℤ, pos, negsuc, nat_abs, IsTrue}
+use Rattle.std.specs.Prelude.{◌≤ℤ◌, ℤ, pos, nat_abs, IsTrue}
 use Rattle.std.proofs.Common.{arith}
 use Rattle.std.proofs.lemmas.Int.{ints}
-use Rattle.std.specs.Cmp.{first_so, second_so}
-use Rattle.road_base.specs.Ranges.{is_within, is_in_range}
+use Rattle.road_base.specs.Ranges.{is_in_range}
 
 pub in_range_from_sizes : (x y : ℤ) → pos (nat_abs x) ≤ℤ pos 1800000000 → pos (nat_abs y) ≤ℤ pos 900000000 → IsTrue (is_in_range x y)
 in_range_from_sizes x y h k = grind (arith, ints)

@@ -20,7 +20,7 @@ use Rattle.osmroad.specs.Streets.{plain_blocks}
 use Rattle.osmroad.specs.Town.{TownMap, StreetsAscend}
 use Rattle.osmroad.specs.Run.{IsCompiled}
 use Rattle.osmroad.proofs.Members.{each_from_all}
-use Rattle.osmroad.proofs.PlainEach.{plain_each}
+use Rattle.osmroad.proofs.PlainReading.{plain_events}
 use Rattle.osmroad.proofs.TownRoads.{town_roads}
 use Rattle.osmroad.proofs.PlainBlocks.{plain_blocks_listed}
 use Rattle.osmroad.proofs.PlainForms.{plain_blocks_form}
@@ -34,11 +34,11 @@ version_of e (NodeEvent n) = n.version
 version_of e (WayEvent w) = w.version
 
 pub versions : (bytes : List ℕ) (events : List Event) → IsPlainForm bytes events → (e : Event) → Contains events e → e.version ≡ 0
-versions bytes events form e c = version_of e (each_from_all IsPlainEvent events (plain_each bytes events form) e c)
+versions bytes events form e c = version_of e (each_from_all IsPlainEvent events (plain_events bytes events form) e c)
 
 module _ (bytes : List ℕ) (events : List Event) (town : TownMap) (form : IsPlainForm bytes events) (built : IsBuilt events) (of : IsTownOf events town) (ascend : StreetsAscend town.streets) where
   pub roads : AreRoads (objects_of events) plain_rules (get town.locations) town.streets
-  roads = town_roads events town (plain_each bytes events form) built of ascend
+  roads = town_roads events town (plain_events bytes events form) built of ascend
 
   pub blocks_form : (blocks : List Block) → blocks ≡ plain_blocks (get town.locations) town.streets → AllByRecursion IsBlockForm blocks
   blocks_form blocks e = subst (λ (l : List Block). AllByRecursion IsBlockForm l) (sym e) (plain_blocks_form (objects_of events) plain_rules (get town.locations) town.streets roads)

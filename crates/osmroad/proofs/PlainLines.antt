@@ -1,7 +1,7 @@
 -- A plain line is read in one way.
-use Rattle.std.specs.Prelude.{◌≡◌, ◌≤ℤ◌, ◌++◌, ℕ, ℤ, pos, nat_abs, List, [], ◌∷◌, IsTrue, codes, FitsSigned, Option, Some, None, IfNone, refl}
+use Rattle.std.specs.Prelude.{◌≡◌, ◌++◌, ℕ, ℤ, List, [], ◌∷◌, IsTrue, codes, FitsSigned, Option, Some, None, IfNone}
 use Rattle.std.specs.Int.{w64}
-use Rattle.std.specs.List.{list_all, AllZip}
+use Rattle.std.specs.List.{list_all}
 use Rattle.std.specs.Str.Parse.{IsNumeral}
 use Rattle.std.proofs.Common.{sym, ◌∙◌, ap, subst, to_z, of_z}
 use Rattle.std.proofs.lemmas.Int.{to_z-of_z}
@@ -11,10 +11,10 @@ use Rattle.road_base.specs.declared.ids.Key.TheVariants.{Node as NodeKey, Way as
 use Rattle.road_base.specs.declared.location.Location.{Location}
 use Rattle.road_base.specs.declared.objects.Body.TheVariants.{Node as NodeBody, Way as WayBody}
 use Rattle.road_base.specs.declared.event.Event.{Event}
-use Rattle.osmroad.specs.Cuts.{Lacks, IsCutAt, IsFieldBehind, AreRefs}
+use Rattle.osmroad.specs.Fields.{IsFieldBehind, AreRefs}
 use Rattle.osmroad.specs.Numbers.{magnitude, whole_value, IsCoordinate}
 use Rattle.osmroad.specs.PlainForm.{is_letter, IsWhole, IsNodeLine, IsWayLine, IsPlainLine, NodeLine, WayLine}
-use Rattle.osmroad.proofs.TextCutting.{one_field}
+use Rattle.osmroad.proofs.FieldCuts.{one_field}
 use Rattle.osmroad.proofs.Spaces.{no_space_whole, no_space_coordinate, no_space_letters}
 
 -- what a whole number needs, in the words of its reader

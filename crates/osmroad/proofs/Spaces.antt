@@ -1,9 +1,8 @@
 -- Values of a plain line have no space in them.
-use Rattle.std.specs.Prelude.{◌≡◌, ◌==◌, ◌<◌, ◌≤◌, ◌++◌, ◌&&◌, ℕ, ℤ, List, [], ◌∷◌, length, Bool, true, false, cond, IsTrue, refl}
+use Rattle.std.specs.Prelude.{◌≡◌, ◌==◌, ◌<◌, ◌≤◌, ℕ, ℤ, List, [], ◌∷◌, Bool, true, false, cond, IsTrue, refl}
 use Rattle.std.specs.List.{list_all}
-use Rattle.std.specs.Char.{digit_value}
-use Rattle.std.specs.Str.Parse.{AllDigits, IsNumeral}
-use Rattle.std.proofs.Common.{arith, sym}
+use Rattle.std.specs.Str.Parse.{AllDigits}
+use Rattle.std.proofs.Common.{arith}
 use Rattle.std.proofs.lemmas.Bool.Decides.{nat_tests}
 use Rattle.std.proofs.lemmas.List.Elements.{All-nil, All-cons, All-append}
 use Rattle.std.specs.Str.{IsAscii, IsUtf8}
@@ -11,8 +10,8 @@ use Rattle.std.proofs.lemmas.Str.{IsUtf8-from_ascii}
 use Rattle.std.proofs.lemmas.Str.Ascii.{IsAscii-nil, IsAscii-cons}
 use Rattle.std.proofs.lemmas.Str.Parse.{digit_from_value}
 use Rattle.std.specs.Cmp.{first_so, second_so}
-use Rattle.osmroad.specs.Cuts.{Lacks}
-use Rattle.osmroad.specs.Numbers.{magnitude, fraction, IsDecimal, IsDegrees, IsCoordinate}
+use Rattle.osmroad.specs.Fields.{Lacks}
+use Rattle.osmroad.specs.Numbers.{magnitude, fraction, IsDecimal, IsCoordinate}
 use Rattle.osmroad.specs.PlainForm.{is_letter, IsWhole}
 
 not_space : (c : ℕ) → 33 ≤ c → (c == 32) ≡ false

@@ -1,5 +1,5 @@
 pub mod Numbers
-pub mod Cuts
+pub mod Fields
 pub mod PlainForm
 pub mod PlainRules
 pub mod PlainProfile

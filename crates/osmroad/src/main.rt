@@ -8,11 +8,11 @@
 
 ghost use Rattle.std.specs.Prelude.{◌≡◌, ◌<◌};
 
-mod cut;
 mod builder;
 mod cuts;
 mod input;
 mod departures;
+mod fields;
 mod junctions;
 mod numbers;
 mod plain;

@@ -6,9 +6,9 @@ ghost use Rattle.road_base.specs.declared.location.Location.{Location};
 ghost use Rattle.road_base.specs.declared.event.Event.{Event};
 ghost use Rattle.osmroad.specs.Numbers.{IsCoordinate};
 ghost use Rattle.osmroad.specs.PlainForm.{split, is_letter, IsRef, IsNodeLine, IsWayLine, IsPlainLine};
-ghost use Rattle.osmroad.specs.Cuts.{AreRefs, other_pieces};
+ghost use Rattle.osmroad.specs.Fields.{AreRefs, other_pieces};
 
-use crate::cut::{behind, cut, field};
+use crate::fields::{behind, cut, field};
 use crate::numbers::{coordinate, whole};
 use road_base::{Body, Event, Key, Location, NoMemory, Node, NodeId, Refs, Tags, Text, Way, WayId};
 use std::alloc::Global;

@@ -1,8 +1,7 @@
-use Rattle.std.proofs.Common.{arith, ◌≡◌, pos, neg_ℤ, ◌-ℤ◌, to_z, of_z, w32, sym, ◌∙◌, ap}
+use Rattle.std.proofs.Common.{arith, ◌≡◌, pos, neg_ℤ, ◌-ℤ◌, to_z, of_z, w32, sym, ◌∙◌}
 use Rattle.std.proofs.lemmas.Int.{ints}
 use Rattle.osmroad.specs.Numbers.{magnitude, IsDegrees}
 use Rattle.osmroad.proofs.Decimals.{IsDegrees-unique, IsCoordinate-size, IsCoordinate-minus}
-use Rattle.std.specs.Str.Parse.{starts_with_minus}
 use Rattle.osmroad.proofs.numbers.coordinate.Goals as goal
 
 pub returns-in_default-clause-none : goal.returns-in_default-clause-none

@@ -1,7 +1,7 @@
-use Rattle.std.proofs.Common.{rules, arith, ◌≡◌, ◌<◌, length, [], ap, ◌∙◌}
+use Rattle.std.proofs.Common.{rules, ◌≡◌, ◌<◌, length, ap, ◌∙◌}
 use Rattle.std.proofs.lemmas.List.{nil_from_length}
 use Rattle.osmroad.specs.PlainForm.{lines}
-use Rattle.osmroad.proofs.TextLines.{lines_none, lines_first, lines_alone}
+use Rattle.osmroad.proofs.LineCuts.{lines_none, lines_first, lines_alone}
 use Rattle.osmroad.proofs.plain_form.first_line.Goals as goal
 
 pub returns-then-is_empty-clause-none : goal.returns-then-is_empty-clause-none

@@ -1,6 +1,6 @@
 use Rattle.std.proofs.Common.{length}
 use Rattle.osmroad.specs.PlainForm.{lines}
-use Rattle.osmroad.proofs.TextLines.{Reads}
+use Rattle.osmroad.proofs.LineCuts.{Reads}
 use Rattle.osmroad.proofs.Pairing.{IsPaired}
 use Rattle.osmroad.proofs.plain_form.plain_events.Given as goal
 

@@ -4,15 +4,14 @@ use Rattle.road_base.specs.declared.event.Event.{Event}
 use Rattle.road_model.specs.Format.{graph_bytes}
 use Rattle.osmroad.specs.PlainForm.{IsPlainForm}
 use Rattle.osmroad.specs.PlainMap.{IsBuilt}
-use Rattle.osmroad.proofs.PlainEach.{plain_each}
-use Rattle.osmroad.proofs.OneReading.{one_reading}
+use Rattle.osmroad.proofs.PlainReading.{plain_events, one_reading}
 use Rattle.osmroad.proofs.PlainCompiled.{objects_of, versions, blocks_form, compiled}
 use Rattle.osmroad.proofs.plain_graph.plain_graph.Goals as goal
 
 pub town_of-requires : goal.town_of-requires
 town_of-requires c =
     let read = rw c.in-Some.is at c.in_ok-events.ensures.some in
-    plain_each c.deref.result.now c.in-Some.events.items read
+    plain_events c.deref.result.now c.in-Some.events.items read
 
 pub returns-in_default-2-clause-none : goal.returns-in_default-2-clause-none
 returns-in_default-2-clause-none c = λ events form built.

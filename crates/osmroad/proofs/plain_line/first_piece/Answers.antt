@@ -1,4 +1,4 @@
-use Rattle.osmroad.proofs.TextCutting.{split_first, split_alone}
+use Rattle.osmroad.proofs.FieldCuts.{split_first, split_alone}
 use Rattle.osmroad.proofs.plain_line.first_piece.Goals as goal
 
 pub returns-in-Some : goal.returns-in-Some

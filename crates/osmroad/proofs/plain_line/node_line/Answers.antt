@@ -1,6 +1,5 @@
-use Rattle.std.proofs.Common.{◌≡◌, [], ◌∷◌, Some, refl, ap, sym, ◌∙◌}
+use Rattle.std.proofs.Common.{Some, refl, ap, ◌∙◌}
 use Rattle.road_base.specs.declared.objects.Body.TheVariants.{Node as NodeBody}
-use Rattle.osmroad.specs.PlainForm.{IsNodeLine}
 use Rattle.osmroad.proofs.PlainLines.{whole_parts, whole_from_read, node_number, node_x, node_y, node_from_parts, same_tail}
 use Rattle.osmroad.proofs.plain_line.node_line.Goals as goal
 

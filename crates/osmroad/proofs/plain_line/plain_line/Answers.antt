@@ -1,4 +1,4 @@
-use Rattle.std.proofs.Common.{Option, IfNone}
+use Rattle.std.proofs.Common.{IfNone}
 use Rattle.std.proofs.lemmas.Result.{IfOk-weaker}
 use Rattle.road_base.specs.declared.event.Event.{Event}
 use Rattle.osmroad.specs.PlainForm.{IsWayLine, IsPlainLine}

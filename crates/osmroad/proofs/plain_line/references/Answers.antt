@@ -1,5 +1,5 @@
 use Rattle.std.proofs.Common.{arith, option_copied, ◌∙◌, ap}
-use Rattle.osmroad.specs.Cuts.{other_pieces}
+use Rattle.osmroad.specs.Fields.{other_pieces}
 use Rattle.osmroad.specs.PlainForm.{split, IsRef}
 use Rattle.osmroad.proofs.Pairing.{paired_all, paired_never, length_paired}
 use Rattle.osmroad.proofs.plain_line.references.Goals as goal

@@ -1,5 +1,5 @@
 use Rattle.std.proofs.Common.{◌≡◌, ◌+◌, length, option_copied}
-use Rattle.osmroad.specs.Cuts.{other_pieces}
+use Rattle.osmroad.specs.Fields.{other_pieces}
 use Rattle.osmroad.specs.PlainForm.{split, IsRef}
 use Rattle.osmroad.proofs.Pairing.{IsPaired}
 use Rattle.osmroad.proofs.plain_line.references.Given as goal

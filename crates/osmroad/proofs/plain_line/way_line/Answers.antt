@@ -1,7 +1,6 @@
 use Rattle.std.proofs.Common.{refl, ap, ◌∙◌, [], ◌∷◌, codes}
 use Rattle.std.proofs.lemmas.Bool.{false≢true}
 use Rattle.road_base.specs.declared.objects.Body.TheVariants.{Way as WayBody}
-use Rattle.osmroad.specs.Cuts.{AreRefs}
 use Rattle.osmroad.proofs.PlainLines.{whole_parts, whole_from_read, way_number, way_value, way_refs, way_from_parts, same_tail}
 use Rattle.osmroad.proofs.plain_line.way_line.Goals as goal
 

@@ -1,7 +1,7 @@
 use Rattle.std.proofs.lemmas.Bool.Decides.{Decides-eqb}
 use Rattle.std.proofs.lemmas.Slice.Eq.{strip_prefix_is}
-use Rattle.osmroad.proofs.TextCutting.{stripped}
-use Rattle.osmroad.proofs.cut.behind.Goals as goal
+use Rattle.osmroad.proofs.FieldCuts.{stripped}
+use Rattle.osmroad.proofs.fields.behind.Goals as goal
 
 pub returns : goal.returns
 returns c =

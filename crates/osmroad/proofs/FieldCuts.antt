@@ -1,13 +1,12 @@
 -- Bytes can be cut at the first of a kind in one way.
-use Rattle.std.specs.Prelude.{◌≡◌, ◌≢◌, ◌==◌, ◌<◌, ◌++◌, ℕ, List, [], ◌∷◌, length, Bool, true, false, All, Option, Some, None, IfSome, IfNone, MatchOption, refl}
-use Rattle.std.specs.Cmp.Lexicographic.{pointwise}
-use Rattle.std.proofs.Common.{sym, ◌∙◌, ap, subst, Bor, take, drop}
+use Rattle.std.specs.Prelude.{◌≡◌, ◌≢◌, ◌==◌, ◌++◌, ℕ, List, [], ◌∷◌, false, Option, Some, None, IfSome, IfNone, MatchOption, refl}
+use Rattle.std.proofs.Common.{sym, ◌∙◌, ap, Bor}
 use Rattle.std.proofs.lemmas.Bool.{false≢true}
 use Rattle.std.proofs.lemmas.Bool.Decides.{Decides-eqb}
-use Rattle.std.proofs.lemmas.List.{append_assoc, append_cancel_left}
-use Rattle.std.proofs.lemmas.List.Elements.{All-nil, All-cons, All-head, All-tail}
+use Rattle.std.proofs.lemmas.List.{append_cancel_left}
+use Rattle.std.proofs.lemmas.List.Elements.{All-head, All-tail}
 use Rattle.std.proofs.lemmas.List.Splits.{slice_split_at, slice_split_none}
-use Rattle.osmroad.specs.Cuts.{Lacks, IsCutAt, IsFieldBehind}
+use Rattle.osmroad.specs.Fields.{Lacks, IsCutAt, IsFieldBehind}
 use Rattle.osmroad.specs.PlainForm.{split}
 
 head_lacks : (stop b : ℕ) (bs : List ℕ) → Lacks stop (b ∷ bs) → (b == stop) ≡ false

@@ -1,7 +1,6 @@
-use Rattle.std.proofs.Common.{sym, ◌∙◌, ap}
 use Rattle.std.proofs.lemmas.Option.{IfSome_then}
-use Rattle.osmroad.proofs.TextCutting.{not_cut, field_from_cut, cut_from_field, IfNone_then}
-use Rattle.osmroad.proofs.cut.field.Goals as goal
+use Rattle.osmroad.proofs.FieldCuts.{not_cut, field_from_cut, cut_from_field, IfNone_then}
+use Rattle.osmroad.proofs.fields.field.Goals as goal
 
 pub returns-clause-some : goal.returns-clause-some
 returns-clause-some c =

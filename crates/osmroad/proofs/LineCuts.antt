@@ -1,12 +1,11 @@
 -- The lines of an input, one by one.
-use Rattle.std.specs.Prelude.{◌≡◌, ◌==◌, ◌<◌, ◌++◌, ℕ, List, [], ◌∷◌, length, Bool, true, false, refl}
-use Rattle.std.specs.List.{slice_split}
-use Rattle.std.proofs.Common.{arith, ap, sym, ◌∙◌}
+use Rattle.std.specs.Prelude.{◌≡◌, ◌==◌, ◌<◌, ℕ, List, [], ◌∷◌, length, refl}
+use Rattle.std.proofs.Common.{arith, ap, ◌∙◌}
 use Rattle.std.proofs.lemmas.List.Splits.{length-slice_split}
 use Rattle.road_base.specs.declared.event.Event.{Event}
-use Rattle.osmroad.specs.Cuts.{Lacks, IsCutAt}
+use Rattle.osmroad.specs.Fields.{Lacks, IsCutAt}
 use Rattle.osmroad.specs.PlainForm.{split, ended, lines, IsPlainLine, without_return}
-use Rattle.osmroad.proofs.TextCutting.{split_first, split_alone}
+use Rattle.osmroad.proofs.FieldCuts.{split_first, split_alone}
 
 -- there is always a piece
 split_some : (stop : ℕ) (bs : List ℕ) → 0 < length (split stop bs)

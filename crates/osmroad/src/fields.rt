@@ -1,6 +1,6 @@
 //! Bytes, cut where one of them stands first.
 ghost use Rattle.std.specs.Prelude.{◌≡◌, ◌≢◌, ◌++◌, ℕ, List, IfSome, IfNone};
-ghost use Rattle.osmroad.specs.Cuts.{Lacks, IsCutAt, IsFieldBehind};
+ghost use Rattle.osmroad.specs.Fields.{Lacks, IsCutAt, IsFieldBehind};
 
 use memchr::memchr;
 
