@@ -14,6 +14,7 @@ pub struct Event {
 }
 
 impl Event {
+    /// An equal value.
     pub fn copy(&self) -> Result<Event, NoMemory>
         ensures { IfOk result (λ e. e ≡ self.now) }
     {

@@ -38,6 +38,7 @@ impl Refs {
         self.list.as_slice()
     }
 
+    /// An equal value.
     pub fn copy(&self) -> Result<Refs, NoMemory>
         ensures { IfOk result (λ l. l ≡ self.now) }
     {
@@ -76,6 +77,7 @@ impl Drive {
         self.list.as_slice()
     }
 
+    /// An equal value.
     pub fn copy(&self) -> Result<Drive, NoMemory>
         ensures { IfOk result (λ l. l ≡ self.now) }
     {
@@ -114,6 +116,7 @@ impl Keys {
         self.list.as_slice()
     }
 
+    /// An equal value.
     pub fn copy(&self) -> Result<Keys, NoMemory>
         ensures { IfOk result (λ l. l ≡ self.now) }
     {
@@ -152,6 +155,7 @@ impl Ways {
         self.list.as_slice()
     }
 
+    /// An equal value.
     pub fn copy(&self) -> Result<Ways, NoMemory>
         ensures { IfOk result (λ l. l ≡ self.now) }
     {

@@ -59,6 +59,7 @@ pub enum Body {
 }
 
 impl Node {
+    /// An equal value.
     pub fn copy(&self) -> Result<Node, NoMemory>
         ensures { IfOk result (λ n. n ≡ self.now) }
     {
@@ -71,6 +72,7 @@ impl Node {
 }
 
 impl Way {
+    /// An equal value.
     pub fn copy(&self) -> Result<Way, NoMemory>
         ensures { IfOk result (λ w. w ≡ self.now) }
     {
@@ -81,6 +83,7 @@ impl Way {
 }
 
 impl Member {
+    /// An equal value.
     pub fn copy(&self) -> Result<Member, NoMemory>
         ensures { IfOk result (λ m. m ≡ self.now) }
     {
@@ -109,6 +112,7 @@ impl Members {
         self.list.as_slice()
     }
 
+    /// An equal value.
     pub fn copy(&self) -> Result<Members, NoMemory>
         ensures { IfOk result (λ m. m ≡ self.now) }
     {
@@ -122,6 +126,7 @@ impl Members {
 }
 
 impl Relation {
+    /// An equal value.
     pub fn copy(&self) -> Result<Relation, NoMemory>
         ensures { IfOk result (λ r. r ≡ self.now) }
     {
@@ -132,6 +137,7 @@ impl Relation {
 }
 
 impl Body {
+    /// An equal value.
     pub fn copy(&self) -> Result<Body, NoMemory>
         ensures { IfOk result (λ b. b ≡ self.now) }
     {

@@ -52,6 +52,7 @@ impl Tags {
         }
     }
 
+    /// An equal value.
     pub fn copy(&self) -> Result<Tags, NoMemory>
         ensures { IfOk result (λ t. t ≡ self.now) }
     {

@@ -4,6 +4,7 @@ ghost use Rattle.std.specs.Prelude.{◌≡◌, ◌<◌, IfOk};
 use super::*;
 use std::alloc::{AllocError, AllocFailed, Global};
 use std::marker::Brand;
+use std::mem::size_of;
 use std::sync::ledger::{Blank, Ledger};
 use std::test::Fail;
 
@@ -164,7 +165,8 @@ fn ways_are_copied(rt: HostRuntime) -> Result<(), Fail> {
 }
 
 #[test]
-fn steps_are_counted() {
+fn steps_are_counted(rt: HostRuntime) {
+    assert_eq!(rt; size_of::<Steps<Brand>>(), 0);
     count_two::<Brand>(Blank::new(1));
 }
 

@@ -26,6 +26,7 @@ impl Text {
         Text { text }
     }
 
+    /// Lends the text.
     pub fn as_str(&self) -> &str
         ensures bytes { result.now ≡ self.now }
         ensures utf8 { IsUtf8 self.now }
@@ -33,6 +34,7 @@ impl Text {
         self.text.as_str()
     }
 
+    /// An equal value.
     pub fn copy(&self) -> Result<Text, NoMemory>
         ensures { IfOk result (λ t. t ≡ self.now) }
     {

@@ -2,4 +2,4 @@ use Rattle.road_base.proofs.tests.steps_are_counted.Given as goal
 
 -- the ledger that was just made
 abbrev pub ghosts-count_two : goal.ghosts-count_two
-ghosts-count_two a = record { name = a.blank.name; parts = a.blank.parts }
+ghosts-count_two g a = record { name = a.blank.name; parts = a.blank.parts }
