@@ -1,9 +1,9 @@
 -- The orders of ways, names and lists of names are total.
-use Rattle.std.proofs.Common.{◌≡◌, length, refl}
-use Rattle.std.specs.declared.cmp.Ordering.TheVariants.{Less, Equal}
-use Rattle.std.specs.Ordering.{ordering_reverse}
+use Rattle.std.proofs.Common.{Ordering, ◌⊎◌, inl, inr, ◌≡◌, length, refl}
+use Rattle.std.specs.declared.cmp.Ordering.TheVariants.{Less, Equal, Greater}
+use Rattle.std.specs.Ordering.{ordering_reverse, ordering_then}
 use Rattle.std.specs.Cmp.{IsTotalOrder}
-use Rattle.std.specs.FinMap.{IsAntisymmetric, int_cmp-IsAntisymmetric}
+use Rattle.std.specs.FinMap.{IsAntisymmetric, int_cmp-IsAntisymmetric, nat_cmp-IsAntisymmetric, slice_cmp-IsAntisymmetric}
 use Rattle.std.proofs.lemmas.Cmp.{nat_cmp_total, int_cmp_total, on_total, then_total, lists_total}
 use Rattle.road_base.specs.declared.ids.WayId.{WayId}
 use Rattle.road_base.specs.declared.ids.Dir.{Dir}
@@ -13,6 +13,10 @@ use Rattle.road_model.specs.Orders.{way_cmp, dir_cmp, name_cmp, names_cmp}
 
 pub way_cmp_total : IsTotalOrder way_cmp
 way_cmp_total = on_total (λ (w : WayId). w.0) int_cmp_total
+
+pub dir_cases : (d : Dir) → (d ≡ Forward) ⊎ (d ≡ Backward)
+dir_cases Forward = inl refl
+dir_cases Backward = inr refl
 
 dir_antisymm : (a b : Dir) → dir_cmp a b ≡ ordering_reverse (dir_cmp b a)
 dir_antisymm Forward Forward = refl
@@ -45,3 +49,26 @@ names_cmp_total = then_total (on_total length nat_cmp_total) (lists_total name_c
 
 pub way_cmp_exact : IsAntisymmetric way_cmp
 way_cmp_exact a b e = let f = int_cmp-IsAntisymmetric a.0 b.0 e in λ i. record { 0 = f i }
+
+then_equal : (r s : Ordering) → ordering_then r s ≡ Equal → (r ≡ Equal) × (s ≡ Equal)
+then_equal Less s e = cc
+then_equal Equal s e = (refl, e)
+then_equal Greater s e = cc
+
+dir_cmp_exact : IsAntisymmetric dir_cmp
+dir_cmp_exact Forward Forward e = refl
+dir_cmp_exact Forward Backward e = cc
+dir_cmp_exact Backward Forward e = cc
+dir_cmp_exact Backward Backward e = refl
+
+pub name_cmp_exact : IsAntisymmetric name_cmp
+name_cmp_exact a b e =
+    let p = then_equal _ _ e in
+    let q = then_equal _ _ p.1 in
+    let w = way_cmp_exact a.way b.way p.0 in
+    let i = nat_cmp-IsAntisymmetric a.index b.index q.0 in
+    let d = dir_cmp_exact a.dir b.dir q.1 in
+    λ x. record { way = w x; index = i x; dir = d x }
+
+pub names_cmp_exact : IsAntisymmetric names_cmp
+names_cmp_exact a b e = slice_cmp-IsAntisymmetric name_cmp_exact a b (then_equal _ _ e).1

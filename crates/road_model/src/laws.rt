@@ -1,8 +1,24 @@
 //! Laws of the definitions, each the contract of a function that does nothing.
+ghost use Rattle.std.specs.Prelude.{◌≡◌};
+ghost use Rattle.std.specs.Cmp.{IsTotalOrder};
+ghost use Rattle.std.specs.FinMap.{IsAntisymmetric};
 ghost use Rattle.road_base.specs.Objects.{Objects};
+ghost use Rattle.road_model.specs.declared.lists.PieceName.{PieceName};
+ghost use Rattle.road_model.specs.Orders.{way_cmp, name_cmp, names_cmp};
 ghost use Rattle.road_model.specs.Naming.{OnePiece, OneEntry, OneBlock, OneGraph};
 
 use crate::Profile;
+
+/// Ways, names of pieces and lists of names stand in total orders, in which only equal ones tie. `cmp` compares names so.
+pub fn name_order()
+    ensures ways { IsTotalOrder way_cmp }
+    ensures way_ties { IsAntisymmetric way_cmp }
+    ensures names { IsTotalOrder name_cmp }
+    ensures name_ties { IsAntisymmetric name_cmp }
+    ensures lists { IsTotalOrder names_cmp }
+    ensures list_ties { IsAntisymmetric names_cmp }
+    ensures by_cmp { (a b : PieceName) → ⟦<crate::PieceName as Ord>⟧.cmp a b ≡ name_cmp a b }
+{}
 
 /// A piece is known by its name, and is written in one way.
 pub fn one_name<P: Profile>(profile: &P)
