@@ -3,3 +3,4 @@ pub mod Members
 pub mod Unique
 pub mod OneWriting
 pub mod SortedMaps
+pub mod WorkedExamples
