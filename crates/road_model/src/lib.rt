@@ -3,8 +3,9 @@
 //!
 //! `specs/` has the definitions, over any object map and any profile. They know no index, automaton or search: they
 //! judge whole lists of steps against tags and members. The types here are what a profile answers and what a graph
-//! is made of. A graph's blocks lie in one list in the order of their ways: a look-up costs the logarithm of their
-//! number, and so does putting a block behind all others.
+//! is made of. A graph's blocks lie in one list in the order of their ways: one behind all others is put at the cost
+//! of a push, any other at that of a binary search and, where its way is new, a move of the blocks behind it. A copy
+//! costs the size of what is copied, and everything else a constant.
 #![tactic(auto)]
 
 mod answers;
@@ -12,6 +13,8 @@ mod blocks;
 pub mod laws;
 mod lists;
 mod profile;
+#[cfg(test)]
+mod tests;
 
 pub use answers::{Access, AccessKey, ClosedBy, RuleKind, Unusable};
 pub use blocks::{Block, Blocks};
