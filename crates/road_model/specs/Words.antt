@@ -1,5 +1,5 @@
--- The words of restrictions: the lists of steps that a No rule forbids, or of which an Only rule demands the last step
--- once the others were driven (OSM wiki, Relation:restriction).
+-- The words of restrictions: the lists of steps that a No rule forbids, or of which an Only rule demands each next step
+-- once enough of the steps before it were driven (OSM wiki, Relation:restriction).
 use Rattle.std.specs.Prelude.{◌≡◌, ℕ, ◌+◌, ◌⊎◌, List, [], ◌∷◌, ◌++◌, length, Some, Bool, true, false, IsTrue, Contains}
 use Rattle.road_base.specs.declared.ids.NodeId.{NodeId}
 use Rattle.road_base.specs.declared.ids.WayId.{WayId}

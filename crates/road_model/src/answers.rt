@@ -45,9 +45,9 @@ pub enum Unusable {
     NoValue,
     /// Its members are too few, too many, or of the wrong kinds.
     Members,
-    /// A member isn't visible, or is no road of two nodes or more.
+    /// A member isn't visible, or is a way without the key `highway` or with fewer than two nodes on its line.
     Missing,
-    /// A way doesn't end where the turn is.
+    /// A from or to way doesn't end where the turn is, or a via way begins and ends at one node.
     NotAnEnd,
     /// The via ways don't lead from a from way to a to way.
     NotConnected,
