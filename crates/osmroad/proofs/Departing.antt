@@ -18,8 +18,8 @@ list_one_more before piece m found list q lists is items =
     ap listed is
     ∙ elim (same_node piece.from q) as (λ b. same_node piece.from q ≡ b → listed (cond b (Some list) (get node_cmp m q)) ≡ leaving q before ++ cond b (piece ∷ []) []) [
       | true ↦ λ e.
-        let same : piece.from ≡ q = node_from_same piece.from q e in
-        items ∙ ap (λ xs. xs ++ piece ∷ []) (lists piece.from ∙ ap (λ v. leaving v before) same)
+          let same : piece.from ≡ q = node_from_same piece.from q e in
+          items ∙ ap (λ xs. xs ++ piece ∷ []) (lists piece.from ∙ ap (λ v. leaving v before) same)
       | false ↦ λ e. lists q ∙ sym (append-nil (leaving q before))
     ] refl
     ∙ sym (filter-append (λ p. same_node p.from q) before (piece ∷ []))

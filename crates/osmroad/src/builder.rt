@@ -11,7 +11,9 @@ use crate::plain_piece::PlainPiece;
 use crate::street::Street;
 use crate::town::Town;
 use road_base::{Dir, NoMemory, NodeId};
-use road_model::{Arcs, Block, Blocks, Context, Contexts, Names, Piece, Pieces, Place, Places, TurnArc};
+use road_model::{
+    Arcs, Block, Blocks, Context, Contexts, Names, Piece, Pieces, Place, Places, TurnArc,
+};
 use std::alloc::Global;
 
 /// The blocks of a town's streets. Each node and each piece is looked up a fixed number of times.
@@ -29,7 +31,12 @@ pub fn build_blocks(alloc: Global, town: &Town) -> Result<Blocks, NoMemory>
 }
 
 /// The block of one of the streets.
-fn block_of(alloc: Global, town: &Town, departures: &Departures, street: &Street) -> Result<Block, NoMemory>
+fn block_of(
+    alloc: Global,
+    town: &Town,
+    departures: &Departures,
+    street: &Street,
+) -> Result<Block, NoMemory>
     ensures { IfOk result (λ block. block ≡ block_in (get town.now.locations) departures.now street.now) }
 {
     let cut = pieces_of(alloc, departures.junctions(), street)?;
@@ -44,7 +51,13 @@ fn block_of(alloc: Global, town: &Town, departures: &Departures, street: &Street
 }
 
 /// A piece of the street with its places and its arcs.
-fn piece_of(alloc: Global, town: &Town, departures: &Departures, street: &Street, piece: &PlainPiece) -> Result<Piece, NoMemory>
+fn piece_of(
+    alloc: Global,
+    town: &Town,
+    departures: &Departures,
+    street: &Street,
+    piece: &PlainPiece,
+) -> Result<Piece, NoMemory>
     requires ascends { piece.now.name.index ≤ piece.now.end }
     requires within { piece.now.end < length street.now.refs }
     ensures { IfOk result (λ p. p ≡ piece_in (get town.now.locations) (all_pieces departures.now) street.now piece.now) }
@@ -61,7 +74,12 @@ fn piece_of(alloc: Global, town: &Town, departures: &Departures, street: &Street
 }
 
 /// The nodes of the piece in order of travel, with their places.
-fn places_of(alloc: Global, town: &Town, street: &Street, piece: &PlainPiece) -> Result<Places, NoMemory>
+fn places_of(
+    alloc: Global,
+    town: &Town,
+    street: &Street,
+    piece: &PlainPiece,
+) -> Result<Places, NoMemory>
     requires ascends { piece.now.name.index ≤ piece.now.end }
     requires within { piece.now.end < length street.now.refs }
     ensures { IfOk result (λ places. places ≡ filter_map (place_in (get town.now.locations)) (nodes_of street.now piece.now)) }

@@ -61,7 +61,10 @@ impl<'a> Departures<'a> {
 }
 
 #[tactic(auto, unfolding(crate::specs::Junctions::listed))]
-fn lists_of(alloc: Global, junctions: &Junctions) -> Result<BTreeMap<NodeId, Vec<PlainPiece>>, NoMemory>
+fn lists_of(
+    alloc: Global,
+    junctions: &Junctions,
+) -> Result<BTreeMap<NodeId, Vec<PlainPiece>>, NoMemory>
     ensures { IfOk result (AreDepartures (all_pieces junctions.now)) }
 {
     let mut lists = BTreeMap::new(alloc);
@@ -72,7 +75,11 @@ fn lists_of(alloc: Global, junctions: &Junctions) -> Result<BTreeMap<NodeId, Vec
     Ok(lists)
 }
 
-fn list_all(alloc: Global, lists: &mut BTreeMap<NodeId, Vec<PlainPiece>>, pieces: &[PlainPiece]) -> Result<(), NoMemory>
+fn list_all(
+    alloc: Global,
+    lists: &mut BTreeMap<NodeId, Vec<PlainPiece>>,
+    pieces: &[PlainPiece],
+) -> Result<(), NoMemory>
     ensures { OnOk result ((before : List PlainPiece) → AreDepartures before lists.old → AreDepartures (before ++ pieces.now) lists.new) }
 {
     for piece in pieces {
@@ -81,7 +88,11 @@ fn list_all(alloc: Global, lists: &mut BTreeMap<NodeId, Vec<PlainPiece>>, pieces
     Ok(())
 }
 
-fn list_one(alloc: Global, lists: &mut BTreeMap<NodeId, Vec<PlainPiece>>, piece: PlainPiece) -> Result<(), NoMemory>
+fn list_one(
+    alloc: Global,
+    lists: &mut BTreeMap<NodeId, Vec<PlainPiece>>,
+    piece: PlainPiece,
+) -> Result<(), NoMemory>
     ensures { OnOk result ((before : List PlainPiece) → AreDepartures before lists.old → AreDepartures (before ++ piece ∷ []) lists.new) }
 {
     if let Some(list) = lists.get_mut(&piece.from) {

@@ -10,9 +10,9 @@ ghost use Rattle.std.specs.Prelude.{◌≡◌, ◌<◌};
 
 mod builder;
 mod cuts;
-mod input;
 mod departures;
 mod fields;
+mod input;
 mod junctions;
 mod numbers;
 mod plain;
@@ -69,3 +69,6 @@ fn main(rt: HostRuntime) -> ExitCode {
     };
     ExitCode::from(status.code())
 }
+
+#[cfg(test)]
+mod tests;

@@ -35,8 +35,8 @@ returns-clause-some c =
     let built = rw c.in-Some-2.is at c.in_ok-town.ensures.built in
     let of = rw c.in-Some-2.is at c.in_ok-town.ensures.town in
     let out : c.write.new.out.items ≡ graph_bytes 1 (values c.in_ok-blocks.blocks.map) =
-        c.in_ok-write.ensures.bytes ∙ ap (λ (l : List ℕ). l ++ graph_bytes c.number.result (values c.in_ok-blocks.blocks.map)) c.new-graph.ensures.items ∙ ap (λ (n : ℕ). graph_bytes n (values c.in_ok-blocks.blocks.map)) c.number.ensures in
+    c.in_ok-write.ensures.bytes ∙ ap (λ (l : List ℕ). l ++ graph_bytes c.number.result (values c.in_ok-blocks.blocks.map)) c.new-graph.ensures.items ∙ ap (λ (n : ℕ). graph_bytes n (values c.in_ok-blocks.blocks.map)) c.number.ensures in
     compiled c.args.bytes.items c.in-Some.events.items c.in-Some-2.town here built of c.streets-ascending.ensures.ascending
-      (values c.in_ok-blocks.blocks.map) c.write.new.out.items c.in_ok-blocks.ensures
-      (c.applied_alone.ensures c.in-Some.events.items (versions c.args.bytes.items c.in-Some.events.items here))
-      (c.one_name.ensures.entries (objects_of c.in-Some.events.items)) (c.one_name.ensures.pieces (objects_of c.in-Some.events.items)) out
+    (values c.in_ok-blocks.blocks.map) c.write.new.out.items c.in_ok-blocks.ensures
+    (c.applied_alone.ensures c.in-Some.events.items (versions c.args.bytes.items c.in-Some.events.items here))
+    (c.one_name.ensures.entries (objects_of c.in-Some.events.items)) (c.one_name.ensures.pieces (objects_of c.in-Some.events.items)) out

@@ -1,0 +1,178 @@
+//! Whole runs, over sources and sites in memory.
+ghost use Rattle.std.specs.Prelude.{◌≡◌, ◌<◌};
+
+use crate::run::run;
+use crate::status::Status;
+use road_base::{NoMemory, Steps};
+use road_io::{MemorySite, MemorySource};
+use std::alloc::Global;
+use std::marker::Brand;
+use std::sync::ledger::{Blank, Ledger};
+use std::test::Fail;
+
+/// Way 10 over three nodes. Node 2 is plain, and one turns round at both ends.
+const STREET: &[u8] = b"n1 x0 y0\nn2 x0.001 y0\nn3 x0.002 y0\nw10 Thighway=residential Nn1,n2,n3\n";
+
+/// The same with carriage returns, without a last newline, and in another order.
+const STREET_RETURNS: &[u8] =
+    b"w10 Thighway=residential Nn1,n2,n3\r\nn3 x0.002 y0\r\nn1 x0 y0\r\nn2 x0.001 y0";
+
+/// The graph of `STREET`, as the format spells it: a header; way 10 with two pieces; each with its positions and
+/// direction, its nodes, and one context with one arc to the other piece.
+const STREET_GRAPH: &[u8] = b"\
+    \x4f\x53\x4d\x52\x4f\x41\x44\x31\x01\x00\x00\x00\x01\x00\x00\x00\x00\x00\x00\x00\
+    \x0a\x00\x00\x00\x00\x00\x00\x00\x02\x00\x00\x00\
+    \x00\x00\x00\x00\x02\x00\x00\x00\x00\
+    \x01\x00\x00\x00\x00\x00\x00\x00\x00\x00\x00\x00\x00\x00\x00\x00\
+    \x02\x00\x00\x00\x00\x00\x00\x00\x10\x27\x00\x00\x00\x00\x00\x00\
+    \x03\x00\x00\x00\x00\x00\x00\x00\x20\x4e\x00\x00\x00\x00\x00\x00\
+    \x01\x00\x00\x00\x00\x00\x00\x00\x01\x00\x00\x00\x01\x00\x00\x00\x00\x00\x00\x00\x0a\x00\x00\x00\x00\x00\x00\x00\x00\x00\x00\x00\x01\x01\x00\x00\x00\
+    \x00\x00\x00\x00\x02\x00\x00\x00\x01\
+    \x03\x00\x00\x00\x00\x00\x00\x00\x20\x4e\x00\x00\x00\x00\x00\x00\
+    \x02\x00\x00\x00\x00\x00\x00\x00\x10\x27\x00\x00\x00\x00\x00\x00\
+    \x01\x00\x00\x00\x00\x00\x00\x00\x00\x00\x00\x00\x00\x00\x00\x00\
+    \x01\x00\x00\x00\x00\x00\x00\x00\x01\x00\x00\x00\x01\x00\x00\x00\x00\x00\x00\x00\x0a\x00\x00\x00\x00\x00\x00\x00\x00\x00\x00\x00\x00\x01\x00\x00\x00";
+
+/// The graph of nothing: the header alone.
+const NO_GRAPH: &[u8] = b"OSMROAD1\x01\x00\x00\x00\x00\x00\x00\x00\x00\x00\x00\x00";
+
+const USAGE: &[u8] =
+    b"usage: osmroad STORE create N|apply N|session|graph|audit|checkpoint, or osmroad - compile|inspect|sample N\n";
+
+const COMPILE: &[&str] = &["-", "compile"];
+
+/// A run: its words, its input, the reads and puts that are to fail, and what is expected of it.
+#[derive(Clone, Copy)]
+struct Case<'a> {
+    words: &'a [&'a str],
+    input: &'a [u8],
+    read_fails: &'a [u64],
+    put_fails: &'a [u64],
+    status: Status,
+    output: &'a [u8],
+}
+
+const fn compiles<'a>(input: &'a [u8], status: Status, output: &'a [u8]) -> Case<'a> {
+    Case {
+        words: COMPILE,
+        input,
+        read_fails: &[],
+        put_fails: &[],
+        status,
+        output,
+    }
+}
+
+fn ended<L: Ledger>(alloc: Global, case: &Case, blank: Blank) -> Result<(Status, Vec<u8>), NoMemory>
+    requires name { blank.name ≡ L.name }
+    requires parts { blank.parts ≡ L.parts }
+    requires some { 0 < L.parts }
+{
+    let input = case.input.to_vec(alloc)?;
+    let mut source = MemorySource::new(input, case.read_fails.to_vec(alloc)?);
+    let put_fails = case.put_fails.to_vec(alloc)?;
+    let mut site = MemorySite::new(alloc, Vec::new(alloc), Vec::new(alloc), put_fails);
+    let mut steps = Steps::<L>::new(blank);
+    let status = run(alloc, case.words, &mut source, &mut site, &mut steps);
+    Ok((status, site.output().to_vec(alloc)?))
+}
+
+#[test]
+fn extracts_are_compiled(rt: HostRuntime) -> Result<(), Fail> {
+    let cases = [
+        compiles(STREET, Status::Done, STREET_GRAPH),
+        compiles(STREET_RETURNS, Status::Done, STREET_GRAPH),
+        compiles(b"", Status::Done, NO_GRAPH),
+        compiles(b"n1 x0 y0", Status::Done, NO_GRAPH),
+    ];
+    for case in &cases {
+        let (status, output) = ended::<Brand>(rt.alloc(), case, Blank::new(1))?;
+        assert_eq!(rt; status, case.status);
+        assert_eq!(rt; output.as_slice(), case.output);
+    }
+    Ok(())
+}
+
+#[test]
+fn other_extracts_are_unbuilt(rt: HostRuntime) -> Result<(), Fail> {
+    let inputs: [&[u8]; 10] = [
+        b"n1 k5",
+        b"\n",
+        b"n1 x0 y0 ",
+        b"n1 x180.0000001 y0",
+        b"n1 x0 y0\nn1 x0 y0",
+        b"n1 x0 y0\nw1 Thighway=residential Nn1",
+        b"n1 x0 y0\nw1 Thighway=residential Nn1,n2",
+        b"n1 x0 y0\nn2 x1 y0\nw1 Thighway=motorway Nn1,n2",
+        b"n1 x0 y0\nn2 x1 y0\nw1 Thighway=footway Nn1,n2",
+        b"n1 x0 y0\nn2 x1 y0\nw1 Thighway=road Nn1,n2,n1",
+    ];
+    for input in inputs {
+        let case = compiles(input, Status::Unbuilt, b"unbuilt\n");
+        let (status, output) = ended::<Brand>(rt.alloc(), &case, Blank::new(1))?;
+        assert_eq!(rt; status, case.status);
+        assert_eq!(rt; output.as_slice(), case.output);
+    }
+    Ok(())
+}
+
+#[test]
+fn words_and_faults_are_answered(rt: HostRuntime) -> Result<(), Fail> {
+    let good = compiles(STREET, Status::Done, STREET_GRAPH);
+    let cases = [
+        Case {
+            words: &[],
+            status: Status::Usage,
+            output: USAGE,
+            ..good
+        },
+        Case {
+            words: &["-"],
+            status: Status::Usage,
+            output: USAGE,
+            ..good
+        },
+        Case {
+            words: &["-", "graph"],
+            status: Status::Usage,
+            output: USAGE,
+            ..good
+        },
+        Case {
+            words: &["-", "compile", "2"],
+            status: Status::Usage,
+            output: USAGE,
+            ..good
+        },
+        Case {
+            words: &[""],
+            status: Status::Usage,
+            output: USAGE,
+            ..good
+        },
+        Case {
+            read_fails: &[0],
+            status: Status::ReadFault,
+            output: b"",
+            ..good
+        },
+        Case {
+            read_fails: &[1],
+            status: Status::ReadFault,
+            output: b"",
+            ..good
+        },
+        Case {
+            put_fails: &[0],
+            status: Status::SiteFault,
+            output: b"",
+            ..good
+        },
+    ];
+    for case in &cases {
+        let (status, output) = ended::<Brand>(rt.alloc(), case, Blank::new(1))?;
+        assert_eq!(rt; status, case.status);
+        assert_eq!(rt; output.as_slice(), case.output);
+    }
+    Ok(())
+}
