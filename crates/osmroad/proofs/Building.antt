@@ -1,10 +1,10 @@
 -- Steps of building the blocks of streets.
-use Rattle.std.proofs.Common.{◌≡◌, ℕ, zero, suc, ◌+◌, ◌-◌, ◌<◌, ◌≤◌, Bool, true, false, cond, IsTrue, List, [], ◌∷◌, ◌++◌, length, get_or, take, drop, map, reverse, filter_map, flat_map, Option, Some, None, option_map, append_assoc, append-nil, refl, sym, ap, subst, ◌∙◌, arith, length-append, length-take}
+use Rattle.std.proofs.Common.{◌≡◌, ℕ, ◌+◌, ◌<◌, ◌≤◌, Bool, true, false, cond, List, [], ◌∷◌, ◌++◌, length, get_or, take, drop, map, reverse, filter_map, flat_map, Option, Some, None, option_map, refl, sym, ap, ◌∙◌, arith, length-take}
 use Rattle.std.specs.declared.cmp.Ordering.{Ordering}
-use Rattle.std.specs.declared.cmp.Ordering.TheVariants.{Less, Equal, Greater}
+use Rattle.std.specs.declared.cmp.Ordering.TheVariants.{Less, Greater}
 use Rattle.std.specs.Ordering.{ordering_reverse}
 use Rattle.std.specs.Cmp.{IsTotalOrder}
-use Rattle.std.specs.FinMap.{FinMap, empty, len-entries, len-empty, put, insert, entries, values, entries-insert}
+use Rattle.std.specs.FinMap.{FinMap, empty, len-entries, len-empty, put, insert, entries, entries-insert}
 use Rattle.std.specs.FinMap.Entries.{by_order}
 use Rattle.std.specs.List.{AllByRecursion, cons_option}
 use Rattle.std.specs.List.Sorted.{IsStrictlySortedBy}
@@ -12,12 +12,10 @@ use Rattle.std.proofs.lemmas.List.{nil_from_length, take_more, get_or-take, get_
 use Rattle.std.proofs.lemmas.List.Elements.{filter_map-append, recursion_from_All}
 use Rattle.std.proofs.lemmas.Map.Keys.{Less-from_sorted}
 use Rattle.road_base.specs.declared.ids.NodeId.{NodeId}
-use Rattle.road_base.specs.declared.ids.WayId.{WayId}
 use Rattle.road_base.specs.declared.location.Location.{Location}
-use Rattle.road_model.specs.declared.lists.Place.{Place}
 use Rattle.road_model.specs.declared.blocks.Block.{Block}
 use Rattle.road_model.specs.BlockMap.{entry_of}
-use Rattle.road_model.specs.Orders.{way_cmp, rises}
+use Rattle.road_model.specs.Orders.{way_cmp}
 use Rattle.osmroad.specs.declared.street.Street.{Street}
 use Rattle.osmroad.specs.declared.plain_piece.PlainPiece.{PlainPiece}
 use Rattle.osmroad.specs.Town.{StreetsAscend}

@@ -1,8 +1,7 @@
 -- Streets cut at their junctions, one position after another.
-use Rattle.std.proofs.Common.{◌≡◌, ℕ, zero, suc, ◌+◌, ◌-◌, ◌<◌, ◌≤◌, ◌==◌, ◌||◌, Bool, true, false, cond, List, [], ◌∷◌, ◌++◌, length, get_or, drop, flat_map, append_assoc, append-nil, refl, sym, ap, ◌∙◌, inl, inr, arith, eq-eqb, ne_eqb, length-drop, pos}
-use Rattle.std.specs.List.{AllByRecursion}
+use Rattle.std.proofs.Common.{◌≡◌, ℕ, ◌+◌, ◌-◌, ◌<◌, ◌==◌, ◌||◌, Bool, true, false, cond, List, [], ◌∷◌, ◌++◌, length, drop, flat_map, append_assoc, refl, sym, ap, ◌∙◌, inl, inr, arith, eq-eqb, ne_eqb, length-drop, pos}
 use Rattle.std.proofs.lemmas.Bool.{cases_eq}
-use Rattle.std.proofs.lemmas.List.{drop_more, drop_all}
+use Rattle.std.proofs.lemmas.List.{drop_more}
 use Rattle.road_base.specs.declared.ids.NodeId.{NodeId}
 use Rattle.osmroad.specs.declared.street.Street.{Street}
 use Rattle.osmroad.specs.declared.plain_piece.PlainPiece.{PlainPiece}

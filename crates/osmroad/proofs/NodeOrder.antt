@@ -1,5 +1,5 @@
 -- The order of nodes and that of ways are total, and only equal ones tie.
-use Rattle.std.proofs.Common.{◌≡◌, Bool, true, false, IsTrue, refl, ap, sym, ◌∙◌, Equal, Less, Greater, is_eq}
+use Rattle.std.proofs.Common.{◌≡◌}
 use Rattle.std.specs.Cmp.{IsTotalOrder, on_total, int_cmp_total}
 use Rattle.std.specs.FinMap.{IsAntisymmetric, int_cmp-IsAntisymmetric}
 use Rattle.road_base.specs.declared.ids.NodeId.{NodeId}

@@ -1,5 +1,5 @@
 -- A town's streets, and where their nodes lie.
-use Rattle.std.specs.Prelude.{◌≡◌, List, map, IsTrue, refl}
+use Rattle.std.specs.Prelude.{List, map, IsTrue, refl}
 use Rattle.std.specs.Ordering.{int_cmp}
 use Rattle.std.specs.declared.cmp.Ordering.{Ordering}
 use Rattle.std.specs.Coded.{Coded, code_by, coded×, coded_list}

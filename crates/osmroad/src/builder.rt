@@ -4,11 +4,11 @@ ghost use Rattle.std.specs.List.{filter_map};
 ghost use Rattle.std.specs.FinMap.{get, values};
 ghost use Rattle.osmroad.specs.Streets.{all_pieces, arc_to, followers, place_in, nodes_of, alone, piece_in, block_in, plain_blocks};
 
-use crate::cuts::pieces_of;
 use crate::departures::Departures;
 use crate::junctions::Junctions;
 use crate::plain_piece::PlainPiece;
 use crate::street::Street;
+use crate::street_pieces::pieces_of;
 use crate::town::Town;
 use road_base::{Dir, NoMemory, NodeId};
 use road_model::{

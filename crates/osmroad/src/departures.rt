@@ -4,9 +4,9 @@ ghost use Rattle.osmroad.specs.declared.plain_piece.PlainPiece.{PlainPiece};
 ghost use Rattle.osmroad.specs.Streets.{is_shared, leaving, all_pieces};
 ghost use Rattle.osmroad.specs.Junctions.{AreDepartures};
 
-use crate::cuts::pieces_of;
 use crate::junctions::Junctions;
 use crate::plain_piece::PlainPiece;
+use crate::street_pieces::pieces_of;
 use road_base::{NoMemory, NodeId};
 use std::alloc::Global;
 use std::collections::BTreeMap;

@@ -12,6 +12,8 @@ mod builder;
 mod cuts;
 mod departures;
 mod fields;
+mod cut;
+mod departures;
 mod input;
 mod junctions;
 mod numbers;
@@ -24,6 +26,7 @@ mod plain_town;
 mod run;
 mod status;
 mod street;
+mod street_pieces;
 mod town;
 
 use crate::run::run;

@@ -1,8 +1,8 @@
 -- Each piece of the street lies on it.
-use Rattle.std.proofs.Common.{subst, sym, ◌∙◌, ap}
+use Rattle.std.proofs.Common.{subst, sym, ◌∙◌}
 use Rattle.std.specs.List.{AllByRecursion}
 use Rattle.std.proofs.lemmas.List.Elements.{All-from_recursion}
-use Rattle.osmroad.specs.Streets.{is_shared, street_pieces}
+use Rattle.osmroad.specs.Streets.{is_shared}
 use Rattle.osmroad.proofs.Building.{LiesOn, pieces_lie_on}
 use Rattle.osmroad.proofs.builder.block_of.Goals as goal
 

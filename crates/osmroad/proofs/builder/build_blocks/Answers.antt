@@ -1,7 +1,6 @@
 -- The entries are the blocks of the streets so far, in their order.
-use Rattle.std.proofs.Common.{◌≡◌, map, take, take_all, refl, ap, sym, subst, ◌∙◌, arith}
+use Rattle.std.proofs.Common.{◌≡◌, map, take, take_all, refl, ap, sym, subst, ◌∙◌}
 use Rattle.std.specs.FinMap.{get, insert, entries}
-use Rattle.road_model.specs.BlockMap.{entry_of}
 use Rattle.osmroad.specs.Town.{StreetsAscend}
 use Rattle.osmroad.specs.Streets.{block_in, plain_blocks}
 use Rattle.osmroad.proofs.Building.{entries_empty, entries_more, values_of_entries}

@@ -1,4 +1,4 @@
-use Rattle.std.proofs.Common.{append-nil, ◌∷◌, [], ◌++◌, get_or, take, pos, ap, sym, ◌∙◌, Some, None}
+use Rattle.std.proofs.Common.{append-nil, ◌∷◌, [], ◌++◌, get_or, pos, ap, sym, ◌∙◌, Some, None}
 use Rattle.std.specs.FinMap.{get}
 use Rattle.road_base.specs.declared.ids.NodeId.{NodeId}
 use Rattle.osmroad.proofs.Building.{located_more}

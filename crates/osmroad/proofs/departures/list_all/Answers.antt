@@ -1,4 +1,4 @@
-use Rattle.std.proofs.Common.{◌++◌, take, ap, sym, ◌∙◌}
+use Rattle.std.proofs.Common.{◌++◌, take, ap, ◌∙◌}
 use Rattle.osmroad.specs.Streets.{leaving}
 use Rattle.osmroad.proofs.Departing.{append_taken}
 use Rattle.osmroad.proofs.departures.list_all.Goals as goal

@@ -1,4 +1,4 @@
-use Rattle.std.proofs.Common.{◌≡◌, ◌+◌, ◌++◌, flat_map, take, ap, sym, ◌∙◌}
+use Rattle.std.proofs.Common.{◌+◌, ◌++◌, flat_map, take, ap, sym, ◌∙◌}
 use Rattle.osmroad.specs.Streets.{is_shared, leaving, street_pieces}
 use Rattle.osmroad.proofs.Departing.{flat_map_taken}
 use Rattle.osmroad.proofs.departures.lists_of.Goals as goal

@@ -1,4 +1,4 @@
-use Rattle.std.proofs.Common.{◌≡◌, ℕ, ◌+◌, take, ap, sym, ◌∙◌}
+use Rattle.std.proofs.Common.{◌≡◌, ◌+◌, take, ap, sym, ◌∙◌}
 use Rattle.osmroad.specs.Streets.{times, stands}
 use Rattle.osmroad.specs.Junctions.{mark}
 use Rattle.osmroad.proofs.Marking.{stands_more}

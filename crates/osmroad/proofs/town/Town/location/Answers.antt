@@ -1,5 +1,5 @@
 -- The entry that the search finds holds the node's place, and where it finds none no entry has the node.
-use Rattle.std.proofs.Common.{◌≡◌, ◌∙◌, ◌<◌, length, get_or, sym, ap, map, Some, None, rules}
+use Rattle.std.proofs.Common.{◌≡◌, ◌∙◌, get_or, sym, ap, map, Some, None, rules}
 use Rattle.std.specs.FinMap.{get, from_entries}
 use Rattle.std.specs.List.Sorted.{IsStrictlySortedBy}
 use Rattle.std.proofs.lemmas.Fn.{always_returns_same}

@@ -1,6 +1,6 @@
 use Rattle.std.proofs.Common.{◌≡◌, ◌<◌, ◌++◌, drop, flat_map}
 use Rattle.osmroad.specs.Streets.{is_shared, spans, both_ways, street_pieces}
-use Rattle.osmroad.proofs.cuts.pieces_of.Given as goal
+use Rattle.osmroad.proofs.street_pieces.pieces_of.Given as goal
 
 abbrev pub invariant-loop-at : goal.invariant-loop-at
 invariant-loop-at l =

@@ -1,8 +1,8 @@
 use Rattle.std.proofs.Common.{◌<◌, length, sym, ◌∙◌, arith, rules}
 use Rattle.osmroad.specs.Streets.{is_shared}
 use Rattle.osmroad.proofs.Cutting.{remains_cut, remains_uncut}
-use Rattle.osmroad.proofs.cuts.pieces_of.Goals as goal
-use Rattle.osmroad.proofs.cuts.pieces_of.Goals.{then-is_cut+in_ok-push_both, else-is_cut}
+use Rattle.osmroad.proofs.street_pieces.pieces_of.Goals as goal
+use Rattle.osmroad.proofs.street_pieces.pieces_of.Goals.{then-is_cut+in_ok-push_both, else-is_cut}
 
 pub loop-at-preserved : goal.loop-at-preserved
 loop-at-preserved c =
