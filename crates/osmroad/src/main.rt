@@ -9,11 +9,8 @@
 ghost use Rattle.std.specs.Prelude.{◌≡◌, ◌<◌};
 
 mod builder;
-mod cuts;
 mod departures;
 mod fields;
-mod cut;
-mod departures;
 mod input;
 mod junctions;
 mod numbers;
