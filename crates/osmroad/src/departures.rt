@@ -48,8 +48,8 @@ impl<'a> Departures<'a> {
         &self.junctions
     }
 
-    #[tactic(auto, unfolding(crate::specs::Junctions::listed))]
     /// The pieces that leave the node, ascending by name.
+    #[tactic(auto, unfolding(crate::specs::Junctions::listed))]
     pub fn from_node(&self, node: NodeId) -> &[PlainPiece]
         ensures { result.now ≡ leaving node (all_pieces self.now) }
     {
