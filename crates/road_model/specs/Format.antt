@@ -1,5 +1,5 @@
 -- The bytes of a graph file. All numbers are little endian.
-use Rattle.std.specs.Prelude.{◌≡◌, ℕ, ◌+◌, ◌-◌, ◌<◌, ◌≤◌, ◌^◌, ℤ, List, [], ◌∷◌, ◌++◌, length, map, IsTrue, codes}
+use Rattle.std.specs.Prelude.{◌≡◌, ℕ, ◌+◌, ◌-◌, ◌<◌, ◌≤◌, ◌^◌, ℤ, List, [], ◌∷◌, ◌++◌, length, map, IsTrue, FitsSigned, codes}
 use Rattle.std.specs.List.{AllByRecursion}
 use Rattle.std.specs.Ordering.{nat_cmp, ordering_then}
 use Rattle.std.specs.Int.{w32, w64, to_le_bytes, cast_unsigned}
@@ -93,6 +93,25 @@ pub record IsBlockForm (b : Block) : Type 0 where
   pub ascend : IsTrue (rises place_cmp (map (λ p. p.name) b.pieces))
   pub pieces : AllByRecursion IsPieceForm b.pieces
 
+-- ---- each number fits its bytes, and so is read again as it was
+
+abbrev pub NameFits : PieceName → Type 0
+NameFits n = FitsSigned w64 n.way.0 × (n.index < 2 ^ 32)
+
+pub record ContextFits (c : Context) : Type 0 where
+  pub names : AllByRecursion NameFits c.before
+  pub arcs : AllByRecursion (λ a. NameFits a.piece × (a.length < 2 ^ 32)) c.arcs
+  pub arc_count : length c.arcs < 2 ^ 64
+
+pub record PieceFits (p : Piece) : Type 0 where
+  pub places : AllByRecursion (λ x. FitsSigned w64 x.node.0) p.places
+  pub contexts : AllByRecursion ContextFits p.contexts
+  pub context_count : length p.contexts < 2 ^ 64
+
+pub record BlockFits (b : Block) : Type 0 where
+  pub way : FitsSigned w64 b.way.0
+  pub pieces : AllByRecursion PieceFits b.pieces
+
 -- The bytes are in the grammar of a graph file: they spell blocks that ascend by way, each with pieces that ascend by
 -- position and direction, each with its contexts, of which the first has one piece, by length and names, each with its
 -- arcs by name. Locations are in range by their type.
@@ -100,6 +119,8 @@ pub record IsGraphFile (bytes : List ℕ) : Type 0 where
   pub blocks : List Block
   pub ascend : IsTrue (rises way_cmp (map (λ b. b.way) blocks))
   pub forms : AllByRecursion IsBlockForm blocks
+  pub fit : AllByRecursion BlockFits blocks
+  pub count : length blocks < 2 ^ 64
   pub spelled : bytes ≡ graph_bytes 1 blocks
 
 -- ---- the graph of an object map
