@@ -1,5 +1,6 @@
--- Bytes that are appended one after another, and the spelling of a list.
+-- Bytes that are appended one after another, the spelling of a list, and what holds of its members so far.
 use Rattle.std.proofs.Common.{◌≡◌, ℕ, zero, suc, ◌+◌, ◌<◌, List, [], ◌∷◌, ◌++◌, length, get_or, take, drop, refl, sym, ap, subst, ◌∙◌, arith, append_assoc, append-nil, add-one, Result, OnOk}
+use Rattle.std.specs.List.{AllByRecursion}
 use Rattle.std.proofs.lemmas.List.{take_at, take-append-drop}
 use Rattle.std.proofs.lemmas.Result.{IfOk-equal}
 use Rattle.road_model.specs.Format.{joined}
@@ -37,3 +38,12 @@ one_more spell xs i x old mid new within is so_far next =
 -- two appends as one
 pub both : (old a mid b new : List ℕ) → mid ≡ old ++ a → new ≡ mid ++ b → new ≡ old ++ (a ++ b)
 both old a mid b new first second = second ∙ ap (λ l. l ++ b) first ∙ append_assoc old a b
+
+all_one_more : {A : Type 0} (P : A → Type 0) (xs : List A) (i : ℕ) (d : A) → i < length xs → AllByRecursion P (take i xs) → P (get_or xs i d) → AllByRecursion P (take (suc i) xs)
+all_one_more P [] i d within so_far next = absurd (omega arith)
+all_one_more P (x ∷ xs) zero d within so_far next = (next, tt)
+all_one_more P (x ∷ xs) (suc i) d within so_far next = (so_far.0, all_one_more P xs i d (omega arith) so_far.1 next)
+
+-- what holds of the members so far and of the next holds of one member more
+pub all-take : {A : Type 0} (P : A → Type 0) (xs : List A) (i : ℕ) (x : A) → i < length xs → x ≡ get_or xs i x → AllByRecursion P (take i xs) → P x → AllByRecursion P (take (i + 1) xs)
+all-take P xs i x within is so_far next = rw add-one (all_one_more P xs i x within so_far (subst P is next))

@@ -4,10 +4,10 @@
 //! bytes that it writes, and it takes no memory beside them.
 #![tactic(auto)]
 
-ghost use Rattle.std.specs.Prelude.{◌≡◌, ◌++◌, OnOk, OnErr, codes};
+ghost use Rattle.std.specs.Prelude.{◌≡◌, ◌++◌, ◌<◌, ◌^◌, length, OnOk, OnErr, codes};
 ghost use Rattle.std.specs.List.{AllByRecursion};
 ghost use Rattle.std.specs.FinMap.{values};
-ghost use Rattle.road_model.specs.Format.{u32_bytes, u64_bytes, graph_bytes, IsBlockForm, IsGraphFile};
+ghost use Rattle.road_model.specs.Format.{u32_bytes, u64_bytes, graph_bytes, BlockFits, IsBlockForm, IsGraphFile};
 ghost use Rattle.graph_file.specs.Appending.{Keeps};
 
 mod numbers;
@@ -25,7 +25,7 @@ pub fn write(profile: u32, blocks: &Blocks, out: &mut Vec<u8>) -> Result<(), NoM
     requires profile { profile ≡ 1 }
     requires forms { AllByRecursion IsBlockForm (values blocks.now.map) }
     ensures bytes { OnOk result (out.new.items ≡ out.old.items ++ graph_bytes profile (values blocks.now.map)) }
-    ensures grammar { IsGraphFile (graph_bytes profile (values blocks.now.map)) }
+    ensures grammar { OnOk result (IsGraphFile (graph_bytes profile (values blocks.now.map))) }
     ensures err { OnErr result (out.new.items ≡ out.old.items) }
 {
     let before = out.len();
@@ -39,6 +39,8 @@ pub fn write(profile: u32, blocks: &Blocks, out: &mut Vec<u8>) -> Result<(), NoM
 fn put_graph(profile: u32, blocks: &[Block], out: &mut Vec<u8>) -> Result<(), NoMemory>
     requires { AllByRecursion IsBlockForm blocks.now }
     ensures ok { OnOk result (out.new.items ≡ out.old.items ++ graph_bytes profile blocks.now) }
+    ensures fit { OnOk result (AllByRecursion BlockFits blocks.now) }
+    ensures count { length blocks.now < 2 ^ 64 }
     ensures err { OnErr result (Keeps out.old.items out.new.items) }
 {
     put_header(profile, blocks.len() as u64, out)?;

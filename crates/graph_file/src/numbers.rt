@@ -1,4 +1,6 @@
 //! Numbers and directions, little endian.
+ghost use Rattle.std.specs.Prelude.{◌<◌, ◌^◌, FitsSigned};
+ghost use Rattle.std.specs.Int.{w32, w64};
 ghost use Rattle.road_model.specs.Format.{u32_bytes, u64_bytes, i32_bytes, i64_bytes, dir_bytes};
 
 use crate::spelling::Spell;
@@ -6,6 +8,8 @@ use road_base::{Dir, NoMemory};
 
 impl Spell for u32 {
     ghost spelling = { u32_bytes };
+
+    ghost fits = { λ n. n < 2 ^ 32 };
 
     fn put(&self, out: &mut Vec<u8>) -> Result<(), NoMemory> {
         Ok(out.extend_from_slice(&self.to_le_bytes())?)
@@ -15,6 +19,8 @@ impl Spell for u32 {
 impl Spell for u64 {
     ghost spelling = { u64_bytes };
 
+    ghost fits = { λ n. n < 2 ^ 64 };
+
     fn put(&self, out: &mut Vec<u8>) -> Result<(), NoMemory> {
         Ok(out.extend_from_slice(&self.to_le_bytes())?)
     }
@@ -23,6 +29,8 @@ impl Spell for u64 {
 impl Spell for i32 {
     ghost spelling = { i32_bytes };
 
+    ghost fits = { FitsSigned w32 };
+
     fn put(&self, out: &mut Vec<u8>) -> Result<(), NoMemory> {
         Ok(out.extend_from_slice(&self.to_le_bytes())?)
     }
@@ -30,6 +38,8 @@ impl Spell for i32 {
 
 impl Spell for i64 {
     ghost spelling = { i64_bytes };
+
+    ghost fits = { FitsSigned w64 };
 
     fn put(&self, out: &mut Vec<u8>) -> Result<(), NoMemory> {
         Ok(out.extend_from_slice(&self.to_le_bytes())?)

@@ -1,5 +1,7 @@
 //! Blocks, pieces, contexts and arcs, as the file spells them.
-ghost use Rattle.road_model.specs.Format.{name_bytes, place_bytes, arc_bytes, context_bytes, piece_bytes, block_bytes, IsContextForm, IsPieceForm, IsBlockForm};
+ghost use Rattle.std.specs.Prelude.{◌<◌, ◌^◌, FitsSigned};
+ghost use Rattle.std.specs.Int.{w64};
+ghost use Rattle.road_model.specs.Format.{name_bytes, place_bytes, arc_bytes, context_bytes, piece_bytes, block_bytes, IsContextForm, IsPieceForm, IsBlockForm, NameFits, ContextFits, PieceFits, BlockFits};
 
 use crate::spelling::{Spell, put_all};
 use road_base::NoMemory;
@@ -7,6 +9,8 @@ use road_model::{Block, Context, Piece, PieceName, Place, TurnArc};
 
 impl Spell for PieceName {
     ghost spelling = { name_bytes };
+
+    ghost fits = { NameFits };
 
     fn put(&self, out: &mut Vec<u8>) -> Result<(), NoMemory> {
         self.way.0.put(out)?;
@@ -18,6 +22,8 @@ impl Spell for PieceName {
 impl Spell for Place {
     ghost spelling = { place_bytes };
 
+    ghost fits = { λ x. FitsSigned w64 x.node.0 };
+
     fn put(&self, out: &mut Vec<u8>) -> Result<(), NoMemory> {
         self.node.0.put(out)?;
         self.location.lon.put(out)?;
@@ -27,6 +33,8 @@ impl Spell for Place {
 
 impl Spell for TurnArc {
     ghost spelling = { arc_bytes };
+
+    ghost fits = { λ a. NameFits a.piece × (a.length < 2 ^ 32) };
 
     fn put(&self, out: &mut Vec<u8>) -> Result<(), NoMemory> {
         self.piece.put(out)?;
@@ -38,6 +46,8 @@ impl Spell for Context {
     ghost spelling = { context_bytes };
 
     ghost has_form = { IsContextForm };
+
+    ghost fits = { ContextFits };
 
     fn put(&self, out: &mut Vec<u8>) -> Result<(), NoMemory> {
         let before = self.before.items();
@@ -54,6 +64,8 @@ impl Spell for Piece {
 
     ghost has_form = { IsPieceForm };
 
+    ghost fits = { PieceFits };
+
     fn put(&self, out: &mut Vec<u8>) -> Result<(), NoMemory> {
         let contexts = self.contexts.items();
         self.name.index.put(out)?;
@@ -69,6 +81,8 @@ impl Spell for Block {
     ghost spelling = { block_bytes };
 
     ghost has_form = { IsBlockForm };
+
+    ghost fits = { BlockFits };
 
     fn put(&self, out: &mut Vec<u8>) -> Result<(), NoMemory> {
         let pieces = self.pieces.items();
