@@ -16,7 +16,8 @@ use road_model::{
 };
 use std::alloc::Global;
 
-/// The blocks of a town's streets. Each node and each piece is looked up a fixed number of times.
+/// The blocks of a town's streets. Time grows as n log n with the number n of nodes that the streets pass, and with the
+/// number of arcs.
 pub fn build_blocks(alloc: Global, town: &Town) -> Result<Blocks, NoMemory>
     ensures { IfOk result (λ blocks. values blocks.map ≡ plain_blocks (get town.now.locations) town.now.streets) }
 {
