@@ -1,5 +1,5 @@
 -- How a run ends, from how it read and put.
-use Rattle.std.proofs.Common.{◌≡◌, ◌⊎◌, ◌^◌, ◌<◌, ◌≤◌, ℕ, List, [], ◌∷◌, ◌++◌, length, Option, None, Some, inl, inr, refl, sym, ◌∙◌, subst, arith}
+use Rattle.std.proofs.Common.{◌≡◌, ◌⊎◌, ◌^◌, ◌≤◌, ℕ, List, [], ◌++◌, length, Option, None, Some, inl, inr, refl, sym, ◌∙◌, subst, arith}
 use Rattle.std.proofs.lemmas.List.{append-nil}
 use Rattle.std.specs.Prelude.{unwrap_or}
 use Rattle.road_base.specs.declared.event.Event.{Event}
@@ -10,7 +10,7 @@ use Rattle.osmroad.specs.declared.status.Status.TheVariants.{Done, Usage, ReadFa
 use Rattle.osmroad.specs.PlainForm.{IsPlainForm}
 use Rattle.osmroad.specs.PlainMap.{IsBuilt}
 use Rattle.osmroad.specs.Input.{Took}
-use Rattle.osmroad.specs.Run.{IsCompile, IsUnbuilt, Gives, OfOtherWords, OfTooMuch, OfUnbuilt, OfExtract, Grows, GrowsInto, EndsPut, PutsAll, PutsFront, EndsWith, Left, Reads, Ends}
+use Rattle.osmroad.specs.Run.{IsCompile, Gives, OfOtherWords, OfTooMuch, OfUnbuilt, OfExtract, Grows, EndsPut, PutsAll, EndsWith, Left, Reads, Ends}
 
 -- ---- what was read
 

@@ -1,14 +1,12 @@
 -- What the parts of the plain program make of an extract.
 use Rattle.std.proofs.Common.{◌≡◌, ℕ, List, map, ◌∙◌, sym, subst, ap}
-use Rattle.std.specs.Prelude.{IsTrue, Contains}
+use Rattle.std.specs.Prelude.{Contains}
 use Rattle.std.specs.List.{AllByRecursion}
 use Rattle.std.specs.FinMap.{empty, get, from_entries}
 use Rattle.road_base.specs.declared.event.Event.{Event}
 use Rattle.road_base.specs.Objects.{Objects}
 use Rattle.road_base.specs.Applying.{IsApplied, entry_of}
 use Rattle.road_model.specs.declared.blocks.Block.{Block}
-use Rattle.road_model.specs.Orders.{rises, way_cmp}
-use Rattle.road_model.specs.Blocks.{IsRoadBlock}
 use Rattle.road_model.specs.Format.{IsBlockForm, graph_bytes}
 use Rattle.road_model.specs.Naming.{OnePiece, OneEntry}
 use Rattle.osmroad.specs.PlainForm.{IsPlainForm}

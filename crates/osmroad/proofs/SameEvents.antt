@@ -1,6 +1,6 @@
 -- Locations and events with equal parts are equal.
 use Rattle.std.specs.Prelude.{◌≡◌, ℕ, ℤ, IsTrue}
-use Rattle.std.proofs.Common.{ap, sym, ◌∙◌, subst}
+use Rattle.std.proofs.Common.{ap, ◌∙◌, subst}
 use mathlib.Core.Bool.{Bool-set}
 use Rattle.road_base.specs.declared.ids.Key.{Key}
 use Rattle.road_base.specs.declared.location.Location.{Location}

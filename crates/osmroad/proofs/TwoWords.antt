@@ -1,5 +1,5 @@
 -- Lists of two words.
-use Rattle.std.proofs.Common.{◌≡◌, ◌↔◌, ℕ, List, [], ◌∷◌, length, map, get_or, Bor, arith, refl}
+use Rattle.std.proofs.Common.{◌≡◌, ◌↔◌, ℕ, List, [], ◌∷◌, length, map, get_or, Bor, arith}
 
 pub two_words : (ws : List (Bor (List ℕ))) (a b : List ℕ) (d : Bor (List ℕ)) → length ws ≡ 2 → map (λ w. w.now) ws ≡ a ∷ b ∷ [] ↔ (((get_or ws 0 d).now ≡ a) × ((get_or ws 1 d).now ≡ b))
 two_words [] a b d e = absurd (omega arith)

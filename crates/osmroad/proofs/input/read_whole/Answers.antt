@@ -1,4 +1,4 @@
-use Rattle.std.proofs.Common.{◌≡◌, ◌≤◌, ◌<◌, ◌++◌, length, take, List, ℕ, arith, ap, sym, ◌∙◌, subst, refl}
+use Rattle.std.proofs.Common.{◌≡◌, ◌<◌, ◌++◌, length, take, List, ℕ, arith, sym, subst, refl}
 use Rattle.std.proofs.lemmas.Grind.{common_steps}
 use Rattle.osmroad.specs.Input.{Took}
 use Rattle.osmroad.proofs.SourceReading.{took_nothing, took_more, took_still, took_all, rose_since}

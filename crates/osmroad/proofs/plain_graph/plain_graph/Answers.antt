@@ -1,4 +1,4 @@
-use Rattle.std.proofs.Common.{◌≡◌, ◌++◌, List, ℕ, sym, ◌∙◌, ap, subst}
+use Rattle.std.proofs.Common.{◌≡◌, ◌++◌, List, ℕ, ◌∙◌, ap, subst}
 use Rattle.std.specs.FinMap.{values}
 use Rattle.road_base.specs.declared.event.Event.{Event}
 use Rattle.road_model.specs.Format.{graph_bytes}

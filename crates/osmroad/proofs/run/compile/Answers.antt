@@ -1,4 +1,4 @@
-use Rattle.std.proofs.Common.{◌≡◌, ◌++◌, [], List, ℕ, refl, sym, subst, arith, length-append}
+use Rattle.std.proofs.Common.{◌++◌, [], List, ℕ, refl, sym, subst, arith, length-append}
 use Rattle.std.proofs.lemmas.List.{append-nil}
 use Rattle.osmroad.specs.declared.status.Status.TheVariants.{Done, Limit, Unbuilt}
 use Rattle.osmroad.specs.Run.{IsCompiled, OfTooMuch, OfUnbuilt, OfExtract, limit_line, unbuilt_line}

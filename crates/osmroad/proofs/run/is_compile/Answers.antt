@@ -1,4 +1,4 @@
-use Rattle.std.proofs.Common.{◌≡◌, ◌↔◌, Bool, true, false, not, ℕ, List, [], ◌∷◌, get_or, length, sym, ◌∙◌, refl}
+use Rattle.std.proofs.Common.{◌≡◌, Bool, true, false, not, [], ◌∷◌, sym, ◌∙◌, refl}
 use Rattle.std.specs.Cmp.Lexicographic.{bytes_decides}
 use Rattle.osmroad.proofs.TwoWords.{two_words}
 use Rattle.osmroad.proofs.run.is_compile.Goals as goal

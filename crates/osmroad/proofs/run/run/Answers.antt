@@ -1,4 +1,4 @@
-use Rattle.std.proofs.Common.{◌≡◌, [], List, ℕ, map, refl, sym, ◌∙◌}
+use Rattle.std.proofs.Common.{[], map, refl}
 use Rattle.osmroad.specs.declared.status.Status.TheVariants.{Usage}
 use Rattle.osmroad.specs.Run.{IsCompile, OfOtherWords, usage_line}
 use Rattle.osmroad.proofs.Ending.{behind_of, held_part, left_behind, ends_put, completes}
