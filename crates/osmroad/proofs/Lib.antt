@@ -7,8 +7,6 @@ pub mod Members
 pub mod PlainObjects
 pub mod Lines
 pub mod TownRoads
-pub mod Reading
-pub mod Decimals
 pub mod SourceReading
 pub mod TwoWords
 pub mod Ending

@@ -12,7 +12,7 @@ use Rattle.road_base.specs.declared.location.Location.{Location}
 use Rattle.road_base.specs.declared.objects.Body.TheVariants.{Node as NodeBody, Way as WayBody}
 use Rattle.road_base.specs.declared.event.Event.{Event}
 use Rattle.osmroad.specs.Fields.{IsFieldBehind, AreRefs}
-use Rattle.osmroad.specs.Numbers.{magnitude, whole_value, IsCoordinate}
+use Rattle.opl_lexer.specs.Numbers.{magnitude, whole_value, IsCoordinate}
 use Rattle.osmroad.specs.PlainForm.{is_letter, IsWhole, IsNodeLine, IsWayLine, IsPlainLine, NodeLine, WayLine}
 use Rattle.osmroad.proofs.FieldCuts.{one_field}
 use Rattle.osmroad.proofs.Spaces.{no_space_whole, no_space_coordinate, no_space_letters}

@@ -8,10 +8,9 @@ use Rattle.road_base.specs.declared.ids.Key.TheVariants.{Node as NodeKey, Way as
 use Rattle.road_base.specs.declared.location.Location.{Location}
 use Rattle.road_base.specs.declared.objects.Body.TheVariants.{Node as NodeBody, Way as WayBody}
 use Rattle.road_base.specs.declared.event.Event.{Event}
-use Rattle.osmroad.specs.Numbers.{magnitude, signed, IsCoordinate}
+use Rattle.opl_lexer.specs.Numbers.{IsCoordinate}
 use Rattle.osmroad.specs.PlainEvents.{IsPlainEvent, NodeEvent, WayEvent}
 use Rattle.osmroad.specs.PlainForm.{split, lines, without_return, IsWhole, IsRef, IsNodeLine, IsWayLine, IsPlainLine, NodeLine, WayLine, IsPlainForm}
-use Rattle.osmroad.proofs.Decimals.{IsDegrees-unique}
 use Rattle.osmroad.proofs.LineCuts.{Reads}
 use Rattle.osmroad.proofs.Pairing.{one_pairing}
 use Rattle.osmroad.proofs.PlainLines.{node_number, node_x, node_y, way_number, way_value, way_refs, same_tail}
@@ -22,8 +21,9 @@ use Rattle.osmroad.proofs.SameEvents.{same_location, same_event}
 one_whole : (bs : List ℕ) (y z : ℤ) → IsWhole bs y → IsWhole bs z → y ≡ z
 one_whole bs y z a b = a.worth ∙ sym b.worth
 
-one_coordinate : (bs : List ℕ) (y z : ℤ) → IsCoordinate bs y → IsCoordinate bs z → y ≡ z
-one_coordinate bs y z a b = a.sign ∙ (ap (signed bs) (IsDegrees-unique (magnitude bs) a.size b.size a.degrees b.degrees) ∙ sym b.sign)
+-- a text spells at most one coordinate
+abbrev pub OneCoordinate : Type 0
+OneCoordinate = (bs : List ℕ) (y z : ℤ) → IsCoordinate bs y → IsCoordinate bs z → y ≡ z
 
 one_node_id : (bs : List ℕ) (m n : NodeId) → IsWhole bs m.0 → IsWhole bs n.0 → m ≡ n
 one_node_id bs m n a b = ap (λ (z : ℤ). record { 0 = z }) (one_whole bs m.0 n.0 a b)
@@ -38,8 +38,8 @@ one_ref text m n a b =
 
 -- ---- lines
 
-one_node : (line : List ℕ) (e d : Event) → IsNodeLine line e → IsNodeLine line d → e ≡ d
-one_node line e d n m =
+one_node : OneCoordinate → (line : List ℕ) (e d : Event) → IsNodeLine line e → IsNodeLine line d → e ≡ d
+one_node one_coordinate line e d n m =
     let first = node_number line e n in
     let second = (node_x line e n n.number (120 ∷ (n.x ++ (32 ∷ 121 ∷ n.y))) first).1 in
     let number = (node_x line d m n.number (120 ∷ (n.x ++ (32 ∷ 121 ∷ n.y))) first).0 in
@@ -78,11 +78,11 @@ node_no_way : (line : List ℕ) (e d : Event) → IsNodeLine line e → IsWayLin
 node_no_way line e d n w =
     heads_apart 110 119 (n.number ++ (32 ∷ 120 ∷ (n.x ++ (32 ∷ 121 ∷ n.y)))) (w.number ++ (codes " Thighway=" ++ (w.value ++ (32 ∷ 78 ∷ w.refs)))) (omega arith) (sym n.written ∙ w.written)
 
-one_line : (line : List ℕ) (e d : Event) → IsPlainLine line e → IsPlainLine line d → e ≡ d
-one_line line e d (NodeLine n) (NodeLine m) = one_node line e d n m
-one_line line e d (NodeLine n) (WayLine w) = absurd (node_no_way line e d n w)
-one_line line e d (WayLine w) (NodeLine n) = absurd (node_no_way line d e n w)
-one_line line e d (WayLine w) (WayLine v) = one_way line e d w v
+one_line : OneCoordinate → (line : List ℕ) (e d : Event) → IsPlainLine line e → IsPlainLine line d → e ≡ d
+one_line one line e d (NodeLine n) (NodeLine m) = one_node one line e d n m
+one_line one line e d (NodeLine n) (WayLine w) = absurd (node_no_way line e d n w)
+one_line one line e d (WayLine w) (NodeLine n) = absurd (node_no_way line d e n w)
+one_line one line e d (WayLine w) (WayLine v) = one_way line e d w v
 
 plain_event : (line : List ℕ) (e : Event) → IsPlainLine line e → IsPlainEvent e
 plain_event line e (NodeLine n) = NodeEvent (record { id = n.id; location = n.location; key = n.key; version = n.version; body = n.body })
@@ -97,8 +97,8 @@ events_of_lines (l ∷ ls) (e ∷ es) pairs = (plain_event (without_return l) e 
 -- ---- extracts
 
 -- an extract in plain form has one list of events
-pub one_reading : (bytes : List ℕ) (a b : List Event) → IsPlainForm bytes a → IsPlainForm bytes b → a ≡ b
-one_reading bytes a b p q = one_pairing Reads (λ line e d. one_line (without_return line) e d) (lines bytes) a b p q
+pub one_reading : OneCoordinate → (bytes : List ℕ) (a b : List Event) → IsPlainForm bytes a → IsPlainForm bytes b → a ≡ b
+one_reading one bytes a b p q = one_pairing Reads (λ line e d. one_line one (without_return line) e d) (lines bytes) a b p q
 
 -- each of its events is a plain one
 pub plain_events : (bytes : List ℕ) (events : List Event) → IsPlainForm bytes events → AllByRecursion IsPlainEvent events

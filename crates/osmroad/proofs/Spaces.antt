@@ -1,17 +1,17 @@
--- Values of a plain line have no space in them.
+-- Values of a plain line have no space in them, and are UTF-8.
 use Rattle.std.specs.Prelude.{◌≡◌, ◌==◌, ◌<◌, ◌≤◌, ℕ, ℤ, List, [], ◌∷◌, Bool, true, false, cond, IsTrue, refl}
 use Rattle.std.specs.List.{list_all}
-use Rattle.std.specs.Str.Parse.{AllDigits}
+use Rattle.std.specs.Str.Parse.{AllDigits, IsNumeral}
 use Rattle.std.proofs.Common.{arith}
 use Rattle.std.proofs.lemmas.Bool.Decides.{nat_tests}
 use Rattle.std.proofs.lemmas.List.Elements.{All-nil, All-cons, All-append}
 use Rattle.std.specs.Str.{IsAscii, IsUtf8}
-use Rattle.std.proofs.lemmas.Str.{IsUtf8-from_ascii}
+use Rattle.std.proofs.lemmas.Str.{IsUtf8-from_ascii, IsAscii-append}
 use Rattle.std.proofs.lemmas.Str.Ascii.{IsAscii-nil, IsAscii-cons}
 use Rattle.std.proofs.lemmas.Str.Parse.{digit_from_value}
 use Rattle.std.specs.Cmp.{first_so, second_so}
 use Rattle.osmroad.specs.Fields.{Lacks}
-use Rattle.osmroad.specs.Numbers.{magnitude, fraction, IsDecimal, IsCoordinate}
+use Rattle.opl_lexer.specs.Numbers.{magnitude, fraction, IsDecimal, IsCoordinate}
 use Rattle.osmroad.specs.PlainForm.{is_letter, IsWhole}
 
 not_space : (c : ℕ) → 33 ≤ c → (c == 32) ≡ false
@@ -69,3 +69,32 @@ letters_ascii (b ∷ bs) all = IsAscii-cons b bs (letter_ascii b (first_so _ _ a
 
 pub letters_utf8 : (bs : List ℕ) → IsTrue (list_all is_letter bs) → IsUtf8 bs
 letters_utf8 bs all = IsUtf8-from_ascii bs (letters_ascii bs all)
+
+-- so do numbers and coordinates
+digits_ascii : (ds : List ℕ) → AllDigits 10 ds → IsAscii ds
+digits_ascii [] all = IsAscii-nil
+digits_ascii (c ∷ cs) all =
+    let range = digit_from_value c all.0 in
+    IsAscii-cons c cs (omega (arith, range.1)) (digits_ascii cs all.1)
+
+signed_ascii : (b : ℕ) (bs : List ℕ) (minus : Bool) → (b == 45) ≡ minus → IsAscii (cond minus bs (b ∷ bs)) → IsAscii (b ∷ bs)
+signed_ascii b bs true e ascii = IsAscii-cons b bs (grind (arith, nat_tests)) ascii
+signed_ascii b bs false e ascii = ascii
+
+magnitude_ascii : (bs : List ℕ) → IsAscii (magnitude bs) → IsAscii bs
+magnitude_ascii [] ascii = IsAscii-nil
+magnitude_ascii (b ∷ bs) ascii = signed_ascii b bs (b == 45) refl ascii
+
+pub numeral_utf8 : (bs : List ℕ) → IsNumeral 10 (magnitude bs) → IsUtf8 bs
+numeral_utf8 bs n = IsUtf8-from_ascii bs (magnitude_ascii bs (digits_ascii (magnitude bs) n.1))
+
+fraction_ascii : (behind : List ℕ) → AllDigits 10 behind → IsAscii (fraction behind)
+fraction_ascii [] all = IsAscii-nil
+fraction_ascii (d ∷ ds) all = IsAscii-cons 46 (d ∷ ds) (omega arith) (digits_ascii (d ∷ ds) all)
+
+decimal_ascii : (bs front behind : List ℕ) → IsDecimal bs front behind → IsAscii bs
+decimal_ascii bs front behind d =
+    rw d.written (IsAscii-append front (fraction behind) (digits_ascii front d.before.1) (fraction_ascii behind d.after))
+
+pub coordinate_utf8 : (bs : List ℕ) (z : ℤ) → IsCoordinate bs z → IsUtf8 bs
+coordinate_utf8 bs z k = IsUtf8-from_ascii bs (magnitude_ascii bs (decimal_ascii (magnitude bs) k.degrees.front k.degrees.behind k.degrees.decimal))

@@ -9,7 +9,7 @@ use Rattle.road_base.specs.declared.ids.Key.TheVariants.{Node as NodeKey, Way as
 use Rattle.road_base.specs.declared.location.Location.{Location}
 use Rattle.road_base.specs.declared.objects.Body.TheVariants.{Node as NodeBody, Way as WayBody}
 use Rattle.road_base.specs.declared.event.Event.{Event}
-use Rattle.osmroad.specs.Numbers.{magnitude, whole_value, IsCoordinate}
+use Rattle.opl_lexer.specs.Numbers.{magnitude, whole_value, IsCoordinate}
 
 -- ---- lines
 

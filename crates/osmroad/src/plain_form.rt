@@ -9,6 +9,7 @@ ghost use Rattle.osmroad.specs.PlainForm.{lines, without_return, IsPlainForm};
 
 use crate::fields::cut;
 use crate::plain_line::plain_line;
+use opl_lexer::laws::one_coordinate;
 use road_base::{Event, NoMemory};
 use std::alloc::Global;
 
@@ -52,6 +53,7 @@ pub fn plain_events(alloc: Global, bytes: &[u8]) -> Result<Option<Vec<Event>>, N
         events.push(event)?;
         rest = behind;
     }
+    one_coordinate();
     Ok(Some(events))
 }
 

@@ -4,7 +4,7 @@ ghost use Rattle.std.specs.List.{list_all, AllZip};
 ghost use Rattle.road_base.specs.declared.ids.NodeId.{NodeId};
 ghost use Rattle.road_base.specs.declared.location.Location.{Location};
 ghost use Rattle.road_base.specs.declared.event.Event.{Event};
-ghost use Rattle.osmroad.specs.Numbers.{IsCoordinate};
+ghost use Rattle.opl_lexer.specs.Numbers.{IsCoordinate};
 ghost use Rattle.osmroad.specs.PlainForm.{split, is_letter, IsRef, IsNodeLine, IsWayLine, IsPlainLine};
 ghost use Rattle.osmroad.specs.Fields.{AreRefs, other_pieces};
 

@@ -19,7 +19,7 @@ loop-line-preserved c =
 pub returns-clause-only : goal.returns-clause-only
 returns-clause-only c = λ others plain.
     let paired = rw c.in_default.ensures.none at c.loop-line.invariant in
-    one_reading c.args.bytes.now others c.loop-line.events.items plain (paired_all Reads (lines c.args.bytes.now) c.loop-line.events.items paired)
+    one_reading c.one_coordinate.ensures c.args.bytes.now others c.loop-line.events.items plain (paired_all Reads (lines c.args.bytes.now) c.loop-line.events.items paired)
 
 pub returns-clause-plain : goal.returns-clause-plain
 returns-clause-plain c =

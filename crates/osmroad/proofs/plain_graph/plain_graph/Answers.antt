@@ -1,10 +1,10 @@
-use Rattle.std.proofs.Common.{◌≡◌, ◌++◌, List, ℕ, ◌∙◌, ap, subst}
+use Rattle.std.proofs.Common.{◌≡◌, ◌++◌, List, ℕ, sym, ◌∙◌, ap, subst}
 use Rattle.std.specs.FinMap.{values}
 use Rattle.road_base.specs.declared.event.Event.{Event}
 use Rattle.road_model.specs.Format.{graph_bytes}
 use Rattle.osmroad.specs.PlainForm.{IsPlainForm}
 use Rattle.osmroad.specs.PlainMap.{IsBuilt}
-use Rattle.osmroad.proofs.PlainReading.{plain_events, one_reading}
+use Rattle.osmroad.proofs.PlainReading.{plain_events}
 use Rattle.osmroad.proofs.PlainCompiled.{objects_of, versions, blocks_form, compiled}
 use Rattle.osmroad.proofs.plain_graph.plain_graph.Goals as goal
 
@@ -15,9 +15,8 @@ town_of-requires c =
 
 pub returns-in_default-2-clause-none : goal.returns-in_default-2-clause-none
 returns-in_default-2-clause-none c = λ events form built.
-    let read = rw c.in-Some.is at c.in_ok-events.ensures.some in
-    let here : IsPlainForm c.args.bytes.items c.in-Some.events.items = subst (λ (l : List ℕ). IsPlainForm l c.in-Some.events.items) c.deref.ensures.value read in
-    let same = one_reading c.args.bytes.items events c.in-Some.events.items form here in
+    let only = rw c.in-Some.is at c.in_ok-events.ensures.only in
+    let same = only events (subst (λ (l : List ℕ). IsPlainForm l events) (sym c.deref.ensures.value) form) in
     let none = rw c.in_default-2.is at c.in_ok-town.ensures.none in
     none (subst (λ (l : List Event). IsBuilt l) same built)
 

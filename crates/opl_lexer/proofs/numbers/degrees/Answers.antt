@@ -1,7 +1,7 @@
 use Rattle.std.proofs.Common.{arith, rules, ◌≡◌, ◌+◌, ◌<◌, ◌≤◌, ◌*◌, ◌^◌, length, take, drop, slice_index, ◌∙◌, ap, ℕ}
 use Rattle.std.specs.Str.Parse.{IsNumeral, digits_value}
-use Rattle.osmroad.proofs.Decimals.{IsRun, cut_from_degrees, fraction-first, fraction-rest}
-use Rattle.osmroad.proofs.numbers.degrees.Goals as goal
+use Rattle.opl_lexer.proofs.Decimals.{IsRun, cut_from_degrees, fraction-first, fraction-rest}
+use Rattle.opl_lexer.proofs.numbers.degrees.Goals as goal
 
 -- more than a thousand degrees
 large : (v n m : ℕ) → n ≡ v * 10 ^ 7 + m → 1000 < v → 10010000000 ≤ n

@@ -2,7 +2,7 @@
 use Rattle.std.specs.Prelude.{◌≡◌, ◌≤◌, ◌<◌, ◌-◌, ◌*◌, ◌^◌, ◌++◌, ℕ, zero, suc, List, [], ◌∷◌, take, drop, length, slice_index, refl, Bool, true, false, cond, ℤ, pos, neg_ℤ, nat_abs, Option, Some, None, SomeIff}
 use Rattle.std.specs.Char.{digit_value}
 use Rattle.std.specs.Str.Parse.{AllDigits, IsNumeral, digits_value, starts_with_minus}
-use Rattle.osmroad.specs.Numbers.{magnitude, signed, fraction, units, IsDegrees, IsCoordinate}
+use Rattle.opl_lexer.specs.Numbers.{magnitude, signed, fraction, units, IsDegrees, IsCoordinate}
 use Rattle.std.proofs.Common.{arith, sym, ◌∙◌, ap}
 use Rattle.std.proofs.lemmas.List.{take_at, drop_at}
 use Rattle.std.proofs.lemmas.Str.Parse.{digits_value_short, numerals_by_value, tells_digits}
@@ -146,3 +146,7 @@ pub IsCoordinate-minus : (bs : List ℕ) (n : ℕ) → starts_with_minus bs ≡ 
 IsCoordinate-minus bs n minus d =
     let sign : signed bs n ≡ neg_ℤ (pos n) = rw minus refl in
     record { size = n; degrees = d; sign = sym sign }
+
+-- a text spells one coordinate
+pub IsCoordinate-unique : (bs : List ℕ) (y z : ℤ) → IsCoordinate bs y → IsCoordinate bs z → y ≡ z
+IsCoordinate-unique bs y z a b = a.sign ∙ (ap (signed bs) (IsDegrees-unique (magnitude bs) a.size b.size a.degrees b.degrees) ∙ sym b.sign)

@@ -1,7 +1,7 @@
 use Rattle.std.proofs.Common.{arith, rules, ◌<◌, ◌^◌, length}
 use Rattle.std.specs.Str.Parse.{digits_value}
-use Rattle.osmroad.proofs.Reading.{HasRead-digit, HasRead-least, HasRead-end}
-use Rattle.osmroad.proofs.numbers.digits.Goals as goal
+use Rattle.opl_lexer.proofs.Reading.{HasRead-digit, HasRead-least, HasRead-end}
+use Rattle.opl_lexer.proofs.numbers.digits.Goals as goal
 
 -- no digit, or a number that is too large already
 pub returns-in_default : goal.returns-in_default
