@@ -1,4 +1,7 @@
 //! What can be wrong in a line of OPL.
+ghost use Rattle.std.specs.Prelude.{◌≡◌};
+ghost use Rattle.opl_lexer.specs.declared.fault.LexError.TheVariants.{NoMemory};
+
 use std::alloc::{AllocError, AllocFailed};
 
 /// The kinds of faults of a line.
@@ -42,12 +45,16 @@ pub enum LexError {
 }
 
 impl From<AllocError> for LexError {
+    ghost from_gives = { λ _ e. e ≡ NoMemory };
+
     fn from(_error: AllocError) -> LexError {
         LexError::NoMemory
     }
 }
 
 impl<T: Drop> From<AllocFailed<T>> for LexError {
+    ghost from_gives = { λ _ e. e ≡ NoMemory };
+
     fn from(_error: AllocFailed<T>) -> LexError {
         LexError::NoMemory
     }

@@ -1,12 +1,16 @@
-//! The numbers and coordinates that the fields of a line of OPL hold.
+//! The fields of a line of OPL, and the numbers, coordinates and texts that fields hold.
 //!
-//! The format is the one that osmium's OPL File Format Manual describes. Every call takes time linear in its
-//! text, and none takes memory.
+//! The format is the one that osmium's OPL File Format Manual describes. Every call takes time linear in its text, and
+//! only `unescape` takes memory, for what it appends.
 #![tactic(auto)]
 
+mod escapes;
 mod fault;
+mod field_iter;
 pub mod laws;
 mod numbers;
 
+pub use escapes::unescape;
 pub use fault::{FaultKind, LexError};
+pub use field_iter::{FieldIter, fields};
 pub use numbers::{coordinate, version, whole};
