@@ -1,5 +1,5 @@
 -- Fields, taken off a line one by one.
-use Rattle.std.specs.Prelude.{◌≡◌, ◌<◌, ◌≤◌, ◌+◌, ◌++◌, ℕ, zero, suc, List, [], ◌∷◌, true, false, All, take, drop, length, slice_index, refl, nat_lt, ◌⊎◌}
+use Rattle.std.specs.Prelude.{◌≡◌, ◌<◌, ◌≤◌, ◌+◌, ◌++◌, ℕ, zero, suc, List, [], ◌∷◌, true, false, All, take, drop, length, slice_index, refl}
 use Rattle.std.specs.List.{slice_split, filter}
 use Rattle.std.specs.Str.{IsUtf8, IsCharBoundary}
 use Rattle.std.proofs.Common.{arith, sym, ◌∙◌, ap, inl, inr, add-one}

@@ -1,5 +1,5 @@
 -- Texts with escapes: `%h%` stands for the character whose code is h. (OPL File Format Manual.)
-use Rattle.std.specs.Prelude.{◌≡◌, ◌++◌, [], ◌∷◌, ◌&&◌, ℕ, List, Bool, cond, nat_lt, nat_le, length, Option, Some, None}
+use Rattle.std.specs.Prelude.{◌++◌, [], ◌∷◌, ◌&&◌, ℕ, List, Bool, cond, nat_lt, nat_le, length, Option, Some, None}
 use Rattle.std.specs.Char.{digit_value, encode_utf8}
 use Rattle.std.specs.List.{list_all}
 use Rattle.std.specs.Str.{all_scalars}

@@ -14,3 +14,6 @@ pub use escapes::unescape;
 pub use fault::{FaultKind, LexError};
 pub use field_iter::{FieldIter, fields};
 pub use numbers::{coordinate, version, whole};
+
+#[cfg(test)]
+mod tests;

@@ -1,19 +1,11 @@
 -- Bytes, cut at the first place where one of them stands.
-use Rattle.std.specs.Prelude.{◌≡◌, ◌==◌, ◌≤◌, ◌++◌, [], ◌∷◌, ℕ, List, All, length, false, Option, Some, None}
+use Rattle.std.specs.Prelude.{◌≡◌, ◌≤◌, ◌++◌, [], ◌∷◌, ℕ, List, length, Option, Some, None}
 use Rattle.std.specs.List.{AllZip}
+pub use Rattle.opl_lexer.specs.Pieces.{Lacks, IsCutAt}
 use Rattle.road_base.specs.declared.ids.NodeId.{NodeId}
 use Rattle.osmroad.specs.PlainForm.{split, IsRef}
 
--- the byte stands nowhere among these
-abbrev pub Lacks : ℕ → List ℕ → Type 0
-Lacks stop bs = All (λ b. (b == stop) ≡ false) bs
-
--- the front ends at the first such byte, and the rest stands behind it
-pub record IsCutAt (stop : ℕ) (bs front rest : List ℕ) : Type 0 where
-  pub written : bs ≡ front ++ (stop ∷ rest)
-  pub first : Lacks stop front
-
--- the same behind a prefix, at a space
+-- behind a prefix, the front ends at the first space, and the rest stands behind it
 pub record IsFieldBehind (prefix bs front rest : List ℕ) : Type 0 where
   pub written : bs ≡ prefix ++ (front ++ (32 ∷ rest))
   pub first : Lacks 32 front

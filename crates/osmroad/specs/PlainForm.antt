@@ -1,7 +1,7 @@
 -- The plain form of an extract: each line a node with its place, or a way with the one tag `highway`.
 use Rattle.std.specs.Prelude.{◌≡◌, ℕ, ℤ, ◌≤◌, ◌-◌, ◌==◌, ◌&&◌, ◌||◌, nat_le, List, [], ◌∷◌, ◌++◌, Bool, cond, length, take, slice_index, IsTrue, Some, codes, FitsSigned}
 use Rattle.std.specs.Int.{w64}
-use Rattle.std.specs.List.{list_all, slice_split, AllZip}
+use Rattle.std.specs.List.{list_all, AllZip}
 use Rattle.std.specs.Str.Parse.{IsNumeral}
 use Rattle.road_base.specs.declared.ids.NodeId.{NodeId}
 use Rattle.road_base.specs.declared.ids.WayId.{WayId}
@@ -9,13 +9,10 @@ use Rattle.road_base.specs.declared.ids.Key.TheVariants.{Node as NodeKey, Way as
 use Rattle.road_base.specs.declared.location.Location.{Location}
 use Rattle.road_base.specs.declared.objects.Body.TheVariants.{Node as NodeBody, Way as WayBody}
 use Rattle.road_base.specs.declared.event.Event.{Event}
+pub use Rattle.opl_lexer.specs.Pieces.{pieces as split}
 use Rattle.opl_lexer.specs.Numbers.{magnitude, whole_value, IsCoordinate}
 
 -- ---- lines
-
--- the pieces between the bytes that stop: always one more than these
-abbrev pub split : ℕ → List ℕ → List (List ℕ)
-split stop bs = slice_split (λ b. b == stop) bs
 
 -- all but an empty last piece
 unfoldable pub ended : List (List ℕ) → List (List ℕ)

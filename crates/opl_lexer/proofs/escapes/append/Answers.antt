@@ -1,6 +1,6 @@
-use Rattle.std.proofs.Common.{rules, ◌≡◌, ◌++◌, ◌∙◌, ap}
+use Rattle.std.proofs.Common.{rules}
 use Rattle.std.specs.String.{string_bytes}
-use Rattle.opl_lexer.proofs.Unescaping.{HasRead, HasRead-start, HasRead-more, HasRead-end, HasRead-bad, open_escape, bad_escape}
+use Rattle.opl_lexer.proofs.Unescaping.{HasRead-start, HasRead-more, HasRead-end, HasRead-bad, open_escape, bad_escape}
 use Rattle.opl_lexer.proofs.escapes.append.Goals as goal
 
 pub loop-front-init : goal.loop-front-init

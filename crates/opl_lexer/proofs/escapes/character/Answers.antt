@@ -1,6 +1,6 @@
-use Rattle.std.proofs.Common.{◌≡◌, ◌≤◌, length, true, IsTrue}
+use Rattle.std.proofs.Common.{◌≡◌, true, IsTrue}
 use lib.Utf8.{scalar}
-use Rattle.std.specs.Str.Parse.{IsNumeral, digits_value}
+use Rattle.std.specs.Str.Parse.{digits_value}
 use Rattle.opl_lexer.specs.Escapes.{is_code}
 use Rattle.opl_lexer.proofs.Decimals.{SomeIff-change}
 use Rattle.opl_lexer.proofs.Codes.{code_parts, code_from_parts}

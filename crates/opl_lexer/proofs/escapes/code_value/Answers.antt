@@ -1,4 +1,4 @@
-use Rattle.std.proofs.Common.{◌≡◌, ◌==◌, true, false, slice_index, sym, ◌∙◌}
+use Rattle.std.proofs.Common.{◌≡◌, ◌==◌, false, slice_index, sym, ◌∙◌}
 use Rattle.opl_lexer.proofs.Codes.{code_read}
 use Rattle.opl_lexer.proofs.escapes.code_value.Goals as goal
 

@@ -1,4 +1,4 @@
-use Rattle.std.proofs.Common.{arith, ◌≡◌, ◌<◌, length, slice_index, sym, ◌∙◌, ap}
+use Rattle.std.proofs.Common.{arith}
 use Rattle.std.proofs.lemmas.Str.{IsCharBoundary-after_ascii}
 use Rattle.opl_lexer.proofs.Cuts.{found_cut, found_place}
 use Rattle.opl_lexer.proofs.escapes.cut.Goals as goal
