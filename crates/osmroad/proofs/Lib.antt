@@ -40,3 +40,4 @@ pub mod FieldCuts
 pub mod LineCuts
 pub mod PlainReading
 pub mod SameEvents
+pub mod OneAnswer

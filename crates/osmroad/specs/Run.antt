@@ -43,8 +43,8 @@ pub record IsCompiled (bytes out : List ℕ) : Type 0 where
 abbrev pub IsUnbuilt : List ℕ → Type 0
 IsUnbuilt bytes = (events : List Event) → IsPlainForm bytes events → IsBuilt events → ⊥
 
--- The status and the output for these words, where the source holds these bytes and nothing fails. Exactly one line of this
--- table fits.
+-- The status and the output for these words, where the source holds these bytes and nothing fails. Words and bytes determine
+-- both: the law `one_answer`.
 pub data Gives (words : List (List ℕ)) (bytes : List ℕ) (status : Status) (out : List ℕ) : Type 0 where
   OfOtherWords : (IsCompile words → ⊥) → status ≡ Usage → out ≡ usage_line → Gives words bytes status out
   OfTooMuch : IsCompile words → 2 ^ 30 < length bytes → status ≡ Limit → out ≡ limit_line → Gives words bytes status out

@@ -13,6 +13,7 @@ mod departures;
 mod fields;
 mod input;
 mod junctions;
+mod laws;
 mod numbers;
 mod plain;
 mod plain_form;
