@@ -1,8 +1,21 @@
--- Lines that are read field by field.
-use Rattle.std.specs.Prelude.{ℕ, List}
-use Rattle.opl_lexer.specs.Fields.{fields}
-use Rattle.opl_lexer.specs.declared.field_iter.FieldIter.{FieldIter}
+-- The lines of an input. (OPL File Format Manual.)
+use Rattle.std.specs.Prelude.{◌-◌, ◌==◌, ℕ, List, [], ◌∷◌, cond, length, take, slice_index}
+use Rattle.opl_lexer.specs.Pieces.{pieces}
 
--- the fields that are still to come
-abbrev pub fields_left : FieldIter → List (List ℕ)
-fields_left iter = fields iter.rest.now
+-- all but an empty last piece
+unfoldable pub ended : List (List ℕ) → List (List ℕ)
+ended [] = []
+ended ([] ∷ []) = []
+ended (line ∷ lines) = line ∷ ended lines
+
+-- each line ends at a newline, and a last one without a newline counts if it has a byte
+abbrev pub lines : List ℕ → List (List ℕ)
+lines bytes = ended (pieces 10 bytes)
+
+-- the lines that have ended, and what may still go on
+abbrev pub whole_lines : List ℕ → List (List ℕ)
+whole_lines bytes = take (length (pieces 10 bytes) - 1) (pieces 10 bytes)
+
+-- one carriage return before the end is dropped
+abbrev pub without_return : List ℕ → List ℕ
+without_return line = cond (slice_index line (length line - 1) == 13) (take (length line - 1) line) line

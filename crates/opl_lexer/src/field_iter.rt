@@ -2,7 +2,7 @@
 ghost use Rattle.std.specs.Prelude.{◌≡◌, ◌<◌, ◌≤◌, ℕ, [], ◌∷◌, length, slice_index, true, false, IfSome, IfNone};
 ghost use Rattle.std.specs.Iterator.{YieldsFirstRef, item_count};
 ghost use Rattle.opl_lexer.specs.Fields.{is_blank as is_blank_byte, fields as fields_of};
-ghost use Rattle.opl_lexer.specs.Lines.{fields_left};
+ghost use Rattle.opl_lexer.specs.Left.{fields_left};
 
 /// The fields of a line, in order.
 #[derive(Drop)]

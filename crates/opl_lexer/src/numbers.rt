@@ -1,9 +1,9 @@
 //! Numbers and coordinates, read from the text that spells them.
-ghost use Rattle.std.specs.Prelude.{◌≡◌, ◌<◌, ◌≤◌, ◌+◌, ◌-◌, ◌*◌, ◌^◌, ◌≤ℤ◌, ℕ, ℤ, pos, nat_abs, length, take, drop, slice_index, SomeIff, IfSome, IfNone, FitsSigned};
-ghost use Rattle.std.specs.Int.{w64};
+ghost use Rattle.std.specs.Prelude.{◌≡◌, ◌<◌, ◌≤◌, ◌+◌, ◌-◌, ◌*◌, ◌^◌, ℕ, length, take, drop, slice_index, Some, SomeIff, IfSome, IfNone};
 ghost use Rattle.std.specs.Char.{digit_value};
 ghost use Rattle.std.specs.Str.Parse.{IsNumeral, digits_value, starts_with_minus};
-ghost use Rattle.opl_lexer.specs.Numbers.{magnitude, whole_value, IsDegrees, IsCoordinate};
+ghost use Rattle.opl_lexer.specs.Pieces.{pieces};
+ghost use Rattle.opl_lexer.specs.Numbers.{magnitude, whole_of, version_of, units_in, coordinate_of};
 
 /// The value with one more digit behind it.
 #[inline]
@@ -51,9 +51,7 @@ fn sign(bytes: &[u8]) -> (bool, &[u8])
 
 /// An optional minus and digits, a value of i64: an object's number. None where the text isn't in this form and range.
 pub fn whole(text: &str) -> Option<i64>
-    ensures { SomeIff result
-        (IsNumeral 10 (magnitude text.now) × FitsSigned w64 (whole_value text.now))
-        (whole_value text.now) }
+    ensures { result ≡ whole_of text.now }
 {
     let (minus, rest) = sign(text.as_bytes());
     let Some(size) = digits(rest) else {
@@ -68,9 +66,7 @@ pub fn whole(text: &str) -> Option<i64>
 
 /// One or more digits, a value of u32: an object's version. None where the text isn't in this form and range.
 pub fn version(text: &str) -> Option<u32>
-    ensures { SomeIff result
-        (IsNumeral 10 text.now × (digits_value 10 text.now < 2 ^ 32))
-        (digits_value 10 text.now) }
+    ensures { result ≡ version_of text.now }
 {
     let Some(value) = digits(text.as_bytes()) else {
         return None;
@@ -134,8 +130,8 @@ fn places(bytes: &[u8]) -> Option<u64>
 
 /// A decimal in units of 1e-7, where it is below 1001.
 fn degrees(bytes: &[u8]) -> Option<u64>
-    ensures found { IfSome result (IsDegrees bytes.now) }
-    ensures none { IfNone result ((n : ℕ) → IsDegrees bytes.now n → 10010000000 ≤ n) }
+    ensures found { IfSome result (λ n. units_in (pieces 46 bytes.now) ≡ Some n) }
+    ensures none { IfNone result (IfSome (units_in (pieces 46 bytes.now)) (λ n. 10010000000 ≤ n)) }
     ensures bound { IfSome result (λ n. n < 10010000000) }
 {
     let (front, rest) = bytes.split_at(digit_run(bytes));
@@ -161,8 +157,7 @@ fn degrees(bytes: &[u8]) -> Option<u64>
 /// A coordinate in units of 1e-7 degree, of at most the limit's size; digits after the seventh behind the point are
 /// dropped. None where the text isn't in this form and range.
 pub fn coordinate(text: &str, limit: i32) -> Option<i32>
-    ensures found { IfSome result (λ z. IsCoordinate text.now z × (pos (nat_abs z) ≤ℤ limit)) }
-    ensures none { IfNone result ((z : ℤ) → IsCoordinate text.now z → ¬ (pos (nat_abs z) ≤ℤ limit)) }
+    ensures { result ≡ coordinate_of limit text.now }
 {
     if limit < 0 {
         return None;
