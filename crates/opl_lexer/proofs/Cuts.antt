@@ -56,3 +56,24 @@ found_place stop bs (Some k) at first e =
     let same : k ≡ at = cc in
     let passes : slice_index bs k ≡ stop = (Decides-eqb (slice_index bs k) stop).0 first.1 in
     subst (λ n. (n < length bs) × (slice_index bs n ≡ stop)) same (first.0.high, passes)
+
+-- the same of what a loop over the bytes tells
+lacks_front : (stop : ℕ) (bs : List ℕ) (at : ℕ) → at ≤ length bs → ((j : ℕ) → j < at → (slice_index bs j == stop) ≡ false) → Lacks stop (take at bs)
+lacks_front stop bs at inside each =
+    All-from_get_or (λ b. (b == stop) ≡ false) (take at bs) 0
+    (λ i h.
+    let below : i < at = omega (arith, length-take-le at bs inside) in
+    let here = get_or-take at bs i 0 below in
+    rw here (each i below))
+
+pub pieces_here : (stop : ℕ) (bs : List ℕ) (at : ℕ) → at < length bs → ((j : ℕ) → j < at → (slice_index bs j == stop) ≡ false) → slice_index bs at ≡ stop → pieces stop bs ≡ take at bs ∷ pieces stop (drop 1 (drop at bs))
+pieces_here stop bs at inside each here =
+    let rest : drop at bs ≡ stop ∷ drop (at + 1) bs = drop_here bs at inside ∙ ap (λ b. b ∷ drop (at + 1) bs) here in
+    let behind : drop 1 (drop at bs) ≡ drop (at + 1) bs = ap (drop 1) rest in
+    rw behind (pieces_first stop bs (take at bs) (drop (at + 1) bs) (record {
+      written = sym (take-append-drop at bs) ∙ ap (λ l. take at bs ++ l) rest;
+      first = lacks_front stop bs at (omega arith) each;
+    }))
+
+pub pieces_nowhere : (stop : ℕ) (bs : List ℕ) → ((j : ℕ) → j < length bs → (slice_index bs j == stop) ≡ false) → pieces stop bs ≡ bs ∷ []
+pieces_nowhere stop bs each = pieces_alone stop bs (All-from_get_or (λ b. (b == stop) ≡ false) bs 0 each)

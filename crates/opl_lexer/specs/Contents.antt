@@ -1,11 +1,8 @@
 -- What the contents of a field hold, or which fault stands first in them. (OPL File Format Manual.)
-use Rattle.std.specs.Prelude.{◌==◌, ◌||◌, ◌&&◌, nat_lt, int_lt, ℕ, ℤ, pos, List, [], ◌∷◌, Bool, true, false, not, cond, length, take, drop, slice_index, Option, Some, None}
-use Rattle.std.specs.Option.{option_map, option_and_then}
+use Rattle.std.specs.Prelude.{◌==◌, ◌||◌, ◌&&◌, nat_lt, ℕ, ℤ, List, [], ◌∷◌, Bool, true, false, cond, length, take, drop, slice_index, Option, Some, None}
+use Rattle.std.specs.Option.{option_map}
 use Rattle.std.specs.List.{list_all, before_first, after_first}
-use Rattle.std.specs.Char.{digit_value}
 use Rattle.road_base.specs.declared.ids.NodeId.{NodeId}
-use Rattle.road_base.specs.declared.ids.WayId.{WayId}
-use Rattle.road_base.specs.declared.ids.RelationId.{RelationId}
 use Rattle.road_base.specs.declared.ids.Key.{Key}
 use Rattle.road_base.specs.declared.ids.Key.TheVariants.{Node as NodeKey, Way as WayKey, Relation as RelationKey}
 use Rattle.road_base.specs.declared.objects.Member.{Member}

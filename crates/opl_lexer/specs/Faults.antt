@@ -1,7 +1,7 @@
 -- Which field of a line is in fault, and with what fault. (OPL File Format Manual.)
-use Rattle.std.specs.Prelude.{◌+◌, ◌==◌, ◌||◌, ℕ, ℤ, pos, List, [], ◌∷◌, ◌++◌, Bool, true, false, not, cond, length, drop, slice_index, Option, Some, None, is_some, codes}
+use Rattle.std.specs.Prelude.{◌+◌, ◌==◌, ◌||◌, ℕ, ℤ, pos, List, [], ◌∷◌, ◌++◌, Bool, true, cond, length, drop, slice_index, Option, Some, None, codes}
 use Rattle.std.specs.Option.{option_map, option_or}
-use Rattle.std.specs.List.{list_any, find}
+use Rattle.std.specs.List.{list_any}
 use Rattle.std.specs.Str.{is_utf8}
 use Rattle.road_base.specs.declared.ids.Key.{Key}
 use Rattle.road_base.specs.declared.ids.Key.TheVariants.{Node as NodeKey, Way as WayKey, Relation as RelationKey}
@@ -16,25 +16,25 @@ use Rattle.opl_lexer.specs.Contents.{or_fault, fault_in, list_of, tag_of, ref_of
 -- ---- the letters of fields
 
 abbrev pub version_letter : ℕ
-version_letter = 118   -- v
+version_letter = 118  -- v
 
 abbrev pub deletion_letter : ℕ
-deletion_letter = 100   -- d
+deletion_letter = 100  -- d
 
 abbrev pub tags_letter : ℕ
-tags_letter = 84   -- T
+tags_letter = 84  -- T
 
 abbrev pub lon_letter : ℕ
-lon_letter = 120   -- x
+lon_letter = 120  -- x
 
 abbrev pub lat_letter : ℕ
-lat_letter = 121   -- y
+lat_letter = 121  -- y
 
 abbrev pub refs_letter : ℕ
-refs_letter = 78   -- N
+refs_letter = 78  -- N
 
 abbrev pub members_letter : ℕ
-members_letter = 77   -- M
+members_letter = 77  -- M
 
 -- the letters that an object's fields may have; what stands behind c, t, i and u isn't looked at
 abbrev pub letters_of : Key → List ℕ
@@ -77,8 +77,8 @@ contents_fault b contents =
 unfoldable pub field_fault : Key → List (List ℕ) → List ℕ → Option FaultKind
 field_fault key earlier field =
     cond (is_known key field)
-        (cond (stands (letter field) earlier) (Some Repeated) (contents_fault (letter field) (drop 1 field)))
-        (Some UnknownField)
+    (cond (stands (letter field) earlier) (Some Repeated) (contents_fault (letter field) (drop 1 field)))
+    (Some UnknownField)
 
 -- ---- one line
 
@@ -118,5 +118,5 @@ object_fault mode (object ∷ others) = cond (is_object object) (fault_behind mo
 unfoldable pub line_fault : Mode → List ℕ → Option (ℕ × FaultKind)
 line_fault mode line =
     cond (is_utf8 line)
-        (cond (is_passed_over (fields line)) None (object_fault mode (fields line)))
-        (Some (0, NotUtf8))
+    (cond (is_passed_over (fields line)) None (object_fault mode (fields line)))
+    (Some (0, NotUtf8))

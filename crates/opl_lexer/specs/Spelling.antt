@@ -1,11 +1,8 @@
 -- What a good line of an object says. (OPL File Format Manual.)
-use Rattle.std.specs.Prelude.{◌≡◌, ◌==◌, ℕ, ℤ, List, [], ◌∷◌, Bool, true, false, drop, Option, Some, None, IsTrue, IsFalse}
+use Rattle.std.specs.Prelude.{◌≡◌, ◌==◌, ℕ, ℤ, List, [], ◌∷◌, Bool, true, false, drop, Option, Some, None, IsFalse}
 use Rattle.std.specs.Option.{option_map}
 use Rattle.std.specs.List.{find}
 use Rattle.std.specs.Str.Parse.{digits_value}
-use Rattle.road_base.specs.declared.ids.NodeId.{NodeId}
-use Rattle.road_base.specs.declared.ids.WayId.{WayId}
-use Rattle.road_base.specs.declared.ids.RelationId.{RelationId}
 use Rattle.road_base.specs.declared.ids.Key.{Key}
 use Rattle.road_base.specs.declared.ids.Key.TheVariants.{Node as NodeKey, Way as WayKey, Relation as RelationKey}
 use Rattle.road_base.specs.declared.location.Location.{Location}
@@ -18,7 +15,7 @@ use Rattle.road_base.specs.declared.event.Event.{Event}
 use Rattle.road_base.specs.Tags.{TagList, IsAscending, value_of}
 use Rattle.opl_lexer.specs.declared.mode.Mode.{Mode}
 use Rattle.opl_lexer.specs.Fields.{fields}
-use Rattle.opl_lexer.specs.Contents.{Held, Good, Bad, list_of, tag_of, ref_of, member_of, key_of, axis_of, deletion_in}
+use Rattle.opl_lexer.specs.Contents.{Good, Bad, list_of, tag_of, ref_of, member_of, key_of, axis_of, deletion_in}
 use Rattle.opl_lexer.specs.Faults.{letter, line_fault, is_passed_over, version_letter, deletion_letter, tags_letter, lon_letter, lat_letter, refs_letter, members_letter, most_lon, most_lat}
 
 -- what stands behind this letter, where a field has it

@@ -7,14 +7,13 @@
 mod escapes;
 mod fault;
 mod field_iter;
-pub mod laws;
 mod mode;
 mod numbers;
 
 pub use escapes::unescape;
 pub use fault::{FaultKind, LexError};
-pub use mode::Mode;
 pub use field_iter::{FieldIter, fields};
+pub use mode::Mode;
 pub use numbers::{coordinate, version, whole};
 
 #[cfg(test)]

@@ -1,5 +1,5 @@
 //! Numbers and coordinates, read from the text that spells them.
-ghost use Rattle.std.specs.Prelude.{◌≡◌, ◌<◌, ◌≤◌, ◌+◌, ◌-◌, ◌*◌, ◌^◌, ℕ, length, take, drop, slice_index, Some, SomeIff, IfSome, IfNone};
+ghost use Rattle.std.specs.Prelude.{◌≡◌, ◌<◌, ◌≤◌, ◌+◌, ◌-◌, ◌*◌, ◌^◌, ℕ, List, [], ◌∷◌, length, take, drop, slice_index, Some, SomeIff, IfSome, IfNone};
 ghost use Rattle.std.specs.Char.{digit_value};
 ghost use Rattle.std.specs.Str.Parse.{IsNumeral, digits_value, starts_with_minus};
 ghost use Rattle.opl_lexer.specs.Pieces.{pieces};
@@ -128,26 +128,39 @@ fn places(bytes: &[u8]) -> Option<u64>
     digits(front)
 }
 
+/// What stands before the first point, and what stands behind it where there is one.
+#[inline]
+fn at_point(bytes: &[u8]) -> (&[u8], Option<&[u8]>)
+    ensures first { (others : List (List ℕ)) × (pieces 46 bytes.now ≡ result.0.now ∷ others) }
+    ensures cut { IfSome result.1 (λ behind. pieces 46 bytes.now ≡ result.0.now ∷ pieces 46 behind.now) }
+    ensures whole { IfNone result.1 (pieces 46 bytes.now ≡ result.0.now ∷ []) }
+{
+    for at in 0..bytes.len() {
+        if bytes[at] == b'.' {
+            let (front, rest) = bytes.split_at(at);
+            let (_, behind) = rest.split_at(1);
+            return (front, Some(behind));
+        }
+    }
+    (bytes, None)
+}
+
 /// A decimal in units of 1e-7, where it is below 1001.
 fn degrees(bytes: &[u8]) -> Option<u64>
     ensures found { IfSome result (λ n. units_in (pieces 46 bytes.now) ≡ Some n) }
     ensures none { IfNone result (IfSome (units_in (pieces 46 bytes.now)) (λ n. 10010000000 ≤ n)) }
     ensures bound { IfSome result (λ n. n < 10010000000) }
 {
-    let (front, rest) = bytes.split_at(digit_run(bytes));
+    let (front, behind) = at_point(bytes);
     let Some(whole) = digits(front) else {
         return None;
     };
     if whole > 1000 {
         return None;
     }
-    if rest.is_empty() {
+    let Some(behind) = behind else {
         return Some(whole * 10_000_000);
-    }
-    if rest[0] != b'.' {
-        return None;
-    }
-    let (_, behind) = rest.split_at(1);
+    };
     let Some(behind) = places(behind) else {
         return None;
     };

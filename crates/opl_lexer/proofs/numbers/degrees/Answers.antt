@@ -1,49 +1,29 @@
-use Rattle.std.proofs.Common.{arith, rules, ◌≡◌, ◌+◌, ◌<◌, ◌≤◌, ◌*◌, ◌^◌, length, take, drop, slice_index, ◌∙◌, ap, ℕ}
-use Rattle.std.specs.Str.Parse.{IsNumeral, digits_value}
-use Rattle.opl_lexer.proofs.Decimals.{IsRun, cut_from_degrees, fraction-first, fraction-rest}
+use Rattle.std.proofs.Common.{arith, ◌<◌, ◌^◌}
+use Rattle.std.specs.Str.Parse.{digits_value}
+use Rattle.opl_lexer.proofs.Numerals.{units_large, units_none, units_whole, units_behind}
 use Rattle.opl_lexer.proofs.numbers.degrees.Goals as goal
 
--- more than a thousand degrees
-large : (v n m : ℕ) → n ≡ v * 10 ^ 7 + m → 1000 < v → 10010000000 ≤ n
-large v n m same h = omega arith
-
 pub returns-in_default-clause-none : goal.returns-in_default-clause-none
-returns-in_default-clause-none c = λ n d.
-    let bytes = c.args.bytes.now in
-    let run : IsRun bytes c.digit_run.result = record { each = c.digit_run.ensures.digits; stops = c.digit_run.ensures.stops; inside = c.digit_run.ensures.bound } in
-    let cut = cut_from_degrees bytes c.digit_run.result n run d in
-    let front : IsNumeral 10 c.split_at.result.0.now = rw c.split_at.ensures.front cut.front in
-    let huge : digits_value 10 c.split_at.result.0.now < 2 ^ 64 → ⊥ = λ h. c.in_default.ensures (front, h) in
-    let huge_here = rw c.split_at.ensures.front at huge in
-    large (digits_value 10 (take c.digit_run.result bytes)) n _ cut.worth (omega arith)
+returns-in_default-clause-none c =
+    let first = c.at_point.ensures.first in
+    rw first.1 (units_large c.at_point.result.0.now first.0 (λ numeral. let huge : digits_value 10 c.at_point.result.0.now < 2 ^ 64 → ⊥ = λ h. c.in_default.ensures (numeral, h) in omega arith))
 
 pub returns-then-whole-gt1000-clause-none : goal.returns-then-whole-gt1000-clause-none
-returns-then-whole-gt1000-clause-none c = λ n d.
-    let bytes = c.args.bytes.now in
-    let run : IsRun bytes c.digit_run.result = record { each = c.digit_run.ensures.digits; stops = c.digit_run.ensures.stops; inside = c.digit_run.ensures.bound } in
-    let cut = cut_from_degrees bytes c.digit_run.result n run d in
-    let same : c.in-Some.whole ≡ digits_value 10 (take c.digit_run.result bytes) = rw c.split_at.ensures.front at c.in-Some.ensures.1 in
-    large (digits_value 10 (take c.digit_run.result bytes)) n _ cut.worth (omega arith)
+returns-then-whole-gt1000-clause-none c =
+    let first = c.at_point.ensures.first in
+    rw first.1 (units_large c.at_point.result.0.now first.0 (λ numeral. let same = c.in-Some.ensures.1 in omega arith))
 
-pub returns-then-rest-ne46-clause-none : goal.returns-then-rest-ne46-clause-none
-returns-then-rest-ne46-clause-none c = λ n d.
-    let bytes = c.args.bytes.now in
-    let run : IsRun bytes c.digit_run.result = record { each = c.digit_run.ensures.digits; stops = c.digit_run.ensures.stops; inside = c.digit_run.ensures.bound } in
-    let cut = cut_from_degrees bytes c.digit_run.result n run d in
-    let rest = c.split_at.ensures.back ∙ cut.rest in
-    let some : 0 < length c.split_at.result.1.now = search rules in
-    let point = fraction-first cut.behind (rw rest at some) in
-    let here : slice_index c.split_at.result.1.now 0 ≡ 46 = rw rest point in
-    absurd (omega arith)
+pub returns-in_default-behind-clause-found : goal.returns-in_default-behind-clause-found
+returns-in_default-behind-clause-found c =
+    let whole = rw c.in_default-behind.is at c.at_point.ensures.whole in
+    rw whole (units_whole c.at_point.result.0.now c.in-Some.whole c.in-Some.ensures.0.0 c.in-Some.ensures.1)
 
 pub returns-in_default-places-clause-none : goal.returns-in_default-places-clause-none
-returns-in_default-places-clause-none c = λ n d.
-    let bytes = c.args.bytes.now in
-    let run : IsRun bytes c.digit_run.result = record { each = c.digit_run.ensures.digits; stops = c.digit_run.ensures.stops; inside = c.digit_run.ensures.bound } in
-    let cut = cut_from_degrees bytes c.digit_run.result n run d in
-    let rest = c.split_at.ensures.back ∙ cut.rest in
-    let some : 0 < length c.split_at.result.1.now = search rules in
-    let behind = fraction-rest cut.behind (rw rest at some) in
-    let same : c.split_at-2.result.1.now ≡ cut.behind = c.split_at-2.ensures.back ∙ (ap (drop 1) rest ∙ behind.0) in
-    let numeral : IsNumeral 10 c.split_at-2.result.1.now = rw same (behind.1, cut.after) in
-    absurd (c.in_default-places.ensures.value numeral)
+returns-in_default-places-clause-none c =
+    let cut = rw c.in-Some-behind.is at c.at_point.ensures.cut in
+    rw (cut, units_none c.at_point.result.0.now c.in-Some-behind.behind.now c.in_default-places.ensures.value) tt
+
+pub returns-clause-found : goal.returns-clause-found
+returns-clause-found c =
+    let cut = rw c.in-Some-behind.is at c.at_point.ensures.cut in
+    rw cut (units_behind c.at_point.result.0.now c.in-Some-behind.behind.now c.in-Some.whole c.in-Some-places.behind c.in-Some.ensures.0.0 c.in-Some.ensures.1 c.in-Some-places.ensures.value.0 c.in-Some-places.ensures.value.1)
