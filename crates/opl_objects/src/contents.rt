@@ -1,47 +1,221 @@
 //! The contents of the fields that hold lists.
-ghost use Rattle.std.specs.Prelude.{IfOk, IfErr};
-ghost use Rattle.opl_lexer.specs.Contents.{text_of, tag_of, ref_of, member_of, list_of};
-ghost use Rattle.opl_lexer.specs.Spelling.{AreTags};
+ghost use Rattle.std.specs.Prelude.{◌≡◌, ◌<◌, ◌≤◌, length, slice_index, drop, pos, IfOk, IfErr, IfSome, IfNone, option_copied, IsTrue, ℕ, List, false};
+ghost use Rattle.opl_lexer.specs.Pieces.{pieces};
+ghost use Rattle.opl_lexer.specs.Contents.{items, or_fault, text_of, tag_of, is_run, is_place, number_in, ref_of, key_of, member_of, list_of};
+ghost use Rattle.opl_objects.specs.Cutting.{other_pieces, is_letter};
 ghost use Rattle.opl_objects.specs.Outcomes.{IsGood, IsBad};
+ghost use Rattle.opl_lexer.specs.declared.fault.FaultKind.TheVariants.{BadRef};
 
 use crate::cut::at_first;
 use opl_lexer::{FaultKind, LexError, unescape, whole};
-use road_base::{Key, Member, Members, NodeId, Refs, RelationId, Tags, Text, WayId};
+use road_base::{Key, Member, Members, NodeId, Refs, RelationId, Text, WayId};
 use std::alloc::Global;
 
-/// The most items of a list.
-const MOST_ITEMS: usize = 65_535;
+pub use crate::tag_list::tags;
 
-/// The tags of a list, ascending by key. Of a key that stands twice the first value counts.
-pub fn tags(alloc: Global, contents: &str) -> Result<Tags, LexError>
-    ensures ok { IfOk result (AreTags contents.now) }
-    ensures err { IfErr result (IsBad (list_of tag_of contents.now)) }
-{
-    let mut list: Vec<(Text, Text)> = Vec::new(alloc);
-    if contents.is_empty() {
-        return Ok(Tags::from_list(list));
+/// The most items of a list.
+pub const MOST_ITEMS: usize = 65_535;
+
+/// A list goes on behind its last item.
+pub const TOO_MANY: LexError = LexError::Kind(FaultKind::TooMany);
+
+const BAD_REF: LexError = LexError::Kind(FaultKind::BadRef);
+
+const BAD_MEMBER: LexError = LexError::Kind(FaultKind::BadMember);
+
+/// The room that a list's items take: as many as its commas join, and not more than a list may have.
+#[inline]
+pub fn room(contents: &str) -> usize {
+    let bytes = contents.as_bytes();
+    let mut commas = 0usize;
+    for at in 0..bytes.len() {
+        if bytes[at] == b',' {
+            commas += 1;
+        }
     }
-    Ok(Tags::from_list(list))
+    if bytes.is_empty() || MOST_ITEMS <= commas {
+        return commas.min(MOST_ITEMS);
+    }
+    commas + 1
 }
 
-/// The references of a list, in order.
+/// A list's text where it has an item.
+#[inline]
+pub fn first_items(contents: &str) -> Option<&str>
+    ensures { other_pieces 44 (option_copied result) ≡ items contents.now }
+{
+    if contents.is_empty() {
+        return None;
+    }
+    Some(contents)
+}
+
+/// A key, a value or a role, with its escapes read. `BadEscape` comes exactly where an escape isn't in form.
+pub fn text(alloc: Global, raw: &str) -> Result<Text, LexError>
+    ensures ok { IfOk result (IsGood (text_of raw.now)) }
+    ensures err { IfErr result (IsBad (text_of raw.now)) }
+{
+    let (plain, escape) = at_first(raw, b'%');
+    if escape.is_none() {
+        return Ok(Text::from_string(String::from_str(alloc, plain)?));
+    }
+    let mut out = String::new(alloc);
+    match unescape(raw, &mut out) {
+        Ok(()) => Ok(Text::from_string(out)),
+        Err(error) => Err(error),
+    }
+}
+
+/// Whether digits, points and minus signs alone stand here.
+fn is_run(text: &str) -> bool
+    ensures { result ≡ is_run text.now }
+{
+    let bytes = text.as_bytes();
+    for at in 0..bytes.len() {
+        let byte = bytes[at];
+        if !byte.is_ascii_digit() && byte != b'.' && byte != b'-' {
+            return false;
+        }
+    }
+    true
+}
+
+/// Whether two runs stand here, a `y` between them.
+fn is_place(text: &str) -> bool
+    ensures { result ≡ is_place (pieces 121 text.now) }
+{
+    let (x, Some(behind)) = at_first(text, b'y') else {
+        return false;
+    };
+    let (y, more) = at_first(behind, b'y');
+    if more.is_some() {
+        return false;
+    }
+    is_run(x) && is_run(y)
+}
+
+/// A number, with a place behind it that is passed over or without one.
+#[inline(never)]
+fn number_before_place(text: &str) -> Option<i64>
+    ensures { result ≡ number_in (pieces 120 text.now) }
+{
+    let (number, Some(behind)) = at_first(text, b'x') else {
+        return whole(text);
+    };
+    let (place, more) = at_first(behind, b'x');
+    if more.is_some() || !is_place(place) {
+        return None;
+    }
+    whole(number)
+}
+
+/// The first byte where it is ASCII, and the text behind it.
+#[inline]
+fn letter(text: &str) -> Option<(u8, &str)>
+    ensures some { IfSome result (λ parts. slice_index text.now 0 ≡ parts.0) }
+    ensures rest { IfSome result (λ parts. parts.1.now ≡ drop 1 text.now) }
+    ensures none { IfNone result (is_letter (slice_index text.now 0) ≡ false) }
+{
+    let bytes = text.as_bytes();
+    if bytes.is_empty() || 128 <= bytes[0] {
+        return None;
+    }
+    Some((bytes[0], &text[1..]))
+}
+
+/// A node's number, with a place behind it that is passed over or without one.
+#[inline]
+fn reference(item: &str) -> Option<NodeId>
+    ensures { or_fault BadRef result ≡ ref_of item.now }
+{
+    let Some((b'n', rest)) = letter(item) else {
+        return None;
+    };
+    if let Some(number) = whole(rest) {
+        return Some(NodeId(number));
+    }
+    match number_before_place(rest) {
+        Some(number) => Some(NodeId(number)),
+        None => None,
+    }
+}
+
+/// The references of a list, in order. `BadRef` comes exactly where the first item in fault stands before any item
+/// behind the 65,535th, which is `TooMany`.
 pub fn refs(alloc: Global, contents: &str) -> Result<Refs, LexError>
     ensures ok { IfOk result (IsGood (list_of ref_of contents.now)) }
     ensures err { IfErr result (IsBad (list_of ref_of contents.now)) }
 {
-    Ok(Refs::from_list(Vec::new(alloc)))
-}
-
-/// The members of a list, in order.
-pub fn members(alloc: Global, contents: &str) -> Result<Members, LexError>
-    ensures ok { IfOk result (IsGood (list_of member_of contents.now)) }
-    ensures err { IfErr result (IsBad (list_of member_of contents.now)) }
-{
-    Ok(Members::from_list(Vec::new(alloc)))
+    let mut list = Vec::with_capacity(alloc, room(contents))?;
+    let mut next = first_items(contents);
+    while let Some(rest) = next {
+        if list.len() == MOST_ITEMS {
+            return Err(TOO_MANY);
+        }
+        let (item, behind) = at_first(rest, b',');
+        let Some(id) = reference(item) else {
+            return Err(BAD_REF);
+        };
+        list.push(id)?;
+        next = behind;
+    }
+    Ok(Refs::from_list(list))
 }
 
 /// The key that a letter and a number name.
 #[inline]
-pub fn key(text: &str) -> Option<Key> {
-    None
+pub fn key(text: &str) -> Option<Key>
+    ensures { result ≡ key_of text.now }
+{
+    let Some((letter, number)) = letter(text) else {
+        return None;
+    };
+    let Some(number) = whole(number) else {
+        return None;
+    };
+    match letter {
+        b'n' => Some(Key::Node(NodeId(number))),
+        b'w' => Some(Key::Way(WayId(number))),
+        b'r' => Some(Key::Relation(RelationId(number))),
+        _ => None,
+    }
+}
+
+/// A member: a key, `@`, and a role.
+fn member(alloc: Global, item: &str) -> Result<Member, LexError>
+    ensures ok { IfOk result (IsGood (member_of item.now)) }
+    ensures err { IfErr result (IsBad (member_of item.now)) }
+{
+    let (front, Some(role)) = at_first(item, b'@') else {
+        return Err(BAD_MEMBER);
+    };
+    let Some(item) = key(front) else {
+        return Err(BAD_MEMBER);
+    };
+    match text(alloc, role) {
+        Ok(role) => Ok(Member { item, role }),
+        Err(error) => Err(error),
+    }
+}
+
+/// The members of a list, in order. The fault is that of the first item in fault, or `TooMany` where the item behind
+/// the 65,535th begins.
+pub fn members(alloc: Global, contents: &str) -> Result<Members, LexError>
+    ensures ok { IfOk result (IsGood (list_of member_of contents.now)) }
+    ensures err { IfErr result (IsBad (list_of member_of contents.now)) }
+{
+    let mut list = Vec::with_capacity(alloc, room(contents))?;
+    let mut next = first_items(contents);
+    while let Some(rest) = next {
+        if list.len() == MOST_ITEMS {
+            return Err(TOO_MANY);
+        }
+        let (item, behind) = at_first(rest, b',');
+        match member(alloc, item) {
+            Ok(member) => list.push(member)?,
+            Err(error) => return Err(error),
+        }
+        next = behind;
+    }
+    Ok(Members::from_list(list))
 }

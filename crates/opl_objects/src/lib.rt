@@ -9,6 +9,7 @@ mod cut;
 mod fault;
 mod line;
 mod reader;
+mod tag_list;
 
 pub use fault::{Fault, ReadError};
 pub use opl_lexer::Mode;

@@ -1,0 +1,43 @@
+-- A text, cut at the first place where a byte stands.
+use Rattle.std.specs.Prelude.{◌≡◌, ◌==◌, ◌≤◌, ◌<◌, ◌+◌, ◌++◌, ℕ, List, [], ◌∷◌, false, take, drop, length, slice_index, refl}
+use Rattle.std.proofs.Common.{arith, sym, ◌∙◌, ap, add-one}
+use Rattle.std.proofs.Math.Seq.{drop-cons}
+use Rattle.std.proofs.lemmas.Bool.Decides.{Decides-eqb}
+use Rattle.std.proofs.lemmas.List.{take-append-drop, get_or-take, length-take-le, take_all}
+use Rattle.std.proofs.lemmas.List.Elements.{All-from_get_or}
+use Rattle.std.proofs.lemmas.List.Splits.{slice_split_at, slice_split_none}
+use Rattle.opl_lexer.specs.Pieces.{pieces, Lacks, IsCutAt}
+
+-- the first bytes aren't the stop
+pub record IsBehind (stop : ℕ) (bs : List ℕ) (at : ℕ) : Type 0 where
+  pub none : (k : ℕ) → k < at → (slice_index bs k == stop) ≡ false
+
+drop_here : (bs : List ℕ) (at : ℕ) → at < length bs → drop at bs ≡ slice_index bs at ∷ drop (at + 1) bs
+drop_here bs at h = rw (add-one, drop-cons bs at 0 h) refl
+
+lacks_front : (stop : ℕ) (bs : List ℕ) (at : ℕ) → at ≤ length bs → IsBehind stop bs at → Lacks stop (take at bs)
+lacks_front stop bs at inside behind =
+    All-from_get_or (λ b. (b == stop) ≡ false) (take at bs) 0
+    (λ i h.
+    let below : i < at = omega (arith, length-take-le at bs inside) in
+    let here = get_or-take at bs i 0 below in
+    rw here (behind.none i below))
+
+pub lacks_all : (stop : ℕ) (bs : List ℕ) (at : ℕ) → length bs ≤ at → IsBehind stop bs at → Lacks stop bs
+lacks_all stop bs at past behind = All-from_get_or (λ b. (b == stop) ≡ false) bs 0 (λ i h. behind.none i (omega arith))
+
+pub cut_here : (stop : ℕ) (bs : List ℕ) (at : ℕ) → at < length bs → IsBehind stop bs at → slice_index bs at ≡ stop → IsCutAt stop bs (take at bs) (drop (at + 1) bs)
+cut_here stop bs at inside behind here =
+    let rest : drop at bs ≡ stop ∷ drop (at + 1) bs = drop_here bs at inside ∙ ap (λ b. b ∷ drop (at + 1) bs) here in
+    record {
+      written = sym (take-append-drop at bs) ∙ ap (λ l. take at bs ++ l) rest;
+      first = lacks_front stop bs at (omega arith) behind;
+    }
+
+-- the pieces of what is cut, and of what has nothing to cut at
+pub pieces_first : (stop : ℕ) (bs front rest : List ℕ) → IsCutAt stop bs front rest → pieces stop bs ≡ front ∷ pieces stop rest
+pieces_first stop bs front rest k =
+    rw k.written (slice_split_at (λ b. b == stop) front stop rest k.first ((Decides-eqb stop stop).1 refl))
+
+pub pieces_alone : (stop : ℕ) (bs : List ℕ) → Lacks stop bs → pieces stop bs ≡ bs ∷ []
+pieces_alone stop bs lacks = slice_split_none (λ b. b == stop) bs lacks
