@@ -1,6 +1,7 @@
 //! The contents of the fields that hold lists.
-ghost use Rattle.std.specs.Prelude.{◌≡◌, ◌<◌, ◌≤◌, length, slice_index, drop, pos, IfOk, IfErr, IfSome, IfNone, option_copied, IsTrue, ℕ, List, false};
+ghost use Rattle.std.specs.Prelude.{◌≡◌, ◌==◌, ◌||◌, length, slice_index, drop, pos, IfOk, IfErr, IfSome, IfNone, option_copied, IsTrue, ℕ, List, false};
 ghost use Rattle.opl_lexer.specs.Pieces.{pieces};
+ghost use Rattle.opl_lexer.specs.Numbers.{is_digit};
 ghost use Rattle.opl_lexer.specs.Contents.{items, or_fault, text_of, tag_of, is_run, is_place, number_in, ref_of, key_of, member_of, list_of};
 ghost use Rattle.opl_objects.specs.Cutting.{other_pieces, is_letter};
 ghost use Rattle.opl_objects.specs.Outcomes.{IsGood, IsBad};
@@ -66,14 +67,21 @@ pub fn text(alloc: Global, raw: &str) -> Result<Text, LexError>
     }
 }
 
+/// Whether a byte is a digit, a point or a minus sign.
+#[inline]
+fn is_run_byte(byte: u8) -> bool
+    ensures { result ≡ (is_digit byte || ((byte == 46) || (byte == 45))) }
+{
+    byte.is_ascii_digit() || byte == b'.' || byte == b'-'
+}
+
 /// Whether digits, points and minus signs alone stand here.
 fn is_run(text: &str) -> bool
     ensures { result ≡ is_run text.now }
 {
     let bytes = text.as_bytes();
     for at in 0..bytes.len() {
-        let byte = bytes[at];
-        if !byte.is_ascii_digit() && byte != b'.' && byte != b'-' {
+        if !is_run_byte(bytes[at]) {
             return false;
         }
     }
@@ -128,9 +136,12 @@ fn letter(text: &str) -> Option<(u8, &str)>
 fn reference(item: &str) -> Option<NodeId>
     ensures { or_fault BadRef result ≡ ref_of item.now }
 {
-    let Some((b'n', rest)) = letter(item) else {
+    let Some((letter, rest)) = letter(item) else {
         return None;
     };
+    if letter != b'n' {
+        return None;
+    }
     if let Some(number) = whole(rest) {
         return Some(NodeId(number));
     }
