@@ -1,12 +1,13 @@
 -- A text, cut at the first place where a byte stands.
-use Rattle.std.specs.Prelude.{◌≡◌, ◌==◌, ◌≤◌, ◌<◌, ◌+◌, ◌++◌, ℕ, List, [], ◌∷◌, false, take, drop, length, slice_index, refl}
-use Rattle.std.proofs.Common.{arith, sym, ◌∙◌, ap, add-one}
+use Rattle.std.specs.Prelude.{◌≡◌, ◌==◌, ◌≤◌, ◌<◌, ◌+◌, ◌++◌, ℕ, List, [], ◌∷◌, Option, Some, None, is_some, option_copied, true, false, take, drop, length, slice_index, refl}
+use Rattle.std.proofs.Common.{arith, sym, ◌∙◌, ap, add-one, Bor}
 use Rattle.std.proofs.Math.Seq.{drop-cons}
 use Rattle.std.proofs.lemmas.Bool.Decides.{Decides-eqb}
 use Rattle.std.proofs.lemmas.List.{take-append-drop, get_or-take, length-take-le, take_all}
 use Rattle.std.proofs.lemmas.List.Elements.{All-from_get_or}
-use Rattle.std.proofs.lemmas.List.Splits.{slice_split_at, slice_split_none}
+use Rattle.std.proofs.lemmas.List.Splits.{slice_split_at, slice_split_none, length-slice_split}
 use Rattle.opl_lexer.specs.Pieces.{pieces, Lacks, IsCutAt}
+use Rattle.opl_objects.specs.Cutting.{other_pieces}
 
 -- the first bytes aren't the stop
 pub record IsBehind (stop : ℕ) (bs : List ℕ) (at : ℕ) : Type 0 where
@@ -41,3 +42,24 @@ pieces_first stop bs front rest k =
 
 pub pieces_alone : (stop : ℕ) (bs : List ℕ) → Lacks stop bs → pieces stop bs ≡ bs ∷ []
 pieces_alone stop bs lacks = slice_split_none (λ b. b == stop) bs lacks
+
+-- there is always a first piece
+by_first : {A : Type 0} (f : List (List ℕ) → A) (v : A) → ((p : List ℕ) (ps : List (List ℕ)) → f (p ∷ ps) ≡ v) → (parts : List (List ℕ)) → 0 < length parts → f parts ≡ v
+by_first f v each [] some = absurd (omega arith)
+by_first f v each (p ∷ ps) some = each p ps
+
+pub by_piece : {A : Type 0} (f : List (List ℕ) → A) (v : A) → ((p : List ℕ) (ps : List (List ℕ)) → f (p ∷ ps) ≡ v) → (stop : ℕ) (bs : List ℕ) → f (pieces stop bs) ≡ v
+by_piece f v each stop bs =
+    let some : 0 < length (pieces stop bs) = omega (arith, length-slice_split (λ b. b == stop) bs) in
+    by_first f v each (pieces stop bs) some
+
+-- the same of what stands behind a byte that was found
+pub by_other_piece : {A : Type 0} (f : List (List ℕ) → A) (v : A) → ((p : List ℕ) (ps : List (List ℕ)) → f (p ∷ ps) ≡ v) → (stop : ℕ) (rest : Option (Bor (List ℕ))) → is_some rest ≡ true → f (other_pieces stop (option_copied rest)) ≡ v
+by_other_piece f v each stop None some = cc
+by_other_piece f v each stop (Some rest) some = by_piece f v each stop rest.now
+
+-- a text that is cut twice
+pub two_cuts : (stop : ℕ) (text x y : List ℕ) (rest more : Option (Bor (List ℕ))) (behind : Bor (List ℕ)) → pieces stop text ≡ x ∷ other_pieces stop (option_copied rest) → rest ≡ Some behind
+    → pieces stop behind.now ≡ y ∷ other_pieces stop (option_copied more) → pieces stop text ≡ x ∷ y ∷ other_pieces stop (option_copied more)
+two_cuts stop text x y rest more behind first found second =
+    first ∙ (ap (λ r. x ∷ other_pieces stop (option_copied r)) found ∙ ap (λ l. x ∷ l) second)

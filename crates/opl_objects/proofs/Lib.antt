@@ -1,1 +1,2 @@
 pub mod ContentsCuts
+pub mod ContentsNumbers

@@ -92,7 +92,8 @@ fn is_run(text: &str) -> bool
 fn is_place(text: &str) -> bool
     ensures { result ≡ is_place (pieces 121 text.now) }
 {
-    let (x, Some(behind)) = at_first(text, b'y') else {
+    let (x, behind) = at_first(text, b'y');
+    let Some(behind) = behind else {
         return false;
     };
     let (y, more) = at_first(behind, b'y');
@@ -102,19 +103,35 @@ fn is_place(text: &str) -> bool
     is_run(x) && is_run(y)
 }
 
-/// A number, with a place behind it that is passed over or without one.
+/// A number with a place behind it that is passed over, or alone.
 #[inline(never)]
 fn number_before_place(text: &str) -> Option<i64>
     ensures { result ≡ number_in (pieces 120 text.now) }
 {
-    let (number, Some(behind)) = at_first(text, b'x') else {
-        return whole(text);
+    let (number, behind) = at_first(text, b'x');
+    let Some(behind) = behind else {
+        return whole(number);
     };
     let (place, more) = at_first(behind, b'x');
-    if more.is_some() || !is_place(place) {
+    if more.is_some() {
+        return None;
+    }
+    if !is_place(place) {
         return None;
     }
     whole(number)
+}
+
+/// A number alone, or with a place behind it that is passed over.
+#[inline]
+fn number(text: &str) -> Option<i64>
+    ensures { result ≡ number_in (pieces 120 text.now) }
+{
+    let alone = whole(text);
+    if alone.is_some() {
+        return alone;
+    }
+    number_before_place(text)
 }
 
 /// The first byte where it is ASCII, and the text behind it.
@@ -131,7 +148,7 @@ fn letter(text: &str) -> Option<(u8, &str)>
     Some((bytes[0], &text[1..]))
 }
 
-/// A node's number, with a place behind it that is passed over or without one.
+/// A reference: `n` and a node's number, maybe with a place behind it.
 #[inline]
 fn reference(item: &str) -> Option<NodeId>
     ensures { or_fault BadRef result ≡ ref_of item.now }
@@ -142,10 +159,7 @@ fn reference(item: &str) -> Option<NodeId>
     if letter != b'n' {
         return None;
     }
-    if let Some(number) = whole(rest) {
-        return Some(NodeId(number));
-    }
-    match number_before_place(rest) {
+    match number(rest) {
         Some(number) => Some(NodeId(number)),
         None => None,
     }
@@ -197,7 +211,8 @@ fn member(alloc: Global, item: &str) -> Result<Member, LexError>
     ensures ok { IfOk result (IsGood (member_of item.now)) }
     ensures err { IfErr result (IsBad (member_of item.now)) }
 {
-    let (front, Some(role)) = at_first(item, b'@') else {
+    let (front, role) = at_first(item, b'@');
+    let Some(role) = role else {
         return Err(BAD_MEMBER);
     };
     let Some(item) = key(front) else {
