@@ -48,10 +48,11 @@ by_first : {A : Type 0} (f : List (List ℕ) → A) (v : A) → ((p : List ℕ) 
 by_first f v each [] some = absurd (omega arith)
 by_first f v each (p ∷ ps) some = each p ps
 
+pub some_piece : (stop : ℕ) (bs : List ℕ) → 0 < length (pieces stop bs)
+some_piece stop bs = omega (arith, length-slice_split (λ b. b == stop) bs)
+
 pub by_piece : {A : Type 0} (f : List (List ℕ) → A) (v : A) → ((p : List ℕ) (ps : List (List ℕ)) → f (p ∷ ps) ≡ v) → (stop : ℕ) (bs : List ℕ) → f (pieces stop bs) ≡ v
-by_piece f v each stop bs =
-    let some : 0 < length (pieces stop bs) = omega (arith, length-slice_split (λ b. b == stop) bs) in
-    by_first f v each (pieces stop bs) some
+by_piece f v each stop bs = by_first f v each (pieces stop bs) (some_piece stop bs)
 
 -- the same of what stands behind a byte that was found
 pub by_other_piece : {A : Type 0} (f : List (List ℕ) → A) (v : A) → ((p : List ℕ) (ps : List (List ℕ)) → f (p ∷ ps) ≡ v) → (stop : ℕ) (rest : Option (Bor (List ℕ))) → is_some rest ≡ true → f (other_pieces stop (option_copied rest)) ≡ v

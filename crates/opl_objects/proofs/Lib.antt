@@ -1,2 +1,3 @@
 pub mod ContentsCuts
 pub mod ContentsNumbers
+pub mod ContentsLists
