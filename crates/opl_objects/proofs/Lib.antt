@@ -1,3 +1,5 @@
 pub mod ContentsCuts
 pub mod ContentsNumbers
 pub mod ContentsLists
+pub mod ContentsMembers
+pub mod ContentsFaults
