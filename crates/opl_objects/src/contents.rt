@@ -237,10 +237,11 @@ pub fn members(alloc: Global, contents: &str) -> Result<Members, LexError>
             return Err(TOO_MANY);
         }
         let (item, behind) = at_first(rest, b',');
-        match member(alloc, item) {
-            Ok(member) => list.push(member)?,
+        let member = match member(alloc, item) {
+            Ok(member) => member,
             Err(error) => return Err(error),
-        }
+        };
+        list.push(member)?;
         next = behind;
     }
     Ok(Members::from_list(list))

@@ -51,10 +51,11 @@ fn pairs(alloc: Global, contents: &str) -> Result<Vec<(Text, Text)>, LexError>
             return Err(TOO_MANY);
         }
         let (item, behind) = at_first(rest, b',');
-        match tag(alloc, item) {
-            Ok(pair) => list.push(pair)?,
+        let pair = match tag(alloc, item) {
+            Ok(pair) => pair,
             Err(error) => return Err(error),
-        }
+        };
+        list.push(pair)?;
         next = behind;
     }
     Ok(list)
