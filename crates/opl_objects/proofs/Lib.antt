@@ -3,3 +3,4 @@ pub mod ContentsNumbers
 pub mod ContentsLists
 pub mod ContentsMembers
 pub mod ContentsFaults
+pub mod ContentsTags
