@@ -4,3 +4,4 @@ pub mod ContentsLists
 pub mod ContentsMembers
 pub mod ContentsFaults
 pub mod ContentsTags
+pub mod ContentsOrder

@@ -1,5 +1,7 @@
 //! Tags, read in whatever order and kept ascending by key.
 ghost use Rattle.std.specs.Prelude.{◌≡◌, ◌≤◌, IfOk, IfErr, IsTrue, List, ℕ, length};
+ghost use Rattle.std.specs.Ordering.{is_lt, nat_cmp};
+ghost use Rattle.std.specs.Cmp.Lexicographic.{slice_cmp};
 ghost use Rattle.road_base.specs.Tags.{IsAscending, value_of};
 ghost use Rattle.opl_lexer.specs.Contents.{Good, tag_of, list_of};
 ghost use Rattle.opl_lexer.specs.Spelling.{AreTags};
@@ -61,12 +63,20 @@ fn pairs(alloc: Global, contents: &str) -> Result<Vec<(Text, Text)>, LexError>
     Ok(list)
 }
 
+/// Whether the first text is below the second one, by bytes.
+#[inline]
+fn is_below(first: &Text, second: &Text) -> bool
+    ensures { result ≡ is_lt (slice_cmp nat_cmp first.now second.now) }
+{
+    first.as_str() < second.as_str()
+}
+
 /// Whether each key is above the one before it.
 fn is_ascending(list: &[(Text, Text)]) -> bool
     ensures { IsTrue result → IsAscending list.now }
 {
     for at in 1..list.len() {
-        if list[at].0.as_str() <= list[at - 1].0.as_str() {
+        if !is_below(&list[at - 1].0, &list[at].0) {
             return false;
         }
     }

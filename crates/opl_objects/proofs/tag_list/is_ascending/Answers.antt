@@ -1,0 +1,6 @@
+use Rattle.std.proofs.Common.{arith, length}
+use Rattle.opl_objects.proofs.ContentsOrder.{Rises, ascending_from_rises, rises_short}
+use Rattle.opl_objects.proofs.tag_list.is_ascending.Goals as goal
+
+pub returns : goal.returns
+returns c = λ _. ascending_from_rises c.args.list.now (rises_short c.args.list.now c.loop-at.at c.loop-at.invariant (omega arith))
