@@ -5,3 +5,4 @@ pub mod ContentsMembers
 pub mod ContentsFaults
 pub mod ContentsTags
 pub mod ContentsOrder
+pub mod ContentsSorting
