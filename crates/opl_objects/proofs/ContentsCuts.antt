@@ -3,7 +3,7 @@ use Rattle.std.specs.Prelude.{◌≡◌, ◌==◌, ◌≤◌, ◌<◌, ◌+◌, 
 use Rattle.std.proofs.Common.{arith, sym, ◌∙◌, ap, add-one, Bor}
 use Rattle.std.proofs.Math.Seq.{drop-cons}
 use Rattle.std.proofs.lemmas.Bool.Decides.{Decides-eqb}
-use Rattle.std.proofs.lemmas.List.{take-append-drop, get_or-take, length-take-le, take_all}
+use Rattle.std.proofs.lemmas.List.{take-append-drop, get_or-take, length-take-le}
 use Rattle.std.proofs.lemmas.List.Elements.{All-from_get_or}
 use Rattle.std.proofs.lemmas.List.Splits.{slice_split_at, slice_split_none, length-slice_split}
 use Rattle.opl_lexer.specs.Pieces.{pieces, Lacks, IsCutAt}

@@ -1,7 +1,7 @@
 -- Members, cut at the first `@`.
-use Rattle.std.specs.Prelude.{◌≡◌, ◌==◌, ◌≤◌, ◌<◌, ◌+◌, ◌++◌, nat_lt, ℕ, suc, List, [], ◌∷◌, true, false, take, drop, length, refl}
+use Rattle.std.specs.Prelude.{◌≡◌, ◌==◌, ◌<◌, ◌+◌, ◌++◌, nat_lt, ℕ, List, [], ◌∷◌, true, false, take, drop, length, refl}
 use Rattle.std.specs.List.{position_or_len, before_first, after_first}
-use Rattle.std.proofs.Common.{arith, sym, ◌∙◌, ap, length-append, cond}
+use Rattle.std.proofs.Common.{arith, ◌∙◌, ap, length-append, cond}
 use Rattle.std.proofs.Math.Seq.{take-append_seam, drop-append-add}
 use Rattle.std.proofs.lemmas.Bool.Decides.{nat_tests}
 use Rattle.std.proofs.lemmas.List.{take_all}

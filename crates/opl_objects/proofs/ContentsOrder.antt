@@ -1,5 +1,5 @@
 -- Tags in the order of their keys.
-use Rattle.std.specs.Prelude.{◌≡◌, ◌<◌, ◌≤◌, ◌+◌, ◌&&◌, ℕ, suc, List, [], ◌∷◌, Bool, true, length, refl}
+use Rattle.std.specs.Prelude.{◌≡◌, ◌<◌, ◌≤◌, ◌+◌, ℕ, suc, List, [], ◌∷◌, Bool, true, length, refl}
 use Rattle.std.specs.Ordering.{nat_cmp, is_lt}
 use Rattle.std.specs.Cmp.Lexicographic.{slice_cmp}
 use Rattle.std.proofs.Common.{arith, get_or, subst}
@@ -16,9 +16,11 @@ above_from_rises : (t : List ℕ × List ℕ) (ts : TagList) → Rises (t ∷ ts
 above_from_rises t [] up = refl
 above_from_rises t (u ∷ us) up =
     let first : is_less t.0 u.0 ≡ true = up.each 0 t (omega arith) in
-    let rest : Rises (u ∷ us) (length (u ∷ us)) = record { each = λ k d h.
-        let e : suc k + 1 ≡ suc (k + 1) = omega arith in
-        subst (λ n. is_less (get_or (u ∷ us) k d).0 (get_or (t ∷ (u ∷ us)) n d).0 ≡ true) e (up.each (suc k) d (omega arith)) } in
+    let rest : Rises (u ∷ us) (length (u ∷ us)) = record {
+      each = λ k d h.
+          let e : suc k + 1 ≡ suc (k + 1) = omega arith in
+          subst (λ n. is_less (get_or (u ∷ us) k d).0 (get_or (t ∷ (u ∷ us)) n d).0 ≡ true) e (up.each (suc k) d (omega arith));
+    } in
     rw (first, above_from_rises u us rest) refl
 
 pub ascending_from_rises : (ts : TagList) → Rises ts (length ts) → IsAscending ts

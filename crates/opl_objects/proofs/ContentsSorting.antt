@@ -1,5 +1,5 @@
 -- Tags that are sorted by their keys, the first of each key kept.
-use Rattle.std.specs.Prelude.{◌≡◌, ◌<◌, ◌≤◌, ◌+◌, ◌&&◌, ℕ, suc, List, [], ◌∷◌, Bool, true, false, not, cond, Option, Some, length, refl}
+use Rattle.std.specs.Prelude.{◌≡◌, ◌+◌, ◌&&◌, ℕ, suc, List, [], ◌∷◌, Bool, true, false, not, cond, Some, refl}
 use Rattle.std.specs.Ordering.{nat_cmp, is_lt, is_eq, ordering_reverse}
 use Rattle.std.specs.declared.cmp.Ordering.{Ordering}
 use Rattle.std.specs.declared.cmp.Ordering.TheVariants.{Less, Equal, Greater}
@@ -66,8 +66,8 @@ rising_from_sorted : (t : List ℕ × List ℕ) (ts : TagList) → IsSortedBy by
 rising_from_sorted t [] up = tt
 rising_from_sorted t (u ∷ us) up =
     let rest : IsSortedBy by_key (u ∷ us) = λ k d low h.
-        let e : suc k + 1 ≡ suc (k + 1) = omega arith in
-        subst (λ n. by_key (get_or (t ∷ (u ∷ us)) n d) (get_or (u ∷ us) k d) ≡ false) e (up (suc k) d (omega arith) (omega arith)) in
+    let e : suc k + 1 ≡ suc (k + 1) = omega arith in
+    subst (λ n. by_key (get_or (t ∷ (u ∷ us)) n d) (get_or (u ∷ us) k d) ≡ false) e (up (suc k) d (omega arith) (omega arith)) in
     (up 0 t (omega arith) (omega arith), rising_from_sorted u us rest)
 
 rising_same : (t u : List ℕ × List ℕ) (us : TagList) → u.0 ≡ t.0 → Rising u us → Rising t us

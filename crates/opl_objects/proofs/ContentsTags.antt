@@ -4,7 +4,7 @@ use Rattle.std.proofs.Common.{◌∙◌, ap, subst, sym, Bor}
 use Rattle.opl_lexer.specs.declared.fault.FaultKind.TheVariants.{BadTag}
 use Rattle.opl_lexer.specs.declared.fault.LexError.{LexError}
 use Rattle.opl_lexer.specs.Pieces.{pieces}
-use Rattle.opl_lexer.specs.Contents.{Held, Good, Bad, both, but_bad, text_of, tag_in, tag_of}
+use Rattle.opl_lexer.specs.Contents.{Good, Bad, both, but_bad, text_of, tag_in, tag_of}
 use Rattle.opl_objects.specs.Cutting.{other_pieces}
 use Rattle.opl_objects.specs.Outcomes.{IsBad}
 use Rattle.opl_objects.proofs.ContentsCuts.{by_other_piece}

@@ -1,18 +1,17 @@
 //! The contents of the fields that hold lists.
-ghost use Rattle.std.specs.Prelude.{◌≡◌, ◌==◌, ◌||◌, length, slice_index, drop, pos, IfOk, IfErr, IfSome, IfNone, option_copied, IsTrue, ℕ, List, false};
+ghost use Rattle.std.specs.Prelude.{◌≡◌, ◌==◌, ◌||◌, false, IfOk, IfErr, IfSome, IfNone, drop, option_copied, slice_index};
 ghost use Rattle.opl_lexer.specs.Pieces.{pieces};
 ghost use Rattle.opl_lexer.specs.Numbers.{is_digit};
-ghost use Rattle.opl_lexer.specs.Contents.{items, or_fault, text_of, tag_of, is_run, is_place, number_in, ref_of, key_of, member_of, list_of};
+ghost use Rattle.opl_lexer.specs.Contents.{items, or_fault, text_of, is_run, is_place, number_in, ref_of, key_of, member_of, list_of};
 ghost use Rattle.opl_objects.specs.Cutting.{other_pieces, is_letter};
 ghost use Rattle.opl_objects.specs.Outcomes.{IsGood, IsBad};
 ghost use Rattle.opl_lexer.specs.declared.fault.FaultKind.TheVariants.{BadRef};
 
 use crate::cut::at_first;
+pub use crate::tag_list::tags;
 use opl_lexer::{FaultKind, LexError, unescape, whole};
 use road_base::{Key, Member, Members, NodeId, Refs, RelationId, Text, WayId};
 use std::alloc::Global;
-
-pub use crate::tag_list::tags;
 
 /// The most items of a list.
 pub const MOST_ITEMS: usize = 65_535;

@@ -1,5 +1,5 @@
 //! Where a text is cut.
-ghost use Rattle.std.specs.Prelude.{◌≡◌, ◌∷◌, ◌<◌, IfNone, IfSome, List, ℕ, [], length, option_copied};
+ghost use Rattle.std.specs.Prelude.{◌≡◌, ◌∷◌, ◌<◌, IfNone, IfSome, option_copied};
 ghost use Rattle.opl_lexer.specs.Pieces.{pieces, Lacks, IsCutAt};
 ghost use Rattle.opl_objects.specs.Cutting.{other_pieces};
 

@@ -1,4 +1,4 @@
-use Rattle.std.proofs.Common.{arith, rules, ◌<◌, length, slice_index}
+use Rattle.std.proofs.Common.{rules, ◌<◌, length, slice_index}
 use Rattle.std.proofs.lemmas.Str.{IsCharBoundary-after_ascii}
 use Rattle.opl_objects.proofs.contents.letter.Goals as goal
 

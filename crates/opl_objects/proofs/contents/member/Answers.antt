@@ -1,4 +1,4 @@
-use Rattle.std.proofs.Common.{◌≡◌, sym, ◌∙◌, ap, Some, refl}
+use Rattle.std.proofs.Common.{sym, ◌∙◌, ap, Some, refl}
 use Rattle.opl_lexer.specs.Contents.{text_of, member_with, member_of}
 use Rattle.opl_objects.proofs.ContentsFaults.{bad_through}
 use Rattle.opl_objects.proofs.ContentsMembers.{member_cut, member_uncut}

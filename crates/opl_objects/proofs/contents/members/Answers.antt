@@ -1,5 +1,5 @@
-use Rattle.std.proofs.Common.{arith, ◌≡◌, ◌<◌, ◌≤◌, ◌∷◌, [], length, option_copied, sym, ◌∙◌, ap}
-use Rattle.opl_lexer.specs.Contents.{Good, member_of, list_of}
+use Rattle.std.proofs.Common.{arith, ◌≡◌, ◌<◌, length, option_copied, ◌∙◌, ap}
+use Rattle.opl_lexer.specs.Contents.{member_of}
 use Rattle.opl_objects.specs.Cutting.{other_pieces}
 use Rattle.opl_objects.proofs.ContentsCuts.{some_piece}
 use Rattle.opl_objects.proofs.ContentsLists.{read_more, read_too_many, read_all}

@@ -1,4 +1,4 @@
-use Rattle.std.proofs.Common.{◌≡◌, ◌∷◌, ℤ, Option, None, true, false, is_some, sym, ◌∙◌, ap, refl}
+use Rattle.std.proofs.Common.{◌≡◌, ◌∷◌, ℤ, Option, None, true, is_some, sym, ◌∙◌, ap, refl}
 use Rattle.opl_lexer.specs.Contents.{number_in}
 use Rattle.opl_objects.proofs.ContentsCuts.{by_other_piece, two_cuts}
 use Rattle.opl_objects.proofs.contents.number_before_place.Goals as goal

@@ -1,5 +1,5 @@
-use Rattle.std.proofs.Common.{arith, ◌≡◌, ◌<◌, ◌≤◌, ◌∷◌, [], length, option_copied, sym, ◌∙◌, ap}
-use Rattle.opl_lexer.specs.Contents.{Good, ref_of, list_of}
+use Rattle.std.proofs.Common.{arith, ◌≡◌, ◌<◌, length, option_copied, sym, ◌∙◌, ap}
+use Rattle.opl_lexer.specs.Contents.{ref_of}
 use Rattle.opl_lexer.specs.declared.fault.FaultKind.TheVariants.{BadRef}
 use Rattle.opl_objects.specs.Cutting.{other_pieces}
 use Rattle.opl_objects.proofs.ContentsCuts.{some_piece}

@@ -1,6 +1,5 @@
-use Rattle.std.proofs.Common.{arith, ◌≡◌, ◌<◌, ◌≤◌, ◌+◌, length, slice_index, ◌∙◌, sym, ap, drop, take}
+use Rattle.std.proofs.Common.{arith, ◌≡◌, ◌<◌, ◌+◌, length, slice_index, drop, take}
 use Rattle.std.proofs.lemmas.Str.{IsCharBoundary-after_ascii}
-use Rattle.opl_lexer.specs.Pieces.{pieces, Lacks, IsCutAt}
 use Rattle.opl_objects.proofs.ContentsCuts.{IsBehind, cut_here, lacks_all, pieces_first, pieces_alone}
 use Rattle.opl_objects.proofs.cut.at_first.Goals as goal
 

@@ -1,10 +1,6 @@
-use Rattle.std.proofs.Common.{rules, ◌≡◌, List, ℕ, sym, ◌∙◌, ap, subst}
+use Rattle.std.proofs.Common.{rules, ◌≡◌, ◌∙◌}
 use Rattle.std.specs.Ordering.{is_lt}
-use Rattle.std.specs.Fn.{ComparesAs}
-use Rattle.std.specs.List.{dedup}
-use Rattle.std.specs.List.Sorted.{IsSortedBy, IsStableBy}
 use Rattle.std.proofs.lemmas.Fn.{always_returns_same, dedup_same}
-use Rattle.road_base.specs.Tags.{IsAscending, value_of}
 use Rattle.opl_objects.proofs.ContentsSorting.{by_key, same_key, by_key-order, values_sorted, ascending_deduped, values_deduped}
 use Rattle.opl_objects.proofs.tag_list.in_order.Goals as goal
 

@@ -1,5 +1,5 @@
-use Rattle.std.proofs.Common.{arith, length}
-use Rattle.opl_objects.proofs.ContentsOrder.{Rises, ascending_from_rises, rises_short}
+use Rattle.std.proofs.Common.{arith}
+use Rattle.opl_objects.proofs.ContentsOrder.{ascending_from_rises, rises_short}
 use Rattle.opl_objects.proofs.tag_list.is_ascending.Goals as goal
 
 pub returns : goal.returns

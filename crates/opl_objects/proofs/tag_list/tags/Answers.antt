@@ -1,4 +1,3 @@
-use Rattle.opl_lexer.specs.Spelling.{AreTags}
 use Rattle.opl_objects.proofs.tag_list.tags.Goals as goal
 
 pub returns-in-Ok-in_order-clause-ok : goal.returns-in-Ok-in_order-clause-ok
