@@ -1,3 +1,5 @@
 pub mod Cutting
+pub mod LineLetters
+pub mod LineParts
 pub mod Outcomes
 pub mod Feeding

@@ -7,7 +7,9 @@
 mod contents;
 mod cut;
 mod fault;
+mod letters;
 mod line;
+mod parts;
 mod reader;
 mod tag_list;
 

@@ -1,0 +1,39 @@
+-- The letters that fields begin with, and which of them stood.
+use Rattle.std.specs.Prelude.{◌≡◌, ℕ, List, Bool, false, length, count_by, slice_index_or}
+use Rattle.opl_lexer.specs.Faults.{stands, version_letter, deletion_letter, tags_letter, lon_letter, lat_letter, refs_letter, members_letter}
+use Rattle.opl_objects.specs.declared.letters.Letter.{Letter}
+use Rattle.opl_objects.specs.declared.letters.Letter.TheVariants.{Version, Deletion, Changeset, Timestamp, UserId, User, Tags, Lon, Lat, Refs, Members}
+
+-- the byte that the letter is
+abbrev pub byte_of : Letter → ℕ
+byte_of Version = version_letter
+byte_of Deletion = deletion_letter
+byte_of Changeset = 99  -- c
+byte_of Timestamp = 116  -- t
+byte_of UserId = 105  -- i
+byte_of User = 117  -- u
+byte_of Tags = tags_letter
+byte_of Lon = lon_letter
+byte_of Lat = lat_letter
+byte_of Refs = refs_letter
+byte_of Members = members_letter
+
+-- where the letter is marked
+abbrev pub place_of : Letter → ℕ
+place_of Version = 0
+place_of Deletion = 1
+place_of Changeset = 2
+place_of Timestamp = 3
+place_of UserId = 4
+place_of User = 5
+place_of Tags = 6
+place_of Lon = 7
+place_of Lat = 8
+place_of Refs = 9
+place_of Members = 10
+
+-- the letters of these fields are marked and no others, each once
+pub record AreMarked (fields : List (List ℕ)) (marks : List Bool) : Type 0 where
+  pub size : length marks ≡ 11
+  pub each : (letter : Letter) → slice_index_or marks (place_of letter) false ≡ stands (byte_of letter) fields
+  pub count : count_by (λ mark. mark) marks ≡ length fields
