@@ -6,3 +6,7 @@ pub mod ContentsFaults
 pub mod ContentsTags
 pub mod ContentsOrder
 pub mod ContentsSorting
+pub mod LineMarks
+pub mod LineHolds
+pub mod LineEvents
+pub mod LineFields

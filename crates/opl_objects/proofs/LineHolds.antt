@@ -1,0 +1,108 @@
+-- What a field more changes in what the fields hold.
+use Rattle.std.proofs.Common.{◌≡◌, ◌==◌, ◌||◌, ℕ, List, [], ◌∷◌, ◌++◌, Bool, true, false, cond, drop, Option, Some, None, refl, sym, ap, ◌∙◌, subst, inl, inr, arith}
+use Rattle.std.specs.List.{find}
+use Rattle.std.specs.Option.{option_map, option_or}
+use Rattle.std.specs.Str.Parse.{digits_value}
+use Rattle.std.proofs.lemmas.Bool.{cases_eq}
+use Rattle.std.proofs.lemmas.Bool.Decides.{nat_tests, Decides-eqb}
+use Rattle.std.proofs.lemmas.List.Folds.{find-append}
+use Rattle.opl_lexer.specs.Numbers.{version_of}
+use Rattle.opl_lexer.specs.Contents.{Good, Bad, list_of, ref_of, member_of}
+use Rattle.opl_lexer.specs.Faults.{letter, stands, contents_fault}
+use Rattle.opl_lexer.specs.Spelling.{held, AreTags}
+use Rattle.opl_objects.specs.declared.letters.Letter.{Letter}
+use Rattle.opl_objects.specs.declared.letters.Letter.TheVariants.{Version, Deletion, Changeset, Timestamp, UserId, User, Tags, Lon, Lat, Refs, Members}
+use Rattle.opl_objects.specs.declared.parts.Parts.{Parts}
+use Rattle.opl_objects.specs.LineLetters.{byte_of}
+use Rattle.opl_objects.specs.LineParts.{Holds, Puts, flag_in, good_axis, text_held}
+
+-- what stands behind each letter, with one text more
+abbrev pub with_text : (ℕ → Option (List ℕ)) → ℕ → List ℕ → ℕ → Option (List ℕ)
+with_text found b text c = cond (c == b) (Some text) (found c)
+
+pub not_held : (b : ℕ) (fields : List (List ℕ)) → stands b fields ≡ false → find (λ f. letter f == b) fields ≡ None
+not_held b [] none = refl
+not_held b (f ∷ fs) none =
+    let first : (letter f == b) ≡ false = grind arith in
+    let others : stands b fs ≡ false = grind arith in
+    rw first (not_held b fs others)
+
+or_none : (o : Option (List ℕ)) → option_or o None ≡ o
+or_none None = refl
+or_none (Some field) = refl
+
+held_here : (fields : List (List ℕ)) (field : List ℕ) (c : ℕ) → stands c fields ≡ false → (letter field == c) ≡ true → Some (drop 1 field) ≡ held c (fields ++ field ∷ [])
+held_here fields field c new here = rw (find-append (λ f. letter f == c) fields (field ∷ []), not_held c fields new, here) refl
+
+held_before : (fields : List (List ℕ)) (field : List ℕ) (c : ℕ) → (letter field == c) ≡ false → held c fields ≡ held c (fields ++ field ∷ [])
+held_before fields field c other = rw (find-append (λ f. letter f == c) fields (field ∷ []), other, or_none (find (λ f. letter f == c) fields)) refl
+
+-- a letter that is new
+pub held_more : (fields : List (List ℕ)) (field : List ℕ) (b : ℕ) → letter field ≡ b → stands b fields ≡ false → (c : ℕ) → with_text (λ a. held a fields) b (drop 1 field) c ≡ held c (fields ++ field ∷ [])
+held_more fields field b here new c =
+    elim (cases_eq c b) [
+      inl same ↦
+        let chosen : (c == b) ≡ true = (Decides-eqb c b).1 same in
+        let found : (letter field == c) ≡ true = (Decides-eqb (letter field) c).1 (here ∙ sym same) in
+        rw chosen (held_here fields field c (subst (λ a. stands a fields ≡ false) (sym same) new) found)
+      | inr other ↦
+        let chosen : (c == b) ≡ false = grind (arith, nat_tests) in
+        let passed : (letter field == c) ≡ false = grind (arith, nat_tests) in
+        rw chosen (held_before fields field c passed)
+    ]
+
+pub holds_same : (g h : ℕ → Option (List ℕ)) (parts : Parts) → ((c : ℕ) → g c ≡ h c) → Holds g parts → Holds h parts
+holds_same g h parts same holds = record {
+  version = rw (← same 118) holds.version;
+  deleted = rw (← same 100) holds.deleted;
+  tags = rw (← same 84) holds.tags;
+  lon = rw (← same 120) holds.lon;
+  lat = rw (← same 121) holds.lat;
+  refs = rw (← same 78) holds.refs;
+  members = rw (← same 77) holds.members;
+}
+
+version_value : (text : List ℕ) (n : ℕ) → version_of text ≡ Some n → n ≡ digits_value 10 text
+unfolding version_of
+version_value text n e = cc
+
+pub put_holds : (l : Letter) (found : ℕ → Option (List ℕ)) (text : List ℕ) (old new : Parts) → Puts l text old new → Holds found old → Holds (with_text found (byte_of l) text) new
+put_holds Version found text old new put holds = subst (Holds (with_text found 118 text)) (sym put.1) (record { version = version_value text new.version put.0; deleted = holds.deleted; tags = holds.tags; lon = holds.lon; lat = holds.lat; refs = holds.refs; members = holds.members; })
+put_holds Deletion found text old new put holds = subst (Holds (with_text found 100 text)) (sym put.1) (record { version = holds.version; deleted = sym (ap flag_in put.0); tags = holds.tags; lon = holds.lon; lat = holds.lat; refs = holds.refs; members = holds.members; })
+put_holds Tags found text old new put holds = subst (Holds (with_text found 84 text)) (sym put.1) (record { version = holds.version; deleted = holds.deleted; tags = put.0; lon = holds.lon; lat = holds.lat; refs = holds.refs; members = holds.members; })
+put_holds Lon found text old new put holds = subst (Holds (with_text found 120 text)) (sym put.1) (record { version = holds.version; deleted = holds.deleted; tags = holds.tags; lon = sym (ap good_axis put.0); lat = holds.lat; refs = holds.refs; members = holds.members; })
+put_holds Lat found text old new put holds = subst (Holds (with_text found 121 text)) (sym put.1) (record { version = holds.version; deleted = holds.deleted; tags = holds.tags; lon = holds.lon; lat = sym (ap good_axis put.0); refs = holds.refs; members = holds.members; })
+put_holds Refs found text old new put holds = subst (Holds (with_text found 78 text)) (sym put.1) (record { version = holds.version; deleted = holds.deleted; tags = holds.tags; lon = holds.lon; lat = holds.lat; refs = put.0; members = holds.members; })
+put_holds Members found text old new put holds = subst (Holds (with_text found 77 text)) (sym put.1) (record { version = holds.version; deleted = holds.deleted; tags = holds.tags; lon = holds.lon; lat = holds.lat; refs = holds.refs; members = put.0; })
+put_holds Changeset found text old new put holds = subst (Holds (with_text found 99 text)) (sym put) (record { version = holds.version; deleted = holds.deleted; tags = holds.tags; lon = holds.lon; lat = holds.lat; refs = holds.refs; members = holds.members; })
+put_holds Timestamp found text old new put holds = subst (Holds (with_text found 116 text)) (sym put) (record { version = holds.version; deleted = holds.deleted; tags = holds.tags; lon = holds.lon; lat = holds.lat; refs = holds.refs; members = holds.members; })
+put_holds UserId found text old new put holds = subst (Holds (with_text found 105 text)) (sym put) (record { version = holds.version; deleted = holds.deleted; tags = holds.tags; lon = holds.lon; lat = holds.lat; refs = holds.refs; members = holds.members; })
+put_holds User found text old new put holds = subst (Holds (with_text found 117 text)) (sym put) (record { version = holds.version; deleted = holds.deleted; tags = holds.tags; lon = holds.lon; lat = holds.lat; refs = holds.refs; members = holds.members; })
+
+-- no letter changes what stood
+pub put_seen : (l : Letter) (text : List ℕ) (old new : Parts) → Puts l text old new → new.seen ≡ old.seen
+put_seen Version text old new put = ap (λ p. p.seen) put.1
+put_seen Deletion text old new put = ap (λ p. p.seen) put.1
+put_seen Tags text old new put = ap (λ p. p.seen) put.1
+put_seen Lon text old new put = ap (λ p. p.seen) put.1
+put_seen Lat text old new put = ap (λ p. p.seen) put.1
+put_seen Refs text old new put = ap (λ p. p.seen) put.1
+put_seen Members text old new put = ap (λ p. p.seen) put.1
+put_seen Changeset text old new put = ap (λ p. p.seen) put
+put_seen Timestamp text old new put = ap (λ p. p.seen) put
+put_seen UserId text old new put = ap (λ p. p.seen) put
+put_seen User text old new put = ap (λ p. p.seen) put
+
+-- what is put is good
+pub put_good : (l : Letter) (text : List ℕ) (old new : Parts) → Puts l text old new → contents_fault (byte_of l) text ≡ None
+put_good Version text old new put = rw put.0 refl
+put_good Deletion text old new put = rw put.0 refl
+put_good Tags text old new put = rw put.0.read refl
+put_good Lon text old new put = rw put.0 refl
+put_good Lat text old new put = rw put.0 refl
+put_good Refs text old new put = rw put.0 refl
+put_good Members text old new put = rw put.0 refl
+put_good Changeset text old new put = refl
+put_good Timestamp text old new put = refl
+put_good UserId text old new put = refl
+put_good User text old new put = refl
