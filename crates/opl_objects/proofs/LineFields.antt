@@ -1,16 +1,20 @@
 -- A field more, in a line that is good so far.
-use Rattle.std.proofs.Common.{◌≡◌, ◌==◌, ◌+◌, ◌≤◌, ℕ, List, [], ◌∷◌, ◌++◌, Bool, true, false, cond, drop, length, set, get_or, Option, Some, None, refl, sym, ap, ◌∙◌, subst, arith}
+use Rattle.std.proofs.Common.{◌≡◌, ◌==◌, ◌+◌, ◌≤◌, ℕ, List, [], ◌∷◌, ◌++◌, Bool, true, false, cond, drop, length, set, get_or, Option, Some, None, refl, sym, ap, ◌∙◌, subst, append_assoc, append-nil, length-append, arith}
 use Rattle.std.specs.List.{list_any}
 use Rattle.road_base.specs.declared.ids.Key.{Key}
 use Rattle.opl_lexer.specs.declared.fault.FaultKind.{FaultKind}
 use Rattle.opl_lexer.specs.declared.fault.FaultKind.TheVariants.{UnknownField, Repeated}
-use Rattle.opl_lexer.specs.Faults.{letter, letters_of, stands, is_known, contents_fault, field_fault, first_bad}
+use Rattle.opl_lexer.specs.Faults.{letter, letters_of, stands, is_known, contents_fault, field_fault, at_field, first_bad}
 use Rattle.opl_lexer.specs.Spelling.{held}
+use Rattle.opl_lexer.specs.declared.fault.LexError.{LexError}
+use Rattle.opl_lexer.specs.declared.fault.LexError.TheVariants.{Kind, NoMemory as NoRoom}
+use Rattle.opl_objects.specs.declared.line.LineError.{LineError}
+use Rattle.opl_objects.specs.declared.line.LineError.TheVariants.{Fault, NoMemory}
 use Rattle.opl_objects.specs.declared.letters.Letter.{Letter}
 use Rattle.opl_objects.specs.declared.letters.Seen.{Seen}
 use Rattle.opl_objects.specs.declared.parts.Parts.{Parts}
 use Rattle.opl_objects.specs.LineLetters.{byte_of, place_of, AreMarked}
-use Rattle.opl_objects.specs.LineParts.{Holds, AreRead, Puts}
+use Rattle.opl_objects.specs.LineParts.{IsFault, IsFaultAt, Holds, AreRead, Puts}
 use Rattle.opl_objects.proofs.LineMarks.{marked_more, few_fields}
 use Rattle.opl_objects.proofs.LineHolds.{with_text, held_more, holds_same, put_holds, put_seen}
 
@@ -82,3 +86,42 @@ to_none key fields parts read = record { earlier = []; split = refl; bad = refl;
 
 pub to_few : (key : Key) (fields left : List (List ℕ)) (number : ℕ) (parts : Parts) → IsReadTo key fields left number parts → number ≤ 13
 to_few key fields left number parts to = let count = to.count in omega (arith, few_fields to.earlier parts.seen.marks to.read.marked)
+
+pub to_more : (key : Key) (fields left rest : List (List ℕ)) (field : List ℕ) (number : ℕ) (old new : Parts) → IsReadTo key fields left number old → left ≡ field ∷ rest
+    → ((earlier : List (List ℕ)) → AreRead earlier old → field_fault key earlier field ≡ None)
+    → ((earlier : List (List ℕ)) → AreRead earlier old → AreRead (earlier ++ field ∷ []) new)
+    → IsReadTo key fields rest (number + 1) new
+to_more key fields left rest field number old new to here good read =
+    let count = to.count in
+    let behind = bad_behind key to.earlier field rest (good to.earlier to.read) in
+    record {
+      earlier = to.earlier ++ field ∷ [];
+      split = to.split ∙ (ap (λ xs. to.earlier ++ xs) here ∙ sym (append_assoc to.earlier (field ∷ []) rest));
+      bad = to.bad ∙ (ap (first_bad key to.earlier) here ∙ behind);
+      count = omega (arith, length-append to.earlier (field ∷ []));
+      read = read to.earlier to.read;
+    }
+
+pub to_all : (key : Key) (fields left : List (List ℕ)) (number : ℕ) (parts : Parts) → IsReadTo key fields left number parts → left ≡ [] → (first_bad key [] fields ≡ None) × AreRead fields parts
+to_all key fields left number parts to end =
+    let all : fields ≡ to.earlier = to.split ∙ (ap (λ xs. to.earlier ++ xs) end ∙ append-nil to.earlier) in
+    (to.bad ∙ (ap (first_bad key to.earlier) end ∙ bad_none key to.earlier), subst (λ fs. AreRead fs parts) (sym all) to.read)
+
+never_some : (x : ℕ × FaultKind) → None ≡ Some x → ⊥
+never_some x e = cc
+
+-- a field that is in fault, or memory ended
+fault_told : (fault : Option (ℕ × FaultKind)) (field : Option FaultKind) (number : ℕ) (error : LexError) (result : LineError)
+    → ((kind : FaultKind) → field ≡ Some kind → fault ≡ Some (number, kind)) → IsFault field error
+    → ((f : Option FaultKind) → IsFault f error → IsFaultAt (at_field number f) result) → IsFaultAt fault result
+fault_told fault field number (Kind kind) result first is told = subst (λ f. IsFaultAt f result) (sym (first kind is)) (told (Some kind) refl)
+fault_told fault field number NoRoom (Fault k kind) first is told = absurd (never_some (k, kind) (told None tt))
+fault_told fault field number NoRoom NoMemory first is told = tt
+
+pub to_fault : (key : Key) (fields left rest : List (List ℕ)) (field : List ℕ) (number : ℕ) (parts : Parts) (error : LexError) (result : LineError) → IsReadTo key fields left number parts → left ≡ field ∷ rest
+    → ((earlier : List (List ℕ)) → AreRead earlier parts → IsFault (field_fault key earlier field) error)
+    → ((f : Option FaultKind) → IsFault f error → IsFaultAt (at_field number f) result) → IsFaultAt (first_bad key [] fields) result
+to_fault key fields left rest field number parts error result to here fault told =
+    fault_told (first_bad key [] fields) (field_fault key to.earlier field) number error result
+    (λ kind e. to.bad ∙ (ap (first_bad key to.earlier) here ∙ (bad_first key to.earlier field rest kind e ∙ ap (λ k. Some (k, kind)) (sym to.count))))
+    (fault to.earlier to.read) told

@@ -62,9 +62,12 @@ holds_same g h parts same holds = record {
   members = rw (← same 77) holds.members;
 }
 
+some_is : (b : Bool) (v n : ℕ) → cond b (Some v) None ≡ Some n → n ≡ v
+some_is true v n e = cc
+some_is false v n e = cc
+
 version_value : (text : List ℕ) (n : ℕ) → version_of text ≡ Some n → n ≡ digits_value 10 text
-unfolding version_of
-version_value text n e = cc
+version_value text n e = some_is _ (digits_value 10 text) n e
 
 pub put_holds : (l : Letter) (found : ℕ → Option (List ℕ)) (text : List ℕ) (old new : Parts) → Puts l text old new → Holds found old → Holds (with_text found (byte_of l) text) new
 put_holds Version found text old new put holds = subst (Holds (with_text found 118 text)) (sym put.1) (record { version = version_value text new.version put.0; deleted = holds.deleted; tags = holds.tags; lon = holds.lon; lat = holds.lat; refs = holds.refs; members = holds.members; })
