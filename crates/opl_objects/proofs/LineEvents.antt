@@ -1,18 +1,24 @@
 -- The event that good fields make.
 use Rattle.std.proofs.Common.{◌≡◌, ◌≤◌, ℕ, ℤ, pos, neg_ℤ, List, [], ◌∷◌, Bool, true, false, cond, Option, Some, None, IsTrue, refl, sym, ap, ◌∙◌, subst, arith}
-use Rattle.std.specs.Option.{option_map, option_and_then}
-use Rattle.std.specs.Int.{int_lt}
+use Rattle.std.specs.Option.{option_map, option_or, option_and_then}
+use Rattle.std.specs.Prelude.{int_lt}
 use Rattle.std.proofs.lemmas.Int.{ints}
 use Rattle.road_base.specs.Ranges.{is_within}
 use Rattle.road_base.specs.declared.ids.Key.{Key}
 use Rattle.road_base.specs.declared.location.Location.{Location}
-use Rattle.opl_lexer.specs.declared.fault.FaultKind.TheVariants.{BadCoordinate}
+use Rattle.opl_lexer.specs.declared.fault.FaultKind.{FaultKind}
+use Rattle.opl_lexer.specs.declared.fault.FaultKind.TheVariants.{BadCoordinate, NoVersion}
+use Rattle.opl_lexer.specs.declared.mode.Mode.{Mode}
+use Rattle.opl_lexer.specs.declared.mode.Mode.TheVariants.{Change}
+use Rattle.opl_lexer.specs.Faults.{stands, version_letter, first_bad, fault_behind}
+use Rattle.opl_objects.specs.declared.line.LineError.{LineError}
+use Rattle.opl_objects.specs.declared.line.LineError.TheVariants.{Fault, NoMemory}
 use Rattle.opl_lexer.specs.Pieces.{pieces}
 use Rattle.opl_lexer.specs.Numbers.{magnitude, signed, up_to, units_in}
 use Rattle.std.specs.Str.Parse.{starts_with_minus}
 use Rattle.opl_lexer.specs.Contents.{or_fault, axis_of}
 use Rattle.opl_lexer.specs.Spelling.{HasPlace}
-use Rattle.opl_objects.specs.LineParts.{IsAxis, good_axis, axis_held, text_held}
+use Rattle.opl_objects.specs.LineParts.{IsFaultAt, IsAxis, good_axis, axis_held, text_held}
 
 pub placed : (lon lat : Option ℤ) (a b : ℤ) (l : Location) → lon ≡ Some a → lat ≡ Some b → l.lon ≡ a → l.lat ≡ b → HasPlace lon lat (Some l)
 placed (Some x) (Some y) a b l e f p q = (l, refl, cc, cc)
@@ -39,3 +45,13 @@ axis_range m (b ∷ bs) = units_range m (b ∷ bs) (units_in (pieces 46 (magnitu
 
 pub held_range : (m : ℕ) (text : Option (List ℕ)) (axis : Option ℤ) → axis ≡ axis_held (pos m) text → IsAxis (pos m) axis
 held_range m text axis e = subst (IsAxis (pos m)) (sym e) (axis_range m (text_held text))
+
+-- ---- faults
+
+pub told_first : (first second : Option (ℕ × FaultKind)) (error : LineError) → IsFaultAt first error → IsFaultAt (option_or first second) error
+told_first (Some f) second error told = told
+told_first None second (Fault field kind) told = cc
+told_first None second NoMemory told = tt
+
+pub told_version : (mode : Mode) (key : Key) (others : List (List ℕ)) → mode ≡ Change → first_bad key [] others ≡ None → stands version_letter others ≡ false → fault_behind mode (Some key) others ≡ Some (0, NoVersion)
+told_version mode key others change good none = rw (change, good, none) refl

@@ -57,7 +57,9 @@ fn read_object(
         return Err(BAD_NUMBER);
     };
     let mut parts = Parts::new(alloc);
-    parts.read(alloc, key, others)?;
+    if let Err(error) = parts.read(alloc, key, others) {
+        return Err(error);
+    }
     if mode == Mode::Change && !parts.has_version() {
         return Err(NO_VERSION);
     }
