@@ -28,12 +28,12 @@ returns-then-not-has_version-clause-err c =
     let others = fields_left c.args.others in
     let key : Some c.in-Some.key ≡ key_of c.args.object.now = sym c.in-Some.is ∙ c.key.ensures in
     let change : c.args.mode ≡ Change = same_true the_type (search rules) _ _ (sym c.eq.ensures ∙ c.if-eq.true) in
-    let read = c.in_default-read.ensures tt in
+    let read = c.in_default-read.ensures in
     subst (λ (k : Option Key). fault_behind c.args.mode k others ≡ Some (0, NoVersion)) key
-    (told_version c.args.mode c.in-Some.key others change read.good (sym (c.has_version.ensures others read.read) ∙ ?))
+    (told_version c.args.mode c.in-Some.key others change read.good (sym (c.has_version.ensures others read.read) ∙ c.if-not-has_version.true))
 
 pub returns-clause-key : goal.returns-clause-key
 returns-clause-key c =
     let key : key_of c.args.object.now ≡ Some c.in-Some.key = sym c.key.ensures ∙ c.in-Some.is in
-    let read = c.in_default-read.ensures tt in
+    let read = c.in_default-read.ensures in
     key ∙ ap Some (sym (c.event.ensures (fields_left c.args.others) read.read).same)
