@@ -10,3 +10,4 @@ pub mod LineMarks
 pub mod LineHolds
 pub mod LineEvents
 pub mod LineFields
+pub mod LineWhole

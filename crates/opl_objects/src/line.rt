@@ -1,5 +1,6 @@
 //! One line.
-ghost use Rattle.std.specs.Prelude.{◌≡◌, None, Some, IfOk, IfErr};
+ghost use Rattle.std.specs.Prelude.{◌≡◌, ◌==◌, ◌||◌, None, Some, IfOk, IfErr, codes};
+ghost use Rattle.std.specs.List.{list_any};
 ghost use Rattle.opl_lexer.specs.Contents.{key_of};
 ghost use Rattle.opl_lexer.specs.Faults.{fault_behind};
 ghost use Rattle.opl_lexer.specs.Left.{fields_left};
@@ -66,6 +67,22 @@ fn read_object(
     Ok(parts.event(key))
 }
 
+/// Whether a line that begins so is a note or a changeset.
+#[inline]
+fn is_passed(byte: u8) -> bool
+    ensures { result ≡ ((byte == 35) || (byte == 99)) }
+{
+    byte == b'#' || byte == b'c'
+}
+
+/// Whether a line that begins so is an object's.
+#[inline]
+fn is_object(byte: u8) -> bool
+    ensures { result ≡ list_any (λ b. b == byte) (codes "nwr") }
+{
+    byte == b'n' || byte == b'w' || byte == b'r'
+}
+
 /// The same of a line that is known to be text.
 fn read_text(alloc: Global, mode: Mode, line: &str) -> Result<Option<Event>, LineError>
     ensures ok { IfOk result (Says mode line.now) }
@@ -75,13 +92,16 @@ fn read_text(alloc: Global, mode: Mode, line: &str) -> Result<Option<Event>, Lin
     let Some(object) = others.next() else {
         return Ok(None);
     };
-    match first_byte(object) {
-        b'n' | b'w' | b'r' => match read_object(alloc, mode, object, others) {
-            Ok(event) => Ok(Some(event)),
-            Err(error) => Err(error),
-        },
-        b'#' | b'c' => Ok(None),
-        _ => Err(UNKNOWN_LINE),
+    let first = first_byte(object);
+    if is_passed(first) {
+        return Ok(None);
+    }
+    if !is_object(first) {
+        return Err(UNKNOWN_LINE);
+    }
+    match read_object(alloc, mode, object, others) {
+        Ok(event) => Ok(Some(event)),
+        Err(error) => Err(error),
     }
 }
 
