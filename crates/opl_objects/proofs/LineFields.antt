@@ -54,7 +54,7 @@ pub read_more : (l : Letter) (fields : List (List ℕ)) (field text : List ℕ) 
 read_more l fields field text old new seen read here fresh mark behind put =
     let found : ℕ → Option (List ℕ) = λ b. held b fields in
     let marked : Parts = record old { seen = seen } in
-    let before : Holds found marked = record { version = read.holds.version; deleted = read.holds.deleted; tags = read.holds.tags; lon = read.holds.lon; lat = read.holds.lat; refs = read.holds.refs; members = read.holds.members; } in
+    let before : Holds found marked = record { version = read.holds.version; deleted = read.holds.deleted; tags = read.holds.tags; lon = read.holds.lon; lat = read.holds.lat; refs = read.holds.refs; members = read.holds.members } in
     let after = put_holds l found text marked new put before in
     let held_now : (c : ℕ) → with_text found (byte_of l) text c ≡ held c (fields ++ field ∷ []) = subst (λ t. (c : ℕ) → with_text found (byte_of l) t c ≡ held c (fields ++ field ∷ [])) (sym behind) (held_more fields field (byte_of l) here fresh) in
     let marks : new.seen.marks ≡ set old.seen.marks (place_of l) true = ap (λ s. s.marks) (put_seen l text marked new put) ∙ mark in
@@ -82,7 +82,7 @@ pub record IsReadTo (key : Key) (fields left : List (List ℕ)) (number : ℕ) (
   pub read : AreRead earlier parts
 
 pub to_none : (key : Key) (fields : List (List ℕ)) (parts : Parts) → AreRead [] parts → IsReadTo key fields fields 2 parts
-to_none key fields parts read = record { earlier = []; split = refl; bad = refl; count = refl; read = read; }
+to_none key fields parts read = record { earlier = []; split = refl; bad = refl; count = refl; read = read }
 
 pub to_few : (key : Key) (fields left : List (List ℕ)) (number : ℕ) (parts : Parts) → IsReadTo key fields left number parts → number ≤ 13
 to_few key fields left number parts to = let count = to.count in omega (arith, few_fields to.earlier parts.seen.marks to.read.marked)

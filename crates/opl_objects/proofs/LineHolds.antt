@@ -41,14 +41,14 @@ held_before fields field c other = rw (find-append (λ f. letter f == c) fields 
 pub held_more : (fields : List (List ℕ)) (field : List ℕ) (b : ℕ) → letter field ≡ b → stands b fields ≡ false → (c : ℕ) → with_text (λ a. held a fields) b (drop 1 field) c ≡ held c (fields ++ field ∷ [])
 held_more fields field b here new c =
     elim (cases_eq c b) [
-      inl same ↦
-        let chosen : (c == b) ≡ true = (Decides-eqb c b).1 same in
-        let found : (letter field == c) ≡ true = (Decides-eqb (letter field) c).1 (here ∙ sym same) in
-        rw chosen (held_here fields field c (subst (λ a. stands a fields ≡ false) (sym same) new) found)
+      | inl same ↦
+          let chosen : (c == b) ≡ true = (Decides-eqb c b).1 same in
+          let found : (letter field == c) ≡ true = (Decides-eqb (letter field) c).1 (here ∙ sym same) in
+          rw chosen (held_here fields field c (subst (λ a. stands a fields ≡ false) (sym same) new) found)
       | inr other ↦
-        let chosen : (c == b) ≡ false = grind (arith, nat_tests) in
-        let passed : (letter field == c) ≡ false = grind (arith, nat_tests) in
-        rw chosen (held_before fields field c passed)
+          let chosen : (c == b) ≡ false = grind (arith, nat_tests) in
+          let passed : (letter field == c) ≡ false = grind (arith, nat_tests) in
+          rw chosen (held_before fields field c passed)
     ]
 
 pub holds_same : (g h : ℕ → Option (List ℕ)) (parts : Parts) → ((c : ℕ) → g c ≡ h c) → Holds g parts → Holds h parts
@@ -70,17 +70,17 @@ version_value : (text : List ℕ) (n : ℕ) → version_of text ≡ Some n → n
 version_value text n e = some_is _ (digits_value 10 text) n e
 
 pub put_holds : (l : Letter) (found : ℕ → Option (List ℕ)) (text : List ℕ) (old new : Parts) → Puts l text old new → Holds found old → Holds (with_text found (byte_of l) text) new
-put_holds Version found text old new put holds = subst (Holds (with_text found 118 text)) (sym put.1) (record { version = version_value text new.version put.0; deleted = holds.deleted; tags = holds.tags; lon = holds.lon; lat = holds.lat; refs = holds.refs; members = holds.members; })
-put_holds Deletion found text old new put holds = subst (Holds (with_text found 100 text)) (sym put.1) (record { version = holds.version; deleted = sym (ap flag_in put.0); tags = holds.tags; lon = holds.lon; lat = holds.lat; refs = holds.refs; members = holds.members; })
-put_holds Tags found text old new put holds = subst (Holds (with_text found 84 text)) (sym put.1) (record { version = holds.version; deleted = holds.deleted; tags = put.0; lon = holds.lon; lat = holds.lat; refs = holds.refs; members = holds.members; })
-put_holds Lon found text old new put holds = subst (Holds (with_text found 120 text)) (sym put.1) (record { version = holds.version; deleted = holds.deleted; tags = holds.tags; lon = sym (ap good_axis put.0); lat = holds.lat; refs = holds.refs; members = holds.members; })
-put_holds Lat found text old new put holds = subst (Holds (with_text found 121 text)) (sym put.1) (record { version = holds.version; deleted = holds.deleted; tags = holds.tags; lon = holds.lon; lat = sym (ap good_axis put.0); refs = holds.refs; members = holds.members; })
-put_holds Refs found text old new put holds = subst (Holds (with_text found 78 text)) (sym put.1) (record { version = holds.version; deleted = holds.deleted; tags = holds.tags; lon = holds.lon; lat = holds.lat; refs = put.0; members = holds.members; })
-put_holds Members found text old new put holds = subst (Holds (with_text found 77 text)) (sym put.1) (record { version = holds.version; deleted = holds.deleted; tags = holds.tags; lon = holds.lon; lat = holds.lat; refs = holds.refs; members = put.0; })
-put_holds Changeset found text old new put holds = subst (Holds (with_text found 99 text)) (sym put) (record { version = holds.version; deleted = holds.deleted; tags = holds.tags; lon = holds.lon; lat = holds.lat; refs = holds.refs; members = holds.members; })
-put_holds Timestamp found text old new put holds = subst (Holds (with_text found 116 text)) (sym put) (record { version = holds.version; deleted = holds.deleted; tags = holds.tags; lon = holds.lon; lat = holds.lat; refs = holds.refs; members = holds.members; })
-put_holds UserId found text old new put holds = subst (Holds (with_text found 105 text)) (sym put) (record { version = holds.version; deleted = holds.deleted; tags = holds.tags; lon = holds.lon; lat = holds.lat; refs = holds.refs; members = holds.members; })
-put_holds User found text old new put holds = subst (Holds (with_text found 117 text)) (sym put) (record { version = holds.version; deleted = holds.deleted; tags = holds.tags; lon = holds.lon; lat = holds.lat; refs = holds.refs; members = holds.members; })
+put_holds Version found text old new put holds = subst (Holds (with_text found 118 text)) (sym put.1) (record { version = version_value text new.version put.0; deleted = holds.deleted; tags = holds.tags; lon = holds.lon; lat = holds.lat; refs = holds.refs; members = holds.members })
+put_holds Deletion found text old new put holds = subst (Holds (with_text found 100 text)) (sym put.1) (record { version = holds.version; deleted = sym (ap flag_in put.0); tags = holds.tags; lon = holds.lon; lat = holds.lat; refs = holds.refs; members = holds.members })
+put_holds Tags found text old new put holds = subst (Holds (with_text found 84 text)) (sym put.1) (record { version = holds.version; deleted = holds.deleted; tags = put.0; lon = holds.lon; lat = holds.lat; refs = holds.refs; members = holds.members })
+put_holds Lon found text old new put holds = subst (Holds (with_text found 120 text)) (sym put.1) (record { version = holds.version; deleted = holds.deleted; tags = holds.tags; lon = sym (ap good_axis put.0); lat = holds.lat; refs = holds.refs; members = holds.members })
+put_holds Lat found text old new put holds = subst (Holds (with_text found 121 text)) (sym put.1) (record { version = holds.version; deleted = holds.deleted; tags = holds.tags; lon = holds.lon; lat = sym (ap good_axis put.0); refs = holds.refs; members = holds.members })
+put_holds Refs found text old new put holds = subst (Holds (with_text found 78 text)) (sym put.1) (record { version = holds.version; deleted = holds.deleted; tags = holds.tags; lon = holds.lon; lat = holds.lat; refs = put.0; members = holds.members })
+put_holds Members found text old new put holds = subst (Holds (with_text found 77 text)) (sym put.1) (record { version = holds.version; deleted = holds.deleted; tags = holds.tags; lon = holds.lon; lat = holds.lat; refs = holds.refs; members = put.0 })
+put_holds Changeset found text old new put holds = subst (Holds (with_text found 99 text)) (sym put) (record { version = holds.version; deleted = holds.deleted; tags = holds.tags; lon = holds.lon; lat = holds.lat; refs = holds.refs; members = holds.members })
+put_holds Timestamp found text old new put holds = subst (Holds (with_text found 116 text)) (sym put) (record { version = holds.version; deleted = holds.deleted; tags = holds.tags; lon = holds.lon; lat = holds.lat; refs = holds.refs; members = holds.members })
+put_holds UserId found text old new put holds = subst (Holds (with_text found 105 text)) (sym put) (record { version = holds.version; deleted = holds.deleted; tags = holds.tags; lon = holds.lon; lat = holds.lat; refs = holds.refs; members = holds.members })
+put_holds User found text old new put holds = subst (Holds (with_text found 117 text)) (sym put) (record { version = holds.version; deleted = holds.deleted; tags = holds.tags; lon = holds.lon; lat = holds.lat; refs = holds.refs; members = holds.members })
 
 -- no letter changes what stood
 pub put_seen : (l : Letter) (text : List ℕ) (old new : Parts) → Puts l text old new → new.seen ≡ old.seen
