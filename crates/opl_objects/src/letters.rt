@@ -43,6 +43,7 @@ fn common_letter(byte: u8) -> Option<Letter>
     }
 }
 
+/// The letters that a node's fields may have.
 #[inline]
 fn node_letter(byte: u8) -> Option<Letter>
     ensures byte { IfSome result (λ letter. byte_of letter ≡ byte) }
@@ -55,6 +56,7 @@ fn node_letter(byte: u8) -> Option<Letter>
     }
 }
 
+/// The letters that a way's fields may have.
 #[inline]
 fn way_letter(byte: u8) -> Option<Letter>
     ensures byte { IfSome result (λ letter. byte_of letter ≡ byte) }
@@ -66,6 +68,7 @@ fn way_letter(byte: u8) -> Option<Letter>
     }
 }
 
+/// The letters that a relation's fields may have.
 #[inline]
 fn relation_letter(byte: u8) -> Option<Letter>
     ensures byte { IfSome result (λ letter. byte_of letter ≡ byte) }
@@ -91,6 +94,7 @@ pub fn letter_of(key: Key, byte: u8) -> Option<Letter>
 }
 
 impl Letter {
+    /// Where the letter is marked.
     #[inline]
     fn place(self) -> usize
         ensures { result ≡ place_of self }

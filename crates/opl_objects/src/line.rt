@@ -50,9 +50,11 @@ fn read_object(
     others: FieldIter<'_>,
 ) -> Result<Event, LineError>
     ensures key { IfOk result (λ event. key_of object.now ≡ Some event.key) }
-    ensures good { IfOk result (λ event. fault_behind mode (Some event.key) (fields_left others.entry) ≡ None) }
+    ensures good { IfOk result (λ event.
+        fault_behind mode (Some event.key) (fields_left others.entry) ≡ None) }
     ensures event { IfOk result (λ event. IsEvent (fields_left others.entry) event.key event) }
-    ensures err { IfErr result (IsFaultAt (fault_behind mode (key_of object.now) (fields_left others.entry))) }
+    ensures err { IfErr result (IsFaultAt
+        (fault_behind mode (key_of object.now) (fields_left others.entry))) }
 {
     let Some(key) = key(object) else {
         return Err(BAD_NUMBER);

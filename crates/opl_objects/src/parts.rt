@@ -20,9 +20,10 @@ use opl_lexer::{FaultKind, FieldIter, LexError, coordinate, version};
 use road_base::{Body, Event, Key, Location, Members, Node, Refs, Relation, Tags, Way};
 use std::alloc::Global;
 
-/// 180 and 90 degrees.
+/// 180 degrees in units of 1e-7 degree.
 const MOST_LON: i32 = 1_800_000_000;
 
+/// 90 degrees in units of 1e-7 degree.
 const MOST_LAT: i32 = 900_000_000;
 
 /// What the fields of a line that were read so far hold.
@@ -115,7 +116,8 @@ fn behind(field: &str, by: Letter) -> &str
 /// The fault of a field, by its number.
 #[inline]
 fn fault_at(field: u32, error: LexError) -> LineError
-    ensures { (fault : Option FaultKind) → IsFault fault error → IsFaultAt (at_field field fault) result }
+    ensures { (fault : Option FaultKind) → IsFault fault error
+        → IsFaultAt (at_field field fault) result }
 {
     match error {
         LexError::Kind(kind) => LineError::Fault { field, kind },
@@ -225,9 +227,12 @@ impl Parts {
     /// Reads one more field of an object.
     #[inline]
     fn take(&mut self, alloc: Global, key: Key, field: &str) -> Result<(), LexError>
-        ensures good { (fields : List (List ℕ)) → AreRead fields self.old → OnOk result (field_fault key fields field.now ≡ None) }
-        ensures read { (fields : List (List ℕ)) → AreRead fields self.old → OnOk result (AreRead (fields ++ field.now ∷ []) self.new) }
-        ensures err { (fields : List (List ℕ)) → AreRead fields self.old → IfErr result (IsFault (field_fault key fields field.now)) }
+        ensures good { (fields : List (List ℕ)) → AreRead fields self.old
+            → OnOk result (field_fault key fields field.now ≡ None) }
+        ensures read { (fields : List (List ℕ)) → AreRead fields self.old
+            → OnOk result (AreRead (fields ++ field.now ∷ []) self.new) }
+        ensures err { (fields : List (List ℕ)) → AreRead fields self.old
+            → IfErr result (IsFault (field_fault key fields field.now)) }
     {
         let Some(letter) = letter_of(key, first_byte(field)) else {
             return Err(LexError::Kind(FaultKind::UnknownField));
@@ -259,7 +264,8 @@ impl Parts {
     /// Whether a field with the version stood.
     #[inline]
     pub fn has_version(&self) -> bool
-        ensures { (fields : List (List ℕ)) → AreRead fields self.now → result ≡ stands version_letter fields }
+        ensures { (fields : List (List ℕ)) → AreRead fields self.now
+            → result ≡ stands version_letter fields }
     {
         self.seen.has(Letter::Version)
     }
@@ -269,7 +275,8 @@ impl Parts {
     fn visible(self, key: Key) -> Body
         requires { (others : List (List ℕ)) × AreRead others self }
         ensures kind { IsTrue (has_kind key result) }
-        ensures visible { (others : List (List ℕ)) → AreRead others self → IsVisible others key result }
+        ensures visible { (others : List (List ℕ)) → AreRead others self
+            → IsVisible others key result }
     {
         match key {
             Key::Node(_) => Body::Node(Node {
@@ -287,11 +294,13 @@ impl Parts {
         }
     }
 
+    /// What the object is after the line.
     #[inline]
     fn body(self, key: Key) -> Body
         requires { (others : List (List ℕ)) × AreRead others self }
         ensures kind { IsTrue (has_kind key result) }
-        ensures body { (others : List (List ℕ)) → AreRead others self → HasBody (is_deleted others) others key result }
+        ensures body { (others : List (List ℕ)) → AreRead others self
+            → HasBody (is_deleted others) others key result }
     {
         if self.deleted {
             return Body::Deleted;
