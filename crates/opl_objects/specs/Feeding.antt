@@ -1,19 +1,16 @@
 -- What a reader knows of the bytes that were fed to it.
-use Rattle.std.specs.Prelude.{◌≡◌, ◌++◌, ◌==◌, ℕ, List, [], ◌∷◌, length, flat_map, Option, Some, None, All, false}
+use Rattle.std.specs.Prelude.{◌≡◌, ◌++◌, ℕ, List, [], ◌∷◌, length, Option, Some, None}
 use Rattle.std.specs.List.{AllZip}
 use Rattle.road_base.specs.declared.event.Event.{Event}
 use Rattle.opl_lexer.specs.declared.mode.Mode.{Mode}
-use Rattle.opl_lexer.specs.Pieces.{Lacks}
+use Rattle.opl_lexer.specs.Pieces.{Lacks, pieces}
+use Rattle.opl_lexer.specs.Lines.{whole_lines}
 use Rattle.opl_lexer.specs.Spelling.{Spells}
-use Rattle.opl_lexer.specs.Reading.{FaultAt, first_fault, ended_fault, input_fault, object_lines}
-use Rattle.opl_objects.specs.declared.fault.Fault.{Fault as FaultValue}
+use Rattle.opl_lexer.specs.Reading.{ended_fault, input_fault, object_lines}
+use Rattle.opl_objects.specs.StreamLines.{place_of}
 use Rattle.opl_objects.specs.declared.fault.ReadError.{ReadError}
 use Rattle.opl_objects.specs.declared.fault.ReadError.TheVariants.{Fault, NoMemory}
 use Rattle.opl_objects.specs.declared.reader.Reader.{Reader}
-
--- where the fault stands
-abbrev pub place_of : FaultValue → FaultAt
-place_of fault = record { line = fault.line; field = fault.field; kind = fault.kind }
 
 -- the refusal that the reader answers from now on, if there is one
 abbrev pub answered : Reader → Option ReadError
@@ -29,15 +26,13 @@ abbrev pub RefusedBy : ReadError → Mode → List ℕ → Type 0
 RefusedBy (Fault fault) mode fed = input_fault mode fed ≡ Some (place_of fault)
 RefusedBy NoMemory mode fed = Unit {0}
 
--- The bytes are whole lines without a fault, which gave these events, and then what is held.
+-- The bytes are so many whole lines without a fault, which gave these events, and then what is held.
 pub record IsOpen (mode : Mode) (fed held : List ℕ) (events : List Event) (lines : ℕ) : Type 0 where
-  pub done : List (List ℕ)
-  pub bytes : fed ≡ flat_map (λ line. line ++ (10 ∷ [])) done ++ held
-  pub each : All (λ line. Lacks 10 line) done
+  pub parts : pieces 10 fed ≡ whole_lines fed ++ (held ∷ [])
   pub open_line : Lacks 10 held
-  pub count : lines ≡ length done
-  pub good : first_fault mode 1 done ≡ None
-  pub said : AllZip (Spells mode) (object_lines done) events
+  pub count : lines ≡ length (whole_lines fed)
+  pub good : ended_fault mode fed ≡ None
+  pub said : AllZip (Spells mode) (object_lines (whole_lines fed)) events
 
 abbrev pub Stands : Option ReadError → Mode → List ℕ → Reader → Type 0
 Stands None mode fed reader = IsOpen mode fed reader.held.items reader.events.items reader.lines

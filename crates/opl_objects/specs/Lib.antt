@@ -2,4 +2,5 @@ pub mod Cutting
 pub mod LineLetters
 pub mod LineParts
 pub mod Outcomes
+pub mod StreamLines
 pub mod Feeding

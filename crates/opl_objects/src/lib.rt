@@ -9,6 +9,7 @@ mod cut;
 mod fault;
 mod letters;
 mod line;
+mod lines;
 mod parts;
 mod reader;
 mod tag_list;

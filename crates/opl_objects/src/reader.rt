@@ -1,10 +1,10 @@
 //! Lines that come in pieces.
-ghost use Rattle.std.specs.Prelude.{◌≡◌, ◌<◌, ◌+◌, ◌^◌, ◌++◌, [], ℕ, List, length, None, Some, IfOk, IfErr, OnOk};
+ghost use Rattle.std.specs.Prelude.{◌≡◌, ◌<◌, ◌≤◌, ◌+◌, ◌^◌, ◌++◌, [], ◌∷◌, ℕ, List, length, vec_len, None, Some, IfOk, IfErr, OnOk};
+ghost use Rattle.opl_lexer.specs.Pieces.{Lacks};
 ghost use Rattle.opl_lexer.specs.Reading.{ReadAll, ended_fault};
-ghost use Rattle.opl_objects.specs.Feeding.{HasRead, EndedBy, RefusedBy, answered};
 
-use crate::fault::{Fault, ReadError};
-use crate::line::{LineError, read_line};
+use crate::fault::ReadError;
+use crate::lines::{end_line, first_line, take_line};
 use opl_lexer::Mode;
 use road_base::Event;
 use std::alloc::Global;
@@ -20,9 +20,13 @@ pub struct Reader {
     events: Vec<Event>,
     /// The refusal that is answered from now on.
     error: Option<ReadError>,
+    // The line that is held can be counted too.
+    ghost room: { lines + vec_len held < 2 ^ 64 },
 }
 
 impl Reader {
+    ghost use Rattle.opl_objects.specs.Feeding.{HasRead, EndedBy, RefusedBy, answered};
+
     /// Has read nothing. Takes no memory.
     pub fn new(alloc: Global, mode: Mode) -> Reader
         ensures read { HasRead mode [] result }
@@ -48,7 +52,17 @@ impl Reader {
         ensures open { OnOk result (answered self.new ≡ None) }
         ensures again { (e : ReadError) → answered self.old ≡ Some e → result ≡ Err e }
     {
-        Ok(())
+        if let Some(error) = self.error {
+            return Err(error);
+        }
+        let mut rest = piece;
+        while let Some((line, behind)) = first_line(rest) {
+            if let Err(error) = self.end_line(line) {
+                return Err(error);
+            }
+            rest = behind;
+        }
+        self.hold(rest)
     }
 
     /// The events of all lines, in order, or the first fault.
@@ -57,6 +71,55 @@ impl Reader {
         ensures err { IfErr result (λ e. (mode : Mode) (fed : List ℕ) → HasRead mode fed self → RefusedBy e mode fed) }
         ensures again { (e : ReadError) → answered self ≡ Some e → result ≡ Err e }
     {
-        Ok(self.events)
+        if let Some(error) = self.error {
+            return Err(error);
+        }
+        let mut events = self.events;
+        if !self.held.is_empty() {
+            if let Err(error) = take_line(
+                self.mode,
+                self.lines + 1,
+                self.held.as_slice(),
+                &mut events,
+            ) {
+                return Err(error);
+            }
+        }
+        Ok(events)
+    }
+
+    /// Ends a line with these bytes.
+    fn end_line(&mut self, line: &[u8]) -> Result<(), ReadError>
+        requires open { answered self.old ≡ None }
+        requires room { self.old.lines + vec_len self.old.held + length line.now + 1 < 2 ^ 64 }
+        ensures read { (mode : Mode) (fed : List ℕ) → HasRead mode fed self.old → Lacks 10 line.now
+            → HasRead mode (fed ++ (line.now ++ (10 ∷ []))) self.new }
+        ensures kept { IfErr result (λ e. answered self.new ≡ Some e) }
+        ensures open { OnOk result (answered self.new ≡ None) }
+        ensures room { self.new.lines + vec_len self.new.held ≤ self.old.lines + vec_len self.old.held + length line.now + 1 }
+    {
+        let number = self.lines + 1;
+        if let Err(error) = end_line(self.mode, number, &mut self.held, line, &mut self.events) {
+            self.error = Some(error);
+            return Err(error);
+        }
+        self.lines = number;
+        Ok(())
+    }
+
+    /// Holds bytes of a line that hasn't ended.
+    fn hold(&mut self, part: &[u8]) -> Result<(), ReadError>
+        requires open { answered self.old ≡ None }
+        requires room { self.old.lines + vec_len self.old.held + length part.now < 2 ^ 64 }
+        ensures read { (mode : Mode) (fed : List ℕ) → HasRead mode fed self.old → Lacks 10 part.now
+            → HasRead mode (fed ++ part.now) self.new }
+        ensures kept { IfErr result (λ e. answered self.new ≡ Some e) }
+        ensures open { OnOk result (answered self.new ≡ None) }
+    {
+        if self.held.extend_from_slice(part).is_err() {
+            self.error = Some(ReadError::NoMemory);
+            return Err(ReadError::NoMemory);
+        }
+        Ok(())
     }
 }
