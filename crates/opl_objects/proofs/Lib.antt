@@ -11,3 +11,6 @@ pub mod LineHolds
 pub mod LineEvents
 pub mod LineFields
 pub mod LineWhole
+pub mod StreamPieces
+pub mod StreamFaults
+pub mod StreamSteps

@@ -75,17 +75,14 @@ impl Reader {
             return Err(error);
         }
         let mut events = self.events;
-        if !self.held.is_empty() {
-            if let Err(error) = take_line(
-                self.mode,
-                self.lines + 1,
-                self.held.as_slice(),
-                &mut events,
-            ) {
-                return Err(error);
-            }
+        if self.held.is_empty() {
+            return Ok(events);
         }
-        Ok(events)
+        let number = self.lines + 1;
+        match take_line(self.mode, number, self.held.as_slice(), &mut events) {
+            Ok(()) => Ok(events),
+            Err(error) => Err(error),
+        }
     }
 
     /// Ends a line with these bytes.

@@ -1,0 +1,26 @@
+use Rattle.std.proofs.Common.{◌≡◌, ◌<◌, [], length, refl, arith, rules}
+use Rattle.opl_objects.proofs.StreamSteps.{ended_of, refused_by, refused_last, all_read, all_read_last, open_of, empty_list}
+use Rattle.opl_objects.proofs.reader.Reader.finish.Goals as goal
+
+pub returns-in-Some-clause-err : goal.returns-in-Some-clause-err
+returns-in-Some-clause-err c = λ mode fed read. refused_by mode fed c.in-Some.error (ended_of mode fed c.args.self c.in-Some.error read c.in-Some.is)
+
+pub returns-then-is_empty-clause-ok : goal.returns-then-is_empty-clause-ok
+returns-then-is_empty-clause-ok c = λ mode fed read.
+    let self = c.args.self in
+    let none : length self.held.items ≡ 0 = search rules in
+    all_read mode fed self.held.items self.events.items self.lines (open_of mode fed self read c.in_default.is) (empty_list self.held.items none)
+
+pub returns-in-Ok-clause-ok : goal.returns-in-Ok-clause-ok
+returns-in-Ok-clause-ok c = λ mode fed read.
+    let self = c.args.self in
+    let some : 0 < length self.held.items = search rules in
+    let adds = rw (read.mode_is, c.as_slice.ensures.value) at c.in-Ok.ensures.ok in
+    all_read_last mode fed self.held.items self.events.items c.take_line.new.events.items self.lines (open_of mode fed self read c.in_default.is) some adds
+
+pub returns-clause-err : goal.returns-clause-err
+returns-clause-err c = λ mode fed read.
+    let self = c.args.self in
+    let some : 0 < length self.held.items = search rules in
+    let bad = rw (read.mode_is, c.as_slice.ensures.value) at c.in-Err.ensures.err in
+    refused_last mode fed self.held.items self.events.items self.lines c.in-Err.error (open_of mode fed self read c.in_default.is) some bad
