@@ -7,6 +7,7 @@
 mod escapes;
 mod fault;
 mod field_iter;
+pub mod laws;
 mod mode;
 mod numbers;
 
