@@ -1,11 +1,10 @@
 -- The pieces of an input that comes in parts.
-use Rattle.std.specs.Prelude.{◌≡◌, ◌==◌, ◌≤◌, ◌<◌, ◌+◌, ◌-◌, ◌++◌, ℕ, List, [], ◌∷◌, Bool, true, false, take, drop, length, refl}
-use Rattle.std.specs.List.{slice_split, onto_first}
+use Rattle.std.specs.Prelude.{◌≡◌, ◌==◌, ◌<◌, ◌+◌, ◌-◌, ◌++◌, ℕ, List, [], ◌∷◌, Bool, true, false, take, drop, length, refl}
+use Rattle.std.specs.List.{onto_first}
 use Rattle.std.proofs.Common.{arith, sym, ◌∙◌, ap, append-nil}
-use Rattle.std.proofs.lemmas.Bool.Decides.{Decides-eqb}
 use Rattle.std.proofs.lemmas.List.{take-append-drop, length-append, length-drop}
 use Rattle.std.proofs.lemmas.List.Splits.{slice_split-cons_yes, slice_split-cons_no, slice_split_at, slice_split_none, length-slice_split}
-use Rattle.std.proofs.Math.Seq.{take-append_seam, take-append-add}
+use Rattle.std.proofs.Math.Seq.{take-append-add}
 use Rattle.opl_lexer.specs.Pieces.{pieces, Lacks}
 use Rattle.opl_lexer.specs.Lines.{whole_lines}
 
@@ -89,34 +88,3 @@ whole_lines_are bs last front e =
 pub whole_lines_append : (xs ys last : List ℕ) → pieces 10 xs ≡ whole_lines xs ++ (last ∷ []) → whole_lines (xs ++ ys) ≡ whole_lines xs ++ whole_lines (last ++ ys)
 whole_lines_append xs ys last e =
     ap (λ ps. take (length ps - 1) ps) (pieces_append xs ys last (whole_lines xs) e) ∙ but_last-append (whole_lines xs) (pieces 10 (last ++ ys)) (pieces_some (last ++ ys))
-
--- ---- sizes
-
--- the bytes of the pieces, and one more for each
-size : List (List ℕ) → ℕ
-size [] = 0
-size (p ∷ ps) = length p + 1 + size ps
-
-size-onto_first : (b : ℕ) (ps : List (List ℕ)) → 0 < length ps → size (onto_first b ps) ≡ size ps + 1
-unfolding size
-size-onto_first b [] some = absurd (omega arith)
-size-onto_first b (p ∷ ps) some = omega arith
-
-size-pieces : (bs : List ℕ) → size (pieces 10 bs) ≡ length bs + 1
-unfolding size
-size-pieces [] = refl
-size-pieces (b ∷ bs) =
-    let more = size-pieces bs in
-    elim (is_end b) as (λ r. is_end b ≡ r → size (pieces 10 (b ∷ bs)) ≡ length (b ∷ bs) + 1) [
-      | true ↦ λ e. ap size (slice_split-cons_yes is_end b bs e) ∙ (omega arith)
-      | false ↦ λ e. ap size (slice_split-cons_no is_end b bs e) ∙ (size-onto_first b (pieces 10 bs) (pieces_some bs) ∙ (omega arith))
-    ] refl
-
-size-front : (front : List (List ℕ)) (last : List ℕ) → length front + length last + 1 ≤ size (front ++ (last ∷ []))
-unfolding size
-size-front [] last = omega arith
-size-front (p ∷ front) last = omega (arith, size-front front last)
-
--- a whole line has a byte at least, its newline
-pub counted : (bs last : List ℕ) (front : List (List ℕ)) → pieces 10 bs ≡ front ++ (last ∷ []) → length front + length last ≤ length bs
-counted bs last front e = omega (arith, size-pieces bs, size-front front last, ap size e)

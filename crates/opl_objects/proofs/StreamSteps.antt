@@ -1,5 +1,5 @@
 -- What a reader knows after more bytes, and at the end.
-use Rattle.std.specs.Prelude.{◌≡◌, ◌==◌, ◌<◌, ◌≤◌, ◌+◌, ◌++◌, ℕ, List, [], ◌∷◌, false, Option, Some, None, length, vec_len, map, refl}
+use Rattle.std.specs.Prelude.{◌≡◌, ◌==◌, ◌<◌, ◌≤◌, ◌+◌, ◌++◌, ℕ, List, [], ◌∷◌, false, Option, Some, None, length, map, refl}
 use Rattle.std.specs.List.{AllZip, filter}
 use Rattle.std.proofs.Common.{arith, sym, ◌∙◌, ap, subst, append_assoc, append-nil}
 use Rattle.std.proofs.lemmas.List.{length-append, map-append}
@@ -10,13 +10,13 @@ use Rattle.opl_lexer.specs.Pieces.{pieces, Lacks}
 use Rattle.opl_lexer.specs.Lines.{lines, whole_lines, ended, without_return}
 use Rattle.opl_lexer.specs.Faults.{line_fault}
 use Rattle.opl_lexer.specs.Spelling.{Spells}
-use Rattle.opl_lexer.specs.Reading.{FaultAt, ReadAll, at_line, first_fault, ended_fault, input_fault, object_lines, is_taken}
+use Rattle.opl_lexer.specs.Reading.{FaultAt, ReadAll, at_line, first_fault, ended_fault, object_lines, is_taken}
 use Rattle.opl_objects.specs.declared.fault.ReadError.{ReadError}
 use Rattle.opl_objects.specs.declared.fault.ReadError.TheVariants.{Fault, NoMemory}
 use Rattle.opl_objects.specs.declared.reader.Reader.{Reader}
 use Rattle.opl_objects.specs.StreamLines.{Adds, IsFaultOf, place_of}
-use Rattle.opl_objects.specs.Feeding.{IsOpen, HasRead, Stands, EndedBy, RefusedBy, answered}
-use Rattle.opl_objects.proofs.StreamPieces.{pieces_append, pieces_alone, pieces_ended, whole_lines_are, counted}
+use Rattle.opl_objects.specs.Feeding.{IsOpen, HasRead, Stands, EndedBy, RefusedBy, answered, counted}
+use Rattle.opl_objects.proofs.StreamPieces.{pieces_append, pieces_alone, pieces_ended, whole_lines_are}
 use Rattle.opl_objects.proofs.StreamFaults.{first_fault-next, lines_last, ended_none, ended_some, ended_fault-stays, ended_fault-is_first}
 
 -- ---- the events of lines
@@ -141,22 +141,20 @@ open_of mode fed reader read none = subst (λ (e : Option ReadError). Stands e m
 pub ended_of : (mode : Mode) (fed : List ℕ) (reader : Reader) (e : ReadError) → HasRead mode fed reader → answered reader ≡ Some e → EndedBy e mode fed
 ended_of mode fed reader e read some = subst (λ (r : Option ReadError). Stands r mode fed reader) some read.stands
 
-pub has_open : (mode : Mode) (fed : List ℕ) (reader : Reader) → reader.mode ≡ mode → answered reader ≡ None → IsOpen mode fed reader.held.items reader.events.items reader.lines → HasRead mode fed reader
-has_open mode fed reader same none known = record { mode_is = same; stands = subst (λ (e : Option ReadError). Stands e mode fed reader) (sym none) known }
+pub has_open : (mode : Mode) (fed : List ℕ) (reader : Reader) → reader.mode ≡ mode → answered reader ≡ None → counted reader ≤ length fed → IsOpen mode fed reader.held.items reader.events.items reader.lines → HasRead mode fed reader
+has_open mode fed reader same none fits known = record { mode_is = same; stands = subst (λ (e : Option ReadError). Stands e mode fed reader) (sym none) known; fits = fits }
 
-pub has_ended : (mode : Mode) (fed : List ℕ) (reader : Reader) (e : ReadError) → reader.mode ≡ mode → answered reader ≡ Some e → EndedBy e mode fed → HasRead mode fed reader
-has_ended mode fed reader e same some ended = record { mode_is = same; stands = subst (λ (r : Option ReadError). Stands r mode fed reader) (sym some) ended }
+pub has_ended : (mode : Mode) (fed : List ℕ) (reader : Reader) (e : ReadError) → reader.mode ≡ mode → answered reader ≡ Some e → counted reader ≤ length fed → EndedBy e mode fed → HasRead mode fed reader
+has_ended mode fed reader e same some fits ended = record { mode_is = same; stands = subst (λ (r : Option ReadError). Stands r mode fed reader) (sym some) ended; fits = fits }
+
+-- what is counted grows by no more than the bytes that are fed
+pub fits_more : (fed more : List ℕ) (old new : ℕ) → old ≤ length fed → new ≤ old + length more → new ≤ length (fed ++ more)
+fits_more fed more old new fits grown = omega (arith, length-append fed more)
 
 -- a reader that has refused has read whatever follows
 pub has_more : (mode : Mode) (fed more : List ℕ) (reader : Reader) (e : ReadError) → answered reader ≡ Some e → HasRead mode fed reader → HasRead mode (fed ++ more) reader
 has_more mode fed more reader e some read =
-    has_ended mode (fed ++ more) reader e read.mode_is some (ended_by-stays mode fed more e (ended_of mode fed reader e read some))
-
--- there is room to count what is held
-pub open_room : (mode : Mode) (fed : List ℕ) (reader : Reader) → HasRead mode fed reader → answered reader ≡ None → reader.lines + vec_len reader.held ≤ length fed
-open_room mode fed reader read none =
-    let known = open_of mode fed reader read none in
-    omega (arith, counted fed reader.held.items (whole_lines fed) known.parts, known.count, reader.held.ok)
+    has_ended mode (fed ++ more) reader e read.mode_is some (fits_more fed more (counted reader) (counted reader) read.fits (omega arith)) (ended_by-stays mode fed more e (ended_of mode fed reader e read some))
 
 pub empty_list : (bs : List ℕ) → length bs ≡ 0 → bs ≡ []
 empty_list [] none = refl

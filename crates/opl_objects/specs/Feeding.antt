@@ -1,5 +1,5 @@
 -- What a reader knows of the bytes that were fed to it.
-use Rattle.std.specs.Prelude.{◌≡◌, ◌++◌, ℕ, List, [], ◌∷◌, length, Option, Some, None}
+use Rattle.std.specs.Prelude.{◌≡◌, ◌≤◌, ◌+◌, ◌++◌, ℕ, List, [], ◌∷◌, length, vec_len, Option, Some, None}
 use Rattle.std.specs.List.{AllZip}
 use Rattle.road_base.specs.declared.event.Event.{Event}
 use Rattle.opl_lexer.specs.declared.mode.Mode.{Mode}
@@ -15,6 +15,10 @@ use Rattle.opl_objects.specs.declared.reader.Reader.{Reader}
 -- the refusal that the reader answers from now on, if there is one
 abbrev pub answered : Reader → Option ReadError
 answered reader = reader.error
+
+-- the lines that have ended and the bytes that are held, no more than the bytes that were fed
+abbrev pub counted : Reader → ℕ
+counted reader = reader.lines + vec_len reader.held
 
 -- the first fault among the lines that have ended, or want of memory
 abbrev pub EndedBy : ReadError → Mode → List ℕ → Type 0
@@ -42,3 +46,4 @@ Stands (Some error) mode fed reader = EndedBy error mode fed
 pub record HasRead (mode : Mode) (fed : List ℕ) (reader : Reader) : Type 0 where
   pub mode_is : reader.mode ≡ mode
   pub stands : Stands reader.error mode fed reader
+  pub fits : counted reader ≤ length fed

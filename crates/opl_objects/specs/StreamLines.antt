@@ -1,5 +1,5 @@
 -- What a line of the input adds to the events, or how it is in fault.
-use Rattle.std.specs.Prelude.{◌≡◌, ◌++◌, ℕ, List, [], ◌∷◌, Option, Some, None}
+use Rattle.std.specs.Prelude.{◌≡◌, ◌++◌, ℕ, List, [], ◌∷◌, Some, None}
 use Rattle.std.specs.List.{AllZip}
 use Rattle.road_base.specs.declared.event.Event.{Event}
 use Rattle.opl_lexer.specs.declared.mode.Mode.{Mode}

@@ -25,12 +25,13 @@ pub struct Reader {
 }
 
 impl Reader {
-    ghost use Rattle.opl_objects.specs.Feeding.{HasRead, EndedBy, RefusedBy, answered};
+    ghost use Rattle.opl_objects.specs.Feeding.{HasRead, EndedBy, RefusedBy, answered, counted};
 
     /// Has read nothing. Takes no memory.
     pub fn new(alloc: Global, mode: Mode) -> Reader
         ensures read { HasRead mode [] result }
         ensures answered { answered result ≡ None }
+        ensures counted { counted result ≡ 0 }
     {
         Reader {
             mode,
@@ -41,16 +42,17 @@ impl Reader {
         }
     }
 
-    /// Takes the next piece of the input. A fault comes exactly where a line that has ended is in fault: the first one. A
-    /// reader that has answered a fault or `NoMemory` answers it from then on.
+    /// Takes the next piece of the input; fewer than 2^64 bytes may come in all. A fault comes exactly where a line that
+    /// has ended is in fault: the first one. A reader that has answered a fault or `NoMemory` answers it from then on.
     pub fn feed(&mut self, piece: &[u8]) -> Result<(), ReadError>
-        requires { (mode : Mode) × (fed : List ℕ) × HasRead mode fed self.old × (length fed + length piece.now < 2 ^ 64) }
+        requires { counted self.old + length piece.now < 2 ^ 64 }
         ensures read { (mode : Mode) (fed : List ℕ) → HasRead mode fed self.old → HasRead mode (fed ++ piece.now) self.new }
         ensures ok { OnOk result ((mode : Mode) (fed : List ℕ) → HasRead mode fed self.old → ended_fault mode (fed ++ piece.now) ≡ None) }
         ensures err { IfErr result (λ e. (mode : Mode) (fed : List ℕ) → HasRead mode fed self.old → EndedBy e mode (fed ++ piece.now)) }
         ensures kept { IfErr result (λ e. answered self.new ≡ Some e) }
-        ensures open { OnOk result (answered self.new ≡ None) }
+        ensures going { OnOk result (answered self.new ≡ None) }
         ensures again { (e : ReadError) → answered self.old ≡ Some e → result ≡ Err e }
+        ensures counted { counted self.new ≤ counted self.old + length piece.now }
     {
         if let Some(error) = self.error {
             return Err(error);
@@ -65,7 +67,8 @@ impl Reader {
         self.hold(rest)
     }
 
-    /// The events of all lines, in order, or the first fault.
+    /// The events of all lines, in order, or the first fault, however the input was cut. A last line without a newline
+    /// counts where it has a byte.
     pub fn finish(self) -> Result<Vec<Event>, ReadError>
         ensures ok { IfOk result (λ events. (mode : Mode) (fed : List ℕ) → HasRead mode fed self → ReadAll mode fed events.items) }
         ensures err { IfErr result (λ e. (mode : Mode) (fed : List ℕ) → HasRead mode fed self → RefusedBy e mode fed) }
@@ -87,13 +90,13 @@ impl Reader {
 
     /// Ends a line with these bytes.
     fn end_line(&mut self, line: &[u8]) -> Result<(), ReadError>
-        requires open { answered self.old ≡ None }
-        requires room { self.old.lines + vec_len self.old.held + length line.now + 1 < 2 ^ 64 }
+        requires going { answered self.old ≡ None }
+        requires room { counted self.old + length line.now + 1 < 2 ^ 64 }
         ensures read { (mode : Mode) (fed : List ℕ) → HasRead mode fed self.old → Lacks 10 line.now
             → HasRead mode (fed ++ (line.now ++ (10 ∷ []))) self.new }
         ensures kept { IfErr result (λ e. answered self.new ≡ Some e) }
-        ensures open { OnOk result (answered self.new ≡ None) }
-        ensures room { self.new.lines + vec_len self.new.held ≤ self.old.lines + vec_len self.old.held + length line.now + 1 }
+        ensures going { OnOk result (answered self.new ≡ None) }
+        ensures counted { counted self.new ≤ counted self.old + length line.now + 1 }
     {
         let number = self.lines + 1;
         if let Err(error) = end_line(self.mode, number, &mut self.held, line, &mut self.events) {
@@ -106,12 +109,13 @@ impl Reader {
 
     /// Holds bytes of a line that hasn't ended.
     fn hold(&mut self, part: &[u8]) -> Result<(), ReadError>
-        requires open { answered self.old ≡ None }
-        requires room { self.old.lines + vec_len self.old.held + length part.now < 2 ^ 64 }
+        requires going { answered self.old ≡ None }
+        requires room { counted self.old + length part.now < 2 ^ 64 }
         ensures read { (mode : Mode) (fed : List ℕ) → HasRead mode fed self.old → Lacks 10 part.now
             → HasRead mode (fed ++ part.now) self.new }
         ensures kept { IfErr result (λ e. answered self.new ≡ Some e) }
-        ensures open { OnOk result (answered self.new ≡ None) }
+        ensures going { OnOk result (answered self.new ≡ None) }
+        ensures counted { counted self.new ≤ counted self.old + length part.now }
     {
         if self.held.extend_from_slice(part).is_err() {
             self.error = Some(ReadError::NoMemory);

@@ -1,6 +1,6 @@
 use Rattle.std.proofs.Common.{◌≡◌, ℕ, List, ◌++◌, [], ◌∷◌, length, refl, arith, subst, ap, append_assoc, append-nil, length-append}
 use Rattle.opl_objects.specs.Feeding.{HasRead}
-use Rattle.opl_objects.proofs.StreamSteps.{has_more, ended_of, ended_by-stays, open_of, open_room}
+use Rattle.opl_objects.proofs.StreamSteps.{has_more, ended_of, ended_by-stays}
 use Rattle.opl_objects.proofs.reader.Reader.feed.Goals as goal
 
 pub returns-in-Some-clause-read : goal.returns-in-Some-clause-read
@@ -12,13 +12,12 @@ returns-in-Some-clause-err c = λ mode fed read.
 
 pub loop-line-init : goal.loop-line-init
 loop-line-init c =
-    let room = open_room c.requires.0 c.requires.1 c.args.self.now c.requires.2 c.in_default.is in
     record {
       front = [];
       cut = refl;
       read = λ mode fed read. rw append-nil read;
       going = c.in_default.is;
-      room = omega (arith, room, c.requires.3);
+      counted_so_far = omega arith;
     }
 
 -- the bytes that were taken, and those behind a line
@@ -48,7 +47,7 @@ loop-line-preserved c =
     record {
       front = taken.front ++ (line ++ (10 ∷ []));
       cut = rw (taken.cut, cut.written) (simp append_assoc);
-      read = λ mode fed read. rw (← append_assoc) (c.in_default-end_line.ensures.read mode (fed ++ taken.front) (taken.read mode fed read) cut.first);
-      going = c.in_default-end_line.ensures.«open»;
-      room = omega (arith, c.in_default-end_line.ensures.room, taken.room, longer);
+      read = λ mode fed read. rw (← append_assoc fed taken.front (line ++ (10 ∷ []))) (c.in_default-end_line.ensures.read mode (fed ++ taken.front) (taken.read mode fed read) cut.first);
+      going = c.in_default-end_line.ensures.going;
+      counted_so_far = omega (arith, c.in_default-end_line.ensures.counted, taken.counted_so_far, longer);
     }

@@ -1,7 +1,7 @@
-use Rattle.std.proofs.Common.{◌≡◌, ◌+◌, ◌<◌, ◌^◌, ◌++◌, ℕ, List, length, vec_len, None}
+use Rattle.std.proofs.Common.{◌≡◌, ◌+◌, ◌≤◌, ◌++◌, ℕ, List, length, None}
 use Rattle.opl_lexer.specs.declared.mode.Mode.{Mode}
 use Rattle.opl_objects.specs.declared.reader.Reader.{Reader}
-use Rattle.opl_objects.specs.Feeding.{HasRead, answered}
+use Rattle.opl_objects.specs.Feeding.{HasRead, answered, counted}
 use Rattle.opl_objects.proofs.reader.Reader.feed.Given as goal
 
 -- the bytes in front of the rest were taken
@@ -10,7 +10,7 @@ pub record Taken (piece rest : List ℕ) (old new : Reader) : Type 0 where
   pub cut : piece ≡ front ++ rest
   pub read : (mode : Mode) (fed : List ℕ) → HasRead mode fed old → HasRead mode (fed ++ front) new
   pub going : answered new ≡ None
-  pub room : new.lines + vec_len new.held + length rest < 2 ^ 64
+  pub counted_so_far : counted new + length rest ≤ counted old + length piece
 
 abbrev pub invariant-loop-line : goal.invariant-loop-line
 invariant-loop-line l = Taken l.piece l.rest l.fn.self l.self

@@ -1,4 +1,4 @@
-use Rattle.std.proofs.Common.{◌≡◌, ◌<◌, [], length, refl, arith, rules}
+use Rattle.std.proofs.Common.{◌≡◌, ◌<◌, length, rules}
 use Rattle.opl_objects.proofs.StreamSteps.{ended_of, refused_by, refused_last, all_read, all_read_last, open_of, empty_list}
 use Rattle.opl_objects.proofs.reader.Reader.finish.Goals as goal
 
