@@ -1,1 +1,70 @@
 //! Whole inputs.
+use super::*;
+use opl_lexer::FaultKind;
+use road_base::{Event, Key, NodeId, RelationId, WayId};
+use std::alloc::Global;
+use std::test::Fail;
+
+/// What is read of a text that is cut before this byte.
+fn read_cut(alloc: Global, mode: Mode, text: &[u8], at: usize) -> Result<Vec<Event>, ReadError> {
+    let (front, behind) = text.split_at(at.min(text.len()));
+    let mut reader = Reader::new(alloc, mode);
+    reader.feed(front)?;
+    reader.feed(behind)?;
+    reader.finish()
+}
+
+/// Whether the events have these keys and versions.
+fn are(events: &[Event], wanted: &[(Key, u32)]) -> bool {
+    events.len() == wanted.len()
+        && events.iter().zip(wanted).all(|(event, (key, version))| event.key == *key
+            && event.version == *version)
+}
+
+#[test]
+fn every_cut_gives_the_same_events(rt: HostRuntime) -> Result<(), Fail> {
+    let text =
+        "# a note\r\nn1 v1 x1 y2 T%6e%ame=caf%e9%\r\n\n \t\r\nc77 anything at all\nw1 v4 Nn1xy,n2xy\r\nr5 Mn1@,w2@a%20%b\r".as_bytes();
+    let wanted = [
+        (Key::Node(NodeId(1)), 1),
+        (Key::Way(WayId(1)), 4),
+        (Key::Relation(RelationId(5)), 0),
+    ];
+    for at in 0..text.len() + 1 {
+        let events = read_cut(rt.alloc(), Mode::Extract, text, at)?;
+        assert!(rt; are(events.as_slice(), &wanted), "at {at}");
+    }
+    Ok(())
+}
+
+/// Whether the first feed up to the fault answers it, and all later calls answer it again.
+fn is_refused(alloc: Global, text: &[u8], fault: Fault) -> bool {
+    let refusal = Err(ReadError::Fault(fault));
+    let mut reader = Reader::new(alloc, Mode::Change);
+    reader.feed(text) == Ok(())
+        && reader.feed(b"\n") == refusal
+        && reader.feed(b"n1 v1\n") == refusal
+        && reader.finish().err() == refusal.err()
+}
+
+#[test]
+fn faults_are_answered_again(rt: HostRuntime) {
+    let lines: [(&[u8], u32, FaultKind); 8] = [
+        (b"n1 v1 k5", 3, FaultKind::UnknownField),
+        (b"w1 v1 Nn1,x2", 3, FaultKind::BadRef),
+        (b"n1 v1 Ta=b=c", 3, FaultKind::BadTag),
+        (b"n1 v1 x1e2 y0", 3, FaultKind::BadCoordinate),
+        (b"n1 v1 Ta=b Tc=d x0 y0", 4, FaultKind::Repeated),
+        (b"n1 x0 y0", 0, FaultKind::NoVersion),
+        (b"z1", 1, FaultKind::UnknownLine),
+        (b"\xff", 0, FaultKind::NotUtf8),
+    ];
+    for (line, field, kind) in lines {
+        let fault = Fault {
+            line: 1,
+            field,
+            kind,
+        };
+        assert!(rt; is_refused(rt.alloc(), line, fault), "at {line:?}");
+    }
+}
