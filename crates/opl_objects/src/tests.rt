@@ -24,11 +24,11 @@ fn are(events: &[Event], wanted: &[(Key, u32)]) -> bool {
 #[test]
 fn every_cut_gives_the_same_events(rt: HostRuntime) -> Result<(), Fail> {
     let text =
-        "# a note\r\nn1 v1 x1 y2 T%6e%ame=caf%e9%\r\n\n \t\r\nc77 anything at all\nw1 v4 Nn1xy,n2xy\r\nr5 Mn1@,w2@a%20%b\r".as_bytes();
+        b"# a note\r\n n1 x1 y2 T%6e%ame=caf%e9% v1\r\n\n \t\r\nc77 anything\nw1 v4 Nn1xy,n2xy\nr5 Mn1@,w2@a%20%b v7\r";
     let wanted = [
         (Key::Node(NodeId(1)), 1),
         (Key::Way(WayId(1)), 4),
-        (Key::Relation(RelationId(5)), 0),
+        (Key::Relation(RelationId(5)), 7),
     ];
     for at in 0..text.len() + 1 {
         let events = read_cut(rt.alloc(), Mode::Extract, text, at)?;
@@ -37,7 +37,7 @@ fn every_cut_gives_the_same_events(rt: HostRuntime) -> Result<(), Fail> {
     Ok(())
 }
 
-/// Whether the first feed up to the fault answers it, and all later calls answer it again.
+/// Whether the fault of a line is answered where the line ends, and by all later calls.
 fn is_refused(alloc: Global, text: &[u8], fault: Fault) -> bool {
     let refusal = Err(ReadError::Fault(fault));
     let mut reader = Reader::new(alloc, Mode::Change);
