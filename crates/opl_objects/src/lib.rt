@@ -19,4 +19,6 @@ pub use opl_lexer::Mode;
 pub use reader::Reader;
 
 #[cfg(test)]
+mod fault_tests;
+#[cfg(test)]
 mod tests;
