@@ -162,11 +162,23 @@ fn is_refused_everywhere(alloc: Global, mode: Mode, case: &Case) -> Result<bool,
 #[test]
 fn each_fault_is_named_where_it_stands(rt: HostRuntime) -> Result<(), Fail> {
     for case in LINES {
-        assert!(rt; is_refused_everywhere(rt.alloc(), Mode::Extract, case)?, "{:?}", case.0);
-        assert!(rt; is_refused_everywhere(rt.alloc(), Mode::Change, case)?, "{:?}", case.0);
+        assert!(rt;
+            is_refused_everywhere(rt.alloc(), Mode::Extract, case)?,
+            "{:?}",
+            case.0
+        );
+        assert!(rt;
+            is_refused_everywhere(rt.alloc(), Mode::Change, case)?,
+            "{:?}",
+            case.0
+        );
     }
     for case in CHANGE_LINES {
-        assert!(rt; is_refused_everywhere(rt.alloc(), Mode::Change, case)?, "{:?}", case.0);
+        assert!(rt;
+            is_refused_everywhere(rt.alloc(), Mode::Change, case)?,
+            "{:?}",
+            case.0
+        );
     }
     Ok(())
 }
@@ -203,7 +215,11 @@ fn lists_end_at_65535_items(rt: HostRuntime) -> Result<(), Fail> {
             kind,
         };
         let read = read_whole(alloc, &long_way(alloc, count, behind)?);
-        assert_eq!(rt; read.err(), Some(ReadError::Fault(fault)), "{count}{behind}");
+        assert_eq!(rt;
+            read.err(),
+            Some(ReadError::Fault(fault)),
+            "{count}{behind}"
+        );
     }
     Ok(())
 }
