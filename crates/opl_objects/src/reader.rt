@@ -46,9 +46,15 @@ impl Reader {
     /// has ended is in fault: the first one. A reader that has answered a fault or `NoMemory` answers it from then on.
     pub fn feed(&mut self, piece: &[u8]) -> Result<(), ReadError>
         requires { counted self.old + length piece.now < 2 ^ 64 }
-        ensures read { (mode : Mode) (fed : List ℕ) → HasRead mode fed self.old → HasRead mode (fed ++ piece.now) self.new }
-        ensures ok { OnOk result ((mode : Mode) (fed : List ℕ) → HasRead mode fed self.old → ended_fault mode (fed ++ piece.now) ≡ None) }
-        ensures err { IfErr result (λ e. (mode : Mode) (fed : List ℕ) → HasRead mode fed self.old → EndedBy e mode (fed ++ piece.now)) }
+        ensures read { (mode : Mode) (fed : List ℕ)
+            → HasRead mode fed self.old
+            → HasRead mode (fed ++ piece.now) self.new }
+        ensures ok { OnOk result ((mode : Mode) (fed : List ℕ)
+            → HasRead mode fed self.old
+            → ended_fault mode (fed ++ piece.now) ≡ None) }
+        ensures err { IfErr result (λ e. (mode : Mode) (fed : List ℕ)
+            → HasRead mode fed self.old
+            → EndedBy e mode (fed ++ piece.now)) }
         ensures kept { IfErr result (λ e. answered self.new ≡ Some e) }
         ensures going { OnOk result (answered self.new ≡ None) }
         ensures again { (e : ReadError) → answered self.old ≡ Some e → result ≡ Err e }
@@ -70,8 +76,12 @@ impl Reader {
     /// The events of all lines, in order, or the first fault, however the input was cut. A last line without a newline
     /// counts where it has a byte.
     pub fn finish(self) -> Result<Vec<Event>, ReadError>
-        ensures ok { IfOk result (λ events. (mode : Mode) (fed : List ℕ) → HasRead mode fed self → ReadAll mode fed events.items) }
-        ensures err { IfErr result (λ e. (mode : Mode) (fed : List ℕ) → HasRead mode fed self → RefusedBy e mode fed) }
+        ensures ok { IfOk result (λ events. (mode : Mode) (fed : List ℕ)
+            → HasRead mode fed self
+            → ReadAll mode fed events.items) }
+        ensures err { IfErr result (λ e. (mode : Mode) (fed : List ℕ)
+            → HasRead mode fed self
+            → RefusedBy e mode fed) }
         ensures again { (e : ReadError) → answered self ≡ Some e → result ≡ Err e }
     {
         if let Some(error) = self.error {
@@ -92,7 +102,9 @@ impl Reader {
     fn end_line(&mut self, line: &[u8]) -> Result<(), ReadError>
         requires going { answered self.old ≡ None }
         requires room { counted self.old + length line.now + 1 < 2 ^ 64 }
-        ensures read { (mode : Mode) (fed : List ℕ) → HasRead mode fed self.old → Lacks 10 line.now
+        ensures read { (mode : Mode) (fed : List ℕ)
+            → HasRead mode fed self.old
+            → Lacks 10 line.now
             → HasRead mode (fed ++ (line.now ++ (10 ∷ []))) self.new }
         ensures kept { IfErr result (λ e. answered self.new ≡ Some e) }
         ensures going { OnOk result (answered self.new ≡ None) }
@@ -111,7 +123,9 @@ impl Reader {
     fn hold(&mut self, part: &[u8]) -> Result<(), ReadError>
         requires going { answered self.old ≡ None }
         requires room { counted self.old + length part.now < 2 ^ 64 }
-        ensures read { (mode : Mode) (fed : List ℕ) → HasRead mode fed self.old → Lacks 10 part.now
+        ensures read { (mode : Mode) (fed : List ℕ)
+            → HasRead mode fed self.old
+            → Lacks 10 part.now
             → HasRead mode (fed ++ part.now) self.new }
         ensures kept { IfErr result (λ e. answered self.new ≡ Some e) }
         ensures going { OnOk result (answered self.new ≡ None) }
