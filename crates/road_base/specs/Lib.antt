@@ -3,3 +3,4 @@ pub mod Ranges
 pub mod Kinds
 pub mod Objects
 pub mod Applying
+pub mod Bytes

@@ -1,0 +1,25 @@
+-- Appending a spelling, and reading one from the front of bytes.
+use Rattle.std.specs.Prelude.{◌≡◌, ℕ, List, ◌++◌, length, take}
+use Rattle.object_codec.specs.declared.unread.Unread.{Unread}
+use Rattle.object_codec.specs.declared.unread.Unread.TheVariants.{Malformed, Memory}
+
+-- the old bytes still stand in front
+abbrev pub Keeps : List ℕ → List ℕ → Type 0
+Keeps old new = take (length old) new ≡ old
+
+-- the bytes are the spelling of x, which the types can hold, and then the rest
+pub record Begins {A : Type 0} (spell : A → List ℕ) (Fits : A → Type 0) (bytes : List ℕ) (x : A) (rest : List ℕ) : Type 0 where
+  pub fits : Fits x
+  pub parts : bytes ≡ spell x ++ rest
+
+-- the bytes begin with no spelling
+abbrev pub NoneBegins : {A : Type 0} → (A → List ℕ) → (A → Type 0) → List ℕ → Type 0
+NoneBegins {A} spell Fits bytes = (x : A) (rest : List ℕ) → Begins spell Fits bytes x rest → ⊥
+
+abbrev pub IfMalformed : Unread → Type 0 → Type 0
+IfMalformed Malformed P = P
+IfMalformed Memory P = Unit {0}
+
+-- no spelling begins another one, and each is that of one value
+abbrev pub IsOneSpelling : {A : Type 0} → (A → List ℕ) → (A → Type 0) → Type 0
+IsOneSpelling {A} spell Fits = (x y : A) (bytes r s : List ℕ) → Begins spell Fits bytes x r → Begins spell Fits bytes y s → (x ≡ y) × (r ≡ s)

@@ -1,0 +1,72 @@
+//! Lists, each with how many there are in front.
+ghost use Rattle.std.specs.Prelude.{◌≡◌, ◌++◌, ◌≤◌, length, OnOk, OnErr, IfOk, IfErr};
+ghost use Rattle.std.specs.List.{AllByRecursion};
+ghost use Rattle.road_base.specs.Bytes.{joined};
+ghost use Rattle.object_codec.specs.Spelling.{list_bytes, ListFits, AreSoMany};
+ghost use Rattle.object_codec.specs.Reading.{Keeps, Begins, NoneBegins, IfMalformed};
+
+use crate::spelling::Spell;
+use crate::unread::Unread;
+use road_base::NoMemory;
+use std::alloc::Global;
+
+/// How many items a list of an object has at most.
+const MOST: u32 = 65_535;
+
+/// Appends the spelling of each, in order.
+pub(crate) fn put_all<T: Spell>(items: &[T], out: &mut Vec<u8>) -> Result<(), NoMemory>
+    ensures ok { OnOk result (out.new.items ≡ out.old.items ++ joined T.spelling items.now) }
+    ensures fit { OnOk result (AllByRecursion T.fits items.now) }
+    ensures err { OnErr result (Keeps out.old.items out.new.items) }
+{
+    for item in items {
+        item.put(out)?;
+    }
+    Ok(())
+}
+
+/// Reads so many. Takes memory for those alone that it has read.
+pub(crate) fn read_all<T: Spell + Drop>(
+    alloc: Global,
+    count: u64,
+    bytes: &[u8],
+) -> Result<(Vec<T>, &[u8]), Unread>
+    ensures found { IfOk result (λ x. Begins (joined T.spelling) (AreSoMany T.fits count) bytes.now x.0.items x.1.now) }
+    ensures malformed { IfErr result (λ e. IfMalformed e (NoneBegins (joined T.spelling) (AreSoMany T.fits count) bytes.now)) }
+{
+    let mut items = Vec::new(alloc);
+    let mut rest = bytes;
+    for _ in 0..count {
+        let (item, after) = T::read(alloc, rest)?;
+        items.push(item)?;
+        rest = after;
+    }
+    Ok((items, rest))
+}
+
+/// Appends how many there are, and the spelling of each.
+pub(crate) fn put_list<T: Spell>(items: &[T], out: &mut Vec<u8>) -> Result<(), NoMemory>
+    requires { length items.now ≤ 65535 }
+    ensures ok { OnOk result (out.new.items ≡ out.old.items ++ list_bytes T.spelling items.now) }
+    ensures fit { OnOk result (ListFits T.fits items.now) }
+    ensures err { OnErr result (Keeps out.old.items out.new.items) }
+{
+    (items.len() as u32).put(out)?;
+    put_all(items, out)
+}
+
+/// Reads how many there are, at most 65,535, and then these.
+pub(crate) fn read_list<T: Spell + Drop>(
+    alloc: Global,
+    bytes: &[u8],
+) -> Result<(Vec<T>, &[u8]), Unread>
+    ensures found { IfOk result (λ x. Begins (list_bytes T.spelling) (ListFits T.fits) bytes.now x.0.items x.1.now) }
+    ensures malformed { IfErr result (λ e. IfMalformed e (NoneBegins (list_bytes T.spelling) (ListFits T.fits) bytes.now)) }
+{
+    let (count, rest) = u32::read(alloc, bytes)?;
+    if count > MOST {
+        return Err(Unread::Malformed);
+    }
+    let (items, rest) = read_all(alloc, u64::from(count), rest)?;
+    Ok((items, rest))
+}

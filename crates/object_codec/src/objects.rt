@@ -1,0 +1,242 @@
+//! Keys, and nodes, ways and relations.
+ghost use Rattle.std.specs.Prelude.{◌≡◌, ◌++◌, ◌∷◌, OnOk, OnErr, FitsSigned};
+ghost use Rattle.std.specs.Int.{w64};
+ghost use Rattle.road_base.specs.Bytes.{i64_bytes};
+ghost use Rattle.road_base.specs.Ranges.{is_in_range};
+ghost use Rattle.object_codec.specs.Spelling.{key_bytes, location_bytes, place_bytes, node_bytes, refs_bytes, way_bytes, member_bytes, members_bytes, relation_bytes, KeyFits, LocationFits, PlaceFits, NodeFits, RefsFit, WayFits, MemberFits, MembersFit, RelationFits};
+ghost use Rattle.object_codec.specs.Reading.{Keeps};
+ghost use Rattle.object_codec.specs.OneSpelling.{key_one, location_one, place_one, node_one, refs_one, way_one, member_one, members_one, relation_one};
+
+use crate::lists::{put_list, read_list};
+use crate::spelling::Spell;
+use crate::unread::Unread;
+use road_base::{
+    Key, Location, Member, Members, NoMemory, Node, NodeId, Refs, Relation, RelationId, Tags, Text,
+    Way, WayId,
+};
+use std::alloc::Global;
+
+
+impl Spell for Key {
+    ghost spelling = { key_bytes };
+
+    ghost fits = { KeyFits };
+
+    ghost one = { key_one };
+
+    #[tactic(auto, unfolding(crate::specs::Spelling::key_bytes, crate::specs::Spelling::KeyFits))]
+    fn put(&self, out: &mut Vec<u8>) -> Result<(), NoMemory> {
+        match self {
+            Key::Node(node) => put_key(0, node.0, out),
+            Key::Way(way) => put_key(1, way.0, out),
+            Key::Relation(relation) => put_key(2, relation.0, out),
+        }
+    }
+
+    #[tactic(auto, unfolding(crate::specs::Spelling::key_bytes, crate::specs::Spelling::KeyFits))]
+    fn read(alloc: Global, bytes: &[u8]) -> Result<(Key, &[u8]), Unread> {
+        match bytes {
+            [0, rest @ ..] => {
+                let (number, rest) = i64::read(alloc, rest)?;
+                Ok((Key::Node(NodeId(number)), rest))
+            }
+            [1, rest @ ..] => {
+                let (number, rest) = i64::read(alloc, rest)?;
+                Ok((Key::Way(WayId(number)), rest))
+            }
+            [2, rest @ ..] => {
+                let (number, rest) = i64::read(alloc, rest)?;
+                Ok((Key::Relation(RelationId(number)), rest))
+            }
+            _ => Err(Unread::Malformed),
+        }
+    }
+}
+
+fn put_key(kind: u8, number: i64, out: &mut Vec<u8>) -> Result<(), NoMemory>
+    ensures ok { OnOk result (out.new.items ≡ out.old.items ++ kind ∷ i64_bytes number) }
+    ensures fit { OnOk result (FitsSigned w64 number) }
+    ensures err { OnErr result (Keeps out.old.items out.new.items) }
+{
+    out.push(kind)?;
+    number.put(out)
+}
+
+impl Spell for Location {
+    ghost spelling = { location_bytes };
+
+    ghost fits = { LocationFits };
+
+    ghost one = { location_one };
+
+    #[tactic(auto, unfolding(crate::specs::Spelling::location_bytes, crate::specs::Spelling::LocationFits))]
+    fn put(&self, out: &mut Vec<u8>) -> Result<(), NoMemory> {
+        self.lon.put(out)?;
+        self.lat.put(out)
+    }
+
+    #[tactic(auto, unfolding(crate::specs::Spelling::location_bytes, crate::specs::Spelling::LocationFits))]
+    fn read(alloc: Global, bytes: &[u8]) -> Result<(Location, &[u8]), Unread> {
+        let ((lon, lat), rest) = <(i32, i32)>::read(alloc, bytes)?;
+        if !is_on_earth(lon, lat) {
+            return Err(Unread::Malformed);
+        }
+        Ok((Location { lon, lat }, rest))
+    }
+}
+
+fn is_on_earth(lon: i32, lat: i32) -> bool
+    ensures { result ≡ is_in_range lon lat }
+{
+    -1_800_000_000 <= lon && lon <= 1_800_000_000 && -900_000_000 <= lat && lat <= 900_000_000
+}
+
+/// A flag, and the location behind it where there is one.
+impl Spell for Option<Location> {
+    ghost spelling = { place_bytes };
+
+    ghost fits = { PlaceFits };
+
+    ghost one = { place_one };
+
+    #[tactic(auto, unfolding(crate::specs::Spelling::place_bytes, crate::specs::Spelling::PlaceFits))]
+    fn put(&self, out: &mut Vec<u8>) -> Result<(), NoMemory> {
+        match self {
+            None => Ok(out.push(0)?),
+            Some(location) => {
+                out.push(1)?;
+                location.put(out)
+            }
+        }
+    }
+
+    #[tactic(auto, unfolding(crate::specs::Spelling::place_bytes, crate::specs::Spelling::PlaceFits))]
+    fn read(alloc: Global, bytes: &[u8]) -> Result<(Option<Location>, &[u8]), Unread> {
+        match bytes {
+            [0, rest @ ..] => Ok((None, rest)),
+            [1, rest @ ..] => {
+                let (location, rest) = Location::read(alloc, rest)?;
+                Ok((Some(location), rest))
+            }
+            _ => Err(Unread::Malformed),
+        }
+    }
+}
+
+impl Spell for Node {
+    ghost spelling = { node_bytes };
+
+    ghost fits = { NodeFits };
+
+    ghost one = { node_one };
+
+    #[tactic(auto, unfolding(crate::specs::Spelling::node_bytes, crate::specs::Spelling::NodeFits))]
+    fn put(&self, out: &mut Vec<u8>) -> Result<(), NoMemory> {
+        self.tags.put(out)?;
+        self.location.put(out)
+    }
+
+    #[tactic(auto, unfolding(crate::specs::Spelling::node_bytes, crate::specs::Spelling::NodeFits))]
+    fn read(alloc: Global, bytes: &[u8]) -> Result<(Node, &[u8]), Unread> {
+        let ((tags, location), rest) = <(Tags, Option<Location>)>::read(alloc, bytes)?;
+        Ok((Node { tags, location }, rest))
+    }
+}
+
+impl Spell for Refs {
+    ghost spelling = { refs_bytes };
+
+    ghost fits = { RefsFit };
+
+    ghost one = { refs_one };
+
+    #[tactic(auto, unfolding(crate::specs::Spelling::refs_bytes, crate::specs::Spelling::RefsFit))]
+    fn put(&self, out: &mut Vec<u8>) -> Result<(), NoMemory> {
+        put_list(self.items(), out)
+    }
+
+    #[tactic(auto, unfolding(crate::specs::Spelling::refs_bytes, crate::specs::Spelling::RefsFit))]
+    fn read(alloc: Global, bytes: &[u8]) -> Result<(Refs, &[u8]), Unread> {
+        let (list, rest) = read_list::<NodeId>(alloc, bytes)?;
+        Ok((Refs::from_list(list), rest))
+    }
+}
+
+impl Spell for Way {
+    ghost spelling = { way_bytes };
+
+    ghost fits = { WayFits };
+
+    ghost one = { way_one };
+
+    #[tactic(auto, unfolding(crate::specs::Spelling::way_bytes, crate::specs::Spelling::WayFits))]
+    fn put(&self, out: &mut Vec<u8>) -> Result<(), NoMemory> {
+        self.tags.put(out)?;
+        self.refs.put(out)
+    }
+
+    #[tactic(auto, unfolding(crate::specs::Spelling::way_bytes, crate::specs::Spelling::WayFits))]
+    fn read(alloc: Global, bytes: &[u8]) -> Result<(Way, &[u8]), Unread> {
+        let ((tags, refs), rest) = <(Tags, Refs)>::read(alloc, bytes)?;
+        Ok((Way { tags, refs }, rest))
+    }
+}
+
+impl Spell for Member {
+    ghost spelling = { member_bytes };
+
+    ghost fits = { MemberFits };
+
+    ghost one = { member_one };
+
+    #[tactic(auto, unfolding(crate::specs::Spelling::member_bytes, crate::specs::Spelling::MemberFits))]
+    fn put(&self, out: &mut Vec<u8>) -> Result<(), NoMemory> {
+        self.item.put(out)?;
+        self.role.put(out)
+    }
+
+    #[tactic(auto, unfolding(crate::specs::Spelling::member_bytes, crate::specs::Spelling::MemberFits))]
+    fn read(alloc: Global, bytes: &[u8]) -> Result<(Member, &[u8]), Unread> {
+        let ((item, role), rest) = <(Key, Text)>::read(alloc, bytes)?;
+        Ok((Member { item, role }, rest))
+    }
+}
+
+impl Spell for Members {
+    ghost spelling = { members_bytes };
+
+    ghost fits = { MembersFit };
+
+    ghost one = { members_one };
+
+    #[tactic(auto, unfolding(crate::specs::Spelling::members_bytes, crate::specs::Spelling::MembersFit))]
+    fn put(&self, out: &mut Vec<u8>) -> Result<(), NoMemory> {
+        put_list(self.items(), out)
+    }
+
+    #[tactic(auto, unfolding(crate::specs::Spelling::members_bytes, crate::specs::Spelling::MembersFit))]
+    fn read(alloc: Global, bytes: &[u8]) -> Result<(Members, &[u8]), Unread> {
+        let (list, rest) = read_list::<Member>(alloc, bytes)?;
+        Ok((Members::from_list(list), rest))
+    }
+}
+
+impl Spell for Relation {
+    ghost spelling = { relation_bytes };
+
+    ghost fits = { RelationFits };
+
+    ghost one = { relation_one };
+
+    #[tactic(auto, unfolding(crate::specs::Spelling::relation_bytes, crate::specs::Spelling::RelationFits))]
+    fn put(&self, out: &mut Vec<u8>) -> Result<(), NoMemory> {
+        self.tags.put(out)?;
+        self.members.put(out)
+    }
+
+    #[tactic(auto, unfolding(crate::specs::Spelling::relation_bytes, crate::specs::Spelling::RelationFits))]
+    fn read(alloc: Global, bytes: &[u8]) -> Result<(Relation, &[u8]), Unread> {
+        let ((tags, members), rest) = <(Tags, Members)>::read(alloc, bytes)?;
+        Ok((Relation { tags, members }, rest))
+    }
+}

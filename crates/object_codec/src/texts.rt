@@ -1,0 +1,86 @@
+//! Texts and tags.
+ghost use Rattle.std.specs.Prelude.{◌≡◌, ◌++◌, OnOk, OnErr};
+ghost use Rattle.road_base.specs.Tags.{is_above, is_ascending};
+ghost use Rattle.object_codec.specs.Spelling.{text_bytes, tags_bytes, TextFits, TagsFit};
+ghost use Rattle.object_codec.specs.Reading.{Keeps};
+ghost use Rattle.object_codec.specs.OneSpelling.{text_one, tags_one};
+
+use crate::lists::{put_list, read_list};
+use crate::spelling::Spell;
+use crate::unread::Unread;
+use road_base::{NoMemory, Tags, Text};
+use std::alloc::Global;
+
+impl Spell for Text {
+    ghost spelling = { text_bytes };
+
+    ghost fits = { TextFits };
+
+    ghost one = { text_one };
+
+    #[tactic(auto, unfolding(crate::specs::Spelling::text_bytes, crate::specs::Spelling::TextFits))]
+    fn put(&self, out: &mut Vec<u8>) -> Result<(), NoMemory> {
+        let text = self.as_str();
+        (text.len() as u64).put(out)?;
+        Ok(out.extend_from_slice(text.as_bytes())?)
+    }
+
+    #[tactic(auto, unfolding(crate::specs::Spelling::text_bytes, crate::specs::Spelling::TextFits))]
+    fn read(alloc: Global, bytes: &[u8]) -> Result<(Text, &[u8]), Unread> {
+        let (length, rest) = u64::read(alloc, bytes)?;
+        if (rest.len() as u64) < length {
+            return Err(Unread::Malformed);
+        }
+        let (front, rest) = rest.split_at(length as usize);
+        let Ok(text) = str::from_utf8(front) else {
+            return Err(Unread::Malformed);
+        };
+        Ok((Text::from_string(String::from_str(alloc, text)?), rest))
+    }
+}
+
+impl Spell for Tags {
+    ghost spelling = { tags_bytes };
+
+    ghost fits = { TagsFit };
+
+    ghost one = { tags_one };
+
+    #[tactic(auto, unfolding(crate::specs::Spelling::tags_bytes, crate::specs::Spelling::TagsFit))]
+    fn put(&self, out: &mut Vec<u8>) -> Result<(), NoMemory> {
+        put_list(self.items(), out)
+    }
+
+    #[tactic(auto, unfolding(crate::specs::Spelling::tags_bytes, crate::specs::Spelling::TagsFit))]
+    fn read(alloc: Global, bytes: &[u8]) -> Result<(Tags, &[u8]), Unread> {
+        let (list, rest) = read_list::<(Text, Text)>(alloc, bytes)?;
+        if !ascend(&list) {
+            return Err(Unread::Malformed);
+        }
+        Ok((Tags::from_list(list), rest))
+    }
+}
+
+/// The keys strictly ascend.
+fn ascend(tags: &[(Text, Text)]) -> bool
+    ensures { result ≡ is_ascending tags.now }
+{
+    match tags {
+        [] => true,
+        [first, rest @ ..] => ascend_above(&first.0, rest),
+    }
+}
+
+/// The keys strictly ascend, and the first is above the key.
+fn ascend_above(key: &Text, tags: &[(Text, Text)]) -> bool
+    ensures { result ≡ is_above key.now tags.now }
+{
+    let mut below = key;
+    for tag in tags {
+        if !below.as_str().cmp(tag.0.as_str()).is_lt() {
+            return false;
+        }
+        below = &tag.0;
+    }
+    true
+}
