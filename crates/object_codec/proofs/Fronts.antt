@@ -54,7 +54,7 @@ no_more f F one [] (x ∷ all) rest r less first second none e =
     none x (joined f all ++ r) (record { fits = second.0; parts = e ∙ append_assoc (f x) (joined f all) r })
 no_more f F one (y ∷ items) (x ∷ all) rest r less first second none e =
     let same : (y ≡ x) × (joined f items ++ rest ≡ joined f all ++ r) =
-      one y x (f y ++ (joined f items ++ rest)) (joined f items ++ rest) (joined f all ++ r) (record { fits = first.0; parts = refl }) (record { fits = second.0; parts = sym (append_assoc (f y) (joined f items) rest) ∙ e ∙ append_assoc (f x) (joined f all) r }) in
+    one y x (f y ++ (joined f items ++ rest)) (joined f items ++ rest) (joined f all ++ r) (record { fits = first.0; parts = refl }) (record { fits = second.0; parts = sym (append_assoc (f y) (joined f items) rest) ∙ e ∙ append_assoc (f x) (joined f all) r }) in
     no_more f F one items all rest r (omega arith) first.1 second.1 none same.1
 
 -- behind so many nothing begins, so the bytes begin with no more

@@ -248,8 +248,16 @@ event_one x y bytes r s first second =
     let b = body_one x.key x.body y.body (body_bytes x.body ++ r) r s (record { fits = (x.kind, first.fits.1); parts = refl }) (record { fits = (subst (λ k. IsTrue (has_kind k y.body)) (sym key) y.kind, second.fits.1); parts = a.1 }) in
     (same_event x y key version b.0, b.1)
 
-pub events_one : (x y : List Event) → AreEvents x → AreEvents y → events_bytes x ≡ events_bytes y → x ≡ y
+pub events_one : IsOneSpelling events_bytes AreEvents
 unfolding events_bytes AreEvents
-events_one x y x_fits y_fits e =
-    let a = u64_one (length x) (length y) (events_bytes x) (joined event_bytes x) (joined event_bytes y) (record { fits = x_fits.0; parts = refl }) (record { fits = y_fits.0; parts = e }) in
-    (joined_one event_bytes EventFits event_one x y [] [] a.0 x_fits.1 y_fits.1 (append-nil (joined event_bytes x) ∙ a.1 ∙ sym (append-nil (joined event_bytes y)))).0
+events_one x y bytes r s first second =
+    let a = u64_one (length x) (length y) bytes (joined event_bytes x ++ r) (joined event_bytes y ++ s) (record { fits = first.fits.0; parts = first.parts ∙ append_assoc (u64_bytes (length x)) (joined event_bytes x) r }) (record { fits = second.fits.0; parts = second.parts ∙ append_assoc (u64_bytes (length y)) (joined event_bytes y) s }) in
+    joined_one event_bytes EventFits event_one x y r s a.0 first.fits.1 second.fits.1 a.1
+
+-- the bytes are the spelling of the events, and nothing stands behind it
+pub whole_begins : (events : List Event) (bytes : List ℕ) → AreEvents events → events_bytes events ≡ bytes → Begins events_bytes AreEvents bytes events []
+whole_begins events bytes fits e = record { fits = fits; parts = sym e ∙ sym (append-nil (events_bytes events)) }
+
+pub one_list : (a b : List Event) → AreEvents a → AreEvents b → events_bytes a ≡ events_bytes b → a ≡ b
+one_list a b a_fits b_fits e =
+    (events_one a b (events_bytes b) [] [] (whole_begins a (events_bytes b) a_fits e) (whole_begins b (events_bytes b) b_fits refl)).0

@@ -16,7 +16,6 @@ use road_base::{
 };
 use std::alloc::Global;
 
-
 impl Spell for Key {
     ghost spelling = { key_bytes };
 
