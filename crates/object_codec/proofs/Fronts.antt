@@ -1,13 +1,12 @@
 -- What bytes begin with, part by part.
-use Rattle.std.proofs.Common.{◌≡◌, ℕ, zero, suc, ◌+◌, ◌<◌, ◌≤◌, Bool, true, false, List, [], ◌∷◌, ◌++◌, length, refl, sym, ap, subst, ◌∙◌, arith, append_assoc, append-nil, length-append}
+use Rattle.std.proofs.Common.{◌≡◌, ℕ, ◌+◌, ◌<◌, Bool, true, false, List, [], ◌∷◌, ◌++◌, length, refl, sym, ap, subst, ◌∙◌, arith, append_assoc, append-nil, length-append}
 use Rattle.std.proofs.lemmas.Bool.{false≢true}
 use Rattle.std.specs.List.{AllByRecursion}
-use Rattle.road_base.specs.Bytes.{u32_bytes, joined}
+use Rattle.road_base.specs.Bytes.{joined}
 use Rattle.object_codec.specs.declared.unread.Unread.{Unread}
 use Rattle.object_codec.specs.declared.unread.Unread.TheVariants.{Malformed, Memory}
-use Rattle.object_codec.specs.Spelling.{list_bytes, ListFits, AreSoMany}
+use Rattle.object_codec.specs.Spelling.{AreSoMany}
 use Rattle.object_codec.specs.Reading.{Begins, NoneBegins, IfMalformed, IsOneSpelling}
-use Rattle.object_codec.specs.OneSpelling.{joined_one, u32_one}
 
 pub malformed_weaker : {P Q : Type 0} (e : Unread) → (P → Q) → IfMalformed e P → IfMalformed e Q
 malformed_weaker Malformed weaker h = weaker h
@@ -32,11 +31,11 @@ both_begin f F g G bytes x mid y rest first second =
 
 -- ---- lists
 
-joined_more : {A : Type 0} (f : A → List ℕ) (xs : List A) (x : A) → joined f (xs ++ x ∷ []) ≡ joined f xs ++ f x
+pub joined_more : {A : Type 0} (f : A → List ℕ) (xs : List A) (x : A) → joined f (xs ++ x ∷ []) ≡ joined f xs ++ f x
 joined_more f [] x = append-nil (f x)
 joined_more f (y ∷ xs) x = ap (λ l. f y ++ l) (joined_more f xs x) ∙ sym (append_assoc (f y) (joined f xs) (f x))
 
-all_more : {A : Type 0} (F : A → Type 0) (xs : List A) (x : A) → AllByRecursion F xs → F x → AllByRecursion F (xs ++ x ∷ [])
+pub all_more : {A : Type 0} (F : A → Type 0) (xs : List A) (x : A) → AllByRecursion F xs → F x → AllByRecursion F (xs ++ x ∷ [])
 all_more F [] x fits next = (next, tt)
 all_more F (y ∷ xs) x fits next = (fits.0, all_more F xs x fits.1 next)
 

@@ -1,6 +1,6 @@
--- No spelling begins another one, and each is that of one value.
+-- No spelling begins another one, and each is that of one value. What has a spelling gives this as its law, so the proofs stand here.
 use mathlib.Core.HLevel.{is_prop→PathP}
-use Rattle.std.proofs.Common.{◌≡◌, ℕ, zero, suc, ℤ, ◌+◌, ◌<◌, ◌≤◌, ◌^◌, true, false, eqb, IsTrue, List, [], ◌∷◌, ◌++◌, length, get_or, eq-eqb, take, drop, Option, Some, None, Fits, FitsSigned, refl, sym, ap, subst, ◌∙◌, arith, append_assoc, append-nil}
+use Rattle.std.proofs.Common.{◌≡◌, ℕ, ℤ, ◌<◌, ◌^◌, true, false, eqb, IsTrue, List, [], ◌∷◌, ◌++◌, length, get_or, eq-eqb, take, drop, Some, None, Fits, FitsSigned, refl, sym, ap, subst, ◌∙◌, arith, append_assoc, append-nil}
 use mathlib.Core.Bool.{Bool-set}
 use Rattle.std.proofs.Math.Facts.{Fits-of_z}
 use Rattle.std.proofs.lemmas.Bool.{false≢true}

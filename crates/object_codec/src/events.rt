@@ -9,6 +9,12 @@ use crate::unread::Unread;
 use road_base::{Body, Event, Key, NoMemory, Node, Relation, Way};
 use std::alloc::Global;
 
+// the states of objects
+const DELETED: u8 = 0;
+
+const VISIBLE: u8 = 1;
+
+#[tactic(auto, unfolding(crate::specs::Spelling::event_bytes, crate::specs::Spelling::EventFits))]
 impl Spell for Event {
     ghost spelling = { event_bytes };
 
@@ -16,14 +22,12 @@ impl Spell for Event {
 
     ghost one = { event_one };
 
-    #[tactic(auto, unfolding(crate::specs::Spelling::event_bytes, crate::specs::Spelling::EventFits))]
     fn put(&self, out: &mut Vec<u8>) -> Result<(), NoMemory> {
         self.key.put(out)?;
         self.version.put(out)?;
         put_body(&self.body, out)
     }
 
-    #[tactic(auto, unfolding(crate::specs::Spelling::event_bytes, crate::specs::Spelling::EventFits))]
     fn read(alloc: Global, bytes: &[u8]) -> Result<(Event, &[u8]), Unread> {
         let ((key, version), rest) = <(Key, u32)>::read(alloc, bytes)?;
         let (body, rest) = read_body(alloc, key, rest)?;
@@ -38,7 +42,7 @@ fn put_body(body: &Body, out: &mut Vec<u8>) -> Result<(), NoMemory>
     ensures err { OnErr result (Keeps out.old.items out.new.items) }
 {
     match body {
-        Body::Deleted => Ok(out.push(0)?),
+        Body::Deleted => Ok(out.push(DELETED)?),
         Body::Node(node) => put_visible(node, out),
         Body::Way(way) => put_visible(way, out),
         Body::Relation(relation) => put_visible(relation, out),
@@ -50,7 +54,7 @@ fn put_visible<T: Spell>(object: &T, out: &mut Vec<u8>) -> Result<(), NoMemory>
     ensures fit { OnOk result (T.fits object.now) }
     ensures err { OnErr result (Keeps out.old.items out.new.items) }
 {
-    out.push(1)?;
+    out.push(VISIBLE)?;
     object.put(out)
 }
 
@@ -61,8 +65,8 @@ fn read_body(alloc: Global, key: Key, bytes: &[u8]) -> Result<(Body, &[u8]), Unr
     ensures malformed { IfErr result (λ e. IfMalformed e (NoneBegins body_bytes (IsBodyOf key) bytes.now)) }
 {
     match bytes {
-        [0, rest @ ..] => Ok((Body::Deleted, rest)),
-        [1, rest @ ..] => match key {
+        [DELETED, rest @ ..] => Ok((Body::Deleted, rest)),
+        [VISIBLE, rest @ ..] => match key {
             Key::Node(_) => {
                 let (node, rest) = Node::read(alloc, rest)?;
                 Ok((Body::Node(node), rest))

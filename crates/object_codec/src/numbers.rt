@@ -98,6 +98,7 @@ impl Spell for i64 {
     }
 }
 
+#[tactic(auto, unfolding(crate::specs::Spelling::node_id_bytes, crate::specs::Spelling::NodeIdFits))]
 impl Spell for NodeId {
     ghost spelling = { node_id_bytes };
 
@@ -105,12 +106,10 @@ impl Spell for NodeId {
 
     ghost one = { node_id_one };
 
-    #[tactic(auto, unfolding(crate::specs::Spelling::node_id_bytes, crate::specs::Spelling::NodeIdFits))]
     fn put(&self, out: &mut Vec<u8>) -> Result<(), NoMemory> {
         self.0.put(out)
     }
 
-    #[tactic(auto, unfolding(crate::specs::Spelling::node_id_bytes, crate::specs::Spelling::NodeIdFits))]
     fn read(alloc: Global, bytes: &[u8]) -> Result<(NodeId, &[u8]), Unread> {
         let (number, rest) = i64::read(alloc, bytes)?;
         Ok((NodeId(number), rest))

@@ -16,6 +16,19 @@ use road_base::{
 };
 use std::alloc::Global;
 
+// the kinds of objects
+const NODE: u8 = 0;
+
+const WAY: u8 = 1;
+
+const RELATION: u8 = 2;
+
+// whether a node has a location
+const ABSENT: u8 = 0;
+
+const PRESENT: u8 = 1;
+
+#[tactic(auto, unfolding(crate::specs::Spelling::key_bytes, crate::specs::Spelling::KeyFits))]
 impl Spell for Key {
     ghost spelling = { key_bytes };
 
@@ -23,27 +36,25 @@ impl Spell for Key {
 
     ghost one = { key_one };
 
-    #[tactic(auto, unfolding(crate::specs::Spelling::key_bytes, crate::specs::Spelling::KeyFits))]
     fn put(&self, out: &mut Vec<u8>) -> Result<(), NoMemory> {
         match self {
-            Key::Node(node) => put_key(0, node.0, out),
-            Key::Way(way) => put_key(1, way.0, out),
-            Key::Relation(relation) => put_key(2, relation.0, out),
+            Key::Node(node) => put_key(NODE, node.0, out),
+            Key::Way(way) => put_key(WAY, way.0, out),
+            Key::Relation(relation) => put_key(RELATION, relation.0, out),
         }
     }
 
-    #[tactic(auto, unfolding(crate::specs::Spelling::key_bytes, crate::specs::Spelling::KeyFits))]
     fn read(alloc: Global, bytes: &[u8]) -> Result<(Key, &[u8]), Unread> {
         match bytes {
-            [0, rest @ ..] => {
+            [NODE, rest @ ..] => {
                 let (number, rest) = i64::read(alloc, rest)?;
                 Ok((Key::Node(NodeId(number)), rest))
             }
-            [1, rest @ ..] => {
+            [WAY, rest @ ..] => {
                 let (number, rest) = i64::read(alloc, rest)?;
                 Ok((Key::Way(WayId(number)), rest))
             }
-            [2, rest @ ..] => {
+            [RELATION, rest @ ..] => {
                 let (number, rest) = i64::read(alloc, rest)?;
                 Ok((Key::Relation(RelationId(number)), rest))
             }
@@ -61,6 +72,7 @@ fn put_key(kind: u8, number: i64, out: &mut Vec<u8>) -> Result<(), NoMemory>
     number.put(out)
 }
 
+#[tactic(auto, unfolding(crate::specs::Spelling::location_bytes, crate::specs::Spelling::LocationFits))]
 impl Spell for Location {
     ghost spelling = { location_bytes };
 
@@ -68,13 +80,11 @@ impl Spell for Location {
 
     ghost one = { location_one };
 
-    #[tactic(auto, unfolding(crate::specs::Spelling::location_bytes, crate::specs::Spelling::LocationFits))]
     fn put(&self, out: &mut Vec<u8>) -> Result<(), NoMemory> {
         self.lon.put(out)?;
         self.lat.put(out)
     }
 
-    #[tactic(auto, unfolding(crate::specs::Spelling::location_bytes, crate::specs::Spelling::LocationFits))]
     fn read(alloc: Global, bytes: &[u8]) -> Result<(Location, &[u8]), Unread> {
         let ((lon, lat), rest) = <(i32, i32)>::read(alloc, bytes)?;
         if !is_on_earth(lon, lat) {
@@ -91,6 +101,7 @@ fn is_on_earth(lon: i32, lat: i32) -> bool
 }
 
 /// A flag, and the location behind it where there is one.
+#[tactic(auto, unfolding(crate::specs::Spelling::place_bytes, crate::specs::Spelling::PlaceFits))]
 impl Spell for Option<Location> {
     ghost spelling = { place_bytes };
 
@@ -98,22 +109,20 @@ impl Spell for Option<Location> {
 
     ghost one = { place_one };
 
-    #[tactic(auto, unfolding(crate::specs::Spelling::place_bytes, crate::specs::Spelling::PlaceFits))]
     fn put(&self, out: &mut Vec<u8>) -> Result<(), NoMemory> {
         match self {
-            None => Ok(out.push(0)?),
+            None => Ok(out.push(ABSENT)?),
             Some(location) => {
-                out.push(1)?;
+                out.push(PRESENT)?;
                 location.put(out)
             }
         }
     }
 
-    #[tactic(auto, unfolding(crate::specs::Spelling::place_bytes, crate::specs::Spelling::PlaceFits))]
     fn read(alloc: Global, bytes: &[u8]) -> Result<(Option<Location>, &[u8]), Unread> {
         match bytes {
-            [0, rest @ ..] => Ok((None, rest)),
-            [1, rest @ ..] => {
+            [ABSENT, rest @ ..] => Ok((None, rest)),
+            [PRESENT, rest @ ..] => {
                 let (location, rest) = Location::read(alloc, rest)?;
                 Ok((Some(location), rest))
             }
@@ -122,6 +131,7 @@ impl Spell for Option<Location> {
     }
 }
 
+#[tactic(auto, unfolding(crate::specs::Spelling::node_bytes, crate::specs::Spelling::NodeFits))]
 impl Spell for Node {
     ghost spelling = { node_bytes };
 
@@ -129,19 +139,18 @@ impl Spell for Node {
 
     ghost one = { node_one };
 
-    #[tactic(auto, unfolding(crate::specs::Spelling::node_bytes, crate::specs::Spelling::NodeFits))]
     fn put(&self, out: &mut Vec<u8>) -> Result<(), NoMemory> {
         self.tags.put(out)?;
         self.location.put(out)
     }
 
-    #[tactic(auto, unfolding(crate::specs::Spelling::node_bytes, crate::specs::Spelling::NodeFits))]
     fn read(alloc: Global, bytes: &[u8]) -> Result<(Node, &[u8]), Unread> {
         let ((tags, location), rest) = <(Tags, Option<Location>)>::read(alloc, bytes)?;
         Ok((Node { tags, location }, rest))
     }
 }
 
+#[tactic(auto, unfolding(crate::specs::Spelling::refs_bytes, crate::specs::Spelling::RefsFit))]
 impl Spell for Refs {
     ghost spelling = { refs_bytes };
 
@@ -149,18 +158,17 @@ impl Spell for Refs {
 
     ghost one = { refs_one };
 
-    #[tactic(auto, unfolding(crate::specs::Spelling::refs_bytes, crate::specs::Spelling::RefsFit))]
     fn put(&self, out: &mut Vec<u8>) -> Result<(), NoMemory> {
         put_list(self.items(), out)
     }
 
-    #[tactic(auto, unfolding(crate::specs::Spelling::refs_bytes, crate::specs::Spelling::RefsFit))]
     fn read(alloc: Global, bytes: &[u8]) -> Result<(Refs, &[u8]), Unread> {
         let (list, rest) = read_list::<NodeId>(alloc, bytes)?;
         Ok((Refs::from_list(list), rest))
     }
 }
 
+#[tactic(auto, unfolding(crate::specs::Spelling::way_bytes, crate::specs::Spelling::WayFits))]
 impl Spell for Way {
     ghost spelling = { way_bytes };
 
@@ -168,19 +176,18 @@ impl Spell for Way {
 
     ghost one = { way_one };
 
-    #[tactic(auto, unfolding(crate::specs::Spelling::way_bytes, crate::specs::Spelling::WayFits))]
     fn put(&self, out: &mut Vec<u8>) -> Result<(), NoMemory> {
         self.tags.put(out)?;
         self.refs.put(out)
     }
 
-    #[tactic(auto, unfolding(crate::specs::Spelling::way_bytes, crate::specs::Spelling::WayFits))]
     fn read(alloc: Global, bytes: &[u8]) -> Result<(Way, &[u8]), Unread> {
         let ((tags, refs), rest) = <(Tags, Refs)>::read(alloc, bytes)?;
         Ok((Way { tags, refs }, rest))
     }
 }
 
+#[tactic(auto, unfolding(crate::specs::Spelling::member_bytes, crate::specs::Spelling::MemberFits))]
 impl Spell for Member {
     ghost spelling = { member_bytes };
 
@@ -188,19 +195,18 @@ impl Spell for Member {
 
     ghost one = { member_one };
 
-    #[tactic(auto, unfolding(crate::specs::Spelling::member_bytes, crate::specs::Spelling::MemberFits))]
     fn put(&self, out: &mut Vec<u8>) -> Result<(), NoMemory> {
         self.item.put(out)?;
         self.role.put(out)
     }
 
-    #[tactic(auto, unfolding(crate::specs::Spelling::member_bytes, crate::specs::Spelling::MemberFits))]
     fn read(alloc: Global, bytes: &[u8]) -> Result<(Member, &[u8]), Unread> {
         let ((item, role), rest) = <(Key, Text)>::read(alloc, bytes)?;
         Ok((Member { item, role }, rest))
     }
 }
 
+#[tactic(auto, unfolding(crate::specs::Spelling::members_bytes, crate::specs::Spelling::MembersFit))]
 impl Spell for Members {
     ghost spelling = { members_bytes };
 
@@ -208,18 +214,17 @@ impl Spell for Members {
 
     ghost one = { members_one };
 
-    #[tactic(auto, unfolding(crate::specs::Spelling::members_bytes, crate::specs::Spelling::MembersFit))]
     fn put(&self, out: &mut Vec<u8>) -> Result<(), NoMemory> {
         put_list(self.items(), out)
     }
 
-    #[tactic(auto, unfolding(crate::specs::Spelling::members_bytes, crate::specs::Spelling::MembersFit))]
     fn read(alloc: Global, bytes: &[u8]) -> Result<(Members, &[u8]), Unread> {
         let (list, rest) = read_list::<Member>(alloc, bytes)?;
         Ok((Members::from_list(list), rest))
     }
 }
 
+#[tactic(auto, unfolding(crate::specs::Spelling::relation_bytes, crate::specs::Spelling::RelationFits))]
 impl Spell for Relation {
     ghost spelling = { relation_bytes };
 
@@ -227,13 +232,11 @@ impl Spell for Relation {
 
     ghost one = { relation_one };
 
-    #[tactic(auto, unfolding(crate::specs::Spelling::relation_bytes, crate::specs::Spelling::RelationFits))]
     fn put(&self, out: &mut Vec<u8>) -> Result<(), NoMemory> {
         self.tags.put(out)?;
         self.members.put(out)
     }
 
-    #[tactic(auto, unfolding(crate::specs::Spelling::relation_bytes, crate::specs::Spelling::RelationFits))]
     fn read(alloc: Global, bytes: &[u8]) -> Result<(Relation, &[u8]), Unread> {
         let ((tags, members), rest) = <(Tags, Members)>::read(alloc, bytes)?;
         Ok((Relation { tags, members }, rest))

@@ -11,6 +11,7 @@ use crate::unread::Unread;
 use road_base::{NoMemory, Tags, Text};
 use std::alloc::Global;
 
+#[tactic(auto, unfolding(crate::specs::Spelling::text_bytes, crate::specs::Spelling::TextFits))]
 impl Spell for Text {
     ghost spelling = { text_bytes };
 
@@ -18,14 +19,12 @@ impl Spell for Text {
 
     ghost one = { text_one };
 
-    #[tactic(auto, unfolding(crate::specs::Spelling::text_bytes, crate::specs::Spelling::TextFits))]
     fn put(&self, out: &mut Vec<u8>) -> Result<(), NoMemory> {
         let text = self.as_str();
         (text.len() as u64).put(out)?;
         Ok(out.extend_from_slice(text.as_bytes())?)
     }
 
-    #[tactic(auto, unfolding(crate::specs::Spelling::text_bytes, crate::specs::Spelling::TextFits))]
     fn read(alloc: Global, bytes: &[u8]) -> Result<(Text, &[u8]), Unread> {
         let (length, rest) = u64::read(alloc, bytes)?;
         if (rest.len() as u64) < length {
@@ -39,6 +38,7 @@ impl Spell for Text {
     }
 }
 
+#[tactic(auto, unfolding(crate::specs::Spelling::tags_bytes, crate::specs::Spelling::TagsFit))]
 impl Spell for Tags {
     ghost spelling = { tags_bytes };
 
@@ -46,12 +46,10 @@ impl Spell for Tags {
 
     ghost one = { tags_one };
 
-    #[tactic(auto, unfolding(crate::specs::Spelling::tags_bytes, crate::specs::Spelling::TagsFit))]
     fn put(&self, out: &mut Vec<u8>) -> Result<(), NoMemory> {
         put_list(self.items(), out)
     }
 
-    #[tactic(auto, unfolding(crate::specs::Spelling::tags_bytes, crate::specs::Spelling::TagsFit))]
     fn read(alloc: Global, bytes: &[u8]) -> Result<(Tags, &[u8]), Unread> {
         let (list, rest) = read_list::<(Text, Text)>(alloc, bytes)?;
         if !ascend(&list) {

@@ -1,7 +1,6 @@
-use Rattle.std.proofs.Common.{◌++◌, ◌<◌, ◌^◌, ◌∙◌, append_assoc, ap}
+use Rattle.std.proofs.Common.{◌++◌, ◌<◌, ◌^◌, ◌∙◌, append_assoc}
 use Rattle.std.proofs.lemmas.Result.{err_from_is_err_and}
 use Rattle.road_base.specs.Bytes.{u32_bytes}
-use Rattle.road_base.specs.declared.ids.Key.{Key}
 use Rattle.object_codec.specs.Spelling.{key_bytes, body_bytes, event_bytes, KeyFits, EventFits, IsBodyOf, pair_bytes, PairFits}
 use Rattle.object_codec.specs.OneSpelling.{pair_one, key_one, u32_one}
 use Rattle.object_codec.proofs.Fronts.{malformed_weaker, second_missing, both_begin}

@@ -1,5 +1,5 @@
 -- Where nothing stands behind the first, both don't stand there.
-use Rattle.std.proofs.Common.{sym, ◌∙◌, append_assoc}
+use Rattle.std.proofs.Common.{◌∙◌, append_assoc}
 use Rattle.std.proofs.lemmas.Result.{err_from_is_err_and}
 use Rattle.object_codec.proofs.Fronts.{malformed_weaker, second_missing}
 use Rattle.object_codec.proofs.spelling.Tuple2Spell.read.Goals as goal
