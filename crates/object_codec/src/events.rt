@@ -9,9 +9,10 @@ use crate::unread::Unread;
 use road_base::{Body, Event, Key, NoMemory, Node, Relation, Way};
 use std::alloc::Global;
 
-// the states of objects
+/// The state of a deleted object.
 const DELETED: u8 = 0;
 
+/// The state of a visible object.
 const VISIBLE: u8 = 1;
 
 #[tactic(auto, unfolding(crate::specs::Spelling::event_bytes, crate::specs::Spelling::EventFits))]
@@ -35,6 +36,7 @@ impl Spell for Event {
     }
 }
 
+/// Appends the state, and the object where it is visible.
 #[tactic(auto, unfolding(crate::specs::Spelling::body_bytes, crate::specs::Spelling::BodyFits))]
 fn put_body(body: &Body, out: &mut Vec<u8>) -> Result<(), NoMemory>
     ensures ok { OnOk result (out.new.items ≡ out.old.items ++ body_bytes body.now) }
@@ -49,6 +51,7 @@ fn put_body(body: &Body, out: &mut Vec<u8>) -> Result<(), NoMemory>
     }
 }
 
+/// Appends the state of a visible object, and the object.
 fn put_visible<T: Spell>(object: &T, out: &mut Vec<u8>) -> Result<(), NoMemory>
     ensures ok { OnOk result (out.new.items ≡ out.old.items ++ 1 ∷ T.spelling object.now) }
     ensures fit { OnOk result (T.fits object.now) }

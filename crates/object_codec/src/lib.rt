@@ -58,6 +58,7 @@ pub fn decode(alloc: Global, bytes: &[u8]) -> Result<Option<Vec<Event>>, NoMemor
     }
 }
 
+/// Appends how many events there are, and each. Where no memory is found, a part of it may stand there.
 #[tactic(auto, unfolding(crate::specs::Spelling::events_bytes, crate::specs::Spelling::AreEvents))]
 fn put_events(events: &[Event], out: &mut Vec<u8>) -> Result<(), NoMemory>
     ensures ok { OnOk result (out.new.items ≡ out.old.items ++ events_bytes events.now) }
@@ -68,6 +69,7 @@ fn put_events(events: &[Event], out: &mut Vec<u8>) -> Result<(), NoMemory>
     put_all(events, out)
 }
 
+/// Reads how many events there are, and these, and lends the bytes behind the last.
 #[tactic(auto, unfolding(crate::specs::Spelling::events_bytes, crate::specs::Spelling::AreEvents))]
 fn read_events(alloc: Global, bytes: &[u8]) -> Result<(Vec<Event>, &[u8]), Unread>
     ensures found { IfOk result (λ x. Begins events_bytes AreEvents bytes.now x.0.items x.1.now) }

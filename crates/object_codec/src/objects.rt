@@ -16,16 +16,19 @@ use road_base::{
 };
 use std::alloc::Global;
 
-// the kinds of objects
+/// The kind of a node.
 const NODE: u8 = 0;
 
+/// The kind of a way.
 const WAY: u8 = 1;
 
+/// The kind of a relation.
 const RELATION: u8 = 2;
 
-// whether a node has a location
+/// The flag where a node has no location.
 const ABSENT: u8 = 0;
 
+/// The flag in front of a node's location.
 const PRESENT: u8 = 1;
 
 #[tactic(auto, unfolding(crate::specs::Spelling::key_bytes, crate::specs::Spelling::KeyFits))]
@@ -63,6 +66,7 @@ impl Spell for Key {
     }
 }
 
+/// Appends the kind and the number.
 fn put_key(kind: u8, number: i64, out: &mut Vec<u8>) -> Result<(), NoMemory>
     ensures ok { OnOk result (out.new.items ≡ out.old.items ++ kind ∷ i64_bytes number) }
     ensures fit { OnOk result (FitsSigned w64 number) }
@@ -94,6 +98,7 @@ impl Spell for Location {
     }
 }
 
+/// The longitude is within 180 degrees, and the latitude within 90.
 fn is_on_earth(lon: i32, lat: i32) -> bool
     ensures { result ≡ is_in_range lon lat }
 {

@@ -26,6 +26,7 @@ pub(crate) trait Spell {
         ensures found { IfOk result (λ x. Begins spelling fits bytes.now x.0 x.1.now) }
         ensures malformed { IfErr result (λ e. IfMalformed e (NoneBegins spelling fits bytes.now)) };
 
+    /// No spelling begins another one, and each is that of one value.
     ghost one: { IsOneSpelling spelling fits };
 }
 
