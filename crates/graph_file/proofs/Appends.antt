@@ -3,7 +3,7 @@ use Rattle.std.proofs.Common.{◌≡◌, ℕ, zero, suc, ◌+◌, ◌<◌, List,
 use Rattle.std.specs.List.{AllByRecursion}
 use Rattle.std.proofs.lemmas.List.{take_at, take-append-drop}
 use Rattle.std.proofs.lemmas.Result.{IfOk-equal}
-use Rattle.road_model.specs.Format.{joined}
+use Rattle.road_base.specs.Bytes.{joined}
 use Rattle.graph_file.specs.Appending.{Keeps}
 
 -- what stood before an append stands in front of what comes later

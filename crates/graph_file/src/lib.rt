@@ -7,7 +7,8 @@
 ghost use Rattle.std.specs.Prelude.{◌≡◌, ◌++◌, ◌<◌, ◌^◌, length, OnOk, OnErr, codes};
 ghost use Rattle.std.specs.List.{AllByRecursion};
 ghost use Rattle.std.specs.FinMap.{values};
-ghost use Rattle.road_model.specs.Format.{u32_bytes, u64_bytes, graph_bytes, BlockFits, IsBlockForm, IsGraphFile};
+ghost use Rattle.road_base.specs.Bytes.{u32_bytes, u64_bytes};
+ghost use Rattle.road_model.specs.Format.{graph_bytes, BlockFits, IsBlockForm, IsGraphFile};
 ghost use Rattle.graph_file.specs.Appending.{Keeps};
 
 mod numbers;

@@ -1,7 +1,8 @@
 //! Numbers and directions, little endian.
 ghost use Rattle.std.specs.Prelude.{◌<◌, ◌^◌, FitsSigned};
 ghost use Rattle.std.specs.Int.{w32, w64};
-ghost use Rattle.road_model.specs.Format.{u32_bytes, u64_bytes, i32_bytes, i64_bytes, dir_bytes};
+ghost use Rattle.road_base.specs.Bytes.{u32_bytes, u64_bytes, i32_bytes, i64_bytes};
+ghost use Rattle.road_model.specs.Format.{dir_bytes};
 
 use crate::spelling::Spell;
 use road_base::{Dir, NoMemory};

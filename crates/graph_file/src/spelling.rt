@@ -1,7 +1,7 @@
 //! What a graph file spells, and lists of it.
 ghost use Rattle.std.specs.Prelude.{◌≡◌, ℕ, List, ◌++◌, OnOk, OnErr};
 ghost use Rattle.std.specs.List.{AllByRecursion};
-ghost use Rattle.road_model.specs.Format.{joined};
+ghost use Rattle.road_base.specs.Bytes.{joined};
 ghost use Rattle.graph_file.specs.Appending.{Keeps};
 
 use road_base::NoMemory;

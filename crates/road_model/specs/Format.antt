@@ -1,11 +1,12 @@
 -- The bytes of a graph file. All numbers are little endian.
-use Rattle.std.specs.Prelude.{◌≡◌, ℕ, ◌+◌, ◌-◌, ◌<◌, ◌≤◌, ◌^◌, ℤ, List, [], ◌∷◌, ◌++◌, length, map, IsTrue, FitsSigned, codes}
+use Rattle.std.specs.Prelude.{◌≡◌, ℕ, ◌+◌, ◌-◌, ◌<◌, ◌≤◌, ◌^◌, List, [], ◌∷◌, ◌++◌, length, map, IsTrue, FitsSigned, codes}
 use Rattle.std.specs.List.{AllByRecursion}
 use Rattle.std.specs.Ordering.{nat_cmp, ordering_then}
-use Rattle.std.specs.Int.{w32, w64, to_le_bytes, cast_unsigned}
+use Rattle.std.specs.Int.{w64}
 use Rattle.std.specs.declared.cmp.Ordering.{Ordering}
 use Rattle.road_base.specs.declared.ids.Dir.{Dir}
 use Rattle.road_base.specs.declared.ids.Dir.TheVariants.{Forward, Backward}
+use Rattle.road_base.specs.Bytes.{u32_bytes, u64_bytes, i32_bytes, i64_bytes, joined}
 use Rattle.road_base.specs.Objects.{Objects}
 use Rattle.road_model.specs.declared.lists.PieceName.{PieceName}
 use Rattle.road_model.specs.declared.lists.Place.{Place}
@@ -19,26 +20,9 @@ use Rattle.road_model.specs.Blocks.{IsRoadBlock}
 
 -- ---- spelling
 
-abbrev pub u32_bytes : ℕ → List ℕ
-u32_bytes n = to_le_bytes w32 n
-
-abbrev pub u64_bytes : ℕ → List ℕ
-u64_bytes n = to_le_bytes w64 n
-
-abbrev pub i32_bytes : ℤ → List ℕ
-i32_bytes z = to_le_bytes w32 (cast_unsigned w32 z)
-
-abbrev pub i64_bytes : ℤ → List ℕ
-i64_bytes z = to_le_bytes w64 (cast_unsigned w64 z)
-
 abbrev pub dir_bytes : Dir → List ℕ
 dir_bytes Forward = 0 ∷ []
 dir_bytes Backward = 1 ∷ []
-
--- each one's bytes, in order
-abbrev pub joined : {A : Type 0} → (A → List ℕ) → List A → List ℕ
-joined spell [] = []
-joined spell (x ∷ xs) = spell x ++ joined spell xs
 
 abbrev pub name_bytes : PieceName → List ℕ
 name_bytes n = i64_bytes n.way.0 ++ (u32_bytes n.index ++ dir_bytes n.dir)

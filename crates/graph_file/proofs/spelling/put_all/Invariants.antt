@@ -1,6 +1,6 @@
 use Rattle.std.proofs.Common.{◌≡◌, ◌++◌, take}
 use Rattle.std.specs.List.{AllByRecursion}
-use Rattle.road_model.specs.Format.{joined}
+use Rattle.road_base.specs.Bytes.{joined}
 use Rattle.graph_file.proofs.spelling.put_all.Given as goal
 
 -- the members so far are spelled, and their numbers fit
