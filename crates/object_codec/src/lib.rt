@@ -2,7 +2,7 @@
 //!
 //! `encode` goes once over the events and `decode` once over the bytes, so each costs as many steps as there are
 //! bytes. `encode` takes no memory beside what it appends, and `decode` none beside the events that it has read so
-//! far: it takes no announced count at its word.
+//! far: a count that the bytes announce takes none.
 #![tactic(auto)]
 
 ghost use Rattle.std.specs.Prelude.{◌≡◌, List, ◌++◌, OnOk, OnErr, IfOk, IfErr, IfSome, IfNone};
