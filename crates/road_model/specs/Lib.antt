@@ -1,4 +1,5 @@
 pub mod Rules
+pub mod AccessKeys
 pub mod Lines
 pub mod Driving
 pub mod Restrictions

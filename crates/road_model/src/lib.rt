@@ -8,6 +8,7 @@
 //! costs the size of what is copied, and everything else a constant.
 #![tactic(auto)]
 
+mod access_values;
 mod answers;
 mod blocks;
 pub mod laws;
@@ -16,6 +17,7 @@ mod profile;
 #[cfg(test)]
 mod tests;
 
+pub use access_values::has_open_value;
 pub use answers::{Access, AccessKey, ClosedBy, RuleKind, Unusable};
 pub use blocks::{Block, Blocks};
 pub use lists::{Arcs, Context, Contexts, Names, Piece, PieceName, Pieces, Place, Places, TurnArc};
