@@ -1,3 +1,4 @@
+mod Ascents
 pub mod TagSearch
 pub mod KeyOrder
 pub mod Applied

@@ -1,6 +1,6 @@
 //! The tags of an object.
 ghost use Rattle.std.specs.Prelude.{◌≡◌, IfOk, ◌≤◌, length, option_copied};
-ghost use Rattle.road_base.specs.Tags.{IsAscending, value_of};
+ghost use Rattle.road_base.specs.Tags.{IsAscending, is_ascending, value_of};
 
 use crate::{NoMemory, Text};
 use std::marker::Model;
@@ -23,6 +23,18 @@ impl Model for Tags {
 }
 
 impl Tags {
+    /// Whether each key stands above the one before it by bytes, as tags ask.
+    pub fn are_ascending(list: &[(Text, Text)]) -> bool
+        ensures { result ≡ is_ascending list.now }
+    {
+        for at in 1..list.len() {
+            if list[at - 1].0.as_str() >= list[at].0.as_str() {
+                return false;
+            }
+        }
+        true
+    }
+
     /// Takes no memory.
     pub fn from_list(list: Vec<(Text, Text)>) -> Tags
         requires ascending { IsAscending list.items }
