@@ -1,13 +1,14 @@
-// A library with one function.
+//! Where a car may drive, by the tags of ways, nodes and restrictions (OSM wiki, Key:access).
+//!
+//! A call looks up a dozen keys at most among the tags, each at the logarithm of their number, goes once over the values that
+//! it finds, and takes no memory.
 #![tactic(auto)]
 
-ghost use Rattle.std.specs.Prelude.{◌≡◌};
-ghost use Rattle.access_profile.specs.Echo.{echo_of};
+mod closing;
+mod deciding_key;
+mod highways;
+mod motorcar;
+mod restricting;
 
-// The `ensures` clause is the contract: what `echo` returns is `echo_of` of its argument, a definition
-// in `specs/Echo.antt`, which a caller's clause can cite too.
-pub fn echo(x: usize) -> usize
-    ensures { result ≡ echo_of x }
-{
-    x
-}
+pub use deciding_key::deciding;
+pub use motorcar::Motorcar;

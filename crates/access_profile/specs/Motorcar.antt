@@ -1,0 +1,15 @@
+-- The profile for cars.
+use Rattle.road_model.specs.Rules.{Rules}
+use Rattle.barrier_rules.specs.Barrier.{barrier_open}
+use Rattle.access_profile.specs.Closing.{direction}
+use Rattle.access_profile.specs.Highways.{is_turning_place}
+use Rattle.access_profile.specs.Restricting.{rule}
+
+abbrev pub motorcar_rules : Rules
+motorcar_rules = record {
+  number = 1;
+  direction = direction;
+  node_open = barrier_open;
+  turns = is_turning_place;
+  rule = rule;
+}
