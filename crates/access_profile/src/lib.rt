@@ -12,3 +12,6 @@ mod restricting;
 
 pub use deciding_key::deciding;
 pub use motorcar::Motorcar;
+
+#[cfg(test)]
+mod tests;

@@ -47,3 +47,6 @@ fn is_open_barrier(barrier: &str) -> bool
         _ => false,
     }
 }
+
+#[cfg(test)]
+mod tests;
