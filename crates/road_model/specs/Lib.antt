@@ -9,6 +9,7 @@ pub mod Pieces
 pub mod Contexts
 pub mod Network
 pub mod Orders
+pub mod Links
 pub mod Blocks
 pub mod Format
 pub mod BlockMap

@@ -4,13 +4,21 @@ use Rattle.std.specs.Ordering.{nat_cmp, int_cmp, is_lt, ordering_then}
 use Rattle.std.specs.declared.cmp.Ordering.{Ordering}
 use Rattle.std.specs.declared.cmp.Ordering.TheVariants.{Less, Equal, Greater}
 use Rattle.std.specs.Cmp.Lexicographic.{slice_cmp}
+use Rattle.road_base.specs.declared.ids.NodeId.{NodeId}
 use Rattle.road_base.specs.declared.ids.WayId.{WayId}
+use Rattle.road_base.specs.declared.ids.RelationId.{RelationId}
 use Rattle.road_base.specs.declared.ids.Dir.{Dir}
 use Rattle.road_base.specs.declared.ids.Dir.TheVariants.{Forward, Backward}
 use Rattle.road_model.specs.declared.lists.PieceName.{PieceName}
 
+abbrev pub node_cmp : NodeId → NodeId → Ordering
+node_cmp a b = int_cmp a.0 b.0
+
 abbrev pub way_cmp : WayId → WayId → Ordering
 way_cmp a b = int_cmp a.0 b.0
+
+abbrev pub relation_cmp : RelationId → RelationId → Ordering
+relation_cmp a b = int_cmp a.0 b.0
 
 abbrev pub dir_cmp : Dir → Dir → Ordering
 dir_cmp Forward Forward = Equal

@@ -16,9 +16,11 @@ mod lists;
 mod profile;
 #[cfg(test)]
 mod tests;
+mod world;
 
 pub use access_values::has_open_value;
 pub use answers::{Access, AccessKey, ClosedBy, RuleKind, Unusable};
 pub use blocks::{Block, Blocks};
 pub use lists::{Arcs, Context, Contexts, Names, Piece, PieceName, Pieces, Place, Places, TurnArc};
 pub use profile::Profile;
+pub use world::World;

@@ -1,0 +1,60 @@
+-- Links between objects, what is within some number of links, and the ways that a change touches.
+use Rattle.std.specs.Prelude.{◌≡◌, ℕ, zero, suc, ◌⊎◌, List, Some, IsTrue, Contains, map}
+use Rattle.road_base.specs.declared.ids.NodeId.{NodeId}
+use Rattle.road_base.specs.declared.ids.WayId.{WayId}
+use Rattle.road_base.specs.declared.ids.RelationId.{RelationId}
+use Rattle.road_base.specs.declared.ids.Key.{Key}
+use Rattle.road_base.specs.declared.ids.Key.TheVariants.{Node as NodeKey, Way as WayKey, Relation as RelationKey}
+use Rattle.road_base.specs.declared.objects.Way.{Way}
+use Rattle.road_base.specs.declared.objects.Relation.{Relation}
+use Rattle.road_base.specs.Objects.{Objects, visible, way_of, relation_of}
+use Rattle.road_model.specs.Rules.{has_highway, is_restriction}
+use Rattle.road_model.specs.Orders.{Lists, way_cmp}
+
+-- a visible way with the key `highway` refers to the node
+pub record RefersTo (M : Objects) (w : WayId) (n : NodeId) : Type 0 where
+  pub body : Way
+  pub is : way_of M w ≡ Some body
+  pub highway : IsTrue (has_highway body.tags)
+  pub member : Contains body.refs n
+
+-- a visible restriction has the object as a member
+pub record HasMember (M : Objects) (r : RelationId) (k : Key) : Type 0 where
+  pub body : Relation
+  pub is : relation_of M r ≡ Some body
+  pub restriction : IsTrue (is_restriction body.tags)
+  pub member : Contains (map (λ m. m.item) body.members) k
+
+-- the two keys are linked: a way and a node that it refers to, or a restriction and a node or way that is its member;
+-- the node, or the member, needn't be visible
+abbrev pub IsLink : Objects → Key → Key → Type 0
+IsLink M (NodeKey n) (NodeKey m) = ⊥
+IsLink M (NodeKey n) (WayKey w) = RefersTo M w n
+IsLink M (NodeKey n) (RelationKey r) = HasMember M r (NodeKey n)
+IsLink M (WayKey w) (NodeKey n) = RefersTo M w n
+IsLink M (WayKey w) (WayKey v) = ⊥
+IsLink M (WayKey w) (RelationKey r) = HasMember M r (WayKey w)
+IsLink M (RelationKey r) (NodeKey n) = HasMember M r (NodeKey n)
+IsLink M (RelationKey r) (WayKey w) = HasMember M r (WayKey w)
+IsLink M (RelationKey r) (RelationKey q) = ⊥
+
+-- b is within n links of a
+abbrev pub IsWithin : Objects → ℕ → Key → Key → Type 0
+IsWithin M zero a b = a ≡ b
+IsWithin M (suc n) a b = IsWithin M n a b ⊎ ((c : Key) × IsWithin M n a c × IsLink M c b)
+
+-- the way, visible or not, is within six links of the key
+abbrev pub IsNear : Objects → Key → WayId → Type 0
+IsNear M k w = IsWithin M 6 k (WayKey w)
+
+-- the ways within six links of one of the keys, ascending
+abbrev pub AreReached : Objects → List Key → List WayId → Type 0
+AreReached M keys ways = Lists (λ w. w) way_cmp (λ w. (k : Key) × Contains keys k × IsNear M k w) ways
+
+-- the way is within six links, in M or in N, of a key whose visible body differs between them
+abbrev pub IsTouched : Objects → Objects → WayId → Type 0
+IsTouched M N w = (k : Key) × (¬ (visible M k ≡ visible N k)) × (IsNear M k w ⊎ IsNear N k w)
+
+-- the touched ways, ascending
+abbrev pub AreTouched : Objects → Objects → List WayId → Type 0
+AreTouched M N ways = Lists (λ w. w) way_cmp (IsTouched M N) ways
