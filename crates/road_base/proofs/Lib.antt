@@ -2,3 +2,4 @@ mod Ascents
 pub mod TagSearch
 pub mod KeyOrder
 pub mod Applied
+pub mod EqualPlaces

@@ -1,5 +1,5 @@
 //! Lists of numbers and steps, which contracts see as lists.
-ghost use Rattle.std.specs.Prelude.{◌≡◌, IfOk, ◌≤◌, length};
+ghost use Rattle.std.specs.Prelude.{◌≡◌, ◌↔◌, IfOk, IsTrue, ◌≤◌, length};
 
 use crate::{Key, NoMemory, NodeId, Step, WayId};
 use std::marker::Model;
@@ -36,6 +36,13 @@ impl Refs {
         ensures short { length self.now ≤ 65535 }
     {
         self.list.as_slice()
+    }
+
+    /// Whether the two are equal.
+    pub fn same(&self, other: &Refs) -> bool
+        ensures { IsTrue result ↔ (self.now ≡ other.now) }
+    {
+        self.list.as_slice() == other.list.as_slice()
     }
 
     /// An equal value.

@@ -1,5 +1,5 @@
 //! Nodes, ways and relations.
-ghost use Rattle.std.specs.Prelude.{◌≡◌, IfOk, ◌≤◌, length};
+ghost use Rattle.std.specs.Prelude.{◌≡◌, ◌↔◌, IfOk, IsTrue, ◌≤◌, length};
 
 use crate::{Key, Location, NoMemory, Refs, Tags, Text};
 use std::marker::Model;
@@ -59,6 +59,13 @@ pub enum Body {
 }
 
 impl Node {
+    /// Whether the two are equal.
+    pub fn same(&self, other: &Node) -> bool
+        ensures { IsTrue result ↔ (self.now ≡ other.now) }
+    {
+        same_location(self.location, other.location) && self.tags.same(&other.tags)
+    }
+
     /// An equal value.
     pub fn copy(&self) -> Result<Node, NoMemory>
         ensures { IfOk result (λ n. n ≡ self.now) }
@@ -72,6 +79,13 @@ impl Node {
 }
 
 impl Way {
+    /// Whether the two are equal.
+    pub fn same(&self, other: &Way) -> bool
+        ensures { IsTrue result ↔ (self.now ≡ other.now) }
+    {
+        self.refs.same(&other.refs) && self.tags.same(&other.tags)
+    }
+
     /// An equal value.
     pub fn copy(&self) -> Result<Way, NoMemory>
         ensures { IfOk result (λ w. w ≡ self.now) }
@@ -83,6 +97,13 @@ impl Way {
 }
 
 impl Member {
+    /// Whether the two are equal.
+    pub fn same(&self, other: &Member) -> bool
+        ensures { IsTrue result ↔ (self.now ≡ other.now) }
+    {
+        self.item == other.item && self.role.same(&other.role)
+    }
+
     /// An equal value.
     pub fn copy(&self) -> Result<Member, NoMemory>
         ensures { IfOk result (λ m. m ≡ self.now) }
@@ -112,6 +133,13 @@ impl Members {
         self.list.as_slice()
     }
 
+    /// Whether the two are equal.
+    pub fn same(&self, other: &Members) -> bool
+        ensures { IsTrue result ↔ (self.now ≡ other.now) }
+    {
+        same_members(self.list.as_slice(), other.list.as_slice())
+    }
+
     /// An equal value.
     pub fn copy(&self) -> Result<Members, NoMemory>
         ensures { IfOk result (λ m. m ≡ self.now) }
@@ -126,6 +154,13 @@ impl Members {
 }
 
 impl Relation {
+    /// Whether the two are equal.
+    pub fn same(&self, other: &Relation) -> bool
+        ensures { IsTrue result ↔ (self.now ≡ other.now) }
+    {
+        self.members.same(&other.members) && self.tags.same(&other.tags)
+    }
+
     /// An equal value.
     pub fn copy(&self) -> Result<Relation, NoMemory>
         ensures { IfOk result (λ r. r ≡ self.now) }
@@ -137,6 +172,19 @@ impl Relation {
 }
 
 impl Body {
+    /// Whether the two are equal.
+    pub fn same(&self, other: &Body) -> bool
+        ensures { IsTrue result ↔ (self.now ≡ other.now) }
+    {
+        match (self, other) {
+            (Body::Node(this), Body::Node(that)) => this.same(that),
+            (Body::Way(this), Body::Way(that)) => this.same(that),
+            (Body::Relation(this), Body::Relation(that)) => this.same(that),
+            (Body::Deleted, Body::Deleted) => true,
+            _ => false,
+        }
+    }
+
     /// An equal value.
     pub fn copy(&self) -> Result<Body, NoMemory>
         ensures { IfOk result (λ b. b ≡ self.now) }
@@ -148,4 +196,28 @@ impl Body {
             Body::Deleted => Ok(Body::Deleted),
         }
     }
+}
+
+fn same_location(this: Option<Location>, that: Option<Location>) -> bool
+    ensures { IsTrue result ↔ (this ≡ that) }
+{
+    match (this, that) {
+        (Some(this), Some(that)) => this == that,
+        (None, None) => true,
+        _ => false,
+    }
+}
+
+fn same_members(these: &[Member], those: &[Member]) -> bool
+    ensures { IsTrue result ↔ (these.now ≡ those.now) }
+{
+    if these.len() != those.len() {
+        return false;
+    }
+    for at in 0..these.len() {
+        if !these[at].same(&those[at]) {
+            return false;
+        }
+    }
+    true
 }

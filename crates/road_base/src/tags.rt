@@ -1,5 +1,5 @@
 //! The tags of an object.
-ghost use Rattle.std.specs.Prelude.{◌≡◌, IfOk, ◌≤◌, length, option_copied};
+ghost use Rattle.std.specs.Prelude.{◌≡◌, ◌↔◌, IfOk, IsTrue, ◌≤◌, length, option_copied};
 ghost use Rattle.road_base.specs.Tags.{IsAscending, is_ascending, value_of};
 
 use crate::{NoMemory, Text};
@@ -64,6 +64,13 @@ impl Tags {
         }
     }
 
+    /// Whether the two are equal.
+    pub fn same(&self, other: &Tags) -> bool
+        ensures { IsTrue result ↔ (self.now ≡ other.now) }
+    {
+        same_pairs(self.list.as_slice(), other.list.as_slice())
+    }
+
     /// An equal value.
     pub fn copy(&self) -> Result<Tags, NoMemory>
         ensures { IfOk result (λ t. t ≡ self.now) }
@@ -75,4 +82,18 @@ impl Tags {
         }
         Ok(Tags { list })
     }
+}
+
+fn same_pairs(these: &[(Text, Text)], those: &[(Text, Text)]) -> bool
+    ensures { IsTrue result ↔ (these.now ≡ those.now) }
+{
+    if these.len() != those.len() {
+        return false;
+    }
+    for at in 0..these.len() {
+        if !these[at].0.same(&those[at].0) || !these[at].1.same(&those[at].1) {
+            return false;
+        }
+    }
+    true
 }

@@ -1,5 +1,5 @@
 //! Text, seen as its bytes.
-ghost use Rattle.std.specs.Prelude.{◌≡◌, IfOk, string_bytes, IsUtf8};
+ghost use Rattle.std.specs.Prelude.{◌≡◌, ◌↔◌, IfOk, IsTrue, string_bytes, IsUtf8};
 
 use crate::NoMemory;
 use std::marker::Model;
@@ -32,6 +32,13 @@ impl Text {
         ensures utf8 { IsUtf8 self.now }
     {
         self.text.as_str()
+    }
+
+    /// Whether the two are equal.
+    pub fn same(&self, other: &Text) -> bool
+        ensures { IsTrue result ↔ (self.now ≡ other.now) }
+    {
+        self.text.as_str() == other.text.as_str()
     }
 
     /// An equal value.

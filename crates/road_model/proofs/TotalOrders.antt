@@ -5,11 +5,19 @@ use Rattle.std.specs.Ordering.{ordering_reverse, ordering_then}
 use Rattle.std.specs.Cmp.{IsTotalOrder}
 use Rattle.std.specs.FinMap.{IsAntisymmetric, int_cmp-IsAntisymmetric, nat_cmp-IsAntisymmetric, slice_cmp-IsAntisymmetric}
 use Rattle.std.proofs.lemmas.Cmp.{nat_cmp_total, int_cmp_total, on_total, then_total, lists_total}
+use Rattle.road_base.specs.declared.ids.NodeId.{NodeId}
 use Rattle.road_base.specs.declared.ids.WayId.{WayId}
+use Rattle.road_base.specs.declared.ids.RelationId.{RelationId}
 use Rattle.road_base.specs.declared.ids.Dir.{Dir}
 use Rattle.road_base.specs.declared.ids.Dir.TheVariants.{Forward, Backward}
 use Rattle.road_model.specs.declared.lists.PieceName.{PieceName}
-use Rattle.road_model.specs.Orders.{way_cmp, dir_cmp, name_cmp, names_cmp}
+use Rattle.road_model.specs.Orders.{node_cmp, way_cmp, relation_cmp, dir_cmp, name_cmp, names_cmp}
+
+pub node_cmp_total : IsTotalOrder node_cmp
+node_cmp_total = on_total (λ (n : NodeId). n.0) int_cmp_total
+
+pub relation_cmp_total : IsTotalOrder relation_cmp
+relation_cmp_total = on_total (λ (r : RelationId). r.0) int_cmp_total
 
 pub way_cmp_total : IsTotalOrder way_cmp
 way_cmp_total = on_total (λ (w : WayId). w.0) int_cmp_total
@@ -46,6 +54,12 @@ name_cmp_total = then_total (on_total (λ (n : PieceName). n.way) way_cmp_total)
 
 pub names_cmp_total : IsTotalOrder names_cmp
 names_cmp_total = then_total (on_total length nat_cmp_total) (lists_total name_cmp_total)
+
+pub node_cmp_exact : IsAntisymmetric node_cmp
+node_cmp_exact a b e = let f = int_cmp-IsAntisymmetric a.0 b.0 e in λ i. record { 0 = f i }
+
+pub relation_cmp_exact : IsAntisymmetric relation_cmp
+relation_cmp_exact a b e = let f = int_cmp-IsAntisymmetric a.0 b.0 e in λ i. record { 0 = f i }
 
 pub way_cmp_exact : IsAntisymmetric way_cmp
 way_cmp_exact a b e = let f = int_cmp-IsAntisymmetric a.0 b.0 e in λ i. record { 0 = f i }

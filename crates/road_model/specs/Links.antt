@@ -7,7 +7,7 @@ use Rattle.road_base.specs.declared.ids.Key.{Key}
 use Rattle.road_base.specs.declared.ids.Key.TheVariants.{Node as NodeKey, Way as WayKey, Relation as RelationKey}
 use Rattle.road_base.specs.declared.objects.Way.{Way}
 use Rattle.road_base.specs.declared.objects.Relation.{Relation}
-use Rattle.road_base.specs.Objects.{Objects, visible, way_of, relation_of}
+use Rattle.road_base.specs.Objects.{Objects, key_cmp, visible, way_of, relation_of}
 use Rattle.road_model.specs.Rules.{has_highway, is_restriction}
 use Rattle.road_model.specs.Orders.{Lists, way_cmp}
 
@@ -43,6 +43,14 @@ abbrev pub IsWithin : Objects → ℕ → Key → Key → Type 0
 IsWithin M zero a b = a ≡ b
 IsWithin M (suc n) a b = IsWithin M n a b ⊎ ((c : Key) × IsWithin M n a c × IsLink M c b)
 
+-- the visible body of the key differs between M and N
+abbrev pub Differs : Objects → Objects → Key → Type 0
+Differs M N k = ¬ (visible M k ≡ visible N k)
+
+-- the keys whose visible body differs between M and N, ascending
+abbrev pub AreChanged : Objects → Objects → List Key → Type 0
+AreChanged M N keys = Lists (λ k. k) key_cmp (Differs M N) keys
+
 -- the way, visible or not, is within six links of the key
 abbrev pub IsNear : Objects → Key → WayId → Type 0
 IsNear M k w = IsWithin M 6 k (WayKey w)
@@ -53,7 +61,7 @@ AreReached M keys ways = Lists (λ w. w) way_cmp (λ w. (k : Key) × Contains ke
 
 -- the way is within six links, in M or in N, of a key whose visible body differs between them
 abbrev pub IsTouched : Objects → Objects → WayId → Type 0
-IsTouched M N w = (k : Key) × (¬ (visible M k ≡ visible N k)) × (IsNear M k w ⊎ IsNear N k w)
+IsTouched M N w = (k : Key) × Differs M N k × (IsNear M k w ⊎ IsNear N k w)
 
 -- the touched ways, ascending
 abbrev pub AreTouched : Objects → Objects → List WayId → Type 0

@@ -4,7 +4,7 @@ ghost use Rattle.std.specs.Cmp.{IsTotalOrder};
 ghost use Rattle.std.specs.FinMap.{IsAntisymmetric};
 ghost use Rattle.road_base.specs.Objects.{Objects};
 ghost use Rattle.road_model.specs.declared.lists.PieceName.{PieceName};
-ghost use Rattle.road_model.specs.Orders.{way_cmp, name_cmp, names_cmp};
+ghost use Rattle.road_model.specs.Orders.{node_cmp, way_cmp, relation_cmp, name_cmp, names_cmp};
 ghost use Rattle.road_model.specs.Naming.{OnePiece, OneEntry, OneBlock, OneGraph};
 
 use crate::Profile;
@@ -18,6 +18,14 @@ pub fn name_order()
     ensures lists { IsTotalOrder names_cmp }
     ensures list_ties { IsAntisymmetric names_cmp }
     ensures by_cmp { (a b : PieceName) → ⟦<crate::PieceName as Ord>⟧.cmp a b ≡ name_cmp a b }
+{}
+
+/// Nodes and relations stand in total orders, in which only equal ones tie.
+pub fn number_order()
+    ensures nodes { IsTotalOrder node_cmp }
+    ensures node_ties { IsAntisymmetric node_cmp }
+    ensures relations { IsTotalOrder relation_cmp }
+    ensures relation_ties { IsAntisymmetric relation_cmp }
 {}
 
 /// A piece is known by its name, and is written in one way.
