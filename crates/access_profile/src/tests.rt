@@ -14,6 +14,10 @@ fn tags(alloc: Global, of: &str) -> Result<Tags, Fail> {
         }
     }
     list.sort_by(|a, b| a.0.as_str().cmp(b.0.as_str()))?;
+    tags_of(list)
+}
+
+fn tags_of(list: Vec<(Text, Text)>) -> Result<Tags, Fail> {
     if list.len() > 65_535 || !Tags::are_ascending(&list) {
         return Err(Fail::from("a key stands there twice"));
     }
@@ -309,7 +313,7 @@ fn spaces_around_an_exception_are_dropped(rt: HostRuntime) -> Result<(), Fail> {
             text(rt.alloc(), "restriction")?,
             text(rt.alloc(), "no_left_turn")?,
         );
-        let tags = Tags::from_list(vec![in rt.alloc(); except, rule]?);
+        let tags = tags_of(vec![in rt.alloc(); except, rule]?)?;
         assert_eq!(rt; Motorcar.rule(&tags), kind, "at {value:?}");
     }
     Ok(())

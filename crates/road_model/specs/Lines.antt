@@ -1,5 +1,5 @@
 -- The line of a way, and what the steps of it are.
-use Rattle.std.specs.Prelude.{ℕ, zero, suc, ◌+◌, List, [], ◌∷◌, Option, Some, None, Bool, cond, slice_get}
+use Rattle.std.specs.Prelude.{ℕ, zero, suc, ◌+◌, List, [], ◌∷◌, Option, Some, None, Bool, cond, slice_get, nat_lt, length}
 use Rattle.std.specs.Ordering.{int_eq}
 use Rattle.road_base.specs.declared.ids.NodeId.{NodeId}
 use Rattle.road_base.specs.declared.ids.WayId.{WayId}
@@ -33,6 +33,10 @@ line_of M w = changes (refs_of (way_of M w))
 -- the node at a position of a way's line
 unfoldable pub node_at : Objects → WayId → ℕ → Option NodeId
 node_at M w i = slice_get (line_of M w) i
+
+-- the step names two neighbouring positions of a visible way's line
+unfoldable pub names_pair : Objects → Step → Bool
+names_pair M s = nat_lt (s.index + 1) (length (line_of M s.way))
 
 abbrev pub tail_position : Dir → ℕ → ℕ
 tail_position Forward i = i

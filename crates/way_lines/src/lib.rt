@@ -1,13 +1,11 @@
-// A library with one function.
+//! Lines of ways, the steps along them, and which step may follow which, over any world and profile.
+//!
+//! No call takes memory. A call on a way or a step takes the time of the way's references; whether a step may follow
+//! another, where that is a reversal, takes the time of the references of the ways at the node.
 #![tactic(auto)]
 
-ghost use Rattle.std.specs.Prelude.{◌≡◌};
-ghost use Rattle.way_lines.specs.Echo.{echo_of};
+mod line_nodes;
+mod steps;
 
-// The `ensures` clause is the contract: what `echo` returns is `echo_of` of its argument, a definition
-// in `specs/Echo.antt`, which a caller's clause can cite too.
-pub fn echo(x: usize) -> usize
-    ensures { result ≡ echo_of x }
-{
-    x
-}
+pub use line_nodes::{LineNodes, line, line_at, line_len};
+pub use steps::{drivable, ends, head, is_located, is_open, is_road, tail};
