@@ -1,2 +1,4 @@
 pub mod Short
 pub mod Pairs
+pub mod Walking
+pub mod Referring
