@@ -11,3 +11,6 @@ mod steps;
 pub use line_nodes::{LineNodes, line, line_at, line_len};
 pub use passing::{is_shut, is_turning_place, may_turn, pass};
 pub use steps::{drivable, ends, head, is_located, is_open, is_road, tail};
+
+#[cfg(test)]
+mod tests;
