@@ -1,0 +1,5 @@
+pub mod Members
+pub mod InOrder
+pub mod StableSort
+pub mod Together
+pub mod Changing

@@ -1,0 +1,111 @@
+//! The objects of a map.
+ghost use Rattle.std.specs.Prelude.{◌≡◌, IfOk, OnOk, OnErr, IfSome, map, option_copied};
+ghost use Rattle.std.specs.FinMap.{empty, entries, get};
+ghost use Rattle.std.specs.Option.{option_map};
+ghost use Rattle.road_base.specs.Applying.{IsApplied, entry_of};
+ghost use Rattle.road_base.specs.Objects.{Objects as ObjectMap};
+ghost use Rattle.road_model.specs.Links.{AreChanged};
+
+use crate::changes::changed_keys;
+use crate::standing::{copies, event_of, settle, settle_with, standing};
+use road_base::laws::key_order;
+use road_base::{Event, Key, Keys, NoMemory};
+use std::alloc::Global;
+use std::marker::Model;
+
+/// An object map: to each key that was named its version, and its visible body or a deletion.
+#[derive(Drop)]
+pub struct Objects {
+    list: Vec<Event>,
+}
+
+impl Model for Objects {
+    ghost use Rattle.road_base.specs.Objects.{Objects as ObjectMap};
+    ghost use Rattle.object_store.specs.Codes.{coded_objects};
+
+    ghost Value = { ObjectMap };
+
+    ghost coded = { coded_objects };
+
+    ghost use Rattle.object_store.specs.Listed.{objects_of, IsInOrder};
+
+    ghost view = { λ o. objects_of o.list.items };
+
+    ghost invariant = { λ o. IsInOrder o.list.items };
+}
+
+impl Objects {
+    ghost use Rattle.object_store.specs.Listed.{pair_of, IsInOrder};
+
+    /// No objects. Takes no memory.
+    pub fn new(alloc: Global) -> Objects
+        ensures { result ≡ empty }
+    {
+        Objects {
+            list: Vec::new(alloc),
+        }
+    }
+
+    /// What the events leave of no objects. They are moved, not copied.
+    pub fn of(events: Vec<Event>) -> Result<Objects, NoMemory>
+        ensures { IfOk result (λ o. IsApplied empty events.items o) }
+    {
+        let mut list = events;
+        settle(&mut list)?;
+        Ok(Objects { list })
+    }
+
+    /// The key's entry, as an event. None exactly where the key has no entry.
+    pub fn get(&self, key: Key) -> Option<&Event>
+        ensures entry { option_map entry_of (option_copied result) ≡ get self.now key }
+        ensures key { IfSome (option_copied result) (λ e. e.key ≡ key) }
+    {
+        event_of(self.list.as_slice(), key)
+    }
+
+    /// All entries as events, in key order.
+    pub fn items(&self) -> &[Event]
+        ensures entries { entries self.now ≡ map pair_of result.now }
+        ensures in_order { IsInOrder result.now }
+    {
+        key_order();
+        self.list.as_slice()
+    }
+
+    /// The keys whose visible body the events would change, ascending.
+    pub fn changed(&self, events: &[Event]) -> Result<Keys, NoMemory>
+        ensures { IfOk result (λ keys. (N : ObjectMap)
+            → IsApplied self.now events.now N
+            → AreChanged self.now N keys) }
+    {
+        key_order();
+        let alloc = *self.list.allocator();
+        let events = standing(alloc, events)?;
+        let keys = changed_keys(alloc, self.list.as_slice(), events.as_slice())?;
+        Ok(keys)
+    }
+
+    /// Applies the events: of each key the first one of the greatest version stands, its entry here before all of
+    /// them. Answers the keys whose visible body changed, ascending. Where no memory is found nothing changes.
+    pub fn apply(&mut self, events: &[Event]) -> Result<Keys, NoMemory>
+        ensures applied { OnOk result (IsApplied self.old events.now self.new) }
+        ensures keys { IfOk result (λ keys. AreChanged self.old self.new keys) }
+        ensures err { OnErr result (self.new ≡ self.old) }
+    {
+        key_order();
+        let alloc = *self.list.allocator();
+        let events = standing(alloc, events)?;
+        let keys = changed_keys(alloc, self.list.as_slice(), events.as_slice())?;
+        settle_with(&mut self.list, events)?;
+        Ok(keys)
+    }
+
+    /// Copies of all entries as events, in key order.
+    pub fn events(&self) -> Result<Vec<Event>, NoMemory>
+        ensures { IfOk result (λ v. map pair_of v.items ≡ entries self.now) }
+    {
+        key_order();
+        let list = copies(*self.list.allocator(), self.list.as_slice())?;
+        Ok(list)
+    }
+}
