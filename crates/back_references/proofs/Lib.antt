@@ -1,2 +1,4 @@
+pub mod Members
 pub mod Lookups
 pub mod Sorting
+pub mod Naming

@@ -100,6 +100,14 @@ impl Objects {
         Ok(keys)
     }
 
+    /// An equal value.
+    pub fn copy(&self) -> Result<Objects, NoMemory>
+        ensures { IfOk result (λ o. o ≡ self.now) }
+    {
+        let list = copies(*self.list.allocator(), self.list.as_slice())?;
+        Ok(Objects { list })
+    }
+
     /// Copies of all entries as events, in key order.
     pub fn events(&self) -> Result<Vec<Event>, NoMemory>
         ensures { IfOk result (λ v. map pair_of v.items ≡ entries self.now) }
