@@ -1,9 +1,9 @@
 -- The pairs of a list of entries name exactly what their map's links name.
-use Rattle.std.proofs.Common.{◌≡◌, ◌↔◌, Bool, true, false, cond, IsTrue, List, [], ◌∷◌, ◌++◌, map, Option, Some, None, inl, inr, ◌⊎◌, refl, sym, ap, ◌∙◌, subst, Contains}
+use Rattle.std.proofs.Common.{◌≡◌, ◌↔◌, true, false, cond, IsTrue, List, [], ◌∷◌, ◌++◌, map, Option, Some, None, inl, inr, ◌⊎◌, refl, sym, ap, ◌∙◌, subst, Contains, Ordering}
 use Rattle.std.specs.declared.cmp.Ordering.TheVariants.{Less, Greater}
 use Rattle.std.specs.Ordering.{is_eq, ordering_reverse}
 use Rattle.std.specs.Cmp.{IsTotalOrder, Equal-is}
-use Rattle.std.specs.FinMap.{IsAntisymmetric, get, entries, find, get-entries}
+use Rattle.std.specs.FinMap.{IsAntisymmetric, get, entries, find, empty, get-empty, get-entries}
 use Rattle.std.specs.List.{flat_map}
 use Rattle.std.proofs.lemmas.Bool.{and_parts}
 use Rattle.std.proofs.lemmas.Cmp.{tied_itself}
@@ -20,10 +20,12 @@ use Rattle.road_base.specs.declared.objects.Body.TheVariants.{Node as NodeBody, 
 use Rattle.road_base.specs.declared.event.Event.{Event}
 use Rattle.road_base.specs.Objects.{Objects, Entry, key_cmp, body_in, way_in, relation_in, visible, way_of, relation_of}
 use Rattle.road_base.specs.Applying.{entry_of}
-use Rattle.road_model.specs.Orders.{rises, rises_from}
+use Rattle.road_model.specs.Orders.{rises, rises_from, Lists}
 use Rattle.road_model.specs.Rules.{has_highway, is_restriction}
 use Rattle.road_model.specs.Links.{RefersTo, HasMember}
 use Rattle.object_store.specs.Listed.{key_of, pair_of, IsInOrder}
+use Rattle.back_references.specs.declared.references.References.{References}
+use Rattle.back_references.specs.Indexing.{IsIndexed}
 use Rattle.back_references.specs.References.{highway_nodes, rule_members, with_way, way_references, node_pair, way_pair, nodes_with_rule, ways_with_rule, node_rules, way_rules}
 use Rattle.back_references.proofs.Lookups.{less}
 use Rattle.back_references.proofs.Members.{In, in_from_contains, contains_from_in}
@@ -168,6 +170,34 @@ relation_there (Some e) r h = (e, refl, relation_body e.body h)
     relation_body (RelationBody q) h = cc
     relation_body Deleted h = cc
 
+-- ---- no objects have no links
+
+no_way : (w : WayId) (n : NodeId) → RefersTo empty w n → ⊥
+unfolding way_of visible
+no_way w n r = let e = way_there (get empty (WayKey w)) r.body r.is in let f = get-empty {X = Entry} key_cmp (WayKey w) in let g = e.1 in cc
+
+no_relation : (r : RelationId) (k : Key) → HasMember empty r k → ⊥
+unfolding relation_of visible
+no_relation r k h = let e = relation_there (get empty (RelationKey r)) h.body h.is in let f = get-empty {X = Entry} key_cmp (RelationKey r) in let g = e.1 in cc
+
+nothing_in : {A : Type 0} (xs : List A) (a : A) → xs ≡ [] → Contains xs a → ⊥
+nothing_in xs a e c = subst (λ l. In a l) e (in_from_contains xs a c)
+
+pub empty_indexed : (held : References) → held.ways ≡ [] → held.node_rules ≡ [] → held.way_rules ≡ [] → IsIndexed empty held
+empty_indexed held ways nodes rules = record {
+  ways = λ n w. (λ c. absurd (nothing_in held.ways (n, w) ways c), λ h. absurd (no_way w n h));
+  node_rules = λ n r. (λ c. absurd (nothing_in held.node_rules (n, r) nodes c), λ h. absurd (no_relation r (NodeKey n) h));
+  way_rules = λ w r. (λ c. absurd (nothing_in held.way_rules (w, r) rules c), λ h. absurd (no_relation r (WayKey w) h));
+}
+
+-- a list of what is asked for lists what is asked for in other words
+pub lists_alike : {A N : Type 0} (name : A → N) (R : N → N → Ordering) (Is As : A → Type 0) (xs : List A) → ((x : A) → Is x ↔ As x) → Lists name R Is xs → Lists name R As xs
+lists_alike name R Is As xs alike l = record {
+  ascending = l.ascending;
+  sound = λ x c. (alike x).0 (l.sound x c);
+  complete = λ x h. l.complete x ((alike x).1 h);
+}
+
 -- ---- the entries of a list in order
 
 module _ (total : IsTotalOrder key_cmp) (exact : IsAntisymmetric key_cmp) where
@@ -234,7 +264,7 @@ module _ (total : IsTotalOrder key_cmp) (exact : IsAntisymmetric key_cmp) where
     unfolding relation_of visible
     entry_relation r q h = relation_there (get M (RelationKey r)) q h
 
-    body_of : Entry → Body
+    abbrev body_of : Entry → Body
     body_of e = e.body
 
     -- ---- the pairs are the links
@@ -248,6 +278,7 @@ module _ (total : IsTotalOrder key_cmp) (exact : IsAntisymmetric key_cmp) where
             let p = from_references (f.0).key (highway_nodes (f.0).body) n w f.2 in
             let q = from_highway (f.0).body n p.1 in
             record { body = q.0; is = way_shown f.0 w q.0 (item_found f.0 (WayKey w) f.1 p.0) q.1; highway = q.2; member = contains_from_in _ _ q.3 }
+
         back : RefersTo M w n → Contains (flat_map way_references items) (n, w)
         back r =
             let e = entry_way w r.body r.is in
@@ -264,6 +295,7 @@ module _ (total : IsTotalOrder key_cmp) (exact : IsAntisymmetric key_cmp) where
             let p = from_node_rules (f.0).key (rule_members (f.0).body) n r f.2 in
             let q = from_rule (f.0).body (NodeKey n) p.1 in
             record { body = q.0; is = relation_shown f.0 r q.0 (item_found f.0 (RelationKey r) f.1 p.0) q.1; restriction = q.2; member = contains_from_in _ _ q.3 }
+
         back : HasMember M r (NodeKey n) → Contains (flat_map node_rules items) (n, r)
         back h =
             let e = entry_relation r h.body h.is in
@@ -280,6 +312,7 @@ module _ (total : IsTotalOrder key_cmp) (exact : IsAntisymmetric key_cmp) where
             let p = from_way_rules (f.0).key (rule_members (f.0).body) w r f.2 in
             let q = from_rule (f.0).body (WayKey w) p.1 in
             record { body = q.0; is = relation_shown f.0 r q.0 (item_found f.0 (RelationKey r) f.1 p.0) q.1; restriction = q.2; member = contains_from_in _ _ q.3 }
+
         back : HasMember M r (WayKey w) → Contains (flat_map way_rules items) (w, r)
         back h =
             let e = entry_relation r h.body h.is in

@@ -1,25 +1,176 @@
 //! Objects with the references to each of them.
-ghost use Rattle.std.specs.Prelude.{◌≡◌, IfOk, OnOk, OnErr, option_copied};
+ghost use Rattle.std.specs.Prelude.{◌≡◌, IfOk, OnOk, OnErr, map, option_copied};
+ghost use Rattle.std.specs.Option.{option_map};
 ghost use Rattle.std.specs.FinMap.{empty, entries};
-ghost use Rattle.road_base.specs.Applying.{IsApplied};
-ghost use Rattle.road_base.specs.Objects.{Objects as ObjectMap};
+ghost use Rattle.road_base.specs.Applying.{IsApplied, entry_of};
+ghost use Rattle.road_base.specs.Objects.{Objects as ObjectMap, body_in, node_in, way_in, relation_in};
 ghost use Rattle.road_model.specs.Links.{AreChanged};
-ghost use Rattle.back_references.specs.Indexing.{IsIndexed};
 
-use crate::Index;
-use crate::references::{node_rules_in, way_references_in, way_rules_in};
+use crate::References;
 use object_store::Objects;
-use road_base::laws::key_order;
 use road_base::{Body, Event, Key, Keys, NoMemory, Node, NodeId, Relation, RelationId, Way, WayId};
 use road_model::World;
-use road_model::laws::{name_order, number_order};
 use std::alloc::Global;
 use std::marker::Model;
 
-/// The ways and restrictions that name each object.
+/// An object map with the ways and restrictions that name each object.
 #[derive(Drop)]
-struct References {
-    ways: Index<NodeId, WayId>,
-    node_rules: Index<NodeId, RelationId>,
-    way_rules: Index<WayId, RelationId>,
+pub struct Indexed {
+    alloc: Global,
+    objects: Objects,
+    references: References,
+}
+
+impl Model for Indexed {
+    ghost use Rattle.road_base.specs.Objects.{Objects as ObjectMap};
+    ghost use Rattle.object_store.specs.Codes.{coded_objects};
+
+    ghost Value = { ObjectMap };
+
+    ghost coded = { coded_objects };
+
+    ghost use Rattle.back_references.specs.Indexing.{IsIndexed};
+
+    ghost view = { λ i. i.objects };
+
+    ghost invariant = { λ i. IsIndexed i.objects i.references };
+}
+
+impl Indexed {
+    ghost use Rattle.object_store.specs.Listed.{pair_of};
+
+    /// No objects. Takes no memory.
+    pub fn new(alloc: Global) -> Indexed
+        ensures { result ≡ empty }
+    {
+        Indexed {
+            alloc,
+            objects: Objects::new(alloc),
+            references: References::new(alloc),
+        }
+    }
+
+    /// What the events leave of no objects. They are moved, not copied.
+    pub fn of(alloc: Global, events: Vec<Event>) -> Result<Indexed, NoMemory>
+        ensures { IfOk result (λ i. IsApplied empty events.items i) }
+    {
+        let objects = Objects::of(events)?;
+        let references = References::of(alloc, &objects)?;
+        Ok(Indexed {
+            alloc,
+            objects,
+            references,
+        })
+    }
+
+    /// The objects alone.
+    pub fn objects(&self) -> &Objects
+        ensures { result.now ≡ self.now }
+    {
+        &self.objects
+    }
+
+    /// The keys whose visible body the events would change, ascending.
+    pub fn changed(&self, events: &[Event]) -> Result<Keys, NoMemory>
+        ensures { IfOk result (λ keys. (N : ObjectMap)
+            → IsApplied self.now events.now N
+            → AreChanged self.now N keys) }
+    {
+        self.objects.changed(events)
+    }
+
+    /// Applies the events: of each key the first one of the greatest version stands, its entry here before all of
+    /// them. Answers the keys whose visible body changed, ascending. Where no memory is found nothing changes.
+    pub fn apply(&mut self, events: &[Event]) -> Result<Keys, NoMemory>
+        ensures applied { OnOk result (IsApplied self.old events.now self.new) }
+        ensures keys { IfOk result (λ keys. AreChanged self.old self.new keys) }
+        ensures err { OnErr result (self.new ≡ self.old) }
+    {
+        let mut objects = self.objects.copy()?;
+        let keys = objects.apply(events)?;
+        let references = References::of(self.alloc, &objects)?;
+        self.objects = objects;
+        self.references = references;
+        Ok(keys)
+    }
+
+    /// Copies of all entries as events, in key order.
+    pub fn events(&self) -> Result<Vec<Event>, NoMemory>
+        ensures { IfOk result (λ v. map pair_of v.items ≡ entries self.now) }
+    {
+        self.objects.events()
+    }
+}
+
+impl World for Indexed {
+    ghost objects = { λ i. i };
+
+    #[tactic(auto, unfolding(road_base::specs::Objects::node_of, road_base::specs::Objects::visible))]
+    fn node(&self, id: NodeId) -> Option<&Node> {
+        visible_node(self.objects.get(Key::Node(id)))
+    }
+
+    #[tactic(auto, unfolding(road_base::specs::Objects::way_of, road_base::specs::Objects::visible))]
+    fn way(&self, id: WayId) -> Option<&Way> {
+        visible_way(self.objects.get(Key::Way(id)))
+    }
+
+    #[tactic(auto, unfolding(road_base::specs::Objects::relation_of, road_base::specs::Objects::visible))]
+    fn relation(&self, id: RelationId) -> Option<&Relation> {
+        visible_relation(self.objects.get(Key::Relation(id)))
+    }
+
+    fn ways_at(&self, id: NodeId) -> &[WayId] {
+        self.references.ways_at(id)
+    }
+
+    fn rules_of_way(&self, id: WayId) -> &[RelationId] {
+        self.references.rules_of_way(id)
+    }
+
+    fn rules_at(&self, id: NodeId) -> &[RelationId] {
+        self.references.rules_at(id)
+    }
+}
+
+fn visible_node(event: Option<&Event>) -> Option<&Node>
+    ensures { option_copied result ≡ node_in (body_in (option_map entry_of (option_copied event.entry))) }
+{
+    match event {
+        None => None,
+        Some(event) => match &event.body {
+            Body::Node(node) => Some(node),
+            Body::Way(_) => None,
+            Body::Relation(_) => None,
+            Body::Deleted => None,
+        },
+    }
+}
+
+fn visible_way(event: Option<&Event>) -> Option<&Way>
+    ensures { option_copied result ≡ way_in (body_in (option_map entry_of (option_copied event.entry))) }
+{
+    match event {
+        None => None,
+        Some(event) => match &event.body {
+            Body::Node(_) => None,
+            Body::Way(way) => Some(way),
+            Body::Relation(_) => None,
+            Body::Deleted => None,
+        },
+    }
+}
+
+fn visible_relation(event: Option<&Event>) -> Option<&Relation>
+    ensures { option_copied result ≡ relation_in (body_in (option_map entry_of (option_copied event.entry))) }
+{
+    match event {
+        None => None,
+        Some(event) => match &event.body {
+            Body::Node(_) => None,
+            Body::Way(_) => None,
+            Body::Relation(relation) => Some(relation),
+            Body::Deleted => None,
+        },
+    }
 }

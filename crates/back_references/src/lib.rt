@@ -6,7 +6,11 @@
 //! that takes time of the order of (n + m + r) log (n + m + r).
 #![tactic(auto)]
 
+mod collecting;
 mod index;
+mod indexed;
 mod references;
 
 pub use index::Index;
+pub use indexed::Indexed;
+pub use references::References;

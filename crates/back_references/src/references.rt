@@ -1,167 +1,78 @@
-//! The references that objects hold, as pairs.
-ghost use Rattle.std.specs.Prelude.{◌≡◌, ◌++◌, IfOk, OnOk, map};
-ghost use Rattle.std.specs.List.{flat_map};
-ghost use Rattle.back_references.specs.References.{highway_nodes, rule_members, way_references, node_rules, way_rules, node_pair, way_pair};
+//! The ways and restrictions that name each object of a map.
+ghost use Rattle.std.specs.Prelude.{◌≡◌, IfOk, Contains};
+ghost use Rattle.std.specs.FinMap.{empty};
+ghost use Rattle.road_base.specs.Objects.{Objects as ObjectMap};
+ghost use Rattle.road_model.specs.Orders.{Lists, way_cmp, relation_cmp};
 
-use road_base::{Body, Event, Key, Member, NoMemory, NodeId, RelationId, WayId};
+use crate::Index;
+use crate::collecting::{node_rules_in, way_references_in, way_rules_in};
+use object_store::Objects;
+use road_base::laws::key_order;
+use road_base::{NoMemory, NodeId, RelationId, WayId};
+use road_model::laws::{name_order, number_order};
 use std::alloc::Global;
 
-/// Each node to which a visible way with the key `highway` refers, with the way.
-pub fn way_references_in(
-    alloc: Global,
-    events: &[Event],
-) -> Result<Vec<(NodeId, WayId)>, NoMemory>
-    ensures { IfOk result (λ v. v.items ≡ flat_map way_references events.now) }
-{
-    let mut pairs = Vec::new(alloc);
-    for event in events {
-        add_way_references(event, &mut pairs)?;
-    }
-    Ok(pairs)
+/// For each node the ways and the restrictions that name it, and for each way the restrictions.
+#[derive(Drop)]
+pub struct References {
+    pub ways: Index<NodeId, WayId>,
+    pub node_rules: Index<NodeId, RelationId>,
+    pub way_rules: Index<WayId, RelationId>,
 }
 
-/// Each node that is a member of a visible restriction, with the restriction.
-pub fn node_rules_in(
-    alloc: Global,
-    events: &[Event],
-) -> Result<Vec<(NodeId, RelationId)>, NoMemory>
-    ensures { IfOk result (λ v. v.items ≡ flat_map node_rules events.now) }
-{
-    let mut pairs = Vec::new(alloc);
-    for event in events {
-        add_node_rules(event, &mut pairs)?;
-    }
-    Ok(pairs)
-}
+impl References {
+    ghost use Rattle.back_references.specs.Indexing.{IsIndexed};
 
-/// Each way that is a member of a visible restriction, with the restriction.
-pub fn way_rules_in(
-    alloc: Global,
-    events: &[Event],
-) -> Result<Vec<(WayId, RelationId)>, NoMemory>
-    ensures { IfOk result (λ v. v.items ≡ flat_map way_rules events.now) }
-{
-    let mut pairs = Vec::new(alloc);
-    for event in events {
-        add_way_rules(event, &mut pairs)?;
+    /// Those of no objects. Takes no memory.
+    pub fn new(alloc: Global) -> References
+        ensures { IsIndexed empty result }
+    {
+        References {
+            ways: Index::new(alloc),
+            node_rules: Index::new(alloc),
+            way_rules: Index::new(alloc),
+        }
     }
-    Ok(pairs)
-}
 
-fn add_way_references(event: &Event, pairs: &mut Vec<(NodeId, WayId)>) -> Result<(), NoMemory>
-    ensures { OnOk result (pairs.new.items ≡ pairs.old.items ++ way_references event.now) }
-{
-    match event.key {
-        Key::Way(way) => add_nodes(nodes_of(&event.body), way, pairs),
-        _ => Ok(()),
+    /// Those of all objects.
+    pub fn of(alloc: Global, objects: &Objects) -> Result<References, NoMemory>
+        ensures { IfOk result (λ r. IsIndexed objects.now r) }
+    {
+        key_order();
+        name_order();
+        number_order();
+        let events = objects.items();
+        let ways = Index::of(alloc, way_references_in(alloc, events)?)?;
+        let node_rules = Index::of(alloc, node_rules_in(alloc, events)?)?;
+        let way_rules = Index::of(alloc, way_rules_in(alloc, events)?)?;
+        Ok(References {
+            ways,
+            node_rules,
+            way_rules,
+        })
     }
-}
 
-fn add_nodes(
-    nodes: &[NodeId],
-    way: WayId,
-    pairs: &mut Vec<(NodeId, WayId)>,
-) -> Result<(), NoMemory>
-    ensures { OnOk result (pairs.new.items ≡ pairs.old.items ++ map (λ n. (n, way)) nodes.now) }
-{
-    for node in nodes {
-        pairs.push((*node, way))?;
+    /// The ways that refer to the node, ascending.
+    pub fn ways_at(&self, id: NodeId) -> &[WayId]
+        ensures { Lists (λ w. w) way_cmp (λ w. Contains self.now.ways (id, w)) result.now }
+    {
+        number_order();
+        self.ways.at(id)
     }
-    Ok(())
-}
 
-fn add_node_rules(event: &Event, pairs: &mut Vec<(NodeId, RelationId)>) -> Result<(), NoMemory>
-    ensures { OnOk result (pairs.new.items ≡ pairs.old.items ++ node_rules event.now) }
-{
-    match event.key {
-        Key::Relation(rule) => add_member_nodes(members_of(&event.body), rule, pairs),
-        _ => Ok(()),
+    /// The restrictions of which the way is a member, ascending.
+    pub fn rules_of_way(&self, id: WayId) -> &[RelationId]
+        ensures { Lists (λ r. r) relation_cmp (λ r. Contains self.now.way_rules (id, r)) result.now }
+    {
+        name_order();
+        self.way_rules.at(id)
     }
-}
 
-fn add_member_nodes(
-    members: &[Member],
-    rule: RelationId,
-    pairs: &mut Vec<(NodeId, RelationId)>,
-) -> Result<(), NoMemory>
-    ensures { OnOk result (pairs.new.items ≡ pairs.old.items ++ flat_map (λ m. node_pair rule m.item) members.now) }
-{
-    for member in members {
-        add_node(member.item, rule, pairs)?;
+    /// The restrictions of which the node is a member, ascending.
+    pub fn rules_at(&self, id: NodeId) -> &[RelationId]
+        ensures { Lists (λ r. r) relation_cmp (λ r. Contains self.now.node_rules (id, r)) result.now }
+    {
+        number_order();
+        self.node_rules.at(id)
     }
-    Ok(())
-}
-
-fn add_node(
-    item: Key,
-    rule: RelationId,
-    pairs: &mut Vec<(NodeId, RelationId)>,
-) -> Result<(), NoMemory>
-    ensures { OnOk result (pairs.new.items ≡ pairs.old.items ++ node_pair rule item) }
-{
-    match item {
-        Key::Node(node) => Ok(pairs.push((node, rule))?),
-        _ => Ok(()),
-    }
-}
-
-fn add_way_rules(event: &Event, pairs: &mut Vec<(WayId, RelationId)>) -> Result<(), NoMemory>
-    ensures { OnOk result (pairs.new.items ≡ pairs.old.items ++ way_rules event.now) }
-{
-    match event.key {
-        Key::Relation(rule) => add_member_ways(members_of(&event.body), rule, pairs),
-        _ => Ok(()),
-    }
-}
-
-fn add_member_ways(
-    members: &[Member],
-    rule: RelationId,
-    pairs: &mut Vec<(WayId, RelationId)>,
-) -> Result<(), NoMemory>
-    ensures { OnOk result (pairs.new.items ≡ pairs.old.items ++ flat_map (λ m. way_pair rule m.item) members.now) }
-{
-    for member in members {
-        add_way(member.item, rule, pairs)?;
-    }
-    Ok(())
-}
-
-fn add_way(
-    item: Key,
-    rule: RelationId,
-    pairs: &mut Vec<(WayId, RelationId)>,
-) -> Result<(), NoMemory>
-    ensures { OnOk result (pairs.new.items ≡ pairs.old.items ++ way_pair rule item) }
-{
-    match item {
-        Key::Way(way) => Ok(pairs.push((way, rule))?),
-        _ => Ok(()),
-    }
-}
-
-/// The nodes of a visible way with the key `highway`; of all else none.
-fn nodes_of(body: &Body) -> &[NodeId]
-    ensures { result.now ≡ highway_nodes body.now }
-{
-    let Body::Way(way) = body else {
-        return &[];
-    };
-    if way.tags.get("highway").is_none() {
-        return &[];
-    }
-    way.refs.items()
-}
-
-/// The members of a visible restriction; of all else none.
-fn members_of(body: &Body) -> &[Member]
-    ensures { result.now ≡ rule_members body.now }
-{
-    let Body::Relation(relation) = body else {
-        return &[];
-    };
-    if relation.tags.get("type") != Some("restriction") {
-        return &[];
-    }
-    relation.members.items()
 }

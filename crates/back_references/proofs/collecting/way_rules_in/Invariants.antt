@@ -1,7 +1,7 @@
 use Rattle.std.proofs.Common.{◌≡◌, take}
 use Rattle.std.specs.List.{flat_map}
 use Rattle.back_references.specs.References.{way_rules}
-use Rattle.back_references.proofs.references.way_rules_in.Given as goal
+use Rattle.back_references.proofs.collecting.way_rules_in.Given as goal
 
 abbrev pub invariant-loop-event : goal.invariant-loop-event
 invariant-loop-event l = l.pairs.items ≡ flat_map way_rules (take l.event-index l.events)
