@@ -10,6 +10,8 @@ mod collecting;
 mod index;
 mod indexed;
 mod references;
+#[cfg(test)]
+mod tests;
 
 pub use index::Index;
 pub use indexed::Indexed;

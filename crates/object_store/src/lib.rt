@@ -8,5 +8,7 @@
 mod changes;
 mod objects;
 mod standing;
+#[cfg(test)]
+mod tests;
 
 pub use objects::Objects;

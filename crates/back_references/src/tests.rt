@@ -1,0 +1,124 @@
+//! A small world, with ample memory.
+ghost use Rattle.std.specs.Prelude.{◌≤◌, length};
+
+use super::*;
+use road_base::{
+    Body, Event, Key, Member, Members, NoMemory, Node, NodeId, Refs, Relation, RelationId, Tags,
+    Text, Way, WayId,
+};
+use road_model::World;
+use std::alloc::Global;
+use std::test::Fail;
+
+fn tag(alloc: Global, key: &str, value: &str) -> Result<Tags, NoMemory> {
+    let key = Text::from_string(String::from_str(alloc, key)?);
+    let value = Text::from_string(String::from_str(alloc, value)?);
+    Ok(Tags::from_list(vec![in alloc; (key, value)]?))
+}
+
+fn node(alloc: Global, id: i64) -> Event {
+    let node = Node {
+        tags: Tags::from_list(Vec::new(alloc)),
+        location: None,
+    };
+    Event {
+        key: Key::Node(NodeId(id)),
+        version: 1,
+        body: Body::Node(node),
+    }
+}
+
+fn way(alloc: Global, id: i64, key: &str, refs: &[NodeId]) -> Result<Event, NoMemory>
+    requires { length refs.now ≤ 65535 }
+{
+    let way = Way {
+        tags: tag(alloc, key, "yes")?,
+        refs: Refs::from_list(Vec::from_slice(alloc, refs)?),
+    };
+    Ok(Event {
+        key: Key::Way(WayId(id)),
+        version: 1,
+        body: Body::Way(way),
+    })
+}
+
+fn relation(alloc: Global, id: i64, value: &str) -> Result<Event, NoMemory> {
+    let items = [
+        Key::Way(WayId(10)),
+        Key::Node(NodeId(2)),
+        Key::Way(WayId(99)),
+        Key::Relation(RelationId(30)),
+        Key::Node(NodeId(2)),
+    ];
+    let mut list = Vec::with_capacity(alloc, items.len())?;
+    for item in items {
+        let role = Text::from_string(String::new(alloc));
+        list.push(Member { item, role })?;
+    }
+    let relation = Relation {
+        tags: tag(alloc, "type", value)?,
+        members: Members::from_list(list),
+    };
+    Ok(Event {
+        key: Key::Relation(RelationId(id)),
+        version: 1,
+        body: Body::Relation(relation),
+    })
+}
+
+/// Way 10 over the nodes 1, 2 and 1, way 11 that is no highway, way 12 to a node that isn't there, restriction 30, and
+/// a relation of another kind.
+fn town(alloc: Global) -> Result<Vec<Event>, NoMemory> {
+    let list = vec![in alloc;
+        relation(alloc, 31, "multipolygon")?,
+        relation(alloc, 30, "restriction")?,
+        way(alloc, 12, "highway", &[NodeId(2), NodeId(9)])?,
+        way(alloc, 11, "waterway", &[NodeId(2)])?,
+        way(alloc, 10, "highway", &[NodeId(1), NodeId(2), NodeId(1)])?,
+        node(alloc, 2),
+        node(alloc, 1),
+    ]?;
+    Ok(list)
+}
+
+#[test]
+fn links_are_listed(rt: HostRuntime) -> Result<(), Fail> {
+    let alloc = rt.alloc();
+    let mut world = Indexed::of(alloc, town(alloc)?)?;
+    assert_eq!(rt; world.objects().items().len(), 7);
+    assert_eq!(rt; world.ways_at(NodeId(1)), [WayId(10)].as_slice());
+    assert_eq!(rt; world.ways_at(NodeId(2)), [WayId(10), WayId(12)].as_slice());
+    assert_eq!(rt; world.ways_at(NodeId(9)), [WayId(12)].as_slice());
+    assert_eq!(rt; world.rules_at(NodeId(2)), [RelationId(30)].as_slice());
+    assert_eq!(rt; world.rules_of_way(WayId(10)), [RelationId(30)].as_slice());
+    assert_eq!(rt; world.rules_of_way(WayId(99)), [RelationId(30)].as_slice());
+    assert!(rt; world.node(NodeId(2)).is_some() && world.node(NodeId(9)).is_none());
+    assert!(rt; world.way(WayId(11)).is_some() && world.relation(RelationId(31)).is_some());
+
+    let deletion = [Event {
+        key: Key::Way(WayId(10)),
+        version: 2,
+        body: Body::Deleted,
+    }];
+    assert_eq!(rt;
+        world.changed(&deletion)?.items(),
+        [Key::Way(WayId(10))].as_slice()
+    );
+    assert_eq!(rt;
+        world.apply(&deletion)?.items(),
+        [Key::Way(WayId(10))].as_slice()
+    );
+    assert!(rt; world.way(WayId(10)).is_none() && world.ways_at(NodeId(1)).is_empty());
+    assert_eq!(rt; world.ways_at(NodeId(2)), [WayId(12)].as_slice());
+    assert_eq!(rt; world.rules_of_way(WayId(10)), [RelationId(30)].as_slice());
+    assert_eq!(rt; world.events()?.len(), 7);
+    Ok(())
+}
+
+#[test]
+fn no_objects_have_no_links(rt: HostRuntime) {
+    let world = Indexed::new(rt.alloc());
+    assert!(rt; world.ways_at(NodeId(1)).is_empty());
+    assert!(rt; world.rules_at(NodeId(1)).is_empty());
+    assert!(rt; world.rules_of_way(WayId(1)).is_empty());
+}

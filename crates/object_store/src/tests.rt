@@ -1,0 +1,139 @@
+//! The happy path of each public call, with ample memory.
+ghost use Rattle.std.specs.Prelude.{pos, IsTrue, ◌≤◌, length};
+ghost use Rattle.road_base.specs.Ranges.{is_in_range};
+
+use super::*;
+use road_base::{Body, Event, Key, Location, NoMemory, Node, NodeId, Refs, Tags, Way, WayId};
+use std::alloc::Global;
+use std::test::Fail;
+
+const FIRST: Key = Key::Node(NodeId(1));
+
+/// A version of node 1 without tags, on the equator.
+fn place(alloc: Global, version: u32, lon: i32) -> Result<Event, NoMemory>
+    requires { IsTrue (is_in_range lon (pos 0)) }
+{
+    let node = Node {
+        tags: Tags::from_list(Vec::new(alloc)),
+        location: Some(Location { lon, lat: 0 }),
+    };
+    Ok(Event {
+        key: Key::Node(NodeId(1)),
+        version,
+        body: Body::Node(node),
+    })
+}
+
+/// A version of way 1 that refers to one node.
+fn way(alloc: Global, version: u32, node: i64) -> Result<Event, NoMemory> {
+    let way = Way {
+        tags: Tags::from_list(Vec::new(alloc)),
+        refs: Refs::from_list(vec![in alloc; NodeId(node)]?),
+    };
+    Ok(Event {
+        key: Key::Way(WayId(1)),
+        version,
+        body: Body::Way(way),
+    })
+}
+
+fn deletion(key: Key, version: u32) -> Event {
+    Event {
+        key,
+        version,
+        body: Body::Deleted,
+    }
+}
+
+/// The version of node 1, and its longitude where it is visible.
+fn first_node(objects: &Objects) -> Option<(u32, Option<i32>)> {
+    let event = objects.get(FIRST)?;
+    let lon = match &event.body {
+        Body::Node(node) => node.location.map(|location| location.lon),
+        _ => None,
+    };
+    Some((event.version, lon))
+}
+
+fn are_same(these: &[Event], those: &[Event]) -> bool {
+    if these.len() != those.len() {
+        return false;
+    }
+    for at in 0..these.len() {
+        let (this, that) = (&these[at], &those[at]);
+        if this.key != that.key || this.version != that.version || !this.body.same(&that.body) {
+            return false;
+        }
+    }
+    true
+}
+
+fn applied_singly(alloc: Global, events: &[Event]) -> Result<Objects, NoMemory> {
+    let mut objects = Objects::new(alloc);
+    for part in events.chunks(1) {
+        let _ = objects.apply(part)?;
+    }
+    Ok(objects)
+}
+
+fn applied_in_two(alloc: Global, events: &[Event], at: usize) -> Result<Objects, NoMemory>
+    requires { at ≤ length events.now }
+{
+    let (front, back) = events.split_at(at);
+    let mut objects = Objects::new(alloc);
+    let _ = objects.apply(front)?;
+    let _ = objects.apply(back)?;
+    Ok(objects)
+}
+
+#[test]
+fn the_first_of_the_greatest_version_stands(rt: HostRuntime) -> Result<(), Fail> {
+    let alloc = rt.alloc();
+    assert_eq!(rt; first_node(&Objects::new(alloc)), None);
+    let extract = vec![in alloc;
+        place(alloc, 2, 10_000_000)?,
+        place(alloc, 3, 20_000_000)?,
+        place(alloc, 3, 30_000_000)?,
+        place(alloc, 1, 40_000_000)?,
+    ]?;
+    let mut objects = Objects::of(extract)?;
+    assert_eq!(rt; first_node(&objects), Some((3, Some(20_000_000))));
+
+    let deleted = [deletion(FIRST, 4)];
+    assert_eq!(rt; objects.changed(&deleted)?.items(), [FIRST].as_slice());
+    assert_eq!(rt; objects.apply(&deleted)?.items(), [FIRST].as_slice());
+    assert_eq!(rt; first_node(&objects), Some((4, None)));
+
+    let stale = [place(alloc, 2, 50_000_000)?];
+    assert!(rt; objects.changed(&stale)?.items().is_empty());
+    assert!(rt; objects.apply(&stale)?.items().is_empty());
+    assert_eq!(rt; first_node(&objects), Some((4, None)));
+    assert!(rt; are_same(&objects.events()?, objects.items()));
+    assert!(rt; are_same(objects.copy()?.items(), objects.items()));
+    Ok(())
+}
+
+#[test]
+fn events_in_turn_leave_what_they_leave_at_once(rt: HostRuntime) -> Result<(), Fail> {
+    let alloc = rt.alloc();
+    let events = [
+        way(alloc, 2, 7)?,
+        place(alloc, 1, 10_000_000)?,
+        deletion(Key::Way(WayId(1)), 3),
+        place(alloc, 1, 20_000_000)?,
+        way(alloc, 3, 8)?,
+        place(alloc, 5, 30_000_000)?,
+        deletion(FIRST, 5),
+    ];
+    let mut whole = Objects::new(alloc);
+    let changed = whole.apply(&events)?;
+    assert_eq!(rt; changed.items(), [FIRST].as_slice());
+    assert_eq!(rt; whole.items().len(), 2);
+    let single = applied_singly(alloc, &events)?;
+    assert!(rt; are_same(single.items(), whole.items()));
+    for at in 0..events.len() {
+        let cut = applied_in_two(alloc, &events, at)?;
+        assert!(rt; are_same(cut.items(), whole.items()), "cut at {at}");
+    }
+    Ok(())
+}
