@@ -1,15 +1,15 @@
 -- Lists whose keys ascend, and lists that name no key twice.
-use Rattle.std.proofs.Common.{◌≡◌, ◌≢◌, ◌↔◌, ℕ, zero, suc, ◌+◌, ◌<◌, Bool, true, false, ◌&&◌, IsTrue, List, [], ◌∷◌, map, length, get_or, IsPermutation, IsSortedByKey, refl, sym, ap, subst, ◌∙◌, arith, add-one, Less, Equal, Greater, is_lt, is_eq}
+use Rattle.std.proofs.Common.{◌≡◌, ◌≢◌, ◌↔◌, ℕ, zero, suc, ◌+◌, ◌<◌, Bool, true, false, ◌&&◌, IsTrue, List, [], ◌∷◌, Option, Some, None, map, filter_map, length, get_or, IsPermutation, IsSortedByKey, refl, sym, ap, subst, ◌∙◌, arith, add-one, Less, Equal, Greater, is_lt, is_eq}
 use Rattle.std.specs.declared.cmp.Ordering.{Ordering}
 use Rattle.std.specs.Ordering.{eq_by_cmp, ordering_reverse}
 use Rattle.std.specs.Cmp.{IsTotalOrder, tied_itself, Equal-is, eq_by_cmp_equiv}
 use Rattle.std.specs.FinMap.{IsAntisymmetric}
-use Rattle.std.specs.List.{AllAdjacentBelow, IsAllAdjacentAnswer, IsDistinct}
+use Rattle.std.specs.List.{AllByRecursion, AllAdjacentBelow, IsAllAdjacentAnswer, IsDistinct, cons_option}
 use Rattle.std.specs.List.Sorted.{IsStrictlySortedBy}
 use Rattle.std.proofs.lemmas.List.Sorted.{IsPermutation-map, IsPermutation-sym}
 use Rattle.std.proofs.lemmas.Map.Keys.{IsDistinct-IsPermutation}
 use Rattle.road_model.specs.Orders.{rises, rises_from}
-use Rattle.osmroad.specs.PlainMap.{AreDistinct}
+use Rattle.road_base.specs.Distinct.{AreDistinct}
 use Rattle.osmroad.proofs.SortedSearch.{recursion_weaker, sorted_from_rises}
 
 and_false : (a b : Bool) → b ≡ false → (a && b) ≡ false
@@ -105,3 +105,39 @@ module _ {K : Type 0} {R : K → K → Ordering} (o : IsTotalOrder R) (same : Is
       let there = IsPermutation-map key xs ys moved in
       let both = sorted_rises key ys up in
       (λ rise. distinct_permuted (map key ys) (map key xs) (IsPermutation-sym _ _ there) (both.0 (sym is ∙ rise)), λ once. is ∙ both.1 (distinct_permuted (map key xs) (map key ys) there once))
+
+-- ---- what the elements of an ascending list name
+
+rises_above : {K : Type 0} (R : K → K → Ordering) (k : K) (ks : List K) → AllByRecursion (λ y. R k y ≡ Less) ks → IsStrictlySortedBy R ks → IsTrue (rises_from R k ks)
+unfolding IsStrictlySortedBy
+rises_above R k [] above up = refl
+rises_above R k (x ∷ ks) above up = rw above.0 (rises_above R x ks up.0 up.1)
+
+-- what is strictly sorted rises
+rises_from_sorted : {K : Type 0} (R : K → K → Ordering) (ks : List K) → IsStrictlySortedBy R ks → IsTrue (rises R ks)
+unfolding IsStrictlySortedBy
+rises_from_sorted R [] up = refl
+rises_from_sorted R (k ∷ ks) up = rises_above R k ks up.0 up.1
+
+module _ {K N X Y : Type 0} {R : K → K → Ordering} (o : IsTotalOrder R) (S : N → N → Ordering) (key : X → K) (h : X → Option Y) (name : Y → N) (lifts : (x y : X) (p q : Y) → h x ≡ Some p → h y ≡ Some q → R (key x) (key y) ≡ Less → S (name p) (name q) ≡ Less) where
+  above_with : (x : X) (p : Y) → h x ≡ Some p → (y : X) (b : Option Y) → h y ≡ b → R (key x) (key y) ≡ Less → (qs : List Y) → AllByRecursion (λ n. S (name p) n ≡ Less) (map name qs) → AllByRecursion (λ n. S (name p) n ≡ Less) (map name (cons_option b qs))
+  above_with x p is y None here below qs rest = rest
+  above_with x p is y (Some q) here below qs rest = (lifts x y p q is here below, rest)
+
+  named_above : (x : X) (p : Y) → h x ≡ Some p → (xs : List X) → AllByRecursion (λ k. R (key x) k ≡ Less) (map key xs) → AllByRecursion (λ n. S (name p) n ≡ Less) (map name (filter_map h xs))
+  named_above x p is [] up = tt
+  named_above x p is (y ∷ ys) up = above_with x p is y (h y) refl up.0 (filter_map h ys) (named_above x p is ys up.1)
+
+  sorted_with : (x : X) (b : Option Y) → h x ≡ b → (xs : List X) → AllByRecursion (λ k. R (key x) k ≡ Less) (map key xs) → IsStrictlySortedBy S (map name (filter_map h xs)) → IsStrictlySortedBy S (map name (cons_option b (filter_map h xs)))
+  unfolding IsStrictlySortedBy
+  sorted_with x None is xs up rest = rest
+  sorted_with x (Some p) is xs up rest = (named_above x p is xs up, rest)
+
+  names_sorted : (xs : List X) → IsStrictlySortedBy R (map key xs) → IsStrictlySortedBy S (map name (filter_map h xs))
+  unfolding IsStrictlySortedBy
+  names_sorted [] up = tt
+  names_sorted (x ∷ xs) up = sorted_with x (h x) refl xs up.0 (names_sorted xs up.1)
+
+  -- what the elements name rises where their keys do
+  pub names_rise : (xs : List X) → IsTrue (rises R (map key xs)) → IsTrue (rises S (map name (filter_map h xs)))
+  names_rise xs up = rises_from_sorted S (map name (filter_map h xs)) (names_sorted xs (sorted_from_rises o (map key xs) up))

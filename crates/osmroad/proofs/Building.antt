@@ -20,7 +20,7 @@ use Rattle.osmroad.specs.declared.street.Street.{Street}
 use Rattle.osmroad.specs.declared.plain_piece.PlainPiece.{PlainPiece}
 use Rattle.osmroad.specs.Town.{StreetsAscend}
 use Rattle.osmroad.specs.Streets.{spans, both_ways, street_pieces, place_in}
-use Rattle.osmroad.proofs.NodeOrder.{way_cmp_total}
+use Rattle.osmroad.proofs.KeyOrder.{way_cmp_total}
 use Rattle.osmroad.proofs.SortedSearch.{sorted_from_rises, recursion_weaker}
 
 -- ---- places

@@ -1,12 +1,19 @@
--- The order of keys is total, and only equal keys tie in it.
+-- The orders of keys, nodes and ways are total, and only equal ones tie in them.
 use Rattle.std.proofs.Common.{◌≡◌, ℕ, ℤ, refl, ap, subst}
 use Rattle.std.specs.Ordering.{nat_cmp, int_cmp, on, then_cmp}
 use Rattle.std.specs.declared.cmp.Ordering.{Ordering}
 use Rattle.std.specs.Cmp.{IsTotalOrder, then_total, on_total, nat_cmp_total, int_cmp_total}
 use Rattle.std.specs.FinMap.{IsAntisymmetric, int_cmp-IsAntisymmetric}
+use Rattle.road_base.specs.declared.ids.NodeId.{NodeId}
+use Rattle.road_base.specs.declared.ids.WayId.{WayId}
 use Rattle.road_base.specs.declared.ids.Key.{Key}
 use Rattle.road_base.specs.declared.ids.Key.TheVariants.{Node, Way, Relation}
+use Rattle.road_base.specs.contracts.ids.KeyOrd.TheImpl.{ghosts as derived}
 use Rattle.road_base.specs.Objects.{key_cmp}
+use Rattle.road_model.specs.Orders.{way_cmp}
+use Rattle.osmroad.specs.Town.{node_cmp}
+
+-- ---- keys
 
 -- nodes stand before ways, and ways before relations
 abbrev kind_of : Key → ℕ
@@ -47,3 +54,26 @@ key_cmp-IsAntisymmetric (Way a) (Relation b) tied = cc
 key_cmp-IsAntisymmetric (Relation a) (Node b) tied = cc
 key_cmp-IsAntisymmetric (Relation a) (Way b) tied = cc
 key_cmp-IsAntisymmetric (Relation a) (Relation b) tied = ap (λ (n : ℤ). Relation (record { 0 = n })) (int_cmp-IsAntisymmetric a.0 b.0 tied)
+
+-- keys are compared so
+pub cmp-key_cmp : (a b : Key) → derived.cmp a b ≡ key_cmp a b
+cmp-key_cmp (Node a) (Node b) = refl
+cmp-key_cmp (Node a) (Way b) = refl
+cmp-key_cmp (Node a) (Relation b) = refl
+cmp-key_cmp (Way a) (Node b) = refl
+cmp-key_cmp (Way a) (Way b) = refl
+cmp-key_cmp (Way a) (Relation b) = refl
+cmp-key_cmp (Relation a) (Node b) = refl
+cmp-key_cmp (Relation a) (Way b) = refl
+cmp-key_cmp (Relation a) (Relation b) = refl
+
+-- ---- nodes and ways
+
+pub node_cmp_total : IsTotalOrder node_cmp
+node_cmp_total = on_total (λ (n : NodeId). n.0) int_cmp_total
+
+pub way_cmp_total : IsTotalOrder way_cmp
+way_cmp_total = on_total (λ (w : WayId). w.0) int_cmp_total
+
+pub node_cmp-IsAntisymmetric : IsAntisymmetric node_cmp
+node_cmp-IsAntisymmetric x y tied = let same : x.0 ≡ y.0 = int_cmp-IsAntisymmetric x.0 y.0 tied in λ i. record { 0 = same i }

@@ -15,7 +15,7 @@ use Rattle.road_model.specs.Format.{place_cmp}
 use Rattle.osmroad.specs.declared.street.Street.{Street}
 use Rattle.osmroad.specs.declared.plain_piece.PlainPiece.{PlainPiece}
 use Rattle.osmroad.specs.Streets.{spans, both_ways, street_pieces}
-use Rattle.osmroad.proofs.NodeOrder.{way_cmp_total}
+use Rattle.osmroad.proofs.KeyOrder.{way_cmp_total}
 use Rattle.osmroad.proofs.PlainMembers.{In, from_flat_map}
 use Rattle.osmroad.proofs.PlainOrders.{Climbs, climbs_append, climbs_by_name, name_cmp_total, less_from_lt, lt_from_less}
 use Rattle.osmroad.proofs.PlainPieces.{IsCut, cut_from_in}

@@ -1,5 +1,5 @@
 -- The object map of events of which no two are of one object.
-use Rattle.std.proofs.Common.{◌≡◌, ◌≢◌, ◌⊎◌, Bool, true, false, cond, List, [], ◌∷◌, map, Contains, Option, Some, refl, inl, inr, sym, ap, subst, ◌∙◌}
+use Rattle.std.proofs.Common.{◌≡◌, ◌≢◌, true, false, List, [], ◌∷◌, map, Contains, Some, refl, inl, inr, sym, ap, subst, ◌∙◌}
 use Rattle.std.specs.Ordering.{eq_by_cmp, is_eq}
 use Rattle.std.specs.Cmp.{tied_itself, Equal-is}
 use Rattle.std.specs.FinMap.{get, find, from_entries, get-from_entries}
@@ -7,9 +7,10 @@ use Rattle.road_base.specs.declared.ids.Key.{Key}
 use Rattle.road_base.specs.declared.event.Event.{Event}
 use Rattle.road_base.specs.Objects.{Objects, Entry, key_cmp}
 use Rattle.road_base.specs.Applying.{entry_of}
-use Rattle.osmroad.specs.PlainMap.{AreDistinct}
+use Rattle.road_base.specs.Distinct.{AreDistinct}
 use Rattle.osmroad.proofs.KeyOrder.{key_cmp_total, key_cmp-IsAntisymmetric}
-use Rattle.osmroad.proofs.Members.{contains_first, contains_later, contains_none, contains_cases, contains_image, each_from_all}
+use Rattle.osmroad.proofs.Kept.{found_is_member}
+use Rattle.osmroad.proofs.Members.{contains_none, contains_cases, contains_image, origin_of, each_from_all}
 
 abbrev pub entries_of : List Event → List (Key × Entry)
 entries_of events = map (λ e. (e.key, entry_of e)) events
@@ -17,21 +18,8 @@ entries_of events = map (λ e. (e.key, entry_of e)) events
 abbrev pub objects_of : List Event → Objects
 objects_of events = from_entries (entries_of events)
 
-first_or_later : {A : Type 0} (b : Bool) (x : A) (o : Option A) (y : A) → cond b (Some x) o ≡ Some y → ((b ≡ true) × (x ≡ y)) ⊎ (o ≡ Some y)
-first_or_later true x o y e = inl (refl, cc)
-first_or_later false x o y e = inr e
-
 same_key : (a b : Key) → eq_by_cmp key_cmp a b ≡ true → a ≡ b
 same_key a b e = key_cmp-IsAntisymmetric a b ((Equal-is (key_cmp a b)).0 e)
-
--- what is found under a key comes from an event of the key
-from_event : (events : List Event) (k : Key) (x : Entry) → find key_cmp k (entries_of events) ≡ Some x → (e : Event) × Contains events e × (e.key ≡ k) × (entry_of e ≡ x)
-from_event [] k x found = cc
-from_event (e ∷ es) k x found =
-    elim (first_or_later (eq_by_cmp key_cmp k e.key) (entry_of e) (find key_cmp k (entries_of es)) x found) [
-      | inl here ↦ (e, contains_first e es, sym (same_key k e.key here.0), here.1)
-      | inr later ↦ let rest = from_event es k x later in (rest.0, contains_later e es rest.0 rest.1, rest.2, rest.3)
-    ]
 
 apart : (a b : Key) → a ≢ b → eq_by_cmp key_cmp a b ≡ false
 apart a b differ =
@@ -40,7 +28,6 @@ apart a b differ =
       | false ↦ λ e. refl
     ] refl
 
--- under the key of an event stands its entry
 finds_event : (events : List Event) → AreDistinct (map (λ e. e.key) events) → (e : Event) → Contains events e → find key_cmp e.key (entries_of events) ≡ Some (entry_of e)
 finds_event [] once e has = absurd (contains_none e has)
 finds_event (d ∷ ds) once e has =
@@ -52,10 +39,14 @@ finds_event (d ∷ ds) once e has =
           rw (apart e.key d.key (λ same. differ (sym same))) (finds_event ds once.1 e later)
     ]
 
+-- what stands under a key comes from an event of the key
 pub entry_from_event : (events : List Event) (k : Key) (x : Entry) → get (objects_of events) k ≡ Some x → (e : Event) × Contains events e × (e.key ≡ k) × (entry_of e ≡ x)
 entry_from_event events k x found =
-    from_event events k x (sym (get-from_entries key_cmp_total (entries_of events) k) ∙ found)
+    let has = found_is_member key_cmp-IsAntisymmetric (entries_of events) k x (sym (get-from_entries key_cmp_total (entries_of events) k) ∙ found) in
+    let from = origin_of (λ e. (e.key, entry_of e)) events (k, x) has in
+    (from.0, from.1, ap (λ p. p.0) from.2, ap (λ p. p.1) from.2)
 
+-- under the key of each event stands its entry
 pub entry_of_event : (events : List Event) → AreDistinct (map (λ e. e.key) events) → (e : Event) → Contains events e → get (objects_of events) e.key ≡ Some (entry_of e)
 entry_of_event events once e has =
     get-from_entries key_cmp_total (entries_of events) e.key ∙ finds_event events once e has

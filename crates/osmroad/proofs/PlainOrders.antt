@@ -9,7 +9,7 @@ use Rattle.std.proofs.lemmas.Cmp.{nat_cmp_total, on_total, then_total, tied_itse
 use Rattle.road_base.specs.declared.ids.Dir.{Dir}
 use Rattle.road_base.specs.declared.ids.Dir.TheVariants.{Forward, Backward}
 use Rattle.road_model.specs.Orders.{rises, rises_from, dir_cmp, name_cmp, Lists}
-use Rattle.osmroad.proofs.NodeOrder.{way_cmp_total}
+use Rattle.osmroad.proofs.KeyOrder.{way_cmp_total}
 use Rattle.osmroad.proofs.PlainMembers.{In, in_cases, from_filter, contains_from_in, in_from_contains}
 
 dirs_reverse : (x y : Dir) → dir_cmp x y ≡ ordering_reverse (dir_cmp y x)

@@ -16,9 +16,9 @@ use Rattle.road_model.specs.Pieces.{IsPlain}
 use Rattle.road_model.specs.Orders.{way_cmp}
 use Rattle.osmroad.specs.declared.street.Street.{Street}
 use Rattle.osmroad.specs.Streets.{is_shared, stands}
-use Rattle.osmroad.specs.PlainMap.{AreDistinct}
+use Rattle.road_base.specs.Distinct.{AreDistinct}
 use Rattle.osmroad.specs.PlainGraph.{AreRoads}
-use Rattle.osmroad.proofs.NodeOrder.{way_cmp_total}
+use Rattle.osmroad.proofs.KeyOrder.{way_cmp_total}
 use Rattle.osmroad.proofs.PlainMembers.{In, in_at, at_in, at_each, in_from_contains, contains_from_in}
 use Rattle.osmroad.proofs.PlainOrders.{Climbs, climbs_by_name, same_by_name}
 use Rattle.osmroad.proofs.PlainStands.{distinct_at, alone_on, elsewhere}

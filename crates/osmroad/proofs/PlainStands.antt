@@ -9,9 +9,9 @@ use Rattle.road_base.specs.declared.ids.WayId.{WayId}
 use Rattle.road_model.specs.Lines.{same_node}
 use Rattle.road_model.specs.Orders.{way_cmp}
 use Rattle.osmroad.specs.declared.street.Street.{Street}
-use Rattle.osmroad.specs.PlainMap.{AreDistinct}
+use Rattle.road_base.specs.Distinct.{AreDistinct}
 use Rattle.osmroad.specs.Streets.{times, stands}
-use Rattle.osmroad.proofs.NodeOrder.{way_cmp_total}
+use Rattle.osmroad.proofs.KeyOrder.{way_cmp_total}
 use Rattle.osmroad.proofs.Marking.{node_from_same}
 use Rattle.osmroad.proofs.PlainMembers.{In, in_at, at_each}
 use Rattle.osmroad.proofs.PlainOrders.{Climbs, not_below_itself}

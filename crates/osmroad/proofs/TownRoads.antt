@@ -1,7 +1,7 @@
--- The streets of a built extract are the roads of its object map.
-use Rattle.std.proofs.Common.{◌≡◌, ℕ, ◌≤◌, Bool, true, false, IsTrue, IsFalse, List, [], ◌∷◌, map, length, Contains, Option, Some, None, codes, refl, sym, ap, subst, ◌∙◌}
+-- The streets of events that are built are the roads of the object map that they leave.
+use Rattle.std.proofs.Common.{◌≡◌, ℕ, ◌≤◌, Bool, true, false, IsTrue, IsFalse, List, map, length, All, Contains, Option, Some, None, refl, sym, ap, subst, ◌∙◌}
 use Rattle.std.specs.FinMap.{get, from_entries}
-use Rattle.std.specs.List.{AllByRecursion}
+use Rattle.std.proofs.lemmas.List.Elements.{All-contains}
 use Rattle.road_base.specs.declared.ids.NodeId.{NodeId}
 use Rattle.road_base.specs.declared.ids.WayId.{WayId}
 use Rattle.road_base.specs.declared.ids.Dir.{Dir}
@@ -23,11 +23,12 @@ use Rattle.road_model.specs.Words.{kind_of}
 use Rattle.road_model.specs.Orders.{rises, way_cmp}
 use Rattle.osmroad.specs.declared.street.Street.{Street}
 use Rattle.osmroad.specs.PlainRules.{is_plain_road, plain_rules}
-use Rattle.osmroad.specs.PlainMap.{AreDistinct, IsPlainWay, IsBuilt}
+use Rattle.road_base.specs.Distinct.{AreDistinct}
+use Rattle.osmroad.specs.PlainMap.{IsLocated, IsPlainWay, IsBuiltBody, IsBuilt}
 use Rattle.osmroad.specs.Town.{TownMap}
-use Rattle.osmroad.specs.PlainEvents.{IsPlainEvent, NodeEvent, WayEvent, NamesStreet, IsTownOf}
+use Rattle.osmroad.specs.TownOf.{IsTownOf}
 use Rattle.osmroad.specs.PlainGraph.{LiesAt, AreRoads}
-use Rattle.osmroad.proofs.Members.{all_from_each, each_from_all, origin_of}
+use Rattle.osmroad.proofs.Members.{all_from_each}
 use Rattle.osmroad.proofs.PlainObjects.{objects_of, entry_from_event, entry_of_event}
 use Rattle.osmroad.proofs.Lines.{changes_once}
 
@@ -49,9 +50,6 @@ way_shown (Some (NodeBody n)) w e = cc
 way_shown (Some (WayBody v)) w e = cc
 way_shown (Some (RelationBody r)) w e = cc
 way_shown (Some Deleted) w e = cc
-
-same_refs : (v w : Way) → WayBody v ≡ WayBody w → v.refs ≡ w.refs
-same_refs v w e = let same : v ≡ w = cc in ap (λ u. u.refs) same
 
 -- a visible body comes from an event
 body_from_event : (events : List Event) (k : Key) (b : Body) → visible (objects_of events) k ≡ Some b → (e : Event) × Contains events e × (e.key ≡ k) × (e.body ≡ b)
@@ -102,26 +100,14 @@ no_rule false e = cc
 
 -- ---- streets and their nodes
 
-module _ (events : List Event) (town : TownMap) (plain : AllByRecursion IsPlainEvent events) (built : IsBuilt events) (of : IsTownOf events town) where
-  way_of_street : (s : Street) (e : Event) → Contains events e → (named : NamesStreet e s) → way_of (objects_of events) s.way ≡ Some (record { tags = named.0; refs = s.refs })
-  way_of_street s e has named = way_of_event events built.once e s.way (record { tags = named.0; refs = s.refs }) has named.1 named.2
-
+module _ (events : List Event) (town : TownMap) (built : IsBuilt events) (of : IsTownOf events town) where
   -- the event of a street, and that its way is plain
   plain_way : (s : Street) → Contains town.streets s → (tags : TagList) × (way_of (objects_of events) s.way ≡ Some (record { tags = tags; refs = s.refs })) × IsPlainWay events (record { tags = tags; refs = s.refs })
   plain_way s stands =
       let from = (of.streets s).0 stands in
       let named = from.2 in
-      (named.0, way_of_street s from.0 from.1 named, built.ways from.0 (record { tags = named.0; refs = s.refs }) from.1 named.2)
-
-  short_event : (s : Street) (e : Event) → NamesStreet e s → IsPlainEvent e → length s.refs ≤ 65535
-  short_event s e named (NodeEvent node) = cc
-  short_event s e named (WayEvent way) =
-      subst (λ ns. length ns ≤ 65535) (same_refs (record { tags = (codes "highway", way.value) ∷ []; refs = way.refs }) (record { tags = named.0; refs = s.refs }) (sym way.body ∙ named.2)) way.short
-
-  short_street : (s : Street) → Contains town.streets s → length s.refs ≤ 65535
-  short_street s stands =
-      let from = (of.streets s).0 stands in
-      short_event s from.0 from.2 (each_from_all IsPlainEvent events plain from.0 from.1)
+      let way : Way = record { tags = named.0; refs = s.refs } in
+      (named.0, way_of_event events built.once from.0 s.way way from.1 named.1 named.2, subst (λ b. IsBuiltBody events b) named.2 (built.each from.0 from.1))
 
   line_of_street : (s : Street) → Contains town.streets s → line_of (objects_of events) s.way ≡ s.refs
   unfolding line_of
@@ -143,36 +129,32 @@ module _ (events : List Event) (town : TownMap) (plain : AllByRecursion IsPlainE
       let s : Street = record { way = w; refs = seen.0.refs } in
       (s, (of.streets s).1 (from.0, from.1, (seen.0.tags, from.2, from.3)), refl)
 
-  place_of_event : (n : NodeId) (e : Event) → Contains events e → e.key ≡ NodeKey n → IsPlainEvent e → (l : Location) × (get town.locations n ≡ Some l) × LiesAt (objects_of events) n l
-  place_of_event n e has key (WayEvent way) = absurd (cc (way.key, key))
-  place_of_event n e has key (NodeEvent node) =
-      let body : Node = record { tags = []; location = Some node.location } in (
-        node.location,
-        (of.places n node.location).1 (e, has, ([], key, node.body)),
+  place_of_located : (n : NodeId) → IsLocated events n → (l : Location) × (get town.locations n ≡ Some l) × LiesAt (objects_of events) n l
+  place_of_located n at =
+      let node : Node = record { tags = at.tags; location = Some at.location } in (
+        at.location,
+        (of.places n at.location).1 (at.event, at.stands, (at.tags, at.key, at.body)),
         record {
-          body = body;
-          visible = node_of_event events built.once e n body has key node.body;
+          body = node;
+          visible = node_of_event events built.once at.event n node at.stands at.key at.body;
           location = refl;
         },
       )
 
   place_of_ref : (s : Street) (n : NodeId) → Contains town.streets s → Contains s.refs n → (l : Location) × (get town.locations n ≡ Some l) × LiesAt (objects_of events) n l
-  place_of_ref s n stands passes =
-      let way = plain_way s stands in
-      let from = origin_of (λ e. e.key) events (NodeKey n) (way.2.known n passes) in
-      place_of_event n from.0 from.1 from.2 (each_from_all IsPlainEvent events plain from.0 from.1)
+  place_of_ref s n stands passes = place_of_located n ((plain_way s stands).2.located n passes)
 
 -- the streets of a town are the roads of what the events leave, and its places are those of their nodes
-pub town_roads : (events : List Event) (town : TownMap) → AllByRecursion IsPlainEvent events → IsBuilt events → IsTownOf events town → IsTrue (rises way_cmp (map (λ s. s.way) town.streets)) → AreRoads (from_entries (map (λ e. (e.key, entry_of e)) events)) plain_rules (get town.locations) town.streets
-town_roads events town plain built of ascend = record {
+pub town_roads : (events : List Event) (town : TownMap) → IsBuilt events → IsTownOf events town → IsTrue (rises way_cmp (map (λ s. s.way) town.streets)) → All (λ s. length s.refs ≤ 65535) town.streets → AreRoads (from_entries (map (λ e. (e.key, entry_of e)) events)) plain_rules (get town.locations) town.streets
+town_roads events town built of ascend short = record {
   ascend = ascend;
-  long = all_from_each (λ s. 2 ≤ length s.refs) town.streets (λ s stands. (plain_way events town plain built of s stands).2.long);
-  short = all_from_each (λ s. length s.refs ≤ 65535) town.streets (short_street events town plain built of);
-  once = all_from_each (λ s. AreDistinct s.refs) town.streets (λ s stands. (plain_way events town plain built of s stands).2.once);
-  lines = line_of_street events town plain built of;
-  open_both_ways = open_street events town plain built of;
-  all_roads = street_of_open events town plain built of;
-  places = place_of_ref events town plain built of;
+  long = all_from_each (λ s. 2 ≤ length s.refs) town.streets (λ s stands. (plain_way events town built of s stands).2.long);
+  short = all_from_each (λ s. length s.refs ≤ 65535) town.streets (λ s stands. All-contains (λ s. length s.refs ≤ 65535) town.streets s short stands);
+  once = all_from_each (λ s. AreDistinct s.refs) town.streets (λ s stands. (plain_way events town built of s stands).2.once);
+  lines = line_of_street events town built of;
+  open_both_ways = open_street events town built of;
+  all_roads = street_of_open events town built of;
+  places = place_of_ref events town built of;
   never_shut = λ n. every_node_open (node_of (objects_of events) n);
   no_turning = λ n. no_node_turns (node_of (objects_of events) n);
   no_words = λ r only binding steps word. no_rule only word.kind;

@@ -1,26 +1,48 @@
--- What was read of an input.
-use Rattle.std.specs.Prelude.{◌≡◌, ℕ, ◌≤◌, ◌<◌, ◌^◌, List, [], ◌++◌, length, Option}
+-- What was read of an input, and what it gave.
+use Rattle.std.specs.Prelude.{◌≡◌, ℕ, List, [], ◌++◌, Option, Some, None}
+use Rattle.road_base.specs.declared.event.Event.{Event}
 use Rattle.road_io.specs.Told.{Told, Rose}
+use Rattle.opl_lexer.specs.declared.mode.Mode.{Mode}
+use Rattle.opl_lexer.specs.Reading.{ReadAll, input_fault}
+use Rattle.opl_objects.specs.StreamLines.{place_of}
+use Rattle.osmroad.specs.Limits.{PassesLimit}
 use Rattle.osmroad.specs.declared.input.InputError.{InputError}
-use Rattle.osmroad.specs.declared.input.InputError.TheVariants.{Fault, TooLong, NoMemory}
+use Rattle.osmroad.specs.declared.input.InputError.TheVariants.{Failed, TooLong, Refused, NoMemory}
 
 -- these bytes were read of those that were left, where they are told
 abbrev pub Took : List ℕ → Option (List ℕ) → Option (List ℕ) → Type 0
 Took read = Told (λ before now. before ≡ read ++ now)
 
--- all bytes were read, and there are no more than an input may have
-pub record TookAll (bytes : List ℕ) (before now : Option (List ℕ)) : Type 0 where
-  pub took : Told (λ was left. (was ≡ bytes) × (left ≡ [])) before now
-  pub short : length bytes ≤ 2 ^ 30
+-- nothing is left, where it is told
+abbrev pub Ended : Option (List ℕ) → Type 0
+Ended None = Unit {0}
+Ended (Some left) = left ≡ []
 
--- the source failed, and no more bytes were read than an input may have; or more were read
-abbrev pub Cause : InputError → List ℕ → ℕ → ℕ → Type 0
-Cause Fault read before now = Rose before now × (length read ≤ 2 ^ 30)
-Cause TooLong read before now = 2 ^ 30 < length read
-Cause NoMemory read before now = Unit {0}
+-- all bytes were read, they pass no limit, and they give these events
+pub record ReadWhole (mode : Mode) (events : List Event) (before now : Option (List ℕ)) : Type 0 where
+  pub bytes : List ℕ
+  pub took : Took bytes before now
+  pub ended : Ended now
+  pub within : PassesLimit bytes → ⊥
+  pub gives : ReadAll mode bytes events
+
+-- Why an input isn't read: the source failed, and no limit is passed; a limit is passed; all was read, no limit is passed,
+-- and this is the first fault; memory ended.
+abbrev pub Cause : Mode → InputError → List ℕ → Option (List ℕ) → ℕ → ℕ → Type 0
+Cause mode Failed read now faults_before faults_now = Rose faults_before faults_now × (PassesLimit read → ⊥)
+Cause mode TooLong read now faults_before faults_now = PassesLimit read
+Cause mode (Refused fault) read now faults_before faults_now = Ended now × (PassesLimit read → ⊥) × (input_fault mode read ≡ Some (place_of fault))
+Cause mode NoMemory read now faults_before faults_now = Unit {0}
+
+-- all was read, and this is its first fault; or memory ended
+abbrev pub IsRefusal : Mode → List ℕ → InputError → Type 0
+IsRefusal mode read Failed = ⊥
+IsRefusal mode read TooLong = ⊥
+IsRefusal mode read (Refused fault) = input_fault mode read ≡ Some (place_of fault)
+IsRefusal mode read NoMemory = Unit {0}
 
 -- some bytes were read, and then the input wasn't read on for this cause
-pub record Stopped (error : InputError) (before now : Option (List ℕ)) (faults_before faults_now : ℕ) : Type 0 where
+pub record Stopped (mode : Mode) (error : InputError) (before now : Option (List ℕ)) (faults_before faults_now : ℕ) : Type 0 where
   pub read : List ℕ
   pub took : Took read before now
-  pub cause : Cause error read faults_before faults_now
+  pub cause : Cause mode error read now faults_before faults_now

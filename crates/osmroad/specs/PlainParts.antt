@@ -1,5 +1,5 @@
--- What each event of an extract gives to a town.
-use Rattle.std.specs.Prelude.{◌≤◌, List, Bool, true, length, Option, Some, None, Contains, IsSome}
+-- What each event gives to a town.
+use Rattle.std.specs.Prelude.{◌≤◌, ◌==◌, List, Bool, false, length, Option, Some, None, Contains, IsSome}
 use Rattle.std.specs.Option.{option_map}
 use Rattle.std.specs.FinMap.{FinMap, get}
 use Rattle.road_base.specs.declared.ids.NodeId.{NodeId}
@@ -11,7 +11,7 @@ use Rattle.road_base.specs.declared.objects.Body.TheVariants.{Node as NodeBody, 
 use Rattle.road_base.specs.declared.event.Event.{Event}
 use Rattle.osmroad.specs.declared.street.Street.{Street}
 use Rattle.osmroad.specs.PlainRules.{is_plain_road}
-use Rattle.osmroad.specs.PlainMap.{AreDistinct}
+use Rattle.road_base.specs.Distinct.{AreDistinct}
 use Rattle.osmroad.specs.Town.{node_cmp}
 
 abbrev pub place_in : Key → Body → Option (NodeId × Location)
@@ -30,13 +30,14 @@ street_in k b = None
 abbrev pub street_of : Event → Option Street
 street_of e = street_in e.key e.body
 
-abbrev pub body_fits : Body → Bool
-body_fits (WayBody b) = is_plain_road b.tags
-body_fits b = true
+abbrev pub fits_in : Key → Body → Bool
+fits_in (NodeKey n) (NodeBody b) = length b.tags == 0
+fits_in (WayKey w) (WayBody b) = is_plain_road b.tags
+fits_in k b = false
 
--- the event isn't of a way, or the way is a road of the plain profile
+-- the event is of a node without tags, or of a way that is a road of the plain profile
 abbrev pub fits : Event → Bool
-fits e = body_fits e.body
+fits e = fits_in e.key e.body
 
 -- two nodes or more, none of them twice, each with a place
 pub record IsLine (locations : FinMap node_cmp Location) (refs : List NodeId) : Type 0 where

@@ -1,4 +1,4 @@
--- The profile of the plain form: which values of `highway` it takes (OSM wiki, Key:highway). Every node is open, none is
+-- The plain profile: which values of `highway` it takes (OSM wiki, Key:highway). Every node is open, none is
 -- a place to turn round, and no restriction says anything.
 use Rattle.std.specs.Prelude.{ℕ, List, [], ◌∷◌, Bool, true, false, cond, ◌&&◌, codes}
 use Rattle.std.specs.List.{list_any}

@@ -1,17 +1,16 @@
 -- What a run gives, and how it may end.
 use Rattle.std.specs.Prelude.{◌≡◌, ℕ, ◌≤◌, ◌<◌, ◌^◌, ◌⊎◌, List, [], ◌∷◌, ◌++◌, length, take, Option, None, Some, codes}
-use Rattle.std.specs.FinMap.{empty}
 use Rattle.road_base.specs.declared.event.Event.{Event}
-use Rattle.road_base.specs.Objects.{Objects}
-use Rattle.road_base.specs.Applying.{IsApplied}
-use Rattle.road_model.specs.Format.{IsGraph}
+use Rattle.opl_lexer.specs.declared.mode.Mode.TheVariants.{Extract}
+use Rattle.opl_lexer.specs.Reading.{FaultAt, input_fault, ReadAll}
 use Rattle.road_io.specs.Told.{Told, Rose}
 use Rattle.road_io.specs.World.{World}
 use Rattle.osmroad.specs.declared.status.Status.{Status}
 use Rattle.osmroad.specs.declared.status.Status.TheVariants.{Done, Usage, ReadFault, SiteFault, Refused, OutOfSequence, NoStore, StoreExists, Damaged, Limit, NoMemory, Unbuilt}
-use Rattle.osmroad.specs.PlainForm.{IsPlainForm}
+use Rattle.osmroad.specs.Limits.{PassesLimit}
+use Rattle.osmroad.specs.Texts.{refused_line}
 use Rattle.osmroad.specs.PlainMap.{IsBuilt}
-use Rattle.osmroad.specs.PlainRules.{plain_rules}
+use Rattle.osmroad.specs.PlainCompiled.{IsGraphOf}
 
 -- ---- what is asked
 
@@ -30,26 +29,29 @@ unbuilt_line = codes "unbuilt" ++ 10 ∷ []
 
 -- ---- what is given
 
--- the bytes are a plain extract that is built, and `out` is the graph of the objects that its lines leave
+-- no line is in fault, the events are built, and `out` is the graph of the objects that they leave
 pub record IsCompiled (bytes out : List ℕ) : Type 0 where
   pub events : List Event
-  pub form : IsPlainForm bytes events
-  pub built : IsBuilt events
-  pub objects : Objects
-  pub applied : IsApplied empty events objects
-  pub graph : IsGraph objects plain_rules out
+  pub read : ReadAll Extract bytes events
+  pub graph : IsGraphOf events out
 
--- the bytes aren't a plain extract that is built
-abbrev pub IsUnbuilt : List ℕ → Type 0
-IsUnbuilt bytes = (events : List Event) → IsPlainForm bytes events → IsBuilt events → ⊥
+-- no line is in fault, and the events aren't built
+pub record IsUnbuilt (bytes : List ℕ) : Type 0 where
+  pub events : List Event
+  pub read : ReadAll Extract bytes events
+  pub unbuilt : IsBuilt events → ⊥
+
+abbrev pub IsWithinLimits : List ℕ → Type 0
+IsWithinLimits bytes = PassesLimit bytes → ⊥
 
 -- The status and the output for these words, where the source holds these bytes and nothing fails. Words and bytes determine
 -- both: the law `one_answer`.
 pub data Gives (words : List (List ℕ)) (bytes : List ℕ) (status : Status) (out : List ℕ) : Type 0 where
   OfOtherWords : (IsCompile words → ⊥) → status ≡ Usage → out ≡ usage_line → Gives words bytes status out
-  OfTooMuch : IsCompile words → 2 ^ 30 < length bytes → status ≡ Limit → out ≡ limit_line → Gives words bytes status out
-  OfUnbuilt : IsCompile words → length bytes ≤ 2 ^ 30 → IsUnbuilt bytes → status ≡ Unbuilt → out ≡ unbuilt_line → Gives words bytes status out
-  OfExtract : IsCompile words → length bytes ≤ 2 ^ 30 → IsCompiled bytes out → status ≡ Done → Gives words bytes status out
+  OfTooMuch : IsCompile words → PassesLimit bytes → status ≡ Limit → out ≡ limit_line → Gives words bytes status out
+  OfFault : IsCompile words → IsWithinLimits bytes → (fault : FaultAt) → input_fault Extract bytes ≡ Some fault → status ≡ Refused → out ≡ refused_line fault → Gives words bytes status out
+  OfUnbuilt : IsCompile words → IsWithinLimits bytes → IsUnbuilt bytes → status ≡ Unbuilt → out ≡ unbuilt_line → Gives words bytes status out
+  OfExtract : IsCompile words → IsWithinLimits bytes → IsCompiled bytes out → status ≡ Done → Gives words bytes status out
 
 -- ---- how a run ends
 
@@ -65,6 +67,10 @@ GrowsInto out = Told (λ w v. (n : ℕ) × (v.output ≡ w.output ++ take n out)
 abbrev pub EndsPut : List ℕ → Status → Status → Option World → Option World → ℕ → ℕ → Type 0
 EndsPut piece wanted status before now faults_before faults_now =
     ((status ≡ wanted) × Grows piece before now) ⊎ ((status ≡ SiteFault) × GrowsInto piece before now × Rose faults_before faults_now)
+
+-- how a put of a text ended for which memory is taken first
+abbrev pub EndsRefusal : List ℕ → Status → Option World → Option World → ℕ → ℕ → Type 0
+EndsRefusal piece status before now faults_before faults_now = EndsPut piece Refused status before now faults_before faults_now ⊎ ((status ≡ NoMemory) × Grows [] before now)
 
 -- what is given was put whole
 pub record PutsAll (words : List (List ℕ)) (bytes : List ℕ) (status : Status) (before now : Option World) : Type 0 where
@@ -85,7 +91,7 @@ EndsWith words bytes Done before now = PutsAll words bytes Done before now
 EndsWith words bytes Usage before now = PutsAll words bytes Usage before now
 EndsWith words bytes ReadFault before now = IsCompile words × Grows [] before now
 EndsWith words bytes SiteFault before now = PutsFront words bytes before now
-EndsWith words bytes Refused before now = ⊥
+EndsWith words bytes Refused before now = PutsAll words bytes Refused before now
 EndsWith words bytes OutOfSequence before now = ⊥
 EndsWith words bytes NoStore before now = ⊥
 EndsWith words bytes StoreExists before now = ⊥
@@ -99,18 +105,18 @@ abbrev pub Left : Option (List ℕ) → List ℕ → Type 0
 Left None bytes = Unit {0}
 Left (Some left) bytes = left ≡ bytes
 
--- What was read, by the status: all of the bytes; none; no more than the limit; or more than the limit.
+-- What was read, by the status: all of the bytes; none; no more than the limits allow; or more.
 abbrev pub Reads : Status → List ℕ → List ℕ → Type 0
 Reads Done bytes read = read ≡ bytes
 Reads Usage bytes read = read ≡ []
-Reads ReadFault bytes read = length read ≤ 2 ^ 30
+Reads ReadFault bytes read = IsWithinLimits read
 Reads SiteFault bytes read = Unit {0}
-Reads Refused bytes read = Unit {0}
+Reads Refused bytes read = read ≡ bytes
 Reads OutOfSequence bytes read = Unit {0}
 Reads NoStore bytes read = Unit {0}
 Reads StoreExists bytes read = Unit {0}
 Reads Damaged bytes read = Unit {0}
-Reads Limit bytes read = 2 ^ 30 < length read
+Reads Limit bytes read = PassesLimit read
 Reads NoMemory bytes read = Unit {0}
 Reads Unbuilt bytes read = read ≡ bytes
 

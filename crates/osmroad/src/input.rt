@@ -1,22 +1,28 @@
-//! The input, read whole.
-ghost use Rattle.std.specs.Prelude.{◌≡◌, ◌≤◌, ◌++◌, length, take, IfOk, IfErr};
-ghost use Rattle.osmroad.specs.Input.{Took, TookAll, Stopped};
+//! The events of an input.
+ghost use Rattle.std.specs.Prelude.{◌≡◌, ◌≤◌, ℕ, List, length, take, [], ◌++◌, ◌+◌, ◌^◌, IfOk, IfErr, OnOk};
+ghost use Rattle.opl_lexer.specs.declared.mode.Mode.{Mode as ReadMode};
+ghost use Rattle.opl_lexer.specs.Reading.{ReadAll};
+ghost use Rattle.opl_objects.specs.Feeding.{counted};
+ghost use Rattle.osmroad.specs.Input.{ReadWhole, Stopped, IsRefusal};
 
+use crate::limits::Measure;
+use opl_lexer::Mode;
+use opl_objects::{Fault, ReadError, Reader};
+use road_base::Event;
 use road_io::Source;
 use std::alloc::Global;
 
-/// The most bytes that an input may have.
-pub const MOST_BYTES: usize = 1 << 30;
-
 const PIECE: usize = 1 << 16;
 
-/// Why an input isn't read whole.
+/// Why an input isn't read.
 #[derive(Clone, Copy, PartialEq, Eq, Debug)]
 pub enum InputError {
     /// The source failed.
-    Fault,
-    /// There are more bytes than an input may have. It is said as soon as one too many was read.
+    Failed,
+    /// The input passes a limit. It is said as soon as one byte too many was read.
     TooLong,
+    /// The first fault of an input that passes no limit.
+    Refused(Fault),
     NoMemory,
 }
 
@@ -29,25 +35,80 @@ fn front(bytes: &[u8], n: usize) -> &[u8]
     &bytes[..n]
 }
 
-/// Reads the source to its end.
-pub fn read_whole<S: Source>(alloc: Global, source: &mut S) -> Result<Vec<u8>, InputError>
-    ensures ok { IfOk result (λ bytes. TookAll bytes.items (S.bytes_left source.old) (S.bytes_left source.new)) }
-    ensures err { IfErr result (λ e. Stopped e (S.bytes_left source.old) (S.bytes_left source.new) (S.faults source.old) (S.faults source.new)) }
+/// An input, as far as it was read.
+#[derive(Drop)]
+struct Input {
+    measure: Measure,
+    reader: Reader,
+    ghost counts: { counted reader ≤ measure.total },
+}
+
+impl Input {
+    ghost use Rattle.osmroad.specs.Reading.{Holds, Stops};
+
+    /// Nothing was read.
+    fn new(alloc: Global, mode: Mode) -> Input
+        ensures holds { Holds mode [] result }
+    {
+        Input {
+            measure: Measure::new(),
+            reader: Reader::new(alloc, mode),
+        }
+    }
+
+    /// Takes the next part. It is refused where a limit is passed, or where memory ends.
+    fn take(&mut self, part: &[u8]) -> Result<(), InputError>
+        requires { length part.now ≤ 2 ^ 24 }
+        ensures ok { OnOk result ((mode : ReadMode) (read : List ℕ) → Holds mode read self.old → Holds mode (read ++ part.now) self.new) }
+        ensures total { OnOk result (self.new.measure.total ≡ self.old.measure.total + length part.now) }
+        ensures err { IfErr result (λ e. (mode : ReadMode) (read : List ℕ) → Holds mode read self.old → Stops e (read ++ part.now)) }
+    {
+        let Some(measure) = self.measure.with(part) else {
+            return Err(InputError::TooLong);
+        };
+        self.measure = measure;
+        match self.reader.feed(part) {
+            Err(ReadError::NoMemory) => Err(InputError::NoMemory),
+            _ => Ok(()),
+        }
+    }
+
+    /// The events of all that was read, or its first fault.
+    fn finish(self) -> Result<Vec<Event>, InputError>
+        ensures ok { IfOk result (λ events. (mode : ReadMode) (read : List ℕ) → Holds mode read self → ReadAll mode read events.items) }
+        ensures err { IfErr result (λ e. (mode : ReadMode) (read : List ℕ) → Holds mode read self → IsRefusal mode read e) }
+    {
+        match self.reader.finish() {
+            Ok(events) => Ok(events),
+            Err(ReadError::Fault(fault)) => Err(InputError::Refused(fault)),
+            Err(ReadError::NoMemory) => Err(InputError::NoMemory),
+        }
+    }
+}
+
+/// The events of the input on the source, which is read to its end, or until it passes a limit.
+pub fn read_events<S: Source>(
+    alloc: Global,
+    mode: Mode,
+    source: &mut S,
+) -> Result<Vec<Event>, InputError>
+    ensures ok { IfOk result (λ events. ReadWhole mode events.items (S.bytes_left source.old) (S.bytes_left source.new)) }
+    ensures err { IfErr result (λ e. Stopped mode e (S.bytes_left source.old) (S.bytes_left source.new) (S.faults source.old) (S.faults source.new)) }
 {
     let Ok(mut piece) = vec![in alloc; 0u8; PIECE] else {
         return Err(InputError::NoMemory);
     };
-    let mut bytes = Vec::new(alloc);
-    while bytes.len() <= MOST_BYTES {
+    let mut input = Input::new(alloc, mode);
+    loop {
         let Ok(n) = source.read(&mut piece) else {
-            return Err(InputError::Fault);
+            return Err(InputError::Failed);
         };
         if n == 0 {
-            return Ok(bytes);
+            return input.finish();
         }
-        if bytes.extend_from_slice(front(&piece, n)).is_err() {
-            return Err(InputError::NoMemory);
+        match input.take(front(&piece, n)) {
+            Ok(()) => {}
+            Err(error) => return Err(error),
         }
     }
-    Err(InputError::TooLong)
 }

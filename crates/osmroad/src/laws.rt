@@ -4,7 +4,7 @@ ghost use Rattle.osmroad.specs.declared.status.Status.{Status};
 ghost use Rattle.osmroad.specs.Run.{Gives};
 
 use crate::plain::Plain;
-use opl_lexer::laws::one_coordinate;
+use opl_lexer::laws::one_reading;
 use road_base::laws::one_map;
 use road_model::laws::one_graph;
 
@@ -15,7 +15,7 @@ pub fn one_answer()
         → Gives words bytes another other
         → (status ≡ another) × (out ≡ other) }
 {
-    one_coordinate();
+    one_reading();
     one_map();
     one_graph(&Plain);
 }

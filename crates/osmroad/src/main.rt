@@ -1,8 +1,8 @@
 //! osmroad compiles what a car may drive in OpenStreetMap data to a turn-expanded graph.
 //!
 //! `run` is the one call that does all that the program does, over any source and site; `main` hands it standard input
-//! and standard output. At this stage the words `- compile` build extracts in plain form: the input is read whole, its
-//! lines become events (`plain_form`), these a town of streets (`plain_town`), that its blocks (`builder`), and these the
+//! and standard output. At this stage the words `- compile` build extracts of plain streets: the input is read piece by
+//! piece into events (`input`), these become a town of streets (`plain_town`), that its blocks (`builder`), and these the
 //! graph's bytes. Time grows with the input as n log n, and memory stays a small multiple of it.
 #![tactic(auto)]
 
@@ -10,21 +10,19 @@ ghost use Rattle.std.specs.Prelude.{◌≡◌, ◌<◌};
 
 mod builder;
 mod departures;
-mod fields;
 mod input;
 mod junctions;
 mod laws;
-mod numbers;
+mod limits;
 mod plain;
-mod plain_form;
 mod plain_graph;
-mod plain_line;
 mod plain_piece;
 mod plain_town;
 mod run;
 mod status;
 mod street;
 mod street_pieces;
+mod texts;
 mod town;
 
 use crate::run::run;

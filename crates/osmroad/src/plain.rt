@@ -1,4 +1,4 @@
-//! The profile of the plain form.
+//! The plain profile.
 ghost use Rattle.std.specs.Prelude.{◌≡◌};
 ghost use Rattle.std.specs.List.{list_any};
 ghost use Rattle.std.specs.Str.{bytes_eq};
@@ -8,8 +8,8 @@ ghost use Rattle.osmroad.specs.PlainProfile.{highway_of_free};
 use road_base::{Dir, Tags};
 use road_model::{Access, ClosedBy, Profile, RuleKind};
 
-/// Cars on the roads of the plain form: each is open in both directions. Every node is open, none is a place to turn
-/// round, and no restriction says anything.
+/// Cars on ways whose one tag is a `highway` that they drive in both directions. Every node is open, none is a place to
+/// turn round, and no restriction says anything.
 #[derive(Clone, Copy)]
 pub struct Plain;
 

@@ -1,12 +1,14 @@
-//! The streets and places of an extract in plain form.
-ghost use Rattle.std.specs.Prelude.{◌≡◌, ◌++◌, ◌↔◌, map, All, option_to_list, filter_map, IsTrue, IsFalse, is_some, IfOk, OnOk, IfSome, IfNone, IsPermutation};
-ghost use Rattle.std.specs.List.{AllByRecursion, list_all};
+//! The streets and places of events.
+ghost use Rattle.std.specs.Prelude.{◌≡◌, ◌≤◌, ◌++◌, ◌↔◌, length, map, All, option_to_list, filter_map, IsTrue, IsFalse, is_some, IfOk, OnOk, IfSome, IfNone, IsPermutation};
+ghost use Rattle.std.specs.List.{list_all};
 ghost use Rattle.std.specs.FinMap.{get};
-ghost use Rattle.road_model.specs.Orders.{rises, way_cmp};
-ghost use Rattle.osmroad.specs.PlainMap.{AreDistinct, IsBuilt};
-ghost use Rattle.osmroad.specs.PlainEvents.{IsPlainEvent, IsTownOf};
+ghost use Rattle.road_base.specs.Objects.{key_cmp};
+ghost use Rattle.road_model.specs.Orders.{rises};
+ghost use Rattle.road_base.specs.Distinct.{AreDistinct};
+ghost use Rattle.osmroad.specs.PlainMap.{IsBuilt};
+ghost use Rattle.osmroad.specs.TownOf.{IsTownOf};
 ghost use Rattle.osmroad.specs.PlainParts.{place_of, street_of, fits, IsLine};
-ghost use Rattle.osmroad.specs.Town.{node_cmp, PlacesAscend, StreetsAscend};
+ghost use Rattle.osmroad.specs.Town.{node_cmp};
 
 use crate::plain::is_plain_road;
 use crate::street::Street;
@@ -22,19 +24,21 @@ struct Parts {
 }
 
 impl Parts {
-    /// Keeps the place or the street that the event names. Answers false where it names a way that is no road.
+    /// Keeps the place or the street that the event names. Answers whether the event is of a node without tags or of a
+    /// way that is a road.
     fn keep(&mut self, event: Event) -> Result<bool, NoMemory>
         ensures places { OnOk result (self.new.places.items ≡ self.old.places.items ++ option_to_list (place_of event)) }
         ensures streets { OnOk result (self.new.streets.items ≡ self.old.streets.items ++ option_to_list (street_of event)) }
-        ensures road { IfOk result (λ road. road ≡ fits event) }
+        ensures fit { IfOk result (λ fit. fit ≡ fits event) }
     {
         match (event.key, event.body) {
             (Key::Node(node), Body::Node(body)) => {
+                let bare = body.tags.items().is_empty();
                 if let Some(location) = body.location {
                     self.places.push((node, location))?;
-                    return Ok(true);
+                    return Ok(bare);
                 }
-                Ok(true)
+                Ok(bare)
             }
             (Key::Way(way), Body::Way(body)) => {
                 let road = is_plain_road(&body.tags);
@@ -42,12 +46,12 @@ impl Parts {
                 self.streets.push(Street { way, refs })?;
                 Ok(road)
             }
-            _ => Ok(true),
+            _ => Ok(false),
         }
     }
 }
 
-/// What the events name, or None where one names a way that is no road.
+/// What the events name, or None where one is neither of a node without tags nor of a way that is a road.
 fn parts_of(alloc: Global, events: Vec<Event>) -> Result<Option<Parts>, NoMemory>
     ensures none { IfOk result (λ parts. IfNone parts (IsFalse (list_all fits events.items))) }
     ensures fit { IfOk result (λ parts. IfSome parts (λ _. IsTrue (list_all fits events.items))) }
@@ -66,18 +70,21 @@ fn parts_of(alloc: Global, events: Vec<Event>) -> Result<Option<Parts>, NoMemory
     Ok(Some(parts))
 }
 
-/// Whether each place's node is above the one before.
-fn places_ascend(places: &[(NodeId, Location)]) -> bool
-    ensures { result ≡ rises node_cmp (map (λ p. p.0) places.now) }
+/// Whether each event's key is above the one before.
+fn keys_ascend(events: &[Event]) -> bool
+    ensures { result ≡ rises key_cmp (map (λ e. e.key) events.now) }
 {
-    places.is_sorted_by(|a, b| a.0 < b.0)
+    events.is_sorted_by(|a, b| a.key < b.key)
 }
 
-/// Whether each street's way is above the one before.
-fn streets_ascend(streets: &[Street]) -> bool
-    ensures { result ≡ rises way_cmp (map (λ s. s.way) streets.now) }
+/// Puts the events in the order of their keys, and answers whether no two are of one object.
+fn order_events(events: &mut Vec<Event>) -> bool
+    ensures same { IsPermutation events.old.items events.new.items }
+    ensures ascending { result ≡ rises key_cmp (map (λ e. e.key) events.new.items) }
+    ensures distinct { IsTrue result ↔ AreDistinct (map (λ e. e.key) events.old.items) }
 {
-    streets.is_sorted_by(|a, b| a.way < b.way)
+    events.sort_unstable_by_key(|event| event.key);
+    keys_ascend(events.as_slice())
 }
 
 /// Whether each node is above the one before.
@@ -94,26 +101,6 @@ fn are_distinct(alloc: Global, nodes: &[NodeId]) -> Result<bool, NoMemory>
     let mut sorted = Vec::from_slice(alloc, nodes)?;
     sorted.sort_unstable();
     Ok(nodes_ascend(sorted.as_slice()))
-}
-
-/// Puts the places in the order of their nodes, and answers whether no node has two.
-fn order_places(places: &mut Vec<(NodeId, Location)>) -> bool
-    ensures same { IsPermutation places.old.items places.new.items }
-    ensures ascending { result ≡ rises node_cmp (map (λ p. p.0) places.new.items) }
-    ensures distinct { IsTrue result ↔ AreDistinct (map (λ p. p.0) places.old.items) }
-{
-    places.sort_unstable_by_key(|place| place.0);
-    places_ascend(places.as_slice())
-}
-
-/// Puts the streets in the order of their ways, and answers whether no way has two.
-fn order_streets(streets: &mut Vec<Street>) -> bool
-    ensures same { IsPermutation streets.old.items streets.new.items }
-    ensures ascending { result ≡ rises way_cmp (map (λ s. s.way) streets.new.items) }
-    ensures distinct { IsTrue result ↔ AreDistinct (map (λ s. s.way) streets.old.items) }
-{
-    streets.sort_unstable_by_key(|street| street.way);
-    streets_ascend(streets.as_slice())
 }
 
 /// Whether the town has a place for each of the nodes.
@@ -135,8 +122,9 @@ fn is_line(alloc: Global, town: &Town, nodes: &[NodeId]) -> Result<bool, NoMemor
 
 /// Whether each street of the town is a line of nodes with places.
 fn are_lines(alloc: Global, town: &Town) -> Result<bool, NoMemory>
-    ensures { IfOk result
+    ensures lines { IfOk result
         (λ lines. IsTrue lines ↔ All (λ s. IsLine town.now.locations s.refs) town.now.streets) }
+    ensures short { IfOk result (λ lines. IsTrue lines → All (λ s. length s.refs ≤ 65535) town.now.streets) }
 {
     for street in town.streets() {
         if !is_line(alloc, town, street.refs.items())? {
@@ -146,25 +134,22 @@ fn are_lines(alloc: Global, town: &Town) -> Result<bool, NoMemory>
     Ok(true)
 }
 
-/// The streets and places of an extract in plain form, or None exactly where it isn't built: an object is named twice,
-/// or a way is no road of the plain profile, has fewer than two references or one twice, or refers to a node that the
-/// extract doesn't have. Takes time in the order of n log n.
-pub fn town_of(alloc: Global, events: Vec<Event>) -> Result<Option<Town>, NoMemory>
-    requires { AllByRecursion IsPlainEvent events.items }
+/// The streets and places of events, or None exactly where they aren't built: two are of one object, one is a deletion or
+/// of a relation, a node has a tag, or a way is no road of the plain profile, has fewer than two references or one twice, or
+/// refers to a node that isn't there with a location. Takes time in the order of n log n.
+pub fn town_of(alloc: Global, mut events: Vec<Event>) -> Result<Option<Town>, NoMemory>
     ensures none { IfOk result (λ town. IfNone town (IsBuilt events.items → ⊥)) }
     ensures built { IfOk result (λ town. IfSome town (λ _. IsBuilt events.items)) }
     ensures town { IfOk result (λ town. IfSome town (IsTownOf events.items)) }
+    ensures short { IfOk result (λ town. IfSome town (λ t. All (λ s. length s.refs ≤ 65535) t.streets)) }
 {
+    if !order_events(&mut events) {
+        return Ok(None);
+    }
     let Some(parts) = parts_of(alloc, events)? else {
         return Ok(None);
     };
-    let Parts {
-        mut places,
-        mut streets,
-    } = parts;
-    if !order_places(&mut places) || !order_streets(&mut streets) {
-        return Ok(None);
-    }
+    let Parts { places, streets } = parts;
     let town = Town::from_parts(streets, places);
     let built = are_lines(alloc, &town)?;
     Ok(built.then_some(town))

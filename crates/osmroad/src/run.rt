@@ -1,14 +1,21 @@
 //! The one top call: what the program does for its words, over any source and site.
-ghost use Rattle.std.specs.Prelude.{◌≡◌, ◌⊎◌, ◌↔◌, ◌≤◌, ◌^◌, List, ℕ, map, length, IsTrue, Some};
+ghost use Rattle.std.specs.Prelude.{◌≡◌, ◌⊎◌, ◌↔◌, List, ℕ, map, IsTrue, Some};
 ghost use Rattle.road_base.specs.declared.event.Event.{Event};
 ghost use Rattle.road_io.specs.Told.{Rose};
-ghost use Rattle.osmroad.specs.PlainForm.{IsPlainForm};
+ghost use Rattle.opl_lexer.specs.declared.mode.Mode.TheVariants.{Extract};
+ghost use Rattle.opl_lexer.specs.Reading.{ReadAll};
+ghost use Rattle.opl_objects.specs.StreamLines.{place_of};
 ghost use Rattle.osmroad.specs.PlainMap.{IsBuilt};
-ghost use Rattle.osmroad.specs.Run.{IsCompile, Ends, EndsPut};
+ghost use Rattle.osmroad.specs.Texts.{refused_line};
+ghost use Rattle.osmroad.specs.Run.{IsCompile, IsWithinLimits, Ends, EndsPut, EndsRefusal};
 
-use crate::input::{InputError, read_whole};
+use crate::input::{InputError, read_events};
 use crate::plain_graph::plain_graph;
 use crate::status::Status;
+use crate::texts::refused_text;
+use opl_lexer::Mode;
+use opl_lexer::laws::one_reading;
+use opl_objects::Fault;
 use road_base::{NoMemory, Steps};
 use road_io::{Site, Source};
 use std::alloc::Global;
@@ -37,19 +44,30 @@ fn put_last<W: Site>(site: &mut W, piece: &[u8], status: Status) -> Status
     }
 }
 
+// Puts where the input is in fault.
+fn put_refusal<W: Site>(alloc: Global, site: &mut W, fault: &Fault) -> Status
+    ensures { EndsRefusal (refused_line (place_of fault.now)) result (W.world site.old) (W.world site.new) (W.faults site.old) (W.faults site.new) }
+{
+    match refused_text(alloc, fault) {
+        Ok(text) => put_last(site, text.as_bytes(), Status::Refused),
+        Err(_) => Status::NoMemory,
+    }
+}
+
 // The extract on the source, compiled.
 fn compile<S: Source, W: Site>(alloc: Global, source: &mut S, site: &mut W) -> Status
     ensures ends { (words : List (List ℕ)) → IsCompile words → Ends words result (S.bytes_left source.old) (S.bytes_left source.new) (W.world site.old) (W.world site.new) }
     ensures read_fault { result ≡ Status.ReadFault → Rose (S.faults source.old) (S.faults source.new) }
     ensures site_fault { result ≡ Status.SiteFault → Rose (W.faults site.old) (W.faults site.new) }
 {
-    let bytes = match read_whole(alloc, source) {
-        Ok(bytes) => bytes,
-        Err(InputError::Fault) => return Status::ReadFault,
+    let events = match read_events(alloc, Mode::Extract, source) {
+        Ok(events) => events,
+        Err(InputError::Failed) => return Status::ReadFault,
         Err(InputError::TooLong) => return put_last(site, b"limit\n", Status::Limit),
+        Err(InputError::Refused(fault)) => return put_refusal(alloc, site, &fault),
         Err(InputError::NoMemory) => return Status::NoMemory,
     };
-    match plain_graph(alloc, bytes) {
+    match plain_graph(alloc, events) {
         Ok(Some(graph)) => put_last(site, &graph, Status::Done),
         Ok(None) => put_last(site, b"unbuilt\n", Status::Unbuilt),
         Err(NoMemory) => Status::NoMemory,
@@ -57,7 +75,7 @@ fn compile<S: Source, W: Site>(alloc: Global, source: &mut S, site: &mut W) -> S
 }
 
 /// Does what the words ask, reading from the source and putting to the site, and answers how it ended. It returns for any
-/// words, source and site: a source that never ends is left as soon as it gave more than 2^30 bytes.
+/// words, source and site: a source that never ends is left as soon as it passed a limit, 2^30 bytes in all or 2^24 in a line.
 ///
 /// `- compile` puts the graph's bytes of the extract on the source. Other words are answered by the usage line.
 pub fn run<S: Source, W: Site, L: Ledger>(
@@ -78,14 +96,15 @@ pub fn run<S: Source, W: Site, L: Ledger>(
     ensures complete { (bytes : List ℕ) (events : List Event)
         → IsCompile (map (λ w. w.now) words.now)
         → S.bytes_left source.old ≡ Some bytes
-        → length bytes ≤ 2 ^ 30
-        → IsPlainForm bytes events
+        → IsWithinLimits bytes
+        → ReadAll Extract bytes events
         → IsBuilt events
         → (Rose (S.faults source.old) (S.faults source.new) → ⊥)
         → (Rose (W.faults site.old) (W.faults site.new) → ⊥)
         → (result ≡ Status.Done) ⊎ (result ≡ Status.NoMemory) }
 {
     if is_compile(words) {
+        one_reading();
         compile(alloc, source, site)
     } else {
         put_last(site, USAGE, Status::Usage)

@@ -1,4 +1,4 @@
-//! Roads of the plain form.
+//! Roads of the plain profile.
 use road_base::{Refs, WayId};
 
 /// A road and the nodes that it passes.

@@ -17,6 +17,13 @@ const STREET: &[u8] = b"n1 x0 y0\nn2 x0.001 y0\nn3 x0.002 y0\nw10 Thighway=resid
 const STREET_RETURNS: &[u8] =
     b"w10 Thighway=residential Nn1,n2,n3\r\nn3 x0.002 y0\r\nn1 x0 y0\r\nn2 x0.001 y0";
 
+/// The same as osmium writes it, with metadata and with locations on the references.
+const STREET_METADATA: &[u8] = b"\
+    n1 v3 dV c1001 t2020-05-01T10:00:00Z i7 uanna T x0 y0\n\
+    n2 v1 dV c1001 t2020-05-01T10:00:00Z i7 ub%20%c T x0.001 y0\n\
+    n3 v2 dV c1002 t2020-05-02T10:00:00Z i8 u T x0.0020000004 y-0\n\
+    w10 v4 dV c1002 t2020-05-02T10:00:00Z i8 uanna Thigh%77%ay=residential Nn1x0y0,n2x0.001y0,n3xy\n";
+
 /// The graph of `STREET`, as the format spells it: a header; way 10 with two pieces; each with its positions and
 /// direction, its nodes, and one context with one arc to the other piece.
 const STREET_GRAPH: &[u8] = b"\
@@ -84,6 +91,12 @@ fn extracts_are_compiled(rt: HostRuntime) -> Result<(), Fail> {
         compiles(STREET_RETURNS, Status::Done, STREET_GRAPH),
         compiles(b"", Status::Done, NO_GRAPH),
         compiles(b"n1 x0 y0", Status::Done, NO_GRAPH),
+        compiles(STREET_METADATA, Status::Done, STREET_GRAPH),
+        compiles(
+            b"# a note\n \t\nc77 anything at all\n",
+            Status::Done,
+            NO_GRAPH,
+        ),
     ];
     for case in &cases {
         let (status, output) = ended::<Brand>(rt.alloc(), case, Blank::new(1))?;
@@ -95,16 +108,17 @@ fn extracts_are_compiled(rt: HostRuntime) -> Result<(), Fail> {
 
 #[test]
 fn other_extracts_are_unbuilt(rt: HostRuntime) -> Result<(), Fail> {
-    let inputs: [&[u8]; 10] = [
-        b"n1 k5",
-        b"\n",
-        b"n1 x0 y0 ",
-        b"n1 x180.0000001 y0",
+    let inputs: [&[u8]; 11] = [
         b"n1 x0 y0\nn1 x0 y0",
+        b"n1 v2 x0 y0\nn1 v1 dD",
+        b"n1 dD",
+        b"n1 x0 y0 Tbarrier=gate",
+        b"r1 Ttype=route Mn1@",
         b"n1 x0 y0\nw1 Thighway=residential Nn1",
         b"n1 x0 y0\nw1 Thighway=residential Nn1,n2",
+        b"n1 x0 y0\nn2 x y0\nw1 Thighway=residential Nn1,n2",
         b"n1 x0 y0\nn2 x1 y0\nw1 Thighway=motorway Nn1,n2",
-        b"n1 x0 y0\nn2 x1 y0\nw1 Thighway=footway Nn1,n2",
+        b"n1 x0 y0\nn2 x1 y0\nw1 Thighway=road,name=A Nn1,n2",
         b"n1 x0 y0\nn2 x1 y0\nw1 Thighway=road Nn1,n2,n1",
     ];
     for input in inputs {
@@ -112,6 +126,72 @@ fn other_extracts_are_unbuilt(rt: HostRuntime) -> Result<(), Fail> {
         let (status, output) = ended::<Brand>(rt.alloc(), &case, Blank::new(1))?;
         assert_eq!(rt; status, case.status);
         assert_eq!(rt; output.as_slice(), case.output);
+    }
+    Ok(())
+}
+
+#[test]
+fn faults_of_extracts_are_named(rt: HostRuntime) -> Result<(), Fail> {
+    let cases: [(&[u8], &[u8]); 9] = [
+        (b"n1 k5", b"refused line 1 field 2 UnknownField\n"),
+        (
+            b"n1 v1 x180.0000001 y0",
+            b"refused line 1 field 3 BadCoordinate\n",
+        ),
+        (
+            b"n9223372036854775808 v1",
+            b"refused line 1 field 1 BadNumber\n",
+        ),
+        (b"n1 v1 Ta=%d800%", b"refused line 1 field 3 BadEscape\n"),
+        (
+            b"n1 v1 Ta=b Tc=d x0 y0",
+            b"refused line 1 field 4 Repeated\n",
+        ),
+        (b"z1", b"refused line 1 field 1 UnknownLine\n"),
+        (b"\xff", b"refused line 1 field 0 NotUtf8\n"),
+        // The first line in fault counts, also where a line before it isn't built.
+        (
+            b"n1 dD\n\n# a note\nq1 v1\nn2 v\n",
+            b"refused line 4 field 1 UnknownLine\n",
+        ),
+        (
+            b"w1 v1 Mn1@\nn1 x0 y0\n",
+            b"refused line 1 field 3 UnknownField\n",
+        ),
+    ];
+    for (input, output) in cases {
+        let case = compiles(input, Status::Refused, output);
+        let (status, put) = ended::<Brand>(rt.alloc(), &case, Blank::new(1))?;
+        assert_eq!(rt; status, Status::Refused);
+        assert_eq!(rt; put.as_slice(), output);
+    }
+    Ok(())
+}
+
+/// A note of so many bytes, and then a line in fault.
+fn long_note(alloc: Global, bytes: usize) -> Result<Vec<u8>, NoMemory> {
+    let mut text = vec![in alloc; b'#'; bytes]?;
+    text.extend_from_slice(b"\nz")?;
+    Ok(text)
+}
+
+#[test]
+fn lines_have_a_limit(rt: HostRuntime) -> Result<(), Fail> {
+    let most = 1usize << 24;
+    let cases: [(usize, Status, &[u8]); 2] = [
+        (
+            most,
+            Status::Refused,
+            b"refused line 2 field 1 UnknownLine\n",
+        ),
+        (most + 1, Status::Limit, b"limit\n"),
+    ];
+    for (bytes, status, output) in cases {
+        let text = long_note(rt.alloc(), bytes)?;
+        let case = compiles(text.as_slice(), status, output);
+        let (ended, put) = ended::<Brand>(rt.alloc(), &case, Blank::new(1))?;
+        assert_eq!(rt; ended, status);
+        assert_eq!(rt; put.as_slice(), output);
     }
     Ok(())
 }

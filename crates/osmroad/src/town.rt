@@ -1,4 +1,4 @@
-//! The streets of an extract, and where their nodes lie.
+//! Streets, and where their nodes lie.
 ghost use Rattle.std.specs.Prelude.{◌≡◌};
 ghost use Rattle.std.specs.FinMap.{get, from_entries};
 

@@ -1,8 +1,8 @@
 use Rattle.std.proofs.Common.{◌↔◌, IsTrue, IsPermutation, ap, subst, sym, map-id, ◌∙◌}
 use Rattle.road_model.specs.Orders.{rises}
-use Rattle.osmroad.specs.PlainMap.{AreDistinct}
+use Rattle.road_base.specs.Distinct.{AreDistinct}
 use Rattle.osmroad.specs.Town.{node_cmp}
-use Rattle.osmroad.proofs.NodeOrder.{node_cmp_total, node_cmp-IsAntisymmetric}
+use Rattle.osmroad.proofs.KeyOrder.{node_cmp_total, node_cmp-IsAntisymmetric}
 use Rattle.osmroad.proofs.Ascents.{ordered_rises}
 use Rattle.osmroad.proofs.plain_town.are_distinct.Goals as goal
 

@@ -1,14 +1,18 @@
-use Rattle.std.proofs.Common.{◌++◌, [], List, ℕ, refl, sym, subst, arith, length-append}
+use Rattle.std.proofs.Common.{◌≡◌, ◌++◌, [], List, ℕ, refl, sym, ◌∙◌, subst, arith, inl, inr}
 use Rattle.std.proofs.lemmas.List.{append-nil}
+use Rattle.opl_objects.specs.StreamLines.{place_of}
 use Rattle.osmroad.specs.declared.status.Status.TheVariants.{Done, Limit, Unbuilt}
-use Rattle.osmroad.specs.Run.{IsCompiled, OfTooMuch, OfUnbuilt, OfExtract, limit_line, unbuilt_line}
-use Rattle.osmroad.proofs.Ending.{behind_of, held_whole, left_nothing, held_part, left_behind, grows_nothing, ends_put}
+use Rattle.osmroad.specs.PlainCompiled.{IsGraphOf}
+use Rattle.osmroad.specs.Texts.{refused_line}
+use Rattle.osmroad.specs.Run.{IsCompiled, OfTooMuch, OfFault, OfUnbuilt, OfExtract, limit_line, unbuilt_line}
+use Rattle.osmroad.proofs.Ending.{behind_of, held_part, left_behind, all_read, grows_nothing, ends_put, ends_refusal, refusal_fault, refusal_no_read_fault}
+use Rattle.osmroad.proofs.Growing.{still_passes}
 use Rattle.osmroad.proofs.run.compile.Goals as goal
 
-pub returns-in-Err-Fault-clause-ends : goal.returns-in-Err-Fault-clause-ends
-returns-in-Err-Fault-clause-ends g c = λ words is.
-    let e = rw c.in-Err-Fault.field-0-is at c.in-Err-Fault.ensures.err in
-    let left = g.S.Source.bytes_left c.read_whole.new.source in
+pub returns-in-Err-Failed-clause-ends : goal.returns-in-Err-Failed-clause-ends
+returns-in-Err-Failed-clause-ends g c = λ words is.
+    let e = rw c.in-Err-Failed.field-0-is at c.in-Err-Failed.ensures.err in
+    let left = g.S.Source.bytes_left c.read_events.new.source in
     record {
       bytes = e.read ++ behind_of left;
       read = e.read;
@@ -23,16 +27,34 @@ returns-in-Err-Fault-clause-ends g c = λ words is.
 pub returns-in-Err-TooLong-clause-ends : goal.returns-in-Err-TooLong-clause-ends
 returns-in-Err-TooLong-clause-ends g c = λ words is.
     let e = rw c.in-Err-TooLong.field-0-is at c.in-Err-TooLong.ensures.err in
-    let left = g.S.Source.bytes_left c.read_whole.new.source in
+    let left = g.S.Source.bytes_left c.read_events.new.source in
     ends_put words (e.read ++ behind_of left) e.read (behind_of left) limit_line Limit c.put_last.result
     (g.S.Source.bytes_left c.args.source.now) left (g.W.Site.world c.args.site.now) (g.W.Site.world c.put_last.new.site) (g.W.Site.faults c.args.site.now) (g.W.Site.faults c.put_last.new.site)
     refl (held_part e.read (g.S.Source.bytes_left c.args.source.now) left e.took) (left_behind left) e.cause
-    (OfTooMuch is (simp length-append (omega (arith, e.cause))) refl refl) (λ p. p) c.put_last.ensures
+    (OfTooMuch is (still_passes e.read (behind_of left) e.cause) refl refl) (λ p. p) c.put_last.ensures
+
+pub returns-in-Err-Refused-clause-ends : goal.returns-in-Err-Refused-clause-ends
+returns-in-Err-Refused-clause-ends g c = λ words is.
+    let e = rw c.in-Err-Refused.field-0-is at c.in-Err-Refused.ensures.err in
+    let left = g.S.Source.bytes_left c.read_events.new.source in
+    let whole = all_read e.read left e.cause.0 in
+    ends_refusal words e.read e.read (behind_of left) (refused_line (place_of c.in-Err-Refused.fault)) c.put_refusal.result
+    (g.S.Source.bytes_left c.args.source.now) left (g.W.Site.world c.args.site.now) (g.W.Site.world c.put_refusal.new.site) (g.W.Site.faults c.args.site.now) (g.W.Site.faults c.put_refusal.new.site)
+    (sym whole) (rw whole at (held_part e.read (g.S.Source.bytes_left c.args.source.now) left e.took)) (left_behind left) refl is
+    (OfFault is e.cause.1 (place_of c.in-Err-Refused.fault) e.cause.2 refl refl) c.put_refusal.ensures
+
+pub returns-in-Err-Refused-clause-site_fault : goal.returns-in-Err-Refused-clause-site_fault
+returns-in-Err-Refused-clause-site_fault g c =
+    refusal_fault (refused_line (place_of c.in-Err-Refused.fault)) c.put_refusal.result (g.W.Site.world c.args.site.now) (g.W.Site.world c.put_refusal.new.site) (g.W.Site.faults c.args.site.now) (g.W.Site.faults c.put_refusal.new.site) c.put_refusal.ensures
+
+pub returns-in-Err-Refused-clause-read_fault : goal.returns-in-Err-Refused-clause-read_fault
+returns-in-Err-Refused-clause-read_fault g c = λ e.
+    absurd (refusal_no_read_fault (refused_line (place_of c.in-Err-Refused.fault)) c.put_refusal.result (g.W.Site.world c.args.site.now) (g.W.Site.world c.put_refusal.new.site) (g.W.Site.faults c.args.site.now) (g.W.Site.faults c.put_refusal.new.site) c.put_refusal.ensures e)
 
 pub returns-in-Err-NoMemory-clause-ends : goal.returns-in-Err-NoMemory-clause-ends
 returns-in-Err-NoMemory-clause-ends g c = λ words is.
     let e = rw c.in-Err-NoMemory.field-0-is at c.in-Err-NoMemory.ensures.err in
-    let left = g.S.Source.bytes_left c.read_whole.new.source in
+    let left = g.S.Source.bytes_left c.read_events.new.source in
     record {
       bytes = e.read ++ behind_of left;
       read = e.read;
@@ -47,20 +69,22 @@ returns-in-Err-NoMemory-clause-ends g c = λ words is.
 pub returns-in-Ok-Some-clause-ends : goal.returns-in-Ok-Some-clause-ends
 returns-in-Ok-Some-clause-ends g c = λ words is.
     let e = c.in-Ok.ensures.ok in
-    let left = g.S.Source.bytes_left c.read_whole.new.source in
+    let left = g.S.Source.bytes_left c.read_events.new.source in
+    let whole = all_read e.bytes left e.ended in
     let some = rw c.in-Ok-Some.field-0-is at c.in-Ok-Some.ensures.some in
-    let compiled : IsCompiled c.in-Ok.bytes.items c.deref.result.now = subst (λ (l : List ℕ). IsCompiled c.in-Ok.bytes.items l) (sym c.deref.ensures.value) some in
-    ends_put words c.in-Ok.bytes.items c.in-Ok.bytes.items [] c.deref.result.now Done c.put_last-in-Ok-Some.result
+    let graph : IsGraphOf c.in-Ok.events.items c.deref.result.now = subst (λ (l : List ℕ). IsGraphOf c.in-Ok.events.items l) (sym c.deref.ensures.value) some in
+    ends_put words e.bytes e.bytes (behind_of left) c.deref.result.now Done c.put_last-in-Ok-Some.result
     (g.S.Source.bytes_left c.args.source.now) left (g.W.Site.world c.args.site.now) (g.W.Site.world c.put_last-in-Ok-Some.new.site) (g.W.Site.faults c.args.site.now) (g.W.Site.faults c.put_last-in-Ok-Some.new.site)
-    (sym (append-nil c.in-Ok.bytes.items)) (held_whole c.in-Ok.bytes.items (g.S.Source.bytes_left c.args.source.now) left e.took) (left_nothing c.in-Ok.bytes.items (g.S.Source.bytes_left c.args.source.now) left e.took) refl
-    (OfExtract is e.short compiled refl) (λ p. p) c.put_last-in-Ok-Some.ensures
+    (sym whole) (rw whole at (held_part e.bytes (g.S.Source.bytes_left c.args.source.now) left e.took)) (left_behind left) refl
+    (OfExtract is e.within (record { events = c.in-Ok.events.items; read = e.gives; graph = graph }) refl) (λ p. p) c.put_last-in-Ok-Some.ensures
 
 pub returns-in-Ok-None-clause-ends : goal.returns-in-Ok-None-clause-ends
 returns-in-Ok-None-clause-ends g c = λ words is.
     let e = c.in-Ok.ensures.ok in
-    let left = g.S.Source.bytes_left c.read_whole.new.source in
+    let left = g.S.Source.bytes_left c.read_events.new.source in
+    let whole = all_read e.bytes left e.ended in
     let none = rw c.in-Ok-None.field-0-is at c.in-Ok-None.ensures.none in
-    ends_put words c.in-Ok.bytes.items c.in-Ok.bytes.items [] unbuilt_line Unbuilt c.put_last-in-Ok-None.result
+    ends_put words e.bytes e.bytes (behind_of left) unbuilt_line Unbuilt c.put_last-in-Ok-None.result
     (g.S.Source.bytes_left c.args.source.now) left (g.W.Site.world c.args.site.now) (g.W.Site.world c.put_last-in-Ok-None.new.site) (g.W.Site.faults c.args.site.now) (g.W.Site.faults c.put_last-in-Ok-None.new.site)
-    (sym (append-nil c.in-Ok.bytes.items)) (held_whole c.in-Ok.bytes.items (g.S.Source.bytes_left c.args.source.now) left e.took) (left_nothing c.in-Ok.bytes.items (g.S.Source.bytes_left c.args.source.now) left e.took) refl
-    (OfUnbuilt is e.short none refl refl) (λ p. p) c.put_last-in-Ok-None.ensures
+    (sym whole) (rw whole at (held_part e.bytes (g.S.Source.bytes_left c.args.source.now) left e.took)) (left_behind left) refl
+    (OfUnbuilt is e.within (record { events = c.in-Ok.events.items; read = e.gives; unbuilt = none }) refl refl) (λ p. p) c.put_last-in-Ok-None.ensures

@@ -5,7 +5,7 @@ use Rattle.std.specs.List.Sorted.{IsStrictlySortedBy}
 use Rattle.std.proofs.lemmas.Fn.{always_returns_same}
 use Rattle.osmroad.specs.Town.{node_cmp}
 use Rattle.osmroad.proofs.SortedSearch.{sorted_from_rises, found_entry, missed_entry}
-use Rattle.osmroad.proofs.NodeOrder.{node_cmp_total}
+use Rattle.osmroad.proofs.KeyOrder.{node_cmp_total}
 use Rattle.osmroad.proofs.town.Town.location.Goals as goal
 
 pub returns-in-Ok : goal.returns-in-Ok

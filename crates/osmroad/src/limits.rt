@@ -1,0 +1,68 @@
+//! The limits of an input.
+ghost use Rattle.std.specs.Prelude.{◌≡◌, ◌≢◌, ◌≤◌, ◌<◌, ◌+◌, ◌-◌, ◌^◌, ◌++◌, ◌⊎◌, [], ℕ, List, length, slice_index, IfSome, IfNone};
+
+use memchr::{memchr, memrchr};
+
+/// The most bytes that an input may have.
+const MOST_BYTES: usize = 1 << 30;
+
+/// The most bytes that a line may have, without its newline.
+const MOST_LINE: usize = 1 << 24;
+
+/// How long an input is so far, and how long its last line, within the limits.
+#[derive(Clone, Copy)]
+pub struct Measure {
+    total: usize,
+    line: usize,
+    ghost few: { total ≤ 2 ^ 30 },
+    ghost short: { line ≤ 2 ^ 24 },
+}
+
+/// How many bytes stand behind the last newline.
+fn last_line(bytes: &[u8]) -> usize
+    ensures bound { result ≤ length bytes.now }
+    ensures open_line { (j : ℕ) → length bytes.now - result ≤ j → j < length bytes.now → slice_index bytes.now j ≢ 10 }
+    ensures start { (result ≡ length bytes.now) ⊎ ((result < length bytes.now) × (slice_index bytes.now (length bytes.now - result - 1) ≡ 10)) }
+{
+    match memrchr(b'\n', bytes) {
+        Some(at) => bytes.len() - at - 1,
+        None => bytes.len(),
+    }
+}
+
+impl Measure {
+    ghost use Rattle.osmroad.specs.Limits.{PassesLimit, Measures};
+
+    /// Of nothing.
+    pub fn new() -> Measure
+        ensures measures { Measures [] result }
+        ensures total { result.total ≡ 0 }
+    {
+        Measure { total: 0, line: 0 }
+    }
+
+    /// With one more piece, or None exactly where a limit is passed.
+    pub fn with(self, piece: &[u8]) -> Option<Measure>
+        requires { length piece.now ≤ 2 ^ 24 }
+        ensures some { IfSome result (λ after. (bytes : List ℕ) → Measures bytes self → Measures (bytes ++ piece.now) after) }
+        ensures total { IfSome result (λ after. after.total ≡ self.total + length piece.now) }
+        ensures none { IfNone result ((bytes : List ℕ) → Measures bytes self → PassesLimit (bytes ++ piece.now)) }
+    {
+        let total = self.total + piece.len();
+        if total > MOST_BYTES {
+            return None;
+        }
+        let Some(first) = memchr(b'\n', piece) else {
+            let line = self.line + piece.len();
+            if line > MOST_LINE {
+                return None;
+            }
+            return Some(Measure { total, line });
+        };
+        if self.line + first > MOST_LINE {
+            return None;
+        }
+        let line = last_line(piece);
+        Some(Measure { total, line })
+    }
+}
