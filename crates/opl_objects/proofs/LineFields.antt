@@ -1,5 +1,5 @@
 -- A field more, in a line that is good so far.
-use Rattle.std.proofs.Common.{◌≡◌, ◌==◌, ◌+◌, ◌≤◌, ℕ, List, [], ◌∷◌, ◌++◌, Bool, true, false, cond, drop, length, set, get_or, Option, Some, None, refl, sym, ap, ◌∙◌, subst, append_assoc, append-nil, length-append, arith}
+use Rattle.std.proofs.Common.{◌≡◌, ◌==◌, ◌+◌, ◌≤◌, ℕ, List, [], ◌∷◌, ◌++◌, Bool, true, false, drop, length, set, Option, Some, None, refl, sym, ap, ◌∙◌, subst, append_assoc, append-nil, length-append, arith}
 use Rattle.std.specs.List.{list_any}
 use Rattle.road_base.specs.declared.ids.Key.{Key}
 use Rattle.opl_lexer.specs.declared.fault.FaultKind.{FaultKind}

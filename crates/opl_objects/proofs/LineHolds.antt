@@ -1,20 +1,19 @@
 -- What a field more changes in what the fields hold.
-use Rattle.std.proofs.Common.{◌≡◌, ◌==◌, ◌||◌, ℕ, List, [], ◌∷◌, ◌++◌, Bool, true, false, cond, drop, Option, Some, None, refl, sym, ap, ◌∙◌, subst, inl, inr, arith}
+use Rattle.std.proofs.Common.{◌≡◌, ◌==◌, ℕ, List, [], ◌∷◌, ◌++◌, Bool, true, false, cond, drop, Option, Some, None, refl, sym, ap, ◌∙◌, subst, inl, inr, arith}
 use Rattle.std.specs.List.{find}
-use Rattle.std.specs.Option.{option_map, option_or}
+use Rattle.std.specs.Option.{option_or}
 use Rattle.std.specs.Str.Parse.{digits_value}
 use Rattle.std.proofs.lemmas.Bool.{cases_eq}
 use Rattle.std.proofs.lemmas.Bool.Decides.{nat_tests, Decides-eqb}
 use Rattle.std.proofs.lemmas.List.Folds.{find-append}
 use Rattle.opl_lexer.specs.Numbers.{version_of}
-use Rattle.opl_lexer.specs.Contents.{Good, Bad, list_of, ref_of, member_of}
 use Rattle.opl_lexer.specs.Faults.{letter, stands, contents_fault}
-use Rattle.opl_lexer.specs.Spelling.{held, AreTags}
+use Rattle.opl_lexer.specs.Spelling.{held}
 use Rattle.opl_objects.specs.declared.letters.Letter.{Letter}
 use Rattle.opl_objects.specs.declared.letters.Letter.TheVariants.{Version, Deletion, Changeset, Timestamp, UserId, User, Tags, Lon, Lat, Refs, Members}
 use Rattle.opl_objects.specs.declared.parts.Parts.{Parts}
 use Rattle.opl_objects.specs.LineLetters.{byte_of}
-use Rattle.opl_objects.specs.LineParts.{Holds, Puts, flag_in, good_axis, text_held}
+use Rattle.opl_objects.specs.LineParts.{Holds, Puts, flag_in, good_axis}
 
 -- what stands behind each letter, with one text more
 abbrev pub with_text : (ℕ → Option (List ℕ)) → ℕ → List ℕ → ℕ → Option (List ℕ)

@@ -1,11 +1,10 @@
 -- What a whole line says.
-use Rattle.std.proofs.Common.{◌≡◌, ◌==◌, ◌||◌, ℕ, List, [], ◌∷◌, Bool, true, false, Option, Some, None, IsTrue, IsFalse, refl, sym, ap, ◌∙◌, subst}
+use Rattle.std.proofs.Common.{◌≡◌, ◌==◌, ◌||◌, ℕ, List, ◌∷◌, Bool, true, false, Some, None, refl, sym, ◌∙◌, subst}
 use Rattle.std.specs.Prelude.{codes}
 use Rattle.std.specs.List.{list_any}
 use Rattle.std.specs.Str.{is_utf8, IsUtf8}
 use Rattle.std.proofs.lemmas.Str.{IsUtf8-from_is_utf8, is_utf8-from_IsUtf8}
 use Rattle.road_base.specs.declared.event.Event.{Event}
-use Rattle.opl_lexer.specs.declared.fault.FaultKind.{FaultKind}
 use Rattle.opl_lexer.specs.declared.fault.FaultKind.TheVariants.{NotUtf8, UnknownLine}
 use Rattle.opl_lexer.specs.declared.mode.Mode.{Mode}
 use Rattle.opl_lexer.specs.Fields.{fields}

@@ -8,7 +8,7 @@ use Rattle.opl_lexer.specs.declared.fault.FaultKind.{FaultKind}
 use Rattle.opl_lexer.specs.declared.fault.LexError.{LexError}
 use Rattle.opl_lexer.specs.declared.fault.LexError.TheVariants.{Kind, NoMemory as NoRoom}
 use Rattle.opl_lexer.specs.Numbers.{version_of}
-use Rattle.opl_lexer.specs.Contents.{Held, Good, Bad, list_of, tag_of, ref_of, member_of, axis_of, deletion_in}
+use Rattle.opl_lexer.specs.Contents.{Held, Good, Bad, list_of, ref_of, member_of, axis_of, deletion_in}
 use Rattle.opl_lexer.specs.Faults.{version_letter, deletion_letter, tags_letter, lon_letter, lat_letter, refs_letter, members_letter, most_lon, most_lat}
 use Rattle.opl_lexer.specs.Spelling.{held, AreTags, version_in, is_deleted, HasBody}
 use Rattle.opl_objects.specs.declared.line.LineError.{LineError}

@@ -1,4 +1,4 @@
-use Rattle.std.proofs.Common.{◌≡◌, refl, arith, to_z, of_z, w32}
+use Rattle.std.proofs.Common.{◌≡◌, arith, to_z, of_z, w32}
 use Rattle.std.proofs.lemmas.Int.{ints}
 use Rattle.opl_objects.proofs.LineEvents.{placed}
 use Rattle.opl_objects.proofs.parts.place.Goals as goal

@@ -1,6 +1,6 @@
-use Rattle.std.proofs.Common.{◌≡◌, true, false, sym, ◌∙◌, ap, subst, IfErr}
+use Rattle.std.proofs.Common.{◌≡◌, true, false, sym, ◌∙◌, subst, IfErr}
 use Rattle.std.proofs.lemmas.Result.{on_ok_weaker}
-use Rattle.opl_lexer.specs.Faults.{letter, stands, is_known}
+use Rattle.opl_lexer.specs.Faults.{letter, stands}
 use Rattle.opl_objects.specs.LineLetters.{byte_of}
 use Rattle.opl_objects.specs.LineParts.{IsFault}
 use Rattle.opl_objects.proofs.LineHolds.{put_good}
