@@ -6,7 +6,7 @@ ghost use Rattle.road_base.specs.Applying.{IsApplied, entry_of};
 ghost use Rattle.road_base.specs.Objects.{Objects as ObjectMap, body_in, node_in, way_in, relation_in};
 ghost use Rattle.road_model.specs.Links.{AreChanged};
 
-use crate::References;
+use crate::references::References;
 use object_store::Objects;
 use road_base::{Body, Event, Key, Keys, NoMemory, Node, NodeId, Relation, RelationId, Way, WayId};
 use road_model::World;

@@ -13,6 +13,4 @@ mod references;
 #[cfg(test)]
 mod tests;
 
-pub use index::Index;
 pub use indexed::Indexed;
-pub use references::References;

@@ -4,8 +4,8 @@ ghost use Rattle.std.specs.FinMap.{empty};
 ghost use Rattle.road_base.specs.Objects.{Objects as ObjectMap};
 ghost use Rattle.road_model.specs.Orders.{Lists, way_cmp, relation_cmp};
 
-use crate::Index;
 use crate::collecting::{node_rules_in, way_references_in, way_rules_in};
+use crate::index::Index;
 use object_store::Objects;
 use road_base::laws::key_order;
 use road_base::{NoMemory, NodeId, RelationId, WayId};

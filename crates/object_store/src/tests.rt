@@ -86,37 +86,49 @@ fn applied_in_two(alloc: Global, events: &[Event], at: usize) -> Result<Objects,
     Ok(objects)
 }
 
-#[test]
-fn the_first_of_the_greatest_version_stands(rt: HostRuntime) -> Result<(), Fail> {
-    let alloc = rt.alloc();
-    assert_eq!(rt; first_node(&Objects::new(alloc)), None);
-    let extract = vec![in alloc;
+fn extract(alloc: Global) -> Result<Vec<Event>, NoMemory> {
+    let list = vec![in alloc;
         place(alloc, 2, 10_000_000)?,
         place(alloc, 3, 20_000_000)?,
         place(alloc, 3, 30_000_000)?,
         place(alloc, 1, 40_000_000)?,
     ]?;
-    let mut objects = Objects::of(extract)?;
-    assert_eq!(rt; first_node(&objects), Some((3, Some(20_000_000))));
+    Ok(list)
+}
 
-    let deleted = [deletion(FIRST, 4)];
-    assert_eq!(rt; objects.changed(&deleted)?.items(), [FIRST].as_slice());
-    assert_eq!(rt; objects.apply(&deleted)?.items(), [FIRST].as_slice());
-    assert_eq!(rt; first_node(&objects), Some((4, None)));
+/// How many keys the event changes; `changed` and `apply` say the same.
+fn applied_alone(objects: &mut Objects, event: Event) -> Result<Option<usize>, NoMemory> {
+    let events = [event];
+    let told = objects.changed(&events)?;
+    let keys = objects.apply(&events)?;
+    if told.items() != keys.items() {
+        return Ok(None);
+    }
+    Ok(Some(keys.items().len()))
+}
 
-    let stale = [place(alloc, 2, 50_000_000)?];
-    assert!(rt; objects.changed(&stale)?.items().is_empty());
-    assert!(rt; objects.apply(&stale)?.items().is_empty());
-    assert_eq!(rt; first_node(&objects), Some((4, None)));
-    assert!(rt; are_same(&objects.events()?, objects.items()));
-    assert!(rt; are_same(objects.copy()?.items(), objects.items()));
-    Ok(())
+fn is_copied(objects: &Objects) -> Result<bool, NoMemory> {
+    let events = objects.events()?;
+    let copied = objects.copy()?;
+    Ok(are_same(&events, objects.items()) && are_same(copied.items(), objects.items()))
 }
 
 #[test]
-fn events_in_turn_leave_what_they_leave_at_once(rt: HostRuntime) -> Result<(), Fail> {
+fn the_first_of_the_greatest_version_stands(rt: HostRuntime) -> Result<(), Fail> {
     let alloc = rt.alloc();
-    let events = [
+    let mut objects = Objects::of(extract(alloc)?)?;
+    assert_eq!(rt; first_node(&objects), Some((3, Some(20_000_000))));
+    assert_eq!(rt; applied_alone(&mut objects, deletion(FIRST, 4))?, Some(1));
+    assert_eq!(rt; first_node(&objects), Some((4, None)));
+    let stale = place(alloc, 2, 50_000_000)?;
+    assert_eq!(rt; applied_alone(&mut objects, stale)?, Some(0));
+    assert_eq!(rt; first_node(&objects), Some((4, None)));
+    assert!(rt; is_copied(&objects)?);
+    Ok(())
+}
+
+fn some_events(alloc: Global) -> Result<Vec<Event>, NoMemory> {
+    let list = vec![in alloc;
         way(alloc, 2, 7)?,
         place(alloc, 1, 10_000_000)?,
         deletion(Key::Way(WayId(1)), 3),
@@ -124,16 +136,28 @@ fn events_in_turn_leave_what_they_leave_at_once(rt: HostRuntime) -> Result<(), F
         way(alloc, 3, 8)?,
         place(alloc, 5, 30_000_000)?,
         deletion(FIRST, 5),
-    ];
+    ]?;
+    Ok(list)
+}
+
+/// Whether the events leave the same objects one by one, and cut in two at each place, as at once.
+fn is_same_in_turn(alloc: Global, events: &[Event]) -> Result<bool, NoMemory> {
     let mut whole = Objects::new(alloc);
-    let changed = whole.apply(&events)?;
-    assert_eq!(rt; changed.items(), [FIRST].as_slice());
-    assert_eq!(rt; whole.items().len(), 2);
-    let single = applied_singly(alloc, &events)?;
-    assert!(rt; are_same(single.items(), whole.items()));
+    let _ = whole.apply(events)?;
+    let single = applied_singly(alloc, events)?;
     for at in 0..events.len() {
-        let cut = applied_in_two(alloc, &events, at)?;
-        assert!(rt; are_same(cut.items(), whole.items()), "cut at {at}");
+        let cut = applied_in_two(alloc, events, at)?;
+        if !are_same(cut.items(), whole.items()) {
+            return Ok(false);
+        }
     }
+    Ok(are_same(single.items(), whole.items()))
+}
+
+#[test]
+fn events_in_turn_leave_what_they_leave_at_once(rt: HostRuntime) -> Result<(), Fail> {
+    let alloc = rt.alloc();
+    let events = some_events(alloc)?;
+    assert!(rt; is_same_in_turn(alloc, &events)?);
     Ok(())
 }
