@@ -3,7 +3,7 @@
 # that all of it is read and nothing is built, and on the town as it is, which is read and applied and at this stage
 # answered as unbuilt, each beside `osmium cat` on the same file in the same run. On one core, the best of five by
 # processor time, with the peak memory in kilobytes. Wants python3, GNU time, osmium-tool, and the program as `rt run`
-# builds it. Its arguments are those of gen_town.py.
+# builds it. Its arguments are the first two of gen_town.py.
 set -eu
 here=$(cd "$(dirname "$0")" && pwd)
 program="$here/../crates/osmroad/out/osmroad"
@@ -24,7 +24,7 @@ best() {
 }
 
 for size in "${1:-400}"; do
-    python3 "$here/gen_town.py" "$size" "${2:-4}" >"$room/town.opl"
+    python3 "$here/gen_town.py" "$size" "${2:-4}" "$room/town.opl" "$room/change.opl"
     { cat "$room/town.opl"; echo z; } >"$room/faulty.opl"
     ls -l "$room/town.opl" | awk '{ print $5, "bytes" }'
     cat=
