@@ -1,5 +1,5 @@
 //! The contents of the fields that hold lists.
-ghost use Rattle.std.specs.Prelude.{◌≡◌, ◌==◌, ◌||◌, false, IfOk, IfErr, IfSome, IfNone, drop, option_copied, slice_index};
+ghost use Rattle.std.specs.Prelude.{◌≡◌, ◌==◌, ◌+◌, ◌||◌, false, min, length, IfOk, IfErr, IfSome, IfNone, drop, option_copied, slice_index};
 ghost use Rattle.opl_lexer.specs.Pieces.{pieces};
 ghost use Rattle.opl_lexer.specs.Numbers.{is_digit};
 ghost use Rattle.opl_lexer.specs.Contents.{items, or_fault, text_of, is_run, is_place, number_in, ref_of, key_of, member_of, list_of};
@@ -23,18 +23,32 @@ const BAD_REF: LexError = LexError::Kind(FaultKind::BadRef);
 
 const BAD_MEMBER: LexError = LexError::Kind(FaultKind::BadMember);
 
-/// The room that a list's items take: as many as its commas join, and not more than a list may have.
+/// How many commas stand in a text.
 #[inline]
-pub fn room(contents: &str) -> usize {
-    let bytes = contents.as_bytes();
-    let mut commas = 0usize;
+fn commas(text: &str) -> usize
+    ensures { result + 1 ≡ length (pieces 44 text.now) }
+{
+    let bytes = text.as_bytes();
+    let mut count = 0usize;
     for at in 0..bytes.len() {
         if bytes[at] == b',' {
-            commas += 1;
+            count += 1;
         }
     }
-    if bytes.is_empty() || MOST_ITEMS <= commas {
-        return commas.min(MOST_ITEMS);
+    count
+}
+
+/// For how many items a list takes room at once: for all that it has, and for no more than it may have.
+#[inline]
+pub fn room(contents: &str) -> usize
+    ensures { result ≡ min (length (items contents.now)) 65535 }
+{
+    if contents.is_empty() {
+        return 0;
+    }
+    let commas = commas(contents);
+    if MOST_ITEMS <= commas {
+        return MOST_ITEMS;
     }
     commas + 1
 }
