@@ -1,9 +1,10 @@
 -- Tags in the order of their keys.
-use Rattle.std.specs.Prelude.{◌≡◌, ◌<◌, ◌≤◌, ◌+◌, ℕ, suc, List, [], ◌∷◌, Bool, true, length, refl}
+use Rattle.std.specs.Prelude.{◌≡◌, ◌<◌, ◌≤◌, ◌+◌, ◌-◌, ◌&&◌, ℕ, zero, suc, List, [], ◌∷◌, Bool, true, false, length, refl}
 use Rattle.std.specs.Ordering.{nat_cmp, is_lt}
 use Rattle.std.specs.Cmp.Lexicographic.{slice_cmp}
-use Rattle.std.proofs.Common.{arith, get_or, subst}
-use Rattle.road_base.specs.Tags.{TagList, is_above, IsAscending}
+use Rattle.std.proofs.Common.{arith, get_or, subst, sym, ◌∙◌}
+use Rattle.std.proofs.lemmas.List.{get_or_read}
+use Rattle.road_base.specs.Tags.{TagList, is_above, is_ascending, IsAscending}
 
 abbrev pub is_less : List ℕ → List ℕ → Bool
 is_less a b = is_lt (slice_cmp nat_cmp a b)
@@ -29,3 +30,24 @@ ascending_from_rises (t ∷ ts) up = above_from_rises t ts up
 
 pub rises_short : (ts : TagList) (at : ℕ) → Rises ts at → length ts ≤ at → Rises ts (length ts)
 rises_short ts at up short = record { each = λ k d h. up.each k d (omega arith) }
+
+and_false : (b : Bool) → (b && false) ≡ false
+and_false true = refl
+and_false false = refl
+
+not_above : (t : List ℕ × List ℕ) (ts : TagList) (k : ℕ) (d : List ℕ × List ℕ) → suc k < length (t ∷ ts) → is_less (get_or (t ∷ ts) k d).0 (get_or (t ∷ ts) (suc k) d).0 ≡ false → is_above t.0 ts ≡ false
+not_above t [] k d inside low = absurd (omega arith)
+not_above t (u ∷ us) zero d inside low = rw low refl
+not_above t (u ∷ us) (suc k) d inside low =
+    let rest = not_above u us k d (omega arith) low in
+    rw rest (and_false (is_less t.0 u.0))
+
+-- a key that isn't below the next
+pub not_ascending : (ts : TagList) (at : ℕ) (a b : List ℕ × List ℕ) → 1 ≤ at → at < length ts → b ≡ get_or ts at b → is_less (get_or ts (at - 1) a).0 (get_or ts at b).0 ≡ false → is_ascending ts ≡ false
+not_ascending ts zero a b some inside is low = absurd (omega arith)
+not_ascending [] (suc k) a b some inside is low = absurd (omega arith)
+not_ascending (t ∷ ts) (suc k) a b some inside is low =
+    let e : suc k - 1 ≡ k = omega arith in
+    let next : get_or (t ∷ ts) (suc k) b ≡ get_or (t ∷ ts) (suc k) a = sym is ∙ get_or_read (t ∷ ts) (suc k) b inside is a in
+    let here : is_less (get_or (t ∷ ts) k a).0 (get_or (t ∷ ts) (suc k) b).0 ≡ false = subst (λ n. is_less (get_or (t ∷ ts) n a).0 (get_or (t ∷ ts) (suc k) b).0 ≡ false) e low in
+    not_above t ts k a inside (subst (λ p. is_less (get_or (t ∷ ts) k a).0 p.0 ≡ false) next here)

@@ -1,8 +1,8 @@
 //! Tags, read in whatever order and kept ascending by key.
-ghost use Rattle.std.specs.Prelude.{◌≡◌, ◌≤◌, IfOk, IfErr, IsTrue, List, ℕ, length};
+ghost use Rattle.std.specs.Prelude.{◌≡◌, ◌≤◌, IfOk, IfErr, List, ℕ, length};
 ghost use Rattle.std.specs.Ordering.{is_lt, nat_cmp};
 ghost use Rattle.std.specs.Cmp.Lexicographic.{slice_cmp};
-ghost use Rattle.road_base.specs.Tags.{IsAscending, value_of};
+ghost use Rattle.road_base.specs.Tags.{IsAscending, is_ascending, value_of};
 ghost use Rattle.opl_lexer.specs.Contents.{Good, tag_of, list_of};
 ghost use Rattle.opl_lexer.specs.Spelling.{AreTags};
 ghost use Rattle.opl_lexer.specs.declared.fault.LexError.TheVariants.{NoMemory};
@@ -73,7 +73,7 @@ fn is_below(first: &Text, second: &Text) -> bool
 
 /// Whether each key is above the one before it.
 fn is_ascending(list: &[(Text, Text)]) -> bool
-    ensures { IsTrue result → IsAscending list.now }
+    ensures { result ≡ is_ascending list.now }
 {
     for at in 1..list.len() {
         if !is_below(&list[at - 1].0, &list[at].0) {
