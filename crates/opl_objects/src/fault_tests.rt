@@ -120,13 +120,11 @@ fn joined(alloc: Global, front: &[u8], line: &[u8], behind: &[u8]) -> Result<Vec
     Ok(text)
 }
 
-/// What is read of a text that comes byte by byte up to here, and then at once.
+/// What is read of a text that is cut before this byte. A fault in front of it is answered again at the end.
 fn read_cut(alloc: Global, mode: Mode, text: &[u8], at: usize) -> Result<Vec<Event>, ReadError> {
     let (front, behind) = text.split_at(at.min(text.len()));
     let mut reader = Reader::new(alloc, mode);
-    for byte in front {
-        let _answered_again = reader.feed(&[*byte]);
-    }
+    let _answered_again = reader.feed(front);
     let _answered_again = reader.feed(behind);
     reader.finish()
 }
