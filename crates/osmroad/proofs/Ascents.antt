@@ -50,7 +50,7 @@ module _ {K : Type 0} {R : K → K → Ordering} (o : IsTotalOrder R) (same : Is
   less_is_apart x y below e =
       let tied : R x y ≡ Equal = subst (λ z. R x z ≡ Equal) e (tied_itself o x) in cc
 
-  distinct_from_sorted : (ks : List K) → IsStrictlySortedBy R ks → AreDistinct ks
+  pub distinct_from_sorted : (ks : List K) → IsStrictlySortedBy R ks → AreDistinct ks
   unfolding IsStrictlySortedBy
   distinct_from_sorted [] up = tt
   distinct_from_sorted (k ∷ ks) up = (recursion_weaker (λ y. R k y ≡ Less) (λ y. k ≢ y) (λ y. less_is_apart k y) ks up.0, distinct_from_sorted ks up.1)

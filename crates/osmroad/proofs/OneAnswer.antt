@@ -9,14 +9,10 @@ use Rattle.road_model.specs.Format.{IsGraph}
 use Rattle.opl_lexer.specs.declared.mode.Mode.TheVariants.{Extract}
 use Rattle.opl_lexer.specs.Reading.{FaultAt}
 use Rattle.osmroad.specs.declared.status.Status.{Status}
-use Rattle.osmroad.specs.PlainMap.{IsBuilt}
 use Rattle.osmroad.specs.PlainRules.{plain_rules}
 use Rattle.osmroad.specs.Texts.{refused_line}
 use Rattle.osmroad.specs.Run.{IsCompiled, Gives, OfOtherWords, OfTooMuch, OfFault, OfUnbuilt, OfExtract}
-use Rattle.osmroad.proofs.Ending.{OneReading}
-
-abbrev pub OneMap : Type 0
-OneMap = (M N O : Objects) (events : List Event) → IsApplied M events N → IsApplied M events O → N ≡ O
+use Rattle.osmroad.proofs.Ending.{OneReading, OneMap, built_or_not}
 
 one_output : OneReading → OneMap → ((M : Objects) → OneGraph M plain_rules) → (bytes out other : List ℕ) → IsCompiled bytes out → IsCompiled bytes other → out ≡ other
 one_output reading map graph bytes out other a b =
@@ -52,9 +48,9 @@ one_answer reading map graph words bytes out other status another (OfUnbuilt is 
 one_answer reading map graph words bytes out other status another (OfUnbuilt is l u e o) (OfTooMuch js k f p) = absurd (l k)
 one_answer reading map graph words bytes out other status another (OfUnbuilt is l u e o) (OfFault js k y h f p) = let good = u.read.good in cc
 one_answer reading map graph words bytes out other status another (OfUnbuilt is l u e o) (OfUnbuilt js k v f p) = (same _ _ _ e f, same _ _ _ o p)
-one_answer reading map graph words bytes out other status another (OfUnbuilt is l u e o) (OfExtract js k d f) = absurd (u.unbuilt (subst IsBuilt (reading Extract bytes d.events u.events d.read u.read) d.graph.built))
+one_answer reading map graph words bytes out other status another (OfUnbuilt is l u e o) (OfExtract js k d f) = absurd (built_or_not map d.events u.events d.graph.objects (reading Extract bytes u.events d.events u.read d.read) d.graph.applied d.graph.built u.graphless)
 one_answer reading map graph words bytes out other status another (OfExtract is l c e) (OfOtherWords m f p) = absurd (m is)
 one_answer reading map graph words bytes out other status another (OfExtract is l c e) (OfTooMuch js k f p) = absurd (l k)
 one_answer reading map graph words bytes out other status another (OfExtract is l c e) (OfFault js k y h f p) = let good = c.read.good in cc
-one_answer reading map graph words bytes out other status another (OfExtract is l c e) (OfUnbuilt js k v f p) = absurd (v.unbuilt (subst IsBuilt (reading Extract bytes c.events v.events c.read v.read) c.graph.built))
+one_answer reading map graph words bytes out other status another (OfExtract is l c e) (OfUnbuilt js k v f p) = absurd (built_or_not map c.events v.events c.graph.objects (reading Extract bytes v.events c.events v.read c.read) c.graph.applied c.graph.built v.graphless)
 one_answer reading map graph words bytes out other status another (OfExtract is l c e) (OfExtract js k d f) = (same _ _ _ e f, one_output reading map graph bytes out other c d)

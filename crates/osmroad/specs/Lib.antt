@@ -1,12 +1,12 @@
 pub mod PlainRules
 pub mod PlainProfile
-pub mod PlainMap
 pub mod Streets
 pub mod Town
-pub mod TownOf
 pub mod Junctions
 pub mod PlainParts
 pub mod PlainGraph
+pub mod PlainMap
+pub mod TownOf
 pub mod PlainCompiled
 pub mod Limits
 pub mod Texts

@@ -8,9 +8,15 @@ use Rattle.road_model.specs.Format.{IsGraph}
 use Rattle.osmroad.specs.PlainMap.{IsBuilt}
 use Rattle.osmroad.specs.PlainRules.{plain_rules}
 
--- the events are built, and `out` is the graph of the objects that they leave
+-- the objects that the events leave are built, and `out` is their graph
 pub record IsGraphOf (events : List Event) (out : List ℕ) : Type 0 where
-  pub built : IsBuilt events
   pub objects : Objects
   pub applied : IsApplied empty events objects
+  pub built : IsBuilt objects
   pub graph : IsGraph objects plain_rules out
+
+-- the objects that the events leave aren't built
+pub record IsGraphless (events : List Event) : Type 0 where
+  pub objects : Objects
+  pub applied : IsApplied empty events objects
+  pub unbuilt : IsBuilt objects → ⊥

@@ -1,40 +1,26 @@
--- Which events the plain program builds a graph of.
-use Rattle.std.specs.Prelude.{◌≡◌, ◌≤◌, List, [], map, length, IsTrue, Some, Contains}
+-- Which object maps the plain program builds a graph of.
+use Rattle.std.specs.Prelude.{◌≡◌, ◌≤◌, [], length, IsTrue, Some, Contains}
 use Rattle.road_base.specs.declared.ids.NodeId.{NodeId}
-use Rattle.road_base.specs.declared.ids.Key.TheVariants.{Node as NodeKey}
+use Rattle.road_base.specs.declared.ids.WayId.{WayId}
+use Rattle.road_base.specs.declared.ids.RelationId.{RelationId}
 use Rattle.road_base.specs.declared.location.Location.{Location}
+use Rattle.road_base.specs.declared.objects.Node.{Node}
 use Rattle.road_base.specs.declared.objects.Way.{Way}
-use Rattle.road_base.specs.declared.objects.Body.{Body}
-use Rattle.road_base.specs.declared.objects.Body.TheVariants.{Node as NodeBody, Way as WayBody, Relation as RelationBody, Deleted}
-use Rattle.road_base.specs.declared.event.Event.{Event}
-use Rattle.road_base.specs.Tags.{TagList}
+use Rattle.road_base.specs.declared.objects.Relation.{Relation}
+use Rattle.road_base.specs.Objects.{Objects, node_of, way_of, relation_of}
 use Rattle.road_base.specs.Distinct.{AreDistinct}
 use Rattle.osmroad.specs.PlainRules.{is_plain_road}
-
--- one of the events is of that node, visible and with a location
-pub record IsLocated (events : List Event) (n : NodeId) : Type 0 where
-  pub event : Event
-  pub stands : Contains events event
-  pub key : event.key ≡ NodeKey n
-  pub tags : TagList
-  pub location : Location
-  pub body : event.body ≡ NodeBody (record { tags = tags; location = Some location })
+use Rattle.osmroad.specs.PlainGraph.{LiesAt}
 
 -- a road of the plain profile with two references or more, no node twice, each the number of a visible node with a location
-pub record IsPlainWay (events : List Event) (w : Way) : Type 0 where
+pub record IsPlainWay (M : Objects) (w : Way) : Type 0 where
   pub road : IsTrue (is_plain_road w.tags)
   pub long : 2 ≤ length w.refs
   pub once : AreDistinct w.refs
-  pub located : (n : NodeId) → Contains w.refs n → IsLocated events n
+  pub located : (n : NodeId) → Contains w.refs n → (l : Location) × LiesAt M n l
 
--- a node without tags or a plain way; no relation, and no deletion
-abbrev pub IsBuiltBody : List Event → Body → Type 0
-IsBuiltBody events (NodeBody n) = n.tags ≡ []
-IsBuiltBody events (WayBody w) = IsPlainWay events w
-IsBuiltBody events (RelationBody r) = ⊥
-IsBuiltBody events Deleted = ⊥
-
--- each object is named once, whatever its version, as a node without tags or a plain way
-pub record IsBuilt (events : List Event) : Type 0 where
-  pub once : AreDistinct (map (λ e. e.key) events)
-  pub each : (e : Event) → Contains events e → IsBuiltBody events e.body
+-- each visible node is without tags, each visible way is plain, and no relation is visible
+pub record IsBuilt (M : Objects) : Type 0 where
+  pub nodes : (n : NodeId) (body : Node) → node_of M n ≡ Some body → body.tags ≡ []
+  pub ways : (w : WayId) (body : Way) → way_of M w ≡ Some body → IsPlainWay M body
+  pub no_relation : (r : RelationId) (body : Relation) → relation_of M r ≡ Some body → ⊥

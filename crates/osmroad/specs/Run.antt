@@ -9,8 +9,7 @@ use Rattle.osmroad.specs.declared.status.Status.{Status}
 use Rattle.osmroad.specs.declared.status.Status.TheVariants.{Done, Usage, ReadFault, SiteFault, Refused, OutOfSequence, NoStore, StoreExists, Damaged, Limit, NoMemory, Unbuilt}
 use Rattle.osmroad.specs.Limits.{PassesLimit}
 use Rattle.osmroad.specs.Texts.{refused_line}
-use Rattle.osmroad.specs.PlainMap.{IsBuilt}
-use Rattle.osmroad.specs.PlainCompiled.{IsGraphOf}
+use Rattle.osmroad.specs.PlainCompiled.{IsGraphOf, IsGraphless}
 
 -- ---- what is asked
 
@@ -29,17 +28,17 @@ unbuilt_line = codes "unbuilt" ++ 10 ∷ []
 
 -- ---- what is given
 
--- no line is in fault, the events are built, and `out` is the graph of the objects that they leave
+-- no line is in fault, the objects that the events leave are built, and `out` is their graph
 pub record IsCompiled (bytes out : List ℕ) : Type 0 where
   pub events : List Event
   pub read : ReadAll Extract bytes events
   pub graph : IsGraphOf events out
 
--- no line is in fault, and the events aren't built
+-- no line is in fault, and the objects that the events leave aren't built
 pub record IsUnbuilt (bytes : List ℕ) : Type 0 where
   pub events : List Event
   pub read : ReadAll Extract bytes events
-  pub unbuilt : IsBuilt events → ⊥
+  pub graphless : IsGraphless events
 
 abbrev pub IsWithinLimits : List ℕ → Type 0
 IsWithinLimits bytes = PassesLimit bytes → ⊥

@@ -2,8 +2,9 @@
 //!
 //! `run` is the one call that does all that the program does, over any source and site; `main` hands it standard input
 //! and standard output. At this stage the words `- compile` build extracts of plain streets: the input is read piece by
-//! piece into events (`input`), these become a town of streets (`plain_town`), that its blocks (`builder`), and these the
-//! graph's bytes. Time grows with the input as n log n, and memory stays a small multiple of it.
+//! piece into events (`input`), of each object the first event of the greatest version stands (`plain_graph`), what stands
+//! becomes a town of streets (`plain_town`), that its blocks (`builder`), and these the graph's bytes. Time grows with the
+//! input as n log n, and memory stays a small multiple of it.
 #![tactic(auto)]
 
 ghost use Rattle.std.specs.Prelude.{◌≡◌, ◌<◌};

@@ -1,8 +1,7 @@
-//! The streets and places of events.
-ghost use Rattle.std.specs.Prelude.{◌≡◌, ◌≤◌, ◌++◌, ◌↔◌, length, map, All, option_to_list, filter_map, IsTrue, IsFalse, is_some, IfOk, OnOk, IfSome, IfNone, IsPermutation};
+//! The streets and places of objects.
+ghost use Rattle.std.specs.Prelude.{◌≡◌, ◌≤◌, ◌++◌, ◌↔◌, length, All, option_to_list, filter_map, IsTrue, IsFalse, is_some, IfOk, OnOk, IfSome, IfNone};
 ghost use Rattle.std.specs.List.{list_all};
 ghost use Rattle.std.specs.FinMap.{get};
-ghost use Rattle.road_base.specs.Objects.{key_cmp};
 ghost use Rattle.road_model.specs.Orders.{rises};
 ghost use Rattle.road_base.specs.Distinct.{AreDistinct};
 ghost use Rattle.osmroad.specs.PlainMap.{IsBuilt};
@@ -13,10 +12,11 @@ ghost use Rattle.osmroad.specs.Town.{node_cmp};
 use crate::plain::is_plain_road;
 use crate::street::Street;
 use crate::town::Town;
+use object_store::Objects;
 use road_base::{Body, Event, Key, Location, NoMemory, NodeId};
 use std::alloc::Global;
 
-/// The places and streets that events name, in the order of the events.
+/// The places and streets among entries, in the order of the entries.
 #[derive(Drop)]
 struct Parts {
     places: Vec<(NodeId, Location)>,
@@ -24,14 +24,14 @@ struct Parts {
 }
 
 impl Parts {
-    /// Keeps the place or the street that the event names. Answers whether the event is of a node without tags or of a
-    /// way that is a road.
-    fn keep(&mut self, event: Event) -> Result<bool, NoMemory>
-        ensures places { OnOk result (self.new.places.items ≡ self.old.places.items ++ option_to_list (place_of event)) }
-        ensures streets { OnOk result (self.new.streets.items ≡ self.old.streets.items ++ option_to_list (street_of event)) }
-        ensures fit { IfOk result (λ fit. fit ≡ fits event) }
+    /// Keeps the place or a copy of the street that the entry is. Answers whether the entry is a node without tags, a
+    /// way that is a road, or a deletion.
+    fn keep(&mut self, entry: &Event) -> Result<bool, NoMemory>
+        ensures places { OnOk result (self.new.places.items ≡ self.old.places.items ++ option_to_list (place_of entry.now)) }
+        ensures streets { OnOk result (self.new.streets.items ≡ self.old.streets.items ++ option_to_list (street_of entry.now)) }
+        ensures fit { IfOk result (λ fit. fit ≡ fits entry.now) }
     {
-        match (event.key, event.body) {
+        match (entry.key, &entry.body) {
             (Key::Node(node), Body::Node(body)) => {
                 let bare = body.tags.items().is_empty();
                 if let Some(location) = body.location {
@@ -42,49 +42,33 @@ impl Parts {
             }
             (Key::Way(way), Body::Way(body)) => {
                 let road = is_plain_road(&body.tags);
-                let refs = body.refs;
+                let refs = body.refs.copy()?;
                 self.streets.push(Street { way, refs })?;
                 Ok(road)
             }
+            (_, Body::Deleted) => Ok(true),
             _ => Ok(false),
         }
     }
 }
 
-/// What the events name, or None where one is neither of a node without tags nor of a way that is a road.
-fn parts_of(alloc: Global, events: Vec<Event>) -> Result<Option<Parts>, NoMemory>
-    ensures none { IfOk result (λ parts. IfNone parts (IsFalse (list_all fits events.items))) }
-    ensures fit { IfOk result (λ parts. IfSome parts (λ _. IsTrue (list_all fits events.items))) }
-    ensures places { IfOk result (λ parts. IfSome parts (λ p. p.places.items ≡ filter_map place_of events.items)) }
-    ensures streets { IfOk result (λ parts. IfSome parts (λ p. p.streets.items ≡ filter_map street_of events.items)) }
+/// The places and streets among the entries, or None where one is a node with tags, a way that is no road, or a relation.
+fn parts_of(alloc: Global, entries: &[Event]) -> Result<Option<Parts>, NoMemory>
+    ensures none { IfOk result (λ parts. IfNone parts (IsFalse (list_all fits entries.now))) }
+    ensures fit { IfOk result (λ parts. IfSome parts (λ _. IsTrue (list_all fits entries.now))) }
+    ensures places { IfOk result (λ parts. IfSome parts (λ p. p.places.items ≡ filter_map place_of entries.now)) }
+    ensures streets { IfOk result (λ parts. IfSome parts (λ p. p.streets.items ≡ filter_map street_of entries.now)) }
 {
     let mut parts = Parts {
         places: Vec::new(alloc),
         streets: Vec::new(alloc),
     };
-    for event in events {
-        if !parts.keep(event)? {
+    for entry in entries {
+        if !parts.keep(entry)? {
             return Ok(None);
         }
     }
     Ok(Some(parts))
-}
-
-/// Whether each event's key is above the one before.
-fn keys_ascend(events: &[Event]) -> bool
-    ensures { result ≡ rises key_cmp (map (λ e. e.key) events.now) }
-{
-    events.is_sorted_by(|a, b| a.key < b.key)
-}
-
-/// Puts the events in the order of their keys, and answers whether no two are of one object.
-fn order_events(events: &mut Vec<Event>) -> bool
-    ensures same { IsPermutation events.old.items events.new.items }
-    ensures ascending { result ≡ rises key_cmp (map (λ e. e.key) events.new.items) }
-    ensures distinct { IsTrue result ↔ AreDistinct (map (λ e. e.key) events.old.items) }
-{
-    events.sort_unstable_by_key(|event| event.key);
-    keys_ascend(events.as_slice())
 }
 
 /// Whether each node is above the one before.
@@ -134,19 +118,17 @@ fn are_lines(alloc: Global, town: &Town) -> Result<bool, NoMemory>
     Ok(true)
 }
 
-/// The streets and places of events, or None exactly where they aren't built: two are of one object, one is a deletion or
-/// of a relation, a node has a tag, or a way is no road of the plain profile, has fewer than two references or one twice, or
-/// refers to a node that isn't there with a location. Takes time in the order of n log n.
-pub fn town_of(alloc: Global, mut events: Vec<Event>) -> Result<Option<Town>, NoMemory>
-    ensures none { IfOk result (λ town. IfNone town (IsBuilt events.items → ⊥)) }
-    ensures built { IfOk result (λ town. IfSome town (λ _. IsBuilt events.items)) }
-    ensures town { IfOk result (λ town. IfSome town (IsTownOf events.items)) }
+/// The streets and places of the objects, or None exactly where they aren't built: a visible node has a tag, a relation is
+/// visible, or a visible way is no road of the plain profile, has fewer than two references or one twice, or refers to a
+/// node that isn't there with a location. Takes time in the order of n log n.
+pub fn town_of(alloc: Global, objects: &Objects) -> Result<Option<Town>, NoMemory>
+    ensures none { IfOk result (λ town. IfNone town (IsBuilt objects.now → ⊥)) }
+    ensures built { IfOk result (λ town. IfSome town (λ _. IsBuilt objects.now)) }
+    ensures town { IfOk result (λ town. IfSome town (IsTownOf objects.now)) }
     ensures short { IfOk result (λ town. IfSome town (λ t. All (λ s. length s.refs ≤ 65535) t.streets)) }
 {
-    if !order_events(&mut events) {
-        return Ok(None);
-    }
-    let Some(parts) = parts_of(alloc, events)? else {
+    let entries = objects.items();
+    let Some(parts) = parts_of(alloc, entries)? else {
         return Ok(None);
     };
     let Parts { places, streets } = parts;

@@ -1,6 +1,9 @@
 //! The one top call: what the program does for its words, over any source and site.
 ghost use Rattle.std.specs.Prelude.{◌≡◌, ◌⊎◌, ◌↔◌, List, ℕ, map, IsTrue, Some};
+ghost use Rattle.std.specs.FinMap.{empty};
 ghost use Rattle.road_base.specs.declared.event.Event.{Event};
+ghost use Rattle.road_base.specs.Objects.{Objects};
+ghost use Rattle.road_base.specs.Applying.{IsApplied};
 ghost use Rattle.road_io.specs.Told.{Rose};
 ghost use Rattle.opl_lexer.specs.declared.mode.Mode.TheVariants.{Extract};
 ghost use Rattle.opl_lexer.specs.Reading.{ReadAll};
@@ -16,6 +19,7 @@ use crate::texts::refused_text;
 use opl_lexer::Mode;
 use opl_lexer::laws::one_reading;
 use opl_objects::Fault;
+use road_base::laws::one_map;
 use road_base::{NoMemory, Steps};
 use road_io::{Site, Source};
 use std::alloc::Global;
@@ -93,18 +97,20 @@ pub fn run<S: Source, W: Site, L: Ledger>(
     ensures site_fault { result ≡ Status.SiteFault → Rose (W.faults site.old) (W.faults site.new) }
 
     // Where the words, the bytes and the outside are good, it is done, or memory ended.
-    ensures complete { (bytes : List ℕ) (events : List Event)
+    ensures complete { (bytes : List ℕ) (events : List Event) (objects : Objects)
         → IsCompile (map (λ w. w.now) words.now)
         → S.bytes_left source.old ≡ Some bytes
         → IsWithinLimits bytes
         → ReadAll Extract bytes events
-        → IsBuilt events
+        → IsApplied empty events objects
+        → IsBuilt objects
         → (Rose (S.faults source.old) (S.faults source.new) → ⊥)
         → (Rose (W.faults site.old) (W.faults site.new) → ⊥)
         → (result ≡ Status.Done) ⊎ (result ≡ Status.NoMemory) }
 {
     if is_compile(words) {
         one_reading();
+        one_map();
         compile(alloc, source, site)
     } else {
         put_last(site, USAGE, Status::Usage)

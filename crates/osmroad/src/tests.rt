@@ -24,6 +24,25 @@ const STREET_METADATA: &[u8] = b"\
     n3 v2 dV c1002 t2020-05-02T10:00:00Z i8 u T x0.0020000004 y-0\n\
     w10 v4 dV c1002 t2020-05-02T10:00:00Z i8 uanna Thigh%77%ay=residential Nn1x0y0,n2x0.001y0,n3xy\n";
 
+/// The same left by several lines of one object: a later version, a stale one, a second one of the same version, and a
+/// street that was deleted with its node.
+const STREET_VERSIONS: &[u8] = b"\
+    w10 v3 Thighway=residential Nn1,n2,n3\n\
+    w10 v2 Thighway=motorway Nn1,n2\n\
+    w10 v3 Thighway=service Nn3,n2,n1\n\
+    n1 v1 dD\n\
+    n1 v2 x0 y0\n\
+    n2 v1 x0.001 y0\n\
+    n2 v1 x5 y5\n\
+    n3 v2 x0.002 y0\n\
+    n3 v1 Tbarrier=gate\n\
+    n4 v1 x0.003 y0\n\
+    w11 v1 Thighway=residential Nn3,n4\n\
+    w11 v2 dD\n\
+    n4 v2 dD\n\
+    r1 v1 Ttype=route Mn1@\n\
+    r1 v2 dD\n";
+
 /// The graph of `STREET`, as the format spells it: a header; way 10 with two pieces; each with its positions and
 /// direction, its nodes, and one context with one arc to the other piece.
 const STREET_GRAPH: &[u8] = b"\
@@ -92,6 +111,8 @@ fn extracts_are_compiled(rt: HostRuntime) -> Result<(), Fail> {
         compiles(b"", Status::Done, NO_GRAPH),
         compiles(b"n1 x0 y0", Status::Done, NO_GRAPH),
         compiles(STREET_METADATA, Status::Done, STREET_GRAPH),
+        compiles(STREET_VERSIONS, Status::Done, STREET_GRAPH),
+        compiles(b"n1 dD\nn1 x0 y0 Tbarrier=gate\nw1 v1 dD", Status::Done, NO_GRAPH),
         compiles(
             b"# a note\n \t\nc77 anything at all\n",
             Status::Done,
@@ -109,9 +130,9 @@ fn extracts_are_compiled(rt: HostRuntime) -> Result<(), Fail> {
 #[test]
 fn other_extracts_are_unbuilt(rt: HostRuntime) -> Result<(), Fail> {
     let inputs: [&[u8]; 11] = [
-        b"n1 x0 y0\nn1 x0 y0",
-        b"n1 v2 x0 y0\nn1 v1 dD",
-        b"n1 dD",
+        b"n1 v1 x0 y0\nn1 v2 x0 y0 Tbarrier=gate",
+        b"n1 x0 y0 Tbarrier=gate\nn1 dD",
+        b"n1 v1 x0 y0\nn2 x1 y0\nw1 Thighway=road Nn1,n2\nn1 v2 dD",
         b"n1 x0 y0 Tbarrier=gate",
         b"r1 Ttype=route Mn1@",
         b"n1 x0 y0\nw1 Thighway=residential Nn1",

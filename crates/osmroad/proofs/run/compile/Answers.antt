@@ -87,4 +87,4 @@ returns-in-Ok-None-clause-ends g c = λ words is.
     ends_put words e.bytes e.bytes (behind_of left) unbuilt_line Unbuilt c.put_last-in-Ok-None.result
     (g.S.Source.bytes_left c.args.source.now) left (g.W.Site.world c.args.site.now) (g.W.Site.world c.put_last-in-Ok-None.new.site) (g.W.Site.faults c.args.site.now) (g.W.Site.faults c.put_last-in-Ok-None.new.site)
     (sym whole) (rw whole at (held_part e.bytes (g.S.Source.bytes_left c.args.source.now) left e.took)) (left_behind left) refl
-    (OfUnbuilt is e.within (record { events = c.in-Ok.events.items; read = e.gives; unbuilt = none }) refl refl) (λ p. p) c.put_last-in-Ok-None.ensures
+    (OfUnbuilt is e.within (record { events = c.in-Ok.events.items; read = e.gives; graphless = none }) refl refl) (λ p. p) c.put_last-in-Ok-None.ensures
