@@ -112,7 +112,11 @@ fn extracts_are_compiled(rt: HostRuntime) -> Result<(), Fail> {
         compiles(b"n1 x0 y0", Status::Done, NO_GRAPH),
         compiles(STREET_METADATA, Status::Done, STREET_GRAPH),
         compiles(STREET_VERSIONS, Status::Done, STREET_GRAPH),
-        compiles(b"n1 dD\nn1 x0 y0 Tbarrier=gate\nw1 v1 dD", Status::Done, NO_GRAPH),
+        compiles(
+            b"n1 dD\nn1 x0 y0 Tbarrier=gate\nw1 v1 dD",
+            Status::Done,
+            NO_GRAPH,
+        ),
         compiles(
             b"# a note\n \t\nc77 anything at all\n",
             Status::Done,
