@@ -8,7 +8,6 @@ use Rattle.road_base.specs.declared.ids.NodeId.{NodeId}
 use Rattle.road_base.specs.declared.ids.WayId.{WayId}
 use Rattle.road_base.specs.declared.ids.Key.{Key}
 use Rattle.road_base.specs.declared.ids.Key.TheVariants.{Node, Way, Relation}
-use Rattle.road_base.specs.contracts.ids.KeyOrd.TheImpl.{ghosts as derived}
 use Rattle.road_base.specs.Objects.{key_cmp}
 use Rattle.road_model.specs.Orders.{way_cmp}
 use Rattle.osmroad.specs.Town.{node_cmp}
@@ -54,18 +53,6 @@ key_cmp-IsAntisymmetric (Way a) (Relation b) tied = cc
 key_cmp-IsAntisymmetric (Relation a) (Node b) tied = cc
 key_cmp-IsAntisymmetric (Relation a) (Way b) tied = cc
 key_cmp-IsAntisymmetric (Relation a) (Relation b) tied = ap (λ (n : ℤ). Relation (record { 0 = n })) (int_cmp-IsAntisymmetric a.0 b.0 tied)
-
--- keys are compared so
-pub cmp-key_cmp : (a b : Key) → derived.cmp a b ≡ key_cmp a b
-cmp-key_cmp (Node a) (Node b) = refl
-cmp-key_cmp (Node a) (Way b) = refl
-cmp-key_cmp (Node a) (Relation b) = refl
-cmp-key_cmp (Way a) (Node b) = refl
-cmp-key_cmp (Way a) (Way b) = refl
-cmp-key_cmp (Way a) (Relation b) = refl
-cmp-key_cmp (Relation a) (Node b) = refl
-cmp-key_cmp (Relation a) (Way b) = refl
-cmp-key_cmp (Relation a) (Relation b) = refl
 
 -- ---- nodes and ways
 
