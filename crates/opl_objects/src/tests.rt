@@ -1,7 +1,7 @@
 //! Whole inputs.
 use super::*;
 use opl_lexer::FaultKind;
-use road_base::{Event, Key, NodeId, RelationId, WayId};
+use road_base::{Body, Event, Key, Node, NodeId, RelationId, WayId};
 use std::alloc::Global;
 use std::test::Fail;
 
@@ -67,4 +67,36 @@ fn faults_are_answered_again(rt: HostRuntime) {
         };
         assert!(rt; is_refused(rt.alloc(), line, fault), "at {line:?}");
     }
+}
+
+/// The node of the event at this place.
+fn node_at(events: &[Event], at: usize) -> Option<&Node> {
+    match events.get(at) {
+        Some(event) => match &event.body {
+            Body::Node(node) => Some(node),
+            _ => None,
+        },
+        None => None,
+    }
+}
+
+#[test]
+fn nodes_are_read_whole(rt: HostRuntime) -> Result<(), Fail> {
+    let text =
+        "n1 v1 x1 y2 T%6e%ame=caf%e9%%20%%1F600%\nn-9223372036854775808 v1 x180 y-90.00000009";
+    let events = read_cut(rt.alloc(), Mode::Change, text.as_bytes(), 30)?;
+    assert!(rt;
+        are(
+            events.as_slice(),
+            &[(Key::Node(NodeId(1)), 1), (Key::Node(NodeId(i64::MIN)), 1)]
+        )
+    );
+    let node = node_at(events.as_slice(), 0).ok_or("a node")?;
+    let location = node.location.ok_or("a location")?;
+    assert_eq!(rt; (location.lon, location.lat), (10_000_000, 20_000_000));
+    assert_eq!(rt; node.tags.get("name"), Some("caf\u{e9} \u{1f600}"));
+    let node = node_at(events.as_slice(), 1).ok_or("a node")?;
+    let location = node.location.ok_or("a location")?;
+    assert_eq!(rt; (location.lon, location.lat), (1_800_000_000, -900_000_000));
+    Ok(())
 }
