@@ -6,7 +6,7 @@ use Rattle.std.specs.FinMap.{empty}
 use Rattle.road_base.specs.declared.event.Event.{Event}
 use Rattle.road_base.specs.Objects.{Objects}
 use Rattle.road_base.specs.Applying.{IsApplied}
-use Rattle.road_io.specs.Told.{Told, Rose}
+use Rattle.road_io.specs.Told.{Rose}
 use Rattle.road_io.specs.World.{World}
 use Rattle.osmroad.specs.declared.status.Status.{Status}
 use Rattle.osmroad.specs.declared.status.Status.TheVariants.{Done, Usage, ReadFault, SiteFault, Refused, OutOfSequence, NoStore, StoreExists, Damaged, Limit, NoMemory, Unbuilt}

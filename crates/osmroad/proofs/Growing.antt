@@ -1,5 +1,5 @@
 -- An input that passes a limit passes it however it goes on.
-use Rattle.std.proofs.Common.{◌≡◌, ◌<◌, ◌≤◌, ◌+◌, ◌^◌, ◌++◌, ℕ, List, length, slice_index, inl, inr, sym, ◌∙◌, arith, length-append}
+use Rattle.std.proofs.Common.{◌++◌, ℕ, List, inl, inr, sym, ◌∙◌, arith, length-append}
 use Rattle.std.proofs.lemmas.List.{get_or_append_left}
 use Rattle.osmroad.specs.Limits.{PassesLimit, HasLongLine}
 

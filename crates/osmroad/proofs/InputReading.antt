@@ -1,11 +1,11 @@
 -- What is known of an input when it ends, and why it isn't read on.
-use Rattle.std.proofs.Common.{◌≡◌, ◌≤◌, ◌++◌, ℕ, List, [], Option, None, Some, inl, inr, refl, sym, ap, ◌∙◌, arith}
+use Rattle.std.proofs.Common.{◌≡◌, ◌++◌, ℕ, List, [], Option, None, Some, inl, inr, sym, ap, ◌∙◌, arith}
 use Rattle.std.specs.Prelude.{IfOk, IfErr}
 use Rattle.std.specs.declared.result.Result.{Result}
 use Rattle.std.specs.declared.result.Result.TheVariants.{Ok, Err}
 use Rattle.std.proofs.lemmas.List.{append-nil}
 use Rattle.road_base.specs.declared.event.Event.{Event}
-use Rattle.road_io.specs.Told.{Told, Rose}
+use Rattle.road_io.specs.Told.{Told}
 use Rattle.opl_lexer.specs.declared.mode.Mode.{Mode}
 use Rattle.opl_lexer.specs.Reading.{ReadAll}
 use Rattle.osmroad.specs.declared.limits.Measure.{Measure}

@@ -1,9 +1,9 @@
 -- How long the last line is, and no other line too long.
-use Rattle.std.specs.Prelude.{◌≡◌, ◌≢◌, ◌⊎◌, ◌+◌, ◌-◌, ◌≤◌, ◌<◌, ◌^◌, ◌++◌, [], ℕ, List, length, slice_index}
+use Rattle.std.specs.Prelude.{◌≡◌, ◌≢◌, ◌+◌, ◌-◌, ◌≤◌, ◌<◌, ◌^◌, ◌++◌, ℕ, List, length, slice_index}
 use Rattle.std.proofs.Common.{arith, refl, inl, inr, sym, ◌∙◌, ap, length-append}
 use Rattle.std.proofs.lemmas.Bool.{cases_lt}
 use Rattle.std.proofs.lemmas.List.{get_or_append_left, get_or-append_right}
-use Rattle.osmroad.specs.Limits.{IsLongFrom, HasLongLine, EndsLine}
+use Rattle.osmroad.specs.Limits.{HasLongLine, EndsLine}
 
 left : (bs ps : List ℕ) (j : ℕ) → j < length bs → slice_index (bs ++ ps) j ≡ slice_index bs j
 left bs ps j inside = get_or_append_left bs ps 0 j inside

@@ -22,10 +22,9 @@ use Rattle.road_base.specs.declared.event.Event.{Event}
 use Rattle.road_base.specs.Kinds.{has_kind}
 use Rattle.road_base.specs.Objects.{Objects, key_cmp, node_of, way_of, relation_of}
 use Rattle.road_base.specs.Tags.{TagList}
-use Rattle.road_model.specs.Orders.{rises, way_cmp}
+use Rattle.road_model.specs.Orders.{way_cmp}
 use Rattle.object_store.specs.Listed.{pair_of, IsInOrder}
 use Rattle.osmroad.specs.declared.street.Street.{Street}
-use Rattle.osmroad.specs.PlainRules.{is_plain_road}
 use Rattle.osmroad.specs.PlainGraph.{LiesAt}
 use Rattle.osmroad.specs.PlainMap.{IsPlainWay, IsBuilt}
 use Rattle.osmroad.specs.Town.{TownMap, node_cmp, PlacesAscend, StreetsAscend}

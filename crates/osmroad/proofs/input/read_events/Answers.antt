@@ -1,6 +1,5 @@
-use Rattle.std.proofs.Common.{◌≡◌, ◌<◌, ◌≤◌, ◌++◌, length, take, List, [], ℕ, arith, sym, subst, refl}
+use Rattle.std.proofs.Common.{◌≡◌, ◌<◌, ◌++◌, length, take, [], arith, refl}
 use Rattle.std.proofs.lemmas.Grind.{common_steps}
-use Rattle.osmroad.specs.Input.{Took}
 use Rattle.osmroad.proofs.SourceReading.{took_nothing, took_more, took_still, took_all, rose_since}
 use Rattle.osmroad.proofs.InputReading.{within, whole_events, whole_refusal, stopped, ok_maps, err_maps}
 use Rattle.osmroad.proofs.input.read_events.Goals as goal

@@ -1,4 +1,4 @@
-use Rattle.std.proofs.Common.{IsTrue, sym, subst}
+use Rattle.std.proofs.Common.{sym, subst}
 use Rattle.std.specs.FinMap.{empty}
 use Rattle.road_base.specs.Objects.{Objects}
 use Rattle.road_base.specs.Applying.{IsApplied}

@@ -1,4 +1,4 @@
-use Rattle.std.proofs.Common.{◌≤◌, ◌↔◌, Bool, true, false, IsTrue, IsFalse, List, length, All, Option, IfNone, IfSome, refl, sym, subst, ◌∙◌}
+use Rattle.std.proofs.Common.{◌≤◌, ◌↔◌, Bool, true, false, IsTrue, IsFalse, length, All, Option, IfNone, IfSome, refl, sym, subst}
 use Rattle.std.specs.Bool.{then_some}
 use Rattle.std.specs.List.{list_all}
 use Rattle.road_base.specs.Objects.{Objects}

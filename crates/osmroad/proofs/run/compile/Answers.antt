@@ -1,10 +1,9 @@
-use Rattle.std.proofs.Common.{◌≡◌, ◌++◌, [], List, ℕ, refl, sym, ◌∙◌, subst, arith, inl, inr}
-use Rattle.std.proofs.lemmas.List.{append-nil}
+use Rattle.std.proofs.Common.{◌++◌, List, ℕ, refl, sym, subst}
 use Rattle.opl_objects.specs.StreamLines.{place_of}
 use Rattle.osmroad.specs.declared.status.Status.TheVariants.{Done, Limit, Unbuilt}
 use Rattle.osmroad.specs.PlainCompiled.{IsGraphOf}
 use Rattle.osmroad.specs.Texts.{refused_line}
-use Rattle.osmroad.specs.Run.{IsCompiled, OfTooMuch, OfFault, OfUnbuilt, OfExtract, limit_line, unbuilt_line}
+use Rattle.osmroad.specs.Run.{OfTooMuch, OfFault, OfUnbuilt, OfExtract, limit_line, unbuilt_line}
 use Rattle.osmroad.proofs.Ending.{behind_of, held_part, left_behind, all_read, grows_nothing, ends_put, ends_refusal, refusal_fault, refusal_no_read_fault}
 use Rattle.osmroad.proofs.Growing.{still_passes}
 use Rattle.osmroad.proofs.run.compile.Goals as goal

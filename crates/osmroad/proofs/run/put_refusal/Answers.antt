@@ -1,4 +1,4 @@
-use Rattle.std.proofs.Common.{◌≡◌, ℕ, List, ap, sym, ◌∙◌, subst, inl, inr, refl}
+use Rattle.std.proofs.Common.{ℕ, List, ◌∙◌, subst, inl, inr, refl}
 use Rattle.osmroad.specs.declared.status.Status.TheVariants.{Refused}
 use Rattle.osmroad.specs.Run.{EndsPut}
 use Rattle.osmroad.proofs.Ending.{grows_nothing}

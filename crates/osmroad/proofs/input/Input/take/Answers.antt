@@ -1,4 +1,3 @@
-use Rattle.std.proofs.Common.{◌≡◌, ℕ, List}
 use Rattle.osmroad.proofs.input.Input.take.Goals as goal
 
 pub returns-in_default-feed-clause-ok : goal.returns-in_default-feed-clause-ok

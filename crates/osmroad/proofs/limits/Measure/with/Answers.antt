@@ -1,6 +1,6 @@
-use Rattle.std.proofs.Common.{arith, ◌≡◌, ◌≢◌, ◌<◌, ℕ, List, inl, inr, sym, ◌∙◌, ap, length, length-append, slice_index}
+use Rattle.std.proofs.Common.{arith, ◌≡◌, ℕ, List, inr, length, length-append, slice_index}
 use Rattle.std.proofs.lemmas.Bool.Decides.{Decides-eqb}
-use Rattle.memchr.specs.Find.{Nowhere, Passes, is_byte, IsFirstByte, NoneBefore}
+use Rattle.memchr.specs.Find.{Nowhere, Passes, is_byte}
 use Rattle.osmroad.specs.Limits.{EndsLine}
 use Rattle.osmroad.proofs.Measuring.{IsPlainTo, long, grown, grown_short, begun, begun_short}
 use Rattle.osmroad.proofs.limits.Measure.with.Goals as goal
