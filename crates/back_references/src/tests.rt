@@ -42,22 +42,26 @@ fn way(alloc: Global, id: i64, key: &str, refs: &[NodeId]) -> Result<Event, NoMe
     })
 }
 
+fn member(alloc: Global, item: Key) -> Member {
+    let role = Text::from_string(String::new(alloc));
+    Member { item, role }
+}
+
+fn members(alloc: Global) -> Result<Members, NoMemory> {
+    let list = vec![in alloc;
+        member(alloc, Key::Way(WayId(10))),
+        member(alloc, Key::Node(NodeId(2))),
+        member(alloc, Key::Way(WayId(99))),
+        member(alloc, Key::Relation(RelationId(30))),
+        member(alloc, Key::Node(NodeId(2))),
+    ]?;
+    Ok(Members::from_list(list))
+}
+
 fn relation(alloc: Global, id: i64, value: &str) -> Result<Event, NoMemory> {
-    let items = [
-        Key::Way(WayId(10)),
-        Key::Node(NodeId(2)),
-        Key::Way(WayId(99)),
-        Key::Relation(RelationId(30)),
-        Key::Node(NodeId(2)),
-    ];
-    let mut list = Vec::with_capacity(alloc, items.len())?;
-    for item in items {
-        let role = Text::from_string(String::new(alloc));
-        list.push(Member { item, role })?;
-    }
     let relation = Relation {
         tags: tag(alloc, "type", value)?,
-        members: Members::from_list(list),
+        members: members(alloc)?,
     };
     Ok(Event {
         key: Key::Relation(RelationId(id)),
@@ -66,18 +70,28 @@ fn relation(alloc: Global, id: i64, value: &str) -> Result<Event, NoMemory> {
     })
 }
 
+fn add(list: &mut Vec<Event>, event: Result<Event, NoMemory>) -> Result<(), NoMemory> {
+    list.push(event?)?;
+    Ok(())
+}
+
 /// Way 10 over the nodes 1, 2 and 1, way 11 that is no highway, way 12 to a node that isn't there, restriction 30, and
 /// a relation of another kind.
 fn town(alloc: Global) -> Result<Vec<Event>, NoMemory> {
-    let list = vec![in alloc;
-        relation(alloc, 31, "multipolygon")?,
-        relation(alloc, 30, "restriction")?,
-        way(alloc, 12, "highway", &[NodeId(2), NodeId(9)])?,
-        way(alloc, 11, "waterway", &[NodeId(2)])?,
-        way(alloc, 10, "highway", &[NodeId(1), NodeId(2), NodeId(1)])?,
-        node(alloc, 2),
-        node(alloc, 1),
-    ]?;
+    let mut list = Vec::new(alloc);
+    add(&mut list, relation(alloc, 31, "multipolygon"))?;
+    add(&mut list, relation(alloc, 30, "restriction"))?;
+    add(
+        &mut list,
+        way(alloc, 12, "highway", &[NodeId(2), NodeId(9)]),
+    )?;
+    add(&mut list, way(alloc, 11, "waterway", &[NodeId(2)]))?;
+    add(
+        &mut list,
+        way(alloc, 10, "highway", &[NodeId(1), NodeId(2), NodeId(1)]),
+    )?;
+    add(&mut list, Ok(node(alloc, 2)))?;
+    add(&mut list, Ok(node(alloc, 1)))?;
     Ok(list)
 }
 
@@ -100,22 +114,47 @@ fn applied_alone(world: &mut Indexed, event: Event) -> Result<Option<usize>, NoM
     Ok(Some(keys.items().len()))
 }
 
+/// Whether these ways refer to the nodes, each node beside its ways.
+fn refer(world: &Indexed, cases: &[(NodeId, &[WayId])]) -> bool {
+    cases
+        .iter()
+        .all(|(node, ways)| world.ways_at(*node) == *ways)
+}
+
+/// Whether restriction 30 alone names the node and the ways.
+fn rules(world: &Indexed, node: NodeId, ways: &[WayId]) -> bool {
+    let wanted = [RelationId(30)];
+    world.rules_at(node) == wanted.as_slice()
+        && ways
+            .iter()
+            .all(|way| world.rules_of_way(*way) == wanted.as_slice())
+}
+
 #[test]
 fn links_are_listed(rt: HostRuntime) -> Result<(), Fail> {
-    let alloc = rt.alloc();
-    let mut world = Indexed::of(alloc, town(alloc)?)?;
-    assert_eq!(rt; world.ways_at(NodeId(1)), [WayId(10)].as_slice());
-    assert_eq!(rt; world.ways_at(NodeId(2)), [WayId(10), WayId(12)].as_slice());
-    assert_eq!(rt; world.ways_at(NodeId(9)), [WayId(12)].as_slice());
-    assert_eq!(rt; world.rules_at(NodeId(2)), [RelationId(30)].as_slice());
-    assert_eq!(rt; world.rules_of_way(WayId(99)), [RelationId(30)].as_slice());
-    assert!(rt; world.node(NodeId(2)).is_some() && world.node(NodeId(9)).is_none());
-    assert!(rt; world.way(WayId(11)).is_some() && world.relation(RelationId(31)).is_some());
+    let world = Indexed::of(rt.alloc(), town(rt.alloc())?)?;
+    let cases: [(NodeId, &[WayId]); 3] = [
+        (NodeId(1), &[WayId(10)]),
+        (NodeId(2), &[WayId(10), WayId(12)]),
+        (NodeId(9), &[WayId(12)]),
+    ];
+    assert!(rt; refer(&world, &cases));
+    assert!(rt; rules(&world, NodeId(2), &[WayId(10), WayId(99)]));
+    assert!(rt; world.node(NodeId(2)).is_some());
+    assert!(rt; world.node(NodeId(9)).is_none());
+    assert!(rt; world.way(WayId(11)).is_some());
+    assert!(rt; world.relation(RelationId(31)).is_some());
+    Ok(())
+}
 
+#[test]
+fn links_of_a_deleted_way_go(rt: HostRuntime) -> Result<(), Fail> {
+    let mut world = Indexed::of(rt.alloc(), town(rt.alloc())?)?;
     assert_eq!(rt; applied_alone(&mut world, deletion())?, Some(1));
-    assert!(rt; world.way(WayId(10)).is_none() && world.ways_at(NodeId(1)).is_empty());
-    assert_eq!(rt; world.ways_at(NodeId(2)), [WayId(12)].as_slice());
-    assert_eq!(rt; world.rules_of_way(WayId(10)), [RelationId(30)].as_slice());
+    assert!(rt; world.way(WayId(10)).is_none());
+    let cases: [(NodeId, &[WayId]); 2] = [(NodeId(1), &[]), (NodeId(2), &[WayId(12)])];
+    assert!(rt; refer(&world, &cases));
+    assert!(rt; rules(&world, NodeId(2), &[WayId(10)]));
     assert_eq!(rt; world.events()?.len(), world.objects().items().len());
     Ok(())
 }
