@@ -1,5 +1,5 @@
 #!/usr/bin/env bash
-# Measures `osmroad - compile` on towns in plain form, each with twice as many nodes as the one before: the best of three
+# Measures `osmroad - compile` on towns of plain streets, each with twice as many nodes as the one before: the best of three
 # runs on one core, in seconds, its peak memory in kilobytes, and how many times as long it took as the one before.
 # Wants python3 and GNU time, and the program as `rt run` builds it.
 set -eu

@@ -1,5 +1,5 @@
 #!/usr/bin/env python3
-"""Writes a town in plain form as OPL: G x G junctions, K nodes inside each street, each way over two streets.
+"""Writes a town of plain streets as OPL: G x G junctions, K nodes inside each street, each way over two streets.
 
 Use: plain_town.py G K > TOWN.opl      (about G * G * (1 + 2 * K) nodes)
 """
