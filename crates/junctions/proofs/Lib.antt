@@ -1,0 +1,4 @@
+pub mod Counting
+pub mod Referring
+pub mod Positions
+pub mod Appending

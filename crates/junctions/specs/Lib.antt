@@ -1,0 +1,3 @@
+pub mod Junctions
+pub mod Passing
+pub mod Repeats

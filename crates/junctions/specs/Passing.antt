@@ -1,0 +1,30 @@
+-- What makes a position of a line plain, but for what the line does elsewhere.
+use Rattle.std.specs.Prelude.{◌≡◌, ◌≢◌, ℕ, ◌+◌, ◌-◌, ◌<◌, List, Some, slice_get, IsTrue, IsFalse}
+use Rattle.road_base.specs.declared.ids.NodeId.{NodeId}
+use Rattle.road_base.specs.declared.ids.WayId.{WayId}
+use Rattle.road_base.specs.Objects.{Objects}
+use Rattle.road_model.specs.Rules.{Rules}
+use Rattle.road_model.specs.Lines.{node_at}
+use Rattle.road_model.specs.Driving.{is_road, located, shut, turning_place}
+use Rattle.junctions.specs.declared.plain.Neighbours.{Neighbours}
+
+-- the position lies inside the line, and these are the nodes before it, there and behind it
+pub record AreNeighbours (line : List NodeId) (i : ℕ) (n : Neighbours) : Type 0 where
+  pub inside : 0 < i
+  pub before : slice_get line (i - 1) ≡ Some n.before
+  pub here : slice_get line i ≡ Some n.here
+  pub behind : slice_get line (i + 1) ≡ Some n.behind
+
+-- no road but the way passes the node
+abbrev pub IsOnNoOther : Objects → Rules → WayId → NodeId → Type 0
+IsOnNoOther M P w n = (v : WayId) (j : ℕ) → IsTrue (is_road M P v) → node_at M v j ≡ Some n → v ≡ w
+
+-- one drives on at the node here, from the node before to the one behind
+pub record IsPassed (M : Objects) (P : Rules) (w : WayId) (n : Neighbours) : Type 0 where
+  pub before : IsTrue (located M (Some n.before))
+  pub here : IsTrue (located M (Some n.here))
+  pub behind : IsTrue (located M (Some n.behind))
+  pub apart : n.before ≢ n.behind
+  pub not_shut : IsFalse (shut M P n.here)
+  pub no_turning : IsFalse (turning_place M P n.here)
+  pub no_other : IsOnNoOther M P w n.here

@@ -1,0 +1,25 @@
+-- How often a node stands in a list, and how it is remembered.
+use Rattle.std.specs.Prelude.{◌≡◌, ℕ, zero, suc, ◌+◌, nat_lt, List, [], ◌∷◌, Bool, true, false, cond, Option, Some, None}
+use Rattle.std.specs.BTreeMap.{BTreeMap, get}
+use Rattle.road_base.specs.declared.ids.NodeId.{NodeId}
+use Rattle.road_model.specs.Lines.{same_node}
+use Rattle.road_model.specs.Orders.{node_cmp}
+
+-- how often the node stands in the list
+abbrev pub times : NodeId → List NodeId → ℕ
+times n [] = 0
+times n (m ∷ ms) = cond (same_node n m) 1 0 + times n ms
+
+-- the node stands in the list more than once
+abbrev pub is_repeated : List NodeId → NodeId → Bool
+is_repeated ms n = nat_lt 1 (times n ms)
+
+-- of a node that stands somewhere so often: nothing, or whether that is more than once
+abbrev pub mark : ℕ → Option Bool
+mark zero = None
+mark (suc zero) = Some false
+mark (suc (suc n)) = Some true
+
+-- each node is marked by how often it stands in the list
+abbrev pub AreMarks : List NodeId → BTreeMap NodeId Bool → Type 0
+AreMarks ms marks = (n : NodeId) → get node_cmp marks n ≡ mark (times n ms)

@@ -1,0 +1,13 @@
+//! Junctions: the positions of a road's line at which something may branch off, begin or end. All others are plain.
+//!
+//! `is_plain` takes the time of the way's references and of the ways at the node, and no memory. `junctions_of` goes
+//! along the line once, and for each node through the ways there until one is another road: with n references and w
+//! ways at their nodes that takes time of the order of n log n + w, and memory of the order of n.
+#![tactic(auto)]
+
+mod junction_list;
+mod plain;
+mod repeats;
+
+pub use junction_list::junctions_of;
+pub use plain::is_plain;
