@@ -1,11 +1,9 @@
 //! The junction positions of a road.
 ghost use Rattle.std.specs.Prelude.{◌≡◌, ◌≤◌, ◌<◌, ◌↔◌, IsTrue, IfOk, length};
-ghost use Rattle.std.specs.Ordering.{nat_cmp};
 ghost use Rattle.road_model.specs.Lines.{changes, line_of};
 ghost use Rattle.road_model.specs.Driving.{is_road};
 ghost use Rattle.road_model.specs.Pieces.{IsPlain};
-ghost use Rattle.road_model.specs.Orders.{Lists};
-ghost use Rattle.junctions.specs.Junctions.{IsJunction};
+ghost use Rattle.junctions.specs.Junctions.{AreJunctions};
 
 use crate::plain::{Neighbours, is_passed};
 use crate::repeats::Repeats;
@@ -21,7 +19,7 @@ pub fn junctions_of<M: World, P: Profile>(
     profile: &P,
     way: WayId,
 ) -> Result<Vec<u32>, NoMemory>
-    ensures { IfOk result (λ v. Lists (λ i. i) nat_cmp (IsJunction (M.objects world.now) (P.rules profile.now) way) v.items) }
+    ensures { IfOk result (λ v. AreJunctions (M.objects world.now) (P.rules profile.now) way v.items) }
 {
     if !is_road(world, profile, way) {
         return Ok(Vec::new(alloc));
@@ -52,7 +50,7 @@ fn junctions_along<M: World, P: Profile>(
     requires road { IsTrue (is_road (M.objects world.now) (P.rules profile.now) way) }
     requires line { nodes.now ≡ line_of (M.objects world.now) way }
     requires short { length nodes.now ≤ 65535 }
-    ensures { IfOk result (λ v. Lists (λ i. i) nat_cmp (IsJunction (M.objects world.now) (P.rules profile.now) way) v.items) }
+    ensures { IfOk result (λ v. AreJunctions (M.objects world.now) (P.rules profile.now) way v.items) }
 {
     let repeats = Repeats::of(alloc, nodes)?;
     let mut junctions = Vec::new(alloc);

@@ -1,18 +1,34 @@
 -- A road is visible, and what was collected is its line.
-use Rattle.std.proofs.Common.{ℕ, List, sym, subst, ◌∙◌}
+use Rattle.std.proofs.Common.{[], IsTrue, sym, subst, ◌∙◌}
 use Rattle.std.specs.Ordering.{nat_cmp}
-use Rattle.road_model.specs.Orders.{Lists}
-use Rattle.junctions.specs.Junctions.{IsJunction}
+use Rattle.std.proofs.lemmas.Bool.{false≢true}
+use Rattle.road_base.specs.declared.ids.WayId.{WayId}
+use Rattle.road_base.specs.Objects.{Objects}
+use Rattle.road_model.specs.Rules.{Rules}
+use Rattle.road_model.specs.Driving.{is_road}
+use Rattle.junctions.specs.Junctions.{IsJunction, AreJunctions}
 use Rattle.junctions.proofs.Appending.{lists_none}
 use Rattle.junctions.proofs.Referring.{no_road, visible_line}
 use Rattle.junctions.proofs.junction_list.junctions_of.Goals as goal
+
+-- a way that is no road has none
+no_junctions : (M : Objects) (P : Rules) (w : WayId) → (IsTrue (is_road M P w) → ⊥) → AreJunctions M P w []
+no_junctions M P w none = record {
+  listed = lists_none nat_cmp (IsJunction M P w) (λ i h. none h.road);
+  others = λ i road on. absurd (none road);
+}
+
+pub returns-then-not-is_road : goal.returns-then-not-is_road
+returns-then-not-is_road g c =
+    let M = g.M.World.objects c.args.world.now in
+    let P = g.P.Profile.rules c.args.profile.now in
+    subst (AreJunctions M P c.args.way) (sym c.new.ensures.items) (no_junctions M P c.args.way (λ road. absurd (false≢true (c.if-not-is_road.ensures ∙ road))))
 
 pub returns-in_default : goal.returns-in_default
 returns-in_default g c =
     let M = g.M.World.objects c.args.world.now in
     let P = g.P.Profile.rules c.args.profile.now in
-    subst (λ (l : List ℕ). Lists (λ i. i) nat_cmp (IsJunction M P c.args.way) l) (sym c.new-in_default.ensures.items)
-    (lists_none nat_cmp (IsJunction M P c.args.way) (λ i h. no_road M P c.args.way c.in_default.ensures h.road))
+    subst (AreJunctions M P c.args.way) (sym c.new-in_default.ensures.items) (no_junctions M P c.args.way (no_road M P c.args.way c.in_default.ensures))
 
 pub junctions_along-requires-clause-line : goal.junctions_along-requires-clause-line
 junctions_along-requires-clause-line g c =

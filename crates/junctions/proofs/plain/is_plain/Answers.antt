@@ -3,6 +3,7 @@ use Rattle.std.proofs.Common.{◌≡◌, ℕ, ◌+◌, ◌<◌, ◌≤◌, List,
 use Rattle.std.proofs.lemmas.Bool.{false≢true}
 use Rattle.road_base.specs.declared.ids.NodeId.{NodeId}
 use Rattle.road_model.specs.Lines.{changes, line_of}
+use Rattle.road_model.specs.Driving.{is_road}
 use Rattle.junctions.specs.Passing.{AreNeighbours}
 use Rattle.junctions.specs.Repeats.{is_repeated}
 use Rattle.junctions.proofs.Positions.{plain_from, passed, once}
@@ -41,10 +42,11 @@ pub returns : goal.returns
 returns g c =
     let M = g.M.World.objects c.args.world.now in
     let P = g.P.Profile.rules c.args.profile.now in
+    let road : is_road M P c.args.way ≡ true = sym c.if-not-is_road.ensures in
     let nodes = c.in-Some-nodes_about.nodes in
     let line : line_of M c.args.way ≡ changes (c.in-Some.body.now).refs = visible_line M c.args.way c.in-Some.body.now (sym c.in-Some.ensures) in
     let about = subst (λ (l : List NodeId). AreNeighbours l c.args.position nodes) (sym line) c.in-Some-nodes_about.ensures.some in
     let alone : false ≡ is_repeated (line_of M c.args.way) nodes.here = c.if-stands_again.ensures ∙ ap (λ (l : List NodeId). is_repeated l nodes.here) (sym line) in (
-      λ yes. (sym c.if-not-is_road.ensures, plain_from M P c.args.way c.args.position nodes about alone (c.is_passed.ensures.0 yes)),
+      λ yes. (road, plain_from M P c.args.way c.args.position nodes about alone (c.is_passed.ensures.0 yes)),
       λ is. c.is_passed.ensures.1 (passed M P c.args.way c.args.position nodes about is.1),
     )
