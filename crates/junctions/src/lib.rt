@@ -6,6 +6,7 @@
 #![tactic(auto)]
 
 mod junction_list;
+pub mod laws;
 mod plain;
 mod repeats;
 
