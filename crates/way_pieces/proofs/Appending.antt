@@ -1,0 +1,110 @@
+-- Lists of all that is asked for, one behind the other.
+use Rattle.std.proofs.Common.{◌≡◌, ℕ, zero, suc, ◌+◌, ◌<◌, Bool, true, false, cond, List, [], ◌∷◌, ◌++◌, length, map, take, get_or, ◌⊎◌, inl, inr, refl, sym, subst, arith, IsTrue, Contains, Ordering}
+use Rattle.std.specs.Ordering.{is_lt}
+use Rattle.std.proofs.lemmas.Bool.{and_parts, and_from, false≢true}
+use Rattle.std.proofs.lemmas.List.{take_more, get_or_default}
+use Rattle.road_model.specs.Orders.{rises, rises_from, Lists}
+
+module _ {A : Type 0} where
+  contains_later : (x y : A) (xs : List A) → Contains xs y → Contains (x ∷ xs) y
+  contains_later x y xs (k, within, is) = (suc k, omega arith, is)
+
+  contains_cases : (x y : A) (xs : List A) → Contains (x ∷ xs) y → (y ≡ x) ⊎ Contains xs y
+  contains_cases x y xs (zero, within, is) = inl (sym is)
+  contains_cases x y xs (suc k, within, is) = inr (k, omega arith, is)
+
+  contains_none : (y : A) → Contains [] y → ⊥
+  contains_none y (k, within, is) = omega arith
+
+  pub in_front : (xs ys : List A) (z : A) → Contains xs z → Contains (xs ++ ys) z
+  in_front [] ys z has = absurd (contains_none z has)
+  in_front (x ∷ xs) ys z has = elim (contains_cases x z xs has) [
+    | inl same ↦ (0, omega arith, sym same)
+    | inr rest ↦ contains_later x z (xs ++ ys) (in_front xs ys z rest)
+  ]
+
+  pub in_back : (xs ys : List A) (z : A) → Contains ys z → Contains (xs ++ ys) z
+  in_back [] ys z has = has
+  in_back (x ∷ xs) ys z has = contains_later x z (xs ++ ys) (in_back xs ys z has)
+
+  pub in_either : (xs ys : List A) (z : A) → Contains (xs ++ ys) z → Contains xs z ⊎ Contains ys z
+  in_either [] ys z has = inr has
+  in_either (x ∷ xs) ys z has = elim (contains_cases x z (xs ++ ys) has) [
+    | inl same ↦ inl (0, omega arith, sym same)
+    | inr rest ↦ elim (in_either xs ys z rest) [
+      | inl before ↦ inl (contains_later x z xs before)
+      | inr behind ↦ inr behind
+    ]
+  ]
+
+  module _ (R : A → A → Ordering) where
+    joined_on : (x : A) (xs ys : List A) → IsTrue (rises_from R x (map (λ a. a) xs)) → IsTrue (rises R (map (λ a. a) ys)) → ((a b : A) → Contains (x ∷ xs) a → Contains ys b → IsTrue (is_lt (R a b))) → IsTrue (rises_from R x (map (λ a. a) (xs ++ ys)))
+    joined_on x [] [] up next below = refl
+    joined_on x [] (y ∷ ys) up next below = and_from _ _ (below x y (0, omega arith, refl) (0, omega arith, refl)) next
+    joined_on x (z ∷ zs) ys up next below =
+        let parts = and_parts _ _ up in
+        and_from _ _ parts.0 (joined_on z zs ys parts.1 next (λ a b has of. below a b (contains_later x a (z ∷ zs) has) of))
+
+    joined_rise : (xs ys : List A) → IsTrue (rises R (map (λ a. a) xs)) → IsTrue (rises R (map (λ a. a) ys)) → ((a b : A) → Contains xs a → Contains ys b → IsTrue (is_lt (R a b))) → IsTrue (rises R (map (λ a. a) (xs ++ ys)))
+    joined_rise [] ys up next below = next
+    joined_rise (x ∷ xs) ys up next below = joined_on x xs ys up next below
+
+    -- two lists, of which the first stands below the second
+    lists_joined : (Is Next More : A → Type 0) (xs ys : List A) → Lists (λ a. a) R Is xs → Lists (λ a. a) R Next ys → ((a b : A) → Is a → Next b → IsTrue (is_lt (R a b))) → ((z : A) → Is z → More z) → ((z : A) → Next z → More z) → ((z : A) → More z → Is z ⊎ Next z) → Lists (λ a. a) R More (xs ++ ys)
+    lists_joined Is Next More xs ys these those below keeps adds from = record {
+      ascending = joined_rise xs ys these.ascending those.ascending (λ a b has of. below a b (these.sound a has) (those.sound b of));
+      sound = λ z has. elim (in_either xs ys z has) [ inl here ↦ keeps z (these.sound z here) | inr there ↦ adds z (those.sound z there) ];
+      complete = λ z is. elim (from z is) [ inl here ↦ in_front xs ys z (these.complete z here) | inr there ↦ in_back xs ys z (those.complete z there) ];
+    }
+
+    pub lists_extended : (Is Next More : A → Type 0) (xs ys zs : List A) → zs ≡ xs ++ ys → Lists (λ a. a) R Is xs → Lists (λ a. a) R Next ys → ((a b : A) → Is a → Next b → IsTrue (is_lt (R a b))) → ((z : A) → Is z → More z) → ((z : A) → Next z → More z) → ((z : A) → More z → Is z ⊎ Next z) → Lists (λ a. a) R More zs
+    lists_extended Is Next More xs ys zs is these those below keeps adds from = subst (Lists (λ a. a) R More) (sym is) (lists_joined Is Next More xs ys these those below keeps adds from)
+
+    lists_one : (y : A) → Lists (λ a. a) R (λ z. z ≡ y) (y ∷ [])
+    lists_one y = record {
+      ascending = refl;
+      sound = λ z has. elim (contains_cases y z [] has) [ inl same ↦ same | inr none ↦ absurd (contains_none z none) ];
+      complete = λ z same. (0, omega arith, sym same);
+    }
+
+    -- the same list, of the same things
+    pub lists_same : (Is Other : A → Type 0) (xs : List A) → Lists (λ a. a) R Is xs → ((z : A) → Is z → Other z) → ((z : A) → Other z → Is z) → Lists (λ a. a) R Other xs
+    lists_same Is Other xs lists to from = record {
+      ascending = lists.ascending;
+      sound = λ z has. to z (lists.sound z has);
+      complete = λ z is. lists.complete z (from z is);
+    }
+
+    -- one more, where it is wanted
+    pub lists_added : (Is More : A → Type 0) (xs : List A) (wanted : Bool) (y : A) → Lists (λ a. a) R Is xs → ((z : A) → Is z → IsTrue (is_lt (R z y))) → ((z : A) → Is z → More z) → (IsTrue wanted → More y) → ((z : A) → More z → ((z ≡ y) × IsTrue wanted) ⊎ Is z) → Lists (λ a. a) R More (cond wanted (xs ++ y ∷ []) xs)
+    lists_added Is More xs true y lists above keeps new from =
+        lists_joined Is (λ z. z ≡ y) More xs (y ∷ []) lists (lists_one y) (λ a b is same. subst (λ c. IsTrue (is_lt (R a c))) (sym same) (above a is)) keeps (λ z same. subst More (sym same) (new refl))
+        (λ z is. elim (from z is) [ inl here ↦ inr here.0 | inr there ↦ inl there ])
+    lists_added Is More xs false y lists above keeps new from = lists_same Is More xs lists keeps (λ z is. elim (from z is) [ inl here ↦ absurd (false≢true here.1) | inr there ↦ there ])
+
+    pub lists_none : (Is : A → Type 0) → ((z : A) → Is z → ⊥) → Lists (λ a. a) R Is []
+    lists_none Is none = record {
+      ascending = refl;
+      sound = λ z has. absurd (contains_none z has);
+      complete = λ z is. absurd (none z is);
+    }
+
+  -- what stands at an index is contained
+  pub at_index : (xs : List A) (i : ℕ) (d : A) → i < length xs → Contains xs (get_or xs i d)
+  at_index xs i d within = (i, within, get_or_default xs i (get_or xs i d) d within)
+
+  one_cases : (x y : A) → Contains (x ∷ []) y → y ≡ x
+  one_cases x y has = elim (contains_cases x y [] has) [ inl same ↦ same | inr none ↦ absurd (contains_none y none) ]
+
+  -- one more was looked at
+  pub one_more : (xs : List A) (i : ℕ) (d y : A) → i < length xs → Contains (take (i + 1) xs) y → (y ≡ get_or xs i d) ⊎ Contains (take i xs) y
+  one_more xs i d y within has = elim (in_either (take i xs) (get_or xs i d ∷ []) y (subst (λ (l : List A). Contains l y) (take_more xs i d within) has)) [
+    | inl before ↦ inr before
+    | inr last ↦ inl (one_cases (get_or xs i d) y last)
+  ]
+
+  pub has_last : (xs : List A) (i : ℕ) (d y : A) → i < length xs → y ≡ get_or xs i d → Contains (take (i + 1) xs) y
+  has_last xs i d y within same = subst (λ (l : List A). Contains l y) (sym (take_more xs i d within)) (in_back (take i xs) (get_or xs i d ∷ []) y (0, omega arith, sym same))
+
+  pub has_before : (xs : List A) (i : ℕ) (d y : A) → i < length xs → Contains (take i xs) y → Contains (take (i + 1) xs) y
+  has_before xs i d y within has = subst (λ (l : List A). Contains l y) (sym (take_more xs i d within)) (in_front (take i xs) (get_or xs i d ∷ []) y has)

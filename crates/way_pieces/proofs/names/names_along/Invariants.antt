@@ -1,0 +1,12 @@
+use Rattle.std.proofs.Common.{◌≤◌, ◌-◌, length, get_or}
+use Rattle.road_model.specs.Orders.{Lists, name_cmp}
+use Rattle.way_pieces.specs.Spans.{IsWantedBelow}
+use Rattle.way_pieces.proofs.names.names_along.Given as goal
+
+-- the pieces below the junction that was last looked at are named
+abbrev pub invariant-loop-at : goal.invariant-loop-at
+invariant-loop-at g l = record {
+  low : 1 ≤ l.at;
+  high : l.at - 1 ≤ length l.junctions - 1;
+  listed : Lists (λ n. n) name_cmp (IsWantedBelow (g.M.World.objects l.world) (g.P.Profile.rules l.profile) l.from l.way (get_or l.junctions (l.at - 1) 0)) l.names.items;
+}
