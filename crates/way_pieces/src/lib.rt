@@ -10,3 +10,6 @@ mod spelling;
 
 pub use names::{pieces_from, pieces_of};
 pub use spelling::spell;
+
+#[cfg(test)]
+mod tests;
