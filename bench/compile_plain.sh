@@ -3,11 +3,7 @@
 # runs on one core, in seconds, its peak memory in kilobytes, and how many times as long it took as the one before.
 # Wants python3 and GNU time, and the program as `rt run` builds it.
 set -eu
-here=$(cd "$(dirname "$0")" && pwd)
-program="$here/../crates/osmroad/out/osmroad"
-[ -x "$program" ] || { echo "build the program first: (cd crates/osmroad && rt run)"; exit 1; }
-room=$(mktemp -d)
-trap 'rm -rf "$room"' EXIT
+. "$(dirname "$0")/program.sh"
 
 before=
 for size in 100 141 200 283; do

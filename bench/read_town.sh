@@ -5,11 +5,7 @@
 # processor time, with the peak memory in kilobytes. Wants python3, GNU time, osmium-tool, and the program as `rt run`
 # builds it. Its arguments are the first two of gen_town.py.
 set -eu
-here=$(cd "$(dirname "$0")" && pwd)
-program="$here/../crates/osmroad/out/osmroad"
-[ -x "$program" ] || { echo "build the program first: (cd crates/osmroad && rt run)"; exit 1; }
-room=$(mktemp -d)
-trap 'rm -rf "$room"' EXIT
+. "$(dirname "$0")/program.sh"
 
 best() {
     local name=$1
@@ -23,14 +19,12 @@ best() {
         END { printf "%-28s %6.2f s %8d KB", name, best, memory; if (cat > 0) printf "  %.2f times osmium cat", best / cat; printf "\n" }' "$room/times"
 }
 
-for size in "${1:-400}"; do
-    python3 "$here/gen_town.py" "$size" "${2:-4}" "$room/town.opl" "$room/change.opl"
-    { cat "$room/town.opl"; echo z; } >"$room/faulty.opl"
-    ls -l "$room/town.opl" | awk '{ print $5, "bytes" }'
-    cat=
-    line=$(best "osmium cat" osmium cat -O -f opl -o /dev/null "$room/town.opl")
-    echo "$line"
-    cat=$(echo "$line" | awk '{ print $3 }')
-    best "read" bash -c "exec '$program' - compile <'$room/faulty.opl'"
-    best "read and apply" bash -c "exec '$program' - compile <'$room/town.opl'"
-done
+python3 "$here/gen_town.py" "${1:-400}" "${2:-4}" "$room/town.opl" "$room/change.opl"
+{ cat "$room/town.opl"; echo z; } >"$room/faulty.opl"
+ls -l "$room/town.opl" | awk '{ print $5, "bytes" }'
+cat=
+line=$(best "osmium cat" osmium cat -O -f opl -o /dev/null "$room/town.opl")
+echo "$line"
+cat=$(echo "$line" | awk '{ print $3 }')
+best "read" bash -c "exec '$program' - compile <'$room/faulty.opl'"
+best "read and apply" bash -c "exec '$program' - compile <'$room/town.opl'"
