@@ -9,7 +9,7 @@ use Rattle.std.specs.List.Sorted.{IsStrictlySortedBy}
 use Rattle.std.proofs.lemmas.List.Sorted.{IsPermutation-map, IsPermutation-sym}
 use Rattle.std.proofs.lemmas.Map.Keys.{IsDistinct-IsPermutation}
 use Rattle.road_model.specs.Orders.{rises, rises_from}
-use Rattle.road_base.specs.Distinct.{AreDistinct}
+use Rattle.osmroad.specs.Distinct.{AreDistinct}
 use Rattle.osmroad.proofs.SortedSearch.{recursion_weaker, sorted_from_rises}
 
 and_false : (a b : Bool) → b ≡ false → (a && b) ≡ false

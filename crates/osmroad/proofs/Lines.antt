@@ -4,7 +4,7 @@ use Rattle.std.specs.List.{AllByRecursion}
 use Rattle.std.proofs.lemmas.Bool.Decides.{Decides-int_eq}
 use Rattle.road_base.specs.declared.ids.NodeId.{NodeId}
 use Rattle.road_model.specs.Lines.{same_node, changes, changes_from}
-use Rattle.road_base.specs.Distinct.{AreDistinct}
+use Rattle.osmroad.specs.Distinct.{AreDistinct}
 
 pub same_node_is : (a b : NodeId) → same_node a b ≡ true → a ≡ b
 same_node_is a b e = ap (λ (n : ℤ). record { 0 = n }) ((Decides-int_eq a.0 b.0).0 e)

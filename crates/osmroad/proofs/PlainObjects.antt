@@ -16,7 +16,7 @@ use Rattle.road_base.specs.declared.objects.Body.TheVariants.{Node as NodeBody, 
 use Rattle.road_base.specs.declared.event.Event.{Event}
 use Rattle.road_base.specs.Objects.{Objects, Entry, key_cmp, body_in, node_in, way_in, relation_in, visible, node_of, way_of, relation_of}
 use Rattle.road_base.specs.Applying.{entry_of}
-use Rattle.road_base.specs.Distinct.{AreDistinct}
+use Rattle.osmroad.specs.Distinct.{AreDistinct}
 use Rattle.object_store.specs.Listed.{pair_of, key_of, IsInOrder}
 use Rattle.osmroad.proofs.KeyOrder.{key_cmp_total, key_cmp-IsAntisymmetric}
 use Rattle.osmroad.proofs.SortedSearch.{sorted_from_rises}

@@ -16,7 +16,7 @@ use Rattle.road_model.specs.Pieces.{IsPlain}
 use Rattle.road_model.specs.Orders.{way_cmp}
 use Rattle.osmroad.specs.declared.street.Street.{Street}
 use Rattle.osmroad.specs.Streets.{is_shared, stands}
-use Rattle.road_base.specs.Distinct.{AreDistinct}
+use Rattle.osmroad.specs.Distinct.{AreDistinct}
 use Rattle.osmroad.specs.PlainGraph.{AreRoads}
 use Rattle.osmroad.proofs.KeyOrder.{way_cmp_total}
 use Rattle.osmroad.proofs.PlainMembers.{In, in_at, at_in, at_each, in_from_contains, contains_from_in}

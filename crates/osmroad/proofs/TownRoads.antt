@@ -9,7 +9,7 @@ use Rattle.road_base.specs.declared.location.Location.{Location}
 use Rattle.road_base.specs.declared.objects.Node.{Node}
 use Rattle.road_base.specs.declared.objects.Way.{Way}
 use Rattle.road_base.specs.Objects.{Objects, node_of, way_of}
-use Rattle.road_base.specs.Distinct.{AreDistinct}
+use Rattle.osmroad.specs.Distinct.{AreDistinct}
 use Rattle.road_model.specs.declared.answers.RuleKind.TheVariants.{Absent}
 use Rattle.road_model.specs.Lines.{line_of, changes, refs_of}
 use Rattle.road_model.specs.Driving.{open_way, is_open, node_shut, node_turns}

@@ -13,3 +13,4 @@ pub mod Texts
 pub mod Input
 pub mod Reading
 pub mod Run
+pub mod Distinct

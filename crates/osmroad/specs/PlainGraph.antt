@@ -15,7 +15,7 @@ use Rattle.road_model.specs.Driving.{is_open, shut, turning_place}
 use Rattle.road_model.specs.Words.{IsWord}
 use Rattle.road_model.specs.Orders.{rises, way_cmp}
 use Rattle.osmroad.specs.declared.street.Street.{Street}
-use Rattle.road_base.specs.Distinct.{AreDistinct}
+use Rattle.osmroad.specs.Distinct.{AreDistinct}
 
 -- the node is visible and lies there
 pub record LiesAt (M : Objects) (n : NodeId) (l : Location) : Type 0 where

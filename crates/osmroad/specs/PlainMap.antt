@@ -8,7 +8,7 @@ use Rattle.road_base.specs.declared.objects.Node.{Node}
 use Rattle.road_base.specs.declared.objects.Way.{Way}
 use Rattle.road_base.specs.declared.objects.Relation.{Relation}
 use Rattle.road_base.specs.Objects.{Objects, node_of, way_of, relation_of}
-use Rattle.road_base.specs.Distinct.{AreDistinct}
+use Rattle.osmroad.specs.Distinct.{AreDistinct}
 use Rattle.osmroad.specs.PlainRules.{is_plain_road}
 use Rattle.osmroad.specs.PlainGraph.{LiesAt}
 

@@ -11,7 +11,7 @@ use Rattle.road_base.specs.declared.objects.Body.TheVariants.{Node as NodeBody, 
 use Rattle.road_base.specs.declared.event.Event.{Event}
 use Rattle.osmroad.specs.declared.street.Street.{Street}
 use Rattle.osmroad.specs.PlainRules.{is_plain_road}
-use Rattle.road_base.specs.Distinct.{AreDistinct}
+use Rattle.osmroad.specs.Distinct.{AreDistinct}
 use Rattle.osmroad.specs.Town.{node_cmp}
 
 abbrev pub place_in : Body → Key → Option (NodeId × Location)

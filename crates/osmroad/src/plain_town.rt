@@ -3,7 +3,7 @@ ghost use Rattle.std.specs.Prelude.{◌≡◌, ◌≤◌, ◌++◌, ◌↔◌, l
 ghost use Rattle.std.specs.List.{list_all};
 ghost use Rattle.std.specs.FinMap.{get};
 ghost use Rattle.road_model.specs.Orders.{rises};
-ghost use Rattle.road_base.specs.Distinct.{AreDistinct};
+ghost use Rattle.osmroad.specs.Distinct.{AreDistinct};
 ghost use Rattle.osmroad.specs.PlainMap.{IsBuilt};
 ghost use Rattle.osmroad.specs.TownOf.{IsTownOf};
 ghost use Rattle.osmroad.specs.PlainParts.{place_of, street_of, fits, IsLine};

@@ -1,17 +1,14 @@
 -- What events leave of an object map: always one map, and the same whether they come at once or in turn.
-use Rattle.std.proofs.Common.{◌≡◌, ◌≢◌, ◌≤◌, ◌<◌, Bool, true, false, cond, nat_lt, List, [], ◌∷◌, ◌++◌, map, filter, Option, Some, None, refl, sym, ap, ◌∙◌, append_assoc, arith}
+use Rattle.std.proofs.Common.{◌≡◌, ◌≤◌, ◌<◌, Bool, true, false, cond, nat_lt, List, [], ◌∷◌, ◌++◌, map, filter, Option, Some, None, refl, sym, ap, ◌∙◌, append_assoc, arith}
 use Rattle.std.specs.Cmp.{Equal-is}
-use Rattle.std.specs.FinMap.{get, insert, empty, from_entries, find, get-empty, get-insert, get_tied, get-from_entries, same_map}
-use Rattle.std.specs.Ordering.{is_eq}
-use Rattle.std.specs.List.{AllByRecursion}
+use Rattle.std.specs.FinMap.{get, insert, get-insert, get_tied, same_map}
 use Rattle.std.specs.Option.{option_to_list}
 use Rattle.std.proofs.lemmas.Bool.Decides.{nat_tests}
 use Rattle.std.proofs.lemmas.List.{map-append}
 use Rattle.std.proofs.lemmas.List.Elements.{filter-append}
 use Rattle.road_base.specs.declared.ids.Key.{Key}
 use Rattle.road_base.specs.declared.event.Event.{Event}
-use Rattle.road_base.specs.Objects.{Objects, Entry, key_cmp}
-use Rattle.road_base.specs.Distinct.{AreDistinct}
+use Rattle.road_base.specs.Objects.{Objects, Entry}
 use Rattle.road_base.specs.Applying.{entry_of, is_of, entries_for, newer, first_greatest, IsApplied}
 use Rattle.road_base.proofs.KeyOrder.{key_cmp_total, key_cmp-IsAntisymmetric}
 
@@ -94,29 +91,3 @@ applied_with_events M (e ∷ events) = applied_in_turn M (with_event M e) _ (e �
 -- events always leave a map
 pub applied_stands : (M : Objects) (events : List Event) → (N : Objects) × IsApplied M events N
 applied_stands M events = (with_events M events, applied_with_events M events)
-
-abbrev pub entry_pair : Event → Key × Entry
-entry_pair e = (e.key, entry_of e)
-
--- the events of a key are none where all are of other keys
-none_of : (k j : Key) (events : List Event) → is_eq (key_cmp k j) ≡ true → AllByRecursion (λ i. j ≢ i) (map (λ e. e.key) events) → filter (is_of k) events ≡ []
-none_of k j [] tied apart = refl
-none_of k j (e ∷ events) tied apart =
-    let rest = none_of k j events tied apart.1 in
-    let same : k ≡ j = key_cmp-IsAntisymmetric k j ((Equal-is _).0 tied) in
-    elim (is_of k e) as (λ t. is_of k e ≡ t → cond t (e ∷ filter (is_of k) events) (filter (is_of k) events) ≡ []) [
-      | true ↦ λ own. absurd (apart.0 (sym same ∙ key_cmp-IsAntisymmetric k e.key ((Equal-is _).0 own)))
-      | false ↦ λ other. rest
-    ] refl
-
-find_once : (k : Key) (events : List Event) → AreDistinct (map (λ e. e.key) events) → find key_cmp k (map entry_pair events) ≡ first_greatest (map entry_of (filter (is_of k) events))
-find_once k [] once = refl
-find_once k (e ∷ events) once =
-    elim (is_of k e) as (λ t. is_of k e ≡ t → cond t (Some (entry_of e)) (find key_cmp k (map entry_pair events)) ≡ first_greatest (map entry_of (cond t (e ∷ filter (is_of k) events) (filter (is_of k) events)))) [
-      | true ↦ λ own. rw (none_of k e.key events own once.0) refl
-      | false ↦ λ other. find_once k events once.1
-    ] refl
-
--- what events of different objects leave of the empty map has the entry of each
-pub applied_once : (events : List Event) → AreDistinct (map (λ e. e.key) events) → IsApplied empty events (from_entries (map entry_pair events))
-applied_once events once k = get-from_entries key_cmp_total (map entry_pair events) k ∙ rw (get-empty key_cmp k) (find_once k events once)

@@ -1,7 +1,6 @@
 pub mod Tags
 pub mod Ranges
 pub mod Kinds
-pub mod Distinct
 pub mod Objects
 pub mod Applying
 pub mod Bytes

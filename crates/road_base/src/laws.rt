@@ -1,10 +1,9 @@
 //! Laws of keys and of what events leave of an object map, each the contract of a function that does nothing.
-ghost use Rattle.std.specs.Prelude.{◌≡◌, List, ◌++◌, map};
+ghost use Rattle.std.specs.Prelude.{◌≡◌, List, ◌++◌};
 ghost use Rattle.std.specs.Cmp.{IsTotalOrder};
 ghost use Rattle.std.specs.Ordering.{eq_by_cmp};
-ghost use Rattle.std.specs.FinMap.{IsAntisymmetric, empty, from_entries};
-ghost use Rattle.road_base.specs.Applying.{IsApplied, entry_of};
-ghost use Rattle.road_base.specs.Distinct.{AreDistinct};
+ghost use Rattle.std.specs.FinMap.{IsAntisymmetric};
+ghost use Rattle.road_base.specs.Applying.{IsApplied};
 ghost use Rattle.road_base.specs.Objects.{Objects, key_cmp};
 ghost use Rattle.road_base.specs.declared.event.Event.{Event};
 ghost use Rattle.road_base.specs.declared.ids.Key.{Key};
@@ -36,11 +35,4 @@ pub fn applied_in_turn()
         → IsApplied M first N
         → IsApplied N second O
         → IsApplied M (first ++ second) O }
-{}
-
-/// Where no two events are of one object, each event's entry stands, whatever its version.
-pub fn applied_once()
-    ensures { (events : List Event)
-        → AreDistinct (map (λ e. e.key) events)
-        → IsApplied empty events (from_entries (map (λ e. (e.key, entry_of e)) events)) }
 {}

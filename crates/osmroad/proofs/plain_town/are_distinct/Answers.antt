@@ -1,6 +1,6 @@
 use Rattle.std.proofs.Common.{◌↔◌, IsTrue, IsPermutation, ap, subst, sym, map-id, ◌∙◌}
 use Rattle.road_model.specs.Orders.{rises}
-use Rattle.road_base.specs.Distinct.{AreDistinct}
+use Rattle.osmroad.specs.Distinct.{AreDistinct}
 use Rattle.osmroad.specs.Town.{node_cmp}
 use Rattle.osmroad.proofs.KeyOrder.{node_cmp_total, node_cmp-IsAntisymmetric}
 use Rattle.osmroad.proofs.Ascents.{ordered_rises}
