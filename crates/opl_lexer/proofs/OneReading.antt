@@ -14,14 +14,14 @@ use Rattle.road_base.specs.declared.event.Event.{Event}
 use Rattle.road_base.specs.Tags.{TagList, value_of}
 use Rattle.opl_lexer.specs.declared.mode.Mode.{Mode}
 use Rattle.opl_lexer.specs.Lines.{lines}
-use Rattle.opl_lexer.specs.Contents.{Held, Good, key_of}
+use Rattle.opl_lexer.specs.Contents.{Parsed, Good, key_of}
 use Rattle.opl_lexer.specs.Spelling.{AreTags, HasPlace, IsNode, IsWay, IsRelation, HasBody, Spells, is_deleted, version_in}
 use Rattle.opl_lexer.specs.Reading.{ReadAll, object_lines}
 use Rattle.opl_lexer.proofs.OneReadingTags.{same_tags}
 use Rattle.opl_lexer.proofs.OneReadingEvents.{same_location, same_event}
 
 -- what a text holds is one value
-one_good : {A : Type 0} (held : Held A) (x y : A) → held ≡ Good x → held ≡ Good y → x ≡ y
+one_good : {A : Type 0} (held : Parsed A) (x y : A) → held ≡ Good x → held ≡ Good y → x ≡ y
 one_good held x y p q =
     let same : Good x ≡ Good y = sym p ∙ q in
     cc

@@ -13,26 +13,26 @@ use Rattle.opl_lexer.specs.Numbers.{whole_of, coordinate_of, is_digit}
 use Rattle.opl_lexer.specs.Escapes.{unescaped}
 
 -- what a text holds, or the kind of its first fault
-pub data Held (A : Type 0) : Type 0 where
-  Good : A → Held A
-  Bad : FaultKind → Held A
+pub data Parsed (A : Type 0) : Type 0 where
+  Good : A → Parsed A
+  Bad : FaultKind → Parsed A
 
-abbrev pub or_fault : {A : Type 0} → FaultKind → Option A → Held A
+abbrev pub or_fault : {A : Type 0} → FaultKind → Option A → Parsed A
 or_fault kind None = Bad kind
 or_fault kind (Some value) = Good value
 
-abbrev pub fault_in : {A : Type 0} → Held A → Option FaultKind
+abbrev pub fault_in : {A : Type 0} → Parsed A → Option FaultKind
 fault_in (Good value) = None
 fault_in (Bad kind) = Some kind
 
 -- the first value, and the second where the first is good
-abbrev pub both : {A B : Type 0} → Held A → Held B → Held (A × B)
+abbrev pub both : {A B : Type 0} → Parsed A → Parsed B → Parsed (A × B)
 both (Good a) (Good b) = Good (a, b)
 both (Good a) (Bad kind) = Bad kind
 both (Bad kind) other = Bad kind
 
 -- a fault of this kind stands behind the value
-abbrev pub but_bad : {A B : Type 0} → Held A → FaultKind → Held B
+abbrev pub but_bad : {A B : Type 0} → Parsed A → FaultKind → Parsed B
 but_bad (Good a) kind = Bad kind
 but_bad (Bad earlier) kind = Bad earlier
 
@@ -43,39 +43,39 @@ abbrev pub items : List ℕ → List (List ℕ)
 items [] = []
 items (b ∷ bs) = pieces 44 (b ∷ bs)
 
-abbrev pub put_before : {A : Type 0} → Held A → Held (List A) → Held (List A)
+abbrev pub put_before : {A : Type 0} → Parsed A → Parsed (List A) → Parsed (List A)
 put_before (Good value) (Good values) = Good (value ∷ values)
 put_before (Good value) (Bad kind) = Bad kind
 put_before (Bad kind) others = Bad kind
 
 -- what all of the texts hold, or the first fault
-abbrev pub all_of : {A : Type 0} → (List ℕ → Held A) → List (List ℕ) → Held (List A)
+abbrev pub all_of : {A : Type 0} → (List ℕ → Parsed A) → List (List ℕ) → Parsed (List A)
 all_of read [] = Good []
 all_of read (text ∷ texts) = put_before (read text) (all_of read texts)
 
 -- and then no text more
-abbrev pub and_no_more : {A : Type 0} → Bool → Held A → Held A
+abbrev pub and_no_more : {A : Type 0} → Bool → Parsed A → Parsed A
 and_no_more more (Good value) = cond more (Bad TooMany) (Good value)
 and_no_more more (Bad kind) = Bad kind
 
 -- at most 65,535 items; the next one is in fault where it begins
-abbrev pub list_of : {A : Type 0} → (List ℕ → Held A) → List ℕ → Held (List A)
+abbrev pub list_of : {A : Type 0} → (List ℕ → Parsed A) → List ℕ → Parsed (List A)
 list_of read contents = and_no_more (nat_lt 65535 (length (items contents))) (all_of read (take 65535 (items contents)))
 
 -- ---- items
 
 -- a key, a value or a role, with its escapes read
-abbrev pub text_of : List ℕ → Held (List ℕ)
+abbrev pub text_of : List ℕ → Parsed (List ℕ)
 text_of text = or_fault BadEscape (unescaped text)
 
 -- by the pieces between equals signs: a key and a value; a missing sign stands at the item's end
-abbrev pub tag_in : List (List ℕ) → Held (List ℕ × List ℕ)
+abbrev pub tag_in : List (List ℕ) → Parsed (List ℕ × List ℕ)
 tag_in [] = Bad BadTag
 tag_in (key ∷ []) = but_bad (text_of key) BadTag
 tag_in (key ∷ value ∷ []) = both (text_of key) (text_of value)
 tag_in (key ∷ value ∷ more ∷ others) = but_bad (both (text_of key) (text_of value)) BadTag
 
-abbrev pub tag_of : List ℕ → Held (List ℕ × List ℕ)
+abbrev pub tag_of : List ℕ → Parsed (List ℕ × List ℕ)
 tag_of item = tag_in (pieces 61 item)
 
 -- digits, points and minus signs, if any
@@ -97,7 +97,7 @@ number_in (number ∷ place ∷ []) = cond (is_place (pieces 121 place)) (whole_
 number_in (number ∷ place ∷ more ∷ others) = None
 
 -- `n` and a node's number
-abbrev pub ref_of : List ℕ → Held NodeId
+abbrev pub ref_of : List ℕ → Parsed NodeId
 ref_of item = or_fault BadRef (cond (slice_index item 0 == 110) (option_map (λ z. record { 0 = z }) (number_in (pieces 120 (drop 1 item)))) None)
 
 abbrev pub node_key : ℤ → Key
@@ -116,7 +116,7 @@ key_of text =
     (cond (slice_index text 0 == 119) (option_map way_key (whole_of (drop 1 text)))
     (cond (slice_index text 0 == 114) (option_map relation_key (whole_of (drop 1 text))) None))
 
-abbrev pub member_with : Option Key → Held (List ℕ) → Held Member
+abbrev pub member_with : Option Key → Parsed (List ℕ) → Parsed Member
 member_with None role = Bad BadMember
 member_with (Some key) (Good role) = Good (record { item = key; role = role })
 member_with (Some key) (Bad kind) = Bad kind
@@ -125,18 +125,18 @@ abbrev pub is_at : ℕ → Bool
 is_at b = b == 64
 
 -- a key, `@`, and a role, which may hold an `@` too
-abbrev pub member_of : List ℕ → Held Member
+abbrev pub member_of : List ℕ → Parsed Member
 member_of item = cond (nat_lt (length (before_first is_at item)) (length item)) (member_with (key_of (before_first is_at item)) (text_of (after_first is_at item))) (Bad BadMember)
 
 -- ---- single values
 
 -- a coordinate of at most this size, or nothing
-abbrev pub axis_of : ℤ → List ℕ → Held (Option ℤ)
+abbrev pub axis_of : ℤ → List ℕ → Parsed (Option ℤ)
 axis_of limit [] = Good None
 axis_of limit (b ∷ bs) = or_fault BadCoordinate (option_map Some (coordinate_of limit (b ∷ bs)))
 
 -- `V` or `D` alone: whether the object is deleted
-abbrev pub deletion_in : List ℕ → Held Bool
+abbrev pub deletion_in : List ℕ → Parsed Bool
 deletion_in [] = Bad BadFlag
 deletion_in (b ∷ []) = cond (b == 86) (Good false) (cond (b == 68) (Good true) (Bad BadFlag))
 deletion_in (b ∷ c ∷ cs) = Bad BadFlag

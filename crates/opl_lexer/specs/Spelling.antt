@@ -19,20 +19,20 @@ use Rattle.opl_lexer.specs.Contents.{Good, Bad, list_of, tag_of, ref_of, member_
 use Rattle.opl_lexer.specs.Faults.{letter, line_fault, is_passed_over, version_letter, deletion_letter, tags_letter, lon_letter, lat_letter, refs_letter, members_letter, most_lon, most_lat}
 
 -- what stands behind this letter, where a field has it
-abbrev pub held : ℕ → List (List ℕ) → Option (List ℕ)
-held b others = option_map (drop 1) (find (λ f. letter f == b) others)
+abbrev pub text_behind : ℕ → List (List ℕ) → Option (List ℕ)
+text_behind b others = option_map (drop 1) (find (λ f. letter f == b) others)
 
 -- the same, where a missing field holds nothing
 abbrev pub contents : ℕ → List (List ℕ) → List ℕ
-contents b others = elim (held b others) [ None ↦ [] | Some text ↦ text ]
+contents b others = elim (text_behind b others) [ None ↦ [] | Some text ↦ text ]
 
 -- a missing version is 0
 abbrev pub version_in : List (List ℕ) → ℕ
-version_in others = elim (held version_letter others) [ None ↦ 0 | Some digits ↦ digits_value 10 digits ]
+version_in others = elim (text_behind version_letter others) [ None ↦ 0 | Some digits ↦ digits_value 10 digits ]
 
 -- an object is visible where nothing else is said
 abbrev pub is_deleted : List (List ℕ) → Bool
-is_deleted others = elim (held deletion_letter others) [ None ↦ false | Some flag ↦ elim (deletion_in flag) [ Good deleted ↦ deleted | Bad kind ↦ false ] ]
+is_deleted others = elim (text_behind deletion_letter others) [ None ↦ false | Some flag ↦ elim (deletion_in flag) [ Good deleted ↦ deleted | Bad kind ↦ false ] ]
 
 -- the tags that this list holds, ascending by key; of a key that stands twice the first value
 pub record AreTags (list : List ℕ) (tags : TagList) : Type 0 where

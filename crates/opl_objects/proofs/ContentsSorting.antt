@@ -14,7 +14,9 @@ use Rattle.std.proofs.lemmas.List.Sorted.{ranks_by}
 use Rattle.std.proofs.lemmas.Map.Text.{is_eq-slice_cmp}
 use Rattle.std.proofs.lemmas.Slice.Eq.{bytes_eq-Decides}
 use Rattle.road_base.specs.Tags.{TagList, is_above, IsAscending, value_of}
-use Rattle.opl_objects.proofs.ContentsOrder.{is_less}
+
+abbrev pub is_less : List ℕ → List ℕ → Bool
+is_less a b = is_lt (slice_cmp nat_cmp a b)
 
 abbrev pub by_key : List ℕ × List ℕ → List ℕ × List ℕ → Bool
 by_key a b = is_less a.0 b.0

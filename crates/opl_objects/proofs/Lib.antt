@@ -4,7 +4,6 @@ pub mod ContentsLists
 pub mod ContentsMembers
 pub mod ContentsFaults
 pub mod ContentsTags
-pub mod ContentsOrder
 pub mod ContentsSorting
 pub mod LineMarks
 pub mod LineHolds

@@ -5,7 +5,7 @@ use Rattle.road_base.specs.declared.ids.Key.{Key}
 use Rattle.opl_lexer.specs.declared.fault.FaultKind.{FaultKind}
 use Rattle.opl_lexer.specs.declared.fault.FaultKind.TheVariants.{UnknownField, Repeated}
 use Rattle.opl_lexer.specs.Faults.{letter, letters_of, stands, is_known, contents_fault, field_fault, at_field, first_bad}
-use Rattle.opl_lexer.specs.Spelling.{held}
+use Rattle.opl_lexer.specs.Spelling.{text_behind}
 use Rattle.opl_lexer.specs.declared.fault.LexError.{LexError}
 use Rattle.opl_lexer.specs.declared.fault.LexError.TheVariants.{Kind, NoMemory as NoRoom}
 use Rattle.opl_objects.specs.declared.line.LineError.{LineError}
@@ -52,14 +52,14 @@ pub read_more : (l : Letter) (fields : List (List ℕ)) (field text : List ℕ) 
     → AreRead fields old → letter field ≡ byte_of l → stands (byte_of l) fields ≡ false → seen.marks ≡ set old.seen.marks (place_of l) true
     → text ≡ drop 1 field → Puts l text (record old { seen = seen }) new → AreRead (fields ++ field ∷ []) new
 read_more l fields field text old new seen read here fresh mark behind put =
-    let found : ℕ → Option (List ℕ) = λ b. held b fields in
+    let found : ℕ → Option (List ℕ) = λ b. text_behind b fields in
     let marked : Parts = record old { seen = seen } in
     let before : Holds found marked = record { version = read.holds.version; deleted = read.holds.deleted; tags = read.holds.tags; lon = read.holds.lon; lat = read.holds.lat; refs = read.holds.refs; members = read.holds.members } in
     let after = put_holds l found text marked new put before in
-    let held_now : (c : ℕ) → with_text found (byte_of l) text c ≡ held c (fields ++ field ∷ []) = subst (λ t. (c : ℕ) → with_text found (byte_of l) t c ≡ held c (fields ++ field ∷ [])) (sym behind) (held_more fields field (byte_of l) here fresh) in
+    let held_now : (c : ℕ) → with_text found (byte_of l) text c ≡ text_behind c (fields ++ field ∷ []) = subst (λ t. (c : ℕ) → with_text found (byte_of l) t c ≡ text_behind c (fields ++ field ∷ [])) (sym behind) (held_more fields field (byte_of l) here fresh) in
     let marks : new.seen.marks ≡ set old.seen.marks (place_of l) true = ap (λ s. s.marks) (put_seen l text marked new put) ∙ mark in
     record {
-      holds = holds_same (with_text found (byte_of l) text) (λ b. held b (fields ++ field ∷ [])) new held_now after;
+      holds = holds_same (with_text found (byte_of l) text) (λ b. text_behind b (fields ++ field ∷ [])) new held_now after;
       marked = subst (AreMarked (fields ++ field ∷ [])) (sym marks) (marked_more l old.seen.marks fields field read.marked here (read.marked.each l ∙ fresh));
     }
 

@@ -8,7 +8,7 @@ use Rattle.std.proofs.lemmas.Bool.Decides.{nat_tests, Decides-eqb}
 use Rattle.std.proofs.lemmas.List.Folds.{find-append}
 use Rattle.opl_lexer.specs.Numbers.{version_of}
 use Rattle.opl_lexer.specs.Faults.{letter, stands, contents_fault}
-use Rattle.opl_lexer.specs.Spelling.{held}
+use Rattle.opl_lexer.specs.Spelling.{text_behind}
 use Rattle.opl_objects.specs.declared.letters.Letter.{Letter}
 use Rattle.opl_objects.specs.declared.letters.Letter.TheVariants.{Version, Deletion, Changeset, Timestamp, UserId, User, Tags, Lon, Lat, Refs, Members}
 use Rattle.opl_objects.specs.declared.parts.Parts.{Parts}
@@ -30,14 +30,14 @@ or_none : (o : Option (List ℕ)) → option_or o None ≡ o
 or_none None = refl
 or_none (Some field) = refl
 
-held_here : (fields : List (List ℕ)) (field : List ℕ) (c : ℕ) → stands c fields ≡ false → (letter field == c) ≡ true → Some (drop 1 field) ≡ held c (fields ++ field ∷ [])
+held_here : (fields : List (List ℕ)) (field : List ℕ) (c : ℕ) → stands c fields ≡ false → (letter field == c) ≡ true → Some (drop 1 field) ≡ text_behind c (fields ++ field ∷ [])
 held_here fields field c new here = rw (find-append (λ f. letter f == c) fields (field ∷ []), not_held c fields new, here) refl
 
-held_before : (fields : List (List ℕ)) (field : List ℕ) (c : ℕ) → (letter field == c) ≡ false → held c fields ≡ held c (fields ++ field ∷ [])
+held_before : (fields : List (List ℕ)) (field : List ℕ) (c : ℕ) → (letter field == c) ≡ false → text_behind c fields ≡ text_behind c (fields ++ field ∷ [])
 held_before fields field c other = rw (find-append (λ f. letter f == c) fields (field ∷ []), other, or_none (find (λ f. letter f == c) fields)) refl
 
 -- a letter that is new
-pub held_more : (fields : List (List ℕ)) (field : List ℕ) (b : ℕ) → letter field ≡ b → stands b fields ≡ false → (c : ℕ) → with_text (λ a. held a fields) b (drop 1 field) c ≡ held c (fields ++ field ∷ [])
+pub held_more : (fields : List (List ℕ)) (field : List ℕ) (b : ℕ) → letter field ≡ b → stands b fields ≡ false → (c : ℕ) → with_text (λ a. text_behind a fields) b (drop 1 field) c ≡ text_behind c (fields ++ field ∷ [])
 held_more fields field b here new c =
     elim (cases_eq c b) [
       | inl same ↦

@@ -8,9 +8,9 @@ use Rattle.opl_lexer.specs.declared.fault.FaultKind.{FaultKind}
 use Rattle.opl_lexer.specs.declared.fault.LexError.{LexError}
 use Rattle.opl_lexer.specs.declared.fault.LexError.TheVariants.{Kind, NoMemory as NoRoom}
 use Rattle.opl_lexer.specs.Numbers.{version_of}
-use Rattle.opl_lexer.specs.Contents.{Held, Good, Bad, list_of, ref_of, member_of, axis_of, deletion_in}
+use Rattle.opl_lexer.specs.Contents.{Parsed, Good, Bad, list_of, ref_of, member_of, axis_of, deletion_in}
 use Rattle.opl_lexer.specs.Faults.{version_letter, deletion_letter, tags_letter, lon_letter, lat_letter, refs_letter, members_letter, most_lon, most_lat}
-use Rattle.opl_lexer.specs.Spelling.{held, AreTags, version_in, is_deleted, HasBody}
+use Rattle.opl_lexer.specs.Spelling.{text_behind, AreTags, version_in, is_deleted, HasBody}
 use Rattle.opl_objects.specs.declared.line.LineError.{LineError}
 use Rattle.opl_objects.specs.declared.line.LineError.TheVariants.{Fault, NoMemory}
 use Rattle.opl_objects.specs.declared.letters.Letter.{Letter}
@@ -36,7 +36,7 @@ abbrev pub version_held : Option (List ℕ) → ℕ
 version_held None = 0
 version_held (Some digits) = digits_value 10 digits
 
-abbrev pub flag_in : Held Bool → Bool
+abbrev pub flag_in : Parsed Bool → Bool
 flag_in (Good deleted) = deleted
 flag_in (Bad kind) = false
 
@@ -48,7 +48,7 @@ abbrev pub text_held : Option (List ℕ) → List ℕ
 text_held None = []
 text_held (Some text) = text
 
-abbrev pub good_axis : Held (Option ℤ) → Option ℤ
+abbrev pub good_axis : Parsed (Option ℤ) → Option ℤ
 good_axis (Good axis) = axis
 good_axis (Bad kind) = None
 
@@ -74,7 +74,7 @@ pub record Holds (found : ℕ → Option (List ℕ)) (parts : Parts) : Type 0 wh
 
 -- these fields are good, and the parts are what they hold
 pub record AreRead (fields : List (List ℕ)) (parts : Parts) : Type 0 where
-  pub holds : Holds (λ b. held b fields) parts
+  pub holds : Holds (λ b. text_behind b fields) parts
   pub marked : AreMarked fields parts.seen.marks
 
 -- the one part that a field with this letter holds has changed

@@ -5,18 +5,18 @@ use Rattle.opl_lexer.specs.declared.fault.LexError.{LexError}
 use Rattle.opl_lexer.specs.declared.fault.LexError.TheVariants.{Kind, NoMemory as NoRoom}
 use Rattle.opl_lexer.specs.declared.mode.Mode.{Mode}
 use Rattle.opl_lexer.specs.Fields.{fields}
-use Rattle.opl_lexer.specs.Contents.{Held, Good, Bad}
+use Rattle.opl_lexer.specs.Contents.{Parsed, Good, Bad}
 use Rattle.opl_lexer.specs.Faults.{line_fault, is_passed_over}
 use Rattle.opl_lexer.specs.Spelling.{Spells}
 use Rattle.opl_objects.specs.declared.line.LineError.{LineError}
 use Rattle.opl_objects.specs.declared.line.LineError.TheVariants.{Fault, NoMemory}
 
 -- the text holds this value
-abbrev pub IsGood : {A : Type 0} → Held A → A → Type 0
+abbrev pub IsGood : {A : Type 0} → Parsed A → A → Type 0
 IsGood held value = held ≡ Good value
 
 -- the text is in fault so, or memory ended
-abbrev pub IsBad : {A : Type 0} → Held A → LexError → Type 0
+abbrev pub IsBad : {A : Type 0} → Parsed A → LexError → Type 0
 IsBad held (Kind kind) = held ≡ Bad kind
 IsBad held NoRoom = Unit {0}
 

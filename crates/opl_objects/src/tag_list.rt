@@ -2,7 +2,7 @@
 ghost use Rattle.std.specs.Prelude.{◌≡◌, ◌≤◌, IfOk, IfErr, List, ℕ, length};
 ghost use Rattle.std.specs.Ordering.{is_lt, nat_cmp};
 ghost use Rattle.std.specs.Cmp.Lexicographic.{slice_cmp};
-ghost use Rattle.road_base.specs.Tags.{IsAscending, is_ascending, value_of};
+ghost use Rattle.road_base.specs.Tags.{IsAscending, value_of};
 ghost use Rattle.opl_lexer.specs.Contents.{Good, tag_of, list_of};
 ghost use Rattle.opl_lexer.specs.Spelling.{AreTags};
 ghost use Rattle.opl_lexer.specs.declared.fault.LexError.TheVariants.{NoMemory};
@@ -63,26 +63,6 @@ fn pairs(alloc: Global, contents: &str) -> Result<Vec<(Text, Text)>, LexError>
     Ok(list)
 }
 
-/// Whether the first text is below the second one, by bytes.
-#[inline]
-fn is_below(first: &Text, second: &Text) -> bool
-    ensures { result ≡ is_lt (slice_cmp nat_cmp first.now second.now) }
-{
-    first.as_str() < second.as_str()
-}
-
-/// Whether each key is above the one before it.
-fn is_ascending(list: &[(Text, Text)]) -> bool
-    ensures { result ≡ is_ascending list.now }
-{
-    for at in 1..list.len() {
-        if !is_below(&list[at - 1].0, &list[at].0) {
-            return false;
-        }
-    }
-    true
-}
-
 /// The tags ascending by key, of each key the first one.
 fn in_order(list: Vec<(Text, Text)>) -> Result<Vec<(Text, Text)>, LexError>
     ensures ascending { IfOk result (λ tags. IsAscending tags.items) }
@@ -106,7 +86,7 @@ pub fn tags(alloc: Global, contents: &str) -> Result<Tags, LexError>
         Ok(list) => list,
         Err(error) => return Err(error),
     };
-    if is_ascending(list.as_slice()) {
+    if Tags::are_ascending(&list) {
         return Ok(Tags::from_list(list));
     }
     match in_order(list) {
