@@ -8,6 +8,7 @@ pub mod Legal
 pub mod Pieces
 pub mod Contexts
 pub mod Network
+pub mod Walks
 pub mod Orders
 pub mod Links
 pub mod Blocks

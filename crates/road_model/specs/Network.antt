@@ -1,5 +1,5 @@
 -- Legal drives, contexts and arcs of an object map under a profile's rules.
-use Rattle.std.specs.Prelude.{ℕ, List, [], ◌∷◌, ◌++◌, Bool, true, false, IsTrue}
+use Rattle.std.specs.Prelude.{◌≡◌, ℕ, List, [], ◌∷◌, ◌++◌, Bool, true, false, IsTrue}
 use Rattle.road_base.specs.declared.ids.RelationId.{RelationId}
 use Rattle.road_base.specs.declared.ids.Step.{Step}
 use Rattle.road_base.specs.Objects.{Objects}
@@ -35,6 +35,17 @@ Must M P = MustBy (OnlyWord M P)
 
 abbrev pub Legal : Objects → Rules → List Step → Type 0
 Legal M P = IsLegalBy (Drives M P) (Passes M P) (NoWord M P) (OnlyWord M P)
+
+-- no restriction gives a word
+abbrev pub HasNoWords : Objects → Rules → Type 0
+HasNoWords M P = (u : List Step) → AnyWord M P u → ⊥
+
+-- Step t may go on behind the drive d: it may follow d's last step, no No word ends with it, and where Only words bind
+-- d's end, it is one of the steps that they demand.
+pub record GoesOn (M : Objects) (P : Rules) (d : List Step) (t : Step) : Type 0 where
+  pub passes : (a : List Step) (s : Step) → d ≡ a ++ s ∷ [] → Passes M P s t
+  pub no : (a u : List Step) → d ++ t ∷ [] ≡ a ++ u → NoWord M P u → ⊥
+  pub only : (a p : List Step) → d ≡ a ++ p → (x : Step) → Must M P p x → Must M P p t
 
 abbrev pub IsContext : Objects → Rules → List Piece → Type 0
 IsContext M P = IsContextBy spell (IsPiece M P) (Legal M P) (AnyWord M P)

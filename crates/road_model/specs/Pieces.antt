@@ -1,5 +1,5 @@
 -- Plain positions, pieces and their spelling.
-use Rattle.std.specs.Prelude.{◌≡◌, ◌≢◌, ℕ, ◌+◌, ◌-◌, ◌<◌, ◌≤◌, List, length, Some, IsTrue, IsFalse, slice_get}
+use Rattle.std.specs.Prelude.{◌≡◌, ◌≢◌, ℕ, ◌+◌, ◌-◌, ◌<◌, ◌≤◌, List, ◌∷◌, length, Some, IsTrue, IsFalse, slice_get}
 use Rattle.road_base.specs.declared.ids.NodeId.{NodeId}
 use Rattle.road_base.specs.declared.ids.WayId.{WayId}
 use Rattle.road_base.specs.declared.ids.Step.{Step}
@@ -51,3 +51,10 @@ pub record IsInOnePiece (M : Objects) (P : Rules) (s : Step) : Type 0 where
   pub place : ℕ
   pub stands : StandsAt M P s piece place
   pub only : (q : Piece) (k : ℕ) → StandsAt M P s q k → (q ≡ piece) × (k ≡ place)
+
+-- the step is the first one of a piece
+pub record BeginsPiece (M : Objects) (P : Rules) (s : Step) : Type 0 where
+  pub piece : Piece
+  pub is : IsPiece M P piece
+  pub more : List Step
+  pub begins : spell piece ≡ s ∷ more

@@ -1,0 +1,55 @@
+-- Walks over contexts and arcs, and the drives from junction to junction.
+use Rattle.std.specs.Prelude.{◌≡◌, ◌≤◌, List, [], ◌∷◌, ◌++◌, length}
+use Rattle.road_base.specs.declared.ids.Step.{Step}
+use Rattle.road_base.specs.Objects.{Objects}
+use Rattle.road_model.specs.Rules.{Rules}
+use Rattle.road_model.specs.Pieces.{Piece, IsPiece, spell}
+use Rattle.road_model.specs.Network.{Legal, IsArc, spell_pieces}
+
+-- the pieces d are those of a walk that has come to context c: it starts at a context of one piece and follows arcs
+pub data WalksTo (M : Objects) (P : Rules) : List Piece → List Piece → Type 0 where
+  Start : {d c : List Piece} (p : Piece) → IsPiece M P p → d ≡ p ∷ [] → c ≡ p ∷ [] → WalksTo M P d c
+  Go : {d c : List Piece} (e b : List Piece) (t : Piece) → WalksTo M P e b → IsArc M P b t c → d ≡ e ++ t ∷ [] → WalksTo M P d c
+
+-- the pieces are those of a walk
+pub record IsWalk (M : Objects) (P : Rules) (d : List Piece) : Type 0 where
+  pub context : List Piece
+  pub walks : WalksTo M P d context
+
+-- a legal drive whose first step is some piece's first and whose last step is some piece's last
+pub record IsJunctionDrive (M : Objects) (P : Rules) (s : List Step) : Type 0 where
+  pub legal : Legal M P s
+  pub from : Piece
+  pub from_is : IsPiece M P from
+  pub first : Step
+  pub more : List Step
+  pub from_spelled : spell from ≡ first ∷ more
+  pub rest : List Step
+  pub begins : s ≡ first ∷ rest
+  pub to : Piece
+  pub to_is : IsPiece M P to
+  pub front : List Step
+  pub last : Step
+  pub to_spelled : spell to ≡ front ++ last ∷ []
+  pub before : List Step
+  pub stops : s ≡ before ++ last ∷ []
+
+-- the drive is the spelling of the walk
+pub record IsSpelled (M : Objects) (P : Rules) (s : List Step) : Type 0 where
+  pub walk : List Piece
+  pub is : IsWalk M P walk
+  pub spelled : spell_pieces walk ≡ s
+
+-- s is an infix of the walk's spelling
+pub record Carries (d : List Piece) (s : List Step) : Type 0 where
+  pub before : List Step
+  pub behind : List Step
+  pub is : spell_pieces d ≡ before ++ (s ++ behind)
+
+-- of the walks that carry s, exactly one is shortest
+pub record HasShortest (M : Objects) (P : Rules) (s : List Step) : Type 0 where
+  pub walk : List Piece
+  pub is : IsWalk M P walk
+  pub carries : Carries walk s
+  pub least : (e : List Piece) → IsWalk M P e → Carries e s → length walk ≤ length e
+  pub only : (e : List Piece) → IsWalk M P e → Carries e s → length e ≤ length walk → e ≡ walk
