@@ -1,0 +1,98 @@
+-- Facts that hold of the members of a list and of nothing else.
+use Rattle.std.proofs.Common.{◌≡◌, ℕ, zero, suc, ◌<◌, List, [], ◌∷◌, ◌++◌, length, ◌⊎◌, inl, inr, refl, sym, ap, subst, arith, Option, Some, None, Contains, slice_index_or}
+use Rattle.road_model.proofs.Decided.{Decided, In, some_in}
+
+pub record Finite {X : Type 0} (Q : X → Type 0) : Type 0 where
+  pub list : List X
+  pub sound : (x : X) → In x list → Q x
+  pub complete : (x : X) → Q x → In x list
+
+pub in_left : {X : Type 0} (x : X) (xs ys : List X) → In x xs → In x (xs ++ ys)
+in_left x [] ys i = absurd i
+in_left x (z ∷ xs) ys (inl e) = inl e
+in_left x (z ∷ xs) ys (inr i) = inr (in_left x xs ys i)
+
+pub in_right : {X : Type 0} (x : X) (xs ys : List X) → In x ys → In x (xs ++ ys)
+in_right x [] ys i = i
+in_right x (z ∷ xs) ys i = inr (in_right x xs ys i)
+
+pub in_cases : {X : Type 0} (x : X) (xs ys : List X) → In x (xs ++ ys) → In x xs ⊎ In x ys
+in_cases x [] ys i = inr i
+in_cases x (z ∷ xs) ys (inl e) = inl (inl e)
+in_cases x (z ∷ xs) ys (inr i) = elim (in_cases x xs ys i) [ inl a ↦ inl (inr a) | inr b ↦ inr b ]
+
+pub fin_none : {X : Type 0} {Q : X → Type 0} → ((x : X) → Q x → ⊥) → Finite Q
+fin_none n = record { list = []; sound = λ x i. absurd i; complete = λ x q. n x q }
+
+pub fin_one : {X : Type 0} (a : X) → Finite (λ x. x ≡ a)
+fin_one a = record { list = a ∷ []; sound = λ x i. elim i [ inl e ↦ e | inr n ↦ absurd n ]; complete = λ x e. inl e }
+
+pub fin_or : {X : Type 0} {Q R : X → Type 0} → Finite Q → Finite R → Finite (λ x. Q x ⊎ R x)
+fin_or f g = record {
+  list = f.list ++ g.list;
+  sound = λ x i. elim (in_cases x f.list g.list i) [ inl a ↦ inl (f.sound x a) | inr b ↦ inr (g.sound x b) ];
+  complete = λ x q. elim q [ inl a ↦ in_left x f.list g.list (f.complete x a) | inr b ↦ in_right x f.list g.list (g.complete x b) ];
+}
+
+pub fin_like : {X : Type 0} {Q R : X → Type 0} → ((x : X) → Q x → R x) → ((x : X) → R x → Q x) → Finite Q → Finite R
+fin_like to from f = record { list = f.list; sound = λ x i. to x (f.sound x i); complete = λ x r. f.complete x (from x r) }
+
+-- the same, with the known fact first, from which antt takes the types of the other two arguments
+pub fin_by : {X : Type 0} {Q R : X → Type 0} → Finite Q → ((x : X) → Q x → R x) → ((x : X) → R x → Q x) → Finite R
+fin_by f to from = fin_like to from f
+
+pub fin_if : {X : Type 0} {A : Type 0} {Q : X → Type 0} → Decided A → (A → Finite Q) → Finite (λ x. A × Q x)
+fin_if (inl a) f = fin_like (λ x q. (a, q)) (λ x q. q.1) (f a)
+fin_if (inr n) f = fin_none (λ x q. n q.0)
+
+bound : {A X : Type 0} {R : A → X → Type 0} → ((a : A) → Finite (R a)) → List A → List X
+bound f [] = []
+bound f (a ∷ as_) = (f a).list ++ bound f as_
+
+bound_sound : {A X : Type 0} {R : A → X → Type 0} (f : (a : A) → Finite (R a)) (l : List A) (x : X) → In x (bound f l) → (a : A) × In a l × R a x
+unfolding bound
+bound_sound f [] x i = absurd i
+bound_sound f (a ∷ l) x i = elim (in_cases x (f a).list (bound f l) i) [
+  | inl h ↦ (a, inl refl, (f a).sound x h)
+  | inr h ↦ let r = bound_sound f l x h in (r.0, inr r.1, r.2)
+]
+
+bound_complete : {A X : Type 0} {R : A → X → Type 0} (f : (a : A) → Finite (R a)) (l : List A) (a : A) (x : X) → In a l → R a x → In x (bound f l)
+unfolding bound
+bound_complete f [] a x i r = absurd i
+bound_complete {R = R} f (b ∷ l) a x (inl e) r = in_left x (f b).list (bound f l) ((f b).complete x (subst (λ v. R v x) e r))
+bound_complete f (b ∷ l) a x (inr i) r = in_right x (f b).list (bound f l) (bound_complete f l a x i r)
+
+pub fin_bind : {A X : Type 0} {Q : A → Type 0} {R : A → X → Type 0} → Finite Q → ((a : A) → Finite (R a)) → Finite (λ x. (a : A) × Q a × R a x)
+fin_bind q f = record {
+  list = bound f q.list;
+  sound = λ x i. let r = bound_sound f q.list x i in (r.0, q.sound r.0 r.1, r.2);
+  complete = λ x h. bound_complete f q.list h.0 x (q.complete h.0 h.1) h.2;
+}
+
+pub fin_list : {X : Type 0} (xs : List X) → Finite (λ x. In x xs)
+fin_list xs = record { list = xs; sound = λ x i. i; complete = λ x i. i }
+
+pub fin_some : {X : Type 0} (o : Option X) → Finite (λ x. o ≡ Some x)
+fin_some None = fin_none (λ x e. cc)
+fin_some (Some a) = fin_like (λ x e. ap Some (sym e)) (λ x e. cc) (fin_one a)
+
+-- some value of which the fact holds has a further property, or none has
+pub search_finite : {X : Type 0} {Q : X → Type 0} (A : X → Type 0) → Finite Q → ((x : X) → Decided (A x)) → Decided ((x : X) × Q x × A x)
+search_finite A f each = elim (some_in A each f.list) [
+  | inl r ↦ inl (r.0, f.sound r.0 r.1, r.2)
+  | inr n ↦ inr (λ h. n h.0 (f.complete h.0 h.1) h.2)
+]
+
+in_from : {X : Type 0} (xs : List X) (x : X) (k : ℕ) → k < length xs → slice_index_or xs k x ≡ x → In x xs
+in_from [] x k l e = absurd (omega arith)
+in_from (y ∷ xs) x zero l e = inl (sym e)
+in_from (y ∷ xs) x (suc k) l e = inr (in_from xs x k (omega arith) e)
+
+pub in_from_contains : {X : Type 0} (xs : List X) (x : X) → Contains xs x → In x xs
+in_from_contains xs x h = in_from xs x h.0 h.1 h.2
+
+pub contains_from_in : {X : Type 0} (xs : List X) (x : X) → In x xs → Contains xs x
+contains_from_in [] x i = absurd i
+contains_from_in (y ∷ xs) x (inl e) = (0, omega arith, sym e)
+contains_from_in (y ∷ xs) x (inr i) = let r = contains_from_in xs x i in let l = r.1 in (suc r.0, omega arith, r.2)
