@@ -1,6 +1,7 @@
 -- Facts that hold of the members of a list and of nothing else.
-use Rattle.std.proofs.Common.{◌≡◌, ℕ, zero, suc, ◌<◌, List, [], ◌∷◌, ◌++◌, length, ◌⊎◌, inl, inr, refl, sym, ap, subst, arith, Option, Some, None, Contains, slice_index_or}
-use Rattle.road_model.proofs.Decided.{Decided, In, some_in}
+use Rattle.std.proofs.Common.{◌≡◌, List, [], ◌∷◌, ◌++◌, ◌⊎◌, inl, inr, refl, sym, ap, subst, Option, Some, None}
+use Rattle.road_model.proofs.Members.{In}
+use Rattle.road_model.proofs.Decided.{Decided, some_in}
 
 pub record Finite {X : Type 0} (Q : X → Type 0) : Type 0 where
   pub list : List X
@@ -83,16 +84,3 @@ search_finite A f each = elim (some_in A each f.list) [
   | inl r ↦ inl (r.0, f.sound r.0 r.1, r.2)
   | inr n ↦ inr (λ h. n h.0 (f.complete h.0 h.1) h.2)
 ]
-
-in_from : {X : Type 0} (xs : List X) (x : X) (k : ℕ) → k < length xs → slice_index_or xs k x ≡ x → In x xs
-in_from [] x k l e = absurd (omega arith)
-in_from (y ∷ xs) x zero l e = inl (sym e)
-in_from (y ∷ xs) x (suc k) l e = inr (in_from xs x k (omega arith) e)
-
-pub in_from_contains : {X : Type 0} (xs : List X) (x : X) → Contains xs x → In x xs
-in_from_contains xs x h = in_from xs x h.0 h.1 h.2
-
-pub contains_from_in : {X : Type 0} (xs : List X) (x : X) → In x xs → Contains xs x
-contains_from_in [] x i = absurd i
-contains_from_in (y ∷ xs) x (inl e) = (0, omega arith, sym e)
-contains_from_in (y ∷ xs) x (inr i) = let r = contains_from_in xs x i in let l = r.1 in (suc r.0, omega arith, r.2)

@@ -1,5 +1,5 @@
--- Whether some word goes on where a list ends is decided, since an object map has finitely many words.
-use Rattle.std.proofs.Common.{◌≡◌, ℕ, ◌+◌, ◌-◌, List, [], ◌∷◌, ◌++◌, length, ◌⊎◌, inl, inr, refl, sym, ap, ◌∙◌, subst, arith, Bool, true, false, cond, Option, Some, None, IsTrue, Contains, codes}
+-- The words of an object map are finitely many, so whether some word goes on where a list ends is decided.
+use Rattle.std.proofs.Common.{◌≡◌, ℕ, ◌+◌, ◌-◌, List, [], ◌∷◌, ◌++◌, length, ◌⊎◌, inl, inr, refl, sym, ap, ◌∙◌, subst, arith, Bool, true, false, cond, Option, Some, None, IsTrue, Contains}
 use Rattle.std.specs.Ordering.{int_eq}
 use Rattle.std.specs.FinMap.{get, entries, get-entries, find}
 use Rattle.std.proofs.lemmas.Bool.Decides.{Decides-int_eq}
@@ -12,18 +12,20 @@ use Rattle.road_base.specs.declared.ids.Step.{Step}
 use Rattle.road_base.specs.declared.ids.Dir.{Dir}
 use Rattle.road_base.specs.declared.ids.Dir.TheVariants.{Forward, Backward}
 use Rattle.road_base.specs.declared.objects.Relation.{Relation}
-use Rattle.road_model.specs.declared.answers.RuleKind.{RuleKind}
-use Rattle.road_model.specs.declared.answers.RuleKind.TheVariants.{Freed, Absent, No, Only}
 use Rattle.road_base.specs.Objects.{Objects, Entry, key_cmp, relation_of, visible, body_in, relation_in as relation_body}
-use Rattle.road_model.specs.Rules.{Rules}
-use Rattle.road_model.specs.Lines.{line_of, node_at, head_of, tail_of}
+use Rattle.road_model.specs.Rules.{Rules, is_restriction}
+use Rattle.road_model.specs.Lines.{line_of, head_of, tail_of}
 use Rattle.road_model.specs.Driving.{is_open}
-use Rattle.road_model.specs.Words.{IsWord, IsEndInto, IsEndFrom, IsVia, IsViaWays, whole_way, begin_position, end_position, in_role, is_kind, IsKind, is_sound, binding_of}
+use Rattle.road_model.specs.Restrictions.{froms, vias, tos, IsUsable}
+use Rattle.road_model.specs.Words.{IsWord, IsEndInto, IsEndFrom, IsVia, kind_of, binding_of}
 use Rattle.road_model.specs.Network.{AnyWord}
-use Rattle.road_model.proofs.Decided.{Decided, In, decided_both, decided_like, decided_true}
+use Rattle.road_model.proofs.Members.{In, in_from_contains, contains_from_in}
+use Rattle.road_model.proofs.Decided.{Decided, decided_both, decided_like, decided_true}
 use Rattle.road_model.proofs.Positions.{decided_option, decided_number, decided_way, decided_less, decided_node}
 use Rattle.road_model.proofs.Shapes.{step}
-use Rattle.road_model.proofs.Enumerated.{Finite, fin_none, fin_one, fin_or, fin_like, fin_by, fin_if, fin_bind, fin_list, fin_some, search_finite, in_from_contains, contains_from_in}
+use Rattle.road_model.proofs.Enumerated.{Finite, fin_none, fin_one, fin_or, fin_like, fin_by, fin_if, fin_bind, fin_list, fin_some, search_finite}
+use Rattle.road_model.proofs.FiniteRuns.{pair_is, fin_run}
+use Rattle.road_model.proofs.Usable.{decided_kind, usable_decided}
 use Rattle.road_model.proofs.Walking.{Continues}
 
 -- the ways among keys
@@ -119,57 +121,11 @@ module _ (M : Objects) (P : Rules) where
   fin_last w v = fin_like (λ s h. ends_from w v s h.1 h.0) (λ s h. (h.tail, from_ends w s h.of h.end))
       (fin_pass (λ s. tail_of M s ≡ Some v) (λ s. decided_option _ _) (fin_from w))
 
-  -- what via ways spell from a node on, and where they are left
-  Spelled : List Key → NodeId → (List Step × NodeId) → Type 0
-  Spelled ks v y = IsViaWays M P ks v y.0 y.1
-
-  Via : List Key → NodeId → (List Step × NodeId) → Type 0
-  Via ks v y = IsVia M P ks v y.0 y.1
-
-  Along : WayId → List Key → NodeId → Dir → (List Step × NodeId) → Type 0
-  Along w ks v d y = (next : NodeId) × (rest : List Step) × IsTrue (is_open M P w d) × (node_at M w (begin_position (length (line_of M w)) d) ≡ Some v) × (node_at M w (end_position (length (line_of M w)) d) ≡ Some next) × (y.0 ≡ whole_way M w d ++ rest) × IsViaWays M P ks next rest y.1
-
-  pair_is : (y : List Step × NodeId) (a : List Step) (b : NodeId) → y.0 ≡ a → y.1 ≡ b → y ≡ (a, b)
-  pair_is y a b e f = λ i. (e i, f i)
-
-  along_if : (w : WayId) (ks : List Key) (v : NodeId) (d : Dir) → ((n : NodeId) → Finite (Spelled ks n)) → Decided (IsTrue (is_open M P w d)) → Decided (node_at M w (begin_position (length (line_of M w)) d) ≡ Some v) → Finite (Along w ks v d)
-  unfolding Along Spelled
-  along_if w ks v d go (inl a) (inl b) = fin_by
-      (fin_bind (fin_some (node_at M w (end_position (length (line_of M w)) d))) (λ n. fin_bind (go n) (λ z. fin_one (whole_way M w d ++ z.0, z.1))))
-      (λ y h. (h.0, h.2.0.0, a, b, h.1, ap (λ z. z.0) h.2.2, subst (IsViaWays M P ks h.0 h.2.0.0) (sym (ap (λ z. z.1) h.2.2)) h.2.1))
-      (λ y h. (h.0, h.4, ((h.1, y.1), h.6, pair_is y (whole_way M w d ++ h.1) y.1 h.5 refl)))
-  along_if w ks v d go (inl a) (inr n) = fin_none (λ y h. n h.3)
-  along_if w ks v d go (inr n) b = fin_none (λ y h. n h.2)
-
-  fin_along : (w : WayId) (ks : List Key) (v : NodeId) (d : Dir) → ((n : NodeId) → Finite (Spelled ks n)) → Finite (Along w ks v d)
-  fin_along w ks v d go = along_if w ks v d go (decided_true _) (decided_option _ _)
-
-  along_way : (w : WayId) (ks : List Key) (v : NodeId) (y : List Step × NodeId) → Along w ks v Forward y ⊎ Along w ks v Backward y → IsViaWays M P (WayKey w ∷ ks) v y.0 y.1
-  unfolding Along
-  along_way w ks v y (inl h) = (Forward, h.0, h.1, h.2, h.3, h.4, h.5, h.6)
-  along_way w ks v y (inr h) = (Backward, h.0, h.1, h.2, h.3, h.4, h.5, h.6)
-
-  way_along : (w : WayId) (ks : List Key) (v : NodeId) (y : List Step × NodeId) (d : Dir) → Along w ks v d y → Along w ks v Forward y ⊎ Along w ks v Backward y
-  way_along w ks v y Forward h = inl h
-  way_along w ks v y Backward h = inr h
-
-  along_of : (w : WayId) (ks : List Key) (v : NodeId) (y : List Step × NodeId) (h : IsViaWays M P (WayKey w ∷ ks) v y.0 y.1) → Along w ks v h.0 y
-  unfolding Along
-  along_of w ks v y h = (h.1, h.2, h.3, h.4, h.5, h.6, h.7)
-
-  fin_ways_spelled : (ks : List Key) (v : NodeId) → Finite (Spelled ks v)
-  unfolding Spelled
-  fin_ways_spelled [] v = fin_like (λ y e. (ap (λ z. z.0) e, sym (ap (λ z. z.1) e))) (λ y h. pair_is y [] v h.0 (sym h.1)) (fin_one ([], v))
-  fin_ways_spelled (NodeKey n ∷ ks) v = fin_none (λ y h. h)
-  fin_ways_spelled (WayKey w ∷ ks) v = fin_like (λ y h. along_way w ks v y h) (λ y h. way_along w ks v y h.0 (along_of w ks v y h)) (fin_or (fin_along w ks v Forward (fin_ways_spelled ks)) (fin_along w ks v Backward (fin_ways_spelled ks)))
-  fin_ways_spelled (RelationKey r ∷ ks) v = fin_none (λ y h. h)
-
-  fin_via : (ks : List Key) (v : NodeId) → Finite (Via ks v)
-  unfolding Via Spelled
+  fin_via : (ks : List Key) (v : NodeId) → Finite (λ (y : List Step × NodeId). IsVia M P ks v y.0 y.1)
   fin_via [] v = fin_none (λ y h. h)
   fin_via (NodeKey n ∷ []) v = fin_like (λ y h. (h.0, ap (λ z. z.0) h.1, ap (λ z. z.1) h.1)) (λ y h. (h.0, pair_is y [] n h.1 h.2)) (fin_if (decided_node v n) (λ e. fin_one ([], n)))
   fin_via (NodeKey n ∷ k ∷ ks) v = fin_none (λ y h. h)
-  fin_via (WayKey w ∷ ks) v = fin_ways_spelled (WayKey w ∷ ks) v
+  fin_via (WayKey w ∷ ks) v = fin_run M (is_open M P) (WayKey w ∷ ks) v
   fin_via (RelationKey r ∷ ks) v = fin_none (λ y h. h)
 
   -- the parts of a word
@@ -189,7 +145,6 @@ module _ (M : Objects) (P : Rules) where
     pub last_begins : IsEndFrom M to_way leave last
 
   fin_parts : (froms vias tos : List Key) → Finite (Parts froms vias tos)
-  unfolding Via
   fin_parts froms vias tos = fin_by
       (fin_bind (fin_ways froms) (λ w. fin_bind (fin_into w) (λ f. fin_bind (fin_some (head_of M f)) (λ v. fin_bind (fin_via vias v) (λ y. fin_bind (fin_ways tos) (λ x. fin_bind (fin_last x y.1) (λ t. fin_one (f ∷ (y.0 ++ t ∷ [])))))))))
       (λ u h. record {
@@ -236,16 +191,6 @@ visible_in : (M : Objects) (r : RelationId) (b : Relation) → relation_of M r �
 unfolding relation_of visible
 visible_in M r b h = let e = has_entry b (get M (RelationKey r)) h in relation_in r e.0 (entries M) (sym (get-entries M (RelationKey r)) ∙ e.1)
 
-kind_decided : (k : RuleKind) (only : Bool) → Decided (is_kind k only)
-kind_decided Freed true = inr (λ e. cc)
-kind_decided Freed false = inr (λ e. cc)
-kind_decided Absent true = inr (λ e. cc)
-kind_decided Absent false = inr (λ e. cc)
-kind_decided No true = inr (λ e. cc)
-kind_decided No false = inl refl
-kind_decided Only true = inl refl
-kind_decided Only false = inr (λ e. cc)
-
 in_bools : (b : Bool) → In b (true ∷ false ∷ [])
 in_bools true = inl refl
 in_bools false = inr (inl refl)
@@ -256,14 +201,15 @@ module _ (M : Objects) (P : Rules) where
     binding : ℕ
     word : IsWord M P r only binding u
 
-  from_parts_word : (r : RelationId) (only : Bool) (b : Relation) → relation_of M r ≡ Some b → IsKind P b.tags only → IsTrue (is_sound M only (in_role (codes "from") b.members) (in_role (codes "via") b.members) (in_role (codes "to") b.members)) → (u : List Step) → Parts M P (in_role (codes "from") b.members) (in_role (codes "via") b.members) (in_role (codes "to") b.members) u → WordOf r only u
-  from_parts_word r only b v k s u p = record {
-    binding = binding_of (in_role (codes "via") b.members);
+  from_parts_word : (r : RelationId) (only : Bool) (b : Relation) → relation_of M r ≡ Some b → IsTrue (is_restriction b.tags) × (P.rule b.tags ≡ kind_of only) × IsUsable M P b → (u : List Step) → Parts M P (froms b) (vias b) (tos b) u → WordOf r only u
+  from_parts_word r only b v k u p = record {
+    binding = binding_of (vias b);
     word = record {
       body = b;
       visible = v;
-      kind = k;
-      sound = s;
+      restriction = k.0;
+      kind = k.1;
+      usable = k.2;
       from_way = p.from_way;
       to_way = p.to_way;
       from_member = p.from_member;
@@ -284,10 +230,10 @@ module _ (M : Objects) (P : Rules) where
   same_body : (b c : Relation) (r : RelationId) → relation_of M r ≡ Some b → relation_of M r ≡ Some c → c ≡ b
   same_body b c r e f = cc (e, f)
 
-  parts_of_word : (r : RelationId) (only : Bool) (b : Relation) → relation_of M r ≡ Some b → (u : List Step) → WordOf r only u → Parts M P (in_role (codes "from") b.members) (in_role (codes "via") b.members) (in_role (codes "to") b.members) u
+  parts_of_word : (r : RelationId) (only : Bool) (b : Relation) → relation_of M r ≡ Some b → (u : List Step) → WordOf r only u → Parts M P (froms b) (vias b) (tos b) u
   parts_of_word r only b v u w =
       let e = same_body b w.word.body r v w.word.visible in
-      subst (λ c. Parts M P (in_role (codes "from") c.members) (in_role (codes "via") c.members) (in_role (codes "to") c.members) u) e (record {
+      subst (λ c. Parts M P (froms c) (vias c) (tos c) u) e (record {
         from_way = w.word.from_way;
         to_way = w.word.to_way;
         from_member = w.word.from_member;
@@ -303,14 +249,27 @@ module _ (M : Objects) (P : Rules) where
         last_begins = w.word.last_begins;
       })
 
-  fin_word : (r : RelationId) (only : Bool) (b : Relation) → relation_of M r ≡ Some b → Decided (IsKind P b.tags only) → Decided (IsTrue (is_sound M only (in_role (codes "from") b.members) (in_role (codes "via") b.members) (in_role (codes "to") b.members))) → Finite (WordOf r only)
-  fin_word r only b v (inl k) (inl s) = fin_by (fin_parts M P _ _ _) (from_parts_word r only b v k s) (parts_of_word r only b v)
-  fin_word r only b v (inl k) (inr n) = fin_none (λ u w. let e = same_body b w.word.body r v w.word.visible in n (subst (λ c. IsTrue (is_sound M only (in_role (codes "from") c.members) (in_role (codes "via") c.members) (in_role (codes "to") c.members))) e w.word.sound))
-  fin_word r only b v (inr n) s = fin_none (λ u w. let e = same_body b w.word.body r v w.word.visible in n (subst (λ c. IsKind P c.tags only) e w.word.kind))
+  -- what a relation must be to give words of the kind
+  Gives : Bool → Relation → Type 0
+  Gives only b = IsTrue (is_restriction b.tags) × (P.rule b.tags ≡ kind_of only) × IsUsable M P b
+
+  gives_decided : (only : Bool) (b : Relation) → Decided (Gives only b)
+  unfolding Gives
+  gives_decided only b = decided_like (λ h. (h.0, h.1.0, h.1.1)) (λ h. (h.0, (h.1, h.2)))
+      (decided_both (decided_true _) (decided_both (decided_kind _ _) (usable_decided M P b)))
+
+  gives : (r : RelationId) (only : Bool) (b : Relation) → relation_of M r ≡ Some b → (u : List Step) → WordOf r only u → Gives only b
+  unfolding Gives
+  gives r only b v u w = let k : IsWord M P r only w.binding u = w.word in subst (Gives only) (same_body b k.body r v k.visible) (k.restriction, k.kind, k.usable)
+
+  fin_word : (r : RelationId) (only : Bool) (b : Relation) → relation_of M r ≡ Some b → Decided (Gives only b) → Finite (WordOf r only)
+  unfolding Gives
+  fin_word r only b v (inl k) = fin_by (fin_parts M P _ _ _) (from_parts_word r only b v k) (parts_of_word r only b v)
+  fin_word r only b v (inr n) = fin_none (λ u w. n (gives r only b v u w))
 
   fin_body : (r : RelationId) (only : Bool) (o : Option Relation) → relation_of M r ≡ o → Finite (WordOf r only)
   fin_body r only None e = fin_none (λ u w. let f = w.word.visible in cc (e, f))
-  fin_body r only (Some b) e = fin_word r only b e (decided_both (decided_true _) (kind_decided _ only)) (decided_true _)
+  fin_body r only (Some b) e = fin_word r only b e (gives_decided only b)
 
   fin_words : Finite (AnyWord M P)
   fin_words = fin_by
@@ -345,8 +304,8 @@ more_decided [] (t ∷ u) = inl (record { next = t; rest = u; is = refl })
 more_decided (s ∷ v) [] = inr (λ m. let f = m.is in cc (f))
 more_decided (s ∷ v) (t ∷ u) = more_after s v t u (decided_step s t) (more_decided v u)
 
-pub goes_on : (M : Objects) (P : Rules) (v : List Step) → Decided (Continues M P v)
-goes_on M P v = decided_like
+pub continues : (M : Objects) (P : Rules) (v : List Step) → Decided (Continues M P v)
+continues M P v = decided_like
     (λ h. record { next = h.2.next; rest = h.2.rest; word = subst (AnyWord M P) h.2.is h.1 })
     (λ g. (v ++ g.next ∷ g.rest, g.word, record { next = g.next; rest = g.rest; is = refl }))
     (search_finite (More v) (fin_words M P) (more_decided v))

@@ -1,15 +1,14 @@
 -- One piece behind legal pieces: its first step decides.
-use Rattle.std.proofs.Common.{◌≡◌, ◌↔◌, ℕ, List, [], ◌∷◌, ◌++◌, refl, sym, ap, ◌∙◌, subst, append_assoc, append-nil}
+use Rattle.std.proofs.Common.{◌≡◌, ◌↔◌, List, [], ◌∷◌, ◌++◌, sym, ap, ◌∙◌, subst, append_assoc, append-nil}
 use Rattle.road_base.specs.declared.ids.Step.{Step}
 use Rattle.road_base.specs.Objects.{Objects}
 use Rattle.road_model.specs.Rules.{Rules}
 use Rattle.road_model.specs.Driving.{Passes}
 use Rattle.road_model.specs.Pieces.{Piece, IsPiece, spell}
-use Rattle.road_model.specs.Network.{Drives, NoWord, OnlyWord, Legal, Must, GoesOn}
-use Rattle.road_model.proofs.Splits.{Cut, Behind, Before, cut, cons_not_nil, same_last, Ends, Nil, Last, ends}
+use Rattle.road_model.specs.Network.{Drives, NoWord, Legal, Must, GoesOn}
+use Rattle.road_model.proofs.Splits.{Behind, Before, cut, cons_not_nil, same_last, Ends, Nil, Last, ends}
 use Rattle.road_model.proofs.Shapes.{stretch}
 use Rattle.road_model.proofs.PieceLaws.{behind_whole}
-use Rattle.road_model.proofs.Walking.{inner_legal}
 
 module _ (M : Objects) (P : Rules) where
   -- what makes a drive with one step more legal holds of it
@@ -68,5 +67,5 @@ module _ (M : Objects) (P : Rules) where
   one_junction d t first more some l i e = (
     (λ h. goes_on d more first some (subst (λ v. Legal M P (d ++ v)) e h)),
     (λ g. let drives = (stretch M P t i).drives [] first more e in
-        subst (λ v. Legal M P v) (append_assoc d (first ∷ []) more ∙ ap (λ v. d ++ v) (sym e)) (behind_whole M P t [] first more d i e (one_more d first l drives g)))
+        subst (λ v. Legal M P v) (append_assoc d (first ∷ []) more ∙ ap (λ v. d ++ v) (sym e)) (behind_whole M P t [] first more d i e (one_more d first l drives g))),
   )

@@ -18,4 +18,6 @@ pub mod Joining
 pub mod StraightOn
 pub mod WalkLaw
 pub mod Enumerated
+pub mod FiniteRuns
+pub mod Usable
 pub mod FiniteWords

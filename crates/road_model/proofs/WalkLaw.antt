@@ -173,9 +173,9 @@ one_walk M P d b c v w =
     let l = x.longest y.front c y.is y.holds in let m = y.longest x.front b x.is x.holds in
     same_end x.front b y.front c (sym x.is ∙ y.is) (omega arith)
 
-module _ (M : Objects) (P : Rules) (goes_on : (v : List Step) → Decided (Continues M P v)) where
+module _ (M : Objects) (P : Rules) (continues : (v : List Step) → Decided (Continues M P v)) where
   as_walk : (d : List Piece) → (d ≡ [] → ⊥) → Every (IsPiece M P) d → Legal M P (spell_pieces d) → IsWalk M P d
-  as_walk d some i l = let r = walk_of M P goes_on d some i l in record { context = r.0; walks = r.1 }
+  as_walk d some i l = let r = walk_of M P continues d some i l in record { context = r.0; walks = r.1 }
 
   pub onto : (s : List Step) → IsJunctionDrive M P s → IsSpelled M P s
   onto s j =

@@ -156,7 +156,7 @@ module _ (M : Objects) (P : Rules) where
   longest_of p q o e n l (z ∷ a) b f k = l.longest a b (cc) k
 
   -- where it is decided whether some word goes on, there is a longest context
-  module _ (goes_on : (v : List Step) → Decided (Continues M P v)) where
+  module _ (continues : (v : List Step) → Decided (Continues M P v)) where
     many_decided : (p q : Piece) (o : List Piece) → Every (IsPiece M P) (p ∷ q ∷ o) → Legal M P (spell_pieces (p ∷ q ∷ o)) → (front : List Step) (last : Step) → spell p ≡ front ++ last ∷ [] → Decided (Continues M P (last ∷ spell_pieces (q ∷ o))) → Decided (IsContext M P (p ∷ q ∷ o))
     many_decided p q o i l front last e (inl g) = inl (Many (record { first = p; second = q; others = o; is = refl; pieces = i; legal = l; front = front; last = last; ends = e; next = g.next; rest = g.rest; word = g.word }))
     many_decided p q o i l front last e (inr n) = inr (λ c. not_many p q o front last e n c)
@@ -164,7 +164,7 @@ module _ (M : Objects) (P : Rules) where
     context_decided : (p : Piece) (o : List Piece) → Every (IsPiece M P) (p ∷ o) → Legal M P (spell_pieces (p ∷ o)) → Ends (spell p) → Decided (IsContext M P (p ∷ o))
     context_decided p [] i l e = inl (One p refl i.0)
     context_decided p (q ∷ o) i l (Nil e) = let f = piece_shape M P p i.0 in cc (f.is, e)
-    context_decided p (q ∷ o) i l (Last front last e) = many_decided p q o i l front last e (goes_on (last ∷ spell_pieces (q ∷ o)))
+    context_decided p (q ∷ o) i l (Last front last e) = many_decided p q o i l front last e (continues (last ∷ spell_pieces (q ∷ o)))
 
     longest_itself : (c : List Piece) → IsContext M P c → IsContextOf M P c c
     longest_itself c h = record { front = []; is = refl; holds = h; longest = λ a b e k. let f = length-append a b in let g : length c ≡ length (a ++ b) = ap length e in omega arith }
