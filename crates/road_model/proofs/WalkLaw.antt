@@ -1,5 +1,5 @@
 -- The walk law, where it is decided whether some word goes on.
-use Rattle.std.proofs.Common.{◌≡◌, suc, ◌+◌, ◌≤◌, List, [], ◌∷◌, ◌++◌, length, refl, sym, ap, ◌∙◌, subst, arith, append_assoc, append-nil, length-append}
+use Rattle.std.proofs.Common.{◌≡◌, ◌+◌, ◌≤◌, List, [], ◌∷◌, ◌++◌, length, refl, sym, ap, ◌∙◌, subst, arith, append_assoc, append-nil, length-append}
 use Rattle.road_base.specs.declared.ids.Step.{Step}
 use Rattle.road_base.specs.Objects.{Objects}
 use Rattle.road_model.specs.Rules.{Rules}
@@ -13,8 +13,8 @@ use Rattle.road_model.proofs.Decided.{Decided}
 use Rattle.road_model.proofs.Shapes.{piece_shape}
 use Rattle.road_model.proofs.PieceLaws.{before_whole, behind_whole}
 use Rattle.road_model.proofs.OnePiece.{one_piece}
-use Rattle.road_model.proofs.Walking.{Continues, reached, walk_of, spell_pieces-push}
-use Rattle.road_model.proofs.StraightOn.{Pieces, pieces_of, same_pieces, standing, same_stand, get_split}
+use Rattle.road_model.proofs.Walking.{Continues, reached, one_longest, walk_of, spell_pieces-push}
+use Rattle.road_model.proofs.StraightOn.{Pieces, pieces_of, same_pieces, Standing, standing, same_stand, get_split}
 
 ends_of : (M : Objects) (P : Rules) (q : Piece) → IsPiece M P q → Ends (spell q) → (a : List Step) × (x : Step) × (spell q ≡ a ++ x ∷ [])
 ends_of M P q i (Nil e) = let f = (piece_shape M P q i).is in cc (f, e)
@@ -76,10 +76,6 @@ whole_of M P s l f rest g (Last most x e) =
     let v = get_split M P (spell u.piece) u.place x u.stands.at in
     record { p = o.piece; ip = o.stands.piece; front = r.0; f = f; back = r.1; p_spelled = r.2; rest = rest; begins = g; q = u.piece; iq = u.stands.piece; before = v.0; x = x; behind = v.1; q_spelled = v.2; most = most; stops = e }
 
--- the drive with its first and last piece made whole
-abbrev made : (front s behind : List Step) → List Step
-made front s behind = front ++ (s ++ behind)
-
 begin_of : (front : List Step) (f : Step) (back l : List Step) → l ≡ front ++ f ∷ back → (rest : List Step) → (b : Step) × (more : List Step) × (others : List Step) × (l ≡ b ∷ more) × (front ++ f ∷ rest ≡ b ∷ others)
 begin_of [] f back l e rest = (f, back, rest, e, refl)
 begin_of (b ∷ front) f back l e rest = (b, front ++ f ∷ back, front ++ f ∷ rest, e, refl)
@@ -89,21 +85,42 @@ end_of behind before x l e most (Nil n) = (x, before, most, e ∙ ap (λ v. befo
 end_of behind before x l e most (Last b y n) = (y, before ++ x ∷ b, most ++ x ∷ b, e ∙ ap (λ v. before ++ x ∷ v) n ∙ sym (append_assoc before (x ∷ b) (y ∷ [])), ap (λ v. most ++ x ∷ v) n ∙ sym (append_assoc most (x ∷ b) (y ∷ [])))
 
 module _ (M : Objects) (P : Rules) (s : List Step) (l : Legal M P s) (w : Whole M P s) where
-  pieces_around : Pieces M P (made w.front s w.behind)
+  -- the drive with its first and last piece made whole
+  completed : List Step
+  completed = w.front ++ (s ++ w.behind)
+
+  begins_long : s ++ w.behind ≡ w.f ∷ (w.rest ++ w.behind)
+  begins_long = ap (λ v. v ++ w.behind) w.begins
+
+  stops_long : w.front ++ (s ++ w.behind) ≡ (w.front ++ w.most) ++ w.x ∷ w.behind
+  stops_long = ap (λ v. w.front ++ v) (ap (λ v. v ++ w.behind) w.stops ∙ append_assoc w.most (w.x ∷ []) w.behind) ∙ sym (append_assoc w.front w.most (w.x ∷ w.behind))
+
+  long_legal : Legal M P (s ++ w.behind)
+  long_legal = subst (λ v. Legal M P (v ++ w.behind)) (sym w.stops) (behind_whole M P w.q w.before w.x w.behind w.most w.iq w.q_spelled (subst (Legal M P) w.stops l))
+
+  completed_legal : Legal M P completed
+  unfolding completed
+  completed_legal = subst (λ v. Legal M P (w.front ++ v)) (sym begins_long) (before_whole M P w.p w.front w.f w.back (w.rest ++ w.behind) w.ip w.p_spelled (subst (Legal M P) begins_long long_legal))
+
+  pieces_around : Pieces M P completed
+  unfolding completed
   pieces_around =
-      let e : s ++ w.behind ≡ w.f ∷ (w.rest ++ w.behind) = ap (λ v. v ++ w.behind) w.begins in
-      let g : s ++ w.behind ≡ w.most ++ w.x ∷ w.behind = ap (λ v. v ++ w.behind) w.stops ∙ append_assoc w.most (w.x ∷ []) w.behind in
-      let long : Legal M P (s ++ w.behind) = subst (λ v. Legal M P (v ++ w.behind)) (sym w.stops) (behind_whole M P w.q w.before w.x w.behind w.most w.iq w.q_spelled (subst (Legal M P) w.stops l)) in
-      let all : Legal M P (w.front ++ (s ++ w.behind)) = subst (λ v. Legal M P (w.front ++ v)) (sym e) (before_whole M P w.p w.front w.f w.back (w.rest ++ w.behind) w.ip w.p_spelled (subst (Legal M P) e long)) in
       let b = begin_of w.front w.f w.back (spell w.p) w.p_spelled (w.rest ++ w.behind) in
       let c = end_of w.behind w.before w.x (spell w.q) w.q_spelled (w.front ++ w.most) (ends w.behind) in
-      pieces_of M P (w.front ++ (s ++ w.behind)) w.p w.ip b.0 b.1 b.2 b.3 (ap (λ v. w.front ++ v) e ∙ b.4) all w.q w.iq c.1 c.0 c.3 c.2 (ap (λ v. w.front ++ v) g ∙ sym (append_assoc w.front w.most (w.x ∷ w.behind)) ∙ c.4)
+      pieces_of M P (w.front ++ (s ++ w.behind)) w.p w.ip b.0 b.1 b.2 b.3 (ap (λ v. w.front ++ v) begins_long ∙ b.4) completed_legal w.q w.iq c.1 c.0 c.3 c.2 (stops_long ∙ c.4)
 
-  all_legal : Legal M P (made w.front s w.behind)
-  all_legal =
-      let e : s ++ w.behind ≡ w.f ∷ (w.rest ++ w.behind) = ap (λ v. v ++ w.behind) w.begins in
-      let long : Legal M P (s ++ w.behind) = subst (λ v. Legal M P (v ++ w.behind)) (sym w.stops) (behind_whole M P w.q w.before w.x w.behind w.most w.iq w.q_spelled (subst (Legal M P) w.stops l)) in
-      subst (λ v. Legal M P (w.front ++ v)) (sym e) (before_whole M P w.p w.front w.f w.back (w.rest ++ w.behind) w.ip w.p_spelled (subst (Legal M P) e long))
+  -- pieces that begin with the drive's first piece and have its last step in their last piece are these
+  up_to_last : (d : List Piece) (c : List Step) → Every (IsPiece M P) d → (b : Standing M P d (w.front ++ w.most) w.x c) → b.before ++ b.piece ∷ [] ≡ pieces_around.list
+  unfolding completed
+  up_to_last d c i b =
+      let j = subst (Every (IsPiece M P)) b.is i in
+      let k = (Every-tail (IsPiece M P) b.before (b.piece ∷ b.behind) j).0 in
+      let same = same_stand M P b.piece w.q k w.iq b.front w.x b.back w.before w.behind b.spelled w.q_spelled in
+      let spelled : spell_pieces (b.before ++ b.piece ∷ []) ≡ w.front ++ (s ++ w.behind) =
+      spell_pieces-push M P b.before b.piece ∙ ap (λ v. spell_pieces b.before ++ v) b.spelled ∙ sym (append_assoc (spell_pieces b.before) b.front (w.x ∷ b.back))
+      ∙ ap (λ v. v ++ w.x ∷ b.back) (sym b.left) ∙ ap (λ v. (w.front ++ w.most) ++ w.x ∷ v) same.2 ∙ sym stops_long in
+      let each = Every-append (IsPiece M P) b.before (b.piece ∷ []) (Every-front (IsPiece M P) b.before (b.piece ∷ b.behind) j) (k, tt) in
+      same_pieces M P (b.before ++ b.piece ∷ []) pieces_around.list each pieces_around.pieces (spelled ∙ sym pieces_around.spelled)
 
   -- a list of pieces that carries the drive has these pieces among its own
   record Among (e : List Piece) : Type 0 where
@@ -111,28 +128,27 @@ module _ (M : Objects) (P : Rules) (s : List Step) (l : Legal M P s) (w : Whole 
     right : List Piece
     is : e ≡ left ++ (pieces_around.list ++ right)
 
+  -- what the pieces from the drive's first one on spell
+  from_first : (before behind : List Step) (e : List Piece) (a : Standing M P e before w.f (w.rest ++ behind)) → IsPiece M P a.piece → spell_pieces (a.piece ∷ a.behind) ≡ (w.front ++ w.most) ++ w.x ∷ behind
+  from_first before behind e a i =
+      let same = same_stand M P a.piece w.p i w.ip a.front w.f a.back w.front w.back a.spelled w.p_spelled in
+      ap (λ v. v ++ spell_pieces a.behind) a.spelled ∙ append_assoc a.front (w.f ∷ a.back) (spell_pieces a.behind) ∙ ap (λ v. a.front ++ w.f ∷ v) (sym a.right) ∙ ap (λ v. v ++ w.f ∷ (w.rest ++ behind)) same.1
+      ∙ ap (λ v. w.front ++ (v ++ behind)) (sym w.begins ∙ w.stops) ∙ ap (λ v. w.front ++ v) (append_assoc w.most (w.x ∷ []) behind) ∙ sym (append_assoc w.front w.most (w.x ∷ behind))
+
+  among_by : (before behind : List Step) (e : List Piece) (a : Standing M P e before w.f (w.rest ++ behind)) → Every (IsPiece M P) (a.piece ∷ a.behind) → Standing M P (a.piece ∷ a.behind) (w.front ++ w.most) w.x behind → Among e
+  among_by before behind e a i b = record {
+    left = a.before;
+    right = b.behind;
+    is = a.is ∙ ap (λ v. a.before ++ v) (b.is ∙ sym (append_assoc b.before (b.piece ∷ []) b.behind) ∙ ap (λ v. v ++ b.behind) (up_to_last (a.piece ∷ a.behind) behind i b));
+  }
+
+  among_from : (before behind : List Step) (e : List Piece) → Every (IsPiece M P) e → Standing M P e before w.f (w.rest ++ behind) → Among e
+  among_from before behind e i a =
+      let j = Every-tail (IsPiece M P) a.before (a.piece ∷ a.behind) (subst (Every (IsPiece M P)) a.is i) in
+      among_by before behind e a j (standing M P (a.piece ∷ a.behind) (w.front ++ w.most) w.x behind (from_first before behind e a j.0))
+
   among : (e : List Piece) → Every (IsPiece M P) e → Carries e s → Among e
-  among e i c =
-      let a = standing M P e c.before w.f (w.rest ++ c.behind) (c.is ∙ ap (λ v. c.before ++ (v ++ c.behind)) w.begins) in
-      let ia = Every-tail (IsPiece M P) a.before (a.piece ∷ a.behind) (subst (Every (IsPiece M P)) a.is i) in
-      let same = same_stand M P a.piece w.p ia.0 w.ip a.front w.f a.back w.front w.back a.spelled w.p_spelled in
-      let tail : spell_pieces (a.piece ∷ a.behind) ≡ (w.front ++ w.most) ++ w.x ∷ c.behind =
-      ap (λ v. v ++ spell_pieces a.behind) a.spelled ∙ append_assoc a.front _ _ ∙ ap (λ v. a.front ++ w.f ∷ v) (sym a.right) ∙ ap (λ v. v ++ w.f ∷ (w.rest ++ c.behind)) same.1
-      ∙ ap (λ v. w.front ++ (v ++ c.behind)) (sym w.begins ∙ w.stops) ∙ ap (λ v. w.front ++ v) (append_assoc w.most _ _) ∙ sym (append_assoc w.front w.most _) in
-      let b = standing M P (a.piece ∷ a.behind) (w.front ++ w.most) w.x c.behind tail in
-      let ib = Every-tail (IsPiece M P) b.before (b.piece ∷ b.behind) (subst (Every (IsPiece M P)) b.is ia) in
-      let at = same_stand M P b.piece w.q ib.0 w.iq b.front w.x b.back w.before w.behind b.spelled w.q_spelled in
-      let inner : List Piece = b.before ++ b.piece ∷ [] in
-      let spelled : spell_pieces (b.before ++ b.piece ∷ []) ≡ made w.front s w.behind =
-      spell_pieces-push M P b.before b.piece ∙ ap (λ v. spell_pieces b.before ++ v) b.spelled ∙ sym (append_assoc (spell_pieces b.before) b.front _) ∙ ap (λ v. v ++ w.x ∷ b.back) (sym b.left)
-      ∙ ap (λ v. (w.front ++ w.most) ++ w.x ∷ v) at.2 ∙ append_assoc w.front w.most _ ∙ ap (λ v. w.front ++ v) (sym (append_assoc w.most (w.x ∷ []) w.behind) ∙ ap (λ v. v ++ w.behind) (sym w.stops)) in
-      let each = Every-append (IsPiece M P) b.before (b.piece ∷ []) (Every-front (IsPiece M P) b.before (b.piece ∷ b.behind) (subst (Every (IsPiece M P)) b.is ia)) (ib.0, tt) in
-      let list = same_pieces M P (b.before ++ b.piece ∷ []) pieces_around.list each pieces_around.pieces (spelled ∙ sym pieces_around.spelled) in
-      record {
-        left = a.before;
-        right = b.behind;
-        is = a.is ∙ ap (λ v. a.before ++ v) (b.is ∙ sym (append_assoc b.before (b.piece ∷ []) b.behind) ∙ ap (λ v. v ++ b.behind) list);
-      }
+  among e i c = among_from c.before c.behind e i (standing M P e c.before w.f (w.rest ++ c.behind) (c.is ∙ ap (λ v. c.before ++ (v ++ c.behind)) w.begins))
 
   among_length : (e : List Piece) (a : Among e) → length e ≡ length a.left + (length pieces_around.list + length a.right)
   among_length e a = let f = length-append a.left (pieces_around.list ++ a.right) in let g = length-append pieces_around.list a.right in ap length a.is ∙ f ∙ ap (λ v. length a.left + v) g
@@ -160,18 +176,9 @@ spelled M P d w = let r = reached M P d w.context w.walks in junction_drive M P 
 pub one_to_one : (M : Objects) (P : Rules) (d e : List Piece) → IsWalk M P d → IsWalk M P e → spell_pieces d ≡ spell_pieces e → d ≡ e
 one_to_one M P d e v w h = same_pieces M P d e (walk_pieces M P d v) (walk_pieces M P e w) h
 
-same_end : (a b x y : List Piece) → a ++ b ≡ x ++ y → length b ≡ length y → b ≡ y
-same_end [] b [] y e l = e
-same_end [] b (z ∷ x) y e l = let f : length b ≡ suc (length (x ++ y)) = ap length e in let g = length-append x y in absurd (omega arith)
-same_end (z ∷ a) b [] y e l = let f : suc (length (a ++ b)) ≡ length y = ap length e in let g = length-append a b in absurd (omega arith)
-same_end (z ∷ a) b (w ∷ x) y e l = same_end a b x y (cc) l
-
 -- the pieces of a walk determine its context
 pub one_walk : (M : Objects) (P : Rules) (d b c : List Piece) → WalksTo M P d b → WalksTo M P d c → b ≡ c
-one_walk M P d b c v w =
-    let x = (reached M P d b v).longest in let y = (reached M P d c w).longest in
-    let l = x.longest y.front c y.is y.holds in let m = y.longest x.front b x.is x.holds in
-    same_end x.front b y.front c (sym x.is ∙ y.is) (omega arith)
+one_walk M P d b c v w = one_longest M P d b c (reached M P d b v).longest (reached M P d c w).longest
 
 module _ (M : Objects) (P : Rules) (continues : (v : List Step) → Decided (Continues M P v)) where
   as_walk : (d : List Piece) → (d ≡ [] → ⊥) → Every (IsPiece M P) d → Legal M P (spell_pieces d) → IsWalk M P d
@@ -183,11 +190,12 @@ module _ (M : Objects) (P : Rules) (continues : (v : List Step) → Decided (Con
       record { walk = r.list; is = as_walk r.list r.some r.pieces (rw r.spelled j.legal); spelled = r.spelled }
 
   shortest_of : (s : List Step) (l : Legal M P s) (w : Whole M P s) → HasShortest M P s
+  unfolding completed
   shortest_of s l w =
       let r = pieces_around M P s l w in
       record {
         walk = r.list;
-        is = as_walk r.list r.some r.pieces (rw r.spelled (all_legal M P s l w));
+        is = as_walk r.list r.some r.pieces (rw r.spelled (completed_legal M P s l w));
         carries = record { before = w.front; behind = w.behind; is = r.spelled };
         least = λ e k c. let a = among M P s l w e (walk_pieces M P e k) c in let n = among_length M P s l w e a in omega arith;
         only = λ e k c h. among_only M P s l w e (among M P s l w e (walk_pieces M P e k) c) h;

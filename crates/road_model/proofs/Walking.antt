@@ -6,7 +6,7 @@ use Rattle.road_model.specs.Rules.{Rules}
 use Rattle.road_model.specs.Driving.{Passes}
 use Rattle.road_model.specs.Pieces.{Piece, IsPiece, spell}
 use Rattle.road_model.specs.Contexts.{Every, IsMany, One, Many}
-use Rattle.road_model.specs.Network.{Drives, NoWord, OnlyWord, AnyWord, Legal, IsContext, IsContextOf, IsArc, spell_pieces}
+use Rattle.road_model.specs.Network.{Drives, NoWord, OnlyWord, AnyWord, Legal, IsContext, IsContextOf, IsArc, HasNoWords, spell_pieces}
 use Rattle.road_model.specs.Walks.{WalksTo, Start, Go}
 use Rattle.road_model.proofs.Splits.{Behind, Before, cut, cons_not_nil, same_last, Ends, Nil, Last, ends}
 use Rattle.road_model.proofs.LegalLists.{infix_legal}
@@ -28,6 +28,12 @@ alone_length s a u b e =
 
 word_length : (f : Step) (via : List Step) (t : Step) → 2 ≤ length (f ∷ (via ++ t ∷ []))
 word_length f via t = let h = length-append via (t ∷ []) in omega arith
+
+same_end : (a b x y : List Piece) → a ++ b ≡ x ++ y → length b ≡ length y → b ≡ y
+same_end [] b [] y e l = e
+same_end [] b (z ∷ x) y e l = let f : length b ≡ suc (length (x ++ y)) = ap length e in let g = length-append x y in absurd (omega arith)
+same_end (z ∷ a) b [] y e l = let f : suc (length (a ++ b)) ≡ length y = ap length e in let g = length-append a b in absurd (omega arith)
+same_end (z ∷ a) b (w ∷ x) y e l = same_end a b x y (cc) l
 
 module _ (M : Objects) (P : Rules) where
   pub inner_legal : (x d y : List Step) → (d ≡ [] → ⊥) → Legal M P (x ++ (d ++ y)) → Legal M P d
@@ -97,6 +103,21 @@ module _ (M : Objects) (P : Rules) where
   shorter_context (k ∷ b) h t i j c e (One p f g) = cc
   shorter_context (k ∷ b) h t i j c e (Many m) = Many (front_context h k b t i c e m)
 
+  context_pieces : (c : List Piece) → IsContext M P c → Every (IsPiece M P) c
+  context_pieces c (One p e h) = rw e (h, tt)
+  context_pieces c (Many m) = m.pieces
+
+  pub without_last : (e : List Piece) (t : Piece) → (e ≡ [] → ⊥) → IsContext M P (e ++ t ∷ []) → IsContext M P e
+  without_last [] t some k = absurd (some refl)
+  without_last (h ∷ b) t some k =
+      let i = context_pieces (h ∷ (b ++ t ∷ [])) k in
+      shorter_context b h t (Every-tail (IsPiece M P) b (t ∷ []) i.1).0 i.0 (h ∷ (b ++ t ∷ [])) refl k
+
+  -- where there are no words, a context is one piece
+  pub one_alone : (c : List Piece) → HasNoWords M P → IsContext M P c → (p : Piece) × (c ≡ p ∷ [])
+  one_alone c none (One p e h) = (p, e)
+  one_alone c none (Many m) = absurd (none _ m.word)
+
   -- the longest context that ends the walk so far and t ends the longest context so far and t
   pub record Reached (d c : List Piece) : Type 0 where
     pub pieces : Every (IsPiece M P) d
@@ -114,6 +135,12 @@ module _ (M : Objects) (P : Rules) where
     | Before z c p q ↦ let f : length b ≡ suc (length (c ++ y)) = ap length q in let g = length-append c y in absurd (omega arith)
   ]
 
+  -- of the longest contexts that end a list there is one
+  pub one_longest : (d b c : List Piece) → IsContextOf M P d b → IsContextOf M P d c → b ≡ c
+  one_longest d b c x y =
+      let l = x.longest y.front c y.is y.holds in let m = y.longest x.front b x.is x.holds in
+      same_end x.front b y.front c (sym x.is ∙ y.is) (omega arith)
+
   next_longest : (d c e : List Piece) (t : Piece) → IsPiece M P t → Every (IsPiece M P) d → IsContextOf M P d c → IsContextOf M P (c ++ t ∷ []) e → (a b : List Piece) → d ++ t ∷ [] ≡ a ++ b → IsContext M P b → Ends b → length b ≤ length e
   next_longest d c e t i v l m a b q k (Nil n) = let g = ap length n in omega arith
   next_longest d c e t i v l m a b q k (Last [] u n) = let g = ap length n in let f = some_context e m.holds in omega arith
@@ -124,6 +151,14 @@ module _ (M : Objects) (P : Rules) where
       let z = end_within a (h ∷ b') l.front c (sym r.front ∙ l.is) (l.longest a (h ∷ b') r.front s) in
       m.longest z.0 b (ap (λ x. x ++ t ∷ []) z.1 ∙ append_assoc z.0 (h ∷ b') (t ∷ []) ∙ ap (λ x. z.0 ++ x) (ap (λ x. (h ∷ b') ++ x ∷ []) r.last ∙ sym n)) k
 
+  pub next_context : (d b c : List Piece) (t : Piece) → Every (IsPiece M P) d → IsPiece M P t → IsContextOf M P d b → IsContextOf M P (b ++ t ∷ []) c → IsContextOf M P (d ++ t ∷ []) c
+  next_context d b c t v i l m = record {
+    front = l.front ++ m.front;
+    is = ap (λ x. x ++ t ∷ []) l.is ∙ append_assoc l.front b (t ∷ []) ∙ ap (λ x. l.front ++ x) m.is ∙ sym (append_assoc l.front m.front c);
+    holds = m.holds;
+    longest = λ x y f k. next_longest d b c t i v l m x y f k (ends y);
+  }
+
   reached_go : (d e b c : List Piece) (t : Piece) → d ≡ e ++ t ∷ [] → Reached e b → IsArc M P b t c → Reached d c
   reached_go d e b c t q r a =
       let l = r.longest in let m = a.to in
@@ -131,12 +166,7 @@ module _ (M : Objects) (P : Rules) where
       record {
         pieces = rw q (Every-append (IsPiece M P) e (t ∷ []) r.pieces (a.by, tt));
         legal = rw (q, spell_pieces-push e t) legal;
-        longest = record {
-          front = l.front ++ m.front;
-          is = q ∙ ap (λ x. x ++ t ∷ []) l.is ∙ append_assoc l.front b (t ∷ []) ∙ ap (λ x. l.front ++ x) m.is ∙ sym (append_assoc l.front m.front c);
-          holds = m.holds;
-          longest = λ x y f k. next_longest e b c t a.by r.pieces l m x y (sym q ∙ f) k (ends y);
-        };
+        longest = subst (λ v. IsContextOf M P v c) (sym q) (next_context e b c t r.pieces a.by l m);
       }
 
   pub reached : (d c : List Piece) → WalksTo M P d c → Reached d c
@@ -184,8 +214,8 @@ module _ (M : Objects) (P : Rules) where
       | inr n ↦ let r = longest_exists q o i.1 (inner_legal (spell p) (spell_pieces (q ∷ o)) [] (some_steps q o i.1.0) (subst (Legal M P) (ap (λ v. spell p ++ v) (sym (append-nil _))) l)) in (r.0, longest_more p q o r.0 n r.1)
     ]
 
-    longest_of_any : (c : List Piece) → 1 ≤ length c → Every (IsPiece M P) c → Legal M P (spell_pieces c) → (e : List Piece) × IsContextOf M P c e
-    longest_of_any [] h i l = absurd (omega arith)
+    pub longest_of_any : (c : List Piece) → (c ≡ [] → ⊥) → Every (IsPiece M P) c → Legal M P (spell_pieces c) → (e : List Piece) × IsContextOf M P c e
+    longest_of_any [] h i l = absurd (h refl)
     longest_of_any (p ∷ o) h i l = longest_exists p o i l
 
     go_on : (d b : List Piece) (t : Piece) → Every (IsPiece M P) (d ++ t ∷ []) → Legal M P (spell_pieces (d ++ t ∷ [])) → WalksTo M P d b → (c : List Piece) × WalksTo M P (d ++ t ∷ []) c
@@ -195,7 +225,7 @@ module _ (M : Objects) (P : Rules) where
         let it = Every-tail (IsPiece M P) d (t ∷ []) i in
         let legal : Legal M P (spell_pieces b ++ spell t) = (context_decides M P d b t r.pieces r.legal k).0 (rw spell_pieces-push at l) in
         let ib = Every-tail (IsPiece M P) k.front b (rw k.is at r.pieces) in
-        let e = longest_of_any (b ++ t ∷ []) (rw length-append (omega arith)) (Every-append (IsPiece M P) b (t ∷ []) ib it) (rw spell_pieces-push legal) in
+        let e = longest_of_any (b ++ t ∷ []) (cons_not_nil b t []) (Every-append (IsPiece M P) b (t ∷ []) ib it) (rw spell_pieces-push legal) in
         (e.0, Go {c = e.0} d b t w (record { from = k.holds; by = it.0; legal = legal; to = e.1 }) refl)
 
     walk_push : (d : List Piece) (t : Piece) → ((d ≡ [] → ⊥) → Every (IsPiece M P) d → Legal M P (spell_pieces d) → (c : List Piece) × WalksTo M P d c) → Every (IsPiece M P) (d ++ t ∷ []) → Legal M P (spell_pieces (d ++ t ∷ [])) → (c : List Piece) × WalksTo M P (d ++ t ∷ []) c

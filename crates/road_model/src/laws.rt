@@ -11,7 +11,7 @@ ghost use Rattle.road_model.specs.Lines.{head_of};
 ghost use Rattle.road_model.specs.Driving.{drivable, Leaves};
 ghost use Rattle.road_model.specs.Pieces.{Piece, IsPiece, IsInOnePiece, BeginsPiece, spell};
 ghost use Rattle.road_model.specs.Contexts.{Every};
-ghost use Rattle.road_model.specs.Network.{Legal, GoesOn, IsContextOf, spell_pieces};
+ghost use Rattle.road_model.specs.Network.{AnyWord, Legal, GoesOn, IsContext, IsContextOf, HasNoWords, spell_pieces};
 ghost use Rattle.road_model.specs.Walks.{WalksTo, IsWalk, IsJunctionDrive, IsSpelled, HasShortest};
 ghost use Rattle.road_model.specs.Naming.{OnePiece, OneEntry, OneBlock, OneGraph};
 
@@ -92,6 +92,53 @@ pub fn one_junction<P: Profile>(profile: &P)
         → IsPiece M (P.rules profile.now) t
         → spell t ≡ first ∷ more
         → Legal M (P.rules profile.now) (spell_pieces d ++ spell t) ↔ GoesOn M (P.rules profile.now) (spell_pieces d) first }
+{}
+
+/// A run of neighbouring steps of a legal drive is legal.
+pub fn drive_parts<P: Profile>(profile: &P)
+    ensures { (M : Objects) (before d behind : List Step)
+        → (d ≡ [] → ⊥)
+        → Legal M (P.rules profile.now) (before ++ (d ++ behind))
+        → Legal M (P.rules profile.now) d }
+{}
+
+/// Inside a piece, between two of its steps, no word begins or ends, and one that comes there goes straight on.
+pub fn words_at_junctions<P: Profile>(profile: &P)
+    ensures begins { (M : Objects) (p : Piece) (front : List Step) (s t : Step) (back rest : List Step)
+        → IsPiece M (P.rules profile.now) p
+        → spell p ≡ front ++ s ∷ t ∷ back
+        → AnyWord M (P.rules profile.now) (s ∷ rest)
+        → ⊥ }
+    ensures ends { (M : Objects) (p : Piece) (front : List Step) (s t : Step) (back before : List Step)
+        → IsPiece M (P.rules profile.now) p
+        → spell p ≡ front ++ s ∷ t ∷ back
+        → AnyWord M (P.rules profile.now) (before ++ t ∷ [])
+        → ⊥ }
+    ensures goes_straight { (M : Objects) (p : Piece) (front : List Step) (s t next : Step) (back before rest : List Step)
+        → IsPiece M (P.rules profile.now) p
+        → spell p ≡ front ++ s ∷ t ∷ back
+        → AnyWord M (P.rules profile.now) (before ++ s ∷ next ∷ rest)
+        → next ≡ t }
+{}
+
+/// A context without its last piece is a context, if some piece is left. A legal list of pieces ends with one longest
+/// context, which is found piece by piece: with one more piece it is the longest one that ends the last one and this
+/// piece. Where no restriction gives a word, a context is one piece.
+pub fn contexts<P: Profile>(profile: &P)
+    ensures shorter { (M : Objects) (e : List Piece) (t : Piece) → (e ≡ [] → ⊥) → IsContext M (P.rules profile.now) (e ++ t ∷ []) → IsContext M (P.rules profile.now) e }
+    ensures some { (M : Objects) (d : List Piece)
+        → (d ≡ [] → ⊥)
+        → Every (IsPiece M (P.rules profile.now)) d
+        → Legal M (P.rules profile.now) (spell_pieces d)
+        → (c : List Piece) × IsContextOf M (P.rules profile.now) d c }
+    ensures one { (M : Objects) (d b c : List Piece) → IsContextOf M (P.rules profile.now) d b → IsContextOf M (P.rules profile.now) d c → b ≡ c }
+    ensures next { (M : Objects) (d b c : List Piece) (t : Piece)
+        → Every (IsPiece M (P.rules profile.now)) d
+        → IsPiece M (P.rules profile.now) t
+        → IsContextOf M (P.rules profile.now) d b
+        → IsContextOf M (P.rules profile.now) (b ++ t ∷ []) c
+        → IsContextOf M (P.rules profile.now) (d ++ t ∷ []) c }
+    ensures alone { (M : Objects) (c : List Piece) → HasNoWords M (P.rules profile.now) → IsContext M (P.rules profile.now) c → (p : Piece) × (c ≡ p ∷ []) }
 {}
 
 /// What may follow a legal list of pieces is decided by the longest context that ends it.
