@@ -17,11 +17,6 @@ pub decided_not : {A : Type 0} → Decided A → Decided (A → ⊥)
 decided_not (inl a) = inr (λ n. n a)
 decided_not (inr n) = inl n
 
-pub decided_either : {A B : Type 0} → Decided A → Decided B → Decided (A ⊎ B)
-decided_either (inl a) d = inl (inl a)
-decided_either (inr n) (inl b) = inl (inr b)
-decided_either (inr n) (inr m) = inr (λ h. elim h [ inl a ↦ n a | inr b ↦ m b ])
-
 pub decided_like : {A B : Type 0} → (A → B) → (B → A) → Decided A → Decided B
 decided_like f g (inl a) = inl (f a)
 decided_like f g (inr n) = inr (λ b. n (g b))
@@ -46,6 +41,9 @@ in_more Q x xs (inr n) (inr r) = inr (λ a i q. elim i [ inl e ↦ n (subst Q e 
 pub some_in : {A : Type 0} (Q : A → Type 0) → ((a : A) → Decided (Q a)) → (xs : List A) → ((a : A) × In a xs × Q a) ⊎ ((a : A) → In a xs → Q a → ⊥)
 some_in Q each [] = inr (λ a i q. i)
 some_in Q each (x ∷ xs) = in_more Q x xs (each x) (some_in Q each xs)
+
+pub order : (i j : ℕ) → (i < j) ⊎ ((i ≡ j) ⊎ (j < i))
+order i j = grind arith
 
 below_cases : (k n : ℕ) → k < suc n → (k ≡ n) ⊎ (k < n)
 below_cases k n h = grind arith

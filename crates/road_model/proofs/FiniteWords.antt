@@ -22,7 +22,7 @@ use Rattle.road_model.specs.Network.{AnyWord}
 use Rattle.road_model.proofs.Members.{In, in_from_contains, contains_from_in}
 use Rattle.road_model.proofs.Decided.{Decided, decided_both, decided_like, decided_true}
 use Rattle.road_model.proofs.Positions.{decided_option, decided_number, decided_way, decided_less, decided_node}
-use Rattle.road_model.proofs.Shapes.{step}
+use Rattle.road_model.proofs.Spelling.{step}
 use Rattle.road_model.proofs.Enumerated.{Finite, fin_none, fin_one, fin_or, fin_like, fin_by, fin_if, fin_bind, fin_list, fin_some, search_finite}
 use Rattle.road_model.proofs.FiniteRuns.{pair_is, fin_run}
 use Rattle.road_model.proofs.Usable.{decided_kind, usable_decided}

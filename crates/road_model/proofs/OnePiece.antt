@@ -9,8 +9,9 @@ use Rattle.road_model.specs.Rules.{Rules}
 use Rattle.road_model.specs.Lines.{line_of, node_at}
 use Rattle.road_model.specs.Driving.{is_open, located, drivable}
 use Rattle.road_model.specs.Pieces.{IsPlain, Piece, IsPiece, IsInOnePiece}
+use Rattle.road_model.proofs.Decided.{order}
 use Rattle.road_model.proofs.Positions.{plain_decided}
-use Rattle.road_model.proofs.Spelling.{Inside, place, stands, stands_inside}
+use Rattle.road_model.proofs.Spelling.{Inside, step, place, stands, stands_inside}
 
 -- the nearest junction at or before k
 record Left (M : Objects) (P : Rules) (w : WayId) (k : ℕ) : Type 0 where
@@ -67,9 +68,6 @@ pub record Parts (M : Objects) (P : Rules) (w : WayId) (d : Dir) (k : ℕ) : Typ
   pub here : IsTrue (located M (node_at M w k))
   pub next : IsTrue (located M (node_at M w (k + 1)))
 
-abbrev step : WayId → Dir → ℕ → Step
-step w d i = record { way = w; index = i; dir = d }
-
 pub parts : (M : Objects) (P : Rules) (w : WayId) (d : Dir) (k : ℕ) → IsTrue (drivable M P (record { way = w; index = k; dir = d })) → Parts M P w d k
 unfolding drivable
 parts M P w d k h = let a = and_parts _ _ h in let b = and_parts _ _ a.1 in record { is_free = a.0; here = b.0; next = b.1 }
@@ -83,9 +81,6 @@ plain_here M P w k p = rw p.is p.here
 
 plain_before : (M : Objects) (P : Rules) (w : WayId) (k : ℕ) → IsPlain M P w (k + 1) → IsTrue (located M (node_at M w k))
 plain_before M P w k p = let e : k + 1 - 1 ≡ k = omega arith in subst (λ x. IsTrue (located M (node_at M w x))) e p.before
-
-order : (m k : ℕ) → (m < k) ⊎ ((m ≡ k) ⊎ (k < m))
-order m k = grind arith
 
 module _ (M : Objects) (P : Rules) (w : WayId) (d : Dir) (k : ℕ) (h : IsTrue (drivable M P (record { way = w; index = k; dir = d }))) (l : Left M P w k) (r : Right M P w (k + 1)) where
   the_piece : Piece

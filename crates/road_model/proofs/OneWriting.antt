@@ -1,5 +1,5 @@
 -- Pieces are told apart by their names; what is written of a piece, of a way and of an object map is one thing.
-use Rattle.std.proofs.Common.{◌≡◌, ℕ, ◌<◌, List, length, ◌⊎◌, inl, inr, sym, ap, ◌∙◌, subst, arith, Some, slice_get}
+use Rattle.std.proofs.Common.{◌≡◌, ℕ, List, length, inl, inr, sym, ap, ◌∙◌, subst, arith, Some, slice_get}
 use Rattle.road_base.specs.declared.ids.WayId.{WayId}
 use Rattle.road_base.specs.Objects.{Objects}
 use Rattle.road_model.specs.declared.lists.Place.{Place}
@@ -11,11 +11,9 @@ use Rattle.road_model.specs.Pieces.{IsPlain, Piece, IsPiece}
 use Rattle.road_model.specs.Orders.{Lists, name_cmp, names_cmp, way_cmp}
 use Rattle.road_model.specs.Blocks.{IsPlaceOf, IsContextEntry, IsPieceEntry, IsRoadBlock}
 use Rattle.road_model.specs.Naming.{OnePiece, OneEntry, OneBlock, OneGraph}
+use Rattle.road_model.proofs.Decided.{order}
 use Rattle.road_model.proofs.TotalOrders.{way_cmp_total, name_cmp_total, names_cmp_total}
 use Rattle.road_model.proofs.Unique.{lists_unique, same_by_place}
-
-order : (i j : ℕ) → (i < j) ⊎ ((i ≡ j) ⊎ (j < i))
-order i j = grind arith
 
 -- a junction inside a piece would be plain
 same_end : (M : Objects) (P : Rules) (p q : Piece) → IsPiece M P p → IsPiece M P q → p.way ≡ q.way → p.index ≡ q.index → p.end ≡ q.end

@@ -20,7 +20,7 @@ use Rattle.road_model.specs.Network.{Drives, OnlyWord}
 use Rattle.road_model.proofs.Splits.{Behind, Before, cut, cons_not_nil, same_last}
 use Rattle.road_model.proofs.LegalLists.{Link, Stretch, WordShape}
 use Rattle.road_model.proofs.LongestContext.{PieceShape}
-use Rattle.road_model.proofs.Spelling.{forward_at, backward_at, length-forward, length-backward}
+use Rattle.road_model.proofs.Spelling.{step, forward_at, backward_at, length-forward, length-backward}
 
 -- the step's head, or its tail, is at a plain position
 abbrev pub Mid : Objects → Rules → Step → Type 0
@@ -45,9 +45,6 @@ one_next s t u n m =
     let w : t.way ≡ u.way = n.way ∙ sym m.way in
     let e : t.index ≡ u.index = one_index u.dir t.index u.index _ (rw d at n.at) m.at in
     λ i. record { way = w i; index = e i; dir = d i }
-
-abbrev pub step : WayId → Dir → ℕ → Step
-step w d i = record { way = w; index = i; dir = d }
 
 pub get_cut : (a : List Step) (x : Step) (b : List Step) → slice_get (a ++ x ∷ b) (length a) ≡ Some x
 get_cut [] x b = refl

@@ -15,7 +15,8 @@ use Rattle.road_model.specs.Contexts.{Every}
 use Rattle.road_model.specs.Network.{Drives, Legal, spell_pieces}
 use Rattle.road_model.proofs.Splits.{Behind, Before, cut, cons_not_nil, same_last, Ends, Nil, Last, ends}
 use Rattle.road_model.proofs.OnePiece.{one_piece, parts, from_parts, plain_here}
-use Rattle.road_model.proofs.Shapes.{Mid, Inner, Next, one_next, stretch, piece_shape, At, at_cut, step, get_cut, length_more, length_steps}
+use Rattle.road_model.proofs.Spelling.{step}
+use Rattle.road_model.proofs.Shapes.{Mid, Inner, Next, one_next, stretch, piece_shape, At, at_cut, get_cut, length_more, length_steps}
 use Rattle.road_model.proofs.Walking.{inner_legal, some_steps}
 
 road_by : (a b : Bool) → (a ≡ true) ⊎ (b ≡ true) → (a || b) ≡ true
