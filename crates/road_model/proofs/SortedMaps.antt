@@ -1,9 +1,9 @@
 -- Strictly ascending lists of named things, and the finite maps from the names that they stand for.
-use Rattle.std.proofs.Common.{◌≡◌, ℕ, zero, suc, ◌+◌, ◌<◌, ◌≤◌, List, [], ◌∷◌, length, map, inl, inr, refl, sym, ap, ◌∙◌, subst, arith, None, ◌-◌, Some, slice_get, Result, Ok, Err, IfOk, IfErr, IsTrue, Ordering, slice_index_or, slice_set}
+use Rattle.std.proofs.Common.{◌≡◌, ◌⊎◌, Bool, true, false, cond, Option, Contains, ℕ, zero, suc, ◌+◌, ◌<◌, ◌≤◌, List, [], ◌∷◌, length, map, inl, inr, refl, sym, ap, ◌∙◌, subst, arith, None, ◌-◌, Some, slice_get, Result, Ok, Err, IfOk, IfErr, IsTrue, Ordering, slice_index_or, slice_set}
 use Rattle.std.specs.declared.cmp.Ordering.TheVariants.{Less, Equal, Greater}
 use Rattle.std.specs.List.{AllWithin, HoldsAt, insert}
 use Rattle.std.specs.List.Sorted.{IsSortedBy, IsBinarySearchResult}
-use Rattle.std.specs.Ordering.{is_lt, ordering_reverse}
+use Rattle.std.specs.Ordering.{is_lt, eq_by_cmp, ordering_reverse}
 use Rattle.std.specs.Cmp.{IsTotalOrder}
 use Rattle.std.specs.FinMap.{FinMap, IsAntisymmetric, empty, get, entries, from_entries, find, put, len-empty, len-entries, entries-insert, get-from_entries, same_entries_map}
 use Rattle.std.specs.FinMap.{insert as inserted}
@@ -11,7 +11,7 @@ use Rattle.std.proofs.lemmas.Bool.{and_parts, and_from}
 use Rattle.std.proofs.lemmas.Cmp.{tied_itself}
 use Rattle.std.proofs.lemmas.List.Sorted.{searchable_from_sorted}
 use Rattle.road_model.specs.Orders.{rises, rises_from}
-use Rattle.road_model.proofs.Members.{In}
+use Rattle.road_model.proofs.Members.{In, in_from_contains, contains_from_in}
 use Rattle.road_model.proofs.Unique.{less, above}
 
 none_there : {A : Type 0} (es : List A) → length es ≡ 0 → es ≡ []
@@ -139,6 +139,35 @@ module _ {A N : Type 0} (name : A → N) (R : N → N → Ordering) (total : IsT
   -- nothing of that name is in the map
   pub get_gap : (n : N) (xs : List A) (i : ℕ) → IsGap n xs i → get (map_of xs) n ≡ None
   get_gap n xs i g = get-from_entries total (map entry xs) n ∙ find_gap n xs i g
+
+  -- ---- members of an ascending list, by their names
+
+  find_member : (x : A) (xs : List A) → IsTrue (rises R (map name xs)) → In x xs → find R (name x) (map entry xs) ≡ Some x
+  find_member x [] h i = absurd i
+  find_member x (y ∷ ys) h (inl e) =
+      let tied : R (name x) (name y) ≡ Equal = subst (λ z. R (name x) (name z) ≡ Equal) e (tied_itself total (name x)) in
+      rw tied (ap (λ z. Some z) (sym e))
+  find_member x (y ∷ ys) h (inr i) =
+      let l : R (name y) (name x) ≡ Less = less _ (above name R total (name y) ys h x i) in
+      let g : R (name x) (name y) ≡ Greater = turned _ _ _ l in
+      rw g (find_member x ys (rest_rises (name y) (map name ys) h) i)
+
+  -- a member stands under its name
+  pub get_member : (x : A) (xs : List A) → IsTrue (rises R (map name xs)) → Contains xs x → get (map_of xs) (name x) ≡ Some x
+  get_member x xs h has = get-from_entries total (map entry xs) (name x) ∙ find_member x xs h (in_from_contains xs x has)
+
+  first_or_later : (b : Bool) (y x : A) (later : Option A) → cond b (Some y) later ≡ Some x → (x ≡ y) ⊎ (later ≡ Some x)
+  first_or_later true y x later e = inl (cc)
+  first_or_later false y x later e = inr e
+
+  found_member : (n : N) (x : A) (xs : List A) → find R n (map entry xs) ≡ Some x → In x xs
+  found_member n x [] e = cc
+  found_member n x (y ∷ ys) e =
+      elim (first_or_later (eq_by_cmp R n (name y)) y x (find R n (map entry ys)) e) [ inl same ↦ inl same | inr later ↦ inr (found_member n x ys later) ]
+
+  -- what stands under a name is a member
+  pub member_of_get : (n : N) (x : A) (xs : List A) → get (map_of xs) n ≡ Some x → Contains xs x
+  member_of_get n x xs e = contains_from_in xs x (found_member n x xs (sym (get-from_entries total (map entry xs) n) ∙ e))
 
   -- ---- one put in the place of another of its name
 

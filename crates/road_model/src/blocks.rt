@@ -1,10 +1,11 @@
 //! Blocks of the graph, one for each way with pieces.
-ghost use Rattle.std.specs.Prelude.{◌≡◌, ◌+◌, ◌≤◌, length, map, None, IfOk, IfErr, OnOk, OnErr, IsTrue};
+ghost use Rattle.std.specs.Prelude.{◌≡◌, ◌+◌, ◌≤◌, ◌↔◌, length, map, None, Some, IfOk, IfErr, OnOk, OnErr, IsTrue, Contains};
 ghost use Rattle.std.specs.List.{HoldsAt, AllWithin};
 ghost use Rattle.std.specs.List.Sorted.{IsSearchInRange};
 ghost use Rattle.std.specs.declared.cmp.Ordering.TheVariants.{Less, Greater};
 ghost use Rattle.std.specs.FinMap.{empty, get, entries, insert as inserted};
 ghost use Rattle.road_model.specs.Orders.{way_cmp, rises};
+ghost use Rattle.road_model.specs.declared.blocks.Block.{Block};
 
 use crate::Pieces;
 use road_base::{NoMemory, WayId};
@@ -86,6 +87,7 @@ impl Blocks {
     pub fn items(&self) -> &[Block]
         ensures entries { entries self.now.map ≡ map entry_of result.now }
         ensures ascending { IsTrue (rises way_cmp (map (λ b. b.way) result.now)) }
+        ensures each { (b : Block) → Contains result.now b ↔ (get self.now.map b.way ≡ Some b) }
     {
         self.list.as_slice()
     }
