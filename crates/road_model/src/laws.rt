@@ -1,17 +1,23 @@
 //! Laws of the definitions, each the contract of a function that does nothing.
-ghost use Rattle.std.specs.Prelude.{◌≡◌, ◌↔◌, List, [], ◌∷◌, ◌++◌, Some, IsTrue};
+ghost use Rattle.std.specs.Prelude.{◌≡◌, ◌↔◌, ℕ, ◌≤◌, List, [], ◌∷◌, ◌++◌, length, map, filter_map, Bool, Option, Some, IsTrue, Contains};
 ghost use Rattle.std.specs.Cmp.{IsTotalOrder};
 ghost use Rattle.std.specs.FinMap.{IsAntisymmetric};
 ghost use Rattle.road_base.specs.Objects.{Objects};
 ghost use Rattle.road_base.specs.declared.ids.NodeId.{NodeId};
+ghost use Rattle.road_base.specs.declared.ids.RelationId.{RelationId};
+ghost use Rattle.road_base.specs.declared.ids.Key.TheVariants.{Way as WayKey};
 ghost use Rattle.road_base.specs.declared.ids.Step.{Step};
 ghost use Rattle.road_model.specs.declared.lists.PieceName.{PieceName};
 ghost use Rattle.road_model.specs.Orders.{node_cmp, way_cmp, relation_cmp, name_cmp, names_cmp};
 ghost use Rattle.road_model.specs.Lines.{head_of};
 ghost use Rattle.road_model.specs.Driving.{drivable, Leaves};
 ghost use Rattle.road_model.specs.Pieces.{Piece, IsPiece, IsInOnePiece, BeginsPiece, spell};
+ghost use Rattle.road_model.specs.Words.{IsWord};
 ghost use Rattle.road_model.specs.Contexts.{Every};
 ghost use Rattle.road_model.specs.Network.{AnyWord, Legal, GoesOn, IsContext, IsContextOf, HasNoWords, spell_pieces};
+ghost use Rattle.road_model.specs.Links.{HasMember};
+ghost use Rattle.road_model.specs.Blocks.{name_of};
+ghost use Rattle.road_model.specs.Turning.{HasTurnSteps, BeginsWord, EndsPiece};
 ghost use Rattle.road_model.specs.Walks.{WalksTo, IsWalk, IsJunctionDrive, IsSpelled, HasShortest};
 ghost use Rattle.road_model.specs.Naming.{OnePiece, OneEntry, OneBlock, OneGraph};
 
@@ -163,4 +169,90 @@ pub fn walk_law<P: Profile>(profile: &P)
     ensures contexts { (M : Objects) (d b c : List Piece) → WalksTo M (P.rules profile.now) d b → WalksTo M (P.rules profile.now) d c → b ≡ c }
     ensures onto { (M : Objects) (s : List Step) → IsJunctionDrive M (P.rules profile.now) s → IsSpelled M (P.rules profile.now) s }
     ensures shortest { (M : Objects) (s : List Step) → Legal M (P.rules profile.now) s → HasShortest M (P.rules profile.now) s }
+{}
+
+/// A drivable step alone is a legal drive, and a legal drive with one more drivable step is legal exactly where this step
+/// may go on.
+pub fn drive_grows<P: Profile>(profile: &P)
+    ensures alone { (M : Objects) (s : Step) → IsTrue (drivable M (P.rules profile.now) s) → Legal M (P.rules profile.now) (s ∷ []) }
+    ensures grows { (M : Objects) (d : List Step) (t : Step)
+        → Legal M (P.rules profile.now) d
+        → IsTrue (drivable M (P.rules profile.now) t)
+        → GoesOn M (P.rules profile.now) d t ↔ Legal M (P.rules profile.now) (d ++ t ∷ []) }
+{}
+
+/// The steps of a word lie on members of its restriction, and are two or more.
+pub fn words_on_ways<P: Profile>(profile: &P)
+    ensures members { (M : Objects) (r : RelationId) (only : Bool) (binding : ℕ) (u : List Step) (s : Step)
+        → IsWord M (P.rules profile.now) r only binding u
+        → Contains u s
+        → HasMember M r (WayKey s.way) }
+    ensures long { (M : Objects) (r : RelationId) (only : Bool) (binding : ℕ) (u : List Step)
+        → IsWord M (P.rules profile.now) r only binding u
+        → (first : Step) × (middle : List Step) × (last : Step) × (u ≡ first ∷ (middle ++ last ∷ [])) }
+{}
+
+/// A context of two pieces or more is known by its steps from the last one of its first piece on: they are legal and
+/// begin a word, and each such list of steps up to the last one of a piece is that of one context that ends with this
+/// piece. Where such steps end pieces they name the pieces.
+pub fn context_steps<P: Profile>(profile: &P)
+    ensures single { (M : Objects) (p : Piece) → IsPiece M (P.rules profile.now) p → (last : Step) × HasTurnSteps (p ∷ []) (last ∷ []) }
+    ensures to { (M : Objects) (c : List Piece) (a b : Piece) (rest : List Piece)
+        → IsContext M (P.rules profile.now) c
+        → c ≡ a ∷ b ∷ rest
+        → (q : List Step) × HasTurnSteps c q × BeginsWord M (P.rules profile.now) q × Legal M (P.rules profile.now) q }
+    ensures from { (M : Objects) (q : List Step) (s : Step) (u : List Step) (t : Step) (p : Piece) (front : List Step)
+        → Legal M (P.rules profile.now) q
+        → BeginsWord M (P.rules profile.now) q
+        → q ≡ s ∷ (u ++ t ∷ [])
+        → IsPiece M (P.rules profile.now) p
+        → spell p ≡ front ++ t ∷ []
+        → (before : List Piece) × (before ≡ [] → ⊥) × HasTurnSteps (before ++ p ∷ []) q × IsContext M (P.rules profile.now) (before ++ p ∷ []) }
+    ensures one { (M : Objects) (c d : List Piece) (q : List Step)
+        → Every (IsPiece M (P.rules profile.now)) c
+        → Every (IsPiece M (P.rules profile.now)) d
+        → HasTurnSteps c q
+        → HasTurnSteps d q
+        → c ≡ d }
+    ensures names { (M : Objects) (c : List Piece) (q : List Step) (f : Step → Option PieceName)
+        → Every (IsPiece M (P.rules profile.now)) c
+        → HasTurnSteps c q
+        → ((s : Step) (n : PieceName) → Contains q s → (f s ≡ Some n) ↔ EndsPiece M (P.rules profile.now) s n)
+        → filter_map f q ≡ map name_of c }
+{}
+
+/// A piece may follow a context exactly where the piece's first step may go on behind the context's last steps, from the
+/// last one of its first piece on.
+pub fn context_goes_on<P: Profile>(profile: &P)
+    ensures { (M : Objects) (c : List Piece) (q : List Step) (t : Piece) (x : Step) (more : List Step)
+        → IsContext M (P.rules profile.now) c
+        → HasTurnSteps c q
+        → Legal M (P.rules profile.now) q
+        → IsPiece M (P.rules profile.now) t
+        → spell t ≡ x ∷ more
+        → Legal M (P.rules profile.now) (spell_pieces c ++ spell t) ↔ GoesOn M (P.rules profile.now) q x }
+{}
+
+/// Where an arc leads: the longest end of the context's steps with which the piece's first step begins a word, without
+/// being the whole of it, is that of the pieces that stay before the piece; where there is none, the piece stands alone.
+pub fn context_target<P: Profile>(profile: &P)
+    ensures alone { (M : Objects) (c : List Piece) (q : List Step) (t : Piece) (x : Step) (more : List Step)
+        → IsContext M (P.rules profile.now) c
+        → HasTurnSteps c q
+        → IsPiece M (P.rules profile.now) t
+        → spell t ≡ x ∷ more
+        → Legal M (P.rules profile.now) (spell_pieces c ++ spell t)
+        → ((a b : List Step) → q ≡ a ++ b → (b ≡ [] → ⊥) → BeginsWord M (P.rules profile.now) (b ++ x ∷ []) → ⊥)
+        → IsContextOf M (P.rules profile.now) (c ++ t ∷ []) (t ∷ []) }
+    ensures longer { (M : Objects) (c : List Piece) (q : List Step) (t : Piece) (x : Step) (more : List Step) (a b : List Step)
+        → IsContext M (P.rules profile.now) c
+        → HasTurnSteps c q
+        → IsPiece M (P.rules profile.now) t
+        → spell t ≡ x ∷ more
+        → Legal M (P.rules profile.now) (spell_pieces c ++ spell t)
+        → q ≡ a ++ b
+        → (b ≡ [] → ⊥)
+        → BeginsWord M (P.rules profile.now) (b ++ x ∷ [])
+        → ((k l : List Step) → q ≡ k ++ l → BeginsWord M (P.rules profile.now) (l ++ x ∷ []) → length l ≤ length b)
+        → (e : List Piece) × HasTurnSteps e b × IsContextOf M (P.rules profile.now) (c ++ t ∷ []) (e ++ t ∷ []) × ((d : List Piece) × (c ≡ d ++ e)) }
 {}
