@@ -12,7 +12,7 @@ use Rattle.road_model.proofs.PieceLaws.{behind_whole}
 
 module _ (M : Objects) (P : Rules) where
   -- what makes a drive with one step more legal holds of it
-  goes_on : (d more : List Step) (t : Step) → (d ≡ [] → ⊥) → Legal M P (d ++ t ∷ more) → GoesOn M P d t
+  pub goes_on : (d more : List Step) (t : Step) → (d ≡ [] → ⊥) → Legal M P (d ++ t ∷ more) → GoesOn M P d t
   goes_on d more t some l = record {
     passes = λ a s e. l.follows a s t more (ap (λ v. v ++ t ∷ more) e ∙ append_assoc a (s ∷ []) (t ∷ more));
     no = λ a u e w. l.no a u more (sym (append_assoc d (t ∷ []) more) ∙ ap (λ v. v ++ more) e ∙ append_assoc a u more) w;
@@ -48,7 +48,7 @@ module _ (M : Objects) (P : Rules) where
         l.only a p y b' r.front x m
 
     -- a legal drive and a step that may go on there are a legal drive
-    one_more : Legal M P (d ++ t ∷ [])
+    pub one_more : Legal M P (d ++ t ∷ [])
     one_more = record {
       not_empty = λ e. cons_not_nil d t [] e;
       drives = λ a x b e. elim (cut d (t ∷ []) a (x ∷ b) e) [

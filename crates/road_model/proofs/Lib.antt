@@ -21,3 +21,4 @@ pub mod Enumerated
 pub mod FiniteRuns
 pub mod Usable
 pub mod FiniteWords
+pub mod WordMembers
