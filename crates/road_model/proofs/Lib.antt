@@ -22,3 +22,5 @@ pub mod FiniteRuns
 pub mod Usable
 pub mod FiniteWords
 pub mod WordMembers
+pub mod TurnSteps
+pub mod ContextTargets

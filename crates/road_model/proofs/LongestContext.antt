@@ -58,6 +58,12 @@ pub Every-front : {P : Type 0} (Q : P → Type 0) (ps qs : List P) → Every Q (
 Every-front Q [] qs h = tt
 Every-front Q (p ∷ ps) qs h = (h.0, Every-front Q ps qs h.1)
 
+-- pieces of which the first one's last step begins a word that goes on behind the others are a context
+module _ {P S : Type 0} (spell : P → List S) (IsPiece : P → Type 0) (Legal Word : List S → Type 0) where
+  pub many : (p : P) (ps : List P) (h : P) (c : List P) → Every IsPiece (p ∷ (ps ++ h ∷ c)) → Legal (spell_all spell (p ∷ (ps ++ h ∷ c))) → (front : List S) (z : S) → spell p ≡ front ++ z ∷ [] → (y : S) (q : List S) → Word (z ∷ (spell_all spell (ps ++ h ∷ c) ++ y ∷ q)) → IsContextBy spell IsPiece Legal Word (p ∷ (ps ++ h ∷ c))
+  many p [] h c i g front z e y q w = Many (record { first = p; second = h; others = c; is = refl; pieces = i; legal = g; front = front; last = z; ends = e; next = y; rest = q; word = w })
+  many p (r ∷ ps) h c i g front z e y q w = Many (record { first = p; second = r; others = ps ++ h ∷ c; is = refl; pieces = i; legal = g; front = front; last = z; ends = e; next = y; rest = q; word = w })
+
 -- what a piece's spelling is with regard to junctions: each step but the last has its head at a plain position
 pub record PieceShape {S : Type 0} (Mid : S → Type 0) (l : List S) : Type 0 where
   pub begin : S
@@ -95,10 +101,6 @@ module _ {P S : Type 0} (spell : P → List S) (IsPiece : P → Type 0) (Mid : S
     (no_word : (u : List S) → No u → Word u)
     (only_word : (n : ℕ) (u : List S) → Only n u → Word u)
     (starts : (z : S) (u : List S) → Word (z ∷ u) → Mid z → ⊥) where
-  many : (p : P) (ps : List P) (h : P) (c : List P) → Every IsPiece (p ∷ (ps ++ h ∷ c)) → IsLegalBy Drives Follows No Only (spell_all spell (p ∷ (ps ++ h ∷ c))) → (front : List S) (z : S) → spell p ≡ front ++ z ∷ [] → (y : S) (q : List S) → Word (z ∷ (spell_all spell (ps ++ h ∷ c) ++ y ∷ q)) → IsContextBy spell IsPiece (IsLegalBy Drives Follows No Only) Word (p ∷ (ps ++ h ∷ c))
-  many p [] h c i g front z e y q w = Many (record { first = p; second = h; others = c; is = refl; pieces = i; legal = g; front = front; last = z; ends = e; next = y; rest = q; word = w })
-  many p (r ∷ ps) h c i g front z e y q w = Many (record { first = p; second = r; others = ps ++ h ∷ c; is = refl; pieces = i; legal = g; front = front; last = z; ends = e; next = y; rest = q; word = w })
-
   too_long : (ps : List P) (h : P) (c : List P) → length (h ∷ (ps ++ h ∷ c)) ≤ length (h ∷ c) → ⊥
   too_long ps h c e = let l = length-append ps (h ∷ c) in omega arith
 
@@ -113,7 +115,7 @@ module _ {P S : Type 0} (spell : P → List S) (IsPiece : P → Type 0) (Mid : S
       let legal : IsLegalBy Drives Follows No Only (spell_all spell (l.piece ∷ (l.behind ++ h ∷ c))) =
       infix_legal Drives Follows No Only (spell_all spell l.before) _ [] (λ n. cons_not_nil l.front z _ (sym (append_assoc l.front (z ∷ []) _) ∙ ap (λ v. v ++ spell_all spell (l.behind ++ h ∷ c)) (sym l.ends) ∙ n))
       (subst (IsLegalBy Drives Follows No Only) (ap (spell_all spell) whole ∙ spell_all-append spell l.before _ ∙ ap (λ v. spell_all spell l.before ++ v) (sym (append-nil _))) g) in
-      let long = most l.before (l.piece ∷ (l.behind ++ h ∷ c)) whole (many l.piece l.behind h c every legal l.front z l.ends y q
+      let long = most l.before (l.piece ∷ (l.behind ++ h ∷ c)) whole (many spell IsPiece (IsLegalBy Drives Follows No Only) Word l.piece l.behind h c every legal l.front z l.ends y q
       (subst Word (ap (λ v. z ∷ v) (ap (λ v. v ++ (spell_all spell (h ∷ c) ++ y ∷ q)) l.rest ∙ sym (append_assoc (spell_all spell l.behind) _ _) ∙ ap (λ v. v ++ y ∷ q) (sym (spell_all-append spell l.behind (h ∷ c))))) w)) in
       too_long l.behind h c long
 

@@ -176,7 +176,7 @@ module _ (M : Objects) (P : Rules) where
       let r = same_split a c f b d (x.1 ∙ sym y.1) (sym e ∙ ap spell same ∙ g) in
       (same, r.0, r.1)
 
-  cancel : (a b c : List Step) → a ++ b ≡ a ++ c → b ≡ c
+  pub cancel : (a b c : List Step) → a ++ b ≡ a ++ c → b ≡ c
   cancel [] b c e = e
   cancel (x ∷ a) b c e = cancel a b c (cc)
 

@@ -16,7 +16,7 @@ use Rattle.road_model.proofs.OnePiece.{one_piece}
 use Rattle.road_model.proofs.Walking.{Continues, reached, one_longest, walk_of, spell_pieces-push}
 use Rattle.road_model.proofs.StraightOn.{Pieces, pieces_of, same_pieces, Standing, standing, same_stand, get_split}
 
-ends_of : (M : Objects) (P : Rules) (q : Piece) → IsPiece M P q → Ends (spell q) → (a : List Step) × (x : Step) × (spell q ≡ a ++ x ∷ [])
+pub ends_of : (M : Objects) (P : Rules) (q : Piece) → IsPiece M P q → Ends (spell q) → (a : List Step) × (x : Step) × (spell q ≡ a ++ x ∷ [])
 ends_of M P q i (Nil e) = let f = (piece_shape M P q i).is in cc (f, e)
 ends_of M P q i (Last a x e) = (a, x, e)
 

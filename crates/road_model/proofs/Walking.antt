@@ -103,7 +103,7 @@ module _ (M : Objects) (P : Rules) where
   shorter_context (k ∷ b) h t i j c e (One p f g) = cc
   shorter_context (k ∷ b) h t i j c e (Many m) = Many (front_context h k b t i c e m)
 
-  context_pieces : (c : List Piece) → IsContext M P c → Every (IsPiece M P) c
+  pub context_pieces : (c : List Piece) → IsContext M P c → Every (IsPiece M P) c
   context_pieces c (One p e h) = rw e (h, tt)
   context_pieces c (Many m) = m.pieces
 

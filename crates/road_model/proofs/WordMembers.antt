@@ -1,5 +1,5 @@
 -- The steps of a word lie on members of its restriction.
-use Rattle.std.proofs.Common.{◌≡◌, ℕ, zero, suc, ◌+◌, List, [], ◌∷◌, ◌++◌, ◌⊎◌, inl, inr, ap, ◌∙◌, sym, subst, Bool, true, false, cond, IsTrue, Contains, map, filter}
+use Rattle.std.proofs.Common.{◌≡◌, ℕ, zero, suc, ◌+◌, List, [], ◌∷◌, ◌++◌, ◌⊎◌, inl, inr, ap, ◌∙◌, sym, subst, Bool, true, false, cond, Contains, map, filter}
 use Rattle.std.specs.Prelude.{codes}
 use Rattle.std.specs.Str.{bytes_eq}
 use Rattle.road_base.specs.declared.ids.NodeId.{NodeId}
