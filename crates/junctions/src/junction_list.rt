@@ -64,7 +64,7 @@ fn junctions_along<M: World, P: Profile>(
 }
 
 /// Whether the position of the road, whose line these nodes are, is plain.
-fn is_plain_at<M: World, P: Profile>(
+pub fn is_plain_at<M: World, P: Profile>(
     world: &M,
     profile: &P,
     way: WayId,

@@ -10,5 +10,6 @@ pub mod laws;
 mod plain;
 mod repeats;
 
-pub use junction_list::junctions_of;
+pub use junction_list::{is_plain_at, junctions_of};
 pub use plain::is_plain;
+pub use repeats::Repeats;

@@ -16,10 +16,10 @@ use Rattle.road_model.specs.Pieces.{IsPiece}
 use Rattle.road_model.specs.Blocks.{name_of}
 use Rattle.road_model.specs.Orders.{Lists, way_cmp, dir_cmp, name_cmp}
 use Rattle.junctions.specs.Junctions.{AreJunctions}
-use Rattle.way_pieces.specs.declared.spans.Span.{Span}
-use Rattle.way_pieces.specs.Spans.{IsSpan, IsWanted, IsWantedBelow, Begins, added, piece_on}
+use Rattle.way_pieces.specs.declared.stretches.Stretch.{Stretch}
+use Rattle.way_pieces.specs.Stretches.{IsStretch, IsWanted, IsWantedBelow, Begins, added, piece_on}
 use Rattle.way_pieces.proofs.Appending.{lists_added}
-use Rattle.way_pieces.proofs.Spanning.{order, none_inside, same_piece, not_below_first, not_above_last, first_listed, last_listed}
+use Rattle.way_pieces.proofs.Neighbouring.{order, none_inside, same_piece, not_below_first, not_above_last, first_listed, last_listed}
 
 -- ---- the order of names
 
@@ -54,10 +54,10 @@ dir_last w i = less_second (way_cmp w w) _ (tied_itself way_cmp_total w) (less_s
 
 -- ---- the names between two neighbouring junctions
 
-abbrev name_at : Span → Dir → PieceName
+abbrev name_at : Stretch → Dir → PieceName
 name_at s d = record { way = s.way; index = s.index; dir = d }
 
-module _ (M : Objects) (P : Rules) (from : Option NodeId) (s : Span) (span : IsSpan M P s) where
+module _ (M : Objects) (P : Rules) (from : Option NodeId) (s : Stretch) (stretch : IsStretch M P s) where
   abbrev Taken : Dir → Type 0
   Taken d = Begins M from (piece_on s d) × IsPiece M P (piece_on s d)
 
@@ -72,10 +72,10 @@ module _ (M : Objects) (P : Rules) (from : Option NodeId) (s : Span) (span : IsS
     Mid z = ((z ≡ name_at s Forward) × IsTrue f) ⊎ Low z
 
     wanted_here : (d : Dir) → Taken d → High (name_at s d)
-    wanted_here d taken = (span.ascends, record { piece = piece_on s d; is = taken.1; named = refl; of = refl; begins = taken.0 })
+    wanted_here d taken = (stretch.ascends, record { piece = piece_on s d; is = taken.1; named = refl; of = refl; begins = taken.0 })
 
     low_high : (z : PieceName) → Low z → High z
-    low_high z low = let below = low.0 in let rises = span.ascends in (omega arith, low.1)
+    low_high z low = let below = low.0 in let rises = stretch.ascends in (omega arith, low.1)
 
     low_below : (d : Dir) (z : PieceName) → Low z → IsTrue (is_lt (name_cmp z (name_at s d)))
     low_below d z low =
@@ -97,7 +97,7 @@ module _ (M : Objects) (P : Rules) (from : Option NodeId) (s : Span) (span : IsS
 
     at_first : (z : PieceName) (w : IsWanted M P from s.way z) → (w.piece).index ≡ s.index → ((z ≡ name_at s Backward) × IsTrue b) ⊎ Mid z
     at_first z w same =
-        let p : w.piece ≡ piece_on s (w.piece).dir = same_piece M P s span w.piece w.is w.of same in
+        let p : w.piece ≡ piece_on s (w.piece).dir = same_piece M P s stretch w.piece w.is w.of same in
         here (w.piece).dir z (w.named ∙ ap name_of p) (subst (Begins M from) p w.begins, subst (IsPiece M P) p w.is)
 
     high_cases : (z : PieceName) → High z → ((z ≡ name_at s Backward) × IsTrue b) ⊎ Mid z
@@ -109,7 +109,7 @@ module _ (M : Objects) (P : Rules) (from : Option NodeId) (s : Span) (span : IsS
           | inl less ↦ inr (inr (omega arith, w))
           | inr others ↦ elim others [
             | inl same ↦ at_first z w same
-            | inr more ↦ absurd (none_inside M P s span w.piece w.is w.of more (omega arith))
+            | inr more ↦ absurd (none_inside M P s stretch w.piece w.is w.of more (omega arith))
           ]
         ]
 

@@ -14,8 +14,8 @@ use Rattle.road_model.specs.Lines.{changes, refs_of, line_of, node_at}
 use Rattle.road_model.specs.Driving.{open_way, is_open, is_road, located, drivable}
 use Rattle.road_model.specs.Pieces.{Piece, IsPiece}
 use Rattle.junctions.specs.Junctions.{IsJunction}
-use Rattle.way_pieces.specs.declared.spans.Span.{Span}
-use Rattle.way_pieces.specs.Spans.{IsSpan, piece_on}
+use Rattle.way_pieces.specs.declared.stretches.Stretch.{Stretch}
+use Rattle.way_pieces.specs.Stretches.{IsStretch, piece_on}
 
 -- the line of a visible way is that of its references
 pub visible_line : (M : Objects) (w : WayId) (body : Way) → way_of M w ≡ Some body → line_of M w ≡ changes body.refs
@@ -91,13 +91,13 @@ module _ (M : Objects) (P : Rules) (p : Piece) (is : IsPiece M P p) where
 order : (i j k : ℕ) → i ≤ k → k ≤ j → (k ≡ i) ⊎ ((k ≡ j) ⊎ ((i < k) × (k < j)))
 order i j k a b = grind arith
 
-module _ (M : Objects) (P : Rules) (s : Span) (span : IsSpan M P s) (d : Dir) where
+module _ (M : Objects) (P : Rules) (s : Stretch) (stretch : IsStretch M P s) (d : Dir) where
   all_located : IsTrue (located M (node_at M s.way s.index)) → IsTrue (located M (node_at M s.way s.end)) → (k : ℕ) → s.index ≤ k → k ≤ s.end → IsTrue (located M (node_at M s.way k))
   all_located first last k low high = elim (order s.index s.end k low high) [
     | inl same ↦ subst (λ m. IsTrue (located M (node_at M s.way m))) (sym same) first
     | inr others ↦ elim others [
       | inl same ↦ subst (λ m. IsTrue (located M (node_at M s.way m))) (sym same) last
-      | inr inside ↦ let plain = span.inner k inside.0 inside.1 in subst (λ o. IsTrue (located M o)) (sym plain.is) plain.here
+      | inr inside ↦ let plain = stretch.inner k inside.0 inside.1 in subst (λ o. IsTrue (located M o)) (sym plain.is) plain.here
     ]
   ]
 
@@ -107,9 +107,9 @@ module _ (M : Objects) (P : Rules) (s : Span) (span : IsSpan M P s) (d : Dir) wh
       let a = and_parts _ _ h in
       let b = and_parts _ _ a.1 in
       record {
-        ascends = span.ascends;
-        first = span.first.not_plain;
-        last = span.last.not_plain;
-        inner = span.inner;
+        ascends = stretch.ascends;
+        first = stretch.first.not_plain;
+        last = stretch.last.not_plain;
+        inner = stretch.inner;
         drives = λ k low high. drivable_from M P (record { way = s.way; index = k; dir = d }) a.0 (all_located b.0 b.1 k low (omega arith)) (all_located b.0 b.1 (k + 1) (omega arith) (omega arith));
       }

@@ -11,7 +11,7 @@ use Rattle.road_model.specs.Lines.{node_at, tail_of}
 use Rattle.road_model.specs.Driving.{is_road}
 use Rattle.road_model.specs.Orders.{Lists, rises, way_cmp, name_cmp}
 use Rattle.way_pieces.specs.Names.{IsNameFrom}
-use Rattle.way_pieces.specs.Spans.{IsWanted, start_of}
+use Rattle.way_pieces.specs.Stretches.{IsWanted, start_of}
 use Rattle.way_pieces.proofs.Adding.{way_cmp_total, way_first}
 use Rattle.way_pieces.proofs.Appending.{one_more, has_last, has_before, lists_extended}
 use Rattle.way_pieces.proofs.Climbing.{taken_below}

@@ -1,7 +1,7 @@
 pub mod Appending
 pub mod Climbing
 pub mod Driving
-pub mod Spanning
+pub mod Neighbouring
 pub mod Adding
 pub mod Stepping
 pub mod Gathering

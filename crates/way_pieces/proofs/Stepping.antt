@@ -8,7 +8,7 @@ use Rattle.road_base.specs.Objects.{Objects}
 use Rattle.road_model.specs.Rules.{Rules}
 use Rattle.road_model.specs.Lines.{node_at, tail_of, forward_steps, backward_steps, steps_from}
 use Rattle.road_model.specs.Pieces.{Piece, IsPiece, spell}
-use Rattle.way_pieces.specs.Spans.{start_of}
+use Rattle.way_pieces.specs.Stretches.{start_of}
 
 abbrev at : WayId → Dir → ℕ → Step
 at w d k = record { way = w; index = k; dir = d }

@@ -1,2 +1,3 @@
+pub mod Departures
 pub mod Names
-pub mod Spans
+pub mod Stretches

@@ -1,14 +1,20 @@
 //! Pieces: the runs of roads between junctions, by their names, and the steps that each one is driven in.
 //!
-//! `pieces_of` and `spell` go along the way's line once: with n references and w ways at their nodes they take time of
-//! the order of n log n + w, and memory of the order of n. `pieces_from` does so for each way at the node.
+//! `spans_of`, `pieces_of` and `spell` go along the way's line once: with n references and w ways at their nodes they
+//! take time of the order of n log n + w, and memory of the order of n. `departures_from` and `pieces_from` go along the
+//! references of each way at the node, and look at the objects only of the positions from there back to the next
+//! junction.
 #![tactic(auto)]
 
+mod departures;
 mod names;
 mod spans;
 mod spelling;
+mod stretches;
 
+pub use departures::{Departure, departures_from};
 pub use names::{pieces_from, pieces_of};
+pub use spans::{PieceSpan, spans_of};
 pub use spelling::spell;
 
 #[cfg(test)]

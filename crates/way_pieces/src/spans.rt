@@ -1,113 +1,116 @@
-//! Whether a piece lies between two neighbouring junctions of a way.
-ghost use Rattle.std.specs.Prelude.{◌≡◌, ◌<◌, ◌≤◌, ◌↔◌, ◌&&◌, Some, IsTrue, IfOk, length};
-ghost use Rattle.road_model.specs.Lines.{changes, line_of};
-ghost use Rattle.road_model.specs.Driving.{is_open, located};
-ghost use Rattle.road_model.specs.Pieces.{IsPiece};
-ghost use Rattle.way_pieces.specs.Spans.{IsSpan, piece_on, start_of, Begins};
+//! The pieces of a way.
+ghost use Rattle.std.specs.Prelude.{◌≡◌, IfOk, OnOk};
+ghost use Rattle.road_model.specs.Lines.{line_of};
+ghost use Rattle.road_model.specs.Orders.{Lists, name_cmp};
+ghost use Rattle.junctions.specs.Junctions.{AreJunctions};
+ghost use Rattle.way_pieces.specs.Names.{IsSpanOn};
+ghost use Rattle.way_pieces.specs.Stretches.{IsStretch, IsSpanBelow, span_on, added};
 
-use road_base::{Dir, NodeId, Way, WayId};
-use road_model::{Profile, World};
-use std::alloc::{AllocError, Global};
-use way_lines::{is_located, is_open, line};
+use crate::stretches::{Stretch, is_piece, nodes_of};
+use junctions::junctions_of;
+use road_base::{Dir, NoMemory, NodeId, WayId};
+use road_model::{PieceName, Profile, World};
+use std::alloc::Global;
 
-/// Two neighbouring junction positions of a way's line, the lower one first.
-#[derive(Clone, Copy, Debug)]
-pub struct Span {
-    pub way: WayId,
-    pub index: u32,
+/// A piece with both its positions: its name has the lower one, `end` is the upper one.
+#[derive(Clone, Copy, Debug, PartialEq, Eq)]
+pub struct PieceSpan {
+    pub name: PieceName,
     pub end: u32,
 }
 
-/// The nodes of the way's line.
-pub fn nodes_of(alloc: Global, way: &Way) -> Result<Vec<NodeId>, AllocError>
-    ensures { IfOk result (λ v. v.items ≡ changes way.now.refs) }
-{
-    line(way).collect(alloc)
-}
-
-/// Whether a piece lies there that begins at the node, where one is asked for. The nodes are those of the way's line.
-pub fn takes<M: World, P: Profile>(
-    world: &M,
-    profile: &P,
-    nodes: &[NodeId],
-    span: Span,
-    dir: Dir,
-    from: Option<NodeId>,
-) -> bool
-    requires line { nodes.now ≡ line_of (M.objects world.now) span.way }
-    requires span { IsSpan (M.objects world.now) (P.rules profile.now) span }
-    ensures { IsTrue result
-        ↔ (Begins (M.objects world.now) from (piece_on span dir)
-        × IsPiece (M.objects world.now) (P.rules profile.now) (piece_on span dir)) }
-{
-    begins(world, nodes, span, dir, from) && is_piece(world, profile, nodes, span, dir)
-}
-
-/// Whether a piece lies there in the direction. The nodes are those of the way's line.
-pub fn is_piece<M: World, P: Profile>(
-    world: &M,
-    profile: &P,
-    nodes: &[NodeId],
-    span: Span,
-    dir: Dir,
-) -> bool
-    requires line { nodes.now ≡ line_of (M.objects world.now) span.way }
-    requires span { IsSpan (M.objects world.now) (P.rules profile.now) span }
-    ensures { IsTrue result ↔ IsPiece (M.objects world.now) (P.rules profile.now) (piece_on span dir) }
-{
-    may_drive(
-        world,
-        profile,
-        span.way,
-        dir,
-        nodes[span.index as usize],
-        nodes[span.end as usize],
-    )
-}
-
-/// Whether the way is open in the direction, and both nodes are visible with locations.
-fn may_drive<M: World, P: Profile>(
+/// The pieces of the way, each once, by position and forward before backward.
+pub fn spans_of<M: World, P: Profile>(
+    alloc: Global,
     world: &M,
     profile: &P,
     way: WayId,
-    dir: Dir,
-    first: NodeId,
-    last: NodeId,
-) -> bool
-    ensures { result
-        ≡ (is_open (M.objects world.now) (P.rules profile.now) way dir
-        && (located (M.objects world.now) (Some first) && located (M.objects world.now) (Some last))) }
+) -> Result<Vec<PieceSpan>, NoMemory>
+    ensures { IfOk result (λ v. Lists (λ s. s.name) name_cmp (IsSpanOn (M.objects world.now) (P.rules profile.now) way) v.items) }
 {
-    is_open(world, profile, way, dir) && is_located(world, first) && is_located(world, last)
-}
-
-/// Whether what is driven there in the direction begins at the node, where one is asked for.
-fn begins<M: World>(world: &M, nodes: &[NodeId], span: Span, dir: Dir, from: Option<NodeId>) -> bool
-    requires line { nodes.now ≡ line_of (M.objects world.now) span.way }
-    requires ascends { span.index < span.end }
-    requires within { span.end < length nodes.now }
-    ensures { IsTrue result ↔ Begins (M.objects world.now) from (piece_on span dir) }
-{
-    let Some(node) = from else {
-        return true;
+    let junctions = junctions_of(alloc, world, profile, way)?;
+    let Some(body) = world.way(way) else {
+        return Ok(Vec::new(alloc));
     };
-    is_same(nodes[start_of(span, dir) as usize], node)
+    let nodes = nodes_of(alloc, body)?;
+    spans_along(
+        alloc,
+        world,
+        profile,
+        way,
+        nodes.as_slice(),
+        junctions.as_slice(),
+    )
 }
 
-fn is_same(this: NodeId, that: NodeId) -> bool
-    ensures { IsTrue result ↔ (this ≡ that) }
+/// The pieces of the way, where these are the nodes of its line and its junctions.
+fn spans_along<M: World, P: Profile>(
+    alloc: Global,
+    world: &M,
+    profile: &P,
+    way: WayId,
+    nodes: &[NodeId],
+    junctions: &[u32],
+) -> Result<Vec<PieceSpan>, NoMemory>
+    requires line { nodes.now ≡ line_of (M.objects world.now) way }
+    requires junctions { AreJunctions (M.objects world.now) (P.rules profile.now) way junctions.now }
+    ensures { IfOk result (λ v. Lists (λ s. s.name) name_cmp (IsSpanOn (M.objects world.now) (P.rules profile.now) way) v.items) }
 {
-    this == that
-}
-
-/// Where one begins who drives there in the direction.
-fn start_of(span: Span, dir: Dir) -> u32
-    requires { span.index < span.end }
-    ensures start { result ≡ start_of (piece_on span dir) }
-    ensures within { result ≤ span.end }
-{
-    match dir {
-        Dir::Forward => span.index,
-        Dir::Backward => span.end,
+    let mut spans = Vec::new(alloc);
+    for at in 1..junctions.len() {
+        let stretch = Stretch {
+            way,
+            index: junctions[at - 1],
+            end: junctions[at],
+        };
+        add_spans(&mut spans, world, profile, nodes, stretch)?;
     }
+    Ok(spans)
+}
+
+/// Adds the pieces between two neighbouring junctions to those below.
+fn add_spans<M: World, P: Profile>(
+    spans: &mut Vec<PieceSpan>,
+    world: &M,
+    profile: &P,
+    nodes: &[NodeId],
+    stretch: Stretch,
+) -> Result<(), NoMemory>
+    requires line { nodes.now ≡ line_of (M.objects world.now) stretch.way }
+    requires stretch { IsStretch (M.objects world.now) (P.rules profile.now) stretch }
+    ensures { OnOk result
+        (Lists (λ s. s.name) name_cmp (IsSpanBelow (M.objects world.now) (P.rules profile.now) stretch.way stretch.index) spans.old.items
+        → Lists (λ s. s.name) name_cmp (IsSpanBelow (M.objects world.now) (P.rules profile.now) stretch.way stretch.end) spans.new.items) }
+{
+    let along = span_on(stretch, Dir::Forward);
+    let against = span_on(stretch, Dir::Backward);
+    let forward = is_piece(world, profile, nodes, stretch, Dir::Forward);
+    let backward = is_piece(world, profile, nodes, stretch, Dir::Backward);
+    add_if(spans, forward, along)?;
+    add_if(spans, backward, against)?;
+    Ok(())
+}
+
+fn span_on(stretch: Stretch, dir: Dir) -> PieceSpan
+    ensures { result ≡ span_on stretch dir }
+{
+    PieceSpan {
+        name: PieceName {
+            way: stretch.way,
+            index: stretch.index,
+            dir,
+        },
+        end: stretch.end,
+    }
+}
+
+/// Adds the span, if it is wanted.
+fn add_if(spans: &mut Vec<PieceSpan>, wanted: bool, span: PieceSpan) -> Result<(), NoMemory>
+    ensures { OnOk result (spans.new.items ≡ added spans.old.items wanted span) }
+{
+    if !wanted {
+        return Ok(());
+    }
+    spans.push(span)?;
+    Ok(())
 }

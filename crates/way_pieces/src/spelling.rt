@@ -3,9 +3,9 @@ ghost use Rattle.std.specs.Prelude.{◌≡◌, ◌≢◌, ◌<◌, ◌≤◌, �
 ghost use Rattle.road_model.specs.Lines.{steps_from, forward_steps, backward_steps};
 ghost use Rattle.road_model.specs.Pieces.{IsPiece};
 ghost use Rattle.way_pieces.specs.Names.{IsSpelling, NamesNone};
-ghost use Rattle.way_pieces.specs.Spans.{IsNext, named};
+ghost use Rattle.way_pieces.specs.Stretches.{IsNext, named};
 
-use crate::spans::{Span, is_piece, nodes_of};
+use crate::stretches::{Stretch, is_piece, nodes_of};
 use junctions::junctions_of;
 use road_base::{Dir, Drive, NoMemory, Step};
 use road_model::{PieceName, Profile, World};
@@ -46,12 +46,12 @@ fn end_of<M: World, P: Profile>(
         return Ok(None);
     };
     let nodes = nodes_of(alloc, body)?;
-    let span = Span {
+    let stretch = Stretch {
         way: piece.way,
         index: piece.index,
         end,
     };
-    if !is_piece(world, profile, nodes.as_slice(), span, piece.dir) {
+    if !is_piece(world, profile, nodes.as_slice(), stretch, piece.dir) {
         return Ok(None);
     }
     Ok(Some(end))

@@ -2,10 +2,10 @@
 use Rattle.std.proofs.Common.{◌≡◌, ◌+◌, ◌-◌, List, length, get_or, sym, subst, arith}
 use Rattle.road_model.specs.declared.lists.PieceName.{PieceName}
 use Rattle.road_model.specs.Orders.{Lists, name_cmp}
-use Rattle.way_pieces.specs.Spans.{IsSpan, IsWanted, IsWantedBelow}
+use Rattle.way_pieces.specs.Stretches.{IsStretch, IsWanted, IsWantedBelow}
 use Rattle.way_pieces.proofs.Adding.{none_below, below_last}
 use Rattle.way_pieces.proofs.Appending.{lists_none, lists_same}
-use Rattle.way_pieces.proofs.Spanning.{span_at}
+use Rattle.way_pieces.proofs.Neighbouring.{stretch_at}
 use Rattle.way_pieces.proofs.names.names_along.Goals as goal
 
 pub loop-at-init : goal.loop-at-init
@@ -19,8 +19,8 @@ loop-at-init g c =
       listed = subst (λ (l : List PieceName). Lists (λ n. n) name_cmp Low l) (sym c.new-names.ensures.items) (lists_none name_cmp Low (none_below M P c.args.from c.args.way c.args.junctions.now c.requires.junctions));
     }
 
-pub add_names-requires-clause-span : goal.add_names-requires-clause-span
-add_names-requires-clause-span g c =
+pub add_names-requires-clause-stretch : goal.add_names-requires-clause-stretch
+add_names-requires-clause-stretch g c =
     let M = g.M.World.objects c.args.world.now in
     let P = g.P.Profile.rules c.args.profile.now in
     let xs = c.args.junctions.now in
@@ -28,7 +28,7 @@ add_names-requires-clause-span g c =
     let low = c.loop-at.invariant.low in
     let within = c.loop-at-test.true in
     let same : at - 1 + 1 ≡ at = omega arith in
-    subst (λ k. IsSpan M P (record { way = c.args.way; index = get_or xs (at - 1) 0; end = get_or xs k 0 })) same (span_at M P c.args.way xs c.requires.junctions (at - 1) (omega arith))
+    subst (λ k. IsStretch M P (record { way = c.args.way; index = get_or xs (at - 1) 0; end = get_or xs k 0 })) same (stretch_at M P c.args.way xs c.requires.junctions (at - 1) (omega arith))
 
 pub returns : goal.returns
 returns g c =

@@ -1,6 +1,6 @@
 use Rattle.std.proofs.Common.{◌≤◌, ◌-◌, length, get_or}
 use Rattle.road_model.specs.Orders.{Lists, name_cmp}
-use Rattle.way_pieces.specs.Spans.{IsWantedBelow}
+use Rattle.way_pieces.specs.Stretches.{IsWantedBelow}
 use Rattle.way_pieces.proofs.names.names_along.Given as goal
 
 -- the pieces below the junction that was last looked at are named

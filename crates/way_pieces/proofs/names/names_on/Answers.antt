@@ -3,7 +3,7 @@ use Rattle.std.proofs.Common.{List, IsTrue, sym, subst, ◌∙◌}
 use Rattle.road_model.specs.declared.lists.PieceName.{PieceName}
 use Rattle.road_model.specs.Driving.{is_road}
 use Rattle.road_model.specs.Orders.{Lists, name_cmp}
-use Rattle.way_pieces.specs.Spans.{IsWanted}
+use Rattle.way_pieces.specs.Stretches.{IsWanted}
 use Rattle.way_pieces.proofs.Appending.{lists_none}
 use Rattle.way_pieces.proofs.Driving.{visible_line, no_road, piece_road}
 use Rattle.way_pieces.proofs.names.names_on.Goals as goal

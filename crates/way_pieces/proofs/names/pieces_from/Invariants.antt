@@ -1,6 +1,6 @@
 use Rattle.std.proofs.Common.{take, Contains, Some}
 use Rattle.road_model.specs.Orders.{Lists, name_cmp}
-use Rattle.way_pieces.specs.Spans.{IsWanted}
+use Rattle.way_pieces.specs.Stretches.{IsWanted}
 use Rattle.way_pieces.proofs.names.pieces_from.Given as goal
 
 -- the pieces of the ways so far are named

@@ -2,7 +2,7 @@ use Rattle.std.proofs.Common.{None, List, sym, subst}
 use Rattle.road_model.specs.declared.lists.PieceName.{PieceName}
 use Rattle.road_model.specs.Orders.{Lists, name_cmp}
 use Rattle.way_pieces.specs.Names.{IsNameOn}
-use Rattle.way_pieces.specs.Spans.{IsWanted}
+use Rattle.way_pieces.specs.Stretches.{IsWanted}
 use Rattle.way_pieces.proofs.Appending.{lists_same}
 use Rattle.way_pieces.proofs.names.pieces_of.Goals as goal
 

@@ -8,9 +8,9 @@ use Rattle.road_model.specs.Rules.{Rules}
 use Rattle.road_model.specs.Pieces.{Piece, IsPlain, IsPiece}
 use Rattle.road_model.specs.Blocks.{name_of}
 use Rattle.junctions.specs.Junctions.{IsJunction, AreJunctions}
-use Rattle.way_pieces.specs.declared.spans.Span.{Span}
+use Rattle.way_pieces.specs.declared.stretches.Stretch.{Stretch}
 use Rattle.way_pieces.specs.Names.{NamesNone}
-use Rattle.way_pieces.specs.Spans.{IsSpan, IsNext, piece_on}
+use Rattle.way_pieces.specs.Stretches.{IsStretch, IsNext, piece_on}
 use Rattle.way_pieces.proofs.Appending.{at_index}
 use Rattle.way_pieces.proofs.Climbing.{climbs}
 use Rattle.way_pieces.proofs.Driving.{piece_first, piece_last}
@@ -51,18 +51,18 @@ module _ (M : Objects) (P : Rules) (w : WayId) (xs : List ℕ) (are : AreJunctio
       ]
 
   -- neighbours in the list have only plain positions between them
-  pub span_at : (k : ℕ) → k + 1 < length xs → IsSpan M P (record { way = w; index = get_or xs k 0; end = get_or xs (k + 1) 0 })
-  span_at k inside = record {
+  pub stretch_at : (k : ℕ) → k + 1 < length xs → IsStretch M P (record { way = w; index = get_or xs k 0; end = get_or xs (k + 1) 0 })
+  stretch_at k inside = record {
     ascends = up k (k + 1) (omega arith) inside;
     first = junction_at k (omega arith);
     last = junction_at (k + 1) inside;
     inner = λ m low high. inner_plain k m inside low high;
   }
 
-  pub span_of_next : (i j : ℕ) → IsNext xs i j → IsSpan M P (record { way = w; index = i; end = j })
-  span_of_next i j next =
-      subst (λ a. IsSpan M P (record { way = w; index = a; end = j })) next.here
-      (subst (λ b. IsSpan M P (record { way = w; index = get_or xs next.place 0; end = b })) next.next (span_at next.place next.inside))
+  pub stretch_of_next : (i j : ℕ) → IsNext xs i j → IsStretch M P (record { way = w; index = i; end = j })
+  stretch_of_next i j next =
+      subst (λ a. IsStretch M P (record { way = w; index = a; end = j })) next.here
+      (subst (λ b. IsStretch M P (record { way = w; index = get_or xs next.place 0; end = b })) next.next (stretch_at next.place next.inside))
 
   -- a junction is no lower than the first, and no higher than the last
   pub not_below_first : (i : ℕ) → Contains xs i → get_or xs 0 0 ≤ i
@@ -131,21 +131,21 @@ module _ (M : Objects) (P : Rules) (w : WayId) (xs : List ℕ) (are : AreJunctio
           next = subst (λ k. get_or xs k 0 ≡ p.end) next last;
         }
 
-module _ (M : Objects) (P : Rules) (s : Span) (span : IsSpan M P s) (p : Piece) (is : IsPiece M P p) (of : p.way ≡ s.way) where
+module _ (M : Objects) (P : Rules) (s : Stretch) (stretch : IsStretch M P s) (p : Piece) (is : IsPiece M P p) (of : p.way ≡ s.way) where
   -- no piece begins between two neighbouring junctions
   pub none_inside : s.index < p.index → p.index < s.end → ⊥
-  none_inside low high = is.first (subst (λ v. IsPlain M P v p.index) (sym of) (span.inner p.index low high))
+  none_inside low high = is.first (subst (λ v. IsPlain M P v p.index) (sym of) (stretch.inner p.index low high))
 
   -- a piece that begins at the lower one ends at the upper one
   same_end : p.index ≡ s.index → p.end ≡ s.end
   same_end same =
       let up = is.ascends in
-      let rises = span.ascends in
+      let rises = stretch.ascends in
       elim (order p.end s.end) [
-        | inl less ↦ absurd (is.last (subst (λ v. IsPlain M P v p.end) (sym of) (span.inner p.end (omega arith) less)))
+        | inl less ↦ absurd (is.last (subst (λ v. IsPlain M P v p.end) (sym of) (stretch.inner p.end (omega arith) less)))
         | inr others ↦ elim others [
           | inl e ↦ e
-          | inr more ↦ absurd (span.last.not_plain (subst (λ v. IsPlain M P v s.end) of (is.inner s.end (omega arith) more)))
+          | inr more ↦ absurd (stretch.last.not_plain (subst (λ v. IsPlain M P v s.end) of (is.inner s.end (omega arith) more)))
         ]
       ]
 

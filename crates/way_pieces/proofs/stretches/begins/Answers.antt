@@ -2,9 +2,9 @@
 use Rattle.std.proofs.Common.{◌≡◌, Option, Some, get_or, pos, IsTrue, sym, ap, subst, ◌∙◌, arith}
 use Rattle.road_base.specs.declared.ids.NodeId.{NodeId}
 use Rattle.road_model.specs.Lines.{node_at}
-use Rattle.way_pieces.specs.Spans.{piece_on, start_of, Begins}
+use Rattle.way_pieces.specs.Stretches.{piece_on, start_of, Begins}
 use Rattle.way_pieces.proofs.Driving.{node_there}
-use Rattle.way_pieces.proofs.spans.begins.Goals as goal
+use Rattle.way_pieces.proofs.stretches.begins.Goals as goal
 
 some_same : (a b : NodeId) → Some a ≡ Some b → a ≡ b
 some_same a b e = cc
@@ -12,8 +12,8 @@ some_same a b e = cc
 pub returns : goal.returns
 returns g c =
     let M = g.M.World.objects c.args.world.now in
-    let p = piece_on c.args.span c.args.dir in
-    let w = c.args.span.way in
+    let p = piece_on c.args.stretch c.args.dir in
+    let w = c.args.stretch.way in
     let xs = c.args.nodes.now in
     let z : NodeId = record { 0 = pos 0 } in
     let k = c.start_of.result in
