@@ -29,21 +29,26 @@ not_open : (M : Objects) (P : Rules) (w : WayId) (d : Dir) → None ≡ way_of M
 unfolding is_open
 not_open M P w d hidden is = closed P d (ap (λ (o : Option Way). open_way P o d) hidden ∙ is)
 
+-- a visible way is open as its tags say
+pub visible_open : (M : Objects) (P : Rules) (w : WayId) (body : Way) (d : Dir) → way_of M w ≡ Some body → is_open M P w d ≡ open_way P (Some body) d
+unfolding is_open
+visible_open M P w body d visible = ap (λ (o : Option Way). open_way P o d) visible
+
 -- a way that isn't visible is no road
 pub no_road : (M : Objects) (P : Rules) (w : WayId) → None ≡ way_of M w → IsTrue (is_road M P w) → ⊥
 no_road M P w hidden road = elim (or_cases _ _ road) [ inl a ↦ not_open M P w Forward hidden a | inr b ↦ not_open M P w Backward hidden b ]
 
-open_road : (M : Objects) (P : Rules) (w : WayId) (d : Dir) → is_open M P w d ≡ true → IsTrue (is_road M P w)
+pub open_road : (M : Objects) (P : Rules) (w : WayId) (d : Dir) → is_open M P w d ≡ true → IsTrue (is_road M P w)
 open_road M P w Forward is = or_left _ _ is
 open_road M P w Backward is = or_right _ _ is
 
 -- ---- nodes
 
-located_some : (M : Objects) (o : Option NodeId) → IsTrue (located M o) → (v : NodeId) × (o ≡ Some v)
+pub located_some : (M : Objects) (o : Option NodeId) → IsTrue (located M o) → (v : NodeId) × (o ≡ Some v)
 located_some M None h = absurd (false≢true h)
 located_some M (Some v) h = (v, refl)
 
-on_line : (M : Objects) (w : WayId) (k : ℕ) → IsTrue (located M (node_at M w k)) → k < length (line_of M w)
+pub on_line : (M : Objects) (w : WayId) (k : ℕ) → IsTrue (located M (node_at M w k)) → k < length (line_of M w)
 unfolding node_at
 on_line M w k h = let n = located_some M (slice_get (line_of M w) k) h in slice_get_within (line_of M w) k n.0 n.1
 
@@ -54,11 +59,11 @@ node_there M w nodes k d line within = ap (λ (l : List NodeId). slice_get l k) 
 
 -- ---- steps
 
-drivable_parts : (M : Objects) (P : Rules) (s : Step) → IsTrue (drivable M P s) → IsTrue (is_open M P s.way s.dir) × (IsTrue (located M (node_at M s.way s.index)) × IsTrue (located M (node_at M s.way (s.index + 1))))
+pub drivable_parts : (M : Objects) (P : Rules) (s : Step) → IsTrue (drivable M P s) → IsTrue (is_open M P s.way s.dir) × (IsTrue (located M (node_at M s.way s.index)) × IsTrue (located M (node_at M s.way (s.index + 1))))
 unfolding drivable
 drivable_parts M P s h = let a = and_parts _ _ h in let b = and_parts _ _ a.1 in (a.0, (b.0, b.1))
 
-drivable_from : (M : Objects) (P : Rules) (s : Step) → IsTrue (is_open M P s.way s.dir) → IsTrue (located M (node_at M s.way s.index)) → IsTrue (located M (node_at M s.way (s.index + 1))) → IsTrue (drivable M P s)
+pub drivable_from : (M : Objects) (P : Rules) (s : Step) → IsTrue (is_open M P s.way s.dir) → IsTrue (located M (node_at M s.way s.index)) → IsTrue (located M (node_at M s.way (s.index + 1))) → IsTrue (drivable M P s)
 unfolding drivable
 drivable_from M P s a b c = and_from _ _ a (and_from _ _ b c)
 

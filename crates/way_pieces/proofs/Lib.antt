@@ -2,6 +2,8 @@ pub mod Appending
 pub mod Climbing
 pub mod Driving
 pub mod Neighbouring
+pub mod NameOrder
 pub mod Adding
 pub mod Stepping
-pub mod Gathering
+pub mod Beginning
+pub mod Departing

@@ -1,14 +1,10 @@
--- The steps of a piece, one more at the end; and its first one.
-use Rattle.std.proofs.Common.{◌≡◌, ℕ, zero, suc, ◌+◌, ◌-◌, ◌<◌, ◌≤◌, List, [], ◌∷◌, ◌++◌, slice_get, Some, refl, sym, ap, subst, ◌∙◌, arith, add-zero}
+-- The steps of a piece, one more at the end.
+use Rattle.std.proofs.Common.{◌≡◌, ℕ, zero, suc, ◌+◌, ◌-◌, ◌<◌, ◌≤◌, List, [], ◌∷◌, ◌++◌, sym, ap, ◌∙◌, arith, add-zero}
 use Rattle.road_base.specs.declared.ids.WayId.{WayId}
 use Rattle.road_base.specs.declared.ids.Step.{Step}
 use Rattle.road_base.specs.declared.ids.Dir.{Dir}
 use Rattle.road_base.specs.declared.ids.Dir.TheVariants.{Forward, Backward}
-use Rattle.road_base.specs.Objects.{Objects}
-use Rattle.road_model.specs.Rules.{Rules}
-use Rattle.road_model.specs.Lines.{node_at, tail_of, forward_steps, backward_steps, steps_from}
-use Rattle.road_model.specs.Pieces.{Piece, IsPiece, spell}
-use Rattle.way_pieces.specs.Stretches.{start_of}
+use Rattle.road_model.specs.Lines.{forward_steps, backward_steps}
 
 abbrev at : WayId → Dir → ℕ → Step
 at w d k = record { way = w; index = k; dir = d }
@@ -48,19 +44,3 @@ down_more w end count xs ys low before is =
     ∙ sym (backward_suc w (end - count - 1) count)
     ∙ ap (λ m. backward_steps w m (suc count)) next
     ∙ ap (backward_steps w (end - (count + 1))) more
-
--- ---- the first step
-
-abbrev IsFirst : Objects → WayId → List Step → ℕ → Type 0
-IsFirst M w steps k = (first : Step) × ((slice_get steps 0 ≡ Some first) × (tail_of M first ≡ node_at M w k))
-
-first_by : (M : Objects) (w : WayId) (i j n : ℕ) (d : Dir) → j ≡ i + suc n → IsFirst M w (steps_from w i (suc n) d) (start_of (record { way = w; index = i; end = j; dir = d }))
-first_by M w i j n Forward e = (at w Forward i, (refl, refl))
-first_by M w i j n Backward e = let same : i + n + 1 ≡ j = omega arith in (at w Backward (i + n), (refl, ap (node_at M w) same))
-
--- a piece's first step begins where the piece does
-pub first_step : (M : Objects) (P : Rules) (p : Piece) → IsPiece M P p → IsFirst M p.way (spell p) (start_of p)
-first_step M P p is =
-    let up = is.ascends in
-    let more : suc (p.end - p.index - 1) ≡ p.end - p.index = omega arith in
-    subst (λ n. IsFirst M p.way (steps_from p.way p.index n p.dir) (start_of p)) more (first_by M p.way p.index p.end (p.end - p.index - 1) p.dir (omega arith))

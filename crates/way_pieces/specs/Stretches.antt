@@ -5,7 +5,7 @@ use Rattle.road_base.specs.declared.ids.Dir.{Dir}
 use Rattle.road_base.specs.Objects.{Objects}
 use Rattle.road_model.specs.declared.lists.PieceName.{PieceName}
 use Rattle.road_model.specs.Rules.{Rules}
-use Rattle.road_model.specs.Pieces.{Piece, IsPlain, IsPiece}
+use Rattle.road_model.specs.Pieces.{Piece, IsPlain}
 use Rattle.junctions.specs.Junctions.{IsJunction}
 use Rattle.way_pieces.specs.declared.spans.PieceSpan.{PieceSpan}
 use Rattle.way_pieces.specs.declared.stretches.Stretch.{Stretch}

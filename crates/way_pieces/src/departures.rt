@@ -1,8 +1,8 @@
 //! The pieces that leave a node.
-ghost use Rattle.std.specs.Prelude.{◌≡◌, ◌≤◌, ◌<◌, ◌++◌, ◌&&◌, Some, IsTrue, IfOk, OnOk, length};
+ghost use Rattle.std.specs.Prelude.{◌≡◌, ◌≤◌, ◌<◌, ◌++◌, ◌&&◌, ◌||◌, ◌↔◌, Some, IsTrue, IfOk, OnOk, length};
 ghost use Rattle.road_base.specs.declared.ids.Dir.TheVariants.{Forward, Backward};
 ghost use Rattle.road_model.specs.Lines.{line_of, node_at};
-ghost use Rattle.road_model.specs.Driving.{is_road, located};
+ghost use Rattle.road_model.specs.Driving.{is_road, located, open_way};
 ghost use Rattle.road_model.specs.Pieces.{IsPlain};
 ghost use Rattle.road_model.specs.Orders.{Lists, name_cmp};
 ghost use Rattle.way_pieces.specs.Names.{IsDeparture};
@@ -11,11 +11,11 @@ ghost use Rattle.way_pieces.specs.Departures.{IsRoad, IsOver, IsOverAt, IsOverBy
 use crate::stretches::nodes_of;
 use junctions::laws::roads_refer;
 use junctions::{Repeats, is_plain_at};
-use road_base::{Dir, NoMemory, NodeId, Step, WayId};
+use road_base::{Dir, NoMemory, NodeId, Step, Way, WayId};
 use road_model::laws::one_piece;
-use road_model::{PieceName, Profile, World};
+use road_model::{Access, PieceName, Profile, World};
 use std::alloc::Global;
-use way_lines::{is_located, is_open};
+use way_lines::is_located;
 
 /// A piece that leaves a node: its name, its first step, and the node where that step ends.
 #[derive(Clone, Copy, Debug, PartialEq, Eq)]
@@ -66,14 +66,36 @@ fn add_way<M: World, P: Profile>(
     };
     let road = Road {
         way,
-        forward: is_open(world, profile, way, Dir::Forward),
-        backward: is_open(world, profile, way, Dir::Backward),
+        forward: is_free(profile, body, Dir::Forward),
+        backward: is_free(profile, body, Dir::Backward),
     };
-    if !(road.forward || road.backward) {
+    if !is_open(road) {
         return Ok(());
     }
     let nodes = nodes_of(alloc, body)?;
-    add_along(alloc, departures, world, profile, road, nodes.as_slice(), node)
+    add_along(
+        alloc,
+        departures,
+        world,
+        profile,
+        road,
+        nodes.as_slice(),
+        node,
+    )
+}
+
+/// Whether a visible way is open in the direction.
+fn is_free<P: Profile>(profile: &P, way: &Way, dir: Dir) -> bool
+    ensures { result ≡ open_way (P.rules profile.now) (Some way.now) dir }
+{
+    matches!(profile.direction(&way.tags, dir), Access::Free)
+}
+
+/// Whether the way is open in some direction.
+fn is_open(road: Road) -> bool
+    ensures { result ≡ (road.forward || road.backward) }
+{
+    road.forward || road.backward
 }
 
 /// Adds the departures from the node over the road whose line these nodes are.
@@ -86,7 +108,7 @@ fn add_along<M: World, P: Profile>(
     nodes: &[NodeId],
     node: NodeId,
 ) -> Result<(), NoMemory>
-    requires open { IsRoad (M.objects world.now) (P.rules profile.now) road }
+    requires directions { IsRoad (M.objects world.now) (P.rules profile.now) road }
     requires road { IsTrue (is_road (M.objects world.now) (P.rules profile.now) road.way) }
     requires line { nodes.now ≡ line_of (M.objects world.now) road.way }
     requires short { length nodes.now ≤ 65535 }
@@ -94,11 +116,18 @@ fn add_along<M: World, P: Profile>(
 {
     let repeats = Repeats::of(alloc, nodes)?;
     for at in 0..nodes.len() {
-        if nodes[at] == node {
-            add_at(departures, world, profile, road, nodes, &repeats, at, node)?;
+        if !is_same(nodes[at], node) {
+            continue;
         }
+        add_at(departures, world, profile, road, nodes, &repeats, at, node)?;
     }
     Ok(())
+}
+
+fn is_same(this: NodeId, that: NodeId) -> bool
+    ensures { IsTrue result ↔ (this ≡ that) }
+{
+    this == that
 }
 
 /// Adds the departures at the position of the road whose line these nodes are, at which the node stands.
@@ -112,7 +141,7 @@ fn add_at<M: World, P: Profile>(
     at: usize,
     node: NodeId,
 ) -> Result<(), NoMemory>
-    requires open { IsRoad (M.objects world.now) (P.rules profile.now) road }
+    requires directions { IsRoad (M.objects world.now) (P.rules profile.now) road }
     requires road { IsTrue (is_road (M.objects world.now) (P.rules profile.now) road.way) }
     requires line { nodes.now ≡ line_of (M.objects world.now) road.way }
     requires short { length nodes.now ≤ 65535 }
@@ -128,16 +157,18 @@ fn add_at<M: World, P: Profile>(
     let backward = backward_at(world, profile, road, nodes, repeats, at, node);
     let forward = forward_at(world, profile, road, nodes, at, node);
     add_some(departures, backward)?;
-    add_some(departures, forward)
+    add_some(departures, forward)?;
+    Ok(())
 }
 
 /// Adds the departure, if there is one.
 fn add_some(departures: &mut Vec<Departure>, more: Option<Departure>) -> Result<(), NoMemory>
     ensures { OnOk result (departures.new.items ≡ departures.old.items ++ list_of more) }
 {
-    if let Some(departure) = more {
-        departures.push(departure)?;
-    }
+    let Some(departure) = more else {
+        return Ok(());
+    };
+    departures.push(departure)?;
     Ok(())
 }
 
@@ -150,7 +181,7 @@ fn forward_at<M: World, P: Profile>(
     at: usize,
     node: NodeId,
 ) -> Option<Departure>
-    requires open { IsRoad (M.objects world.now) (P.rules profile.now) road }
+    requires directions { IsRoad (M.objects world.now) (P.rules profile.now) road }
     requires line { nodes.now ≡ line_of (M.objects world.now) road.way }
     requires short { length nodes.now ≤ 65535 }
     requires within { at < length nodes.now }
@@ -192,7 +223,7 @@ fn backward_at<M: World, P: Profile>(
     at: usize,
     node: NodeId,
 ) -> Option<Departure>
-    requires open { IsRoad (M.objects world.now) (P.rules profile.now) road }
+    requires directions { IsRoad (M.objects world.now) (P.rules profile.now) road }
     requires road { IsTrue (is_road (M.objects world.now) (P.rules profile.now) road.way) }
     requires line { nodes.now ≡ line_of (M.objects world.now) road.way }
     requires short { length nodes.now ≤ 65535 }
@@ -227,10 +258,10 @@ fn backward_at<M: World, P: Profile>(
 }
 
 /// Whether the way is open, and both nodes are visible with locations.
-fn may_drive<M: World>(world: &M, open: bool, first: NodeId, second: NodeId) -> bool
-    ensures { result ≡ (open && (located (M.objects world.now) (Some first) && located (M.objects world.now) (Some second))) }
+fn may_drive<M: World>(world: &M, free: bool, first: NodeId, second: NodeId) -> bool
+    ensures { result ≡ (free && (located (M.objects world.now) (Some first) && located (M.objects world.now) (Some second))) }
 {
-    open && is_located(world, first) && is_located(world, second)
+    free && is_located(world, first) && is_located(world, second)
 }
 
 /// The next position below this one that isn't plain, on the road whose line these nodes are.

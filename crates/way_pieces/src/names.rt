@@ -3,11 +3,11 @@ ghost use Rattle.std.specs.Prelude.{◌≡◌, IfOk, map};
 ghost use Rattle.road_model.specs.Orders.{Lists, name_cmp};
 ghost use Rattle.way_pieces.specs.Names.{IsNameOn, IsNameFrom};
 
-use crate::departures::departures_from;
-use crate::spans::spans_of;
+use crate::departures::{Departure, departures_from};
+use crate::spans::{PieceSpan, spans_of};
 use road_base::{NoMemory, NodeId, WayId};
-use road_model::{Names, Profile, World};
-use std::alloc::Global;
+use road_model::{Names, PieceName, Profile, World};
+use std::alloc::{AllocError, Global};
 
 /// The names of the way's pieces, each once, by position and forward before backward.
 pub fn pieces_of<M: World, P: Profile>(
@@ -19,8 +19,14 @@ pub fn pieces_of<M: World, P: Profile>(
     ensures { IfOk result (λ names. Lists (λ n. n) name_cmp (IsNameOn (M.objects world.now) (P.rules profile.now) way) names) }
 {
     let spans = spans_of(alloc, world, profile, way)?;
-    let names = spans.iter().map(|span| span.name).collect(alloc)?;
+    let names = span_names(alloc, spans.as_slice())?;
     Ok(Names::from_list(names))
+}
+
+fn span_names(alloc: Global, spans: &[PieceSpan]) -> Result<Vec<PieceName>, AllocError>
+    ensures { IfOk result (λ v. v.items ≡ map (λ s. s.name) spans.now) }
+{
+    spans.iter().map(|span| span.name).collect(alloc)
 }
 
 /// The names of the pieces whose first step leaves the node, each once, ascending.
@@ -33,9 +39,15 @@ pub fn pieces_from<M: World, P: Profile>(
     ensures { IfOk result (λ names. Lists (λ n. n) name_cmp (IsNameFrom (M.objects world.now) (P.rules profile.now) node) names) }
 {
     let departures = departures_from(alloc, world, profile, node)?;
-    let names = departures
+    let names = departure_names(alloc, departures.as_slice())?;
+    Ok(Names::from_list(names))
+}
+
+fn departure_names(alloc: Global, departures: &[Departure]) -> Result<Vec<PieceName>, AllocError>
+    ensures { IfOk result (λ v. v.items ≡ map (λ d. d.piece) departures.now) }
+{
+    departures
         .iter()
         .map(|departure| departure.piece)
-        .collect(alloc)?;
-    Ok(Names::from_list(names))
+        .collect(alloc)
 }

@@ -1,5 +1,5 @@
 //! Whether a piece lies between two neighbouring junctions of a way.
-ghost use Rattle.std.specs.Prelude.{◌≡◌, ◌↔◌, ◌&&◌, Some, IsTrue, IfOk};
+ghost use Rattle.std.specs.Prelude.{◌≡◌, ◌≤◌, ◌↔◌, ◌&&◌, Some, IsTrue, IfOk, length};
 ghost use Rattle.road_model.specs.Lines.{changes, line_of};
 ghost use Rattle.road_model.specs.Driving.{is_open, located};
 ghost use Rattle.road_model.specs.Pieces.{IsPiece};
@@ -20,7 +20,8 @@ pub struct Stretch {
 
 /// The nodes of the way's line.
 pub fn nodes_of(alloc: Global, way: &Way) -> Result<Vec<NodeId>, AllocError>
-    ensures { IfOk result (λ v. v.items ≡ changes way.now.refs) }
+    ensures nodes { IfOk result (λ v. v.items ≡ changes way.now.refs) }
+    ensures short { length (changes way.now.refs) ≤ 65535 }
 {
     line(way).collect(alloc)
 }

@@ -1,9 +1,10 @@
-use Rattle.std.proofs.Common.{None, List, sym, subst}
-use Rattle.road_model.specs.declared.lists.PieceName.{PieceName}
-use Rattle.road_model.specs.Orders.{Lists, name_cmp}
-use Rattle.way_pieces.specs.Names.{IsNameOn}
-use Rattle.way_pieces.specs.Stretches.{IsWanted}
-use Rattle.way_pieces.proofs.Appending.{lists_same}
+-- The names of the spans are those of the pieces.
+use Rattle.std.proofs.Common.{List, map, refl, ap, ◌∙◌}
+use Rattle.road_model.specs.Orders.{name_cmp}
+use Rattle.way_pieces.specs.declared.spans.PieceSpan.{PieceSpan}
+use Rattle.way_pieces.specs.Names.{piece_of, IsNameOn, IsSpanOn}
+use Rattle.way_pieces.proofs.Adding.{span_of}
+use Rattle.way_pieces.proofs.Appending.{lists_names}
 use Rattle.way_pieces.proofs.names.pieces_of.Goals as goal
 
 pub returns : goal.returns
@@ -11,7 +12,8 @@ returns g c =
     let M = g.M.World.objects c.args.world.now in
     let P = g.P.Profile.rules c.args.profile.now in
     let w = c.args.way in
-    subst (λ (l : List PieceName). Lists (λ n. n) name_cmp (IsNameOn M P w) l) (sym c.from_list.ensures)
-    (lists_same name_cmp (IsWanted M P None w) (IsNameOn M P w) c.in_ok-names.names.items c.in_ok-names.ensures
-    (λ z h. record { piece = h.piece; is = h.is; named = h.named; of = h.of })
-    (λ z h. record { piece = h.piece; is = h.is; named = h.named; of = h.of; begins = tt }))
+    lists_names (λ (z : PieceSpan). z.name) name_cmp (IsSpanOn M P w) (IsNameOn M P w) c.in_ok-spans.spans.items _
+    (c.from_list.ensures ∙ (c.in_ok-names.ensures ∙ ap (λ (l : List PieceSpan). map (λ s. s.name) l) c.as_slice.ensures.value))
+    c.in_ok-spans.ensures
+    (λ z on. record { piece = piece_of z; is = on.is; named = refl; of = on.of })
+    (λ n is. (span_of is.piece, (record { of = is.of; is = is.is }, is.named)))

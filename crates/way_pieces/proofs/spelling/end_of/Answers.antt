@@ -22,7 +22,7 @@ returns-in_default-way-clause-none g c = λ p is named.
 pub is_piece-requires-clause-line : goal.is_piece-requires-clause-line
 is_piece-requires-clause-line g c =
     c.as_slice-2.ensures.value
-    ∙ c.in_ok-nodes.ensures
+    ∙ c.in_ok-nodes.ensures.nodes
     ∙ sym (visible_line (g.M.World.objects c.args.world.now) c.args.piece.way c.in-Some-way.body.now (sym c.in-Some-way.ensures))
 
 pub is_piece-requires-clause-stretch : goal.is_piece-requires-clause-stretch

@@ -5,5 +5,5 @@ use Rattle.road_model.specs.Lines.{changes}
 use Rattle.way_lines.specs.Left.{nodes_left}
 use Rattle.way_pieces.proofs.stretches.nodes_of.Goals as goal
 
-pub returns : goal.returns
-returns c = items_from_collect _ c.collect.ensures.ran (YieldsList-from_first (λ x. x) nodes_left (changes c.args.way.now.refs) c.line.ensures.nodes)
+pub returns-clause-nodes : goal.returns-clause-nodes
+returns-clause-nodes c = items_from_collect _ c.collect.ensures.ran (YieldsList-from_first (λ x. x) nodes_left (changes c.args.way.now.refs) c.line.ensures.nodes)

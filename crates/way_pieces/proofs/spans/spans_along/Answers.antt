@@ -1,26 +1,27 @@
 -- Each piece begins at a junction and ends at the next one.
 use Rattle.std.proofs.Common.{◌≡◌, ◌+◌, ◌-◌, List, length, get_or, sym, subst, arith}
-use Rattle.road_model.specs.declared.lists.PieceName.{PieceName}
+use Rattle.way_pieces.specs.declared.spans.PieceSpan.{PieceSpan}
 use Rattle.road_model.specs.Orders.{Lists, name_cmp}
-use Rattle.way_pieces.specs.Stretches.{IsStretch, IsWanted, IsWantedBelow}
+use Rattle.way_pieces.specs.Names.{IsSpanOn}
+use Rattle.way_pieces.specs.Stretches.{IsStretch, IsSpanBelow}
 use Rattle.way_pieces.proofs.Adding.{none_below, below_last}
 use Rattle.way_pieces.proofs.Appending.{lists_none, lists_same}
 use Rattle.way_pieces.proofs.Neighbouring.{stretch_at}
-use Rattle.way_pieces.proofs.names.names_along.Goals as goal
+use Rattle.way_pieces.proofs.spans.spans_along.Goals as goal
 
 pub loop-at-init : goal.loop-at-init
 loop-at-init g c =
     let M = g.M.World.objects c.args.world.now in
     let P = g.P.Profile.rules c.args.profile.now in
-    let Low = IsWantedBelow M P c.args.from c.args.way (get_or c.args.junctions.now 0 0) in
+    let Low = IsSpanBelow M P c.args.way (get_or c.args.junctions.now 0 0) in
     record {
       low = omega arith;
       high = omega arith;
-      listed = subst (λ (l : List PieceName). Lists (λ n. n) name_cmp Low l) (sym c.new-names.ensures.items) (lists_none name_cmp Low (none_below M P c.args.from c.args.way c.args.junctions.now c.requires.junctions));
+      listed = subst (λ (l : List PieceSpan). Lists (λ z. z.name) name_cmp Low l) (sym c.new-spans.ensures.items) (lists_none (λ z. z.name) name_cmp Low (none_below M P c.args.way c.args.junctions.now c.requires.junctions));
     }
 
-pub add_names-requires-clause-stretch : goal.add_names-requires-clause-stretch
-add_names-requires-clause-stretch g c =
+pub add_spans-requires-clause-stretch : goal.add_spans-requires-clause-stretch
+add_spans-requires-clause-stretch g c =
     let M = g.M.World.objects c.args.world.now in
     let P = g.P.Profile.rules c.args.profile.now in
     let xs = c.args.junctions.now in
@@ -40,6 +41,6 @@ returns g c =
     let high = c.loop-at.invariant.high in
     let past = c.loop-at-test.false in
     let last : at - 1 ≡ length xs - 1 = omega arith in
-    lists_same name_cmp (IsWantedBelow M P c.args.from c.args.way (get_or xs (at - 1) 0)) (IsWanted M P c.args.from c.args.way) c.loop-at.names.items c.loop-at.invariant.listed
+    lists_same (λ z. z.name) name_cmp (IsSpanBelow M P c.args.way (get_or xs (at - 1) 0)) (IsSpanOn M P c.args.way) c.loop-at.spans.items c.loop-at.invariant.listed
     (λ z h. h.1)
-    (below_last M P c.args.from c.args.way xs c.requires.junctions (at - 1) last)
+    (below_last M P c.args.way xs c.requires.junctions (at - 1) last)

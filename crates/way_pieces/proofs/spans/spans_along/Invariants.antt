@@ -1,12 +1,12 @@
 use Rattle.std.proofs.Common.{◌≤◌, ◌-◌, length, get_or}
 use Rattle.road_model.specs.Orders.{Lists, name_cmp}
-use Rattle.way_pieces.specs.Stretches.{IsWantedBelow}
-use Rattle.way_pieces.proofs.names.names_along.Given as goal
+use Rattle.way_pieces.specs.Stretches.{IsSpanBelow}
+use Rattle.way_pieces.proofs.spans.spans_along.Given as goal
 
 -- the pieces below the junction that was last looked at are named
 abbrev pub invariant-loop-at : goal.invariant-loop-at
 invariant-loop-at g l = record {
   low : 1 ≤ l.at;
   high : l.at - 1 ≤ length l.junctions - 1;
-  listed : Lists (λ n. n) name_cmp (IsWantedBelow (g.M.World.objects l.world) (g.P.Profile.rules l.profile) l.from l.way (get_or l.junctions (l.at - 1) 0)) l.names.items;
+  listed : Lists (λ z. z.name) name_cmp (IsSpanBelow (g.M.World.objects l.world) (g.P.Profile.rules l.profile) l.way (get_or l.junctions (l.at - 1) 0)) l.spans.items;
 }
