@@ -1,0 +1,70 @@
+-- Members of lists, by recursion on the list.
+use Rattle.std.proofs.Common.{◌≡◌, ℕ, zero, suc, ◌<◌, List, [], ◌∷◌, length, map, ◌⊎◌, inl, inr, refl, sym, ap, ◌∙◌, arith, Bool, true, false, cond, Contains, slice_index_or, slice_get, Some}
+use Rattle.std.specs.List.{filter}
+use Rattle.std.proofs.lemmas.Bool.{false≢true}
+
+-- a member of a list
+abbrev pub In : {A : Type 0} → A → List A → Type 0
+In a [] = ⊥
+In a (x ∷ xs) = (a ≡ x) ⊎ In a xs
+
+at_place : {A : Type 0} (xs : List A) (x : A) (k : ℕ) → k < length xs → slice_index_or xs k x ≡ x → In x xs
+at_place [] x k within is = absurd (omega arith)
+at_place (y ∷ xs) x zero within is = inl (sym is)
+at_place (y ∷ xs) x (suc k) within is = inr (at_place xs x k (omega arith) is)
+
+pub in_from_contains : {A : Type 0} (xs : List A) (x : A) → Contains xs x → In x xs
+in_from_contains xs x has = at_place xs x has.0 has.1 has.2
+
+pub contains_from_in : {A : Type 0} (xs : List A) (x : A) → In x xs → Contains xs x
+contains_from_in [] x i = absurd i
+contains_from_in (y ∷ xs) x (inl e) = (0, omega arith, sym e)
+contains_from_in (y ∷ xs) x (inr i) = let r = contains_from_in xs x i in let l = r.1 in (suc r.0, omega arith, r.2)
+
+pub in_at : {A : Type 0} (xs : List A) (x : A) (k : ℕ) → slice_get xs k ≡ Some x → In x xs
+in_at [] x k e = cc
+in_at (y ∷ xs) x zero e = inl (cc)
+in_at (y ∷ xs) x (suc k) e = inr (in_at xs x k e)
+
+-- the place of a member
+pub at_in : {A : Type 0} (xs : List A) (x : A) → In x xs → (k : ℕ) × (slice_get xs k ≡ Some x)
+at_in [] x i = absurd i
+at_in (y ∷ xs) x (inl e) = (0, ap Some (sym e))
+at_in (y ∷ xs) x (inr i) = let r = at_in xs x i in (suc r.0, r.1)
+
+pub in_map : {A B : Type 0} (f : A → B) (xs : List A) (x : A) → In x xs → In (f x) (map f xs)
+in_map f [] x i = absurd i
+in_map f (y ∷ xs) x (inl e) = inl (ap f e)
+in_map f (y ∷ xs) x (inr i) = inr (in_map f xs x i)
+
+pub from_map : {A B : Type 0} (f : A → B) (xs : List A) (z : B) → In z (map f xs) → (x : A) × In x xs × (z ≡ f x)
+from_map f [] z i = absurd i
+from_map f (y ∷ xs) z (inl e) = (y, inl refl, e)
+from_map f (y ∷ xs) z (inr i) = let r = from_map f xs z i in (r.0, inr r.1, r.2)
+
+in_filter_at : {A : Type 0} (p : A → Bool) (y : A) (xs : List A) (x : A) (b : Bool) → p y ≡ b → p x ≡ true → In x (y ∷ xs) → (In x xs → In x (filter p xs)) → In x (cond b (y ∷ filter p xs) (filter p xs))
+in_filter_at p y xs x true e h (inl i) go = inl i
+in_filter_at p y xs x true e h (inr i) go = inr (go i)
+in_filter_at p y xs x false e h (inl i) go = absurd (false≢true (sym e ∙ ap p (sym i) ∙ h))
+in_filter_at p y xs x false e h (inr i) go = go i
+
+pub in_filter : {A : Type 0} (p : A → Bool) (xs : List A) (x : A) → In x xs → p x ≡ true → In x (filter p xs)
+in_filter p [] x i h = absurd i
+in_filter p (y ∷ xs) x i h = in_filter_at p y xs x (p y) refl h i (λ j. in_filter p xs x j h)
+
+from_filter_at : {A : Type 0} (p : A → Bool) (y : A) (xs : List A) (x : A) (b : Bool) → p y ≡ b → (In x (filter p xs) → In x xs × (p x ≡ true)) → In x (cond b (y ∷ filter p xs) (filter p xs)) → In x (y ∷ xs) × (p x ≡ true)
+from_filter_at p y xs x true e go (inl i) = (inl i, ap p i ∙ e)
+from_filter_at p y xs x true e go (inr i) = let r = go i in (inr r.0, r.1)
+from_filter_at p y xs x false e go i = let r = go i in (inr r.0, r.1)
+
+pub from_filter : {A : Type 0} (p : A → Bool) (xs : List A) (x : A) → In x (filter p xs) → In x xs × (p x ≡ true)
+from_filter p [] x i = absurd i
+from_filter p (y ∷ xs) x i = from_filter_at p y xs x (p y) refl (from_filter p xs x) i
+
+-- two members of a list of one are equal
+pub all_one : {A : Type 0} (xs : List A) → length xs ≡ 1 → (x y : A) → In x xs → In y xs → x ≡ y
+all_one [] e x y i j = absurd i
+all_one (a ∷ []) e x y (inl i) (inl j) = i ∙ sym j
+all_one (a ∷ []) e x y (inl i) (inr j) = absurd j
+all_one (a ∷ []) e x y (inr i) j = absurd i
+all_one (a ∷ b ∷ xs) e x y i j = absurd (omega arith)

@@ -1,0 +1,136 @@
+-- What is written of a piece, and of all pieces of a way.
+use Rattle.std.proofs.Common.{◌≡◌, ◌<◌, ◌≤◌, ◌+◌, ◌-◌, ℕ, List, [], ◌∷◌, ◌++◌, length, map, take, get_or, refl, sym, ap, ◌∙◌, subst, arith, IsTrue, Some, slice_get, Contains, None}
+use Rattle.std.specs.List.{All, AllByRecursion, filter_map}
+use Rattle.std.specs.Cmp.{IsTotalOrder}
+use Rattle.std.proofs.lemmas.List.{map-append, take_more}
+use Rattle.std.proofs.lemmas.List.Elements.{All-contains, recursion_from_All}
+use Rattle.road_base.specs.declared.ids.WayId.{WayId}
+use Rattle.road_base.specs.declared.objects.Way.{Way}
+use Rattle.road_base.specs.Objects.{Objects, way_of}
+use Rattle.road_model.specs.declared.lists.PieceName.{PieceName}
+use Rattle.road_model.specs.declared.lists.Piece.{Piece as PieceEntry}
+use Rattle.road_model.specs.Rules.{Rules}
+use Rattle.road_model.specs.declared.blocks.Block.{Block}
+use Rattle.road_model.specs.Lines.{changes, refs_of, line_of}
+use Rattle.road_model.specs.Pieces.{Piece, IsPiece}
+use Rattle.road_model.specs.Orders.{Lists, rises, way_cmp, name_cmp, names_cmp}
+use Rattle.road_model.specs.Blocks.{IsContextEntry, IsPieceEntry, IsBlock}
+use Rattle.road_model.specs.Format.{IsContextForm, IsPieceForm, begins_alone, place_cmp}
+use Rattle.road_model.specs.Naming.{OneEntry}
+use Rattle.way_pieces.specs.declared.spans.PieceSpan.{PieceSpan}
+use Rattle.way_pieces.specs.Names.{piece_of, IsSpanOn}
+use Rattle.expanded_graph.specs.declared.places.Stop.{Stop}
+use Rattle.expanded_graph.specs.Travel.{place_of, stop_at, stops_on}
+use Rattle.expanded_graph.proofs.Members.{In, in_map, from_map, in_from_contains, contains_from_in}
+use Rattle.expanded_graph.proofs.Ascending.{places_rise}
+use Rattle.expanded_graph.proofs.Ends.{piece_on_line}
+use Rattle.expanded_graph.proofs.Travelling.{within, places_count, places_at}
+
+-- the names of the pieces, one more
+pub names_more : (pieces more : List PieceEntry) (p : PieceEntry) (spans : List PieceSpan) (i : ℕ) (d : PieceSpan) → i < length spans → more ≡ pieces ++ p ∷ [] → p.name ≡ (get_or spans i d).name → map (λ (e : PieceEntry). e.name) pieces ≡ map (λ (x : PieceSpan). x.name) (take i spans) → map (λ (e : PieceEntry). e.name) more ≡ map (λ (x : PieceSpan). x.name) (take (i + 1) spans)
+names_more pieces more p spans i d h grown named so_far =
+    ap (map (λ (e : PieceEntry). e.name)) grown
+    ∙ map-append (λ (e : PieceEntry). e.name) pieces (p ∷ [])
+    ∙ ap (λ (l : List PieceName). l ++ p.name ∷ []) so_far
+    ∙ ap (λ (n : PieceName). map (λ (x : PieceSpan). x.name) (take i spans) ++ n ∷ []) named
+    ∙ sym (map-append (λ (x : PieceSpan). x.name) (take i spans) (get_or spans i d ∷ []))
+    ∙ ap (map (λ (x : PieceSpan). x.name)) (sym (take_more spans i d h))
+
+module _ (M : Objects) (P : Rules) (w : WayId) where
+  pub own_line : (stops : List Stop) (s : PieceSpan) → IsSpanOn M P w s → stops ≡ map (stop_at M) (line_of M w) → stops ≡ map (stop_at M) (line_of M s.name.way)
+  own_line stops s on line = line ∙ ap (λ v. map (stop_at M) (line_of M v)) (sym on.of)
+
+  module _ (s : PieceSpan) (on : IsSpanOn M P w s) (stops : List Stop) (line : stops ≡ map (stop_at M) (line_of M w)) (e : PieceEntry) (named : e.name ≡ s.name) (ended : e.end ≡ s.end) (placed : e.places ≡ filter_map place_of (stops_on s stops)) where
+    count : length e.places ≡ s.end - s.name.index + 1
+    count = ap length placed ∙ places_count M P s on.is stops (own_line stops s on line)
+
+    pub entry : Lists (λ c. c.before) names_cmp (IsContextEntry M P (piece_of s)) e.contexts → IsPieceEntry M P w e
+    entry contexts = record {
+      piece = piece_of s;
+      is = on.is;
+      of = on.of;
+      named = named;
+      end_is = ended;
+      count = count;
+      places = λ k x h. places_at M P s on.is stops (own_line stops s on line) k x (subst (λ l. slice_get l k ≡ Some x) placed h);
+      contexts = contexts;
+    }
+
+    pub form : length stops ≤ 65535 → Lists (λ c. c.before) names_cmp (IsContextEntry M P (piece_of s)) e.contexts → begins_alone e.contexts → AllByRecursion IsContextForm e.contexts → IsPieceForm e
+    form short contexts first forms =
+        let up = on.is.ascends in
+        let inside = within M P s on.is stops (own_line stops s on line) in
+        let index : e.name.index ≡ s.name.index = ap (λ n. n.index) named in
+        record {
+          ascends = omega arith;
+          bounded = omega arith;
+          place_count = omega (arith, count);
+          first_alone = first;
+          contexts_ascend = contexts.ascending;
+          contexts = forms;
+        }
+
+  -- ---- all pieces of the way
+
+  module _ (spans : List PieceSpan) (on : Lists (λ s. s.name) name_cmp (IsSpanOn M P w) spans) (pieces : List PieceEntry) (names : map (λ p. p.name) pieces ≡ map (λ s. s.name) spans) (entries : All (IsPieceEntry M P w) pieces) where
+    names_ascend : IsTrue (rises name_cmp (map (λ p. p.name) pieces))
+    names_ascend = ap (rises name_cmp) names ∙ on.ascending
+
+    is_entry : (e : PieceEntry) → Contains pieces e → IsPieceEntry M P w e
+    is_entry e has = All-contains (IsPieceEntry M P w) pieces e entries has
+
+    -- what is to be written of a piece was written
+    written : OneEntry M P → (e : PieceEntry) → IsPieceEntry M P w e → In e pieces
+    written one e h =
+        let s : PieceSpan = record { name = e.name; end = e.end } in
+        let same : piece_of s ≡ h.piece = λ i. record { way = (h.named i).way; index = (h.named i).index; end = h.end_is i; dir = (h.named i).dir } in
+        let there : IsSpanOn M P w s = record { of = ap (λ n. n.way) h.named ∙ h.of; is = subst (λ p. IsPiece M P p) (sym same) h.is } in
+        let listed = in_map (λ (x : PieceSpan). x.name) spans s (in_from_contains spans s (on.complete s there)) in
+        let r = from_map (λ (p : PieceEntry). p.name) pieces e.name (subst (In e.name) (sym names) listed) in
+        subst (λ x. In x pieces) (sym (one w e r.0 h (is_entry r.0 (contains_from_in pieces r.0 r.1)) r.2)) r.1
+
+    pub pieces_listed : OneEntry M P → Lists (λ p. p.name) name_cmp (IsPieceEntry M P w) pieces
+    pieces_listed one = record {
+      ascending = names_ascend;
+      sound = is_entry;
+      complete = λ e h. contains_from_in pieces e (written one e h);
+    }
+
+    way_of_entry : (e : PieceEntry) → In e pieces → e.name.way ≡ w
+    way_of_entry e j = let h = is_entry e (contains_from_in pieces e j) in ap (λ n. n.way) h.named ∙ h.of
+
+    pub pieces_rise : IsTotalOrder way_cmp → IsTrue (rises place_cmp (map (λ p. p.name) pieces))
+    pieces_rise total = places_rise (λ (p : PieceEntry). p.name) total w pieces way_of_entry names_ascend
+
+    -- the block with these pieces
+    pub is_block : OneEntry M P → (b : Block) → b.way ≡ w → b.pieces ≡ pieces → IsBlock M P w b
+    is_block one b of has = record { way = of; pieces = subst (λ (l : List PieceEntry). Lists (λ p. p.name) name_cmp (IsPieceEntry M P w) l) (sym has) (pieces_listed one) }
+
+    pub has_form : IsTotalOrder way_cmp → All IsPieceForm pieces → (l : List PieceEntry) → l ≡ pieces → AllByRecursion IsPieceForm l × IsTrue (rises place_cmp (map (λ (p : PieceEntry). p.name) l))
+    has_form total forms l same =
+        (subst (AllByRecursion IsPieceForm) (sym same) (recursion_from_All IsPieceForm pieces forms), ap (λ (x : List PieceEntry). rises place_cmp (map (λ (p : PieceEntry). p.name) x)) same ∙ pieces_rise total)
+
+  -- ---- a way that isn't visible
+
+  hidden_line : None ≡ way_of M w → line_of M w ≡ []
+  unfolding line_of
+  hidden_line hidden = ap (λ o. changes (refs_of o)) (sym hidden)
+
+  no_piece : None ≡ way_of M w → (p : Piece) → IsPiece M P p → p.way ≡ w → ⊥
+  no_piece hidden p is of =
+      let on = piece_on_line M P p is in
+      let none : length (line_of M p.way) ≡ 0 = ap (λ v. length (line_of M v)) of ∙ ap length (hidden_line hidden) in
+      omega arith
+
+  -- a way that isn't visible has no pieces
+  pub no_spans : None ≡ way_of M w → Lists (λ s. s.name) name_cmp (IsSpanOn M P w) []
+  no_spans hidden = record {
+    ascending = refl;
+    sound = λ s has. let within = has.1 in absurd (omega arith);
+    complete = λ s on. absurd (no_piece hidden (piece_of s) on.is on.of);
+  }
+
+-- the line of a visible way is that of its references
+pub visible_line : (M : Objects) (w : WayId) (body : Way) → Some body ≡ way_of M w → line_of M w ≡ changes body.refs
+unfolding line_of
+visible_line M w body visible = ap (λ o. changes (refs_of o)) (sym visible)

@@ -1,0 +1,2 @@
+pub mod Travel
+pub mod Turning

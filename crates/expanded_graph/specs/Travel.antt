@@ -1,0 +1,47 @@
+-- The nodes of a line with where they lie, those that a piece passes, and where it ends.
+use Rattle.std.specs.Prelude.{◌≡◌, ◌+◌, ◌-◌, List, [], ◌∷◌, ◌++◌, take, drop, reverse, Option, Some, None}
+use Rattle.std.specs.Option.{option_map}
+use Rattle.road_base.specs.declared.ids.NodeId.{NodeId}
+use Rattle.road_base.specs.declared.ids.Step.{Step}
+use Rattle.road_base.specs.declared.ids.Dir.{Dir}
+use Rattle.road_base.specs.declared.ids.Dir.TheVariants.{Forward, Backward}
+use Rattle.road_base.specs.declared.location.Location.{Location}
+use Rattle.road_base.specs.declared.objects.Node.{Node}
+use Rattle.road_base.specs.Objects.{Objects, node_of}
+use Rattle.road_model.specs.declared.lists.Place.{Place}
+use Rattle.road_model.specs.Lines.{tail_of, head_of}
+use Rattle.road_model.specs.Pieces.{Piece, spell}
+use Rattle.way_pieces.specs.declared.spans.PieceSpan.{PieceSpan}
+use Rattle.expanded_graph.specs.declared.places.Stop.{Stop}
+
+abbrev pub location_in : Option Node → Option Location
+location_in None = None
+location_in (Some body) = body.location
+
+-- where the node lies, if it is visible with a location
+abbrev pub location_of : Objects → NodeId → Option Location
+location_of M v = location_in (node_of M v)
+
+abbrev pub stop_at : Objects → NodeId → Stop
+stop_at M v = record { node = v; location = location_of M v }
+
+-- the node and where it lies, if it lies somewhere
+abbrev pub place_of : Stop → Option Place
+place_of s = option_map (λ l. record { node = s.node; location = l }) s.location
+
+-- what stands along a way, in order of travel
+abbrev pub travelled : {A : Type 0} → Dir → List A → List A
+travelled Forward xs = xs
+travelled Backward xs = reverse xs
+
+-- those of a way's stops that the piece passes, in order of travel
+abbrev pub stops_on : PieceSpan → List Stop → List Stop
+stops_on s stops = travelled s.name.dir (take (s.end - s.name.index + 1) (drop s.name.index stops))
+
+-- the piece's last step leads from node u to node v
+pub record Arrives (M : Objects) (p : Piece) (u v : NodeId) : Type 0 where
+  pub front : List Step
+  pub last : Step
+  pub ends : spell p ≡ front ++ last ∷ []
+  pub tail : tail_of M last ≡ Some u
+  pub head : head_of M last ≡ Some v

@@ -1,0 +1,37 @@
+-- Nodes where pieces end, and what may follow there.
+use Rattle.std.specs.Prelude.{◌≡◌, ◌==◌, List, [], ◌∷◌, length, map, filter, Bool, cond, not, ◌||◌}
+use Rattle.road_base.specs.declared.ids.NodeId.{NodeId}
+use Rattle.road_base.specs.Objects.{Objects}
+use Rattle.road_model.specs.declared.lists.TurnArc.{TurnArc}
+use Rattle.road_model.specs.declared.lists.Context.{Context}
+use Rattle.road_model.specs.Rules.{Rules}
+use Rattle.road_model.specs.Lines.{same_node}
+use Rattle.road_model.specs.Driving.{shut, turning_place}
+use Rattle.road_model.specs.Orders.{Lists, name_cmp}
+use Rattle.way_pieces.specs.declared.departures.Departure.{Departure}
+use Rattle.way_pieces.specs.Names.{IsDeparture}
+use Rattle.expanded_graph.specs.declared.intersections.Intersection.{Intersection}
+
+-- what is known of the node is so
+pub record IsIntersection (M : Objects) (P : Rules) (i : Intersection) : Type 0 where
+  pub gate_shut : i.gate.is_shut ≡ shut M P i.node
+  pub gate_turning : i.gate.is_turning_place ≡ turning_place M P i.node
+  pub leaving : Lists (λ d. d.piece) name_cmp (IsDeparture M P i.node) i.departures.items
+
+-- Who comes from the node u may go on by the departure: back to u at a place to turn round, where nothing goes through
+-- and where nothing else leaves, and elsewhere where the node isn't shut.
+abbrev pub may_follow : Intersection → NodeId → Departure → Bool
+may_follow i u d =
+    cond (same_node d.toward u) (i.gate.is_turning_place || (i.gate.is_shut || length i.departures.items == 1)) (not i.gate.is_shut)
+
+-- an arc by the departure to the context of that piece alone
+abbrev pub arc_to : Departure → TurnArc
+arc_to d = record { piece = d.piece; length = 1 }
+
+-- the arcs of a piece that comes from the node u
+abbrev pub arcs_at : Intersection → NodeId → List TurnArc
+arcs_at i u = map arc_to (filter (may_follow i u) i.departures.items)
+
+-- the context of one piece, and no other
+abbrev pub alone : List TurnArc → List Context
+alone arcs = record { before = []; arcs = arcs } ∷ []

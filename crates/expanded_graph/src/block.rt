@@ -1,0 +1,69 @@
+//! The block of a way.
+ghost use Rattle.std.specs.Prelude.{◌≡◌, ◌+◌, map, IfOk, IsTrue};
+ghost use Rattle.std.specs.List.{AllByRecursion};
+ghost use Rattle.road_model.specs.Network.{HasNoWords};
+ghost use Rattle.road_model.specs.Orders.{rises};
+ghost use Rattle.road_model.specs.Blocks.{IsBlock};
+ghost use Rattle.road_model.specs.Format.{IsPieceForm, place_cmp};
+
+use crate::pieces::pieces_along;
+use crate::places::stops_of;
+use road_base::{NoMemory, Steps, WayId};
+use road_model::laws::{name_order, one_name};
+use road_model::{Block, Pieces, Profile, World};
+use std::alloc::Global;
+use std::sync::ledger::Ledger;
+use way_pieces::spans_of;
+
+/// The block of the way: its pieces with their nodes and locations, contexts and arcs, where no restriction gives a word.
+/// A way that isn't visible or is no road has no pieces. Adds one step, also where no memory is found.
+pub fn build_block<M: World, P: Profile, L: Ledger>(
+    alloc: Global,
+    world: &M,
+    profile: &P,
+    way: WayId,
+    steps: &mut Steps<L>,
+) -> Result<Block, NoMemory>
+    requires { HasNoWords (M.objects world.now) (P.rules profile.now) }
+    ensures block { IfOk result (IsBlock (M.objects world.now) (P.rules profile.now) way) }
+    ensures form { IfOk result (λ b. AllByRecursion IsPieceForm b.pieces × IsTrue (rises place_cmp (map (λ p. p.name) b.pieces))) }
+    ensures tick { steps.new ≡ steps.old + 1 }
+{
+    steps.tick();
+    block_of(alloc, world, profile, way)
+}
+
+/// The same, without the count of steps.
+fn block_of<M: World, P: Profile>(
+    alloc: Global,
+    world: &M,
+    profile: &P,
+    way: WayId,
+) -> Result<Block, NoMemory>
+    requires { HasNoWords (M.objects world.now) (P.rules profile.now) }
+    ensures block { IfOk result (IsBlock (M.objects world.now) (P.rules profile.now) way) }
+    ensures form { IfOk result (λ b. AllByRecursion IsPieceForm b.pieces × IsTrue (rises place_cmp (map (λ p. p.name) b.pieces))) }
+{
+    name_order();
+    one_name(profile);
+    let Some(body) = world.way(way) else {
+        return Ok(Block {
+            way,
+            pieces: Pieces::from_list(Vec::new(alloc)),
+        });
+    };
+    let stops = stops_of(alloc, world, body)?;
+    let spans = spans_of(alloc, world, profile, way)?;
+    let pieces = pieces_along(
+        alloc,
+        world,
+        profile,
+        way,
+        stops.as_slice(),
+        spans.as_slice(),
+    )?;
+    Ok(Block {
+        way,
+        pieces: Pieces::from_list(pieces),
+    })
+}

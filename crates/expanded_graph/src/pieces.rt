@@ -1,0 +1,76 @@
+//! Pieces with the nodes that they pass and their contexts.
+ghost use Rattle.std.specs.Prelude.{◌≡◌, ◌≤◌, length, map, IfOk, OnOk};
+ghost use Rattle.std.specs.List.{All, AllByRecursion};
+ghost use Rattle.road_model.specs.Lines.{line_of};
+ghost use Rattle.road_model.specs.Network.{HasNoWords};
+ghost use Rattle.road_model.specs.Blocks.{IsPieceEntry};
+ghost use Rattle.road_model.specs.Format.{IsPieceForm};
+ghost use Rattle.way_pieces.specs.Names.{IsSpanOn};
+ghost use Rattle.expanded_graph.specs.Travel.{stop_at};
+ghost use Rattle.expanded_graph.specs.Turning.{IsIntersection};
+
+use crate::contexts::contexts_of;
+use crate::intersections::{Intersection, intersection_at};
+use crate::places::{Stop, arrival_of, places_of};
+use road_base::{NoMemory, WayId};
+use road_model::{Contexts, Piece, Places, Profile, World};
+use std::alloc::Global;
+use way_pieces::PieceSpan;
+
+/// The pieces of the way at these spans. The stops are those of the way's line.
+pub fn pieces_along<M: World, P: Profile>(
+    alloc: Global,
+    world: &M,
+    profile: &P,
+    way: WayId,
+    stops: &[Stop],
+    spans: &[PieceSpan],
+) -> Result<Vec<Piece>, NoMemory>
+    requires no_words { HasNoWords (M.objects world.now) (P.rules profile.now) }
+    requires line { stops.now ≡ map (stop_at (M.objects world.now)) (line_of (M.objects world.now) way) }
+    requires short { length stops.now ≤ 65535 }
+    requires spans { All (IsSpanOn (M.objects world.now) (P.rules profile.now) way) spans.now }
+    ensures names { IfOk result (λ v. map (λ p. p.name) v.items ≡ map (λ s. s.name) spans.now) }
+    ensures entries { IfOk result (λ v. All (IsPieceEntry (M.objects world.now) (P.rules profile.now) way) v.items) }
+    ensures forms { IfOk result (λ v. All IsPieceForm v.items) }
+{
+    let mut known = Vec::new(alloc);
+    let mut pieces = Vec::with_capacity(alloc, spans.len())?;
+    for span in spans {
+        let piece = piece_at(alloc, world, profile, way, stops, &mut known, *span)?;
+        pieces.push(piece)?;
+    }
+    Ok(pieces)
+}
+
+/// The piece of the way at the span. What is learnt of the node where it ends is kept.
+fn piece_at<M: World, P: Profile>(
+    alloc: Global,
+    world: &M,
+    profile: &P,
+    way: WayId,
+    stops: &[Stop],
+    known: &mut Vec<Intersection>,
+    span: PieceSpan,
+) -> Result<Piece, NoMemory>
+    requires no_words { HasNoWords (M.objects world.now) (P.rules profile.now) }
+    requires line { stops.now ≡ map (stop_at (M.objects world.now)) (line_of (M.objects world.now) way) }
+    requires short { length stops.now ≤ 65535 }
+    requires known { All (IsIntersection (M.objects world.now) (P.rules profile.now)) known.old.items }
+    requires span { IsSpanOn (M.objects world.now) (P.rules profile.now) way span }
+    ensures known { OnOk result (All (IsIntersection (M.objects world.now) (P.rules profile.now)) known.new.items) }
+    ensures name { IfOk result (λ p. p.name ≡ span.name) }
+    ensures entry { IfOk result (IsPieceEntry (M.objects world.now) (P.rules profile.now) way) }
+    ensures form { IfOk result IsPieceForm }
+{
+    let places = places_of(alloc, stops, span)?;
+    let arrival = arrival_of(world, stops, span);
+    let at = intersection_at(alloc, world, profile, known, arrival.at)?;
+    let contexts = contexts_of(alloc, world, profile, &known[at], span, arrival.from)?;
+    Ok(Piece {
+        name: span.name,
+        end: span.end,
+        places: Places::from_list(places),
+        contexts: Contexts::from_list(contexts),
+    })
+}
