@@ -1,5 +1,5 @@
 //! The block of a way.
-ghost use Rattle.std.specs.Prelude.{◌≡◌, ◌+◌, map, IfOk, IsTrue};
+ghost use Rattle.std.specs.Prelude.{◌≡◌, ◌+◌, [], map, IfOk, IsTrue};
 ghost use Rattle.std.specs.List.{AllByRecursion};
 ghost use Rattle.road_model.specs.Network.{HasNoWords};
 ghost use Rattle.road_model.specs.Orders.{rises};
@@ -46,14 +46,14 @@ fn block_of<M: World, P: Profile>(
 {
     name_order();
     one_name(profile);
+    let spans = spans_of(alloc, world, profile, way)?;
+    if spans.is_empty() {
+        return Ok(bare_block(alloc, way));
+    }
     let Some(body) = world.way(way) else {
-        return Ok(Block {
-            way,
-            pieces: Pieces::from_list(Vec::new(alloc)),
-        });
+        return Ok(bare_block(alloc, way));
     };
     let stops = stops_of(alloc, world, body)?;
-    let spans = spans_of(alloc, world, profile, way)?;
     let pieces = pieces_along(
         alloc,
         world,
@@ -66,4 +66,14 @@ fn block_of<M: World, P: Profile>(
         way,
         pieces: Pieces::from_list(pieces),
     })
+}
+
+/// A block with no pieces. Takes no memory.
+fn bare_block(alloc: Global, way: WayId) -> Block
+    ensures { result ≡ record { way = way; pieces = [] } }
+{
+    Block {
+        way,
+        pieces: Pieces::from_list(Vec::new(alloc)),
+    }
 }

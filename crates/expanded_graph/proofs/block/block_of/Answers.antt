@@ -1,5 +1,7 @@
 -- All pieces of the way were written.
-use Rattle.std.proofs.Common.{◌≡◌, [], length, map, refl, sym, ap, ◌∙◌, arith}
+use Rattle.std.proofs.Common.{◌≡◌, [], length, map, vec_len, refl, sym, ap, ◌∙◌, arith}
+use Rattle.std.proofs.lemmas.Bool.{eqb-true}
+use Rattle.std.proofs.lemmas.List.{nil_from_length}
 use Rattle.std.proofs.lemmas.List.Elements.{All-nil, All-same, All-weaker, All-contains_itself}
 use Rattle.road_model.specs.Blocks.{IsPieceEntry}
 use Rattle.road_model.specs.Format.{IsPieceForm}
@@ -8,19 +10,29 @@ use Rattle.expanded_graph.specs.Travel.{stop_at}
 use Rattle.expanded_graph.proofs.Writing.{is_block, has_form, no_spans, visible_line}
 use Rattle.expanded_graph.proofs.block.block_of.Goals as goal
 
+pub returns-then-is_empty-clause-block : goal.returns-then-is_empty-clause-block
+returns-then-is_empty-clause-block g c =
+    let M = g.M.World.objects c.args.world.now in
+    let P = g.P.Profile.rules c.args.profile.now in
+    let w = c.args.way in
+    let spans = c.in_ok-spans.spans.items in
+    let zero : vec_len c.in_ok-spans.spans ≡ 0 = eqb-true _ _ (sym c.is_empty.ensures ∙ c.if-is_empty.true) in
+    let none : spans ≡ [] = nil_from_length spans (omega arith) in
+    is_block M P w spans c.in_ok-spans.ensures [] (ap (map (λ s. s.name)) (sym none)) (All-nil (IsPieceEntry M P w)) (c.one_name.ensures.entries M) _ (ap (λ b. b.way) c.bare_block.ensures) (ap (λ b. b.pieces) c.bare_block.ensures)
+
 pub returns-in_default-clause-block : goal.returns-in_default-clause-block
 returns-in_default-clause-block g c =
     let M = g.M.World.objects c.args.world.now in
     let P = g.P.Profile.rules c.args.profile.now in
     let w = c.args.way in
-    is_block M P w [] (no_spans M P w c.in_default.ensures) [] refl (All-nil (IsPieceEntry M P w)) (c.one_name.ensures.entries M) _ refl (c.from_list.ensures ∙ c.new.ensures.items)
+    is_block M P w [] (no_spans M P w c.in_default.ensures) [] refl (All-nil (IsPieceEntry M P w)) (c.one_name.ensures.entries M) _ (ap (λ b. b.way) c.bare_block-in_default.ensures) (ap (λ b. b.pieces) c.bare_block-in_default.ensures)
 
 pub returns-in_default-clause-form : goal.returns-in_default-clause-form
 returns-in_default-clause-form g c =
     let M = g.M.World.objects c.args.world.now in
     let P = g.P.Profile.rules c.args.profile.now in
     let w = c.args.way in
-    has_form M P w [] (no_spans M P w c.in_default.ensures) [] refl (All-nil (IsPieceEntry M P w)) c.name_order.ensures.ways (All-nil IsPieceForm) c.from_list.result (c.from_list.ensures ∙ c.new.ensures.items)
+    has_form M P w [] (no_spans M P w c.in_default.ensures) [] refl (All-nil (IsPieceEntry M P w)) c.name_order.ensures.ways (All-nil IsPieceForm) c.bare_block-in_default.result.pieces (ap (λ b. b.pieces) c.bare_block-in_default.ensures)
 
 pub pieces_along-requires-clause-line : goal.pieces_along-requires-clause-line
 pieces_along-requires-clause-line g c =
@@ -46,11 +58,11 @@ returns-clause-block g c =
     let M = g.M.World.objects c.args.world.now in
     let P = g.P.Profile.rules c.args.profile.now in
     let names = c.in_ok-pieces.ensures.names ∙ ap (map (λ s. s.name)) c.as_slice-2.ensures.value in
-    is_block M P c.args.way c.in_ok-spans.spans.items c.in_ok-spans.ensures c.in_ok-pieces.pieces.items names c.in_ok-pieces.ensures.entries (c.one_name.ensures.entries M) _ refl c.from_list-2.ensures
+    is_block M P c.args.way c.in_ok-spans.spans.items c.in_ok-spans.ensures c.in_ok-pieces.pieces.items names c.in_ok-pieces.ensures.entries (c.one_name.ensures.entries M) _ refl c.from_list.ensures
 
 pub returns-clause-form : goal.returns-clause-form
 returns-clause-form g c =
     let M = g.M.World.objects c.args.world.now in
     let P = g.P.Profile.rules c.args.profile.now in
     let names = c.in_ok-pieces.ensures.names ∙ ap (map (λ s. s.name)) c.as_slice-2.ensures.value in
-    has_form M P c.args.way c.in_ok-spans.spans.items c.in_ok-spans.ensures c.in_ok-pieces.pieces.items names c.in_ok-pieces.ensures.entries c.name_order.ensures.ways c.in_ok-pieces.ensures.forms c.from_list-2.result c.from_list-2.ensures
+    has_form M P c.args.way c.in_ok-spans.spans.items c.in_ok-spans.ensures c.in_ok-pieces.pieces.items names c.in_ok-pieces.ensures.entries c.name_order.ensures.ways c.in_ok-pieces.ensures.forms c.from_list.result c.from_list.ensures
