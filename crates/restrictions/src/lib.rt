@@ -1,0 +1,7 @@
+//! Turn restrictions: the words of one restriction, or the first cause for which it is of no use (OSM wiki,
+//! Relation:restriction).
+#![tactic(auto)]
+
+mod word_list;
+
+pub use word_list::{Word, WordList};
