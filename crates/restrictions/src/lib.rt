@@ -2,6 +2,9 @@
 //! Relation:restriction).
 #![tactic(auto)]
 
+mod causes;
+mod line_ends;
+mod roles;
 mod word_list;
 
 pub use word_list::{Word, WordList};
