@@ -1,9 +1,12 @@
 -- The first and the last node of a line are the first and the last reference.
 use Rattle.std.specs.Prelude.{slice_get}
-use Rattle.std.proofs.Common.{◌≡◌, ℕ, ◌-◌, List, [], ◌∷◌, Option, Some, Bool, true, false, cond, length, refl, sym, ap, ◌∙◌, sub-one, arith}
-use Rattle.std.proofs.lemmas.Bool.Decides.{Decides-int_eq}
+use Rattle.std.proofs.Common.{◌≡◌, ℕ, ◌-◌, ◌<◌, ◌≤◌, get_or, List, [], ◌∷◌, Option, Some, is_some, nat_le, Bool, true, false, cond, length, refl, sym, ap, ◌∙◌, arith}
+use Rattle.std.proofs.lemmas.Bool.Decides.{Decides-int_eq, nat_tests}
+use Rattle.std.proofs.lemmas.Option.{slice_get-get_or}
 use Rattle.road_base.specs.declared.ids.NodeId.{NodeId}
+use Rattle.road_base.specs.declared.ids.Key.{Key}
 use Rattle.road_model.specs.Lines.{changes, changes_from, same_node}
+use Rattle.road_model.specs.Restrictions.{last_of}
 
 -- the last of the list, or x where it is empty
 abbrev pub last_or : NodeId → List NodeId → NodeId
@@ -37,3 +40,22 @@ line_ends_first (x ∷ xs) = refl
 pub line_ends_last : (xs : List NodeId) → slice_get (changes xs) (length (changes xs) - 1) ≡ slice_get xs (length xs - 1)
 line_ends_last [] = refl
 line_ends_last (x ∷ xs) = at_last x (changes_from x xs) ∙ (ap Some (last_kept x xs) ∙ sym (at_last x xs))
+
+-- ---- what stands second, and what stands last
+
+pub has_second : (xs : List NodeId) → is_some (slice_get xs 1) ≡ nat_le 2 (length xs)
+has_second [] = refl
+has_second (x ∷ []) = refl
+has_second (x ∷ y ∷ xs) = grind (arith, nat_tests)
+
+pub last_is : (k : Key) (ks : List Key) → last_of (k ∷ ks) ≡ slice_get (k ∷ ks) (length ks)
+last_is k [] = refl
+last_is k (l ∷ ks) = last_is l ks
+
+pub last_read : (ks : List Key) (d : Key) → 1 ≤ length ks → Some (get_or ks (length ks - 1) d) ≡ last_of ks
+last_read [] d some = absurd (omega arith)
+last_read (k ∷ ks) d some =
+    let inside : length (k ∷ ks) - 1 < length (k ∷ ks) = omega arith in
+    let e : length (k ∷ ks) - 1 ≡ length ks = omega arith in
+    sym (slice_get-get_or (k ∷ ks) (length (k ∷ ks) - 1) d inside)
+    ∙ (ap (λ (n : ℕ). slice_get (k ∷ ks) n) e ∙ sym (last_is k ks))

@@ -1,10 +1,15 @@
 //! The causes for which a restriction is of no use.
-ghost use Rattle.std.specs.Prelude.{◌≡◌};
-ghost use Rattle.std.specs.List.{list_all};
-ghost use Rattle.road_model.specs.Restrictions.{are_ways, is_one_node, is_way_key, wrong_members};
+ghost use Rattle.std.specs.Prelude.{◌≡◌, ◌≤◌, ◌&&◌, length, nat_le, sum_by};
+ghost use Rattle.std.specs.List.{list_all, list_any};
+ghost use Rattle.road_base.specs.Objects.{way_of};
+ghost use Rattle.road_model.specs.Lines.{line_of};
+ghost use Rattle.road_model.specs.Restrictions.{are_ways, first_of, is_one_node, is_present, is_ring, is_tagged_highway, is_too_long, is_way_key, lacks_member, last_of, misses_end, steps_on, wrong_members};
 
+use crate::line_ends::{is_ring, some_ends_at_via};
 use crate::roles::Roles;
-use road_base::Key;
+use road_base::{Key, WayId};
+use road_model::World;
+use way_lines::{line_at, line_len};
 
 /// Whether the members are too few, too many, or of the wrong kinds.
 pub fn wrong_members(only: bool, roles: &Roles<'_>) -> bool
@@ -45,4 +50,113 @@ fn is_one_node(keys: &[Key]) -> bool
     ensures { result ≡ is_one_node keys.now }
 {
     matches!(keys, [Key::Node(_)])
+}
+
+/// Whether some from, via or to member isn't there.
+pub fn lacks_member<M: World>(world: &M, roles: &Roles<'_>) -> bool
+    ensures { result ≡ lacks_member (M.objects world.now) roles.now.body.now }
+{
+    !are_present(world, roles.froms.as_slice())
+        || !are_present(world, roles.vias.as_slice())
+        || !are_present(world, roles.tos.as_slice())
+}
+
+fn are_present<M: World>(world: &M, keys: &[Key]) -> bool
+    ensures { result ≡ list_all (is_present (M.objects world.now)) keys.now }
+{
+    keys.iter().all(|key| is_present(world, *key))
+}
+
+/// Whether the object is visible, and where it is a way, carries the key `highway` and has two nodes or more on its line.
+fn is_present<M: World>(world: &M, key: Key) -> bool
+    ensures { result ≡ is_present (M.objects world.now) key }
+{
+    match key {
+        Key::Node(node) => world.node(node).is_some(),
+        Key::Way(way) => is_street(world, way),
+        Key::Relation(relation) => world.relation(relation).is_some(),
+    }
+}
+
+#[tactic(auto, unfolding(road_model::specs::Lines::line_of), using(crate::proofs::LineEnds::has_second))]
+fn is_street<M: World>(world: &M, way: WayId) -> bool
+    ensures { result
+        ≡ (is_tagged_highway (way_of (M.objects world.now) way)
+        && nat_le 2 (length (line_of (M.objects world.now) way))) }
+{
+    match world.way(way) {
+        Some(body) => body.tags.get("highway").is_some() && line_at(body, 1).is_some(),
+        None => false,
+    }
+}
+
+/// Whether a via way is a ring, or no from way ends where the via members begin, or no to way where they end.
+pub fn misses_end<M: World>(world: &M, roles: &Roles<'_>) -> bool
+    ensures { result ≡ misses_end (M.objects world.now) roles.now.body.now }
+{
+    let vias = roles.vias.as_slice();
+    has_ring(world, vias)
+        || !some_ends_at_via(world, roles.froms.as_slice(), first_of(vias))
+        || !some_ends_at_via(world, roles.tos.as_slice(), last_of(vias))
+}
+
+fn has_ring<M: World>(world: &M, keys: &[Key]) -> bool
+    ensures { result ≡ list_any (is_ring (M.objects world.now)) keys.now }
+{
+    keys.iter().any(|key| is_ring(world, *key))
+}
+
+fn first_of(keys: &[Key]) -> Option<Key>
+    ensures { result ≡ first_of keys.now }
+{
+    match keys {
+        [first, ..] => Some(*first),
+        [] => None,
+    }
+}
+
+fn last_of(keys: &[Key]) -> Option<Key>
+    ensures { result ≡ last_of keys.now }
+{
+    match keys {
+        [.., last] => Some(*last),
+        [] => None,
+    }
+}
+
+/// Whether a role has more than 16 members, or the via ways more than 1,024 steps.
+pub fn is_too_long<M: World>(world: &M, roles: &Roles<'_>) -> bool
+    ensures { result ≡ is_too_long (M.objects world.now) roles.now.body.now }
+{
+    roles.froms.len() > 16
+        || roles.vias.len() > 16
+        || roles.tos.len() > 16
+        || steps_on_all(world, roles.vias.as_slice()) > 1024
+}
+
+/// How many steps these ways have together.
+fn steps_on_all<M: World>(world: &M, keys: &[Key]) -> usize
+    requires { length keys.now ≤ 16 }
+    ensures { result ≡ sum_by (steps_on (M.objects world.now)) keys.now }
+{
+    let mut steps = 0;
+    for key in keys {
+        steps += steps_on(world, *key);
+    }
+    steps
+}
+
+/// How many steps it has, if it is a way.
+#[tactic(auto, unfolding(road_model::specs::Lines::line_of))]
+fn steps_on<M: World>(world: &M, key: Key) -> usize
+    ensures steps { result ≡ steps_on (M.objects world.now) key }
+    ensures short { result ≤ 65535 }
+{
+    let Key::Way(way) = key else {
+        return 0;
+    };
+    match world.way(way) {
+        Some(body) => line_len(body).saturating_sub(1),
+        None => 0,
+    }
 }

@@ -5,6 +5,7 @@
 mod causes;
 mod line_ends;
 mod roles;
+mod runs;
 mod word_list;
 
 pub use word_list::{Word, WordList};

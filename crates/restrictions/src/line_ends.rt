@@ -8,7 +8,7 @@ use road_base::{Key, NodeId, WayId};
 use road_model::World;
 
 /// The first and the last node of a line.
-#[derive(Clone, Copy, PartialEq, Eq, Debug)]
+#[derive(Clone, Copy)]
 pub struct Ends {
     pub first: NodeId,
     pub last: NodeId,

@@ -1,0 +1,172 @@
+//! The via ways of a restriction, driven whole one after the other.
+ghost use Rattle.std.specs.Prelude.{◌≡◌, ◌-◌, ◌++◌, ◌↔◌, ◌≤◌, ◌+◌, Some, None, IsTrue, IfOk, IfSome, IfNone, OnOk, length, option_map};
+ghost use Rattle.std.specs.List.{list_any};
+ghost use Rattle.road_base.specs.declared.ids.Key.TheVariants.{Way as WayKey};
+ghost use Rattle.road_model.specs.Driving.{is_open};
+ghost use Rattle.road_model.specs.Lines.{line_of, node_at, forward_steps, backward_steps};
+ghost use Rattle.road_model.specs.Restrictions.{Connects, are_ways, froms, is_ring, some_ends_at, tos, vias, whole_way};
+ghost use Rattle.restrictions.specs.Runs.{across, allows, dir_between, dir_from, end_in, first_enter, last_enter, leads, leave_of, steps_across, steps_of};
+
+use crate::line_ends::{Ends, line_ends, some_ends_at};
+use crate::roles::Roles;
+use road_base::{Dir, Key, NoMemory, NodeId, Step, WayId};
+use road_model::{Profile, World};
+use std::alloc::Global;
+use way_lines::{is_open, line_len};
+
+/// The directions of ways that count: all, or those that are open.
+#[derive(Clone, Copy)]
+pub enum Allowed {
+    AnyWay,
+    OpenWay,
+}
+
+/// A way that is driven whole: its direction, and the node where one comes out.
+#[derive(Clone, Copy)]
+pub struct Crossing {
+    pub way: WayId,
+    pub dir: Dir,
+    pub out: NodeId,
+}
+
+/// How one drives the whole way from the node, None where the node is no end of it or the direction doesn't count.
+/// The first end counts where both are the node.
+pub fn cross<M: World, P: Profile>(
+    world: &M,
+    profile: &P,
+    allowed: Allowed,
+    key: Key,
+    from: NodeId,
+) -> Option<Crossing>
+    ensures some { IfSome result (λ c. (key ≡ WayKey c.way)
+        × (dir_from (M.objects world.now) c.way (Some from) ≡ Some c.dir)
+        × (across (M.objects world.now) (allows (M.objects world.now) (P.rules profile.now) allowed) key (Some from) ≡ Some c.out)) }
+    ensures none { IfNone result (across (M.objects world.now) (allows (M.objects world.now) (P.rules profile.now) allowed) key (Some from) ≡ None) }
+{
+    let Key::Way(way) = key else {
+        return None;
+    };
+    let Some(ends) = line_ends(world, way) else {
+        return None;
+    };
+    let Some(dir) = dir_between(ends, from) else {
+        return None;
+    };
+    if !is_allowed(world, profile, allowed, way, dir) {
+        return None;
+    }
+    Some(Crossing {
+        way,
+        dir,
+        out: end_in(ends, dir),
+    })
+}
+
+/// The direction in which a line with these ends is driven from the node.
+fn dir_between(ends: Ends, from: NodeId) -> Option<Dir>
+    ensures { result ≡ dir_between (Some ends.first) (Some ends.last) (Some from) }
+{
+    if ends.first.0 == from.0 {
+        Some(Dir::Forward)
+    } else if ends.last.0 == from.0 {
+        Some(Dir::Backward)
+    } else {
+        None
+    }
+}
+
+/// Where one comes out who drives the line in the direction.
+fn end_in(ends: Ends, dir: Dir) -> NodeId
+    ensures { Some result ≡ end_in (Some ends.first) (Some ends.last) dir }
+{
+    match dir {
+        Dir::Forward => ends.last,
+        Dir::Backward => ends.first,
+    }
+}
+
+/// Whether the direction counts.
+fn is_allowed<M: World, P: Profile>(
+    world: &M,
+    profile: &P,
+    allowed: Allowed,
+    way: WayId,
+    dir: Dir,
+) -> bool
+    ensures { result ≡ allows (M.objects world.now) (P.rules profile.now) allowed way dir }
+{
+    match allowed {
+        Allowed::AnyWay => true,
+        Allowed::OpenWay => is_open(world, profile, way, dir),
+    }
+}
+
+/// The node where one comes out who drives all the ways, the first one from the node.
+pub fn leave_of<M: World, P: Profile>(
+    world: &M,
+    profile: &P,
+    allowed: Allowed,
+    ways: &[Key],
+    enter: NodeId,
+) -> Option<NodeId>
+    ensures { result ≡ leave_of (M.objects world.now) (allows (M.objects world.now) (P.rules profile.now) allowed) ways.now (Some enter) }
+{
+    let mut at = enter;
+    let mut rest = ways;
+    while let [key, behind @ ..] = rest {
+        let Some(crossing) = cross(world, profile, allowed, *key, at) else {
+            return None;
+        };
+        at = crossing.out;
+        rest = behind;
+    }
+    Some(at)
+}
+
+/// Whether the via ways lead in such directions from an end of a from way to an end of a to way.
+pub fn connects<M: World, P: Profile>(
+    world: &M,
+    profile: &P,
+    allowed: Allowed,
+    roles: &Roles<'_>,
+) -> bool
+    requires ways { IsTrue (are_ways (vias roles.now.body.now)) }
+    requires lines { list_any (is_ring (M.objects world.now)) (vias roles.now.body.now) ≡ false }
+    ensures { IsTrue result ↔ Connects (M.objects world.now) (allows (M.objects world.now) (P.rules profile.now) allowed) roles.now.body.now }
+{
+    let Some(ends) = first_ends(world, roles.vias.as_slice()) else {
+        return false;
+    };
+    leads_from(world, profile, allowed, roles, ends.first)
+        || leads_from(world, profile, allowed, roles, ends.last)
+}
+
+/// The ends of the first of the ways.
+pub fn first_ends<M: World>(world: &M, keys: &[Key]) -> Option<Ends>
+    ensures first { option_map (λ e. e.first) result ≡ first_enter (M.objects world.now) keys.now }
+    ensures last { option_map (λ e. e.last) result ≡ last_enter (M.objects world.now) keys.now }
+{
+    match keys {
+        [Key::Way(way), ..] => line_ends(world, *way),
+        _ => None,
+    }
+}
+
+/// Whether the via ways lead so from the node, at which a from way ends.
+fn leads_from<M: World, P: Profile>(
+    world: &M,
+    profile: &P,
+    allowed: Allowed,
+    roles: &Roles<'_>,
+    enter: NodeId,
+) -> bool
+    ensures { result ≡ leads (M.objects world.now) (allows (M.objects world.now) (P.rules profile.now) allowed) roles.now.body.now enter }
+{
+    if !some_ends_at(world, roles.froms.as_slice(), &[enter]) {
+        return false;
+    }
+    match leave_of(world, profile, allowed, roles.vias.as_slice(), enter) {
+        Some(leave) => some_ends_at(world, roles.tos.as_slice(), &[leave]),
+        None => false,
+    }
+}
