@@ -1,5 +1,5 @@
 //! The via ways of a restriction, driven whole one after the other.
-ghost use Rattle.std.specs.Prelude.{◌≡◌, ◌-◌, ◌++◌, ◌↔◌, ◌≤◌, ◌+◌, Some, None, IsTrue, IfOk, IfSome, IfNone, OnOk, length, option_map};
+ghost use Rattle.std.specs.Prelude.{◌≡◌, ◌-◌, ◌++◌, ◌↔◌, ◌≤◌, ◌+◌, Some, None, IsTrue, IsFalse, IfOk, IfSome, IfNone, OnOk, length, option_map};
 ghost use Rattle.std.specs.List.{list_any};
 ghost use Rattle.road_base.specs.declared.ids.Key.TheVariants.{Way as WayKey};
 ghost use Rattle.road_model.specs.Driving.{is_open};
@@ -102,6 +102,7 @@ fn is_allowed<M: World, P: Profile>(
 }
 
 /// The node where one comes out who drives all the ways, the first one from the node.
+#[tactic(auto, using(crate::proofs::OneRun::from_nowhere))]
 pub fn leave_of<M: World, P: Profile>(
     world: &M,
     profile: &P,
@@ -131,7 +132,7 @@ pub fn connects<M: World, P: Profile>(
     roles: &Roles<'_>,
 ) -> bool
     requires ways { IsTrue (are_ways (vias roles.now.body.now)) }
-    requires lines { list_any (is_ring (M.objects world.now)) (vias roles.now.body.now) ≡ false }
+    requires lines { IsFalse (list_any (is_ring (M.objects world.now)) (vias roles.now.body.now)) }
     ensures { IsTrue result ↔ Connects (M.objects world.now) (allows (M.objects world.now) (P.rules profile.now) allowed) roles.now.body.now }
 {
     let Some(ends) = first_ends(world, roles.vias.as_slice()) else {
