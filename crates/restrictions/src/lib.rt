@@ -3,6 +3,7 @@
 #![tactic(auto)]
 
 mod causes;
+mod first_cause;
 mod line_ends;
 mod roles;
 mod runs;
