@@ -3,6 +3,7 @@
 #![tactic(auto)]
 
 mod causes;
+mod end_steps;
 mod first_cause;
 mod line_ends;
 mod roles;

@@ -1,0 +1,150 @@
+//! The end steps of ways into a node and out of it.
+ghost use Rattle.std.specs.Prelude.{◌≡◌, ◌≤◌, ◌&&◌, OnOk, IfOk, Some, None, [], length, nat_le, cond};
+ghost use Rattle.std.specs.List.{list_any};
+ghost use Rattle.road_model.specs.Lines.{line_of};
+ghost use Rattle.road_model.specs.Restrictions.{same_end};
+ghost use Rattle.restrictions.specs.Ends.{added, ends_of, first_dir, first_end, last_dir, last_end, same_step, with_ends};
+
+use crate::line_ends::line_ends;
+use road_base::{Dir, Key, NoMemory, NodeId, Step, WayId};
+use road_model::World;
+use std::alloc::Global;
+use way_lines::line_len;
+
+/// Whether steps are asked for that end at the node, or that begin there.
+#[derive(Clone, Copy)]
+pub enum Side {
+    Into,
+    OutOf,
+}
+
+/// The end steps of these ways into the node or out of it, each once.
+pub fn ends_of<M: World>(
+    alloc: Global,
+    world: &M,
+    side: Side,
+    ways: &[Key],
+    node: NodeId,
+) -> Result<Vec<Step>, NoMemory>
+    ensures { IfOk result (λ steps. steps.items ≡ ends_of (M.objects world.now) side node ways.now []) }
+{
+    let mut steps = Vec::new(alloc);
+    let mut rest = ways;
+    while let [key, behind @ ..] = rest {
+        add_ends(&mut steps, world, side, *key, node)?;
+        rest = behind;
+    }
+    Ok(steps)
+}
+
+/// Adds the end steps of the way that aren't there yet.
+fn add_ends<M: World>(
+    steps: &mut Vec<Step>,
+    world: &M,
+    side: Side,
+    key: Key,
+    node: NodeId,
+) -> Result<(), NoMemory>
+    ensures { OnOk result (steps.new.items ≡ with_ends (M.objects world.now) side node steps.old.items key) }
+{
+    let Key::Way(way) = key else {
+        return Ok(());
+    };
+    let first = first_end(world, side, way, node);
+    let last = last_end(world, side, way, node);
+    add_once(steps, first)?;
+    add_once(steps, last)?;
+    Ok(())
+}
+
+/// The end step at the beginning of the line, if that is the node.
+fn first_end<M: World>(world: &M, side: Side, way: WayId, node: NodeId) -> Option<Step>
+    ensures { result ≡ first_end (M.objects world.now) side way node }
+{
+    let Some(ends) = line_ends(world, way) else {
+        return None;
+    };
+    if ends.first.0 != node.0 {
+        return None;
+    }
+    Some(Step {
+        way,
+        index: 0,
+        dir: first_dir(side),
+    })
+}
+
+/// The end step at the end of the line, if that is the node.
+fn last_end<M: World>(world: &M, side: Side, way: WayId, node: NodeId) -> Option<Step>
+    ensures { result ≡ last_end (M.objects world.now) side way node }
+{
+    let Some(ends) = line_ends(world, way) else {
+        return None;
+    };
+    let nodes = nodes_on(world, way);
+    if nodes < 2 || ends.last.0 != node.0 {
+        return None;
+    }
+    Some(Step {
+        way,
+        index: nodes - 2,
+        dir: last_dir(side),
+    })
+}
+
+/// How many nodes the way's line has.
+#[tactic(auto, unfolding(road_model::specs::Lines::line_of))]
+fn nodes_on<M: World>(world: &M, way: WayId) -> u32
+    ensures { result ≡ length (line_of (M.objects world.now) way) }
+{
+    match world.way(way) {
+        Some(body) => line_len(body) as u32,
+        None => 0,
+    }
+}
+
+/// The direction of the end step at the beginning of a line.
+fn first_dir(side: Side) -> Dir
+    ensures { result ≡ first_dir side }
+{
+    match side {
+        Side::Into => Dir::Backward,
+        Side::OutOf => Dir::Forward,
+    }
+}
+
+/// The direction of the end step at the end of a line.
+fn last_dir(side: Side) -> Dir
+    ensures { result ≡ last_dir side }
+{
+    match side {
+        Side::Into => Dir::Forward,
+        Side::OutOf => Dir::Backward,
+    }
+}
+
+/// Adds the step, if there is one and it isn't there yet.
+fn add_once(steps: &mut Vec<Step>, step: Option<Step>) -> Result<(), NoMemory>
+    ensures { OnOk result (steps.new.items ≡ added steps.old.items step) }
+{
+    let Some(step) = step else {
+        return Ok(());
+    };
+    if is_listed(step, steps.as_slice()) {
+        return Ok(());
+    }
+    steps.push(step)?;
+    Ok(())
+}
+
+fn is_listed(step: Step, steps: &[Step]) -> bool
+    ensures { result ≡ list_any (same_step step) steps.now }
+{
+    steps.iter().any(|other| same_step(step, *other))
+}
+
+fn same_step(this: Step, that: Step) -> bool
+    ensures { result ≡ same_step this that }
+{
+    this == that
+}
