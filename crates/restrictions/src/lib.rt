@@ -6,6 +6,7 @@ mod causes;
 mod end_steps;
 mod first_cause;
 mod line_ends;
+mod passages;
 mod roles;
 mod runs;
 mod word_list;

@@ -1,0 +1,102 @@
+//! What the via members of a restriction spell.
+ghost use Rattle.std.specs.Prelude.{◌≡◌, ◌++◌, ◌-◌, ◌≤◌, OnOk, IfOk, IfSome, IfNone, Some, None, length};
+ghost use Rattle.road_model.specs.Driving.{is_open};
+ghost use Rattle.road_model.specs.Lines.{line_of, forward_steps, backward_steps};
+ghost use Rattle.road_model.specs.Restrictions.{whole_way};
+ghost use Rattle.restrictions.specs.Runs.{leave_of, steps_of};
+
+use crate::runs::{Allowed, cross};
+use road_base::{Dir, Key, NoMemory, NodeId, Step, WayId};
+use road_model::{Profile, World};
+use std::alloc::Global;
+use way_lines::line_len;
+
+/// All steps of the via ways, and the node where one comes out.
+#[derive(Drop)]
+pub struct Passage {
+    pub steps: Vec<Step>,
+    pub leave: NodeId,
+}
+
+/// All steps of these ways, each whole in an open direction and the first from the node, None where they don't lead on.
+#[tactic(auto, using(crate::proofs::OneRun::from_nowhere))]
+pub fn pass_ways<M: World, P: Profile>(
+    alloc: Global,
+    world: &M,
+    profile: &P,
+    ways: &[Key],
+    enter: NodeId,
+) -> Result<Option<Passage>, NoMemory>
+    ensures some { IfOk result (λ answer. IfSome answer (λ passage. passage.steps.items ≡ steps_of (M.objects world.now) (is_open (M.objects world.now) (P.rules profile.now)) ways.now (Some enter))) }
+    ensures leave { IfOk result (λ answer. IfSome answer (λ passage. leave_of (M.objects world.now) (is_open (M.objects world.now) (P.rules profile.now)) ways.now (Some enter) ≡ Some passage.leave)) }
+    ensures none { IfOk result (λ answer. IfNone answer (leave_of (M.objects world.now) (is_open (M.objects world.now) (P.rules profile.now)) ways.now (Some enter) ≡ None)) }
+{
+    let mut steps = Vec::new(alloc);
+    let mut at = enter;
+    let mut rest = ways;
+    while let [key, behind @ ..] = rest {
+        let Some(crossing) = cross(world, profile, Allowed::OpenWay, *key, at) else {
+            return Ok(None);
+        };
+        add_whole_way(&mut steps, world, crossing.way, crossing.dir)?;
+        at = crossing.out;
+        rest = behind;
+    }
+    Ok(Some(Passage { steps, leave: at }))
+}
+
+/// Adds all steps of the way in order of travel.
+#[tactic(auto, unfolding(road_model::specs::Lines::line_of))]
+fn add_whole_way<M: World>(
+    steps: &mut Vec<Step>,
+    world: &M,
+    way: WayId,
+    dir: Dir,
+) -> Result<(), NoMemory>
+    ensures { OnOk result (steps.new.items ≡ steps.old.items ++ whole_way (M.objects world.now) way dir) }
+{
+    let count = steps_on(world, way);
+    match dir {
+        Dir::Forward => add_forward(steps, way, count),
+        Dir::Backward => add_backward(steps, way, count),
+    }
+}
+
+/// How many steps the way has.
+#[tactic(auto, unfolding(road_model::specs::Lines::line_of))]
+fn steps_on<M: World>(world: &M, way: WayId) -> u32
+    ensures { result ≡ length (line_of (M.objects world.now) way) - 1 }
+{
+    match world.way(way) {
+        Some(body) => line_len(body).saturating_sub(1) as u32,
+        None => 0,
+    }
+}
+
+/// Adds the first steps along the way.
+fn add_forward(steps: &mut Vec<Step>, way: WayId, count: u32) -> Result<(), NoMemory>
+    ensures { OnOk result (steps.new.items ≡ steps.old.items ++ forward_steps way 0 count) }
+{
+    for index in 0..count {
+        steps.push(Step {
+            way,
+            index,
+            dir: Dir::Forward,
+        })?;
+    }
+    Ok(())
+}
+
+/// Adds the first steps of the way, against it.
+fn add_backward(steps: &mut Vec<Step>, way: WayId, count: u32) -> Result<(), NoMemory>
+    ensures { OnOk result (steps.new.items ≡ steps.old.items ++ backward_steps way 0 count) }
+{
+    for done in 0..count {
+        steps.push(Step {
+            way,
+            index: count - done - 1,
+            dir: Dir::Backward,
+        })?;
+    }
+    Ok(())
+}
