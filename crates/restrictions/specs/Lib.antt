@@ -1,4 +1,5 @@
 pub mod Causes
 pub mod Ends
 pub mod Runs
+pub mod Spelling
 pub mod Words

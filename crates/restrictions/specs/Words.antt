@@ -6,8 +6,11 @@ use Rattle.road_base.specs.declared.ids.Step.{Step}
 use Rattle.road_base.specs.declared.objects.Relation.{Relation}
 use Rattle.road_base.specs.Objects.{Objects, relation_of}
 use Rattle.road_model.specs.Rules.{Rules, is_restriction}
+use Rattle.road_model.specs.Restrictions.{IsFirstCause}
 use Rattle.road_model.specs.Words.{IsWord}
 use Rattle.restrictions.specs.declared.word_list.Word.{Word}
+use Rattle.restrictions.specs.declared.words.WordsError.{WordsError}
+use Rattle.restrictions.specs.declared.words.WordsError.TheVariants.{Unusable, NoMemory}
 
 -- the relation is visible and a restriction
 pub record IsRestriction (M : Objects) (r : RelationId) : Type 0 where
@@ -30,3 +33,8 @@ pub record AreWords (M : Objects) (P : Rules) (r : RelationId) (words : List Wor
   pub each : (w : Word) → Contains words w → IsWordOf M P r w
   pub all : (w : Word) → IsWordOf M P r w → Contains words w
   pub once : AreDistinct words
+
+-- the refusal names the first cause for which the relation is of no use, unless it is for want of memory
+abbrev pub SaysCause : Objects → Rules → RelationId → WordsError → Type 0
+SaysCause M P r (Unusable cause) = (body : Relation) × (relation_of M r ≡ Some body) × IsFirstCause M P body cause
+SaysCause M P r NoMemory = Unit {0}

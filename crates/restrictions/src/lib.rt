@@ -10,5 +10,6 @@ mod passages;
 mod roles;
 mod runs;
 mod word_list;
+mod words;
 
 pub use word_list::{Word, WordList};
