@@ -21,10 +21,10 @@ use Rattle.restrictions.proofs.LineEnds.{node_from_same}
 same_self : (v : NodeId) → same_node v v ≡ true
 same_self v = (Decides-int_eq v.0 v.0).1 refl
 
-end_there : (a : Option NodeId) (v : NodeId) → a ≡ Some v → same_end a (Some v) ≡ true
+pub end_there : (a : Option NodeId) (v : NodeId) → a ≡ Some v → same_end a (Some v) ≡ true
 end_there a v is = ap (λ (o : Option NodeId). same_end o (Some v)) is ∙ same_self v
 
-there_end : (a : Option NodeId) (v : NodeId) → same_end a (Some v) ≡ true → a ≡ Some v
+pub there_end : (a : Option NodeId) (v : NodeId) → same_end a (Some v) ≡ true → a ≡ Some v
 there_end None v same = absurd (false≢true same)
 there_end (Some a) v same = ap Some (node_from_same a v same)
 
@@ -121,10 +121,13 @@ module _ (M : Objects) (allowed : WayId → Dir → Bool) where
   begin_cases w Forward v begins = inl begins
   begin_cases w Backward v begins = inr begins
 
-  pub enters_at : (ks : List Key) (v : NodeId) (s : List Step) (o : NodeId) → are_ways ks ≡ true → IsRun M allowed ks v s o → (first_enter M ks ≡ Some v) ⊎ (last_enter M ks ≡ Some v)
+  pub run_begins : (w : WayId) (ks : List Key) (v : NodeId) (s : List Step) (o : NodeId) → IsRun M allowed (WayKey w ∷ ks) v s o → (first_node M w ≡ Some v) ⊎ (last_node M w ≡ Some v)
+  run_begins w ks v s o (d, next, rest, may, begins, ends, spelled, more) = begin_cases w d v begins
+
+  enters_at : (ks : List Key) (v : NodeId) (s : List Step) (o : NodeId) → are_ways ks ≡ true → IsRun M allowed ks v s o → (first_enter M ks ≡ Some v) ⊎ (last_enter M ks ≡ Some v)
   enters_at [] v s o ways run = absurd (false≢true ways)
   enters_at (NodeKey n ∷ ks) v s o ways run = absurd run
-  enters_at (WayKey w ∷ ks) v s o ways (d, next, rest, may, begins, ends, spelled, more) = begin_cases w d v begins
+  enters_at (WayKey w ∷ ks) v s o ways run = run_begins w ks v s o run
   enters_at (RelationKey r ∷ ks) v s o ways run = absurd run
 
   -- ---- whether the via ways connect

@@ -173,3 +173,26 @@ fn word_of(
         steps: Drive::from_list(steps),
     })
 }
+
+/// The words of the restriction, each once, or the first cause for which it is of no use.
+pub fn words<M: World, P: Profile>(
+    alloc: Global,
+    world: &M,
+    profile: &P,
+    relation: RelationId,
+) -> Result<WordList, WordsError>
+    requires { IsRestriction (M.objects world.now) relation }
+    ensures words { IfOk result (λ words. AreWords (M.objects world.now) (P.rules profile.now) relation words) }
+    ensures cause { IfErr result (SaysCause (M.objects world.now) (P.rules profile.now) relation) }
+{
+    let Some(body) = world.relation(relation) else {
+        unreachable!()
+    };
+    let roles = roles_of(alloc, body)?;
+    if let Some(cause) = first_cause(world, profile, &roles) {
+        return Err(WordsError::Unusable(cause));
+    }
+    let rule = rule_of(profile, relation, &roles);
+    let words = words_of(alloc, world, profile, rule, &roles)?;
+    Ok(WordList::from_list(words))
+}
