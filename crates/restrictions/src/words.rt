@@ -5,6 +5,7 @@ ghost use Rattle.road_base.specs.declared.objects.Relation.{Relation};
 ghost use Rattle.road_model.specs.Restrictions.{IsUsable, vias};
 ghost use Rattle.road_model.specs.Rules.{is_only};
 ghost use Rattle.road_model.specs.Words.{binding_of, kind_of};
+ghost use Rattle.restrictions.specs.declared.words.WordsError.TheVariants.{NoMemory as NoMemoryError};
 ghost use Rattle.restrictions.specs.Words.{AreWords, IsRestriction, SaysCause};
 ghost use Rattle.restrictions.specs.Spelling.{words_at, words_from, words_of, word_of, words_over};
 
@@ -28,12 +29,16 @@ pub enum WordsError {
 }
 
 impl From<NoMemory> for WordsError {
+    ghost from_gives = { λ _ e. e ≡ NoMemoryError };
+
     fn from(_error: NoMemory) -> WordsError {
         WordsError::NoMemory
     }
 }
 
 impl From<AllocError> for WordsError {
+    ghost from_gives = { λ _ e. e ≡ NoMemoryError };
+
     fn from(_error: AllocError) -> WordsError {
         WordsError::NoMemory
     }
