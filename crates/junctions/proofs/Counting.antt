@@ -1,5 +1,6 @@
 -- How often a node stands in a list, and the marks that remember it.
-use Rattle.std.proofs.Common.{◌≡◌, ℕ, zero, suc, ◌+◌, ◌≤◌, Bool, true, false, cond, List, [], ◌∷◌, ◌++◌, slice_get, Some, is_some, refl, sym, ap, ◌∙◌, arith, add-one, add-zero, zero-add}
+use Rattle.std.proofs.Common.{◌≡◌, ℕ, zero, suc, ◌+◌, ◌<◌, ◌≤◌, length, drop, get_or, drop-cons, Bool, true, false, cond, List, [], ◌∷◌, ◌++◌, slice_get, Some, is_some, refl, sym, ap, ◌∙◌, arith, add-one, add-zero, zero-add}
+use Rattle.std.proofs.Math.ListN.{drop_of_length-le}
 use Rattle.std.specs.BTreeMap.{BTreeMap, get}
 use Rattle.std.specs.Cmp.{int_eq_equiv, signed_Decides}
 use Rattle.std.proofs.lemmas.Bool.{false≢true}
@@ -98,3 +99,16 @@ few_either v x xs false e one rest = omega arith
 pub few : (v : NodeId) (xs : List NodeId) → ((i j : ℕ) → slice_get xs i ≡ Some v → slice_get xs j ≡ Some v → i ≡ j) → times v xs ≤ 1
 few v [] one = omega arith
 few v (x ∷ xs) one = few_either v x xs (same_node v x) refl one (few v xs (λ i j a b. suc_same i j (one (suc i) (suc j) a b)))
+
+-- the node at a place counts, and what is behind it
+pub drop_one : (n : NodeId) (xs : List NodeId) (i : ℕ) (d : NodeId) → i < length xs → times n (drop i xs) ≡ cond (same_node n (get_or xs i d)) 1 0 + times n (drop (i + 1) xs)
+drop_one n xs i d within =
+    let e : drop i xs ≡ get_or xs i d ∷ drop (i + 1) xs = rw (add-one, drop-cons xs i d) in
+    ap (times n) e
+
+pub drop_all : (n : NodeId) (xs : List NodeId) (i : ℕ) → length xs ≤ i → times n (drop i xs) ≡ 0
+drop_all n xs i past = ap (times n) (drop_of_length-le xs past)
+
+pub one_at_most : (b : Bool) → cond b 1 0 ≤ 1
+one_at_most true = omega arith
+one_at_most false = omega arith

@@ -2,3 +2,4 @@ pub mod Counting
 pub mod Referring
 pub mod Positions
 pub mod Appending
+pub mod Passing

@@ -10,7 +10,7 @@ use Rattle.road_model.specs.Lines.{line_of, node_at}
 use Rattle.road_model.specs.Driving.{is_road, located, shut, turning_place}
 use Rattle.road_model.specs.Pieces.{IsPlain}
 use Rattle.junctions.specs.declared.plain.Neighbours.{Neighbours}
-use Rattle.junctions.specs.Passing.{AreNeighbours, IsPassed}
+use Rattle.junctions.specs.Passing.{AreNeighbours, IsPassed, IsPassedOnce}
 use Rattle.junctions.specs.Repeats.{times, is_repeated}
 use Rattle.junctions.proofs.Counting.{few, once_at}
 
@@ -73,11 +73,19 @@ module _ (M : Objects) (P : Rules) (w : WayId) (i : ℕ) (n : Neighbours) (about
         let most = few n.here (line_of M w) (λ a b x y. at_place road a x ∙ sym (at_place road b y)) in
         sym (le-ltb 1 (times n.here (line_of M w)) most)
 
--- the nodes about a position inside a line
-pub about_at : (xs : List NodeId) (i : ℕ) (d : NodeId) → 0 < i → i + 1 < length xs → AreNeighbours xs i (record { before = get_or xs (i - 1) d; here = get_or xs i d; behind = get_or xs (i + 1) d })
-about_at xs i d inside within = record {
-  inside = inside;
-  before = slice_get-get_or xs (i - 1) d (omega arith);
-  here = slice_get-get_or xs i d (omega arith);
-  behind = slice_get-get_or xs (i + 1) d within;
-}
+-- the nodes about a position of a way's line
+pub about_there : (M : Objects) (w : WayId) (i : ℕ) (a b c : NodeId) → 0 < i → node_at M w (i - 1) ≡ Some a → node_at M w i ≡ Some b → node_at M w (i + 1) ≡ Some c → AreNeighbours (line_of M w) i (record { before = a; here = b; behind = c })
+unfolding node_at
+about_there M w i a b c inside before here behind = record { inside = inside; before = before; here = here; behind = behind }
+
+module _ (M : Objects) (P : Rules) (w : WayId) (i : ℕ) (n : Neighbours) (about : AreNeighbours (line_of M w) i n) (line : List NodeId) (is : line ≡ line_of M w) where
+  pub plain_once : IsPassedOnce M P w line n → IsPlain M P w i
+  plain_once o = plain_from M P w i n about (o.once ∙ ap (λ (l : List NodeId). is_repeated l n.here) is) o.passed
+
+  pub once_plain : IsTrue (is_road M P w) → IsPlain M P w i → IsPassedOnce M P w line n
+  once_plain road plain = record { once = once M P w i n about plain road ∙ ap (λ (l : List NodeId). is_repeated l n.here) (sym is); passed = passed M P w i n about plain }
+
+-- the node where the line's nodes are known
+pub node_there : (M : Objects) (w : WayId) (nodes : List NodeId) (k : ℕ) (d : NodeId) → nodes ≡ line_of M w → k < length nodes → node_at M w k ≡ Some (get_or nodes k d)
+unfolding node_at
+node_there M w nodes k d line within = ap (λ (l : List NodeId). slice_get l k) (sym line) ∙ slice_get-get_or nodes k d within

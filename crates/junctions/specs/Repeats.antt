@@ -23,3 +23,8 @@ mark (suc (suc n)) = Some true
 -- each node is marked by how often it stands in the list
 abbrev pub AreMarks : List NodeId → BTreeMap NodeId Bool → Type 0
 AreMarks ms marks = (n : NodeId) → get node_cmp marks n ≡ mark (times n ms)
+
+-- the same, where there are marks
+abbrev pub MayMark : List NodeId → Option (BTreeMap NodeId Bool) → Type 0
+MayMark ms None = Unit {0}
+MayMark ms (Some marks) = AreMarks ms marks

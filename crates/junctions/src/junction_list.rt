@@ -1,16 +1,18 @@
 //! The junction positions of a road.
-ghost use Rattle.std.specs.Prelude.{◌≡◌, ◌≤◌, ◌<◌, ◌↔◌, IsTrue, IfOk, length};
-ghost use Rattle.road_model.specs.Lines.{changes, line_of};
+ghost use Rattle.std.specs.Prelude.{◌≡◌, ◌≤◌, ◌<◌, ◌+◌, ◌-◌, ◌↔◌, Some, IsTrue, IfOk, OnOk, IfSome, IfNone, length};
+ghost use Rattle.road_model.specs.Lines.{line_of, node_at};
 ghost use Rattle.road_model.specs.Driving.{is_road};
 ghost use Rattle.road_model.specs.Pieces.{IsPlain};
-ghost use Rattle.junctions.specs.Junctions.{AreJunctions};
+ghost use Rattle.junctions.specs.Junctions.{AreJunctions, IsNextBelow, Sorts};
+ghost use Rattle.junctions.specs.Passing.{IsPassedOnce, IsSeen, about};
 
-use crate::plain::{Neighbours, is_passed};
+use crate::plain::pass_over;
 use crate::repeats::Repeats;
-use road_base::{NoMemory, NodeId, Way, WayId};
+use crate::seen::{Seen, see};
+use road_base::{NoMemory, NodeId, WayId};
 use road_model::{Profile, World};
-use std::alloc::{AllocError, Global};
-use way_lines::{is_road, line};
+use std::alloc::Global;
+use way_lines::{is_road, nodes_of};
 
 /// The junction positions of a road's line, ascending; none of any other way.
 pub fn junctions_of<M: World, P: Profile>(
@@ -28,66 +30,166 @@ pub fn junctions_of<M: World, P: Profile>(
         return Ok(Vec::new(alloc));
     };
     let nodes = nodes_of(alloc, body)?;
-    junctions_along(alloc, world, profile, way, nodes.as_slice())
+    let repeats = Repeats::of(alloc, nodes.as_slice())?;
+    junctions_along(alloc, world, profile, way, &repeats)
 }
 
-/// The nodes of the way's line.
-fn nodes_of(alloc: Global, way: &Way) -> Result<Vec<NodeId>, AllocError>
-    ensures nodes { IfOk result (λ v. v.items ≡ changes way.now.refs) }
-    ensures short { length (changes way.now.refs) ≤ 65535 }
-{
-    line(way).collect(alloc)
-}
-
-/// The junction positions of the road whose line these nodes are.
-fn junctions_along<M: World, P: Profile>(
+/// The junction positions of the road whose line this is, ascending.
+pub fn junctions_along<M: World, P: Profile>(
     alloc: Global,
     world: &M,
     profile: &P,
     way: WayId,
-    nodes: &[NodeId],
+    line: &Repeats<'_>,
 ) -> Result<Vec<u32>, NoMemory>
     requires road { IsTrue (is_road (M.objects world.now) (P.rules profile.now) way) }
-    requires line { nodes.now ≡ line_of (M.objects world.now) way }
-    requires short { length nodes.now ≤ 65535 }
+    requires line { line.now ≡ line_of (M.objects world.now) way }
+    requires short { length line.now ≤ 65535 }
     ensures { IfOk result (λ v. AreJunctions (M.objects world.now) (P.rules profile.now) way v.items) }
 {
-    let repeats = Repeats::of(alloc, nodes)?;
     let mut junctions = Vec::new(alloc);
+    let nodes = line.nodes();
+    if nodes.len() == 0 {
+        return Ok(junctions);
+    }
+    let mut before = see(world, profile, nodes[0]);
+    let mut here = before;
     for at in 0..nodes.len() {
-        if is_plain_at(world, profile, way, nodes, &repeats, at) {
-            continue;
-        }
-        junctions.push(at as u32)?;
+        let behind = look_at(&mut junctions, world, profile, way, line, at, before, here)?;
+        before = here;
+        here = behind;
     }
     Ok(junctions)
 }
 
-/// Whether the position of the road, whose line these nodes are, is plain.
+/// Lists the position of the road whose line this is, if it is no plain one; then sees the node behind it, if there is
+/// one. The nodes before and here are known.
+fn look_at<M: World, P: Profile>(
+    junctions: &mut Vec<u32>,
+    world: &M,
+    profile: &P,
+    way: WayId,
+    line: &Repeats<'_>,
+    at: usize,
+    before: Seen,
+    here: Seen,
+) -> Result<Seen, NoMemory>
+    requires road { IsTrue (is_road (M.objects world.now) (P.rules profile.now) way) }
+    requires line { line.now ≡ line_of (M.objects world.now) way }
+    requires short { length line.now ≤ 65535 }
+    requires within { at < length line.now }
+    requires before_at { 0 < at → node_at (M.objects world.now) way (at - 1) ≡ Some before.node }
+    requires before_seen { IsSeen (M.objects world.now) (P.rules profile.now) before }
+    requires here_at { node_at (M.objects world.now) way at ≡ Some here.node }
+    requires here_seen { IsSeen (M.objects world.now) (P.rules profile.now) here }
+    ensures seen { IfOk result (λ s. IsSeen (M.objects world.now) (P.rules profile.now) s) }
+    ensures behind { IfOk result (λ s. at + 1 < length line.now → node_at (M.objects world.now) way (at + 1) ≡ Some s.node) }
+    ensures sorted { OnOk result (Sorts (IsPlain (M.objects world.now) (P.rules profile.now) way at) at junctions.old.items junctions.new.items) }
+{
+    let nodes = line.nodes();
+    if at + 1 == nodes.len() {
+        junctions.push(at as u32)?;
+        return Ok(here);
+    }
+    let far = nodes[at + 1];
+    if at == 0 {
+        junctions.push(at as u32)?;
+        return Ok(see(world, profile, far));
+    }
+    match pass_once(world, profile, way, line, before, here, far) {
+        Some(behind) => Ok(behind),
+        None => {
+            junctions.push(at as u32)?;
+            Ok(see(world, profile, far))
+        }
+    }
+}
+
+/// What is behind the node here, where one drives on there from the node near to the one far, and it stands on the line
+/// once.
+fn pass_once<M: World, P: Profile>(
+    world: &M,
+    profile: &P,
+    way: WayId,
+    line: &Repeats<'_>,
+    near: Seen,
+    here: Seen,
+    far: NodeId,
+) -> Option<Seen>
+    requires near { IsSeen (M.objects world.now) (P.rules profile.now) near }
+    requires here { IsSeen (M.objects world.now) (P.rules profile.now) here }
+    ensures some { IfSome result (λ s. (s.node ≡ far)
+        × (IsSeen (M.objects world.now) (P.rules profile.now) s
+        × IsPassedOnce (M.objects world.now) (P.rules profile.now) way line.now (about near here far))) }
+    ensures none { IfNone result (IsPassedOnce (M.objects world.now) (P.rules profile.now) way line.now (about near here far) → ⊥) }
+{
+    if line.has(here.node) {
+        return None;
+    }
+    pass_over(world, profile, way, near, here, far)
+}
+
+/// Whether the position of the road whose line this is, at which the node here stands, is plain.
 pub fn is_plain_at<M: World, P: Profile>(
     world: &M,
     profile: &P,
     way: WayId,
-    nodes: &[NodeId],
-    repeats: &Repeats<'_>,
+    line: &Repeats<'_>,
     at: usize,
+    here: Seen,
 ) -> bool
     requires road { IsTrue (is_road (M.objects world.now) (P.rules profile.now) way) }
-    requires line { nodes.now ≡ line_of (M.objects world.now) way }
-    requires repeats { repeats.now ≡ nodes.now }
-    requires within { at < length nodes.now }
+    requires line { line.now ≡ line_of (M.objects world.now) way }
+    requires within { at < length line.now }
+    requires here_at { node_at (M.objects world.now) way at ≡ Some here.node }
+    requires here_seen { IsSeen (M.objects world.now) (P.rules profile.now) here }
     ensures { IsTrue result ↔ IsPlain (M.objects world.now) (P.rules profile.now) way at }
 {
+    let nodes = line.nodes();
     if at == 0 || at == nodes.len() - 1 {
         return false;
     }
-    let about = Neighbours {
-        before: nodes[at - 1],
-        here: nodes[at],
-        behind: nodes[at + 1],
-    };
-    if repeats.has(about.here) {
-        return false;
+    let near = see(world, profile, nodes[at - 1]);
+    match pass_once(world, profile, way, line, near, here, nodes[at + 1]) {
+        Some(_) => true,
+        None => false,
     }
-    is_passed(world, profile, way, about)
+}
+
+/// The next position below this one that isn't plain, on the road whose line this is. The nodes here and before are
+/// known.
+pub fn junction_below<M: World, P: Profile>(
+    world: &M,
+    profile: &P,
+    way: WayId,
+    line: &Repeats<'_>,
+    at: usize,
+    here: Seen,
+    before: Seen,
+) -> usize
+    requires road { IsTrue (is_road (M.objects world.now) (P.rules profile.now) way) }
+    requires line { line.now ≡ line_of (M.objects world.now) way }
+    requires inside { 0 < at }
+    requires within { at < length line.now }
+    requires here_at { node_at (M.objects world.now) way at ≡ Some here.node }
+    requires here_seen { IsSeen (M.objects world.now) (P.rules profile.now) here }
+    requires before_at { node_at (M.objects world.now) way (at - 1) ≡ Some before.node }
+    requires before_seen { IsSeen (M.objects world.now) (P.rules profile.now) before }
+    ensures { IsNextBelow (M.objects world.now) (P.rules profile.now) way at result }
+{
+    let nodes = line.nodes();
+    let mut low = at - 1;
+    let mut above = here;
+    let mut current = before;
+    while low > 0 {
+        let Some(below) =
+            pass_once(world, profile, way, line, above, current, nodes[low - 1])
+        else {
+            return low;
+        };
+        above = current;
+        current = below;
+        low -= 1;
+    }
+    low
 }

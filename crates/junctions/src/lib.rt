@@ -9,7 +9,9 @@ mod junction_list;
 pub mod laws;
 mod plain;
 mod repeats;
+mod seen;
 
-pub use junction_list::{is_plain_at, junctions_of};
+pub use junction_list::{is_plain_at, junction_below, junctions_along, junctions_of};
 pub use plain::is_plain;
 pub use repeats::Repeats;
+pub use seen::{Seen, see};

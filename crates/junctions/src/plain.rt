@@ -1,14 +1,15 @@
 //! Whether a position of a road's line is plain.
-ghost use Rattle.std.specs.Prelude.{◌≡◌, ◌≤◌, ◌<◌, ◌+◌, ◌↔◌, ◌&&◌, Some, IsTrue, IsFalse, IfSome, IfNone, length};
+ghost use Rattle.std.specs.Prelude.{◌≡◌, ◌≢◌, ◌≤◌, ◌<◌, ◌+◌, ◌↔◌, IsTrue, IsFalse, IfSome, IfNone, length};
 ghost use Rattle.road_model.specs.Lines.{changes};
-ghost use Rattle.road_model.specs.Driving.{is_road, located};
+ghost use Rattle.road_model.specs.Driving.{is_road};
 ghost use Rattle.road_model.specs.Pieces.{IsPlain};
-ghost use Rattle.junctions.specs.Passing.{AreNeighbours, IsOnNoOther, IsPassed};
+ghost use Rattle.junctions.specs.Passing.{AreNeighbours, IsOnNoOther, IsPassed, IsSeen, about};
 
 use crate::repeats::stands_again;
+use crate::seen::{Seen, see};
 use road_base::{NodeId, Way, WayId};
 use road_model::{Profile, World};
-use way_lines::{is_located, is_road, is_shut, is_turning_place, line_at, line_len};
+use way_lines::{is_road, line_at, line_len};
 
 /// The nodes before, at and behind a position inside a line.
 #[derive(Clone, Copy, Debug)]
@@ -66,31 +67,52 @@ fn nodes_about(way: &Way, position: usize) -> Option<Neighbours>
 }
 
 /// Whether one drives on at the node between its neighbours, where the way stands there but once.
-pub fn is_passed<M: World, P: Profile>(
+fn is_passed<M: World, P: Profile>(world: &M, profile: &P, way: WayId, nodes: Neighbours) -> bool
+    ensures { IsTrue result ↔ IsPassed (M.objects world.now) (P.rules profile.now) way nodes }
+{
+    let near = see(world, profile, nodes.before);
+    let here = see(world, profile, nodes.here);
+    match pass_over(world, profile, way, near, here, nodes.behind) {
+        Some(_) => true,
+        None => false,
+    }
+}
+
+/// What is behind the node here, where one drives on there from the node near to the one far, and the way stands here
+/// but once. The far node is looked up last, and only where the others allow it.
+pub fn pass_over<M: World, P: Profile>(
     world: &M,
     profile: &P,
     way: WayId,
-    nodes: Neighbours,
-) -> bool
-    ensures { IsTrue result ↔ IsPassed (M.objects world.now) (P.rules profile.now) way nodes }
+    near: Seen,
+    here: Seen,
+    far: NodeId,
+) -> Option<Seen>
+    requires near { IsSeen (M.objects world.now) (P.rules profile.now) near }
+    requires here { IsSeen (M.objects world.now) (P.rules profile.now) here }
+    ensures some { IfSome result (λ s. (s.node ≡ far)
+        × (IsSeen (M.objects world.now) (P.rules profile.now) s
+        × IsPassed (M.objects world.now) (P.rules profile.now) way (about near here far))) }
+    ensures none { IfNone result (IsPassed (M.objects world.now) (P.rules profile.now) way (about near here far) → ⊥) }
 {
-    nodes.before != nodes.behind
-        && are_located(world, nodes)
-        && !is_shut(world, profile, nodes.here)
-        && !is_turning_place(world, profile, nodes.here)
-        && !is_on_other(world, profile, way, nodes.here)
+    if !may_pass(near, here, far) {
+        return None;
+    }
+    if is_on_other(world, profile, way, here.node) {
+        return None;
+    }
+    let beyond = see(world, profile, far);
+    if !beyond.located {
+        return None;
+    }
+    Some(beyond)
 }
 
-/// Whether the three nodes are visible with locations.
-fn are_located<M: World>(world: &M, nodes: Neighbours) -> bool
-    ensures { result
-        ≡ (located (M.objects world.now) (Some nodes.before)
-        && (located (M.objects world.now) (Some nodes.here)
-        && located (M.objects world.now) (Some nodes.behind))) }
+/// Whether the node here goes through, and one comes from a located node that isn't the far one.
+fn may_pass(near: Seen, here: Seen, far: NodeId) -> bool
+    ensures { IsTrue result ↔ (IsTrue here.through × (IsTrue near.located × (near.node ≢ far))) }
 {
-    is_located(world, nodes.before)
-        && is_located(world, nodes.here)
-        && is_located(world, nodes.behind)
+    here.through && near.located && near.node != far
 }
 
 /// Whether a road other than the way passes the node.

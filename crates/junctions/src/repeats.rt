@@ -1,7 +1,7 @@
 //! Which nodes of a line stand on it more than once.
 ghost use Rattle.std.specs.Prelude.{◌≡◌, IfOk, OnOk, List, ◌++◌, ◌∷◌, []};
 ghost use Rattle.road_base.specs.declared.ids.NodeId.{NodeId};
-ghost use Rattle.road_model.specs.Lines.{changes};
+ghost use Rattle.road_model.specs.Lines.{changes, same_node};
 ghost use Rattle.junctions.specs.Repeats.{times, is_repeated, AreMarks};
 
 use road_base::{NoMemory, NodeId, Way};
@@ -10,42 +10,93 @@ use std::collections::BTreeMap;
 use std::marker::Model;
 use way_lines::line;
 
-/// The nodes of a list, and for each of them whether it stands there more than once. Contracts see the list.
+/// How long a list may be to be searched from its start.
+const SEARCHED: usize = 64;
+
+/// The nodes of a list, and for each of them whether it stands there more than once: for a short list by going through
+/// it, for a long one by a map. Contracts see the list.
 #[derive(Drop)]
 pub struct Repeats<'a> {
     nodes: &'a [NodeId],
-    marks: BTreeMap<NodeId, bool>,
+    marks: Option<BTreeMap<NodeId, bool>>,
 }
 
 impl<'a> Model for Repeats<'a> {
     ghost use Rattle.std.specs.Prelude.{List};
     ghost use Rattle.road_base.specs.declared.ids.NodeId.{NodeId};
-    ghost use Rattle.junctions.specs.Repeats.{AreMarks};
+    ghost use Rattle.junctions.specs.Repeats.{MayMark};
 
     ghost Value = { List NodeId };
 
     ghost view = { λ r. r.nodes.now };
 
-    ghost invariant = { λ r. AreMarks r.nodes.now r.marks };
+    ghost invariant = { λ r. MayMark r.nodes.now r.marks };
 }
 
 impl<'a> Repeats<'a> {
     ghost use Rattle.junctions.specs.Repeats.{is_repeated};
 
-    /// Goes through the nodes once.
+    /// Takes no memory for a short list.
     pub fn of(alloc: Global, nodes: &'a [NodeId]) -> Result<Repeats<'a>, NoMemory>
         ensures { IfOk result (λ r. r ≡ nodes.now) }
     {
+        if nodes.len() <= SEARCHED {
+            return Ok(Repeats { nodes, marks: None });
+        }
         let marks = marks_of(alloc, nodes)?;
-        Ok(Repeats { nodes, marks })
+        Ok(Repeats {
+            nodes,
+            marks: Some(marks),
+        })
+    }
+
+    /// The list.
+    pub fn nodes(&self) -> &'a [NodeId]
+        ensures { result.now ≡ self.now }
+    {
+        self.nodes
     }
 
     /// Whether the node stands there more than once.
     pub fn has(&self, node: NodeId) -> bool
         ensures { result ≡ is_repeated self.now node }
     {
-        self.marks.get(&node).copied().unwrap_or(false)
+        match &self.marks {
+            Some(marks) => is_marked(self.nodes, marks, node),
+            None => stands_twice(self.nodes, node),
+        }
     }
+}
+
+/// Whether the node stands more than once in the list whose marks these are.
+fn is_marked(nodes: &[NodeId], marks: &BTreeMap<NodeId, bool>, node: NodeId) -> bool
+    requires { AreMarks nodes.now marks.now }
+    ensures { result ≡ is_repeated nodes.now node }
+{
+    marks.get(&node).copied().unwrap_or(false)
+}
+
+/// Whether the node stands in the list more than once. Stops at the second.
+fn stands_twice(nodes: &[NodeId], node: NodeId) -> bool
+    ensures { result ≡ is_repeated nodes.now node }
+{
+    let mut found = false;
+    for other in nodes {
+        if !is_same(node, *other) {
+            continue;
+        }
+        if found {
+            return true;
+        }
+        found = true;
+    }
+    false
+}
+
+fn is_same(this: NodeId, that: NodeId) -> bool
+    ensures { result ≡ same_node this that }
+{
+    this.0 == that.0
 }
 
 fn marks_of(alloc: Global, nodes: &[NodeId]) -> Result<BTreeMap<NodeId, bool>, NoMemory>

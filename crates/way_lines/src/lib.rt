@@ -1,6 +1,6 @@
 //! Lines of ways, the steps along them, and which step may follow which, over any world and profile.
 //!
-//! No call takes memory. A call on a way or a step takes the time of the way's references; whether a step may follow
+//! No call but `nodes_of` takes memory. A call on a way or a step takes the time of the way's references; whether a step may follow
 //! another, where that is a reversal, takes the time of the references of the ways at the node.
 #![tactic(auto)]
 
@@ -8,7 +8,7 @@ mod line_nodes;
 mod passing;
 mod steps;
 
-pub use line_nodes::{LineNodes, line, line_at, line_len};
+pub use line_nodes::{LineNodes, line, line_at, line_len, nodes_of};
 pub use passing::{is_shut, is_turning_place, may_turn, pass};
 pub use steps::{drivable, ends, head, is_located, is_open, is_road, tail};
 

@@ -1,10 +1,11 @@
 //! The line of a way: its references with consecutive repeats dropped.
-ghost use Rattle.std.specs.Prelude.{◌≡◌, ◌≤◌, [], ◌∷◌, Some, length, slice_get, IfSome, IfNone};
+ghost use Rattle.std.specs.Prelude.{◌≡◌, ◌≤◌, [], ◌∷◌, Some, length, slice_get, IfOk, IfSome, IfNone};
 ghost use Rattle.std.specs.Iterator.{YieldsFirst, item_count};
 ghost use Rattle.road_model.specs.Lines.{changes};
 ghost use Rattle.way_lines.specs.Left.{line_behind, nodes_left, repeats};
 
 use road_base::{NodeId, Way};
+use std::alloc::{AllocError, Global};
 
 /// The nodes of a way's line, in order.
 #[derive(Drop)]
@@ -65,6 +66,19 @@ fn repeats(before: Option<NodeId>, node: NodeId) -> bool
         Some(last) => last.0 == node.0,
         None => false,
     }
+}
+
+/// The nodes of the way's line, in order, at most 65,535.
+pub fn nodes_of(alloc: Global, way: &Way) -> Result<Vec<NodeId>, AllocError>
+    ensures nodes { IfOk result (λ v. v.items ≡ changes way.now.refs) }
+    ensures short { length (changes way.now.refs) ≤ 65535 }
+{
+    let mut nodes = line(way);
+    let mut found = Vec::with_capacity(alloc, way.refs.items().len())?;
+    while let Some(node) = nodes.next() {
+        found.push(node)?;
+    }
+    Ok(found)
 }
 
 /// How many nodes the way's line has, at most 65,535.

@@ -1,43 +1,45 @@
--- The nodes about the position are known, and how often the node there stands on the line.
-use Rattle.std.proofs.Common.{◌≡◌, ◌+◌, ◌-◌, List, get_or, pos, false, true, sym, ap, subst, ◌∙◌, arith}
+-- The nodes about the position are known.
+use Rattle.std.proofs.Common.{◌≡◌, ◌+◌, ◌-◌, ◌<◌, List, length, get_or, pos, Some, refl, sym, ap, ◌∙◌, arith}
 use Rattle.std.proofs.lemmas.Bool.{false≢true}
 use Rattle.road_base.specs.declared.ids.NodeId.{NodeId}
-use Rattle.road_model.specs.Lines.{line_of}
-use Rattle.junctions.specs.Passing.{AreNeighbours}
-use Rattle.junctions.specs.Repeats.{is_repeated}
-use Rattle.junctions.proofs.Positions.{about_at, plain_from, passed, once}
+use Rattle.road_model.specs.Lines.{node_at}
+use Rattle.junctions.proofs.Positions.{about_there, node_there, plain_once, once_plain}
 use Rattle.junctions.proofs.junction_list.is_plain_at.Goals as goal
 
-pub returns-then-has : goal.returns-then-has
-returns-then-has g c =
+pub returns-in-Some : goal.returns-in-Some
+returns-in-Some g c =
     let M = g.M.World.objects c.args.world.now in
     let P = g.P.Profile.rules c.args.profile.now in
-    let xs = c.args.nodes.now in
+    let w = c.args.way in
+    let xs = c.nodes-nodes.result.now in
     let i = c.args.at in
     let d : NodeId = record { 0 = pos 0 } in
     let low = c.if-at-eq0.false in
     let high = c.if-at-nodes.false in
     let within = c.requires.within in
-    let line : xs ≡ line_of M c.args.way = c.requires.line in
-    let about = subst (λ (l : List NodeId). AreNeighbours l i (record { before = get_or xs (i - 1) d; here = get_or xs i d; behind = get_or xs (i + 1) d })) line (about_at xs i d (omega arith) (omega arith)) in
-    let again : true ≡ is_repeated (line_of M c.args.way) (get_or xs i d) = c.if-has.ensures ∙ ap (λ (l : List NodeId). is_repeated l (get_or xs i d)) (c.requires.repeats ∙ line) in (
-      λ no. absurd (false≢true no),
-      λ plain. absurd (false≢true (once M P c.args.way i _ about plain c.requires.road ∙ sym again)),
+    let count : length xs ≡ length c.args.line.now = ap length c.nodes-nodes.ensures in
+    let near : node_at M w (i - 1) ≡ Some c.see-near.result.node = node_there M w xs (i - 1) d (c.nodes-nodes.ensures ∙ c.requires.line) (omega arith) ∙ ap Some (sym c.see-near.ensures.node) in
+    let far : node_at M w (i + 1) ≡ Some (get_or xs (i + 1) d) = node_there M w xs (i + 1) d (c.nodes-nodes.ensures ∙ c.requires.line) (omega arith) in
+    let nodes = about_there M w i c.see-near.result.node c.args.here.node (get_or xs (i + 1) d) (omega arith) near c.requires.here_at far in (
+      λ yes. plain_once M P w i _ nodes c.args.line.now c.requires.line ((c.in-Some.ensures.some).1).1,
+      λ plain. refl,
     )
 
-pub returns : goal.returns
-returns g c =
+pub returns-in-None : goal.returns-in-None
+returns-in-None g c =
     let M = g.M.World.objects c.args.world.now in
     let P = g.P.Profile.rules c.args.profile.now in
-    let xs = c.args.nodes.now in
+    let w = c.args.way in
+    let xs = c.nodes-nodes.result.now in
     let i = c.args.at in
     let d : NodeId = record { 0 = pos 0 } in
     let low = c.if-at-eq0.false in
     let high = c.if-at-nodes.false in
     let within = c.requires.within in
-    let line : xs ≡ line_of M c.args.way = c.requires.line in
-    let about = subst (λ (l : List NodeId). AreNeighbours l i (record { before = get_or xs (i - 1) d; here = get_or xs i d; behind = get_or xs (i + 1) d })) line (about_at xs i d (omega arith) (omega arith)) in
-    let alone : false ≡ is_repeated (line_of M c.args.way) (get_or xs i d) = c.if-has.ensures ∙ ap (λ (l : List NodeId). is_repeated l (get_or xs i d)) (c.requires.repeats ∙ line) in (
-      λ yes. plain_from M P c.args.way i _ about alone (c.is_passed.ensures.0 yes),
-      λ plain. c.is_passed.ensures.1 (passed M P c.args.way i _ about plain),
+    let count : length xs ≡ length c.args.line.now = ap length c.nodes-nodes.ensures in
+    let near : node_at M w (i - 1) ≡ Some c.see-near.result.node = node_there M w xs (i - 1) d (c.nodes-nodes.ensures ∙ c.requires.line) (omega arith) ∙ ap Some (sym c.see-near.ensures.node) in
+    let far : node_at M w (i + 1) ≡ Some (get_or xs (i + 1) d) = node_there M w xs (i + 1) d (c.nodes-nodes.ensures ∙ c.requires.line) (omega arith) in
+    let nodes = about_there M w i c.see-near.result.node c.args.here.node (get_or xs (i + 1) d) (omega arith) near c.requires.here_at far in (
+      λ no. absurd (false≢true no),
+      λ plain. absurd (c.in-None.ensures.none (once_plain M P w i _ nodes c.args.line.now c.requires.line c.requires.road plain)),
     )

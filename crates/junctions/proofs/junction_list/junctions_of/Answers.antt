@@ -1,10 +1,11 @@
 -- A road is visible, and what was collected is its line.
-use Rattle.std.proofs.Common.{[], IsTrue, sym, subst, ◌∙◌}
+use Rattle.std.proofs.Common.{◌≡◌, [], List, length, IsTrue, sym, ap, subst, ◌∙◌, arith}
 use Rattle.std.specs.Ordering.{nat_cmp}
 use Rattle.std.proofs.lemmas.Bool.{false≢true}
 use Rattle.road_base.specs.declared.ids.WayId.{WayId}
 use Rattle.road_base.specs.Objects.{Objects}
 use Rattle.road_model.specs.Rules.{Rules}
+use Rattle.road_model.specs.Lines.{changes}
 use Rattle.road_model.specs.Driving.{is_road}
 use Rattle.junctions.specs.Junctions.{IsJunction, AreJunctions}
 use Rattle.junctions.proofs.Appending.{lists_none}
@@ -32,6 +33,14 @@ returns-in_default g c =
 
 pub junctions_along-requires-clause-line : goal.junctions_along-requires-clause-line
 junctions_along-requires-clause-line g c =
-    c.as_slice.ensures.value
+    c.in_ok-repeats.ensures
+    ∙ c.as_slice.ensures.value
     ∙ c.in_ok-nodes.ensures.nodes
     ∙ sym (visible_line (g.M.World.objects c.args.world.now) c.args.way c.in-Some.body.now (sym c.in-Some.ensures))
+
+pub junctions_along-requires-clause-short : goal.junctions_along-requires-clause-short
+junctions_along-requires-clause-short g c =
+    let same : c.in_ok-repeats.repeats ≡ changes (c.in-Some.body.now).refs = c.in_ok-repeats.ensures ∙ c.as_slice.ensures.value ∙ c.in_ok-nodes.ensures.nodes in
+    let count : length c.in_ok-repeats.repeats ≡ length (changes (c.in-Some.body.now).refs) = ap length same in
+    let short = c.in_ok-nodes.ensures.short in
+    omega arith
