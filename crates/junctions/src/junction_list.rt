@@ -182,8 +182,7 @@ pub fn junction_below<M: World, P: Profile>(
     let mut above = here;
     let mut current = before;
     while low > 0 {
-        let Some(below) =
-            pass_once(world, profile, way, line, above, current, nodes[low - 1])
+        let Some(below) = pass_once(world, profile, way, line, above, current, nodes[low - 1])
         else {
             return low;
         };

@@ -1,7 +1,7 @@
 //! Lines of ways, the steps along them, and which step may follow which, over any world and profile.
 //!
-//! No call but `nodes_of` takes memory. A call on a way or a step takes the time of the way's references; whether a step may follow
-//! another, where that is a reversal, takes the time of the references of the ways at the node.
+//! No call but `nodes_of` takes memory. A call on a way or a step takes the time of the way's references; whether a
+//! step may follow another, where that is a reversal, takes the time of the references of the ways at the node.
 #![tactic(auto)]
 
 mod line_nodes;

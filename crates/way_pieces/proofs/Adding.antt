@@ -1,11 +1,13 @@
 -- The pieces between neighbouring junctions, added in their order.
-use Rattle.std.proofs.Common.{◌≡◌, ◌↔◌, ℕ, ◌-◌, ◌⊎◌, inl, inr, List, length, get_or, Bool, IsTrue, refl, sym, ap, subst, ◌∙◌, arith}
+use Rattle.std.proofs.Common.{◌≡◌, ◌↔◌, ◌&&◌, ℕ, ◌-◌, ◌⊎◌, inl, inr, List, length, get_or, Bool, IsTrue, refl, sym, ap, subst, ◌∙◌, arith}
 use Rattle.std.specs.Ordering.{is_lt}
 use Rattle.road_base.specs.declared.ids.WayId.{WayId}
 use Rattle.road_base.specs.declared.ids.Dir.{Dir}
 use Rattle.road_base.specs.declared.ids.Dir.TheVariants.{Forward, Backward}
 use Rattle.road_base.specs.Objects.{Objects}
 use Rattle.road_model.specs.Rules.{Rules}
+use Rattle.road_model.specs.Lines.{node_at}
+use Rattle.road_model.specs.Driving.{is_open, located}
 use Rattle.road_model.specs.Pieces.{Piece, IsPiece}
 use Rattle.road_model.specs.Orders.{Lists, name_cmp}
 use Rattle.junctions.specs.Junctions.{AreJunctions}
@@ -14,6 +16,7 @@ use Rattle.way_pieces.specs.declared.stretches.Stretch.{Stretch}
 use Rattle.way_pieces.specs.Names.{piece_of, IsSpanOn}
 use Rattle.way_pieces.specs.Stretches.{IsStretch, IsSpanBelow, added, piece_on, span_on}
 use Rattle.way_pieces.proofs.Appending.{lists_added}
+use Rattle.way_pieces.proofs.Driving.{piece_from, piece_parts}
 use Rattle.way_pieces.proofs.NameOrder.{index_next, dir_last}
 use Rattle.way_pieces.proofs.Neighbouring.{order, none_inside, same_piece, not_below_first, not_above_last, first_listed, last_listed}
 
@@ -81,6 +84,18 @@ module _ (M : Objects) (P : Rules) (s : Stretch) (stretch : IsStretch M P s) (f 
       ∙ ap (λ k. added (added xs f k) b m) first
       ∙ ap (λ k. added (added xs f (span_on s Forward)) b k) second in
       subst (Lists (λ z. z.name) name_cmp High) (sym whole) (both_added xs lists)
+
+-- a piece lies there where the way is open and both ends are located
+pub driven : (M : Objects) (P : Rules) (s : Stretch) → IsStretch M P s → (d : Dir) (f free low high : Bool) → f ≡ (free && (low && high)) → free ≡ is_open M P s.way d → low ≡ located M (node_at M s.way s.index) → high ≡ located M (node_at M s.way s.end) → IsTrue f ↔ IsPiece M P (piece_on s d)
+driven M P s stretch d f free low high is free_is low_is high_is =
+    let e : f ≡ (is_open M P s.way d && (located M (node_at M s.way s.index) && located M (node_at M s.way s.end))) =
+    is
+    ∙ ap (λ a. a && (low && high)) free_is
+    ∙ ap (λ a. is_open M P s.way d && (a && high)) low_is
+    ∙ ap (λ a. is_open M P s.way d && (located M (node_at M s.way s.index) && a)) high_is in (
+      λ yes. piece_from M P s stretch d (sym e ∙ yes),
+      λ piece. e ∙ piece_parts M P (piece_on s d) piece,
+    )
 
 -- ---- all junctions of the way
 

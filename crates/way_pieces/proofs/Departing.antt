@@ -16,9 +16,10 @@ use Rattle.road_model.specs.Pieces.{IsPlain, Piece, IsPiece, IsInOnePiece, spell
 use Rattle.road_model.specs.Blocks.{name_of}
 use Rattle.road_model.specs.Links.{RefersTo}
 use Rattle.road_model.specs.Orders.{Lists, rises, way_cmp, name_cmp}
+use Rattle.junctions.specs.Junctions.{IsNextBelow}
 use Rattle.way_pieces.specs.declared.departures.Departure.{Departure}
 use Rattle.way_pieces.specs.Names.{IsNameFrom, IsDeparture}
-use Rattle.way_pieces.specs.Departures.{IsOver, IsOverAt, IsOverBy, IsNextBelow, Gains, start_of}
+use Rattle.way_pieces.specs.Departures.{IsOver, IsOverAt, IsOverBy, Gains, start_of}
 use Rattle.way_pieces.proofs.Appending.{lists_extended, lists_joined, lists_none, lists_same, lists_single, has_before, has_last, one_more}
 use Rattle.way_pieces.proofs.Beginning.{begin_at, begin_of, tail_place, stands, step_drives, is_first, first_begins, first_junction, head_there, front}
 use Rattle.way_pieces.proofs.Climbing.{taken_below}
@@ -268,6 +269,16 @@ module _ (M : Objects) (P : Rules) (v : NodeId) where
     -- the node stands where the departure begins
     pub stands_there : IsOverAt M P v w i z → node_at M w i ≡ Some v
     stands_there at = subst (λ k. node_at M w k ≡ Some v) at.0 (subst (λ u. node_at M u (start_of z) ≡ Some v) (at.1).0 ((at.1).1).leaves)
+
+  -- a node from which one departs is located
+  located_by : (s : Step) (d : Dir) → IsTrue (located M (node_at M s.way s.index)) → IsTrue (located M (node_at M s.way (s.index + 1))) → IsTrue (located M (node_at M s.way (tail_position d s.index)))
+  located_by s Forward low high = low
+  located_by s Backward low high = high
+
+  pub leaves_located : (z : Departure) → IsDeparture M P v z → IsTrue (located M (Some v))
+  leaves_located z dep =
+      let parts = drivable_parts M P z.first (drives z dep) in
+      subst (λ o. IsTrue (located M o)) dep.leaves (located_by z.first z.first.dir (parts.1).0 (parts.1).1)
 
   module _ (w : WayId) (z : Departure) where
     -- one departs over a road

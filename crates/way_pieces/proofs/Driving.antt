@@ -1,5 +1,5 @@
 -- What may be driven: steps, roads and pieces.
-use Rattle.std.proofs.Common.{◌≡◌, ℕ, ◌+◌, ◌-◌, ◌<◌, ◌≤◌, ◌&&◌, ◌⊎◌, List, length, get_or, slice_get, Option, Some, None, true, IsTrue, inl, inr, refl, sym, ap, subst, ◌∙◌, arith}
+use Rattle.std.proofs.Common.{◌≡◌, ℕ, ◌+◌, ◌-◌, ◌<◌, ◌≤◌, ◌&&◌, ◌||◌, ◌⊎◌, not, Bool, false, List, length, get_or, slice_get, Option, Some, None, true, IsTrue, inl, inr, refl, sym, ap, subst, ◌∙◌, arith}
 use Rattle.std.proofs.lemmas.Bool.{and_parts, and_from, or_cases, or_left, or_right, false≢true}
 use Rattle.std.proofs.lemmas.Option.{slice_get_within, slice_get-get_or}
 use Rattle.road_base.specs.declared.ids.NodeId.{NodeId}
@@ -14,6 +14,8 @@ use Rattle.road_model.specs.Lines.{changes, refs_of, line_of, node_at}
 use Rattle.road_model.specs.Driving.{open_way, is_open, is_road, located, drivable}
 use Rattle.road_model.specs.Pieces.{Piece, IsPiece}
 use Rattle.junctions.specs.Junctions.{IsJunction}
+use Rattle.way_pieces.specs.declared.roads.Road.{Road}
+use Rattle.way_pieces.specs.Roads.{IsRoad}
 use Rattle.way_pieces.specs.declared.stretches.Stretch.{Stretch}
 use Rattle.way_pieces.specs.Stretches.{IsStretch, piece_on}
 
@@ -41,6 +43,18 @@ no_road M P w hidden road = elim (or_cases _ _ road) [ inl a ↦ not_open M P w 
 pub open_road : (M : Objects) (P : Rules) (w : WayId) (d : Dir) → is_open M P w d ≡ true → IsTrue (is_road M P w)
 open_road M P w Forward is = or_left _ _ is
 open_road M P w Backward is = or_right _ _ is
+
+-- a road is open in one of its directions
+pub open_is_road : (M : Objects) (P : Rules) (r : Road) → IsRoad M P r → is_road M P r.way ≡ (r.forward || r.backward)
+open_is_road M P r is = ap (λ b. b || is_open M P r.way Backward) (sym is.forward) ∙ ap (λ b. r.forward || b) (sym is.backward)
+
+pub unless_not : (b : Bool) → not b ≡ false → b ≡ true
+unless_not true h = refl
+unless_not false h = absurd (false≢true (sym h))
+
+pub is_not : (b : Bool) → not b ≡ true → b ≡ false
+is_not true h = absurd (false≢true h)
+is_not false h = refl
 
 -- ---- nodes
 

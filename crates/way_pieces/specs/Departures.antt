@@ -3,21 +3,12 @@ use Rattle.std.specs.Prelude.{◌≡◌, ℕ, ◌<◌, List, [], ◌∷◌, ◌+
 use Rattle.road_base.specs.declared.ids.NodeId.{NodeId}
 use Rattle.road_base.specs.declared.ids.WayId.{WayId}
 use Rattle.road_base.specs.declared.ids.Dir.{Dir}
-use Rattle.road_base.specs.declared.ids.Dir.TheVariants.{Forward, Backward}
 use Rattle.road_base.specs.Objects.{Objects}
 use Rattle.road_model.specs.Rules.{Rules}
 use Rattle.road_model.specs.Lines.{tail_position}
-use Rattle.road_model.specs.Driving.{is_open}
-use Rattle.road_model.specs.Pieces.{IsPlain}
 use Rattle.road_model.specs.Orders.{Lists, name_cmp}
 use Rattle.way_pieces.specs.declared.departures.Departure.{Departure}
-use Rattle.way_pieces.specs.declared.departures.Road.{Road}
 use Rattle.way_pieces.specs.Names.{IsDeparture}
-
--- the way is open in these directions
-pub record IsRoad (M : Objects) (P : Rules) (r : Road) : Type 0 where
-  pub forward : r.forward ≡ is_open M P r.way Forward
-  pub backward : r.backward ≡ is_open M P r.way Backward
 
 -- the position on the way's line from which one departs
 abbrev pub start_of : Departure → ℕ
@@ -48,9 +39,3 @@ pub record Gains (Is : Departure → Type 0) (old new : List Departure) : Type 0
 abbrev pub list_of : Option Departure → List Departure
 list_of None = []
 list_of (Some d) = d ∷ []
-
--- the position i is the next one below j that isn't plain
-pub record IsNextBelow (M : Objects) (P : Rules) (w : WayId) (j i : ℕ) : Type 0 where
-  pub below : i < j
-  pub junction : IsPlain M P w i → ⊥
-  pub inner : (k : ℕ) → i < k → k < j → IsPlain M P w k

@@ -1,3 +1,4 @@
 pub mod Departures
 pub mod Names
+pub mod Roads
 pub mod Stretches

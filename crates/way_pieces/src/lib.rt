@@ -2,12 +2,13 @@
 //!
 //! `spans_of`, `pieces_of` and `spell` go along the way's line once: with n references and w ways at their nodes they
 //! take time of the order of n log n + w, and memory of the order of n. `departures_from` and `pieces_from` go along the
-//! references of each way at the node, and look at the objects only of the positions from there back to the next
-//! junction.
+//! references of each road at the node, and look nodes up only at the positions next to it and from there back to the
+//! next junction.
 #![tactic(auto)]
 
 mod departures;
 mod names;
+mod roads;
 mod spans;
 mod spelling;
 mod stretches;

@@ -5,11 +5,12 @@ ghost use Rattle.road_model.specs.Pieces.{IsPiece};
 ghost use Rattle.way_pieces.specs.Names.{IsSpelling, NamesNone};
 ghost use Rattle.way_pieces.specs.Stretches.{IsNext, named};
 
-use crate::stretches::{Stretch, is_piece, nodes_of};
+use crate::stretches::{Stretch, is_piece};
 use junctions::junctions_of;
 use road_base::{Dir, Drive, NoMemory, Step};
 use road_model::{PieceName, Profile, World};
 use std::alloc::Global;
+use way_lines::nodes_of;
 
 /// The steps of the piece in order of travel, None exactly where there is no such piece.
 pub fn spell<M: World, P: Profile>(

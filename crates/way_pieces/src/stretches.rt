@@ -1,14 +1,13 @@
 //! Whether a piece lies between two neighbouring junctions of a way.
-ghost use Rattle.std.specs.Prelude.{◌≡◌, ◌≤◌, ◌↔◌, ◌&&◌, Some, IsTrue, IfOk, length};
-ghost use Rattle.road_model.specs.Lines.{changes, line_of};
+ghost use Rattle.std.specs.Prelude.{◌≡◌, ◌↔◌, ◌&&◌, Some, IsTrue};
+ghost use Rattle.road_model.specs.Lines.{line_of};
 ghost use Rattle.road_model.specs.Driving.{is_open, located};
 ghost use Rattle.road_model.specs.Pieces.{IsPiece};
 ghost use Rattle.way_pieces.specs.Stretches.{IsStretch, piece_on};
 
-use road_base::{Dir, NodeId, Way, WayId};
+use road_base::{Dir, NodeId, WayId};
 use road_model::{Profile, World};
-use std::alloc::{AllocError, Global};
-use way_lines::{is_located, is_open, line};
+use way_lines::{is_located, is_open};
 
 /// Two neighbouring junction positions of a way's line, the lower one first.
 #[derive(Clone, Copy, Debug)]
@@ -16,14 +15,6 @@ pub struct Stretch {
     pub way: WayId,
     pub index: u32,
     pub end: u32,
-}
-
-/// The nodes of the way's line.
-pub fn nodes_of(alloc: Global, way: &Way) -> Result<Vec<NodeId>, AllocError>
-    ensures nodes { IfOk result (λ v. v.items ≡ changes way.now.refs) }
-    ensures short { length (changes way.now.refs) ≤ 65535 }
-{
-    line(way).collect(alloc)
 }
 
 /// Whether a piece lies there in the direction. The nodes are those of the way's line.

@@ -44,11 +44,11 @@ listed_more M P w n xs ys is others i h = elim (upto i n h) [
 below_more : (M : Objects) (P : Rules) (w : WayId) (n : ℕ) (xs ys : List ℕ) → IsTrue (is_road M P w) → n < length (line_of M w) → Sorts (IsPlain M P w n) n xs ys → Lists (λ i. i) nat_cmp (Below M P w n) xs → Lists (λ i. i) nat_cmp (Below M P w (n + 1)) ys
 below_more M P w n xs ys road on (inl (plain, same)) listed =
     subst (λ (l : List ℕ). Lists (λ i. i) nat_cmp (Below M P w (n + 1)) l) (sym same) (lists_same nat_cmp (Below M P w n) (Below M P w (n + 1)) xs listed
-      (λ i h. let below = h.0 in (omega arith, h.1))
-      (λ i h. elim (upto i n h.0) [
-        | inl here ↦ absurd ((h.1).not_plain (subst (λ k. IsPlain M P w k) (sym here) plain))
-        | inr less ↦ (less, h.1)
-      ]))
+    (λ i h. let below = h.0 in (omega arith, h.1))
+    (λ i h. elim (upto i n h.0) [
+      | inl here ↦ absurd ((h.1).not_plain (subst (λ k. IsPlain M P w k) (sym here) plain))
+      | inr less ↦ (less, h.1)
+    ]))
 below_more M P w n xs ys road on (inr (junction, is)) listed =
     lists_pushed nat_cmp (Below M P w n) (Below M P w (n + 1)) xs ys n is listed
     (λ i h. below_is_less i n h.0)

@@ -26,7 +26,7 @@ returns-clause-some g c =
       (
         c.see-beyond.ensures.seen,
         passed_over M (g.P.Profile.rules c.args.profile.now) c.args.way c.args.near c.args.here c.args.far c.requires.near c.requires.here parts.0 (parts.1).0 (parts.1).1
-          (ap (λ (v : NodeId). located M (Some v)) (sym c.see-beyond.ensures.node) ∙ (sym c.see-beyond.ensures.seen.located ∙ unless_not _ c.if-not-beyond.false))
-          (c.if-is_on_other.ensures.0 refl),
+            (ap (λ (v : NodeId). located M (Some v)) (sym c.see-beyond.ensures.node) ∙ (sym c.see-beyond.ensures.seen.located ∙ unless_not _ c.if-not-beyond.false))
+            (c.if-is_on_other.ensures.0 refl),
       ),
     )

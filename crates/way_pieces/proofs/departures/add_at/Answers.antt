@@ -12,8 +12,8 @@ returns-then-is_plain_at g c =
     let M = g.M.World.objects c.args.world.now in
     let P = g.P.Profile.rules c.args.profile.now in
     let plain = c.if-is_plain_at.ensures.0 refl in
-    gains_none (IsOverAt M P c.args.node c.args.road.way c.args.at) c.args.departures.now.items (λ z at.
-    junction M P c.args.node z (at.1).1 (subst (λ k. IsPlain M P z.first.way k) (sym at.0) (subst (λ w. IsPlain M P w c.args.at) (sym (at.1).0) plain)))
+    gains_none (IsOverAt M P c.args.here.node c.args.road.way c.args.at) c.args.departures.now.items (λ z at.
+    junction M P c.args.here.node z (at.1).1 (subst (λ k. IsPlain M P z.first.way k) (sym at.0) (subst (λ w. IsPlain M P w c.args.at) (sym (at.1).0) plain)))
 
 pub backward_at-backward-requires-clause-junction : goal.backward_at-backward-requires-clause-junction
 backward_at-backward-requires-clause-junction g c = λ plain. false≢true (c.if-is_plain_at.ensures.1 plain)
@@ -25,7 +25,7 @@ pub returns : goal.returns
 returns g c =
     let M = g.M.World.objects c.args.world.now in
     let P = g.P.Profile.rules c.args.profile.now in
-    let v = c.args.node in
+    let v = c.args.here.node in
     let w = c.args.road.way in
     let i = c.args.at in
     gains (IsOverBy M P v w i Backward) (IsOverBy M P v w i Forward) (IsOverAt M P v w i) c.args.departures.now.items c.add_some.new.departures.items c.add_some-2.new.departures.items

@@ -6,4 +6,4 @@ use Rattle.way_pieces.proofs.departures.departures_from.Given as goal
 -- the departures over the ways so far are listed
 abbrev pub invariant-loop-way : goal.invariant-loop-way
 invariant-loop-way g l =
-    Lists (λ d. d.piece) name_cmp (λ d. Contains (take l.way-index l.way-items) d.first.way × IsDeparture (g.M.World.objects l.world) (g.P.Profile.rules l.profile) l.node d) l.departures.items
+    Lists (λ d. d.piece) name_cmp (λ d. Contains (take l.way-index l.way-items) d.first.way × IsDeparture (g.M.World.objects l.world) (g.P.Profile.rules l.profile) l.fn.node d) l.departures.items
