@@ -1,5 +1,5 @@
 -- Which positions are plain, by the nodes about them and how often the node there stands on the line.
-use Rattle.std.proofs.Common.{◌≡◌, ℕ, ◌+◌, ◌-◌, ◌<◌, List, length, slice_get, get_or, Some, false, IsTrue, IsFalse, sym, ap, subst, ◌∙◌, arith}
+use Rattle.std.proofs.Common.{◌≡◌, ℕ, ◌+◌, ◌-◌, ◌<◌, List, length, slice_get, get_or, Some, false, IsTrue, IsFalse, sym, ap, subst, ◌∙◌}
 use Rattle.std.proofs.lemmas.Bool.{ltb-false, le-ltb}
 use Rattle.std.proofs.lemmas.Option.{slice_get_within, slice_get-get_or}
 use Rattle.road_base.specs.declared.ids.NodeId.{NodeId}

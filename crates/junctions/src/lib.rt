@@ -4,7 +4,7 @@
 //! along the line once, looks each node up once, and for each node goes through the ways there until one is another
 //! road: with n references and w ways at their nodes that takes time of the order of n log n + w, and memory of the
 //! order of n. `junction_below` does so from one position down to the next junction. Whether a node stands on the line
-//! again, a line of up to 64 nodes is searched for, and a longer one has a map.
+//! again, a line of up to 128 nodes is searched, and a longer one has a map.
 #![tactic(auto)]
 
 mod junction_list;

@@ -11,7 +11,7 @@ use std::marker::Model;
 use way_lines::line;
 
 /// How long a list may be to be searched from its start.
-const SEARCHED: usize = 64;
+const SEARCHED: usize = 128;
 
 /// The nodes of a list, and for each of them whether it stands there more than once: for a short list by going through
 /// it, for a long one by a map. Contracts see the list.

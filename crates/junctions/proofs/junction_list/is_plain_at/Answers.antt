@@ -1,5 +1,5 @@
 -- The nodes about the position are known.
-use Rattle.std.proofs.Common.{◌≡◌, ◌+◌, ◌-◌, ◌<◌, List, length, get_or, pos, Some, refl, sym, ap, ◌∙◌, arith}
+use Rattle.std.proofs.Common.{◌≡◌, ◌+◌, ◌-◌, length, get_or, pos, Some, refl, sym, ap, ◌∙◌, arith}
 use Rattle.std.proofs.lemmas.Bool.{false≢true}
 use Rattle.road_base.specs.declared.ids.NodeId.{NodeId}
 use Rattle.road_model.specs.Lines.{node_at}

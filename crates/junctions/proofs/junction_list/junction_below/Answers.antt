@@ -1,5 +1,5 @@
 -- Each position down to the answer was found plain, and the first one of a line isn't.
-use Rattle.std.proofs.Common.{◌≡◌, ℕ, ◌+◌, ◌-◌, ◌<◌, ◌⊎◌, inl, inr, List, length, get_or, pos, Some, sym, ap, subst, ◌∙◌, arith}
+use Rattle.std.proofs.Common.{◌≡◌, ℕ, ◌+◌, ◌-◌, ◌<◌, ◌⊎◌, inl, inr, length, get_or, pos, Some, sym, ap, subst, ◌∙◌, arith}
 use Rattle.road_base.specs.declared.ids.NodeId.{NodeId}
 use Rattle.road_model.specs.Lines.{node_at}
 use Rattle.road_model.specs.Pieces.{IsPlain}

@@ -1,5 +1,5 @@
 -- A road is visible, and what was collected is its line.
-use Rattle.std.proofs.Common.{◌≡◌, [], List, length, IsTrue, sym, ap, subst, ◌∙◌, arith}
+use Rattle.std.proofs.Common.{◌≡◌, [], length, IsTrue, sym, ap, subst, ◌∙◌, arith}
 use Rattle.std.specs.Ordering.{nat_cmp}
 use Rattle.std.proofs.lemmas.Bool.{false≢true}
 use Rattle.road_base.specs.declared.ids.WayId.{WayId}

@@ -1,8 +1,7 @@
 -- The ends of a line are junctions, and inside it the nodes about the position are known.
-use Rattle.std.proofs.Common.{◌≡◌, ◌+◌, ◌-◌, ◌<◌, List, length, get_or, pos, Some, inl, inr, refl, sym, ap, ◌∙◌, arith}
+use Rattle.std.proofs.Common.{◌≡◌, ◌+◌, length, get_or, pos, Some, inl, inr, refl, sym, ap, ◌∙◌, arith}
 use Rattle.road_base.specs.declared.ids.NodeId.{NodeId}
 use Rattle.road_model.specs.Lines.{line_of, node_at}
-use Rattle.junctions.specs.Passing.{AreNeighbours, about}
 use Rattle.junctions.proofs.Positions.{about_there, node_there, plain_once, once_plain}
 use Rattle.junctions.proofs.junction_list.look_at.Goals as goal
 

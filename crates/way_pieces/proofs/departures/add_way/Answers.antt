@@ -1,12 +1,10 @@
 -- One departs only over a road, and a road is visible.
-use Rattle.std.proofs.Common.{◌≡◌, List, length, sym, ap, subst, ◌∙◌, arith}
+use Rattle.std.proofs.Common.{◌≡◌, length, sym, ap, ◌∙◌, arith}
 use Rattle.std.proofs.lemmas.Bool.{false≢true}
-use Rattle.road_base.specs.declared.ids.NodeId.{NodeId}
 use Rattle.road_base.specs.declared.ids.WayId.{WayId}
 use Rattle.road_model.specs.Lines.{changes, line_of}
 use Rattle.road_model.specs.Driving.{is_road}
-use Rattle.way_pieces.specs.declared.departures.Departure.{Departure}
-use Rattle.way_pieces.specs.Departures.{IsOver, Gains}
+use Rattle.way_pieces.specs.Departures.{IsOver}
 use Rattle.way_pieces.proofs.Departing.{over_road, gains_none}
 use Rattle.way_pieces.proofs.Driving.{visible_line, open_is_road, no_road}
 use Rattle.way_pieces.proofs.departures.add_way.Goals as goal
