@@ -87,21 +87,21 @@ module _ (M : Objects) (P : Rules) (laws : Laws M P) (p : Piece) (is : IsPiece M
       a.named ∙ (one_first M P a.piece b.piece d.first a.more b.more a.is b.is begins b.begins ∙ sym b.named))
 
   abbrev turns : Bool
-  turns = i.gate.is_turning_place || (i.gate.is_shut || length out == 1)
+  turns = i.is_turning_place || (i.is_shut || length out == 1)
 
   turn_allowed : (d : Departure) → In d out → turns ≡ true → MayTurn M P i.node d.first
-  turn_allowed d j h = elim (or_cases i.gate.is_turning_place (i.gate.is_shut || length out == 1) h) [
-    | inl place ↦ AtPlace (sym known.gate_turning ∙ place)
-    | inr others ↦ elim (or_cases i.gate.is_shut (length out == 1) others) [
-      | inl closed ↦ AtShut (sym known.gate_shut ∙ closed)
+  turn_allowed d j h = elim (or_cases i.is_turning_place (i.is_shut || length out == 1) h) [
+    | inl place ↦ AtPlace (sym known.turning_is ∙ place)
+    | inr others ↦ elim (or_cases i.is_shut (length out == 1) others) [
+      | inl closed ↦ AtShut (sym known.shut_is ∙ closed)
       | inr one ↦ AtDeadEnd (leaves d (is_departure d j)) (only_leaving (eqb-true _ _ one) d j)
     ]
   ]
 
   turns_by : (d : Departure) → In d out → MayTurn M P i.node d.first → turns ≡ true
-  turns_by d j (AtPlace h) = or_left i.gate.is_turning_place _ (known.gate_turning ∙ h)
-  turns_by d j (AtShut h) = or_right i.gate.is_turning_place _ (or_left i.gate.is_shut _ (known.gate_shut ∙ h))
-  turns_by d j (AtDeadEnd l only) = or_right i.gate.is_turning_place _ (or_right i.gate.is_shut _ (eq-eqb _ _ (one_listed d j only)))
+  turns_by d j (AtPlace h) = or_left i.is_turning_place _ (known.turning_is ∙ h)
+  turns_by d j (AtShut h) = or_right i.is_turning_place _ (or_left i.is_shut _ (known.shut_is ∙ h))
+  turns_by d j (AtDeadEnd l only) = or_right i.is_turning_place _ (or_right i.is_shut _ (eq-eqb _ _ (one_listed d j only)))
 
   pub passes_by : (d : Departure) → In d out → may_follow i u d ≡ true → Passes M P ends.last d.first
   passes_by d j h =
@@ -112,10 +112,10 @@ module _ (M : Objects) (P : Rules) (laws : Laws M P) (p : Piece) (is : IsPiece M
         to = a.leaves;
         back = λ e.
             let same = test_from_same d.toward u (same_Some _ _ (sym a.toward ∙ (e ∙ ends.tail))) in
-            turn_allowed d j (sym (ap (λ b. cond b turns (not i.gate.is_shut)) same) ∙ h);
+            turn_allowed d j (sym (ap (λ b. cond b turns (not i.is_shut)) same) ∙ h);
         on = λ n. elim (cases_Bool (same_node d.toward u)) [
           | inl same ↦ absurd (n (a.toward ∙ (ap Some (same_from_test d.toward u same) ∙ sym ends.tail)))
-          | inr other ↦ sym known.gate_shut ∙ not-true _ (sym (ap (λ b. cond b turns (not i.gate.is_shut)) other) ∙ h)
+          | inr other ↦ sym known.shut_is ∙ not-true _ (sym (ap (λ b. cond b turns (not i.is_shut)) other) ∙ h)
         ];
       }
 
@@ -125,9 +125,9 @@ module _ (M : Objects) (P : Rules) (laws : Laws M P) (p : Piece) (is : IsPiece M
       let here : h.node ≡ i.node = same_Some _ _ (sym h.from ∙ ends.head) in
       elim (cases_Bool (same_node d.toward u)) [
         | inl same ↦
-            ap (λ b. cond b turns (not i.gate.is_shut)) same
+            ap (λ b. cond b turns (not i.is_shut)) same
             ∙ turns_by d j (subst (λ v. MayTurn M P v d.first) here (h.back (a.toward ∙ (ap Some (same_from_test d.toward u same) ∙ sym ends.tail))))
         | inr other ↦
-            ap (λ b. cond b turns (not i.gate.is_shut)) other
-            ∙ not_from_false _ (known.gate_shut ∙ (ap (shut M P) (sym here) ∙ h.on (λ e. false≢true (sym other ∙ test_from_same d.toward u (same_Some _ _ (sym a.toward ∙ (e ∙ ends.tail)))))))
+            ap (λ b. cond b turns (not i.is_shut)) other
+            ∙ not_from_false _ (known.shut_is ∙ (ap (shut M P) (sym here) ∙ h.on (λ e. false≢true (sym other ∙ test_from_same d.toward u (same_Some _ _ (sym a.toward ∙ (e ∙ ends.tail)))))))
       ]

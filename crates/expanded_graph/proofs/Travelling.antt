@@ -20,20 +20,20 @@ use Rattle.road_model.specs.Pieces.{IsPiece}
 use Rattle.road_model.specs.Blocks.{IsPlaceOf, place_position}
 use Rattle.way_pieces.specs.declared.spans.PieceSpan.{PieceSpan}
 use Rattle.way_pieces.specs.Names.{piece_of}
-use Rattle.expanded_graph.specs.declared.places.Stop.{Stop}
-use Rattle.expanded_graph.specs.Travel.{Arrives, location_in, location_of, place_of, stop_at, stops_on, travelled}
+use Rattle.expanded_graph.specs.declared.places.WayNode.{WayNode}
+use Rattle.expanded_graph.specs.Travel.{Arrives, location_in, location_of, place_of, way_node, nodes_on, travelled}
 use Rattle.expanded_graph.proofs.Members.{In, at_in}
 use Rattle.expanded_graph.proofs.Ends.{last_index, last_step, spell_ends, piece_located, piece_on_line}
 
 -- ---- lists of those that lie somewhere
 
--- one stop more
-pub located_more : (stops : List Stop) (i : ℕ) (s : Stop) (o : Option Place) → i < length stops → s ≡ get_or stops i s → place_of s ≡ o → filter_map place_of (take (i + 1) stops) ≡ filter_map place_of (take i stops) ++ cons_option o []
-located_more stops i s o within at is =
-    ap (filter_map place_of) (take_more stops i s within)
-    ∙ filter_map-append place_of (take i stops) (get_or stops i s ∷ [])
-    ∙ ap (λ t. filter_map place_of (take i stops) ++ cons_option (place_of t) []) (sym at)
-    ∙ ap (λ p. filter_map place_of (take i stops) ++ cons_option p []) is
+-- one node more
+pub located_more : (nodes : List WayNode) (i : ℕ) (s : WayNode) (o : Option Place) → i < length nodes → s ≡ get_or nodes i s → place_of s ≡ o → filter_map place_of (take (i + 1) nodes) ≡ filter_map place_of (take i nodes) ++ cons_option o []
+located_more nodes i s o within at is =
+    ap (filter_map place_of) (take_more nodes i s within)
+    ∙ filter_map-append place_of (take i nodes) (get_or nodes i s ∷ [])
+    ∙ ap (λ t. filter_map place_of (take i nodes) ++ cons_option (place_of t) []) (sym at)
+    ∙ ap (λ p. filter_map place_of (take i nodes) ++ cons_option p []) is
 
 reverse_option : {A : Type 0} (o : Option A) → reverse (cons_option o []) ≡ cons_option o []
 reverse_option None = refl
@@ -157,10 +157,10 @@ module _ (M : Objects) where
   node_lies : (v : NodeId) → IsTrue (located M (Some v)) → Has (location_of M v)
   node_lies v h = body_located (node_of M v) h
 
-  stop_known : (v : NodeId) → Has (location_of M v) → Has (place_of (stop_at M v))
-  stop_known v h = record { value = record { node = v; location = h.value }; is = ap (option_map (λ l. record { node = v; location = l })) h.is }
+  way_node_known : (v : NodeId) → Has (location_of M v) → Has (place_of (way_node M v))
+  way_node_known v h = record { value = record { node = v; location = h.value }; is = ap (option_map (λ l. record { node = v; location = l })) h.is }
 
-  mapped_at : (xs : List NodeId) (k : ℕ) (s : Stop) → slice_get (map (stop_at M) xs) k ≡ Some s → (v : NodeId) × (slice_get xs k ≡ Some v) × (stop_at M v ≡ s)
+  mapped_at : (xs : List NodeId) (k : ℕ) (s : WayNode) → slice_get (map (way_node M) xs) k ≡ Some s → (v : NodeId) × (slice_get xs k ≡ Some v) × (way_node M v ≡ s)
   mapped_at [] k s e = cc
   mapped_at (x ∷ xs) zero s e = (x, refl, same_Some _ _ e)
   mapped_at (x ∷ xs) (suc k) s e = mapped_at xs k s e
@@ -182,11 +182,11 @@ module _ (M : Objects) where
   unfolding node_at
   node_on_line w k v e = e
 
-  stop_on_line : (w : WayId) (stops : List Stop) (k : ℕ) (s : Stop) → stops ≡ map (stop_at M) (line_of M w) → slice_get stops k ≡ Some s → (node_at M w k ≡ Some s.node) × (stop_at M s.node ≡ s)
-  stop_on_line w stops k s line e =
+  way_node_on_line : (w : WayId) (nodes : List WayNode) (k : ℕ) (s : WayNode) → nodes ≡ map (way_node M) (line_of M w) → slice_get nodes k ≡ Some s → (node_at M w k ≡ Some s.node) × (way_node M s.node ≡ s)
+  way_node_on_line w nodes k s line e =
       let r = mapped_at (line_of M w) k s (subst (λ l. slice_get l k ≡ Some s) line e) in
       let n : r.0 ≡ s.node = ap (λ t. t.node) r.2 in
-      (node_on_line w k r.0 r.1 ∙ ap Some n, ap (stop_at M) (sym n) ∙ r.2)
+      (node_on_line w k r.0 r.1 ∙ ap Some n, ap (way_node M) (sym n) ∙ r.2)
 
   location_from : (v : NodeId) (o : Option Location) (x : Place) → location_of M v ≡ o → option_map (λ l. record { node = v; location = l }) o ≡ Some x → (x.node ≡ v) × (location_of M v ≡ Some x.location)
   location_from v None x e h = cc
@@ -194,44 +194,44 @@ module _ (M : Objects) where
       let same : record { node = v; location = l } ≡ x = same_Some _ _ h in
       (sym (ap (λ p. p.node) same), e ∙ ap (λ p. Some p.location) same)
 
-  -- the place of a stop of the line
-  placed : (v : NodeId) (x : Place) → place_of (stop_at M v) ≡ Some x → (x.node ≡ v) × LiesAt x.node x.location
+  -- the place of a node of the line
+  placed : (v : NodeId) (x : Place) → place_of (way_node M v) ≡ Some x → (x.node ≡ v) × LiesAt x.node x.location
   placed v x h =
       let r = location_from v (location_of M v) x refl h in
       (r.0, lies_at x.node x.location (ap (location_of M) r.0 ∙ r.1))
 
-  module _ (P : Rules) (s : PieceSpan) (is : IsPiece M P (piece_of s)) (stops : List Stop) (line : stops ≡ map (stop_at M) (line_of M s.name.way)) where
-    pub within : s.end < length stops
+  module _ (P : Rules) (s : PieceSpan) (is : IsPiece M P (piece_of s)) (nodes : List WayNode) (line : nodes ≡ map (way_node M) (line_of M s.name.way)) where
+    pub within : s.end < length nodes
     within =
         let on = piece_on_line M P (piece_of s) is in
-        let long : length stops ≡ length (line_of M s.name.way) = ap length line ∙ length-map (line_of M s.name.way) (stop_at M) in
+        let long : length nodes ≡ length (line_of M s.name.way) = ap length line ∙ length-map (line_of M s.name.way) (way_node M) in
         omega arith
 
     abbrev position : ℕ → ℕ
     position k = travel_position s.name.dir s.name.index s.end k
 
-    stop_of : (k : ℕ) (x : Stop) → slice_get (stops_on s stops) k ≡ Some x → (node_at M s.name.way (position k) ≡ Some x.node) × (stop_at M x.node ≡ x)
-    stop_of k x e = stop_on_line s.name.way stops (position k) x line (travelled_at s.name.dir stops s.name.index s.end k x is.ascends within e)
+    way_node_of : (k : ℕ) (x : WayNode) → slice_get (nodes_on s nodes) k ≡ Some x → (node_at M s.name.way (position k) ≡ Some x.node) × (way_node M x.node ≡ x)
+    way_node_of k x e = way_node_on_line s.name.way nodes (position k) x line (travelled_at s.name.dir nodes s.name.index s.end k x is.ascends within e)
 
-    stop_lies : (k : ℕ) (x : Stop) → slice_get (stops_on s stops) k ≡ Some x → Has (place_of x)
-    stop_lies k x e =
-        let r = stop_of k x e in
-        let k_within = travelled_within s.name.dir stops s.name.index s.end k x is.ascends within e in
+    way_node_lies : (k : ℕ) (x : WayNode) → slice_get (nodes_on s nodes) k ≡ Some x → Has (place_of x)
+    way_node_lies k x e =
+        let r = way_node_of k x e in
+        let k_within = travelled_within s.name.dir nodes s.name.index s.end k x is.ascends within e in
         let between = position_between s.name.dir s.name.index s.end k is.ascends k_within in
         let there = piece_located M P (piece_of s) is (position k) between.0 between.1 in
-        subst (λ t. Has (place_of t)) r.1 (stop_known x.node (node_lies x.node (subst (λ o. IsTrue (located M o)) r.0 there)))
+        subst (λ t. Has (place_of t)) r.1 (way_node_known x.node (node_lies x.node (subst (λ o. IsTrue (located M o)) r.0 there)))
 
-    each_lies : (x : Stop) → In x (stops_on s stops) → Has (place_of x)
-    each_lies x i = let a = at_in (stops_on s stops) x i in stop_lies a.0 x a.1
+    each_lies : (x : WayNode) → In x (nodes_on s nodes) → Has (place_of x)
+    each_lies x i = let a = at_in (nodes_on s nodes) x i in way_node_lies a.0 x a.1
 
     -- all nodes of the piece have places
-    pub places_count : length (filter_map place_of (stops_on s stops)) ≡ s.end - s.name.index + 1
-    places_count = all_kept place_of (stops_on s stops) each_lies ∙ travelled_length s.name.dir stops s.name.index s.end is.ascends within
+    pub places_count : length (filter_map place_of (nodes_on s nodes)) ≡ s.end - s.name.index + 1
+    places_count = all_kept place_of (nodes_on s nodes) each_lies ∙ travelled_length s.name.dir nodes s.name.index s.end is.ascends within
 
-    pub places_at : (k : ℕ) (x : Place) → slice_get (filter_map place_of (stops_on s stops)) k ≡ Some x → IsPlaceOf M (piece_of s) k x
+    pub places_at : (k : ℕ) (x : Place) → slice_get (filter_map place_of (nodes_on s nodes)) k ≡ Some x → IsPlaceOf M (piece_of s) k x
     places_at k x e =
-        let f = kept_from place_of (stops_on s stops) k x each_lies e in
-        let r = stop_of k f.value f.at in
+        let f = kept_from place_of (nodes_on s nodes) k x each_lies e in
+        let r = way_node_of k f.value f.at in
         let p = placed f.value.node x (ap place_of r.1 ∙ f.gives) in
         let lies = p.1 in
         record {
@@ -243,22 +243,22 @@ module _ (M : Objects) where
 
 -- ---- where a piece ends
 
-module _ (M : Objects) (s : PieceSpan) (stops : List Stop) (ascends : s.name.index < s.end) (inside : s.end < length stops) (line : stops ≡ map (stop_at M) (line_of M s.name.way)) where
-  stop_there : (k : ℕ) (d : Stop) → k < length stops → node_at M s.name.way k ≡ Some (get_or stops k d).node
-  stop_there k d h = (stop_on_line M s.name.way stops k (get_or stops k d) line (slice_get-get_or stops k d h)).0
+module _ (M : Objects) (s : PieceSpan) (nodes : List WayNode) (ascends : s.name.index < s.end) (inside : s.end < length nodes) (line : nodes ≡ map (way_node M) (line_of M s.name.way)) where
+  way_node_there : (k : ℕ) (d : WayNode) → k < length nodes → node_at M s.name.way k ≡ Some (get_or nodes k d).node
+  way_node_there k d h = (way_node_on_line M s.name.way nodes k (get_or nodes k d) line (slice_get-get_or nodes k d h)).0
 
   arrives_by : (u v : NodeId) → tail_of M (last_step (piece_of s)) ≡ Some u → head_of M (last_step (piece_of s)) ≡ Some v → Arrives M (piece_of s) u v
   arrives_by u v e f = let r = spell_ends (piece_of s) ascends in record { front = r.front; last = last_step (piece_of s); ends = r.is; tail = e; head = f }
 
-  pub arrives_forward : s.name.dir ≡ Forward → (d e : Stop) → Arrives M (piece_of s) (get_or stops (s.end - 1) d).node (get_or stops s.end e).node
+  pub arrives_forward : s.name.dir ≡ Forward → (d e : WayNode) → Arrives M (piece_of s) (get_or nodes (s.end - 1) d).node (get_or nodes s.end e).node
   arrives_forward is d e =
-      arrives_by (get_or stops (s.end - 1) d).node (get_or stops s.end e).node
-      (ap (λ x. node_at M s.name.way (tail_position x (last_index x s.name.index s.end))) is ∙ stop_there (s.end - 1) d (omega arith))
+      arrives_by (get_or nodes (s.end - 1) d).node (get_or nodes s.end e).node
+      (ap (λ x. node_at M s.name.way (tail_position x (last_index x s.name.index s.end))) is ∙ way_node_there (s.end - 1) d (omega arith))
       (let same : s.end - 1 + 1 ≡ s.end = omega arith in
-      ap (λ x. node_at M s.name.way (head_position x (last_index x s.name.index s.end))) is ∙ (ap (node_at M s.name.way) same ∙ stop_there s.end e inside))
+      ap (λ x. node_at M s.name.way (head_position x (last_index x s.name.index s.end))) is ∙ (ap (node_at M s.name.way) same ∙ way_node_there s.end e inside))
 
-  pub arrives_backward : s.name.dir ≡ Backward → (d e : Stop) → Arrives M (piece_of s) (get_or stops (s.name.index + 1) d).node (get_or stops s.name.index e).node
+  pub arrives_backward : s.name.dir ≡ Backward → (d e : WayNode) → Arrives M (piece_of s) (get_or nodes (s.name.index + 1) d).node (get_or nodes s.name.index e).node
   arrives_backward is d e =
-      arrives_by (get_or stops (s.name.index + 1) d).node (get_or stops s.name.index e).node
-      (ap (λ x. node_at M s.name.way (tail_position x (last_index x s.name.index s.end))) is ∙ stop_there (s.name.index + 1) d (omega arith))
-      (ap (λ x. node_at M s.name.way (head_position x (last_index x s.name.index s.end))) is ∙ stop_there s.name.index e (omega arith))
+      arrives_by (get_or nodes (s.name.index + 1) d).node (get_or nodes s.name.index e).node
+      (ap (λ x. node_at M s.name.way (tail_position x (last_index x s.name.index s.end))) is ∙ way_node_there (s.name.index + 1) d (omega arith))
+      (ap (λ x. node_at M s.name.way (head_position x (last_index x s.name.index s.end))) is ∙ way_node_there s.name.index e (omega arith))

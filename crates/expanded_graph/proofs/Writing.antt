@@ -19,8 +19,8 @@ use Rattle.road_model.specs.Format.{IsContextForm, IsPieceForm, begins_alone, pl
 use Rattle.road_model.specs.Naming.{OneEntry}
 use Rattle.way_pieces.specs.declared.spans.PieceSpan.{PieceSpan}
 use Rattle.way_pieces.specs.Names.{piece_of, IsSpanOn}
-use Rattle.expanded_graph.specs.declared.places.Stop.{Stop}
-use Rattle.expanded_graph.specs.Travel.{place_of, stop_at, stops_on}
+use Rattle.expanded_graph.specs.declared.places.WayNode.{WayNode}
+use Rattle.expanded_graph.specs.Travel.{place_of, way_node, nodes_on}
 use Rattle.expanded_graph.proofs.Members.{In, in_map, from_map, in_from_contains, contains_from_in}
 use Rattle.expanded_graph.proofs.Ascending.{places_rise}
 use Rattle.expanded_graph.proofs.Ends.{piece_on_line}
@@ -37,12 +37,12 @@ names_more pieces more p spans i d h grown named so_far =
     ∙ ap (map (λ (x : PieceSpan). x.name)) (sym (take_more spans i d h))
 
 module _ (M : Objects) (P : Rules) (w : WayId) where
-  pub own_line : (stops : List Stop) (s : PieceSpan) → IsSpanOn M P w s → stops ≡ map (stop_at M) (line_of M w) → stops ≡ map (stop_at M) (line_of M s.name.way)
-  own_line stops s on line = line ∙ ap (λ v. map (stop_at M) (line_of M v)) (sym on.of)
+  pub own_line : (nodes : List WayNode) (s : PieceSpan) → IsSpanOn M P w s → nodes ≡ map (way_node M) (line_of M w) → nodes ≡ map (way_node M) (line_of M s.name.way)
+  own_line nodes s on line = line ∙ ap (λ v. map (way_node M) (line_of M v)) (sym on.of)
 
-  module _ (s : PieceSpan) (on : IsSpanOn M P w s) (stops : List Stop) (line : stops ≡ map (stop_at M) (line_of M w)) (e : PieceEntry) (named : e.name ≡ s.name) (ended : e.end ≡ s.end) (placed : e.places ≡ filter_map place_of (stops_on s stops)) where
+  module _ (s : PieceSpan) (on : IsSpanOn M P w s) (nodes : List WayNode) (line : nodes ≡ map (way_node M) (line_of M w)) (e : PieceEntry) (named : e.name ≡ s.name) (ended : e.end ≡ s.end) (placed : e.places ≡ filter_map place_of (nodes_on s nodes)) where
     count : length e.places ≡ s.end - s.name.index + 1
-    count = ap length placed ∙ places_count M P s on.is stops (own_line stops s on line)
+    count = ap length placed ∙ places_count M P s on.is nodes (own_line nodes s on line)
 
     pub entry : Lists (λ c. c.before) names_cmp (IsContextEntry M P (piece_of s)) e.contexts → IsPieceEntry M P w e
     entry contexts = record {
@@ -52,14 +52,14 @@ module _ (M : Objects) (P : Rules) (w : WayId) where
       named = named;
       end_is = ended;
       count = count;
-      places = λ k x h. places_at M P s on.is stops (own_line stops s on line) k x (subst (λ l. slice_get l k ≡ Some x) placed h);
+      places = λ k x h. places_at M P s on.is nodes (own_line nodes s on line) k x (subst (λ l. slice_get l k ≡ Some x) placed h);
       contexts = contexts;
     }
 
-    pub form : length stops ≤ 65535 → Lists (λ c. c.before) names_cmp (IsContextEntry M P (piece_of s)) e.contexts → begins_alone e.contexts → AllByRecursion IsContextForm e.contexts → IsPieceForm e
+    pub form : length nodes ≤ 65535 → Lists (λ c. c.before) names_cmp (IsContextEntry M P (piece_of s)) e.contexts → begins_alone e.contexts → AllByRecursion IsContextForm e.contexts → IsPieceForm e
     form short contexts first forms =
         let up = on.is.ascends in
-        let inside = within M P s on.is stops (own_line stops s on line) in
+        let inside = within M P s on.is nodes (own_line nodes s on line) in
         let index : e.name.index ≡ s.name.index = ap (λ n. n.index) named in
         record {
           ascends = omega arith;

@@ -12,7 +12,7 @@ use Rattle.road_model.specs.declared.lists.Place.{Place}
 use Rattle.road_model.specs.Lines.{tail_of, head_of}
 use Rattle.road_model.specs.Pieces.{Piece, spell}
 use Rattle.way_pieces.specs.declared.spans.PieceSpan.{PieceSpan}
-use Rattle.expanded_graph.specs.declared.places.Stop.{Stop}
+use Rattle.expanded_graph.specs.declared.places.WayNode.{WayNode}
 
 abbrev pub location_in : Option Node → Option Location
 location_in None = None
@@ -22,11 +22,11 @@ location_in (Some body) = body.location
 abbrev pub location_of : Objects → NodeId → Option Location
 location_of M v = location_in (node_of M v)
 
-abbrev pub stop_at : Objects → NodeId → Stop
-stop_at M v = record { node = v; location = location_of M v }
+abbrev pub way_node : Objects → NodeId → WayNode
+way_node M v = record { node = v; location = location_of M v }
 
 -- the node and where it lies, if it lies somewhere
-abbrev pub place_of : Stop → Option Place
+abbrev pub place_of : WayNode → Option Place
 place_of s = option_map (λ l. record { node = s.node; location = l }) s.location
 
 -- what stands along a way, in order of travel
@@ -34,9 +34,9 @@ abbrev pub travelled : {A : Type 0} → Dir → List A → List A
 travelled Forward xs = xs
 travelled Backward xs = reverse xs
 
--- those of a way's stops that the piece passes, in order of travel
-abbrev pub stops_on : PieceSpan → List Stop → List Stop
-stops_on s stops = travelled s.name.dir (take (s.end - s.name.index + 1) (drop s.name.index stops))
+-- those of a way's nodes that the piece passes, in order of travel
+abbrev pub nodes_on : PieceSpan → List WayNode → List WayNode
+nodes_on s nodes = travelled s.name.dir (take (s.end - s.name.index + 1) (drop s.name.index nodes))
 
 -- the piece's last step leads from node u to node v
 pub record Arrives (M : Objects) (p : Piece) (u v : NodeId) : Type 0 where

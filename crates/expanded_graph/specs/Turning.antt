@@ -14,15 +14,15 @@ use Rattle.expanded_graph.specs.declared.intersections.Intersection.{Intersectio
 
 -- what is known of the node is so
 pub record IsIntersection (M : Objects) (P : Rules) (i : Intersection) : Type 0 where
-  pub gate_shut : i.gate.is_shut ≡ shut M P i.node
-  pub gate_turning : i.gate.is_turning_place ≡ turning_place M P i.node
+  pub shut_is : i.is_shut ≡ shut M P i.node
+  pub turning_is : i.is_turning_place ≡ turning_place M P i.node
   pub leaving : Lists (λ d. d.piece) name_cmp (IsDeparture M P i.node) i.departures.items
 
 -- Who comes from the node u may go on by the departure: back to u at a place to turn round, where nothing goes through
 -- and where nothing else leaves, and elsewhere where the node isn't shut.
 abbrev pub may_follow : Intersection → NodeId → Departure → Bool
 may_follow i u d =
-    cond (same_node d.toward u) (i.gate.is_turning_place || (i.gate.is_shut || length i.departures.items == 1)) (not i.gate.is_shut)
+    cond (same_node d.toward u) (i.is_turning_place || (i.is_shut || length i.departures.items == 1)) (not i.is_shut)
 
 -- an arc by the departure to the context of that piece alone
 abbrev pub arc_to : Departure → TurnArc

@@ -14,11 +14,9 @@ fn may_follow(intersection: &Intersection, from: NodeId, departure: Departure) -
     ensures { result ≡ may_follow intersection.now from departure }
 {
     if departure.toward == from {
-        intersection.gate.is_turning_place
-            || intersection.gate.is_shut
-            || intersection.departures.len() == 1
+        intersection.is_turning_place || intersection.is_shut || intersection.departures.len() == 1
     } else {
-        !intersection.gate.is_shut
+        !intersection.is_shut
     }
 }
 

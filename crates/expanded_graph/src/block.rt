@@ -7,7 +7,7 @@ ghost use Rattle.road_model.specs.Blocks.{IsBlock};
 ghost use Rattle.road_model.specs.Format.{IsPieceForm, place_cmp};
 
 use crate::pieces::pieces_along;
-use crate::places::stops_of;
+use crate::places::nodes_of;
 use road_base::{NoMemory, Steps, WayId};
 use road_model::laws::{name_order, one_name};
 use road_model::{Block, Pieces, Profile, World};
@@ -53,13 +53,13 @@ fn block_of<M: World, P: Profile>(
     let Some(body) = world.way(way) else {
         return Ok(bare_block(alloc, way));
     };
-    let stops = stops_of(alloc, world, body)?;
+    let nodes = nodes_of(alloc, world, body)?;
     let pieces = pieces_along(
         alloc,
         world,
         profile,
         way,
-        stops.as_slice(),
+        nodes.as_slice(),
         spans.as_slice(),
     )?;
     Ok(Block {

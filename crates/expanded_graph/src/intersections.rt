@@ -13,15 +13,16 @@ use way_pieces::{Departure, departures_from};
 #[derive(Drop)]
 pub struct Intersection {
     pub node: NodeId,
-    pub gate: Gate,
+    pub is_shut: bool,
+    pub is_turning_place: bool,
     pub departures: Vec<Departure>,
 }
 
-/// Whether a node is shut, as at a bollard, and whether it is a place to turn round.
+/// What a node's tags say to one who comes there.
 #[derive(Clone, Copy, Debug)]
-pub struct Gate {
-    pub is_shut: bool,
-    pub is_turning_place: bool,
+struct NodeRules {
+    is_shut: bool,
+    is_turning_place: bool,
 }
 
 /// Where the node's intersection stands among those that are known: among the last three, or else it is put behind
@@ -71,26 +72,27 @@ fn intersection_of<M: World, P: Profile>(
     ensures node { IfOk result (λ i. i.node ≡ node) }
     ensures is { IfOk result (IsIntersection (M.objects world.now) (P.rules profile.now)) }
 {
-    let gate = gate_of(world, profile, node);
+    let rules = rules_of(world, profile, node);
     let departures = departures_from(alloc, world, profile, node)?;
     Ok(Intersection {
         node,
-        gate,
+        is_shut: rules.is_shut,
+        is_turning_place: rules.is_turning_place,
         departures,
     })
 }
 
-/// Whether the node is shut, and whether it is a place to turn round. One that isn't visible is neither.
-fn gate_of<M: World, P: Profile>(world: &M, profile: &P, node: NodeId) -> Gate
+/// Whether the node is shut, as at a bollard, and whether it is a place to turn round. One that isn't visible is neither.
+fn rules_of<M: World, P: Profile>(world: &M, profile: &P, node: NodeId) -> NodeRules
     ensures shut { result.is_shut ≡ shut (M.objects world.now) (P.rules profile.now) node }
     ensures turning_place { result.is_turning_place ≡ turning_place (M.objects world.now) (P.rules profile.now) node }
 {
     match world.node(node) {
-        Some(body) => Gate {
+        Some(body) => NodeRules {
             is_shut: !profile.node_open(&body.tags),
             is_turning_place: profile.turns(&body.tags),
         },
-        None => Gate {
+        None => NodeRules {
             is_shut: false,
             is_turning_place: false,
         },

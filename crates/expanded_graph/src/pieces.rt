@@ -6,29 +6,29 @@ ghost use Rattle.road_model.specs.Network.{HasNoWords};
 ghost use Rattle.road_model.specs.Blocks.{IsPieceEntry};
 ghost use Rattle.road_model.specs.Format.{IsPieceForm};
 ghost use Rattle.way_pieces.specs.Names.{IsSpanOn};
-ghost use Rattle.expanded_graph.specs.Travel.{stop_at};
+ghost use Rattle.expanded_graph.specs.Travel.{way_node};
 ghost use Rattle.expanded_graph.specs.Turning.{IsIntersection};
 
 use crate::contexts::contexts_of;
 use crate::intersections::{Intersection, intersection_at};
-use crate::places::{Stop, arrival_of, places_of};
+use crate::places::{WayNode, arrival_of, places_of};
 use road_base::{NoMemory, WayId};
 use road_model::{Contexts, Piece, Places, Profile, World};
 use std::alloc::Global;
 use way_pieces::PieceSpan;
 
-/// The pieces of the way at these spans. The stops are those of the way's line.
+/// The pieces of the way at these spans. The nodes are those of the way's line.
 pub fn pieces_along<M: World, P: Profile>(
     alloc: Global,
     world: &M,
     profile: &P,
     way: WayId,
-    stops: &[Stop],
+    nodes: &[WayNode],
     spans: &[PieceSpan],
 ) -> Result<Vec<Piece>, NoMemory>
     requires no_words { HasNoWords (M.objects world.now) (P.rules profile.now) }
-    requires line { stops.now ≡ map (stop_at (M.objects world.now)) (line_of (M.objects world.now) way) }
-    requires short { length stops.now ≤ 65535 }
+    requires line { nodes.now ≡ map (way_node (M.objects world.now)) (line_of (M.objects world.now) way) }
+    requires short { length nodes.now ≤ 65535 }
     requires spans { All (IsSpanOn (M.objects world.now) (P.rules profile.now) way) spans.now }
     ensures names { IfOk result (λ v. map (λ p. p.name) v.items ≡ map (λ s. s.name) spans.now) }
     ensures entries { IfOk result (λ v. All (IsPieceEntry (M.objects world.now) (P.rules profile.now) way) v.items) }
@@ -37,7 +37,7 @@ pub fn pieces_along<M: World, P: Profile>(
     let mut known = Vec::new(alloc);
     let mut pieces = Vec::with_capacity(alloc, spans.len())?;
     for span in spans {
-        let piece = piece_at(alloc, world, profile, way, stops, &mut known, *span)?;
+        let piece = piece_at(alloc, world, profile, way, nodes, &mut known, *span)?;
         pieces.push(piece)?;
     }
     Ok(pieces)
@@ -49,13 +49,13 @@ fn piece_at<M: World, P: Profile>(
     world: &M,
     profile: &P,
     way: WayId,
-    stops: &[Stop],
+    nodes: &[WayNode],
     known: &mut Vec<Intersection>,
     span: PieceSpan,
 ) -> Result<Piece, NoMemory>
     requires no_words { HasNoWords (M.objects world.now) (P.rules profile.now) }
-    requires line { stops.now ≡ map (stop_at (M.objects world.now)) (line_of (M.objects world.now) way) }
-    requires short { length stops.now ≤ 65535 }
+    requires line { nodes.now ≡ map (way_node (M.objects world.now)) (line_of (M.objects world.now) way) }
+    requires short { length nodes.now ≤ 65535 }
     requires known { All (IsIntersection (M.objects world.now) (P.rules profile.now)) known.old.items }
     requires span { IsSpanOn (M.objects world.now) (P.rules profile.now) way span }
     ensures known { OnOk result (All (IsIntersection (M.objects world.now) (P.rules profile.now)) known.new.items) }
@@ -63,8 +63,8 @@ fn piece_at<M: World, P: Profile>(
     ensures entry { IfOk result (IsPieceEntry (M.objects world.now) (P.rules profile.now) way) }
     ensures form { IfOk result IsPieceForm }
 {
-    let places = places_of(alloc, stops, span)?;
-    let arrival = arrival_of(world, stops, span);
+    let places = places_of(alloc, nodes, span)?;
+    let arrival = arrival_of(world, nodes, span);
     let at = intersection_at(alloc, world, profile, known, arrival.at)?;
     let contexts = contexts_of(alloc, world, profile, &known[at], span, arrival.from)?;
     Ok(Piece {

@@ -4,7 +4,7 @@ ghost use Rattle.std.specs.List.{filter_map};
 ghost use Rattle.road_model.specs.Lines.{changes, line_of};
 ghost use Rattle.road_model.specs.Pieces.{IsPiece};
 ghost use Rattle.way_pieces.specs.Names.{piece_of};
-ghost use Rattle.expanded_graph.specs.Travel.{Arrives, location_of, place_of, stop_at, stops_on};
+ghost use Rattle.expanded_graph.specs.Travel.{Arrives, location_of, place_of, way_node, nodes_on};
 
 use road_base::{Dir, Location, NoMemory, NodeId, Way};
 use road_model::{Place, World};
@@ -14,7 +14,7 @@ use way_pieces::PieceSpan;
 
 /// A node of a way's line, and where it lies, if it is visible with a location.
 #[derive(Clone, Copy, Debug)]
-pub struct Stop {
+pub struct WayNode {
     pub node: NodeId,
     pub location: Option<Location>,
 }
@@ -27,16 +27,16 @@ pub struct Arrival {
 }
 
 /// The nodes of the way's line.
-pub fn stops_of<M: World>(alloc: Global, world: &M, way: &Way) -> Result<Vec<Stop>, NoMemory>
-    ensures stops { IfOk result (λ v. v.items ≡ map (stop_at (M.objects world.now)) (changes way.now.refs)) }
+pub fn nodes_of<M: World>(alloc: Global, world: &M, way: &Way) -> Result<Vec<WayNode>, NoMemory>
+    ensures nodes { IfOk result (λ v. v.items ≡ map (way_node (M.objects world.now)) (changes way.now.refs)) }
     ensures short { IfOk result (λ v. length v.items ≤ 65535) }
 {
-    let mut stops = Vec::with_capacity(alloc, way.refs.items().len())?;
+    let mut nodes = Vec::with_capacity(alloc, way.refs.items().len())?;
     for node in line(way) {
         let location = location_of(world, node);
-        stops.push(Stop { node, location })?;
+        nodes.push(WayNode { node, location })?;
     }
-    Ok(stops)
+    Ok(nodes)
 }
 
 /// Where the node lies, if it is visible with a location.
@@ -50,12 +50,12 @@ fn location_of<M: World>(world: &M, node: NodeId) -> Option<Location>
 }
 
 /// The places that the piece passes, in order of travel.
-pub fn places_of(alloc: Global, stops: &[Stop], span: PieceSpan) -> Result<Vec<Place>, NoMemory>
+pub fn places_of(alloc: Global, nodes: &[WayNode], span: PieceSpan) -> Result<Vec<Place>, NoMemory>
     requires ascends { span.name.index ≤ span.end }
-    requires within { span.end < length stops.now }
-    ensures { IfOk result (λ v. v.items ≡ filter_map place_of (stops_on span stops.now)) }
+    requires within { span.end < length nodes.now }
+    ensures { IfOk result (λ v. v.items ≡ filter_map place_of (nodes_on span nodes.now)) }
 {
-    let passed = &stops[span.name.index as usize..span.end as usize + 1];
+    let passed = &nodes[span.name.index as usize..span.end as usize + 1];
     let mut places = located(alloc, passed)?;
     match span.name.dir {
         Dir::Forward => {}
@@ -65,14 +65,14 @@ pub fn places_of(alloc: Global, stops: &[Stop], span: PieceSpan) -> Result<Vec<P
 }
 
 /// The places of those that lie somewhere.
-fn located(alloc: Global, stops: &[Stop]) -> Result<Vec<Place>, NoMemory>
-    ensures { IfOk result (λ v. v.items ≡ filter_map place_of stops.now) }
+fn located(alloc: Global, nodes: &[WayNode]) -> Result<Vec<Place>, NoMemory>
+    ensures { IfOk result (λ v. v.items ≡ filter_map place_of nodes.now) }
 {
-    let mut places = Vec::with_capacity(alloc, stops.len())?;
-    for stop in stops {
-        if let Some(location) = stop.location {
+    let mut places = Vec::with_capacity(alloc, nodes.len())?;
+    for way_node in nodes {
+        if let Some(location) = way_node.location {
             places.push(Place {
-                node: stop.node,
+                node: way_node.node,
                 location,
             })?;
         }
@@ -81,22 +81,22 @@ fn located(alloc: Global, stops: &[Stop]) -> Result<Vec<Place>, NoMemory>
 }
 
 /// Where the piece ends, and from where.
-pub fn arrival_of<M: World>(world: &M, stops: &[Stop], span: PieceSpan) -> Arrival
+pub fn arrival_of<M: World>(world: &M, nodes: &[WayNode], span: PieceSpan) -> Arrival
     requires ascends { span.name.index < span.end }
-    requires within { span.end < length stops.now }
-    requires line { stops.now ≡ map (stop_at (M.objects world.now)) (line_of (M.objects world.now) span.name.way) }
+    requires within { span.end < length nodes.now }
+    requires line { nodes.now ≡ map (way_node (M.objects world.now)) (line_of (M.objects world.now) span.name.way) }
     ensures { Arrives (M.objects world.now) (piece_of span) result.from result.at }
 {
     let low = span.name.index as usize;
     let high = span.end as usize;
     match span.name.dir {
         Dir::Forward => Arrival {
-            from: stops[high - 1].node,
-            at: stops[high].node,
+            from: nodes[high - 1].node,
+            at: nodes[high].node,
         },
         Dir::Backward => Arrival {
-            from: stops[low + 1].node,
-            at: stops[low].node,
+            from: nodes[low + 1].node,
+            at: nodes[low].node,
         },
     }
 }

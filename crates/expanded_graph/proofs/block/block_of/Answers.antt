@@ -6,7 +6,7 @@ use Rattle.std.proofs.lemmas.List.Elements.{All-nil, All-same, All-weaker, All-c
 use Rattle.road_model.specs.Blocks.{IsPieceEntry}
 use Rattle.road_model.specs.Format.{IsPieceForm}
 use Rattle.way_pieces.specs.Names.{IsSpanOn}
-use Rattle.expanded_graph.specs.Travel.{stop_at}
+use Rattle.expanded_graph.specs.Travel.{way_node}
 use Rattle.expanded_graph.proofs.Writing.{is_block, has_form, no_spans, visible_line}
 use Rattle.expanded_graph.proofs.block.block_of.Goals as goal
 
@@ -37,12 +37,12 @@ returns-in_default-clause-form g c =
 pub pieces_along-requires-clause-line : goal.pieces_along-requires-clause-line
 pieces_along-requires-clause-line g c =
     let M = g.M.World.objects c.args.world.now in
-    c.as_slice.ensures.value ∙ c.in_ok-stops.ensures.stops ∙ ap (map (stop_at M)) (sym (visible_line M c.args.way c.in-Some.body.now c.in-Some.ensures))
+    c.as_slice.ensures.value ∙ c.in_ok-nodes.ensures.nodes ∙ ap (map (way_node M)) (sym (visible_line M c.args.way c.in-Some.body.now c.in-Some.ensures))
 
 pub pieces_along-requires-clause-short : goal.pieces_along-requires-clause-short
 pieces_along-requires-clause-short g c =
-    let same : length c.as_slice.result.now ≡ length c.in_ok-stops.stops.items = ap length c.as_slice.ensures.value in
-    let short = c.in_ok-stops.ensures.short in
+    let same : length c.as_slice.result.now ≡ length c.in_ok-nodes.nodes.items = ap length c.as_slice.ensures.value in
+    let short = c.in_ok-nodes.ensures.short in
     omega arith
 
 pub pieces_along-requires-clause-spans : goal.pieces_along-requires-clause-spans

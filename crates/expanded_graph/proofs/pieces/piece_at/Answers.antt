@@ -6,7 +6,7 @@ use Rattle.road_model.specs.Orders.{Lists, names_cmp}
 use Rattle.road_model.specs.Blocks.{IsContextEntry}
 use Rattle.road_model.specs.Format.{IsContextForm, begins_alone}
 use Rattle.way_pieces.specs.Names.{piece_of}
-use Rattle.expanded_graph.specs.Travel.{place_of, stops_on}
+use Rattle.expanded_graph.specs.Travel.{place_of, nodes_on}
 use Rattle.expanded_graph.proofs.Travelling.{within}
 use Rattle.expanded_graph.proofs.Writing.{own_line, entry, form}
 use Rattle.expanded_graph.proofs.pieces.piece_at.Goals as goal
@@ -15,36 +15,36 @@ pub places_of-requires-clause-within : goal.places_of-requires-clause-within
 places_of-requires-clause-within g c =
     let M = g.M.World.objects c.args.world.now in
     let P = g.P.Profile.rules c.args.profile.now in
-    within M P c.args.span c.requires.span.is c.args.stops.now (own_line M P c.args.way c.args.stops.now c.args.span c.requires.span c.requires.line)
+    within M P c.args.span c.requires.span.is c.args.nodes.now (own_line M P c.args.way c.args.nodes.now c.args.span c.requires.span c.requires.line)
 
 pub arrival_of-arrival-requires-clause-within : goal.arrival_of-arrival-requires-clause-within
 arrival_of-arrival-requires-clause-within g c =
     let M = g.M.World.objects c.args.world.now in
     let P = g.P.Profile.rules c.args.profile.now in
-    within M P c.args.span c.requires.span.is c.args.stops.now (own_line M P c.args.way c.args.stops.now c.args.span c.requires.span c.requires.line)
+    within M P c.args.span c.requires.span.is c.args.nodes.now (own_line M P c.args.way c.args.nodes.now c.args.span c.requires.span c.requires.line)
 
 pub arrival_of-arrival-requires-clause-line : goal.arrival_of-arrival-requires-clause-line
 arrival_of-arrival-requires-clause-line g c =
-    own_line (g.M.World.objects c.args.world.now) (g.P.Profile.rules c.args.profile.now) c.args.way c.args.stops.now c.args.span c.requires.span c.requires.line
+    own_line (g.M.World.objects c.args.world.now) (g.P.Profile.rules c.args.profile.now) c.args.way c.args.nodes.now c.args.span c.requires.span c.requires.line
 
 pub returns-clause-entry : goal.returns-clause-entry
 returns-clause-entry g c =
     let M = g.M.World.objects c.args.world.now in
     let P = g.P.Profile.rules c.args.profile.now in
     let s = c.args.span in
-    let stops = c.args.stops.now in
-    let placed : c.from_list.result ≡ filter_map place_of (stops_on s stops) = c.from_list.ensures ∙ c.in_ok-places.ensures in
+    let nodes = c.args.nodes.now in
+    let placed : c.from_list.result ≡ filter_map place_of (nodes_on s nodes) = c.from_list.ensures ∙ c.in_ok-places.ensures in
     let listed = subst (λ (l : List Context). Lists (λ x. x.before) names_cmp (IsContextEntry M P (piece_of s)) l) (sym c.from_list-2.ensures) c.in_ok-contexts.ensures.listed in
-    entry M P c.args.way s c.requires.span stops c.requires.line _ refl refl placed listed
+    entry M P c.args.way s c.requires.span nodes c.requires.line _ refl refl placed listed
 
 pub returns-clause-form : goal.returns-clause-form
 returns-clause-form g c =
     let M = g.M.World.objects c.args.world.now in
     let P = g.P.Profile.rules c.args.profile.now in
     let s = c.args.span in
-    let stops = c.args.stops.now in
-    let placed : c.from_list.result ≡ filter_map place_of (stops_on s stops) = c.from_list.ensures ∙ c.in_ok-places.ensures in
+    let nodes = c.args.nodes.now in
+    let placed : c.from_list.result ≡ filter_map place_of (nodes_on s nodes) = c.from_list.ensures ∙ c.in_ok-places.ensures in
     let listed = subst (λ (l : List Context). Lists (λ x. x.before) names_cmp (IsContextEntry M P (piece_of s)) l) (sym c.from_list-2.ensures) c.in_ok-contexts.ensures.listed in
     let first = subst begins_alone (sym c.from_list-2.ensures) c.in_ok-contexts.ensures.alone in
     let forms = subst (AllByRecursion IsContextForm) (sym c.from_list-2.ensures) c.in_ok-contexts.ensures.forms in
-    form M P c.args.way s c.requires.span stops c.requires.line _ refl refl placed c.requires.short listed first forms
+    form M P c.args.way s c.requires.span nodes c.requires.line _ refl refl placed c.requires.short listed first forms
