@@ -43,7 +43,7 @@ cons_option-append : {A : Type 0} (o : Option A) (xs : List A) → cons_option o
 cons_option-append None xs = refl
 cons_option-append (Some x) xs = refl
 
-pub filter_map-reverse : {A B : Type 0} (f : A → Option B) (xs : List A) → filter_map f (reverse xs) ≡ reverse (filter_map f xs)
+filter_map-reverse : {A B : Type 0} (f : A → Option B) (xs : List A) → filter_map f (reverse xs) ≡ reverse (filter_map f xs)
 filter_map-reverse f [] = refl
 filter_map-reverse f (x ∷ xs) =
     ap (filter_map f) (reverse-append (x ∷ []) xs)
@@ -52,6 +52,10 @@ filter_map-reverse f (x ∷ xs) =
     ∙ ap (λ ys. reverse (filter_map f xs) ++ ys) (sym (reverse_option (f x)))
     ∙ sym (reverse-append (cons_option (f x) []) (filter_map f xs))
     ∙ ap reverse (sym (cons_option-append (f x) (filter_map f xs)))
+
+pub filter_map-travelled : {A B : Type 0} (d : Dir) (f : A → Option B) (xs : List A) → filter_map f (travelled d xs) ≡ travelled d (filter_map f xs)
+filter_map-travelled Forward f xs = refl
+filter_map-travelled Backward f xs = filter_map-reverse f xs
 
 -- the value that an option has
 pub record Has {A : Type 0} (o : Option A) : Type 0 where

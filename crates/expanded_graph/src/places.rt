@@ -4,7 +4,7 @@ ghost use Rattle.std.specs.List.{filter_map};
 ghost use Rattle.road_model.specs.Lines.{changes, line_of};
 ghost use Rattle.road_model.specs.Pieces.{IsPiece};
 ghost use Rattle.way_pieces.specs.Names.{piece_of};
-ghost use Rattle.expanded_graph.specs.Travel.{Arrives, location_of, place_of, way_node, nodes_on};
+ghost use Rattle.expanded_graph.specs.Travel.{Arrives, location_of, place_of, travelled, way_node, nodes_on};
 
 use road_base::{Dir, Location, NoMemory, NodeId, Way};
 use road_model::{Place, World};
@@ -57,11 +57,18 @@ pub fn places_of(alloc: Global, nodes: &[WayNode], span: PieceSpan) -> Result<Ve
 {
     let passed = &nodes[span.name.index as usize..span.end as usize + 1];
     let mut places = located(alloc, passed)?;
-    match span.name.dir {
+    put_in_order(&mut places, span.name.dir);
+    Ok(places)
+}
+
+/// Puts the places that stand in the way's order in order of travel.
+fn put_in_order(places: &mut Vec<Place>, dir: Dir)
+    ensures { places.new.items ≡ travelled dir places.old.items }
+{
+    match dir {
         Dir::Forward => {}
         Dir::Backward => places.reverse(),
     }
-    Ok(places)
 }
 
 /// The places of those that lie somewhere.
