@@ -1,8 +1,8 @@
 -- The list of words of a restriction that is of use has exactly its words, each once.
-use Rattle.std.proofs.Common.{◌≡◌, ℕ, ◌⊎◌, inl, inr, Bool, true, false, ◌||◌, not, List, [], ◌∷◌, ◌++◌, Option, Some, None, IsTrue, Contains, map, refl, sym, ap, subst, ◌∙◌}
-use Rattle.std.specs.List.{list_any, flat_map}
+use Rattle.std.proofs.Common.{◌≡◌, inl, inr, Bool, true, false, ◌||◌, not, List, [], ◌∷◌, ◌++◌, Option, Some, None, IsTrue, Contains, refl, sym, ap, subst, ◌∙◌}
+use Rattle.std.specs.List.{list_any}
 use Rattle.std.proofs.lemmas.Bool.{false≢true, or_parts}
-use Rattle.std.proofs.lemmas.Option.{none-some, same_Some}
+use Rattle.std.proofs.lemmas.Option.{same_Some}
 use Rattle.std.proofs.lemmas.List.Elements.{Contains-append_cases, Contains-append_left, Contains-append_right}
 use Rattle.road_base.specs.declared.ids.NodeId.{NodeId}
 use Rattle.road_base.specs.declared.ids.WayId.{WayId}
@@ -19,14 +19,14 @@ use Rattle.road_model.specs.Rules.{Rules, is_only, is_restriction}
 use Rattle.road_model.specs.Lines.{head_of}
 use Rattle.road_model.specs.Driving.{is_open}
 use Rattle.road_model.specs.Restrictions.{IsRun, IsUsable, froms, vias, tos, is_ring, same_end, misses_end, some_ends_at, via_ends, first_of, last_of}
-use Rattle.road_model.specs.Words.{IsVia, IsWord, binding_of, kind_of}
-use Rattle.restrictions.specs.declared.words.Rule.{Rule}
+use Rattle.road_model.specs.Words.{IsVia, binding_of, kind_of}
+use Rattle.restrictions.specs.declared.spelling.Rule.{Rule}
 use Rattle.restrictions.specs.declared.word_list.Word.{Word}
 use Rattle.restrictions.specs.declared.end_steps.Side.TheVariants.{Into, OutOf}
 use Rattle.restrictions.specs.Runs.{first_node, last_node, leave_of, steps_of}
 use Rattle.restrictions.specs.Ends.{ends_of}
 use Rattle.restrictions.specs.Spelling.{words_at, words_by, words_from, words_of, word_of, words_over, words_over_if, words_to, words_with}
-use Rattle.restrictions.specs.Words.{AreDistinct, AreWords, IsWordOf}
+use Rattle.restrictions.specs.Words.{AreDistinct, AreWords, IsOfUse, IsRestriction, IsWordOf}
 use Rattle.restrictions.proofs.DistinctLists.{in_none, in_map, of_map, in_joined, of_joined, distinct_append, distinct_map, distinct_joined}
 use Rattle.restrictions.proofs.EndLists.{ends_distinct, ends_sound, ends_there}
 use Rattle.restrictions.proofs.OneRun.{end_there, is_run, one_run, run_begins}
@@ -77,9 +77,9 @@ module _ (rule : Rule) (via : List Step) where
   by_distinct : (firsts lasts : List Step) → AreDistinct firsts → AreDistinct lasts → AreDistinct (words_by rule firsts via lasts)
   by_distinct firsts lasts once_first once_last =
       distinct_joined (λ first. words_from rule first via lasts) firsts once_first (λ first. from_distinct first lasts once_last) (λ a b w in_a in_b.
-        let from_a = begins_with a lasts w in_a in
-        let from_b = begins_with b lasts w in_b in
-        head_same a b from_a.0 from_b.0 (sym from_a.1 ∙ from_b.1))
+      let from_a = begins_with a lasts w in_a in
+      let from_b = begins_with b lasts w in_b in
+      head_same a b from_a.0 from_b.0 (sym from_a.1 ∙ from_b.1))
 
 module _ (M : Objects) (P : Rules) (rule : Rule) (body : Relation) where
   -- a word over a passage begins with an end step into the node where it is entered
@@ -152,8 +152,8 @@ module _ (M : Objects) (P : Rules) (rule : Rule) (body : Relation) where
       let spelled : via ≡ steps_of M (is_open M P) (vias body) (Some enter) = run.1 ∙ ap (λ (ls : List Key). steps_of M (is_open M P) ls (Some enter)) (sym are) in
       let there : Contains (words_over_if M P rule body (Some enter)) z = over_there enter via leave z leaves spelled has in
       elim (run_begins M (is_open M P) w ks enter via leave is) [
-        inl first ↦ Contains-append_left (words_over_if M P rule body (first_node M w)) (words_over_if M P rule body (last_node M w)) z (subst (λ (o : Option NodeId). Contains (words_over_if M P rule body o) z) (sym first) there) |
-        inr last ↦ Contains-append_right (words_over_if M P rule body (first_node M w)) (words_over_if M P rule body (last_node M w)) z (subst (λ (o : Option NodeId). Contains (words_over_if M P rule body o) z) (sym last) there)
+        | inl first ↦ Contains-append_left (words_over_if M P rule body (first_node M w)) (words_over_if M P rule body (last_node M w)) z (subst (λ (o : Option NodeId). Contains (words_over_if M P rule body o) z) (sym first) there)
+        | inr last ↦ Contains-append_right (words_over_if M P rule body (first_node M w)) (words_over_if M P rule body (last_node M w)) z (subst (λ (o : Option NodeId). Contains (words_over_if M P rule body o) z) (sym last) there)
       ]
   with_there (RelationKey q ∷ ks) are lines enter via leave z is has = absurd is
 
@@ -179,8 +179,8 @@ module _ (M : Objects) (P : Rules) (rule : Rule) (body : Relation) where
   with_known (NodeKey n ∷ []) are z has = (n, [], n, (refl, refl, refl), has)
   with_known (NodeKey n ∷ k ∷ ks) are z has = absurd (in_none z has)
   with_known (WayKey w ∷ ks) are z has = elim (Contains-append_cases (words_over_if M P rule body (first_node M w)) (words_over_if M P rule body (last_node M w)) z has) [
-    inl here ↦ over_known w ks are (first_node M w) z here |
-    inr here ↦ over_known w ks are (last_node M w) z here
+    | inl here ↦ over_known w ks are (first_node M w) z here
+    | inr here ↦ over_known w ks are (last_node M w) z here
   ]
   with_known (RelationKey q ∷ ks) are z has = absurd (in_none z has)
 
@@ -245,9 +245,24 @@ module _ (M : Objects) (P : Rules) (rule : Rule) (body : Relation) where
         let there : Contains (words_at M rule body is.enter is.via is.leave) (word_of rule is.first is.via is.last) = in_joined (λ first. words_from rule first is.via lasts) firsts is.first (word_of rule is.first is.via is.last) first_there (in_map (λ last. word_of rule is.first is.via last) lasts is.last last_there) in
         subst (Contains (words_of M P rule body)) (sym word) (with_there (vias body) refl lines is.enter is.via is.leave (word_of rule is.first is.via is.last) via_is there)
 
-    pub all_words : AreWords M P r (words_of M P rule body)
+    all_words : AreWords M P r (words_of M P rule body)
     all_words = record {
       each = λ z has. let known = with_known (vias body) refl z has in spelled_word known.0 known.1 known.2 z known.3 known.4;
       all = listed_word;
       once = with_distinct (vias body) lines;
     }
+
+-- ---- the answer for a restriction
+
+visible_body : (M : Objects) (r : RelationId) (body found : Relation) → Some found ≡ relation_of M r → body ≡ found → relation_of M r ≡ Some body
+visible_body M r body found looked same = sym looked ∙ ap Some (sym same)
+
+pub of_use : (M : Objects) (P : Rules) (r : RelationId) (body found : Relation) → Some found ≡ relation_of M r → body ≡ found → IsUsable M P body → IsOfUse M P r
+of_use M P r body found looked same usable = record { body = body; visible = visible_body M r body found looked same; usable = usable }
+
+pub answered : (M : Objects) (P : Rules) (rule : Rule) (r : RelationId) (body found : Relation) (words made : List Word) → IsRestriction M r → Some found ≡ relation_of M r → body ≡ found → IsUsable M P body → rule.relation ≡ r → rule.only ≡ is_only (P.rule body.tags) → rule.binding ≡ binding_of (vias body) → words ≡ made → made ≡ words_of M P rule body → AreWords M P r words
+answered M P rule r body found words made asked looked same usable of only bound listed is =
+    let visible : relation_of M r ≡ Some body = visible_body M r body found looked same in
+    let one : asked.body ≡ body = same_Some asked.body body (sym asked.visible ∙ visible) in
+    let restriction : IsTrue (is_restriction body.tags) = subst (λ (b : Relation). IsTrue (is_restriction b.tags)) one asked.restriction in
+    subst (AreWords M P r) (sym (listed ∙ is)) (all_words M P rule body r visible restriction usable of only bound)

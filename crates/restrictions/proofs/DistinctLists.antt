@@ -1,5 +1,5 @@
 -- What stands in a list that is made of others, and that none stands twice.
-use Rattle.std.proofs.Common.{◌≡◌, ◌≢◌, ℕ, zero, suc, ◌<◌, ◌⊎◌, inl, inr, List, [], ◌∷◌, ◌++◌, length, map, Contains, refl, sym, ap, subst, ◌∙◌, arith}
+use Rattle.std.proofs.Common.{◌≡◌, ◌≢◌, zero, suc, ◌⊎◌, inl, inr, List, [], ◌∷◌, ◌++◌, map, Contains, refl, sym, subst, ◌∙◌, arith}
 use Rattle.std.specs.List.{AllByRecursion, flat_map}
 use Rattle.std.proofs.lemmas.List.Elements.{Contains-append_cases, Contains-append_left, Contains-append_right}
 use Rattle.restrictions.specs.Words.{AreDistinct}
@@ -37,8 +37,8 @@ module _ {A : Type 0} where
   distinct_append [] ys left right apart = right
   distinct_append (x ∷ xs) ys left right apart = (
     all_from (λ y. x ≢ y) (xs ++ ys) (λ y has same. elim (Contains-append_cases xs ys y has) [
-      inl on_left ↦ all_at (λ z. x ≢ z) xs y left.0 on_left same |
-      inr on_right ↦ apart y (subst (Contains (x ∷ xs)) same (in_head x xs)) on_right
+      | inl on_left ↦ all_at (λ z. x ≢ z) xs y left.0 on_left same
+      | inr on_right ↦ apart y (subst (Contains (x ∷ xs)) same (in_head x xs)) on_right
     ]),
     distinct_append xs ys left.1 right (λ z on_left on_right. apart z (in_tail x z xs on_left) on_right),
   )
@@ -52,23 +52,23 @@ module _ {A B : Type 0} where
   pub in_map : (f : A → B) (xs : List A) (x : A) → Contains xs x → Contains (map f xs) (f x)
   in_map f [] x has = absurd (in_none x has)
   in_map f (y ∷ xs) x has = elim (in_either y x xs has) [
-    inl is ↦ subst (λ z. Contains (f y ∷ map f xs) (f z)) (sym is) (in_head (f y) (map f xs)) |
-    inr more ↦ in_tail (f y) (f x) (map f xs) (in_map f xs x more)
+    | inl is ↦ subst (λ z. Contains (f y ∷ map f xs) (f z)) (sym is) (in_head (f y) (map f xs))
+    | inr more ↦ in_tail (f y) (f x) (map f xs) (in_map f xs x more)
   ]
 
   pub of_map : (f : A → B) (xs : List A) (z : B) → Contains (map f xs) z → (x : A) × Contains xs x × (z ≡ f x)
   of_map f [] z has = absurd (in_none z has)
   of_map f (y ∷ xs) z has = elim (in_either (f y) z (map f xs) has) [
-    inl is ↦ (y, in_head y xs, is) |
-    inr more ↦ let found = of_map f xs z more in (found.0, in_tail y found.0 xs found.1, found.2)
+    | inl is ↦ (y, in_head y xs, is)
+    | inr more ↦ let found = of_map f xs z more in (found.0, in_tail y found.0 xs found.1, found.2)
   ]
 
   pub distinct_map : (f : A → B) → ((x y : A) → f x ≡ f y → x ≡ y) → (xs : List A) → AreDistinct xs → AreDistinct (map f xs)
   distinct_map f one [] once = tt
   distinct_map f one (x ∷ xs) once = (
     all_from (λ z. f x ≢ z) (map f xs) (λ z has same.
-      let found = of_map f xs z has in
-      all_at (λ y. x ≢ y) xs found.0 once.0 found.1 (one x found.0 (same ∙ found.2))),
+        let found = of_map f xs z has in
+        all_at (λ y. x ≢ y) xs found.0 once.0 found.1 (one x found.0 (same ∙ found.2))),
     distinct_map f one xs once.1,
   )
 
@@ -77,19 +77,19 @@ module _ {A B : Type 0} where
   pub in_joined : (f : A → List B) (xs : List A) (x : A) (z : B) → Contains xs x → Contains (f x) z → Contains (flat_map f xs) z
   in_joined f [] x z has inside = absurd (in_none x has)
   in_joined f (y ∷ xs) x z has inside = elim (in_either y x xs has) [
-    inl is ↦ Contains-append_left (f y) (flat_map f xs) z (subst (λ w. Contains (f w) z) is inside) |
-    inr more ↦ Contains-append_right (f y) (flat_map f xs) z (in_joined f xs x z more inside)
+    | inl is ↦ Contains-append_left (f y) (flat_map f xs) z (subst (λ w. Contains (f w) z) is inside)
+    | inr more ↦ Contains-append_right (f y) (flat_map f xs) z (in_joined f xs x z more inside)
   ]
 
   pub of_joined : (f : A → List B) (xs : List A) (z : B) → Contains (flat_map f xs) z → (x : A) × Contains xs x × Contains (f x) z
   of_joined f [] z has = absurd (in_none z has)
   of_joined f (y ∷ xs) z has = elim (Contains-append_cases (f y) (flat_map f xs) z has) [
-    inl here ↦ (y, in_head y xs, here) |
-    inr more ↦ let found = of_joined f xs z more in (found.0, in_tail y found.0 xs found.1, found.2)
+    | inl here ↦ (y, in_head y xs, here)
+    | inr more ↦ let found = of_joined f xs z more in (found.0, in_tail y found.0 xs found.1, found.2)
   ]
 
   pub distinct_joined : (f : A → List B) (xs : List A) → AreDistinct xs → ((x : A) → AreDistinct (f x)) → ((x y : A) (z : B) → Contains (f x) z → Contains (f y) z → x ≡ y) → AreDistinct (flat_map f xs)
   distinct_joined f [] once inner apart = tt
   distinct_joined f (x ∷ xs) once inner apart = distinct_append (f x) (flat_map f xs) (inner x) (distinct_joined f xs once.1 inner apart) (λ z here there.
-    let found = of_joined f xs z there in
-    all_at (λ y. x ≢ y) xs found.0 once.0 found.1 (apart x found.0 z here found.2))
+      let found = of_joined f xs z there in
+      all_at (λ y. x ≢ y) xs found.0 once.0 found.1 (apart x found.0 z here found.2))

@@ -1,11 +1,11 @@
 -- The lists of end steps have exactly the end steps, each once.
-use Rattle.std.proofs.Common.{◌≡◌, ℕ, ◌+◌, ◌-◌, ◌≤◌, ◌<◌, ◌⊎◌, inl, inr, nat_eq, nat_le, Bool, true, false, cond, ◌&&◌, ◌||◌, List, [], ◌∷◌, ◌++◌, length, Option, Some, None, Contains, refl, sym, ap, subst, ◌∙◌, ◌↔◌, arith}
+use Rattle.std.proofs.Common.{◌≡◌, ℕ, ◌+◌, ◌-◌, ◌≤◌, ◌⊎◌, inl, inr, nat_eq, nat_le, Bool, true, false, cond, ◌&&◌, ◌||◌, List, [], ◌∷◌, ◌++◌, length, Option, Some, None, Contains, refl, sym, ap, subst, ◌∙◌, arith}
 use Rattle.std.specs.List.{list_any}
 use Rattle.std.specs.Ordering.{int_eq}
 use Rattle.std.proofs.lemmas.Bool.{false≢true, and_parts, and_from, or_parts}
 use Rattle.std.proofs.lemmas.Bool.Decides.{Decides-int_eq, nat_tests}
 use Rattle.std.proofs.lemmas.Option.{none-some, same_Some}
-use Rattle.std.proofs.lemmas.List.Elements.{Contains-append_cases, Contains-append_left, Contains-append_right, Contains-push}
+use Rattle.std.proofs.lemmas.List.Elements.{Contains-append_cases, Contains-append_left, Contains-push}
 use Rattle.road_base.specs.declared.ids.NodeId.{NodeId}
 use Rattle.road_base.specs.declared.ids.WayId.{WayId}
 use Rattle.road_base.specs.declared.ids.Key.{Key}
@@ -16,7 +16,6 @@ use Rattle.road_base.specs.declared.ids.Dir.TheVariants.{Forward, Backward}
 use Rattle.road_base.specs.Objects.{Objects}
 use Rattle.road_model.specs.Lines.{line_of, node_at, head_position, tail_position}
 use Rattle.road_model.specs.Restrictions.{same_end}
-use Rattle.road_model.specs.Words.{IsEndInto, IsEndFrom}
 use Rattle.restrictions.specs.declared.end_steps.Side.{Side}
 use Rattle.restrictions.specs.declared.end_steps.Side.TheVariants.{Into, OutOf}
 use Rattle.restrictions.specs.Runs.{first_node, last_node}
@@ -69,8 +68,8 @@ unlisted s [] none has = in_none s has
 unlisted s (x ∷ xs) none has =
     let parts = or_parts (same_step s x) (list_any (same_step s) xs) none in
     elim (in_either x s xs has) [
-      inl is ↦ false≢true (sym parts.0 ∙ (ap (λ y. same_step s y) (sym is) ∙ step_self s)) |
-      inr more ↦ unlisted s xs parts.1 more
+      | inl is ↦ false≢true (sym parts.0 ∙ (ap (λ y. same_step s y) (sym is) ∙ step_self s))
+      | inr more ↦ unlisted s xs parts.1 more
     ]
 
 -- ---- one more step, if there is one
@@ -173,12 +172,12 @@ module _ (M : Objects) where
 
   ends_are : (side : Side) (w : WayId) (v : NodeId) (s : Step) → IsEnd M side w v s → (first_end M side w v ≡ Some s) ⊎ (last_end M side w v ≡ Some s)
   ends_are Into w v s is = elim is.end [
-    inl at_last ↦ inr (is_last Into w v s is.of at_last.0 at_last.1 (head_forward s v at_last.0 is.head)) |
-    inr at_first ↦ inl (is_first Into w v s is.of at_first.0 at_first.1 (head_backward s v at_first.0 is.head))
+    | inl at_last ↦ inr (is_last Into w v s is.of at_last.0 at_last.1 (head_forward s v at_last.0 is.head))
+    | inr at_first ↦ inl (is_first Into w v s is.of at_first.0 at_first.1 (head_backward s v at_first.0 is.head))
   ]
   ends_are OutOf w v s is = elim is.end [
-    inl at_first ↦ inl (is_first OutOf w v s is.of at_first.0 at_first.1 (tail_forward s v at_first.0 is.tail)) |
-    inr at_last ↦ inr (is_last OutOf w v s is.of at_last.0 at_last.1 (tail_backward s v at_last.0 is.tail))
+    | inl at_first ↦ inl (is_first OutOf w v s is.of at_first.0 at_first.1 (tail_forward s v at_first.0 is.tail))
+    | inr at_last ↦ inr (is_last OutOf w v s is.of at_last.0 at_last.1 (tail_backward s v at_last.0 is.tail))
   ]
 
   -- ---- the end steps of several ways
@@ -194,18 +193,18 @@ module _ (M : Objects) where
 
   with_end : (side : Side) (v : NodeId) (xs : List Step) (w : WayId) (s : Step) → IsEnd M side w v s → Contains (with_ends M side v xs (WayKey w)) s
   with_end side v xs w s is = elim (ends_are side w v s is) [
-    inl first ↦ added_has (added xs (first_end M side w v)) (last_end M side w v) s (inl (added_has xs (first_end M side w v) s (inr first))) |
-    inr last ↦ added_has (added xs (first_end M side w v)) (last_end M side w v) s (inr last)
+    | inl first ↦ added_has (added xs (first_end M side w v)) (last_end M side w v) s (inl (added_has xs (first_end M side w v) s (inr first)))
+    | inr last ↦ added_has (added xs (first_end M side w v)) (last_end M side w v) s (inr last)
   ]
 
   has_with : (side : Side) (v : NodeId) (xs : List Step) (k : Key) (ks : List Key) (s : Step) → Contains (with_ends M side v xs k) s → Contains xs s ⊎ IsEndOf side v (k ∷ ks) s
   has_with side v xs (NodeKey n) ks s has = inl has
   has_with side v xs (WayKey w) ks s has = elim (has_added (added xs (first_end M side w v)) (last_end M side w v) s has) [
-    inl before ↦ elim (has_added xs (first_end M side w v) s before) [
-      inl old ↦ inl old |
-      inr first ↦ inr (w, in_head (WayKey w) ks, end_of_first side w v s first)
-    ] |
-    inr last ↦ inr (w, in_head (WayKey w) ks, end_of_last side w v s last)
+    | inl before ↦ elim (has_added xs (first_end M side w v) s before) [
+      | inl old ↦ inl old
+      | inr first ↦ inr (w, in_head (WayKey w) ks, end_of_first side w v s first)
+    ]
+    | inr last ↦ inr (w, in_head (WayKey w) ks, end_of_last side w v s last)
   ]
   has_with side v xs (RelationKey r) ks s has = inl has
 
@@ -222,8 +221,8 @@ module _ (M : Objects) where
   pub ends_there : (side : Side) (v : NodeId) (ks : List Key) (xs : List Step) (s : Step) → IsEndOf side v ks s → Contains (ends_of M side v ks xs) s
   ends_there side v [] xs s (w, has, is) = absurd (in_none (WayKey w) has)
   ends_there side v (k ∷ ks) xs s (w, has, is) = elim (in_either k (WayKey w) ks has) [
-    inl this ↦ kept side v ks (with_ends M side v xs k) s (subst (λ l. Contains (with_ends M side v xs l) s) this (with_end side v xs w s is)) |
-    inr more ↦ ends_there side v ks (with_ends M side v xs k) s (w, more, is)
+    | inl this ↦ kept side v ks (with_ends M side v xs k) s (subst (λ l. Contains (with_ends M side v xs l) s) this (with_end side v xs w s is))
+    | inr more ↦ ends_there side v ks (with_ends M side v xs k) s (w, more, is)
   ]
 
   later : (side : Side) (v : NodeId) (k : Key) (ks : List Key) (s : Step) → IsEndOf side v ks s → IsEndOf side v (k ∷ ks) s
@@ -232,8 +231,8 @@ module _ (M : Objects) where
   ends_known : (side : Side) (v : NodeId) (ks : List Key) (xs : List Step) (s : Step) → Contains (ends_of M side v ks xs) s → Contains xs s ⊎ IsEndOf side v ks s
   ends_known side v [] xs s has = inl has
   ends_known side v (k ∷ ks) xs s has = elim (ends_known side v ks (with_ends M side v xs k) s has) [
-    inl before ↦ has_with side v xs k ks s before |
-    inr more ↦ inr (later side v k ks s more)
+    | inl before ↦ has_with side v xs k ks s before
+    | inr more ↦ inr (later side v k ks s more)
   ]
 
   -- and no other step

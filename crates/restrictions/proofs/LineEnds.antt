@@ -1,6 +1,6 @@
 -- The first and the last node of a line are the first and the last reference.
 use Rattle.std.specs.Prelude.{slice_get}
-use Rattle.std.proofs.Common.{◌≡◌, ℕ, ◌-◌, ◌<◌, ◌≤◌, get_or, List, [], ◌∷◌, Option, Some, is_some, nat_le, Bool, true, false, cond, length, refl, sym, ap, ◌∙◌, arith}
+use Rattle.std.proofs.Common.{◌≡◌, ℕ, ◌-◌, ◌<◌, ◌≤◌, get_or, List, [], ◌∷◌, Some, is_some, nat_le, Bool, true, false, cond, length, refl, sym, ap, ◌∙◌, arith}
 use Rattle.std.proofs.lemmas.Bool.Decides.{Decides-int_eq, nat_tests}
 use Rattle.std.proofs.lemmas.Option.{slice_get-get_or}
 use Rattle.road_base.specs.declared.ids.NodeId.{NodeId}

@@ -1,6 +1,6 @@
 -- A run of ways that are driven whole is one and no other: what the definitions of a run say, and what the functions answer.
-use Rattle.std.proofs.Common.{◌≡◌, ℕ, ◌-◌, Bool, true, false, cond, ◌&&◌, ◌||◌, ◌⊎◌, inl, inr, List, [], ◌∷◌, ◌++◌, length, Option, Some, None, IsTrue, refl, sym, ap, subst, ◌∙◌, ◌↔◌}
-use Rattle.std.specs.List.{list_any, list_all}
+use Rattle.std.proofs.Common.{◌≡◌, Bool, true, false, cond, ◌||◌, ◌⊎◌, inl, inr, List, [], ◌∷◌, ◌++◌, length, Option, Some, None, refl, sym, ap, subst, ◌∙◌, ◌↔◌}
+use Rattle.std.specs.List.{list_any}
 use Rattle.std.proofs.lemmas.Bool.{false≢true, or_parts, and_parts, and_from}
 use Rattle.std.proofs.lemmas.Bool.Decides.{Decides-int_eq}
 use Rattle.std.proofs.lemmas.Option.{none-some, same_Some}
@@ -15,7 +15,7 @@ use Rattle.road_base.specs.declared.objects.Relation.{Relation}
 use Rattle.road_base.specs.Objects.{Objects}
 use Rattle.road_model.specs.Lines.{line_of, node_at, same_node}
 use Rattle.road_model.specs.Restrictions.{IsRun, Connects, begin_position, end_position, is_ring, are_ways, same_end, whole_way, vias, froms, tos, some_ends_at}
-use Rattle.restrictions.specs.Runs.{across, arrives, dir_between, dir_from, end_in, first_node, last_node, first_enter, last_enter, leads, leave_of, out_of, steps_across, steps_in, steps_of}
+use Rattle.restrictions.specs.Runs.{across, arrives, dir_between, dir_from, end_in, first_node, last_node, first_enter, last_enter, leads, leave_of, out_of, steps_in, steps_of}
 use Rattle.restrictions.proofs.LineEnds.{node_from_same}
 
 same_self : (v : NodeId) → same_node v v ≡ true
@@ -85,8 +85,8 @@ module _ (M : Objects) (allowed : WayId → Dir → Bool) where
       let more = one_run ks next rest o ring.1 behind in (
         ap (λ (u : Option NodeId). leave_of M allowed ks u) out ∙ more.0,
         spelled
-        ∙ (ap (λ (r : List Step). whole_way M w d ++ r) (more.1 ∙ ap (λ (u : Option NodeId). steps_of M allowed ks u) (sym out))
-        ∙ ap (λ (e : Option Dir). steps_in M w e ++ steps_of M allowed ks (across M allowed (WayKey w) (Some v))) (sym dir)),
+            ∙ (ap (λ (r : List Step). whole_way M w d ++ r) (more.1 ∙ ap (λ (u : Option NodeId). steps_of M allowed ks u) (sym out))
+            ∙ ap (λ (e : Option Dir). steps_in M w e ++ steps_of M allowed ks (across M allowed (WayKey w) (Some v))) (sym dir)),
       )
   one_run (RelationKey r ∷ ks) v s o lines run = absurd run
 
@@ -108,10 +108,10 @@ module _ (M : Objects) (allowed : WayId → Dir → Bool) where
   is_run [] v o leaves = (refl, same_Some v o leaves)
   is_run (NodeKey n ∷ ks) v o leaves = absurd (none-some o (sym (from_nowhere ks) ∙ leaves))
   is_run (WayKey w ∷ ks) v o leaves = elim (dir_cases (first_node M w) (last_node M w) v) [
-    inl none ↦ absurd (none-some o (sym (ap (λ (e : Option Dir). leave_of M allowed ks (out_of M allowed w e)) none ∙ from_nowhere ks) ∙ leaves)) |
-    inr some ↦ elim some [
-      inl on ↦ step_by w ks v o Forward on.0 on.1 (λ u. is_run ks u o) leaves |
-      inr back ↦ step_by w ks v o Backward back.0 back.1 (λ u. is_run ks u o) leaves
+    | inl none ↦ absurd (none-some o (sym (ap (λ (e : Option Dir). leave_of M allowed ks (out_of M allowed w e)) none ∙ from_nowhere ks) ∙ leaves))
+    | inr some ↦ elim some [
+      | inl on ↦ step_by w ks v o Forward on.0 on.1 (λ u. is_run ks u o) leaves
+      | inr back ↦ step_by w ks v o Backward back.0 back.1 (λ u. is_run ks u o) leaves
     ]
   ]
   is_run (RelationKey r ∷ ks) v o leaves = absurd (none-some o (sym (from_nowhere ks) ∙ leaves))
@@ -157,8 +157,8 @@ module _ (M : Objects) (allowed : WayId → Dir → Bool) where
   -- none connect where the first way has no ends
   pub none_connect : (r : Relation) → are_ways (vias r) ≡ true → first_enter M (vias r) ≡ None → last_enter M (vias r) ≡ None → Connects M allowed r → ⊥
   none_connect r ways first last k = elim (enters_at (vias r) k.enter k.steps k.leave ways k.run) [
-    inl is ↦ none-some k.enter (sym first ∙ is) |
-    inr is ↦ none-some k.enter (sym last ∙ is)
+    | inl is ↦ none-some k.enter (sym first ∙ is)
+    | inr is ↦ none-some k.enter (sym last ∙ is)
   ]
 
   or_either : (a b : Bool) → (a || b) ≡ true → (a ≡ true) ⊎ (b ≡ true)
@@ -177,7 +177,17 @@ module _ (M : Objects) (allowed : WayId → Dir → Bool) where
   connect_by r a b ways lines first last = (
     λ is. elim (or_either (leads M allowed r a) (leads M allowed r b) is) [ inl from_a ↦ connects_from r a from_a | inr from_b ↦ connects_from r b from_b ],
     λ k. elim (enters_at (vias r) k.enter k.steps k.leave ways k.run) [
-      inl is ↦ or_left (leads M allowed r a) (leads M allowed r b) (ap (λ (v : NodeId). leads M allowed r v) (same_Some a k.enter (sym first ∙ is)) ∙ leads_there r lines k) |
-      inr is ↦ or_right (leads M allowed r a) (leads M allowed r b) (ap (λ (v : NodeId). leads M allowed r v) (same_Some b k.enter (sym last ∙ is)) ∙ leads_there r lines k)
+      | inl is ↦ or_left (leads M allowed r a) (leads M allowed r b) (ap (λ (v : NodeId). leads M allowed r v) (same_Some a k.enter (sym first ∙ is)) ∙ leads_there r lines k)
+      | inr is ↦ or_right (leads M allowed r a) (leads M allowed r b) (ap (λ (v : NodeId). leads M allowed r v) (same_Some b k.enter (sym last ∙ is)) ∙ leads_there r lines k)
     ],
   )
+
+  -- the same, where a call has answered for the first end, and one for the second
+  pub connect_first : (r : Relation) (ks : List Key) (a b : NodeId) (answer : Bool) → ks ≡ vias r → are_ways (vias r) ≡ true → list_any (is_ring M) (vias r) ≡ false → Some a ≡ first_enter M ks → Some b ≡ last_enter M ks → answer ≡ leads M allowed r a → answer ≡ true → (answer ≡ true) ↔ Connects M allowed r
+  connect_first r ks a b answer are ways lines first last is holds = (λ h. connects_from r a (sym is ∙ holds), λ k. holds)
+
+  pub connect_second : (r : Relation) (ks : List Key) (a b : NodeId) (answer other : Bool) → ks ≡ vias r → are_ways (vias r) ≡ true → list_any (is_ring M) (vias r) ≡ false → Some a ≡ first_enter M ks → Some b ≡ last_enter M ks → answer ≡ leads M allowed r a → answer ≡ false → other ≡ leads M allowed r b → (other ≡ true) ↔ Connects M allowed r
+  connect_second r ks a b answer other are ways lines first last is fails also =
+      let both = connect_by r a b ways lines (ap (first_enter M) (sym are) ∙ sym first) (ap (last_enter M) (sym are) ∙ sym last) in
+      let same : (leads M allowed r a || leads M allowed r b) ≡ other = ap (λ (t : Bool). t || leads M allowed r b) (sym is ∙ fails) ∙ sym also in
+      (λ h. both.0 (same ∙ h), λ k. sym same ∙ both.1 k)

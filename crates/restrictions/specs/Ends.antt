@@ -1,5 +1,5 @@
 -- The end steps of ways into a node or out of it, as lists.
-use Rattle.std.specs.Prelude.{ℕ, ◌-◌, nat_eq, nat_le, Bool, true, false, cond, ◌&&◌, List, [], ◌∷◌, ◌++◌, length, Option, Some, None}
+use Rattle.std.specs.Prelude.{◌-◌, nat_eq, nat_le, Bool, true, false, cond, ◌&&◌, List, [], ◌∷◌, ◌++◌, length, Option, Some, None}
 use Rattle.std.specs.Ordering.{int_eq}
 use Rattle.std.specs.List.{list_any}
 use Rattle.road_base.specs.declared.ids.NodeId.{NodeId}

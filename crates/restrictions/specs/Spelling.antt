@@ -10,7 +10,7 @@ use Rattle.road_base.specs.Objects.{Objects}
 use Rattle.road_model.specs.Rules.{Rules}
 use Rattle.road_model.specs.Driving.{is_open}
 use Rattle.road_model.specs.Restrictions.{froms, vias, tos}
-use Rattle.restrictions.specs.declared.words.Rule.{Rule}
+use Rattle.restrictions.specs.declared.spelling.Rule.{Rule}
 use Rattle.restrictions.specs.declared.word_list.Word.{Word}
 use Rattle.restrictions.specs.declared.end_steps.Side.TheVariants.{Into, OutOf}
 use Rattle.restrictions.specs.Runs.{first_enter, last_enter, leave_of, steps_of}

@@ -1,22 +1,27 @@
 -- The words of one restriction, as a list.
-use Rattle.std.specs.Prelude.{◌≡◌, ◌≢◌, ℕ, Bool, List, [], ◌∷◌, Some, IsTrue, Contains}
+use Rattle.std.specs.Prelude.{◌≡◌, ◌≢◌, List, [], ◌∷◌, Some, IsTrue, Contains}
 use Rattle.std.specs.List.{AllByRecursion}
 use Rattle.road_base.specs.declared.ids.RelationId.{RelationId}
-use Rattle.road_base.specs.declared.ids.Step.{Step}
 use Rattle.road_base.specs.declared.objects.Relation.{Relation}
 use Rattle.road_base.specs.Objects.{Objects, relation_of}
 use Rattle.road_model.specs.Rules.{Rules, is_restriction}
-use Rattle.road_model.specs.Restrictions.{IsFirstCause}
+use Rattle.road_model.specs.Restrictions.{IsFirstCause, IsUsable}
 use Rattle.road_model.specs.Words.{IsWord}
 use Rattle.restrictions.specs.declared.word_list.Word.{Word}
-use Rattle.restrictions.specs.declared.words.WordsError.{WordsError}
-use Rattle.restrictions.specs.declared.words.WordsError.TheVariants.{Unusable, NoMemory}
+use Rattle.restrictions.specs.declared.relation_words.WordsError.{WordsError}
+use Rattle.restrictions.specs.declared.relation_words.WordsError.TheVariants.{Unusable, NoMemory}
 
 -- the relation is visible and a restriction
 pub record IsRestriction (M : Objects) (r : RelationId) : Type 0 where
   pub body : Relation
   pub visible : relation_of M r ≡ Some body
   pub restriction : IsTrue (is_restriction body.tags)
+
+-- no cause holds for the visible relation
+pub record IsOfUse (M : Objects) (P : Rules) (r : RelationId) : Type 0 where
+  pub body : Relation
+  pub visible : relation_of M r ≡ Some body
+  pub usable : IsUsable M P body
 
 -- none stands twice
 abbrev pub AreDistinct : {A : Type 0} → List A → Type 0

@@ -5,11 +5,11 @@ ghost use Rattle.road_base.specs.Objects.{way_of};
 ghost use Rattle.road_model.specs.Lines.{line_of};
 ghost use Rattle.road_model.specs.Restrictions.{are_ways, first_of, is_one_node, is_present, is_ring, is_tagged_highway, is_too_long, is_way_key, lacks_member, last_of, misses_end, steps_on, wrong_members};
 
-use crate::line_ends::{is_ring, some_ends_at_via};
+use crate::line_ends::{is_ring, nodes_on, some_ends_at_via};
 use crate::roles::Roles;
 use road_base::{Key, WayId};
 use road_model::World;
-use way_lines::{line_at, line_len};
+use way_lines::line_at;
 
 /// Whether the members are too few, too many, or of the wrong kinds.
 pub fn wrong_members(only: bool, roles: &Roles<'_>) -> bool
@@ -147,16 +147,12 @@ fn steps_on_all<M: World>(world: &M, keys: &[Key]) -> usize
 }
 
 /// How many steps it has, if it is a way.
-#[tactic(auto, unfolding(road_model::specs::Lines::line_of))]
 fn steps_on<M: World>(world: &M, key: Key) -> usize
     ensures steps { result ≡ steps_on (M.objects world.now) key }
     ensures short { result ≤ 65535 }
 {
-    let Key::Way(way) = key else {
-        return 0;
-    };
-    match world.way(way) {
-        Some(body) => line_len(body).saturating_sub(1),
-        None => 0,
+    match key {
+        Key::Way(way) => nodes_on(world, way).saturating_sub(1) as usize,
+        _ => 0,
     }
 }

@@ -5,11 +5,10 @@ ghost use Rattle.road_model.specs.Lines.{line_of};
 ghost use Rattle.road_model.specs.Restrictions.{same_end};
 ghost use Rattle.restrictions.specs.Ends.{added, ends_of, first_dir, first_end, last_dir, last_end, same_step, with_ends};
 
-use crate::line_ends::line_ends;
+use crate::line_ends::{line_ends, nodes_on};
 use road_base::{Dir, Key, NoMemory, NodeId, Step, WayId};
 use road_model::World;
 use std::alloc::Global;
-use way_lines::line_len;
 
 /// Whether steps are asked for that end at the node, or that begin there.
 #[derive(Clone, Copy)]
@@ -90,17 +89,6 @@ fn last_end<M: World>(world: &M, side: Side, way: WayId, node: NodeId) -> Option
         index: nodes - 2,
         dir: last_dir(side),
     })
-}
-
-/// How many nodes the way's line has.
-#[tactic(auto, unfolding(road_model::specs::Lines::line_of))]
-fn nodes_on<M: World>(world: &M, way: WayId) -> u32
-    ensures { result ≡ length (line_of (M.objects world.now) way) }
-{
-    match world.way(way) {
-        Some(body) => line_len(body) as u32,
-        None => 0,
-    }
 }
 
 /// The direction of the end step at the beginning of a line.

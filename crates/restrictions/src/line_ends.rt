@@ -1,11 +1,12 @@
-//! The ends of ways' lines.
-ghost use Rattle.std.specs.Prelude.{◌≡◌, ◌-◌, length, slice_get, option_map};
+//! The ends of ways' lines, and how many nodes these have.
+ghost use Rattle.std.specs.Prelude.{◌≡◌, ◌≤◌, ◌-◌, length, slice_get, option_map};
 ghost use Rattle.std.specs.List.{list_any};
 ghost use Rattle.road_model.specs.Lines.{changes, line_of, node_at, same_node};
 ghost use Rattle.road_model.specs.Restrictions.{is_ring, line_ends, meet, some_ends_at, via_ends, way_ends};
 
 use road_base::{Key, NodeId, WayId};
 use road_model::World;
+use way_lines::line_len;
 
 /// The first and the last node of a line.
 #[derive(Clone, Copy)]
@@ -38,6 +39,18 @@ fn ends_of(refs: &[NodeId]) -> Option<Ends>
             first: *first,
             last: refs[refs.len() - 1],
         }),
+    }
+}
+
+/// How many nodes the way's line has.
+#[tactic(auto, unfolding(road_model::specs::Lines::line_of))]
+pub fn nodes_on<M: World>(world: &M, way: WayId) -> u32
+    ensures nodes { result ≡ length (line_of (M.objects world.now) way) }
+    ensures short { result ≤ 65535 }
+{
+    match world.way(way) {
+        Some(body) => line_len(body) as u32,
+        None => 0,
     }
 }
 

@@ -5,15 +5,16 @@ ghost use Rattle.road_model.specs.Lines.{line_of, forward_steps, backward_steps}
 ghost use Rattle.road_model.specs.Restrictions.{whole_way};
 ghost use Rattle.restrictions.specs.Runs.{leave_of, steps_of};
 
+use crate::line_ends::nodes_on;
 use crate::runs::{Allowed, cross};
 use road_base::{Dir, Key, NoMemory, NodeId, Step, WayId};
 use road_model::{Profile, World};
 use std::alloc::Global;
-use way_lines::line_len;
 
-/// All steps of the via ways, and the node where one comes out.
+/// What the via members spell, and the nodes where they are entered and left.
 #[derive(Drop)]
 pub struct Passage {
+    pub enter: NodeId,
     pub steps: Vec<Step>,
     pub leave: NodeId,
 }
@@ -27,7 +28,8 @@ pub fn pass_ways<M: World, P: Profile>(
     ways: &[Key],
     enter: NodeId,
 ) -> Result<Option<Passage>, NoMemory>
-    ensures some { IfOk result (λ answer. IfSome answer (λ passage. passage.steps.items ≡ steps_of (M.objects world.now) (is_open (M.objects world.now) (P.rules profile.now)) ways.now (Some enter))) }
+    ensures enter { IfOk result (λ answer. IfSome answer (λ passage. passage.enter ≡ enter)) }
+    ensures steps { IfOk result (λ answer. IfSome answer (λ passage. passage.steps.items ≡ steps_of (M.objects world.now) (is_open (M.objects world.now) (P.rules profile.now)) ways.now (Some enter))) }
     ensures leave { IfOk result (λ answer. IfSome answer (λ passage. leave_of (M.objects world.now) (is_open (M.objects world.now) (P.rules profile.now)) ways.now (Some enter) ≡ Some passage.leave)) }
     ensures none { IfOk result (λ answer. IfNone answer (leave_of (M.objects world.now) (is_open (M.objects world.now) (P.rules profile.now)) ways.now (Some enter) ≡ None)) }
 {
@@ -42,7 +44,11 @@ pub fn pass_ways<M: World, P: Profile>(
         at = crossing.out;
         rest = behind;
     }
-    Ok(Some(Passage { steps, leave: at }))
+    Ok(Some(Passage {
+        enter,
+        steps,
+        leave: at,
+    }))
 }
 
 /// Adds all steps of the way in order of travel.
@@ -55,21 +61,10 @@ fn add_whole_way<M: World>(
 ) -> Result<(), NoMemory>
     ensures { OnOk result (steps.new.items ≡ steps.old.items ++ whole_way (M.objects world.now) way dir) }
 {
-    let count = steps_on(world, way);
+    let count = nodes_on(world, way).saturating_sub(1);
     match dir {
         Dir::Forward => add_forward(steps, way, count),
         Dir::Backward => add_backward(steps, way, count),
-    }
-}
-
-/// How many steps the way has.
-#[tactic(auto, unfolding(road_model::specs::Lines::line_of))]
-fn steps_on<M: World>(world: &M, way: WayId) -> u32
-    ensures { result ≡ length (line_of (M.objects world.now) way) - 1 }
-{
-    match world.way(way) {
-        Some(body) => line_len(body).saturating_sub(1) as u32,
-        None => 0,
     }
 }
 

@@ -1,6 +1,6 @@
 use Rattle.std.proofs.Common.{◌≡◌, ◌++◌, take}
 use Rattle.restrictions.specs.Spelling.{words_by}
-use Rattle.restrictions.proofs.words.add_words_at.Given as goal
+use Rattle.restrictions.proofs.spelling.add_words_at.Given as goal
 
 -- the words from the steps so far
 abbrev pub invariant-loop-first : goal.invariant-loop-first

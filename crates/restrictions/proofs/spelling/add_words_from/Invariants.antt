@@ -1,6 +1,6 @@
 use Rattle.std.proofs.Common.{◌≡◌, ◌++◌, take}
 use Rattle.restrictions.specs.Spelling.{words_from}
-use Rattle.restrictions.proofs.words.add_words_from.Given as goal
+use Rattle.restrictions.proofs.spelling.add_words_from.Given as goal
 
 -- the words to the steps so far
 abbrev pub invariant-loop-last : goal.invariant-loop-last
