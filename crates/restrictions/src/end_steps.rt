@@ -1,8 +1,6 @@
 //! The end steps of ways into a node and out of it.
-ghost use Rattle.std.specs.Prelude.{◌≡◌, ◌≤◌, ◌&&◌, OnOk, IfOk, Some, None, [], length, nat_le, cond};
+ghost use Rattle.std.specs.Prelude.{◌≡◌, OnOk, IfOk, []};
 ghost use Rattle.std.specs.List.{list_any};
-ghost use Rattle.road_model.specs.Lines.{line_of};
-ghost use Rattle.road_model.specs.Restrictions.{same_end};
 ghost use Rattle.restrictions.specs.Ends.{added, ends_of, first_dir, first_end, last_dir, last_end, same_step, with_ends};
 
 use crate::line_ends::{line_ends, nodes_on};
@@ -63,7 +61,7 @@ fn first_end<M: World>(world: &M, side: Side, way: WayId, node: NodeId) -> Optio
     let Some(ends) = line_ends(world, way) else {
         return None;
     };
-    if ends.first.0 != node.0 {
+    if ends.first != node {
         return None;
     }
     Some(Step {
@@ -81,7 +79,7 @@ fn last_end<M: World>(world: &M, side: Side, way: WayId, node: NodeId) -> Option
         return None;
     };
     let nodes = nodes_on(world, way);
-    if nodes < 2 || ends.last.0 != node.0 {
+    if nodes < 2 || ends.last != node {
         return None;
     }
     Some(Step {

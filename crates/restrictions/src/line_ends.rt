@@ -98,7 +98,7 @@ fn ends_at<M: World>(world: &M, key: Key, nodes: &[NodeId]) -> bool
 fn is_among(node: NodeId, nodes: &[NodeId]) -> bool
     ensures { result ≡ list_any (same_node node) nodes.now }
 {
-    nodes.iter().any(|other| node.0 == other.0)
+    nodes.iter().any(|other| node == *other)
 }
 
 /// Whether it is a way whose line begins and ends at one node.
@@ -109,7 +109,7 @@ pub fn is_ring<M: World>(world: &M, key: Key) -> bool
         return false;
     };
     match line_ends(world, way) {
-        Some(ends) => ends.first.0 == ends.last.0,
+        Some(ends) => ends.first == ends.last,
         None => false,
     }
 }

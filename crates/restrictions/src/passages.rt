@@ -1,5 +1,5 @@
 //! What the via members of a restriction spell.
-ghost use Rattle.std.specs.Prelude.{◌≡◌, ◌++◌, ◌-◌, ◌≤◌, OnOk, IfOk, IfSome, IfNone, Some, None, length};
+ghost use Rattle.std.specs.Prelude.{◌≡◌, ◌++◌, OnOk, IfOk, IfSome, IfNone, Some, None};
 ghost use Rattle.road_model.specs.Driving.{is_open};
 ghost use Rattle.road_model.specs.Lines.{line_of, forward_steps, backward_steps};
 ghost use Rattle.road_model.specs.Restrictions.{whole_way};

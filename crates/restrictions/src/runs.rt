@@ -1,18 +1,15 @@
 //! The via ways of a restriction, driven whole one after the other.
-ghost use Rattle.std.specs.Prelude.{◌≡◌, ◌-◌, ◌++◌, ◌↔◌, ◌≤◌, ◌+◌, Some, None, IsTrue, IsFalse, IfOk, IfSome, IfNone, OnOk, length, option_map};
+ghost use Rattle.std.specs.Prelude.{◌≡◌, ◌↔◌, Some, None, IsTrue, IsFalse, IfSome, IfNone, option_map};
 ghost use Rattle.std.specs.List.{list_any};
 ghost use Rattle.road_base.specs.declared.ids.Key.TheVariants.{Way as WayKey};
-ghost use Rattle.road_model.specs.Driving.{is_open};
-ghost use Rattle.road_model.specs.Lines.{line_of, node_at, forward_steps, backward_steps};
-ghost use Rattle.road_model.specs.Restrictions.{Connects, are_ways, froms, is_ring, some_ends_at, tos, vias, whole_way};
-ghost use Rattle.restrictions.specs.Runs.{across, allows, dir_between, dir_from, end_in, first_enter, last_enter, leads, leave_of, steps_across, steps_of};
+ghost use Rattle.road_model.specs.Restrictions.{Connects, are_ways, is_ring, vias};
+ghost use Rattle.restrictions.specs.Runs.{across, allows, dir_between, dir_from, end_in, first_enter, last_enter, leads, leave_of};
 
 use crate::line_ends::{Ends, line_ends, some_ends_at};
 use crate::roles::Roles;
-use road_base::{Dir, Key, NoMemory, NodeId, Step, WayId};
+use road_base::{Dir, Key, NodeId, WayId};
 use road_model::{Profile, World};
-use std::alloc::Global;
-use way_lines::{is_open, line_len};
+use way_lines::is_open;
 
 /// The directions of ways that count: all, or those that are open.
 #[derive(Clone, Copy)]
@@ -66,9 +63,9 @@ pub fn cross<M: World, P: Profile>(
 fn dir_between(ends: Ends, from: NodeId) -> Option<Dir>
     ensures { result ≡ dir_between (Some ends.first) (Some ends.last) (Some from) }
 {
-    if ends.first.0 == from.0 {
+    if ends.first == from {
         Some(Dir::Forward)
-    } else if ends.last.0 == from.0 {
+    } else if ends.last == from {
         Some(Dir::Backward)
     } else {
         None
