@@ -78,8 +78,11 @@ fn last_end<M: World>(world: &M, side: Side, way: WayId, node: NodeId) -> Option
     let Some(ends) = line_ends(world, way) else {
         return None;
     };
+    if ends.last != node {
+        return None;
+    }
     let nodes = nodes_on(world, way);
-    if nodes < 2 || ends.last != node {
+    if nodes < 2 {
         return None;
     }
     Some(Step {
