@@ -1,2 +1,6 @@
 pub mod Ends
+pub mod Growing
+pub mod Joining
+pub mod Keys
+pub mod Standing
 pub mod Watching

@@ -1,1 +1,3 @@
+pub mod Falls
+pub mod Trees
 pub mod Watched

@@ -1,4 +1,6 @@
 //! Automata that watch for the words of restrictions while a drive grows step by step.
 #![tactic(auto)]
 
+mod falls;
 pub mod laws;
+mod tree;

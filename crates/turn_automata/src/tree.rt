@@ -1,0 +1,97 @@
+//! Lists of steps that share their beginnings.
+ghost use Rattle.std.specs.Prelude.{◌≡◌, ◌<◌, List, [], ◌∷◌, ◌++◌, length, IfOk, OnOk, IfSome, IfNone, Contains};
+ghost use Rattle.road_base.specs.declared.ids.Step.{Step};
+ghost use Rattle.turn_automata.specs.Trees.{Stands, IsGrownBy, IsClosed};
+
+use road_base::{NoMemory, Step};
+use std::alloc::Global;
+use std::collections::BTreeMap;
+use std::marker::Model;
+
+/// Lists of steps, each grown from another by one step, numbered in the order of their coming. The empty list has the
+/// number 0. Contracts see the lists.
+#[derive(Drop)]
+pub struct Tree {
+    edges: Vec<(usize, Step)>,
+    children: BTreeMap<(usize, Step), usize>,
+}
+
+impl Model for Tree {
+    ghost use Rattle.std.specs.Prelude.{List};
+    ghost use Rattle.road_base.specs.declared.ids.Step.{Step};
+    ghost use Rattle.turn_automata.specs.Trees.{lists_of, IsTree};
+
+    ghost Value = { List (List Step) };
+
+    ghost view = { λ t. lists_of t.edges.items };
+
+    ghost invariant = { λ t. IsTree t.edges.items t.children };
+}
+
+impl Tree {
+    /// The empty list alone. Takes no memory.
+    pub fn new(alloc: Global) -> Tree
+        ensures { result ≡ [] ∷ [] }
+    {
+        Tree {
+            edges: Vec::new(alloc),
+            children: BTreeMap::new(alloc),
+        }
+    }
+
+    /// How many lists there are.
+    pub fn len(&self) -> usize
+        ensures len { result ≡ length self.now }
+        ensures closed { IsClosed self.now }
+    {
+        self.edges.len() + 1
+    }
+
+    /// The number of the list that is this one with the step behind it, None where it isn't there.
+    pub fn child(&self, list: usize, step: Step) -> Option<usize>
+        ensures within { IfSome result (λ child. child < length self.now) }
+        ensures some { IfSome result (λ child. (p : List Step) → Stands self.now list p → Stands self.now child (p ++ step ∷ [])) }
+        ensures none { IfNone result ((p : List Step) → Stands self.now list p → Contains self.now (p ++ step ∷ []) → ⊥) }
+    {
+        self.children.get(&(list, step)).copied()
+    }
+
+    /// The list from which this one grew, and its last step.
+    pub fn edge(&self, list: usize) -> (usize, Step)
+        requires grown { 0 < list }
+        requires within { list < length self.now }
+        ensures less { result.0 < list }
+        ensures is { (p : List Step) → Stands self.now result.0 p → Stands self.now list (p ++ result.1 ∷ []) }
+    {
+        self.edges[list - 1]
+    }
+
+    /// The number of the list that is this one with the step behind it, which joins the others where it is new.
+    pub fn add(&mut self, list: usize, step: Step) -> Result<usize, NoMemory>
+        requires { list < length self.old }
+        ensures number { IfOk result (λ child. (p : List Step) → Stands self.old list p → Stands self.new child (p ++ step ∷ [])) }
+        ensures grown { OnOk result ((p : List Step) → Stands self.old list p → IsGrownBy self.old (p ++ step ∷ []) self.new) }
+    {
+        match self.child(list, step) {
+            Some(child) => Ok(child),
+            None => self.grow(list, step),
+        }
+    }
+
+    fn grow(&mut self, list: usize, step: Step) -> Result<usize, NoMemory>
+        requires within { list < length self.old }
+        requires new { (p : List Step) → Stands self.old list p → Contains self.old (p ++ step ∷ []) → ⊥ }
+        ensures number { IfOk result (λ child. (p : List Step) → Stands self.old list p → Stands self.new child (p ++ step ∷ [])) }
+        ensures grown { OnOk result ((p : List Step) → Stands self.old list p → self.new ≡ self.old ++ (p ++ step ∷ []) ∷ []) }
+    {
+        let child = self.len();
+        self.edges.push((list, step))?;
+        match self.children.insert((list, step), child) {
+            Ok(_) => Ok(child),
+            Err(_) => {
+                self.edges.pop();
+                Err(NoMemory)
+            }
+        }
+    }
+}
