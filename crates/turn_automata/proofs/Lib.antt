@@ -1,4 +1,5 @@
 pub mod Ends
+pub mod Falling
 pub mod Growing
 pub mod Joining
 pub mod Keys

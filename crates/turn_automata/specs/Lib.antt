@@ -1,3 +1,5 @@
 pub mod Falls
 pub mod Trees
+pub mod Visits
 pub mod Watched
+pub mod Work

@@ -16,6 +16,7 @@ pub fn longest(tree: &Tree, falls: &[usize], list: usize, step: Step) -> usize
     ensures within { result < length tree.now }
     ensures longest { AreFalls tree.now falls.now → (p : List Step) → Stands tree.now list p → IsLongestIn tree.now (p ++ step ∷ []) result }
 {
+    tree.closed();
     let mut end = list;
     while end > 0 {
         if let Some(child) = tree.child(end, step) {
@@ -31,7 +32,7 @@ fn begun(tree: &Tree, step: Step) -> usize
     ensures within { result < length tree.now }
     ensures longest { IsLongestIn tree.now (step ∷ []) result }
 {
-    let _count = tree.len();
+    tree.closed();
     match tree.child(0, step) {
         Some(child) => child,
         None => 0,
@@ -45,6 +46,7 @@ pub fn falls_of(alloc: Global, tree: &Tree) -> Result<Vec<usize>, NoMemory>
     ensures descends { IfOk result (λ v. Descends v.items) }
     ensures falls { IfOk result (λ v. AreFalls tree.now v.items) }
 {
+    tree.closed();
     let mut falls = Vec::new(alloc);
     falls.push(0)?;
     for list in 1..tree.len() {
@@ -64,7 +66,7 @@ fn fall_of(tree: &Tree, falls: &[usize], list: usize) -> usize
     ensures less { result < list }
     ensures longest { (x : Step) (d : List Step) → Stands tree.now list (x ∷ d) → IsLongestIn tree.now d result }
 {
-    let _count = tree.len();
+    tree.closed();
     let (from, by) = tree.edge(list);
     if from == 0 { 0 } else { longest(tree, falls, falls[from], by) }
 }

@@ -4,3 +4,4 @@
 mod falls;
 pub mod laws;
 mod tree;
+mod visits;

@@ -15,14 +15,14 @@ invariant_of-self-in-Ok c =
     joined es c.self.inside.children c.insert.new.self c.push.new.self.items c.args.list c.args.step c.len-child.result p.0 c.self.invariant st
     (λ has. c.requires.new p.0 p.1 (subst (λ ps. Contains ps (p.0 ++ c.args.step ∷ [])) c.self.view_is has))
     c.in_ok-push.ensures.items
-    (c.len-child.ensures.len ∙ ap length (sym c.self.view_is))
+    (c.len-child.ensures ∙ ap length (sym c.self.view_is))
     c.in-Ok.ensures.updates
 
 pub returns-in-Ok-clause-number : goal.returns-in-Ok-clause-number
 returns-in-Ok-clause-number c = λ p st.
     let e = new_list c.self.inside.edges.items c.push.new.self.items c.args.list c.args.step c.args.self.now p c.self.view_is c.in_ok-push.ensures.items st in
     subst (λ ps. Stands ps c.len-child.result (p ++ c.args.step ∷ [])) (sym e)
-    (subst (λ n. Stands (c.args.self.now ++ (p ++ c.args.step ∷ []) ∷ []) n (p ++ c.args.step ∷ [])) (sym c.len-child.ensures.len) (stands_last c.args.self.now (p ++ c.args.step ∷ [])))
+    (subst (λ n. Stands (c.args.self.now ++ (p ++ c.args.step ∷ []) ∷ []) n (p ++ c.args.step ∷ [])) (sym c.len-child.ensures) (stands_last c.args.self.now (p ++ c.args.step ∷ [])))
 
 pub returns-in-Ok-clause-grown : goal.returns-in-Ok-clause-grown
 returns-in-Ok-clause-grown c = λ p st. new_list c.self.inside.edges.items c.push.new.self.items c.args.list c.args.step c.args.self.now p c.self.view_is c.in_ok-push.ensures.items st
