@@ -4,4 +4,5 @@ pub mod Growing
 pub mod Joining
 pub mod Keys
 pub mod Standing
+pub mod Visiting
 pub mod Watching

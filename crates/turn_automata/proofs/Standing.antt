@@ -10,6 +10,12 @@ pub if_none : {X : Type 0} (P : Type 0) (o : Option X) → (o ≡ None → P) �
 if_none P None h = h refl
 if_none P (Some x) h = tt
 
+pub some_is : {X : Type 0} (P : X → Type 0) (o : Option X) (x : X) → o ≡ Some x → IfSome o P → P x
+some_is {X = X} P o x e h = let Q : Option X → Type 0 = λ v. IfSome v P in subst Q e h
+
+pub none_is : {X : Type 0} (P : Type 0) (o : Option X) → o ≡ None → IfNone o P → P
+none_is {X = X} P o e h = let Q : Option X → Type 0 = λ v. IfNone v P in subst Q e h
+
 module _ {X : Type 0} where
   pub stands_left : (xs ys : List X) (i : ℕ) (x : X) → slice_get xs i ≡ Some x → slice_get (xs ++ ys) i ≡ Some x
   stands_left [] ys i x h = cc

@@ -33,13 +33,13 @@ pub fn read_words(alloc: Global, words: &[Word]) -> Result<Reading, NoMemory>
     ensures visits { IfOk result (λ r. AreVisits words.now r.tree r.visits.items) }
 {
     let mut tree = Tree::new(alloc);
-    tree.closed();
     let mut visits = first_visits(alloc, words)?;
     let mut at = 0;
     while at < visits.len() {
         follow(words, &mut tree, &mut visits, at)?;
         at += 1;
     }
+    tree.closed();
     Ok(Reading { tree, visits })
 }
 
