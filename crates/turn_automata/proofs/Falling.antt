@@ -8,13 +8,17 @@ use Rattle.turn_automata.specs.Falls.{IsLongestIn, AreFalls, Descends}
 use Rattle.turn_automata.proofs.Ends.{Ends, Nil, Last, ends, same_last, shorter_end, longest_grows, cons_not_nil}
 use Rattle.turn_automata.proofs.Standing.{one_stands, some_at, contains_at, at_contains}
 
--- the list with number n ends p, and no longer end of p goes on by s
-pub record IsLeft {S : Type 0} (ps : List (List S)) (p : List S) (s : S) (n : ℕ) : Type 0 where
+-- the list with number n ends p, and no longer end of p has the property
+pub record IsLeft {S : Type 0} (ps : List (List S)) (G : List S → Type 0) (p : List S) (n : ℕ) : Type 0 where
   pub end : List S
   pub at : Stands ps n end
   pub front : List S
   pub is : p ≡ front ++ end
-  pub others : (a b : List S) → p ≡ a ++ b → Contains ps (b ++ s ∷ []) → length b ≤ length end
+  pub others : (a b : List S) → p ≡ a ++ b → G b → length b ≤ length end
+
+-- the lists that go on by s
+abbrev pub GoesOn : {S : Type 0} → List (List S) → S → List S → Type 0
+GoesOn ps s b = Contains ps (b ++ s ∷ [])
 
 module _ {S : Type 0} (ps : List (List S)) (closed : IsClosed ps) where
   pub prefix_there : (p : List S) (s : S) → Contains ps (p ++ s ∷ []) → Contains ps p
@@ -26,11 +30,11 @@ module _ {S : Type 0} (ps : List (List S)) (closed : IsClosed ps) where
   no_longer : (a b p : List S) → p ≡ a ++ b → length b ≤ length p
   no_longer a b p e = let l : length p ≡ length a + length b = ap length e ∙ length-append a b in omega arith
 
-  pub all_left : (p : List S) (s : S) (n : ℕ) → Stands ps n p → IsLeft ps p s n
-  all_left p s n st = record { end = p; at = st; front = []; is = refl; others = λ a b e h. no_longer a b p e }
+  pub all_left : (G : List S → Type 0) (p : List S) (n : ℕ) → Stands ps n p → IsLeft ps G p n
+  all_left G p n st = record { end = p; at = st; front = []; is = refl; others = λ a b e h. no_longer a b p e }
 
   -- where the list goes on by s, that is the longest
-  pub goes_on : (p : List S) (s : S) (n m : ℕ) (left : IsLeft ps p s n) → Stands ps m (left.end ++ s ∷ []) → IsLongestIn ps (p ++ s ∷ []) m
+  pub goes_on : (p : List S) (s : S) (n m : ℕ) (left : IsLeft ps (GoesOn ps s) p n) → Stands ps m (left.end ++ s ∷ []) → IsLongestIn ps (p ++ s ∷ []) m
   goes_on p s n m left st = record {
     list = left.end ++ s ∷ [];
     at = st;
@@ -51,36 +55,37 @@ module _ {S : Type 0} (ps : List (List S)) (closed : IsClosed ps) where
           let m : length (left.end ++ s ∷ []) ≡ length left.end + 1 = length-append left.end (s ∷ []) in
           omega arith
 
-  -- where it doesn't, the longest shorter one is left
-  falls_to : (p : List S) (s : S) (x : S) (d front : List S) (m : ℕ) → p ≡ front ++ x ∷ d
-      → ((a b : List S) → p ≡ a ++ b → Contains ps (b ++ s ∷ []) → length b ≤ length (x ∷ d))
-      → (Contains ps ((x ∷ d) ++ s ∷ []) → ⊥) → IsLongestIn ps d m → IsLeft ps p s m
-  falls_to p s x d front m is others none fall = record {
-    end = fall.list;
-    at = fall.at;
-    front = front ++ (x ∷ fall.longest.front);
-    is = is ∙ ap (λ v. front ++ (x ∷ v)) fall.longest.is ∙ sym (append_assoc front (x ∷ fall.longest.front) fall.list);
-    others = λ a b e h. let c = shorter_end front a (x ∷ d) b (sym is ∙ e) (others a b e h) in by b h c.0 c.1;
-  }
-    where
-      by : (b : List S) → Contains ps (b ++ s ∷ []) → (c : List S) → x ∷ d ≡ c ++ b → length b ≤ length fall.list
-      by b h [] e = absurd (none (subst (λ v. Contains ps (v ++ s ∷ [])) (sym e) h))
-      by b h (y ∷ c) e = fall.longest.longest c b (cc) (prefix_there b s h)
+  -- where it hasn't, the longest shorter one is left
+  module _ (G : List S → Type 0) (there : (b : List S) → G b → Contains ps b) where
+    falls_to : (p : List S) (x : S) (d front : List S) (m : ℕ) → p ≡ front ++ x ∷ d
+        → ((a b : List S) → p ≡ a ++ b → G b → length b ≤ length (x ∷ d))
+        → (G (x ∷ d) → ⊥) → IsLongestIn ps d m → IsLeft ps G p m
+    falls_to p x d front m is others none fall = record {
+      end = fall.list;
+      at = fall.at;
+      front = front ++ (x ∷ fall.longest.front);
+      is = is ∙ ap (λ v. front ++ (x ∷ v)) fall.longest.is ∙ sym (append_assoc front (x ∷ fall.longest.front) fall.list);
+      others = λ a b e h. let c = shorter_end front a (x ∷ d) b (sym is ∙ e) (others a b e h) in by b h c.0 c.1;
+    }
+      where
+        by : (b : List S) → G b → (c : List S) → x ∷ d ≡ c ++ b → length b ≤ length fall.list
+        by b h [] e = absurd (none (subst G (sym e) h))
+        by b h (y ∷ c) e = fall.longest.longest c b (cc) (there b h)
 
   nonempty : (n : ℕ) (p : List S) → 0 < n → Stands ps n p → (x : S) × (d : List S) × (p ≡ x ∷ d)
   nonempty n [] h st = let e : n ≡ 0 = closed.once n 0 [] st closed.empty in absurd (omega arith)
   nonempty n (x ∷ d) h st = (x, d, refl)
 
-  pub falls_back : (falls : List ℕ) → AreFalls ps falls → (p : List S) (s : S) (n : ℕ) → 0 < n → n < length falls → (left : IsLeft ps p s n)
-      → ((q : List S) → Stands ps n q → Contains ps (q ++ s ∷ []) → ⊥) → IsLeft ps p s (get_or falls n 0)
-  falls_back falls are p s n low high left none =
+  pub falls_back : (G : List S → Type 0) (there : (b : List S) → G b → Contains ps b) (falls : List ℕ) → AreFalls ps falls → (p : List S) (n : ℕ) → 0 < n → n < length falls → (left : IsLeft ps G p n)
+      → ((q : List S) → Stands ps n q → G q → ⊥) → IsLeft ps G p (get_or falls n 0)
+  falls_back G there falls are p n low high left none =
       let e = nonempty n left.end low left.at in
       let at : Stands ps n (e.0 ∷ e.1) = subst (Stands ps n) e.2 left.at in
-      falls_to p s e.0 e.1 left.front (get_or falls n 0) (left.is ∙ ap (λ v. left.front ++ v) e.2)
+      falls_to G there p e.0 e.1 left.front (get_or falls n 0) (left.is ∙ ap (λ v. left.front ++ v) e.2)
       (λ a b q h. subst (λ v. length b ≤ length v) e.2 (left.others a b q h)) (none (e.0 ∷ e.1) at) (are n e.0 e.1 high at)
 
   -- where nothing is left, what the step begins is the longest
-  pub begins : (p : List S) (s : S) (m : ℕ) → IsLeft ps p s 0 → IsLongestIn ps (s ∷ []) m → IsLongestIn ps (p ++ s ∷ []) m
+  pub begins : (p : List S) (s : S) (m : ℕ) → IsLeft ps (GoesOn ps s) p 0 → IsLongestIn ps (s ∷ []) m → IsLongestIn ps (p ++ s ∷ []) m
   begins p s m left begun = record {
     list = begun.list;
     at = begun.at;

@@ -4,5 +4,6 @@ pub mod Growing
 pub mod Joining
 pub mod Keys
 pub mod Standing
+pub mod Turning
 pub mod Visiting
 pub mod Watching

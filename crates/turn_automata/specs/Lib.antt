@@ -1,5 +1,6 @@
 pub mod Falls
 pub mod Trees
+pub mod Turns
 pub mod Visits
 pub mod Watched
 pub mod Work

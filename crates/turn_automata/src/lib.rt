@@ -4,4 +4,5 @@
 mod falls;
 pub mod laws;
 mod tree;
+mod turns;
 mod visits;

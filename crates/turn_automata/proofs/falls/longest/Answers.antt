@@ -1,11 +1,11 @@
 use Rattle.std.proofs.Common.{◌≡◌, arith, subst}
-use Rattle.turn_automata.proofs.Falling.{IsLeft, all_left, goes_on, falls_back, begins}
+use Rattle.turn_automata.proofs.Falling.{IsLeft, GoesOn, prefix_there, all_left, goes_on, falls_back, begins}
 use Rattle.turn_automata.proofs.falls.longest.Goals as goal
 
 pub loop-end-init : goal.loop-end-init
 loop-end-init c = record {
   within = c.requires.within;
-  left = λ are p st. all_left c.args.tree.now c.closed.ensures p c.args.step c.args.list st;
+  left = λ are p st. all_left c.args.tree.now c.closed.ensures (GoesOn c.args.tree.now c.args.step) p c.args.list st;
 }
 
 pub returns-in-Some-clause-longest : goal.returns-in-Some-clause-longest
@@ -18,11 +18,11 @@ loop-end-preserved c =
     let down = c.requires.descends c.loop-end.end c.loop-end-test.true c.loop-end.invariant.within in
     record {
       within = omega (arith, down, c.loop-end.invariant.within);
-      left = λ are p st. falls_back c.args.tree.now c.closed.ensures c.args.falls.now are p c.args.step c.loop-end.end c.loop-end-test.true c.loop-end.invariant.within (c.loop-end.invariant.left are p st) c.in_default.ensures.none;
+      left = λ are p st. falls_back c.args.tree.now c.closed.ensures (GoesOn c.args.tree.now c.args.step) (λ b h. prefix_there c.args.tree.now c.closed.ensures b c.args.step h) c.args.falls.now are p c.loop-end.end c.loop-end-test.true c.loop-end.invariant.within (c.loop-end.invariant.left are p st) c.in_default.ensures.none;
     }
 
 pub returns-clause-longest : goal.returns-clause-longest
 returns-clause-longest c = λ are p st.
     let left = c.loop-end.invariant.left are p st in
     let none : c.loop-end.end ≡ 0 = omega (arith, c.loop-end-test.false) in
-    begins c.args.tree.now c.closed.ensures p c.args.step c.begun.result (subst (IsLeft c.args.tree.now p c.args.step) none left) c.begun.ensures.longest
+    begins c.args.tree.now c.closed.ensures p c.args.step c.begun.result (subst (IsLeft c.args.tree.now (GoesOn c.args.tree.now c.args.step) p) none left) c.begun.ensures.longest
