@@ -3,6 +3,7 @@ pub mod Falling
 pub mod Growing
 pub mod Joining
 pub mod Keys
+pub mod Running
 pub mod Standing
 pub mod Turning
 pub mod Visiting

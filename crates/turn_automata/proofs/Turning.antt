@@ -99,31 +99,6 @@ module _ (W : List Word) (vs : List Visit) (v : Visit) (w : Word) (of : slice_ge
           demanding = put (DemandsFrom W) vs v nat_cmp exact_unsigned t.demanding from v.state old.demanding begins (x, here) (λ n d. sym d.1.state);
         }
 
-  pub passed_no : (t : Turns) → w.only ≡ false → v.depth + 1 < length w.steps → AreMarked W vs t → AreMarked W (vs ++ v ∷ []) t
-  passed_no t never more old = record {
-    ends = skipped (EndsAt W) vs v (contains edge_cmp t.ends) old.ends
-    (λ e d. let l : length d.word.steps ≡ length w.steps = ap (λ (u : Word). length u.steps) (same_word d.word d.of) in let m = d.last in absurd (omega arith));
-    demanded = skipped (DemandsAt W) vs v (contains edge_cmp t.demanded) old.demanded (no_demands never);
-    demanding = skipped (DemandsFrom W) vs v (contains nat_cmp t.demanding) old.demanding (λ n d. no_demands never (n, d.0) d.1);
-  }
-
-  unbound : v.depth < w.binding → (e : ℕ × Step) → DemandsAt W v e → ⊥
-  unbound less e d = let l : d.word.binding ≡ w.binding = ap (λ (u : Word). u.binding) (same_word d.word d.of) in let m = d.bound in omega arith
-
-  pub passed_only : (t : Turns) → w.only ≡ true → v.depth < w.binding → AreMarked W vs t → AreMarked W (vs ++ v ∷ []) t
-  passed_only t only less old = record {
-    ends = skipped (EndsAt W) vs v (contains edge_cmp t.ends) old.ends (only_ends only);
-    demanded = skipped (DemandsAt W) vs v (contains edge_cmp t.demanded) old.demanded (unbound less);
-    demanding = skipped (DemandsFrom W) vs v (contains nat_cmp t.demanding) old.demanding (λ n d. unbound less (n, d.0) d.1);
-  }
-
-pub none_marked : (W : List Word) (t : Turns) → t.ends.keys ≡ [] → t.demanded.keys ≡ [] → t.demanding.keys ≡ [] → AreMarked W [] t
-none_marked W t a b c = record {
-  ends = λ e. (λ h. absurd (grind (arith, a, h)), λ g. let l = g.1.1 in absurd (omega arith));
-  demanded = λ e. (λ h. absurd (grind (arith, b, h)), λ g. let l = g.1.1 in absurd (omega arith));
-  demanding = λ n. (λ h. absurd (grind (arith, c, h)), λ g. let l = g.1.1 in absurd (omega arith));
-}
-
 -- a visit of the step behind a list
 pub record Found (W : List Word) (vs : List Visit) (w : Word) (n : ℕ) (p : List Step) (x : Step) : Type 0 where
   pub visit : Visit

@@ -1,4 +1,5 @@
 pub mod Falls
+pub mod Machines
 pub mod Trees
 pub mod Turns
 pub mod Visits

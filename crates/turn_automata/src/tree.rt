@@ -101,3 +101,19 @@ impl Tree {
         }
     }
 }
+
+/// How many steps the list has. Takes as many look-ups.
+pub fn list_len(tree: &Tree, list: usize) -> usize
+    requires { list < length tree.now }
+    ensures { (p : List Step) → Stands tree.now list p → result ≡ length p }
+{
+    tree.closed();
+    let mut rest = list;
+    let mut len = 0;
+    while rest > 0 {
+        let (from, _) = tree.edge(rest);
+        rest = from;
+        len += 1;
+    }
+    len
+}

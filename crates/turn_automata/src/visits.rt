@@ -1,7 +1,7 @@
 //! All steps of all words, by the lists of the steps before them.
 ghost use Rattle.std.specs.Prelude.{◌≡◌, ◌+◌, ◌<◌, ◌↔◌, List, length, IfOk, OnOk, IfSome, IfNone, Contains, drop};
 ghost use Rattle.road_base.specs.declared.ids.Step.{Step};
-ghost use Rattle.turn_automata.specs.Trees.{Rises};
+ghost use Rattle.turn_automata.specs.Trees.{IsClosed, Rises};
 ghost use Rattle.turn_automata.specs.Watched.{IsWatchable};
 ghost use Rattle.turn_automata.specs.Visits.{IsVisit, IsNext, IsLast, AreVisits, AreFirst, AreFollowed};
 ghost use Rattle.turn_automata.specs.Work.{work};
@@ -29,6 +29,7 @@ pub struct Reading {
 /// Reads the words side by side, so that the tree's lists rise in length.
 pub fn read_words(alloc: Global, words: &[Word]) -> Result<Reading, NoMemory>
     ensures lists { IfOk result (λ r. (p : List Step) → Contains r.tree p ↔ IsWatchable words.now p) }
+    ensures closed { IfOk result (λ r. IsClosed r.tree) }
     ensures rises { IfOk result (λ r. Rises r.tree) }
     ensures visits { IfOk result (λ r. AreVisits words.now r.tree r.visits.items) }
 {

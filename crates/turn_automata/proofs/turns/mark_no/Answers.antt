@@ -2,7 +2,7 @@ use Rattle.std.proofs.Common.{◌≡◌, ◌+◌, ◌<◌, ◌≤◌, length, sl
 use Rattle.std.proofs.lemmas.Option.{slice_get-get_or}
 use Rattle.road_base.specs.declared.ids.Step.{Step}
 use Rattle.road_base.specs.declared.ids.Dir.TheVariants.{Forward}
-use Rattle.turn_automata.proofs.Turning.{marked_end, passed_no}
+use Rattle.turn_automata.proofs.Turning.{marked_end}
 use Rattle.turn_automata.proofs.turns.mark_no.Goals as goal
 
 pub returns : goal.returns

@@ -2,7 +2,7 @@ use Rattle.std.proofs.Common.{◌≡◌, ◌+◌, ◌<◌, ◌≤◌, length, sl
 use Rattle.std.proofs.lemmas.Option.{slice_get-get_or}
 use Rattle.road_base.specs.declared.ids.Step.{Step}
 use Rattle.road_base.specs.declared.ids.Dir.TheVariants.{Forward}
-use Rattle.turn_automata.proofs.Turning.{marked_demand, passed_only}
+use Rattle.turn_automata.proofs.Turning.{marked_demand}
 use Rattle.turn_automata.proofs.turns.mark_only.Goals as goal
 
 pub returns : goal.returns

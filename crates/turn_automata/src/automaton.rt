@@ -1,0 +1,109 @@
+//! The automaton of a list of words.
+ghost use Rattle.std.specs.Prelude.{◌≡◌, ◌↔◌, ◌<◌, List, [], ◌∷◌, ◌++◌, length, false, None, IfOk, IfSome, IsTrue};
+ghost use Rattle.road_base.specs.declared.ids.Step.{Step};
+ghost use Rattle.turn_automata.specs.Watched.{NoIn, Stops};
+ghost use Rattle.turn_automata.specs.Machines.{StandsFor, Watches};
+
+use crate::falls::{falls_of, longest};
+use crate::tree::{Tree, list_len};
+use crate::turns::{Turns, stops, turns_of};
+use crate::visits::{Reading, read_words};
+use restrictions::{Word, WordList};
+use road_base::{NoMemory, Step};
+use std::alloc::Global;
+use std::marker::Model;
+
+/// A state of an automaton, by its number. It stands for a list of steps.
+#[derive(Clone, Copy, Debug, PartialEq, Eq)]
+pub struct State(pub usize);
+
+/// Watches for words. Contracts see the words, and the list of steps for which each state stands: the proper prefixes of
+/// the words, and the list of no steps.
+#[derive(Drop)]
+pub struct Automaton {
+    words: WordList,
+    tree: Tree,
+    falls: Vec<usize>,
+    turns: Turns,
+    stopped: bool,
+}
+
+impl Model for Automaton {
+    ghost use Rattle.turn_automata.specs.Machines.{Machine, IsMachine};
+
+    ghost Value = { Machine };
+
+    ghost view = { λ a. record { words = a.words; states = a.tree } };
+
+    ghost invariant = { λ a. IsMachine a.words a.tree a.falls.items a.turns a.stopped };
+}
+
+impl Automaton {
+    /// The automaton of any words, also such that have no steps, one step, or the binding length 0. With n steps in all
+    /// words together it takes time of the order of n log n, and memory of the order of n.
+    pub fn of(alloc: Global, words: &WordList) -> Result<Automaton, NoMemory>
+        ensures { IfOk result (λ a. a.words ≡ words.now) }
+    {
+        let list = words.items();
+        let Reading { tree, visits } = read_words(alloc, list)?;
+        let falls = falls_of(alloc, &tree)?;
+        let turns = turns_of(alloc, list, &tree, visits.as_slice())?;
+        let stopped = has_empty_no(list);
+        let words = words.copy()?;
+        Ok(Automaton {
+            words,
+            tree,
+            falls,
+            turns,
+            stopped,
+        })
+    }
+
+    /// The state after this step alone. Takes no memory, and the time of one look-up.
+    pub fn start(&self, step: Step) -> State
+        ensures { Watches self.now result.0 (step ∷ []) }
+    {
+        State(longest(&self.tree, self.falls.as_slice(), 0, step))
+    }
+
+    /// The state after one more step, None exactly where the words stop it: where a No word ends with the step, or some
+    /// step must come and this one isn't one that must. Takes no memory, and four look-ups for each list to which the
+    /// state falls, at most as many as its list has steps.
+    pub fn go(&self, state: State, step: Step) -> Option<State>
+        requires { state.0 < length self.now.states }
+        ensures none { (p : List Step) → StandsFor self.now state.0 p → (result ≡ None) ↔ Stops self.now.words p step }
+        ensures some { IfSome result (λ next. (p : List Step) → StandsFor self.now state.0 p → Watches self.now next.0 (p ++ step ∷ [])) }
+        ensures known { IfSome result (λ next. next.0 < length self.now.states) }
+    {
+        if self.stopped || stops(&self.turns, self.falls.as_slice(), state.0, step) {
+            return None;
+        }
+        Some(State(longest(&self.tree, self.falls.as_slice(), state.0, step)))
+    }
+
+    /// How many steps the state's list has. Takes the time of so many look-ups.
+    pub fn watched_len(&self, state: State) -> usize
+        requires { state.0 < length self.now.states }
+        ensures { (p : List Step) → StandsFor self.now state.0 p → result ≡ length p }
+    {
+        list_len(&self.tree, state.0)
+    }
+}
+
+/// Whether a No word has no steps.
+fn has_empty_no(words: &[Word]) -> bool
+    ensures { IsTrue result ↔ NoIn words.now [] }
+{
+    for word in words {
+        if is_empty_no(word) {
+            return true;
+        }
+    }
+    false
+}
+
+fn is_empty_no(word: &Word) -> bool
+    ensures { IsTrue result ↔ ((word.now.only ≡ false) × (word.now.steps ≡ [])) }
+{
+    !word.only && word.steps.items().is_empty()
+}
