@@ -99,9 +99,11 @@ module _ {S : Type 0} (ps : List (List S)) (closed : IsClosed ps) where
     where
       none : length left.end ≡ 0
       none = ap length (one_stands ps 0 left.end [] left.at closed.empty)
+
       alone : (c : List S) → length c ≡ 0 → c ≡ []
       alone [] l = refl
       alone (z ∷ c) l = absurd (omega arith)
+
       by : (a b : List S) → p ++ s ∷ [] ≡ a ++ b → Contains ps b → Ends b → length b ≤ length begun.list
       by a b e h (Nil z) = let l : length b ≡ 0 = ap length z in omega arith
       by a b e h (Last c y z) =
@@ -182,7 +184,7 @@ module _ {S : Type 0} (ps : List (List S)) (closed : IsClosed ps) where
 
   pub falls_more : (falls new : List ℕ) (f : ℕ) → new ≡ falls ++ f ∷ [] → AreFalls ps falls
       → ((x : S) (d : List S) → Stands ps (length falls) (x ∷ d) → IsLongestIn ps d f) → AreFalls ps new
-  falls_more falls new f e are next n x d h st = elim (cases n (length falls) (subst (λ v. n < length v) e h ) ) [
+  falls_more falls new f e are next n x d h st = elim (cases n (length falls) (subst (λ v. n < length v) e h)) [
     | inl l ↦ subst (IsLongestIn ps d) (sym (ap (λ v. get_or v n 0) e ∙ get_or_append_left falls (f ∷ []) 0 n l)) (are n x d l st)
     | inr l ↦ subst (IsLongestIn ps d) (sym (ap (λ v. get_or v n 0) e ∙ ap (λ i. get_or (falls ++ f ∷ []) i 0) l ∙ get_or-append_seam falls f [] 0)) (next x d (subst (λ i. Stands ps i (x ∷ d)) l st))
   ]

@@ -30,11 +30,11 @@ module _ (es : List (ℕ × Step)) (old new : BTreeMap (ℕ × Step) ℕ) (fs : 
   from_more k i y h = elim (old_or_new k i y h) [
     | inl o ↦ tree.from k i y o
     | inr o ↦
-      let e : i ≡ n = ap (λ (d : ℕ × Step). d.0) o.1 in
-      let k' : k ≡ length es = o.0 in
-      let within : n < length (lists_of es) = slice_get_within (lists_of es) n p st in
-      let l : length (lists_of es) ≡ length es + 1 = length_lists es in
-      omega arith
+        let e : i ≡ n = ap (λ (d : ℕ × Step). d.0) o.1 in
+        let k' : k ≡ length es = o.0 in
+        let within : n < length (lists_of es) = slice_get_within (lists_of es) n p st in
+        let l : length (lists_of es) ≡ length es + 1 = length_lists es in
+        omega arith
   ]
 
   found_old : (k i : ℕ) (y : Step) → slice_get es k ≡ Some (i, y) → get edge_cmp new (i, y) ≡ Some (suc k)

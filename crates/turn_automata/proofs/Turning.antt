@@ -83,7 +83,7 @@ module _ (W : List Word) (vs : List Visit) (v : Visit) (w : Word) (of : slice_ge
         → AreMarked W vs t → AreMarked W (vs ++ v ∷ []) (record { ends = new; demanded = t.demanded; demanding = t.demanding })
     marked_end t new never last updates old = record {
       ends = put (EndsAt W) vs v edge_cmp edge_exact t.ends new (v.state, x) old.ends updates
-      (record { word = w; of = of; no = never; last = last; state = refl; step = step }) (λ e d. same_edge e d.word d.of d.state d.step);
+          (record { word = w; of = of; no = never; last = last; state = refl; step = step }) (λ e d. same_edge e d.word d.of d.state d.step);
       demanded = skipped (DemandsAt W) vs v (contains edge_cmp t.demanded) old.demanded (no_demands never);
       demanding = skipped (DemandsFrom W) vs v (contains nat_cmp t.demanding) old.demanding (λ n d. no_demands never (n, d.0) d.1);
     }
@@ -145,31 +145,31 @@ module _ (W : List Word) (ps : List (List Step)) (closed : IsClosed ps) (vs : Li
   end_gives : (x : Step) → NoIn W (p ++ x ∷ []) ↔ ((v : Visit) × Contains vs v × EndsAt W v (n, x))
   end_gives x = (
     λ k.
-      let f = found k.word x [] k.among k.is in
-      let l : length k.word.steps ≡ length p + 1 = ap length k.is ∙ length-append p (x ∷ []) in
-      (f.visit, f.among, record { word = k.word; of = f.of; no = k.no; last = l ∙ ap (λ m. m + 1) (sym f.depth); state = f.state; step = f.step }),
+        let f = found k.word x [] k.among k.is in
+        let l : length k.word.steps ≡ length p + 1 = ap length k.is ∙ length-append p (x ∷ []) in
+        (f.visit, f.among, record { word = k.word; of = f.of; no = k.no; last = l ∙ ap (λ m. m + 1) (sym f.depth); state = f.state; step = f.step }),
     λ g.
-      let d = g.2 in
-      let s = spelled g.0 g.1 d.word d.of d.state x d.step in
-      record { word = d.word; among = contains_at W g.0.word d.word d.of; no = d.no; is = no_rest d.word x s.0 s.1 (d.last ∙ ap (λ m. m + 1) (sym s.2)) },
+        let d = g.2 in
+        let s = spelled g.0 g.1 d.word d.of d.state x d.step in
+        record { word = d.word; among = contains_at W g.0.word d.word d.of; no = d.no; is = no_rest d.word x s.0 s.1 (d.last ∙ ap (λ m. m + 1) (sym s.2)) },
   )
 
   demand_gives : (x : Step) → Must W p x ↔ ((v : Visit) × Contains vs v × DemandsAt W v (n, x))
   demand_gives x = (
     λ m.
-      let k = m.word in
-      let f = found k.word x m.rest k.among k.is in
-      let b : k.word.binding ≤ f.visit.depth = let bound = m.bound in let e = k.bound in let d = f.depth in omega arith in
-      (f.visit, f.among, record { word = k.word; of = f.of; only = k.only; bound = b; state = f.state; step = f.step }),
+        let k = m.word in
+        let f = found k.word x m.rest k.among k.is in
+        let b : k.word.binding ≤ f.visit.depth = let bound = m.bound in let e = k.bound in let d = f.depth in omega arith in
+        (f.visit, f.among, record { word = k.word; of = f.of; only = k.only; bound = b; state = f.state; step = f.step }),
     λ g.
-      let d = g.2 in
-      let s = spelled g.0 g.1 d.word d.of d.state x d.step in
-      record {
-        binding = d.word.binding;
-        rest = s.0;
-        word = record { word = d.word; among = contains_at W g.0.word d.word d.of; only = d.only; bound = refl; is = s.1 };
-        bound = let l = s.2 in let b = d.bound in omega arith;
-      },
+        let d = g.2 in
+        let s = spelled g.0 g.1 d.word d.of d.state x d.step in
+        record {
+          binding = d.word.binding;
+          rest = s.0;
+          word = record { word = d.word; among = contains_at W g.0.word d.word d.of; only = d.only; bound = refl; is = s.1 };
+          bound = let l = s.2 in let b = d.bound in omega arith;
+        },
   )
 
 pub turns_are : (W : List Word) (ps : List (List Step)) → IsClosed ps → (vs : List Visit) → AreVisits W ps vs → (t : Turns) → AreMarked W vs t → AreTurns W ps t
@@ -235,8 +235,8 @@ module _ (W : List Word) (p : List Step) (s : Step) where
   stops_last ps fs t is some left r same = (
     λ h. stops_behind left.front left.end left.is (same.0 h),
     λ g.
-      let f = stopped ps is.lists some g in
-      let none : left.end ≡ [] = one_stands ps 0 left.end [] left.at is.closed.empty in
-      let e : f.1 ≡ left.end = empty_of f.1 left.end (left.others f.0 f.1 f.2 f.3) none in
-      same.1 (subst (λ b. StopsAt W b s) e f.3.1),
+        let f = stopped ps is.lists some g in
+        let none : left.end ≡ [] = one_stands ps 0 left.end [] left.at is.closed.empty in
+        let e : f.1 ≡ left.end = empty_of f.1 left.end (left.others f.0 f.1 f.2 f.3) none in
+        same.1 (subst (λ b. StopsAt W b s) e f.3.1),
   )

@@ -105,22 +105,22 @@ module _ (W : List Word) (ps : List (List Step)) (vs : List Visit) (n : ℕ) (ol
     followed = λ j x less here w of more. elim (below_cases j n less) [
       | inl l ↦ old.followed j x l here w of more
       | inr e ↦
-        let same : x ≡ v = one_stands vs n x v (subst (λ i. slice_get vs i ≡ Some x) e here) at in
-        let l : length w.steps ≡ v.depth + 1 = last w (subst (λ (y : Visit). slice_get W y.word ≡ Some w) same of) in
-        let d : x.depth ≡ v.depth = ap (λ (y : Visit). y.depth) same in
-        absurd (omega arith)
+          let same : x ≡ v = one_stands vs n x v (subst (λ i. slice_get vs i ≡ Some x) e here) at in
+          let l : length w.steps ≡ v.depth + 1 = last w (subst (λ (y : Visit). slice_get W y.word ≡ Some w) same of) in
+          let d : x.depth ≡ v.depth = ap (λ (y : Visit). y.depth) same in
+          absurd (omega arith)
     ];
     watched = old.watched;
     rises = old.rises;
     order = old.order;
     near = λ x here u has.
-      let a : u.depth ≤ v.depth + 1 = old.near v at u has in
-      let b : v.depth ≤ x.depth = old.order n (n + 1) v x at here (omega arith) in
-      omega arith;
+        let a : u.depth ≤ v.depth + 1 = old.near v at u has in
+        let b : v.depth ≤ x.depth = old.order n (n + 1) v x at here (omega arith) in
+        omega arith;
     short = λ x here p has.
-      let a : length p ≤ v.depth + 1 = old.short v at p has in
-      let b : v.depth ≤ x.depth = old.order n (n + 1) v x at here (omega arith) in
-      omega arith;
+        let a : length p ≤ v.depth + 1 = old.short v at p has in
+        let b : v.depth ≤ x.depth = old.order n (n + 1) v x at here (omega arith) in
+        omega arith;
   }
 
   -- the step behind was visited too
@@ -156,13 +156,13 @@ module _ (W : List Word) (ps : List (List Step)) (vs : List Visit) (n : ℕ) (ol
       | inl h ↦ elim (below_cases j n less) [
         | inl l ↦ reaches x.word (x.depth + 1) (old.followed j x l h w of more)
         | inr e ↦
-          let same : x ≡ v = one_stands vs n x v (subst (λ i. slice_get vs i ≡ Some x) e h) at in
-          record {
-            visit = u;
-            among = Contains-push vs u;
-            of = next.of ∙ ap (λ (y : Visit). y.word) (sym same);
-            at = next.depth ∙ ap (λ (y : Visit). y.depth + 1) (sym same);
-          }
+            let same : x ≡ v = one_stands vs n x v (subst (λ i. slice_get vs i ≡ Some x) e h) at in
+            record {
+              visit = u;
+              among = Contains-push vs u;
+              of = next.of ∙ ap (λ (y : Visit). y.word) (sym same);
+              at = next.depth ∙ ap (λ (y : Visit). y.depth + 1) (sym same);
+            }
       ]
       | inr h ↦ let e : j ≡ length vs = h.0 in let l = within in absurd (omega arith)
     ]
@@ -178,10 +178,10 @@ module _ (W : List Word) (ps : List (List Step)) (vs : List Visit) (n : ℕ) (ol
       | inl h ↦ elim (grown_cases ps qs next.is.before grown j q b) [
         | inl k ↦ old.rises i j p q h k le
         | inr k ↦
-          let low : length p ≤ v.depth + 1 = old.short v at p (contains_at ps i p h) in
-          let l : length q ≡ length next.is.before = ap length k.1 in
-          let m = list_length in
-          omega arith
+            let low : length p ≤ v.depth + 1 = old.short v at p (contains_at ps i p h) in
+            let l : length q ≡ length next.is.before = ap length k.1 in
+            let m = list_length in
+            omega arith
       ]
       | inr h ↦ elim (grown_cases ps qs next.is.before grown j q b) [
         | inl k ↦ let e : i ≡ length ps = h.0 in let l : j < length ps = slice_get_within ps j q k in absurd (omega arith)
@@ -194,10 +194,10 @@ module _ (W : List Word) (ps : List (List Step)) (vs : List Visit) (n : ℕ) (ol
       | inl h ↦ elim (stands_cases vs u k y b) [
         | inl i ↦ old.order j k x y h i le
         | inr i ↦
-          let near : x.depth ≤ v.depth + 1 = old.near v at x (contains_at vs j x h) in
-          let d : y.depth ≡ u.depth = ap (λ (z : Visit). z.depth) i.1 in
-          let m = next.depth in
-          omega arith
+            let near : x.depth ≤ v.depth + 1 = old.near v at x (contains_at vs j x h) in
+            let d : y.depth ≡ u.depth = ap (λ (z : Visit). z.depth) i.1 in
+            let m = next.depth in
+            omega arith
       ]
       | inr h ↦ elim (stands_cases vs u k y b) [
         | inl i ↦ let e : j ≡ length vs = h.0 in let l : k < length vs = slice_get_within vs k y i in absurd (omega arith)

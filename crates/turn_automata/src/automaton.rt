@@ -13,12 +13,11 @@ use road_base::{NoMemory, Step};
 use std::alloc::Global;
 use std::marker::Model;
 
-/// A state of an automaton, by its number. It stands for a list of steps.
+/// A state of an automaton, by its number. It stands for a proper prefix of a word, or for no steps.
 #[derive(Clone, Copy, Debug, PartialEq, Eq)]
 pub struct State(pub usize);
 
-/// Watches for words. Contracts see the words, and the list of steps for which each state stands: the proper prefixes of
-/// the words, and the list of no steps.
+/// Watches for words. Contracts see the words, and the list of steps for which each state stands.
 #[derive(Drop)]
 pub struct Automaton {
     words: WordList,
@@ -39,8 +38,7 @@ impl Model for Automaton {
 }
 
 impl Automaton {
-    /// The automaton of any words, also such that have no steps, one step, or the binding length 0. With n steps in all
-    /// words together it takes time of the order of n log n, and memory of the order of n.
+    /// The automaton of any words, also of such as have no steps, one step, or the binding length 0.
     pub fn of(alloc: Global, words: &WordList) -> Result<Automaton, NoMemory>
         ensures { IfOk result (λ a. a.words ≡ words.now) }
     {
@@ -59,16 +57,16 @@ impl Automaton {
         })
     }
 
-    /// The state after this step alone. Takes no memory, and the time of one look-up.
+    /// The state after this step alone. Takes no memory.
     pub fn start(&self, step: Step) -> State
-        ensures { Watches self.now result.0 (step ∷ []) }
+        ensures state { Watches self.now result.0 (step ∷ []) }
+        ensures known { result.0 < length self.now.states }
     {
         State(longest(&self.tree, self.falls.as_slice(), 0, step))
     }
 
     /// The state after one more step, None exactly where the words stop it: where a No word ends with the step, or some
-    /// step must come and this one isn't one that must. Takes no memory, and four look-ups for each list to which the
-    /// state falls, at most as many as its list has steps.
+    /// step must come and this one isn't one that must. The state must be one of this automaton's. Takes no memory.
     pub fn go(&self, state: State, step: Step) -> Option<State>
         requires { state.0 < length self.now.states }
         ensures none { (p : List Step) → StandsFor self.now state.0 p → (result ≡ None) ↔ Stops self.now.words p step }
@@ -81,7 +79,7 @@ impl Automaton {
         Some(State(longest(&self.tree, self.falls.as_slice(), state.0, step)))
     }
 
-    /// How many steps the state's list has. Takes the time of so many look-ups.
+    /// How many steps the state's list has. Takes time of the order of their number.
     pub fn watched_len(&self, state: State) -> usize
         requires { state.0 < length self.now.states }
         ensures { (p : List Step) → StandsFor self.now state.0 p → result ≡ length p }

@@ -68,5 +68,9 @@ fn fall_of(tree: &Tree, falls: &[usize], list: usize) -> usize
 {
     tree.closed();
     let (from, by) = tree.edge(list);
-    if from == 0 { 0 } else { longest(tree, falls, falls[from], by) }
+    if from == 0 {
+        0
+    } else {
+        longest(tree, falls, falls[from], by)
+    }
 }

@@ -1,4 +1,10 @@
-//! Automata that watch for the words of restrictions while a drive grows step by step.
+//! Automata that watch for the words of restrictions while a drive grows step by step: whether the next step ends a No word,
+//! or an Only word demands another one, is told by the state alone.
+//!
+//! The states are the proper prefixes of the words, in a tree, and each falls to the longest shorter one that ends it. With
+//! n steps in all words together, `of` takes time of the order of n log n and memory of the order of n. With s states
+//! a look-up takes time of the order of log s; `start` takes one, and `go` four for each state that it falls to, at most as
+//! many as the state has steps. Neither takes memory.
 #![tactic(auto)]
 
 mod automaton;
@@ -9,3 +15,6 @@ mod turns;
 mod visits;
 
 pub use automaton::{Automaton, State};
+
+#[cfg(test)]
+mod tests;

@@ -46,7 +46,7 @@ impl Tree {
         self.edges.len() + 1
     }
 
-    /// Each list is there once, and with it all that it begins with. Does nothing.
+    /// A law: each list is there once, and with it all that it begins with.
     pub fn closed(&self)
         ensures { IsClosed self.now }
     {
@@ -102,7 +102,7 @@ impl Tree {
     }
 }
 
-/// How many steps the list has. Takes as many look-ups.
+/// How many steps the list has, one by one.
 pub fn list_len(tree: &Tree, list: usize) -> usize
     requires { list < length tree.now }
     ensures { (p : List Step) → Stands tree.now list p → result ≡ length p }

@@ -57,7 +57,12 @@ pub fn stops(turns: &Turns, falls: &[usize], list: usize, step: Step) -> bool
 }
 
 /// The turns of all words.
-pub fn turns_of(alloc: Global, words: &[Word], tree: &Tree, visits: &[Visit]) -> Result<Turns, NoMemory>
+pub fn turns_of(
+    alloc: Global,
+    words: &[Word],
+    tree: &Tree,
+    visits: &[Visit],
+) -> Result<Turns, NoMemory>
     requires { AreVisits words.now tree.now visits.now }
     ensures { IfOk result (λ t. AreTurns words.now tree.now t) }
 {

@@ -27,7 +27,7 @@ loop-list-preserved c =
       len = ap length e ∙ l ∙ ap (λ n. n + 1) c.loop-list.invariant.len;
       descends = descends_more falls c.push-in-loop-list.new.self.items f e c.loop-list.invariant.descends (subst (λ n. f < n) (sym c.loop-list.invariant.len) c.fall_of-fall.ensures.less);
       falls = falls_more c.args.tree.now c.closed.ensures falls c.push-in-loop-list.new.self.items f e c.loop-list.invariant.falls
-      (subst (λ n. (x : Step) (d : List Step) → Stands c.args.tree.now n (x ∷ d) → IsLongestIn c.args.tree.now d f) (sym c.loop-list.invariant.len) c.fall_of-fall.ensures.longest);
+          (subst (λ n. (x : Step) (d : List Step) → Stands c.args.tree.now n (x ∷ d) → IsLongestIn c.args.tree.now d f) (sym c.loop-list.invariant.len) c.fall_of-fall.ensures.longest);
     }
 
 pub returns-clause-len : goal.returns-clause-len

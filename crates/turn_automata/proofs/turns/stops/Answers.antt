@@ -21,7 +21,7 @@ loop-end-preserved c =
     record {
       within = omega (arith, down, c.loop-end.invariant.within);
       left = λ W ps is p st. falls_back ps is.closed (IsStopped W ps c.args.step) (λ b h. h.0) c.args.falls.now is.falls p c.loop-end.end c.loop-end-test.true c.loop-end.invariant.within (c.loop-end.invariant.left W ps is p st)
-      (λ q at g. false≢true (sym c.if-stop_at.false ∙ (c.stop_at.ensures W ps q is.turns at).1 g.1));
+          (λ q at g. false≢true (sym c.if-stop_at.false ∙ (c.stop_at.ensures W ps q is.turns at).1 g.1));
     }
 
 pub returns : goal.returns

@@ -17,7 +17,7 @@ returns-then-self-clause-none c =
       λ _. elim c.then-self.branch [
         | then-self-via-then-self w ↦ empty_stops a.words a.tree a.falls.items a.turns a.stopped is w.if-self.true p c.args.step
         | then-self-via-else-self+then-stops w ↦
-          (w.stops.ensures a.words a.tree (watching_there a.words a.tree a.falls.items w.as_slice.result.now a.turns a.stopped is w.as_slice.ensures.value) (none_empty a.words a.tree a.falls.items a.turns a.stopped is w.if-self.false) p st).0 w.if-stops.true
+            (w.stops.ensures a.words a.tree (watching_there a.words a.tree a.falls.items w.as_slice.result.now a.turns a.stopped is w.as_slice.ensures.value) (none_empty a.words a.tree a.falls.items a.turns a.stopped is w.if-self.false) p st).0 w.if-stops.true
       ],
       λ _. refl,
     ))

@@ -3,8 +3,8 @@ use Rattle.turn_automata.specs.Machines.{Watches}
 use Rattle.turn_automata.proofs.Running.{watches, falls_there}
 use Rattle.turn_automata.proofs.automaton.Automaton.start.Goals as goal
 
-pub returns : goal.returns
-returns c =
+pub returns-clause-state : goal.returns-clause-state
+returns-clause-state c =
     let a = c.self.inside in
     let is = c.self.invariant in
     subst (λ m. Watches m c.longest.result (c.args.step ∷ [])) c.self.view_is
