@@ -1,8 +1,7 @@
 -- How the longest list is found that ends the steps driven: from one list to the longest shorter one that ends it.
-use Rattle.std.proofs.Common.{◌≡◌, ℕ, zero, suc, ◌+◌, ◌<◌, ◌≤◌, ◌⊎◌, inl, inr, List, [], ◌∷◌, ◌++◌, length, get_or, slice_get, Some, Contains, refl, sym, ap, subst, ◌∙◌, arith, append_assoc, append-nil, length-append}
+use Rattle.std.proofs.Common.{◌≡◌, ℕ, suc, ◌+◌, ◌<◌, ◌≤◌, ◌⊎◌, inl, inr, List, [], ◌∷◌, ◌++◌, length, get_or, Contains, refl, sym, ap, subst, ◌∙◌, arith, append_assoc, length-append}
 use Rattle.std.proofs.lemmas.List.{get_or_append_left}
 use Rattle.std.proofs.Math.Seq.{get_or-append_seam}
-use Rattle.road_model.specs.Contexts.{IsLongestEnd}
 use Rattle.turn_automata.specs.Trees.{Stands, Rises, IsClosed}
 use Rattle.turn_automata.specs.Falls.{IsLongestIn, AreFalls, Descends}
 use Rattle.turn_automata.proofs.Ends.{Ends, Nil, Last, ends, same_last, shorter_end, longest_grows, cons_not_nil}

@@ -1,9 +1,9 @@
 -- The lists of a tree: each edge leads to the list with its step behind, and all that a list begins with is there.
-use Rattle.std.proofs.Common.{◌≡◌, ℕ, zero, suc, ◌+◌, ◌<◌, ◌≤◌, ◌⊎◌, inl, inr, List, [], ◌∷◌, ◌++◌, length, get_or, slice_get, Option, None, Some, IfSome, IfNone, Contains, refl, sym, ap, subst, ◌∙◌, arith, length-append}
-use Rattle.std.proofs.lemmas.Option.{slice_get_within, slice_get-get_or, get_or_from_slice_get}
+use Rattle.std.proofs.Common.{◌≡◌, ℕ, zero, suc, ◌+◌, ◌<◌, ◌≤◌, List, [], ◌∷◌, ◌++◌, length, get_or, slice_get, Option, None, Some, Contains, refl, sym, ap, subst, ◌∙◌, arith, length-append}
+use Rattle.std.proofs.lemmas.Option.{slice_get_within, slice_get-get_or}
 use Rattle.turn_automata.specs.Trees.{Stands, grown, lists_of, IsClosed}
 use Rattle.turn_automata.proofs.Ends.{Ends, Nil, Last, ends, same_last, cons_not_nil}
-use Rattle.turn_automata.proofs.Standing.{stands_left, stands_last, one_stands, some_at, contains_at, at_contains}
+use Rattle.turn_automata.proofs.Standing.{stands_left, stands_last, one_stands, some_at, at_contains}
 
 module _ {S : Type 0} where
   pub length_grown : (ps : List (List S)) (es : List (ℕ × S)) → length (grown ps es) ≡ length ps + length es

@@ -1,9 +1,9 @@
 -- A tree stays one when a new list joins it.
-use Rattle.std.proofs.Common.{◌≡◌, ℕ, suc, ◌+◌, ◌<◌, ◌≤◌, ◌⊎◌, inl, inr, Bool, true, false, cond, List, [], ◌∷◌, ◌++◌, length, get_or, slice_get, Option, None, Some, Contains, refl, sym, ap, subst, ◌∙◌, arith}
+use Rattle.std.proofs.Common.{◌≡◌, ℕ, suc, ◌+◌, ◌<◌, ◌≤◌, ◌⊎◌, inl, inr, Bool, true, false, List, [], ◌∷◌, ◌++◌, length, get_or, slice_get, Some, Contains, refl, sym, ap, subst, ◌∙◌, arith}
 use Rattle.std.specs.BTreeMap.{BTreeMap, get, is_at, Updates}
 use Rattle.std.proofs.lemmas.Option.{slice_get_within, get_or_from_slice_get}
 use Rattle.road_base.specs.declared.ids.Step.{Step}
-use Rattle.turn_automata.specs.Trees.{Stands, grown, lists_of, edge_cmp, IsTree}
+use Rattle.turn_automata.specs.Trees.{Stands, lists_of, edge_cmp, IsTree}
 use Rattle.turn_automata.proofs.Standing.{stands_left, stands_last, stands_cases, contains_at}
 use Rattle.turn_automata.proofs.Growing.{length_lists, grown_push, leads}
 use Rattle.turn_automata.proofs.Keys.{edge_exact, found_exact}

@@ -1,13 +1,12 @@
 -- The states of an automaton stand for what is watched, and its answers are those of the words.
-use Rattle.std.proofs.Common.{◌≡◌, ℕ, ◌+◌, ◌<◌, ◌≤◌, ◌⊎◌, ◌↔◌, inl, inr, Bool, true, false, IsTrue, List, [], ◌∷◌, ◌++◌, length, slice_get, Some, Contains, refl, sym, ap, subst, ◌∙◌, arith, append-nil, length-append}
+use Rattle.std.proofs.Common.{◌≡◌, ℕ, ◌+◌, ◌<◌, ◌↔◌, inl, Bool, true, false, List, [], ◌∷◌, ◌++◌, length, Contains, sym, ap, subst, ◌∙◌, arith, append-nil, length-append}
 use Rattle.std.proofs.lemmas.Bool.{false≢true}
 use Rattle.road_base.specs.declared.ids.Step.{Step}
-use Rattle.road_model.specs.Contexts.{IsLongestEnd}
 use Rattle.restrictions.specs.declared.word_list.Word.{Word}
 use Rattle.turn_automata.specs.declared.turns.Turns.{Turns}
 use Rattle.turn_automata.specs.Trees.{Stands}
 use Rattle.turn_automata.specs.Falls.{IsLongestIn, AreFalls}
-use Rattle.turn_automata.specs.Watched.{IsWatchable, Watched, NoIn, Stops}
+use Rattle.turn_automata.specs.Watched.{IsWatchable, NoIn, Stops}
 use Rattle.turn_automata.specs.Turns.{IsWatching}
 use Rattle.turn_automata.specs.Machines.{Watches, IsMachine}
 use Rattle.turn_automata.proofs.Standing.{one_stands, some_at}

@@ -1,6 +1,5 @@
 -- The turns that visits give are those of the words, and with the falls they tell which steps the words stop.
-use Rattle.std.proofs.Common.{◌≡◌, ℕ, zero, suc, ◌+◌, ◌<◌, ◌≤◌, ◌⊎◌, ◌↔◌, inl, inr, Bool, true, false, cond, not, IsTrue, List, [], ◌∷◌, ◌++◌, length, get_or, slice_get, Some, Contains, refl, sym, ap, subst, ◌∙◌, arith, append_assoc, length-append}
-use Rattle.std.proofs.lemmas.Option.{slice_get_within}
+use Rattle.std.proofs.Common.{◌≡◌, ℕ, suc, ◌+◌, ◌≤◌, ◌↔◌, inl, inr, Bool, true, false, cond, not, IsTrue, List, [], ◌∷◌, ◌++◌, length, slice_get, Some, Contains, refl, sym, ap, subst, ◌∙◌, arith, append_assoc, length-append}
 use Rattle.std.proofs.lemmas.Bool.{false≢true}
 use Rattle.std.proofs.lemmas.List.Elements.{Contains-append_left, Contains-push, Contains-push_cases}
 use Rattle.std.specs.declared.cmp.Ordering.{Ordering}
@@ -10,18 +9,17 @@ use Rattle.std.specs.BTreeMap.{is_at}
 use Rattle.std.specs.BTreeSet.{BTreeSet, contains, Updates}
 use Rattle.std.proofs.lemmas.Map.Lookups.{exact_unsigned}
 use Rattle.road_base.specs.declared.ids.Step.{Step}
-use Rattle.road_model.specs.Legal.{MustBy}
 use Rattle.restrictions.specs.declared.word_list.Word.{Word}
 use Rattle.turn_automata.specs.declared.visits.Visit.{Visit}
 use Rattle.turn_automata.specs.declared.turns.Turns.{Turns}
 use Rattle.turn_automata.specs.Trees.{Stands, edge_cmp, IsClosed}
-use Rattle.turn_automata.specs.Watched.{IsWatchable, NoIn, OnlyIn, Must, Forbids, Refuses, Stops}
-use Rattle.turn_automata.specs.Visits.{IsVisit, Reaches, AreVisits}
+use Rattle.turn_automata.specs.Watched.{IsWatchable, NoIn, Must, Stops}
+use Rattle.turn_automata.specs.Visits.{AreVisits}
 use Rattle.turn_automata.specs.Turns.{EndsAt, DemandsAt, DemandsFrom, Collects, AreMarked, AreTurns, StopsAt, IsWatching}
 use Rattle.turn_automata.proofs.Ends.{Ends, Nil, Last, ends, same_last}
 use Rattle.turn_automata.proofs.Watching.{no_watchable, must_watchable}
 use Rattle.turn_automata.proofs.Standing.{one_stands, contains_at, at_contains}
-use Rattle.turn_automata.proofs.Visiting.{at_cut, same_cut, visit_length}
+use Rattle.turn_automata.proofs.Visiting.{at_cut, same_cut}
 use Rattle.turn_automata.proofs.Falling.{IsLeft}
 use Rattle.turn_automata.proofs.Keys.{edge_exact, found_exact}
 

@@ -1,5 +1,5 @@
 -- The visits of all steps of all words, each followed by that of the step behind.
-use Rattle.std.proofs.Common.{◌≡◌, ℕ, zero, suc, ◌+◌, ◌-◌, ◌<◌, ◌≤◌, ◌⊎◌, ◌↔◌, inl, inr, List, [], ◌∷◌, ◌++◌, length, get_or, drop, slice_get, Some, Contains, refl, sym, ap, subst, ◌∙◌, arith, append_assoc, length-append}
+use Rattle.std.proofs.Common.{◌≡◌, ℕ, zero, suc, ◌+◌, ◌-◌, ◌<◌, ◌≤◌, ◌⊎◌, ◌↔◌, inl, inr, List, [], ◌∷◌, ◌++◌, length, drop, slice_get, Some, Contains, refl, sym, ap, subst, ◌∙◌, arith, append_assoc, length-append}
 use Rattle.std.proofs.lemmas.Option.{slice_get_within}
 use Rattle.std.proofs.lemmas.List.{drop-append-le}
 use Rattle.std.proofs.lemmas.List.Elements.{Contains-append_left, Contains-push, Contains-push_cases}
@@ -7,10 +7,10 @@ use Rattle.road_base.specs.declared.ids.Step.{Step}
 use Rattle.restrictions.specs.declared.word_list.Word.{Word}
 use Rattle.turn_automata.specs.declared.visits.Visit.{Visit}
 use Rattle.turn_automata.specs.Trees.{Stands, IsGrownBy, IsClosed, Rises}
-use Rattle.turn_automata.specs.Watched.{IsProperPrefix, IsWatchable}
+use Rattle.turn_automata.specs.Watched.{IsWatchable}
 use Rattle.turn_automata.specs.Visits.{IsVisit, Reaches, AreVisits, IsLast, IsNext, AreFirst, AreFollowed}
 use Rattle.turn_automata.specs.Work.{steps_of, work}
-use Rattle.turn_automata.proofs.Standing.{stands_left, stands_last, stands_cases, one_stands, some_at, contains_at, at_contains}
+use Rattle.turn_automata.proofs.Standing.{stands_left, stands_cases, one_stands, contains_at, at_contains}
 
 module _ {X : Type 0} where
   pub at_cut : (a : List X) (x : X) (b : List X) → slice_get (a ++ x ∷ b) (length a) ≡ Some x

@@ -1,10 +1,8 @@
 -- The steps that are watched grow with the drive, and decide as the whole drive does.
-use Rattle.std.proofs.Common.{◌≡◌, ℕ, ◌≤◌, ◌↔◌, ◌⊎◌, inl, inr, List, [], ◌∷◌, ◌++◌, length, refl, sym, ap, subst, ◌∙◌, arith, append_assoc, append-nil}
+use Rattle.std.proofs.Common.{◌≤◌, ◌↔◌, inl, inr, List, [], ◌∷◌, ◌++◌, length, sym, ap, subst, ◌∙◌, append_assoc, append-nil}
 use Rattle.road_base.specs.declared.ids.Step.{Step}
-use Rattle.road_model.specs.Contexts.{IsLongestEnd}
-use Rattle.road_model.specs.Legal.{MustBy}
 use Rattle.restrictions.specs.declared.word_list.Word.{Word}
-use Rattle.turn_automata.specs.Watched.{IsProperPrefix, IsWatchable, Watched, NoIn, OnlyIn, Must, Forbids, Refuses, Stops}
+use Rattle.turn_automata.specs.Watched.{IsWatchable, Watched, NoIn, Must, Forbids, Refuses, Stops}
 use Rattle.turn_automata.proofs.Ends.{Ends, Nil, Last, ends, same_last, shorter_end, cons_not_nil, longest_grows, longest_before}
 
 pub watchable_closed : (W : List Word) (p : List Step) (s : Step) → IsWatchable W (p ++ s ∷ []) → IsWatchable W p

@@ -1,5 +1,5 @@
 -- Where an automaton falls back to: the longest of its lists that ends what was driven.
-use Rattle.std.specs.Prelude.{◌≡◌, ℕ, ◌<◌, List, [], ◌∷◌, length, slice_index, Contains}
+use Rattle.std.specs.Prelude.{ℕ, ◌<◌, List, ◌∷◌, length, slice_index, Contains}
 use Rattle.road_model.specs.Contexts.{IsLongestEnd}
 use Rattle.turn_automata.specs.Trees.{Stands}
 

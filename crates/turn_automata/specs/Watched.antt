@@ -1,5 +1,5 @@
 -- What the words of a list make one watch of the steps that were driven, and which next steps they stop.
-use Rattle.std.specs.Prelude.{◌≡◌, ℕ, ◌⊎◌, List, [], ◌∷◌, ◌++◌, Bool, true, false, Contains}
+use Rattle.std.specs.Prelude.{◌≡◌, ℕ, ◌⊎◌, List, [], ◌∷◌, ◌++◌, true, false, Contains}
 use Rattle.road_base.specs.declared.ids.Step.{Step}
 use Rattle.road_model.specs.Contexts.{IsLongestEnd}
 use Rattle.road_model.specs.Legal.{MustBy}

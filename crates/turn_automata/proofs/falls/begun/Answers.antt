@@ -1,4 +1,4 @@
-use Rattle.std.proofs.Common.{[], ◌∷◌}
+use Rattle.std.proofs.Common.{[]}
 use Rattle.turn_automata.proofs.Falling.{begun_by, nothing_begun}
 use Rattle.turn_automata.proofs.falls.begun.Goals as goal
 

@@ -1,4 +1,4 @@
-use Rattle.std.proofs.Common.{◌≡◌, ◌<◌, [], arith, sym, subst}
+use Rattle.std.proofs.Common.{[], arith, sym, subst}
 use Rattle.turn_automata.specs.Trees.{Stands}
 use Rattle.turn_automata.proofs.Falling.{falls_first, falls_next, falls_below}
 use Rattle.turn_automata.proofs.falls.fall_of.Goals as goal

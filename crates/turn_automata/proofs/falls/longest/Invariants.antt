@@ -1,4 +1,4 @@
-use Rattle.std.proofs.Common.{ℕ, List, ◌<◌, length}
+use Rattle.std.proofs.Common.{List, ◌<◌, length}
 use Rattle.road_base.specs.declared.ids.Step.{Step}
 use Rattle.turn_automata.specs.Trees.{Stands}
 use Rattle.turn_automata.specs.Falls.{AreFalls}

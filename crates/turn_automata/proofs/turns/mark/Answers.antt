@@ -1,4 +1,4 @@
-use Rattle.std.proofs.Common.{List, length, refl, [], ◌∷◌, ◌++◌}
+use Rattle.std.proofs.Common.{length, refl}
 use Rattle.std.proofs.lemmas.Option.{slice_get_read}
 use Rattle.std.proofs.lemmas.Result.{on_ok_weaker}
 use Rattle.turn_automata.proofs.turns.mark.Goals as goal

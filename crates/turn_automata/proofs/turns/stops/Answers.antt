@@ -1,4 +1,4 @@
-use Rattle.std.proofs.Common.{◌≡◌, ◌<◌, false, true, refl, sym, subst, ◌∙◌, arith}
+use Rattle.std.proofs.Common.{◌≡◌, refl, sym, subst, ◌∙◌, arith}
 use Rattle.std.proofs.lemmas.Bool.{false≢true}
 use Rattle.turn_automata.proofs.Falling.{IsLeft, all_left, falls_back}
 use Rattle.turn_automata.proofs.Turning.{IsStopped, stops_behind, stops_last}

@@ -1,4 +1,4 @@
-use Rattle.std.proofs.Common.{◌≡◌, ◌+◌, ◌++◌, ◌∷◌, [], List, Some, None, slice_get, length, ◌<◌, refl, sym, subst}
+use Rattle.std.proofs.Common.{◌≡◌, ◌+◌, length, refl, sym, subst}
 use Rattle.std.proofs.lemmas.Option.{slice_get_read}
 use Rattle.turn_automata.specs.Visits.{IsLast, IsNext, AreFollowed}
 use Rattle.turn_automata.proofs.Standing.{some_is, none_is, contains_at}

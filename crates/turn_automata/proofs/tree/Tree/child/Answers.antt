@@ -1,7 +1,6 @@
-use Rattle.std.proofs.Common.{rules, ◌≡◌, ◌+◌, ◌<◌, suc, List, [], ◌∷◌, ◌++◌, length, Some, None, Contains, sym, ap, subst, ◌∙◌, arith}
+use Rattle.std.proofs.Common.{◌≡◌, ◌+◌, ◌<◌, suc, [], ◌∷◌, ◌++◌, length, Some, None, Contains, sym, ap, subst, ◌∙◌, arith}
 use Rattle.std.specs.BTreeMap.{get}
 use Rattle.std.proofs.lemmas.Option.{slice_get_within}
-use Rattle.road_base.specs.declared.ids.Step.{Step}
 use Rattle.turn_automata.specs.Trees.{Stands, lists_of, edge_cmp}
 use Rattle.turn_automata.proofs.Standing.{if_some, if_none}
 use Rattle.turn_automata.proofs.Growing.{length_lists, leads, no_child}

@@ -1,7 +1,7 @@
-use Rattle.std.proofs.Common.{rules, ◌≡◌, ◌+◌, ◌-◌, ◌<◌, ◌≤◌, ℕ, suc, List, [], ◌∷◌, ◌++◌, length, get_or, slice_get, Some, sym, ap, subst, ◌∙◌, arith}
+use Rattle.std.proofs.Common.{◌≡◌, ◌+◌, ◌-◌, ◌<◌, ◌≤◌, ℕ, suc, List, [], ◌∷◌, ◌++◌, length, get_or, slice_get, Some, sym, ap, subst, arith}
 use Rattle.std.proofs.lemmas.Option.{slice_get_read}
 use Rattle.road_base.specs.declared.ids.Step.{Step}
-use Rattle.turn_automata.specs.Trees.{Stands, lists_of, IsTree}
+use Rattle.turn_automata.specs.Trees.{Stands, lists_of}
 use Rattle.turn_automata.proofs.Growing.{length_lists, leads}
 use Rattle.turn_automata.proofs.tree.Tree.edge.Goals as goal
 

@@ -1,8 +1,5 @@
-use Rattle.std.proofs.Common.{rules, ◌≡◌, ◌+◌, ◌<◌, ℕ, suc, List, [], ◌∷◌, ◌++◌, length, get_or, slice_get, Option, Some, Contains, true, sym, ap, subst, ◌∙◌, arith}
-use Rattle.std.specs.BTreeMap.{get}
-use Rattle.road_base.specs.declared.ids.Step.{Step}
-use Rattle.turn_automata.specs.Trees.{Stands, lists_of, edge_cmp, IsTree}
-use Rattle.turn_automata.proofs.Growing.{length_lists, grown_push}
+use Rattle.std.proofs.Common.{[], ◌∷◌, ◌++◌, length, Contains, sym, ap, subst, ◌∙◌}
+use Rattle.turn_automata.specs.Trees.{Stands, lists_of}
 use Rattle.turn_automata.proofs.Standing.{stands_last, some_at}
 use Rattle.turn_automata.proofs.Joining.{joined, new_list}
 use Rattle.turn_automata.proofs.tree.Tree.grow.Goals as goal

@@ -1,7 +1,4 @@
-use Rattle.std.proofs.Common.{◌≡◌, true, false, sym, ◌∙◌}
-use Rattle.std.specs.BTreeSet.{contains}
-use Rattle.std.specs.Ordering.{nat_cmp}
-use Rattle.turn_automata.specs.Trees.{edge_cmp}
+use Rattle.std.proofs.Common.{sym, ◌∙◌}
 use Rattle.turn_automata.proofs.Turning.{stop_end, stop_none, stop_other}
 use Rattle.turn_automata.proofs.turns.Turns.stop_at.Goals as goal
 
