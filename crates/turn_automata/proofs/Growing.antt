@@ -65,6 +65,17 @@ module _ {S : Type 0} where
         let z : 1 + k ≡ suc k = omega arith in
         subst (λ i. Stands (lists_of es) i (p ++ x ∷ [])) z (grown_at ([] ∷ []) es k n x p h (omega arith) st)
 
+    comes_by : (k n : ℕ) (y : S) (q : List S) (p : List S) (x : S) → slice_get es k ≡ Some (n, y) → Stands (lists_of es) n q → Stands (lists_of es) (suc k) (p ++ x ∷ []) → Comes es (suc k) p x
+    comes_by k n y q p x edge at st =
+        let same = same_last q y p x (one_stands (lists_of es) (suc k) (q ++ y ∷ []) (p ++ x ∷ []) (leads k n y q edge at) st) in
+        record {
+          n = n;
+          k = k;
+          number = refl;
+          edge = subst (λ z. slice_get es k ≡ Some (n, z)) same.last edge;
+          at = subst (Stands (lists_of es) n) same.front at;
+        }
+
     pub comes : (m : ℕ) (p : List S) (x : S) → Stands (lists_of es) m (p ++ x ∷ []) → Comes es m p x
     comes zero p x st = absurd (cons_not_nil p x [] (one_stands (lists_of es) 0 (p ++ x ∷ []) [] st (empty_first es)))
     comes (suc k) p x st =
@@ -73,14 +84,7 @@ module _ {S : Type 0} where
         let e = some_at es k (omega arith) in
         let low : e.0.0 ≤ k = from k e.0.0 e.0.1 e.1 in
         let q = some_at (lists_of es) e.0.0 (omega arith) in
-        let same = same_last q.0 e.0.1 p x (one_stands (lists_of es) (suc k) (q.0 ++ e.0.1 ∷ []) (p ++ x ∷ []) (leads k e.0.0 e.0.1 q.0 e.1 q.1) st) in
-        record {
-          n = e.0.0;
-          k = k;
-          number = refl;
-          edge = subst (λ y. slice_get es k ≡ Some (e.0.0, y)) same.last e.1;
-          at = subst (Stands (lists_of es) e.0.0) same.front q.1;
-        }
+        comes_by k e.0.0 e.0.1 q.0 p x e.1 q.1 st
 
     first_empty : (m : ℕ) → Stands (lists_of es) m [] → m ≡ 0
     first_empty zero st = refl

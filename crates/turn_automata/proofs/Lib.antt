@@ -1,3 +1,4 @@
+pub mod Deciding
 pub mod Ends
 pub mod Falling
 pub mod Growing

@@ -8,7 +8,8 @@ use Rattle.turn_automata.specs.Trees.{Stands}
 use Rattle.turn_automata.specs.Falls.{IsLongestIn, AreFalls}
 use Rattle.turn_automata.specs.Watched.{IsWatchable, NoIn, Stops}
 use Rattle.turn_automata.specs.Turns.{IsWatching}
-use Rattle.turn_automata.specs.Machines.{Watches, IsMachine}
+use Rattle.turn_automata.specs.Machines.{Machine, Watches, IsMachine}
+use Rattle.turn_automata.proofs.Watching.{watched_grows, stops_same}
 use Rattle.turn_automata.proofs.Standing.{one_stands, some_at}
 
 module _ (W : List Word) (ps : List (List Step)) where
@@ -45,3 +46,11 @@ longer ps rest from x q at within edge n len e =
     let same : q ≡ p.0 ++ x ∷ [] = one_stands ps rest q (p.0 ++ x ∷ []) at (edge p.0 p.1) in
     let l : length q ≡ length p.0 + 1 = ap length same ∙ length-append p.0 (x ∷ []) in
     (p.0, p.1, omega arith)
+
+-- what holds of the list of a state holds of each drive of which it is watched
+module _ (m : Machine) (n : ℕ) (d : List Step) (s : Step) (w : Watches m n d) where
+  pub drives_on : (t : ℕ) → Watches m t (w.list ++ s ∷ []) → Watches m t (d ++ s ∷ [])
+  drives_on t next = record { list = next.list; watched = (watched_grows m.words d w.list next.list s w.watched).1 next.watched; is = next.is }
+
+  pub drive_stops : (Is : Type 0) → (Is ↔ Stops m.words w.list s) → Is ↔ Stops m.words d s
+  drive_stops Is h = let same = stops_same m.words d w.list s w.watched in (λ e. same.1 (h.0 e), λ g. h.1 (same.0 g))

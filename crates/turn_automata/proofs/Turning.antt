@@ -14,12 +14,12 @@ use Rattle.turn_automata.specs.declared.visits.Visit.{Visit}
 use Rattle.turn_automata.specs.declared.turns.Turns.{Turns}
 use Rattle.turn_automata.specs.Trees.{Stands, edge_cmp, IsClosed}
 use Rattle.turn_automata.specs.Watched.{IsWatchable, NoIn, Must, Stops}
-use Rattle.turn_automata.specs.Visits.{AreVisits}
+use Rattle.turn_automata.specs.Visits.{Reaches, AreVisits}
 use Rattle.turn_automata.specs.Turns.{EndsAt, DemandsAt, DemandsFrom, Collects, AreMarked, AreTurns, StopsAt, IsWatching}
 use Rattle.turn_automata.proofs.Ends.{Ends, Nil, Last, ends, same_last}
 use Rattle.turn_automata.proofs.Watching.{no_watchable, must_watchable}
 use Rattle.turn_automata.proofs.Standing.{one_stands, contains_at, at_contains}
-use Rattle.turn_automata.proofs.Visiting.{at_cut, same_cut}
+use Rattle.turn_automata.proofs.Visiting.{at_cut, visit_list}
 use Rattle.turn_automata.proofs.Falling.{IsLeft}
 use Rattle.turn_automata.proofs.Keys.{edge_exact, found_exact}
 
@@ -107,23 +107,24 @@ pub record Found (W : List Word) (vs : List Visit) (w : Word) (n : ℕ) (p : Lis
   pub step : slice_get w.steps visit.depth ≡ Some x
 
 module _ (W : List Word) (ps : List (List Step)) (closed : IsClosed ps) (vs : List Visit) (visits : AreVisits W ps vs) (n : ℕ) (p : List Step) (at : Stands ps n p) where
+  found_at : (w : Word) (x : Step) (rest : List Step) → w.steps ≡ p ++ x ∷ rest → (i : ℕ) → slice_get W i ≡ Some w → Reaches vs i (length p) → Found W vs w n p x
+  found_at w x rest e i here r =
+      let v = r.visit in
+      let of : slice_get W v.word ≡ Some w = ap (slice_get W) r.of ∙ here in
+      record {
+        visit = v;
+        among = r.among;
+        of = of;
+        state = closed.once v.state n p (visit_list W ps v (visits.sound v r.among) w p x rest of e r.at) at;
+        depth = r.at;
+        step = ap (λ k. slice_get w.steps k) r.at ∙ ap (λ xs. slice_get xs (length p)) e ∙ at_cut p x rest;
+      }
+
   found : (w : Word) (x : Step) (rest : List Step) → Contains W w → w.steps ≡ p ++ x ∷ rest → Found W vs w n p x
   found w x rest among e =
       let i = at_contains W w among in
       let l : length w.steps ≡ length p + suc (length rest) = ap length e ∙ length-append p (x ∷ rest) in
-      let r = visits.complete i.0 w (length p) i.1 (omega arith) in
-      let is = visits.sound r.visit r.among in
-      let of : slice_get W r.visit.word ≡ Some w = ap (slice_get W) r.of ∙ i.1 in
-      let same : is.word ≡ w = one_stands W r.visit.word is.word w is.of of in
-      let cut : is.before ≡ p = same_cut is.before (is.next ∷ is.rest) p (x ∷ rest) (sym is.steps ∙ ap (λ (z : Word). z.steps) same ∙ e) (is.depth ∙ r.at) in
-      record {
-        visit = r.visit;
-        among = r.among;
-        of = of;
-        state = closed.once r.visit.state n p (subst (Stands ps r.visit.state) cut is.at) at;
-        depth = r.at;
-        step = ap (λ k. slice_get w.steps k) r.at ∙ ap (λ xs. slice_get xs (length p)) e ∙ at_cut p x rest;
-      }
+      found_at w x rest e i.0 i.1 (visits.complete i.0 w (length p) i.1 (omega arith))
 
   -- what stands behind the list in the visited word
   spelled : (v : Visit) → Contains vs v → (w : Word) → slice_get W v.word ≡ Some w → v.state ≡ n → (x : Step) → slice_get w.steps v.depth ≡ Some x

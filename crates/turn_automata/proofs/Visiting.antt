@@ -62,6 +62,13 @@ visit_length W ps v is =
     let d = is.depth in
     omega arith
 
+-- the list of a visit is what stands before its step in the word
+pub visit_list : (W : List Word) (ps : List (List Step)) (v : Visit) → IsVisit W ps v → (w : Word) (p : List Step) (x : Step) (rest : List Step) → slice_get W v.word ≡ Some w → w.steps ≡ p ++ x ∷ rest → v.depth ≡ length p → Stands ps v.state p
+visit_list W ps v is w p x rest of e d =
+    let same : is.word ≡ w = one_stands W v.word is.word w is.of of in
+    let cut : is.before ≡ p = same_cut is.before (is.next ∷ is.rest) p (x ∷ rest) (sym is.steps ∙ ap (λ (z : Word). z.steps) same ∙ e) (is.depth ∙ d) in
+    subst (Stands ps v.state) cut is.at
+
 module _ (W : List Word) (ps qs : List (List Step)) (v : Visit) (is : IsVisit W ps v) (m : ℕ) (s : Step)
     (step : slice_get is.word.steps v.depth ≡ Some s)
     (number : (p : List Step) → Stands ps v.state p → Stands qs m (p ++ s ∷ []))
@@ -317,15 +324,21 @@ module _ (W : List Word) (ps : List (List Step)) (alone : ps ≡ [] ∷ []) (vs 
   }
 
 module _ (W : List Word) (ps : List (List Step)) (closed : IsClosed ps) (vs : List Visit) (n : ℕ) (all : AreFollowed W ps vs n) (done : length vs ≤ n) where
-  reached : (i : ℕ) (w : Word) (k : ℕ) → slice_get W i ≡ Some w → k < length w.steps → Reaches vs i k
-  reached i w zero of h = all.begun i w of h
-  reached i w (suc k) of h =
-      let r = reached i w k of (omega arith) in
+  one_more : (i k word depth : ℕ) → word ≡ i → depth ≡ k → Reaches vs word (depth + 1) → Reaches vs i (suc k)
+  one_more i k word depth of at r =
+      let e : depth + 1 ≡ suc k = omega arith in
+      record { visit = r.visit; among = r.among; of = r.of ∙ of; at = r.at ∙ e }
+
+  behind : (i : ℕ) (w : Word) (k : ℕ) → slice_get W i ≡ Some w → suc k < length w.steps → Reaches vs i k → Reaches vs i (suc k)
+  behind i w k of h r =
       let at = at_contains vs r.visit r.among in
       let low : at.0 < length vs = slice_get_within vs at.0 r.visit at.1 in
       let d : r.visit.depth ≡ k = r.at in
-      let next = all.followed at.0 r.visit (omega arith) at.1 w (ap (slice_get W) r.of ∙ of) (omega arith) in
-      record { visit = next.visit; among = next.among; of = next.of ∙ r.of; at = next.at ∙ ap (λ m. m + 1) r.at ∙ (omega arith) }
+      one_more i k r.visit.word r.visit.depth r.of d (all.followed at.0 r.visit (omega arith) at.1 w (ap (slice_get W) r.of ∙ of) (omega arith))
+
+  reached : (i : ℕ) (w : Word) (k : ℕ) → slice_get W i ≡ Some w → k < length w.steps → Reaches vs i k
+  reached i w zero of h = all.begun i w of h
+  reached i w (suc k) of h = behind i w k of h (reached i w k of (omega arith))
 
   pub all_visits : AreVisits W ps vs
   all_visits = record { sound = all.sound; complete = reached }
@@ -336,11 +349,8 @@ module _ (W : List Word) (ps : List (List Step)) (closed : IsClosed ps) (vs : Li
       let i = at_contains W k.word k.among in
       let l : length k.word.steps ≡ length p + suc (length k.rest) = ap length k.is ∙ length-append p (k.next ∷ k.rest) in
       let r = reached i.0 k.word (length p) i.1 (omega arith) in
-      let is = all.sound r.visit r.among in
-      let same : is.word ≡ k.word = one_stands W i.0 is.word k.word (subst (λ j. slice_get W j ≡ Some is.word) r.of is.of) i.1 in
-      let e : is.before ++ is.next ∷ is.rest ≡ p ++ k.next ∷ k.rest = sym is.steps ∙ ap (λ (w : Word). w.steps) same ∙ k.is in
-      let cut : is.before ≡ p = same_cut is.before (is.next ∷ is.rest) p (k.next ∷ k.rest) e (is.depth ∙ r.at) in
-      contains_at ps r.visit.state p (subst (Stands ps r.visit.state) cut is.at)
+      let v = r.visit in
+      contains_at ps v.state p (visit_list W ps v (all.sound v r.among) k.word p k.next k.rest (ap (slice_get W) r.of ∙ i.1) k.is r.at)
 
   pub all_lists : (p : List Step) → Contains ps p ↔ IsWatchable W p
   all_lists p = (all.watched p, there_if p)

@@ -71,6 +71,8 @@ impl Automaton {
         requires { state.0 < length self.now.states }
         ensures none { (p : List Step) → StandsFor self.now state.0 p → (result ≡ None) ↔ Stops self.now.words p step }
         ensures some { IfSome result (λ next. (p : List Step) → StandsFor self.now state.0 p → Watches self.now next.0 (p ++ step ∷ [])) }
+        ensures stopped { (d : List Step) → Watches self.now state.0 d → (result ≡ None) ↔ Stops self.now.words d step }
+        ensures driven { IfSome result (λ next. (d : List Step) → Watches self.now state.0 d → Watches self.now next.0 (d ++ step ∷ [])) }
         ensures known { IfSome result (λ next. next.0 < length self.now.states) }
     {
         if self.stopped || stops(&self.turns, self.falls.as_slice(), state.0, step) {

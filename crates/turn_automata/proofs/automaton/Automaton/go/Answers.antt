@@ -4,7 +4,7 @@ use Rattle.road_base.specs.declared.ids.Step.{Step}
 use Rattle.turn_automata.specs.declared.automaton.State.{State}
 use Rattle.turn_automata.specs.Watched.{Stops}
 use Rattle.turn_automata.specs.Machines.{Machine, StandsFor, Watches}
-use Rattle.turn_automata.proofs.Running.{watches, falls_there, watching_there, none_empty, empty_stops}
+use Rattle.turn_automata.proofs.Running.{watches, falls_there, watching_there, none_empty, empty_stops, drives_on, drive_stops}
 use Rattle.turn_automata.proofs.automaton.Automaton.go.Goals as goal
 use Rattle.turn_automata.proofs.automaton.Automaton.go.Goals.{then-self-via-then-self, then-self-via-else-self+then-stops}
 
@@ -42,3 +42,12 @@ returns-clause-some c =
     subst (λ (m : Machine). (p : List Step) → StandsFor m c.args.state.0 p → Watches m c.longest.result (p ++ c.args.step ∷ [])) c.self.view_is
     (λ p st. watches a.words a.tree is.watching.lists (p ++ c.args.step ∷ []) c.longest.result
     (c.longest.ensures.longest (falls_there a.words a.tree a.falls.items c.as_slice-2.result.now a.turns a.stopped is c.as_slice-2.ensures.value) p st))
+
+pub returns-then-self-clause-stopped : goal.returns-then-self-clause-stopped
+returns-then-self-clause-stopped c = λ d w. drive_stops c.args.self.now c.args.state.0 d c.args.step w _ (returns-then-self-clause-none c w.list w.is)
+
+pub returns-clause-stopped : goal.returns-clause-stopped
+returns-clause-stopped c = λ d w. drive_stops c.args.self.now c.args.state.0 d c.args.step w _ (returns-clause-none c w.list w.is)
+
+pub returns-clause-driven : goal.returns-clause-driven
+returns-clause-driven c = λ d w. drives_on c.args.self.now c.args.state.0 d c.args.step w c.longest.result (returns-clause-some c w.list w.is)

@@ -1,0 +1,5 @@
+use Rattle.turn_automata.proofs.Deciding.{demanded}
+use Rattle.turn_automata.proofs.laws.unstopped_is_demanded.Goals as goal
+
+pub returns : goal.returns
+returns c = λ W p s free front end x is must. demanded W p s free front end x is must
