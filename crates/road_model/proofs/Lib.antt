@@ -22,5 +22,6 @@ pub mod FiniteRuns
 pub mod Usable
 pub mod FiniteWords
 pub mod WordMembers
+pub mod ShortWords
 pub mod TurnSteps
 pub mod ContextTargets

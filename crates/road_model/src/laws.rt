@@ -181,7 +181,7 @@ pub fn drive_grows<P: Profile>(profile: &P)
         → GoesOn M (P.rules profile.now) d t ↔ Legal M (P.rules profile.now) (d ++ t ∷ []) }
 {}
 
-/// The steps of a word lie on members of its restriction, and are two or more.
+/// The steps of a word lie on members of its restriction, and are at least two and at most 1,026.
 pub fn words_on_ways<P: Profile>(profile: &P)
     ensures members { (M : Objects) (r : RelationId) (only : Bool) (binding : ℕ) (u : List Step) (s : Step)
         → IsWord M (P.rules profile.now) r only binding u
@@ -190,11 +190,14 @@ pub fn words_on_ways<P: Profile>(profile: &P)
     ensures long { (M : Objects) (r : RelationId) (only : Bool) (binding : ℕ) (u : List Step)
         → IsWord M (P.rules profile.now) r only binding u
         → (first : Step) × (middle : List Step) × (last : Step) × (u ≡ first ∷ (middle ++ last ∷ [])) }
+    ensures short { (M : Objects) (r : RelationId) (only : Bool) (binding : ℕ) (u : List Step)
+        → IsWord M (P.rules profile.now) r only binding u
+        → length u ≤ 1026 }
 {}
 
 /// A context of two pieces or more is known by its steps from the last one of its first piece on: they are legal and
 /// begin a word, and each such list of steps up to the last one of a piece is that of one context that ends with this
-/// piece. Where such steps end pieces they name the pieces.
+/// piece. Where such steps end pieces they name the pieces. A context has at most 1,026 pieces.
 pub fn context_steps<P: Profile>(profile: &P)
     ensures single { (M : Objects) (p : Piece) → IsPiece M (P.rules profile.now) p → (last : Step) × HasTurnSteps (p ∷ []) (last ∷ []) }
     ensures to { (M : Objects) (c : List Piece) (a b : Piece) (rest : List Piece)
@@ -219,6 +222,7 @@ pub fn context_steps<P: Profile>(profile: &P)
         → HasTurnSteps c q
         → ((s : Step) (n : PieceName) → Contains q s → (f s ≡ Some n) ↔ EndsPiece M (P.rules profile.now) s n)
         → filter_map f q ≡ map name_of c }
+    ensures short { (M : Objects) (c : List Piece) → IsContext M (P.rules profile.now) c → length c ≤ 1026 }
 {}
 
 /// A piece may follow a context exactly where the piece's first step may go on behind the context's last steps, from the

@@ -1,3 +1,4 @@
+use Rattle.road_model.proofs.ShortWords.{short_context}
 use Rattle.road_model.proofs.TurnSteps.{single, to_steps, from_steps, one_list, names}
 use Rattle.road_model.proofs.laws.context_steps.Goals as goal
 
@@ -15,3 +16,6 @@ returns-clause-one g c M d e q i j h k = one_list M _ d e q i j h k
 
 pub returns-clause-names : goal.returns-clause-names
 returns-clause-names g c M d q f i h k = names M _ f d q i h k
+
+pub returns-clause-short : goal.returns-clause-short
+returns-clause-short g c M d i = short_context M _ d i
