@@ -1,0 +1,102 @@
+#!/usr/bin/env python3
+"""Writes one extract that asks much of a compiler for its size, as OPL.
+
+Use: hostile.py CASE > OUT.opl
+
+CASE is one of
+  twice       a way of 65,535 references that passes each of its nodes twice
+  star        a node with 1,000 ways
+  vias        a rule over 16 via ways of 64 steps each, all nodes junctions
+  prefix      500 rules that share a prefix of 16 via ways
+  rules       a million restrictions on one way
+  members     a restriction of 65,535 members
+  turns       16 members of each role at one node
+"""
+import sys
+
+write = sys.stdout.write
+
+
+def node(n):
+    write('n%d v1 x%d.%07d y1\n' % (n, n // 10**7, n % 10**7))
+
+
+def nodes(first, last):
+    for n in range(first, last + 1):
+        node(n)
+
+
+def way(number, refs):
+    write('w%d v1 Thighway=residential N%s\n' % (number, ','.join('n%d' % r for r in refs)))
+
+
+def rule(number, value, members):
+    write('r%d v1 Ttype=restriction,restriction=%s M%s\n' % (number, value, ','.join(members)))
+
+
+def twice():
+    half = 65535 // 2
+    nodes(1, half + 1)
+    way(1, list(range(1, half + 1)) + list(range(1, half + 1)) + [half + 1])
+
+
+def star():
+    nodes(1, 1001)
+    for i in range(1000):
+        way(i + 1, [1, i + 2])
+
+
+# from node 1 by way 1 to node 2, then 16 ways of 64 steps each, and ways that lead off at the end; each node of these is a junction
+def chain(offs):
+    nodes(1, 3 + 16 * 64 + offs)
+    end = 2 + 16 * 64
+    way(1, [1, 2])
+    for v in range(16):
+        way(2 + v, range(2 + 64 * v, 2 + 64 * (v + 1) + 1))
+    for i in range(offs):
+        way(100 + i, [end, end + 1 + i])
+    # side streets that make each node a junction
+    first = 10**6
+    for n in range(2, end + 1):
+        node(first + n)
+        way(10000 + n, [n, first + n])
+
+
+def vias():
+    chain(1)
+    rule(1, 'no_u_turn', ['w1@from'] + ['w%d@via' % (2 + v) for v in range(16)] + ['w100@to'])
+
+
+def prefix():
+    chain(500)
+    for i in range(500):
+        rule(1 + i, 'no_u_turn', ['w1@from'] + ['w%d@via' % (2 + v) for v in range(16)] + ['w%d@to' % (100 + i)])
+
+
+def rules():
+    nodes(1, 3)
+    way(1, [1, 2])
+    way(2, [2, 3])
+    for i in range(10**6):
+        rule(1 + i, 'no_left_turn', ['w1@from', 'n2@via', 'w2@to'])
+
+
+def members():
+    nodes(1, 3)
+    way(1, [1, 2])
+    way(2, [2, 3])
+    rule(1, 'no_entry', ['w1@from'] * 65533 + ['n2@via', 'w2@to'])
+
+
+def turns():
+    nodes(1, 40)
+    for i in range(16):
+        way(1 + i, [2 + i, 1])
+        way(101 + i, [1, 20 + i])
+    rule(1, 'no_exit', ['w%d@from' % (1 + i) for i in range(16)] + ['n1@via'] + ['w%d@to' % (101 + i) for i in range(16)])
+
+
+cases = {f.__name__: f for f in (twice, star, vias, prefix, rules, members, turns)}
+if len(sys.argv) != 2 or sys.argv[1] not in cases:
+    sys.exit(__doc__)
+cases[sys.argv[1]]()
