@@ -4,7 +4,7 @@ use Rattle.std.specs.declared.cmp.Ordering.TheVariants.{Less, Equal, Greater}
 use Rattle.std.specs.Ordering.{is_lt, is_le, is_gt, ordering_then}
 use Rattle.std.specs.Cmp.{IsTotalOrder}
 use Rattle.std.specs.FinMap.{IsAntisymmetric}
-use Rattle.std.specs.List.{zip}
+use Rattle.std.specs.List.{zip, AllWithin}
 use Rattle.std.specs.List.Sorted.{IsPartitionedBy, IsPartitionPoint}
 use Rattle.std.proofs.lemmas.Bool.{and_parts, and_from, cases_lt}
 use Rattle.std.proofs.lemmas.Cmp.{tied_itself, on_total, then_total, upto}
@@ -54,7 +54,7 @@ then_tied Less s e = cc
 then_tied Equal s e = refl
 then_tied Greater s e = cc
 
-lt_le : (r : Ordering) → is_lt r ≡ true → is_le r ≡ true
+pub lt_le : (r : Ordering) → is_lt r ≡ true → is_le r ≡ true
 lt_le Less h = refl
 lt_le Equal h = cc
 lt_le Greater h = cc
@@ -121,6 +121,23 @@ module _ {A B : Type 0} (R : A → A → Ordering) (S : B → B → Ordering) (t
     | inl l ↦ gt_le _ (upto totalR (slice_index_or keys i a) (slice_index_or keys j a) k (keys_rise i j a (any_value j values refl m) l m) (le_gt _ h))
     | inr ge ↦ let e : j ≡ i = omega arith in subst (λ n. is_le (R (slice_index_or keys n a) k) ≡ true) e h
   ]
+
+  -- where all keys below a place are upto k, and the one there isn't, that place parts them
+  pub upto_point : (k : A) (low high : ℕ) → IsPartitionPoint (λ a. is_lt (R a k) ≡ true) (λ a. is_lt (R a k) ≡ false) keys low → AllWithin (λ a. is_le (R a k) ≡ true) keys low high
+      → ((d : A) → high < length keys → is_le (R (slice_index_or keys high d) k) ≡ false)
+      → IsPartitionPoint (λ a. is_le (R a k) ≡ true) (λ a. is_le (R a k) ≡ false) keys high
+  upto_point k low high parts upto next = (
+    λ i d from within.
+        elim (cases_lt i low) [
+          | inl below ↦ lt_le (R (slice_index_or keys i d) k) (parts.0 i d (omega arith) below)
+          | inr ge ↦ upto i d (omega arith) within
+        ],
+    λ i d from within.
+        elim (is_le (R (slice_index_or keys i d) k)) as (λ t. is_le (R (slice_index_or keys i d) k) ≡ t → t ≡ false) [
+          | true ↦ λ e. absurd (not_both (is_le (R (slice_index_or keys high d) k)) (upto_parted k high i d from within e) (next d (omega arith)))
+          | false ↦ λ e. refl
+        ] refl,
+  )
 
   module _ (exact : IsAntisymmetric R) (k : A) (low high : ℕ) (below : IsPartitionPoint (λ a. is_lt (R a k) ≡ true) (λ a. is_lt (R a k) ≡ false) keys low) (within : IsPartitionPoint (λ a. is_le (R a k) ≡ true) (λ a. is_le (R a k) ≡ false) keys high) (low_fits : low ≤ length keys) (high_fits : high ≤ length keys) where
     pub low_first : low ≤ high

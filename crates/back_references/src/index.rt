@@ -1,5 +1,7 @@
 //! Pairs of a key and a value, in which the values of a key lie side by side.
-ghost use Rattle.std.specs.Prelude.{◌≡◌, ◌↔◌, ◌≤◌, ◌-◌, [], IfOk, IsTrue, Contains, length, map, take, drop};
+ghost use Rattle.std.specs.Prelude.{◌≡◌, ◌↔◌, ◌<◌, ◌≤◌, ◌-◌, [], true, false, IfOk, IsTrue, Contains, length, map, take, drop, slice_index_or};
+ghost use Rattle.std.specs.List.{AllWithin};
+ghost use Rattle.std.specs.Ordering.{is_le};
 ghost use Rattle.std.specs.FinMap.{IsAntisymmetric};
 ghost use Rattle.road_model.specs.Orders.{Lists, rises};
 ghost use Rattle.back_references.specs.Pairs.{pair_cmp};
@@ -52,14 +54,14 @@ impl<K: Ord + Copy, V: Ord + Copy> Index<K, V> {
         Ok(Index { keys, values })
     }
 
-    /// The values of a key, ascending.
+    /// The values of a key, ascending. Takes the time of a search, and of the values.
     pub fn at(&self, key: K) -> &[V]
         requires { IsAntisymmetric K.cmp }
         ensures { Lists (λ v. v) V.cmp (λ v. Contains self.now (key, v)) result.now }
     {
         let keys = self.keys.as_slice();
         let low = keys.partition_point(|other| other.cmp(&key).is_lt());
-        let high = keys.partition_point(|other| other.cmp(&key).is_le());
+        let high = end_from(keys, low, key);
         part(self.values.as_slice(), low, high)
     }
 }
@@ -73,6 +75,23 @@ fn put_in_order<K: Ord + Copy, V: Ord + Copy>(pairs: &mut Vec<(K, V)>)
 {
     pairs.sort_unstable();
     pairs.dedup();
+}
+
+/// The first position from `low` on at which a key above this one stands. The keys of one node or way are few, so they are
+/// gone through.
+fn end_from<K: Ord + Copy>(keys: &[K], low: usize, key: K) -> usize
+    requires { low ≤ length keys.now }
+    ensures from { low ≤ result }
+    ensures bound { result ≤ length keys.now }
+    ensures upto { AllWithin (λ a. is_le (K.cmp a key) ≡ true) keys.now low result }
+    ensures next { (d : K) → result < length keys.now → is_le (K.cmp (slice_index_or keys.now result d) key) ≡ false }
+{
+    for at in low..keys.len() {
+        if !keys[at].cmp(&key).is_le() {
+            return at;
+        }
+    }
+    keys.len()
 }
 
 fn firsts<K: Copy, V: Copy>(alloc: Global, pairs: &[(K, V)]) -> Result<Vec<K>, AllocError>

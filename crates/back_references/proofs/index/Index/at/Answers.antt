@@ -1,10 +1,10 @@
-use Rattle.std.proofs.Common.{rules, ◌≡◌, ◌≤◌, ◌-◌, true, false, length, take, drop, sym, ap, ◌∙◌, subst, Contains}
+use Rattle.std.proofs.Common.{rules, ◌≡◌, ◌<◌, ◌≤◌, ◌-◌, slice_index_or, true, false, length, take, drop, sym, ap, ◌∙◌, subst, Contains}
 use Rattle.std.specs.Ordering.{is_lt, is_le}
-use Rattle.std.specs.List.{zip}
+use Rattle.std.specs.List.{zip, AllWithin}
 use Rattle.std.specs.List.Sorted.{IsPartitionedBy, IsPartitionPoint}
 use Rattle.std.proofs.lemmas.List.Sorted.{IsPartitionPoint-from_clause}
 use Rattle.road_model.specs.Orders.{Lists}
-use Rattle.back_references.proofs.Lookups.{below_parted, upto_parted, low_first, found_lists}
+use Rattle.back_references.proofs.Lookups.{below_parted, upto_point, low_first, found_lists}
 use Rattle.back_references.proofs.index.Index.at.Goals as goal
 
 pub part-requires-clause-rising : goal.part-requires-clause-rising
@@ -15,11 +15,14 @@ part-requires-clause-rising g c =
     let values = c.self.inside.values.items in
     let e = c.as_slice-keys.ensures.value in
     let below = IsPartitionPoint-from_clause (λ a. is_lt (R a c.args.key)) _ _ c.partition_point-low.ensures.partitioned (subst (λ l. IsPartitionedBy (λ a. is_lt (R a c.args.key)) l) (sym e) (below_parted R S g.met.K.Ord.total g.met.V.Ord.total keys values c.self.invariant.0 c.self.invariant.1 c.args.key)) (λ a r q k. search rules) in
-    let within = IsPartitionPoint-from_clause (λ a. is_le (R a c.args.key)) _ _ c.partition_point-high.ensures.partitioned (subst (λ l. IsPartitionedBy (λ a. is_le (R a c.args.key)) l) (sym e) (upto_parted R S g.met.K.Ord.total g.met.V.Ord.total keys values c.self.invariant.0 c.self.invariant.1 c.args.key)) (λ a r q k. search rules) in
+    let within = upto_point R S g.met.K.Ord.total g.met.V.Ord.total keys values c.self.invariant.0 c.self.invariant.1 c.args.key c.partition_point-low.result c.end_from-high.result
+    (subst (λ l. IsPartitionPoint (λ a. is_lt (R a c.args.key) ≡ true) (λ a. is_lt (R a c.args.key) ≡ false) l c.partition_point-low.result) e below)
+    (subst (λ l. AllWithin (λ a. is_le (R a c.args.key) ≡ true) l c.partition_point-low.result c.end_from-high.result) e c.end_from-high.ensures.upto)
+    (subst (λ l. (d : _) → c.end_from-high.result < length l → is_le (R (slice_index_or l c.end_from-high.result d) c.args.key) ≡ false) e c.end_from-high.ensures.next) in
     low_first R S g.met.K.Ord.total g.met.V.Ord.total keys values c.self.invariant.0 c.self.invariant.1 c.requires c.args.key _ _
     (subst (λ l. IsPartitionPoint (λ a. is_lt (R a c.args.key) ≡ true) (λ a. is_lt (R a c.args.key) ≡ false) l c.partition_point-low.result) e below)
-    (subst (λ l. IsPartitionPoint (λ a. is_le (R a c.args.key) ≡ true) (λ a. is_le (R a c.args.key) ≡ false) l c.partition_point-high.result) e within)
-    (subst (λ l. c.partition_point-low.result ≤ length l) e c.partition_point-low.ensures.bound) (subst (λ l. c.partition_point-high.result ≤ length l) e c.partition_point-high.ensures.bound)
+    within
+    (subst (λ l. c.partition_point-low.result ≤ length l) e c.partition_point-low.ensures.bound) (subst (λ l. c.end_from-high.result ≤ length l) e c.end_from-high.ensures.bound)
 
 pub returns : goal.returns
 returns g c =
@@ -29,10 +32,13 @@ returns g c =
     let values = c.self.inside.values.items in
     let e = c.as_slice-keys.ensures.value in
     let below = IsPartitionPoint-from_clause (λ a. is_lt (R a c.args.key)) _ _ c.partition_point-low.ensures.partitioned (subst (λ l. IsPartitionedBy (λ a. is_lt (R a c.args.key)) l) (sym e) (below_parted R S g.met.K.Ord.total g.met.V.Ord.total keys values c.self.invariant.0 c.self.invariant.1 c.args.key)) (λ a r q k. search rules) in
-    let within = IsPartitionPoint-from_clause (λ a. is_le (R a c.args.key)) _ _ c.partition_point-high.ensures.partitioned (subst (λ l. IsPartitionedBy (λ a. is_le (R a c.args.key)) l) (sym e) (upto_parted R S g.met.K.Ord.total g.met.V.Ord.total keys values c.self.invariant.0 c.self.invariant.1 c.args.key)) (λ a r q k. search rules) in
+    let within = upto_point R S g.met.K.Ord.total g.met.V.Ord.total keys values c.self.invariant.0 c.self.invariant.1 c.args.key c.partition_point-low.result c.end_from-high.result
+    (subst (λ l. IsPartitionPoint (λ a. is_lt (R a c.args.key) ≡ true) (λ a. is_lt (R a c.args.key) ≡ false) l c.partition_point-low.result) e below)
+    (subst (λ l. AllWithin (λ a. is_le (R a c.args.key) ≡ true) l c.partition_point-low.result c.end_from-high.result) e c.end_from-high.ensures.upto)
+    (subst (λ l. (d : _) → c.end_from-high.result < length l → is_le (R (slice_index_or l c.end_from-high.result d) c.args.key) ≡ false) e c.end_from-high.ensures.next) in
     let lists = found_lists R S g.met.K.Ord.total g.met.V.Ord.total keys values c.self.invariant.0 c.self.invariant.1 c.requires c.args.key _ _
     (subst (λ l. IsPartitionPoint (λ a. is_lt (R a c.args.key) ≡ true) (λ a. is_lt (R a c.args.key) ≡ false) l c.partition_point-low.result) e below)
-    (subst (λ l. IsPartitionPoint (λ a. is_le (R a c.args.key) ≡ true) (λ a. is_le (R a c.args.key) ≡ false) l c.partition_point-high.result) e within)
-    (subst (λ l. c.partition_point-low.result ≤ length l) e c.partition_point-low.ensures.bound) (subst (λ l. c.partition_point-high.result ≤ length l) e c.partition_point-high.ensures.bound) in
+    within
+    (subst (λ l. c.partition_point-low.result ≤ length l) e c.partition_point-low.ensures.bound) (subst (λ l. c.end_from-high.result ≤ length l) e c.end_from-high.ensures.bound) in
     subst (λ ps. Lists (λ v. v) S (λ v. Contains ps (c.args.key, v)) c.part.result.now) c.self.view_is
-    (subst (λ l. Lists (λ v. v) S (λ v. Contains (zip keys values) (c.args.key, v)) l) (sym (c.part.ensures ∙ ap (λ l. take (c.partition_point-high.result - c.partition_point-low.result) (drop c.partition_point-low.result l)) c.as_slice.ensures.value)) lists)
+    (subst (λ l. Lists (λ v. v) S (λ v. Contains (zip keys values) (c.args.key, v)) l) (sym (c.part.ensures ∙ ap (λ l. take (c.end_from-high.result - c.partition_point-low.result) (drop c.partition_point-low.result l)) c.as_slice.ensures.value)) lists)
