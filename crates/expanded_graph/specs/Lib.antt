@@ -1,2 +1,5 @@
+pub mod Known
+pub mod Near
+pub mod States
 pub mod Travel
 pub mod Turning

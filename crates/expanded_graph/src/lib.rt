@@ -11,5 +11,7 @@ mod contexts;
 mod intersections;
 mod pieces;
 mod places;
+mod states;
+mod words;
 
 pub use block::build_block;

@@ -1,7 +1,8 @@
 //! The automaton of a list of words.
-ghost use Rattle.std.specs.Prelude.{◌≡◌, ◌↔◌, ◌<◌, List, [], ◌∷◌, ◌++◌, length, false, None, IfOk, IfSome, IsTrue};
+ghost use Rattle.std.specs.Prelude.{◌≡◌, ◌↔◌, ◌<◌, List, [], ◌∷◌, ◌++◌, length, false, None, IfOk, IfSome, IsTrue, Contains};
 ghost use Rattle.road_base.specs.declared.ids.Step.{Step};
-ghost use Rattle.turn_automata.specs.Watched.{NoIn, Stops};
+ghost use Rattle.turn_automata.specs.Trees.{IsClosed};
+ghost use Rattle.turn_automata.specs.Watched.{IsWatchable, NoIn, Stops};
 ghost use Rattle.turn_automata.specs.Machines.{StandsFor, Watches};
 
 use crate::falls::{falls_of, longest};
@@ -55,6 +56,31 @@ impl Automaton {
             turns,
             stopped,
         })
+    }
+
+    /// How many states there are. The first one, with the number 0, stands for no steps.
+    pub fn len(&self) -> usize
+        ensures { result ≡ length self.now.states }
+    {
+        self.tree.len()
+    }
+
+    /// The number of the state whose list is this one's without its last step, and that step.
+    pub fn edge(&self, state: usize) -> (usize, Step)
+        requires grown { 0 < state }
+        requires within { state < length self.now.states }
+        ensures less { result.0 < state }
+        ensures is { (p : List Step) → StandsFor self.now result.0 p → StandsFor self.now state (p ++ result.1 ∷ []) }
+    {
+        self.tree.edge(state)
+    }
+
+    /// The states stand for the proper prefixes of the words and for no steps, each for another list. Does nothing.
+    pub fn closed(&self)
+        ensures closed { IsClosed self.now.states }
+        ensures lists { (p : List Step) → Contains self.now.states p ↔ IsWatchable self.now.words p }
+    {
+        let _tree = &self.tree;
     }
 
     /// The state after this step alone. Takes no memory.

@@ -1,0 +1,144 @@
+//! The words that matter on a way.
+ghost use Rattle.std.specs.Prelude.{◌≡◌, ◌≤◌, ◌∷◌, ◌↔◌, length, map, Contains, IfOk, OnOk};
+ghost use Rattle.std.specs.List.{All};
+ghost use Rattle.road_base.specs.declared.ids.WayId.{WayId};
+ghost use Rattle.road_base.specs.declared.ids.RelationId.{RelationId};
+ghost use Rattle.restrictions.specs.declared.word_list.Word.{Word};
+ghost use Rattle.restrictions.specs.Words.{IsRestriction};
+ghost use Rattle.expanded_graph.specs.Near.{AreWordsNear};
+ghost use Rattle.expanded_graph.specs.Known.{AreWordsOf, GainsWords, GoesOver, IsOn};
+
+use restrictions::{Word, WordList, WordsError, words};
+use road_base::{NoMemory, RelationId, WayId};
+use road_model::laws::words_on_ways;
+use road_model::{Profile, World};
+use std::alloc::Global;
+
+/// Words of the map, among them all that have a step on a way near this one: the way itself, or one that shares a word of
+/// three steps or more with it.
+pub fn words_near<M: World, P: Profile>(
+    alloc: Global,
+    world: &M,
+    profile: &P,
+    way: WayId,
+) -> Result<WordList, NoMemory>
+    ensures { IfOk result (AreWordsNear (M.objects world.now) (P.rules profile.now) way) }
+{
+    words_on_ways(profile);
+    let own = world.rules_of_way(way);
+    let words = words_of(alloc, world, profile, own)?;
+    let ways = ways_near(alloc, words.as_slice(), way)?;
+    let relations = relations_on(alloc, world, ways.as_slice())?;
+    let near = words_of(alloc, world, profile, relations.as_slice())?;
+    Ok(WordList::from_list(near))
+}
+
+/// The words of these restrictions. One that is of no use gives none.
+fn words_of<M: World, P: Profile>(
+    alloc: Global,
+    world: &M,
+    profile: &P,
+    relations: &[RelationId],
+) -> Result<Vec<Word>, NoMemory>
+    requires { All (IsRestriction (M.objects world.now)) relations.now }
+    ensures { IfOk result (λ v. AreWordsOf (M.objects world.now) (P.rules profile.now) relations.now v.items) }
+{
+    let mut list = Vec::new(alloc);
+    for relation in relations {
+        add_words(alloc, &mut list, world, profile, *relation)?;
+    }
+    Ok(list)
+}
+
+/// Adds the words of the restriction.
+fn add_words<M: World, P: Profile>(
+    alloc: Global,
+    list: &mut Vec<Word>,
+    world: &M,
+    profile: &P,
+    relation: RelationId,
+) -> Result<(), NoMemory>
+    requires { IsRestriction (M.objects world.now) relation }
+    ensures { OnOk result (GainsWords (M.objects world.now) (P.rules profile.now) relation list.old.items list.new.items) }
+{
+    match words(alloc, world, profile, relation) {
+        Ok(more) => append(list, more.items()),
+        Err(WordsError::Unusable(_)) => Ok(()),
+        Err(WordsError::NoMemory) => Err(NoMemory),
+    }
+}
+
+/// Adds equal words.
+fn append(list: &mut Vec<Word>, more: &[Word]) -> Result<(), NoMemory>
+    ensures { OnOk result (list.new.items ≡ list.old.items ++ more.now) }
+{
+    for word in more {
+        list.push(word.copy()?)?;
+    }
+    Ok(())
+}
+
+/// The way, and those on which its words of three steps or more have a step.
+fn ways_near(alloc: Global, words: &[Word], way: WayId) -> Result<Vec<WayId>, NoMemory>
+    ensures own { IfOk result (λ v. Contains v.items way) }
+    ensures shared { IfOk result (λ v. (u : Word) (w : WayId) → Contains words.now u → GoesOver u w → Contains v.items w) }
+{
+    let mut ways = Vec::new(alloc);
+    ways.push(way)?;
+    for word in words {
+        add_ways(&mut ways, word)?;
+    }
+    Ok(ways)
+}
+
+/// Adds the ways of a word of three steps or more, each once for the steps on it that follow each other.
+fn add_ways(ways: &mut Vec<WayId>, word: &Word) -> Result<(), NoMemory>
+    ensures kept { OnOk result ((w : WayId) → Contains ways.old.items w → Contains ways.new.items w) }
+    ensures shared { OnOk result ((w : WayId) → GoesOver word.now w → Contains ways.new.items w) }
+{
+    let steps = word.steps.items();
+    if steps.len() < 3 {
+        return Ok(());
+    }
+    for step in steps {
+        add_way(ways, step.way)?;
+    }
+    Ok(())
+}
+
+/// Adds the way, unless it stands last.
+fn add_way(ways: &mut Vec<WayId>, way: WayId) -> Result<(), NoMemory>
+    ensures kept { OnOk result ((w : WayId) → Contains ways.old.items w → Contains ways.new.items w) }
+    ensures there { OnOk result (Contains ways.new.items way) }
+{
+    if ways.last() == Some(&way) {
+        return Ok(());
+    }
+    ways.push(way)?;
+    Ok(())
+}
+
+/// The restrictions of which one of the ways is a member, each once.
+fn relations_on<M: World>(
+    alloc: Global,
+    world: &M,
+    ways: &[WayId],
+) -> Result<Vec<RelationId>, NoMemory>
+    ensures sound { IfOk result (λ v. All (IsRestriction (M.objects world.now)) v.items) }
+    ensures all { IfOk result (λ v. (w : WayId) (r : RelationId) → Contains ways.now w → IsOn (M.objects world.now) w r → Contains v.items r) }
+{
+    let mut relations = Vec::new(alloc);
+    for way in ways {
+        relations.extend_from_slice(world.rules_of_way(*way))?;
+    }
+    leave_once(&mut relations);
+    Ok(relations)
+}
+
+/// Each number once, ascending.
+fn leave_once(relations: &mut Vec<RelationId>)
+    ensures { (r : RelationId) → Contains relations.new.items r ↔ Contains relations.old.items r }
+{
+    relations.sort_unstable();
+    relations.dedup();
+}
