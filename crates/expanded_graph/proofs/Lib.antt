@@ -5,3 +5,4 @@ pub mod Passing
 pub mod Following
 pub mod Travelling
 pub mod Writing
+pub mod WordsNear
