@@ -6,3 +6,6 @@ pub mod Following
 pub mod Travelling
 pub mod Writing
 pub mod WordsNear
+pub mod Runs
+pub mod Stopping
+pub mod LastSteps

@@ -1,5 +1,5 @@
 -- What is gathered on the way to the words near a way, and to the facts of states.
-use Rattle.std.specs.Prelude.{◌≡◌, ℕ, ◌≤◌, ◌↔◌, List, [], ◌∷◌, ◌++◌, length, filter_map, Option, Some, IsTrue, Contains, slice_get}
+use Rattle.std.specs.Prelude.{◌≡◌, ℕ, ◌≤◌, ◌↔◌, List, [], ◌∷◌, ◌++◌, length, filter_map, Bool, Option, Some, IsTrue, Contains, slice_get}
 use Rattle.road_base.specs.declared.ids.WayId.{WayId}
 use Rattle.road_base.specs.declared.ids.RelationId.{RelationId}
 use Rattle.road_base.specs.declared.ids.Step.{Step}
@@ -7,13 +7,21 @@ use Rattle.road_base.specs.declared.ids.Key.TheVariants.{Way as WayKey}
 use Rattle.road_base.specs.Objects.{Objects}
 use Rattle.road_model.specs.declared.lists.PieceName.{PieceName}
 use Rattle.road_model.specs.Rules.{Rules}
+use Rattle.road_model.specs.Pieces.{spell}
+use Rattle.road_model.specs.Orders.{Lists, name_cmp}
 use Rattle.road_model.specs.Links.{HasMember}
 use Rattle.road_model.specs.Network.{Legal}
 use Rattle.road_model.specs.Turning.{EndsPiece}
 use Rattle.restrictions.specs.declared.word_list.Word.{Word}
 use Rattle.restrictions.specs.Words.{IsWordOf}
+use Rattle.turn_automata.specs.Machines.{Machine, StandsFor}
+use Rattle.way_pieces.specs.declared.spans.PieceSpan.{PieceSpan}
+use Rattle.way_pieces.specs.Names.{IsSpanOn, piece_of}
 use Rattle.expanded_graph.specs.declared.states.StateFacts.{StateFacts}
-use Rattle.expanded_graph.specs.Near.{IsNear}
+use Rattle.expanded_graph.specs.declared.last_steps.CutWay.{CutWay}
+use Rattle.expanded_graph.specs.Near.{IsNear, AreWordsNear}
+
+-- ---- words
 
 -- words of these restrictions alone, and all of them
 pub record AreWordsOf (M : Objects) (P : Rules) (rs : List RelationId) (words : List Word) : Type 0 where
@@ -37,18 +45,40 @@ pub record GoesOver (u : Word) (v : WayId) : Type 0 where
 abbrev pub IsOn : Objects → WayId → RelationId → Type 0
 IsOn M v r = HasMember M r (WayKey v)
 
--- the piece that the step ends, if there is one
-abbrev pub IsEnding : Objects → Rules → Step → Option PieceName → Type 0
-IsEnding M P s ending = (n : PieceName) → (ending ≡ Some n) ↔ EndsPiece M P s n
+-- ---- states
 
--- The facts of the state with the list q, where each step may end a piece, and the pieces are as many as the steps that
--- do.
-pub record IsKnown (M : Objects) (P : Rules) (w : WayId) (q : List Step) (f : StateFacts) : Type 0 where
-  pub legal : (q ≡ [] → ⊥) → ((s : Step) → Contains q s → IsNear M P w s.way) → IsTrue f.is_legal ↔ Legal M P q
-  pub ends : (b : List Step) (x : Step) → q ≡ b ++ x ∷ [] → IsEnding M P x f.ends
-  pub named : (s : Step) → Contains q s → (ending : Option PieceName) × IsEnding M P s ending
-  pub counted : (name : Step → Option PieceName) → ((s : Step) → Contains q s → IsEnding M P s (name s)) → f.pieces ≡ length (filter_map name q)
+-- the option has the name of the piece that the step ends, if there is one
+abbrev pub NamesEnd : Objects → Rules → Step → Option PieceName → Type 0
+NamesEnd M P s name = (n : PieceName) → (name ≡ Some n) ↔ EndsPiece M P s n
 
--- what is known of the first states
-pub record AreKnown (M : Objects) (P : Rules) (w : WayId) (lists : List (List Step)) (facts : List StateFacts) : Type 0 where
-  pub each : (n : ℕ) (q : List Step) (f : StateFacts) → slice_get lists n ≡ Some q → slice_get facts n ≡ Some f → IsKnown M P w q f
+-- where it is of a way, these are its pieces
+abbrev pub IsCut : Objects → Rules → CutWay → Type 0
+IsCut M P c = (w : WayId) → c.way ≡ Some w → Lists (λ s. s.name) name_cmp (IsSpanOn M P w) c.spans.items
+
+-- the span ends with the step
+abbrev pub IsLastOf : PieceSpan → Step → Type 0
+IsLastOf s x = (front : List Step) × (spell (piece_of s) ≡ front ++ x ∷ [])
+
+-- a span of that name ends with the step
+abbrev pub IsLastOfSome : List PieceSpan → Step → PieceName → Type 0
+IsLastOfSome spans x n = (s : PieceSpan) × Contains spans s × (s.name ≡ n) × IsLastOf s x
+
+-- whether the steps may be driven, told by the words near a way where the steps lie on ways near it
+abbrev pub IsDriven : Objects → Rules → List Word → List Step → Bool → Type 0
+IsDriven M P words q drives = (w : WayId) → AreWordsNear M P w words → ((s : Step) → Contains q s → IsNear M P w s.way) → IsTrue drives ↔ Legal M P q
+
+-- What is known of the state with the list q: each of its steps ends a piece or doesn't, and the pieces are as many as
+-- the steps that do.
+pub record IsKnown (M : Objects) (P : Rules) (words : List Word) (q : List Step) (f : StateFacts) : Type 0 where
+  pub driven : IsDriven M P words q f.is_legal
+  pub ends : (b : List Step) (x : Step) → q ≡ b ++ x ∷ [] → NamesEnd M P x f.ends
+  pub named : (s : Step) → Contains q s → (name : Option PieceName) × NamesEnd M P s name
+  pub counted : (name : Step → Option PieceName) → ((s : Step) → Contains q s → NamesEnd M P s (name s)) → f.pieces ≡ length (filter_map name q)
+
+-- what is known of the states that have facts
+abbrev pub AreKnown : Objects → Rules → Machine → List StateFacts → Type 0
+AreKnown M P m facts = (n : ℕ) (q : List Step) (f : StateFacts) → StandsFor m n q → slice_get facts n ≡ Some f → IsKnown M P m.words q f
+
+-- no list has more steps than a word may have
+abbrev pub AreAllShort : List (List Step) → Type 0
+AreAllShort lists = (q : List Step) → Contains lists q → length q ≤ 1026

@@ -9,6 +9,7 @@ mod arcs;
 mod block;
 mod contexts;
 mod intersections;
+mod last_steps;
 mod pieces;
 mod places;
 mod states;

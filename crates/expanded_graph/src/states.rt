@@ -1,12 +1,19 @@
 //! The states in which one may be on a way, and what is known of each.
-ghost use Rattle.std.specs.Prelude.{◌≡◌, IfOk};
+ghost use Rattle.std.specs.Prelude.{◌≡◌, ◌<◌, ◌∷◌, ◌++◌, [], List, length, false, None, IfOk};
+ghost use Rattle.std.specs.Option.{option_to_list};
+ghost use Rattle.road_base.specs.declared.ids.Step.{Step};
+ghost use Rattle.turn_automata.specs.Machines.{StandsFor};
+ghost use Rattle.expanded_graph.specs.Known.{NamesEnd, IsKnown, AreKnown, AreAllShort, IsDriven};
 ghost use Rattle.expanded_graph.specs.States.{AreStates};
 
+use crate::last_steps::{CutWay, piece_ending};
 use crate::words::words_near;
-use road_base::{NoMemory, WayId};
+use road_base::{NoMemory, Step, WayId};
+use road_model::laws::{context_steps, drive_grows, drive_parts, words_on_ways};
 use road_model::{PieceName, Profile, World};
 use std::alloc::Global;
-use turn_automata::Automaton;
+use turn_automata::{Automaton, State};
+use way_lines::{drivable, pass};
 
 /// What is known of a state: whether its steps may be driven, the piece that its last step ends, and how many pieces its
 /// steps spell.
@@ -34,7 +41,113 @@ impl States {
     ) -> Result<States, NoMemory>
         ensures { IfOk result (λ s. AreStates (M.objects world.now) (P.rules profile.now) way s.automaton.words s.automaton.states s.facts.items) }
     {
-        let _words = words_near(alloc, world, profile, way)?;
-        Err(NoMemory)
+        words_on_ways(profile);
+        context_steps(profile);
+        let words = words_near(alloc, world, profile, way)?;
+        let automaton = Automaton::of(alloc, &words)?;
+        automaton.closed();
+        let facts = facts_of(alloc, world, profile, &automaton)?;
+        Ok(States { automaton, facts })
     }
+}
+
+/// What is known of each state.
+fn facts_of<M: World, P: Profile>(
+    alloc: Global,
+    world: &M,
+    profile: &P,
+    automaton: &Automaton,
+) -> Result<Vec<StateFacts>, NoMemory>
+    requires { AreAllShort automaton.now.states }
+    ensures count { IfOk result (λ v. length v.items ≡ length automaton.now.states) }
+    ensures known { IfOk result (λ v. AreKnown (M.objects world.now) (P.rules profile.now) automaton.now v.items) }
+{
+    automaton.closed();
+    let mut cut = CutWay::none(alloc);
+    let mut facts = Vec::with_capacity(alloc, automaton.len())?;
+    facts.push(at_rest())?;
+    for state in 1..automaton.len() {
+        let (before, step) = automaton.edge(state);
+        let ends = piece_ending(alloc, world, profile, &mut cut, step)?;
+        let fact = fact_of(world, profile, automaton, facts.as_slice(), before, step, ends);
+        facts.push(fact)?;
+    }
+    Ok(facts)
+}
+
+/// What is known of the state of no steps.
+fn at_rest() -> StateFacts
+    ensures legal { result.is_legal ≡ false }
+    ensures ends { result.ends ≡ None }
+    ensures pieces { result.pieces ≡ 0 }
+{
+    StateFacts {
+        is_legal: false,
+        ends: None,
+        pieces: 0,
+    }
+}
+
+/// What is known of the state that grew from the state before by the step.
+fn fact_of<M: World, P: Profile>(
+    world: &M,
+    profile: &P,
+    automaton: &Automaton,
+    facts: &[StateFacts],
+    before: usize,
+    step: Step,
+    ends: Option<PieceName>,
+) -> StateFacts
+    requires short { AreAllShort automaton.now.states }
+    requires within { before < length facts.now }
+    requires state { before < length automaton.now.states }
+    requires known { AreKnown (M.objects world.now) (P.rules profile.now) automaton.now facts.now }
+    requires ends { NamesEnd (M.objects world.now) (P.rules profile.now) step ends }
+    ensures { (p : List Step) → StandsFor automaton.now before p → IsKnown (M.objects world.now) (P.rules profile.now) automaton.now.words (p ++ step ∷ []) result }
+{
+    StateFacts {
+        is_legal: is_legal(world, profile, automaton, facts, before, step),
+        ends,
+        pieces: facts[before].pieces + count(ends),
+    }
+}
+
+/// How many names there are.
+fn count(ends: Option<PieceName>) -> u32
+    ensures { result ≡ length (option_to_list ends) }
+{
+    match ends {
+        Some(_) => 1,
+        None => 0,
+    }
+}
+
+/// Whether the steps of the state before and this one behind them may be driven.
+fn is_legal<M: World, P: Profile>(
+    world: &M,
+    profile: &P,
+    automaton: &Automaton,
+    facts: &[StateFacts],
+    before: usize,
+    step: Step,
+) -> bool
+    requires within { before < length facts.now }
+    requires state { before < length automaton.now.states }
+    requires known { AreKnown (M.objects world.now) (P.rules profile.now) automaton.now facts.now }
+    ensures { (p : List Step) → StandsFor automaton.now before p → IsDriven (M.objects world.now) (P.rules profile.now) automaton.now.words (p ++ step ∷ []) result }
+{
+    automaton.closed();
+    words_on_ways(profile);
+    drive_grows(profile);
+    drive_parts(profile);
+    if !drivable(world, profile, step) {
+        return false;
+    }
+    if before == 0 {
+        return true;
+    }
+    let (_, last) = automaton.edge(before);
+    facts[before].is_legal
+        && pass(world, profile, last, step)
+        && automaton.go(State(before), step).is_some()
 }

@@ -1,0 +1,129 @@
+-- Where lists of steps end, and their turn steps.
+use Rattle.std.proofs.Common.{◌≡◌, ℕ, ◌+◌, ◌<◌, ◌≤◌, List, [], ◌∷◌, ◌++◌, length, ◌⊎◌, inl, inr, refl, sym, ap, ◌∙◌, subst, arith, append_assoc, append-nil, length-append, zero, suc, slice_get, Some}
+use Rattle.std.proofs.lemmas.Option.{same_Some}
+use Rattle.road_base.specs.declared.ids.Step.{Step}
+use Rattle.road_base.specs.Objects.{Objects}
+use Rattle.road_model.specs.Rules.{Rules}
+use Rattle.road_model.specs.Pieces.{Piece, IsPiece, spell}
+use Rattle.road_model.specs.Contexts.{Every, One, Many}
+use Rattle.road_model.specs.Network.{IsContext, spell_pieces}
+use Rattle.road_model.specs.Turning.{HasTurnSteps}
+use Rattle.expanded_graph.proofs.Members.{In}
+use Rattle.expanded_graph.proofs.Ends.{spell_begins}
+
+pub cons_not_nil : {A : Type 0} (a : List A) (x : A) (b : List A) → a ++ x ∷ b ≡ [] → ⊥
+cons_not_nil [] x b e = cc
+cons_not_nil (y ∷ a) x b e = cc
+
+pub same_ends : {A : Type 0} (a b : List A) (x y : A) → a ++ x ∷ [] ≡ b ++ y ∷ [] → (a ≡ b) × (x ≡ y)
+same_ends [] [] x y e = (refl, cc)
+same_ends [] (z ∷ b) x y e = absurd (cons_not_nil b y [] (cc))
+same_ends (z ∷ a) [] x y e = absurd (cons_not_nil a x [] (cc))
+same_ends (z ∷ a) (w ∷ b) x y e = let r = same_ends a b x y (cc) in let f = r.0 in (cc, r.1)
+
+pub nil_right : {A : Type 0} (a u : List A) → [] ≡ a ++ u → u ≡ []
+nil_right [] u e = sym e
+nil_right (x ∷ a) u e = cc
+
+-- u is the end of d that stands behind a, and x behind it
+pub record EndsBy {A : Type 0} (d a u : List A) (x : A) : Type 0 where
+  pub rest : List A
+  pub is : u ≡ rest ++ x ∷ []
+  pub front : d ≡ a ++ rest
+
+pub cut_last : {A : Type 0} (d a u : List A) (x : A) → d ++ x ∷ [] ≡ a ++ u → (u ≡ []) ⊎ EndsBy d a u x
+cut_last [] [] u x e = inr (record { rest = []; is = sym e; front = refl })
+cut_last [] (y ∷ a) u x e = inl (nil_right a u (cc))
+cut_last (z ∷ d) [] u x e = inr (record { rest = z ∷ d; is = sym e; front = refl })
+cut_last (z ∷ d) (y ∷ a) u x e =
+    let head : z ≡ y = cc in
+    elim (cut_last d a u x (cc)) [ inl n ↦ inl n | inr r ↦ inr (record { rest = r.rest; is = r.is; front = let f = r.front in cc }) ]
+
+pub in_end : {A : Type 0} (a : List A) (x : A) (b : List A) → In x (a ++ x ∷ b)
+in_end [] x b = inl refl
+in_end (y ∷ a) x b = inr (in_end a x b)
+
+pub in_left : {A : Type 0} (a b : List A) (x : A) → In x a → In x (a ++ b)
+in_left [] b x i = absurd i
+in_left (y ∷ a) b x (inl e) = inl e
+in_left (y ∷ a) b x (inr i) = inr (in_left a b x i)
+
+pub nil_or_cons : {A : Type 0} (xs : List A) → (xs ≡ []) ⊎ ((x : A) × (ys : List A) × (xs ≡ x ∷ ys))
+nil_or_cons [] = inl refl
+nil_or_cons (x ∷ xs) = inr (x, xs, refl)
+
+-- a list that isn't empty has a last member
+pub nil_or_last : {A : Type 0} (xs : List A) → (xs ≡ []) ⊎ ((ys : List A) × (x : A) × (xs ≡ ys ++ x ∷ []))
+nil_or_last [] = inl refl
+nil_or_last (x ∷ xs) = inr (elim (nil_or_last xs) [
+  | inl n ↦ ([], x, ap (λ l. x ∷ l) n)
+  | inr r ↦ (x ∷ r.0, r.1, ap (λ l. x ∷ l) r.2)
+])
+
+-- ---- what stands at a place
+
+pub some_at : {A : Type 0} (xs : List A) (i : ℕ) → i < length xs → (x : A) × (slice_get xs i ≡ Some x)
+some_at [] i h = absurd (omega arith)
+some_at (z ∷ xs) zero h = (z, refl)
+some_at (z ∷ xs) (suc i) h = some_at xs i (omega arith)
+
+pub one_at : {A : Type 0} (xs : List A) (i : ℕ) (x y : A) → slice_get xs i ≡ Some x → slice_get xs i ≡ Some y → x ≡ y
+one_at xs i x y h k = same_Some x y (sym h ∙ k)
+
+-- ---- members with a property
+
+pub every_left : {A : Type 0} (Q : A → Type 0) (a b : List A) → Every Q (a ++ b) → Every Q a
+every_left Q [] b e = tt
+every_left Q (x ∷ a) b e = (e.0, every_left Q a b e.1)
+
+pub every_right : {A : Type 0} (Q : A → Type 0) (a b : List A) → Every Q (a ++ b) → Every Q b
+every_right Q [] b e = e
+every_right Q (x ∷ a) b e = every_right Q a b e.1
+
+-- ---- turn steps
+
+pub spell_push : (a : List Piece) (p : Piece) → spell_pieces (a ++ p ∷ []) ≡ spell_pieces a ++ spell p
+spell_push [] p = append-nil (spell p)
+spell_push (x ∷ a) p = ap (λ l. spell x ++ l) (spell_push a p) ∙ sym (append_assoc (spell x) (spell_pieces a) (spell p))
+
+-- turn steps end with the last step of the last piece
+pub turn_ends : (before : List Piece) (p : Piece) (q front : List Step) (last : Step) → HasTurnSteps (before ++ p ∷ []) q → spell p ≡ front ++ last ∷ [] → (a : List Step) × (q ≡ a ++ last ∷ [])
+turn_ends [] p q front last h e =
+    let first : h.first ≡ p = let k = h.is in cc in
+    let none : h.others ≡ [] = let k = h.is in cc in
+    let same = same_ends h.front front h.last last (sym h.ends ∙ (ap spell first ∙ e)) in
+    ([], h.steps ∙ ap (λ l. h.last ∷ spell_pieces l) none ∙ ap (λ s. s ∷ []) same.1)
+turn_ends (x ∷ before) p q front last h e =
+    let others : h.others ≡ before ++ p ∷ [] = let k = h.is in cc in
+    (h.last ∷ (spell_pieces before ++ front), h.steps ∙ ap (λ l. h.last ∷ l) (ap spell_pieces others ∙ (spell_push before p ∙ (ap (λ l. spell_pieces before ++ l) e ∙ sym (append_assoc (spell_pieces before) front (last ∷ []))))))
+
+-- turn steps are those of one list
+pub one_turn : (c : List Piece) (q r : List Step) → HasTurnSteps c q → HasTurnSteps c r → q ≡ r
+one_turn c q r h k =
+    let first : h.first ≡ k.first = let e = h.is in let f = k.is in cc in
+    let others : h.others ≡ k.others = let e = h.is in let f = k.is in cc in
+    let same = same_ends h.front k.front h.last k.last (sym h.ends ∙ (ap spell first ∙ k.ends)) in
+    h.steps ∙ (ap (λ l. h.last ∷ spell_pieces l) others ∙ (ap (λ s. s ∷ spell_pieces k.others) same.1 ∙ sym k.steps))
+
+module _ (M : Objects) (P : Rules) where
+  pub context_pieces : (c : List Piece) → IsContext M P c → Every (IsPiece M P) c
+  context_pieces c (One p e h) = subst (Every (IsPiece M P)) (sym e) (h, tt)
+  context_pieces c (Many m) = m.pieces
+
+  spelled_count : (c : List Piece) → Every (IsPiece M P) c → length c ≤ length (spell_pieces c)
+  spelled_count [] e = omega arith
+  spelled_count (p ∷ c) e =
+      let b = spell_begins p e.0.ascends in
+      let l : length (spell p) ≡ length b.rest + 1 = ap length b.is ∙ omega arith in
+      let k = spelled_count c e.1 in
+      let t = length-append (spell p) (spell_pieces c) in
+      omega arith
+
+  -- there are no more pieces than turn steps
+  pub turn_count : (c : List Piece) (q : List Step) → Every (IsPiece M P) c → HasTurnSteps c q → length c ≤ length q
+  turn_count c q e h =
+      let others = every_right (IsPiece M P) (h.first ∷ []) h.others (subst (Every (IsPiece M P)) h.is e) in
+      let k = spelled_count h.others others in
+      let a : length c ≡ length h.others + 1 = ap length h.is ∙ omega arith in
+      let b : length q ≡ length (spell_pieces h.others) + 1 = ap length h.steps ∙ omega arith in
+      omega arith

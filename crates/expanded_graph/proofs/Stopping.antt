@@ -1,0 +1,210 @@
+-- The words near a way decide what may go on behind steps that end on it or on a way near it.
+use Rattle.std.proofs.Common.{◌≡◌, ℕ, ◌+◌, ◌<◌, ◌≤◌, ◌↔◌, List, [], ◌∷◌, ◌++◌, length, ◌⊎◌, inl, inr, refl, sym, ap, ◌∙◌, subst, arith, append_assoc, length-append, Bool, true, false, Contains}
+use Rattle.std.specs.Ordering.{int_eq}
+use Rattle.std.proofs.lemmas.Bool.{false≢true, cases_Bool, eqb-true, eq-eqb}
+use Rattle.std.proofs.lemmas.Bool.Decides.{Decides-int_eq}
+use Rattle.road_base.specs.declared.ids.Key.{Key}
+use Rattle.road_base.specs.declared.ids.Key.TheVariants.{Node as NodeKey, Way as WayKey, Relation as RelationKey}
+use Rattle.road_base.specs.declared.ids.WayId.{WayId}
+use Rattle.road_base.specs.declared.ids.RelationId.{RelationId}
+use Rattle.road_base.specs.declared.ids.Dir.{Dir}
+use Rattle.road_base.specs.declared.ids.Dir.TheVariants.{Forward, Backward}
+use Rattle.road_base.specs.declared.ids.Step.{Step}
+use Rattle.road_base.specs.Objects.{Objects}
+use Rattle.road_model.specs.Rules.{Rules}
+use Rattle.road_model.specs.Restrictions.{vias}
+use Rattle.road_model.specs.Driving.{Passes}
+use Rattle.road_model.specs.Words.{IsWord, binding_of}
+use Rattle.road_model.specs.Network.{AnyWord, NoWord, OnlyWord, Must, GoesOn}
+use Rattle.road_model.specs.Turning.{BeginsWord}
+use Rattle.restrictions.specs.declared.word_list.Word.{Word}
+use Rattle.turn_automata.specs.Watched.{IsProperPrefix, NoIn, OnlyIn, Must as MustIn, Forbids, Refuses, Stops}
+use Rattle.expanded_graph.specs.Near.{IsNear, AreWordsNear}
+use Rattle.expanded_graph.proofs.Members.{In, in_from_contains, contains_from_in}
+use Rattle.expanded_graph.proofs.Runs.{cons_not_nil, same_ends, cut_last, in_end, in_left}
+
+-- ---- steps and words can be told apart
+
+same_way : (a b : WayId) → (a ≡ b) ⊎ (a ≡ b → ⊥)
+same_way a b = elim (cases_Bool (int_eq a.0 b.0)) [
+  | inl e ↦ inl (let same : a.0 ≡ b.0 = (Decides-int_eq a.0 b.0).0 e in λ i. record { 0 = same i })
+  | inr n ↦ inr (λ e. false≢true (sym n ∙ (Decides-int_eq a.0 b.0).1 (ap (λ w. w.0) e)))
+]
+
+same_dir : (a b : Dir) → (a ≡ b) ⊎ (a ≡ b → ⊥)
+same_dir Forward Forward = inl refl
+same_dir Forward Backward = inr (λ e. cc)
+same_dir Backward Forward = inr (λ e. cc)
+same_dir Backward Backward = inl refl
+
+same_nat : (a b : ℕ) → (a ≡ b) ⊎ (a ≡ b → ⊥)
+same_nat a b = grind arith
+
+pub same_or_not : (s t : Step) → (s ≡ t) ⊎ (s ≡ t → ⊥)
+same_or_not s t = elim (same_way s.way t.way) [
+  | inr n ↦ inr (λ e. n (ap (λ x. x.way) e))
+  | inl w ↦ elim (same_nat s.index t.index) [
+    | inr n ↦ inr (λ e. n (ap (λ x. x.index) e))
+    | inl i ↦ elim (same_dir s.dir t.dir) [
+      | inr n ↦ inr (λ e. n (ap (λ x. x.dir) e))
+      | inl d ↦ inl (λ k. record { way = w k; index = i k; dir = d k })
+    ]
+  ]
+]
+
+-- the steps u go on behind p with x
+abbrev Goes : List Step → List Step → Step → Type 0
+Goes u p x = (rest : List Step) × (u ≡ p ++ x ∷ rest)
+
+goes_or_not : (u p : List Step) (x : Step) → Goes u p x ⊎ (Goes u p x → ⊥)
+goes_or_not [] p x = inr (λ g. cons_not_nil p x g.0 (sym g.1))
+goes_or_not (y ∷ u) [] x = elim (same_or_not y x) [
+  | inl e ↦ inl (u, ap (λ s. s ∷ u) e)
+  | inr n ↦ inr (λ g. n (let e = g.1 in cc))
+]
+goes_or_not (y ∷ u) (z ∷ p) x = elim (same_or_not y z) [
+  | inr n ↦ inr (λ g. n (let e = g.1 in cc))
+  | inl e ↦ elim (goes_or_not u p x) [
+    | inl g ↦ inl (g.0, let f = g.1 in cc)
+    | inr n ↦ inr (λ g. n (g.0, let f = g.1 in cc))
+  ]
+]
+
+-- the word demands x behind p
+record Demands (v : Word) (p : List Step) (x : Step) : Type 0 where
+  only : v.only ≡ true
+  bound : v.binding ≤ length p
+  goes : Goes v.steps p x
+
+below_or_not : (a b : ℕ) → (a ≤ b) ⊎ (a ≤ b → ⊥)
+below_or_not a b = grind arith
+
+demands_or_not : (v : Word) (p : List Step) (x : Step) → Demands v p x ⊎ (Demands v p x → ⊥)
+demands_or_not v p x = elim (cases_Bool v.only) [
+  | inr n ↦ inr (λ d. false≢true (sym n ∙ d.only))
+  | inl o ↦ elim (below_or_not v.binding (length p)) [
+    | inr n ↦ inr (λ d. n d.bound)
+    | inl b ↦ elim (goes_or_not v.steps p x) [
+      | inr n ↦ inr (λ d. n d.goes)
+      | inl g ↦ inl (record { only = o; bound = b; goes = g })
+    ]
+  ]
+]
+
+abbrev Found : List Word → List Step → Step → Type 0
+Found vs p x = (v : Word) × In v vs × Demands v p x
+
+found_or_not : (vs : List Word) (p : List Step) (x : Step) → Found vs p x ⊎ (Found vs p x → ⊥)
+found_or_not [] p x = inr (λ f. absurd f.1)
+found_or_not (v ∷ vs) p x = elim (demands_or_not v p x) [
+  | inl d ↦ inl (v, inl refl, d)
+  | inr n ↦ elim (found_or_not vs p x) [
+    | inl f ↦ inl (f.0, inr f.1, f.2)
+    | inr k ↦ inr (λ f. elim f.1 [ inl e ↦ n (subst (λ w. Demands w p x) e f.2) | inr i ↦ k (f.0, i, f.2) ])
+  ]
+]
+
+must_or_not : (W : List Word) (p : List Step) (x : Step) → MustIn W p x ⊎ (MustIn W p x → ⊥)
+must_or_not W p x = elim (found_or_not W p x) [
+  | inl f ↦ let d = f.2 in let g = d.goes in inl (record { binding = f.0.binding; rest = g.0; word = record { word = f.0; among = contains_from_in W f.0 f.1; only = d.only; bound = refl; is = g.1 }; bound = d.bound })
+  | inr n ↦ inr (λ m. let w = m.word in n (w.word, in_from_contains W w.word w.among, record { only = w.only; bound = subst (λ b. b ≤ length p) (sym w.bound) m.bound; goes = (m.rest, w.is) }))
+]
+
+-- ---- words near a way
+
+binds : (ks : List Key) → 1 ≤ binding_of ks
+binds [] = omega arith
+binds (NodeKey n ∷ ks) = omega arith
+binds (WayKey w ∷ ks) = omega arith
+binds (RelationKey r ∷ ks) = omega arith
+
+-- that words have two steps or more
+abbrev pub LongWords : Objects → Rules → Type 0
+LongWords M P = (r : RelationId) (only : Bool) (binding : ℕ) (u : List Step) → IsWord M P r only binding u → (first : Step) × (middle : List Step) × (last : Step) × (u ≡ first ∷ (middle ++ last ∷ []))
+
+module _ (M : Objects) (P : Rules) (w : WayId) (W : List Word) (near : AreWordsNear M P w W) where
+  word_is : (v : Word) → Contains W v → (o : Bool) (b : ℕ) (u : List Step) → v.only ≡ o → v.binding ≡ b → v.steps ≡ u → IsWord M P v.relation o b u
+  word_is v has o b u e f g =
+      let h = near.sound v has in
+      subst (λ x. IsWord M P v.relation o b x) g (subst (λ x. IsWord M P v.relation o x v.steps) f (subst (λ x. IsWord M P v.relation x v.binding v.steps) e h))
+
+  abbrev as_word : RelationId → Bool → ℕ → List Step → Word
+  as_word r o b u = record { relation = r; only = o; binding = b; steps = u }
+
+  among : (r : RelationId) (o : Bool) (b : ℕ) (u : List Step) (s : Step) → IsWord M P r o b u → In s u → IsNear M P w s.way → Contains W (as_word r o b u)
+  among r o b u s h i n = near.all (as_word r o b u) h s.way n (record { step = s; among = contains_from_in u s i; on = refl })
+
+  no_from : (u : List Step) → NoIn W u → NoWord M P u
+  no_from u n = record { relation = n.word.relation; binding = n.word.binding; word = word_is n.word n.among false n.word.binding u n.no refl n.is }
+
+  must_from : (p : List Step) (x : Step) → MustIn W p x → Must M P p x
+  must_from p x m = let v = m.word in record { binding = m.binding; rest = m.rest; word = record { relation = v.word.relation; word = word_is v.word v.among true m.binding (p ++ x ∷ m.rest) v.only v.bound v.is }; bound = m.bound }
+
+  pub begins_from : (p : List Step) → (p ≡ [] → ⊥) → IsProperPrefix W p → BeginsWord M P p
+  begins_from p some v = record { some = some; next = v.next; more = v.rest; word = record { relation = v.word.relation; only = v.word.only; binding = v.word.binding; word = word_is v.word v.among v.word.only v.word.binding (p ++ v.next ∷ v.rest) refl refl v.is } }
+
+  pub begins_to : (p : List Step) (s : Step) → In s p → IsNear M P w s.way → BeginsWord M P p → IsProperPrefix W p
+  begins_to p s i n b =
+      let a = b.word in
+      let u = p ++ b.next ∷ b.more in
+      record { word = as_word a.relation a.only a.binding u; among = among a.relation a.only a.binding u s a.word (in_left p (b.next ∷ b.more) s i) n; next = b.next; rest = b.more; is = refl }
+
+  no_to : (u : List Step) (s : Step) → In s u → IsNear M P w s.way → NoWord M P u → NoIn W u
+  no_to u s i n h = record { word = as_word h.relation false h.binding u; among = among h.relation false h.binding u s h.word i n; no = refl; is = refl }
+
+  must_to : (p : List Step) (s x : Step) → In s p → IsNear M P w s.way → Must M P p x → MustIn W p x
+  must_to p s x i n m =
+      let h = m.word in
+      let u = p ++ x ∷ m.rest in
+      record { binding = m.binding; rest = m.rest; word = record { word = as_word h.relation true m.binding u; among = among h.relation true m.binding u s h.word (in_left p (x ∷ m.rest) s i) n; only = refl; bound = refl; is = refl }; bound = m.bound }
+
+  -- what must follow follows some step
+  must_behind : (p : List Step) (x : Step) → Must M P p x → p ≡ [] → ⊥
+  must_behind p x m e =
+      let h = m.word.word in
+      let b = m.bound in
+      let one = binds (vias h.body) in
+      let same : m.binding ≡ binding_of (vias h.body) = h.bound in
+      let none : length p ≡ 0 = ap length e in
+      omega (arith, one)
+
+  module _ (long : LongWords M P) (q front : List Step) (last x : Step) (ends : q ≡ front ++ last ∷ []) (here : IsNear M P w last.way) where
+    last_in : (a b : List Step) → q ≡ a ++ b → (b ≡ [] → ⊥) → In last b
+    last_in a b e some = elim (cut_last front a b last (sym ends ∙ e)) [
+      | inl n ↦ absurd (some n)
+      | inr r ↦ subst (In last) (sym r.is) (in_end r.rest last [])
+    ]
+
+    no_stop : GoesOn M P q x → Stops W q x → ⊥
+    no_stop g (inl f) = g.no f.front f.word f.is (no_from f.word f.no)
+    no_stop g (inr r) =
+        let m = must_from r.end r.other r.must in
+        r.lacks (must_to r.end last x (last_in r.front r.end r.is (must_behind r.end r.other m)) here (g.only r.front r.end r.is r.other m))
+
+    no_word_ends : (Stops W q x → ⊥) → (a u : List Step) → q ++ x ∷ [] ≡ a ++ u → NoWord M P u → ⊥
+    no_word_ends goes a u e n =
+        let l = long n.relation false n.binding u n.word in
+        elim (cut_last q a u x e) [
+          | inl none ↦ cons_not_nil [] l.0 (l.1 ++ l.2 ∷ []) (sym l.3 ∙ none)
+          | inr r ↦
+              let some : r.rest ≡ [] → ⊥ = λ z. cons_not_nil l.1 l.2 [] (let k : l.0 ∷ (l.1 ++ l.2 ∷ []) ≡ x ∷ [] = sym l.3 ∙ (r.is ∙ ap (λ v. v ++ x ∷ []) z) in cc) in
+              let i : In last u = subst (In last) (sym r.is) (in_left r.rest (x ∷ []) last (last_in a r.rest r.front some)) in
+              goes (inl (record { word = u; no = no_to u last i here n; front = a; is = e }))
+        ]
+
+    demanded : (Stops W q x → ⊥) → (a p : List Step) → q ≡ a ++ p → (y : Step) → Must M P p y → Must M P p x
+    demanded goes a p e y m = elim (must_or_not W p x) [
+      | inl k ↦ must_from p x k
+      | inr n ↦ absurd (goes (inr (record { end = p; front = a; is = e; other = y; must = must_to p last y (last_in a p e (must_behind p y m)) here m; lacks = n })))
+    ]
+
+    -- x may go on behind q exactly where it may follow q's last step and the words near the way don't stop it
+    pub goes_on_near : GoesOn M P q x ↔ (Passes M P last x × (Stops W q x → ⊥))
+    goes_on_near = (
+      λ g. (g.passes front last ends, no_stop g),
+      λ h. record {
+        passes = λ a s e. subst (λ t. Passes M P t x) (same_ends front a last s (sym ends ∙ e)).1 h.0;
+        no = no_word_ends h.1;
+        only = demanded h.1;
+      },
+    )
