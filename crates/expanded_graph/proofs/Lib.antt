@@ -9,3 +9,5 @@ pub mod WordsNear
 pub mod Runs
 pub mod Stopping
 pub mod LastSteps
+pub mod StatesDriven
+pub mod StatesKnown

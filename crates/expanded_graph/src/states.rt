@@ -147,7 +147,11 @@ fn is_legal<M: World, P: Profile>(
         return true;
     }
     let (_, last) = automaton.edge(before);
-    facts[before].is_legal
-        && pass(world, profile, last, step)
-        && automaton.go(State(before), step).is_some()
+    if !facts[before].is_legal {
+        return false;
+    }
+    if !pass(world, profile, last, step) {
+        return false;
+    }
+    automaton.go(State(before), step).is_some()
 }
