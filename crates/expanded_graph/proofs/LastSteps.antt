@@ -1,5 +1,5 @@
 -- The step with which a piece ends names the piece.
-use Rattle.std.proofs.Common.{◌≡◌, ℕ, zero, suc, ◌+◌, ◌-◌, ◌<◌, ◌≤◌, List, [], ◌∷◌, ◌++◌, length, refl, sym, ap, ◌∙◌, subst, arith, Option, Some, None, IsTrue, Contains, slice_get}
+use Rattle.std.proofs.Common.{◌≡◌, ℕ, ◌<◌, ◌≤◌, List, [], ◌∷◌, ◌++◌, length, refl, sym, ap, ◌∙◌, subst, arith, Option, Some, None, IsTrue, Contains, slice_get}
 use Rattle.std.specs.Prelude.{IfSome, IfNone}
 use Rattle.std.specs.List.{All}
 use Rattle.std.proofs.lemmas.List.Elements.{All-contains}
@@ -14,7 +14,6 @@ use Rattle.road_model.specs.Driving.{drivable}
 use Rattle.road_model.specs.Pieces.{Piece, IsPiece, IsInOnePiece, spell}
 use Rattle.road_model.specs.Orders.{Lists, name_cmp}
 use Rattle.road_model.specs.Blocks.{name_of}
-use Rattle.road_model.specs.Turning.{EndsPiece}
 use Rattle.way_pieces.specs.declared.spans.PieceSpan.{PieceSpan}
 use Rattle.way_pieces.specs.Names.{IsSpanOn, piece_of}
 use Rattle.expanded_graph.specs.Known.{NamesEnd, IsLastOf, IsLastOfSome}

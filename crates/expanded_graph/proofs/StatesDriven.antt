@@ -1,9 +1,9 @@
 -- Whether a state's steps may be driven is told by those of the state before, and by what the words near a way stop.
-use Rattle.std.proofs.Common.{◌≡◌, ℕ, ◌+◌, ◌<◌, ◌≤◌, ◌↔◌, List, [], ◌∷◌, ◌++◌, length, ◌⊎◌, inl, inr, refl, sym, ap, ◌∙◌, subst, arith, Bool, true, false, IsTrue, Option, Some, None, Contains, append_assoc}
-use Rattle.std.specs.Prelude.{is_some, nat_lt}
-use Rattle.std.proofs.lemmas.Bool.{false≢true, and_parts}
+use Rattle.std.proofs.Common.{◌≡◌, ◌+◌, ◌<◌, ◌↔◌, List, [], ◌∷◌, ◌++◌, length, refl, sym, ap, ◌∙◌, subst, arith, true, false, IsTrue, Option, Some, None, Contains, append_assoc}
+use Rattle.std.specs.Prelude.{is_some}
+use Rattle.std.proofs.lemmas.Bool.{false≢true}
 use Rattle.std.proofs.lemmas.Option.{slice_get_within}
-use Rattle.std.proofs.lemmas.List.Elements.{Contains-append_left, Contains-append_right}
+use Rattle.std.proofs.lemmas.List.Elements.{Contains-append_left}
 use Rattle.road_base.specs.declared.ids.WayId.{WayId}
 use Rattle.road_base.specs.declared.ids.Step.{Step}
 use Rattle.road_base.specs.Objects.{Objects}
@@ -14,10 +14,10 @@ use Rattle.road_model.specs.Network.{Legal, GoesOn}
 use Rattle.restrictions.specs.declared.word_list.Word.{Word}
 use Rattle.turn_automata.specs.declared.automaton.State.{State}
 use Rattle.turn_automata.specs.Watched.{Stops}
-use Rattle.expanded_graph.specs.Near.{IsNear, AreWordsNear}
+use Rattle.expanded_graph.specs.Near.{IsNear}
 use Rattle.expanded_graph.specs.Known.{IsDriven}
 use Rattle.expanded_graph.proofs.Ends.{located_some, both_located}
-use Rattle.expanded_graph.proofs.Members.{In, contains_from_in}
+use Rattle.expanded_graph.proofs.Members.{contains_from_in}
 use Rattle.expanded_graph.proofs.Runs.{cons_not_nil, in_end}
 use Rattle.expanded_graph.proofs.Stopping.{LongWords, goes_on_near}
 

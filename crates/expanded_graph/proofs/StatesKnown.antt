@@ -1,11 +1,11 @@
 -- What is known of a state follows from what is known of the state before.
-use Rattle.std.proofs.Common.{◌≡◌, ℕ, zero, suc, ◌+◌, ◌<◌, ◌≤◌, ◌↔◌, List, [], ◌∷◌, ◌++◌, length, map, ◌⊎◌, inl, inr, refl, sym, ap, ◌∙◌, subst, arith, Bool, true, false, IsTrue, Option, Some, None, Contains, slice_get, length-append}
+use Rattle.std.proofs.Common.{◌≡◌, ℕ, zero, suc, ◌+◌, ◌<◌, ◌≤◌, ◌↔◌, List, [], ◌∷◌, ◌++◌, length, map, ◌⊎◌, inl, inr, refl, sym, ap, ◌∙◌, subst, arith, Bool, false, Option, Some, None, Contains, slice_get, length-append}
 use Rattle.std.specs.List.{cons_option, filter_map}
 use Rattle.std.specs.Option.{option_to_list}
 use Rattle.std.proofs.lemmas.Bool.{false≢true}
 use Rattle.std.proofs.lemmas.List.{length-map}
-use Rattle.std.proofs.lemmas.Option.{slice_get_within, slice_get-get_or, get_or_from_slice_get}
-use Rattle.std.proofs.lemmas.List.Elements.{filter_map-append, Contains-append_left, Contains-append_right, Contains-push, Contains-push_cases}
+use Rattle.std.proofs.lemmas.Option.{slice_get_within, get_or_from_slice_get}
+use Rattle.std.proofs.lemmas.List.Elements.{filter_map-append, Contains-append_left, Contains-push, Contains-push_cases}
 use Rattle.road_base.specs.declared.ids.WayId.{WayId}
 use Rattle.road_base.specs.declared.ids.RelationId.{RelationId}
 use Rattle.road_base.specs.declared.ids.Step.{Step}
@@ -24,7 +24,7 @@ use Rattle.turn_automata.specs.Trees.{IsClosed}
 use Rattle.expanded_graph.specs.declared.states.StateFacts.{StateFacts}
 use Rattle.expanded_graph.specs.Near.{AreWordsNear}
 use Rattle.expanded_graph.specs.Known.{NamesEnd, IsDriven, IsKnown, AreKnown, AreAllShort}
-use Rattle.expanded_graph.specs.States.{AreFacts, AreStates}
+use Rattle.expanded_graph.specs.States.{AreFacts}
 use Rattle.expanded_graph.proofs.Members.{In, in_from_contains, contains_from_in}
 use Rattle.expanded_graph.proofs.Runs.{cons_not_nil, same_ends}
 use Rattle.expanded_graph.proofs.Stopping.{same_or_not}
@@ -123,7 +123,7 @@ module _ (M : Objects) (P : Rules) where
     }
 
     module _ (w : WayId) (near : AreWordsNear M P w W)
-      (names : (c : List Piece) (f : Step → Option PieceName) → Every (IsPiece M P) c → HasTurnSteps c q → ((s : Step) (n : PieceName) → Contains q s → (f s ≡ Some n) ↔ EndsPiece M P s n) → filter_map f q ≡ map name_of c) where
+        (names : (c : List Piece) (f : Step → Option PieceName) → Every (IsPiece M P) c → HasTurnSteps c q → ((s : Step) (n : PieceName) → Contains q s → (f s ≡ Some n) ↔ EndsPiece M P s n) → filter_map f q ≡ map name_of c) where
       pub facts : AreFacts M P w q f
       facts = record {
         legal = λ some all. known.driven w near all;

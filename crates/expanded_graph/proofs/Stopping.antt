@@ -1,7 +1,7 @@
 -- The words near a way decide what may go on behind steps that end on it or on a way near it.
-use Rattle.std.proofs.Common.{◌≡◌, ℕ, ◌+◌, ◌<◌, ◌≤◌, ◌↔◌, List, [], ◌∷◌, ◌++◌, length, ◌⊎◌, inl, inr, refl, sym, ap, ◌∙◌, subst, arith, append_assoc, length-append, Bool, true, false, Contains}
+use Rattle.std.proofs.Common.{◌≡◌, ℕ, ◌≤◌, ◌↔◌, List, [], ◌∷◌, ◌++◌, length, ◌⊎◌, inl, inr, refl, sym, ap, ◌∙◌, subst, arith, Bool, true, false, Contains}
 use Rattle.std.specs.Ordering.{int_eq}
-use Rattle.std.proofs.lemmas.Bool.{false≢true, cases_Bool, eqb-true, eq-eqb}
+use Rattle.std.proofs.lemmas.Bool.{false≢true, cases_Bool}
 use Rattle.std.proofs.lemmas.Bool.Decides.{Decides-int_eq}
 use Rattle.road_base.specs.declared.ids.Key.{Key}
 use Rattle.road_base.specs.declared.ids.Key.TheVariants.{Node as NodeKey, Way as WayKey, Relation as RelationKey}
@@ -15,10 +15,10 @@ use Rattle.road_model.specs.Rules.{Rules}
 use Rattle.road_model.specs.Restrictions.{vias}
 use Rattle.road_model.specs.Driving.{Passes}
 use Rattle.road_model.specs.Words.{IsWord, binding_of}
-use Rattle.road_model.specs.Network.{AnyWord, NoWord, OnlyWord, Must, GoesOn}
+use Rattle.road_model.specs.Network.{NoWord, Must, GoesOn}
 use Rattle.road_model.specs.Turning.{BeginsWord}
 use Rattle.restrictions.specs.declared.word_list.Word.{Word}
-use Rattle.turn_automata.specs.Watched.{IsProperPrefix, NoIn, OnlyIn, Must as MustIn, Forbids, Refuses, Stops}
+use Rattle.turn_automata.specs.Watched.{IsProperPrefix, NoIn, Must as MustIn, Stops}
 use Rattle.expanded_graph.specs.Near.{IsNear, AreWordsNear}
 use Rattle.expanded_graph.proofs.Members.{In, in_from_contains, contains_from_in}
 use Rattle.expanded_graph.proofs.Runs.{cons_not_nil, same_ends, cut_last, in_end, in_left}

@@ -1,8 +1,7 @@
 -- The words that are gathered are those near a way.
-use Rattle.std.proofs.Common.{◌≡◌, ℕ, ◌+◌, ◌<◌, ◌≤◌, ◌⊎◌, ◌↔◌, inl, inr, List, [], ◌∷◌, ◌++◌, length, get_or, take, map, Contains, Some, Bool, true, refl, sym, ap, subst, ◌∙◌, arith}
-use Rattle.std.specs.List.{All}
+use Rattle.std.proofs.Common.{◌≡◌, ℕ, ◌+◌, ◌<◌, ◌≤◌, ◌⊎◌, inl, inr, List, [], ◌∷◌, length, get_or, take, Contains, Some, Bool, true, refl, sym, ap, subst, ◌∙◌, arith}
 use Rattle.std.proofs.lemmas.List.{take_more, take_all}
-use Rattle.std.proofs.lemmas.List.Elements.{Contains-push_cases, Contains-append_left, Contains-append_right, Contains-append_cases, Contains-get_or, All-contains}
+use Rattle.std.proofs.lemmas.List.Elements.{Contains-push_cases, Contains-append_left, Contains-append_right, Contains-append_cases}
 use Rattle.std.specs.Ordering.{int_eq}
 use Rattle.std.specs.Cmp.{IsEquivalence}
 use Rattle.std.proofs.lemmas.Cmp.{int_eq_equiv}
@@ -88,12 +87,12 @@ module _ (M : Objects) (P : Rules) where
 
   -- what the words near a way are gathered from
   module _ (w : WayId)
-    (members : (r : RelationId) (only : Bool) (binding : ℕ) (u : List Step) (s : Step) → IsWord M P r only binding u → Contains u s → HasMember M r (WayKey s.way))
-    (own : List RelationId) (owns : Lists (λ r. r) relation_cmp (λ r. HasMember M r (WayKey w)) own)
-    (words : List Word) (are : AreWordsOf M P own words)
-    (ways : List WayId) (itself : Contains ways w) (shared : (u : Word) (v : WayId) → Contains words u → GoesOver u v → Contains ways v)
-    (relations : List RelationId) (all : (v : WayId) (r : RelationId) → Contains ways v → IsOn M v r → Contains relations r)
-    (near : List Word) (of : AreWordsOf M P relations near) where
+      (members : (r : RelationId) (only : Bool) (binding : ℕ) (u : List Step) (s : Step) → IsWord M P r only binding u → Contains u s → HasMember M r (WayKey s.way))
+      (own : List RelationId) (owns : Lists (λ r. r) relation_cmp (λ r. HasMember M r (WayKey w)) own)
+      (words : List Word) (are : AreWordsOf M P own words)
+      (ways : List WayId) (itself : Contains ways w) (shared : (u : Word) (v : WayId) → Contains words u → GoesOver u v → Contains ways v)
+      (relations : List RelationId) (all : (v : WayId) (r : RelationId) → Contains ways v → IsOn M v r → Contains relations r)
+      (near : List Word) (of : AreWordsOf M P relations near) where
     on_way : (u : Word) (v : WayId) → IsWord M P u.relation u.only u.binding u.steps → HasStepOn v u.steps → IsOn M v u.relation
     on_way u v i s = subst (λ x. HasMember M u.relation (WayKey x)) s.on (members u.relation u.only u.binding u.steps s.step i s.among)
 

@@ -1,7 +1,6 @@
 -- The ways and words that matter to what may follow on a way.
-use Rattle.std.specs.Prelude.{◌≡◌, ℕ, ◌≤◌, List, length, Bool, Contains}
+use Rattle.std.specs.Prelude.{◌≡◌, ◌≤◌, List, length, Contains}
 use Rattle.road_base.specs.declared.ids.WayId.{WayId}
-use Rattle.road_base.specs.declared.ids.RelationId.{RelationId}
 use Rattle.road_base.specs.declared.ids.Step.{Step}
 use Rattle.road_base.specs.Objects.{Objects}
 use Rattle.road_model.specs.Rules.{Rules}

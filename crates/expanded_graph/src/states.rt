@@ -69,7 +69,15 @@ fn facts_of<M: World, P: Profile>(
     for state in 1..automaton.len() {
         let (before, step) = automaton.edge(state);
         let ends = piece_ending(alloc, world, profile, &mut cut, step)?;
-        let fact = fact_of(world, profile, automaton, facts.as_slice(), before, step, ends);
+        let fact = fact_of(
+            world,
+            profile,
+            automaton,
+            facts.as_slice(),
+            before,
+            step,
+            ends,
+        );
         facts.push(fact)?;
     }
     Ok(facts)

@@ -1,5 +1,5 @@
 -- Of the pieces of the step's way one ends with the step, or none.
-use Rattle.std.proofs.Common.{sym, ◌∙◌, subst, List, refl}
+use Rattle.std.proofs.Common.{sym, subst, List, refl}
 use Rattle.std.proofs.lemmas.List.Elements.{Contains-get_or}
 use Rattle.road_model.specs.Orders.{Lists, name_cmp}
 use Rattle.way_pieces.specs.declared.spans.PieceSpan.{PieceSpan}

@@ -1,7 +1,6 @@
 -- What is known of the state follows from what is known of the state before.
-use Rattle.std.proofs.Common.{◌≡◌, ◌<◌, Some, arith, slice_get, None, false}
+use Rattle.std.proofs.Common.{arith, None, false}
 use Rattle.std.proofs.lemmas.Option.{slice_get-get_or}
-use Rattle.road_base.specs.declared.ids.Step.{Step}
 use Rattle.expanded_graph.proofs.StatesKnown.{few, grown, some_there, is_there, at_most_one}
 use Rattle.expanded_graph.proofs.states.fact_of.Goals as goal
 

@@ -1,5 +1,5 @@
 -- One state more is known.
-use Rattle.std.proofs.Common.{◌≡◌, ◌+◌, ◌<◌, List, [], ◌∷◌, ◌++◌, Option, None, Some, sym, ap, subst, ◌∙◌, arith, length}
+use Rattle.std.proofs.Common.{◌≡◌, ◌+◌, List, [], ◌∷◌, ◌++◌, Option, None, Some, sym, ap, subst, ◌∙◌, arith, length}
 use Rattle.std.proofs.lemmas.List.{length_push}
 use Rattle.road_base.specs.declared.ids.WayId.{WayId}
 use Rattle.expanded_graph.specs.declared.states.StateFacts.{StateFacts}

@@ -1,8 +1,7 @@
 -- Whether the steps may be driven is told by those of the state before, and by what the words stop.
-use Rattle.std.proofs.Common.{◌≡◌, ◌<◌, ◌++◌, ◌∷◌, [], List, Bool, true, false, sym, subst, ◌∙◌, None, arith, length}
+use Rattle.std.proofs.Common.{◌≡◌, ◌++◌, ◌∷◌, [], sym, subst, ◌∙◌, arith}
 use Rattle.std.proofs.lemmas.Bool.{false≢true}
 use Rattle.std.proofs.lemmas.Option.{slice_get-get_or}
-use Rattle.road_base.specs.declared.ids.Step.{Step}
 use Rattle.turn_automata.specs.Machines.{StandsFor}
 use Rattle.expanded_graph.specs.Known.{IsDriven}
 use Rattle.expanded_graph.proofs.StatesKnown.{some_there, one_there}

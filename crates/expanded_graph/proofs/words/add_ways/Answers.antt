@@ -1,5 +1,5 @@
 -- The way of one step more stands there.
-use Rattle.std.proofs.Common.{◌⊎◌, inl, inr, sym, subst, Contains, List}
+use Rattle.std.proofs.Common.{inl, inr, sym, subst, Contains, List}
 use Rattle.road_base.specs.declared.ids.Step.{Step}
 use Rattle.expanded_graph.proofs.WordsNear.{among_more, among_all}
 use Rattle.expanded_graph.proofs.words.add_ways.Goals as goal

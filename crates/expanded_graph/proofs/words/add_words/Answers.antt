@@ -1,7 +1,6 @@
 -- The words of the restriction are added, which are none where it is of no use.
-use Rattle.std.proofs.Common.{◌≡◌, List, [], sym, subst, append-nil, Contains}
+use Rattle.std.proofs.Common.{[], sym, subst, append-nil}
 use Rattle.std.proofs.lemmas.Result.{on_ok_weaker}
-use Rattle.restrictions.specs.declared.word_list.Word.{Word}
 use Rattle.restrictions.specs.Words.{AreWords}
 use Rattle.expanded_graph.proofs.WordsNear.{among_none, no_words_of}
 use Rattle.expanded_graph.proofs.words.add_words.Goals as goal

@@ -1,5 +1,5 @@
 -- The restrictions on one way more stand there.
-use Rattle.std.proofs.Common.{◌⊎◌, inl, inr, sym, subst, Contains, List}
+use Rattle.std.proofs.Common.{inl, inr, sym, subst, Contains, List}
 use Rattle.std.proofs.lemmas.List.Elements.{Contains-append_left, Contains-append_right, Contains-append_cases, Contains-get_or}
 use Rattle.road_base.specs.declared.ids.WayId.{WayId}
 use Rattle.road_base.specs.declared.ids.RelationId.{RelationId}

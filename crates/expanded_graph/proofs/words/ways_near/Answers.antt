@@ -1,5 +1,5 @@
 -- The ways of one word more stand there.
-use Rattle.std.proofs.Common.{◌⊎◌, inl, inr, [], ◌∷◌, sym, ◌∙◌, subst, Contains, List}
+use Rattle.std.proofs.Common.{inl, inr, sym, ◌∙◌, subst, Contains, List}
 use Rattle.std.proofs.lemmas.List.Elements.{Contains-push}
 use Rattle.road_base.specs.declared.ids.WayId.{WayId}
 use Rattle.restrictions.specs.declared.word_list.Word.{Word}
@@ -14,7 +14,7 @@ loop-word-init c = record {
 }
 
 pub loop-word-preserved : goal.loop-word-preserved
-loop-word-preserved c = 
+loop-word-preserved c =
     let new = c.add_ways.new.ways.items in
     let kept = c.in_ok-add_ways.ensures.kept in
     record {

@@ -1,6 +1,5 @@
 -- The words are those near the way, and what is known of the states is so.
-use Rattle.std.proofs.Common.{◌≡◌, List, sym, subst, ◌∙◌}
-use Rattle.restrictions.specs.declared.word_list.Word.{Word}
+use Rattle.std.proofs.Common.{sym, subst}
 use Rattle.expanded_graph.specs.Near.{AreWordsNear}
 use Rattle.expanded_graph.proofs.StatesKnown.{all_short, facts}
 use Rattle.expanded_graph.proofs.states.States.of.Goals as goal
