@@ -1,5 +1,5 @@
 -- Lists whose names ascend: parts of them, and that their members determine them.
-use Rattle.std.proofs.Common.{◌≡◌, List, [], ◌∷◌, length, map, inl, inr, refl, sym, ap, ◌∙◌, subst, Bool, true, false, cond, IsTrue, Ordering}
+use Rattle.std.proofs.Common.{◌≡◌, List, [], ◌∷◌, length, map, inl, inr, refl, sym, ap, ◌∙◌, subst, Bool, true, false, cond, IsTrue, Ordering, ◌++◌, ◌⊎◌, ℕ, zero, suc, take}
 use Rattle.std.specs.declared.cmp.Ordering.TheVariants.{Less, Equal, Greater}
 use Rattle.std.specs.Ordering.{is_lt, ordering_then, nat_cmp}
 use Rattle.std.specs.Cmp.{IsTotalOrder}
@@ -17,19 +17,35 @@ less Less h = refl
 less Equal h = absurd (false≢true h)
 less Greater h = absurd (false≢true h)
 
+in_behind : {A : Type 0} (xs : List A) (y x : A) → In x (xs ++ y ∷ []) → In x xs ⊎ (x ≡ y)
+in_behind [] y x (inl e) = inr e
+in_behind [] y x (inr i) = absurd i
+in_behind (z ∷ xs) y x (inl e) = inl (inl e)
+in_behind (z ∷ xs) y x (inr i) = elim (in_behind xs y x i) [ inl j ↦ inl (inr j) | inr e ↦ inr e ]
+
+at_end : {A : Type 0} (xs : List A) (y : A) → In y (xs ++ y ∷ [])
+at_end [] y = inl refl
+at_end (z ∷ xs) y = inr (at_end xs y)
+
+in_take : {A : Type 0} (n : ℕ) (xs : List A) (x : A) → In x (take n xs) → In x xs
+in_take zero xs x i = absurd i
+in_take (suc n) [] x i = absurd i
+in_take (suc n) (y ∷ xs) x (inl e) = inl e
+in_take (suc n) (y ∷ xs) x (inr i) = inr (in_take n xs x i)
+
 module _ {A N : Type 0} (name : A → N) (R : N → N → Ordering) (total : IsTotalOrder R) where
   -- x is below y
-  abbrev Below : A → A → Type 0
+  abbrev pub Below : A → A → Type 0
   Below x y = IsTrue (is_lt (R (name x) (name y)))
 
   over : (x y z : A) → Below x y → Below y z → Below x z
   over x y z h k = ap is_lt (total.trans (name x) (name y) (name z) (less _ h) (less _ k))
 
-  not_itself : (x : A) → Below x x → ⊥
+  pub not_itself : (x : A) → Below x x → ⊥
   not_itself x h = let e = less _ h in let f = tied_itself total (name x) in cc
 
   -- each is below all that follow
-  abbrev Climbs : List A → Type 0
+  abbrev pub Climbs : List A → Type 0
   Climbs [] = Unit {0}
   Climbs (x ∷ xs) = ((y : A) → In y xs → Below x y) × Climbs xs
 
@@ -41,7 +57,7 @@ module _ {A N : Type 0} (name : A → N) (R : N → N → Ordering) (total : IsT
   climbs_from x [] h = (λ y i. absurd i, tt)
   climbs_from x (y ∷ xs) h = let p = and_parts _ _ h in let c = climbs_from y xs p.1 in (below_all x y xs p.0 c.0, c)
 
-  climbs : (xs : List A) → IsTrue (rises R (map name xs)) → Climbs xs
+  pub climbs : (xs : List A) → IsTrue (rises R (map name xs)) → Climbs xs
   climbs [] h = tt
   climbs (x ∷ xs) h = climbs_from x xs h
 
@@ -49,9 +65,24 @@ module _ {A N : Type 0} (name : A → N) (R : N → N → Ordering) (total : IsT
   rises_after x [] c = refl
   rises_after x (y ∷ xs) c = and_from _ _ (c.0 y (inl refl)) (rises_after y xs c.1)
 
-  rises_again : (xs : List A) → Climbs xs → IsTrue (rises R (map name xs))
+  pub rises_again : (xs : List A) → Climbs xs → IsTrue (rises R (map name xs))
   rises_again [] c = refl
   rises_again (x ∷ xs) c = rises_after x xs c
+
+  -- a list that ascends does so with one more behind that is above all
+  pub climbs_push : (xs : List A) (y : A) → Climbs xs → ((x : A) → In x xs → Below x y) → Climbs (xs ++ y ∷ [])
+  climbs_push [] y c up = (λ z i. absurd i, tt)
+  climbs_push (x ∷ xs) y c up = (λ z i. elim (in_behind xs y z i) [ inl j ↦ c.0 z j | inr e ↦ subst (λ v. Below x v) (sym e) (up x (inl refl)) ], climbs_push xs y c.1 (λ z i. up z (inr i)))
+
+  pub below_end : (xs : List A) (y : A) → Climbs (xs ++ y ∷ []) → (x : A) → In x xs → Below x y
+  below_end [] y c x i = absurd i
+  below_end (z ∷ xs) y c x (inl e) = subst (λ v. Below v y) (sym e) (c.0 y (at_end xs y))
+  below_end (z ∷ xs) y c x (inr i) = below_end xs y c.1 x i
+
+  pub climbs_take : (n : ℕ) (xs : List A) → Climbs xs → Climbs (take n xs)
+  climbs_take zero xs c = tt
+  climbs_take (suc n) [] c = tt
+  climbs_take (suc n) (x ∷ xs) c = (λ y i. c.0 y (in_take n xs y i), climbs_take n xs c.1)
 
   climbs_filter_at : (p : A → Bool) (x : A) (xs : List A) (b : Bool) → Climbs (x ∷ xs) → Climbs (filter p xs) → Climbs (cond b (x ∷ filter p xs) (filter p xs))
   climbs_filter_at p x xs true c d = (λ y i. c.0 y (from_filter p xs y i).0, d)

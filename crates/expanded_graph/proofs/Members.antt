@@ -1,5 +1,5 @@
 -- Members of lists, by recursion on the list.
-use Rattle.std.proofs.Common.{◌≡◌, ℕ, zero, suc, ◌<◌, List, [], ◌∷◌, length, map, ◌⊎◌, inl, inr, refl, sym, ap, ◌∙◌, arith, Bool, true, false, cond, Contains, slice_index_or, slice_get, Some}
+use Rattle.std.proofs.Common.{◌≡◌, ℕ, zero, suc, ◌<◌, List, [], ◌∷◌, length, map, ◌⊎◌, inl, inr, refl, sym, ap, ◌∙◌, arith, Bool, true, false, cond, Contains, slice_index_or, slice_get, get_or, Some}
 use Rattle.std.specs.List.{filter}
 use Rattle.std.proofs.lemmas.Bool.{false≢true}
 
@@ -25,6 +25,11 @@ pub in_at : {A : Type 0} (xs : List A) (x : A) (k : ℕ) → slice_get xs k ≡ 
 in_at [] x k e = cc
 in_at (y ∷ xs) x zero e = inl (cc)
 in_at (y ∷ xs) x (suc k) e = inr (in_at xs x k e)
+
+pub in_get : {A : Type 0} (xs : List A) (k : ℕ) (d : A) → k < length xs → In (get_or xs k d) xs
+in_get [] k d within = absurd (omega arith)
+in_get (y ∷ xs) zero d within = inl refl
+in_get (y ∷ xs) (suc k) d within = inr (in_get xs k d (omega arith))
 
 -- the place of a member
 pub at_in : {A : Type 0} (xs : List A) (x : A) → In x xs → (k : ℕ) × (slice_get xs k ≡ Some x)

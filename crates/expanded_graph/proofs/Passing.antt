@@ -11,8 +11,6 @@ use Rattle.road_model.specs.Rules.{Rules}
 use Rattle.road_model.specs.Lines.{same_node, tail_of, head_of}
 use Rattle.road_model.specs.Driving.{shut, Leaves, MayTurn, AtPlace, AtShut, AtDeadEnd, Passes}
 use Rattle.road_model.specs.Pieces.{Piece, IsPiece, BeginsPiece, spell}
-use Rattle.road_model.specs.Contexts.{Every}
-use Rattle.road_model.specs.Network.{Legal, GoesOn, HasNoWords, spell_pieces}
 use Rattle.road_model.specs.Orders.{name_cmp}
 use Rattle.road_model.specs.Blocks.{name_of}
 use Rattle.road_model.specs.Naming.{OnePiece}
@@ -25,13 +23,10 @@ use Rattle.expanded_graph.proofs.Members.{In, in_from_contains, contains_from_in
 use Rattle.expanded_graph.proofs.Ascending.{one_name_alone}
 use Rattle.expanded_graph.proofs.Ends.{one_first, first_drives, has_head}
 
--- the laws of the model on which the arcs stand, where no restriction gives a word
+-- the laws of the model on which it stands which departures may follow
 pub record Laws (M : Objects) (P : Rules) : Type 0 where
-  pub no_words : HasNoWords M P
   pub names : IsTotalOrder name_cmp
   pub one : OnePiece M P
-  pub alone : (p : Piece) → IsPiece M P p → Legal M P (spell p)
-  pub joined : (d : List Piece) (t : Piece) (first : Step) (more : List Step) → Every (IsPiece M P) d → (d ≡ [] → ⊥) → Legal M P (spell_pieces d) → IsPiece M P t → spell t ≡ first ∷ more → Legal M P (spell_pieces d ++ spell t) ↔ GoesOn M P (spell_pieces d) first
   pub depart : (p : Piece) (front : List Step) (last u : Step) (v : NodeId) → IsPiece M P p → spell p ≡ front ++ last ∷ [] → head_of M last ≡ Some v → Leaves M P v u → BeginsPiece M P u
 
 same_from_test : (a b : NodeId) → same_node a b ≡ true → a ≡ b

@@ -86,7 +86,13 @@ pub spell_push : (a : List Piece) (p : Piece) → spell_pieces (a ++ p ∷ []) �
 spell_push [] p = append-nil (spell p)
 spell_push (x ∷ a) p = ap (λ l. spell x ++ l) (spell_push a p) ∙ sym (append_assoc (spell x) (spell_pieces a) (spell p))
 
--- turn steps end with the last step of the last piece
+-- turn steps end with the last step of the last piece, and are two or more where there are other pieces before
+pub turn_ends_long : (before : List Piece) (p : Piece) (q front : List Step) (last : Step) → (before ≡ [] → ⊥) → HasTurnSteps (before ++ p ∷ []) q → spell p ≡ front ++ last ∷ [] → (s : Step) × (middle : List Step) × (q ≡ s ∷ (middle ++ last ∷ []))
+turn_ends_long [] p q front last some h e = absurd (some refl)
+turn_ends_long (x ∷ before) p q front last some h e =
+    let others : h.others ≡ before ++ p ∷ [] = let k = h.is in cc in
+    (h.last, spell_pieces before ++ front, h.steps ∙ ap (λ l. h.last ∷ l) (ap spell_pieces others ∙ (spell_push before p ∙ (ap (λ l. spell_pieces before ++ l) e ∙ sym (append_assoc (spell_pieces before) front (last ∷ []))))))
+
 pub turn_ends : (before : List Piece) (p : Piece) (q front : List Step) (last : Step) → HasTurnSteps (before ++ p ∷ []) q → spell p ≡ front ++ last ∷ [] → (a : List Step) × (q ≡ a ++ last ∷ [])
 turn_ends [] p q front last h e =
     let first : h.first ≡ p = let k = h.is in cc in
@@ -94,8 +100,8 @@ turn_ends [] p q front last h e =
     let same = same_ends h.front front h.last last (sym h.ends ∙ (ap spell first ∙ e)) in
     ([], h.steps ∙ ap (λ l. h.last ∷ spell_pieces l) none ∙ ap (λ s. s ∷ []) same.1)
 turn_ends (x ∷ before) p q front last h e =
-    let others : h.others ≡ before ++ p ∷ [] = let k = h.is in cc in
-    (h.last ∷ (spell_pieces before ++ front), h.steps ∙ ap (λ l. h.last ∷ l) (ap spell_pieces others ∙ (spell_push before p ∙ (ap (λ l. spell_pieces before ++ l) e ∙ sym (append_assoc (spell_pieces before) front (last ∷ []))))))
+    let r = turn_ends_long (x ∷ before) p q front last (λ z. cc) h e in
+    (r.0 ∷ r.1, r.2)
 
 -- turn steps are those of one list
 pub one_turn : (c : List Piece) (q r : List Step) → HasTurnSteps c q → HasTurnSteps c r → q ≡ r

@@ -1,3 +1,4 @@
+pub mod Contexts
 pub mod Known
 pub mod Near
 pub mod States

@@ -23,15 +23,3 @@ pub record IsIntersection (M : Objects) (P : Rules) (i : Intersection) : Type 0 
 abbrev pub may_follow : Intersection → NodeId → Departure → Bool
 may_follow i u d =
     cond (same_node d.toward u) (i.is_turning_place || (i.is_shut || length i.departures.items == 1)) (not i.is_shut)
-
--- an arc by the departure to the context of that piece alone
-abbrev pub arc_to : Departure → TurnArc
-arc_to d = record { piece = d.piece; length = 1 }
-
--- the arcs of a piece that comes from the node u
-abbrev pub arcs_at : Intersection → NodeId → List TurnArc
-arcs_at i u = map arc_to (filter (may_follow i u) i.departures.items)
-
--- the context of one piece, and no other
-abbrev pub alone : List TurnArc → List Context
-alone arcs = record { before = []; arcs = arcs } ∷ []

@@ -1,12 +1,112 @@
-//! What may follow a piece at the intersection where it ends.
-ghost use Rattle.std.specs.Prelude.{◌≡◌, IfOk};
-ghost use Rattle.expanded_graph.specs.Turning.{may_follow, arcs_at};
+//! What may follow a context at the intersection where it ends.
+ghost use Rattle.std.specs.Prelude.{◌≡◌, ◌+◌, ◌<◌, ◌^◌, ℕ, List, [], ◌∷◌, ◌++◌, length, Some, slice_get, IfOk, IfSome, IfNone, Contains};
+ghost use Rattle.road_base.specs.declared.ids.Step.{Step};
+ghost use Rattle.road_model.specs.declared.lists.TurnArc.{TurnArc};
+ghost use Rattle.road_model.specs.Pieces.{Piece};
+ghost use Rattle.road_model.specs.Orders.{Lists, name_cmp};
+ghost use Rattle.road_model.specs.Blocks.{IsArcEntry};
+ghost use Rattle.turn_automata.specs.Machines.{StandsFor};
+ghost use Rattle.expanded_graph.specs.declared.states.StateFacts.{StateFacts};
+ghost use Rattle.expanded_graph.specs.Contexts.{IsReached};
+ghost use Rattle.expanded_graph.specs.Turning.{IsIntersection, may_follow};
 
 use crate::intersections::Intersection;
+use crate::states::States;
 use road_base::{NoMemory, NodeId};
-use road_model::TurnArc;
+use road_model::laws::{
+    context_goes_on, context_target, contexts, name_order, one_name, steps_depart, words_on_ways,
+};
+use road_model::{Profile, TurnArc, World};
 use std::alloc::Global;
+use turn_automata::State;
+use turn_automata::laws::{watched_decides, watched_grows};
 use way_pieces::Departure;
+
+/// The arcs of the contexts that come to the intersection from the node `from` in the state, ascending by name.
+pub fn arcs_at<M: World, P: Profile>(
+    alloc: Global,
+    world: &M,
+    profile: &P,
+    states: &States,
+    state: State,
+    intersection: &Intersection,
+    from: NodeId,
+) -> Result<Vec<TurnArc>, NoMemory>
+    requires count { length states.now.facts.items ≡ length states.now.automaton.states }
+    requires state { state.0 < length states.now.automaton.states }
+    requires intersection { IsIntersection (M.objects world.now) (P.rules profile.now) intersection.now }
+    ensures { IfOk result (λ v. (c : List Piece)
+        → IsReached (M.objects world.now) (P.rules profile.now) states.now.automaton states.now.facts.items state.0 from intersection.now.node c
+        → Lists (λ a. a.piece) name_cmp (IsArcEntry (M.objects world.now) (P.rules profile.now) c) v.items) }
+{
+    name_order();
+    one_name(profile);
+    contexts(profile);
+    steps_depart(profile);
+    context_goes_on(profile);
+    let departures = intersection.departures.as_slice();
+    let mut arcs = Vec::with_capacity(alloc, departures.len())?;
+    for departure in departures {
+        if let Some(arc) = arc_by(
+            world,
+            profile,
+            states,
+            state,
+            intersection,
+            from,
+            *departure,
+        ) {
+            arcs.push(arc)?;
+        }
+    }
+    Ok(arcs)
+}
+
+/// The arc by the departure: none where it may not follow at the intersection, or a restriction forbids it.
+fn arc_by<M: World, P: Profile>(
+    world: &M,
+    profile: &P,
+    states: &States,
+    state: State,
+    intersection: &Intersection,
+    from: NodeId,
+    departure: Departure,
+) -> Option<TurnArc>
+    requires count { length states.now.facts.items ≡ length states.now.automaton.states }
+    requires state { state.0 < length states.now.automaton.states }
+    requires intersection { IsIntersection (M.objects world.now) (P.rules profile.now) intersection.now }
+    requires departure { Contains intersection.now.departures.items departure }
+    ensures named { IfSome result (λ a. a.piece ≡ departure.piece) }
+    ensures arc { IfSome result (λ a. (c : List Piece)
+        → IsReached (M.objects world.now) (P.rules profile.now) states.now.automaton states.now.facts.items state.0 from intersection.now.node c
+        → IsArcEntry (M.objects world.now) (P.rules profile.now) c a) }
+    ensures none { IfNone result ((c : List Piece) (a : TurnArc)
+        → IsReached (M.objects world.now) (P.rules profile.now) states.now.automaton states.now.facts.items state.0 from intersection.now.node c
+        → IsArcEntry (M.objects world.now) (P.rules profile.now) c a
+        → a.piece ≡ departure.piece
+        → ⊥) }
+{
+    name_order();
+    one_name(profile);
+    steps_depart(profile);
+    words_on_ways(profile);
+    context_goes_on(profile);
+    context_target(profile);
+    watched_decides();
+    watched_grows();
+    states.automaton.closed();
+    if !may_follow(intersection, from, departure) {
+        return None;
+    }
+    let Some(next) = states.automaton.go(state, departure.first) else {
+        return None;
+    };
+    let length = target_len(states, next);
+    Some(TurnArc {
+        piece: departure.piece,
+        length,
+    })
+}
 
 /// Whether who comes from the node `from` may go on by the departure: back there where one may turn round, which is at a
 /// place to turn, where nothing goes through and at a dead end, and elsewhere where the node isn't shut.
@@ -20,23 +120,23 @@ fn may_follow(intersection: &Intersection, from: NodeId, departure: Departure) -
     }
 }
 
-/// The arcs of a piece that comes to the intersection from the node `from`, each to the one piece by which it leads.
-pub fn arcs_at(
-    alloc: Global,
-    intersection: &Intersection,
-    from: NodeId,
-) -> Result<Vec<TurnArc>, NoMemory>
-    ensures { IfOk result (λ v. v.items ≡ arcs_at intersection.now from) }
+/// How many pieces the context has to which an arc leads, where its first step leaves the automaton in this state: the
+/// arc's piece, and those that the steps before spell.
+fn target_len(states: &States, state: State) -> u32
+    requires count { length states.now.facts.items ≡ length states.now.automaton.states }
+    requires state { state.0 < length states.now.automaton.states }
+    ensures alone { StandsFor states.now.automaton state.0 [] → result ≡ 1 }
+    ensures longer { (b : List Step) (x : Step) (k : ℕ) (f : StateFacts)
+        → StandsFor states.now.automaton state.0 (b ++ x ∷ [])
+        → StandsFor states.now.automaton k b
+        → slice_get states.now.facts.items k ≡ Some f
+        → f.pieces + 1 < 2 ^ 32
+        → result ≡ f.pieces + 1 }
 {
-    let departures = intersection.departures.as_slice();
-    let mut arcs = Vec::with_capacity(alloc, departures.len())?;
-    for departure in departures {
-        if may_follow(intersection, from, *departure) {
-            arcs.push(TurnArc {
-                piece: departure.piece,
-                length: 1,
-            })?;
-        }
+    states.automaton.closed();
+    if state.0 == 0 {
+        return 1;
     }
-    Ok(arcs)
+    let (before, _) = states.automaton.edge(state.0);
+    states.facts[before].pieces.saturating_add(1)
 }

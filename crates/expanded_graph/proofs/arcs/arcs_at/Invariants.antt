@@ -1,7 +1,14 @@
-use Rattle.std.proofs.Common.{◌≡◌, map, filter, take}
-use Rattle.expanded_graph.specs.Turning.{may_follow, arc_to}
+use Rattle.std.proofs.Common.{List, take}
+use Rattle.road_model.specs.Pieces.{Piece}
+use Rattle.road_model.specs.Orders.{name_cmp}
+use Rattle.road_model.specs.Blocks.{IsArcEntry}
+use Rattle.expanded_graph.specs.Contexts.{IsReached}
+use Rattle.expanded_graph.proofs.Chosen.{Chosen}
 use Rattle.expanded_graph.proofs.arcs.arcs_at.Given as goal
 
+-- the arcs so far are those by the departures so far
 abbrev pub invariant-loop-departure : goal.invariant-loop-departure
-invariant-loop-departure l =
-    l.arcs.items ≡ map arc_to (filter (may_follow l.intersection l.from) (take l.departure-index l.departures))
+invariant-loop-departure g l =
+    (c : List Piece)
+    → IsReached (g.M.World.objects l.world) (g.P.Profile.rules l.profile) l.states.automaton l.states.facts.items l.state.0 l.from l.intersection.node c
+    → Chosen (λ a. a.piece) (λ d. d.piece) name_cmp (IsArcEntry (g.M.World.objects l.world) (g.P.Profile.rules l.profile) c) (take l.departure-index l.departures) l.arcs.items

@@ -1,0 +1,75 @@
+-- The contexts in which one comes to an intersection, and the states in which they are.
+use Rattle.std.specs.Prelude.{◌≡◌, ℕ, ◌↔◌, List, [], ◌∷◌, ◌++◌, length, map, Some, IsTrue, slice_get, Contains}
+use Rattle.std.specs.List.{IsDistinct}
+use Rattle.std.specs.Ordering.{eq_by_cmp, nat_cmp}
+use Rattle.road_base.specs.declared.ids.NodeId.{NodeId}
+use Rattle.road_base.specs.declared.ids.WayId.{WayId}
+use Rattle.road_base.specs.declared.ids.Step.{Step}
+use Rattle.road_base.specs.Objects.{Objects}
+use Rattle.road_model.specs.declared.lists.PieceName.{PieceName}
+use Rattle.road_model.specs.declared.lists.Context.{Context}
+use Rattle.road_model.specs.Rules.{Rules}
+use Rattle.road_model.specs.Pieces.{Piece}
+use Rattle.road_model.specs.Network.{Legal, IsContext}
+use Rattle.road_model.specs.Orders.{rises, names_cmp}
+use Rattle.road_model.specs.Turning.{HasTurnSteps}
+use Rattle.road_model.specs.Blocks.{IsContextEntry, name_of}
+use Rattle.turn_automata.specs.Machines.{Machine, StandsFor, Watches}
+use Rattle.expanded_graph.specs.declared.states.StateFacts.{StateFacts}
+use Rattle.expanded_graph.specs.States.{AreStates}
+use Rattle.expanded_graph.specs.Travel.{Arrives}
+
+-- Context c ends at node v, to which its last piece comes from node u. The automaton watches for the words near this
+-- piece's way, and its state with number n is the one in which the context's turn steps leave it.
+pub record IsReached (M : Objects) (P : Rules) (m : Machine) (facts : List StateFacts) (n : ℕ) (u v : NodeId) (c : List Piece) : Type 0 where
+  pub way : WayId
+  pub states : AreStates M P way m.words m.states facts
+  pub context : IsContext M P c
+  pub steps : List Step
+  pub turn : HasTurnSteps c steps
+  pub legal : Legal M P steps
+  pub watches : Watches m n steps
+  pub before : List Piece
+  pub piece : Piece
+  pub is : c ≡ before ++ piece ∷ []
+  pub on : piece.way ≡ way
+  pub arrives : Arrives M piece u v
+
+-- A context of two pieces or more may end in the state with number n, with its last piece on the way: the state's list
+-- has two steps or more, may be driven, and its last step ends a piece of the way.
+pub record IsEnding (m : Machine) (facts : List StateFacts) (w : WayId) (n : ℕ) : Type 0 where
+  pub first : Step
+  pub middle : List Step
+  pub last : Step
+  pub at : StandsFor m n (first ∷ (middle ++ last ∷ []))
+  pub known : StateFacts
+  pub fact : slice_get facts n ≡ Some known
+  pub legal : IsTrue known.is_legal
+  pub name : PieceName
+  pub ends : known.ends ≡ Some name
+  pub on : name.way ≡ w
+
+-- the states in which contexts may end on the way, ascending
+pub record AreEndings (m : Machine) (facts : List StateFacts) (w : WayId) (ns : List ℕ) : Type 0 where
+  pub ascending : IsTrue (rises nat_cmp ns)
+  pub each : (n : ℕ) → Contains ns n ↔ IsEnding m facts w n
+
+-- the context of the piece that ends in the state with number n, as it is written
+pub record IsContextIn (M : Objects) (P : Rules) (m : Machine) (p : Piece) (n : ℕ) (e : Context) : Type 0 where
+  pub entry : IsContextEntry M P p e
+  pub longer : entry.before ≡ [] → ⊥
+  pub steps : List Step
+  pub at : StandsFor m n steps
+  pub turn : HasTurnSteps (entry.before ++ p ∷ []) steps
+
+-- the last step of the state with number n ends the piece of that name
+pub record EndsWithName (facts : List StateFacts) (n : ℕ) (name : PieceName) : Type 0 where
+  pub known : StateFacts
+  pub fact : slice_get facts n ≡ Some known
+  pub ends : known.ends ≡ Some name
+
+-- each context of the piece is written once
+pub record HasContexts (M : Objects) (P : Rules) (p : Piece) (es : List Context) : Type 0 where
+  pub sound : (e : Context) → Contains es e → IsContextEntry M P p e
+  pub all : (before : List Piece) → IsContext M P (before ++ p ∷ []) → (e : Context) × Contains es e × (e.before ≡ map name_of before)
+  pub distinct : IsDistinct (eq_by_cmp names_cmp) (map (λ e. e.before) es)
