@@ -1,33 +1,48 @@
-//! The contexts of a piece. Where no restriction gives a word, each piece has one, which is the piece alone.
-ghost use Rattle.std.specs.Prelude.{◌≡◌, [], map, IfOk, IsTrue};
-ghost use Rattle.std.specs.List.{AllByRecursion};
+//! The contexts of a piece: the piece alone, and behind other pieces those that begin a word of a restriction.
+ghost use Rattle.std.specs.Prelude.{◌≡◌, ◌<◌, ◌↔◌, List, [], ◌∷◌, ◌++◌, length, map, Some, IfOk, IsTrue, Contains, OnOk};
+ghost use Rattle.std.specs.List.{AllByRecursion, IsDistinct};
+ghost use Rattle.std.specs.List.Sorted.{IsPermutation};
+ghost use Rattle.std.specs.Ordering.{eq_by_cmp};
+ghost use Rattle.road_model.specs.declared.lists.PieceName.{PieceName};
 ghost use Rattle.road_model.specs.Pieces.{IsPiece};
-ghost use Rattle.road_model.specs.Network.{HasNoWords};
-ghost use Rattle.road_model.specs.Orders.{Lists, names_cmp};
+ghost use Rattle.road_model.specs.Orders.{Lists, rises, names_cmp};
 ghost use Rattle.road_model.specs.Blocks.{IsContextEntry};
 ghost use Rattle.road_model.specs.Format.{IsContextForm, begins_alone};
 ghost use Rattle.way_pieces.specs.Names.{piece_of};
+ghost use Rattle.expanded_graph.specs.Contexts.{IsEnding, AreEndings, EndsWithName, IsContextIn, HasContexts};
+ghost use Rattle.expanded_graph.specs.States.{AreStates};
 ghost use Rattle.expanded_graph.specs.Travel.{Arrives};
-ghost use Rattle.expanded_graph.specs.Turning.{IsIntersection, arcs_at, alone};
+ghost use Rattle.expanded_graph.specs.Turning.{IsIntersection};
 
 use crate::arcs::arcs_at;
 use crate::intersections::Intersection;
+use crate::last_steps::last_step;
+use crate::names::names_before;
+use crate::states::States;
 use road_base::{NoMemory, NodeId};
-use road_model::laws::{name_order, one_junction, one_name, steps_depart};
-use road_model::{Arcs, Context, Names, Profile, TurnArc, World};
+use road_model::laws::{
+    context_steps, contexts, drive_grows, name_order, one_junction, one_name, words_on_ways,
+};
+use road_model::{Arcs, Context, Names, PieceName, Profile, World};
 use std::alloc::Global;
+use std::cmp::Ordering;
+use turn_automata::State;
 use way_pieces::PieceSpan;
 
-/// The contexts of the piece that comes to the intersection from the node `from`.
+/// The contexts of the piece that comes to the intersection from the node `from`, by length and names. The states are
+/// those of its way, and the endings those in which contexts may end there.
 pub fn contexts_of<M: World, P: Profile>(
     alloc: Global,
     world: &M,
     profile: &P,
+    states: &States,
+    endings: &[usize],
     intersection: &Intersection,
     span: PieceSpan,
     from: NodeId,
 ) -> Result<Vec<Context>, NoMemory>
-    requires no_words { HasNoWords (M.objects world.now) (P.rules profile.now) }
+    requires states { AreStates (M.objects world.now) (P.rules profile.now) span.name.way states.now.automaton.words states.now.automaton.states states.now.facts.items }
+    requires endings { AreEndings states.now.automaton states.now.facts.items span.name.way endings.now }
     requires intersection { IsIntersection (M.objects world.now) (P.rules profile.now) intersection.now }
     requires piece { IsPiece (M.objects world.now) (P.rules profile.now) (piece_of span) }
     requires arrives { Arrives (M.objects world.now) (piece_of span) from intersection.now.node }
@@ -38,19 +53,153 @@ pub fn contexts_of<M: World, P: Profile>(
     name_order();
     one_name(profile);
     one_junction(profile);
-    steps_depart(profile);
-    let arcs = arcs_at(alloc, intersection, from)?;
-    one_context(alloc, arcs)
+    contexts(profile);
+    context_steps(profile);
+    words_on_ways(profile);
+    let mut contexts = all_contexts(
+        alloc,
+        world,
+        profile,
+        states,
+        endings,
+        intersection,
+        span,
+        from,
+    )?;
+    put_in_order(&mut contexts)?;
+    Ok(contexts)
 }
 
-/// The context of one piece with these arcs.
-fn one_context(alloc: Global, arcs: Vec<TurnArc>) -> Result<Vec<Context>, NoMemory>
-    ensures { IfOk result (λ v. v.items ≡ alone arcs.items) }
+/// The contexts of the piece in any order: the piece alone, and one in each of the states in which it ends one.
+fn all_contexts<M: World, P: Profile>(
+    alloc: Global,
+    world: &M,
+    profile: &P,
+    states: &States,
+    endings: &[usize],
+    intersection: &Intersection,
+    span: PieceSpan,
+    from: NodeId,
+) -> Result<Vec<Context>, NoMemory>
+    requires states { AreStates (M.objects world.now) (P.rules profile.now) span.name.way states.now.automaton.words states.now.automaton.states states.now.facts.items }
+    requires endings { AreEndings states.now.automaton states.now.facts.items span.name.way endings.now }
+    requires intersection { IsIntersection (M.objects world.now) (P.rules profile.now) intersection.now }
+    requires piece { IsPiece (M.objects world.now) (P.rules profile.now) (piece_of span) }
+    requires arrives { Arrives (M.objects world.now) (piece_of span) from intersection.now.node }
+    ensures { IfOk result (λ v. HasContexts (M.objects world.now) (P.rules profile.now) (piece_of span) v.items) }
 {
-    let mut contexts = Vec::with_capacity(alloc, 1)?;
-    contexts.push(Context {
+    name_order();
+    one_name(profile);
+    context_steps(profile);
+    words_on_ways(profile);
+    states.automaton.closed();
+    let mut contexts = Vec::new(alloc);
+    let alone = context_alone(alloc, world, profile, states, intersection, span, from)?;
+    contexts.push(alone)?;
+    for ending in endings {
+        if !is_named(states.facts[*ending].ends, span.name) {
+            continue;
+        }
+        let context = context_in(
+            alloc,
+            world,
+            profile,
+            states,
+            State(*ending),
+            intersection,
+            span,
+            from,
+        )?;
+        contexts.push(context)?;
+    }
+    Ok(contexts)
+}
+
+/// Whether the name is there and is this one.
+fn is_named(name: Option<PieceName>, this: PieceName) -> bool
+    ensures { IsTrue result ↔ (name ≡ Some this) }
+{
+    match name {
+        Some(name) => name == this,
+        None => false,
+    }
+}
+
+/// The context of the piece alone.
+fn context_alone<M: World, P: Profile>(
+    alloc: Global,
+    world: &M,
+    profile: &P,
+    states: &States,
+    intersection: &Intersection,
+    span: PieceSpan,
+    from: NodeId,
+) -> Result<Context, NoMemory>
+    requires states { AreStates (M.objects world.now) (P.rules profile.now) span.name.way states.now.automaton.words states.now.automaton.states states.now.facts.items }
+    requires intersection { IsIntersection (M.objects world.now) (P.rules profile.now) intersection.now }
+    requires piece { IsPiece (M.objects world.now) (P.rules profile.now) (piece_of span) }
+    requires arrives { Arrives (M.objects world.now) (piece_of span) from intersection.now.node }
+    ensures entry { IfOk result (IsContextEntry (M.objects world.now) (P.rules profile.now) (piece_of span)) }
+    ensures alone { IfOk result (λ e. e.before ≡ []) }
+{
+    drive_grows(profile);
+    let state = states.automaton.start(last_step(span));
+    let arcs = arcs_at(alloc, world, profile, states, state, intersection, from)?;
+    Ok(Context {
         before: Names::from_list(Vec::new(alloc)),
         arcs: Arcs::from_list(arcs),
-    })?;
-    Ok(contexts)
+    })
+}
+
+/// The context of the piece that ends in the state.
+fn context_in<M: World, P: Profile>(
+    alloc: Global,
+    world: &M,
+    profile: &P,
+    states: &States,
+    state: State,
+    intersection: &Intersection,
+    span: PieceSpan,
+    from: NodeId,
+) -> Result<Context, NoMemory>
+    requires states { AreStates (M.objects world.now) (P.rules profile.now) span.name.way states.now.automaton.words states.now.automaton.states states.now.facts.items }
+    requires ending { IsEnding states.now.automaton states.now.facts.items span.name.way state.0 }
+    requires named { EndsWithName states.now.facts.items state.0 span.name }
+    requires intersection { IsIntersection (M.objects world.now) (P.rules profile.now) intersection.now }
+    requires piece { IsPiece (M.objects world.now) (P.rules profile.now) (piece_of span) }
+    requires arrives { Arrives (M.objects world.now) (piece_of span) from intersection.now.node }
+    ensures { IfOk result (IsContextIn (M.objects world.now) (P.rules profile.now) states.now.automaton (piece_of span) state.0) }
+{
+    one_name(profile);
+    context_steps(profile);
+    words_on_ways(profile);
+    states.automaton.closed();
+    let names = names_before(alloc, world, profile, states, state)?;
+    let arcs = arcs_at(alloc, world, profile, states, state, intersection, from)?;
+    Ok(Context {
+        before: Names::from_list(names),
+        arcs: Arcs::from_list(arcs),
+    })
+}
+
+/// Sorts contexts of different names by length and names.
+fn put_in_order(contexts: &mut Vec<Context>) -> Result<(), NoMemory>
+    requires { IsDistinct (eq_by_cmp names_cmp) (map (λ c. c.before) contexts.old.items) }
+    ensures ascending { OnOk result (IsTrue (rises names_cmp (map (λ c. c.before) contexts.new.items))) }
+    ensures same { OnOk result (IsPermutation contexts.old.items contexts.new.items) }
+{
+    name_order();
+    contexts.sort_by(|a, b| by_names(&a.before, &b.before))?;
+    Ok(())
+}
+
+/// Compares lists of names by length, then name by name.
+fn by_names(a: &Names, b: &Names) -> Ordering
+    ensures { result ≡ names_cmp a.now b.now }
+{
+    name_order();
+    a.items()
+        .len()
+        .cmp(&b.items().len())
+        .then(a.items().cmp(b.items()))
 }

@@ -88,7 +88,7 @@ fn is_last(span: PieceSpan, step: Step) -> bool
 }
 
 /// The step with which the span ends.
-fn last_step(span: PieceSpan) -> Step
+pub fn last_step(span: PieceSpan) -> Step
     requires { span.name.index < span.end }
     ensures { IsLastOf span result }
 {
