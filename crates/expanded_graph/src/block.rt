@@ -1,13 +1,14 @@
 //! The block of a way.
 ghost use Rattle.std.specs.Prelude.{◌≡◌, ◌+◌, [], map, IfOk, IsTrue};
 ghost use Rattle.std.specs.List.{AllByRecursion};
-ghost use Rattle.road_model.specs.Network.{HasNoWords};
 ghost use Rattle.road_model.specs.Orders.{rises};
 ghost use Rattle.road_model.specs.Blocks.{IsBlock};
 ghost use Rattle.road_model.specs.Format.{IsPieceForm, place_cmp};
 
+use crate::endings::endings_on;
 use crate::pieces::pieces_along;
 use crate::places::nodes_of;
+use crate::states::States;
 use road_base::{NoMemory, Steps, WayId};
 use road_model::laws::{name_order, one_name};
 use road_model::{Block, Pieces, Profile, World};
@@ -15,7 +16,7 @@ use std::alloc::Global;
 use std::sync::ledger::Ledger;
 use way_pieces::spans_of;
 
-/// The block of the way: its pieces with their nodes and locations, contexts and arcs, where no restriction gives a word.
+/// The block of the way: its pieces with their nodes and locations, contexts and arcs.
 /// A way that isn't visible or is no road has no pieces. Adds one step, also where no memory is found.
 pub fn build_block<M: World, P: Profile, L: Ledger>(
     alloc: Global,
@@ -24,7 +25,6 @@ pub fn build_block<M: World, P: Profile, L: Ledger>(
     way: WayId,
     steps: &mut Steps<L>,
 ) -> Result<Block, NoMemory>
-    requires { HasNoWords (M.objects world.now) (P.rules profile.now) }
     ensures block { IfOk result (IsBlock (M.objects world.now) (P.rules profile.now) way) }
     ensures form { IfOk result (λ b. AllByRecursion IsPieceForm b.pieces × IsTrue (rises place_cmp (map (λ p. p.name) b.pieces))) }
     ensures tick { steps.new ≡ steps.old + 1 }
@@ -40,7 +40,6 @@ fn block_of<M: World, P: Profile>(
     profile: &P,
     way: WayId,
 ) -> Result<Block, NoMemory>
-    requires { HasNoWords (M.objects world.now) (P.rules profile.now) }
     ensures block { IfOk result (IsBlock (M.objects world.now) (P.rules profile.now) way) }
     ensures form { IfOk result (λ b. AllByRecursion IsPieceForm b.pieces × IsTrue (rises place_cmp (map (λ p. p.name) b.pieces))) }
 {
@@ -53,12 +52,16 @@ fn block_of<M: World, P: Profile>(
     let Some(body) = world.way(way) else {
         return Ok(bare_block(alloc, way));
     };
+    let states = States::of(alloc, world, profile, way)?;
+    let endings = endings_on(alloc, &states, way)?;
     let nodes = nodes_of(alloc, world, body)?;
     let pieces = pieces_along(
         alloc,
         world,
         profile,
         way,
+        &states,
+        endings.as_slice(),
         nodes.as_slice(),
         spans.as_slice(),
     )?;

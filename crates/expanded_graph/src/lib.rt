@@ -8,8 +8,10 @@
 mod arcs;
 mod block;
 mod contexts;
+mod endings;
 mod intersections;
 mod last_steps;
+mod names;
 mod pieces;
 mod places;
 mod states;

@@ -2,31 +2,37 @@
 ghost use Rattle.std.specs.Prelude.{◌≡◌, ◌≤◌, length, map, IfOk, OnOk};
 ghost use Rattle.std.specs.List.{All, AllByRecursion};
 ghost use Rattle.road_model.specs.Lines.{line_of};
-ghost use Rattle.road_model.specs.Network.{HasNoWords};
 ghost use Rattle.road_model.specs.Blocks.{IsPieceEntry};
 ghost use Rattle.road_model.specs.Format.{IsPieceForm};
 ghost use Rattle.way_pieces.specs.Names.{IsSpanOn};
+ghost use Rattle.expanded_graph.specs.Contexts.{AreEndings};
+ghost use Rattle.expanded_graph.specs.States.{AreStates};
 ghost use Rattle.expanded_graph.specs.Travel.{way_node};
 ghost use Rattle.expanded_graph.specs.Turning.{IsIntersection};
 
 use crate::contexts::contexts_of;
 use crate::intersections::{Intersection, intersection_at};
 use crate::places::{WayNode, arrival_of, places_of};
+use crate::states::States;
 use road_base::{NoMemory, WayId};
 use road_model::{Contexts, Piece, Places, Profile, World};
 use std::alloc::Global;
 use way_pieces::PieceSpan;
 
-/// The pieces of the way at these spans. The nodes are those of the way's line.
+/// The pieces of the way at these spans. The nodes are those of the way's line, the states those of the way, and the
+/// endings those in which contexts may end there.
 pub fn pieces_along<M: World, P: Profile>(
     alloc: Global,
     world: &M,
     profile: &P,
     way: WayId,
+    states: &States,
+    endings: &[usize],
     nodes: &[WayNode],
     spans: &[PieceSpan],
 ) -> Result<Vec<Piece>, NoMemory>
-    requires no_words { HasNoWords (M.objects world.now) (P.rules profile.now) }
+    requires states { AreStates (M.objects world.now) (P.rules profile.now) way states.now.automaton.words states.now.automaton.states states.now.facts.items }
+    requires endings { AreEndings states.now.automaton states.now.facts.items way endings.now }
     requires line { nodes.now ≡ map (way_node (M.objects world.now)) (line_of (M.objects world.now) way) }
     requires short { length nodes.now ≤ 65535 }
     requires spans { All (IsSpanOn (M.objects world.now) (P.rules profile.now) way) spans.now }
@@ -37,7 +43,9 @@ pub fn pieces_along<M: World, P: Profile>(
     let mut known = Vec::new(alloc);
     let mut pieces = Vec::with_capacity(alloc, spans.len())?;
     for span in spans {
-        let piece = piece_at(alloc, world, profile, way, nodes, &mut known, *span)?;
+        let piece = piece_at(
+            alloc, world, profile, way, states, endings, nodes, &mut known, *span,
+        )?;
         pieces.push(piece)?;
     }
     Ok(pieces)
@@ -49,11 +57,14 @@ fn piece_at<M: World, P: Profile>(
     world: &M,
     profile: &P,
     way: WayId,
+    states: &States,
+    endings: &[usize],
     nodes: &[WayNode],
     known: &mut Vec<Intersection>,
     span: PieceSpan,
 ) -> Result<Piece, NoMemory>
-    requires no_words { HasNoWords (M.objects world.now) (P.rules profile.now) }
+    requires states { AreStates (M.objects world.now) (P.rules profile.now) way states.now.automaton.words states.now.automaton.states states.now.facts.items }
+    requires endings { AreEndings states.now.automaton states.now.facts.items way endings.now }
     requires line { nodes.now ≡ map (way_node (M.objects world.now)) (line_of (M.objects world.now) way) }
     requires short { length nodes.now ≤ 65535 }
     requires known { All (IsIntersection (M.objects world.now) (P.rules profile.now)) known.old.items }
@@ -66,7 +77,16 @@ fn piece_at<M: World, P: Profile>(
     let places = places_of(alloc, nodes, span)?;
     let arrival = arrival_of(world, nodes, span);
     let at = intersection_at(alloc, world, profile, known, arrival.at)?;
-    let contexts = contexts_of(alloc, world, profile, &known[at], span, arrival.from)?;
+    let contexts = contexts_of(
+        alloc,
+        world,
+        profile,
+        states,
+        endings,
+        &known[at],
+        span,
+        arrival.from,
+    )?;
     Ok(Piece {
         name: span.name,
         end: span.end,

@@ -37,11 +37,11 @@ returns-in_default-clause-form g c =
 pub pieces_along-requires-clause-line : goal.pieces_along-requires-clause-line
 pieces_along-requires-clause-line g c =
     let M = g.M.World.objects c.args.world.now in
-    c.as_slice.ensures.value ∙ c.in_ok-nodes.ensures.nodes ∙ ap (map (way_node M)) (sym (visible_line M c.args.way c.in-Some.body.now c.in-Some.ensures))
+    c.as_slice-2.ensures.value ∙ c.in_ok-nodes.ensures.nodes ∙ ap (map (way_node M)) (sym (visible_line M c.args.way c.in-Some.body.now c.in-Some.ensures))
 
 pub pieces_along-requires-clause-short : goal.pieces_along-requires-clause-short
 pieces_along-requires-clause-short g c =
-    let same : length c.as_slice.result.now ≡ length c.in_ok-nodes.nodes.items = ap length c.as_slice.ensures.value in
+    let same : length c.as_slice-2.result.now ≡ length c.in_ok-nodes.nodes.items = ap length c.as_slice-2.ensures.value in
     let short = c.in_ok-nodes.ensures.short in
     omega arith
 
@@ -50,19 +50,22 @@ pieces_along-requires-clause-spans g c =
     let M = g.M.World.objects c.args.world.now in
     let P = g.P.Profile.rules c.args.profile.now in
     let spans = c.in_ok-spans.spans.items in
-    All-same (IsSpanOn M P c.args.way) c.as_slice-2.result.now spans c.as_slice-2.ensures.value
+    All-same (IsSpanOn M P c.args.way) c.as_slice-3.result.now spans c.as_slice-3.ensures.value
     (All-weaker _ (IsSpanOn M P c.args.way) (λ s has. c.in_ok-spans.ensures.sound s has) spans (All-contains_itself spans))
 
 pub returns-clause-block : goal.returns-clause-block
 returns-clause-block g c =
     let M = g.M.World.objects c.args.world.now in
     let P = g.P.Profile.rules c.args.profile.now in
-    let names = c.in_ok-pieces.ensures.names ∙ ap (map (λ s. s.name)) c.as_slice-2.ensures.value in
+    let names = c.in_ok-pieces.ensures.names ∙ ap (map (λ s. s.name)) c.as_slice-3.ensures.value in
     is_block M P c.args.way c.in_ok-spans.spans.items c.in_ok-spans.ensures c.in_ok-pieces.pieces.items names c.in_ok-pieces.ensures.entries (c.one_name.ensures.entries M) _ refl c.from_list.ensures
 
 pub returns-clause-form : goal.returns-clause-form
 returns-clause-form g c =
     let M = g.M.World.objects c.args.world.now in
     let P = g.P.Profile.rules c.args.profile.now in
-    let names = c.in_ok-pieces.ensures.names ∙ ap (map (λ s. s.name)) c.as_slice-2.ensures.value in
+    let names = c.in_ok-pieces.ensures.names ∙ ap (map (λ s. s.name)) c.as_slice-3.ensures.value in
     has_form M P c.args.way c.in_ok-spans.spans.items c.in_ok-spans.ensures c.in_ok-pieces.pieces.items names c.in_ok-pieces.ensures.entries c.name_order.ensures.ways c.in_ok-pieces.ensures.forms c.from_list.result c.from_list.ensures
+
+pub endings_on-requires : goal.endings_on-requires
+endings_on-requires g c = c.in_ok-states.ensures.count
