@@ -3,35 +3,18 @@ use Rattle.std.proofs.Common.{◌≡◌, List, [], ◌∷◌, length, map, inl, 
 use Rattle.std.specs.declared.cmp.Ordering.TheVariants.{Less, Equal, Greater}
 use Rattle.std.specs.Ordering.{is_lt, ordering_then, nat_cmp}
 use Rattle.std.specs.Cmp.{IsTotalOrder}
-use Rattle.std.specs.List.{filter}
 use Rattle.std.proofs.lemmas.Bool.{and_parts, and_from, false≢true}
 use Rattle.std.proofs.lemmas.Cmp.{tied_itself}
 use Rattle.road_base.specs.declared.ids.WayId.{WayId}
 use Rattle.road_model.specs.declared.lists.PieceName.{PieceName}
 use Rattle.road_model.specs.Orders.{rises, rises_from, Lists, way_cmp, name_cmp, dir_cmp}
 use Rattle.road_model.specs.Format.{place_cmp}
-use Rattle.expanded_graph.proofs.Members.{In, from_filter, in_from_contains, contains_from_in}
+use Rattle.expanded_graph.proofs.Members.{In, in_end, in_take, push_cases, in_from_contains, contains_from_in}
 
 less : (r : Ordering) → IsTrue (is_lt r) → r ≡ Less
 less Less h = refl
 less Equal h = absurd (false≢true h)
 less Greater h = absurd (false≢true h)
-
-in_behind : {A : Type 0} (xs : List A) (y x : A) → In x (xs ++ y ∷ []) → In x xs ⊎ (x ≡ y)
-in_behind [] y x (inl e) = inr e
-in_behind [] y x (inr i) = absurd i
-in_behind (z ∷ xs) y x (inl e) = inl (inl e)
-in_behind (z ∷ xs) y x (inr i) = elim (in_behind xs y x i) [ inl j ↦ inl (inr j) | inr e ↦ inr e ]
-
-at_end : {A : Type 0} (xs : List A) (y : A) → In y (xs ++ y ∷ [])
-at_end [] y = inl refl
-at_end (z ∷ xs) y = inr (at_end xs y)
-
-in_take : {A : Type 0} (n : ℕ) (xs : List A) (x : A) → In x (take n xs) → In x xs
-in_take zero xs x i = absurd i
-in_take (suc n) [] x i = absurd i
-in_take (suc n) (y ∷ xs) x (inl e) = inl e
-in_take (suc n) (y ∷ xs) x (inr i) = inr (in_take n xs x i)
 
 module _ {A N : Type 0} (name : A → N) (R : N → N → Ordering) (total : IsTotalOrder R) where
   -- x is below y
@@ -72,29 +55,17 @@ module _ {A N : Type 0} (name : A → N) (R : N → N → Ordering) (total : IsT
   -- a list that ascends does so with one more behind that is above all
   pub climbs_push : (xs : List A) (y : A) → Climbs xs → ((x : A) → In x xs → Below x y) → Climbs (xs ++ y ∷ [])
   climbs_push [] y c up = (λ z i. absurd i, tt)
-  climbs_push (x ∷ xs) y c up = (λ z i. elim (in_behind xs y z i) [ inl j ↦ c.0 z j | inr e ↦ subst (λ v. Below x v) (sym e) (up x (inl refl)) ], climbs_push xs y c.1 (λ z i. up z (inr i)))
+  climbs_push (x ∷ xs) y c up = (λ z i. elim (push_cases xs y z i) [ inl j ↦ c.0 z j | inr e ↦ subst (λ v. Below x v) (sym e) (up x (inl refl)) ], climbs_push xs y c.1 (λ z i. up z (inr i)))
 
   pub below_end : (xs : List A) (y : A) → Climbs (xs ++ y ∷ []) → (x : A) → In x xs → Below x y
   below_end [] y c x i = absurd i
-  below_end (z ∷ xs) y c x (inl e) = subst (λ v. Below v y) (sym e) (c.0 y (at_end xs y))
+  below_end (z ∷ xs) y c x (inl e) = subst (λ v. Below v y) (sym e) (c.0 y (in_end xs y []))
   below_end (z ∷ xs) y c x (inr i) = below_end xs y c.1 x i
 
   pub climbs_take : (n : ℕ) (xs : List A) → Climbs xs → Climbs (take n xs)
   climbs_take zero xs c = tt
   climbs_take (suc n) [] c = tt
   climbs_take (suc n) (x ∷ xs) c = (λ y i. c.0 y (in_take n xs y i), climbs_take n xs c.1)
-
-  climbs_filter_at : (p : A → Bool) (x : A) (xs : List A) (b : Bool) → Climbs (x ∷ xs) → Climbs (filter p xs) → Climbs (cond b (x ∷ filter p xs) (filter p xs))
-  climbs_filter_at p x xs true c d = (λ y i. c.0 y (from_filter p xs y i).0, d)
-  climbs_filter_at p x xs false c d = d
-
-  climbs_filter : (p : A → Bool) (xs : List A) → Climbs xs → Climbs (filter p xs)
-  climbs_filter p [] c = tt
-  climbs_filter p (x ∷ xs) c = climbs_filter_at p x xs (p x) c (climbs_filter p xs c.1)
-
-  -- what passes a test ascends as the whole does
-  pub filter_rises : (p : A → Bool) (xs : List A) → IsTrue (rises R (map name xs)) → IsTrue (rises R (map name (filter p xs)))
-  filter_rises p xs h = rises_again (filter p xs) (climbs_filter p xs (climbs xs h))
 
   -- an ascending list of which all members have one name has one
   one_by_climbing : (xs : List A) → Climbs xs → (x : A) → In x xs → ((y : A) → In y xs → name y ≡ name x) → length xs ≡ 1

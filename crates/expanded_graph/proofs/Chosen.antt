@@ -5,9 +5,8 @@ use Rattle.std.specs.Ordering.{is_lt}
 use Rattle.std.specs.declared.cmp.Ordering.{Ordering}
 use Rattle.std.proofs.lemmas.List.{take_more}
 use Rattle.road_model.specs.Orders.{rises, Lists}
-use Rattle.expanded_graph.proofs.Members.{In, in_from_contains, contains_from_in}
+use Rattle.expanded_graph.proofs.Members.{In, push_cases, in_from_contains, contains_from_in, in_end, in_left}
 use Rattle.expanded_graph.proofs.Ascending.{Below, Climbs, climbs, rises_again, climbs_push, below_end, climbs_take}
-use Rattle.expanded_graph.proofs.Runs.{in_end, in_left}
 
 -- the list as has one of each that there is for a member of ds, by their names
 pub record Chosen {A D N : Type 0} (name : A → N) (key : D → N) (R : N → N → Ordering) (Is : A → Type 0) (ds : List D) (zs : List A) : Type 0 where
@@ -15,12 +14,6 @@ pub record Chosen {A D N : Type 0} (name : A → N) (key : D → N) (R : N → N
   pub sound : (a : A) → In a zs → Is a
   pub from : (a : A) → In a zs → (d : D) × In d ds × (name a ≡ key d)
   pub complete : (d : D) → In d ds → (a : A) → Is a → name a ≡ key d → In a zs
-
-in_push : {A : Type 0} (xs : List A) (y x : A) → In x (xs ++ y ∷ []) → In x xs ⊎ (x ≡ y)
-in_push [] y x (inl e) = inr e
-in_push [] y x (inr i) = absurd i
-in_push (z ∷ xs) y x (inl e) = inl (inl e)
-in_push (z ∷ xs) y x (inr i) = elim (in_push xs y x i) [ inl j ↦ inl (inr j) | inr e ↦ inr e ]
 
 module _ {A D N : Type 0} (name : A → N) (key : D → N) (R : N → N → Ordering) (total : IsTotalOrder R) (Is : A → Type 0) where
   pub chosen_none : Chosen name key R Is [] []
@@ -32,7 +25,7 @@ module _ {A D N : Type 0} (name : A → N) (key : D → N) (R : N → N → Orde
       ascending = so_far.ascending;
       sound = so_far.sound;
       from = λ a i. let r = so_far.from a i in (r.0, in_left ds (d ∷ []) r.0 r.1, r.2);
-      complete = λ e j a is named. elim (in_push ds d e j) [
+      complete = λ e j a is named. elim (push_cases ds d e j) [
         | inl k ↦ so_far.complete e k a is named
         | inr same ↦ absurd (none a is (named ∙ ap key same))
       ];
@@ -44,12 +37,12 @@ module _ {A D N : Type 0} (name : A → N) (key : D → N) (R : N → N → Orde
           let r = so_far.from a i in
           let below = below_end key R total ds d up r.0 r.1 in
           subst (λ n. IsTrue (is_lt (R n (name x)))) (sym r.2) (subst (λ n. IsTrue (is_lt (R (key r.0) n))) (sym named) below)));
-      sound = λ a i. elim (in_push zs x a i) [ inl j ↦ so_far.sound a j | inr e ↦ subst Is (sym e) has ];
-      from = λ a i. elim (in_push zs x a i) [
+      sound = λ a i. elim (push_cases zs x a i) [ inl j ↦ so_far.sound a j | inr e ↦ subst Is (sym e) has ];
+      from = λ a i. elim (push_cases zs x a i) [
         | inl j ↦ let r = so_far.from a j in (r.0, in_left ds (d ∷ []) r.0 r.1, r.2)
         | inr e ↦ (d, in_end ds d [], ap name e ∙ named)
       ];
-      complete = λ e j a is n. elim (in_push ds d e j) [
+      complete = λ e j a is n. elim (push_cases ds d e j) [
         | inl k ↦ in_left zs (x ∷ []) a (so_far.complete e k a is n)
         | inr same ↦ subst (λ v. In v (zs ++ x ∷ [])) (sym (one a is (n ∙ (ap key same ∙ sym named)))) (in_end zs x [])
       ];

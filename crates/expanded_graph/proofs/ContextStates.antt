@@ -25,10 +25,10 @@ use Rattle.expanded_graph.specs.Near.{IsNear, Itself, Shares}
 use Rattle.expanded_graph.specs.States.{AreFacts, AreStates}
 use Rattle.expanded_graph.specs.Contexts.{IsReached, IsEnding, EndsWithName, IsContextIn}
 use Rattle.expanded_graph.specs.Travel.{Arrives}
-use Rattle.expanded_graph.proofs.Members.{In, in_from_contains, contains_from_in, at_in, in_at}
+use Rattle.expanded_graph.proofs.Members.{In, in_from_contains, contains_from_in, at_in, in_at, in_end, in_left}
 use Rattle.expanded_graph.proofs.Ends.{spell_ends, last_step}
 use Rattle.expanded_graph.proofs.LastSteps.{last_drives}
-use Rattle.expanded_graph.proofs.Runs.{cons_not_nil, same_ends, some_at, one_at, in_end, in_left, turn_ends_long, every_left, context_pieces, one_turn}
+use Rattle.expanded_graph.proofs.Runs.{cons_not_nil, same_ends, some_at, one_at, turn_ends_long, every_left, context_pieces, one_turn}
 use Rattle.expanded_graph.proofs.Ascending.{lists_unique}
 use Rattle.expanded_graph.proofs.Stopping.{begins_from, begins_to}
 

@@ -12,9 +12,9 @@ use Rattle.turn_automata.specs.Trees.{IsClosed}
 use Rattle.turn_automata.specs.Machines.{Machine, StandsFor}
 use Rattle.expanded_graph.specs.declared.states.StateFacts.{StateFacts}
 use Rattle.expanded_graph.specs.Contexts.{IsEnding, AreEndings}
-use Rattle.expanded_graph.proofs.Members.{In, in_from_contains, contains_from_in}
+use Rattle.expanded_graph.proofs.Members.{In, push_cases, in_from_contains, contains_from_in, in_end, in_left}
 use Rattle.expanded_graph.proofs.Ascending.{Climbs, climbs, climbs_push, rises_again}
-use Rattle.expanded_graph.proofs.Runs.{same_ends, nil_or_cons, some_at, one_at, in_end, in_left}
+use Rattle.expanded_graph.proofs.Runs.{same_ends, nil_or_cons, some_at, one_at}
 
 abbrev pub HasNameOn : StateFacts → WayId → Type 0
 HasNameOn f w = (n : PieceName) × (f.ends ≡ Some n) × (n.way ≡ w)
@@ -70,12 +70,6 @@ pub record AreEndingsBelow (m : Machine) (facts : List StateFacts) (w : WayId) (
 below_or_at : (n i : ℕ) → n < i + 1 → (n < i) ⊎ (n ≡ i)
 below_or_at n i h = grind arith
 
-split_push : (ns : List ℕ) (i n : ℕ) → In n (ns ++ i ∷ []) → In n ns ⊎ (n ≡ i)
-split_push [] i n (inl e) = inr e
-split_push [] i n (inr k) = absurd k
-split_push (z ∷ ns) i n (inl e) = inl (inl e)
-split_push (z ∷ ns) i n (inr k) = elim (split_push ns i n k) [ inl j ↦ inl (inr j) | inr e ↦ inr e ]
-
 map_itself : (ns : List ℕ) → map (λ n. n) ns ≡ ns
 map_itself [] = refl
 map_itself (n ∷ ns) = ap (λ l. n ∷ l) (map_itself ns)
@@ -90,7 +84,7 @@ module _ (m : Machine) (facts : List StateFacts) (w : WayId) (i : ℕ) (ns : Lis
   pub one_more : IsEnding m facts w i → AreEndingsBelow m facts w (i + 1) (ns ++ i ∷ [])
   one_more e = record {
     ascending = sym (ap (rises nat_cmp) (map_itself (ns ++ i ∷ []))) ∙ rises_again (λ n. n) nat_cmp nat_cmp_total (ns ++ i ∷ []) (climbs_push (λ n. n) nat_cmp nat_cmp_total ns i (ascends ns so_far.ascending) (λ n j. number_below n i (so_far.sound n j).0));
-    sound = λ n j. elim (split_push ns i n j) [
+    sound = λ n j. elim (push_cases ns i n j) [
       | inl k ↦ let h = so_far.sound n k in let l = h.0 in (omega arith, h.1)
       | inr same ↦ (omega (arith, same), subst (IsEnding m facts w) (sym same) e)
     ];

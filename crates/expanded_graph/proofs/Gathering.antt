@@ -28,18 +28,12 @@ use Rattle.turn_automata.specs.Machines.{Machine}
 use Rattle.expanded_graph.specs.declared.states.StateFacts.{StateFacts}
 use Rattle.expanded_graph.specs.States.{AreStates}
 use Rattle.expanded_graph.specs.Contexts.{IsEnding, AreEndings, EndsWithName, IsContextIn, HasContexts}
-use Rattle.expanded_graph.proofs.Members.{In, from_map, in_from_contains, contains_from_in}
+use Rattle.expanded_graph.proofs.Members.{In, push_cases, from_map, in_from_contains, contains_from_in, in_end, in_left}
 use Rattle.expanded_graph.proofs.Ascending.{Climbs, climbs, climbs_take, below_end, not_itself}
-use Rattle.expanded_graph.proofs.Runs.{same_ends, one_at, in_end, in_left, nil_or_cons, context_pieces}
+use Rattle.expanded_graph.proofs.Runs.{same_ends, one_at, nil_or_cons, context_pieces}
 use Rattle.expanded_graph.proofs.Ending.{ascends as numbers_climb}
 use Rattle.expanded_graph.proofs.Sorting.{apart, none_of, nothing_distinct, each_member}
 use Rattle.expanded_graph.proofs.ContextStates.{StepLaws, ends_in, one_state, one_context}
-
-push_cases : {A : Type 0} (xs : List A) (y x : A) → In x (xs ++ y ∷ []) → In x xs ⊎ (x ≡ y)
-push_cases [] y x (inl e) = inr e
-push_cases [] y x (inr i) = absurd i
-push_cases (z ∷ xs) y x (inl e) = inl (inl e)
-push_cases (z ∷ xs) y x (inr i) = elim (push_cases xs y x i) [ inl j ↦ inl (inr j) | inr e ↦ inr e ]
 
 map_none : {A B : Type 0} (f : A → B) (xs : List A) → map f xs ≡ [] → xs ≡ []
 map_none f [] e = refl

@@ -27,9 +27,9 @@ use Rattle.expanded_graph.specs.declared.states.StateFacts.{StateFacts}
 use Rattle.expanded_graph.specs.Near.{IsNear, Itself}
 use Rattle.expanded_graph.specs.Contexts.{IsReached}
 use Rattle.expanded_graph.specs.Turning.{IsIntersection, may_follow}
-use Rattle.expanded_graph.proofs.Members.{In, in_from_contains}
+use Rattle.expanded_graph.proofs.Members.{In, in_from_contains, in_end, in_left}
 use Rattle.expanded_graph.proofs.Ends.{spell_begins, spell_ends, first_step, last_step}
-use Rattle.expanded_graph.proofs.Runs.{cons_not_nil, same_ends, cut_last, in_end, in_left, nil_or_last, some_at, every_left, every_right, turn_ends, context_pieces, turn_count}
+use Rattle.expanded_graph.proofs.Runs.{cons_not_nil, same_ends, cut_last, nil_or_last, some_at, every_left, every_right, turn_ends, context_pieces, turn_count}
 use Rattle.expanded_graph.proofs.Stopping.{LongWords, begins_from, begins_to, goes_on_near}
 use Rattle.expanded_graph.proofs.Passing.{Laws, departure_by, is_departure, listed, passes_by, follows_by}
 

@@ -1,7 +1,5 @@
 -- Members of lists, by recursion on the list.
-use Rattle.std.proofs.Common.{◌≡◌, ℕ, zero, suc, ◌<◌, List, [], ◌∷◌, length, map, ◌⊎◌, inl, inr, refl, sym, ap, ◌∙◌, arith, Bool, true, false, cond, Contains, slice_index_or, slice_get, get_or, Some}
-use Rattle.std.specs.List.{filter}
-use Rattle.std.proofs.lemmas.Bool.{false≢true}
+use Rattle.std.proofs.Common.{◌≡◌, ℕ, zero, suc, ◌<◌, List, [], ◌∷◌, ◌++◌, take, length, map, ◌⊎◌, inl, inr, refl, sym, ap, ◌∙◌, arith, Bool, true, false, cond, Contains, slice_index_or, slice_get, get_or, Some}
 
 -- a member of a list
 abbrev pub In : {A : Type 0} → A → List A → Type 0
@@ -31,6 +29,28 @@ in_get [] k d within = absurd (omega arith)
 in_get (y ∷ xs) zero d within = inl refl
 in_get (y ∷ xs) (suc k) d within = inr (in_get xs k d (omega arith))
 
+pub in_end : {A : Type 0} (a : List A) (x : A) (b : List A) → In x (a ++ x ∷ b)
+in_end [] x b = inl refl
+in_end (y ∷ a) x b = inr (in_end a x b)
+
+pub in_left : {A : Type 0} (a b : List A) (x : A) → In x a → In x (a ++ b)
+in_left [] b x i = absurd i
+in_left (y ∷ a) b x (inl e) = inl e
+in_left (y ∷ a) b x (inr i) = inr (in_left a b x i)
+
+-- a member of a list with one more behind
+pub push_cases : {A : Type 0} (xs : List A) (y x : A) → In x (xs ++ y ∷ []) → In x xs ⊎ (x ≡ y)
+push_cases [] y x (inl e) = inr e
+push_cases [] y x (inr i) = absurd i
+push_cases (z ∷ xs) y x (inl e) = inl (inl e)
+push_cases (z ∷ xs) y x (inr i) = elim (push_cases xs y x i) [ inl j ↦ inl (inr j) | inr e ↦ inr e ]
+
+pub in_take : {A : Type 0} (n : ℕ) (xs : List A) (x : A) → In x (take n xs) → In x xs
+in_take zero xs x i = absurd i
+in_take (suc n) [] x i = absurd i
+in_take (suc n) (y ∷ xs) x (inl e) = inl e
+in_take (suc n) (y ∷ xs) x (inr i) = inr (in_take n xs x i)
+
 -- the place of a member
 pub at_in : {A : Type 0} (xs : List A) (x : A) → In x xs → (k : ℕ) × (slice_get xs k ≡ Some x)
 at_in [] x i = absurd i
@@ -46,25 +66,6 @@ pub from_map : {A B : Type 0} (f : A → B) (xs : List A) (z : B) → In z (map 
 from_map f [] z i = absurd i
 from_map f (y ∷ xs) z (inl e) = (y, inl refl, e)
 from_map f (y ∷ xs) z (inr i) = let r = from_map f xs z i in (r.0, inr r.1, r.2)
-
-in_filter_at : {A : Type 0} (p : A → Bool) (y : A) (xs : List A) (x : A) (b : Bool) → p y ≡ b → p x ≡ true → In x (y ∷ xs) → (In x xs → In x (filter p xs)) → In x (cond b (y ∷ filter p xs) (filter p xs))
-in_filter_at p y xs x true e h (inl i) go = inl i
-in_filter_at p y xs x true e h (inr i) go = inr (go i)
-in_filter_at p y xs x false e h (inl i) go = absurd (false≢true (sym e ∙ ap p (sym i) ∙ h))
-in_filter_at p y xs x false e h (inr i) go = go i
-
-pub in_filter : {A : Type 0} (p : A → Bool) (xs : List A) (x : A) → In x xs → p x ≡ true → In x (filter p xs)
-in_filter p [] x i h = absurd i
-in_filter p (y ∷ xs) x i h = in_filter_at p y xs x (p y) refl h i (λ j. in_filter p xs x j h)
-
-from_filter_at : {A : Type 0} (p : A → Bool) (y : A) (xs : List A) (x : A) (b : Bool) → p y ≡ b → (In x (filter p xs) → In x xs × (p x ≡ true)) → In x (cond b (y ∷ filter p xs) (filter p xs)) → In x (y ∷ xs) × (p x ≡ true)
-from_filter_at p y xs x true e go (inl i) = (inl i, ap p i ∙ e)
-from_filter_at p y xs x true e go (inr i) = let r = go i in (inr r.0, r.1)
-from_filter_at p y xs x false e go i = let r = go i in (inr r.0, r.1)
-
-pub from_filter : {A : Type 0} (p : A → Bool) (xs : List A) (x : A) → In x (filter p xs) → In x xs × (p x ≡ true)
-from_filter p [] x i = absurd i
-from_filter p (y ∷ xs) x i = from_filter_at p y xs x (p y) refl (from_filter p xs x) i
 
 -- two members of a list of one are equal
 pub all_one : {A : Type 0} (xs : List A) → length xs ≡ 1 → (x y : A) → In x xs → In y xs → x ≡ y

@@ -1,6 +1,6 @@
 -- Where lists of steps end, and their turn steps.
-use Rattle.std.proofs.Common.{◌≡◌, ℕ, ◌+◌, ◌<◌, ◌≤◌, List, [], ◌∷◌, ◌++◌, length, ◌⊎◌, inl, inr, refl, sym, ap, ◌∙◌, subst, arith, append_assoc, append-nil, length-append, zero, suc, slice_get, Some}
-use Rattle.std.proofs.lemmas.Option.{same_Some}
+use Rattle.std.proofs.Common.{◌≡◌, ℕ, ◌+◌, ◌<◌, ◌≤◌, List, [], ◌∷◌, ◌++◌, length, ◌⊎◌, inl, inr, refl, sym, ap, ◌∙◌, subst, arith, append_assoc, append-nil, length-append, zero, suc, slice_get, get_or, Some}
+use Rattle.std.proofs.lemmas.Option.{same_Some, slice_get-get_or}
 use Rattle.road_base.specs.declared.ids.Step.{Step}
 use Rattle.road_base.specs.Objects.{Objects}
 use Rattle.road_model.specs.Rules.{Rules}
@@ -8,7 +8,6 @@ use Rattle.road_model.specs.Pieces.{Piece, IsPiece, spell}
 use Rattle.road_model.specs.Contexts.{Every, One, Many}
 use Rattle.road_model.specs.Network.{IsContext, spell_pieces}
 use Rattle.road_model.specs.Turning.{HasTurnSteps}
-use Rattle.expanded_graph.proofs.Members.{In}
 use Rattle.expanded_graph.proofs.Ends.{spell_begins}
 
 pub cons_not_nil : {A : Type 0} (a : List A) (x : A) (b : List A) → a ++ x ∷ b ≡ [] → ⊥
@@ -39,15 +38,6 @@ cut_last (z ∷ d) (y ∷ a) u x e =
     let head : z ≡ y = cc in
     elim (cut_last d a u x (cc)) [ inl n ↦ inl n | inr r ↦ inr (record { rest = r.rest; is = r.is; front = let f = r.front in cc }) ]
 
-pub in_end : {A : Type 0} (a : List A) (x : A) (b : List A) → In x (a ++ x ∷ b)
-in_end [] x b = inl refl
-in_end (y ∷ a) x b = inr (in_end a x b)
-
-pub in_left : {A : Type 0} (a b : List A) (x : A) → In x a → In x (a ++ b)
-in_left [] b x i = absurd i
-in_left (y ∷ a) b x (inl e) = inl e
-in_left (y ∷ a) b x (inr i) = inr (in_left a b x i)
-
 pub nil_or_cons : {A : Type 0} (xs : List A) → (xs ≡ []) ⊎ ((x : A) × (ys : List A) × (xs ≡ x ∷ ys))
 nil_or_cons [] = inl refl
 nil_or_cons (x ∷ xs) = inr (x, xs, refl)
@@ -69,6 +59,9 @@ some_at (z ∷ xs) (suc i) h = some_at xs i (omega arith)
 
 pub one_at : {A : Type 0} (xs : List A) (i : ℕ) (x y : A) → slice_get xs i ≡ Some x → slice_get xs i ≡ Some y → x ≡ y
 one_at xs i x y h k = same_Some x y (sym h ∙ k)
+
+pub read_at : {A : Type 0} (xs : List A) (i : ℕ) (x : A) → i < length xs → x ≡ get_or xs i x → slice_get xs i ≡ Some x
+read_at xs i x h e = slice_get-get_or xs i x h ∙ ap Some (sym e)
 
 -- ---- members with a property
 

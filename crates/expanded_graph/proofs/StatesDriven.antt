@@ -17,8 +17,8 @@ use Rattle.turn_automata.specs.Watched.{Stops}
 use Rattle.expanded_graph.specs.Near.{IsNear}
 use Rattle.expanded_graph.specs.Known.{IsDriven}
 use Rattle.expanded_graph.proofs.Ends.{located_some, both_located}
-use Rattle.expanded_graph.proofs.Members.{contains_from_in}
-use Rattle.expanded_graph.proofs.Runs.{cons_not_nil, in_end}
+use Rattle.expanded_graph.proofs.Members.{contains_from_in, in_end}
+use Rattle.expanded_graph.proofs.Runs.{cons_not_nil}
 use Rattle.expanded_graph.proofs.Stopping.{LongWords, goes_on_near}
 
 is_some_from : (o : Option State) → (o ≡ None → ⊥) → IsTrue (is_some o)

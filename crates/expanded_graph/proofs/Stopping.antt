@@ -20,8 +20,8 @@ use Rattle.road_model.specs.Turning.{BeginsWord}
 use Rattle.restrictions.specs.declared.word_list.Word.{Word}
 use Rattle.turn_automata.specs.Watched.{IsProperPrefix, NoIn, Must as MustIn, Stops}
 use Rattle.expanded_graph.specs.Near.{IsNear, AreWordsNear}
-use Rattle.expanded_graph.proofs.Members.{In, in_from_contains, contains_from_in}
-use Rattle.expanded_graph.proofs.Runs.{cons_not_nil, same_ends, cut_last, in_end, in_left}
+use Rattle.expanded_graph.proofs.Members.{In, in_from_contains, contains_from_in, in_end, in_left}
+use Rattle.expanded_graph.proofs.Runs.{cons_not_nil, same_ends, cut_last}
 
 -- ---- steps and words can be told apart
 

@@ -20,9 +20,7 @@ use crate::last_steps::last_step;
 use crate::names::names_before;
 use crate::states::States;
 use road_base::{NoMemory, NodeId};
-use road_model::laws::{
-    context_steps, contexts, drive_grows, name_order, one_junction, one_name, words_on_ways,
-};
+use road_model::laws::{context_steps, drive_grows, name_order, one_name};
 use road_model::{Arcs, Context, Names, PieceName, Profile, World};
 use std::alloc::Global;
 use std::cmp::Ordering;
@@ -52,10 +50,7 @@ pub fn contexts_of<M: World, P: Profile>(
 {
     name_order();
     one_name(profile);
-    one_junction(profile);
-    contexts(profile);
     context_steps(profile);
-    words_on_ways(profile);
     let mut contexts = all_contexts(
         alloc,
         world,
@@ -91,7 +86,6 @@ fn all_contexts<M: World, P: Profile>(
     name_order();
     one_name(profile);
     context_steps(profile);
-    words_on_ways(profile);
     states.automaton.closed();
     let mut contexts = Vec::new(alloc);
     let alone = context_alone(alloc, world, profile, states, intersection, span, from)?;
@@ -172,7 +166,6 @@ fn context_in<M: World, P: Profile>(
 {
     one_name(profile);
     context_steps(profile);
-    words_on_ways(profile);
     states.automaton.closed();
     let names = names_before(alloc, world, profile, states, state)?;
     let arcs = arcs_at(alloc, world, profile, states, state, intersection, from)?;

@@ -11,7 +11,7 @@ ghost use Rattle.expanded_graph.specs.States.{AreStates};
 
 use crate::states::States;
 use road_base::NoMemory;
-use road_model::laws::{context_steps, one_name};
+use road_model::laws::context_steps;
 use road_model::{PieceName, Profile, World};
 use std::alloc::Global;
 use turn_automata::State;
@@ -19,7 +19,7 @@ use turn_automata::State;
 /// The names of the pieces whose last steps stand in the state's list before its last step, in order of travel.
 pub fn names_before<M: World, P: Profile>(
     alloc: Global,
-    _world: &M,
+    world: &M,
     profile: &P,
     states: &States,
     state: State,
@@ -28,13 +28,12 @@ pub fn names_before<M: World, P: Profile>(
     requires grown { 0 < state.0 }
     requires state { state.0 < length states.now.automaton.states }
     ensures { IfOk result (λ v. (w : WayId) (before : List Piece) (p : Piece) (q : List Step)
-        → AreStates (M.objects _world.now) (P.rules profile.now) w states.now.automaton.words states.now.automaton.states states.now.facts.items
-        → Every (IsPiece (M.objects _world.now) (P.rules profile.now)) (before ++ p ∷ [])
+        → AreStates (M.objects world.now) (P.rules profile.now) w states.now.automaton.words states.now.automaton.states states.now.facts.items
+        → Every (IsPiece (M.objects world.now) (P.rules profile.now)) (before ++ p ∷ [])
         → HasTurnSteps (before ++ p ∷ []) q
         → StandsFor states.now.automaton state.0 q
         → v.items ≡ map name_of before) }
 {
-    one_name(profile);
     context_steps(profile);
     states.automaton.closed();
     let mut names = Vec::new(alloc);

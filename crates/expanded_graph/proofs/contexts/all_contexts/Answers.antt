@@ -7,16 +7,13 @@ use Rattle.way_pieces.specs.Names.{piece_of}
 use Rattle.expanded_graph.specs.declared.states.StateFacts.{StateFacts}
 use Rattle.expanded_graph.specs.Contexts.{EndsWithName}
 use Rattle.expanded_graph.proofs.Members.{in_get, contains_from_in}
-use Rattle.expanded_graph.proofs.Runs.{one_at}
+use Rattle.expanded_graph.proofs.Runs.{read_at, one_at}
 use Rattle.expanded_graph.proofs.ContextStates.{StepLaws}
 use Rattle.expanded_graph.proofs.Gathering.{Gathered, gathered_alone, skip_at, more_at, has_contexts}
 use Rattle.expanded_graph.proofs.contexts.all_contexts.Goals as goal
 
 member : (ns : List ℕ) (i : ℕ) → i < length ns → Contains ns (get_or ns i 0)
 member ns i h = contains_from_in ns (get_or ns i 0) (in_get ns i 0 h)
-
-fact : (xs : List StateFacts) (i : ℕ) (f : StateFacts) → i < length xs → f ≡ get_or xs i f → slice_get xs i ≡ Some f
-fact xs i f h e = slice_get-get_or xs i f h ∙ ap Some (sym e)
 
 pub index-requires : goal.index-requires
 index-requires g c =
@@ -34,7 +31,7 @@ context_in-requires-clause-named g c =
     let e = (c.requires.endings.each _).0 (member ns c.loop-ending.ending-index c.loop-ending-test.true) in
     let facts = c.args.states.now.facts.items in
     let f = c.index.result.now in
-    record { known = f; fact = fact facts (get_or ns c.loop-ending.ending-index 0) f (slice_get_within facts _ e.known e.fact) c.index.ensures; ends = c.is_named.ensures.0 c.if-not-is_named.false }
+    record { known = f; fact = read_at facts (get_or ns c.loop-ending.ending-index 0) f (slice_get_within facts _ e.known e.fact) c.index.ensures; ends = c.is_named.ensures.0 c.if-not-is_named.false }
 
 pub loop-ending-init : goal.loop-ending-init
 loop-ending-init g c =
@@ -61,7 +58,7 @@ loop-ending-preserved-then-not-is_named g c =
     let laws : StepLaws M P = record { one = c.one_name.ensures.pieces M; to = c.context_steps.ensures.to M; from = c.context_steps.ensures.from M } in
     skip_at M P laws c.name_order.ensures.lists c.name_order.ensures.list_ties m facts c.closed.ensures.closed p ns c.requires.endings.ascending c.loop-ending.contexts.items i c.loop-ending-test.true c.loop-ending.invariant
     (λ named.
-    let is = fact facts n f (slice_get_within facts n named.known named.fact) c.index.ensures in
+    let is = read_at facts n f (slice_get_within facts n named.known named.fact) c.index.ensures in
     let same = one_at facts n named.known f named.fact is in
     false≢true (sym c.if-not-is_named.true ∙ c.is_named.ensures.1 (subst (λ k. k.ends ≡ Some c.args.span.name) same named.ends)))
 

@@ -4,17 +4,14 @@ use Rattle.std.proofs.lemmas.List.{reverse-append}
 use Rattle.std.proofs.lemmas.Option.{slice_get-get_or}
 use Rattle.turn_automata.specs.Machines.{StandsFor}
 use Rattle.expanded_graph.specs.declared.states.StateFacts.{StateFacts}
-use Rattle.expanded_graph.proofs.Runs.{some_at, one_at}
+use Rattle.expanded_graph.proofs.Runs.{read_at, some_at, one_at}
 use Rattle.expanded_graph.proofs.Naming.{Path, path_start, path_more, names_along}
 use Rattle.expanded_graph.proofs.names.names_before.Goals as goal
 use Rattle.expanded_graph.proofs.names.names_before.Goals.{in-Some+in_ok-push, in_default}
 
-fact : (xs : List StateFacts) (i : ℕ) (f : StateFacts) → i < length xs → f ≡ get_or xs i f → slice_get xs i ≡ Some f
-fact xs i f h e = slice_get-get_or xs i f h ∙ ap Some (sym e)
-
 pub loop-at-init : goal.loop-at-init
 loop-at-init g c =
-    let M = g.M.World.objects c.args._world.now in
+    let M = g.M.World.objects c.args.world.now in
     let P = g.P.Profile.rules c.args.profile.now in
     let m = c.args.states.now.automaton in
     let facts = c.args.states.now.facts.items in
@@ -25,7 +22,7 @@ loop-at-init g c =
 
 pub loop-at-preserved : goal.loop-at-preserved
 loop-at-preserved g c =
-    let M = g.M.World.objects c.args._world.now in
+    let M = g.M.World.objects c.args.world.now in
     let P = g.P.Profile.rules c.args.profile.now in
     let m = c.args.states.now.automaton in
     let facts = c.args.states.now.facts.items in
@@ -35,7 +32,7 @@ loop-at-preserved g c =
     let names = c.loop-at.names.items in
     let low = c.loop-at.invariant.within in
     let less = c.edge-before-in-loop-at.ensures.less in
-    let is = fact facts k f (omega (arith, c.requires.count)) c.index.ensures in
+    let is = read_at facts k f (omega (arith, c.requires.count)) c.index.ensures in
     record {
       within = omega arith;
       path = λ closed w known q at.
@@ -51,7 +48,7 @@ loop-at-preserved g c =
 
 pub returns : goal.returns
 returns g c = λ w before p q known pieces turn at.
-    let M = g.M.World.objects c.args._world.now in
+    let M = g.M.World.objects c.args.world.now in
     let P = g.P.Profile.rules c.args.profile.now in
     let m = c.args.states.now.automaton in
     let facts = c.args.states.now.facts.items in

@@ -12,10 +12,10 @@ abbrev pub invariant-loop-at : goal.invariant-loop-at
 invariant-loop-at g l = record {
   within : l.at < length l.states.automaton.states;
   path : (closed : IsClosed l.states.automaton.states) (w : WayId)
-      (known : AreStates (g.M.World.objects l._world) (g.P.Profile.rules l.profile) w l.states.automaton.words l.states.automaton.states l.states.facts.items)
+      (known : AreStates (g.M.World.objects l.world) (g.P.Profile.rules l.profile) w l.states.automaton.words l.states.automaton.states l.states.facts.items)
       (q : List Step)
       → StandsFor l.states.automaton l.initial.at q
-      → Path (g.M.World.objects l._world) (g.P.Profile.rules l.profile) l.states.automaton l.states.facts.items closed w known q l.at l.names.items;
+      → Path (g.M.World.objects l.world) (g.P.Profile.rules l.profile) l.states.automaton l.states.facts.items closed w known q l.at l.names.items;
 }
 
 abbrev pub decreases-loop-at : goal.decreases-loop-at
