@@ -10,9 +10,6 @@ use std::collections::BTreeMap;
 use std::marker::Model;
 use way_lines::line;
 
-/// How long a list may be to be searched from its start.
-const SEARCHED: usize = 128;
-
 /// The nodes of a list, and for each of them whether it stands there more than once: for a short list by going through
 /// it, for a long one by a map. Contracts see the list.
 #[derive(Drop)]
@@ -36,11 +33,12 @@ impl<'a> Model for Repeats<'a> {
 impl<'a> Repeats<'a> {
     ghost use Rattle.junctions.specs.Repeats.{is_repeated};
 
-    /// Takes no memory for a short list.
-    pub fn of(alloc: Global, nodes: &'a [NodeId]) -> Result<Repeats<'a>, NoMemory>
+    /// A list of up to so many nodes is searched for each question, which takes no memory; a longer one is gone through
+    /// once, and a question then takes the logarithm of its length.
+    pub fn of(alloc: Global, nodes: &'a [NodeId], searched: usize) -> Result<Repeats<'a>, NoMemory>
         ensures { IfOk result (λ r. r ≡ nodes.now) }
     {
-        if nodes.len() <= SEARCHED {
+        if nodes.len() <= searched {
             return Ok(Repeats { nodes, marks: None });
         }
         let marks = marks_of(alloc, nodes)?;

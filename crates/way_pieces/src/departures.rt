@@ -19,6 +19,10 @@ use road_model::{PieceName, Profile, World};
 use std::alloc::Global;
 use way_lines::{is_located, nodes_of};
 
+/// How long a line may be to be searched for each node from a position back to the next junction, which most often
+/// is near. OpenStreetMap's ways have up to 2,000 nodes.
+const SEARCHED: usize = 2_048;
+
 /// A piece that leaves a node: its name, its first step, and the node where that step ends.
 #[derive(Clone, Copy, Debug, PartialEq, Eq)]
 pub struct Departure {
@@ -69,7 +73,7 @@ fn add_way<M: World, P: Profile>(
         return Ok(());
     }
     let nodes = nodes_of(alloc, body)?;
-    let line = Repeats::of(alloc, nodes.as_slice())?;
+    let line = Repeats::of(alloc, nodes.as_slice(), SEARCHED)?;
     add_along(departures, world, profile, road, &line, here)
 }
 
