@@ -6,7 +6,7 @@ ghost use Rattle.road_model.specs.Pieces.{IsPlain};
 ghost use Rattle.junctions.specs.Junctions.{AreJunctions, IsNextBelow, Sorts};
 ghost use Rattle.junctions.specs.Passing.{IsPassedOnce, IsSeen, about};
 
-use crate::plain::pass_over;
+use crate::plain::{is_on_other, pass_over};
 use crate::repeats::Repeats;
 use crate::seen::{Seen, see};
 use road_base::{NoMemory, NodeId, WayId};
@@ -150,6 +150,9 @@ pub fn is_plain_at<M: World, P: Profile>(
 {
     let nodes = line.nodes();
     if at == 0 || at == nodes.len() - 1 {
+        return false;
+    }
+    if is_on_other(world, profile, way, here.node) {
         return false;
     }
     let near = see(world, profile, nodes[at - 1]);

@@ -6,6 +6,19 @@ use Rattle.road_model.specs.Lines.{node_at}
 use Rattle.junctions.proofs.Positions.{about_there, node_there, plain_once, once_plain}
 use Rattle.junctions.proofs.junction_list.is_plain_at.Goals as goal
 
+some_same : (a b : NodeId) → Some a ≡ Some b → a ≡ b
+some_same a b e = cc
+
+-- where another road passes, it isn't plain
+pub returns-then-is_on_other : goal.returns-then-is_on_other
+returns-then-is_on_other g c =
+    let M = g.M.World.objects c.args.world.now in (
+      λ no. absurd (false≢true no),
+      λ plain.
+          let same : plain.node ≡ c.args.here.node = some_same plain.node c.args.here.node (sym plain.is ∙ c.requires.here_at) in
+          absurd (false≢true (sym (c.if-is_on_other.ensures.1 (λ v j road at. (plain.alone v j road (at ∙ ap Some (sym same))).0)))),
+    )
+
 pub returns-in-Some : goal.returns-in-Some
 returns-in-Some g c =
     let M = g.M.World.objects c.args.world.now in
