@@ -11,7 +11,7 @@ use Rattle.road_base.specs.declared.ids.Dir.TheVariants.{Forward, Backward}
 use Rattle.road_base.specs.declared.ids.Step.{Step}
 use Rattle.road_base.specs.contracts.ids.StepOrd.TheImpl.{ghosts as step_order}
 use Rattle.road_base.specs.contracts.ids.DirOrd.TheImpl.{ghosts as dir_order}
-use Rattle.turn_automata.specs.Trees.{edge_cmp}
+use Rattle.turn_automata.specs.Turns.{edge_cmp}
 
 both_equal : (r s : Ordering) → ordering_then r s ≡ Equal → (r ≡ Equal) × (s ≡ Equal)
 both_equal Less s h = cc

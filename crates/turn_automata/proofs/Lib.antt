@@ -5,6 +5,7 @@ pub mod Growing
 pub mod Joining
 pub mod Keys
 pub mod Running
+pub mod SameEdges
 pub mod Standing
 pub mod Turning
 pub mod Visiting

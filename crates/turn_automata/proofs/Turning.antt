@@ -12,10 +12,10 @@ use Rattle.road_base.specs.declared.ids.Step.{Step}
 use Rattle.restrictions.specs.declared.word_list.Word.{Word}
 use Rattle.turn_automata.specs.declared.visits.Visit.{Visit}
 use Rattle.turn_automata.specs.declared.turns.Turns.{Turns}
-use Rattle.turn_automata.specs.Trees.{Stands, edge_cmp, IsClosed}
+use Rattle.turn_automata.specs.Trees.{Stands, IsClosed}
 use Rattle.turn_automata.specs.Watched.{IsWatchable, NoIn, Must, Stops}
 use Rattle.turn_automata.specs.Visits.{Reaches, AreVisits}
-use Rattle.turn_automata.specs.Turns.{EndsAt, DemandsAt, DemandsFrom, Collects, AreMarked, AreTurns, StopsAt, IsWatching}
+use Rattle.turn_automata.specs.Turns.{edge_cmp, EndsAt, DemandsAt, DemandsFrom, Collects, AreMarked, AreTurns, StopsAt, IsWatching}
 use Rattle.turn_automata.proofs.Ends.{Ends, Nil, Last, ends, same_last}
 use Rattle.turn_automata.proofs.Watching.{no_watchable, must_watchable}
 use Rattle.turn_automata.proofs.Standing.{one_stands, contains_at, at_contains}

@@ -1,14 +1,20 @@
 -- What follows from the words where a step is driven behind a watched list.
 use Rattle.std.specs.Prelude.{◌≡◌, ℕ, ◌+◌, ◌≤◌, ◌↔◌, ◌⊎◌, List, [], ◌∷◌, ◌++◌, length, Bool, true, false, IsTrue, Some, slice_get, Contains}
-use Rattle.std.specs.Ordering.{nat_cmp}
+use Rattle.std.specs.Ordering.{nat_cmp, ordering_then}
+use Rattle.std.specs.declared.cmp.Ordering.{Ordering}
 use Rattle.std.specs.BTreeSet.{contains}
 use Rattle.road_base.specs.declared.ids.Step.{Step}
+use Rattle.road_base.specs.contracts.ids.StepOrd.TheImpl.{ghosts as step_order}
 use Rattle.restrictions.specs.declared.word_list.Word.{Word}
 use Rattle.turn_automata.specs.declared.visits.Visit.{Visit}
 use Rattle.turn_automata.specs.declared.turns.Turns.{Turns}
-use Rattle.turn_automata.specs.Trees.{Stands, edge_cmp, IsClosed}
+use Rattle.turn_automata.specs.Trees.{Stands, IsClosed}
 use Rattle.turn_automata.specs.Falls.{AreFalls}
 use Rattle.turn_automata.specs.Watched.{IsWatchable, NoIn, Must}
+
+-- by state, then step
+abbrev pub edge_cmp : ℕ × Step → ℕ × Step → Ordering
+edge_cmp a b = ordering_then (nat_cmp a.0 b.0) (step_order.cmp a.1 b.1)
 
 -- the visited step is the last one of a No word
 pub record EndsAt (W : List Word) (v : Visit) (e : ℕ × Step) : Type 0 where

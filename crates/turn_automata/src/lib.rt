@@ -2,12 +2,15 @@
 //! or an Only word demands another one, is told by the state alone.
 //!
 //! The states are the proper prefixes of the words, in a tree, and each falls to the longest shorter one that ends it. With
-//! n steps in all words together, `of` takes time of the order of n log n and memory of the order of n. With s states
-//! a look-up takes time of the order of log s; `start` takes one, and `go` four for each state that it falls to, at most as
-//! many as the state has steps. Neither takes memory.
+//! n steps in all words together, `of` takes time of the order of n log n on average and memory of the order of n. The edges of
+//! the tree stand in a hash set, in the order of their coming, which numbers the states: to find the state that an edge leads
+//! to takes constant time on average. The turns behind states stand in ordered sets: with s states, to look for one takes time
+//! of the order of log s. `start` looks for one edge, and `go` for one edge and three turns at each state that it falls to, at
+//! most as many as the state has steps. Neither takes memory.
 #![tactic(auto)]
 
 mod automaton;
+mod edges;
 mod falls;
 pub mod laws;
 mod tree;

@@ -3,17 +3,17 @@ ghost use Rattle.std.specs.Prelude.{◌≡◌, ◌<◌, List, [], ◌∷◌, ◌
 ghost use Rattle.road_base.specs.declared.ids.Step.{Step};
 ghost use Rattle.turn_automata.specs.Trees.{Stands, IsGrownBy, IsClosed};
 
+use crate::edges::Edge;
+use indexmap::IndexSet;
 use road_base::{NoMemory, Step};
 use std::alloc::Global;
-use std::collections::BTreeMap;
 use std::marker::Model;
 
 /// Lists of steps, each grown from another by one step, numbered in the order of their coming. The empty list has the
-/// number 0. Contracts see the lists.
+/// number 0, and the edge with the index k leads to the list with the number k + 1. Contracts see the lists.
 #[derive(Drop)]
 pub struct Tree {
-    edges: Vec<(usize, Step)>,
-    children: BTreeMap<(usize, Step), usize>,
+    edges: IndexSet<Edge>,
 }
 
 impl Model for Tree {
@@ -23,9 +23,9 @@ impl Model for Tree {
 
     ghost Value = { List (List Step) };
 
-    ghost view = { λ t. lists_of t.edges.items };
+    ghost view = { λ t. lists_of t.edges.keys };
 
-    ghost invariant = { λ t. IsTree t.edges.items t.children };
+    ghost invariant = { λ t. IsTree t.edges.keys };
 }
 
 impl Tree {
@@ -34,8 +34,7 @@ impl Tree {
         ensures { result ≡ [] ∷ [] }
     {
         Tree {
-            edges: Vec::new(alloc),
-            children: BTreeMap::new(alloc),
+            edges: IndexSet::new(alloc),
         }
     }
 
@@ -59,7 +58,12 @@ impl Tree {
         ensures some { IfSome result (λ child. (p : List Step) → Stands self.now list p → Stands self.now child (p ++ step ∷ [])) }
         ensures none { IfNone result ((p : List Step) → Stands self.now list p → Contains self.now (p ++ step ∷ []) → ⊥) }
     {
-        self.children.get(&(list, step)).copied()
+        let edge = Edge { from: list, step };
+        let index = self.edges.get_index_of(&edge)?;
+        // The length of a set is below 2^63, so the sum fits.
+        let edges = self.edges.len();
+        prove!(index < edges);
+        Some(index + 1)
     }
 
     /// The list from which this one grew, and its last step.
@@ -69,7 +73,8 @@ impl Tree {
         ensures less { result.0 < list }
         ensures is { (p : List Step) → Stands self.now result.0 p → Stands self.now list (p ++ result.1 ∷ []) }
     {
-        self.edges[list - 1]
+        let edge = self.edges[list - 1];
+        (edge.from, edge.step)
     }
 
     /// The number of the list that is this one with the step behind it, which joins the others where it is new.
@@ -78,27 +83,11 @@ impl Tree {
         ensures number { IfOk result (λ child. (p : List Step) → Stands self.old list p → Stands self.new child (p ++ step ∷ [])) }
         ensures grown { OnOk result ((p : List Step) → Stands self.old list p → IsGrownBy self.old (p ++ step ∷ []) self.new) }
     {
-        match self.child(list, step) {
-            Some(child) => Ok(child),
-            None => self.grow(list, step),
-        }
-    }
-
-    fn grow(&mut self, list: usize, step: Step) -> Result<usize, NoMemory>
-        requires within { list < length self.old }
-        requires new { (p : List Step) → Stands self.old list p → Contains self.old (p ++ step ∷ []) → ⊥ }
-        ensures number { IfOk result (λ child. (p : List Step) → Stands self.old list p → Stands self.new child (p ++ step ∷ [])) }
-        ensures grown { OnOk result ((p : List Step) → Stands self.old list p → self.new ≡ self.old ++ (p ++ step ∷ []) ∷ []) }
-    {
-        let child = self.len();
-        self.edges.push((list, step))?;
-        match self.children.insert((list, step), child) {
-            Ok(_) => Ok(child),
-            Err(_) => {
-                self.edges.pop();
-                Err(NoMemory)
-            }
-        }
+        let (index, _) = self.edges.insert_full(Edge { from: list, step })?;
+        // The length of a set is below 2^63, so the sum fits.
+        let edges = self.edges.len();
+        prove!(index < edges);
+        Ok(index + 1)
     }
 }
 
