@@ -9,14 +9,12 @@ use Rattle.road_base.specs.Applying.{IsApplied}
 use Rattle.road_io.specs.Told.{Rose}
 use Rattle.road_io.specs.World.{World}
 use Rattle.osmroad.specs.declared.status.Status.{Status}
-use Rattle.osmroad.specs.declared.status.Status.TheVariants.{Done, Usage, ReadFault, SiteFault, Refused, OutOfSequence, NoStore, StoreExists, Damaged, Limit, NoMemory, Unbuilt}
+use Rattle.osmroad.specs.declared.status.Status.TheVariants.{Done, Usage, ReadFault, SiteFault, Refused, OutOfSequence, NoStore, StoreExists, Damaged, Limit, NoMemory}
 use Rattle.opl_lexer.specs.declared.mode.Mode.{Mode}
 use Rattle.opl_lexer.specs.declared.mode.Mode.TheVariants.{Extract}
 use Rattle.opl_lexer.specs.Reading.{ReadAll}
-use Rattle.osmroad.specs.PlainMap.{IsBuilt}
-use Rattle.osmroad.specs.PlainCompiled.{IsGraphless}
 use Rattle.osmroad.specs.Input.{Took, Ended}
-use Rattle.osmroad.specs.Run.{IsCompile, IsWithinLimits, Gives, OfOtherWords, OfTooMuch, OfFault, OfUnbuilt, OfExtract, Grows, EndsPut, EndsRefusal, PutsAll, EndsWith, Left, Reads, Ends}
+use Rattle.osmroad.specs.Run.{IsCompile, IsWithinLimits, Gives, OfOtherWords, OfTooMuch, OfFault, OfExtract, Grows, EndsPut, EndsRefusal, PutsAll, EndsWith, Left, Reads, Ends}
 
 -- ---- what was read
 
@@ -104,12 +102,6 @@ refusal_no_read_fault out result before now fb fn (inr p) e = let q : NoMemory �
 abbrev pub OneMap : Type 0
 OneMap = (M N O : Objects) (events : List Event) → IsApplied M events N → IsApplied M events O → N ≡ O
 
--- what the same events leave isn't both built and not
-pub built_or_not : OneMap → (events others : List Event) (objects : Objects) → others ≡ events → IsApplied empty events objects → IsBuilt objects → IsGraphless others → ⊥
-built_or_not map events others objects same applied built none =
-    let there : IsApplied empty events none.objects = subst (λ (l : List Event). IsApplied empty l none.objects) same none.applied in
-    none.unbuilt (subst IsBuilt (map empty objects none.objects events applied there) built)
-
 abbrev pub OneReading : Type 0
 OneReading = (mode : Mode) (bytes : List ℕ) (events others : List Event) → ReadAll mode bytes events → ReadAll mode bytes others → events ≡ others
 
@@ -121,52 +113,38 @@ not_usage : (words : List (List ℕ)) (bytes out : List ℕ) → IsCompile words
 not_usage words bytes out is (OfOtherWords other e o) = other is
 not_usage words bytes out is (OfTooMuch i n e o) = cc
 not_usage words bytes out is (OfFault i n f g e o) = cc
-not_usage words bytes out is (OfUnbuilt i n u e o) = cc
 not_usage words bytes out is (OfExtract i n c e) = cc
 
 not_limit : (words : List (List ℕ)) (bytes out : List ℕ) → IsWithinLimits bytes → Gives words bytes Limit out → ⊥
 not_limit words bytes out within (OfOtherWords other e o) = cc
 not_limit words bytes out within (OfTooMuch i n e o) = within n
 not_limit words bytes out within (OfFault i n f g e o) = cc
-not_limit words bytes out within (OfUnbuilt i n u e o) = cc
 not_limit words bytes out within (OfExtract i n c e) = cc
 
 not_refused : (words : List (List ℕ)) (bytes out : List ℕ) (events : List Event) → ReadAll Extract bytes events → Gives words bytes Refused out → ⊥
 not_refused words bytes out events r (OfOtherWords other e o) = cc
 not_refused words bytes out events r (OfTooMuch i n e o) = cc
 not_refused words bytes out events r (OfFault i n f g e o) = let good = r.good in cc
-not_refused words bytes out events r (OfUnbuilt i n u e o) = cc
 not_refused words bytes out events r (OfExtract i n c e) = cc
 
-not_unbuilt : OneReading → OneMap → (words : List (List ℕ)) (bytes out : List ℕ) (events : List Event) (objects : Objects) → ReadAll Extract bytes events → IsApplied empty events objects → IsBuilt objects → Gives words bytes Unbuilt out → ⊥
-not_unbuilt one map words bytes out events objects r a b (OfOtherWords other e o) = cc
-not_unbuilt one map words bytes out events objects r a b (OfTooMuch i n e o) = cc
-not_unbuilt one map words bytes out events objects r a b (OfFault i n f g e o) = cc
-not_unbuilt one map words bytes out events objects r a b (OfUnbuilt i n u e o) =
-    built_or_not map events u.events objects (one Extract bytes u.events events u.read r) a b u.graphless
-not_unbuilt one map words bytes out events objects r a b (OfExtract i n c e) = cc
-
 -- where words and bytes are good and nothing failed, a run is done, or memory ended
-pub completes : OneReading → OneMap → (words : List (List ℕ)) (bytes : List ℕ) (events : List Event) (objects : Objects) (status : Status) (held left : Option (List ℕ)) (before now : Option World)
+pub completes : (words : List (List ℕ)) (bytes : List ℕ) (events : List Event) (status : Status) (held left : Option (List ℕ)) (before now : Option World)
     → Ends words status held left before now
-    → IsCompile words → held ≡ Some bytes → IsWithinLimits bytes → ReadAll Extract bytes events → IsApplied empty events objects → IsBuilt objects
+    → IsCompile words → held ≡ Some bytes → IsWithinLimits bytes → ReadAll Extract bytes events
     → (status ≡ ReadFault → ⊥) → (status ≡ SiteFault → ⊥)
     → (status ≡ Done) ⊎ (status ≡ NoMemory)
-completes one map words bytes events objects Done held left before now e is h within r a b nr ns = inl refl
-completes one map words bytes events objects Usage held left before now e is h within r a b nr ns = absurd (not_usage words e.bytes e.puts.out is e.puts.gives)
-completes one map words bytes events objects ReadFault held left before now e is h within r a b nr ns = absurd (nr refl)
-completes one map words bytes events objects SiteFault held left before now e is h within r a b nr ns = absurd (ns refl)
-completes one map words bytes events objects Refused held left before now e is h within r a b nr ns =
+completes words bytes events Done held left before now e is h within r nr ns = inl refl
+completes words bytes events Usage held left before now e is h within r nr ns = absurd (not_usage words e.bytes e.puts.out is e.puts.gives)
+completes words bytes events ReadFault held left before now e is h within r nr ns = absurd (nr refl)
+completes words bytes events SiteFault held left before now e is h within r nr ns = absurd (ns refl)
+completes words bytes events Refused held left before now e is h within r nr ns =
     let same = same_held bytes e.bytes held h e.held_is in
     absurd (not_refused words e.bytes e.puts.out events (subst (λ (l : List ℕ). ReadAll Extract l events) same r) e.puts.gives)
-completes one map words bytes events objects OutOfSequence held left before now e is h within r a b nr ns = absurd e.puts
-completes one map words bytes events objects NoStore held left before now e is h within r a b nr ns = absurd e.puts
-completes one map words bytes events objects StoreExists held left before now e is h within r a b nr ns = absurd e.puts
-completes one map words bytes events objects Damaged held left before now e is h within r a b nr ns = absurd e.puts
-completes one map words bytes events objects Limit held left before now e is h within r a b nr ns =
+completes words bytes events OutOfSequence held left before now e is h within r nr ns = absurd e.puts
+completes words bytes events NoStore held left before now e is h within r nr ns = absurd e.puts
+completes words bytes events StoreExists held left before now e is h within r nr ns = absurd e.puts
+completes words bytes events Damaged held left before now e is h within r nr ns = absurd e.puts
+completes words bytes events Limit held left before now e is h within r nr ns =
     let same = same_held bytes e.bytes held h e.held_is in
     absurd (not_limit words e.bytes e.puts.out (subst IsWithinLimits same within) e.puts.gives)
-completes one map words bytes events objects NoMemory held left before now e is h within r a b nr ns = inr refl
-completes one map words bytes events objects Unbuilt held left before now e is h within r a b nr ns =
-    let same = same_held bytes e.bytes held h e.held_is in
-    absurd (not_unbuilt one map words e.bytes e.puts.out events objects (subst (λ (l : List ℕ). ReadAll Extract l events) same r) a b e.puts.gives)
+completes words bytes events NoMemory held left before now e is h within r nr ns = inr refl

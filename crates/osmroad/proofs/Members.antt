@@ -1,33 +1,67 @@
--- What a list contains, by its first element and the rest.
-use Rattle.std.proofs.Common.{◌≡◌, ◌⊎◌, List, [], ◌∷◌, map, Contains, refl, inl, inr, sym}
+-- What a list contains, by its first element and the rest, and by its parts.
+use Rattle.std.proofs.Common.{◌≡◌, ◌⊎◌, ℕ, zero, suc, ◌<◌, List, [], ◌∷◌, ◌++◌, length, map, take, slice_index_or, slice_get, Contains, Some, refl, inl, inr, sym, ap, subst, ◌∙◌, arith}
 use Rattle.std.specs.List.{AllByRecursion}
-use Rattle.osmroad.proofs.PlainMembers.{In, in_from_contains, contains_from_in, in_map, from_map, at_each, each_at}
 
-pub contains_first : {A : Type 0} (x : A) (xs : List A) → Contains (x ∷ xs) x
-contains_first x xs = contains_from_in (x ∷ xs) x (inl refl)
+-- a member of a list
+abbrev pub In : {A : Type 0} → A → List A → Type 0
+In a [] = ⊥
+In a (x ∷ xs) = (a ≡ x) ⊎ In a xs
 
-pub contains_later : {A : Type 0} (x : A) (xs : List A) (y : A) → Contains xs y → Contains (x ∷ xs) y
-contains_later x xs y has = contains_from_in (x ∷ xs) y (inr (in_from_contains xs y has))
+in_from : {A : Type 0} (xs : List A) (x : A) (k : ℕ) → k < length xs → slice_index_or xs k x ≡ x → In x xs
+in_from [] x k l e = absurd (omega arith)
+in_from (y ∷ xs) x zero l e = inl (sym e)
+in_from (y ∷ xs) x (suc k) l e = inr (in_from xs x k (omega arith) e)
+
+pub in_from_contains : {A : Type 0} (xs : List A) (x : A) → Contains xs x → In x xs
+in_from_contains xs x h = in_from xs x h.0 h.1 h.2
+
+pub contains_from_in : {A : Type 0} (xs : List A) (x : A) → In x xs → Contains xs x
+contains_from_in [] x i = absurd i
+contains_from_in (y ∷ xs) x (inl e) = (0, omega arith, sym e)
+contains_from_in (y ∷ xs) x (inr i) = let r = contains_from_in xs x i in let l = r.1 in (suc r.0, omega arith, r.2)
 
 pub contains_none : {A : Type 0} (y : A) → Contains [] y → ⊥
 contains_none y has = in_from_contains [] y has
 
-cases_in : {A : Type 0} (x : A) (xs : List A) (y : A) → In y (x ∷ xs) → (x ≡ y) ⊎ Contains xs y
-cases_in x xs y (inl same) = inl (sym same)
-cases_in x xs y (inr later) = inr (contains_from_in xs y later)
+in_cases : {A : Type 0} (x : A) (xs ys : List A) → In x (xs ++ ys) → In x xs ⊎ In x ys
+in_cases x [] ys i = inr i
+in_cases x (z ∷ xs) ys (inl e) = inl (inl e)
+in_cases x (z ∷ xs) ys (inr i) = elim (in_cases x xs ys i) [ inl a ↦ inl (inr a) | inr b ↦ inr b ]
 
-pub contains_cases : {A : Type 0} (x : A) (xs : List A) (y : A) → Contains (x ∷ xs) y → (x ≡ y) ⊎ Contains xs y
-contains_cases x xs y has = cases_in x xs y (in_from_contains (x ∷ xs) y has)
+-- what stands in a list with one more stood in the list or is that one
+pub contains_more : {A : Type 0} (xs : List A) (y x : A) → Contains (xs ++ y ∷ []) x → Contains xs x ⊎ (x ≡ y)
+contains_more xs y x has =
+    elim (in_cases x xs (y ∷ []) (in_from_contains (xs ++ y ∷ []) x has)) [
+      | inl a ↦ inl (contains_from_in xs x a)
+      | inr b ↦ inr (elim b [ inl e ↦ e | inr none ↦ absurd none ])
+    ]
 
--- what holds of each element that the list contains, and back
+in_index : {A : Type 0} (xs : List A) (i : ℕ) (d : A) → i < length xs → In (slice_index_or xs i d) xs
+in_index [] i d l = absurd (omega arith)
+in_index (x ∷ xs) zero d l = inl refl
+in_index (x ∷ xs) (suc i) d l = inr (in_index xs i d (omega arith))
+
+pub contains_index : {A : Type 0} (xs : List A) (i : ℕ) (d : A) → i < length xs → Contains xs (slice_index_or xs i d)
+contains_index xs i d l = contains_from_in xs (slice_index_or xs i d) (in_index xs i d l)
+
+in_at : {A : Type 0} (xs : List A) (x : A) (k : ℕ) → slice_get xs k ≡ Some x → In x xs
+in_at [] x k e = cc
+in_at (y ∷ xs) x zero e = inl (cc)
+in_at (y ∷ xs) x (suc k) e = inr (in_at xs x k e)
+
+pub contains_at : {A : Type 0} (xs : List A) (x : A) (k : ℕ) → slice_get xs k ≡ Some x → Contains xs x
+contains_at xs x k e = contains_from_in xs x (in_at xs x k e)
+
+-- what holds of each element that the list contains holds of all
 pub all_from_each : {A : Type 0} (P : A → Type 0) (xs : List A) → ((x : A) → Contains xs x → P x) → AllByRecursion P xs
-all_from_each P xs each = each_at P xs (λ x i. each x (contains_from_in xs x i))
+all_from_each P [] each = tt
+all_from_each P (x ∷ xs) each =
+    (each x (contains_from_in (x ∷ xs) x (inl refl)), all_from_each P xs (λ y has. each y (contains_from_in (x ∷ xs) y (inr (in_from_contains xs y has)))))
 
-pub each_from_all : {A : Type 0} (P : A → Type 0) (xs : List A) → AllByRecursion P xs → (x : A) → Contains xs x → P x
-each_from_all P xs all x has = at_each P xs x all (in_from_contains xs x has)
-
-pub contains_image : {A B : Type 0} (f : A → B) (xs : List A) (x : A) → Contains xs x → Contains (map f xs) (f x)
-contains_image f xs x has = contains_from_in (map f xs) (f x) (in_map f xs x (in_from_contains xs x has))
+from_map : {A B : Type 0} (f : A → B) (xs : List A) (z : B) → In z (map f xs) → (x : A) × In x xs × (z ≡ f x)
+from_map f [] z i = absurd i
+from_map f (y ∷ xs) z (inl e) = (y, inl refl, e)
+from_map f (y ∷ xs) z (inr i) = let r = from_map f xs z i in (r.0, inr r.1, r.2)
 
 pub origin_of : {A B : Type 0} (f : A → B) (xs : List A) (y : B) → Contains (map f xs) y → (x : A) × Contains xs x × (f x ≡ y)
 origin_of f xs y has =

@@ -9,17 +9,17 @@ use Rattle.road_model.specs.Format.{IsGraph}
 use Rattle.opl_lexer.specs.declared.mode.Mode.TheVariants.{Extract}
 use Rattle.opl_lexer.specs.Reading.{FaultAt}
 use Rattle.osmroad.specs.declared.status.Status.{Status}
-use Rattle.osmroad.specs.PlainRules.{plain_rules}
+use Rattle.access_profile.specs.Motorcar.{motorcar_rules}
 use Rattle.osmroad.specs.Texts.{refused_line}
-use Rattle.osmroad.specs.Run.{IsCompiled, Gives, OfOtherWords, OfTooMuch, OfFault, OfUnbuilt, OfExtract}
-use Rattle.osmroad.proofs.Ending.{OneReading, OneMap, built_or_not}
+use Rattle.osmroad.specs.Run.{IsCompiled, Gives, OfOtherWords, OfTooMuch, OfFault, OfExtract}
+use Rattle.osmroad.proofs.Ending.{OneReading, OneMap}
 
-one_output : OneReading → OneMap → ((M : Objects) → OneGraph M plain_rules) → (bytes out other : List ℕ) → IsCompiled bytes out → IsCompiled bytes other → out ≡ other
+one_output : OneReading → OneMap → ((M : Objects) → OneGraph M motorcar_rules) → (bytes out other : List ℕ) → IsCompiled bytes out → IsCompiled bytes other → out ≡ other
 one_output reading map graph bytes out other a b =
     let events = reading Extract bytes b.events a.events b.read a.read in
     let applied = subst (λ (l : List Event). IsApplied empty l b.graph.objects) events b.graph.applied in
     let objects = map empty b.graph.objects a.graph.objects a.events applied a.graph.applied in
-    graph a.graph.objects out other a.graph.graph (subst (λ (M : Objects). IsGraph M plain_rules other) objects b.graph.graph)
+    graph a.graph.objects out other a.graph.graph (subst (λ (M : Objects). IsGraph M motorcar_rules other) objects b.graph.graph)
 
 same : {A : Type 0} (x y z : A) → x ≡ z → y ≡ z → x ≡ y
 same x y z e f = e ∙ sym f
@@ -27,30 +27,21 @@ same x y z e f = e ∙ sym f
 one_fault : (f g : FaultAt) → Some f ≡ Some g → refused_line f ≡ refused_line g
 one_fault f g e = let same : f ≡ g = cc in ap refused_line same
 
-pub one_answer : OneReading → OneMap → ((M : Objects) → OneGraph M plain_rules) → (words : List (List ℕ)) (bytes out other : List ℕ) (status another : Status)
+pub one_answer : OneReading → OneMap → ((M : Objects) → OneGraph M motorcar_rules) → (words : List (List ℕ)) (bytes out other : List ℕ) (status another : Status)
     → Gives words bytes status out → Gives words bytes another other → (status ≡ another) × (out ≡ other)
 one_answer reading map graph words bytes out other status another (OfOtherWords n e o) (OfOtherWords m f p) = (same _ _ _ e f, same _ _ _ o p)
 one_answer reading map graph words bytes out other status another (OfOtherWords n e o) (OfTooMuch js k f p) = absurd (n js)
 one_answer reading map graph words bytes out other status another (OfOtherWords n e o) (OfFault js k y h f p) = absurd (n js)
-one_answer reading map graph words bytes out other status another (OfOtherWords n e o) (OfUnbuilt js k v f p) = absurd (n js)
 one_answer reading map graph words bytes out other status another (OfOtherWords n e o) (OfExtract js k d f) = absurd (n js)
 one_answer reading map graph words bytes out other status another (OfTooMuch is l e o) (OfOtherWords m f p) = absurd (m is)
 one_answer reading map graph words bytes out other status another (OfTooMuch is l e o) (OfTooMuch js k f p) = (same _ _ _ e f, same _ _ _ o p)
 one_answer reading map graph words bytes out other status another (OfTooMuch is l e o) (OfFault js k y h f p) = absurd (k l)
-one_answer reading map graph words bytes out other status another (OfTooMuch is l e o) (OfUnbuilt js k v f p) = absurd (k l)
 one_answer reading map graph words bytes out other status another (OfTooMuch is l e o) (OfExtract js k d f) = absurd (k l)
 one_answer reading map graph words bytes out other status another (OfFault is l x g e o) (OfOtherWords m f p) = absurd (m is)
 one_answer reading map graph words bytes out other status another (OfFault is l x g e o) (OfTooMuch js k f p) = absurd (l k)
 one_answer reading map graph words bytes out other status another (OfFault is l x g e o) (OfFault js k y h f p) = (same _ _ _ e f, o ∙ (one_fault x y (sym g ∙ h) ∙ sym p))
-one_answer reading map graph words bytes out other status another (OfFault is l x g e o) (OfUnbuilt js k v f p) = let good = v.read.good in cc
 one_answer reading map graph words bytes out other status another (OfFault is l x g e o) (OfExtract js k d f) = let good = d.read.good in cc
-one_answer reading map graph words bytes out other status another (OfUnbuilt is l u e o) (OfOtherWords m f p) = absurd (m is)
-one_answer reading map graph words bytes out other status another (OfUnbuilt is l u e o) (OfTooMuch js k f p) = absurd (l k)
-one_answer reading map graph words bytes out other status another (OfUnbuilt is l u e o) (OfFault js k y h f p) = let good = u.read.good in cc
-one_answer reading map graph words bytes out other status another (OfUnbuilt is l u e o) (OfUnbuilt js k v f p) = (same _ _ _ e f, same _ _ _ o p)
-one_answer reading map graph words bytes out other status another (OfUnbuilt is l u e o) (OfExtract js k d f) = absurd (built_or_not map d.events u.events d.graph.objects (reading Extract bytes u.events d.events u.read d.read) d.graph.applied d.graph.built u.graphless)
 one_answer reading map graph words bytes out other status another (OfExtract is l c e) (OfOtherWords m f p) = absurd (m is)
 one_answer reading map graph words bytes out other status another (OfExtract is l c e) (OfTooMuch js k f p) = absurd (l k)
 one_answer reading map graph words bytes out other status another (OfExtract is l c e) (OfFault js k y h f p) = let good = c.read.good in cc
-one_answer reading map graph words bytes out other status another (OfExtract is l c e) (OfUnbuilt js k v f p) = absurd (built_or_not map c.events v.events c.graph.objects (reading Extract bytes v.events c.events v.read c.read) c.graph.applied c.graph.built v.graphless)
 one_answer reading map graph words bytes out other status another (OfExtract is l c e) (OfExtract js k d f) = (same _ _ _ e f, one_output reading map graph bytes out other c d)

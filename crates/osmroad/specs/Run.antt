@@ -6,10 +6,10 @@ use Rattle.opl_lexer.specs.Reading.{FaultAt, input_fault, ReadAll}
 use Rattle.road_io.specs.Told.{Told, Rose}
 use Rattle.road_io.specs.World.{World}
 use Rattle.osmroad.specs.declared.status.Status.{Status}
-use Rattle.osmroad.specs.declared.status.Status.TheVariants.{Done, Usage, ReadFault, SiteFault, Refused, OutOfSequence, NoStore, StoreExists, Damaged, Limit, NoMemory, Unbuilt}
+use Rattle.osmroad.specs.declared.status.Status.TheVariants.{Done, Usage, ReadFault, SiteFault, Refused, OutOfSequence, NoStore, StoreExists, Damaged, Limit, NoMemory}
 use Rattle.osmroad.specs.Limits.{PassesLimit}
 use Rattle.osmroad.specs.Texts.{refused_line}
-use Rattle.osmroad.specs.PlainCompiled.{IsGraphOf, IsGraphless}
+use Rattle.osmroad.specs.Compiled.{IsGraphOf}
 
 -- ---- what is asked
 
@@ -23,22 +23,13 @@ usage_line = codes "usage: osmroad STORE create N|apply N|session|graph|audit|ch
 abbrev pub limit_line : List ℕ
 limit_line = codes "limit" ++ 10 ∷ []
 
-abbrev pub unbuilt_line : List ℕ
-unbuilt_line = codes "unbuilt" ++ 10 ∷ []
-
 -- ---- what is given
 
--- no line is in fault, the objects that the events leave are built, and `out` is their graph
+-- no line is in fault, and `out` is the graph of the objects that the events leave
 pub record IsCompiled (bytes out : List ℕ) : Type 0 where
   pub events : List Event
   pub read : ReadAll Extract bytes events
   pub graph : IsGraphOf events out
-
--- no line is in fault, and the objects that the events leave aren't built
-pub record IsUnbuilt (bytes : List ℕ) : Type 0 where
-  pub events : List Event
-  pub read : ReadAll Extract bytes events
-  pub graphless : IsGraphless events
 
 abbrev pub IsWithinLimits : List ℕ → Type 0
 IsWithinLimits bytes = PassesLimit bytes → ⊥
@@ -49,7 +40,6 @@ pub data Gives (words : List (List ℕ)) (bytes : List ℕ) (status : Status) (o
   OfOtherWords : (IsCompile words → ⊥) → status ≡ Usage → out ≡ usage_line → Gives words bytes status out
   OfTooMuch : IsCompile words → PassesLimit bytes → status ≡ Limit → out ≡ limit_line → Gives words bytes status out
   OfFault : IsCompile words → IsWithinLimits bytes → (fault : FaultAt) → input_fault Extract bytes ≡ Some fault → status ≡ Refused → out ≡ refused_line fault → Gives words bytes status out
-  OfUnbuilt : IsCompile words → IsWithinLimits bytes → IsUnbuilt bytes → status ≡ Unbuilt → out ≡ unbuilt_line → Gives words bytes status out
   OfExtract : IsCompile words → IsWithinLimits bytes → IsCompiled bytes out → status ≡ Done → Gives words bytes status out
 
 -- ---- how a run ends
@@ -97,7 +87,6 @@ EndsWith words bytes StoreExists before now = ⊥
 EndsWith words bytes Damaged before now = ⊥
 EndsWith words bytes Limit before now = PutsAll words bytes Limit before now
 EndsWith words bytes NoMemory before now = IsCompile words × Grows [] before now
-EndsWith words bytes Unbuilt before now = PutsAll words bytes Unbuilt before now
 
 -- these bytes are left, where it is told
 abbrev pub Left : Option (List ℕ) → List ℕ → Type 0
@@ -117,7 +106,6 @@ Reads StoreExists bytes read = Unit {0}
 Reads Damaged bytes read = Unit {0}
 Reads Limit bytes read = PassesLimit read
 Reads NoMemory bytes read = Unit {0}
-Reads Unbuilt bytes read = read ≡ bytes
 
 -- How a run ends: the bytes that the source held, those of them that were read, and what was put. Where nothing is told of
 -- the source, these are some bytes that begin with those that were read.

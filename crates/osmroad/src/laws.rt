@@ -3,7 +3,7 @@ ghost use Rattle.std.specs.Prelude.{◌≡◌, List, ℕ};
 ghost use Rattle.osmroad.specs.declared.status.Status.{Status};
 ghost use Rattle.osmroad.specs.Run.{Gives};
 
-use crate::plain::Plain;
+use access_profile::Motorcar;
 use opl_lexer::laws::one_reading;
 use road_base::laws::one_map;
 use road_model::laws::one_graph;
@@ -17,5 +17,5 @@ pub fn one_answer()
 {
     one_reading();
     one_map();
-    one_graph(&Plain);
+    one_graph(&Motorcar);
 }

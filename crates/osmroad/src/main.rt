@@ -1,30 +1,22 @@
 //! osmroad compiles what a car may drive in OpenStreetMap data to a turn-expanded graph.
 //!
 //! `run` is the one call that does all that the program does, over any source and site; `main` hands it standard input
-//! and standard output. At this stage the words `- compile` build extracts of plain streets: the input is read piece by
-//! piece into events (`input`), of each object the first event of the greatest version stands (`plain_graph`), what stands
-//! becomes a town of streets (`plain_town`), that its blocks (`builder`), and these the graph's bytes. Time grows with the
-//! input as n log n, and memory stays a small multiple of it.
+//! and standard output. The words `- compile` build the graph of an extract: the input is read piece by piece into
+//! events (`input`), of each object the first event of the greatest version stands (`graph`), each way with pieces becomes
+//! its block (`blocks`), and the blocks become the graph's bytes. Time grows with the input as n log n, and memory stays a
+//! small multiple of it.
 #![tactic(auto)]
 
 ghost use Rattle.std.specs.Prelude.{◌≡◌, ◌<◌};
 
-mod builder;
-mod departures;
+mod blocks;
+mod graph;
 mod input;
-mod junctions;
 mod laws;
 mod limits;
-mod plain;
-mod plain_graph;
-mod plain_piece;
-mod plain_town;
 mod run;
 mod status;
-mod street;
-mod street_pieces;
 mod texts;
-mod town;
 
 use crate::run::run;
 use crate::status::Status;
@@ -70,5 +62,11 @@ fn main(rt: HostRuntime) -> ExitCode {
     ExitCode::from(status.code())
 }
 
+#[cfg(test)]
+mod map_tests;
+#[cfg(test)]
+mod piece_tests;
+#[cfg(test)]
+mod restriction_tests;
 #[cfg(test)]
 mod tests;

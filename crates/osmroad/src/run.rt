@@ -1,25 +1,19 @@
 //! The one top call: what the program does for its words, over any source and site.
 ghost use Rattle.std.specs.Prelude.{◌≡◌, ◌⊎◌, ◌↔◌, List, ℕ, map, IsTrue, Some};
-ghost use Rattle.std.specs.FinMap.{empty};
 ghost use Rattle.road_base.specs.declared.event.Event.{Event};
-ghost use Rattle.road_base.specs.Objects.{Objects};
-ghost use Rattle.road_base.specs.Applying.{IsApplied};
 ghost use Rattle.road_io.specs.Told.{Rose};
 ghost use Rattle.opl_lexer.specs.declared.mode.Mode.TheVariants.{Extract};
 ghost use Rattle.opl_lexer.specs.Reading.{ReadAll};
 ghost use Rattle.opl_objects.specs.StreamLines.{place_of};
-ghost use Rattle.osmroad.specs.PlainMap.{IsBuilt};
 ghost use Rattle.osmroad.specs.Texts.{refused_line};
 ghost use Rattle.osmroad.specs.Run.{IsCompile, IsWithinLimits, Ends, EndsPut, EndsRefusal};
 
+use crate::graph::graph_of;
 use crate::input::{InputError, read_events};
-use crate::plain_graph::plain_graph;
 use crate::status::Status;
 use crate::texts::refused_text;
 use opl_lexer::Mode;
-use opl_lexer::laws::one_reading;
 use opl_objects::Fault;
-use road_base::laws::one_map;
 use road_base::{NoMemory, Steps};
 use road_io::{Site, Source};
 use std::alloc::Global;
@@ -59,7 +53,12 @@ fn put_refusal<W: Site>(alloc: Global, site: &mut W, fault: &Fault) -> Status
 }
 
 // The extract on the source, compiled.
-fn compile<S: Source, W: Site>(alloc: Global, source: &mut S, site: &mut W) -> Status
+fn compile<S: Source, W: Site, L: Ledger>(
+    alloc: Global,
+    source: &mut S,
+    site: &mut W,
+    steps: &mut Steps<L>,
+) -> Status
     ensures ends { (words : List (List ℕ)) → IsCompile words → Ends words result (S.bytes_left source.old) (S.bytes_left source.new) (W.world site.old) (W.world site.new) }
     ensures read_fault { result ≡ Status.ReadFault → Rose (S.faults source.old) (S.faults source.new) }
     ensures site_fault { result ≡ Status.SiteFault → Rose (W.faults site.old) (W.faults site.new) }
@@ -71,9 +70,8 @@ fn compile<S: Source, W: Site>(alloc: Global, source: &mut S, site: &mut W) -> S
         Err(InputError::Refused(fault)) => return put_refusal(alloc, site, &fault),
         Err(InputError::NoMemory) => return Status::NoMemory,
     };
-    match plain_graph(alloc, events) {
-        Ok(Some(graph)) => put_last(site, &graph, Status::Done),
-        Ok(None) => put_last(site, b"unbuilt\n", Status::Unbuilt),
+    match graph_of(alloc, events, steps) {
+        Ok(graph) => put_last(site, &graph, Status::Done),
         Err(NoMemory) => Status::NoMemory,
     }
 }
@@ -87,7 +85,7 @@ pub fn run<S: Source, W: Site, L: Ledger>(
     words: &[&str],
     source: &mut S,
     site: &mut W,
-    _steps: &mut Steps<L>,
+    steps: &mut Steps<L>,
 ) -> Status
     // What is read and put, by the status: the graph, byte for byte, where it is Done.
     ensures ends { Ends (map (λ w. w.now) words.now) result (S.bytes_left source.old) (S.bytes_left source.new) (W.world site.old) (W.world site.new) }
@@ -97,21 +95,17 @@ pub fn run<S: Source, W: Site, L: Ledger>(
     ensures site_fault { result ≡ Status.SiteFault → Rose (W.faults site.old) (W.faults site.new) }
 
     // Where the words, the bytes and the outside are good, it is done, or memory ended.
-    ensures complete { (bytes : List ℕ) (events : List Event) (objects : Objects)
+    ensures complete { (bytes : List ℕ) (events : List Event)
         → IsCompile (map (λ w. w.now) words.now)
         → S.bytes_left source.old ≡ Some bytes
         → IsWithinLimits bytes
         → ReadAll Extract bytes events
-        → IsApplied empty events objects
-        → IsBuilt objects
         → (Rose (S.faults source.old) (S.faults source.new) → ⊥)
         → (Rose (W.faults site.old) (W.faults site.new) → ⊥)
         → (result ≡ Status.Done) ⊎ (result ≡ Status.NoMemory) }
 {
     if is_compile(words) {
-        one_reading();
-        one_map();
-        compile(alloc, source, site)
+        compile(alloc, source, site, steps)
     } else {
         put_last(site, USAGE, Status::Usage)
     }

@@ -14,8 +14,6 @@ pub enum Status {
     Damaged,
     Limit,
     NoMemory,
-    /// The extract needs what isn't built yet.
-    Unbuilt,
 }
 
 impl Status {

@@ -43,6 +43,15 @@ const STREET_VERSIONS: &[u8] = b"\
     r1 v1 Ttype=route Mn1@\n\
     r1 v2 dD\n";
 
+/// The same beside what is no part of the road network.
+const STREET_SURROUNDINGS: &[u8] = b"\
+    n1 x0 y0\nn2 x0.001 y0 Tname=A\nn3 x0.002 y0\nn4 x0.003 y0 Tbarrier=gate\n\
+    w10 Thighway=residential,name=B Nn1,n2,n3\n\
+    w11 Tbuilding=yes Nn1,n2,n4,n1\n\
+    w12 Thighway=proposed Nn2,n4\n\
+    r1 Ttype=route,route=bus Mw10@,n2@stop\n\
+    r2 Ttype=restriction,restriction=no_u_turn Mw10@from,n9@via,w10@to\n";
+
 /// The graph of `STREET`, as the format spells it: a header; way 10 with two pieces; each with its positions and
 /// direction, its nodes, and one context with one arc to the other piece.
 const STREET_GRAPH: &[u8] = b"\
@@ -122,33 +131,11 @@ fn extracts_are_compiled(rt: HostRuntime) -> Result<(), Fail> {
             Status::Done,
             NO_GRAPH,
         ),
+        // A building, a route and a gate off the road change nothing.
+        compiles(STREET_SURROUNDINGS, Status::Done, STREET_GRAPH),
     ];
     for case in &cases {
         let (status, output) = ended::<Brand>(rt.alloc(), case, Blank::new(1))?;
-        assert_eq!(rt; status, case.status);
-        assert_eq!(rt; output.as_slice(), case.output);
-    }
-    Ok(())
-}
-
-#[test]
-fn other_extracts_are_unbuilt(rt: HostRuntime) -> Result<(), Fail> {
-    let inputs: [&[u8]; 11] = [
-        b"n1 v1 x0 y0\nn1 v2 x0 y0 Tbarrier=gate",
-        b"n1 x0 y0 Tbarrier=gate\nn1 dD",
-        b"n1 v1 x0 y0\nn2 x1 y0\nw1 Thighway=road Nn1,n2\nn1 v2 dD",
-        b"n1 x0 y0 Tbarrier=gate",
-        b"r1 Ttype=route Mn1@",
-        b"n1 x0 y0\nw1 Thighway=residential Nn1",
-        b"n1 x0 y0\nw1 Thighway=residential Nn1,n2",
-        b"n1 x0 y0\nn2 x y0\nw1 Thighway=residential Nn1,n2",
-        b"n1 x0 y0\nn2 x1 y0\nw1 Thighway=motorway Nn1,n2",
-        b"n1 x0 y0\nn2 x1 y0\nw1 Thighway=road,name=A Nn1,n2",
-        b"n1 x0 y0\nn2 x1 y0\nw1 Thighway=road Nn1,n2,n1",
-    ];
-    for input in inputs {
-        let case = compiles(input, Status::Unbuilt, b"unbuilt\n");
-        let (status, output) = ended::<Brand>(rt.alloc(), &case, Blank::new(1))?;
         assert_eq!(rt; status, case.status);
         assert_eq!(rt; output.as_slice(), case.output);
     }
@@ -174,7 +161,7 @@ fn faults_of_extracts_are_named(rt: HostRuntime) -> Result<(), Fail> {
         ),
         (b"z1", b"refused line 1 field 1 UnknownLine\n"),
         (b"\xff", b"refused line 1 field 0 NotUtf8\n"),
-        // The first line in fault counts, also where a line before it isn't built.
+        // The first line in fault counts.
         (
             b"n1 dD\n\n# a note\nq1 v1\nn2 v\n",
             b"refused line 4 field 1 UnknownLine\n",

@@ -1,9 +1,9 @@
 use Rattle.std.proofs.Common.{◌++◌, List, ℕ, refl, sym, subst}
 use Rattle.opl_objects.specs.StreamLines.{place_of}
-use Rattle.osmroad.specs.declared.status.Status.TheVariants.{Done, Limit, Unbuilt}
-use Rattle.osmroad.specs.PlainCompiled.{IsGraphOf}
+use Rattle.osmroad.specs.declared.status.Status.TheVariants.{Done, Limit}
+use Rattle.osmroad.specs.Compiled.{IsGraphOf}
 use Rattle.osmroad.specs.Texts.{refused_line}
-use Rattle.osmroad.specs.Run.{OfTooMuch, OfFault, OfUnbuilt, OfExtract, limit_line, unbuilt_line}
+use Rattle.osmroad.specs.Run.{OfTooMuch, OfFault, OfExtract, limit_line}
 use Rattle.osmroad.proofs.Ending.{behind_of, held_part, left_behind, all_read, grows_nothing, ends_put, ends_refusal, refusal_fault, refusal_no_read_fault}
 use Rattle.osmroad.proofs.Growing.{still_passes}
 use Rattle.osmroad.proofs.run.compile.Goals as goal
@@ -65,25 +65,14 @@ returns-in-Err-NoMemory-clause-ends g c = λ words is.
       puts = (is, grows_nothing (g.W.Site.world c.args.site.now));
     }
 
-pub returns-in-Ok-Some-clause-ends : goal.returns-in-Ok-Some-clause-ends
-returns-in-Ok-Some-clause-ends g c = λ words is.
+pub returns-in-Ok-graph_of-clause-ends : goal.returns-in-Ok-graph_of-clause-ends
+returns-in-Ok-graph_of-clause-ends g c = λ words is.
     let e = c.in-Ok.ensures.ok in
     let left = g.S.Source.bytes_left c.read_events.new.source in
     let whole = all_read e.bytes left e.ended in
-    let some = rw c.in-Ok-Some.field-0-is at c.in-Ok-Some.ensures.some in
+    let some = c.in-Ok-graph_of.ensures in
     let graph : IsGraphOf c.in-Ok.events.items c.deref.result.now = subst (λ (l : List ℕ). IsGraphOf c.in-Ok.events.items l) (sym c.deref.ensures.value) some in
-    ends_put words e.bytes e.bytes (behind_of left) c.deref.result.now Done c.put_last-in-Ok-Some.result
-    (g.S.Source.bytes_left c.args.source.now) left (g.W.Site.world c.args.site.now) (g.W.Site.world c.put_last-in-Ok-Some.new.site) (g.W.Site.faults c.args.site.now) (g.W.Site.faults c.put_last-in-Ok-Some.new.site)
+    ends_put words e.bytes e.bytes (behind_of left) c.deref.result.now Done c.put_last-in-Ok-graph_of.result
+    (g.S.Source.bytes_left c.args.source.now) left (g.W.Site.world c.args.site.now) (g.W.Site.world c.put_last-in-Ok-graph_of.new.site) (g.W.Site.faults c.args.site.now) (g.W.Site.faults c.put_last-in-Ok-graph_of.new.site)
     (sym whole) (rw whole at (held_part e.bytes (g.S.Source.bytes_left c.args.source.now) left e.took)) (left_behind left) refl
-    (OfExtract is e.within (record { events = c.in-Ok.events.items; read = e.gives; graph = graph }) refl) (λ p. p) c.put_last-in-Ok-Some.ensures
-
-pub returns-in-Ok-None-clause-ends : goal.returns-in-Ok-None-clause-ends
-returns-in-Ok-None-clause-ends g c = λ words is.
-    let e = c.in-Ok.ensures.ok in
-    let left = g.S.Source.bytes_left c.read_events.new.source in
-    let whole = all_read e.bytes left e.ended in
-    let none = rw c.in-Ok-None.field-0-is at c.in-Ok-None.ensures.none in
-    ends_put words e.bytes e.bytes (behind_of left) unbuilt_line Unbuilt c.put_last-in-Ok-None.result
-    (g.S.Source.bytes_left c.args.source.now) left (g.W.Site.world c.args.site.now) (g.W.Site.world c.put_last-in-Ok-None.new.site) (g.W.Site.faults c.args.site.now) (g.W.Site.faults c.put_last-in-Ok-None.new.site)
-    (sym whole) (rw whole at (held_part e.bytes (g.S.Source.bytes_left c.args.source.now) left e.took)) (left_behind left) refl
-    (OfUnbuilt is e.within (record { events = c.in-Ok.events.items; read = e.gives; graphless = none }) refl refl) (λ p. p) c.put_last-in-Ok-None.ensures
+    (OfExtract is e.within (record { events = c.in-Ok.events.items; read = e.gives; graph = graph }) refl) (λ p. p) c.put_last-in-Ok-graph_of.ensures

@@ -6,10 +6,10 @@ use Rattle.osmroad.proofs.SourceReading.{took_nothing}
 use Rattle.osmroad.proofs.run.run.Goals as goal
 
 pub returns-then-is_compile-clause-complete : goal.returns-then-is_compile-clause-complete
-returns-then-is_compile-clause-complete g c = λ bytes events objects is held within read applied built no_read_fault no_site_fault.
-    completes c.one_reading.ensures c.one_map.ensures (map (λ w. w.now) c.args.words.now) bytes events objects c.compile.result
+returns-then-is_compile-clause-complete g c = λ bytes events is held within read no_read_fault no_site_fault.
+    completes (map (λ w. w.now) c.args.words.now) bytes events c.compile.result
     (g.S.Source.bytes_left c.args.source.now) (g.S.Source.bytes_left c.compile.new.source) (g.W.Site.world c.args.site.now) (g.W.Site.world c.compile.new.site)
-    (c.compile.ensures.ends (map (λ w. w.now) c.args.words.now) is) is held within read applied built
+    (c.compile.ensures.ends (map (λ w. w.now) c.args.words.now) is) is held within read
     (λ e. no_read_fault (c.compile.ensures.read_fault e)) (λ e. no_site_fault (c.compile.ensures.site_fault e))
 
 pub returns-else-is_compile-clause-ends : goal.returns-else-is_compile-clause-ends

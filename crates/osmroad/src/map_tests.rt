@@ -1,0 +1,295 @@
+//! Drawn maps, each with the contexts and arcs of its graph. A line for each context: its pieces, each as `WAY.INDEX` with
+//! its direction, and behind `>` its arcs, each with how many pieces its target has where that is more than one.
+ghost use Rattle.std.specs.Prelude.{◌≡◌, ◌<◌};
+
+use crate::blocks::build_blocks;
+use crate::input::read_events;
+use back_references::Indexed;
+use opl_lexer::Mode;
+use road_base::{Dir, Steps};
+use road_io::MemorySource;
+use road_model::{Block, Context, Piece, PieceName, TurnArc};
+use std::alloc::Global;
+use std::marker::Brand;
+use std::sync::ledger::{Blank, Ledger};
+use std::test::Fail;
+
+/// Nodes 1 to 6, on which the ways of the maps lie.
+const NODES: &[u8] =
+    b"n1 x0.001 y0\nn2 x0.002 y0\nn3 x0.003 y0\nn4 x0.004 y0\nn5 x0.005 y0\nn6 x0.006 y0\n";
+
+/// The world of these nodes and lines.
+pub fn world_of(alloc: Global, lines: &[u8]) -> Result<Indexed, Fail> {
+    let mut input = NODES.to_vec(alloc)?;
+    input.extend_from_slice(lines)?;
+    let mut source = MemorySource::new(input, Vec::new(alloc));
+    match read_events(alloc, Mode::Extract, &mut source) {
+        Ok(events) => Ok(Indexed::of(alloc, events)?),
+        Err(_) => Err(Fail::from("the map isn't read")),
+    }
+}
+
+fn add_name(alloc: Global, out: &mut String, name: PieceName) -> Result<(), Fail> {
+    let sign = match name.dir {
+        Dir::Forward => '+',
+        Dir::Backward => '-',
+    };
+    let text = format!(in alloc; "{}.{}{sign}", name.way.0, name.index)?;
+    Ok(out.push_str(&text)?)
+}
+
+fn add_arc(alloc: Global, out: &mut String, arc: &TurnArc) -> Result<(), Fail> {
+    out.push_str(" ")?;
+    add_name(alloc, out, arc.piece)?;
+    if arc.length > 1 {
+        let text = format!(in alloc; "/{}", arc.length)?;
+        out.push_str(&text)?;
+    }
+    Ok(())
+}
+
+fn add_context(
+    alloc: Global,
+    out: &mut String,
+    piece: PieceName,
+    context: &Context,
+) -> Result<(), Fail> {
+    for name in context.before.items() {
+        add_name(alloc, out, *name)?;
+        out.push_str(" ")?;
+    }
+    add_name(alloc, out, piece)?;
+    out.push_str(" >")?;
+    for arc in context.arcs.items() {
+        add_arc(alloc, out, arc)?;
+    }
+    Ok(out.push_str("\n")?)
+}
+
+fn add_piece(alloc: Global, out: &mut String, piece: &Piece) -> Result<(), Fail> {
+    for context in piece.contexts.items() {
+        add_context(alloc, out, piece.name, context)?;
+    }
+    Ok(())
+}
+
+fn add_block(alloc: Global, out: &mut String, block: &Block) -> Result<(), Fail> {
+    for piece in block.pieces.items() {
+        add_piece(alloc, out, piece)?;
+    }
+    Ok(())
+}
+
+/// The contexts and arcs of the map.
+fn graph_text<L: Ledger>(alloc: Global, lines: &[u8], blank: Blank) -> Result<String, Fail>
+    requires name { blank.name ≡ L.name }
+    requires parts { blank.parts ≡ L.parts }
+    requires some { 0 < L.parts }
+{
+    let world = world_of(alloc, lines)?;
+    let mut steps = Steps::<L>::new(blank);
+    let blocks = build_blocks(alloc, &world, &mut steps)?;
+    let mut out = String::new(alloc);
+    for block in blocks.items() {
+        add_block(alloc, &mut out, block)?;
+    }
+    Ok(out)
+}
+
+/// Way 1 from node 1 to 2, way 2 from 2 to 3, and so on, with ways 4 and 5 both from node 4:
+///
+/// ```text
+///                       5
+///                      /
+/// 1 --- 2 --- 3 --- 4
+///                      \
+///                       6
+/// ```
+const CHAIN: &[u8] = b"w1 Thighway=road Nn1,n2\nw2 Thighway=road Nn2,n3\nw3 Thighway=road Nn3,n4\n\
+    w4 Thighway=road Nn4,n5\nw5 Thighway=road Nn4,n6\n";
+
+/// Ways 10 to 12 (and 13) that meet at node 2:
+///
+/// ```text
+/// 1 --10-- 2 --11-- 3
+///         / \
+///       12   13
+///       /     \
+///      4       5
+/// ```
+const FORK: &[u8] =
+    b"w10 Thighway=road Nn1,n2\nw11 Thighway=road Nn2,n3\nw12 Thighway=road Nn2,n4\n";
+
+/// A way that isn't restricted, by its tags and nodes.
+#[test]
+fn pieces_follow_where_one_may_pass(rt: HostRuntime) -> Result<(), Fail> {
+    let cases: [(&[u8], &str); 10] = [
+        // 1 --- 2 --- 3: node 2 is plain, and one turns round at both ends.
+        (
+            b"w10 Thighway=residential Nn1,n2,n3",
+            "10.0+ > 10.0-\n10.0- > 10.0+\n",
+        ),
+        // A roundabout driven against its line goes on into itself.
+        (
+            b"w10 Thighway=residential,junction=roundabout,oneway=-1 Nn1,n2,n3,n1",
+            "10.0- > 10.0-\n",
+        ),
+        // A bollard at node 2 shuts it, and one turns round there.
+        (
+            b"n2 v1 Tbarrier=bollard x0.002 y0\nw10 Thighway=residential Nn1,n2,n3",
+            "10.0+ > 10.0-\n10.0- > 10.0+\n10.1+ > 10.1-\n10.1- > 10.1+\n",
+        ),
+        // A bollard that motor vehicles may pass doesn't.
+        (
+            b"n2 v1 Tbarrier=bollard,motor_vehicle=yes x0.002 y0\nw10 Thighway=residential Nn1,n2,n3",
+            "10.0+ > 10.0-\n10.0- > 10.0+\n",
+        ),
+        // At a place to turn one goes on and turns round.
+        (
+            b"n2 v1 Thighway=turning_circle x0.002 y0\nw10 Thighway=residential Nn1,n2,n3",
+            "10.0+ > 10.0- 10.1+\n10.0- > 10.0+\n10.1+ > 10.1-\n10.1- > 10.0- 10.1+\n",
+        ),
+        // Node 2 isn't there.
+        (b"n2 v1 dD\nw10 Thighway=residential Nn1,n2,n3", ""),
+        // Node 2 has no location: what lies beyond it is a piece of its own.
+        (
+            b"n2 v1 x y0\nw10 Thighway=residential Nn1,n2,n3,n4",
+            "10.2+ > 10.2-\n10.2- > 10.2+\n",
+        ),
+        // A spike, 1 --- 2 and back: at each node two steps leave, and each is a way back.
+        (
+            b"w10 Thighway=residential Nn1,n1,n2,n1",
+            "10.0+ >\n10.0- >\n10.1+ >\n10.1- >\n",
+        ),
+        // In one direction there is but one step that leaves.
+        (
+            b"w10 Thighway=residential,oneway=yes Nn1,n1,n2,n1",
+            "10.0+ > 10.1+\n10.1+ > 10.0+\n",
+        ),
+        // A way of one node, one of none, a building and a river.
+        (
+            b"w1 Thighway=road Nn1\nw2 Thighway=road N\nw3 Tbuilding=yes Nn1,n2\nw4 Twaterway=river Nn2,n3",
+            "",
+        ),
+    ];
+    for (lines, want) in cases {
+        let text = graph_text::<Brand>(rt.alloc(), lines, Blank::new(1))?;
+        assert_eq!(rt; text.as_str(), want);
+    }
+    Ok(())
+}
+
+/// The map, with more lines behind it.
+fn with_lines(alloc: Global, map: &[u8], more: &[u8]) -> Result<Vec<u8>, Fail> {
+    let mut lines = map.to_vec(alloc)?;
+    lines.extend_from_slice(more)?;
+    Ok(lines)
+}
+
+#[test]
+fn restrictions_take_turns_away(rt: HostRuntime) -> Result<(), Fail> {
+    let free =
+        "10.0+ > 11.0+ 12.0+\n10.0- > 10.0+\n11.0+ > 11.0-\n11.0- > 10.0- 12.0+\n12.0+ > 12.0-\n12.0- > 10.0- 11.0+\n";
+    let no_left =
+        "10.0+ > 12.0+\n10.0- > 10.0+\n11.0+ > 11.0-\n11.0- > 10.0- 12.0+\n12.0+ > 12.0-\n12.0- > 10.0- 11.0+\n";
+    let cases: [(&[u8], &[u8], &str); 7] = [
+        (FORK, b"", free),
+        (
+            FORK,
+            b"r5 Ttype=restriction,restriction=no_left_turn Mw10@from,n2@via,w11@to",
+            no_left,
+        ),
+        (
+            FORK,
+            b"r5 Ttype=restriction,restriction=no_left_turn,except=psv;motorcar Mw10@from,n2@via,w11@to",
+            free,
+        ),
+        (
+            FORK,
+            b"r5 Ttype=restriction,restriction=give_way,restriction:motorcar=only_right_turn Mw10@from,n2@via,w12@to",
+            no_left,
+        ),
+        (
+            FORK,
+            b"r5 Ttype=route,restriction=no_left_turn Mw10@from,n2@via,w11@to",
+            free,
+        ),
+        // No entry into way 11 from ways 10 and 12.
+        (
+            FORK,
+            b"r5 Ttype=restriction,restriction=no_entry Mw10@from,w12@from,n2@via,w11@to",
+            "10.0+ > 12.0+\n10.0- > 10.0+\n11.0+ > 11.0-\n11.0- > 10.0- 12.0+\n12.0+ > 12.0-\n12.0- > 10.0-\n",
+        ),
+        // Two Only rules from the same way: either is kept.
+        (
+            FORK,
+            b"w13 Thighway=road Nn2,n5\nr5 Ttype=restriction,restriction=only_straight_on Mw10@from,n2@via,w12@to\n\
+              r6 Ttype=restriction,restriction=only_left_turn Mw10@from,n2@via,w11@to",
+            "10.0+ > 11.0+ 12.0+\n10.0- > 10.0+\n11.0+ > 11.0-\n11.0- > 10.0- 12.0+ 13.0+\n12.0+ > 12.0-\n12.0- > 10.0- 11.0+ 13.0+\n\
+             13.0+ > 13.0-\n13.0- > 10.0- 11.0+ 12.0+\n",
+        ),
+    ];
+    for (map, rules, want) in cases {
+        let lines = with_lines(rt.alloc(), map, rules)?;
+        let text = graph_text::<Brand>(rt.alloc(), &lines, Blank::new(1))?;
+        assert_eq!(rt; text.as_str(), want);
+    }
+    Ok(())
+}
+
+#[test]
+fn contexts_remember_where_one_came_from(rt: HostRuntime) -> Result<(), Fail> {
+    let cases: [(&[u8], &[u8], &str); 5] = [
+        // No way from 1 by 2 and 3 into 4, and from 2 by 3 only into 5.
+        (
+            CHAIN,
+            b"r20 Ttype=restriction,restriction=no_u_turn Mw1@from,w2@via,w3@via,w4@to\n\
+              r21 Ttype=restriction,restriction=only_right_turn Mw2@from,w3@via,w5@to",
+            "1.0+ > 2.0+/2\n1.0- > 1.0+\n2.0+ > 3.0+/2\n1.0+ 2.0+ > 3.0+/3\n2.0- > 1.0-\n3.0+ > 4.0+ 5.0+\n2.0+ 3.0+ > 5.0+\n1.0+ 2.0+ 3.0+ > 5.0+\n\
+             3.0- > 2.0-\n4.0+ > 4.0-\n4.0- > 3.0- 5.0+\n5.0+ > 5.0-\n5.0- > 3.0- 4.0+\n",
+        ),
+        // The first of these alone.
+        (
+            CHAIN,
+            b"r20 Ttype=restriction,restriction=no_u_turn Mw1@from,w2@via,w3@via,w4@to\n\
+              r21 Ttype=restriction,restriction=only_right_turn Mw2@from,w3@via,w5@to\nr21 v2 dD",
+            "1.0+ > 2.0+/2\n1.0- > 1.0+\n2.0+ > 3.0+\n1.0+ 2.0+ > 3.0+/3\n2.0- > 1.0-\n3.0+ > 4.0+ 5.0+\n1.0+ 2.0+ 3.0+ > 5.0+\n\
+             3.0- > 2.0-\n4.0+ > 4.0-\n4.0- > 3.0- 5.0+\n5.0+ > 5.0-\n5.0- > 3.0- 4.0+\n",
+        ),
+        // What a shorter rule forbids is forbidden behind a longer one's beginning too.
+        (
+            CHAIN,
+            b"r20 Ttype=restriction,restriction=no_u_turn Mw1@from,w2@via,w3@via,w4@to\n\
+              r21 Ttype=restriction,restriction=no_right_turn Mw2@from,w3@via,w5@to",
+            "1.0+ > 2.0+/2\n1.0- > 1.0+\n2.0+ > 3.0+/2\n1.0+ 2.0+ > 3.0+/3\n2.0- > 1.0-\n3.0+ > 4.0+ 5.0+\n2.0+ 3.0+ > 4.0+\n1.0+ 2.0+ 3.0+ >\n\
+             3.0- > 2.0-\n4.0+ > 4.0-\n4.0- > 3.0- 5.0+\n5.0+ > 5.0-\n5.0- > 3.0- 4.0+\n",
+        ),
+        // An Only rule over a via way binds once that way was entered, and not before:
+        //
+        // 1 -1- 2 -2- 3 -3- 4
+        //       |4    |5
+        //       5     6
+        (
+            b"w1 Thighway=road Nn1,n2\nw2 Thighway=road Nn2,n3\nw3 Thighway=road Nn3,n4\nw4 Thighway=road Nn2,n5\nw5 Thighway=road Nn3,n6\n",
+            b"r1 Ttype=restriction,restriction=only_straight_on Mw1@from,w2@via,w3@to",
+            "1.0+ > 2.0+/2 4.0+\n1.0- > 1.0+\n2.0+ > 3.0+ 5.0+\n1.0+ 2.0+ > 3.0+\n2.0- > 1.0- 4.0+\n3.0+ > 3.0-\n3.0- > 2.0- 5.0+\n4.0+ > 4.0-\n\
+             4.0- > 1.0- 2.0+\n5.0+ > 5.0-\n5.0- > 2.0- 3.0+\n",
+        ),
+        // A via way that is a dead end: who came by way 1 may not turn round at its end.
+        //
+        // 1 -1- 2 -2- 3
+        //       |3
+        //       4
+        (
+            b"w1 Thighway=road Nn1,n2\nw2 Thighway=road Nn2,n3\nw3 Thighway=road Nn2,n4\n",
+            b"r1 Ttype=restriction,restriction=no_u_turn Mw1@from,w2@via,w2@to",
+            "1.0+ > 2.0+/2 3.0+\n1.0- > 1.0+\n2.0+ > 2.0-\n1.0+ 2.0+ >\n2.0- > 1.0- 3.0+\n3.0+ > 3.0-\n3.0- > 1.0- 2.0+\n",
+        ),
+    ];
+    for (map, rules, want) in cases {
+        let lines = with_lines(rt.alloc(), map, rules)?;
+        let text = graph_text::<Brand>(rt.alloc(), &lines, Blank::new(1))?;
+        assert_eq!(rt; text.as_str(), want);
+    }
+    Ok(())
+}

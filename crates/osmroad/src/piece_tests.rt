@@ -1,0 +1,113 @@
+//! Maps with a way 10 over some of the nodes 1, 2 and 3: which of its positions are plain and which are junctions, the pieces that leave
+//! node 1, and all pieces, each with the steps that it is driven in.
+use crate::map_tests::world_of;
+use access_profile::Motorcar;
+use back_references::Indexed;
+use junctions::{is_plain, junctions_of};
+use road_base::{Dir, NodeId, WayId};
+use road_model::PieceName;
+use std::alloc::Global;
+use std::test::Fail;
+use way_pieces::{pieces_from, pieces_of, spell};
+
+fn add(alloc: Global, out: &mut String, index: u32, dir: Dir) -> Result<(), Fail> {
+    let sign = match dir {
+        Dir::Forward => '+',
+        Dir::Backward => '-',
+    };
+    let step = format!(in alloc; "{index}{sign} ")?;
+    Ok(out.push_str(&step)?)
+}
+
+/// The plain positions, and then the junctions.
+fn add_positions(alloc: Global, out: &mut String, world: &Indexed) -> Result<(), Fail> {
+    for at in 0..5 {
+        if is_plain(world, &Motorcar, WayId(10), at) {
+            out.push_str(&format!(in alloc; "{at} ")?)?;
+        }
+    }
+    out.push_str("/ ")?;
+    let junctions = junctions_of(alloc, world, &Motorcar, WayId(10))?;
+    for at in &junctions {
+        out.push_str(&format!(in alloc; "{at} ")?)?;
+    }
+    Ok(out.push_str("/ ")?)
+}
+
+/// The pieces that begin at node 1.
+fn add_leaving(alloc: Global, out: &mut String, world: &Indexed) -> Result<(), Fail> {
+    let names = pieces_from(alloc, world, &Motorcar, NodeId(1))?;
+    for name in names.items() {
+        add(alloc, out, name.index, name.dir)?;
+    }
+    Ok(out.push_str("/ ")?)
+}
+
+/// The steps of the piece, and a word where there is none.
+fn add_spelling(
+    alloc: Global,
+    out: &mut String,
+    world: &Indexed,
+    name: PieceName,
+) -> Result<(), Fail> {
+    let Some(drive) = spell(alloc, world, &Motorcar, name)? else {
+        return Ok(out.push_str("none ")?);
+    };
+    for step in drive.items() {
+        add(alloc, out, step.index, step.dir)?;
+    }
+    Ok(())
+}
+
+/// The pieces, each with what it spells.
+fn add_pieces(alloc: Global, out: &mut String, world: &Indexed) -> Result<(), Fail> {
+    let names = pieces_of(alloc, world, &Motorcar, WayId(10))?;
+    for name in names.items() {
+        add(alloc, out, name.index, name.dir)?;
+        out.push_str("as ")?;
+        add_spelling(alloc, out, world, *name)?;
+    }
+    Ok(())
+}
+
+/// All that is found on the map.
+fn found(alloc: Global, lines: &[u8]) -> Result<String, Fail> {
+    let world = world_of(alloc, lines)?;
+    let mut out = String::new(alloc);
+    add_positions(alloc, &mut out, &world)?;
+    add_leaving(alloc, &mut out, &world)?;
+    add_pieces(alloc, &mut out, &world)?;
+    Ok(out)
+}
+
+#[test]
+fn pieces_lie_between_junctions(rt: HostRuntime) -> Result<(), Fail> {
+    let cases: [(&[u8], &str); 6] = [
+        (
+            b"w10 Thighway=residential Nn1,n2,n3",
+            "1 / 0 2 / 0+ / 0+ as 0+ 1+ 0- as 1- 0- ",
+        ),
+        (
+            b"w10 Thighway=residential,junction=roundabout,oneway=-1 Nn1,n2,n3,n1",
+            "1 2 / 0 3 / 0- / 0- as 2- 1- 0- ",
+        ),
+        (
+            b"w10 Thighway=residential Nn1,n1,n2,n1",
+            "/ 0 1 2 / 0+ 1- / 0+ as 0+ 0- as 0- 1+ as 1+ 1- as 1- ",
+        ),
+        (
+            b"n2 v1 Tbarrier=bollard x0.002 y0\nw10 Thighway=residential Nn1,n2,n3",
+            "/ 0 1 2 / 0+ / 0+ as 0+ 0- as 0- 1+ as 1+ 1- as 1- ",
+        ),
+        (
+            b"n2 v1 dD\nw10 Thighway=residential Nn1,n2,n3",
+            "/ 0 1 2 / / ",
+        ),
+        (b"w10 Twaterway=river Nn1,n2,n3", "/ / / "),
+    ];
+    for (lines, want) in cases {
+        let text = found(rt.alloc(), lines)?;
+        assert_eq!(rt; text.as_str(), want);
+    }
+    Ok(())
+}
