@@ -18,5 +18,3 @@ pub use names::{pieces_from, pieces_of};
 pub use spans::{PieceSpan, spans_of};
 pub use spelling::spell;
 
-#[cfg(test)]
-mod tests;
