@@ -1,90 +1,86 @@
 //! Steps with which pieces end.
-ghost use Rattle.std.specs.Prelude.{◌≡◌, ◌<◌, Some, None, IfOk, OnOk, IfSome, IfNone, IsTrue, ◌↔◌};
+ghost use Rattle.std.specs.Prelude.{◌<◌, IfOk, OnOk, IsTrue};
 ghost use Rattle.std.specs.List.{All};
-ghost use Rattle.expanded_graph.specs.Known.{IsCut, NamesEnd, IsLastOf, IsLastOfSome};
+ghost use Rattle.std.specs.BTreeSet.{contains};
+ghost use Rattle.road_base.specs.Objects.{Objects};
+ghost use Rattle.road_base.specs.contracts.ids.WayIdOrd.TheImpl.{ghosts as way_order};
+ghost use Rattle.road_model.specs.Rules.{Rules};
+ghost use Rattle.expanded_graph.specs.Known.{AreLastSteps, GainsLastSteps, IsLastOf, NamesEnd};
 
 use road_base::{Dir, NoMemory, Step, WayId};
 use road_model::laws::one_piece;
 use road_model::{PieceName, Profile, World};
 use std::alloc::Global;
+use std::collections::{BTreeMap, BTreeSet};
 use way_pieces::{PieceSpan, spans_of};
 
-/// The pieces of the way that was asked for last.
+/// The last steps of the pieces of some ways, with the names of the pieces.
 #[derive(Drop)]
-pub struct CutWay {
-    pub way: Option<WayId>,
-    pub spans: Vec<PieceSpan>,
+pub struct LastSteps {
+    pub ways: BTreeSet<WayId>,
+    pub names: BTreeMap<Step, PieceName>,
 }
 
-impl CutWay {
-    /// Of no way. Takes no memory.
-    pub fn none(alloc: Global) -> CutWay
-        ensures { result.way ≡ None }
+impl LastSteps {
+    /// Of no ways. Takes no memory.
+    pub fn none(alloc: Global) -> LastSteps
+        ensures { (M : Objects) (P : Rules) → AreLastSteps M P result }
     {
-        CutWay {
-            way: None,
-            spans: Vec::new(alloc),
+        LastSteps {
+            ways: BTreeSet::new(alloc),
+            names: BTreeMap::new(alloc),
         }
     }
 
-    /// Of this way, which is cut anew if it isn't the one that was asked for last.
-    fn turn_to<M: World, P: Profile>(
+    /// The name of the piece that the step ends, None exactly where it ends none. A way is cut into pieces when it is
+    /// asked for first, and never again.
+    pub fn name<M: World, P: Profile>(
+        &mut self,
+        alloc: Global,
+        world: &M,
+        profile: &P,
+        step: Step,
+    ) -> Result<Option<PieceName>, NoMemory>
+        requires { AreLastSteps (M.objects world.now) (P.rules profile.now) self.old }
+        ensures kept { OnOk result (AreLastSteps (M.objects world.now) (P.rules profile.now) self.new) }
+        ensures name { IfOk result (NamesEnd (M.objects world.now) (P.rules profile.now) step) }
+    {
+        self.add_way(alloc, world, profile, step.way)?;
+        Ok(self.names.get(&step).copied())
+    }
+
+    /// Adds those of the way, if they aren't there.
+    fn add_way<M: World, P: Profile>(
         &mut self,
         alloc: Global,
         world: &M,
         profile: &P,
         way: WayId,
     ) -> Result<(), NoMemory>
-        requires { IsCut (M.objects world.now) (P.rules profile.now) self.old }
-        ensures cut { OnOk result (IsCut (M.objects world.now) (P.rules profile.now) self.new) }
-        ensures way { OnOk result (self.new.way ≡ Some way) }
+        requires { AreLastSteps (M.objects world.now) (P.rules profile.now) self.old }
+        ensures kept { OnOk result (AreLastSteps (M.objects world.now) (P.rules profile.now) self.new) }
+        ensures there { OnOk result (IsTrue (contains way_order.cmp self.new.ways way)) }
     {
-        if self.way == Some(way) {
+        one_piece(profile);
+        if self.ways.contains(&way) {
             return Ok(());
         }
-        self.spans = spans_of(alloc, world, profile, way)?;
-        self.way = Some(way);
+        let spans = spans_of(alloc, world, profile, way)?;
+        add_spans(&mut self.names, spans.as_slice())?;
+        self.ways.insert(way)?;
         Ok(())
     }
 }
 
-/// The name of the piece that the step ends, None exactly where it ends none.
-pub fn piece_ending<M: World, P: Profile>(
-    alloc: Global,
-    world: &M,
-    profile: &P,
-    cut: &mut CutWay,
-    step: Step,
-) -> Result<Option<PieceName>, NoMemory>
-    requires { IsCut (M.objects world.now) (P.rules profile.now) cut.old }
-    ensures cut { OnOk result (IsCut (M.objects world.now) (P.rules profile.now) cut.new) }
-    ensures name { IfOk result (NamesEnd (M.objects world.now) (P.rules profile.now) step) }
-{
-    one_piece(profile);
-    cut.turn_to(alloc, world, profile, step.way)?;
-    Ok(ending(cut.spans.as_slice(), step))
-}
-
-/// The name of the span that the step ends.
-fn ending(spans: &[PieceSpan], step: Step) -> Option<PieceName>
+/// Adds the last steps of the spans.
+fn add_spans(names: &mut BTreeMap<Step, PieceName>, spans: &[PieceSpan]) -> Result<(), NoMemory>
     requires { All (λ s. s.name.index < s.end) spans.now }
-    ensures some { IfSome result (IsLastOfSome spans.now step) }
-    ensures none { IfNone result (All (λ s. IsLastOf s step → ⊥) spans.now) }
+    ensures { OnOk result (GainsLastSteps names.old spans.now names.new) }
 {
     for span in spans {
-        if is_last(*span, step) {
-            return Some(span.name);
-        }
+        names.insert(last_step(*span), span.name)?;
     }
-    None
-}
-
-/// Whether the span ends with the step.
-fn is_last(span: PieceSpan, step: Step) -> bool
-    requires { span.name.index < span.end }
-    ensures { IsTrue result ↔ IsLastOf span step }
-{
-    last_step(span) == step
+    Ok(())
 }
 
 /// The step with which the span ends.

@@ -6,7 +6,7 @@ ghost use Rattle.turn_automata.specs.Machines.{StandsFor};
 ghost use Rattle.expanded_graph.specs.Known.{NamesEnd, IsKnown, AreKnown, AreAllShort, IsDriven};
 ghost use Rattle.expanded_graph.specs.States.{AreStates};
 
-use crate::last_steps::{CutWay, piece_ending};
+use crate::last_steps::LastSteps;
 use crate::words::words_near;
 use road_base::{NoMemory, Step, WayId};
 use road_model::laws::{context_steps, drive_grows, drive_parts, words_on_ways};
@@ -32,7 +32,8 @@ pub struct States {
 }
 
 impl States {
-    /// The states on the way.
+    /// The states on the way. Each way on which a state's last step lies is cut into pieces once; all else takes a few
+    /// look-ups for each state.
     pub fn of<M: World, P: Profile>(
         alloc: Global,
         world: &M,
@@ -63,12 +64,12 @@ fn facts_of<M: World, P: Profile>(
     ensures known { IfOk result (λ v. AreKnown (M.objects world.now) (P.rules profile.now) automaton.now v.items) }
 {
     automaton.closed();
-    let mut cut = CutWay::none(alloc);
+    let mut last_steps = LastSteps::none(alloc);
     let mut facts = Vec::with_capacity(alloc, automaton.len())?;
     facts.push(at_rest())?;
     for state in 1..automaton.len() {
         let (before, step) = automaton.edge(state);
-        let ends = piece_ending(alloc, world, profile, &mut cut, step)?;
+        let ends = last_steps.name(alloc, world, profile, step)?;
         let fact = fact_of(
             world,
             profile,

@@ -15,7 +15,8 @@ use road_model::{Profile, World};
 use std::alloc::Global;
 
 /// Words of the map, among them all that have a step on a way near this one: the way itself, or one that shares a word of
-/// three steps or more with it.
+/// three steps or more with it. Takes the time of the words that it lists, and once more of those of the way's own
+/// restrictions.
 pub fn words_near<M: World, P: Profile>(
     alloc: Global,
     world: &M,

@@ -1,7 +1,6 @@
 -- One state more is known.
-use Rattle.std.proofs.Common.{◌≡◌, ◌+◌, List, [], ◌∷◌, ◌++◌, Option, None, Some, sym, ap, subst, ◌∙◌, arith, length}
+use Rattle.std.proofs.Common.{◌≡◌, ◌+◌, List, [], ◌∷◌, ◌++◌, sym, ap, subst, ◌∙◌, arith, length}
 use Rattle.std.proofs.lemmas.List.{length_push}
-use Rattle.road_base.specs.declared.ids.WayId.{WayId}
 use Rattle.expanded_graph.specs.declared.states.StateFacts.{StateFacts}
 use Rattle.expanded_graph.specs.Known.{AreKnown}
 use Rattle.expanded_graph.proofs.StatesKnown.{known_more, known_first, at_rest}
@@ -10,9 +9,6 @@ use Rattle.expanded_graph.proofs.states.facts_of.Goals as goal
 pub fact_of-fact-requires-clause-known : goal.fact_of-fact-requires-clause-known
 fact_of-fact-requires-clause-known g c =
     subst (λ (l : List StateFacts). AreKnown (g.M.World.objects c.args.world.now) (g.P.Profile.rules c.args.profile.now) c.args.automaton.now l) (sym c.as_slice.ensures.value) c.loop-state.invariant.known
-
-of_none : (w : WayId) → ◌≡◌ {A = Option WayId} None (Some w) → ⊥
-of_none w e = cc
 
 pub loop-state-init : goal.loop-state-init
 loop-state-init g c =
@@ -23,7 +19,7 @@ loop-state-init g c =
     record {
       count = ap length alone;
       known = known_first M P m c.push.new.self.items c.at_rest.result c.closed.ensures.closed alone (at_rest M P m.words c.at_rest.result c.at_rest.ensures.legal c.at_rest.ensures.pieces);
-      cut = λ w e. absurd (of_none w (sym c.none-cut.ensures ∙ e));
+      last_steps = c.none-last_steps.ensures M P;
     }
 
 pub loop-state-preserved : goal.loop-state-preserved
@@ -38,5 +34,5 @@ loop-state-preserved g c =
     record {
       count = ap length more ∙ length_push c.loop-state.facts.items c.fact_of-fact.result ∙ ap (λ n. n + 1) old.count;
       known = known_more (g.M.World.objects c.args.world.now) (g.P.Profile.rules c.args.profile.now) m c.loop-state.facts.items c.push-in-loop-state.new.self.items c.fact_of-fact.result c.loop-state.state c.edge-before.result.0 c.edge-before.result.1 old.count more old.known (omega arith) c.edge-before.ensures.is c.fact_of-fact.ensures;
-      cut = c.in_ok-ends.ensures.cut;
+      last_steps = c.in_ok-ends.ensures.kept;
     }
