@@ -1,5 +1,5 @@
 -- Lists whose names ascend: parts of them, and that their members determine them.
-use Rattle.std.proofs.Common.{◌≡◌, List, [], ◌∷◌, length, map, inl, inr, refl, sym, ap, ◌∙◌, subst, Bool, true, false, cond, IsTrue, Ordering, ◌++◌, ◌⊎◌, ℕ, zero, suc, take}
+use Rattle.std.proofs.Common.{◌≡◌, List, [], ◌∷◌, length, map, inl, inr, refl, sym, ap, ◌∙◌, subst, IsTrue, Ordering, ◌++◌, ℕ, zero, suc, take}
 use Rattle.std.specs.declared.cmp.Ordering.TheVariants.{Less, Equal, Greater}
 use Rattle.std.specs.Ordering.{is_lt, ordering_then, nat_cmp}
 use Rattle.std.specs.Cmp.{IsTotalOrder}

@@ -1,6 +1,6 @@
 -- All contexts of a piece in order are what is to be listed, in the form in which graphs are written.
-use Rattle.std.proofs.Common.{◌≡◌, ℕ, ◌+◌, ◌-◌, ◌<◌, ◌≤◌, ◌^◌, List, [], ◌∷◌, ◌++◌, length, map, ◌⊎◌, inl, inr, refl, sym, ap, ◌∙◌, subst, arith, Bool, true, false, cond, ◌==◌, IsTrue, Contains, Ordering, length-append}
-use Rattle.std.specs.declared.cmp.Ordering.TheVariants.{Less, Equal, Greater}
+use Rattle.std.proofs.Common.{◌≡◌, ◌+◌, ◌≤◌, List, [], ◌∷◌, ◌++◌, length, map, inl, inr, refl, sym, ap, ◌∙◌, subst, arith, IsTrue, Contains, length-append}
+use Rattle.std.specs.declared.cmp.Ordering.TheVariants.{Greater}
 use Rattle.std.specs.Ordering.{nat_cmp, is_lt, ordering_then}
 use Rattle.std.specs.Cmp.{IsTotalOrder, nat_cmp_is}
 use Rattle.std.specs.Cmp.Lexicographic.{slice_cmp}
@@ -16,9 +16,9 @@ use Rattle.road_model.specs.declared.lists.Context.{Context}
 use Rattle.road_model.specs.Rules.{Rules}
 use Rattle.road_model.specs.Pieces.{Piece, IsPiece}
 use Rattle.road_model.specs.Contexts.{One, Many}
-use Rattle.road_model.specs.Network.{IsContext, IsContextOf}
+use Rattle.road_model.specs.Network.{IsContext}
 use Rattle.road_model.specs.Orders.{Lists, rises, name_cmp, names_cmp}
-use Rattle.road_model.specs.Blocks.{name_of, IsArcEntry, IsContextEntry}
+use Rattle.road_model.specs.Blocks.{name_of, IsContextEntry}
 use Rattle.road_model.specs.Format.{IsContextForm, begins_alone}
 use Rattle.road_model.specs.Naming.{OnePiece}
 use Rattle.expanded_graph.specs.Contexts.{HasContexts}

@@ -1,11 +1,10 @@
 -- Contexts of two pieces or more and the states in which they end determine each other.
-use Rattle.std.proofs.Common.{◌≡◌, ℕ, zero, suc, ◌+◌, ◌<◌, ◌≤◌, ◌↔◌, List, [], ◌∷◌, ◌++◌, length, map, ◌⊎◌, inl, inr, refl, sym, ap, ◌∙◌, subst, arith, Some, IsTrue, slice_get, Contains, append_assoc, length-append}
+use Rattle.std.proofs.Common.{◌≡◌, ℕ, ◌+◌, ◌≤◌, ◌↔◌, List, [], ◌∷◌, ◌++◌, length, map, inl, inr, refl, sym, ap, ◌∙◌, subst, arith, Some, IsTrue, slice_get, Contains, length-append}
 use Rattle.std.specs.Cmp.{IsTotalOrder}
 use Rattle.std.proofs.lemmas.Option.{slice_get_within}
 use Rattle.road_base.specs.declared.ids.NodeId.{NodeId}
 use Rattle.road_base.specs.declared.ids.Step.{Step}
 use Rattle.road_base.specs.Objects.{Objects}
-use Rattle.road_model.specs.declared.lists.PieceName.{PieceName}
 use Rattle.road_model.specs.declared.lists.TurnArc.{TurnArc}
 use Rattle.road_model.specs.declared.lists.Context.{Context}
 use Rattle.road_model.specs.Rules.{Rules}
@@ -18,7 +17,7 @@ use Rattle.road_model.specs.Orders.{Lists, name_cmp}
 use Rattle.road_model.specs.Blocks.{name_of, IsArcEntry, IsContextEntry}
 use Rattle.road_model.specs.Naming.{OnePiece}
 use Rattle.turn_automata.specs.Trees.{IsClosed}
-use Rattle.turn_automata.specs.Watched.{IsWatchable, IsProperPrefix, Watched}
+use Rattle.turn_automata.specs.Watched.{IsWatchable, IsProperPrefix}
 use Rattle.turn_automata.specs.Machines.{Machine, StandsFor, Watches}
 use Rattle.expanded_graph.specs.declared.states.StateFacts.{StateFacts}
 use Rattle.expanded_graph.specs.Near.{IsNear, Itself, Shares}

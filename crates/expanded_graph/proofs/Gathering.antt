@@ -1,39 +1,35 @@
 -- The contexts of a piece that were written so far, and all of them.
-use Rattle.std.proofs.Common.{◌≡◌, ℕ, ◌+◌, ◌-◌, ◌<◌, ◌≤◌, ◌^◌, ◌↔◌, List, [], ◌∷◌, ◌++◌, length, map, take, get_or, ◌⊎◌, inl, inr, refl, sym, ap, ◌∙◌, subst, arith, Some, IsTrue, Contains, Ordering, length-append}
-use Rattle.std.specs.Ordering.{nat_cmp, eq_by_cmp, is_lt, ordering_then}
+use Rattle.std.proofs.Common.{◌≡◌, ℕ, ◌+◌, ◌<◌, ◌↔◌, List, [], ◌∷◌, ◌++◌, length, map, take, get_or, ◌⊎◌, inl, inr, refl, sym, ap, ◌∙◌, subst, IsTrue, Contains}
+use Rattle.std.specs.Ordering.{nat_cmp, eq_by_cmp, is_lt}
 use Rattle.std.specs.Cmp.{IsTotalOrder}
 use Rattle.std.specs.FinMap.{IsAntisymmetric}
-use Rattle.std.specs.List.{IsDistinct, AllByRecursion}
-use Rattle.std.specs.List.Sorted.{IsPermutation}
+use Rattle.std.specs.List.{IsDistinct}
 use Rattle.std.proofs.lemmas.Cmp.{eq_by_cmp_equiv, nat_cmp_total}
-use Rattle.std.proofs.lemmas.List.{take_more, map-append, length-map}
-use Rattle.std.proofs.lemmas.List.Sorted.{Contains-permutation, IsPermutation-sym}
+use Rattle.std.proofs.lemmas.List.{take_more, map-append}
 use Rattle.std.proofs.lemmas.Map.Keys.{IsDistinct-push}
 use Rattle.road_base.specs.declared.ids.Step.{Step}
 use Rattle.road_base.specs.Objects.{Objects}
 use Rattle.road_model.specs.declared.lists.PieceName.{PieceName}
-use Rattle.road_model.specs.declared.lists.TurnArc.{TurnArc}
 use Rattle.road_model.specs.declared.lists.Context.{Context}
 use Rattle.road_model.specs.Rules.{Rules}
 use Rattle.road_model.specs.Pieces.{Piece, IsPiece}
-use Rattle.road_model.specs.Contexts.{Every, One, Many}
+use Rattle.road_model.specs.Contexts.{Every}
 use Rattle.road_model.specs.Network.{IsContext}
 use Rattle.road_model.specs.Turning.{HasTurnSteps}
-use Rattle.road_model.specs.Orders.{Lists, rises, name_cmp, names_cmp}
-use Rattle.road_model.specs.Blocks.{name_of, IsArcEntry, IsContextEntry}
-use Rattle.road_model.specs.Format.{IsContextForm, begins_alone}
+use Rattle.road_model.specs.Orders.{rises, names_cmp}
+use Rattle.road_model.specs.Blocks.{name_of, IsContextEntry}
 use Rattle.turn_automata.specs.Trees.{IsClosed}
 use Rattle.turn_automata.specs.Watched.{IsWatchable}
 use Rattle.turn_automata.specs.Machines.{Machine}
 use Rattle.expanded_graph.specs.declared.states.StateFacts.{StateFacts}
 use Rattle.expanded_graph.specs.States.{AreStates}
-use Rattle.expanded_graph.specs.Contexts.{IsEnding, AreEndings, EndsWithName, IsContextIn, HasContexts}
+use Rattle.expanded_graph.specs.Contexts.{AreEndings, EndsWithName, IsContextIn, HasContexts}
 use Rattle.expanded_graph.proofs.Members.{In, push_cases, from_map, in_from_contains, contains_from_in, in_end, in_left}
-use Rattle.expanded_graph.proofs.Ascending.{Climbs, climbs, climbs_take, below_end, not_itself}
+use Rattle.expanded_graph.proofs.Ascending.{Climbs, climbs_take, below_end, not_itself}
 use Rattle.expanded_graph.proofs.Runs.{same_ends, one_at, nil_or_cons, context_pieces}
 use Rattle.expanded_graph.proofs.Ending.{ascends as numbers_climb}
-use Rattle.expanded_graph.proofs.Sorting.{apart, none_of, nothing_distinct, each_member}
-use Rattle.expanded_graph.proofs.ContextStates.{StepLaws, ends_in, one_state, one_context}
+use Rattle.expanded_graph.proofs.Sorting.{apart, none_of, nothing_distinct}
+use Rattle.expanded_graph.proofs.ContextStates.{StepLaws, ends_in, one_state}
 
 map_none : {A B : Type 0} (f : A → B) (xs : List A) → map f xs ≡ [] → xs ≡ []
 map_none f [] e = refl

@@ -1,21 +1,19 @@
 -- Which arcs leave a context, and where they lead.
-use Rattle.std.proofs.Common.{true, false, Some, ◌≡◌, ℕ, ◌+◌, ◌≤◌, ◌<◌, ◌^◌, ◌↔◌, List, [], ◌∷◌, ◌++◌, length, ◌⊎◌, inl, inr, refl, sym, ap, ◌∙◌, subst, arith, slice_get, length-append, Bool, append_assoc}
+use Rattle.std.proofs.Common.{true, false, Some, ◌≡◌, ℕ, ◌+◌, ◌≤◌, ◌<◌, ◌^◌, ◌↔◌, List, [], ◌∷◌, ◌++◌, length, inl, inr, refl, sym, ap, ◌∙◌, subst, arith, slice_get, length-append, Bool, append_assoc}
 use Rattle.std.proofs.lemmas.Bool.{false≢true}
 use Rattle.std.proofs.lemmas.Option.{same_Some, slice_get_within}
 use Rattle.road_base.specs.declared.ids.NodeId.{NodeId}
-use Rattle.road_base.specs.declared.ids.WayId.{WayId}
 use Rattle.road_base.specs.declared.ids.RelationId.{RelationId}
 use Rattle.road_base.specs.declared.ids.Step.{Step}
 use Rattle.road_base.specs.Objects.{Objects}
 use Rattle.road_model.specs.declared.lists.TurnArc.{TurnArc}
 use Rattle.road_model.specs.Rules.{Rules}
-use Rattle.road_model.specs.Driving.{Passes}
 use Rattle.road_model.specs.Pieces.{Piece, IsPiece, spell}
 use Rattle.road_model.specs.Words.{IsWord}
-use Rattle.road_model.specs.Contexts.{Every, IsLongestEnd}
-use Rattle.road_model.specs.Network.{Legal, GoesOn, IsContext, IsContextOf, IsArc, spell_pieces}
+use Rattle.road_model.specs.Contexts.{Every}
+use Rattle.road_model.specs.Network.{Legal, GoesOn, IsContext, IsContextOf, spell_pieces}
 use Rattle.road_model.specs.Turning.{HasTurnSteps, BeginsWord}
-use Rattle.road_model.specs.Blocks.{name_of, IsArcEntry}
+use Rattle.road_model.specs.Blocks.{IsArcEntry}
 use Rattle.restrictions.specs.declared.word_list.Word.{Word}
 use Rattle.turn_automata.specs.Trees.{IsClosed}
 use Rattle.turn_automata.specs.Watched.{IsProperPrefix, Watched, Stops}
@@ -27,7 +25,7 @@ use Rattle.expanded_graph.specs.declared.states.StateFacts.{StateFacts}
 use Rattle.expanded_graph.specs.Near.{IsNear, Itself}
 use Rattle.expanded_graph.specs.Contexts.{IsReached}
 use Rattle.expanded_graph.specs.Turning.{IsIntersection, may_follow}
-use Rattle.expanded_graph.proofs.Members.{In, in_from_contains, in_end, in_left}
+use Rattle.expanded_graph.proofs.Members.{In, in_end, in_left}
 use Rattle.expanded_graph.proofs.Ends.{spell_begins, spell_ends, first_step, last_step}
 use Rattle.expanded_graph.proofs.Runs.{cons_not_nil, same_ends, cut_last, nil_or_last, some_at, every_left, every_right, turn_ends, context_pieces, turn_count}
 use Rattle.expanded_graph.proofs.Stopping.{LongWords, begins_from, begins_to, goes_on_near}

@@ -1,5 +1,5 @@
 -- The contexts in which one comes to an intersection, and the states in which they are.
-use Rattle.std.specs.Prelude.{◌≡◌, ℕ, ◌↔◌, List, [], ◌∷◌, ◌++◌, length, map, Some, IsTrue, slice_get, Contains}
+use Rattle.std.specs.Prelude.{◌≡◌, ℕ, ◌↔◌, List, [], ◌∷◌, ◌++◌, map, Some, IsTrue, slice_get, Contains}
 use Rattle.std.specs.List.{IsDistinct}
 use Rattle.std.specs.Ordering.{eq_by_cmp, nat_cmp}
 use Rattle.road_base.specs.declared.ids.NodeId.{NodeId}

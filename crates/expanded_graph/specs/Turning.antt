@@ -1,9 +1,7 @@
 -- Nodes where pieces end, and what may follow there.
-use Rattle.std.specs.Prelude.{◌≡◌, ◌==◌, List, [], ◌∷◌, length, map, filter, Bool, cond, not, ◌||◌}
+use Rattle.std.specs.Prelude.{◌≡◌, ◌==◌, length, Bool, cond, not, ◌||◌}
 use Rattle.road_base.specs.declared.ids.NodeId.{NodeId}
 use Rattle.road_base.specs.Objects.{Objects}
-use Rattle.road_model.specs.declared.lists.TurnArc.{TurnArc}
-use Rattle.road_model.specs.declared.lists.Context.{Context}
 use Rattle.road_model.specs.Rules.{Rules}
 use Rattle.road_model.specs.Lines.{same_node}
 use Rattle.road_model.specs.Driving.{shut, turning_place}

@@ -1,5 +1,5 @@
 -- The departure may follow where the intersection and the words let it, and then its arc leads to the context of the state.
-use Rattle.std.proofs.Common.{◌≡◌, Option, Some, None, false, refl, sym, ◌∙◌}
+use Rattle.std.proofs.Common.{◌≡◌, Option, Some, None, refl, sym, ◌∙◌}
 use Rattle.turn_automata.specs.declared.automaton.State.{State}
 use Rattle.expanded_graph.proofs.Members.{in_from_contains}
 use Rattle.expanded_graph.proofs.Passing.{Laws}

@@ -1,5 +1,5 @@
 -- One departure more was looked at, and an arc leads by a departure.
-use Rattle.std.proofs.Common.{◌≡◌, ◌+◌, List, [], ◌∷◌, ◌++◌, length, take, get_or, pos, refl, sym, ap, ◌∙◌, subst, arith}
+use Rattle.std.proofs.Common.{◌≡◌, ◌+◌, [], take, get_or, pos, sym, ap, ◌∙◌, subst}
 use Rattle.std.proofs.lemmas.List.{take_all}
 use Rattle.road_base.specs.declared.ids.Dir.TheVariants.{Forward}
 use Rattle.road_model.specs.declared.lists.TurnArc.{TurnArc}
@@ -8,7 +8,7 @@ use Rattle.road_model.specs.Orders.{Lists, name_cmp}
 use Rattle.road_model.specs.Blocks.{IsArcEntry}
 use Rattle.way_pieces.specs.declared.departures.Departure.{Departure}
 use Rattle.way_pieces.specs.Names.{IsDeparture}
-use Rattle.expanded_graph.proofs.Members.{In, in_get, in_from_contains, contains_from_in}
+use Rattle.expanded_graph.proofs.Members.{In, in_get, contains_from_in}
 use Rattle.expanded_graph.proofs.Passing.{Laws}
 use Rattle.expanded_graph.proofs.Leading.{departs, one_arc}
 use Rattle.expanded_graph.proofs.Chosen.{Chosen, chosen_none, chosen_skip_at, chosen_one_at, chosen_all}

@@ -1,8 +1,7 @@
 -- The state of the steps before the last one is the one from which the edge leads.
-use Rattle.std.proofs.Common.{ℕ, ◌≡◌, ◌+◌, ◌<◌, List, [], ◌∷◌, ◌++◌, length, Some, slice_get, sym, ap, ◌∙◌, subst, arith}
+use Rattle.std.proofs.Common.{◌≡◌, Some, slice_get, ap, ◌∙◌, subst, arith}
 use Rattle.std.proofs.lemmas.Option.{get_or_from_slice_get}
 use Rattle.turn_automata.specs.Machines.{StandsFor}
-use Rattle.expanded_graph.specs.declared.states.StateFacts.{StateFacts}
 use Rattle.expanded_graph.proofs.Runs.{same_ends, some_at, one_at}
 use Rattle.expanded_graph.proofs.arcs.target_len.Goals as goal
 

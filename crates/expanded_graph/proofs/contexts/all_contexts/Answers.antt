@@ -1,11 +1,9 @@
 -- One ending more was looked at, and the endings have all contexts of two pieces or more.
-use Rattle.std.proofs.Common.{◌≡◌, ℕ, ◌+◌, ◌<◌, List, [], ◌∷◌, ◌++◌, length, take, get_or, Some, Contains, refl, sym, ap, ◌∙◌, subst, arith, slice_get, vec_len}
+use Rattle.std.proofs.Common.{◌≡◌, ℕ, ◌+◌, ◌<◌, List, [], ◌∷◌, ◌++◌, length, take, get_or, Some, Contains, sym, ap, ◌∙◌, subst, arith, vec_len}
 use Rattle.std.proofs.lemmas.Bool.{false≢true}
 use Rattle.std.proofs.lemmas.List.{take_all}
-use Rattle.std.proofs.lemmas.Option.{slice_get_within, slice_get-get_or}
+use Rattle.std.proofs.lemmas.Option.{slice_get_within}
 use Rattle.way_pieces.specs.Names.{piece_of}
-use Rattle.expanded_graph.specs.declared.states.StateFacts.{StateFacts}
-use Rattle.expanded_graph.specs.Contexts.{EndsWithName}
 use Rattle.expanded_graph.proofs.Members.{in_get, contains_from_in}
 use Rattle.expanded_graph.proofs.Runs.{read_at, one_at}
 use Rattle.expanded_graph.proofs.ContextStates.{StepLaws}

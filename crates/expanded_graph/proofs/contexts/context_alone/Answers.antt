@@ -1,5 +1,5 @@
 -- The piece alone is left in the state after its last step.
-use Rattle.std.proofs.Common.{◌≡◌, ◌∷◌, [], sym, ap, ◌∙◌, subst}
+use Rattle.std.proofs.Common.{◌∷◌, [], sym, ◌∙◌, subst}
 use Rattle.road_model.specs.declared.lists.TurnArc.{TurnArc}
 use Rattle.road_model.specs.Orders.{Lists, name_cmp}
 use Rattle.road_model.specs.Blocks.{IsArcEntry}

@@ -1,5 +1,4 @@
 -- All contexts are there, in order.
-use Rattle.std.proofs.Common.{◌≡◌, map}
 use Rattle.way_pieces.specs.Names.{piece_of}
 use Rattle.expanded_graph.proofs.ContextForms.{listed, first_alone, forms}
 use Rattle.expanded_graph.proofs.contexts.contexts_of.Goals as goal

@@ -1,11 +1,9 @@
 -- Sorted by names that differ, contexts ascend.
-use Rattle.std.proofs.Common.{rules, ◌≡◌, map, sym, ap, ◌∙◌, Bool}
+use Rattle.std.proofs.Common.{rules, map}
 use Rattle.std.specs.Ordering.{is_lt, eq_by_cmp}
 use Rattle.std.proofs.lemmas.Cmp.{eq_by_cmp_equiv}
 use Rattle.std.proofs.lemmas.List.Sorted.{answers_always, ranks_by, IsPermutation-map}
 use Rattle.std.proofs.lemmas.Map.Keys.{IsDistinct-IsPermutation}
-use Rattle.road_model.specs.declared.lists.Context.{Context}
-use Rattle.road_model.specs.declared.lists.PieceName.{PieceName}
 use Rattle.road_model.specs.Orders.{names_cmp}
 use Rattle.expanded_graph.proofs.Gathering.{before_of}
 use Rattle.expanded_graph.proofs.Sorting.{ascends}

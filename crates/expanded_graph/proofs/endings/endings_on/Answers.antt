@@ -1,5 +1,5 @@
 -- One state more was looked at, and all were at the end.
-use Rattle.std.proofs.Common.{◌≡◌, ◌<◌, ◌+◌, vec_len, sym, ap, ◌∙◌, subst, arith}
+use Rattle.std.proofs.Common.{◌≡◌, ◌+◌, vec_len, sym, ap, ◌∙◌, subst, arith}
 use Rattle.std.proofs.lemmas.Bool.{false≢true}
 use Rattle.std.proofs.lemmas.Option.{slice_get_within}
 use Rattle.expanded_graph.proofs.Ending.{AreEndingsBelow, one_more, no_more, all_endings, no_endings}

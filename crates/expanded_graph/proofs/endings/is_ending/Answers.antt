@@ -1,8 +1,6 @@
 -- The state before isn't the first one where the list has two steps or more.
-use Rattle.std.proofs.Common.{◌≡◌, ℕ, ◌<◌, ◌↔◌, List, length, get_or, not, true, false, Some, slice_get, sym, ap, ◌∙◌, arith}
+use Rattle.std.proofs.Common.{sym, ◌∙◌, arith}
 use Rattle.std.proofs.lemmas.Bool.{false≢true, not_from_true, not-false}
-use Rattle.std.proofs.lemmas.Option.{slice_get-get_or}
-use Rattle.expanded_graph.specs.declared.states.StateFacts.{StateFacts}
 use Rattle.expanded_graph.proofs.Runs.{read_at}
 use Rattle.expanded_graph.proofs.Ending.{ending, not_root, has_legal, has_name}
 use Rattle.expanded_graph.proofs.endings.is_ending.Goals as goal

@@ -1,9 +1,6 @@
 -- One state more was passed on the way to the first one.
-use Rattle.std.proofs.Common.{◌≡◌, ℕ, ◌<◌, List, [], ◌∷◌, ◌++◌, length, get_or, reverse, Some, None, slice_get, refl, sym, ap, ◌∙◌, subst, arith}
+use Rattle.std.proofs.Common.{◌≡◌, [], ◌∷◌, ◌++◌, reverse, Some, None, sym, ap, ◌∙◌, subst, arith}
 use Rattle.std.proofs.lemmas.List.{reverse-append}
-use Rattle.std.proofs.lemmas.Option.{slice_get-get_or}
-use Rattle.turn_automata.specs.Machines.{StandsFor}
-use Rattle.expanded_graph.specs.declared.states.StateFacts.{StateFacts}
 use Rattle.expanded_graph.proofs.Runs.{read_at, some_at, one_at}
 use Rattle.expanded_graph.proofs.Naming.{Path, path_start, path_more, names_along}
 use Rattle.expanded_graph.proofs.names.names_before.Goals as goal

@@ -1,4 +1,4 @@
-use Rattle.std.proofs.Common.{ℕ, ◌<◌, ◌≤◌, length, List}
+use Rattle.std.proofs.Common.{◌<◌, length, List}
 use Rattle.road_base.specs.declared.ids.WayId.{WayId}
 use Rattle.road_base.specs.declared.ids.Step.{Step}
 use Rattle.turn_automata.specs.Trees.{IsClosed}
