@@ -70,6 +70,17 @@ module _ (es : List Edge) (tree : IsTree es) where
       let z : 1 + k ≡ suc k = omega arith in
       subst (λ i. Stands (lists_of es) i (p ++ e.step ∷ [])) z (grown_at ([] ∷ []) es k e p h (omega arith) st)
 
+  comes_by : (k : ℕ) (e : Edge) (q p : List Step) (x : Step) → slice_get es k ≡ Some e → Stands (lists_of es) e.from q → Stands (lists_of es) (suc k) (p ++ x ∷ []) → Comes es (suc k) p x
+  comes_by k e q p x edge at st =
+      let same = same_last q e.step p x (one_stands (lists_of es) (suc k) (q ++ e.step ∷ []) (p ++ x ∷ []) (leads k e q edge at) st) in
+      record {
+        n = e.from;
+        k = k;
+        number = refl;
+        edge = subst (λ y. slice_get es k ≡ Some (edge_of e.from y)) same.last edge;
+        at = subst (Stands (lists_of es) e.from) same.front at;
+      }
+
   pub comes : (m : ℕ) (p : List Step) (x : Step) → Stands (lists_of es) m (p ++ x ∷ []) → Comes es m p x
   comes zero p x st = absurd (cons_not_nil p x [] (one_stands (lists_of es) 0 (p ++ x ∷ []) [] st (empty_first es)))
   comes (suc k) p x st =
@@ -78,14 +89,7 @@ module _ (es : List Edge) (tree : IsTree es) where
       let e = some_at es k (omega arith) in
       let low : e.0.from ≤ k = tree.from k e.0 e.1 in
       let q = some_at (lists_of es) e.0.from (omega arith) in
-      let same = same_last q.0 e.0.step p x (one_stands (lists_of es) (suc k) (q.0 ++ e.0.step ∷ []) (p ++ x ∷ []) (leads k e.0 q.0 e.1 q.1) st) in
-      record {
-        n = e.0.from;
-        k = k;
-        number = refl;
-        edge = subst (λ y. slice_get es k ≡ Some (edge_of e.0.from y)) {x = e.0.step} same.last e.1;
-        at = subst (Stands (lists_of es) e.0.from) {x = q.0} same.front q.1;
-      }
+      comes_by k e.0 q.0 p x e.1 q.1 st
 
   first_empty : (m : ℕ) → Stands (lists_of es) m [] → m ≡ 0
   first_empty zero st = refl
