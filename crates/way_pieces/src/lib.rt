@@ -17,4 +17,3 @@ pub use departures::{Departure, departures_from};
 pub use names::{pieces_from, pieces_of};
 pub use spans::{PieceSpan, spans_of};
 pub use spelling::spell;
-
