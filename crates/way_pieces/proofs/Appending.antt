@@ -6,14 +6,14 @@ use Rattle.std.proofs.lemmas.List.{take_more, get_or_default}
 use Rattle.road_model.specs.Orders.{rises, rises_from, Lists}
 
 module _ {A : Type 0} where
-  contains_later : (x y : A) (xs : List A) → Contains xs y → Contains (x ∷ xs) y
+  pub contains_later : (x y : A) (xs : List A) → Contains xs y → Contains (x ∷ xs) y
   contains_later x y xs (k, within, is) = (suc k, omega arith, is)
 
-  contains_cases : (x y : A) (xs : List A) → Contains (x ∷ xs) y → (y ≡ x) ⊎ Contains xs y
+  pub contains_cases : (x y : A) (xs : List A) → Contains (x ∷ xs) y → (y ≡ x) ⊎ Contains xs y
   contains_cases x y xs (zero, within, is) = inl (sym is)
   contains_cases x y xs (suc k, within, is) = inr (k, omega arith, is)
 
-  contains_none : (y : A) → Contains [] y → ⊥
+  pub contains_none : (y : A) → Contains [] y → ⊥
   contains_none y (k, within, is) = omega arith
 
   pub in_front : (xs ys : List A) (z : A) → Contains xs z → Contains (xs ++ ys) z
@@ -116,14 +116,14 @@ module _ {A : Type 0} where
 -- ---- names alone
 
 module _ {A N : Type 0} (name : A → N) where
-  map_has : (xs : List A) (z : A) → Contains xs z → Contains (map name xs) (name z)
+  pub map_has : (xs : List A) (z : A) → Contains xs z → Contains (map name xs) (name z)
   map_has [] z has = absurd (contains_none z has)
   map_has (x ∷ xs) z has = elim (contains_cases x z xs has) [
     | inl same ↦ (0, omega arith, ap name (sym same))
     | inr rest ↦ contains_later (name x) (name z) (map name xs) (map_has xs z rest)
   ]
 
-  map_from : (xs : List A) (n : N) → Contains (map name xs) n → (z : A) × (Contains xs z × (n ≡ name z))
+  pub map_from : (xs : List A) (n : N) → Contains (map name xs) n → (z : A) × (Contains xs z × (n ≡ name z))
   map_from [] n has = absurd (contains_none n has)
   map_from (x ∷ xs) n has = elim (contains_cases (name x) n (map name xs) has) [
     | inl same ↦ (x, ((0, omega arith, refl), same))

@@ -23,7 +23,7 @@ above_all x (y ∷ ys) up (suc j) h =
     let b : y < get_or ys j 0 = above_all y ys p.1 j (omega arith) in
     omega arith
 
-rest_rises : {N : Type 0} (R : N → N → Ordering) (x : N) (xs : List N) → IsTrue (rises_from R x xs) → IsTrue (rises R xs)
+pub rest_rises : {N : Type 0} (R : N → N → Ordering) (x : N) (xs : List N) → IsTrue (rises_from R x xs) → IsTrue (rises R xs)
 rest_rises R x [] up = refl
 rest_rises R x (y ∷ ys) up = (and_parts _ _ up).1
 
@@ -41,7 +41,7 @@ module _ {N : Type 0} (R : N → N → Ordering) (total : IsTotalOrder R) where
   is_less Equal h = absurd (false≢true h)
   is_less Greater h = absurd (false≢true h)
 
-  over : (a b c : N) → IsTrue (is_lt (R a b)) → IsTrue (is_lt (R b c)) → IsTrue (is_lt (R a c))
+  pub over : (a b c : N) → IsTrue (is_lt (R a b)) → IsTrue (is_lt (R b c)) → IsTrue (is_lt (R a c))
   over a b c h k = ap is_lt (total.trans a b c (is_less _ h) (is_less _ k))
 
   first_below : (x : N) (xs : List N) → IsTrue (rises_from R x (map (λ a. a) xs)) → (j : ℕ) (d : N) → j < length xs → IsTrue (is_lt (R x (get_or xs j d)))

@@ -7,3 +7,5 @@ pub mod Adding
 pub mod Stepping
 pub mod Beginning
 pub mod Departing
+pub mod Filtering
+pub mod Starting

@@ -5,10 +5,14 @@ use Rattle.std.specs.Ordering.{nat_cmp, is_lt, ordering_then}
 use Rattle.std.specs.Cmp.{IsTotalOrder}
 use Rattle.std.proofs.lemmas.Bool.{lt-ltb, false≢true}
 use Rattle.std.proofs.lemmas.Cmp.{nat_cmp_total, int_cmp_total, on_total, tied_itself}
+use Rattle.road_base.specs.declared.ids.NodeId.{NodeId}
 use Rattle.road_base.specs.declared.ids.WayId.{WayId}
 use Rattle.road_base.specs.declared.ids.Dir.TheVariants.{Forward, Backward}
 use Rattle.road_model.specs.declared.lists.PieceName.{PieceName}
-use Rattle.road_model.specs.Orders.{way_cmp, dir_cmp, name_cmp}
+use Rattle.road_model.specs.Orders.{node_cmp, way_cmp, dir_cmp, name_cmp}
+
+pub node_cmp_total : IsTotalOrder node_cmp
+node_cmp_total = on_total (λ (n : NodeId). n.0) int_cmp_total
 
 pub way_cmp_total : IsTotalOrder way_cmp
 way_cmp_total = on_total (λ (w : WayId). w.0) int_cmp_total

@@ -1,4 +1,5 @@
 pub mod Departures
 pub mod Names
 pub mod Roads
+pub mod Starts
 pub mod Stretches

@@ -1,5 +1,5 @@
 //! The pieces that leave a node.
-ghost use Rattle.std.specs.Prelude.{◌≡◌, ◌≤◌, ◌<◌, ◌++◌, ◌↔◌, Some, IsTrue, IfOk, OnOk, length};
+ghost use Rattle.std.specs.Prelude.{◌≡◌, ◌≤◌, ◌<◌, ◌++◌, ◌↔◌, Some, IsTrue, IfOk, IfSome, OnOk, length};
 ghost use Rattle.road_base.specs.declared.ids.Dir.TheVariants.{Forward, Backward};
 ghost use Rattle.road_model.specs.Lines.{line_of, node_at};
 ghost use Rattle.road_model.specs.Driving.{is_road};
@@ -9,8 +9,10 @@ ghost use Rattle.junctions.specs.Passing.{IsSeen};
 ghost use Rattle.way_pieces.specs.Names.{IsDeparture};
 ghost use Rattle.way_pieces.specs.Roads.{IsRoad};
 ghost use Rattle.way_pieces.specs.Departures.{IsOver, IsOverAt, IsOverBy, Gains, list_of};
+ghost use Rattle.way_pieces.specs.Starts.{AreWayDepartures};
 
 use crate::roads::{Road, is_open, road_of};
+use crate::way_departures::{WayDepartures, add_starts, leaving};
 use junctions::laws::roads_refer;
 use junctions::{Repeats, Seen, is_plain_at, junction_below, see};
 use road_base::{Dir, NoMemory, NodeId, Step, WayId};
@@ -40,6 +42,34 @@ pub fn departures_from<M: World, P: Profile>(
 ) -> Result<Vec<Departure>, NoMemory>
     ensures { IfOk result (λ v. Lists (λ d. d.piece) name_cmp (IsDeparture (M.objects world.now) (P.rules profile.now) node) v.items) }
 {
+    departures_over(alloc, world, profile, node, None)
+}
+
+/// The same, where those over one way are known. Its line isn't gone along.
+pub fn departures_with<M: World, P: Profile>(
+    alloc: Global,
+    world: &M,
+    profile: &P,
+    node: NodeId,
+    own: &WayDepartures,
+) -> Result<Vec<Departure>, NoMemory>
+    requires { AreWayDepartures (M.objects world.now) (P.rules profile.now) own.now }
+    ensures { IfOk result (λ v. Lists (λ d. d.piece) name_cmp (IsDeparture (M.objects world.now) (P.rules profile.now) node) v.items) }
+{
+    departures_over(alloc, world, profile, node, Some(own))
+}
+
+/// The same, where those over one way may be known.
+fn departures_over<M: World, P: Profile>(
+    alloc: Global,
+    world: &M,
+    profile: &P,
+    node: NodeId,
+    own: Option<&WayDepartures>,
+) -> Result<Vec<Departure>, NoMemory>
+    requires own { IfSome own (λ t. AreWayDepartures (M.objects world.now) (P.rules profile.now) t.now) }
+    ensures { IfOk result (λ v. Lists (λ d. d.piece) name_cmp (IsDeparture (M.objects world.now) (P.rules profile.now) node) v.items) }
+{
     roads_refer(profile);
     let mut departures = Vec::new(alloc);
     let here = see(world, profile, node);
@@ -47,9 +77,40 @@ pub fn departures_from<M: World, P: Profile>(
         return Ok(departures);
     }
     for way in world.ways_at(node) {
-        add_way(alloc, &mut departures, world, profile, *way, here)?;
+        add_over(alloc, &mut departures, world, profile, *way, here, own)?;
     }
     Ok(departures)
+}
+
+/// Adds the departures from the located node over the way, those that are known or else those that are found.
+fn add_over<M: World, P: Profile>(
+    alloc: Global,
+    departures: &mut Vec<Departure>,
+    world: &M,
+    profile: &P,
+    way: WayId,
+    here: Seen,
+    own: Option<&WayDepartures>,
+) -> Result<(), NoMemory>
+    requires seen { IsSeen (M.objects world.now) (P.rules profile.now) here }
+    requires located { IsTrue here.located }
+    requires own { IfSome own (λ t. AreWayDepartures (M.objects world.now) (P.rules profile.now) t.now) }
+    ensures { OnOk result (Gains (IsOver (M.objects world.now) (P.rules profile.now) here.node way) departures.old.items departures.new.items) }
+{
+    let Some(known) = own else {
+        return add_way(alloc, departures, world, profile, way, here);
+    };
+    if !is_way(known.way, way) {
+        return add_way(alloc, departures, world, profile, way, here);
+    }
+    add_starts(departures, leaving(known.starts.as_slice(), here.node))?;
+    Ok(())
+}
+
+fn is_way(this: WayId, that: WayId) -> bool
+    ensures { IsTrue result ↔ (this ≡ that) }
+{
+    this == that
 }
 
 /// Adds the departures from the located node over the way.

@@ -12,7 +12,7 @@ use Rattle.way_pieces.specs.Departures.{IsOver, Gains}
 use Rattle.way_pieces.proofs.Appending.{lists_none, lists_same}
 use Rattle.way_pieces.proofs.Departing.{SoFar, leaves_located, way_gained, passes}
 use Rattle.way_pieces.proofs.Driving.{is_not}
-use Rattle.way_pieces.proofs.departures.departures_from.Goals as goal
+use Rattle.way_pieces.proofs.departures.departures_over.Goals as goal
 
 pub returns-then-not-here : goal.returns-then-not-here
 returns-then-not-here g c =
@@ -27,9 +27,9 @@ pub loop-way-preserved : goal.loop-way-preserved
 loop-way-preserved g c =
     let M = g.M.World.objects c.args.world.now in
     let P = g.P.Profile.rules c.args.profile.now in
-    way_gained M P c.args.node c.ways_at-way-items.result.now c.loop-way.way-index (record { 0 = pos 0 }) c.loop-way.departures.items c.add_way.new.departures.items
+    way_gained M P c.args.node c.ways_at-way-items.result.now c.loop-way.way-index (record { 0 = pos 0 }) c.loop-way.departures.items c.add_over.new.departures.items
     c.ways_at-way-items.ensures.ascending c.loop-way-test.true c.loop-way.invariant
-    (subst (λ (v : NodeId). Gains (IsOver M P v (get_or c.ways_at-way-items.result.now c.loop-way.way-index (record { 0 = pos 0 }))) c.loop-way.departures.items c.add_way.new.departures.items) c.see-here.ensures.node c.in_ok-add_way.ensures)
+    (subst (λ (v : NodeId). Gains (IsOver M P v (get_or c.ways_at-way-items.result.now c.loop-way.way-index (record { 0 = pos 0 }))) c.loop-way.departures.items c.add_over.new.departures.items) c.see-here.ensures.node c.in_ok-add_over.ensures)
 
 pub returns : goal.returns
 returns g c =

@@ -1,0 +1,15 @@
+-- The sort is by the node.
+use Rattle.std.proofs.Common.{rules}
+use Rattle.std.proofs.lemmas.List.Sorted.{answers_always}
+use Rattle.road_base.specs.declared.ids.NodeId.{NodeId}
+use Rattle.way_pieces.specs.declared.way_departures.Start.{Start}
+use Rattle.way_pieces.proofs.way_departures.put_in_order.Goals as goal
+
+abbrev node : Start → NodeId
+node s = s.node
+
+pub returns-clause-sorted : goal.returns-clause-sorted
+returns-clause-sorted c = c.in_ok-sort_by_key.ensures.sorted node (answers_always _ _ _ (λ f a r g called. search rules))
+
+pub returns-clause-stable : goal.returns-clause-stable
+returns-clause-stable c = c.in_ok-sort_by_key.ensures.stable node (answers_always _ _ _ (λ f a r g called. search rules))

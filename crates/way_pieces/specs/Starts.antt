@@ -1,0 +1,47 @@
+-- The departures over one way, by the node that they leave.
+use Rattle.std.specs.Prelude.{ℕ, ◌+◌, ◌-◌, ◌<◌, List, map, filter, slice_index_or, pos}
+use Rattle.std.specs.List.Sorted.{IsSortedByKey}
+use Rattle.road_base.specs.declared.ids.NodeId.{NodeId}
+use Rattle.road_base.specs.declared.ids.Dir.{Dir}
+use Rattle.road_base.specs.declared.ids.Dir.TheVariants.{Forward, Backward}
+use Rattle.road_base.specs.Objects.{Objects}
+use Rattle.road_model.specs.Rules.{Rules}
+use Rattle.road_model.specs.Lines.{same_node}
+use Rattle.road_model.specs.Orders.{Lists, node_cmp, name_cmp}
+use Rattle.way_pieces.specs.declared.spans.PieceSpan.{PieceSpan}
+use Rattle.way_pieces.specs.declared.departures.Departure.{Departure}
+use Rattle.way_pieces.specs.declared.way_departures.Start.{Start}
+use Rattle.way_pieces.specs.declared.way_departures.WayDepartures.{WayDepartures}
+use Rattle.way_pieces.specs.Departures.{IsOver}
+
+-- the span ascends and lies on a line of n nodes
+abbrev pub IsWithin : ℕ → PieceSpan → Type 0
+IsWithin n s = (s.name.index < s.end) × (s.end < n)
+
+-- the node at the position of a list that reaches so far
+abbrev pub node_in : List NodeId → ℕ → NodeId
+node_in nodes i = slice_index_or nodes i (record { 0 = pos 0 })
+
+-- the start of the piece that begins with the step between these positions of the line
+abbrev pub start_by : List NodeId → PieceSpan → ℕ → ℕ → ℕ → Start
+start_by nodes s tail index head = record {
+  node = node_in nodes tail;
+  departure = record { piece = s.name; first = record { way = s.name.way; index = index; dir = s.name.dir }; toward = node_in nodes head };
+}
+
+abbrev pub start_toward : List NodeId → PieceSpan → Dir → Start
+start_toward nodes s Forward = start_by nodes s s.name.index s.name.index (s.name.index + 1)
+start_toward nodes s Backward = start_by nodes s s.end (s.end - 1) (s.end - 1)
+
+-- the start of the piece
+abbrev pub start_on : List NodeId → PieceSpan → Start
+start_on nodes s = start_toward nodes s s.name.dir
+
+-- the departures that leave the node, in their order
+abbrev pub leaving : NodeId → List Start → List Departure
+leaving v starts = map (λ s. s.departure) (filter (λ s. same_node s.node v) starts)
+
+-- the starts ascend by node, and those of a node are the departures over the way, ascending by name
+pub record AreWayDepartures (M : Objects) (P : Rules) (t : WayDepartures) : Type 0 where
+  pub ascending : IsSortedByKey (λ s. s.node) node_cmp t.starts.items
+  pub exactly : (v : NodeId) → Lists (λ d. d.piece) name_cmp (IsOver M P v t.way) (leaving v t.starts.items)
