@@ -1,20 +1,24 @@
 //! The block of a way.
-ghost use Rattle.std.specs.Prelude.{◌≡◌, ◌+◌, [], map, IfOk, IsTrue};
+ghost use Rattle.std.specs.Prelude.{◌≡◌, ◌+◌, [], map, Some, IfOk, IsTrue};
 ghost use Rattle.std.specs.List.{AllByRecursion};
-ghost use Rattle.road_model.specs.Orders.{rises};
+ghost use Rattle.road_base.specs.Objects.{way_of};
+ghost use Rattle.road_model.specs.Orders.{Lists, rises, name_cmp};
 ghost use Rattle.road_model.specs.Blocks.{IsBlock};
 ghost use Rattle.road_model.specs.Format.{IsPieceForm, place_cmp};
+ghost use Rattle.way_pieces.specs.Names.{IsSpanOn};
+ghost use Rattle.way_pieces.specs.Starts.{AreWayDepartures};
 
 use crate::endings::endings_on;
 use crate::pieces::pieces_along;
-use crate::places::nodes_of;
+use crate::places::way_nodes_of;
 use crate::states::States;
-use road_base::{NoMemory, Steps, WayId};
+use road_base::{NoMemory, Steps, Way, WayId};
 use road_model::laws::{name_order, one_name};
 use road_model::{Block, Pieces, Profile, World};
 use std::alloc::Global;
 use std::sync::ledger::Ledger;
-use way_pieces::spans_of;
+use way_lines::nodes_of;
+use way_pieces::{PieceSpan, WayDepartures, spans_of};
 
 /// The block of the way: its pieces with their nodes and locations, contexts and arcs.
 /// A way that isn't visible or is no road has no pieces. Adds one step, also where no memory is found.
@@ -54,7 +58,8 @@ fn block_of<M: World, P: Profile>(
     };
     let states = States::of(alloc, world, profile, way)?;
     let endings = endings_on(alloc, &states, way)?;
-    let nodes = nodes_of(alloc, world, body)?;
+    let nodes = way_nodes_of(alloc, world, body)?;
+    let own = departures_on(alloc, world, profile, way, body, spans.as_slice())?;
     let pieces = pieces_along(
         alloc,
         world,
@@ -64,11 +69,29 @@ fn block_of<M: World, P: Profile>(
         endings.as_slice(),
         nodes.as_slice(),
         spans.as_slice(),
+        &own,
     )?;
     Ok(Block {
         way,
         pieces: Pieces::from_list(pieces),
     })
+}
+
+/// The departures over the visible way whose pieces these are.
+fn departures_on<M: World, P: Profile>(
+    alloc: Global,
+    world: &M,
+    profile: &P,
+    way: WayId,
+    body: &Way,
+    spans: &[PieceSpan],
+) -> Result<WayDepartures, NoMemory>
+    requires visible { way_of (M.objects world.now) way ≡ Some body.now }
+    requires spans { Lists (λ s. s.name) name_cmp (IsSpanOn (M.objects world.now) (P.rules profile.now) way) spans.now }
+    ensures { IfOk result (AreWayDepartures (M.objects world.now) (P.rules profile.now)) }
+{
+    let nodes = nodes_of(alloc, body)?;
+    WayDepartures::of(alloc, world, profile, way, nodes.as_slice(), spans)
 }
 
 /// A block with no pieces. Takes no memory.

@@ -2,12 +2,13 @@
 ghost use Rattle.std.specs.Prelude.{◌≡◌, length, ◌<◌, IfOk, OnOk, IfSome};
 ghost use Rattle.std.specs.List.{All, HoldsAt};
 ghost use Rattle.road_model.specs.Driving.{shut, turning_place};
+ghost use Rattle.way_pieces.specs.Starts.{AreWayDepartures};
 ghost use Rattle.expanded_graph.specs.Turning.{IsIntersection};
 
 use road_base::{NoMemory, NodeId};
 use road_model::{Profile, World};
 use std::alloc::Global;
-use way_pieces::{Departure, departures_from};
+use way_pieces::{Departure, WayDepartures, departures_with};
 
 /// A node where pieces end: whether it lets one through and round, and what leaves it.
 #[derive(Drop)]
@@ -26,15 +27,18 @@ struct NodeRules {
 }
 
 /// Where the node's intersection stands among those that are known: among the last three, or else it is put behind
-/// them. Along a way's pieces in their order each one is taken up no later than that.
+/// them. Along a way's pieces in their order each one is taken up no later than that. The departures over the way itself
+/// are known.
 pub fn intersection_at<M: World, P: Profile>(
     alloc: Global,
     world: &M,
     profile: &P,
+    own: &WayDepartures,
     known: &mut Vec<Intersection>,
     node: NodeId,
 ) -> Result<usize, NoMemory>
-    requires { All (IsIntersection (M.objects world.now) (P.rules profile.now)) known.old.items }
+    requires own { AreWayDepartures (M.objects world.now) (P.rules profile.now) own.now }
+    requires known { All (IsIntersection (M.objects world.now) (P.rules profile.now)) known.old.items }
     ensures known { OnOk result (All (IsIntersection (M.objects world.now) (P.rules profile.now)) known.new.items) }
     ensures within { IfOk result (λ at. at < length known.new.items) }
     ensures found { IfOk result (HoldsAt (λ i. i.node ≡ node) known.new.items) }
@@ -42,7 +46,7 @@ pub fn intersection_at<M: World, P: Profile>(
     if let Some(at) = recent(known.as_slice(), node) {
         return Ok(at);
     }
-    let intersection = intersection_of(alloc, world, profile, node)?;
+    let intersection = intersection_of(alloc, world, profile, own, node)?;
     let at = known.len();
     known.push(intersection)?;
     Ok(at)
@@ -67,13 +71,15 @@ fn intersection_of<M: World, P: Profile>(
     alloc: Global,
     world: &M,
     profile: &P,
+    own: &WayDepartures,
     node: NodeId,
 ) -> Result<Intersection, NoMemory>
+    requires { AreWayDepartures (M.objects world.now) (P.rules profile.now) own.now }
     ensures node { IfOk result (λ i. i.node ≡ node) }
     ensures is { IfOk result (IsIntersection (M.objects world.now) (P.rules profile.now)) }
 {
     let rules = rules_of(world, profile, node);
-    let departures = departures_from(alloc, world, profile, node)?;
+    let departures = departures_with(alloc, world, profile, node, own)?;
     Ok(Intersection {
         node,
         is_shut: rules.is_shut,

@@ -5,6 +5,7 @@ ghost use Rattle.road_model.specs.Lines.{line_of};
 ghost use Rattle.road_model.specs.Blocks.{IsPieceEntry};
 ghost use Rattle.road_model.specs.Format.{IsPieceForm};
 ghost use Rattle.way_pieces.specs.Names.{IsSpanOn};
+ghost use Rattle.way_pieces.specs.Starts.{AreWayDepartures};
 ghost use Rattle.expanded_graph.specs.Contexts.{AreEndings};
 ghost use Rattle.expanded_graph.specs.States.{AreStates};
 ghost use Rattle.expanded_graph.specs.Travel.{way_node};
@@ -17,10 +18,10 @@ use crate::states::States;
 use road_base::{NoMemory, WayId};
 use road_model::{Contexts, Piece, Places, Profile, World};
 use std::alloc::Global;
-use way_pieces::PieceSpan;
+use way_pieces::{PieceSpan, WayDepartures};
 
 /// The pieces of the way at these spans. The nodes are those of the way's line, the states those of the way, and the
-/// endings those in which contexts may end there.
+/// endings those in which contexts may end there. The departures are those over some way, best over this one.
 pub fn pieces_along<M: World, P: Profile>(
     alloc: Global,
     world: &M,
@@ -30,11 +31,13 @@ pub fn pieces_along<M: World, P: Profile>(
     endings: &[usize],
     nodes: &[WayNode],
     spans: &[PieceSpan],
+    own: &WayDepartures,
 ) -> Result<Vec<Piece>, NoMemory>
     requires states { AreStates (M.objects world.now) (P.rules profile.now) way states.now.automaton.words states.now.automaton.states states.now.facts.items }
     requires endings { AreEndings states.now.automaton states.now.facts.items way endings.now }
     requires line { nodes.now ≡ map (way_node (M.objects world.now)) (line_of (M.objects world.now) way) }
     requires short { length nodes.now ≤ 65535 }
+    requires own { AreWayDepartures (M.objects world.now) (P.rules profile.now) own.now }
     requires spans { All (IsSpanOn (M.objects world.now) (P.rules profile.now) way) spans.now }
     ensures names { IfOk result (λ v. map (λ p. p.name) v.items ≡ map (λ s. s.name) spans.now) }
     ensures entries { IfOk result (λ v. All (IsPieceEntry (M.objects world.now) (P.rules profile.now) way) v.items) }
@@ -44,7 +47,7 @@ pub fn pieces_along<M: World, P: Profile>(
     let mut pieces = Vec::with_capacity(alloc, spans.len())?;
     for span in spans {
         let piece = piece_at(
-            alloc, world, profile, way, states, endings, nodes, &mut known, *span,
+            alloc, world, profile, way, states, endings, nodes, own, &mut known, *span,
         )?;
         pieces.push(piece)?;
     }
@@ -60,6 +63,7 @@ fn piece_at<M: World, P: Profile>(
     states: &States,
     endings: &[usize],
     nodes: &[WayNode],
+    own: &WayDepartures,
     known: &mut Vec<Intersection>,
     span: PieceSpan,
 ) -> Result<Piece, NoMemory>
@@ -67,6 +71,7 @@ fn piece_at<M: World, P: Profile>(
     requires endings { AreEndings states.now.automaton states.now.facts.items way endings.now }
     requires line { nodes.now ≡ map (way_node (M.objects world.now)) (line_of (M.objects world.now) way) }
     requires short { length nodes.now ≤ 65535 }
+    requires own { AreWayDepartures (M.objects world.now) (P.rules profile.now) own.now }
     requires known { All (IsIntersection (M.objects world.now) (P.rules profile.now)) known.old.items }
     requires span { IsSpanOn (M.objects world.now) (P.rules profile.now) way span }
     ensures known { OnOk result (All (IsIntersection (M.objects world.now) (P.rules profile.now)) known.new.items) }
@@ -76,7 +81,7 @@ fn piece_at<M: World, P: Profile>(
 {
     let places = places_of(alloc, nodes, span)?;
     let arrival = arrival_of(world, nodes, span);
-    let at = intersection_at(alloc, world, profile, known, arrival.at)?;
+    let at = intersection_at(alloc, world, profile, own, known, arrival.at)?;
     let contexts = contexts_of(
         alloc,
         world,

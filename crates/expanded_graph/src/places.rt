@@ -27,7 +27,7 @@ pub struct Arrival {
 }
 
 /// The nodes of the way's line.
-pub fn nodes_of<M: World>(alloc: Global, world: &M, way: &Way) -> Result<Vec<WayNode>, NoMemory>
+pub fn way_nodes_of<M: World>(alloc: Global, world: &M, way: &Way) -> Result<Vec<WayNode>, NoMemory>
     ensures nodes { IfOk result (λ v. v.items ≡ map (way_node (M.objects world.now)) (changes way.now.refs)) }
     ensures short { IfOk result (λ v. length v.items ≤ 65535) }
 {

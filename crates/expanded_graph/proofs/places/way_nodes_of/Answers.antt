@@ -3,7 +3,7 @@ use Rattle.std.proofs.Common.{◌≡◌, length, ap, ◌∙◌, arith}
 use Rattle.std.proofs.lemmas.List.{length-map}
 use Rattle.std.proofs.lemmas.Iterator.Consumers.{YieldsList-from_first, YieldsList-end}
 use Rattle.way_lines.specs.Left.{nodes_left}
-use Rattle.expanded_graph.proofs.places.nodes_of.Goals as goal
+use Rattle.expanded_graph.proofs.places.way_nodes_of.Goals as goal
 
 pub returns-clause-short : goal.returns-clause-short
 returns-clause-short g c =
