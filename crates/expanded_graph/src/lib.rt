@@ -2,11 +2,12 @@
 //!
 //! `build_block` looks up each node of the way's line once and cuts the line into pieces (`way_pieces::spans_of`). For
 //! each junction where pieces end it asks once what leaves (`way_pieces::departures_with`), since the pieces of both
-//! directions that end there are near each other in order; what leaves over the way itself is known from its pieces. The words of the restrictions near the way make an automaton
-//! (`turn_automata`), of whose states each is looked at once: those whose steps may be driven and end a piece of the way
-//! stand for its contexts of two pieces or more, and the state after one more step tells whether there is an arc, and
-//! where it leads. Each piece looks through the states that end on the way. Where no restriction is near there is the
-//! state of no steps alone. All else takes time and memory of the order of the block.
+//! directions that end there are near each other in order; what leaves over the way itself is known from its pieces.
+//! The words of the restrictions near the way make an automaton (`turn_automata`), of whose states each is looked at
+//! once: those whose steps may be driven and end a piece of the way stand for its contexts of two pieces or more, and
+//! the state after one more step tells whether there is an arc, and where it leads. Each piece looks through the
+//! states that end on the way. Where no restriction is near there is the state of no steps alone. All else takes time
+//! and memory of the order of the block.
 #![tactic(auto)]
 
 mod arcs;

@@ -21,7 +21,7 @@ use std::alloc::Global;
 use way_pieces::{PieceSpan, WayDepartures};
 
 /// The pieces of the way at these spans. The nodes are those of the way's line, the states those of the way, and the
-/// endings those in which contexts may end there. The departures are those over some way, best over this one.
+/// endings those in which contexts may end there; `own` has the departures over it.
 pub fn pieces_along<M: World, P: Profile>(
     alloc: Global,
     world: &M,

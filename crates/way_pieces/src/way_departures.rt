@@ -33,16 +33,16 @@ impl WayDepartures {
     /// time of the order of n log n.
     pub fn of<M: World, P: Profile>(
         alloc: Global,
-        _world: &M,
-        _profile: &P,
+        world: &M,
+        profile: &P,
         way: WayId,
         nodes: &[NodeId],
         spans: &[PieceSpan],
     ) -> Result<WayDepartures, NoMemory>
-        requires line { nodes.now ≡ line_of (M.objects _world.now) way }
-        requires spans { Lists (λ s. s.name) name_cmp (IsSpanOn (M.objects _world.now) (P.rules _profile.now) way) spans.now }
+        requires line { nodes.now ≡ line_of (M.objects world.now) way }
+        requires spans { Lists (λ s. s.name) name_cmp (IsSpanOn (M.objects world.now) (P.rules profile.now) way) spans.now }
         ensures way { IfOk result (λ t. t.way ≡ way) }
-        ensures departures { IfOk result (AreWayDepartures (M.objects _world.now) (P.rules _profile.now)) }
+        ensures departures { IfOk result (AreWayDepartures (M.objects world.now) (P.rules profile.now)) }
     {
         name_order();
         number_order();

@@ -8,12 +8,12 @@ use Rattle.way_pieces.proofs.Starting.{all_within, leaving_kept, starts_listed}
 use Rattle.way_pieces.proofs.way_departures.WayDepartures.of.Goals as goal
 
 pub starts_of-requires : goal.starts_of-requires
-starts_of-requires g c = all_within (g.M.World.objects c.args._world.now) (g.P.Profile.rules c.args._profile.now) c.args.way c.args.nodes.now c.requires.line c.args.spans.now c.requires.spans
+starts_of-requires g c = all_within (g.M.World.objects c.args.world.now) (g.P.Profile.rules c.args.profile.now) c.args.way c.args.nodes.now c.requires.line c.args.spans.now c.requires.spans
 
 pub returns-clause-departures : goal.returns-clause-departures
 returns-clause-departures g c =
-    let M = g.M.World.objects c.args._world.now in
-    let P = g.P.Profile.rules c.args._profile.now in
+    let M = g.M.World.objects c.args.world.now in
+    let P = g.P.Profile.rules c.args.profile.now in
     let nodes = c.args.nodes.now in
     let spans = c.args.spans.now in
     record {
