@@ -1,9 +1,15 @@
 //! The key that decides on access.
 ghost use Rattle.std.specs.Prelude.{◌≡◌};
+ghost use Rattle.std.specs.Prelude.{true, false};
+ghost use Rattle.std.specs.List.{list_any};
 ghost use Rattle.access_profile.specs.Deciding.{deciding, deciding_keys, full_key};
+ghost use Rattle.access_profile.specs.FirstLetters.{may_be_access_key, may_have_access_key};
 
-use road_base::{Dir, Tags};
+use road_base::{Dir, Tags, Text};
 use road_model::AccessKey;
+
+/// So many tags are gone through before the keys are searched one by one. Most ways have fewer.
+const FEW: usize = 32;
 
 /// The key that decides on access to a way in the direction, and the direction that the key names, if it names one:
 /// the first that the tags carry of `motorcar`, `motor_vehicle`, `vehicle` and `access`, each first with the ending
@@ -12,10 +18,38 @@ use road_model::AccessKey;
 pub fn deciding(tags: &Tags, dir: Dir) -> Option<(AccessKey, Option<Dir>)>
     ensures { result ≡ deciding tags.now dir }
 {
+    if lacks_access_keys(tags.items()) {
+        return None;
+    }
     deciding_keys(dir)
         .iter()
         .copied()
         .find(|key| tags.get(full_key(key.0, key.1)).is_some())
+}
+
+/// Whether these are few tags, and none of their keys begins with the letter of an access key.
+fn lacks_access_keys(tags: &[(Text, Text)]) -> bool
+    ensures { result ≡ true → may_have_access_key tags.now ≡ false }
+{
+    if tags.len() > FEW {
+        return false;
+    }
+    for tag in tags {
+        if may_be_access_key(tag.0.as_str().as_bytes()) {
+            return false;
+        }
+    }
+    true
+}
+
+/// Whether the key begins with the letter of an access key.
+fn may_be_access_key(key: &[u8]) -> bool
+    ensures { result ≡ may_be_access_key key.now }
+{
+    match key {
+        [first, ..] => *first == b'a' || *first == b'm' || *first == b'v',
+        [] => false,
+    }
 }
 
 /// The keys that may decide in the direction, in their order.

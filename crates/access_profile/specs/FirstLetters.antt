@@ -1,0 +1,14 @@
+-- The letters with which access keys begin.
+use Rattle.std.specs.Prelude.{ℕ, List, [], ◌∷◌, Bool, false, ◌||◌}
+use Rattle.std.specs.Bool.{◌==◌}
+use Rattle.std.specs.List.{list_any}
+use Rattle.road_base.specs.Tags.{TagList}
+
+-- the key begins with a, m or v, as `access`, `motorcar`, `motor_vehicle` and `vehicle` do
+abbrev pub may_be_access_key : List ℕ → Bool
+may_be_access_key [] = false
+may_be_access_key (b ∷ bs) = (b == 97 || b == 109) || b == 118
+
+-- some key of the tags does
+abbrev pub may_have_access_key : TagList → Bool
+may_have_access_key tags = list_any (λ t. may_be_access_key t.0) tags
