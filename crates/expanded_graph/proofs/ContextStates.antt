@@ -1,5 +1,5 @@
 -- Contexts of two pieces or more and the states in which they end determine each other.
-use Rattle.std.proofs.Common.{◌≡◌, ℕ, ◌+◌, ◌≤◌, ◌↔◌, List, [], ◌∷◌, ◌++◌, length, map, inl, inr, refl, sym, ap, ◌∙◌, subst, arith, Some, IsTrue, slice_get, Contains, length-append}
+use Rattle.std.proofs.Common.{◌≡◌, ℕ, ◌≤◌, ◌↔◌, List, [], ◌∷◌, ◌++◌, length, map, inl, inr, refl, sym, ap, ◌∙◌, subst, arith, Some, IsTrue, slice_get, Contains, length-append}
 use Rattle.std.specs.Cmp.{IsTotalOrder}
 use Rattle.std.proofs.lemmas.Option.{slice_get_within}
 use Rattle.road_base.specs.declared.ids.NodeId.{NodeId}
@@ -28,6 +28,7 @@ use Rattle.expanded_graph.proofs.Members.{In, in_from_contains, contains_from_in
 use Rattle.expanded_graph.proofs.Ends.{spell_ends, last_step}
 use Rattle.expanded_graph.proofs.LastSteps.{last_drives}
 use Rattle.expanded_graph.proofs.Runs.{cons_not_nil, same_ends, some_at, one_at, turn_ends_long, every_left, context_pieces, one_turn}
+use Rattle.expanded_graph.proofs.Between.{between_longer}
 use Rattle.expanded_graph.proofs.Ascending.{lists_unique}
 use Rattle.expanded_graph.proofs.Stopping.{begins_from, begins_to}
 
@@ -53,12 +54,8 @@ module _ (M : Objects) (P : Rules) (laws : StepLaws M P) (m : Machine) (facts : 
   all_near : (q : List Step) (first : Step) (middle : List Step) (last : Step) → q ≡ first ∷ (middle ++ last ∷ []) → last.way ≡ p.way → BeginsWord M P q → (s : Step) → Contains q s → IsNear M P p.way s.way
   all_near q first middle last e on b s has =
       let u = q ++ b.next ∷ b.more in
-      let l = length-append q (b.next ∷ b.more) in
-      let k = length-append middle (last ∷ []) in
-      let n : length q ≡ length (middle ++ last ∷ []) + 1 = ap length e ∙ omega arith in
-      let final : In last q = subst (In last) (sym e) (inr (in_end middle last [])) in
-      Shares u b.word (omega arith)
-      (record { step = last; among = contains_from_in u last (in_left q (b.next ∷ b.more) last final); on = on })
+      Shares u b.word
+      (between_longer p.way q first middle last b.next b.more e on)
       (record { step = s; among = contains_from_in u s (in_left q (b.next ∷ b.more) s (in_from_contains q s has)); on = refl })
 
   -- ---- from a state to its context

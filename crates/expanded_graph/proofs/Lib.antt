@@ -2,6 +2,7 @@ pub mod Members
 pub mod Ascending
 pub mod Ends
 pub mod Runs
+pub mod Between
 pub mod WordsNear
 pub mod Stopping
 pub mod LastSteps

@@ -22,8 +22,9 @@ use Rattle.restrictions.specs.declared.word_list.Word.{Word}
 use Rattle.restrictions.specs.declared.relation_words.WordsError.{WordsError}
 use Rattle.restrictions.specs.declared.relation_words.WordsError.TheVariants.{Unusable as OfNoUse}
 use Rattle.restrictions.specs.Words.{IsRestriction, IsWordOf, SaysCause}
-use Rattle.expanded_graph.specs.Near.{IsNear, Itself, Shares, HasStepOn, AreWordsNear}
-use Rattle.expanded_graph.specs.Known.{AreWordsOf, GainsWords, GoesOver, IsOn}
+use Rattle.expanded_graph.specs.Near.{IsNear, Itself, Shares, HasStepOn, HasStepBetween, AreWordsNear}
+use Rattle.expanded_graph.specs.Known.{AreWordsOf, GainsWords, IsOn}
+use Rattle.expanded_graph.proofs.Between.{on_from_between}
 
 module _ {X : Type 0} (xs : List X) where
   pub among_more : (i : ℕ) (d : X) → i < length xs → (x : X) → Contains (take (i + 1) xs) x → Contains (take i xs) x ⊎ (get_or xs i d ≡ x)
@@ -90,7 +91,7 @@ module _ (M : Objects) (P : Rules) where
       (members : (r : RelationId) (only : Bool) (binding : ℕ) (u : List Step) (s : Step) → IsWord M P r only binding u → Contains u s → HasMember M r (WayKey s.way))
       (own : List RelationId) (owns : Lists (λ r. r) relation_cmp (λ r. HasMember M r (WayKey w)) own)
       (words : List Word) (are : AreWordsOf M P own words)
-      (ways : List WayId) (itself : Contains ways w) (shared : (u : Word) (v : WayId) → Contains words u → GoesOver u v → Contains ways v)
+      (ways : List WayId) (itself : Contains ways w) (shared : (u : Word) (v : WayId) → Contains words u → HasStepBetween w u.steps → HasStepOn v u.steps → Contains ways v)
       (relations : List RelationId) (all : (v : WayId) (r : RelationId) → Contains ways v → IsOn M v r → Contains relations r)
       (near : List Word) (of : AreWordsOf M P relations near) where
     on_way : (u : Word) (v : WayId) → IsWord M P u.relation u.only u.binding u.steps → HasStepOn v u.steps → IsOn M v u.relation
@@ -98,10 +99,10 @@ module _ (M : Objects) (P : Rules) where
 
     near_listed : (v : WayId) → IsNear M P w v → Contains ways v
     near_listed v (Itself e) = subst (Contains ways) (sym e) itself
-    near_listed v (Shares steps any long here there) =
+    near_listed v (Shares steps any between there) =
         let r = any.relation in
         let u : Word = record { relation = any.relation; only = any.only; binding = any.binding; steps = steps } in
-        shared u v (are.all u (owns.complete r (on_way u w any.word here)) (record { of = refl; is = any.word })) (record { long = long; step = there.step; among = there.among; on = there.on })
+        shared u v (are.all u (owns.complete r (on_way u w any.word (on_from_between w steps between))) (record { of = refl; is = any.word })) between there
 
     pub gathered : AreWordsNear M P w near
     gathered = record {

@@ -37,13 +37,6 @@ pub record GainsWords (M : Objects) (P : Rules) (r : RelationId) (old new : List
   pub appended : new ≡ old ++ more
   pub exactly : (u : Word) → Contains more u ↔ IsWordOf M P r u
 
--- the word is of three steps or more, one of them on the way
-pub record GoesOver (u : Word) (v : WayId) : Type 0 where
-  pub long : 3 ≤ length u.steps
-  pub step : Step
-  pub among : Contains u.steps step
-  pub on : step.way ≡ v
-
 -- the way is a member of the restriction
 abbrev pub IsOn : Objects → WayId → RelationId → Type 0
 IsOn M v r = HasMember M r (WayKey v)

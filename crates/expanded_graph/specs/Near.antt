@@ -1,5 +1,5 @@
 -- The ways and words that matter to what may follow on a way.
-use Rattle.std.specs.Prelude.{◌≡◌, ◌≤◌, List, length, Contains}
+use Rattle.std.specs.Prelude.{◌≡◌, List, [], ◌∷◌, ◌++◌, Contains}
 use Rattle.road_base.specs.declared.ids.WayId.{WayId}
 use Rattle.road_base.specs.declared.ids.Step.{Step}
 use Rattle.road_base.specs.Objects.{Objects}
@@ -14,11 +14,19 @@ pub record HasStepOn (v : WayId) (u : List Step) : Type 0 where
   pub among : Contains u step
   pub on : step.way ≡ v
 
--- The way w itself, or a way that shares a word of three steps or more with it: the pieces of a context that ends on w lie
--- on such ways.
+-- a step between the first and the last lies on the way
+pub record HasStepBetween (w : WayId) (u : List Step) : Type 0 where
+  pub first : Step
+  pub middle : List Step
+  pub last : Step
+  pub is : u ≡ first ∷ (middle ++ last ∷ [])
+  pub on : HasStepOn w middle
+
+-- The way w itself, or a way on which a word has a step that has a step on w between its first and its last: the pieces of
+-- a context that ends on w lie on such ways, since the context of several pieces begins a word and the word goes on.
 pub data IsNear (M : Objects) (P : Rules) (w v : WayId) : Type 0 where
   Itself : v ≡ w → IsNear M P w v
-  Shares : (u : List Step) → AnyWord M P u → 3 ≤ length u → HasStepOn w u → HasStepOn v u → IsNear M P w v
+  Shares : (u : List Step) → AnyWord M P u → HasStepBetween w u → HasStepOn v u → IsNear M P w v
 
 -- words of the map, and among them all that have a step on a way near w
 pub record AreWordsNear (M : Objects) (P : Rules) (w : WayId) (words : List Word) : Type 0 where

@@ -1,22 +1,22 @@
 //! The words that matter on a way.
-ghost use Rattle.std.specs.Prelude.{◌≡◌, ◌++◌, ◌↔◌, Contains, IfOk, OnOk};
+ghost use Rattle.std.specs.Prelude.{◌≡◌, ◌++◌, ◌↔◌, Contains, IfOk, IsTrue, OnOk};
 ghost use Rattle.std.specs.List.{All};
 ghost use Rattle.road_base.specs.declared.ids.WayId.{WayId};
 ghost use Rattle.road_base.specs.declared.ids.RelationId.{RelationId};
 ghost use Rattle.restrictions.specs.declared.word_list.Word.{Word};
 ghost use Rattle.restrictions.specs.Words.{IsRestriction};
-ghost use Rattle.expanded_graph.specs.Near.{AreWordsNear};
-ghost use Rattle.expanded_graph.specs.Known.{AreWordsOf, GainsWords, GoesOver, IsOn};
+ghost use Rattle.expanded_graph.specs.Near.{AreWordsNear, HasStepBetween, HasStepOn};
+ghost use Rattle.expanded_graph.specs.Known.{AreWordsOf, GainsWords, IsOn};
 
 use restrictions::{Word, WordList, WordsError, words};
-use road_base::{NoMemory, RelationId, WayId};
+use road_base::{NoMemory, RelationId, Step, WayId};
 use road_model::laws::words_on_ways;
 use road_model::{Profile, World};
 use std::alloc::Global;
 
-/// Words of the map, among them all that have a step on a way near this one: the way itself, or one that shares a word of
-/// three steps or more with it. Takes the time of the words that it lists, and once more of those of the way's own
-/// restrictions.
+/// Words of the map, among them all that have a step on a way near this one: the way itself, or one on which a word has a
+/// step that has a step on this way between its first and its last. Takes the time of the words that it lists, and once
+/// more of those of the way's own restrictions.
 pub fn words_near<M: World, P: Profile>(
     alloc: Global,
     world: &M,
@@ -79,28 +79,44 @@ fn append(list: &mut Vec<Word>, more: &[Word]) -> Result<(), NoMemory>
     Ok(())
 }
 
-/// The way, and those on which its words of three steps or more have a step.
+/// The way, and those on which its words have a step that have a step on the way between their first and their last.
 fn ways_near(alloc: Global, words: &[Word], way: WayId) -> Result<Vec<WayId>, NoMemory>
     ensures own { IfOk result (λ v. Contains v.items way) }
-    ensures shared { IfOk result (λ v. (u : Word) (w : WayId) → Contains words.now u → GoesOver u w → Contains v.items w) }
+    ensures shared { IfOk result (λ v. (u : Word) (w : WayId) → Contains words.now u → HasStepBetween way u.steps → HasStepOn w u.steps → Contains v.items w) }
 {
     let mut ways = Vec::new(alloc);
     ways.push(way)?;
     for word in words {
-        add_ways(&mut ways, word)?;
+        let steps = word.steps.items();
+        if has_step_between(steps, way) {
+            add_ways(&mut ways, steps)?;
+        }
     }
     Ok(ways)
 }
 
-/// Adds the ways of a word of three steps or more, each once for the steps on it that follow each other.
-fn add_ways(ways: &mut Vec<WayId>, word: &Word) -> Result<(), NoMemory>
-    ensures kept { OnOk result ((w : WayId) → Contains ways.old.items w → Contains ways.new.items w) }
-    ensures shared { OnOk result ((w : WayId) → GoesOver word.now w → Contains ways.new.items w) }
+/// Whether a step between the first and the last lies on the way.
+fn has_step_between(steps: &[Step], way: WayId) -> bool
+    ensures { IsTrue result ↔ HasStepBetween way steps.now }
 {
-    let steps = word.steps.items();
-    if steps.len() < 3 {
-        return Ok(());
+    match steps {
+        [_, middle @ .., _] => has_step_on(middle, way),
+        _ => false,
     }
+}
+
+/// Whether a step lies on the way.
+fn has_step_on(steps: &[Step], way: WayId) -> bool
+    ensures { IsTrue result ↔ HasStepOn way steps.now }
+{
+    steps.iter().any(|step| step.way == way)
+}
+
+/// Adds the ways of the steps, each once for the steps on it that follow each other.
+fn add_ways(ways: &mut Vec<WayId>, steps: &[Step]) -> Result<(), NoMemory>
+    ensures kept { OnOk result ((w : WayId) → Contains ways.old.items w → Contains ways.new.items w) }
+    ensures there { OnOk result ((w : WayId) → HasStepOn w steps.now → Contains ways.new.items w) }
+{
     for step in steps {
         add_way(ways, step.way)?;
     }
