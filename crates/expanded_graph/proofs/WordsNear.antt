@@ -51,6 +51,15 @@ same_numbers = record { refl = λ x. int_eq_equiv.refl x.0; symm = λ x y. int_e
 pub same_number_is : (a b : RelationId) → same_number a b ≡ true → a ≡ b
 same_number_is a b e = ap (λ n. record { 0 = n }) ((Decides-int_eq a.0 b.0).0 e)
 
+abbrev pub same_way : WayId → WayId → Bool
+same_way a b = int_eq a.0 b.0
+
+pub same_ways : IsEquivalence same_way
+same_ways = record { refl = λ x. int_eq_equiv.refl x.0; symm = λ x y. int_eq_equiv.symm x.0 y.0; congr = λ x y z. int_eq_equiv.congr x.0 y.0 z.0 }
+
+pub same_way_is : (a b : WayId) → same_way a b ≡ true → a ≡ b
+same_way_is a b e = ap (λ n. record { 0 = n }) ((Decides-int_eq a.0 b.0).0 e)
+
 pub restrict : (M : Objects) (v : WayId) (r : RelationId) → IsOn M v r → IsRestriction M r
 restrict M v r h = record { body = h.body; visible = h.is; restriction = h.restriction }
 

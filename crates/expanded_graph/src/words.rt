@@ -79,7 +79,8 @@ fn append(list: &mut Vec<Word>, more: &[Word]) -> Result<(), NoMemory>
     Ok(())
 }
 
-/// The way, and those on which its words have a step that have a step on the way between their first and their last.
+/// The way, and those on which its words have a step that have a step on the way between their first and their last, each
+/// once.
 fn ways_near(alloc: Global, words: &[Word], way: WayId) -> Result<Vec<WayId>, NoMemory>
     ensures own { IfOk result (λ v. Contains v.items way) }
     ensures shared { IfOk result (λ v. (u : Word) (w : WayId) → Contains words.now u → HasStepBetween way u.steps → HasStepOn w u.steps → Contains v.items w) }
@@ -92,6 +93,7 @@ fn ways_near(alloc: Global, words: &[Word], way: WayId) -> Result<Vec<WayId>, No
             add_ways(&mut ways, steps)?;
         }
     }
+    leave_ways_once(&mut ways);
     Ok(ways)
 }
 
@@ -133,6 +135,14 @@ fn add_way(ways: &mut Vec<WayId>, way: WayId) -> Result<(), NoMemory>
     }
     ways.push(way)?;
     Ok(())
+}
+
+/// Each way once, ascending.
+fn leave_ways_once(ways: &mut Vec<WayId>)
+    ensures { (w : WayId) → Contains ways.new.items w ↔ Contains ways.old.items w }
+{
+    ways.sort_unstable();
+    ways.dedup();
 }
 
 /// The restrictions of which one of the ways is a member, each once.
