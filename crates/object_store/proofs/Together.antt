@@ -29,7 +29,7 @@ of_nothing : (events : List Event) (k : Key) → entries_for empty events k ≡ 
 of_nothing events k = rw (get-empty key_cmp k) refl
 
 module _ (total : IsTotalOrder key_cmp) (exact : IsAntisymmetric key_cmp) where
-  own_entry : (k : Key) (xs : List Event) → IsInOrder xs → option_to_list (get (objects_of xs) k) ≡ entries_in xs k
+  pub own_entry : (k : Key) (xs : List Event) → IsInOrder xs → option_to_list (get (objects_of xs) k) ≡ entries_in xs k
   own_entry k xs h = ap option_to_list (get-from_entries total (map pair_of xs) k) ∙ own total exact k xs h
 
   -- those that stand leave of a key what all leave

@@ -6,6 +6,7 @@
 #![tactic(auto)]
 
 mod changes;
+mod node_parts;
 mod objects;
 mod standing;
 #[cfg(test)]

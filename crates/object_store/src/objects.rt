@@ -7,7 +7,8 @@ ghost use Rattle.road_base.specs.Objects.{Objects as ObjectMap};
 ghost use Rattle.road_model.specs.Links.{AreChanged};
 
 use crate::changes::changed_keys;
-use crate::standing::{copies, event_of, settle, settle_with, standing};
+use crate::node_parts::NodeParts;
+use crate::standing::{copies, event_near, event_of, settle, settle_with, standing};
 use road_base::laws::key_order;
 use road_base::{Event, Key, Keys, NoMemory};
 use std::alloc::Global;
@@ -17,6 +18,7 @@ use std::marker::Model;
 #[derive(Drop)]
 pub struct Objects {
     list: Vec<Event>,
+    parts: NodeParts,
 }
 
 impl Model for Objects {
@@ -43,6 +45,7 @@ impl Objects {
     {
         Objects {
             list: Vec::new(alloc),
+            parts: NodeParts::new(alloc),
         }
     }
 
@@ -52,7 +55,8 @@ impl Objects {
     {
         let mut list = events;
         settle(&mut list)?;
-        Ok(Objects { list })
+        let parts = NodeParts::of(*list.allocator(), list.as_slice());
+        Ok(Objects { list, parts })
     }
 
     /// The key's entry, as an event. None exactly where the key has no entry.
@@ -60,7 +64,10 @@ impl Objects {
         ensures entry { option_map entry_of (option_copied result) ≡ get self.now key }
         ensures key { IfSome (option_copied result) (λ e. e.key ≡ key) }
     {
-        event_of(self.list.as_slice(), key)
+        match self.parts.part_of(key) {
+            Some((from, to)) => event_near(self.list.as_slice(), key, from, to),
+            None => event_of(self.list.as_slice(), key),
+        }
     }
 
     /// All entries as events, in key order.
@@ -97,6 +104,7 @@ impl Objects {
         let events = standing(alloc, events)?;
         let keys = changed_keys(alloc, self.list.as_slice(), events.as_slice())?;
         settle_with(&mut self.list, events)?;
+        self.parts = NodeParts::of(alloc, self.list.as_slice());
         Ok(keys)
     }
 
@@ -104,8 +112,10 @@ impl Objects {
     pub fn copy(&self) -> Result<Objects, NoMemory>
         ensures { IfOk result (λ o. o ≡ self.now) }
     {
-        let list = copies(*self.list.allocator(), self.list.as_slice())?;
-        Ok(Objects { list })
+        let alloc = *self.list.allocator();
+        let list = copies(alloc, self.list.as_slice())?;
+        let parts = NodeParts::of(alloc, list.as_slice());
+        Ok(Objects { list, parts })
     }
 
     /// Copies of all entries as events, in key order.
