@@ -11,6 +11,7 @@ pub mod StatesKnown
 pub mod Passing
 pub mod Chosen
 pub mod Leading
+pub mod Learning
 pub mod Ending
 pub mod Naming
 pub mod ContextStates

@@ -7,8 +7,10 @@ ghost use Rattle.road_model.specs.Blocks.{IsBlock};
 ghost use Rattle.road_model.specs.Format.{IsPieceForm, place_cmp};
 ghost use Rattle.way_pieces.specs.Names.{IsSpanOn};
 ghost use Rattle.way_pieces.specs.Starts.{AreWayDepartures};
+ghost use Rattle.expanded_graph.specs.Turning.{AreIntersections};
 
 use crate::endings::endings_on;
+use crate::intersections::Intersections;
 use crate::pieces::pieces_along;
 use crate::places::way_nodes_of;
 use crate::states::States;
@@ -33,8 +35,28 @@ pub fn build_block<M: World, P: Profile, L: Ledger>(
     ensures form { IfOk result (λ b. AllByRecursion IsPieceForm b.pieces × IsTrue (rises place_cmp (map (λ p. p.name) b.pieces))) }
     ensures tick { steps.new ≡ steps.old + 1 }
 {
+    let mut known = Intersections::new(alloc);
+    build_block_with(alloc, world, profile, &mut known, way, steps)
+}
+
+/// The same as `build_block`, with what is known of nodes from earlier calls for the same world and profile, to which it
+/// adds what it learns, also where no memory is found.
+pub fn build_block_with<M: World, P: Profile, L: Ledger>(
+    alloc: Global,
+    world: &M,
+    profile: &P,
+    known: &mut Intersections,
+    way: WayId,
+    steps: &mut Steps<L>,
+) -> Result<Block, NoMemory>
+    requires { AreIntersections (M.objects world.now) (P.rules profile.now) known.old }
+    ensures known { AreIntersections (M.objects world.now) (P.rules profile.now) known.new }
+    ensures block { IfOk result (IsBlock (M.objects world.now) (P.rules profile.now) way) }
+    ensures form { IfOk result (λ b. AllByRecursion IsPieceForm b.pieces × IsTrue (rises place_cmp (map (λ p. p.name) b.pieces))) }
+    ensures tick { steps.new ≡ steps.old + 1 }
+{
     steps.tick();
-    block_of(alloc, world, profile, way)
+    block_of(alloc, world, profile, known, way)
 }
 
 /// The same, without the count of steps.
@@ -42,8 +64,11 @@ fn block_of<M: World, P: Profile>(
     alloc: Global,
     world: &M,
     profile: &P,
+    known: &mut Intersections,
     way: WayId,
 ) -> Result<Block, NoMemory>
+    requires { AreIntersections (M.objects world.now) (P.rules profile.now) known.old }
+    ensures known { AreIntersections (M.objects world.now) (P.rules profile.now) known.new }
     ensures block { IfOk result (IsBlock (M.objects world.now) (P.rules profile.now) way) }
     ensures form { IfOk result (λ b. AllByRecursion IsPieceForm b.pieces × IsTrue (rises place_cmp (map (λ p. p.name) b.pieces))) }
 {
@@ -70,6 +95,7 @@ fn block_of<M: World, P: Profile>(
         nodes.as_slice(),
         spans.as_slice(),
         &own,
+        known,
     )?;
     Ok(Block {
         way,

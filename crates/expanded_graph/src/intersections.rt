@@ -1,13 +1,17 @@
 //! Nodes where pieces end, with what is to be known of them.
-ghost use Rattle.std.specs.Prelude.{◌≡◌, length, ◌<◌, IfOk, OnOk, IfSome};
-ghost use Rattle.std.specs.List.{All, HoldsAt};
+ghost use Rattle.std.specs.Prelude.{◌≡◌, IfOk, OnOk, Some};
+ghost use Rattle.std.specs.BTreeMap.{ContainsKey, get};
+ghost use Rattle.road_base.specs.Objects.{Objects};
+ghost use Rattle.road_model.specs.Rules.{Rules};
 ghost use Rattle.road_model.specs.Driving.{shut, turning_place};
+ghost use Rattle.road_model.specs.Orders.{node_cmp};
 ghost use Rattle.way_pieces.specs.Starts.{AreWayDepartures};
-ghost use Rattle.expanded_graph.specs.Turning.{IsIntersection};
+ghost use Rattle.expanded_graph.specs.Turning.{IsIntersection, AreIntersections};
 
 use road_base::{NoMemory, NodeId};
 use road_model::{Profile, World};
 use std::alloc::Global;
+use std::collections::BTreeMap;
 use way_pieces::{Departure, WayDepartures, departures_with};
 
 /// A node where pieces end: whether it lets one through and round, and what leaves it.
@@ -19,6 +23,32 @@ pub struct Intersection {
     pub departures: Vec<Departure>,
 }
 
+/// What is known of the nodes asked for so far, in one world and for one profile. A look-up takes the logarithm of their
+/// number.
+#[derive(Drop)]
+pub struct Intersections {
+    by_node: BTreeMap<NodeId, Intersection>,
+}
+
+impl Intersections {
+    /// Of no nodes. Takes no memory.
+    pub fn new(alloc: Global) -> Intersections
+        ensures { (M : Objects) (P : Rules) → AreIntersections M P result }
+    {
+        Intersections {
+            by_node: BTreeMap::new(alloc),
+        }
+    }
+
+    /// What is known of the node, which was learnt.
+    pub(crate) fn at(&self, node: NodeId) -> &Intersection
+        requires { ContainsKey node_cmp self.now.by_node node }
+        ensures { get node_cmp self.now.by_node node ≡ Some result.now }
+    {
+        self.by_node.get(&node).unwrap()
+    }
+}
+
 /// What a node's tags say to one who comes there.
 #[derive(Clone, Copy, Debug)]
 struct NodeRules {
@@ -26,44 +56,26 @@ struct NodeRules {
     is_turning_place: bool,
 }
 
-/// Where the node's intersection stands among those that are known: among the last three, or else it is put behind
-/// them. Along a way's pieces in their order each one is taken up no later than that. The departures over the way itself
-/// are known.
-pub fn intersection_at<M: World, P: Profile>(
+/// Learns what is to be known of the node, if it isn't known yet. The departures over the way itself are known.
+pub fn learn<M: World, P: Profile>(
     alloc: Global,
     world: &M,
     profile: &P,
     own: &WayDepartures,
-    known: &mut Vec<Intersection>,
+    known: &mut Intersections,
     node: NodeId,
-) -> Result<usize, NoMemory>
+) -> Result<(), NoMemory>
     requires own { AreWayDepartures (M.objects world.now) (P.rules profile.now) own.now }
-    requires known { All (IsIntersection (M.objects world.now) (P.rules profile.now)) known.old.items }
-    ensures known { OnOk result (All (IsIntersection (M.objects world.now) (P.rules profile.now)) known.new.items) }
-    ensures within { IfOk result (λ at. at < length known.new.items) }
-    ensures found { IfOk result (HoldsAt (λ i. i.node ≡ node) known.new.items) }
+    requires known { AreIntersections (M.objects world.now) (P.rules profile.now) known.old }
+    ensures known { AreIntersections (M.objects world.now) (P.rules profile.now) known.new }
+    ensures there { OnOk result (ContainsKey node_cmp known.new.by_node node) }
 {
-    if let Some(at) = recent(known.as_slice(), node) {
-        return Ok(at);
+    if known.by_node.contains_key(&node) {
+        return Ok(());
     }
     let intersection = intersection_of(alloc, world, profile, own, node)?;
-    let at = known.len();
-    known.push(intersection)?;
-    Ok(at)
-}
-
-/// Where the node stands among the last three.
-fn recent(known: &[Intersection], node: NodeId) -> Option<usize>
-    ensures within { IfSome result (λ at. at < length known.now) }
-    ensures found { IfSome result (HoldsAt (λ i. i.node ≡ node) known.now) }
-{
-    let first = known.len().saturating_sub(3);
-    for at in first..known.len() {
-        if known[at].node == node {
-            return Some(at);
-        }
-    }
-    None
+    known.by_node.insert(node, intersection)?;
+    Ok(())
 }
 
 /// What is to be known of the node.

@@ -1,5 +1,5 @@
 //! Pieces with the nodes that they pass and their contexts.
-ghost use Rattle.std.specs.Prelude.{◌≡◌, ◌≤◌, length, map, IfOk, OnOk};
+ghost use Rattle.std.specs.Prelude.{◌≡◌, ◌≤◌, length, map, IfOk};
 ghost use Rattle.std.specs.List.{All, AllByRecursion};
 ghost use Rattle.road_model.specs.Lines.{line_of};
 ghost use Rattle.road_model.specs.Blocks.{IsPieceEntry};
@@ -9,10 +9,10 @@ ghost use Rattle.way_pieces.specs.Starts.{AreWayDepartures};
 ghost use Rattle.expanded_graph.specs.Contexts.{AreEndings};
 ghost use Rattle.expanded_graph.specs.States.{AreStates};
 ghost use Rattle.expanded_graph.specs.Travel.{way_node};
-ghost use Rattle.expanded_graph.specs.Turning.{IsIntersection};
+ghost use Rattle.expanded_graph.specs.Turning.{AreIntersections};
 
 use crate::contexts::contexts_of;
-use crate::intersections::{Intersection, intersection_at};
+use crate::intersections::{Intersections, learn};
 use crate::places::{WayNode, arrival_of, places_of};
 use crate::states::States;
 use road_base::{NoMemory, WayId};
@@ -21,7 +21,8 @@ use std::alloc::Global;
 use way_pieces::{PieceSpan, WayDepartures};
 
 /// The pieces of the way at these spans. The nodes are those of the way's line, the states those of the way, and the
-/// endings those in which contexts may end there; `own` has the departures over it.
+/// endings those in which contexts may end there; `own` has the departures over it. What is learnt of the nodes where the
+/// pieces end is kept, also where no memory is found.
 pub fn pieces_along<M: World, P: Profile>(
     alloc: Global,
     world: &M,
@@ -32,22 +33,24 @@ pub fn pieces_along<M: World, P: Profile>(
     nodes: &[WayNode],
     spans: &[PieceSpan],
     own: &WayDepartures,
+    known: &mut Intersections,
 ) -> Result<Vec<Piece>, NoMemory>
     requires states { AreStates (M.objects world.now) (P.rules profile.now) way states.now.automaton.words states.now.automaton.states states.now.facts.items }
     requires endings { AreEndings states.now.automaton states.now.facts.items way endings.now }
     requires line { nodes.now ≡ map (way_node (M.objects world.now)) (line_of (M.objects world.now) way) }
     requires short { length nodes.now ≤ 65535 }
     requires own { AreWayDepartures (M.objects world.now) (P.rules profile.now) own.now }
+    requires known { AreIntersections (M.objects world.now) (P.rules profile.now) known.old }
     requires spans { All (IsSpanOn (M.objects world.now) (P.rules profile.now) way) spans.now }
+    ensures known { AreIntersections (M.objects world.now) (P.rules profile.now) known.new }
     ensures names { IfOk result (λ v. map (λ p. p.name) v.items ≡ map (λ s. s.name) spans.now) }
     ensures entries { IfOk result (λ v. All (IsPieceEntry (M.objects world.now) (P.rules profile.now) way) v.items) }
     ensures forms { IfOk result (λ v. All IsPieceForm v.items) }
 {
-    let mut known = Vec::new(alloc);
     let mut pieces = Vec::with_capacity(alloc, spans.len())?;
     for span in spans {
         let piece = piece_at(
-            alloc, world, profile, way, states, endings, nodes, own, &mut known, *span,
+            alloc, world, profile, way, states, endings, nodes, own, known, *span,
         )?;
         pieces.push(piece)?;
     }
@@ -64,7 +67,7 @@ fn piece_at<M: World, P: Profile>(
     endings: &[usize],
     nodes: &[WayNode],
     own: &WayDepartures,
-    known: &mut Vec<Intersection>,
+    known: &mut Intersections,
     span: PieceSpan,
 ) -> Result<Piece, NoMemory>
     requires states { AreStates (M.objects world.now) (P.rules profile.now) way states.now.automaton.words states.now.automaton.states states.now.facts.items }
@@ -72,23 +75,23 @@ fn piece_at<M: World, P: Profile>(
     requires line { nodes.now ≡ map (way_node (M.objects world.now)) (line_of (M.objects world.now) way) }
     requires short { length nodes.now ≤ 65535 }
     requires own { AreWayDepartures (M.objects world.now) (P.rules profile.now) own.now }
-    requires known { All (IsIntersection (M.objects world.now) (P.rules profile.now)) known.old.items }
+    requires known { AreIntersections (M.objects world.now) (P.rules profile.now) known.old }
     requires span { IsSpanOn (M.objects world.now) (P.rules profile.now) way span }
-    ensures known { OnOk result (All (IsIntersection (M.objects world.now) (P.rules profile.now)) known.new.items) }
+    ensures known { AreIntersections (M.objects world.now) (P.rules profile.now) known.new }
     ensures name { IfOk result (λ p. p.name ≡ span.name) }
     ensures entry { IfOk result (IsPieceEntry (M.objects world.now) (P.rules profile.now) way) }
     ensures form { IfOk result IsPieceForm }
 {
     let places = places_of(alloc, nodes, span)?;
     let arrival = arrival_of(world, nodes, span);
-    let at = intersection_at(alloc, world, profile, own, known, arrival.at)?;
+    learn(alloc, world, profile, own, known, arrival.at)?;
     let contexts = contexts_of(
         alloc,
         world,
         profile,
         states,
         endings,
-        &known[at],
+        known.at(arrival.at),
         span,
         arrival.from,
     )?;

@@ -2,13 +2,13 @@ use Rattle.std.proofs.Common.{◌≡◌, map, take}
 use Rattle.std.specs.List.{All}
 use Rattle.road_model.specs.Blocks.{IsPieceEntry}
 use Rattle.road_model.specs.Format.{IsPieceForm}
-use Rattle.expanded_graph.specs.Turning.{IsIntersection}
+use Rattle.expanded_graph.specs.Turning.{AreIntersections}
 use Rattle.expanded_graph.proofs.pieces.pieces_along.Given as goal
 
--- the pieces so far are those of the spans so far, and what is known of intersections is so
+-- the pieces so far are those of the spans so far, and what is known of nodes is so
 abbrev pub invariant-loop-span : goal.invariant-loop-span
 invariant-loop-span g l = record {
-  known : All (IsIntersection (g.M.World.objects l.world) (g.P.Profile.rules l.profile)) l.known.items;
+  known : AreIntersections (g.M.World.objects l.world) (g.P.Profile.rules l.profile) l.known;
   names : map (λ p. p.name) l.pieces.items ≡ map (λ s. s.name) (take l.span-index l.spans);
   entries : All (IsPieceEntry (g.M.World.objects l.world) (g.P.Profile.rules l.profile) l.way) l.pieces.items;
   forms : All IsPieceForm l.pieces.items;
