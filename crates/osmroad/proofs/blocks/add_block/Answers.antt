@@ -16,20 +16,20 @@ on_ok (Ok x) a f = f a
 on_ok (Err e) a f = tt
 
 -- the entry is no way
-pub returns-in_default : goal.returns-in_default
-returns-in_default g c = λ entries are.
+pub returns-in_default-clause-added : goal.returns-in_default-clause-added
+returns-in_default-clause-added g c = λ entries are.
     same_blocks c.args.world.now motorcar_rules entries c.args.entry.now c.args.blocks.now.map are (λ b key road. c.in_default.not-Way b.way key)
 
 -- the way has no pieces
-pub returns-then-is_empty : goal.returns-then-is_empty
-returns-then-is_empty g c = λ entries are.
+pub returns-then-is_empty-clause-added : goal.returns-then-is_empty-clause-added
+returns-then-is_empty-clause-added g c = λ entries are.
     let M = c.args.world.now in
     let none = sym c.items.ensures ∙ empty_by_test c.items.result.now c.is_empty.result c.is_empty.ensures c.if-is_empty.true in
     same_blocks M motorcar_rules entries c.args.entry.now c.args.blocks.now.map are
     (λ b key road. no_pieces M motorcar_rules (c.one_block.ensures M) c.in-Way.way c.in_ok-block.block c.in_ok-block.ensures.block none c.args.entry.now.key c.in-Way.is b key road)
 
-pub returns : goal.returns
-returns g c = on_ok c.insert.result c.insert.ensures.ok (λ put entries are.
+pub returns-clause-added : goal.returns-clause-added
+returns-clause-added g c = on_ok c.insert.result c.insert.ensures.ok (λ put entries are.
     let M = c.args.world.now in
     let block = c.in_ok-block.block in
     let is = c.in_ok-block.ensures.block in

@@ -21,8 +21,10 @@ use Rattle.osmroad.proofs.Built.{nothing_built, road_visible, values_of_entries}
 use Rattle.osmroad.proofs.blocks.build_blocks.Goals as goal
 
 pub loop-entry-init : goal.loop-entry-init
-loop-entry-init g c =
-    subst (λ (m : FinMap way_cmp Block). AreBlocksOf c.args.world.now motorcar_rules [] m) (sym c.new-blocks.ensures) (nothing_built c.args.world.now motorcar_rules)
+loop-entry-init g c = record {
+  blocks = subst (λ (m : FinMap way_cmp Block). AreBlocksOf c.args.world.now motorcar_rules [] m) (sym c.new-blocks.ensures) (nothing_built c.args.world.now motorcar_rules);
+  known = c.new-known.ensures c.args.world.now motorcar_rules;
+}
 
 pub loop-entry-preserved : goal.loop-entry-preserved
 loop-entry-preserved g c =
@@ -30,7 +32,10 @@ loop-entry-preserved g c =
     let i = c.loop-entry.entry-index in
     let e = c.entry-item.result in
     let more : take (i + 1) items ≡ take i items ++ e ∷ [] = take_more items i e c.loop-entry-test.true ∙ ap (λ (x : Event). take i items ++ x ∷ []) (sym c.entry-item.is) in
-    subst (λ (l : List Event). AreBlocksOf c.args.world.now motorcar_rules l c.add_block.new.blocks.map) (sym more) (c.in_ok-add_block.ensures (take i items) c.loop-entry.invariant)
+    record {
+      blocks = subst (λ (l : List Event). AreBlocksOf c.args.world.now motorcar_rules l c.add_block.new.blocks.map) (sym more) (c.in_ok-add_block.ensures.added (take i items) c.loop-entry.invariant.blocks);
+      known = c.in_ok-add_block.ensures.known;
+    }
 
 -- each way with pieces stands among the entries
 way_entry : (M : Objects) (items : List Event) → IsAntisymmetric key_cmp → entries M ≡ map pair_of items → (b : Block) → IsRoadBlock M motorcar_rules b
@@ -55,12 +60,12 @@ pub returns-clause-listed : goal.returns-clause-listed
 returns-clause-listed g c =
     let items = c.items-entry-items.result.now in
     let whole = take_all c.loop-entry.entry-index items (omega (arith, c.loop-entry-test.false)) in
-    let are = subst (λ (l : List Event). AreBlocksOf c.args.world.now motorcar_rules l c.loop-entry.blocks.map) whole c.loop-entry.invariant in
+    let are = subst (λ (l : List Event). AreBlocksOf c.args.world.now motorcar_rules l c.loop-entry.blocks.map) whole c.loop-entry.invariant.blocks in
     (all_built c.args.world.now items c.loop-entry.blocks.map c.items-listed.result.now c.key_order.ensures.ties (sym (ap (λ (M : Objects). entries M) c.objects.ensures) ∙ c.items-entry-items.ensures.entries) are c.items-listed.ensures.entries c.items-listed.ensures.ascending c.items-listed.ensures.each).0
 
 pub returns-clause-forms : goal.returns-clause-forms
 returns-clause-forms g c =
     let items = c.items-entry-items.result.now in
     let whole = take_all c.loop-entry.entry-index items (omega (arith, c.loop-entry-test.false)) in
-    let are = subst (λ (l : List Event). AreBlocksOf c.args.world.now motorcar_rules l c.loop-entry.blocks.map) whole c.loop-entry.invariant in
+    let are = subst (λ (l : List Event). AreBlocksOf c.args.world.now motorcar_rules l c.loop-entry.blocks.map) whole c.loop-entry.invariant.blocks in
     (all_built c.args.world.now items c.loop-entry.blocks.map c.items-listed.result.now c.key_order.ensures.ties (sym (ap (λ (M : Objects). entries M) c.objects.ensures) ∙ c.items-entry-items.ensures.entries) are c.items-listed.ensures.entries c.items-listed.ensures.ascending c.items-listed.ensures.each).1
