@@ -4,9 +4,11 @@ ghost use Rattle.std.specs.Prelude.{◌≡◌, ◌<◌};
 
 use crate::blocks::build_blocks;
 use crate::input::read_events;
+use access_profile::Motorcar;
 use back_references::Indexed;
+use expanded_graph::build_block;
 use opl_lexer::Mode;
-use road_base::{Dir, Steps};
+use road_base::{Dir, Steps, WayId};
 use road_io::MemorySource;
 use road_model::{Block, Context, Piece, PieceName, TurnArc};
 use std::alloc::Global;
@@ -93,6 +95,25 @@ fn graph_text<L: Ledger>(alloc: Global, lines: &[u8], blank: Blank) -> Result<St
     for block in blocks.items() {
         add_block(alloc, &mut out, block)?;
     }
+    Ok(out)
+}
+
+/// The contexts and arcs of one way of the map, whose block is built by itself.
+fn block_text<L: Ledger>(
+    alloc: Global,
+    lines: &[u8],
+    way: WayId,
+    blank: Blank,
+) -> Result<String, Fail>
+    requires name { blank.name ≡ L.name }
+    requires parts { blank.parts ≡ L.parts }
+    requires some { 0 < L.parts }
+{
+    let world = world_of(alloc, lines)?;
+    let mut steps = Steps::<L>::new(blank);
+    let block = build_block(alloc, &world, &Motorcar, way, &mut steps)?;
+    let mut out = String::new(alloc);
+    add_block(alloc, &mut out, &block)?;
     Ok(out)
 }
 
@@ -291,5 +312,12 @@ fn contexts_remember_where_one_came_from(rt: HostRuntime) -> Result<(), Fail> {
         let text = graph_text::<Brand>(rt.alloc(), &lines, Blank::new(1))?;
         assert_eq!(rt; text.as_str(), want);
     }
+    Ok(())
+}
+
+#[test]
+fn a_block_is_built_by_itself(rt: HostRuntime) -> Result<(), Fail> {
+    let text = block_text::<Brand>(rt.alloc(), FORK, WayId(10), Blank::new(1))?;
+    assert_eq!(rt; text.as_str(), "10.0+ > 11.0+ 12.0+\n10.0- > 10.0+\n");
     Ok(())
 }
