@@ -213,7 +213,7 @@ fn restrictions_take_turns_away(rt: HostRuntime) -> Result<(), Fail> {
         "10.0+ > 11.0+ 12.0+\n10.0- > 10.0+\n11.0+ > 11.0-\n11.0- > 10.0- 12.0+\n12.0+ > 12.0-\n12.0- > 10.0- 11.0+\n";
     let no_left =
         "10.0+ > 12.0+\n10.0- > 10.0+\n11.0+ > 11.0-\n11.0- > 10.0- 12.0+\n12.0+ > 12.0-\n12.0- > 10.0- 11.0+\n";
-    let cases: [(&[u8], &[u8], &str); 7] = [
+    let cases: [(&[u8], &[u8], &str); 11] = [
         (FORK, b"", free),
         (
             FORK,
@@ -240,6 +240,31 @@ fn restrictions_take_turns_away(rt: HostRuntime) -> Result<(), Fail> {
             FORK,
             b"r5 Ttype=restriction,restriction=no_entry Mw10@from,w12@from,n2@via,w11@to",
             "10.0+ > 12.0+\n10.0- > 10.0+\n11.0+ > 11.0-\n11.0- > 10.0- 12.0+\n12.0+ > 12.0-\n12.0- > 10.0-\n",
+        ),
+        // No exit from way 10 into ways 11 and 12.
+        (
+            FORK,
+            b"r5 Ttype=restriction,restriction=no_exit Mw10@from,n2@via,w11@to,w12@to",
+            "10.0+ >\n10.0- > 10.0+\n11.0+ > 11.0-\n11.0- > 10.0- 12.0+\n12.0+ > 12.0-\n12.0- > 10.0- 11.0+\n",
+        ),
+        // Cars are excepted by any name that they have, with spaces round it.
+        (
+            FORK,
+            b"r5 Ttype=restriction,restriction=no_left_turn,except=psv%20%;%20%vehicle%20% Mw10@from,n2@via,w11@to",
+            free,
+        ),
+        // A value that neither forbids nor demands.
+        (
+            FORK,
+            b"r5 Ttype=restriction,restriction=give_way Mw10@from,n2@via,w11@to",
+            free,
+        ),
+        // A way that begins and ends at node 2, 2 - 5 - 6 - 2: no way from its end round it once more.
+        (
+            FORK,
+            b"w14 Thighway=road Nn2,n5,n6,n2\nr5 Ttype=restriction,restriction=no_straight_on Mw14@from,n2@via,w14@to",
+            "10.0+ > 11.0+ 12.0+ 14.0+ 14.0-\n10.0- > 10.0+\n11.0+ > 11.0-\n11.0- > 10.0- 12.0+ 14.0+ 14.0-\n12.0+ > 12.0-\n\
+             12.0- > 10.0- 11.0+ 14.0+ 14.0-\n14.0+ > 10.0- 11.0+ 12.0+\n14.0- > 10.0- 11.0+ 12.0+\n",
         ),
         // Two Only rules from the same way: either is kept.
         (
