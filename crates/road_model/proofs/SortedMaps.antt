@@ -1,18 +1,24 @@
 -- Strictly ascending lists of named things, and the finite maps from the names that they stand for.
 use Rattle.std.proofs.Common.{◌≡◌, ◌⊎◌, Bool, true, false, cond, Option, Contains, ℕ, zero, suc, ◌+◌, ◌<◌, ◌≤◌, List, [], ◌∷◌, length, map, inl, inr, refl, sym, ap, ◌∙◌, subst, arith, None, ◌-◌, Some, slice_get, Result, Ok, Err, IfOk, IfErr, IsTrue, Ordering, slice_index_or, slice_set}
 use Rattle.std.specs.declared.cmp.Ordering.TheVariants.{Less, Equal, Greater}
-use Rattle.std.specs.List.{AllWithin, HoldsAt, insert}
+use Rattle.std.specs.List.{AllWithin, HoldsAt, insert, remove}
 use Rattle.std.specs.List.Sorted.{IsSortedBy, IsBinarySearchResult}
-use Rattle.std.specs.Ordering.{is_lt, eq_by_cmp, ordering_reverse}
+use Rattle.std.specs.Ordering.{is_lt, is_eq, eq_by_cmp, ordering_reverse}
 use Rattle.std.specs.Cmp.{IsTotalOrder}
 use Rattle.std.specs.FinMap.{FinMap, IsAntisymmetric, empty, get, entries, from_entries, find, put, len-empty, len-entries, entries-insert, get-from_entries, same_entries_map}
 use Rattle.std.specs.FinMap.{insert as inserted}
+use Rattle.std.specs.FinMap.{remove as removed, get-remove, same_map}
 use Rattle.std.proofs.lemmas.Bool.{and_parts, and_from}
 use Rattle.std.proofs.lemmas.Cmp.{tied_itself}
 use Rattle.std.proofs.lemmas.List.Sorted.{searchable_from_sorted}
 use Rattle.road_model.specs.Orders.{rises, rises_from}
 use Rattle.road_model.proofs.Members.{In, in_from_contains, contains_from_in}
 use Rattle.road_model.proofs.Unique.{less, above}
+
+equal : (r : Ordering) → is_eq r ≡ true → r ≡ Equal
+equal Less e = cc
+equal Equal e = refl
+equal Greater e = cc
 
 none_there : {A : Type 0} (es : List A) → length es ≡ 0 → es ≡ []
 none_there [] e = refl
@@ -89,6 +95,9 @@ module _ {A N : Type 0} (name : A → N) (R : N → N → Ordering) (total : IsT
     pub within : i ≤ length xs
     pub below : AllWithin (λ x. R (name x) n ≡ Less) xs 0 i
     pub behind : AllWithin (λ x. R (name x) n ≡ Greater) xs i (length xs)
+
+  pub gap_of : (n : N) (xs ys : List A) (i : ℕ) → xs ≡ ys → i ≤ length xs → AllWithin (λ x. R (name x) n ≡ Less) xs 0 i → AllWithin (λ x. R (name x) n ≡ Greater) xs i (length xs) → IsGap n ys i
+  gap_of n xs ys i e within below behind = subst (λ l. IsGap n l i) e (record { within = within; below = below; behind = behind })
 
   tail_gap : (n : N) (y : A) (ys : List A) (i : ℕ) → IsGap n (y ∷ ys) (suc i) → IsGap n ys i
   tail_gap n y ys i g = let w = g.within in record {
@@ -169,6 +178,74 @@ module _ {A N : Type 0} (name : A → N) (R : N → N → Ordering) (total : IsT
   pub member_of_get : (n : N) (x : A) (xs : List A) → get (map_of xs) n ≡ Some x → Contains xs x
   member_of_get n x xs e = contains_from_in xs x (found_member n x xs (sym (get-from_entries total (map entry xs) n) ∙ e))
 
+  at_index : (xs : List A) (k : ℕ) (d : A) → k < length xs → In (slice_index_or xs k d) xs
+  at_index [] k d v = absurd (omega arith)
+  at_index (x ∷ xs) zero d v = inl refl
+  at_index (x ∷ xs) (suc k) d v = inr (at_index xs k d (omega arith))
+
+  -- what stands under a name that was found
+  pub get_at : (n : N) (xs : List A) (i : ℕ) (d : A) → IsTrue (rises R (map name xs)) → i < length xs → HoldsAt (λ y. name y ≡ n) xs i → get (map_of xs) n ≡ Some (slice_index_or xs i d)
+  get_at n xs i d h w e = subst (λ m. get (map_of xs) m ≡ Some (slice_index_or xs i d)) (e d) (get_member (slice_index_or xs i d) xs h (contains_from_in xs _ (at_index xs i d w)))
+
+  -- ---- one taken out
+
+  behind_next : (m y : N) (l : List N) → IsTrue (rises_from R m (y ∷ l)) → IsTrue (rises_from R m l)
+  behind_next m y [] h = refl
+  behind_next m y (z ∷ l) h =
+      let p = and_parts _ _ h in
+      let q = and_parts _ _ p.1 in
+      and_from _ _ (ap is_lt (total.trans m y z (less _ p.0) (less _ q.0))) q.1
+
+  rises_less : (m : N) (xs : List A) (i : ℕ) → IsTrue (rises_from R m (map name xs)) → IsTrue (rises_from R m (map name (remove xs i)))
+  rises_less m [] zero h = refl
+  rises_less m [] (suc i) h = refl
+  rises_less m (y ∷ ys) zero h = behind_next m (name y) (map name ys) h
+  rises_less m (y ∷ ys) (suc i) h = let p = and_parts _ _ h in and_from _ _ p.0 (rises_less (name y) ys i p.1)
+
+  pub rises_remove : (xs : List A) (i : ℕ) → IsTrue (rises R (map name xs)) → IsTrue (rises R (map name (remove xs i)))
+  rises_remove [] zero h = refl
+  rises_remove [] (suc i) h = refl
+  rises_remove (y ∷ ys) zero h = rest_rises (name y) (map name ys) h
+  rises_remove (y ∷ ys) (suc i) h = rises_less (name y) ys i h
+
+  none_above : (n : N) (xs : List A) → IsTrue (rises_from R n (map name xs)) → find R n (map entry xs) ≡ None
+  none_above n [] h = refl
+  none_above n (y ∷ ys) h = let e : R n (name y) ≡ Less = less _ (and_parts _ _ h).0 in rw e (none_above n ys (behind_next n (name y) (map name ys) h))
+
+  -- its name isn't found any more
+  find_removed : (n : N) (xs : List A) (i : ℕ) → IsTrue (rises R (map name xs)) → i < length xs → HoldsAt (λ y. name y ≡ n) xs i → find R n (map entry (remove xs i)) ≡ None
+  find_removed n [] i h w e = absurd (omega arith)
+  find_removed n (y ∷ ys) zero h w e = subst (λ m. find R m (map entry ys) ≡ None) (e y) (none_above (name y) ys h)
+  find_removed n (y ∷ ys) (suc i) h w e =
+      let l : R (name y) n ≡ Less = less _ (subst (λ m. IsTrue (is_lt (R (name y) m))) (e y) (above name R total (name y) ys h (slice_index_or ys i y) (at_index ys i y (omega arith)))) in
+      let g : R n (name y) ≡ Greater = turned _ _ _ l in
+      rw g (find_removed n ys i (rest_rises (name y) (map name ys) h) (omega arith) e)
+
+  -- and any other name as before
+  find_other : (q n : N) (xs : List A) (i : ℕ) → eq_by_cmp R q n ≡ false → i < length xs → HoldsAt (λ y. name y ≡ n) xs i → find R q (map entry (remove xs i)) ≡ find R q (map entry xs)
+  find_other q n [] i f w e = absurd (omega arith)
+  find_other q n (y ∷ ys) zero f w e = let g : eq_by_cmp R q (name y) ≡ false = subst (λ m. eq_by_cmp R q m ≡ false) (sym (e y)) f in rw g refl
+  find_other q n (y ∷ ys) (suc i) f w e = ap (cond (eq_by_cmp R q (name y)) (Some y)) (find_other q n ys i f (omega arith) e)
+
+  find_without : IsAntisymmetric R → (q n : N) (xs : List A) (i : ℕ) → IsTrue (rises R (map name xs)) → i < length xs → HoldsAt (λ y. name y ≡ n) xs i → (b : Bool) → eq_by_cmp R q n ≡ b → find R q (map entry (remove xs i)) ≡ cond b None (find R q (map entry xs))
+  find_without same q n xs i h w e true t =
+      let one : q ≡ n = same q n (equal _ t) in
+      subst (λ m. find R m (map entry (remove xs i)) ≡ None) (sym one) (find_removed n xs i h w e)
+  find_without same q n xs i h w e false t = find_other q n xs i t w e
+
+  -- what is taken out of the list is taken out of the map
+  pub map_remove : IsAntisymmetric R → (n : N) (xs : List A) (i : ℕ) → IsTrue (rises R (map name xs)) → i < length xs → HoldsAt (λ y. name y ≡ n) xs i → map_of (remove xs i) ≡ removed (map_of xs) n
+  map_remove same n xs i h w e = same_map total same _ _
+      (λ q. get-from_entries total (map entry (remove xs i)) q ∙ find_without same q n xs i h w e _ refl ∙ ap (cond (eq_by_cmp R q n) None) (sym (get-from_entries total (map entry xs) q)) ∙ sym (get-remove total (map_of xs) n q))
+
+  without_none : IsAntisymmetric R → (m : FinMap R A) (n q : N) → get m n ≡ None → (b : Bool) → eq_by_cmp R q n ≡ b → get m q ≡ cond b None (get m q)
+  without_none same m n q e true t = let one : q ≡ n = same q n (equal _ t) in subst (λ k. get m k ≡ None) (sym one) e
+  without_none same m n q e false t = refl
+
+  -- a map without a name loses nothing by its removal
+  pub remove_none : IsAntisymmetric R → (m : FinMap R A) (n : N) → get m n ≡ None → m ≡ removed m n
+  remove_none same m n e = same_map total same _ _ (λ q. without_none same m n q e _ refl ∙ sym (get-remove total m n q))
+
   -- ---- one put in the place of another of its name
 
   names_set : (x : A) (xs : List A) (i : ℕ) → i < length xs → HoldsAt (λ y. name y ≡ name x) xs i → map name (slice_set xs i x) ≡ map name xs
@@ -188,11 +265,6 @@ module _ {A N : Type 0} (name : A → N) (R : N → N → Ordering) (total : IsT
       let l : R (name y) (name x) ≡ Less = less _ (subst (λ n. IsTrue (is_lt (R (name y) n))) (e y) (above name R total (name y) ys h (slice_index_or ys i y) (at_index ys i y (omega arith)))) in
       let g : R (name x) (name y) ≡ Greater = turned _ _ _ l in
       rw g (ap (λ es. entry y ∷ es) (put_set x ys i (rest_rises (name y) (map name ys) h) (omega arith) e))
-    where
-      at_index : (zs : List A) (k : ℕ) (d : A) → k < length zs → In (slice_index_or zs k d) zs
-      at_index [] k d v = absurd (omega arith)
-      at_index (z ∷ zs) zero d v = inl refl
-      at_index (z ∷ zs) (suc k) d v = inr (at_index zs k d (omega arith))
 
   pub map_set : (x : A) (xs : List A) (i : ℕ) → IsTrue (rises R (map name xs)) → i < length xs → HoldsAt (λ y. name y ≡ name x) xs i → map_of (slice_set xs i x) ≡ inserted (map_of xs) (name x) x
   map_set x xs i h w e = same_entries_map _ _

@@ -1,9 +1,9 @@
 //! Blocks of the graph, one for each way with pieces.
-ghost use Rattle.std.specs.Prelude.{◌≡◌, ◌+◌, ◌≤◌, ◌↔◌, length, map, None, Some, IfOk, IfErr, OnOk, OnErr, IsTrue, Contains};
+ghost use Rattle.std.specs.Prelude.{◌≡◌, ◌+◌, ◌≤◌, ◌↔◌, length, map, option_copied, None, Some, IfOk, IfErr, OnOk, OnErr, IsTrue, Contains};
 ghost use Rattle.std.specs.List.{HoldsAt, AllWithin};
 ghost use Rattle.std.specs.List.Sorted.{IsSearchInRange};
 ghost use Rattle.std.specs.declared.cmp.Ordering.TheVariants.{Less, Greater};
-ghost use Rattle.std.specs.FinMap.{empty, get, entries, insert as inserted};
+ghost use Rattle.std.specs.FinMap.{empty, get, entries, insert as inserted, remove as removed};
 ghost use Rattle.road_model.specs.Orders.{way_cmp, rises};
 ghost use Rattle.road_model.specs.declared.blocks.Block.{Block};
 
@@ -65,6 +65,26 @@ impl Blocks {
         }
     }
 
+    /// The way's block, and None exactly where the way has none. Takes no memory.
+    pub fn get(&self, way: WayId) -> Option<&Block>
+        ensures { option_copied result ≡ get self.now.map way }
+    {
+        let list = self.list.as_slice();
+        match place_of(list, way) {
+            Ok(at) => Some(&list[at]),
+            Err(_) => None,
+        }
+    }
+
+    /// Makes room to spare for as many further blocks. Where no memory is found nothing changes.
+    pub fn reserve(&mut self, more: usize) -> Result<(), NoMemory>
+        ensures map { self.new.map ≡ self.old.map }
+        ensures ok { OnOk result (more ≤ self.new.spare) }
+        ensures err { OnErr result (self.new ≡ self.old) }
+    {
+        Ok(self.list.reserve(more)?)
+    }
+
     /// Puts the block at its way, in place of an older one. Where no memory is found nothing changes and the block is
     /// dropped; that never comes where the way has a block or there is room to spare.
     pub fn insert(&mut self, block: Block) -> Result<(), NoMemory>
@@ -83,6 +103,18 @@ impl Blocks {
         }
     }
 
+    /// Takes the way's block out; None exactly where the way has none. Takes no memory, and leaves no less room to spare.
+    pub fn remove(&mut self, way: WayId) -> Option<Block>
+        ensures taken { result ≡ get self.old.map way }
+        ensures map { self.new.map ≡ removed self.old.map way }
+        ensures spare { self.old.spare ≤ self.new.spare }
+    {
+        match place_of(self.list.as_slice(), way) {
+            Ok(at) => Some(self.list.remove(at)),
+            Err(_) => None,
+        }
+    }
+
     /// All blocks, ascending by way.
     pub fn items(&self) -> &[Block]
         ensures entries { entries self.now.map ≡ map entry_of result.now }
@@ -90,6 +122,18 @@ impl Blocks {
         ensures each { (b : Block) → Contains result.now b ↔ (get self.now.map b.way ≡ Some b) }
     {
         self.list.as_slice()
+    }
+
+    /// The same blocks. How much room is to spare isn't copied.
+    pub fn copy(&self) -> Result<Blocks, NoMemory>
+        ensures { IfOk result (λ blocks. blocks.map ≡ self.now.map) }
+    {
+        let from = self.list.as_slice();
+        let mut list = Vec::with_capacity(*self.list.allocator(), from.len())?;
+        for block in from {
+            list.push(block.copy()?)?;
+        }
+        Ok(Blocks { list })
     }
 }
 

@@ -3,9 +3,9 @@
 //!
 //! `specs/` has the definitions, over any object map and any profile. They know no index, automaton or search: they
 //! judge whole lists of steps against tags and members. The types here are what a profile answers and what a graph
-//! is made of. A graph's blocks lie in one list in the order of their ways: one behind all others is put at the cost
-//! of a push, any other at that of a binary search and, where its way is new, a move of the blocks behind it. A copy
-//! costs the size of what is copied, and everything else a constant.
+//! is made of. A graph's blocks lie in one list in the order of their ways: to find one is a binary search. One behind all
+//! others is put at the cost of a push; to put any other whose way is new, and to take one out, moves the blocks behind it.
+//! A copy costs the size of what is copied, and everything else a constant.
 #![tactic(auto)]
 
 mod access_values;

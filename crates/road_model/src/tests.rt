@@ -72,6 +72,24 @@ fn each_way_has_the_block_put_last(rt: HostRuntime) -> Result<(), Fail> {
 }
 
 #[test]
+fn blocks_are_taken_out_and_copied(rt: HostRuntime) -> Result<(), Fail> {
+    let mut blocks = Blocks::new(rt.alloc());
+    blocks.reserve(3)?;
+    for way in [1, -5, 2] {
+        blocks.insert(block_of(rt.alloc(), way, 0)?)?;
+    }
+    let taken = blocks.remove(WayId(1)).map(|block| block.way);
+    assert_eq!(rt; taken, Some(WayId(1)));
+    assert!(rt; blocks.remove(WayId(1)).is_none());
+    let copy = blocks.copy()?;
+    for (way, stands) in [(-5, true), (1, false), (2, true), (3, false)] {
+        assert_eq!(rt; blocks.get(WayId(way)).is_some(), stands);
+        assert_eq!(rt; copy.get(WayId(way)).is_some(), stands);
+    }
+    Ok(())
+}
+
+#[test]
 fn copies_are_made(rt: HostRuntime) -> Result<(), Fail> {
     let block = block_of(rt.alloc(), 4, 6)?;
     let copy = block.copy()?;

@@ -1,13 +1,11 @@
-use Rattle.std.proofs.Common.{◌≡◌, ℕ, ◌≤◌, List, length, Result, Ok, Err, OnErr, sym, ap, ◌∙◌, subst}
-use Rattle.std.specs.declared.cmp.Ordering.TheVariants.{Less, Greater}
-use Rattle.std.specs.List.{AllWithin}
+use Rattle.std.proofs.Common.{Result, Ok, Err, OnErr, sym, ap, ◌∙◌}
 use Rattle.std.specs.FinMap.{get}
 use Rattle.std.specs.FinMap.{insert as inserted}
 use Rattle.road_base.specs.declared.ids.WayId.{WayId}
 use Rattle.road_model.specs.declared.blocks.Block.{Block}
 use Rattle.road_model.specs.Orders.{way_cmp}
 use Rattle.road_model.proofs.TotalOrders.{way_cmp_total}
-use Rattle.road_model.proofs.SortedMaps.{IsGap, rises_set, map_set, rises_insert, map_insert, get_gap}
+use Rattle.road_model.proofs.SortedMaps.{gap_of, rises_set, map_set, rises_insert, map_insert, get_gap}
 use Rattle.road_model.proofs.blocks.Blocks.insert.Goals as goal
 
 abbrev way_in : Block → WayId
@@ -30,23 +28,17 @@ returns-in-Ok-clause-ok c =
 
 -- ---- the way has none
 
-abbrev Gap : WayId → List Block → ℕ → Type 0
-Gap = IsGap way_in way_cmp way_cmp_total
-
-gap : (w : WayId) (xs ys : List Block) (i : ℕ) → xs ≡ ys → i ≤ length xs → AllWithin (λ b. way_cmp b.way w ≡ Less) xs 0 i → AllWithin (λ b. way_cmp b.way w ≡ Greater) xs i (length xs) → Gap w ys i
-gap w xs ys i e within below behind = subst (λ l. Gap w l i) e (record { within = within; below = below; behind = behind })
-
 pub invariant_of-self-in-Err : goal.invariant_of-self-in-Err
 invariant_of-self-in-Err c =
     let e = c.in-Err.ensures in
     rw c.in_ok-insert-in-Err.ensures.items
-    (rises_insert way_in way_cmp way_cmp_total c.args.block _ c.in-Err.at c.self.invariant (gap _ _ _ _ c.as_slice.ensures.value e.within e.below e.behind))
+    (rises_insert way_in way_cmp way_cmp_total c.args.block _ c.in-Err.at c.self.invariant (gap_of way_in way_cmp way_cmp_total _ _ _ _ c.as_slice.ensures.value e.within e.below e.behind))
 
 pub returns-in_ok-insert-in-Err-clause-ok : goal.returns-in_ok-insert-in-Err-clause-ok
 returns-in_ok-insert-in-Err-clause-ok c =
     let e = c.in-Err.ensures in
     rw c.in_ok-insert-in-Err.ensures.items
-    (map_insert way_in way_cmp way_cmp_total c.args.block _ c.in-Err.at c.self.invariant (gap _ _ _ _ c.as_slice.ensures.value e.within e.below e.behind)
+    (map_insert way_in way_cmp way_cmp_total c.args.block _ c.in-Err.at c.self.invariant (gap_of way_in way_cmp way_cmp_total _ _ _ _ c.as_slice.ensures.value e.within e.below e.behind)
     ∙ ap (λ m. inserted m.map c.args.block.way c.args.block) c.self.view_is)
 
 on_err : {T E P : Type 0} (r : Result T E) → P → OnErr r P
@@ -57,4 +49,4 @@ pub returns-in_err-insert-in-Err-clause-new_way : goal.returns-in_err-insert-in-
 returns-in_err-insert-in-Err-clause-new_way c =
     let e = c.in-Err.ensures in
     on_err _ (ap (λ m. get m.map c.args.block.way) (sym c.self.view_is)
-    ∙ get_gap way_in way_cmp way_cmp_total c.args.block.way _ c.in-Err.at (gap _ _ _ _ c.as_slice.ensures.value e.within e.below e.behind))
+    ∙ get_gap way_in way_cmp way_cmp_total c.args.block.way _ c.in-Err.at (gap_of way_in way_cmp way_cmp_total _ _ _ _ c.as_slice.ensures.value e.within e.below e.behind))
