@@ -22,7 +22,7 @@ use Rattle.road_model.specs.Lines.{same_node, line_of, node_at, tail_of, head_of
 use Rattle.road_model.specs.Orders.{Lists, rises, node_cmp, name_cmp}
 use Rattle.way_pieces.specs.declared.spans.PieceSpan.{PieceSpan}
 use Rattle.way_pieces.specs.declared.departures.Departure.{Departure}
-use Rattle.way_pieces.specs.declared.way_departures.Start.{Start}
+use Rattle.way_pieces.specs.declared.starts.Start.{Start}
 use Rattle.way_pieces.specs.Names.{IsDeparture, IsSpanOn, piece_of}
 use Rattle.way_pieces.specs.Departures.{IsOver}
 use Rattle.way_pieces.specs.Starts.{IsWithin, node_in, start_toward, start_on, leaving}

@@ -1,22 +1,24 @@
 //! Pieces: the runs of roads between junctions, by their names, and the steps that each one is driven in.
 //!
 //! `spans_of`, `pieces_of` and `spell` go along the way's line once: with n references and w ways at their nodes they
-//! take time of the order of n log n + w, and memory of the order of n. `departures_from` and `pieces_from` go along the
-//! references of each road at the node, and look nodes up only at the positions next to it and from there back to the
-//! next junction. `departures_with` finds those over one way in a table of them, in time of the order of the logarithm of
-//! its length; `WayDepartures::of` makes it of the way's n pieces in time of the order of n log n.
+//! take time of the order of n log n + w, and memory of the order of n. `PiecesByWay` cuts each way into pieces once, in
+//! the same time, and keeps them in memory of the order of their number: then a node's departures are found in time of the
+//! order of the logarithm of their lengths for each way at the node. `departures_from` and `pieces_from` cut all ways at
+//! the node.
 #![tactic(auto)]
 
 mod departures;
 mod names;
+mod pieces_by_way;
 mod roads;
 mod spans;
 mod spelling;
+mod starts;
 mod stretches;
-mod way_departures;
 
-pub use departures::{Departure, departures_from, departures_with};
+pub use departures::{Departure, departures_from};
 pub use names::{pieces_from, pieces_of};
+pub use pieces_by_way::{PiecesByWay, WayPieces};
 pub use spans::{PieceSpan, spans_of};
 pub use spelling::spell;
-pub use way_departures::{Start, WayDepartures};
+pub use starts::Start;

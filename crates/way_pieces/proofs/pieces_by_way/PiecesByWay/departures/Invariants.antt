@@ -1,7 +1,7 @@
 use Rattle.std.proofs.Common.{take, Contains}
 use Rattle.road_model.specs.Orders.{Lists, name_cmp}
 use Rattle.way_pieces.specs.Names.{IsDeparture}
-use Rattle.way_pieces.proofs.departures.departures_over.Given as goal
+use Rattle.way_pieces.proofs.pieces_by_way.PiecesByWay.departures.Given as goal
 
 -- the departures over the ways so far are listed
 abbrev pub invariant-loop-way : goal.invariant-loop-way

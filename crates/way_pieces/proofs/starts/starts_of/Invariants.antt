@@ -1,6 +1,6 @@
 use Rattle.std.proofs.Common.{◌≡◌, map, take}
 use Rattle.way_pieces.specs.Starts.{start_on}
-use Rattle.way_pieces.proofs.way_departures.starts_of.Given as goal
+use Rattle.way_pieces.proofs.starts.starts_of.Given as goal
 
 -- the starts so far
 abbrev pub invariant-loop-span : goal.invariant-loop-span

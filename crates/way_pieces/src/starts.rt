@@ -2,24 +2,14 @@
 ghost use Rattle.std.specs.Prelude.{◌≡◌, ◌<◌, ◌≤◌, ◌-◌, ◌++◌, IfOk, OnOk, IsTrue, length, map, filter, take, drop};
 ghost use Rattle.std.specs.List.{All};
 ghost use Rattle.std.specs.List.Sorted.{IsPermutation, IsSortedByKey, IsStableByKey};
-ghost use Rattle.road_model.specs.Lines.{line_of, same_node};
-ghost use Rattle.road_model.specs.Orders.{Lists, name_cmp, node_cmp};
-ghost use Rattle.way_pieces.specs.Names.{IsSpanOn};
-ghost use Rattle.way_pieces.specs.Starts.{AreWayDepartures, IsWithin, start_by, start_on};
+ghost use Rattle.road_model.specs.Lines.{same_node};
+ghost use Rattle.road_model.specs.Orders.{node_cmp};
+ghost use Rattle.way_pieces.specs.Starts.{IsWithin, start_by, start_on};
 
 use crate::departures::Departure;
 use crate::spans::PieceSpan;
-use road_base::{Dir, NoMemory, NodeId, Step, WayId};
-use road_model::laws::{name_order, number_order};
-use road_model::{Profile, World};
+use road_base::{Dir, NoMemory, NodeId, Step};
 use std::alloc::Global;
-
-/// The departures over a way, by the node that they leave and then by their names.
-#[derive(Drop)]
-pub struct WayDepartures {
-    pub way: WayId,
-    pub starts: Vec<Start>,
-}
 
 /// A departure, and the node that it leaves.
 #[derive(Clone, Copy, Debug)]
@@ -28,32 +18,8 @@ pub struct Start {
     pub departure: Departure,
 }
 
-impl WayDepartures {
-    /// The departures over the way whose line has these nodes and whose pieces these are. With n pieces that takes
-    /// time of the order of n log n.
-    pub fn of<M: World, P: Profile>(
-        alloc: Global,
-        world: &M,
-        profile: &P,
-        way: WayId,
-        nodes: &[NodeId],
-        spans: &[PieceSpan],
-    ) -> Result<WayDepartures, NoMemory>
-        requires line { nodes.now ≡ line_of (M.objects world.now) way }
-        requires spans { Lists (λ s. s.name) name_cmp (IsSpanOn (M.objects world.now) (P.rules profile.now) way) spans.now }
-        ensures way { IfOk result (λ t. t.way ≡ way) }
-        ensures departures { IfOk result (AreWayDepartures (M.objects world.now) (P.rules profile.now)) }
-    {
-        name_order();
-        number_order();
-        let mut starts = starts_of(alloc, nodes, spans)?;
-        put_in_order(&mut starts)?;
-        Ok(WayDepartures { way, starts })
-    }
-}
-
 /// Where each of the pieces starts. The nodes are those of the way's line.
-fn starts_of(alloc: Global, nodes: &[NodeId], spans: &[PieceSpan]) -> Result<Vec<Start>, NoMemory>
+pub fn starts_of(alloc: Global, nodes: &[NodeId], spans: &[PieceSpan]) -> Result<Vec<Start>, NoMemory>
     requires { All (IsWithin (length nodes.now)) spans.now }
     ensures { IfOk result (λ v. v.items ≡ map (start_on nodes.now) spans.now) }
 {
@@ -101,7 +67,7 @@ fn start_by(nodes: &[NodeId], span: PieceSpan, tail: u32, index: u32, head: u32)
 }
 
 /// By node. Those of one node keep their order.
-fn put_in_order(starts: &mut Vec<Start>) -> Result<(), NoMemory>
+pub fn put_in_order(starts: &mut Vec<Start>) -> Result<(), NoMemory>
     ensures sorted { OnOk result (IsSortedByKey (λ s. s.node) node_cmp starts.new.items) }
     ensures stable { OnOk result (IsStableByKey (λ s. s.node) node_cmp starts.old.items starts.new.items) }
 {

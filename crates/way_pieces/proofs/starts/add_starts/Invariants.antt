@@ -1,5 +1,5 @@
 use Rattle.std.proofs.Common.{◌≡◌, ◌++◌, map, take}
-use Rattle.way_pieces.proofs.way_departures.add_starts.Given as goal
+use Rattle.way_pieces.proofs.starts.add_starts.Given as goal
 
 -- the departures so far
 abbrev pub invariant-loop-start : goal.invariant-loop-start

@@ -5,7 +5,7 @@ use Rattle.way_pieces.specs.declared.departures.Departure.{Departure}
 use Rattle.way_pieces.specs.Departures.{IsOver}
 use Rattle.way_pieces.specs.Starts.{leaving}
 use Rattle.way_pieces.proofs.Starting.{all_within, leaving_kept, starts_listed}
-use Rattle.way_pieces.proofs.way_departures.WayDepartures.of.Goals as goal
+use Rattle.way_pieces.proofs.pieces_by_way.WayPieces.of.Goals as goal
 
 pub starts_of-requires : goal.starts_of-requires
 starts_of-requires g c = all_within (g.M.World.objects c.args.world.now) (g.P.Profile.rules c.args.profile.now) c.args.way c.args.nodes.now c.requires.line c.args.spans.now c.requires.spans

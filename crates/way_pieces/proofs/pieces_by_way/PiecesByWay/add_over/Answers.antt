@@ -4,10 +4,10 @@ use Rattle.std.specs.List.{filter}
 use Rattle.road_base.specs.declared.ids.WayId.{WayId}
 use Rattle.road_model.specs.Lines.{same_node}
 use Rattle.road_model.specs.Orders.{Lists, name_cmp}
-use Rattle.way_pieces.specs.declared.way_departures.Start.{Start}
+use Rattle.way_pieces.specs.declared.starts.Start.{Start}
 use Rattle.way_pieces.specs.Departures.{IsOver}
 use Rattle.way_pieces.specs.Starts.{AreWayDepartures, leaving}
-use Rattle.way_pieces.proofs.departures.add_over.Goals as goal
+use Rattle.way_pieces.proofs.pieces_by_way.PiecesByWay.add_over.Goals as goal
 
 pub returns : goal.returns
 returns g c =

@@ -5,7 +5,7 @@ use Rattle.std.proofs.lemmas.List.Sorted.{IsPartitionPoint-from_clause}
 use Rattle.road_model.specs.Orders.{node_cmp}
 use Rattle.way_pieces.proofs.NameOrder.{node_cmp_total}
 use Rattle.way_pieces.proofs.Starting.{below_parted, upto_parted, low_first, part_leaves}
-use Rattle.way_pieces.proofs.way_departures.leaving.Goals as goal
+use Rattle.way_pieces.proofs.starts.leaving.Goals as goal
 
 pub part-requires-clause-rising : goal.part-requires-clause-rising
 part-requires-clause-rising c =

@@ -12,7 +12,7 @@ use Rattle.way_pieces.specs.Departures.{IsOver, Gains}
 use Rattle.way_pieces.proofs.Appending.{lists_none, lists_same}
 use Rattle.way_pieces.proofs.Departing.{SoFar, leaves_located, way_gained, passes}
 use Rattle.way_pieces.proofs.Driving.{is_not}
-use Rattle.way_pieces.proofs.departures.departures_over.Goals as goal
+use Rattle.way_pieces.proofs.pieces_by_way.PiecesByWay.departures.Goals as goal
 
 pub returns-then-not-here : goal.returns-then-not-here
 returns-then-not-here g c =

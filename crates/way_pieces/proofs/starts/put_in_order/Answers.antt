@@ -2,8 +2,8 @@
 use Rattle.std.proofs.Common.{rules}
 use Rattle.std.proofs.lemmas.List.Sorted.{answers_always}
 use Rattle.road_base.specs.declared.ids.NodeId.{NodeId}
-use Rattle.way_pieces.specs.declared.way_departures.Start.{Start}
-use Rattle.way_pieces.proofs.way_departures.put_in_order.Goals as goal
+use Rattle.way_pieces.specs.declared.starts.Start.{Start}
+use Rattle.way_pieces.proofs.starts.put_in_order.Goals as goal
 
 abbrev node : Start → NodeId
 node s = s.node
