@@ -1,13 +1,9 @@
 -- What is gathered on the way to the words near a way, and to the facts of states.
-use Rattle.std.specs.Prelude.{◌≡◌, ℕ, ◌≤◌, ◌↔◌, ◌⊎◌, List, [], ◌∷◌, ◌++◌, length, filter_map, Bool, Option, Some, IsTrue, Contains, slice_get}
-use Rattle.std.specs.BTreeMap.{BTreeMap, get}
-use Rattle.std.specs.BTreeSet.{contains}
+use Rattle.std.specs.Prelude.{◌≡◌, ℕ, ◌≤◌, ◌↔◌, List, [], ◌∷◌, ◌++◌, length, filter_map, Bool, Option, Some, IsTrue, Contains, slice_get}
 use Rattle.road_base.specs.declared.ids.WayId.{WayId}
 use Rattle.road_base.specs.declared.ids.RelationId.{RelationId}
 use Rattle.road_base.specs.declared.ids.Step.{Step}
 use Rattle.road_base.specs.declared.ids.Key.TheVariants.{Way as WayKey}
-use Rattle.road_base.specs.contracts.ids.WayIdOrd.TheImpl.{ghosts as way_order}
-use Rattle.road_base.specs.contracts.ids.StepOrd.TheImpl.{ghosts as step_order}
 use Rattle.road_base.specs.Objects.{Objects}
 use Rattle.road_model.specs.declared.lists.PieceName.{PieceName}
 use Rattle.road_model.specs.Rules.{Rules}
@@ -21,7 +17,6 @@ use Rattle.turn_automata.specs.Machines.{Machine, StandsFor}
 use Rattle.way_pieces.specs.declared.spans.PieceSpan.{PieceSpan}
 use Rattle.way_pieces.specs.Names.{piece_of}
 use Rattle.expanded_graph.specs.declared.states.StateFacts.{StateFacts}
-use Rattle.expanded_graph.specs.declared.last_steps.LastSteps.{LastSteps}
 use Rattle.expanded_graph.specs.Near.{IsNear, AreWordsNear}
 
 -- ---- words
@@ -50,21 +45,6 @@ NamesEnd M P s name = (n : PieceName) → (name ≡ Some n) ↔ EndsPiece M P s 
 -- the span ends with the step
 abbrev pub IsLastOf : PieceSpan → Step → Type 0
 IsLastOf s x = (front : List Step) × (spell (piece_of s) ≡ front ++ x ∷ [])
-
--- a span of that name ends with the step
-abbrev pub IsLastOfSome : List PieceSpan → Step → PieceName → Type 0
-IsLastOfSome spans x n = (s : PieceSpan) × Contains spans s × (s.name ≡ n) × IsLastOf s x
-
--- these are last steps of pieces, with the pieces' names, and of some ways all
-pub record AreLastSteps (M : Objects) (P : Rules) (l : LastSteps) : Type 0 where
-  pub sound : (x : Step) (n : PieceName) → get step_order.cmp l.names x ≡ Some n → EndsPiece M P x n
-  pub all : (x : Step) (n : PieceName) → IsTrue (contains way_order.cmp l.ways x.way) → EndsPiece M P x n → get step_order.cmp l.names x ≡ Some n
-
--- the last steps of the spans have joined those that were there
-pub record GainsLastSteps (old : BTreeMap Step PieceName) (spans : List PieceSpan) (new : BTreeMap Step PieceName) : Type 0 where
-  pub from : (x : Step) (n : PieceName) → get step_order.cmp new x ≡ Some n → (get step_order.cmp old x ≡ Some n) ⊎ IsLastOfSome spans x n
-  pub kept : (x : Step) (n : PieceName) → get step_order.cmp old x ≡ Some n → (k : PieceName) × (get step_order.cmp new x ≡ Some k)
-  pub there : (s : PieceSpan) (x : Step) → Contains spans s → IsLastOf s x → (k : PieceName) × (get step_order.cmp new x ≡ Some k)
 
 -- whether the steps may be driven, told by the words near a way where the steps lie on ways near it
 abbrev pub IsDriven : Objects → Rules → List Word → List Step → Bool → Type 0

@@ -9,8 +9,10 @@ use Rattle.road_model.specs.Driving.{shut, turning_place}
 use Rattle.road_model.specs.Orders.{Lists, name_cmp, node_cmp}
 use Rattle.way_pieces.specs.declared.departures.Departure.{Departure}
 use Rattle.way_pieces.specs.Names.{IsDeparture}
+use Rattle.way_pieces.specs.Starts.{ArePiecesByWay}
 use Rattle.expanded_graph.specs.declared.intersections.Intersection.{Intersection}
 use Rattle.expanded_graph.specs.declared.intersections.Intersections.{Intersections}
+use Rattle.expanded_graph.specs.declared.cache.Cache.{Cache}
 
 -- what is known of the node is so
 pub record IsIntersection (M : Objects) (P : Rules) (i : Intersection) : Type 0 where
@@ -21,6 +23,11 @@ pub record IsIntersection (M : Objects) (P : Rules) (i : Intersection) : Type 0 
 -- what is known of each node is so
 pub record AreIntersections (M : Objects) (P : Rules) (known : Intersections) : Type 0 where
   pub each : (v : NodeId) (i : Intersection) → get node_cmp known.by_node v ≡ Some i → (i.node ≡ v) × IsIntersection M P i
+
+-- what is kept of ways and nodes is so
+pub record IsCache (M : Objects) (P : Rules) (c : Cache) : Type 0 where
+  pub pieces : ArePiecesByWay M P c.pieces
+  pub intersections : AreIntersections M P c.intersections
 
 -- Who comes from the node u may go on by the departure: back to u at a place to turn round, where nothing goes through
 -- and where nothing else leaves, and elsewhere where the node isn't shut.

@@ -5,14 +5,14 @@ ghost use Rattle.road_base.specs.Objects.{Objects};
 ghost use Rattle.road_model.specs.Rules.{Rules};
 ghost use Rattle.road_model.specs.Driving.{shut, turning_place};
 ghost use Rattle.road_model.specs.Orders.{node_cmp};
-ghost use Rattle.way_pieces.specs.Starts.{AreWayDepartures};
+ghost use Rattle.way_pieces.specs.Starts.{ArePiecesByWay};
 ghost use Rattle.expanded_graph.specs.Turning.{IsIntersection, AreIntersections};
 
 use road_base::{NoMemory, NodeId};
 use road_model::{Profile, World};
 use std::alloc::Global;
 use std::collections::BTreeMap;
-use way_pieces::{Departure, WayDepartures, departures_with};
+use way_pieces::{Departure, PiecesByWay};
 
 /// A node where pieces end: whether it lets one through and round, and what leaves it.
 #[derive(Drop)]
@@ -41,7 +41,7 @@ impl Intersections {
     }
 
     /// What is known of the node, which was learnt.
-    pub(crate) fn at(&self, node: NodeId) -> &Intersection
+    pub fn at(&self, node: NodeId) -> &Intersection
         requires { ContainsKey node_cmp self.now.by_node node }
         ensures { get node_cmp self.now.by_node node ≡ Some result.now }
     {
@@ -56,24 +56,25 @@ struct NodeRules {
     is_turning_place: bool,
 }
 
-/// Learns what is to be known of the node, if it isn't known yet. The departures over the way itself are known.
+/// Learns what is to be known of the node, if it isn't known yet, and of the ways there.
 pub fn learn<M: World, P: Profile>(
     alloc: Global,
     world: &M,
     profile: &P,
-    own: &WayDepartures,
+    pieces: &mut PiecesByWay,
     known: &mut Intersections,
     node: NodeId,
 ) -> Result<(), NoMemory>
-    requires own { AreWayDepartures (M.objects world.now) (P.rules profile.now) own.now }
+    requires pieces { ArePiecesByWay (M.objects world.now) (P.rules profile.now) pieces.old }
     requires known { AreIntersections (M.objects world.now) (P.rules profile.now) known.old }
+    ensures pieces { ArePiecesByWay (M.objects world.now) (P.rules profile.now) pieces.new }
     ensures known { AreIntersections (M.objects world.now) (P.rules profile.now) known.new }
     ensures there { OnOk result (ContainsKey node_cmp known.new.by_node node) }
 {
     if known.by_node.contains_key(&node) {
         return Ok(());
     }
-    let intersection = intersection_of(alloc, world, profile, own, node)?;
+    let intersection = intersection_of(alloc, world, profile, pieces, node)?;
     known.by_node.insert(node, intersection)?;
     Ok(())
 }
@@ -83,15 +84,16 @@ fn intersection_of<M: World, P: Profile>(
     alloc: Global,
     world: &M,
     profile: &P,
-    own: &WayDepartures,
+    pieces: &mut PiecesByWay,
     node: NodeId,
 ) -> Result<Intersection, NoMemory>
-    requires { AreWayDepartures (M.objects world.now) (P.rules profile.now) own.now }
+    requires { ArePiecesByWay (M.objects world.now) (P.rules profile.now) pieces.old }
+    ensures pieces { ArePiecesByWay (M.objects world.now) (P.rules profile.now) pieces.new }
     ensures node { IfOk result (λ i. i.node ≡ node) }
     ensures is { IfOk result (IsIntersection (M.objects world.now) (P.rules profile.now)) }
 {
     let rules = rules_of(world, profile, node);
-    let departures = departures_with(alloc, world, profile, node, own)?;
+    let departures = pieces.departures(alloc, world, profile, node)?;
     Ok(Intersection {
         node,
         is_shut: rules.is_shut,

@@ -1,86 +1,31 @@
 //! Steps with which pieces end.
-ghost use Rattle.std.specs.Prelude.{◌<◌, IfOk, OnOk, IsTrue};
+ghost use Rattle.std.specs.Prelude.{◌<◌};
 ghost use Rattle.std.specs.List.{All};
-ghost use Rattle.std.specs.BTreeSet.{contains};
 ghost use Rattle.road_base.specs.Objects.{Objects};
-ghost use Rattle.road_base.specs.contracts.ids.WayIdOrd.TheImpl.{ghosts as way_order};
 ghost use Rattle.road_model.specs.Rules.{Rules};
-ghost use Rattle.expanded_graph.specs.Known.{AreLastSteps, GainsLastSteps, IsLastOf, NamesEnd};
+ghost use Rattle.road_model.specs.Orders.{Lists, name_cmp};
+ghost use Rattle.way_pieces.specs.Names.{IsSpanOn};
+ghost use Rattle.expanded_graph.specs.Known.{IsLastOf, NamesEnd};
 
-use road_base::{Dir, NoMemory, Step, WayId};
-use road_model::laws::one_piece;
-use road_model::{PieceName, Profile, World};
-use std::alloc::Global;
-use std::collections::{BTreeMap, BTreeSet};
-use way_pieces::{PieceSpan, spans_of};
+use road_base::{Dir, Step};
+use road_model::PieceName;
+use way_pieces::PieceSpan;
 
-/// The last steps of the pieces of some ways, with the names of the pieces.
-#[derive(Drop)]
-pub struct LastSteps {
-    pub ways: BTreeSet<WayId>,
-    pub names: BTreeMap<Step, PieceName>,
-}
-
-impl LastSteps {
-    /// Of no ways. Takes no memory.
-    pub fn none(alloc: Global) -> LastSteps
-        ensures { (M : Objects) (P : Rules) → AreLastSteps M P result }
-    {
-        LastSteps {
-            ways: BTreeSet::new(alloc),
-            names: BTreeMap::new(alloc),
-        }
-    }
-
-    /// The name of the piece that the step ends, None exactly where it ends none. A way is cut into pieces when it is
-    /// asked for first, and never again.
-    pub fn name<M: World, P: Profile>(
-        &mut self,
-        alloc: Global,
-        world: &M,
-        profile: &P,
-        step: Step,
-    ) -> Result<Option<PieceName>, NoMemory>
-        requires { AreLastSteps (M.objects world.now) (P.rules profile.now) self.old }
-        ensures kept { OnOk result (AreLastSteps (M.objects world.now) (P.rules profile.now) self.new) }
-        ensures name { IfOk result (NamesEnd (M.objects world.now) (P.rules profile.now) step) }
-    {
-        self.add_way(alloc, world, profile, step.way)?;
-        Ok(self.names.get(&step).copied())
-    }
-
-    /// Adds those of the way, if they aren't there.
-    fn add_way<M: World, P: Profile>(
-        &mut self,
-        alloc: Global,
-        world: &M,
-        profile: &P,
-        way: WayId,
-    ) -> Result<(), NoMemory>
-        requires { AreLastSteps (M.objects world.now) (P.rules profile.now) self.old }
-        ensures kept { OnOk result (AreLastSteps (M.objects world.now) (P.rules profile.now) self.new) }
-        ensures there { OnOk result (IsTrue (contains way_order.cmp self.new.ways way)) }
-    {
-        one_piece(profile);
-        if self.ways.contains(&way) {
-            return Ok(());
-        }
-        let spans = spans_of(alloc, world, profile, way)?;
-        add_spans(&mut self.names, spans.as_slice())?;
-        self.ways.insert(way)?;
-        Ok(())
-    }
-}
-
-/// Adds the last steps of the spans.
-fn add_spans(names: &mut BTreeMap<Step, PieceName>, spans: &[PieceSpan]) -> Result<(), NoMemory>
+/// The name of the piece that the step ends, None exactly where it ends none. The spans are all of its way. Takes the time of
+/// the logarithm of their number.
+pub fn piece_ended_by(spans: &[PieceSpan], step: Step) -> Option<PieceName>
     requires { All (λ s. s.name.index < s.end) spans.now }
-    ensures { OnOk result (GainsLastSteps names.old spans.now names.new) }
+    ensures { (M : Objects) (P : Rules) → Lists (λ s. s.name) name_cmp (IsSpanOn M P step.way) spans.now → NamesEnd M P step result }
 {
-    for span in spans {
-        names.insert(last_step(*span), span.name)?;
+    // Of the pieces that begin at or below the step's position only the last two may reach it: the same stretch, forward and
+    // backward.
+    let count = spans.partition_point(|span| span.name.index <= step.index);
+    for span in &spans[count.saturating_sub(2)..count] {
+        if last_step(*span) == step {
+            return Some(span.name);
+        }
     }
-    Ok(())
+    None
 }
 
 /// The step with which the span ends.

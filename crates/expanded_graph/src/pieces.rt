@@ -5,24 +5,24 @@ ghost use Rattle.road_model.specs.Lines.{line_of};
 ghost use Rattle.road_model.specs.Blocks.{IsPieceEntry};
 ghost use Rattle.road_model.specs.Format.{IsPieceForm};
 ghost use Rattle.way_pieces.specs.Names.{IsSpanOn};
-ghost use Rattle.way_pieces.specs.Starts.{AreWayDepartures};
 ghost use Rattle.expanded_graph.specs.Contexts.{AreEndings};
 ghost use Rattle.expanded_graph.specs.States.{AreStates};
 ghost use Rattle.expanded_graph.specs.Travel.{way_node};
-ghost use Rattle.expanded_graph.specs.Turning.{AreIntersections};
+ghost use Rattle.expanded_graph.specs.Turning.{IsCache};
 
+use crate::cache::Cache;
 use crate::contexts::contexts_of;
-use crate::intersections::{Intersections, learn};
+use crate::intersections::learn;
 use crate::places::{WayNode, arrival_of, places_of};
 use crate::states::States;
 use road_base::{NoMemory, WayId};
 use road_model::{Contexts, Piece, Places, Profile, World};
 use std::alloc::Global;
-use way_pieces::{PieceSpan, WayDepartures};
+use way_pieces::PieceSpan;
 
 /// The pieces of the way at these spans. The nodes are those of the way's line, the states those of the way, and the
-/// endings those in which contexts may end there; `own` has the departures over it. What is learnt of the nodes where the
-/// pieces end is kept, also where no memory is found.
+/// endings those in which contexts may end there. What is learnt of the nodes where the pieces end is kept, also where no
+/// memory is found.
 pub fn pieces_along<M: World, P: Profile>(
     alloc: Global,
     world: &M,
@@ -32,17 +32,15 @@ pub fn pieces_along<M: World, P: Profile>(
     endings: &[usize],
     nodes: &[WayNode],
     spans: &[PieceSpan],
-    own: &WayDepartures,
-    known: &mut Intersections,
+    cache: &mut Cache,
 ) -> Result<Vec<Piece>, NoMemory>
     requires states { AreStates (M.objects world.now) (P.rules profile.now) way states.now.automaton.words states.now.automaton.states states.now.facts.items }
     requires endings { AreEndings states.now.automaton states.now.facts.items way endings.now }
     requires line { nodes.now ≡ map (way_node (M.objects world.now)) (line_of (M.objects world.now) way) }
     requires short { length nodes.now ≤ 65535 }
-    requires own { AreWayDepartures (M.objects world.now) (P.rules profile.now) own.now }
-    requires known { AreIntersections (M.objects world.now) (P.rules profile.now) known.old }
+    requires cache { IsCache (M.objects world.now) (P.rules profile.now) cache.old }
     requires spans { All (IsSpanOn (M.objects world.now) (P.rules profile.now) way) spans.now }
-    ensures known { AreIntersections (M.objects world.now) (P.rules profile.now) known.new }
+    ensures cache { IsCache (M.objects world.now) (P.rules profile.now) cache.new }
     ensures names { IfOk result (λ v. map (λ p. p.name) v.items ≡ map (λ s. s.name) spans.now) }
     ensures entries { IfOk result (λ v. All (IsPieceEntry (M.objects world.now) (P.rules profile.now) way) v.items) }
     ensures forms { IfOk result (λ v. All IsPieceForm v.items) }
@@ -50,7 +48,7 @@ pub fn pieces_along<M: World, P: Profile>(
     let mut pieces = Vec::with_capacity(alloc, spans.len())?;
     for span in spans {
         let piece = piece_at(
-            alloc, world, profile, way, states, endings, nodes, own, known, *span,
+            alloc, world, profile, way, states, endings, nodes, cache, *span,
         )?;
         pieces.push(piece)?;
     }
@@ -66,32 +64,37 @@ fn piece_at<M: World, P: Profile>(
     states: &States,
     endings: &[usize],
     nodes: &[WayNode],
-    own: &WayDepartures,
-    known: &mut Intersections,
+    cache: &mut Cache,
     span: PieceSpan,
 ) -> Result<Piece, NoMemory>
     requires states { AreStates (M.objects world.now) (P.rules profile.now) way states.now.automaton.words states.now.automaton.states states.now.facts.items }
     requires endings { AreEndings states.now.automaton states.now.facts.items way endings.now }
     requires line { nodes.now ≡ map (way_node (M.objects world.now)) (line_of (M.objects world.now) way) }
     requires short { length nodes.now ≤ 65535 }
-    requires own { AreWayDepartures (M.objects world.now) (P.rules profile.now) own.now }
-    requires known { AreIntersections (M.objects world.now) (P.rules profile.now) known.old }
+    requires cache { IsCache (M.objects world.now) (P.rules profile.now) cache.old }
     requires span { IsSpanOn (M.objects world.now) (P.rules profile.now) way span }
-    ensures known { AreIntersections (M.objects world.now) (P.rules profile.now) known.new }
+    ensures cache { IsCache (M.objects world.now) (P.rules profile.now) cache.new }
     ensures name { IfOk result (λ p. p.name ≡ span.name) }
     ensures entry { IfOk result (IsPieceEntry (M.objects world.now) (P.rules profile.now) way) }
     ensures form { IfOk result IsPieceForm }
 {
     let places = places_of(alloc, nodes, span)?;
     let arrival = arrival_of(world, nodes, span);
-    learn(alloc, world, profile, own, known, arrival.at)?;
+    learn(
+        alloc,
+        world,
+        profile,
+        &mut cache.pieces,
+        &mut cache.intersections,
+        arrival.at,
+    )?;
     let contexts = contexts_of(
         alloc,
         world,
         profile,
         states,
         endings,
-        known.at(arrival.at),
+        cache.intersections.at(arrival.at),
         span,
         arrival.from,
     )?;

@@ -3,10 +3,11 @@ ghost use Rattle.std.specs.Prelude.{◌≡◌, ◌<◌, ◌∷◌, ◌++◌, [],
 ghost use Rattle.std.specs.Option.{option_to_list};
 ghost use Rattle.road_base.specs.declared.ids.Step.{Step};
 ghost use Rattle.turn_automata.specs.Machines.{StandsFor};
+ghost use Rattle.way_pieces.specs.Starts.{ArePiecesByWay};
 ghost use Rattle.expanded_graph.specs.Known.{NamesEnd, IsKnown, AreKnown, AreAllShort, IsDriven};
 ghost use Rattle.expanded_graph.specs.States.{AreStates};
 
-use crate::last_steps::LastSteps;
+use crate::last_steps::piece_ended_by;
 use crate::words::words_near;
 use road_base::{NoMemory, Step, WayId};
 use road_model::laws::{context_steps, drive_grows, drive_parts, words_on_ways};
@@ -14,6 +15,7 @@ use road_model::{PieceName, Profile, World};
 use std::alloc::Global;
 use turn_automata::{Automaton, State};
 use way_lines::{drivable, pass};
+use way_pieces::PiecesByWay;
 
 /// What is known of a state: whether its steps may be driven, the piece that its last step ends, and how many pieces its
 /// steps spell.
@@ -32,22 +34,25 @@ pub struct States {
 }
 
 impl States {
-    /// The states on the way. Each way on which a state's last step lies is cut into pieces once; all else takes a few
-    /// look-ups for each state.
+    /// The states on the way. Each way on which a state's last step lies is learnt, which stays so where no memory is
+    /// found; all else takes a few look-ups for each state.
     pub fn of<M: World, P: Profile>(
         alloc: Global,
         world: &M,
         profile: &P,
+        pieces: &mut PiecesByWay,
         way: WayId,
     ) -> Result<States, NoMemory>
-        ensures { IfOk result (λ s. AreStates (M.objects world.now) (P.rules profile.now) way s.automaton.words s.automaton.states s.facts.items) }
+        requires { ArePiecesByWay (M.objects world.now) (P.rules profile.now) pieces.old }
+        ensures pieces { ArePiecesByWay (M.objects world.now) (P.rules profile.now) pieces.new }
+        ensures states { IfOk result (λ s. AreStates (M.objects world.now) (P.rules profile.now) way s.automaton.words s.automaton.states s.facts.items) }
     {
         words_on_ways(profile);
         context_steps(profile);
         let words = words_near(alloc, world, profile, way)?;
         let automaton = Automaton::of(alloc, &words)?;
         automaton.closed();
-        let facts = facts_of(alloc, world, profile, &automaton)?;
+        let facts = facts_of(alloc, world, profile, pieces, &automaton)?;
         Ok(States { automaton, facts })
     }
 }
@@ -57,19 +62,22 @@ fn facts_of<M: World, P: Profile>(
     alloc: Global,
     world: &M,
     profile: &P,
+    pieces: &mut PiecesByWay,
     automaton: &Automaton,
 ) -> Result<Vec<StateFacts>, NoMemory>
-    requires { AreAllShort automaton.now.states }
+    requires short { AreAllShort automaton.now.states }
+    requires pieces { ArePiecesByWay (M.objects world.now) (P.rules profile.now) pieces.old }
+    ensures pieces { ArePiecesByWay (M.objects world.now) (P.rules profile.now) pieces.new }
     ensures count { IfOk result (λ v. length v.items ≡ length automaton.now.states) }
     ensures known { IfOk result (λ v. AreKnown (M.objects world.now) (P.rules profile.now) automaton.now v.items) }
 {
     automaton.closed();
-    let mut last_steps = LastSteps::none(alloc);
     let mut facts = Vec::with_capacity(alloc, automaton.len())?;
     facts.push(at_rest())?;
     for state in 1..automaton.len() {
         let (before, step) = automaton.edge(state);
-        let ends = last_steps.name(alloc, world, profile, step)?;
+        pieces.learn(alloc, world, profile, step.way)?;
+        let ends = piece_ended_by(pieces.at(step.way).spans.as_slice(), step);
         let fact = fact_of(
             world,
             profile,
