@@ -6,6 +6,8 @@ Use: hostile.py CASE > OUT.opl
 CASE is one of
   twice       a way of 65,535 references that passes each of its nodes twice
   star        a node with 1,000 ways
+  comb        a way of 65,535 references, and a way of a lower number that leads off at each of its nodes
+  ends        1,000 rules from a way of 65,535 references to the 1,000 ways at its end
   vias        a rule over 16 via ways of 64 steps each, all nodes junctions
   prefix      500 rules that share a prefix of 16 via ways
   rules       a million restrictions on one way
@@ -44,6 +46,22 @@ def star():
     nodes(1, 1001)
     for i in range(1000):
         way(i + 1, [1, i + 2])
+
+
+def comb():
+    nodes(1, 2 * 65535)
+    for n in range(1, 65536):
+        way(n, [n, 65535 + n])
+    way(10**6, range(1, 65536))
+
+
+def ends():
+    nodes(1, 65535 + 1000)
+    for i in range(1000):
+        way(1 + i, [65535, 65536 + i])
+    way(10**6, range(1, 65536))
+    for i in range(1000):
+        rule(1 + i, 'no_left_turn', ['w1000000@from', 'n65535@via', 'w%d@to' % (1 + i)])
 
 
 # from node 1 by way 1 to node 2, then 16 ways of 64 steps each, and ways that lead off at the end; each node of these is a junction
@@ -96,7 +114,7 @@ def turns():
     rule(1, 'no_exit', ['w%d@from' % (1 + i) for i in range(16)] + ['n1@via'] + ['w%d@to' % (101 + i) for i in range(16)])
 
 
-cases = {f.__name__: f for f in (twice, star, vias, prefix, rules, members, turns)}
+cases = {f.__name__: f for f in (twice, star, comb, ends, vias, prefix, rules, members, turns)}
 if len(sys.argv) != 2 or sys.argv[1] not in cases:
     sys.exit(__doc__)
 cases[sys.argv[1]]()
