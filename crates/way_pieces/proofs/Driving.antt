@@ -1,5 +1,5 @@
 -- What may be driven: steps, roads and pieces.
-use Rattle.std.proofs.Common.{◌≡◌, ℕ, ◌+◌, ◌-◌, ◌<◌, ◌≤◌, ◌&&◌, ◌||◌, ◌⊎◌, not, Bool, false, List, length, get_or, slice_get, Option, Some, None, true, IsTrue, inl, inr, refl, sym, ap, subst, ◌∙◌, arith}
+use Rattle.std.proofs.Common.{◌≡◌, ℕ, ◌+◌, ◌-◌, ◌<◌, ◌≤◌, ◌&&◌, ◌||◌, ◌⊎◌, not, Bool, false, List, [], length, get_or, slice_get, Option, Some, None, true, IsTrue, inl, inr, refl, sym, ap, subst, ◌∙◌, arith}
 use Rattle.std.proofs.lemmas.Bool.{and_parts, and_from, or_cases, or_left, or_right, false≢true}
 use Rattle.std.proofs.lemmas.Option.{slice_get_within, slice_get-get_or}
 use Rattle.road_base.specs.declared.ids.NodeId.{NodeId}
@@ -23,6 +23,11 @@ use Rattle.way_pieces.specs.Stretches.{IsStretch, piece_on}
 pub visible_line : (M : Objects) (w : WayId) (body : Way) → way_of M w ≡ Some body → line_of M w ≡ changes body.refs
 unfolding line_of
 visible_line M w body visible = ap (λ (o : Option Way). changes (refs_of o)) visible
+
+-- a way that isn't visible has no line
+pub hidden_line : (M : Objects) (w : WayId) → None ≡ way_of M w → line_of M w ≡ []
+unfolding line_of
+hidden_line M w hidden = ap (λ (o : Option Way). changes (refs_of o)) (sym hidden)
 
 closed : (P : Rules) (d : Dir) → open_way P None d ≡ true → ⊥
 closed P d is = false≢true is

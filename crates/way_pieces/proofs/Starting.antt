@@ -25,7 +25,7 @@ use Rattle.way_pieces.specs.declared.departures.Departure.{Departure}
 use Rattle.way_pieces.specs.declared.starts.Start.{Start}
 use Rattle.way_pieces.specs.Names.{IsDeparture, IsSpanOn, piece_of}
 use Rattle.way_pieces.specs.Departures.{IsOver}
-use Rattle.way_pieces.specs.Starts.{IsWithin, node_in, start_toward, start_on, leaving}
+use Rattle.way_pieces.specs.Starts.{IsWithin, AreStarts, node_in, start_toward, start_on, leaving}
 use Rattle.way_pieces.proofs.Adding.{span_of}
 use Rattle.way_pieces.proofs.Appending.{at_index, map_has, map_from}
 use Rattle.way_pieces.proofs.Departing.{some_node, name_way}
@@ -259,3 +259,23 @@ module _ (v : NodeId) (xs : List Start) (low high : ℕ) (below : IsPartitionPoi
       (λ k d l. less_apart _ (below.0 k d (omega arith) l))
       (λ k d m l. between _ (below.1 k d m (omega arith)) (within.0 k d (omega arith) (omega arith)))
       (λ k d m l. more_apart _ (within.1 k d (omega arith) l)))
+
+-- ---- the starts of a way
+
+module _ (M : Objects) (P : Rules) (w : WayId) (names : IsTotalOrder name_cmp) (total : IsTotalOrder node_cmp) (exact : IsAntisymmetric node_cmp) where
+  -- the starts of its pieces, sorted
+  pub are_starts : (nodes : List NodeId) → nodes ≡ line_of M w → (spans : List PieceSpan) → Lists (λ s. s.name) name_cmp (IsSpanOn M P w) spans → (old new : List Start) → old ≡ map (start_on nodes) spans → IsSortedByKey (λ s. s.node) node_cmp new → IsStableByKey (λ s. s.node) node_cmp old new → AreStarts M P w new
+  are_starts nodes line spans lists old new made sorted stable = record {
+    ascending = sorted;
+    exactly = λ v.
+        subst (λ (l : List Departure). Lists (λ d. d.piece) name_cmp (IsOver M P v w) l)
+        (sym (ap (leaving v) made) ∙ leaving_kept total v old new stable)
+        (starts_listed M P w nodes line names total exact spans lists v);
+  }
+
+  -- a way without pieces has none
+  pub no_starts : (spans : List PieceSpan) → spans ≡ [] → Lists (λ s. s.name) name_cmp (IsSpanOn M P w) spans → (starts : List Start) → starts ≡ [] → AreStarts M P w starts
+  no_starts spans none lists starts empty =
+      are_starts (line_of M w) refl spans lists starts starts (empty ∙ ap (map (start_on (line_of M w))) (sym none))
+      (subst (IsSortedByKey (λ (s : Start). s.node) node_cmp) (sym empty) (λ k d low high. absurd (omega arith)))
+      (λ z. refl)
