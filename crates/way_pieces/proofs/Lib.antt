@@ -9,3 +9,4 @@ pub mod Beginning
 pub mod Departing
 pub mod Filtering
 pub mod Starting
+pub mod Learning
