@@ -1,38 +1,37 @@
 -- One departs over ways that refer to the node, and these were all looked at.
-use Rattle.std.proofs.Common.{◌≡◌, List, take, Contains, Some, pos, sym, ap, subst, ◌∙◌, arith, get_or}
-use Rattle.std.proofs.lemmas.Bool.{false≢true}
+use Rattle.std.proofs.Common.{◌≡◌, List, [], take, Contains, pos, sym, subst, arith}
 use Rattle.std.proofs.lemmas.List.{take_all}
-use Rattle.road_base.specs.declared.ids.NodeId.{NodeId}
 use Rattle.road_base.specs.declared.ids.WayId.{WayId}
-use Rattle.road_model.specs.Driving.{located}
 use Rattle.road_model.specs.Orders.{Lists, name_cmp}
 use Rattle.way_pieces.specs.declared.departures.Departure.{Departure}
 use Rattle.way_pieces.specs.Names.{IsDeparture}
-use Rattle.way_pieces.specs.Departures.{IsOver, Gains}
-use Rattle.way_pieces.proofs.Appending.{lists_none, lists_same}
-use Rattle.way_pieces.proofs.Departing.{SoFar, leaves_located, way_gained, passes}
-use Rattle.way_pieces.proofs.Driving.{is_not}
+use Rattle.way_pieces.proofs.Appending.{contains_none, lists_none, lists_same}
+use Rattle.way_pieces.proofs.Departing.{SoFar, way_gained, passes}
 use Rattle.way_pieces.proofs.pieces_by_way.PiecesByWay.departures.Goals as goal
 
-pub returns-then-not-here : goal.returns-then-not-here
-returns-then-not-here g c =
+pub loop-way-init : goal.loop-way-init
+loop-way-init g c =
     let M = g.M.World.objects c.args.world.now in
     let P = g.P.Profile.rules c.args.profile.now in
     let v = c.args.node in
-    subst (λ (l : List Departure). Lists (λ d. d.piece) name_cmp (IsDeparture M P v) l) (sym c.new-departures.ensures.items)
-    (lists_none (λ d. d.piece) name_cmp (IsDeparture M P v) (λ z dep.
-    false≢true (sym (is_not _ c.if-not-here.true) ∙ (c.see-here.ensures.seen.located ∙ (ap (λ (u : NodeId). located M (Some u)) c.see-here.ensures.node ∙ leaves_located M P v z dep)))))
+    record {
+      listed = subst (λ (l : List Departure). Lists (λ d. d.piece) name_cmp (SoFar M P v []) l) (sym c.new-departures.ensures.items)
+          (lists_none (λ d. d.piece) name_cmp (SoFar M P v []) (λ z so. contains_none z.first.way so.0));
+      known = c.requires;
+    }
 
 pub loop-way-preserved : goal.loop-way-preserved
 loop-way-preserved g c =
     let M = g.M.World.objects c.args.world.now in
     let P = g.P.Profile.rules c.args.profile.now in
-    way_gained M P c.args.node c.ways_at-way-items.result.now c.loop-way.way-index (record { 0 = pos 0 }) c.loop-way.departures.items c.add_over.new.departures.items
-    c.ways_at-way-items.ensures.ascending c.loop-way-test.true c.loop-way.invariant
-    (subst (λ (v : NodeId). Gains (IsOver M P v (get_or c.ways_at-way-items.result.now c.loop-way.way-index (record { 0 = pos 0 }))) c.loop-way.departures.items c.add_over.new.departures.items) c.see-here.ensures.node c.in_ok-add_over.ensures)
+    record {
+      listed = way_gained M P c.args.node c.ways_at-way-items.result.now c.loop-way.way-index (record { 0 = pos 0 }) c.loop-way.departures.items c.add_over.new.departures.items
+          c.ways_at-way-items.ensures.ascending c.loop-way-test.true c.loop-way.invariant.listed c.in_ok-add_over.ensures.gained;
+      known = c.add_over.ensures.known;
+    }
 
-pub returns : goal.returns
-returns g c =
+pub returns-clause-departures : goal.returns-clause-departures
+returns-clause-departures g c =
     let M = g.M.World.objects c.args.world.now in
     let P = g.P.Profile.rules c.args.profile.now in
     let v = c.args.node in
@@ -40,7 +39,7 @@ returns g c =
     let i = c.loop-way.way-index in
     let past = c.loop-way-test.false in
     let whole : take i ways ≡ ways = take_all i ways (omega arith) in
-    lists_same (λ d. d.piece) name_cmp (SoFar M P v (take i ways)) (IsDeparture M P v) c.loop-way.departures.items c.loop-way.invariant
+    lists_same (λ d. d.piece) name_cmp (SoFar M P v (take i ways)) (IsDeparture M P v) c.loop-way.departures.items c.loop-way.invariant.listed
     (λ z so. so.1)
     (λ z dep. (
       subst (λ (ws : List WayId). Contains ws z.first.way) (sym whole) (c.ways_at-way-items.ensures.complete z.first.way (passes M P v z dep (c.roads_refer.ensures M))),
