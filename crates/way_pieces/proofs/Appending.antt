@@ -82,10 +82,6 @@ module _ {A : Type 0} where
         (λ z is. elim (from z is) [ inl here ↦ inr here.0 | inr there ↦ inl there ])
     lists_added Is More xs false y lists above keeps new from = lists_same Is More xs lists keeps (λ z is. elim (from z is) [ inl here ↦ absurd (false≢true here.1) | inr there ↦ there ])
 
-    -- one alone
-    pub lists_single : (Is : A → Type 0) (y : A) → Is y → ((z : A) → Is z → z ≡ y) → Lists name R Is (y ∷ [])
-    lists_single Is y is only = lists_same (λ z. z ≡ y) Is (y ∷ []) (lists_one y) (λ z same. subst Is (sym same) is) only
-
     pub lists_none : (Is : A → Type 0) → ((z : A) → Is z → ⊥) → Lists name R Is []
     lists_none Is none = record {
       ascending = refl;

@@ -1,5 +1,5 @@
--- Where a step stands in a piece, and which steps are the first ones.
-use Rattle.std.proofs.Common.{◌≡◌, ℕ, zero, suc, ◌+◌, ◌-◌, ◌<◌, ◌≤◌, List, [], ◌∷◌, slice_get, Some, IsTrue, refl, sym, ap, subst, ◌∙◌, arith, add-zero}
+-- Where a step stands in a piece, and where it leads.
+use Rattle.std.proofs.Common.{◌≡◌, ℕ, zero, suc, ◌+◌, ◌-◌, ◌<◌, ◌≤◌, List, [], ◌∷◌, slice_get, Some, IsTrue, sym, ap, subst, ◌∙◌, arith, add-zero}
 use Rattle.road_base.specs.declared.ids.NodeId.{NodeId}
 use Rattle.road_base.specs.declared.ids.WayId.{WayId}
 use Rattle.road_base.specs.declared.ids.Step.{Step}
@@ -9,7 +9,7 @@ use Rattle.road_base.specs.Objects.{Objects}
 use Rattle.road_model.specs.Rules.{Rules}
 use Rattle.road_model.specs.Lines.{node_at, head_of, tail_position, forward_steps, backward_steps, steps_from}
 use Rattle.road_model.specs.Driving.{located, drivable}
-use Rattle.road_model.specs.Pieces.{IsPlain, Piece, IsPiece, spell}
+use Rattle.road_model.specs.Pieces.{Piece, IsPiece, spell}
 use Rattle.way_pieces.proofs.Driving.{drivable_parts, located_some}
 
 some_step : (a b : Step) → Some a ≡ Some b → a ≡ b
@@ -64,70 +64,23 @@ steps_at : (w : WayId) (i n : ℕ) (d : Dir) (k : ℕ) (s : Step) → slice_get 
 steps_at w i n Forward k s e = forward_at w i n k s e
 steps_at w i n Backward k s e = backward_at w i n k s e
 
--- ---- positions
-
-abbrev pub begin_at : Dir → ℕ → ℕ → ℕ
-begin_at Forward i j = i
-begin_at Backward i j = j
-
--- the position where one begins to drive the piece
-abbrev pub begin_of : Piece → ℕ
-begin_of p = begin_at p.dir p.index p.end
-
-inside : (d : Dir) (i j k t : ℕ) → i < j → suc k < j - i → t ≡ place_after d i (j - i) (suc k) → (i < t) × (t < j)
-inside Forward i j k t up below e = (omega arith, omega arith)
-inside Backward i j k t up below e = (omega arith, omega arith)
-
 within : (d : Dir) (i j k m : ℕ) → i < j → k < j - i → tail_position d m ≡ place_after d i (j - i) k → (i ≤ m) × (m < j)
 within Forward i j k m up below e = (omega arith, omega arith)
 within Backward i j k m up below e = (omega arith, omega arith)
 
-at_begin : (d : Dir) (i j : ℕ) → i < j → place_after d i (j - i) 0 ≡ begin_at d i j
-at_begin Forward i j up = add-zero i
-at_begin Backward i j up = omega arith
-
 -- ---- pieces
 
-abbrev pub tail_place : Step → ℕ
-tail_place s = tail_position s.dir s.index
-
 module _ (M : Objects) (P : Rules) where
-  neither : (w : WayId) (d : Dir) (i j : ℕ) → (IsPlain M P w i → ⊥) → (IsPlain M P w j → ⊥) → IsPlain M P w (begin_at d i j) → ⊥
-  neither w Forward i j first last = first
-  neither w Backward i j first last = last
+  module _ (p : Piece) (is : IsPiece M P p) (s : Step) (k : ℕ) (at : slice_get (spell p) k ≡ Some s) where
+    pub stands : IsAt p.way p.index (p.end - p.index) p.dir k s
+    stands = steps_at p.way p.index (p.end - p.index) p.dir k s at
 
-  module _ (p : Piece) (is : IsPiece M P p) (s : Step) where
-    module _ (k : ℕ) (at : slice_get (spell p) k ≡ Some s) where
-      pub stands : IsAt p.way p.index (p.end - p.index) p.dir k s
-      stands = steps_at p.way p.index (p.end - p.index) p.dir k s at
-
-      -- a piece's steps are drivable
-      pub step_drives : IsTrue (drivable M P s)
-      step_drives =
-          let places = within p.dir p.index p.end k s.index is.ascends stands.below stands.place in
-          let same : record { way = p.way; index = s.index; dir = p.dir } ≡ s = λ x. record { way = sym stands.way x; index = s.index; dir = sym stands.dir x } in
-          subst (λ t. IsTrue (drivable M P t)) same (is.drives s.index places.0 places.1)
-
-      pub tail_after : tail_place s ≡ place_after p.dir p.index (p.end - p.index) k
-      tail_after = ap (λ d. tail_position d s.index) stands.dir ∙ stands.place
-
-    -- a step that doesn't begin at a plain position is the first one
-    pub is_first : (k : ℕ) → slice_get (spell p) k ≡ Some s → (IsPlain M P s.way (tail_place s) → ⊥) → k ≡ 0
-    is_first zero at junction = refl
-    is_first (suc k) at junction =
-        let places = inside p.dir p.index p.end k (tail_place s) is.ascends (stands (suc k) at).below (tail_after (suc k) at) in
-        absurd (junction (subst (λ w. IsPlain M P w (tail_place s)) (sym (stands (suc k) at).way) (is.inner (tail_place s) places.0 places.1)))
-
-    module _ (at : slice_get (spell p) 0 ≡ Some s) where
-      -- the first step begins where the piece does
-      pub first_begins : tail_place s ≡ begin_of p
-      first_begins = tail_after 0 at ∙ at_begin p.dir p.index p.end is.ascends
-
-      -- which is a junction
-      pub first_junction : IsPlain M P s.way (tail_place s) → ⊥
-      first_junction plain =
-          neither p.way p.dir p.index p.end is.first is.last
-          (subst (λ k. IsPlain M P p.way k) first_begins (subst (λ w. IsPlain M P w (tail_place s)) (stands 0 at).way plain))
+    -- a piece's steps are drivable
+    pub step_drives : IsTrue (drivable M P s)
+    step_drives =
+        let places = within p.dir p.index p.end k s.index is.ascends stands.below stands.place in
+        let same : record { way = p.way; index = s.index; dir = p.dir } ≡ s = λ x. record { way = sym stands.way x; index = s.index; dir = sym stands.dir x } in
+        subst (λ t. IsTrue (drivable M P t)) same (is.drives s.index places.0 places.1)
 
   module _ (s : Step) (drives : IsTrue (drivable M P s)) where
     head_by : (d : Dir) → IsTrue (located M (node_at M s.way s.index)) → IsTrue (located M (node_at M s.way (s.index + 1))) → (v : NodeId) × (head_of M (record { way = s.way; index = s.index; dir = d }) ≡ Some v)

@@ -49,13 +49,6 @@ module _ {N : Type 0} (R : N → N → Ordering) (total : IsTotalOrder R) where
   first_below x (y ∷ ys) up zero d h = (and_parts _ _ up).0
   first_below x (y ∷ ys) up (suc j) d h = let p = and_parts _ _ up in over x y (get_or ys j d) p.0 (first_below y ys p.1 j d (omega arith))
 
-  indexes_below : (xs : List N) → IsTrue (rises R (map (λ a. a) xs)) → (i j : ℕ) (d : N) → i < j → j < length xs → IsTrue (is_lt (R (get_or xs i d) (get_or xs j d)))
-  indexes_below [] up i j d less h = absurd (omega arith)
-  indexes_below (x ∷ xs) up zero zero d less h = absurd (omega arith)
-  indexes_below (x ∷ xs) up zero (suc j) d less h = first_below x xs up j d (omega arith)
-  indexes_below (x ∷ xs) up (suc i) zero d less h = absurd (omega arith)
-  indexes_below (x ∷ xs) up (suc i) (suc j) d less h = indexes_below xs (rest_rises R x (map (λ a. a) xs) up) i j d (omega arith) (omega arith)
-
   -- what was looked at is below what comes
   pub taken_below : (xs : List N) → IsTrue (rises R (map (λ a. a) xs)) → (j : ℕ) (d y : N) → j < length xs → Contains (take j xs) y → IsTrue (is_lt (R y (get_or xs j d)))
   taken_below [] up j d y h has = absurd (omega arith)

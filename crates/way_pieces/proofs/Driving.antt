@@ -1,5 +1,5 @@
 -- What may be driven: steps, roads and pieces.
-use Rattle.std.proofs.Common.{◌≡◌, ℕ, ◌+◌, ◌-◌, ◌<◌, ◌≤◌, ◌&&◌, ◌||◌, ◌⊎◌, not, Bool, false, List, [], length, get_or, slice_get, Option, Some, None, true, IsTrue, inl, inr, refl, sym, ap, subst, ◌∙◌, arith}
+use Rattle.std.proofs.Common.{◌≡◌, ℕ, ◌+◌, ◌-◌, ◌<◌, ◌≤◌, ◌&&◌, ◌||◌, ◌⊎◌, List, [], length, get_or, slice_get, Option, Some, None, true, IsTrue, inl, inr, refl, sym, ap, subst, ◌∙◌, arith}
 use Rattle.std.proofs.lemmas.Bool.{and_parts, and_from, or_cases, or_left, or_right, false≢true}
 use Rattle.std.proofs.lemmas.Option.{slice_get_within, slice_get-get_or}
 use Rattle.road_base.specs.declared.ids.NodeId.{NodeId}
@@ -52,14 +52,6 @@ open_road M P w Backward is = or_right _ _ is
 -- a road is open in one of its directions
 pub open_is_road : (M : Objects) (P : Rules) (r : Road) → IsRoad M P r → is_road M P r.way ≡ (r.forward || r.backward)
 open_is_road M P r is = ap (λ b. b || is_open M P r.way Backward) (sym is.forward) ∙ ap (λ b. r.forward || b) (sym is.backward)
-
-pub unless_not : (b : Bool) → not b ≡ false → b ≡ true
-unless_not true h = refl
-unless_not false h = absurd (false≢true (sym h))
-
-pub is_not : (b : Bool) → not b ≡ true → b ≡ false
-is_not true h = absurd (false≢true h)
-is_not false h = refl
 
 -- ---- nodes
 

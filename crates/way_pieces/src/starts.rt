@@ -1,7 +1,7 @@
 //! The departures over one way, found by the node that they leave.
-ghost use Rattle.std.specs.Prelude.{◌≡◌, ◌<◌, ◌≤◌, ◌-◌, ◌++◌, IfOk, OnOk, IsTrue, length, map, filter, take, drop};
+ghost use Rattle.std.specs.Prelude.{◌≡◌, ◌<◌, ◌≤◌, ◌-◌, ◌++◌, IfOk, OnOk, length, map, filter, take, drop};
 ghost use Rattle.std.specs.List.{All};
-ghost use Rattle.std.specs.List.Sorted.{IsPermutation, IsSortedByKey, IsStableByKey};
+ghost use Rattle.std.specs.List.Sorted.{IsSortedByKey, IsStableByKey};
 ghost use Rattle.road_model.specs.Lines.{same_node};
 ghost use Rattle.road_model.specs.Orders.{node_cmp};
 ghost use Rattle.way_pieces.specs.Starts.{IsWithin, start_by, start_on};
@@ -19,7 +19,11 @@ pub struct Start {
 }
 
 /// Where each of the pieces starts. The nodes are those of the way's line.
-pub fn starts_of(alloc: Global, nodes: &[NodeId], spans: &[PieceSpan]) -> Result<Vec<Start>, NoMemory>
+pub fn starts_of(
+    alloc: Global,
+    nodes: &[NodeId],
+    spans: &[PieceSpan],
+) -> Result<Vec<Start>, NoMemory>
     requires { All (IsWithin (length nodes.now)) spans.now }
     ensures { IfOk result (λ v. v.items ≡ map (start_on nodes.now) spans.now) }
 {
