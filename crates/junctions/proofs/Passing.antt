@@ -1,14 +1,13 @@
 -- What was noted of nodes says whether one drives on.
-use Rattle.std.proofs.Common.{◌≡◌, ◌≢◌, not, Bool, true, false, List, Some, IsTrue, IsFalse, refl, sym, ◌∙◌}
+use Rattle.std.proofs.Common.{◌≡◌, ◌≢◌, not, Bool, true, false, Some, IsTrue, IsFalse, refl, sym, ◌∙◌}
 use Rattle.std.proofs.lemmas.Bool.{and_parts, and_from, false≢true}
 use Rattle.road_base.specs.declared.ids.NodeId.{NodeId}
 use Rattle.road_base.specs.declared.ids.WayId.{WayId}
 use Rattle.road_base.specs.Objects.{Objects}
 use Rattle.road_model.specs.Rules.{Rules}
 use Rattle.road_model.specs.Driving.{located}
-use Rattle.junctions.specs.declared.plain.Neighbours.{Neighbours}
 use Rattle.junctions.specs.declared.seen.Seen.{Seen}
-use Rattle.junctions.specs.Passing.{IsOnNoOther, IsPassed, IsPassedOnce, IsSeen, about}
+use Rattle.junctions.specs.Passing.{IsOnNoOther, IsPassed, IsSeen, about}
 
 pub is_not : (b : Bool) → IsTrue (not b) → IsFalse b
 is_not true h = absurd (false≢true h)
@@ -40,21 +39,3 @@ module _ (M : Objects) (P : Rules) (w : WayId) where
 
     pub over_parts : IsPassed M P w (about near here far) → IsTrue here.through × (IsTrue near.located × (near.node ≢ far))
     over_parts passed = (there.through ∙ and_from _ _ passed.here (and_from _ _ (not_is _ passed.not_shut) (not_is _ passed.no_turning)), (before.located ∙ passed.before, passed.apart))
-
-  abbrev flip : Neighbours → Neighbours
-  flip n = record { before = n.behind; here = n.here; behind = n.before }
-
-  -- one passes a node in both directions or in none
-  pub flipped : (line : List NodeId) (n : Neighbours) → IsPassedOnce M P w line n → IsPassedOnce M P w line (flip n)
-  flipped line n o = record {
-    once = o.once;
-    passed = record {
-      before = (o.passed).behind;
-      here = (o.passed).here;
-      behind = (o.passed).before;
-      apart = λ e. (o.passed).apart (sym e);
-      not_shut = (o.passed).not_shut;
-      no_turning = (o.passed).no_turning;
-      no_other = (o.passed).no_other;
-    };
-  }

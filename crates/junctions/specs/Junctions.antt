@@ -20,12 +20,6 @@ pub record AreJunctions (M : Objects) (P : Rules) (w : WayId) (positions : List 
   pub listed : Lists (λ i. i) nat_cmp (IsJunction M P w) positions
   pub others : (i : ℕ) → IsTrue (is_road M P w) → i < length (line_of M w) → Contains positions i ⊎ IsPlain M P w i
 
--- the position i is the next one below j that isn't plain
-pub record IsNextBelow (M : Objects) (P : Rules) (w : WayId) (j i : ℕ) : Type 0 where
-  pub below : i < j
-  pub junction : IsPlain M P w i → ⊥
-  pub inner : (k : ℕ) → i < k → k < j → IsPlain M P w k
-
 -- the position was listed behind the others, if it isn't plain
 abbrev pub Sorts : Type 0 → ℕ → List ℕ → List ℕ → Type 0
 Sorts Plain i old new = (Plain × (new ≡ old)) ⊎ ((Plain → ⊥) × (new ≡ old ++ i ∷ []))

@@ -1,12 +1,12 @@
 //! The junction positions of a road.
-ghost use Rattle.std.specs.Prelude.{◌≡◌, ◌≤◌, ◌<◌, ◌+◌, ◌-◌, ◌↔◌, Some, IsTrue, IfOk, OnOk, IfSome, IfNone, length};
+ghost use Rattle.std.specs.Prelude.{◌≡◌, ◌≤◌, ◌<◌, ◌+◌, ◌-◌, Some, IsTrue, IfOk, OnOk, IfSome, IfNone, length};
 ghost use Rattle.road_model.specs.Lines.{line_of, node_at};
 ghost use Rattle.road_model.specs.Driving.{is_road};
 ghost use Rattle.road_model.specs.Pieces.{IsPlain};
-ghost use Rattle.junctions.specs.Junctions.{AreJunctions, IsNextBelow, Sorts};
+ghost use Rattle.junctions.specs.Junctions.{AreJunctions, Sorts};
 ghost use Rattle.junctions.specs.Passing.{IsPassedOnce, IsSeen, about};
 
-use crate::plain::{is_on_other, pass_over};
+use crate::plain::pass_over;
 use crate::repeats::Repeats;
 use crate::seen::{Seen, see};
 use road_base::{NoMemory, NodeId, WayId};
@@ -130,71 +130,4 @@ fn pass_once<M: World, P: Profile>(
         return None;
     }
     pass_over(world, profile, way, near, here, far)
-}
-
-/// Whether the position of the road whose line this is, at which the node here stands, is plain.
-pub fn is_plain_at<M: World, P: Profile>(
-    world: &M,
-    profile: &P,
-    way: WayId,
-    line: &Repeats<'_>,
-    at: usize,
-    here: Seen,
-) -> bool
-    requires road { IsTrue (is_road (M.objects world.now) (P.rules profile.now) way) }
-    requires line { line.now ≡ line_of (M.objects world.now) way }
-    requires within { at < length line.now }
-    requires here_at { node_at (M.objects world.now) way at ≡ Some here.node }
-    requires here_seen { IsSeen (M.objects world.now) (P.rules profile.now) here }
-    ensures { IsTrue result ↔ IsPlain (M.objects world.now) (P.rules profile.now) way at }
-{
-    let nodes = line.nodes();
-    if at == 0 || at == nodes.len() - 1 {
-        return false;
-    }
-    if is_on_other(world, profile, way, here.node) {
-        return false;
-    }
-    let near = see(world, profile, nodes[at - 1]);
-    match pass_once(world, profile, way, line, near, here, nodes[at + 1]) {
-        Some(_) => true,
-        None => false,
-    }
-}
-
-/// The next position below this one that isn't plain, on the road whose line this is. The nodes here and before are
-/// known.
-pub fn junction_below<M: World, P: Profile>(
-    world: &M,
-    profile: &P,
-    way: WayId,
-    line: &Repeats<'_>,
-    at: usize,
-    here: Seen,
-    before: Seen,
-) -> usize
-    requires road { IsTrue (is_road (M.objects world.now) (P.rules profile.now) way) }
-    requires line { line.now ≡ line_of (M.objects world.now) way }
-    requires inside { 0 < at }
-    requires within { at < length line.now }
-    requires here_at { node_at (M.objects world.now) way at ≡ Some here.node }
-    requires here_seen { IsSeen (M.objects world.now) (P.rules profile.now) here }
-    requires before_at { node_at (M.objects world.now) way (at - 1) ≡ Some before.node }
-    requires before_seen { IsSeen (M.objects world.now) (P.rules profile.now) before }
-    ensures { IsNextBelow (M.objects world.now) (P.rules profile.now) way at result }
-{
-    let nodes = line.nodes();
-    let mut low = at - 1;
-    let mut above = here;
-    let mut current = before;
-    while low > 0 {
-        let Some(below) = pass_once(world, profile, way, line, above, current, nodes[low - 1])
-        else {
-            return low;
-        };
-        above = current;
-        current = below;
-        low -= 1;
-    }
-    low
 }

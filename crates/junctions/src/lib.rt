@@ -3,8 +3,8 @@
 //! `is_plain` takes the time of the way's references and of the ways at the node, and no memory. `junctions_of` goes
 //! along the line once, looks each node up once, and for each node goes through the ways there until one is another
 //! road: with n references and w ways at their nodes that takes time of the order of n log n + w, and memory of the
-//! order of n. `junction_below` does so from one position down to the next junction. For whether a node stands on the
-//! line again, a line of up to 128 nodes is searched, and a longer one has a map.
+//! order of n. For whether a node stands on the line again, a line of up to 128 nodes is searched, and a longer one has a
+//! map.
 #![tactic(auto)]
 
 mod junction_list;
@@ -13,7 +13,6 @@ mod plain;
 mod repeats;
 mod seen;
 
-pub use junction_list::{SEARCHED, is_plain_at, junction_below, junctions_along, junctions_of};
+pub use junction_list::{SEARCHED, junctions_along, junctions_of};
 pub use plain::is_plain;
 pub use repeats::Repeats;
-pub use seen::{Seen, see};

@@ -116,7 +116,7 @@ fn may_pass(near: Seen, here: Seen, far: NodeId) -> bool
 }
 
 /// Whether a road other than the way passes the node.
-pub fn is_on_other<M: World, P: Profile>(world: &M, profile: &P, way: WayId, node: NodeId) -> bool
+fn is_on_other<M: World, P: Profile>(world: &M, profile: &P, way: WayId, node: NodeId) -> bool
     ensures { IsFalse result ↔ IsOnNoOther (M.objects world.now) (P.rules profile.now) way node }
 {
     for other in world.ways_at(node) {
