@@ -1,64 +1,58 @@
--- The step with which a piece ends names the piece.
-use Rattle.std.proofs.Common.{◌≡◌, ℕ, ◌+◌, ◌<◌, ◌≤◌, ◌⊎◌, inl, inr, List, [], ◌∷◌, ◌++◌, length, take, get_or, refl, sym, ap, ◌∙◌, subst, arith, Bool, true, false, Some, IsTrue, Contains, slice_get}
-use Rattle.std.specs.declared.cmp.Ordering.{Ordering}
-use Rattle.std.specs.declared.cmp.Ordering.TheVariants.{Less, Equal, Greater}
-use Rattle.std.specs.Ordering.{nat_cmp, int_cmp, ordering_then, is_eq}
-use Rattle.std.specs.BTreeMap.{BTreeMap, get, is_at, Updates}
-use Rattle.std.specs.BTreeSet.{BTreeSet, contains, Updates as SetUpdates}
-use Rattle.std.proofs.lemmas.Bool.{false≢true}
-use Rattle.std.proofs.lemmas.Map.Lookups.{exact_unsigned, exact_signed}
-use Rattle.road_base.specs.declared.ids.WayId.{WayId}
+-- The last step of a piece names it, and where a way's pieces that end with a step stand in their list.
+use Rattle.std.proofs.Common.{◌≡◌, ℕ, zero, suc, ◌+◌, ◌-◌, ◌<◌, ◌≤◌, ◌⊎◌, inl, inr, List, [], ◌∷◌, ◌++◌, length, map, take, drop, get_or, refl, sym, ap, ◌∙◌, subst, arith, true, false, ◌&&◌, None, Some, IsTrue, Contains, Ordering, nat_eq, int_eq, add-one, below_more}
+use Rattle.std.specs.declared.cmp.Ordering.TheVariants.{Equal, Greater}
+use Rattle.std.specs.Ordering.{nat_cmp, is_lt, ordering_then}
+use Rattle.std.specs.Cmp.{nat_cmp_is}
+use Rattle.std.specs.List.Sorted.{IsPartitionPoint, IsPartitionedBy}
+use Rattle.std.proofs.Math.Dec.{leb}
+use Rattle.std.proofs.lemmas.Bool.{and_parts, and_from, false≢true, leb-true, leb-false, cases_lt}
+use Rattle.std.proofs.lemmas.Bool.Decides.{Decides-eqb, Decides-int_eq}
+use Rattle.std.proofs.lemmas.Cmp.{int_cmp_total, tied_itself}
+use Rattle.std.proofs.lemmas.List.{length-take-le, length-drop, get_or-take, get_or-drop, get_or_default}
+use Rattle.std.proofs.lemmas.Option.{same_Some}
+use Rattle.std.proofs.lemmas.List.Sorted.{IsNonDecreasingBy-from_all_adjacent, IsPartitionedBy-leb}
 use Rattle.road_base.specs.declared.ids.Step.{Step}
 use Rattle.road_base.specs.declared.ids.Dir.{Dir}
 use Rattle.road_base.specs.declared.ids.Dir.TheVariants.{Forward, Backward}
-use Rattle.road_base.specs.contracts.ids.WayIdOrd.TheImpl.{ghosts as way_order}
-use Rattle.road_base.specs.contracts.ids.StepOrd.TheImpl.{ghosts as step_order}
-use Rattle.road_base.specs.contracts.ids.DirOrd.TheImpl.{ghosts as dir_order}
+use Rattle.road_base.specs.contracts.ids.DirPartialEq.TheImpl.{ghosts as dir_equality}
+use Rattle.road_base.specs.contracts.ids.StepPartialEq.TheImpl.{ghosts as step_equality}
 use Rattle.road_base.specs.Objects.{Objects}
 use Rattle.road_model.specs.declared.lists.PieceName.{PieceName}
 use Rattle.road_model.specs.Rules.{Rules}
 use Rattle.road_model.specs.Driving.{drivable}
-use Rattle.road_model.specs.Pieces.{Piece, IsPiece, IsInOnePiece, spell}
-use Rattle.road_model.specs.Orders.{Lists, name_cmp}
+use Rattle.road_model.specs.Pieces.{IsPlain, Piece, IsPiece, spell}
+use Rattle.road_model.specs.Orders.{Lists, rises, rises_from, way_cmp, dir_cmp, name_cmp}
 use Rattle.road_model.specs.Blocks.{name_of}
 use Rattle.road_model.specs.Turning.{EndsPiece}
 use Rattle.way_pieces.specs.declared.spans.PieceSpan.{PieceSpan}
 use Rattle.way_pieces.specs.Names.{IsSpanOn, piece_of}
-use Rattle.expanded_graph.specs.declared.last_steps.LastSteps.{LastSteps}
-use Rattle.expanded_graph.specs.Known.{NamesEnd, IsLastOf, IsLastOfSome, AreLastSteps, GainsLastSteps}
+use Rattle.expanded_graph.specs.Known.{NamesEnd, IsLastOf}
 use Rattle.expanded_graph.proofs.Ends.{step, last_index, last_step, spell_ends}
 use Rattle.expanded_graph.proofs.Runs.{same_ends}
-use Rattle.expanded_graph.proofs.WordsNear.{among_none, among_more, among_before, among_last}
 
--- ---- orders tell steps and ways apart
+-- ---- equal steps
 
-both_equal : (r s : Ordering) → ordering_then r s ≡ Equal → (r ≡ Equal) × (s ≡ Equal)
-both_equal Less s h = cc
-both_equal Equal s h = (refl, h)
-both_equal Greater s h = cc
+dir_same : (a b : Dir) → dir_equality.eq a b ≡ true → a ≡ b
+dir_same Forward Forward h = refl
+dir_same Forward Backward h = absurd (false≢true h)
+dir_same Backward Forward h = absurd (false≢true h)
+dir_same Backward Backward h = refl
 
-dir_exact : (a b : Dir) → dir_order.cmp a b ≡ Equal → a ≡ b
-dir_exact Forward Forward h = refl
-dir_exact Forward Backward h = cc
-dir_exact Backward Forward h = cc
-dir_exact Backward Backward h = refl
+dir_itself : (a : Dir) → dir_equality.eq a a ≡ true
+dir_itself Forward = refl
+dir_itself Backward = refl
 
-is_equal : (r : Ordering) → is_eq r ≡ true → r ≡ Equal
-is_equal Less h = absurd (false≢true h)
-is_equal Equal h = refl
-is_equal Greater h = absurd (false≢true h)
-
-way_found : (a b : WayId) → is_at (way_order.cmp a) b ≡ true → a ≡ b
-way_found a b h = let w = exact_signed a.0 b.0 (is_equal (way_order.cmp a b) h) in λ j. record { 0 = w j }
-
-step_found : (a b : Step) → is_at (step_order.cmp a) b ≡ true → a ≡ b
-step_found a b h =
-    let p = both_equal (int_cmp a.way.0 b.way.0) (ordering_then (nat_cmp a.index b.index) (dir_order.cmp a.dir b.dir)) (is_equal (step_order.cmp a b) h) in
-    let q = both_equal (nat_cmp a.index b.index) (dir_order.cmp a.dir b.dir) p.1 in
-    let w = exact_signed a.way.0 b.way.0 p.0 in
-    let i = exact_unsigned a.index b.index q.0 in
-    let d = dir_exact a.dir b.dir q.1 in
+step_same : (a b : Step) → step_equality.eq a b ≡ true → a ≡ b
+step_same a b h =
+    let p = and_parts (int_eq a.way.0 b.way.0) (nat_eq a.index b.index && dir_equality.eq a.dir b.dir) h in
+    let q = and_parts (nat_eq a.index b.index) (dir_equality.eq a.dir b.dir) p.1 in
+    let w = (Decides-int_eq a.way.0 b.way.0).0 p.0 in
+    let i = (Decides-eqb a.index b.index).0 q.0 in
+    let d = dir_same a.dir b.dir q.1 in
     λ j. record { way = record { 0 = w j }; index = i j; dir = d j }
+
+step_itself : (a : Step) → step_equality.eq a a ≡ true
+step_itself a = and_from _ _ ((Decides-int_eq a.way.0 a.way.0).1 refl) (and_from _ _ ((Decides-eqb a.index a.index).1 refl) (dir_itself a.dir))
 
 -- ---- last steps
 
@@ -66,19 +60,27 @@ step_found a b h =
 pub last_in : (d : Dir) (p : Piece) → p.index < p.end → p.dir ≡ d → (front : List Step) × (spell p ≡ front ++ step p.way (last_index d p.index p.end) d ∷ [])
 last_in d p h e = let r = spell_ends p h in (r.front, r.is ∙ ap (λ x. r.front ++ step p.way (last_index x p.index p.end) x ∷ []) e)
 
-pub same_last : (s : PieceSpan) (x y : Step) → IsLastOf s x → IsLastOf s y → x ≡ y
-same_last s x y h k = (same_ends h.0 k.0 x y (sym h.1 ∙ k.1)).1
-
 last_within : (d : Dir) (i j : ℕ) → i < j → (i ≤ last_index d i j) × (last_index d i j < j)
 last_within Forward i j h = (omega arith, omega arith)
 last_within Backward i j h = (omega arith, omega arith)
 
-get_behind : (f : List Step) (x : Step) → slice_get (f ++ x ∷ []) (length f) ≡ Some x
-get_behind [] x = refl
-get_behind (y ∷ f) x = get_behind f x
+same_last : (s : PieceSpan) (x y : Step) → IsLastOf s x → IsLastOf s y → x ≡ y
+same_last s x y h k = (same_ends h.0 k.0 x y (sym h.1 ∙ k.1)).1
 
-some_same : (a b : PieceName) → Some a ≡ Some b → a ≡ b
-some_same a b e = cc
+-- a span that ends with another step doesn't end with this one
+other_last : (s : PieceSpan) (x y : Step) → IsLastOf s x → step_equality.eq x y ≡ false → IsLastOf s y → ⊥
+other_last s x y h e k = false≢true (sym e ∙ subst (λ z. step_equality.eq x z ≡ true) (same_last s x y h k) (step_itself x))
+
+-- none of the first so many spans ends with the step
+abbrev pub NoneEnds : List PieceSpan → ℕ → Step → Type 0
+NoneEnds spans n x = (k : ℕ) → k < n → (d : PieceSpan) → IsLastOf (get_or spans k d) x → ⊥
+
+-- nor does the next one, which ends with another step
+pub none_more : (spans : List PieceSpan) (i : ℕ) (d : PieceSpan) (x y : Step) → i < length spans → NoneEnds spans i y → IsLastOf (get_or spans i d) x → step_equality.eq x y ≡ false → NoneEnds spans (i + 1) y
+none_more spans i d x y l none h e = below_more _ _ none (λ f k. other_last (get_or spans i d) x y h e (subst (λ s. IsLastOf s y) (get_or_default spans i f d l) k))
+
+at_or_below : (i j : ℕ) → i ≤ j → (i ≡ j) ⊎ (i < j)
+at_or_below i j h = grind arith
 
 module _ (M : Objects) (P : Rules) where
   last_is : (p : Piece) (front : List Step) (x : Step) → IsPiece M P p → spell p ≡ front ++ x ∷ [] → last_step p ≡ x
@@ -89,84 +91,202 @@ module _ (M : Objects) (P : Rules) where
       let k = last_within p.dir p.index p.end i.ascends in
       subst (λ s. IsTrue (drivable M P s)) (last_is p front x i e) (i.drives (last_index p.dir p.index p.end) k.0 k.1)
 
-  module _ (one : (s : Step) → IsTrue (drivable M P s) → IsInOnePiece M P s) where
-    one_last : (p q : Piece) (f g : List Step) (x : Step) → IsPiece M P p → IsPiece M P q → spell p ≡ f ++ x ∷ [] → spell q ≡ g ++ x ∷ [] → p ≡ q
-    one_last p q f g x i j d e =
-        let o = one x (last_drives p f x i d) in
-        let a = o.only p (length f) (record { piece = i; at = ap (λ l. slice_get l (length f)) d ∙ get_behind f x }) in
-        let b = o.only q (length g) (record { piece = j; at = ap (λ l. slice_get l (length g)) e ∙ get_behind g x }) in
-        a.0 ∙ sym b.0
-
-    pub one_ending : (x : Step) (n k : PieceName) → EndsPiece M P x n → EndsPiece M P x k → n ≡ k
-    one_ending x n k h g = h.named ∙ (ap name_of (one_last h.piece g.piece h.front g.front x h.is g.is h.ends g.ends) ∙ sym g.named)
-
-    -- the last steps with those of the way w
-    module _ (w : WayId) (spans : List PieceSpan) (cut : Lists (λ s. s.name) name_cmp (IsSpanOn M P w) spans)
-        (old : LastSteps) (are : AreLastSteps M P old) (names : BTreeMap Step PieceName) (gains : GainsLastSteps old.names spans names)
-        (ways : BTreeSet WayId) (updates : SetUpdates way_order.cmp old.ways ways w true) where
-      sound_more : (x : Step) (n : PieceName) → get step_order.cmp names x ≡ Some n → EndsPiece M P x n
-      sound_more x n h = elim (gains.from x n h) [
-        | inl o ↦ are.sound x n o
-        | inr s ↦ record { piece = piece_of s.0; is = (cut.sound s.0 s.1).is; named = sym s.2; front = s.3.0; ends = s.3.1 }
-      ]
-
-      some_is : (x : Step) (n : PieceName) → EndsPiece M P x n → (k : PieceName) × (get step_order.cmp names x ≡ Some k) → get step_order.cmp names x ≡ Some n
-      some_is x n h r = r.1 ∙ ap Some (one_ending x r.0 n (sound_more x r.0 r.1) h)
-
-      all_more : (x : Step) (n : PieceName) → IsTrue (contains way_order.cmp ways x.way) → EndsPiece M P x n → get step_order.cmp names x ≡ Some n
-      all_more x n t h = by (is_at (way_order.cmp w) x.way) refl
-        where
-          by : (b : Bool) → is_at (way_order.cmp w) x.way ≡ b → get step_order.cmp names x ≡ Some n
-          by true e =
-              let s : PieceSpan = record { name = name_of h.piece; end = h.piece.end } in
-              let on : h.piece.way ≡ w = ap (λ y. y.way) (last_is h.piece h.front x h.is h.ends) ∙ sym (way_found w x.way e) in
-              some_is x n h (gains.there s x (cut.complete s (record { of = on; is = h.is })) (h.front, h.ends))
-          by false e = some_is x n h (gains.kept x n (are.all x n (sym (updates.2 x.way e) ∙ t) h))
-
-      pub with_way : AreLastSteps M P (record { ways = ways; names = names })
-      with_way = record { sound = sound_more; all = all_more }
-
-  -- what is listed of a step names the piece that it ends
-  pub names_end : (l : LastSteps) → AreLastSteps M P l → (x : Step) → IsTrue (contains way_order.cmp l.ways x.way) → NamesEnd M P x (get step_order.cmp l.names x)
-  names_end l are x t n = (are.sound x n, are.all x n t)
-
--- the last step of one span more
-module _ (old mid new : BTreeMap Step PieceName) (spans : List PieceSpan) (i : ℕ) (d : PieceSpan) (within : i < length spans)
-    (gains : GainsLastSteps old (take i spans) mid) (x : Step) (last : IsLastOf (get_or spans i d) x) (updates : Updates step_order.cmp mid new x (Some (get_or spans i d).name)) where
-  carried : (y : Step) (k : PieceName) → get step_order.cmp mid y ≡ Some k → (j : PieceName) × (get step_order.cmp new y ≡ Some j)
-  carried y k h = by (is_at (step_order.cmp x) y) refl
-    where
-      by : (b : Bool) → is_at (step_order.cmp x) y ≡ b → (j : PieceName) × (get step_order.cmp new y ≡ Some j)
-      by true e = ((get_or spans i d).name, ap (λ z. get step_order.cmp new z) (sym (step_found x y e)) ∙ updates.1)
-      by false e = (k, updates.2 y e ∙ h)
-
-  from_more : (y : Step) (n : PieceName) → get step_order.cmp new y ≡ Some n → (get step_order.cmp old y ≡ Some n) ⊎ IsLastOfSome (take (i + 1) spans) y n
-  from_more y n h = by (is_at (step_order.cmp x) y) refl
-    where
-      by : (b : Bool) → is_at (step_order.cmp x) y ≡ b → (get step_order.cmp old y ≡ Some n) ⊎ IsLastOfSome (take (i + 1) spans) y n
-      by true e =
-          let same = step_found x y e in
-          let named : Some (get_or spans i d).name ≡ Some n = sym updates.1 ∙ ap (λ z. get step_order.cmp new z) same ∙ h in
-          inr (get_or spans i d, among_last spans i d within, some_same _ n named, subst (IsLastOf (get_or spans i d)) same last)
-      by false e = elim (gains.from y n (sym (updates.2 y e) ∙ h)) [
-        | inl o ↦ inl o
-        | inr s ↦ inr (s.0, among_before spans i d within s.0 s.1, s.2, s.3)
-      ]
-
-  there_more : (s : PieceSpan) (y : Step) → Contains (take (i + 1) spans) s → IsLastOf s y → (k : PieceName) × (get step_order.cmp new y ≡ Some k)
-  there_more s y c l = elim (among_more spans i d within s c) [
-    | inl o ↦ let r = gains.there s y o l in carried y r.0 r.1
-    | inr e ↦
-        let same : x ≡ y = same_last s x y (subst (λ t. IsLastOf t x) e last) l in
-        ((get_or spans i d).name, ap (λ z. get step_order.cmp new z) (sym same) ∙ updates.1)
+  -- a piece begins at no position within another of its way
+  begins_alike : (p q : Piece) → IsPiece M P p → IsPiece M P q → p.way ≡ q.way → p.index ≤ q.index → q.index < p.end → p.index ≡ q.index
+  begins_alike p q a b w low high = elim (at_or_below p.index q.index low) [
+    | inl same ↦ same
+    | inr l ↦ absurd (b.first (subst (λ v. IsPlain M P v q.index) w (a.inner q.index l high)))
   ]
 
-  pub gains_more : GainsLastSteps old (take (i + 1) spans) new
-  gains_more = record {
-    from = from_more;
-    kept = λ y n h. let r = gains.kept y n h in carried y r.0 r.1;
-    there = there_more;
-  }
+  -- pieces of one way over one position begin at one position
+  one_start : (k : ℕ) (p q : Piece) → IsPiece M P p → IsPiece M P q → p.way ≡ q.way → p.index ≤ k → k < p.end → q.index ≤ k → k < q.end → p.index ≡ q.index
+  one_start k p q a b w pl ph ql qh = elim (cases_lt p.index q.index) [
+    | inl l ↦ begins_alike p q a b w (omega arith) (omega arith)
+    | inr l ↦ sym (begins_alike q p b a (sym w) l (omega arith))
+  ]
 
-pub gains_none : (names : BTreeMap Step PieceName) → GainsLastSteps names [] names
-gains_none names = record { from = λ x n h. inl h; kept = λ x n h. (n, h); there = λ s x c l. absurd (among_none s c) }
+  -- pieces that end with one step have one name
+  one_ending : (p q : Piece) (f g : List Step) (x : Step) → IsPiece M P p → IsPiece M P q → spell p ≡ f ++ x ∷ [] → spell q ≡ g ++ x ∷ [] → name_of p ≡ name_of q
+  one_ending p q f g x a b d e =
+      let same : last_step p ≡ last_step q = last_is p f x a d ∙ sym (last_is q g x b e) in
+      let k = last_within p.dir p.index p.end a.ascends in
+      let l = last_within q.dir q.index q.end b.ascends in
+      let at : last_index p.dir p.index p.end ≡ last_index q.dir q.index q.end = ap (λ t. t.index) same in
+      let w : p.way ≡ q.way = ap (λ t. t.way) same in
+      let t : p.dir ≡ q.dir = ap (λ t. t.dir) same in
+      let i = one_start (last_index p.dir p.index p.end) p q a b w k.0 k.1 (subst (λ n. q.index ≤ n) (sym at) l.0) (subst (λ n. n < q.end) (sym at) l.1) in
+      λ j. record { way = w j; index = i j; dir = t j }
+
+-- ---- names of one way that ascend
+
+order : (i j : ℕ) → (i < j) ⊎ ((i ≡ j) ⊎ (j < i))
+order i j = grind arith
+
+then_second : (r s : Ordering) → r ≡ Equal → IsTrue (is_lt (ordering_then r s)) → IsTrue (is_lt s)
+then_second r s e h = subst (λ o. IsTrue (is_lt (ordering_then o s))) e h
+
+never_more : (r s : Ordering) → Greater ≡ r → IsTrue (is_lt (ordering_then r s)) → ⊥
+never_more r s e h = false≢true (subst (λ o. IsTrue (is_lt (ordering_then o s))) (sym e) h)
+
+by_position : (i j : ℕ) (s : Ordering) → IsTrue (is_lt (ordering_then (nat_cmp i j) s)) → (i < j) ⊎ ((i ≡ j) × IsTrue (is_lt s))
+by_position i j s h = elim (order i j) [
+  | inl l ↦ inl l
+  | inr o ↦ elim o [
+    | inl e ↦ inr (e, then_second (nat_cmp i j) s (sym (nat_cmp_is i j Equal e)) h)
+    | inr m ↦ absurd (never_more (nat_cmp i j) s (nat_cmp_is i j Greater m) h)
+  ]
+]
+
+forward_first : (d e : Dir) → IsTrue (is_lt (dir_cmp d e)) → (d ≡ Forward) × (e ≡ Backward)
+forward_first Forward Forward h = absurd (false≢true h)
+forward_first Forward Backward h = (refl, refl)
+forward_first Backward Forward h = absurd (false≢true h)
+forward_first Backward Backward h = absurd (false≢true h)
+
+-- the one name is below the other, at a lower position or in the other direction
+abbrev IsNext : PieceName → PieceName → Type 0
+IsNext a b = (a.index < b.index) ⊎ ((a.index ≡ b.index) × (a.dir ≡ Forward) × (b.dir ≡ Backward))
+
+next_name : (a b : PieceName) → a.way ≡ b.way → IsTrue (is_lt (name_cmp a b)) → IsNext a b
+next_name a b w h =
+    let tied : way_cmp a.way b.way ≡ Equal = subst (λ v. way_cmp a.way v ≡ Equal) w (tied_itself int_cmp_total a.way.0) in
+    let places = then_second (way_cmp a.way b.way) _ tied h in
+    elim (by_position a.index b.index (dir_cmp a.dir b.dir) places) [
+      | inl l ↦ inl l
+      | inr e ↦ let f = forward_first a.dir b.dir e.1 in inr (e.0, f.0, f.1)
+    ]
+
+never_lower : (a b : PieceName) → IsNext a b → a.index ≤ b.index
+never_lower a b (inl l) = omega arith
+never_lower a b (inr e) = omega (arith, e.0)
+
+-- there are no three names at one position
+no_three : (a b c : PieceName) → IsNext a b → IsNext b c → a.index ≡ b.index → b.index ≡ c.index → ⊥
+no_three a b c (inl l) n e f = omega arith
+no_three a b c (inr o) (inl l) e f = omega arith
+no_three a b c (inr o) (inr p) e f = let backward : b.dir ≡ Backward = o.2 in let forward : b.dir ≡ Forward = p.1 in cc
+
+rise_next : (n : PieceName) (ss : List PieceSpan) → IsTrue (rises_from name_cmp n (map (λ s. s.name) ss)) → 0 < length ss → (d : PieceSpan) → IsTrue (is_lt (name_cmp n (get_or ss 0 d).name))
+rise_next n [] h l d = absurd (omega arith)
+rise_next n (s ∷ ss) h l d = (and_parts _ _ h).0
+
+rise_rest : (s : PieceSpan) (ss : List PieceSpan) → IsTrue (rises_from name_cmp s.name (map (λ t. t.name) ss)) → IsTrue (rises name_cmp (map (λ t. t.name) ss))
+rise_rest s [] h = refl
+rise_rest s (t ∷ ss) h = (and_parts _ _ h).1
+
+rise_at : (ss : List PieceSpan) → IsTrue (rises name_cmp (map (λ s. s.name) ss)) → (i : ℕ) → suc i < length ss → (d : PieceSpan) → IsTrue (is_lt (name_cmp (get_or ss i d).name (get_or ss (suc i) d).name))
+rise_at [] h i l d = absurd (omega arith)
+rise_at (s ∷ ss) h zero l d = rise_next s.name ss h (omega arith) d
+rise_at (s ∷ ss) h (suc i) l d = rise_at ss (rise_rest s ss h) i (omega arith) d
+
+-- ---- the spans around a step
+
+-- the spans from one place up to another
+abbrev pub part : List PieceSpan → ℕ → ℕ → List PieceSpan
+part spans low high = take (high - low) (drop low spans)
+
+part_length : (spans : List PieceSpan) (low high : ℕ) → high ≤ length spans → length (part spans low high) ≡ high - low
+part_length spans low high l = length-take-le (high - low) (drop low spans) (omega (arith, length-drop low spans))
+
+part_at : (spans : List PieceSpan) (low high i : ℕ) (d : PieceSpan) → i < high - low → get_or (part spans low high) i d ≡ get_or spans (low + i) d
+part_at spans low high i d l = get_or-take (high - low) (drop low spans) i d l ∙ get_or-drop low spans i d
+
+module _ (M : Objects) (P : Rules) (x : Step) where
+  -- a span that ends with the step has the name
+  names_span : (s : PieceSpan) → IsSpanOn M P x.way s → IsLastOf s x → NamesEnd M P x (Some s.name)
+  names_span s on l n = (
+    λ e. record { piece = piece_of s; is = on.is; named = sym (same_Some s.name n e); front = l.0; ends = l.1 },
+    λ h. ap Some (one_ending M P (piece_of s) h.piece l.0 h.front x on.is h.is l.1 h.ends ∙ sym h.named),
+  )
+
+  module _ (spans : List PieceSpan) (lists : Lists (λ s. s.name) name_cmp (IsSpanOn M P x.way) spans) where
+    is_span : (i : ℕ) (d : PieceSpan) → i < length spans → IsSpanOn M P x.way (get_or spans i d)
+    is_span i d l = lists.sound (get_or spans i d) (i, l, get_or_default spans i (get_or spans i d) d l)
+
+    next_at : (i : ℕ) (d : PieceSpan) → suc i < length spans → IsNext (get_or spans i d).name (get_or spans (suc i) d).name
+    next_at i d l =
+        let s = is_span i d (omega arith) in
+        let t = is_span (suc i) d l in
+        next_name (get_or spans i d).name (get_or spans (suc i) d).name (s.of ∙ sym t.of) (rise_at spans lists.ascending i l d)
+
+    rise_by_one : (i : ℕ) (d : PieceSpan) → i + 1 < length spans → (get_or spans i d).name.index ≤ (get_or spans (i + 1) d).name.index
+    rise_by_one i d l = rw add-one (never_lower (get_or spans i d).name (get_or spans (suc i) d).name (next_at i d (omega arith)))
+
+    -- the spans that begin at or below a position stand in front
+    pub parted : IsPartitionedBy (λ s. leb s.name.index x.index) spans
+    parted = IsPartitionedBy-leb (λ s. s.name.index) spans x.index (IsNonDecreasingBy-from_all_adjacent (λ s. s.name.index) spans rise_by_one)
+
+    -- where the spans end that begin at or below the step
+    module _ (count : ℕ) (point : IsPartitionPoint (λ s. leb s.name.index x.index ≡ true) (λ s. leb s.name.index x.index ≡ false) spans count) (fits : count ≤ length spans) where
+      begins_low : (i : ℕ) (d : PieceSpan) → i < count → (get_or spans i d).name.index ≤ x.index
+      begins_low i d l = leb-true (get_or spans i d).name.index x.index (point.0 i d (omega arith) l)
+
+      begins_high : (i : ℕ) (d : PieceSpan) → count ≤ i → i < length spans → x.index < (get_or spans i d).name.index
+      begins_high i d h l = leb-false (get_or spans i d).name.index x.index (point.1 i d h l)
+
+      -- a piece that the step ends stands before that place, and at most one other between
+      module _ (n : PieceName) (ending : EndsPiece M P x n) where
+        abbrev own : PieceSpan
+        own = record { name = name_of ending.piece; end = ending.piece.end }
+
+        last : last_step ending.piece ≡ x
+        last = last_is M P ending.piece ending.front x ending.is ending.ends
+
+        over : (own.name.index ≤ x.index) × (x.index < own.end)
+        over =
+            let k = last_within own.name.dir own.name.index own.end ending.is.ascends in
+            let at : last_index own.name.dir own.name.index own.end ≡ x.index = ap (λ s. s.index) last in
+            (subst (λ i. own.name.index ≤ i) at k.0, subst (λ i. i < own.end) at k.1)
+
+        on : IsSpanOn M P x.way own
+        on = record { of = ap (λ s. s.way) last; is = ending.is }
+
+        among : Contains spans own
+        among = lists.complete own on
+
+        alike : (s : PieceSpan) → IsSpanOn M P x.way s → own.name.index ≤ s.name.index → s.name.index ≤ x.index → own.name.index ≡ s.name.index
+        alike s is low high = let o = over in begins_alike M P (piece_of own) (piece_of s) on.is is.is (on.of ∙ sym is.of) low (omega arith)
+
+        before : among.0 < count
+        before = elim (cases_lt among.0 count) [
+          | inl l ↦ l
+          | inr h ↦
+              let above = begins_high among.0 own h among.1 in
+              let same : (get_or spans among.0 own).name.index ≡ own.name.index = ap (λ s. s.name.index) among.2 in
+              let o = over in
+              absurd (omega arith)
+        ]
+
+        two_more : suc (suc among.0) < count → ⊥
+        two_more l =
+            let a = get_or spans among.0 own in
+            let b = get_or spans (suc among.0) own in
+            let c = get_or spans (suc (suc among.0)) own in
+            let same : a.name.index ≡ own.name.index = ap (λ s. s.name.index) among.2 in
+            let ab : IsNext a.name b.name = next_at among.0 own (omega arith) in
+            let bc : IsNext b.name c.name = next_at (suc among.0) own (omega arith) in
+            let up = never_lower a.name b.name ab in
+            let upper = never_lower b.name c.name bc in
+            let e = alike b (is_span (suc among.0) own (omega arith)) (omega arith) (begins_low (suc among.0) own (omega arith)) in
+            let f = alike c (is_span (suc (suc among.0)) own (omega arith)) (omega arith) (begins_low (suc (suc among.0)) own l) in
+            no_three a.name b.name c.name ab bc (same ∙ e) (sym e ∙ f)
+
+        not_none : (low : ℕ) → low ≡ count - 2 → NoneEnds (part spans low count) (length (part spans low count)) x → ⊥
+        not_none low e none =
+            let l = before in
+            let near : count ≤ suc (suc among.0) = elim (cases_lt (suc (suc among.0)) count) [ inl more ↦ absurd (two_more more) | inr h ↦ h ] in
+            let at : low + (among.0 - low) ≡ among.0 = omega arith in
+            let within : among.0 - low < length (part spans low count) = omega (arith, part_length spans low count fits) in
+            let is : get_or (part spans low count) (among.0 - low) own ≡ own = part_at spans low count (among.0 - low) own (omega arith) ∙ (ap (λ i. get_or spans i own) at ∙ among.2) in
+            none (among.0 - low) within own (subst (λ s. IsLastOf s x) (sym is) (ending.front, ending.ends))
+
+      -- what a search through the last two of them finds
+      module _ (low : ℕ) (back : low ≡ count - 2) where
+        pub names_none : NoneEnds (part spans low count) (length (part spans low count)) x → NamesEnd M P x None
+        names_none none n = (λ e. cc, λ h. absurd (not_none n h low back none))
+
+        pub names_some : (i : ℕ) (d : PieceSpan) (y : Step) → i < length (part spans low count) → IsLastOf (get_or (part spans low count) i d) y → step_equality.eq y x ≡ true → NamesEnd M P x (Some (get_or (part spans low count) i d).name)
+        names_some i d y l h e =
+            let c = part_length spans low count fits in
+            let is : get_or (part spans low count) i d ≡ get_or spans (low + i) d = part_at spans low count i d (omega arith) in
+            names_span (get_or (part spans low count) i d) (subst (IsSpanOn M P x.way) (sym is) (is_span (low + i) d (omega arith))) (subst (IsLastOf (get_or (part spans low count) i d)) (step_same y x e) h)
