@@ -23,7 +23,7 @@ use Rattle.turn_automata.specs.Watched.{IsWatchable}
 use Rattle.turn_automata.specs.Machines.{Machine}
 use Rattle.expanded_graph.specs.declared.states.StateFacts.{StateFacts}
 use Rattle.expanded_graph.specs.States.{AreStates}
-use Rattle.expanded_graph.specs.Contexts.{AreEndings, EndsWithName, IsContextIn, HasContexts}
+use Rattle.expanded_graph.specs.Contexts.{AreEndingsWith, IsContextIn, HasContexts}
 use Rattle.expanded_graph.proofs.Members.{In, push_cases, from_map, in_from_contains, contains_from_in, in_end, in_left}
 use Rattle.expanded_graph.proofs.Ascending.{Climbs, climbs_take, below_end, not_itself}
 use Rattle.expanded_graph.proofs.Runs.{same_ends, one_at, nil_or_cons, context_pieces}
@@ -38,16 +38,16 @@ map_none f (x ∷ xs) e = cc
 abbrev pub before_of : Context → List PieceName
 before_of e = e.before
 
--- the contexts written so far: the piece alone, and one in each of the states so far that end with it
-pub record Gathered (M : Objects) (P : Rules) (m : Machine) (facts : List StateFacts) (p : Piece) (ns : List ℕ) (es : List Context) : Type 0 where
+-- the contexts written so far: the piece alone, and one in each of the states so far
+pub record Gathered (M : Objects) (P : Rules) (m : Machine) (p : Piece) (ns : List ℕ) (es : List Context) : Type 0 where
   pub sound : (e : Context) → In e es → IsContextEntry M P p e
   pub alone : (e : Context) × In e es × (e.before ≡ [])
   pub from : (e : Context) → In e es → (e.before ≡ []) ⊎ ((n : ℕ) × In n ns × IsContextIn M P m p n e)
-  pub all : (n : ℕ) → In n ns → EndsWithName facts n (name_of p) → (e : Context) × In e es × IsContextIn M P m p n e
+  pub all : (n : ℕ) → In n ns → (e : Context) × In e es × IsContextIn M P m p n e
   pub distinct : IsDistinct (eq_by_cmp names_cmp) (map before_of es)
 
-module _ (M : Objects) (P : Rules) (laws : StepLaws M P) (total : IsTotalOrder names_cmp) (ties : IsAntisymmetric names_cmp) (m : Machine) (facts : List StateFacts) (closed : IsClosed m.states) (p : Piece) where
-  pub gathered_alone : (e : Context) → IsContextEntry M P p e → e.before ≡ [] → Gathered M P m facts p [] (e ∷ [])
+module _ (M : Objects) (P : Rules) (laws : StepLaws M P) (total : IsTotalOrder names_cmp) (ties : IsAntisymmetric names_cmp) (m : Machine) (closed : IsClosed m.states) (p : Piece) where
+  pub gathered_alone : (e : Context) → IsContextEntry M P p e → e.before ≡ [] → Gathered M P m p [] (e ∷ [])
   gathered_alone e h none = record {
     sound = λ x i. elim i [ inl same ↦ subst (IsContextEntry M P p) (sym same) h | inr j ↦ absurd j ];
     alone = (e, inl refl, none);
@@ -56,19 +56,7 @@ module _ (M : Objects) (P : Rules) (laws : StepLaws M P) (total : IsTotalOrder n
     distinct = IsDistinct-push (eq_by_cmp_equiv total) [] e.before (nothing_distinct (eq_by_cmp names_cmp)) refl;
   }
 
-  module _ (ns : List ℕ) (es : List Context) (so_far : Gathered M P m facts p ns es) (n : ℕ) where
-    pub gathered_skip : (EndsWithName facts n (name_of p) → ⊥) → Gathered M P m facts p (ns ++ n ∷ []) es
-    gathered_skip other = record {
-      sound = so_far.sound;
-      alone = so_far.alone;
-      from = λ e i. elim (so_far.from e i) [ inl none ↦ inl none | inr r ↦ inr (r.0, in_left ns (n ∷ []) r.0 r.1, r.2) ];
-      all = λ k i named. elim (push_cases ns n k i) [
-        | inl j ↦ so_far.all k j named
-        | inr same ↦ absurd (other (subst (λ v. EndsWithName facts v (name_of p)) same named))
-      ];
-      distinct = so_far.distinct;
-    }
-
+  module _ (ns : List ℕ) (es : List Context) (so_far : Gathered M P m p ns es) (n : ℕ) where
     module _ (up : (k : ℕ) → In k ns → k ≡ n → ⊥) (x : Context) (h : IsContextIn M P m p n x) where
       other_names : (e : Context) → In e es → x.before ≡ e.before → ⊥
       other_names e i same = elim (so_far.from e i) [
@@ -83,7 +71,7 @@ module _ (M : Objects) (P : Rules) (laws : StepLaws M P) (total : IsTotalOrder n
           let r = from_map before_of es y i in
           apart names_cmp total ties x.before y (λ same. other_names r.0 r.1 (same ∙ r.2)))))
 
-      pub gathered_more : Gathered M P m facts p (ns ++ n ∷ []) (es ++ x ∷ [])
+      pub gathered_more : Gathered M P m p (ns ++ n ∷ []) (es ++ x ∷ [])
       gathered_more = record {
         sound = λ e i. elim (push_cases es x e i) [ inl j ↦ so_far.sound e j | inr same ↦ subst (IsContextEntry M P p) (sym same) h.entry ];
         alone = let a = so_far.alone in (a.0, in_left es (x ∷ []) a.0 a.1, a.2);
@@ -91,8 +79,8 @@ module _ (M : Objects) (P : Rules) (laws : StepLaws M P) (total : IsTotalOrder n
           | inl j ↦ elim (so_far.from e j) [ inl none ↦ inl none | inr r ↦ inr (r.0, in_left ns (n ∷ []) r.0 r.1, r.2) ]
           | inr same ↦ inr (n, in_end ns n [], subst (IsContextIn M P m p n) (sym same) h)
         ];
-        all = λ k i named. elim (push_cases ns n k i) [
-          | inl j ↦ let r = so_far.all k j named in (r.0, in_left es (x ∷ []) r.0 r.1, r.2)
+        all = λ k i. elim (push_cases ns n k i) [
+          | inl j ↦ let r = so_far.all k j in (r.0, in_left es (x ∷ []) r.0 r.1, r.2)
           | inr same ↦ (x, in_end es x [], subst (λ v. IsContextIn M P m p v x) (sym same) h)
         ];
         distinct = new;
@@ -100,7 +88,7 @@ module _ (M : Objects) (P : Rules) (laws : StepLaws M P) (total : IsTotalOrder n
 
   -- ---- along the endings
 
-  module _ (ns : List ℕ) (rising : IsTrue (rises nat_cmp ns)) (es : List Context) (i : ℕ) (within : i < length ns) (so_far : Gathered M P m facts p (take i ns) es) where
+  module _ (ns : List ℕ) (rising : IsTrue (rises nat_cmp ns)) (es : List Context) (i : ℕ) (within : i < length ns) (so_far : Gathered M P m p (take i ns) es) where
     abbrev at : ℕ
     at = get_or ns i 0
 
@@ -113,22 +101,19 @@ module _ (M : Objects) (P : Rules) (laws : StepLaws M P) (total : IsTotalOrder n
         let below = below_end (λ n. n) nat_cmp nat_cmp_total (take i ns) at climb k j in
         not_itself (λ n. n) nat_cmp nat_cmp_total at (subst (λ v. IsTrue (is_lt (nat_cmp v at))) same below)
 
-    pub skip_at : (EndsWithName facts at (name_of p) → ⊥) → Gathered M P m facts p (take (i + 1) ns) es
-    skip_at other = subst (λ l. Gathered M P m facts p l es) (sym grown) (gathered_skip (take i ns) es so_far at other)
-
-    pub more_at : (x : Context) → IsContextIn M P m p at x → Gathered M P m facts p (take (i + 1) ns) (es ++ x ∷ [])
-    more_at x h = subst (λ l. Gathered M P m facts p l (es ++ x ∷ [])) (sym grown) (gathered_more (take i ns) es so_far at apart_before x h)
+    pub more_at : (n : ℕ) → at ≡ n → (x : Context) → IsContextIn M P m p n x → Gathered M P m p (take (i + 1) ns) (es ++ x ∷ [])
+    more_at n is x h = subst (λ l. Gathered M P m p l (es ++ x ∷ [])) (sym grown) (gathered_more (take i ns) es so_far at apart_before x (subst (λ k. IsContextIn M P m p k x) (sym is) h))
 
   -- ---- all contexts
 
-  module _ (lists : (q : List Step) → Contains m.states q ↔ IsWatchable m.words q) (piece : IsPiece M P p) (known : AreStates M P p.way m.words m.states facts) (one_steps : (c d : List Piece) (q : List Step) → Every (IsPiece M P) c → Every (IsPiece M P) d → HasTurnSteps c q → HasTurnSteps d q → c ≡ d) (ns : List ℕ) (endings : AreEndings m facts p.way ns) (es : List Context) (gathered : Gathered M P m facts p ns es) where
+  module _ (facts : List StateFacts) (lists : (q : List Step) → Contains m.states q ↔ IsWatchable m.words q) (piece : IsPiece M P p) (known : AreStates M P p.way m.words m.states facts) (one_steps : (c d : List Piece) (q : List Step) → Every (IsPiece M P) c → Every (IsPiece M P) d → HasTurnSteps c q → HasTurnSteps d q → c ≡ d) (ns : List ℕ) (endings : AreEndingsWith m facts p.way (name_of p) ns) (es : List Context) (gathered : Gathered M P m p ns es) where
     there : (before : List Piece) → IsContext M P (before ++ p ∷ []) → (e : Context) × Contains es e × (e.before ≡ map name_of before)
     there before context = elim (nil_or_cons before) [
       | inl none ↦ let a = gathered.alone in (a.0, contains_from_in es a.0 a.1, a.2 ∙ ap (map name_of) (sym none))
       | inr r ↦
           let some : before ≡ [] → ⊥ = λ z. (let e = r.2 in cc) in
           let state = ends_in M P laws m facts closed lists p piece known before some context in
-          let found = gathered.all state.number (in_from_contains ns state.number ((endings.each state.number).1 state.ending)) state.named in
+          let found = gathered.all state.number (in_from_contains ns state.number ((endings.each state.number).1 (state.ending, state.named))) in
           let h = found.2 in
           let steps = one_at m.states state.number h.steps state.steps h.at state.at in
           let same = one_steps (h.entry.before ++ p ∷ []) (before ++ p ∷ []) state.steps (context_pieces M P (h.entry.before ++ p ∷ []) h.entry.context) (context_pieces M P (before ++ p ∷ []) context) (subst (HasTurnSteps (h.entry.before ++ p ∷ [])) steps h.turn) state.turn in

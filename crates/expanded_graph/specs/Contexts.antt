@@ -1,7 +1,8 @@
 -- The contexts in which one comes to an intersection, and the states in which they are.
-use Rattle.std.specs.Prelude.{◌≡◌, ℕ, ◌↔◌, List, [], ◌∷◌, ◌++◌, map, Some, IsTrue, slice_get, Contains}
+use Rattle.std.specs.Prelude.{◌≡◌, ℕ, ◌↔◌, Bool, List, [], ◌∷◌, ◌++◌, map, filter, Some, IsTrue, slice_get, Contains}
 use Rattle.std.specs.List.{IsDistinct}
-use Rattle.std.specs.Ordering.{eq_by_cmp, nat_cmp}
+use Rattle.std.specs.List.Sorted.{IsSortedByKey}
+use Rattle.std.specs.Ordering.{eq_by_cmp, nat_cmp, is_eq}
 use Rattle.road_base.specs.declared.ids.NodeId.{NodeId}
 use Rattle.road_base.specs.declared.ids.WayId.{WayId}
 use Rattle.road_base.specs.declared.ids.Step.{Step}
@@ -11,11 +12,12 @@ use Rattle.road_model.specs.declared.lists.Context.{Context}
 use Rattle.road_model.specs.Rules.{Rules}
 use Rattle.road_model.specs.Pieces.{Piece}
 use Rattle.road_model.specs.Network.{Legal, IsContext}
-use Rattle.road_model.specs.Orders.{rises, names_cmp}
+use Rattle.road_model.specs.Orders.{rises, name_cmp, names_cmp}
 use Rattle.road_model.specs.Turning.{HasTurnSteps}
 use Rattle.road_model.specs.Blocks.{IsContextEntry, name_of}
 use Rattle.turn_automata.specs.Machines.{Machine, StandsFor, Watches}
 use Rattle.expanded_graph.specs.declared.states.StateFacts.{StateFacts}
+use Rattle.expanded_graph.specs.declared.endings.Ending.{Ending}
 use Rattle.expanded_graph.specs.States.{AreStates}
 use Rattle.expanded_graph.specs.Travel.{Arrives}
 
@@ -49,10 +51,26 @@ pub record IsEnding (m : Machine) (facts : List StateFacts) (w : WayId) (n : ℕ
   pub ends : known.ends ≡ Some name
   pub on : name.way ≡ w
 
--- the states in which contexts may end on the way, ascending
-pub record AreEndings (m : Machine) (facts : List StateFacts) (w : WayId) (ns : List ℕ) : Type 0 where
+-- the last step of the state with number n ends the piece of that name
+pub record EndsWithName (facts : List StateFacts) (n : ℕ) (name : PieceName) : Type 0 where
+  pub known : StateFacts
+  pub fact : slice_get facts n ≡ Some known
+  pub ends : known.ends ≡ Some name
+
+-- whether the two names are one
+abbrev pub same_name : PieceName → PieceName → Bool
+same_name a b = is_eq (name_cmp a b)
+
+-- the states in which contexts may end on the way with the piece of that name, ascending
+pub record AreEndingsWith (m : Machine) (facts : List StateFacts) (w : WayId) (name : PieceName) (ns : List ℕ) : Type 0 where
   pub ascending : IsTrue (rises nat_cmp ns)
-  pub each : (n : ℕ) → Contains ns n ↔ IsEnding m facts w n
+  pub each : (n : ℕ) → Contains ns n ↔ (IsEnding m facts w n × EndsWithName facts n name)
+
+-- the endings are sorted by their pieces, and those with any one piece have exactly the states in which contexts may end
+-- on the way with it, ascending
+pub record AreEndings (m : Machine) (facts : List StateFacts) (w : WayId) (es : List Ending) : Type 0 where
+  pub sorted : IsSortedByKey (λ e. e.piece) name_cmp es
+  pub each : (name : PieceName) → AreEndingsWith m facts w name (map (λ e. e.state) (filter (λ e. same_name e.piece name) es))
 
 -- the context of the piece that ends in the state with number n, as it is written
 pub record IsContextIn (M : Objects) (P : Rules) (m : Machine) (p : Piece) (n : ℕ) (e : Context) : Type 0 where
@@ -61,12 +79,6 @@ pub record IsContextIn (M : Objects) (P : Rules) (m : Machine) (p : Piece) (n : 
   pub steps : List Step
   pub at : StandsFor m n steps
   pub turn : HasTurnSteps (entry.before ++ p ∷ []) steps
-
--- the last step of the state with number n ends the piece of that name
-pub record EndsWithName (facts : List StateFacts) (n : ℕ) (name : PieceName) : Type 0 where
-  pub known : StateFacts
-  pub fact : slice_get facts n ≡ Some known
-  pub ends : known.ends ≡ Some name
 
 -- each context of the piece is written once
 pub record HasContexts (M : Objects) (P : Rules) (p : Piece) (es : List Context) : Type 0 where

@@ -1,9 +1,8 @@
 //! The contexts of a piece: the piece alone, and behind other pieces those that begin a word of a restriction.
-ghost use Rattle.std.specs.Prelude.{◌≡◌, ◌<◌, ◌↔◌, List, [], ◌∷◌, ◌++◌, length, map, Some, IfOk, IsTrue, Contains, OnOk};
+ghost use Rattle.std.specs.Prelude.{◌≡◌, [], map, IfOk, OnOk, IsTrue};
 ghost use Rattle.std.specs.List.{AllByRecursion, IsDistinct};
 ghost use Rattle.std.specs.List.Sorted.{IsPermutation};
 ghost use Rattle.std.specs.Ordering.{eq_by_cmp};
-ghost use Rattle.road_model.specs.declared.lists.PieceName.{PieceName};
 ghost use Rattle.road_model.specs.Pieces.{IsPiece};
 ghost use Rattle.road_model.specs.Orders.{Lists, rises, names_cmp};
 ghost use Rattle.road_model.specs.Blocks.{IsContextEntry};
@@ -15,13 +14,14 @@ ghost use Rattle.expanded_graph.specs.Travel.{Arrives};
 ghost use Rattle.expanded_graph.specs.Turning.{IsIntersection};
 
 use crate::arcs::arcs_at;
+use crate::endings::{Ending, endings_with};
 use crate::intersections::Intersection;
 use crate::last_steps::last_step;
 use crate::names::names_before;
 use crate::states::States;
 use road_base::{NoMemory, NodeId};
 use road_model::laws::{context_steps, drive_grows, name_order, one_name};
-use road_model::{Arcs, Context, Names, PieceName, Profile, World};
+use road_model::{Arcs, Context, Names, Profile, World};
 use std::alloc::Global;
 use std::cmp::Ordering;
 use turn_automata::State;
@@ -34,7 +34,7 @@ pub fn contexts_of<M: World, P: Profile>(
     world: &M,
     profile: &P,
     states: &States,
-    endings: &[usize],
+    endings: &[Ending],
     intersection: &Intersection,
     span: PieceSpan,
     from: NodeId,
@@ -65,13 +65,14 @@ pub fn contexts_of<M: World, P: Profile>(
     Ok(contexts)
 }
 
-/// The contexts of the piece in any order: the piece alone, and one in each of the states in which it ends one.
+/// The contexts of the piece in any order: the piece alone, and one in each of the states in which it ends one. Only the
+/// endings with the piece are looked at.
 fn all_contexts<M: World, P: Profile>(
     alloc: Global,
     world: &M,
     profile: &P,
     states: &States,
-    endings: &[usize],
+    endings: &[Ending],
     intersection: &Intersection,
     span: PieceSpan,
     from: NodeId,
@@ -90,16 +91,14 @@ fn all_contexts<M: World, P: Profile>(
     let mut contexts = Vec::new(alloc);
     let alone = context_alone(alloc, world, profile, states, intersection, span, from)?;
     contexts.push(alone)?;
-    for ending in endings {
-        if !is_named(states.facts[*ending].ends, span.name) {
-            continue;
-        }
+    let here = endings_with(endings, span.name);
+    for ending in here {
         let context = context_in(
             alloc,
             world,
             profile,
             states,
-            State(*ending),
+            State(ending.state),
             intersection,
             span,
             from,
@@ -107,16 +106,6 @@ fn all_contexts<M: World, P: Profile>(
         contexts.push(context)?;
     }
     Ok(contexts)
-}
-
-/// Whether the name is there and is this one.
-fn is_named(name: Option<PieceName>, this: PieceName) -> bool
-    ensures { IsTrue result ↔ (name ≡ Some this) }
-{
-    match name {
-        Some(name) => name == this,
-        None => false,
-    }
 }
 
 /// The context of the piece alone.

@@ -1,53 +1,98 @@
-//! The states in which contexts of two pieces or more end on a way.
-ghost use Rattle.std.specs.Prelude.{◌≡◌, ◌<◌, ◌↔◌, length, Some, IfOk, IsTrue};
+//! The states in which contexts of two pieces or more end on a way, found by the pieces with which they end.
+ghost use Rattle.std.specs.Prelude.{◌≡◌, ◌<◌, ◌≤◌, ◌-◌, ◌↔◌, length, filter, take, drop, Some, IfOk, OnOk};
+ghost use Rattle.std.specs.List.Sorted.{IsSortedByKey, IsStableByKey};
 ghost use Rattle.road_model.specs.declared.lists.PieceName.{PieceName};
-ghost use Rattle.expanded_graph.specs.Contexts.{IsEnding, AreEndings};
+ghost use Rattle.road_model.specs.Orders.{name_cmp};
+ghost use Rattle.expanded_graph.specs.Contexts.{IsEnding, AreEndings, EndsWithName, same_name};
 
 use crate::states::States;
 use road_base::{NoMemory, WayId};
 use road_model::PieceName;
+use road_model::laws::name_order;
 use std::alloc::Global;
 
-/// The states in which contexts may end on the way, ascending.
-pub fn endings_on(alloc: Global, states: &States, way: WayId) -> Result<Vec<usize>, NoMemory>
+/// A state in which a context may end, and the piece that it ends with.
+#[derive(Clone, Copy, Debug)]
+pub struct Ending {
+    pub piece: PieceName,
+    pub state: usize,
+}
+
+/// The states in which contexts may end on the way, by the piece with which they end, and those of a piece by their numbers.
+pub fn endings_on(alloc: Global, states: &States, way: WayId) -> Result<Vec<Ending>, NoMemory>
     requires { length states.now.facts.items ≡ length states.now.automaton.states }
     ensures { IfOk result (λ v. AreEndings states.now.automaton states.now.facts.items way v.items) }
 {
+    name_order();
     states.automaton.closed();
     let mut endings = Vec::new(alloc);
     for number in 1..states.facts.len() {
-        if is_ending(states, number, way) {
-            endings.push(number)?;
+        if let Some(piece) = piece_ended(states, number, way) {
+            endings.push(Ending {
+                piece,
+                state: number,
+            })?;
         }
     }
+    put_in_order(&mut endings)?;
     Ok(endings)
 }
 
-/// Whether a context may end in the state with this number, with its last piece on the way.
-fn is_ending(states: &States, number: usize, way: WayId) -> bool
+/// The piece of the way that a context may end with in the state with this number.
+fn piece_ended(states: &States, number: usize, way: WayId) -> Option<PieceName>
     requires count { length states.now.facts.items ≡ length states.now.automaton.states }
     requires grown { 0 < number }
     requires within { number < length states.now.facts.items }
-    ensures { IsTrue result ↔ IsEnding states.now.automaton states.now.facts.items way number }
+    ensures { (n : PieceName) → (result ≡ Some n) ↔ (IsEnding states.now.automaton states.now.facts.items way number × EndsWithName states.now.facts.items number n) }
 {
     states.automaton.closed();
     let facts = states.facts[number];
     let (before, _) = states.automaton.edge(number);
     if before == 0 {
-        return false;
+        return None;
     }
     if !facts.is_legal {
-        return false;
+        return None;
     }
-    is_on(facts.ends, way)
+    on_way(facts.ends, way)
 }
 
-/// Whether there is a name, and it is of a piece of the way.
-fn is_on(name: Option<PieceName>, way: WayId) -> bool
-    ensures { IsTrue result ↔ ((n : PieceName) × (name ≡ Some n) × (n.way ≡ way)) }
+/// The name, if it is of a piece of the way.
+fn on_way(name: Option<PieceName>, way: WayId) -> Option<PieceName>
+    ensures { (n : PieceName) → (result ≡ Some n) ↔ ((name ≡ Some n) × (n.way ≡ way)) }
 {
     match name {
-        Some(name) => name.way == way,
-        None => false,
+        Some(name) if name.way == way => Some(name),
+        _ => None,
     }
+}
+
+/// By piece. Those of one piece keep their order.
+fn put_in_order(endings: &mut Vec<Ending>) -> Result<(), NoMemory>
+    ensures sorted { OnOk result (IsSortedByKey (λ e. e.piece) name_cmp endings.new.items) }
+    ensures stable { OnOk result (IsStableByKey (λ e. e.piece) name_cmp endings.old.items endings.new.items) }
+{
+    name_order();
+    endings.sort_by_key(|ending| ending.piece)?;
+    Ok(())
+}
+
+/// Those that end with the piece. Takes the time of the logarithm of their number.
+pub fn endings_with(endings: &[Ending], piece: PieceName) -> &[Ending]
+    requires { IsSortedByKey (λ e. e.piece) name_cmp endings.now }
+    ensures { result.now ≡ filter (λ e. same_name e.piece piece) endings.now }
+{
+    name_order();
+    let low = endings.partition_point(|ending| ending.piece.cmp(&piece).is_lt());
+    let high = endings.partition_point(|ending| ending.piece.cmp(&piece).is_le());
+    part(endings, low, high)
+}
+
+/// Those from the one position on, below the other.
+fn part(endings: &[Ending], low: usize, high: usize) -> &[Ending]
+    requires rising { low ≤ high }
+    requires within { high ≤ length endings.now }
+    ensures { result.now ≡ take (high - low) (drop low endings.now) }
+{
+    &endings[low..high]
 }

@@ -12,6 +12,7 @@ ghost use Rattle.expanded_graph.specs.Turning.{IsCache};
 
 use crate::cache::Cache;
 use crate::contexts::contexts_of;
+use crate::endings::Ending;
 use crate::intersections::learn;
 use crate::places::{WayNode, arrival_of, places_of};
 use crate::states::States;
@@ -29,7 +30,7 @@ pub fn pieces_along<M: World, P: Profile>(
     profile: &P,
     way: WayId,
     states: &States,
-    endings: &[usize],
+    endings: &[Ending],
     nodes: &[WayNode],
     spans: &[PieceSpan],
     cache: &mut Cache,
@@ -62,7 +63,7 @@ fn piece_at<M: World, P: Profile>(
     profile: &P,
     way: WayId,
     states: &States,
-    endings: &[usize],
+    endings: &[Ending],
     nodes: &[WayNode],
     cache: &mut Cache,
     span: PieceSpan,

@@ -1,10 +1,9 @@
--- One state more was looked at, and all were at the end.
+-- One state more was looked at, all were at the end, and they are sorted by piece.
 use Rattle.std.proofs.Common.{◌≡◌, ◌+◌, vec_len, sym, ap, ◌∙◌, subst, arith}
-use Rattle.std.proofs.lemmas.Bool.{false≢true}
 use Rattle.std.proofs.lemmas.Option.{slice_get_within}
 use Rattle.expanded_graph.proofs.Ending.{AreEndingsBelow, one_more, no_more, all_endings, no_endings}
 use Rattle.expanded_graph.proofs.endings.endings_on.Goals as goal
-use Rattle.expanded_graph.proofs.endings.endings_on.Goals.{then-is_ending+in_ok-push, else-is_ending}
+use Rattle.expanded_graph.proofs.endings.endings_on.Goals.{in-Some+in_ok-push, in_default}
 
 pub loop-number-init : goal.loop-number-init
 loop-number-init c =
@@ -18,16 +17,18 @@ loop-number-preserved c =
     let facts = c.args.states.now.facts.items in
     let n = c.loop-number.number in
     let so_far = c.loop-number.endings.items in
-    elim c.if-is_ending.branch [
-      | then-is_ending+in_ok-push w ↦ subst (AreEndingsBelow m facts c.args.way (n + 1)) (sym (ap (λ v. v.items) w.endings-is ∙ w.in_ok-push.ensures.items)) (one_more m facts c.args.way n so_far c.loop-number.invariant (c.is_ending.ensures.0 w.if-is_ending.true))
-      | else-is_ending w ↦ subst (AreEndingsBelow m facts c.args.way (n + 1)) (sym (ap (λ v. v.items) w.endings-is)) (no_more m facts c.args.way n so_far c.loop-number.invariant (λ e. false≢true (sym w.if-is_ending.false ∙ c.is_ending.ensures.1 e)))
+    elim c.match-piece_ended.branch [
+      | in-Some+in_ok-push w ↦ subst (AreEndingsBelow m facts c.args.way (n + 1)) (sym (ap (λ v. v.items) w.endings-is ∙ w.in_ok-push.ensures.items)) (one_more m facts c.args.way n so_far c.loop-number.invariant w.in-Some.piece ((c.piece_ended.ensures w.in-Some.piece).0 w.in-Some.is))
+      | in_default w ↦ subst (AreEndingsBelow m facts c.args.way (n + 1)) (sym (ap (λ v. v.items) w.endings-is)) (no_more m facts c.args.way n so_far c.loop-number.invariant (λ name h. w.in_default.not-Some name ((c.piece_ended.ensures name).1 h)))
     ]
 
 pub returns : goal.returns
 returns c =
     let m = c.args.states.now.automaton in
     let facts = c.args.states.now.facts.items in
-    all_endings m facts c.args.way c.loop-number.number c.loop-number.endings.items c.loop-number.invariant (λ n e.
+    all_endings m facts c.args.way c.loop-number.number c.loop-number.endings.items c.loop-number.invariant
+    (λ n e.
     let within = slice_get_within m.states n _ e.at in
     let len : c.len-number-end.result ≡ vec_len c.args.states.now.facts = c.len-number-end.ensures in
     omega (arith, c.requires, c.loop-number-test.false))
+    c.name_order.ensures.names c.name_order.ensures.name_ties c.put_in_order.new.endings.items c.in_ok-put_in_order.ensures.stable c.in_ok-put_in_order.ensures.sorted
