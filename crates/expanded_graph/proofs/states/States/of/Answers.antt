@@ -4,16 +4,16 @@ use Rattle.expanded_graph.specs.Near.{AreWordsNear}
 use Rattle.expanded_graph.proofs.StatesKnown.{all_short, facts}
 use Rattle.expanded_graph.proofs.states.States.of.Goals as goal
 
-pub facts_of-requires : goal.facts_of-requires
-facts_of-requires g c =
+pub facts_of-requires-clause-short : goal.facts_of-requires-clause-short
+facts_of-requires-clause-short g c =
     let M = g.M.World.objects c.args.world.now in
     let P = g.P.Profile.rules c.args.profile.now in
     let m = c.in_ok-automaton.automaton in
     let near : AreWordsNear M P c.args.way m.words = subst (AreWordsNear M P c.args.way) (sym c.in_ok-automaton.ensures) c.in_ok-words.ensures in
     all_short M P c.args.way m.words m.states near c.closed.ensures.lists (c.words_on_ways.ensures.short M)
 
-pub returns : goal.returns
-returns g c =
+pub returns-clause-states : goal.returns-clause-states
+returns-clause-states g c =
     let M = g.M.World.objects c.args.world.now in
     let P = g.P.Profile.rules c.args.profile.now in
     let m = c.in_ok-automaton.automaton in
