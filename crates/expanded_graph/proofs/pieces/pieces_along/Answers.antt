@@ -13,7 +13,7 @@ loop-span-preserved g c =
     let piece = c.in_ok-piece.piece in
     let grown = c.in_ok-push.ensures.items in
     record {
-      known = c.in_ok-piece.ensures.known;
+      cache = c.in_ok-piece.ensures.cache;
       names = names_more so_far c.push.new.self.items piece c.args.spans.now c.loop-span.span-index _ c.loop-span-test.true grown c.in_ok-piece.ensures.name c.loop-span.invariant.names;
       entries = All-same Is c.push.new.self.items (so_far ++ piece ∷ []) grown (All-push Is so_far piece c.loop-span.invariant.entries c.in_ok-piece.ensures.entry);
       forms = All-same IsPieceForm c.push.new.self.items (so_far ++ piece ∷ []) grown (All-push IsPieceForm so_far piece c.loop-span.invariant.forms c.in_ok-piece.ensures.form);
