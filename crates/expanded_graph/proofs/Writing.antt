@@ -1,10 +1,13 @@
 -- What is written of a piece, and of all pieces of a way.
-use Rattle.std.proofs.Common.{◌≡◌, ◌<◌, ◌≤◌, ◌+◌, ◌-◌, ℕ, List, [], ◌∷◌, ◌++◌, length, map, take, get_or, refl, sym, ap, ◌∙◌, subst, arith, IsTrue, Some, slice_get, Contains, None}
+use Rattle.std.proofs.Common.{◌≡◌, ◌<◌, ◌≤◌, ◌+◌, ◌-◌, ℕ, List, [], ◌∷◌, ◌++◌, length, map, take, get_or, refl, sym, ap, ◌∙◌, subst, arith, IsTrue, Bool, true, false, ◌||◌, Option, Some, slice_get, Contains, None}
 use Rattle.std.specs.List.{All, AllByRecursion, filter_map}
 use Rattle.std.specs.Cmp.{IsTotalOrder}
+use Rattle.std.proofs.lemmas.Bool.{and_parts, or_left, or_right, false≢true}
 use Rattle.std.proofs.lemmas.List.{map-append, take_more}
 use Rattle.std.proofs.lemmas.List.Elements.{All-contains, recursion_from_All}
 use Rattle.road_base.specs.declared.ids.WayId.{WayId}
+use Rattle.road_base.specs.declared.ids.Dir.{Dir}
+use Rattle.road_base.specs.declared.ids.Dir.TheVariants.{Forward, Backward}
 use Rattle.road_base.specs.declared.objects.Way.{Way}
 use Rattle.road_base.specs.Objects.{Objects, way_of}
 use Rattle.road_model.specs.declared.lists.PieceName.{PieceName}
@@ -12,6 +15,7 @@ use Rattle.road_model.specs.declared.lists.Piece.{Piece as PieceEntry}
 use Rattle.road_model.specs.Rules.{Rules}
 use Rattle.road_model.specs.declared.blocks.Block.{Block}
 use Rattle.road_model.specs.Lines.{changes, refs_of, line_of}
+use Rattle.road_model.specs.Driving.{open_way, is_open, is_road, drivable}
 use Rattle.road_model.specs.Pieces.{Piece, IsPiece}
 use Rattle.road_model.specs.Orders.{Lists, rises, way_cmp, name_cmp, names_cmp}
 use Rattle.road_model.specs.Blocks.{IsContextEntry, IsPieceEntry, IsBlock}
@@ -23,7 +27,6 @@ use Rattle.expanded_graph.specs.declared.places.WayNode.{WayNode}
 use Rattle.expanded_graph.specs.Travel.{place_of, way_node, nodes_on}
 use Rattle.expanded_graph.proofs.Members.{In, in_map, from_map, in_from_contains, contains_from_in}
 use Rattle.expanded_graph.proofs.Ascending.{places_rise}
-use Rattle.expanded_graph.proofs.Ends.{piece_on_line}
 use Rattle.expanded_graph.proofs.Travelling.{within, places_count, places_at}
 
 -- the names of the pieces, one more
@@ -110,24 +113,31 @@ module _ (M : Objects) (P : Rules) (w : WayId) where
     has_form total forms l same =
         (subst (AllByRecursion IsPieceForm) (sym same) (recursion_from_All IsPieceForm pieces forms), ap (λ (x : List PieceEntry). rises place_cmp (map (λ (p : PieceEntry). p.name) x)) same ∙ pieces_rise total)
 
-  -- ---- a way that isn't visible
+  -- ---- a way that is no road
 
-  hidden_line : None ≡ way_of M w → line_of M w ≡ []
-  unfolding line_of
-  hidden_line hidden = ap (λ o. changes (refs_of o)) (sym hidden)
+  -- a way that isn't visible is no road
+  pub hidden_no_road : None ≡ way_of M w → is_road M P w ≡ false
+  unfolding is_open
+  hidden_no_road hidden = ap (λ (o : Option Way). open_way P o Forward || open_way P o Backward) (sym hidden)
 
-  no_piece : None ≡ way_of M w → (p : Piece) → IsPiece M P p → p.way ≡ w → ⊥
-  no_piece hidden p is of =
-      let on = piece_on_line M P p is in
-      let none : length (line_of M p.way) ≡ 0 = ap (λ v. length (line_of M v)) of ∙ ap length (hidden_line hidden) in
-      omega arith
+  open_road : (d : Dir) → is_open M P w d ≡ true → IsTrue (is_road M P w)
+  open_road Forward is = or_left _ _ is
+  open_road Backward is = or_right _ _ is
 
-  -- a way that isn't visible has no pieces
-  pub no_spans : None ≡ way_of M w → Lists (λ s. s.name) name_cmp (IsSpanOn M P w) []
-  no_spans hidden = record {
+  -- one may drive a piece's first step, so its way is open
+  piece_open : (p : Piece) → IsPiece M P p → is_open M P p.way p.dir ≡ true
+  unfolding drivable
+  piece_open p is = let up = is.ascends in (and_parts _ _ (is.drives p.index (omega arith) up)).0
+
+  no_piece : is_road M P w ≡ false → (p : Piece) → IsPiece M P p → p.way ≡ w → ⊥
+  no_piece not_road p is of = false≢true (sym not_road ∙ open_road p.dir (subst (λ v. is_open M P v p.dir ≡ true) of (piece_open p is)))
+
+  -- a way that is no road has no pieces
+  pub no_spans : is_road M P w ≡ false → Lists (λ s. s.name) name_cmp (IsSpanOn M P w) []
+  no_spans not_road = record {
     ascending = refl;
     sound = λ s has. let within = has.1 in absurd (omega arith);
-    complete = λ s on. absurd (no_piece hidden (piece_of s) on.is on.of);
+    complete = λ s on. absurd (no_piece not_road (piece_of s) on.is on.of);
   }
 
 -- the line of a visible way is that of its references

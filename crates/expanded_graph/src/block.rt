@@ -1,9 +1,11 @@
 //! The block of a way.
 ghost use Rattle.std.specs.Prelude.{◌≡◌, ◌+◌, [], map, IfOk, IsTrue};
 ghost use Rattle.std.specs.List.{AllByRecursion};
-ghost use Rattle.road_model.specs.Orders.{rises};
+ghost use Rattle.road_model.specs.Orders.{Lists, rises, name_cmp};
 ghost use Rattle.road_model.specs.Blocks.{IsBlock};
 ghost use Rattle.road_model.specs.Format.{IsPieceForm, place_cmp};
+ghost use Rattle.way_pieces.specs.Names.{IsSpanOn};
+ghost use Rattle.way_pieces.specs.Starts.{ArePiecesByWay};
 ghost use Rattle.expanded_graph.specs.Turning.{IsCache};
 
 use crate::cache::Cache;
@@ -17,6 +19,7 @@ use road_model::{Block, Pieces, Profile, World};
 use std::alloc::Global;
 use std::sync::ledger::Ledger;
 use way_lines::is_road;
+use way_pieces::{PieceSpan, PiecesByWay};
 
 /// The block of the way: its pieces with their nodes and locations, contexts and arcs.
 /// A way that isn't visible or is no road has no pieces. Adds one step, also where no memory is found.
@@ -76,8 +79,7 @@ fn block_of<M: World, P: Profile>(
     let Some(body) = world.way(way) else {
         return Ok(bare_block(alloc, way));
     };
-    cache.pieces.learn(alloc, world, profile, way)?;
-    let spans = cache.pieces.at(way).spans.clone()?;
+    let spans = spans_on(alloc, world, profile, &mut cache.pieces, way)?;
     let states = States::of(alloc, world, profile, &mut cache.pieces, way)?;
     let endings = endings_on(alloc, &states, way)?;
     let nodes = way_nodes_of(alloc, world, body)?;
@@ -96,6 +98,23 @@ fn block_of<M: World, P: Profile>(
         way,
         pieces: Pieces::from_list(pieces),
     })
+}
+
+/// The pieces of the way. What is learnt of the way is kept, also where no memory is found.
+fn spans_on<M: World, P: Profile>(
+    alloc: Global,
+    world: &M,
+    profile: &P,
+    pieces: &mut PiecesByWay,
+    way: WayId,
+) -> Result<Vec<PieceSpan>, NoMemory>
+    requires { ArePiecesByWay (M.objects world.now) (P.rules profile.now) pieces.old }
+    ensures pieces { ArePiecesByWay (M.objects world.now) (P.rules profile.now) pieces.new }
+    ensures spans { IfOk result (λ v. Lists (λ s. s.name) name_cmp (IsSpanOn (M.objects world.now) (P.rules profile.now) way) v.items) }
+{
+    pieces.learn(alloc, world, profile, way)?;
+    let spans = pieces.at(way).spans.clone()?;
+    Ok(spans)
 }
 
 /// A block with no pieces. Takes no memory.
