@@ -8,10 +8,11 @@
 #![tactic(auto)]
 
 mod changes;
-mod node_parts;
 mod objects;
+mod ranges;
 mod standing;
 #[cfg(test)]
 mod tests;
 
 pub use objects::Objects;
+pub use ranges::{Numbered, Ranges};

@@ -7,7 +7,7 @@ ghost use Rattle.road_base.specs.Objects.{Objects as ObjectMap};
 ghost use Rattle.road_model.specs.Links.{AreChanged};
 
 use crate::changes::changed_keys;
-use crate::node_parts::NodeParts;
+use crate::ranges::Ranges;
 use crate::standing::{copies, event_near, event_of, settle, settle_with, standing};
 use road_base::laws::key_order;
 use road_base::{Event, Key, Keys, NoMemory};
@@ -18,7 +18,7 @@ use std::marker::Model;
 #[derive(Drop)]
 pub struct Objects {
     list: Vec<Event>,
-    parts: NodeParts,
+    nodes: Ranges,
 }
 
 impl Model for Objects {
@@ -45,7 +45,7 @@ impl Objects {
     {
         Objects {
             list: Vec::new(alloc),
-            parts: NodeParts::new(alloc),
+            nodes: Ranges::new(alloc),
         }
     }
 
@@ -55,8 +55,8 @@ impl Objects {
     {
         let mut list = events;
         settle(&mut list)?;
-        let parts = NodeParts::of(*list.allocator(), list.as_slice());
-        Ok(Objects { list, parts })
+        let nodes = ranges_of_nodes(*list.allocator(), list.as_slice());
+        Ok(Objects { list, nodes })
     }
 
     /// The key's entry, as an event. None exactly where the key has no entry.
@@ -64,7 +64,7 @@ impl Objects {
         ensures entry { option_map entry_of (option_copied result) ≡ get self.now key }
         ensures key { IfSome (option_copied result) (λ e. e.key ≡ key) }
     {
-        match self.parts.part_of(key) {
+        match part_of_node(&self.nodes, key) {
             Some((from, to)) => event_near(self.list.as_slice(), key, from, to),
             None => event_of(self.list.as_slice(), key),
         }
@@ -104,7 +104,7 @@ impl Objects {
         let events = standing(alloc, events)?;
         let keys = changed_keys(alloc, self.list.as_slice(), events.as_slice())?;
         settle_with(&mut self.list, events)?;
-        self.parts = NodeParts::of(alloc, self.list.as_slice());
+        self.nodes = ranges_of_nodes(alloc, self.list.as_slice());
         Ok(keys)
     }
 
@@ -114,8 +114,8 @@ impl Objects {
     {
         let alloc = *self.list.allocator();
         let list = copies(alloc, self.list.as_slice())?;
-        let parts = NodeParts::of(alloc, list.as_slice());
-        Ok(Objects { list, parts })
+        let nodes = ranges_of_nodes(alloc, list.as_slice());
+        Ok(Objects { list, nodes })
     }
 
     /// Copies of all entries as events, in key order.
@@ -125,5 +125,19 @@ impl Objects {
         key_order();
         let list = copies(*self.list.allocator(), self.list.as_slice())?;
         Ok(list)
+    }
+}
+
+/// The ranges of the nodes of a list in key order.
+fn ranges_of_nodes(alloc: Global, list: &[Event]) -> Ranges {
+    let count = list.partition_point(|event| matches!(event.key, Key::Node(_)));
+    Ranges::of(alloc, &list[..count])
+}
+
+/// Where the key's event stands in the list, if it has one. None where the key is no node's, or of no range.
+fn part_of_node(nodes: &Ranges, key: Key) -> Option<(usize, usize)> {
+    match key {
+        Key::Node(id) => nodes.part_of(id.0),
+        _ => None,
     }
 }

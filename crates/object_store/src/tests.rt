@@ -161,3 +161,31 @@ fn events_in_turn_leave_what_they_leave_at_once(rt: HostRuntime) -> Result<(), F
     assert!(rt; is_same_in_turn(alloc, &events)?);
     Ok(())
 }
+
+/// Whether each number's part has every place at which it stands.
+fn parts_fit(alloc: Global, list: &[NodeId]) -> bool {
+    let ranges = Ranges::of(alloc, list);
+    list.iter().enumerate().all(|(at, id)| match ranges.part_of(id.0) {
+        Some((from, to)) => from <= at && at < to,
+        None => false,
+    })
+}
+
+#[test]
+fn parts_have_their_numbers(rt: HostRuntime) {
+    let alloc = rt.alloc();
+    let wide = [
+        NodeId(-9_000_000_000_000_000_000),
+        NodeId(3),
+        NodeId(3),
+        NodeId(5),
+        NodeId(9_000_000_000_000_000_000),
+    ];
+    let dense = [NodeId(7), NodeId(8), NodeId(8), NodeId(8), NodeId(12)];
+    assert!(rt; parts_fit(alloc, &wide));
+    assert!(rt; parts_fit(alloc, &dense));
+    assert!(rt; parts_fit(alloc, &[NodeId(4)]));
+    assert!(rt; Ranges::of(alloc, &dense).part_of(9) == Some((4, 4)));
+    assert!(rt; Ranges::of(alloc, &dense).part_of(100).is_none());
+    assert!(rt; Ranges::of::<NodeId>(alloc, &[]).part_of(0).is_none());
+}
