@@ -74,7 +74,7 @@ between Less h g = cc
 between Equal h g = refl
 between Greater h g = cc
 
-not_both : (b : Bool) → b ≡ true → b ≡ false → ⊥
+pub not_both : (b : Bool) → b ≡ true → b ≡ false → ⊥
 not_both b h g = cc
 
 module _ {A B : Type 0} (R : A → A → Ordering) (S : B → B → Ordering) (totalR : IsTotalOrder R) (totalS : IsTotalOrder S) (keys : List A) (values : List B) (even : length values ≡ length keys) (up : IsTrue (rises (pair_cmp R S) (zip keys values))) where

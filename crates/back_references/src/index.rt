@@ -1,23 +1,27 @@
 //! Pairs of a key and a value, in which the values of a key lie side by side.
 ghost use Rattle.std.specs.Prelude.{◌≡◌, ◌↔◌, ◌<◌, ◌≤◌, ◌-◌, [], true, false, IfOk, IsTrue, Contains, length, map, take, drop, slice_index_or};
 ghost use Rattle.std.specs.List.{AllWithin};
-ghost use Rattle.std.specs.Ordering.{is_le};
+ghost use Rattle.std.specs.List.Sorted.{IsPartitionedBy, IsPartitionPoint};
+ghost use Rattle.std.specs.Ordering.{is_le, is_lt};
 ghost use Rattle.std.specs.FinMap.{IsAntisymmetric};
 ghost use Rattle.road_model.specs.Orders.{Lists, rises};
 ghost use Rattle.back_references.specs.Pairs.{pair_cmp};
 
+use object_store::{Numbered, Ranges};
 use road_base::NoMemory;
 use std::alloc::{AllocError, Global};
 use std::marker::Model;
 
-/// Pairs, ascending by key and then by value, none of them twice.
+/// Pairs, ascending by key and then by value, none of them twice. The ranges of the keys' numbers tell where a search
+/// begins, if anything: they are no part of what the pairs are.
 #[derive(Drop)]
-pub struct Index<K: Ord + Copy, V: Ord + Copy> {
+pub struct Index<K: Ord + Copy + Numbered, V: Ord + Copy> {
     keys: Vec<K>,
     values: Vec<V>,
+    ranges: Ranges,
 }
 
-impl<K: Ord + Copy, V: Ord + Copy> Model for Index<K, V> {
+impl<K: Ord + Copy + Numbered, V: Ord + Copy> Model for Index<K, V> {
     ghost use Rattle.std.specs.Prelude.{◌≡◌, List, length, IsTrue};
     ghost use Rattle.std.specs.List.{zip};
     ghost use Rattle.road_model.specs.Orders.{rises};
@@ -30,7 +34,7 @@ impl<K: Ord + Copy, V: Ord + Copy> Model for Index<K, V> {
     ghost invariant = { λ i. (length i.values.items ≡ length i.keys.items) × IsTrue (rises (pair_cmp K.cmp V.cmp) (zip i.keys.items i.values.items)) };
 }
 
-impl<K: Ord + Copy, V: Ord + Copy> Index<K, V> {
+impl<K: Ord + Copy + Numbered, V: Ord + Copy> Index<K, V> {
     /// No pairs. Takes no memory.
     pub fn new(alloc: Global) -> Index<K, V>
         ensures { result ≡ [] }
@@ -38,6 +42,7 @@ impl<K: Ord + Copy, V: Ord + Copy> Index<K, V> {
         Index {
             keys: Vec::new(alloc),
             values: Vec::new(alloc),
+            ranges: Ranges::new(alloc),
         }
     }
 
@@ -51,7 +56,12 @@ impl<K: Ord + Copy, V: Ord + Copy> Index<K, V> {
         put_in_order(&mut pairs);
         let keys = firsts(alloc, pairs.as_slice())?;
         let values = seconds(alloc, pairs.as_slice())?;
-        Ok(Index { keys, values })
+        let ranges = Ranges::of(alloc, keys.as_slice());
+        Ok(Index {
+            keys,
+            values,
+            ranges,
+        })
     }
 
     /// The values of a key, ascending. Takes the time of a search, and of the values.
@@ -59,11 +69,63 @@ impl<K: Ord + Copy, V: Ord + Copy> Index<K, V> {
         requires { IsAntisymmetric K.cmp }
         ensures { Lists (λ v. v) V.cmp (λ v. Contains self.now (key, v)) result.now }
     {
+        match self.ranges.part_of(key.number()) {
+            Some((from, to)) => self.at_near(key, from, to),
+            None => self.at_near(key, 0, self.keys.len()),
+        }
+    }
+
+    /// The values of a key, ascending. The key is searched for between the two positions alone where those are around its
+    /// place, and else among all keys.
+    fn at_near(&self, key: K, from: usize, to: usize) -> &[V]
+        requires { IsAntisymmetric K.cmp }
+        ensures { Lists (λ v. v) V.cmp (λ v. Contains self.now (key, v)) result.now }
+    {
         let keys = self.keys.as_slice();
-        let low = keys.partition_point(|other| other.cmp(&key).is_lt());
+        let low = first_near(keys, key, from, to);
         let high = end_from(keys, low, key);
         part(self.values.as_slice(), low, high)
     }
+}
+
+/// The first position at which a key stands that isn't below this one.
+fn first_from<K: Ord + Copy>(keys: &[K], key: K) -> usize
+    requires { IsPartitionedBy (λ a. is_lt (K.cmp a key)) keys.now }
+    ensures point { IsPartitionPoint (λ a. is_lt (K.cmp a key) ≡ true) (λ a. is_lt (K.cmp a key) ≡ false) keys.now result }
+    ensures bound { result ≤ length keys.now }
+{
+    keys.partition_point(|other| other.cmp(&key).is_lt())
+}
+
+/// The first position at which a key stands that isn't below this one. It is searched for between the two positions alone
+/// where the key before the first is below this one, and that at the second isn't.
+fn first_near<K: Ord + Copy>(keys: &[K], key: K, from: usize, to: usize) -> usize
+    requires { IsPartitionedBy (λ a. is_lt (K.cmp a key)) keys.now }
+    ensures point { IsPartitionPoint (λ a. is_lt (K.cmp a key) ≡ true) (λ a. is_lt (K.cmp a key) ≡ false) keys.now result }
+    ensures bound { result ≤ length keys.now }
+{
+    if from <= to && to <= keys.len() && ends_below(keys, from, key) && !is_below(keys, to, key) {
+        from + first_from(&keys[from..to], key)
+    } else {
+        first_from(keys, key)
+    }
+}
+
+/// Whether the last of the first keys, of which there are so many, is below this one. True where there are none.
+fn ends_below<K: Ord + Copy>(keys: &[K], count: usize, key: K) -> bool
+    requires count { count ≤ length keys.now }
+    requires parted { IsPartitionedBy (λ a. is_lt (K.cmp a key)) keys.now }
+    ensures { IsTrue result → AllWithin (λ a. is_lt (K.cmp a key) ≡ true) keys.now 0 count }
+{
+    count == 0 || is_below(keys, count - 1, key)
+}
+
+/// Whether there is a key at the position, and it is below this one.
+fn is_below<K: Ord + Copy>(keys: &[K], at: usize, key: K) -> bool
+    ensures within { IsTrue result → at < length keys.now }
+    ensures below { (d : K) → at < length keys.now → result ≡ is_lt (K.cmp (slice_index_or keys.now at d) key) }
+{
+    at < keys.len() && keys[at].cmp(&key).is_lt()
 }
 
 /// Each pair once, ascending.
