@@ -1,18 +1,18 @@
 -- A part of a list in key order has the entry of a key that no event before the part has, and none behind it.
-use Rattle.std.proofs.Common.{◌≡◌, ℕ, zero, suc, ◌<◌, ◌≤◌, ◌+◌, ◌-◌, false, List, [], ◌∷◌, ◌++◌, length, map, filter, take, drop, Option, Some, None, inl, inr, refl, sym, ap, ◌∙◌, subst, arith, slice_index_or}
-use Rattle.std.specs.declared.cmp.Ordering.TheVariants.{Less, Equal, Greater}
+use Rattle.std.proofs.Common.{◌≡◌, ℕ, zero, suc, ◌<◌, ◌≤◌, ◌+◌, ◌-◌, List, [], ◌∷◌, ◌++◌, length, map, filter, take, drop, Option, Some, None, inl, inr, refl, sym, ap, ◌∙◌, subst, arith, slice_index_or}
+use Rattle.std.specs.declared.cmp.Ordering.TheVariants.{Less}
 use Rattle.std.specs.Ordering.{is_eq}
 use Rattle.std.specs.Option.{option_to_list}
 use Rattle.std.specs.Cmp.{IsTotalOrder}
 use Rattle.std.specs.List.{slice_range}
-use Rattle.std.specs.FinMap.{IsAntisymmetric, get, get-from_entries}
+use Rattle.std.specs.FinMap.{IsAntisymmetric, get}
 use Rattle.std.proofs.lemmas.List.{take-append-drop}
 use Rattle.std.proofs.lemmas.List.Elements.{filter-append}
 use Rattle.road_base.specs.declared.ids.Key.{Key}
 use Rattle.road_base.specs.declared.event.Event.{Event}
 use Rattle.road_base.specs.Objects.{Entry, key_cmp}
 use Rattle.road_base.specs.Applying.{entry_of, is_of}
-use Rattle.object_store.specs.Listed.{key_of, pair_of, objects_of, IsInOrder}
+use Rattle.object_store.specs.Listed.{key_of, objects_of, IsInOrder}
 use Rattle.object_store.proofs.Members.{In}
 use Rattle.object_store.proofs.InOrder.{rest, at_index, above, turned, none_kept}
 use Rattle.object_store.proofs.Changing.{take_in_order}
