@@ -1,5 +1,5 @@
 -- All pieces of the way were written.
-use Rattle.std.proofs.Common.{◌≡◌, [], map, refl, sym, ap, ◌∙◌}
+use Rattle.std.proofs.Common.{[], map, refl, sym, ap, ◌∙◌}
 use Rattle.std.proofs.lemmas.List.Elements.{All-nil, All-same, All-weaker, All-contains_itself}
 use Rattle.road_model.specs.Blocks.{IsPieceEntry}
 use Rattle.way_pieces.specs.Names.{IsSpanOn}
