@@ -23,7 +23,7 @@ use Rattle.osmroad.proofs.blocks.build_blocks.Goals as goal
 pub loop-entry-init : goal.loop-entry-init
 loop-entry-init g c = record {
   blocks = subst (λ (m : FinMap way_cmp Block). AreBlocksOf c.args.world.now motorcar_rules [] m) (sym c.new-blocks.ensures) (nothing_built c.args.world.now motorcar_rules);
-  known = c.new-known.ensures c.args.world.now motorcar_rules;
+  cache = c.new-cache.ensures c.args.world.now motorcar_rules;
 }
 
 pub loop-entry-preserved : goal.loop-entry-preserved
@@ -34,7 +34,7 @@ loop-entry-preserved g c =
     let more : take (i + 1) items ≡ take i items ++ e ∷ [] = take_more items i e c.loop-entry-test.true ∙ ap (λ (x : Event). take i items ++ x ∷ []) (sym c.entry-item.is) in
     record {
       blocks = subst (λ (l : List Event). AreBlocksOf c.args.world.now motorcar_rules l c.add_block.new.blocks.map) (sym more) (c.in_ok-add_block.ensures.added (take i items) c.loop-entry.invariant.blocks);
-      known = c.in_ok-add_block.ensures.known;
+      cache = c.in_ok-add_block.ensures.cache;
     }
 
 -- each way with pieces stands among the entries
