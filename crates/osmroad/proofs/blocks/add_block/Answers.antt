@@ -1,8 +1,6 @@
-use Rattle.std.proofs.Common.{◌≡◌, ◌++◌, ◌∷◌, [], List, Result, Ok, Err, OnOk, sym, ap, subst, ◌∙◌}
-use Rattle.std.specs.FinMap.{FinMap, get}
-use Rattle.std.specs.FinMap.{insert as inserted}
+use Rattle.std.proofs.Common.{◌≡◌, ◌++◌, ◌∷◌, [], Result, Ok, Err, OnOk, sym, ap, subst, ◌∙◌}
+use Rattle.std.specs.FinMap.{FinMap}
 use Rattle.road_base.specs.declared.ids.Key.TheVariants.{Way as WayKey}
-use Rattle.road_base.specs.declared.event.Event.{Event}
 use Rattle.road_model.specs.declared.blocks.Block.{Block}
 use Rattle.road_model.specs.Orders.{way_cmp}
 use Rattle.road_model.specs.Blocks.{IsBlock, IsRoadBlock}

@@ -1,6 +1,6 @@
 -- All entries were looked at, so the blocks are all.
-use Rattle.std.proofs.Common.{◌≡◌, ◌↔◌, ◌+◌, ◌++◌, ◌∷◌, [], List, take, map, Contains, Some, IsTrue, refl, sym, ap, subst, ◌∙◌, arith}
-use Rattle.std.specs.FinMap.{FinMap, IsAntisymmetric, get, entries, values, empty}
+use Rattle.std.proofs.Common.{◌≡◌, ◌↔◌, ◌+◌, ◌++◌, ◌∷◌, [], List, take, map, Contains, Some, IsTrue, sym, ap, subst, ◌∙◌, arith}
+use Rattle.std.specs.FinMap.{FinMap, IsAntisymmetric, get, entries, values}
 use Rattle.std.specs.List.{AllByRecursion}
 use Rattle.std.proofs.lemmas.List.{take_all, take_more}
 use Rattle.road_base.specs.declared.ids.Key.TheVariants.{Way as WayKey}
