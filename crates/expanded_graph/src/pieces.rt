@@ -22,8 +22,8 @@ use std::alloc::Global;
 use way_pieces::PieceSpan;
 
 /// The pieces of the way at these spans. The nodes are those of the way's line, the states those of the way, and the
-/// endings those in which contexts may end there. What is learnt of the nodes where the pieces end is kept, also where no
-/// memory is found.
+/// endings those in which contexts may end there. What is learnt of the nodes where the pieces end, and of the ways there,
+/// is kept, also where no memory is found.
 pub fn pieces_along<M: World, P: Profile>(
     alloc: Global,
     world: &M,
@@ -56,7 +56,8 @@ pub fn pieces_along<M: World, P: Profile>(
     Ok(pieces)
 }
 
-/// The piece of the way at the span. What is learnt of the node where it ends is kept.
+/// The piece of the way at the span. What is learnt of the node where it ends, and of the ways there, is kept, also where no
+/// memory is found.
 fn piece_at<M: World, P: Profile>(
     alloc: Global,
     world: &M,
