@@ -9,6 +9,7 @@ use Rattle.road_base.specs.Objects.{Objects}
 use Rattle.road_model.specs.Rules.{Rules}
 use Rattle.road_model.specs.Orders.{node_cmp}
 use Rattle.expanded_graph.specs.declared.intersections.Intersection.{Intersection}
+use Rattle.expanded_graph.specs.declared.intersections.Intersections.{Intersections}
 use Rattle.expanded_graph.specs.Turning.{IsIntersection, AreIntersections}
 
 some_same : (i j : Intersection) → Some i ≡ Some j → i ≡ j
@@ -23,6 +24,10 @@ module _ (M : Objects) (P : Rules) where
     each = λ v i h.
         let never : get node_cmp m v ≡ None = ap (λ (es : List (NodeId × Intersection)). lookup (is_at (node_cmp v)) es) none in cc;
   }
+
+  -- what is found at a node is known of it
+  pub found_there : (known : Intersections) → AreIntersections M P known → (v : NodeId) (i : Intersection) → Some i ≡ get node_cmp known.by_node v → (i.node ≡ v) × IsIntersection M P i
+  found_there known are v i e = are.each v i (sym e)
 
   -- a map of the same entries
   pub known_still : (m n : BTreeMap NodeId Intersection) → n.entries ≡ m.entries → AreIntersections M P (record { by_node = m }) → AreIntersections M P (record { by_node = n })

@@ -1,6 +1,6 @@
 //! Nodes where pieces end, with what is to be known of them.
-ghost use Rattle.std.specs.Prelude.{◌≡◌, IfOk, OnOk, Some};
-ghost use Rattle.std.specs.BTreeMap.{ContainsKey, get};
+ghost use Rattle.std.specs.Prelude.{◌≡◌, IfOk, option_copied};
+ghost use Rattle.std.specs.BTreeMap.{get};
 ghost use Rattle.road_base.specs.Objects.{Objects};
 ghost use Rattle.road_model.specs.Rules.{Rules};
 ghost use Rattle.road_model.specs.Driving.{shut, turning_place};
@@ -40,12 +40,19 @@ impl Intersections {
         }
     }
 
-    /// What is known of the node, which was learnt.
-    pub fn at(&self, node: NodeId) -> &Intersection
-        requires { ContainsKey node_cmp self.now.by_node node }
-        ensures { get node_cmp self.now.by_node node ≡ Some result.now }
+    /// What is known of the node, if anything is.
+    pub fn find(&self, node: NodeId) -> Option<&Intersection>
+        ensures { option_copied result ≡ get node_cmp self.now.by_node node }
     {
-        self.by_node.get(&node).unwrap()
+        self.by_node.get(&node)
+    }
+
+    /// Keeps what is known of a node. Where no memory is found it is dropped.
+    pub fn keep(&mut self, intersection: Intersection) -> Result<(), NoMemory>
+        ensures { (M : Objects) (P : Rules) → IsIntersection M P intersection → AreIntersections M P self.old → AreIntersections M P self.new }
+    {
+        self.by_node.insert(intersection.node, intersection)?;
+        Ok(())
     }
 }
 
@@ -56,31 +63,8 @@ struct NodeRules {
     is_turning_place: bool,
 }
 
-/// Learns what is to be known of the node, if it isn't known yet, and of the ways there.
-pub fn learn<M: World, P: Profile>(
-    alloc: Global,
-    world: &M,
-    profile: &P,
-    pieces: &mut PiecesByWay,
-    known: &mut Intersections,
-    node: NodeId,
-) -> Result<(), NoMemory>
-    requires pieces { ArePiecesByWay (M.objects world.now) (P.rules profile.now) pieces.old }
-    requires known { AreIntersections (M.objects world.now) (P.rules profile.now) known.old }
-    ensures pieces { ArePiecesByWay (M.objects world.now) (P.rules profile.now) pieces.new }
-    ensures known { AreIntersections (M.objects world.now) (P.rules profile.now) known.new }
-    ensures there { OnOk result (ContainsKey node_cmp known.new.by_node node) }
-{
-    if known.by_node.contains_key(&node) {
-        return Ok(());
-    }
-    let intersection = intersection_of(alloc, world, profile, pieces, node)?;
-    known.by_node.insert(node, intersection)?;
-    Ok(())
-}
-
-/// What is to be known of the node.
-fn intersection_of<M: World, P: Profile>(
+/// What is to be known of the node. The ways there are learnt.
+pub fn intersection_of<M: World, P: Profile>(
     alloc: Global,
     world: &M,
     profile: &P,

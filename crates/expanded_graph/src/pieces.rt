@@ -2,22 +2,24 @@
 ghost use Rattle.std.specs.Prelude.{◌≡◌, ◌≤◌, length, map, IfOk};
 ghost use Rattle.std.specs.List.{All, AllByRecursion};
 ghost use Rattle.road_model.specs.Lines.{line_of};
-ghost use Rattle.road_model.specs.Blocks.{IsPieceEntry};
-ghost use Rattle.road_model.specs.Format.{IsPieceForm};
-ghost use Rattle.way_pieces.specs.Names.{IsSpanOn};
+ghost use Rattle.road_model.specs.Pieces.{IsPiece};
+ghost use Rattle.road_model.specs.Orders.{Lists, names_cmp};
+ghost use Rattle.road_model.specs.Blocks.{IsContextEntry, IsPieceEntry};
+ghost use Rattle.road_model.specs.Format.{IsContextForm, IsPieceForm, begins_alone};
+ghost use Rattle.way_pieces.specs.Names.{IsSpanOn, piece_of};
 ghost use Rattle.expanded_graph.specs.Contexts.{AreEndings};
 ghost use Rattle.expanded_graph.specs.States.{AreStates};
-ghost use Rattle.expanded_graph.specs.Travel.{way_node};
+ghost use Rattle.expanded_graph.specs.Travel.{Arrives, way_node};
 ghost use Rattle.expanded_graph.specs.Turning.{IsCache};
 
 use crate::cache::Cache;
 use crate::contexts::contexts_of;
 use crate::endings::Ending;
-use crate::intersections::learn;
-use crate::places::{WayNode, arrival_of, places_of};
+use crate::intersections::intersection_of;
+use crate::places::{Arrival, WayNode, arrival_of, places_of};
 use crate::states::States;
 use road_base::{NoMemory, WayId};
-use road_model::{Contexts, Piece, Places, Profile, World};
+use road_model::{Context, Contexts, Piece, Places, Profile, World};
 use std::alloc::Global;
 use way_pieces::PieceSpan;
 
@@ -82,23 +84,8 @@ fn piece_at<M: World, P: Profile>(
 {
     let places = places_of(alloc, nodes, span)?;
     let arrival = arrival_of(world, nodes, span);
-    learn(
-        alloc,
-        world,
-        profile,
-        &mut cache.pieces,
-        &mut cache.intersections,
-        arrival.at,
-    )?;
-    let contexts = contexts_of(
-        alloc,
-        world,
-        profile,
-        states,
-        endings,
-        cache.intersections.at(arrival.at),
-        span,
-        arrival.from,
+    let contexts = contexts_at(
+        alloc, world, profile, states, endings, cache, span, arrival,
     )?;
     Ok(Piece {
         name: span.name,
@@ -106,4 +93,35 @@ fn piece_at<M: World, P: Profile>(
         places: Places::from_list(places),
         contexts: Contexts::from_list(contexts),
     })
+}
+
+/// The contexts of the piece of the way, where it ends with this arrival. What is learnt of the node there is kept.
+fn contexts_at<M: World, P: Profile>(
+    alloc: Global,
+    world: &M,
+    profile: &P,
+    states: &States,
+    endings: &[Ending],
+    cache: &mut Cache,
+    span: PieceSpan,
+    arrival: Arrival,
+) -> Result<Vec<Context>, NoMemory>
+    requires states { AreStates (M.objects world.now) (P.rules profile.now) span.name.way states.now.automaton.words states.now.automaton.states states.now.facts.items }
+    requires endings { AreEndings states.now.automaton states.now.facts.items span.name.way endings.now }
+    requires cache { IsCache (M.objects world.now) (P.rules profile.now) cache.old }
+    requires piece { IsPiece (M.objects world.now) (P.rules profile.now) (piece_of span) }
+    requires arrives { Arrives (M.objects world.now) (piece_of span) arrival.from arrival.at }
+    ensures cache { IsCache (M.objects world.now) (P.rules profile.now) cache.new }
+    ensures listed { IfOk result (λ v. Lists (λ c. c.before) names_cmp (IsContextEntry (M.objects world.now) (P.rules profile.now) (piece_of span)) v.items) }
+    ensures alone { IfOk result (λ v. begins_alone v.items) }
+    ensures forms { IfOk result (λ v. AllByRecursion IsContextForm v.items) }
+{
+    let from = arrival.from;
+    if let Some(known) = cache.intersections.find(arrival.at) {
+        return contexts_of(alloc, world, profile, states, endings, known, span, from);
+    }
+    let learnt = intersection_of(alloc, world, profile, &mut cache.pieces, arrival.at)?;
+    let contexts = contexts_of(alloc, world, profile, states, endings, &learnt, span, from)?;
+    cache.intersections.keep(learnt)?;
+    Ok(contexts)
 }

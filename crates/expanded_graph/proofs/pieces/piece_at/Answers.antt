@@ -8,7 +8,7 @@ use Rattle.road_model.specs.Format.{IsContextForm, begins_alone}
 use Rattle.way_pieces.specs.Names.{piece_of}
 use Rattle.expanded_graph.specs.Contexts.{AreEndings}
 use Rattle.expanded_graph.specs.States.{AreStates}
-use Rattle.expanded_graph.specs.Travel.{Arrives, place_of, nodes_on}
+use Rattle.expanded_graph.specs.Travel.{place_of, nodes_on}
 use Rattle.expanded_graph.proofs.Travelling.{within}
 use Rattle.expanded_graph.proofs.Writing.{own_line, entry, form}
 use Rattle.expanded_graph.proofs.pieces.piece_at.Goals as goal
@@ -29,24 +29,15 @@ pub arrival_of-arrival-requires-clause-line : goal.arrival_of-arrival-requires-c
 arrival_of-arrival-requires-clause-line g c =
     own_line (g.M.World.objects c.args.world.now) (g.P.Profile.rules c.args.profile.now) c.args.way c.args.nodes.now c.args.span c.requires.span c.requires.line
 
-pub contexts_of-requires-clause-states : goal.contexts_of-requires-clause-states
-contexts_of-requires-clause-states g c =
+pub contexts_at-requires-clause-states : goal.contexts_at-requires-clause-states
+contexts_at-requires-clause-states g c =
     let M = g.M.World.objects c.args.world.now in
     let P = g.P.Profile.rules c.args.profile.now in
     subst (λ w. AreStates M P w c.args.states.now.automaton.words c.args.states.now.automaton.states c.args.states.now.facts.items) (sym c.requires.span.of) c.requires.states
 
-pub contexts_of-requires-clause-endings : goal.contexts_of-requires-clause-endings
-contexts_of-requires-clause-endings g c =
+pub contexts_at-requires-clause-endings : goal.contexts_at-requires-clause-endings
+contexts_at-requires-clause-endings g c =
     subst (λ w. AreEndings c.args.states.now.automaton c.args.states.now.facts.items w c.args.endings.now) (sym c.requires.span.of) c.requires.endings
-
-pub contexts_of-requires-clause-intersection : goal.contexts_of-requires-clause-intersection
-contexts_of-requires-clause-intersection g c = (c.in_ok-learn.ensures.known.each c.arrival_of-arrival.result.at c.at.result.now c.at.ensures).1
-
-pub contexts_of-requires-clause-arrives : goal.contexts_of-requires-clause-arrives
-contexts_of-requires-clause-arrives g c =
-    let M = g.M.World.objects c.args.world.now in
-    let here = (c.in_ok-learn.ensures.known.each c.arrival_of-arrival.result.at c.at.result.now c.at.ensures).0 in
-    subst (Arrives M (piece_of c.args.span) c.arrival_of-arrival.result.from) (sym here) c.arrival_of-arrival.ensures
 
 pub returns-clause-entry : goal.returns-clause-entry
 returns-clause-entry g c =
