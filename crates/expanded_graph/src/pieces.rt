@@ -84,9 +84,7 @@ fn piece_at<M: World, P: Profile>(
 {
     let places = places_of(alloc, nodes, span)?;
     let arrival = arrival_of(world, nodes, span);
-    let contexts = contexts_at(
-        alloc, world, profile, states, endings, cache, span, arrival,
-    )?;
+    let contexts = contexts_at(alloc, world, profile, states, endings, cache, span, arrival)?;
     Ok(Piece {
         name: span.name,
         end: span.end,

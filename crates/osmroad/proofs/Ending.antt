@@ -2,7 +2,6 @@
 use Rattle.std.proofs.Common.{◌≡◌, ◌⊎◌, ℕ, List, [], ◌++◌, Option, None, Some, inl, inr, refl, sym, ap, ◌∙◌, subst}
 use Rattle.std.proofs.lemmas.List.{append-nil}
 use Rattle.std.specs.Prelude.{unwrap_or}
-use Rattle.std.specs.FinMap.{empty}
 use Rattle.road_base.specs.declared.event.Event.{Event}
 use Rattle.road_base.specs.Objects.{Objects}
 use Rattle.road_base.specs.Applying.{IsApplied}

@@ -1,11 +1,11 @@
 -- What is visible in an object map stands among its entries.
-use Rattle.std.proofs.Common.{◌≡◌, ◌⊎◌, Bool, true, false, cond, List, [], ◌∷◌, map, Contains, Option, Some, None, refl, inl, inr, sym, ap, subst, ◌∙◌}
+use Rattle.std.proofs.Common.{◌≡◌, ◌⊎◌, Bool, true, false, cond, List, [], ◌∷◌, map, Contains, Option, Some, None, refl, inl, inr, sym, ap, ◌∙◌}
 use Rattle.std.specs.declared.cmp.Ordering.{Ordering}
 use Rattle.std.specs.Ordering.{eq_by_cmp}
 use Rattle.std.specs.Cmp.{Equal-is}
 use Rattle.std.specs.FinMap.{IsAntisymmetric, get, find, entries, get-entries}
 use Rattle.road_base.specs.declared.ids.Key.{Key}
-use Rattle.road_base.specs.declared.ids.Key.TheVariants.{Node as NodeKey, Way as WayKey, Relation as RelationKey}
+use Rattle.road_base.specs.declared.ids.Key.TheVariants.{Way as WayKey, Relation as RelationKey}
 use Rattle.road_base.specs.declared.ids.RelationId.{RelationId}
 use Rattle.road_base.specs.declared.ids.WayId.{WayId}
 use Rattle.road_base.specs.declared.objects.Way.{Way}
@@ -13,7 +13,6 @@ use Rattle.road_base.specs.declared.objects.Relation.{Relation}
 use Rattle.road_base.specs.declared.objects.Body.{Body}
 use Rattle.road_base.specs.declared.event.Event.{Event}
 use Rattle.road_base.specs.Objects.{Objects, Entry, key_cmp, body_in, way_in, relation_in, visible, way_of, relation_of}
-use Rattle.road_base.specs.Applying.{entry_of}
 use Rattle.object_store.specs.Listed.{pair_of}
 use Rattle.osmroad.proofs.Members.{In, contains_from_in, origin_of}
 

@@ -1,5 +1,5 @@
 -- What a list contains, by its first element and the rest, and by its parts.
-use Rattle.std.proofs.Common.{◌≡◌, ◌⊎◌, ℕ, zero, suc, ◌<◌, List, [], ◌∷◌, ◌++◌, length, map, take, slice_index_or, slice_get, Contains, Some, refl, inl, inr, sym, ap, subst, ◌∙◌, arith}
+use Rattle.std.proofs.Common.{◌≡◌, ◌⊎◌, ℕ, zero, suc, ◌<◌, List, [], ◌∷◌, ◌++◌, length, map, slice_index_or, slice_get, Contains, Some, refl, inl, inr, sym, arith}
 use Rattle.std.specs.List.{AllByRecursion}
 
 -- a member of a list

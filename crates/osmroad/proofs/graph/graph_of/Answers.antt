@@ -1,7 +1,5 @@
-use Rattle.std.proofs.Common.{◌≡◌, ◌++◌, List, ℕ, sym, ap, subst, ◌∙◌}
-use Rattle.std.specs.FinMap.{empty, values}
-use Rattle.road_base.specs.Objects.{Objects}
-use Rattle.road_base.specs.Applying.{IsApplied}
+use Rattle.std.proofs.Common.{◌++◌, List, ℕ, ap, ◌∙◌}
+use Rattle.std.specs.FinMap.{values}
 use Rattle.road_model.specs.Format.{graph_bytes}
 use Rattle.osmroad.proofs.graph.graph_of.Goals as goal
 
