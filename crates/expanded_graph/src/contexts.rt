@@ -88,10 +88,10 @@ fn all_contexts<M: World, P: Profile>(
     one_name(profile);
     context_steps(profile);
     states.automaton.closed();
-    let mut contexts = Vec::new(alloc);
+    let here = endings_with(endings, span.name);
+    let mut contexts = Vec::with_capacity(alloc, here.len() + 1)?;
     let alone = context_alone(alloc, world, profile, states, intersection, span, from)?;
     contexts.push(alone)?;
-    let here = endings_with(endings, span.name);
     for ending in here {
         let context = context_in(
             alloc,

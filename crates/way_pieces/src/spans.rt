@@ -66,10 +66,10 @@ fn spans_along<M: World, P: Profile>(
     requires junctions { AreJunctions (M.objects world.now) (P.rules profile.now) road.way junctions.now }
     ensures { IfOk result (λ v. Lists (λ s. s.name) name_cmp (IsSpanOn (M.objects world.now) (P.rules profile.now) road.way) v.items) }
 {
-    let mut spans = Vec::new(alloc);
     if junctions.len() == 0 {
-        return Ok(spans);
+        return Ok(Vec::new(alloc));
     }
+    let mut spans = Vec::with_capacity(alloc, 2 * (junctions.len() - 1))?;
     let mut low = is_located(world, nodes[junctions[0] as usize]);
     for at in 1..junctions.len() {
         let stretch = Stretch {

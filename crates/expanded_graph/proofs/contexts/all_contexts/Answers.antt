@@ -27,7 +27,7 @@ loop-ending-init g c =
     let m = c.args.states.now.automaton in
     let p = piece_of c.args.span in
     let laws : StepLaws M P = record { one = c.one_name.ensures.pieces M; to = c.context_steps.ensures.to M; from = c.context_steps.ensures.from M } in
-    let grown = c.in_ok-push.ensures.items ∙ ap (λ l. l ++ c.in_ok-alone.alone ∷ []) c.new-contexts.ensures.items in
+    let grown = c.in_ok-push.ensures.items ∙ ap (λ l. l ++ c.in_ok-alone.alone ∷ []) c.in_ok-contexts.ensures.items in
     subst (Gathered M P m p []) (sym grown) (gathered_alone M P laws c.name_order.ensures.lists c.name_order.ensures.list_ties m c.closed.ensures.closed p c.in_ok-alone.alone c.in_ok-alone.ensures.entry c.in_ok-alone.ensures.alone)
 
 pub loop-ending-preserved : goal.loop-ending-preserved

@@ -38,7 +38,7 @@ returns-then-junctions-eq0 g c =
     let P = g.P.Profile.rules c.args.profile.now in
     let w = c.args.road.way in
     let none = c.if-junctions-eq0.true in
-    subst (λ (l : List PieceSpan). Lists (λ z. z.name) name_cmp (IsSpanOn M P w) l) (sym c.new-spans.ensures.items)
+    subst (λ (l : List PieceSpan). Lists (λ z. z.name) name_cmp (IsSpanOn M P w) l) (sym c.new.ensures.items)
     (lists_none (λ z. z.name) name_cmp (IsSpanOn M P w) (λ z on.
     let has = first_listed M P w c.args.junctions.now c.requires.junctions (piece_of z) on.is on.of in
     let within = has.1 in
@@ -56,7 +56,7 @@ loop-at-init g c =
       some = omega arith;
       from = omega arith;
       upto = omega arith;
-      listed = subst (λ (l : List PieceSpan). Lists (λ z. z.name) name_cmp Low l) (sym c.new-spans.ensures.items) (lists_none (λ z. z.name) name_cmp Low (none_below M P w js c.requires.junctions));
+      listed = subst (λ (l : List PieceSpan). Lists (λ z. z.name) name_cmp Low l) (sym c.in_ok-spans.ensures.items) (lists_none (λ z. z.name) name_cmp Low (none_below M P w js c.requires.junctions));
       low = c.is_located-low.ensures ∙ ap (located M) (sym (node_there M w c.args.nodes.now (get_or js 0 0) (record { 0 = pos 0 }) c.requires.line (there M P w c.args.nodes.now js 0 c.requires.line c.requires.junctions (omega arith))));
     }
 
