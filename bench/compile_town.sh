@@ -1,8 +1,9 @@
 #!/usr/bin/env bash
 # Measures `osmroad - compile` on a town as osmium would write it, without its relations and whole, and on a quarter of it, each beside
 # `osmium cat` on the same file in the same run: on one core, the best of five by processor time, with the peak memory in kilobytes, and
-# what the graph has. Then what reading alone takes: the town with a line in fault at its end. Wants python3, GNU time, osmium-tool, and the
-# program as `rt run` builds it. Its arguments are the first two of gen_town.py, the first one even.
+# what the graph has. Then what reading alone takes: the town with a line in fault at its end. Wants python3, GNU time, osmium-tool, taskset, a
+# second core, and the program as `rt run` builds it. Its arguments are the first two of gen_town.py, 400 and 4 where left out; the first one is
+# even and at least 12.
 set -eu
 . "$(dirname "$0")/program.sh"
 

@@ -4,15 +4,15 @@
 Use: hostile.py CASE > OUT.opl
 
 CASE is one of
-  twice       a way of 65,535 references that passes each of its nodes twice
+  twice       a way of 65,535 references that passes each of its nodes but the last twice
   star        a node with 1,000 ways
   comb        a way of 65,535 references, and a way of a lower number that leads off at each of its nodes
   ends        1,000 rules from a way of 65,535 references to the 1,000 ways at its end
   vias        a rule over 16 via ways of 64 steps each, all nodes junctions
   prefix      500 rules that share a prefix of 16 via ways
-  rules       a million restrictions on one way
+  rules       a million restrictions from one way to another
   members     a restriction of 65,535 members
-  turns       16 members of each role at one node
+  turns       16 from and 16 to members at one node
 """
 import sys
 

@@ -139,8 +139,8 @@ fn put_in_order<K: Ord + Copy, V: Ord + Copy>(pairs: &mut Vec<(K, V)>)
     pairs.dedup();
 }
 
-/// The first position from `low` on at which a key above this one stands. The keys of one node or way are few, so they are
-/// gone through.
+/// The first position from `low` on at which a key above this one stands. The keys of one node or way lie side by side and
+/// most often are few, so they are gone through.
 fn end_from<K: Ord + Copy>(keys: &[K], low: usize, key: K) -> usize
     requires { low ≤ length keys.now }
     ensures from { low ≤ result }

@@ -22,7 +22,7 @@ use way_lines::is_road;
 use way_pieces::{PieceSpan, PiecesByWay};
 
 /// The block of the way: its pieces with their nodes and locations, contexts and arcs.
-/// A way that isn't visible or is no road has no pieces. Adds one step, also where no memory is found.
+/// A way that isn't visible or is no road has no pieces. Adds one to the counter, also where no memory is found.
 pub fn build_block<M: World, P: Profile, L: Ledger>(
     alloc: Global,
     world: &M,

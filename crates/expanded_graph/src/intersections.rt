@@ -14,7 +14,7 @@ use std::alloc::Global;
 use std::collections::BTreeMap;
 use way_pieces::{Departure, PiecesByWay};
 
-/// A node where pieces end: whether it lets one through and round, and what leaves it.
+/// A node where pieces end: whether it is shut, whether it is a place to turn round, and what leaves it.
 #[derive(Drop)]
 pub struct Intersection {
     pub node: NodeId,

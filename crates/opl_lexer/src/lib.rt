@@ -1,7 +1,9 @@
 //! The fields of a line of OPL, and the numbers, coordinates and texts that fields hold.
 //!
 //! The format is the one that osmium's OPL File Format Manual describes. Every call takes time linear in its text, and
-//! only `unescape` takes memory, for what it appends.
+//! only `unescape` takes memory, for what it appends. What a line and a whole input say, and how they are in fault, is defined
+//! in `specs/` (Spelling, Faults, Reading), over whole lines and without any of these calls; `opl_objects` is proved
+//! against that.
 #![tactic(auto)]
 
 mod escapes;

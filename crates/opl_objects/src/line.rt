@@ -85,7 +85,7 @@ fn is_object(byte: u8) -> bool
     byte == b'n' || byte == b'w' || byte == b'r'
 }
 
-/// The same of a line that is known to be text.
+/// The event of a line of text, or None where the line is passed over.
 fn read_text(alloc: Global, mode: Mode, line: &str) -> Result<Option<Event>, LineError>
     ensures ok { IfOk result (Says mode line.now) }
     ensures err { IfErr result (Refuses mode line.now) }

@@ -1,10 +1,11 @@
 //! osmroad compiles what a car may drive in OpenStreetMap data to a turn-expanded graph.
 //!
 //! `run` is the one call that does all that the program does, over any source and site; `main` hands it standard input
-//! and standard output. The words `- compile` build the graph of an extract: the input is read piece by piece into
+//! and standard output. The words `- compile` build the graph of an extract: the input is read part by part into
 //! events (`input`), of each object the first event of the greatest version stands (`graph`), each way with pieces becomes
-//! its block (`blocks`), and the blocks become the graph's bytes. Time grows with the input as n log n, and memory stays a
-//! small multiple of it.
+//! its block (`blocks`), and the blocks become the graph's bytes. Time grows as n log n with the input and the graph
+//! together, and memory stays a small multiple of the two. The graph of a town is about as large as its extract; that of a
+//! node with very many ways grows with the square of their number.
 #![tactic(auto)]
 
 ghost use Rattle.std.specs.Prelude.{◌≡◌, ◌<◌};

@@ -1,8 +1,9 @@
 //! The numbers, objects, events and steps that every other crate speaks of.
 //!
 //! An object map is what a list of events leaves: for each key the first entry of the greatest version.
-//! `specs/Objects.antt` and `specs/Applying.antt` say so. A copy costs the size of what is copied, a look-up
-//! among tags the logarithm of their number, and everything else a constant.
+//! `specs/Objects.antt` and `specs/Applying.antt` say so. A copy or a comparison costs the size of what is gone over, and
+//! so does a test whether tags ascend; a look-up among tags costs the logarithm of their number, and everything else a
+//! constant.
 #![tactic(auto)]
 
 mod event;

@@ -1,4 +1,4 @@
--- What a site tells of the outside.
+-- What a site tells of the outside. (No map: those are told by the trait of this name in road_model.)
 use Rattle.std.specs.Prelude.{ℕ, List, ◌++◌}
 
 -- what has been put so far, the first byte first

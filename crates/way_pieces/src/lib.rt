@@ -2,9 +2,9 @@
 //!
 //! `spans_of`, `pieces_of` and `spell` go along the way's line once: with n references and w ways at their nodes they
 //! take time of the order of n log n + w, and memory of the order of n. `PiecesByWay` cuts each way into pieces once, in
-//! the same time, and keeps them in memory of the order of their number: then a node's departures are found in time of the
-//! order of the logarithm of their lengths for each way at the node. `departures_from` and `pieces_from` cut all ways at
-//! the node.
+//! the same time, and keeps them in memory of the order of their number: then to find a node's departures takes, for each
+//! way there, the logarithm of the number of its pieces, and one step for each departure. `departures_from` and
+//! `pieces_from` cut all ways at the node.
 #![tactic(auto)]
 
 mod departures;
