@@ -21,9 +21,6 @@ lacks_before stop bs at inside none =
     let here = get_or-take at bs i 0 below in
     rw here (not_there stop (slice_index bs i) (none i (omega arith) below)))
 
-pub lacks_all : (stop : ℕ) (bs : List ℕ) → Nowhere (Passes (is_byte stop) bs) 0 (length bs) → Lacks stop bs
-lacks_all stop bs none = All-from_get_or (λ b. (b == stop) ≡ false) bs 0 (λ i h. not_there stop (slice_index bs i) (none i (omega arith) h))
-
 -- the first such byte cuts the text
 pub cut_at_first : (stop : ℕ) (bs : List ℕ) (at : ℕ) → NoneBefore (Passes (is_byte stop) bs) 0 (length bs) at → slice_index bs at ≡ stop → IsCutAt stop bs (take at bs) (drop (at + 1) bs)
 cut_at_first stop bs at none here =

@@ -68,10 +68,6 @@ first_field text n some inside solid stops =
       | inr less ↦ field_before_blank text n some less solid (stops less)
     ]
 
-pub no_field : (text : List ℕ) → length text ≡ 0 → fields text ≡ []
-no_field [] h = refl
-no_field (b ∷ bs) h = absurd (omega arith)
-
 -- ---- where a line may be cut
 
 blank_ascii : (b : ℕ) → is_blank b ≡ true → b < 128

@@ -86,15 +86,8 @@ HasRead-end text start rest out read lacks =
 pub HasRead-bad : (text start rest out : List ℕ) → HasRead text start rest out → unescaped rest ≡ None → unescaped text ≡ None
 HasRead-bad text start rest out read bad = read.left ∙ ap (λ o. option_map (λ more. read.front ++ more) o) bad
 
--- what was there stays in front
-abbrev pub Keeps : List ℕ → List ℕ → Type 0
-Keeps start out = (part : List ℕ) × (out ≡ start ++ part)
-
 -- there it may be cut
 pub kept_boundary : (start out part : List ℕ) → out ≡ start ++ part → IsUtf8 start → IsUtf8 out → IsCharBoundary out (length start)
 kept_boundary start out part same before after =
     let front : take (length start) out ≡ start = rw same (take-append_seam start part) in
     IsCharBoundary-from_take out (length start) after (rw same (omega (arith, length-append start part))) (rw front before)
-
-pub kept : (text start rest out : List ℕ) → HasRead text start rest out → Keeps start out
-kept text start rest out read = (read.front, read.written)
