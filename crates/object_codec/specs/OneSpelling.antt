@@ -105,11 +105,6 @@ node_id_one = by_one (λ (n : NodeId). n.0) i64_bytes (FitsSigned w64) (λ x y e
 
 -- ---- keys
 
-abbrev number_of : Key → ℤ
-number_of (NodeKey n) = n.0
-number_of (WayKey w) = w.0
-number_of (RelationKey r) = r.0
-
 -- behind a kind of its own
 numbers_one : (kind : ℕ) (x y : ℤ) (bytes r s : List ℕ) → FitsSigned w64 x → FitsSigned w64 y → bytes ≡ (kind ∷ i64_bytes x) ++ r → bytes ≡ (kind ∷ i64_bytes y) ++ s → (x ≡ y) × (r ≡ s)
 numbers_one kind x y bytes r s x_fits y_fits first second =

@@ -2,7 +2,6 @@
 ghost use Rattle.std.specs.Prelude.{◌≡◌};
 ghost use Rattle.object_codec.specs.declared.unread.Unread.TheVariants.{Memory};
 
-use road_base::NoMemory;
 use std::alloc::{AllocError, AllocFailed};
 
 /// Why nothing was read.
