@@ -10,6 +10,7 @@ use Rattle.std.specs.FinMap.{insert as inserted}
 use Rattle.std.specs.FinMap.{remove as removed, get-remove, same_map}
 use Rattle.std.proofs.lemmas.Bool.{and_parts, and_from}
 use Rattle.std.proofs.lemmas.Cmp.{tied_itself}
+use Rattle.std.proofs.lemmas.List.{nil_from_length}
 use Rattle.std.proofs.lemmas.List.Sorted.{searchable_from_sorted}
 use Rattle.road_model.specs.Orders.{rises, rises_from}
 use Rattle.road_model.proofs.Members.{In, in_from_contains, contains_from_in}
@@ -19,10 +20,6 @@ equal : (r : Ordering) → is_eq r ≡ true → r ≡ Equal
 equal Less e = cc
 equal Equal e = refl
 equal Greater e = cc
-
-none_there : {A : Type 0} (es : List A) → length es ≡ 0 → es ≡ []
-none_there [] e = refl
-none_there (x ∷ es) e = absurd (omega arith)
 
 module _ {A N : Type 0} (name : A → N) (R : N → N → Ordering) (total : IsTotalOrder R) where
   abbrev entry : A → N × A
@@ -44,7 +41,7 @@ module _ {A N : Type 0} (name : A → N) (R : N → N → Ordering) (total : IsT
   rest_rises n (y ∷ l) h = (and_parts _ _ h).1
 
   no_entries : entries (empty {X = A} {R = R}) ≡ []
-  no_entries = none_there _ (sym (len-entries empty) ∙ len-empty R A)
+  no_entries = nil_from_length _ (sym (len-entries empty) ∙ len-empty R A)
 
   -- an ascending list has the entries of its map, in order
   pub entries_of : (xs : List A) → IsTrue (rises R (map name xs)) → entries (map_of xs) ≡ map entry xs
