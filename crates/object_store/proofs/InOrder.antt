@@ -7,6 +7,7 @@ use Rattle.std.specs.Cmp.{IsTotalOrder, Equal-is}
 use Rattle.std.specs.FinMap.{IsAntisymmetric, empty, entries, find, put, len-empty, len-entries, entries-insert}
 use Rattle.std.specs.List.Sorted.{IsSortedBy, IsBinarySearchResult, IsNonDecreasingBy}
 use Rattle.std.proofs.lemmas.Bool.{and_parts, cases_lt}
+use Rattle.std.proofs.lemmas.List.{nil_from_length}
 use Rattle.std.proofs.lemmas.List.Sorted.{searchable_from_sorted}
 use Rattle.std.proofs.lemmas.Cmp.{tied_itself}
 use Rattle.road_base.specs.declared.ids.Key.{Key}
@@ -30,10 +31,6 @@ at_index (x ∷ xs) (suc i) d l = inr (at_index xs i d (omega arith))
 pub rest : (n : Key) (l : List Key) → IsTrue (rises_from key_cmp n l) → IsTrue (rises key_cmp l)
 rest n [] h = refl
 rest n (y ∷ l) h = (and_parts _ _ h).1
-
-no_entries : {X : Type 0} (es : List X) → length es ≡ 0 → es ≡ []
-no_entries [] e = refl
-no_entries (x ∷ es) e = absurd (omega arith)
 
 -- an event with a key among those of which the key is another's
 pub none_found : (k : Key) (xs : List Event) → ((x : Event) → In x xs → is_of k x ≡ false) → find key_cmp k (map pair_of xs) ≡ None
@@ -75,7 +72,7 @@ module _ (total : IsTotalOrder key_cmp) where
 
   -- the list is the entries of its map
   pub entries_of : (xs : List Event) → IsInOrder xs → entries (objects_of xs) ≡ map pair_of xs
-  entries_of [] h = no_entries _ (sym (len-entries empty) ∙ len-empty key_cmp Entry)
+  entries_of [] h = nil_from_length _ (sym (len-entries empty) ∙ len-empty key_cmp Entry)
   entries_of (x ∷ xs) h =
       entries-insert total (objects_of xs) x.key (entry_of x) ∙ ap (put key_cmp x.key (entry_of x)) (entries_of xs (rest x.key (map key_of xs) h)) ∙ put_front x xs h
 

@@ -9,6 +9,7 @@ use Rattle.std.specs.FinMap.{empty, find, get-empty, get-from_entries}
 use Rattle.std.proofs.lemmas.Bool.{and_from, cases_lt}
 use Rattle.std.proofs.lemmas.Bool.Decides.{nat_tests}
 use Rattle.std.proofs.lemmas.Cmp.{alike_right, on_total, then_total, back_total, nat_cmp_total}
+use Rattle.std.proofs.lemmas.Map.Keys.{ge_from_not_lt}
 use Rattle.std.proofs.lemmas.List.Sorted.{sorted_far, ranks_by, Contains-permutation}
 use Rattle.road_base.specs.declared.ids.Key.{Key}
 use Rattle.road_base.specs.declared.event.Event.{Event}
@@ -52,9 +53,6 @@ at_one_key : (r : Ordering) (s : Ordering) → r ≡ Equal → ordering_then r s
 at_one_key Less s e = cc
 at_one_key Equal s e = refl
 at_one_key Greater s e = cc
-
-not_before : (v w : ℕ) → is_lt (nat_cmp v w) ≡ false → w ≤ v
-not_before v w h = grind (arith, nat_tests)
 
 level : (v w : ℕ) → v ≡ w → is_lt (nat_cmp v w) ≡ false
 level v w h = grind (arith, nat_tests)
@@ -146,17 +144,13 @@ module _ (total : IsTotalOrder key_cmp) where
 
   -- of one key, what doesn't come before has no greater version
   no_later : (k : Key) (x y : Event) → is_of k x ≡ true → is_of k y ≡ true → before y x ≡ false → y.version ≤ x.version
-  no_later k x y h g b = not_before x.version y.version (ap is_lt (sym (at_one_key _ _ (one_key k y x g h))) ∙ b)
+  no_later k x y h g b = ge_from_not_lt x.version y.version (ap is_lt (sym (at_one_key _ _ (one_key k y x g h))) ∙ b)
 
   both_false : (a b : Bool) → a ≡ false → b ≡ false → (not a && not b) ≡ true
   both_false a b h g = rw (h, g) refl
 
   first_true : (a b : Bool) → a ≡ true → (not a && not b) ≡ false
   first_true a b h = rw h refl
-
-  second_true : (a b : Bool) → b ≡ true → (not a && not b) ≡ false
-  second_true true b h = refl
-  second_true false b h = rw h refl
 
   level_ties : (k : Key) (x y : Event) → is_of k x ≡ true → is_of k y ≡ true → y.version ≡ x.version → ties before x y ≡ true
   level_ties k x y h g e =
