@@ -92,10 +92,6 @@ from_way_pair r q (WayKey v) w (inl e) = (ap (λ (p : WayId × RelationId). WayK
 from_way_pair r q (WayKey v) w (inr i) = absurd i
 from_way_pair r q (RelationKey s) w i = absurd i
 
--- a member names the key
-item_of : Member → Key
-item_of m = m.item
-
 in_node_rules : (k : Key) (ms : List Member) (n : NodeId) (r : RelationId) → k ≡ RelationKey r → In (NodeKey n) (map (λ m. m.item) ms) → In (n, r) (nodes_with_rule k ms)
 in_node_rules k ms n r e i =
     let f = from_map (λ (m : Member). m.item) ms (NodeKey n) i in

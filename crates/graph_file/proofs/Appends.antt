@@ -35,10 +35,6 @@ one_more spell xs i x old mid new within is so_far next =
     next ∙ ap (λ l. l ++ spell x) so_far ∙ append_assoc old (joined spell (take i xs)) (spell x)
     ∙ ap (λ y. old ++ (joined spell (take i xs) ++ spell y)) is ∙ ap (λ l. old ++ l) (sym (joined-take spell xs i x within))
 
--- two appends as one
-pub both : (old a mid b new : List ℕ) → mid ≡ old ++ a → new ≡ mid ++ b → new ≡ old ++ (a ++ b)
-both old a mid b new first second = second ∙ ap (λ l. l ++ b) first ∙ append_assoc old a b
-
 all_one_more : {A : Type 0} (P : A → Type 0) (xs : List A) (i : ℕ) (d : A) → i < length xs → AllByRecursion P (take i xs) → P (get_or xs i d) → AllByRecursion P (take (suc i) xs)
 all_one_more P [] i d within so_far next = absurd (omega arith)
 all_one_more P (x ∷ xs) zero d within so_far next = (next, tt)
