@@ -36,9 +36,6 @@ pub record IsRead {A : Type 0} (read : List ℕ → Parsed A) (contents : List �
   pub count : length done ≡ length list
   pub short : length list ≤ 65535
 
-pub read_none : {A : Type 0} (read : List ℕ → Parsed A) (contents : List ℕ) (left : List (List ℕ)) → left ≡ items contents → IsRead read contents [] left
-read_none read contents left same = record { done = []; split = sym same; good = refl; count = refl; short = omega arith }
-
 -- one item more
 pub read_more : {A : Type 0} (read : List ℕ → Parsed A) (contents : List ℕ) (list : List A) (item : List ℕ) (others : List (List ℕ)) (v : A) → IsRead read contents list (item ∷ others) → length list < 65535 → read item ≡ Good v → IsRead read contents (list ++ v ∷ []) others
 read_more {A} read contents list item others v so_far room here = record {

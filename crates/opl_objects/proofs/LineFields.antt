@@ -1,5 +1,5 @@
 -- A field more, in a line that is good so far.
-use Rattle.std.proofs.Common.{◌≡◌, ◌==◌, ◌+◌, ◌≤◌, ℕ, List, [], ◌∷◌, ◌++◌, Bool, true, false, drop, length, set, Option, Some, None, refl, sym, ap, ◌∙◌, subst, append_assoc, append-nil, length-append, arith}
+use Rattle.std.proofs.Common.{◌≡◌, ◌==◌, ◌+◌, ℕ, List, [], ◌∷◌, ◌++◌, Bool, true, false, drop, length, set, Option, Some, None, refl, sym, ap, ◌∙◌, subst, append_assoc, append-nil, length-append, arith}
 use Rattle.std.specs.List.{list_any}
 use Rattle.road_base.specs.declared.ids.Key.{Key}
 use Rattle.opl_lexer.specs.declared.fault.FaultKind.{FaultKind}
@@ -15,7 +15,7 @@ use Rattle.opl_objects.specs.declared.letters.Seen.{Seen}
 use Rattle.opl_objects.specs.declared.parts.Parts.{Parts}
 use Rattle.opl_objects.specs.LineLetters.{byte_of, place_of, AreMarked}
 use Rattle.opl_objects.specs.LineParts.{IsFault, IsFaultAt, Holds, AreRead, Puts}
-use Rattle.opl_objects.proofs.LineMarks.{marked_more, few_fields}
+use Rattle.opl_objects.proofs.LineMarks.{marked_more}
 use Rattle.opl_objects.proofs.LineHolds.{with_text, held_more, holds_same, put_holds, put_seen}
 
 pub fault_unknown : (key : Key) (fields : List (List ℕ)) (field : List ℕ) → is_known key field ≡ false → field_fault key fields field ≡ Some UnknownField
@@ -80,12 +80,6 @@ pub record IsReadTo (key : Key) (fields left : List (List ℕ)) (number : ℕ) (
   pub bad : first_bad key [] fields ≡ first_bad key earlier left
   pub count : number ≡ length earlier + 2
   pub read : AreRead earlier parts
-
-pub to_none : (key : Key) (fields : List (List ℕ)) (parts : Parts) → AreRead [] parts → IsReadTo key fields fields 2 parts
-to_none key fields parts read = record { earlier = []; split = refl; bad = refl; count = refl; read = read }
-
-pub to_few : (key : Key) (fields left : List (List ℕ)) (number : ℕ) (parts : Parts) → IsReadTo key fields left number parts → number ≤ 13
-to_few key fields left number parts to = let count = to.count in omega (arith, few_fields to.earlier parts.seen.marks to.read.marked)
 
 pub to_more : (key : Key) (fields left rest : List (List ℕ)) (field : List ℕ) (number : ℕ) (old new : Parts) → IsReadTo key fields left number old → left ≡ field ∷ rest
     → ((earlier : List (List ℕ)) → AreRead earlier old → field_fault key earlier field ≡ None)

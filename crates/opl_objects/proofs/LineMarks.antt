@@ -1,11 +1,11 @@
 -- Which letters stood, and how many.
-use Rattle.std.proofs.Common.{◌≡◌, ◌==◌, ◌||◌, ◌<◌, ◌≤◌, ◌+◌, ℕ, List, [], ◌∷◌, ◌++◌, Bool, true, false, cond, length, get_or, set, refl, sym, ap, ◌∙◌, arith, inl, inr, lit<, length-append, get_or-set_other, get_or-set_same}
+use Rattle.std.proofs.Common.{◌≡◌, ◌==◌, ◌||◌, ◌<◌, ◌+◌, ℕ, List, [], ◌∷◌, ◌++◌, Bool, true, false, cond, length, get_or, set, refl, sym, ap, ◌∙◌, arith, inl, inr, lit<, length-append, get_or-set_other, get_or-set_same}
 use Rattle.std.specs.List.{count_by}
 use Rattle.std.proofs.lemmas.Bool.{cases_eq}
 use Rattle.std.proofs.lemmas.Bool.Decides.{nat_tests, Decides-eqb}
 use Rattle.std.proofs.lemmas.List.{length-set}
 use Rattle.std.proofs.lemmas.List.Folds.{list_any-append}
-use Rattle.std.proofs.lemmas.List.Sums.{sum_by-set, count_by-le-length}
+use Rattle.std.proofs.lemmas.List.Sums.{sum_by-set}
 use Rattle.opl_lexer.specs.Faults.{letter, stands}
 use Rattle.opl_objects.specs.declared.letters.Letter.{Letter}
 use Rattle.opl_objects.specs.declared.letters.Letter.TheVariants.{Version, Deletion, Changeset, Timestamp, UserId, User, Tags, Lon, Lat, Refs, Members}
@@ -111,10 +111,6 @@ marked_more l marks fields field marked here new =
       each = λ m. elim (cases_eq (place_of m) (place_of l)) [ inl same ↦ marked_same l m marks fields field size here same | inr other ↦ marked_other l m marks fields field marked here other ];
       count = (let before = marked.count in let absent : cond {A = ℕ} (get_or marks (place_of l) false) 1 0 ≡ 0 = ap (λ (b : Bool). cond {A = ℕ} b 1 0) new in omega (arith, length-append fields (field ∷ [])));
     }
-
--- there are no more fields than letters
-pub few_fields : (fields : List (List ℕ)) (marks : List Bool) → AreMarked fields marks → length fields ≤ 11
-few_fields fields marks marked = let size = marked.size in let count = marked.count in omega (arith, count_by-le-length (λ mark. mark) marks)
 
 -- a field with a letter has a byte
 pub has_letter : (field : List ℕ) → 0 < get_or field 0 0 → 0 < length field

@@ -3,6 +3,7 @@ use Rattle.std.proofs.Common.{◌≡◌, ◌==◌, ◌||◌, ℕ, List, ◌∷�
 use Rattle.std.specs.Prelude.{codes}
 use Rattle.std.specs.List.{list_any}
 use Rattle.std.specs.Str.{is_utf8, IsUtf8}
+use Rattle.std.proofs.lemmas.Bool.{false_from_ne_true}
 use Rattle.std.proofs.lemmas.Str.{IsUtf8-from_is_utf8, is_utf8-from_IsUtf8}
 use Rattle.road_base.specs.declared.event.Event.{Event}
 use Rattle.opl_lexer.specs.declared.fault.FaultKind.TheVariants.{NotUtf8, UnknownLine}
@@ -16,13 +17,9 @@ use Rattle.opl_objects.specs.declared.line.LineError.TheVariants.{Fault, NoMemor
 use Rattle.opl_objects.specs.Outcomes.{Says, Refuses}
 use Rattle.opl_objects.specs.LineParts.{IsFaultAt, IsEvent}
 
-not_utf8 : (b : Bool) → (b ≡ true → ⊥) → b ≡ false
-not_utf8 true never = absurd (never refl)
-not_utf8 false never = refl
-
 pub fault_not_utf8 : (mode : Mode) (line : List ℕ) → ¬ (IsUtf8 line) → line_fault mode line ≡ Some (0, NotUtf8)
 unfolding line_fault
-fault_not_utf8 mode line never = rw (not_utf8 (is_utf8 line) (λ e. never (IsUtf8-from_is_utf8 line e))) refl
+fault_not_utf8 mode line never = rw (false_from_ne_true (is_utf8 line) (λ e. never (IsUtf8-from_is_utf8 line e))) refl
 
 -- a line that is passed over
 pub says_nothing : (mode : Mode) (line : List ℕ) → IsUtf8 line → is_passed_over (fields line) ≡ true → Says mode line None

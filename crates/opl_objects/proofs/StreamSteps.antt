@@ -155,7 +155,3 @@ fits_more fed more old new fits grown = omega (arith, length-append fed more)
 pub has_more : (mode : Mode) (fed more : List ℕ) (reader : Reader) (e : ReadError) → answered reader ≡ Some e → HasRead mode fed reader → HasRead mode (fed ++ more) reader
 has_more mode fed more reader e some read =
     has_ended mode (fed ++ more) reader e read.mode_is some (fits_more fed more (counted reader) (counted reader) read.fits (omega arith)) (ended_by-stays mode fed more e (ended_of mode fed reader e read some))
-
-pub empty_list : (bs : List ℕ) → length bs ≡ 0 → bs ≡ []
-empty_list [] none = refl
-empty_list (b ∷ bs) none = absurd (omega arith)

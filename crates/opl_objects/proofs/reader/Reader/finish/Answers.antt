@@ -1,5 +1,6 @@
 use Rattle.std.proofs.Common.{◌≡◌, ◌<◌, length, rules}
-use Rattle.opl_objects.proofs.StreamSteps.{ended_of, refused_by, refused_last, all_read, all_read_last, open_of, empty_list}
+use Rattle.std.proofs.lemmas.List.{nil_from_length}
+use Rattle.opl_objects.proofs.StreamSteps.{ended_of, refused_by, refused_last, all_read, all_read_last, open_of}
 use Rattle.opl_objects.proofs.reader.Reader.finish.Goals as goal
 
 pub returns-in-Some-clause-err : goal.returns-in-Some-clause-err
@@ -9,7 +10,7 @@ pub returns-then-is_empty-clause-ok : goal.returns-then-is_empty-clause-ok
 returns-then-is_empty-clause-ok c = λ mode fed read.
     let self = c.args.self in
     let none : length self.held.items ≡ 0 = search rules in
-    all_read mode fed self.held.items self.events.items self.lines (open_of mode fed self read c.in_default.is) (empty_list self.held.items none)
+    all_read mode fed self.held.items self.events.items self.lines (open_of mode fed self read c.in_default.is) (nil_from_length self.held.items none)
 
 pub returns-in-Ok-clause-ok : goal.returns-in-Ok-clause-ok
 returns-in-Ok-clause-ok c = λ mode fed read.
