@@ -1,19 +1,15 @@
 -- Where no key begins as an access key does, no access key is carried.
 use Rattle.std.specs.List.{AllByRecursion}
-use Rattle.std.specs.Prelude.{find, ◌||◌}
+use Rattle.std.specs.Prelude.{find}
 use Rattle.std.proofs.Common.{rules, ◌≡◌, ℕ, List, [], ◌∷◌, Bool, true, false, cond, Option, None, Some, is_some, refl, sym, ap, ◌∙◌}
 use Rattle.std.specs.Str.{bytes_eq}
-use Rattle.std.proofs.lemmas.Bool.{false≢true}
+use Rattle.std.proofs.lemmas.Bool.{false≢true, or_parts}
 use Rattle.std.proofs.lemmas.Slice.Eq.{bytes_eq-Decides}
 use Rattle.road_base.specs.Tags.{TagList, value_of}
 use Rattle.road_base.specs.declared.ids.Dir.{Dir}
 use Rattle.road_base.specs.declared.ids.Dir.TheVariants.{Forward, Backward}
 use Rattle.access_profile.specs.Deciding.{deciding, deciding_keys, full_key, SidedKey}
 use Rattle.access_profile.specs.FirstLetters.{may_be_access_key, may_have_access_key}
-
-or_parts : (a b : Bool) → (a || b) ≡ false → (a ≡ false) × (b ≡ false)
-or_parts true b e = absurd (false≢true (sym e))
-or_parts false b e = (refl, e)
 
 same_bytes : (a b : List ℕ) → bytes_eq a b ≡ true → a ≡ b
 same_bytes a b e = search (rules, bytes_eq-Decides)
