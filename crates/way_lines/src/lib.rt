@@ -9,8 +9,8 @@ mod passing;
 mod steps;
 
 pub use line_nodes::{LineNodes, line, line_at, line_len, nodes_of};
-pub use passing::{is_shut, is_turning_place, may_turn, pass};
-pub use steps::{drivable, ends, head, is_located, is_open, is_road, tail};
+pub use passing::pass;
+pub use steps::{drivable, head, is_located, is_open, is_road, tail};
 
 #[cfg(test)]
 mod tests;
