@@ -2,7 +2,8 @@
 use Rattle.std.proofs.Common.{◌≡◌, ℕ, zero, suc, ◌+◌, ◌<◌, List, [], ◌∷◌, ◌++◌, length, map, take, get_or, ◌⊎◌, inl, inr, refl, sym, subst, arith, IsTrue, Contains, Ordering}
 use Rattle.std.specs.Ordering.{is_lt}
 use Rattle.std.proofs.lemmas.Bool.{and_parts, and_from}
-use Rattle.std.proofs.lemmas.List.{take_more, get_or_default}
+use Rattle.std.proofs.lemmas.List.{take_more}
+use Rattle.std.proofs.lemmas.List.Elements.{Contains-push}
 use Rattle.road_model.specs.Orders.{rises, rises_from, Lists}
 
 module _ {A : Type 0} where
@@ -15,10 +16,6 @@ module _ {A : Type 0} where
 
   contains_none : (y : A) → Contains [] y → ⊥
   contains_none y (k, within, is) = omega arith
-
-  pub last_in : (xs : List A) (y : A) → Contains (xs ++ y ∷ []) y
-  last_in [] y = (0, omega arith, refl)
-  last_in (x ∷ xs) y = contains_later x y (xs ++ y ∷ []) (last_in xs y)
 
   pub still_in : (xs : List A) (y z : A) → Contains xs z → Contains (xs ++ y ∷ []) z
   still_in [] y z has = absurd (contains_none z has)
@@ -57,7 +54,7 @@ module _ {A : Type 0} where
         | inr before ↦ keeps z (lists.sound z before)
       ];
       complete = λ z is. elim (from z is) [
-        | inl same ↦ subst (λ a. Contains (xs ++ y ∷ []) a) (sym same) (last_in xs y)
+        | inl same ↦ subst (λ a. Contains (xs ++ y ∷ []) a) (sym same) (Contains-push xs y)
         | inr before ↦ still_in xs y z (lists.complete z before)
       ];
     }
@@ -79,10 +76,6 @@ module _ {A : Type 0} where
       sound = λ z has. absurd (contains_none z has);
       complete = λ z is. absurd (none z is);
     }
-
-  -- what stands at an index is contained
-  pub at_index : (xs : List A) (i : ℕ) (d : A) → i < length xs → Contains xs (get_or xs i d)
-  at_index xs i d within = (i, within, get_or_default xs i (get_or xs i d) d within)
 
   -- one more was looked at
   pub one_more : (xs : List A) (i : ℕ) (d y : A) → i < length xs → Contains (take (i + 1) xs) y → (y ≡ get_or xs i d) ⊎ Contains (take i xs) y

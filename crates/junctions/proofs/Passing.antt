@@ -1,5 +1,5 @@
 -- What was noted of nodes says whether one drives on.
-use Rattle.std.proofs.Common.{◌≡◌, ◌≢◌, not, Bool, true, false, Some, IsTrue, IsFalse, refl, sym, ◌∙◌}
+use Rattle.std.proofs.Common.{◌≢◌, not, Bool, true, false, Some, IsTrue, IsFalse, refl, sym, ◌∙◌}
 use Rattle.std.proofs.lemmas.Bool.{and_parts, and_from, false≢true}
 use Rattle.road_base.specs.declared.ids.NodeId.{NodeId}
 use Rattle.road_base.specs.declared.ids.WayId.{WayId}
@@ -12,10 +12,6 @@ use Rattle.junctions.specs.Passing.{IsOnNoOther, IsPassed, IsSeen, about}
 pub is_not : (b : Bool) → IsTrue (not b) → IsFalse b
 is_not true h = absurd (false≢true h)
 is_not false h = refl
-
-pub unless_not : (b : Bool) → not b ≡ false → b ≡ true
-unless_not true h = refl
-unless_not false h = absurd (false≢true (sym h))
 
 not_is : (b : Bool) → IsFalse b → IsTrue (not b)
 not_is true h = absurd (false≢true (sym h))

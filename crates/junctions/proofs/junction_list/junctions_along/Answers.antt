@@ -2,6 +2,7 @@
 use Rattle.std.proofs.Common.{◌≡◌, ℕ, ◌+◌, ◌-◌, ◌<◌, ◌⊎◌, inl, inr, List, [], ◌∷◌, ◌++◌, length, Contains, nat_lt, pos, Some, true, IsTrue, refl, sym, ap, subst, ◌∙◌, arith}
 use Rattle.std.specs.Ordering.{nat_cmp, is_lt}
 use Rattle.std.proofs.lemmas.Bool.{lt-ltb}
+use Rattle.std.proofs.lemmas.List.Elements.{Contains-push}
 use Rattle.road_base.specs.declared.ids.WayId.{WayId}
 use Rattle.road_base.specs.Objects.{Objects}
 use Rattle.road_model.specs.Rules.{Rules}
@@ -10,7 +11,7 @@ use Rattle.road_model.specs.Driving.{is_road}
 use Rattle.road_model.specs.Orders.{Lists}
 use Rattle.road_model.specs.Pieces.{IsPlain}
 use Rattle.junctions.specs.Junctions.{IsJunction, AreJunctions, Sorts}
-use Rattle.junctions.proofs.Appending.{last_in, still_in, lists_none, lists_pushed, lists_same}
+use Rattle.junctions.proofs.Appending.{still_in, lists_none, lists_pushed, lists_same}
 use Rattle.junctions.proofs.Positions.{node_there}
 use Rattle.junctions.proofs.junction_list.junctions_along.Goals as goal
 
@@ -33,7 +34,7 @@ plain_more M P w n xs others plain i h = elim (upto i n h) [
 -- and after one that was listed
 listed_more : (M : Objects) (P : Rules) (w : WayId) (n : ℕ) (xs ys : List ℕ) → ys ≡ xs ++ n ∷ [] → ((i : ℕ) → i < n → Contains xs i ⊎ IsPlain M P w i) → (i : ℕ) → i < n + 1 → Contains ys i ⊎ IsPlain M P w i
 listed_more M P w n xs ys is others i h = elim (upto i n h) [
-  | inl same ↦ inl (subst (λ (l : List ℕ). Contains l i) (sym is) (subst (λ k. Contains (xs ++ n ∷ []) k) (sym same) (last_in xs n)))
+  | inl same ↦ inl (subst (λ (l : List ℕ). Contains l i) (sym is) (subst (λ k. Contains (xs ++ n ∷ []) k) (sym same) (Contains-push xs n)))
   | inr less ↦ elim (others i less) [
     | inl has ↦ inl (subst (λ (l : List ℕ). Contains l i) (sym is) (still_in xs n i has))
     | inr plain ↦ inr plain

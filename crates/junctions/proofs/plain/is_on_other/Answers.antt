@@ -2,9 +2,10 @@
 use Rattle.std.proofs.Common.{◌≡◌, List, IsTrue, Contains, take, get_or, pos, inl, inr, refl, sym, subst, ◌∙◌, arith}
 use Rattle.std.proofs.lemmas.Bool.{false≢true}
 use Rattle.std.proofs.lemmas.List.{take_all}
+use Rattle.std.proofs.lemmas.List.Elements.{Contains-get_or}
 use Rattle.road_base.specs.declared.ids.WayId.{WayId}
 use Rattle.road_model.specs.Driving.{is_road}
-use Rattle.junctions.proofs.Appending.{at_index, one_more}
+use Rattle.junctions.proofs.Appending.{one_more}
 use Rattle.junctions.proofs.Referring.{refers, passes}
 use Rattle.junctions.proofs.plain.is_on_other.Goals as goal
 
@@ -14,7 +15,7 @@ returns-then-is_other_road g c =
     let items = c.ways_at-other-items.result.now in
     let i = c.loop-other.other-index in
     let d : WayId = record { 0 = pos 0 } in
-    let link = c.ways_at-other-items.ensures.sound (get_or items i d) (at_index items i d c.loop-other-test.true) in
+    let link = c.ways_at-other-items.ensures.sound (get_or items i d) (Contains-get_or items i d c.loop-other-test.true) in
     let at = passes M (get_or items i d) c.args.node link in (
       λ no. absurd (false≢true (sym no)),
       λ all. c.if-is_other_road.ensures.1 (λ road. all (get_or items i d) at.0 road at.1),

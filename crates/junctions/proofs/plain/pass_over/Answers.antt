@@ -1,9 +1,9 @@
 -- Each part of passing is tried in turn.
 use Rattle.std.proofs.Common.{Some, refl, sym, ap, ◌∙◌}
-use Rattle.std.proofs.lemmas.Bool.{false≢true}
+use Rattle.std.proofs.lemmas.Bool.{false≢true, not-false}
 use Rattle.road_base.specs.declared.ids.NodeId.{NodeId}
 use Rattle.road_model.specs.Driving.{located}
-use Rattle.junctions.proofs.Passing.{is_not, unless_not, passed_over, over_parts}
+use Rattle.junctions.proofs.Passing.{is_not, passed_over, over_parts}
 use Rattle.junctions.proofs.plain.pass_over.Goals as goal
 
 pub returns-then-not-may_pass-clause-none : goal.returns-then-not-may_pass-clause-none
@@ -26,7 +26,7 @@ returns-clause-some g c =
       (
         c.see-beyond.ensures.seen,
         passed_over M (g.P.Profile.rules c.args.profile.now) c.args.way c.args.near c.args.here c.args.far c.requires.near c.requires.here parts.0 (parts.1).0 (parts.1).1
-            (ap (λ (v : NodeId). located M (Some v)) (sym c.see-beyond.ensures.node) ∙ (sym c.see-beyond.ensures.seen.located ∙ unless_not _ c.if-not-beyond.false))
+            (ap (λ (v : NodeId). located M (Some v)) (sym c.see-beyond.ensures.node) ∙ (sym c.see-beyond.ensures.seen.located ∙ not-false _ c.if-not-beyond.false))
             (c.if-is_on_other.ensures.0 refl),
       ),
     )
