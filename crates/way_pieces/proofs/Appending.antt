@@ -2,7 +2,8 @@
 use Rattle.std.proofs.Common.{◌≡◌, ℕ, zero, suc, ◌+◌, ◌<◌, Bool, true, false, cond, List, [], ◌∷◌, ◌++◌, length, map, take, get_or, ◌⊎◌, inl, inr, refl, sym, subst, arith, IsTrue, Contains, Ordering, ap}
 use Rattle.std.specs.Ordering.{is_lt}
 use Rattle.std.proofs.lemmas.Bool.{and_parts, and_from, false≢true}
-use Rattle.std.proofs.lemmas.List.{take_more, get_or_default}
+use Rattle.std.proofs.lemmas.List.{take_more}
+use Rattle.std.proofs.lemmas.List.Elements.{Contains-append_left, Contains-append_right, Contains-append_cases}
 use Rattle.road_model.specs.Orders.{rises, rises_from, Lists}
 
 module _ {A : Type 0} where
@@ -15,27 +16,6 @@ module _ {A : Type 0} where
 
   pub contains_none : (y : A) → Contains [] y → ⊥
   contains_none y (k, within, is) = omega arith
-
-  pub in_front : (xs ys : List A) (z : A) → Contains xs z → Contains (xs ++ ys) z
-  in_front [] ys z has = absurd (contains_none z has)
-  in_front (x ∷ xs) ys z has = elim (contains_cases x z xs has) [
-    | inl same ↦ (0, omega arith, sym same)
-    | inr rest ↦ contains_later x z (xs ++ ys) (in_front xs ys z rest)
-  ]
-
-  pub in_back : (xs ys : List A) (z : A) → Contains ys z → Contains (xs ++ ys) z
-  in_back [] ys z has = has
-  in_back (x ∷ xs) ys z has = contains_later x z (xs ++ ys) (in_back xs ys z has)
-
-  pub in_either : (xs ys : List A) (z : A) → Contains (xs ++ ys) z → Contains xs z ⊎ Contains ys z
-  in_either [] ys z has = inr has
-  in_either (x ∷ xs) ys z has = elim (contains_cases x z (xs ++ ys) has) [
-    | inl same ↦ inl (0, omega arith, sym same)
-    | inr rest ↦ elim (in_either xs ys z rest) [
-      | inl before ↦ inl (contains_later x z xs before)
-      | inr behind ↦ inr behind
-    ]
-  ]
 
   module _ {N : Type 0} (name : A → N) (R : N → N → Ordering) where
     joined_on : (x : A) (xs ys : List A) → IsTrue (rises_from R (name x) (map name xs)) → IsTrue (rises R (map name ys)) → ((a b : A) → Contains (x ∷ xs) a → Contains ys b → IsTrue (is_lt (R (name a) (name b)))) → IsTrue (rises_from R (name x) (map name (xs ++ ys)))
@@ -53,8 +33,8 @@ module _ {A : Type 0} where
     pub lists_joined : (Is Next More : A → Type 0) (xs ys : List A) → Lists name R Is xs → Lists name R Next ys → ((a b : A) → Is a → Next b → IsTrue (is_lt (R (name a) (name b)))) → ((z : A) → Is z → More z) → ((z : A) → Next z → More z) → ((z : A) → More z → Is z ⊎ Next z) → Lists name R More (xs ++ ys)
     lists_joined Is Next More xs ys these those below keeps adds from = record {
       ascending = joined_rise xs ys these.ascending those.ascending (λ a b has of. below a b (these.sound a has) (those.sound b of));
-      sound = λ z has. elim (in_either xs ys z has) [ inl here ↦ keeps z (these.sound z here) | inr there ↦ adds z (those.sound z there) ];
-      complete = λ z is. elim (from z is) [ inl here ↦ in_front xs ys z (these.complete z here) | inr there ↦ in_back xs ys z (those.complete z there) ];
+      sound = λ z has. elim (Contains-append_cases xs ys z has) [ inl here ↦ keeps z (these.sound z here) | inr there ↦ adds z (those.sound z there) ];
+      complete = λ z is. elim (from z is) [ inl here ↦ Contains-append_left xs ys z (these.complete z here) | inr there ↦ Contains-append_right xs ys z (those.complete z there) ];
     }
 
     pub lists_extended : (Is Next More : A → Type 0) (xs ys zs : List A) → zs ≡ xs ++ ys → Lists name R Is xs → Lists name R Next ys → ((a b : A) → Is a → Next b → IsTrue (is_lt (R (name a) (name b)))) → ((z : A) → Is z → More z) → ((z : A) → Next z → More z) → ((z : A) → More z → Is z ⊎ Next z) → Lists name R More zs
@@ -89,25 +69,21 @@ module _ {A : Type 0} where
       complete = λ z is. absurd (none z is);
     }
 
-  -- what stands at an index is contained
-  pub at_index : (xs : List A) (i : ℕ) (d : A) → i < length xs → Contains xs (get_or xs i d)
-  at_index xs i d within = (i, within, get_or_default xs i (get_or xs i d) d within)
-
   one_cases : (x y : A) → Contains (x ∷ []) y → y ≡ x
   one_cases x y has = elim (contains_cases x y [] has) [ inl same ↦ same | inr none ↦ absurd (contains_none y none) ]
 
   -- one more was looked at
   pub one_more : (xs : List A) (i : ℕ) (d y : A) → i < length xs → Contains (take (i + 1) xs) y → (y ≡ get_or xs i d) ⊎ Contains (take i xs) y
-  one_more xs i d y within has = elim (in_either (take i xs) (get_or xs i d ∷ []) y (subst (λ (l : List A). Contains l y) (take_more xs i d within) has)) [
+  one_more xs i d y within has = elim (Contains-append_cases (take i xs) (get_or xs i d ∷ []) y (subst (λ (l : List A). Contains l y) (take_more xs i d within) has)) [
     | inl before ↦ inr before
     | inr last ↦ inl (one_cases (get_or xs i d) y last)
   ]
 
   pub has_last : (xs : List A) (i : ℕ) (d y : A) → i < length xs → y ≡ get_or xs i d → Contains (take (i + 1) xs) y
-  has_last xs i d y within same = subst (λ (l : List A). Contains l y) (sym (take_more xs i d within)) (in_back (take i xs) (get_or xs i d ∷ []) y (0, omega arith, sym same))
+  has_last xs i d y within same = subst (λ (l : List A). Contains l y) (sym (take_more xs i d within)) (Contains-append_right (take i xs) (get_or xs i d ∷ []) y (0, omega arith, sym same))
 
   pub has_before : (xs : List A) (i : ℕ) (d y : A) → i < length xs → Contains (take i xs) y → Contains (take (i + 1) xs) y
-  has_before xs i d y within has = subst (λ (l : List A). Contains l y) (sym (take_more xs i d within)) (in_front (take i xs) (get_or xs i d ∷ []) y has)
+  has_before xs i d y within has = subst (λ (l : List A). Contains l y) (sym (take_more xs i d within)) (Contains-append_left (take i xs) (get_or xs i d ∷ []) y has)
 
 -- ---- names alone
 

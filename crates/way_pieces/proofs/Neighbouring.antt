@@ -1,6 +1,7 @@
 -- Neighbours in the list of junctions, and pieces.
 use Rattle.std.proofs.Common.{◌≡◌, ◌≢◌, ℕ, ◌+◌, ◌-◌, ◌<◌, ◌≤◌, ◌⊎◌, inl, inr, List, length, get_or, Contains, sym, ap, subst, ◌∙◌, arith}
 use Rattle.std.proofs.lemmas.List.{get_or_default}
+use Rattle.std.proofs.lemmas.List.Elements.{Contains-get_or}
 use Rattle.road_base.specs.declared.ids.WayId.{WayId}
 use Rattle.road_base.specs.Objects.{Objects}
 use Rattle.road_model.specs.declared.lists.PieceName.{PieceName}
@@ -11,7 +12,6 @@ use Rattle.junctions.specs.Junctions.{IsJunction, AreJunctions}
 use Rattle.way_pieces.specs.declared.stretches.Stretch.{Stretch}
 use Rattle.way_pieces.specs.Names.{NamesNone}
 use Rattle.way_pieces.specs.Stretches.{IsStretch, IsNext, piece_on}
-use Rattle.way_pieces.proofs.Appending.{at_index}
 use Rattle.way_pieces.proofs.Climbing.{climbs}
 use Rattle.way_pieces.proofs.Driving.{piece_first, piece_last}
 
@@ -20,7 +20,7 @@ order i j = grind arith
 
 module _ (M : Objects) (P : Rules) (w : WayId) (xs : List ℕ) (are : AreJunctions M P w xs) where
   junction_at : (k : ℕ) → k < length xs → IsJunction M P w (get_or xs k 0)
-  junction_at k within = are.listed.sound (get_or xs k 0) (at_index xs k 0 within)
+  junction_at k within = are.listed.sound (get_or xs k 0) (Contains-get_or xs k 0 within)
 
   up : (i j : ℕ) → i < j → j < length xs → get_or xs i 0 < get_or xs j 0
   up = climbs xs are.listed.ascending

@@ -9,7 +9,7 @@ use Rattle.std.specs.List.Sorted.{IsPartitionPoint, IsPartitionedBy, IsSortedByK
 use Rattle.std.proofs.Math.Dec.{ltb, leb}
 use Rattle.std.proofs.lemmas.Bool.{cases_lt}
 use Rattle.std.proofs.lemmas.Cmp.{tied_itself}
-use Rattle.std.proofs.lemmas.List.Elements.{filter_agree}
+use Rattle.std.proofs.lemmas.List.Elements.{filter_agree, Contains-get_or}
 use Rattle.std.proofs.lemmas.List.Sorted.{searchable_from_sorted, IsPartitionedBy-ltb, IsPartitionedBy-leb}
 use Rattle.road_base.specs.declared.ids.NodeId.{NodeId}
 use Rattle.road_base.specs.declared.ids.WayId.{WayId}
@@ -27,7 +27,7 @@ use Rattle.way_pieces.specs.Names.{IsDeparture, IsSpanOn, piece_of}
 use Rattle.way_pieces.specs.Departures.{IsOver}
 use Rattle.way_pieces.specs.Starts.{IsWithin, AreStarts, node_in, start_toward, start_on, leaving}
 use Rattle.way_pieces.proofs.Adding.{span_of}
-use Rattle.way_pieces.proofs.Appending.{at_index, map_has, map_from}
+use Rattle.way_pieces.proofs.Appending.{map_has, map_from}
 use Rattle.way_pieces.proofs.Departing.{some_node, name_way}
 use Rattle.way_pieces.proofs.Driving.{node_there, piece_last}
 use Rattle.way_pieces.proofs.Filtering.{filter_has, filter_from, filter_part, rises_kept}
@@ -82,7 +82,7 @@ module _ (M : Objects) (P : Rules) (w : WayId) (nodes : List NodeId) (line : nod
   )
 
   pub all_within : (spans : List PieceSpan) → Lists (λ s. s.name) name_cmp (IsSpanOn M P w) spans → All (IsWithin (length nodes)) spans
-  all_within spans lists k d inside = within (get_or spans k d) (lists.sound (get_or spans k d) (at_index spans k d inside))
+  all_within spans lists k d inside = within (get_or spans k d) (lists.sound (get_or spans k d) (Contains-get_or spans k d inside))
 
   -- a piece's start is a departure
   start_departs : (s : PieceSpan) → IsSpanOn M P w s → IsDeparture M P (start_on nodes s).node (start_on nodes s).departure

@@ -1,5 +1,6 @@
 -- Each piece begins at a junction and ends at the next one.
 use Rattle.std.proofs.Common.{◌≡◌, ℕ, ◌+◌, ◌-◌, ◌<◌, List, length, get_or, pos, sym, ap, subst, ◌∙◌, arith}
+use Rattle.std.proofs.lemmas.List.Elements.{Contains-get_or}
 use Rattle.way_pieces.specs.declared.spans.PieceSpan.{PieceSpan}
 use Rattle.road_base.specs.declared.ids.NodeId.{NodeId}
 use Rattle.road_base.specs.declared.ids.WayId.{WayId}
@@ -12,7 +13,7 @@ use Rattle.junctions.specs.Junctions.{AreJunctions}
 use Rattle.way_pieces.specs.Names.{piece_of, IsSpanOn}
 use Rattle.way_pieces.specs.Stretches.{IsStretch, IsSpanBelow}
 use Rattle.way_pieces.proofs.Adding.{none_below, below_last}
-use Rattle.way_pieces.proofs.Appending.{at_index, lists_none, lists_same}
+use Rattle.way_pieces.proofs.Appending.{lists_none, lists_same}
 use Rattle.way_pieces.proofs.Driving.{node_there}
 use Rattle.way_pieces.proofs.Neighbouring.{first_listed, stretch_at}
 use Rattle.way_pieces.proofs.spans.spans_along.Goals as goal
@@ -20,7 +21,7 @@ use Rattle.way_pieces.proofs.spans.spans_along.Goals as goal
 -- the node at a listed position is on the line
 there : (M : Objects) (P : Rules) (w : WayId) (xs : List NodeId) (js : List ℕ) (k : ℕ) → xs ≡ line_of M w → AreJunctions M P w js → k < length js → get_or js k 0 < length xs
 there M P w xs js k line are within =
-    let on = (are.listed.sound (get_or js k 0) (at_index js k 0 within)).on_line in
+    let on = (are.listed.sound (get_or js k 0) (Contains-get_or js k 0 within)).on_line in
     let count : length xs ≡ length (line_of M w) = ap length line in
     omega arith
 
