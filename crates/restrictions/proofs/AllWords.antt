@@ -1,7 +1,7 @@
 -- The list of words of a restriction that is of use has exactly its words, each once.
 use Rattle.std.proofs.Common.{◌≡◌, inl, inr, Bool, true, false, ◌||◌, not, List, [], ◌∷◌, ◌++◌, Option, Some, None, IsTrue, Contains, refl, sym, ap, subst, ◌∙◌}
 use Rattle.std.specs.List.{list_any}
-use Rattle.std.proofs.lemmas.Bool.{false≢true, or_parts}
+use Rattle.std.proofs.lemmas.Bool.{false≢true, or_parts, false_from_ne_true}
 use Rattle.std.proofs.lemmas.Option.{same_Some}
 use Rattle.std.proofs.lemmas.List.Elements.{Contains-append_cases, Contains-append_left, Contains-append_right}
 use Rattle.road_base.specs.declared.ids.NodeId.{NodeId}
@@ -42,10 +42,6 @@ kind_known Only freed absent = refl
 only_of_kind : (b : Bool) → is_only (kind_of b) ≡ b
 only_of_kind true = refl
 only_of_kind false = refl
-
-false_of_not : (b : Bool) → (b ≡ true → ⊥) → b ≡ false
-false_of_not true never = absurd (never refl)
-false_of_not false never = refl
 
 -- ---- lists of steps
 
@@ -191,7 +187,7 @@ module _ (M : Objects) (P : Rules) (rule : Rule) (body : Relation) where
     lines : list_any (is_ring M) (vias body) ≡ false
     lines =
         let reached = not (some_ends_at M (froms body) (via_ends M (first_of (vias body)))) || not (some_ends_at M (tos body) (via_ends M (last_of (vias body)))) in
-        let ends : misses_end M body ≡ false = false_of_not (misses_end M body) (usable NotAnEnd) in
+        let ends : misses_end M body ≡ false = false_from_ne_true (misses_end M body) (usable NotAnEnd) in
         (or_parts (list_any (is_ring M) (vias body)) reached ends).0
 
     spelled_word : (enter : NodeId) (via : List Step) (leave : NodeId) (z : Word) → IsVia M P (vias body) enter via leave → Contains (words_at M rule body enter via leave) z → IsWordOf M P r z

@@ -1,7 +1,7 @@
 -- A run of ways that are driven whole is one and no other: what the definitions of a run say, and what the functions answer.
 use Rattle.std.proofs.Common.{◌≡◌, Bool, true, false, cond, ◌||◌, ◌⊎◌, inl, inr, List, [], ◌∷◌, ◌++◌, length, Option, Some, None, refl, sym, ap, subst, ◌∙◌, ◌↔◌}
 use Rattle.std.specs.List.{list_any}
-use Rattle.std.proofs.lemmas.Bool.{false≢true, or_parts, and_parts, and_from}
+use Rattle.std.proofs.lemmas.Bool.{false≢true, or_parts, and_parts, and_from, or_cases, or_left, or_right}
 use Rattle.std.proofs.lemmas.Bool.Decides.{Decides-int_eq}
 use Rattle.std.proofs.lemmas.Option.{none-some, same_Some}
 use Rattle.road_base.specs.declared.ids.NodeId.{NodeId}
@@ -154,28 +154,10 @@ module _ (M : Objects) (allowed : WayId → Dir → Bool) where
       let run = one_run (vias r) k.enter k.steps k.leave lines k.run in
       and_from (some_ends_at M (froms r) (k.enter ∷ [])) (arrives M r (leave_of M allowed (vias r) (Some k.enter))) k.from_end (ap (λ (u : Option NodeId). arrives M r u) run.0 ∙ k.to_end)
 
-  -- none connect where the first way has no ends
-  pub none_connect : (r : Relation) → are_ways (vias r) ≡ true → first_enter M (vias r) ≡ None → last_enter M (vias r) ≡ None → Connects M allowed r → ⊥
-  none_connect r ways first last k = elim (enters_at (vias r) k.enter k.steps k.leave ways k.run) [
-    | inl is ↦ none-some k.enter (sym first ∙ is)
-    | inr is ↦ none-some k.enter (sym last ∙ is)
-  ]
-
-  or_either : (a b : Bool) → (a || b) ≡ true → (a ≡ true) ⊎ (b ≡ true)
-  or_either true b is = inl refl
-  or_either false b is = inr is
-
-  or_left : (a b : Bool) → a ≡ true → (a || b) ≡ true
-  or_left a b is = ap (λ (c : Bool). c || b) is
-
-  or_right : (a b : Bool) → b ≡ true → (a || b) ≡ true
-  or_right true b is = refl
-  or_right false b is = is
-
   -- else they connect where they lead from one of its two ends
   pub connect_by : (r : Relation) (a b : NodeId) → are_ways (vias r) ≡ true → list_any (is_ring M) (vias r) ≡ false → first_enter M (vias r) ≡ Some a → last_enter M (vias r) ≡ Some b → ((leads M allowed r a || leads M allowed r b) ≡ true) ↔ Connects M allowed r
   connect_by r a b ways lines first last = (
-    λ is. elim (or_either (leads M allowed r a) (leads M allowed r b) is) [ inl from_a ↦ connects_from r a from_a | inr from_b ↦ connects_from r b from_b ],
+    λ is. elim (or_cases (leads M allowed r a) (leads M allowed r b) is) [ inl from_a ↦ connects_from r a from_a | inr from_b ↦ connects_from r b from_b ],
     λ k. elim (enters_at (vias r) k.enter k.steps k.leave ways k.run) [
       | inl is ↦ or_left (leads M allowed r a) (leads M allowed r b) (ap (λ (v : NodeId). leads M allowed r v) (same_Some a k.enter (sym first ∙ is)) ∙ leads_there r lines k)
       | inr is ↦ or_right (leads M allowed r a) (leads M allowed r b) (ap (λ (v : NodeId). leads M allowed r v) (same_Some b k.enter (sym last ∙ is)) ∙ leads_there r lines k)
