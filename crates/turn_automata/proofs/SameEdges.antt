@@ -1,8 +1,8 @@
 -- Equality of edges is that of values, so a look-up in a list of edges finds the edge itself, or it isn't there.
-use Rattle.std.proofs.Common.{◌≡◌, ℕ, ◌<◌, Bool, true, false, ◌&&◌, List, length, get_or, slice_get, position, Some, nat_eq, refl, sym, ap, ◌∙◌}
+use Rattle.std.proofs.Common.{◌≡◌, ℕ, ◌<◌, true, false, ◌&&◌, List, length, get_or, slice_get, position, Some, nat_eq, refl, sym, ap, ◌∙◌}
 use Rattle.std.specs.List.{list_any}
 use Rattle.std.specs.Ordering.{int_eq}
-use Rattle.std.proofs.lemmas.Bool.{false≢true}
+use Rattle.std.proofs.lemmas.Bool.{false≢true, and_parts, and_from}
 use Rattle.std.proofs.lemmas.Bool.Decides.{Decides-eqb, Decides-int_eq}
 use Rattle.std.proofs.lemmas.Option.{slice_get_within, slice_get-get_or, get_or_from_slice_get}
 use Rattle.std.proofs.lemmas.List.Folds.{list_any_at}
@@ -15,10 +15,6 @@ use Rattle.road_base.specs.contracts.ids.StepPartialEq.TheImpl.{ghosts as step_e
 use Rattle.turn_automata.specs.declared.edges.Edge.{Edge}
 use Rattle.turn_automata.specs.contracts.edges.EdgePartialEq.TheImpl.{ghosts as edge_equality}
 
-both : (r s : Bool) → (r && s) ≡ true → (r ≡ true) × (s ≡ true)
-both true s h = (refl, h)
-both false s h = absurd (false≢true h)
-
 dir_same : (a b : Dir) → dir_equality.eq a b ≡ true → a ≡ b
 dir_same Forward Forward h = refl
 dir_same Forward Backward h = absurd (false≢true h)
@@ -27,8 +23,8 @@ dir_same Backward Backward h = refl
 
 step_same : (a b : Step) → step_equality.eq a b ≡ true → a ≡ b
 step_same a b h =
-    let p = both (int_eq a.way.0 b.way.0) (nat_eq a.index b.index && dir_equality.eq a.dir b.dir) h in
-    let q = both (nat_eq a.index b.index) (dir_equality.eq a.dir b.dir) p.1 in
+    let p = and_parts (int_eq a.way.0 b.way.0) (nat_eq a.index b.index && dir_equality.eq a.dir b.dir) h in
+    let q = and_parts (nat_eq a.index b.index) (dir_equality.eq a.dir b.dir) p.1 in
     let w = (Decides-int_eq a.way.0 b.way.0).0 p.0 in
     let i = (Decides-eqb a.index b.index).0 q.0 in
     let d = dir_same a.dir b.dir q.1 in
@@ -36,7 +32,7 @@ step_same a b h =
 
 pub edge_same : (a b : Edge) → edge_equality.eq a b ≡ true → a ≡ b
 edge_same a b h =
-    let p = both (nat_eq a.from b.from) (step_equality.eq a.step b.step) h in
+    let p = and_parts (nat_eq a.from b.from) (step_equality.eq a.step b.step) h in
     let n = (Decides-eqb a.from b.from).0 p.0 in
     let s = step_same a.step b.step p.1 in
     λ j. record { from = n j; step = s j }
@@ -45,15 +41,11 @@ dir_itself : (a : Dir) → dir_equality.eq a a ≡ true
 dir_itself Forward = refl
 dir_itself Backward = refl
 
-all : (r s : Bool) → r ≡ true → s ≡ true → (r && s) ≡ true
-all true s g h = h
-all false s g h = g
-
 edge_itself : (a : Edge) → edge_equality.eq a a ≡ true
 edge_itself a =
-    all _ _ ((Decides-eqb a.from a.from).1 refl)
-    (all _ _ ((Decides-int_eq a.step.way.0 a.step.way.0).1 refl)
-    (all _ _ ((Decides-eqb a.step.index a.step.index).1 refl) (dir_itself a.step.dir)))
+    and_from _ _ ((Decides-eqb a.from a.from).1 refl)
+    (and_from _ _ ((Decides-int_eq a.step.way.0 a.step.way.0).1 refl)
+    (and_from _ _ ((Decides-eqb a.step.index a.step.index).1 refl) (dir_itself a.step.dir)))
 
 -- an edge that a look-up doesn't find stands nowhere
 pub not_among : (es : List Edge) (e : Edge) → list_any (edge_equality.eq e) es ≡ false → (k : ℕ) → slice_get es k ≡ Some e → ⊥

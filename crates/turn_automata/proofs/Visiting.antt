@@ -30,12 +30,6 @@ module _ {X : Type 0} where
       let e : suc (n + 1) ≡ suc n + 1 = omega arith in
       drop_at xs n x h ∙ ap (λ m. x ∷ drop m (z ∷ xs)) e
 
-  -- a list that is cut at this place
-  pub cut_at : (xs : List X) (n : ℕ) → n < length xs → (a : List X) × (x : X) × (b : List X) × (xs ≡ a ++ x ∷ b) × (length a ≡ n)
-  cut_at [] n h = absurd (omega arith)
-  cut_at (x ∷ xs) zero h = ([], x, xs, refl, refl)
-  cut_at (x ∷ xs) (suc n) h = let r = cut_at xs n (omega arith) in (x ∷ r.0, r.1, r.2, ap (λ v. x ∷ v) r.3, ap suc r.4)
-
 grows_left : (ps qs : List (List Step)) (q : List Step) → IsGrownBy ps q qs → (m : ℕ) (p : List Step) → Stands ps m p → Stands qs m p
 grows_left ps qs q (inl e) m p h = subst (λ v. Stands v m p) (sym e) h
 grows_left ps qs q (inr e) m p h = subst (λ v. Stands v m p) (sym e) (stands_left ps (q ∷ []) m p h)
@@ -132,9 +126,6 @@ module _ (W : List Word) (ps : List (List Step)) (vs : List Visit) (n : ℕ) (ol
 
   -- the step behind was visited too
   module _ (qs : List (List Step)) (u : Visit) (next : IsNext W ps v qs u) where
-    list : List Step
-    list = next.is.before
-
     grown : IsGrownBy ps next.is.before qs
     grown = next.grown next.is.before next.is.at
 
