@@ -2,6 +2,7 @@
 use Rattle.std.proofs.Common.{◌≡◌, ℕ, ◌≤◌, ◌↔◌, List, [], ◌∷◌, ◌++◌, length, map, inl, inr, refl, sym, ap, ◌∙◌, subst, arith, Some, IsTrue, slice_get, Contains, length-append}
 use Rattle.std.specs.Cmp.{IsTotalOrder}
 use Rattle.std.proofs.lemmas.Option.{slice_get_within}
+use Rattle.std.proofs.lemmas.List.{same_from_push}
 use Rattle.road_base.specs.declared.ids.NodeId.{NodeId}
 use Rattle.road_base.specs.declared.ids.Step.{Step}
 use Rattle.road_base.specs.Objects.{Objects}
@@ -27,7 +28,7 @@ use Rattle.expanded_graph.specs.Travel.{Arrives}
 use Rattle.expanded_graph.proofs.Members.{In, in_from_contains, contains_from_in, at_in, in_at, in_end, in_left}
 use Rattle.expanded_graph.proofs.Ends.{spell_ends, last_step}
 use Rattle.expanded_graph.proofs.LastSteps.{last_drives}
-use Rattle.expanded_graph.proofs.Runs.{cons_not_nil, same_ends, some_at, one_at, turn_ends_long, every_left, context_pieces, one_turn}
+use Rattle.expanded_graph.proofs.Runs.{cons_not_nil, some_at, one_at, turn_ends_long, every_left, context_pieces, one_turn}
 use Rattle.expanded_graph.proofs.Between.{between_longer}
 use Rattle.expanded_graph.proofs.Ascending.{lists_unique}
 use Rattle.expanded_graph.proofs.Stopping.{begins_from, begins_to}
@@ -48,7 +49,7 @@ module _ (M : Objects) (P : Rules) (laws : StepLaws M P) (m : Machine) (facts : 
   last_way : (front : List Step) (s : Step) → spell p ≡ front ++ s ∷ [] → s.way ≡ p.way
   last_way front s e =
       let r = spell_ends p piece.ascends in
-      ap (λ x. x.way) (sym (same_ends r.front front (last_step p) s (sym r.is ∙ e)).1)
+      ap (λ x. x.way) (sym (same_from_push r.front front (last_step p) s (sym r.is ∙ e)).1)
 
   -- the steps of a list of two steps or more that begins a word and ends on the piece lie on near ways
   all_near : (q : List Step) (first : Step) (middle : List Step) (last : Step) → q ≡ first ∷ (middle ++ last ∷ []) → last.way ≡ p.way → BeginsWord M P q → (s : Step) → Contains q s → IsNear M P p.way s.way

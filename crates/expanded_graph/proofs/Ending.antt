@@ -8,6 +8,7 @@ use Rattle.std.specs.List.Sorted.{IsSortedByKey, IsStableByKey}
 use Rattle.std.specs.declared.cmp.Ordering.TheVariants.{Less, Equal, Greater}
 use Rattle.std.proofs.lemmas.Bool.{lt-ltb, false≢true}
 use Rattle.std.proofs.lemmas.Cmp.{nat_cmp_total, tied_itself}
+use Rattle.std.proofs.lemmas.List.{same_from_push}
 use Rattle.road_base.specs.declared.ids.WayId.{WayId}
 use Rattle.road_base.specs.declared.ids.Step.{Step}
 use Rattle.road_model.specs.declared.lists.PieceName.{PieceName}
@@ -20,7 +21,7 @@ use Rattle.expanded_graph.specs.Contexts.{IsEnding, AreEndings, AreEndingsWith, 
 use Rattle.expanded_graph.proofs.Members.{In, in_get, push_cases, in_from_contains, contains_from_in, in_end, in_left, in_map, from_map}
 use Rattle.expanded_graph.proofs.Ascending.{Climbs, climbs, climbs_push, rises_again}
 use Rattle.expanded_graph.proofs.Together.{in_filter, from_filter, climbs_filter, kept_by_sort}
-use Rattle.expanded_graph.proofs.Runs.{same_ends, nil_or_cons, some_at, one_at}
+use Rattle.expanded_graph.proofs.Runs.{nil_or_cons, some_at, one_at}
 
 some_name : (a b : PieceName) → Some a ≡ Some b → a ≡ b
 some_name a b e = cc
@@ -55,7 +56,7 @@ module _ (m : Machine) (facts : List StateFacts) (w : WayId) (closed : IsClosed 
 
   pub not_root : IsEnding m facts w n → before ≡ 0 → ⊥
   not_root e root =
-      let same = same_ends shorter.0 (e.first ∷ e.middle) x e.last (one_at m.states n _ _ (edge shorter.0 shorter.1) e.at) in
+      let same = same_from_push shorter.0 (e.first ∷ e.middle) x e.last (one_at m.states n _ _ (edge shorter.0 shorter.1) e.at) in
       let none : shorter.0 ≡ [] = one_at m.states 0 shorter.0 [] (subst (λ k. StandsFor m k shorter.0) root shorter.1) closed.empty in
       let k = same.0 in
       cc

@@ -5,7 +5,7 @@ use Rattle.std.specs.Cmp.{IsTotalOrder}
 use Rattle.std.specs.FinMap.{IsAntisymmetric}
 use Rattle.std.specs.List.{IsDistinct}
 use Rattle.std.proofs.lemmas.Cmp.{eq_by_cmp_equiv, nat_cmp_total}
-use Rattle.std.proofs.lemmas.List.{take_more, map-append}
+use Rattle.std.proofs.lemmas.List.{take_more, map-append, same_from_push}
 use Rattle.std.proofs.lemmas.Map.Keys.{IsDistinct-push}
 use Rattle.road_base.specs.declared.ids.Step.{Step}
 use Rattle.road_base.specs.Objects.{Objects}
@@ -26,7 +26,7 @@ use Rattle.expanded_graph.specs.States.{AreStates}
 use Rattle.expanded_graph.specs.Contexts.{AreEndingsWith, IsContextIn, HasContexts}
 use Rattle.expanded_graph.proofs.Members.{In, push_cases, from_map, in_from_contains, contains_from_in, in_end, in_left}
 use Rattle.expanded_graph.proofs.Ascending.{Climbs, climbs_take, below_end, not_itself}
-use Rattle.expanded_graph.proofs.Runs.{same_ends, one_at, nil_or_cons, context_pieces}
+use Rattle.expanded_graph.proofs.Runs.{one_at, nil_or_cons, context_pieces}
 use Rattle.expanded_graph.proofs.Ending.{ascends as numbers_climb}
 use Rattle.expanded_graph.proofs.Sorting.{apart, none_of, nothing_distinct}
 use Rattle.expanded_graph.proofs.ContextStates.{StepLaws, ends_in, one_state}
@@ -117,7 +117,7 @@ module _ (M : Objects) (P : Rules) (laws : StepLaws M P) (total : IsTotalOrder n
           let h = found.2 in
           let steps = one_at m.states state.number h.steps state.steps h.at state.at in
           let same = one_steps (h.entry.before ++ p ∷ []) (before ++ p ∷ []) state.steps (context_pieces M P (h.entry.before ++ p ∷ []) h.entry.context) (context_pieces M P (before ++ p ∷ []) context) (subst (HasTurnSteps (h.entry.before ++ p ∷ [])) steps h.turn) state.turn in
-          (found.0, contains_from_in es found.0 found.1, h.entry.named ∙ ap (map name_of) (same_ends h.entry.before before p p same).0)
+          (found.0, contains_from_in es found.0 found.1, h.entry.named ∙ ap (map name_of) (same_from_push h.entry.before before p p same).0)
     ]
 
     pub has_contexts : HasContexts M P p es

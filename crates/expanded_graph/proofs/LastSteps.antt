@@ -8,7 +8,7 @@ use Rattle.std.proofs.Math.Dec.{leb}
 use Rattle.std.proofs.lemmas.Bool.{and_parts, and_from, false≢true, leb-true, leb-false, cases_lt}
 use Rattle.std.proofs.lemmas.Bool.Decides.{Decides-eqb, Decides-int_eq}
 use Rattle.std.proofs.lemmas.Cmp.{int_cmp_total, tied_itself}
-use Rattle.std.proofs.lemmas.List.{length-take-le, length-drop, get_or-take, get_or-drop, get_or_default}
+use Rattle.std.proofs.lemmas.List.{length-take-le, length-drop, get_or-take, get_or-drop, get_or_default, same_from_push}
 use Rattle.std.proofs.lemmas.Option.{same_Some}
 use Rattle.std.proofs.lemmas.List.Sorted.{IsNonDecreasingBy-from_all_adjacent, IsPartitionedBy-leb}
 use Rattle.road_base.specs.declared.ids.Step.{Step}
@@ -28,7 +28,6 @@ use Rattle.way_pieces.specs.declared.spans.PieceSpan.{PieceSpan}
 use Rattle.way_pieces.specs.Names.{IsSpanOn, piece_of}
 use Rattle.expanded_graph.specs.Known.{NamesEnd, IsLastOf}
 use Rattle.expanded_graph.proofs.Ends.{step, last_index, last_step, spell_ends}
-use Rattle.expanded_graph.proofs.Runs.{same_ends}
 
 -- ---- equal steps
 
@@ -65,7 +64,7 @@ last_within Forward i j h = (omega arith, omega arith)
 last_within Backward i j h = (omega arith, omega arith)
 
 same_last : (s : PieceSpan) (x y : Step) → IsLastOf s x → IsLastOf s y → x ≡ y
-same_last s x y h k = (same_ends h.0 k.0 x y (sym h.1 ∙ k.1)).1
+same_last s x y h k = (same_from_push h.0 k.0 x y (sym h.1 ∙ k.1)).1
 
 -- a span that ends with another step doesn't end with this one
 other_last : (s : PieceSpan) (x y : Step) → IsLastOf s x → step_equality.eq x y ≡ false → IsLastOf s y → ⊥
@@ -84,7 +83,7 @@ at_or_below i j h = grind arith
 
 module _ (M : Objects) (P : Rules) where
   last_is : (p : Piece) (front : List Step) (x : Step) → IsPiece M P p → spell p ≡ front ++ x ∷ [] → last_step p ≡ x
-  last_is p front x i e = let r = spell_ends p i.ascends in (same_ends r.front front (last_step p) x (sym r.is ∙ e)).1
+  last_is p front x i e = let r = spell_ends p i.ascends in (same_from_push r.front front (last_step p) x (sym r.is ∙ e)).1
 
   pub last_drives : (p : Piece) (front : List Step) (x : Step) → IsPiece M P p → spell p ≡ front ++ x ∷ [] → IsTrue (drivable M P x)
   last_drives p front x i e =

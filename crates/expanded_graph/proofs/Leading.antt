@@ -2,6 +2,7 @@
 use Rattle.std.proofs.Common.{true, false, Some, ◌≡◌, ℕ, ◌+◌, ◌≤◌, ◌<◌, ◌^◌, ◌↔◌, List, [], ◌∷◌, ◌++◌, length, inl, inr, refl, sym, ap, ◌∙◌, subst, arith, slice_get, length-append, Bool, append_assoc}
 use Rattle.std.proofs.lemmas.Bool.{false≢true}
 use Rattle.std.proofs.lemmas.Option.{same_Some, slice_get_within}
+use Rattle.std.proofs.lemmas.List.{same_from_push}
 use Rattle.road_base.specs.declared.ids.NodeId.{NodeId}
 use Rattle.road_base.specs.declared.ids.RelationId.{RelationId}
 use Rattle.road_base.specs.declared.ids.Step.{Step}
@@ -27,7 +28,7 @@ use Rattle.expanded_graph.specs.Contexts.{IsReached}
 use Rattle.expanded_graph.specs.Turning.{IsIntersection, may_follow}
 use Rattle.expanded_graph.proofs.Members.{In, in_end, in_left}
 use Rattle.expanded_graph.proofs.Ends.{spell_begins, spell_ends, first_step, last_step}
-use Rattle.expanded_graph.proofs.Runs.{cons_not_nil, same_ends, cut_last, nil_or_last, some_at, every_left, every_right, turn_ends, context_pieces, turn_count}
+use Rattle.expanded_graph.proofs.Runs.{cons_not_nil, cut_last, nil_or_last, some_at, every_left, every_right, turn_ends, context_pieces, turn_count}
 use Rattle.expanded_graph.proofs.Stopping.{LongWords, begins_from, begins_to, goes_on_near}
 use Rattle.expanded_graph.proofs.Passing.{Laws, departure_by, is_departure, listed, passes_by, follows_by}
 
@@ -62,7 +63,7 @@ module _ (M : Objects) (P : Rules) (laws : Laws M P) (by_turn : GoesByTurn M P) 
   near : IsNear M P r.way r.arrives.last.way
   near =
       let e = spell_ends r.piece last_piece.ascends in
-      let same = same_ends e.front r.arrives.front (last_step r.piece) r.arrives.last (sym e.is ∙ r.arrives.ends) in
+      let same = same_from_push e.front r.arrives.front (last_step r.piece) r.arrives.last (sym e.is ∙ r.arrives.ends) in
       Itself (ap (λ s. s.way) (sym same.1) ∙ r.on)
 
   -- an arc goes on behind the turn steps

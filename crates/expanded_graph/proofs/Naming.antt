@@ -1,7 +1,7 @@
 -- The names of the pieces that end along a state's list, read from the facts of the states of its beginnings.
 use Rattle.std.proofs.Common.{◌≡◌, ℕ, zero, suc, ◌<◌, ◌↔◌, List, [], ◌∷◌, ◌++◌, map, reverse, filter_map, Option, Some, None, ◌⊎◌, inl, inr, refl, sym, ap, ◌∙◌, subst, arith, slice_get, append_assoc, append-nil, Contains}
 use Rattle.std.specs.List.{cons_option}
-use Rattle.std.proofs.lemmas.List.{map-append}
+use Rattle.std.proofs.lemmas.List.{map-append, same_from_push}
 use Rattle.std.proofs.lemmas.List.Elements.{filter_map-append}
 use Rattle.std.proofs.lemmas.Option.{slice_get_within}
 use Rattle.road_base.specs.declared.ids.WayId.{WayId}
@@ -19,7 +19,7 @@ use Rattle.expanded_graph.specs.declared.states.StateFacts.{StateFacts}
 use Rattle.expanded_graph.specs.States.{AreStates}
 use Rattle.expanded_graph.proofs.Members.{In, in_from_contains}
 use Rattle.expanded_graph.proofs.Ends.{spell_ends, last_step}
-use Rattle.expanded_graph.proofs.Runs.{cons_not_nil, same_ends, nil_or_last, some_at, one_at, every_right, turn_ends}
+use Rattle.expanded_graph.proofs.Runs.{cons_not_nil, nil_or_last, some_at, one_at, every_right, turn_ends}
 use Rattle.expanded_graph.proofs.Stopping.{same_or_not}
 
 abbrev pub Ends : List Step → Step → Type 0
@@ -30,7 +30,7 @@ ends_or_not q s = elim (nil_or_last q) [
   | inl none ↦ inr (λ e. cons_not_nil e.0 s [] (sym e.1 ∙ none))
   | inr r ↦ elim (same_or_not r.1 s) [
     | inl e ↦ inl (r.0, r.2 ∙ ap (λ x. r.0 ++ x ∷ []) e)
-    | inr n ↦ inr (λ e. n (same_ends r.0 e.0 r.1 s (sym r.2 ∙ e.1)).1)
+    | inr n ↦ inr (λ e. n (same_from_push r.0 e.0 r.1 s (sym r.2 ∙ e.1)).1)
   ]
 ]
 
@@ -158,10 +158,10 @@ module _ (M : Objects) (P : Rules) where
         let is = (every_right (IsPiece M P) before (p ∷ []) pieces).0 in
         let last = spell_ends p is.ascends in
         let ends = turn_ends before p q last.front (last_step p) turn last.is in
-        let same = same_ends b ends.0 x (last_step p) (sym e ∙ ends.1) in
+        let same = same_from_push b ends.0 x (last_step p) (sym e ∙ ends.1) in
         let all = names_in q k at in
         let here : name x ≡ Some (name_of p) =
         (names_step k b x (subst (StandsFor m k) e at) (name_of p)).1 (record { piece = p; is = is; named = refl; front = last.front; ends = last.is ∙ ap (λ s. last.front ++ s ∷ []) (sym same.1) }) in
         let whole : filter_map name b ++ name_of p ∷ [] ≡ map name_of before ++ name_of p ∷ [] =
         sym (ap (filter_map name) e ∙ (filter_map-append name b (x ∷ []) ∙ ap (λ o. filter_map name b ++ cons_option o []) here)) ∙ (law (before ++ p ∷ []) q name pieces turn all ∙ map-append name_of before (p ∷ [])) in
-        path_end b names path ∙ (same_ends (filter_map name b) (map name_of before) (name_of p) (name_of p) whole).0
+        path_end b names path ∙ (same_from_push (filter_map name b) (map name_of before) (name_of p) (name_of p) whole).0

@@ -1,6 +1,7 @@
 -- Where lists of steps end, and their turn steps.
 use Rattle.std.proofs.Common.{◌≡◌, ℕ, ◌+◌, ◌<◌, ◌≤◌, List, [], ◌∷◌, ◌++◌, length, ◌⊎◌, inl, inr, refl, sym, ap, ◌∙◌, subst, arith, append_assoc, append-nil, length-append, zero, suc, slice_get, get_or, Some}
 use Rattle.std.proofs.lemmas.Option.{same_Some, slice_get-get_or}
+use Rattle.std.proofs.lemmas.List.{same_from_push}
 use Rattle.road_base.specs.declared.ids.Step.{Step}
 use Rattle.road_base.specs.Objects.{Objects}
 use Rattle.road_model.specs.Rules.{Rules}
@@ -13,12 +14,6 @@ use Rattle.expanded_graph.proofs.Ends.{spell_begins}
 pub cons_not_nil : {A : Type 0} (a : List A) (x : A) (b : List A) → a ++ x ∷ b ≡ [] → ⊥
 cons_not_nil [] x b e = cc
 cons_not_nil (y ∷ a) x b e = cc
-
-pub same_ends : {A : Type 0} (a b : List A) (x y : A) → a ++ x ∷ [] ≡ b ++ y ∷ [] → (a ≡ b) × (x ≡ y)
-same_ends [] [] x y e = (refl, cc)
-same_ends [] (z ∷ b) x y e = absurd (cons_not_nil b y [] (cc))
-same_ends (z ∷ a) [] x y e = absurd (cons_not_nil a x [] (cc))
-same_ends (z ∷ a) (w ∷ b) x y e = let r = same_ends a b x y (cc) in let f = r.0 in (cc, r.1)
 
 pub nil_right : {A : Type 0} (a u : List A) → [] ≡ a ++ u → u ≡ []
 nil_right [] u e = sym e
@@ -90,7 +85,7 @@ pub turn_ends : (before : List Piece) (p : Piece) (q front : List Step) (last : 
 turn_ends [] p q front last h e =
     let first : h.first ≡ p = let k = h.is in cc in
     let none : h.others ≡ [] = let k = h.is in cc in
-    let same = same_ends h.front front h.last last (sym h.ends ∙ (ap spell first ∙ e)) in
+    let same = same_from_push h.front front h.last last (sym h.ends ∙ (ap spell first ∙ e)) in
     ([], h.steps ∙ ap (λ l. h.last ∷ spell_pieces l) none ∙ ap (λ s. s ∷ []) same.1)
 turn_ends (x ∷ before) p q front last h e =
     let r = turn_ends_long (x ∷ before) p q front last (λ z. cc) h e in
@@ -101,7 +96,7 @@ pub one_turn : (c : List Piece) (q r : List Step) → HasTurnSteps c q → HasTu
 one_turn c q r h k =
     let first : h.first ≡ k.first = let e = h.is in let f = k.is in cc in
     let others : h.others ≡ k.others = let e = h.is in let f = k.is in cc in
-    let same = same_ends h.front k.front h.last k.last (sym h.ends ∙ (ap spell first ∙ k.ends)) in
+    let same = same_from_push h.front k.front h.last k.last (sym h.ends ∙ (ap spell first ∙ k.ends)) in
     h.steps ∙ (ap (λ l. h.last ∷ spell_pieces l) others ∙ (ap (λ s. s ∷ spell_pieces k.others) same.1 ∙ sym k.steps))
 
 module _ (M : Objects) (P : Rules) where

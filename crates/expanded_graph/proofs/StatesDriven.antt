@@ -46,9 +46,6 @@ module _ (M : Objects) (P : Rules) where
     pub long : LongWords M P
 
   module _ (W : List Word) (p : List Step) (x : Step) where
-    last_there : Contains (p ++ x ∷ []) x
-    last_there = contains_from_in (p ++ x ∷ []) x (in_end p x [])
-
     -- a step that may not be driven
     pub shut_step : drivable M P x ≡ false → IsDriven M P W (p ++ x ∷ []) false
     shut_step shut w near all = (λ e. absurd (false≢true e), λ l. absurd (false≢true (sym shut ∙ l.drives p x [] refl)))

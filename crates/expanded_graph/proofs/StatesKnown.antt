@@ -3,7 +3,7 @@ use Rattle.std.proofs.Common.{◌≡◌, ℕ, zero, suc, ◌+◌, ◌<◌, ◌�
 use Rattle.std.specs.List.{cons_option, filter_map}
 use Rattle.std.specs.Option.{option_to_list}
 use Rattle.std.proofs.lemmas.Bool.{false≢true}
-use Rattle.std.proofs.lemmas.List.{length-map}
+use Rattle.std.proofs.lemmas.List.{length-map, same_from_push}
 use Rattle.std.proofs.lemmas.Option.{slice_get_within, get_or_from_slice_get}
 use Rattle.std.proofs.lemmas.List.Elements.{filter_map-append, Contains-append_left, Contains-push, Contains-push_cases}
 use Rattle.road_base.specs.declared.ids.WayId.{WayId}
@@ -26,7 +26,7 @@ use Rattle.expanded_graph.specs.Near.{AreWordsNear}
 use Rattle.expanded_graph.specs.Known.{NamesEnd, IsDriven, IsKnown, AreKnown, AreAllShort}
 use Rattle.expanded_graph.specs.States.{AreFacts}
 use Rattle.expanded_graph.proofs.Members.{In, in_from_contains, contains_from_in}
-use Rattle.expanded_graph.proofs.Runs.{cons_not_nil, same_ends}
+use Rattle.expanded_graph.proofs.Runs.{cons_not_nil}
 use Rattle.expanded_graph.proofs.Stopping.{same_or_not}
 use Rattle.expanded_graph.proofs.WordsNear.{among_none}
 
@@ -108,7 +108,7 @@ module _ (M : Objects) (P : Rules) where
     pub grown : (x : Step) (drives : Bool) (ends : Option PieceName) (n : ℕ) → IsDriven M P W (q ++ x ∷ []) drives → NamesEnd M P x ends → n ≡ length (option_to_list ends) → IsKnown M P W (q ++ x ∷ []) (record { is_legal = drives; ends = ends; pieces = f.pieces + n })
     grown x drives ends n driven named counts = record {
       driven = driven;
-      ends = λ b y e. subst (λ z. NamesEnd M P z ends) (same_ends q b x y e).1 named;
+      ends = λ b y e. subst (λ z. NamesEnd M P z ends) (same_from_push q b x y e).1 named;
       named = λ s c. elim (Contains-push_cases q x s c) [
         | inl k ↦ known.named s k
         | inr e ↦ (ends, subst (λ z. NamesEnd M P z ends) e named)

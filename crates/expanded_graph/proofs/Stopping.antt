@@ -1,8 +1,9 @@
 -- The words near a way decide what may go on behind steps that end on it or on a way near it.
 use Rattle.std.proofs.Common.{◌≡◌, ℕ, ◌≤◌, ◌↔◌, List, [], ◌∷◌, ◌++◌, length, ◌⊎◌, inl, inr, refl, sym, ap, ◌∙◌, subst, arith, Bool, true, false, Contains}
 use Rattle.std.specs.Ordering.{int_eq}
-use Rattle.std.proofs.lemmas.Bool.{false≢true, cases_Bool}
+use Rattle.std.proofs.lemmas.Bool.{false≢true, cases_Bool, cases_eq}
 use Rattle.std.proofs.lemmas.Bool.Decides.{Decides-int_eq}
+use Rattle.std.proofs.lemmas.List.{same_from_push}
 use Rattle.road_base.specs.declared.ids.Key.{Key}
 use Rattle.road_base.specs.declared.ids.Key.TheVariants.{Node as NodeKey, Way as WayKey, Relation as RelationKey}
 use Rattle.road_base.specs.declared.ids.WayId.{WayId}
@@ -21,7 +22,7 @@ use Rattle.restrictions.specs.declared.word_list.Word.{Word}
 use Rattle.turn_automata.specs.Watched.{IsProperPrefix, NoIn, Must as MustIn, Stops}
 use Rattle.expanded_graph.specs.Near.{IsNear, AreWordsNear}
 use Rattle.expanded_graph.proofs.Members.{In, in_from_contains, contains_from_in, in_end, in_left}
-use Rattle.expanded_graph.proofs.Runs.{cons_not_nil, same_ends, cut_last}
+use Rattle.expanded_graph.proofs.Runs.{cons_not_nil, cut_last}
 
 -- ---- steps and words can be told apart
 
@@ -37,13 +38,10 @@ same_dir Forward Backward = inr (λ e. cc)
 same_dir Backward Forward = inr (λ e. cc)
 same_dir Backward Backward = inl refl
 
-same_nat : (a b : ℕ) → (a ≡ b) ⊎ (a ≡ b → ⊥)
-same_nat a b = grind arith
-
 pub same_or_not : (s t : Step) → (s ≡ t) ⊎ (s ≡ t → ⊥)
 same_or_not s t = elim (same_way s.way t.way) [
   | inr n ↦ inr (λ e. n (ap (λ x. x.way) e))
-  | inl w ↦ elim (same_nat s.index t.index) [
+  | inl w ↦ elim (cases_eq s.index t.index) [
     | inr n ↦ inr (λ e. n (ap (λ x. x.index) e))
     | inl i ↦ elim (same_dir s.dir t.dir) [
       | inr n ↦ inr (λ e. n (ap (λ x. x.dir) e))
@@ -203,7 +201,7 @@ module _ (M : Objects) (P : Rules) (w : WayId) (W : List Word) (near : AreWordsN
     goes_on_near = (
       λ g. (g.passes front last ends, no_stop g),
       λ h. record {
-        passes = λ a s e. subst (λ t. Passes M P t x) (same_ends front a last s (sym ends ∙ e)).1 h.0;
+        passes = λ a s e. subst (λ t. Passes M P t x) (same_from_push front a last s (sym ends ∙ e)).1 h.0;
         no = no_word_ends h.1;
         only = demanded h.1;
       },

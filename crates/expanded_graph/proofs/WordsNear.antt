@@ -89,12 +89,6 @@ module _ (M : Objects) (P : Rules) where
     ]);
   }
 
-  pub words_none : AreWordsOf M P [] []
-  words_none = record { sound = λ u c. absurd (among_none u c); all = λ u c w. absurd (among_none u.relation c) }
-
-  pub words_all : (rs : List RelationId) (i : ℕ) (list : List Word) → length rs ≤ i → AreWordsOf M P (take i rs) list → AreWordsOf M P rs list
-  words_all rs i list l h = subst (λ v. AreWordsOf M P v list) (take_all i rs l) h
-
   -- what the words near a way are gathered from
   module _ (w : WayId)
       (members : (r : RelationId) (only : Bool) (binding : ℕ) (u : List Step) (s : Step) → IsWord M P r only binding u → Contains u s → HasMember M r (WayKey s.way))
