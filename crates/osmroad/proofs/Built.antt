@@ -25,6 +25,7 @@ use Rattle.road_model.specs.Naming.{OneBlock}
 use Rattle.osmroad.specs.Building.{AreBlocksOf}
 use Rattle.std.proofs.lemmas.Bool.{and_parts}
 use Rattle.std.proofs.lemmas.Bool.Decides.{nat_tests}
+use Rattle.std.proofs.lemmas.List.{nil_from_length}
 use Rattle.osmroad.proofs.Members.{contains_from_in, contains_none, contains_more}
 
 way_is : (a b : WayId) → WayKey a ≡ WayKey b → a ≡ b
@@ -106,12 +107,8 @@ zero_by_test n t e h = grind (arith, nat_tests)
 some_by_test_of : (n : ℕ) (t : Bool) → t ≡ (n == 0) → t ≡ false → n ≢ 0
 some_by_test_of n t e h = λ z. absurd (grind (arith, nat_tests))
 
-none_of_length : {A : Type 0} (l : List A) → length l ≡ 0 → l ≡ []
-none_of_length [] e = refl
-none_of_length (x ∷ l) e = absurd (omega arith)
-
 pub empty_by_test : {A : Type 0} (l : List A) (t : Bool) → t ≡ (length l == 0) → t ≡ true → l ≡ []
-empty_by_test l t e h = none_of_length l (zero_by_test (length l) t e h)
+empty_by_test l t e h = nil_from_length l (zero_by_test (length l) t e h)
 
 pub some_by_test : {A : Type 0} (l : List A) (t : Bool) → t ≡ (length l == 0) → t ≡ false → l ≡ [] → ⊥
 some_by_test l t e h none = some_by_test_of (length l) t e h (ap length none)

@@ -20,11 +20,6 @@ use Rattle.osmroad.specs.Run.{IsCompile, IsWithinLimits, Gives, OfOtherWords, Of
 abbrev pub behind_of : Option (List ℕ) → List ℕ
 behind_of left = unwrap_or left []
 
--- nothing is left
-pub left_nothing : (left : Option (List ℕ)) → Ended left → Left left []
-left_nothing None e = tt
-left_nothing (Some y) e = e
-
 pub behind_nothing : (left : Option (List ℕ)) → Ended left → behind_of left ≡ []
 behind_nothing None e = refl
 behind_nothing (Some y) e = e

@@ -5,14 +5,12 @@ use Rattle.std.specs.Ordering.{eq_by_cmp}
 use Rattle.std.specs.Cmp.{Equal-is}
 use Rattle.std.specs.FinMap.{IsAntisymmetric, get, find, entries, get-entries}
 use Rattle.road_base.specs.declared.ids.Key.{Key}
-use Rattle.road_base.specs.declared.ids.Key.TheVariants.{Way as WayKey, Relation as RelationKey}
-use Rattle.road_base.specs.declared.ids.RelationId.{RelationId}
+use Rattle.road_base.specs.declared.ids.Key.TheVariants.{Way as WayKey}
 use Rattle.road_base.specs.declared.ids.WayId.{WayId}
 use Rattle.road_base.specs.declared.objects.Way.{Way}
-use Rattle.road_base.specs.declared.objects.Relation.{Relation}
 use Rattle.road_base.specs.declared.objects.Body.{Body}
 use Rattle.road_base.specs.declared.event.Event.{Event}
-use Rattle.road_base.specs.Objects.{Objects, Entry, key_cmp, body_in, way_in, relation_in, visible, way_of, relation_of}
+use Rattle.road_base.specs.Objects.{Objects, Entry, key_cmp, body_in, way_in, visible, way_of}
 use Rattle.object_store.specs.Listed.{pair_of}
 use Rattle.osmroad.proofs.Members.{In, contains_from_in, origin_of}
 
@@ -40,10 +38,6 @@ some_way : (o : Option Body) (w : Way) → way_in o ≡ Some w → (b : Body) ×
 some_way None w e = cc
 some_way (Some b) w e = (b, refl)
 
-some_relation : (o : Option Body) (r : Relation) → relation_in o ≡ Some r → (b : Body) × (o ≡ Some b)
-some_relation None r e = cc
-some_relation (Some b) r e = (b, refl)
-
 module _ (ties : IsAntisymmetric key_cmp) (M : Objects) (items : List Event) (all : entries M ≡ map pair_of items) where
   entry_listed : (k : Key) (x : Entry) → get M k ≡ Some x → (e : Event) × Contains items e × (e.key ≡ k)
   entry_listed k x is =
@@ -58,7 +52,3 @@ module _ (ties : IsAntisymmetric key_cmp) (M : Objects) (items : List Event) (al
   pub way_listed : (w : WayId) (b : Way) → way_of M w ≡ Some b → (e : Event) × Contains items e × (e.key ≡ WayKey w)
   unfolding way_of
   way_listed w b seen = let body = some_way (visible M (WayKey w)) b seen in visible_listed (WayKey w) body.0 body.1
-
-  pub relation_listed : (r : RelationId) (b : Relation) → relation_of M r ≡ Some b → (e : Event) × Contains items e × (e.key ≡ RelationKey r)
-  unfolding relation_of
-  relation_listed r b seen = let body = some_relation (visible M (RelationKey r)) b seen in visible_listed (RelationKey r) body.0 body.1

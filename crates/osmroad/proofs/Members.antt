@@ -1,5 +1,5 @@
 -- What a list contains, by its first element and the rest, and by its parts.
-use Rattle.std.proofs.Common.{◌≡◌, ◌⊎◌, ℕ, zero, suc, ◌<◌, List, [], ◌∷◌, ◌++◌, length, map, slice_index_or, slice_get, Contains, Some, refl, inl, inr, sym, arith}
+use Rattle.std.proofs.Common.{◌≡◌, ◌⊎◌, ℕ, zero, suc, ◌<◌, List, [], ◌∷◌, ◌++◌, length, map, slice_index_or, Contains, refl, inl, inr, sym, arith}
 use Rattle.std.specs.List.{AllByRecursion}
 
 -- a member of a list
@@ -43,14 +43,6 @@ in_index (x ∷ xs) (suc i) d l = inr (in_index xs i d (omega arith))
 
 pub contains_index : {A : Type 0} (xs : List A) (i : ℕ) (d : A) → i < length xs → Contains xs (slice_index_or xs i d)
 contains_index xs i d l = contains_from_in xs (slice_index_or xs i d) (in_index xs i d l)
-
-in_at : {A : Type 0} (xs : List A) (x : A) (k : ℕ) → slice_get xs k ≡ Some x → In x xs
-in_at [] x k e = cc
-in_at (y ∷ xs) x zero e = inl (cc)
-in_at (y ∷ xs) x (suc k) e = inr (in_at xs x k e)
-
-pub contains_at : {A : Type 0} (xs : List A) (x : A) (k : ℕ) → slice_get xs k ≡ Some x → Contains xs x
-contains_at xs x k e = contains_from_in xs x (in_at xs x k e)
 
 -- what holds of each element that the list contains holds of all
 pub all_from_each : {A : Type 0} (P : A → Type 0) (xs : List A) → ((x : A) → Contains xs x → P x) → AllByRecursion P xs
