@@ -1,5 +1,6 @@
 -- The walk law, where it is decided whether some word goes on.
 use Rattle.std.proofs.Common.{◌≡◌, ◌+◌, ◌≤◌, List, [], ◌∷◌, ◌++◌, length, refl, sym, ap, ◌∙◌, subst, arith, append_assoc, append-nil, length-append}
+use Rattle.std.proofs.lemmas.List.{nil_from_length}
 use Rattle.road_base.specs.declared.ids.Step.{Step}
 use Rattle.road_base.specs.Objects.{Objects}
 use Rattle.road_model.specs.Rules.{Rules}
@@ -13,7 +14,7 @@ use Rattle.road_model.proofs.Decided.{Decided}
 use Rattle.road_model.proofs.Shapes.{piece_shape}
 use Rattle.road_model.proofs.PieceLaws.{before_whole, behind_whole}
 use Rattle.road_model.proofs.OnePiece.{one_piece}
-use Rattle.road_model.proofs.Walking.{Continues, reached, one_longest, walk_of, spell_pieces-push}
+use Rattle.road_model.proofs.Walking.{Continues, reached, one_longest, walk_of, some_steps, spell_pieces-append, spell_pieces-push}
 use Rattle.road_model.proofs.StraightOn.{Pieces, pieces_of, same_pieces, Standing, standing, same_stand, get_split}
 
 pub ends_of : (M : Objects) (P : Rules) (q : Piece) → IsPiece M P q → Ends (spell q) → (a : List Step) × (x : Step) × (spell q ≡ a ++ x ∷ [])
@@ -150,19 +151,33 @@ module _ (M : Objects) (P : Rules) (s : List Step) (l : Legal M P s) (w : Whole 
   among : (e : List Piece) → Every (IsPiece M P) e → Carries e s → Among e
   among e i c = among_from c.before c.behind e i (standing M P e c.before w.f (w.rest ++ c.behind) (c.is ∙ ap (λ v. c.before ++ (v ++ c.behind)) w.begins))
 
-  among_length : (e : List Piece) (a : Among e) → length e ≡ length a.left + (length pieces_around.list + length a.right)
-  among_length e a = let f = length-append a.left (pieces_around.list ++ a.right) in let g = length-append pieces_around.list a.right in ap length a.is ∙ f ∙ ap (λ v. length a.left + v) g
+  among_pieces : (e : List Piece) (a : Among e) → length e ≡ length a.left + (length pieces_around.list + length a.right)
+  among_pieces e a = let f = length-append a.left (pieces_around.list ++ a.right) in let g = length-append pieces_around.list a.right in ap length a.is ∙ f ∙ ap (λ v. length a.left + v) g
 
-  no_length : (A : List Piece) → length A ≡ 0 → A ≡ []
-  no_length [] e = refl
-  no_length (p ∷ A) e = absurd (omega arith)
+  among_steps : (e : List Piece) (a : Among e) → length (spell_pieces e) ≡ length (spell_pieces a.left) + (length (spell_pieces pieces_around.list) + length (spell_pieces a.right))
+  among_steps e a =
+      let f = spell_pieces-append M P a.left (pieces_around.list ++ a.right) ∙ ap (λ v. spell_pieces a.left ++ v) (spell_pieces-append M P pieces_around.list a.right) in
+      let g = length-append (spell_pieces a.left) (spell_pieces pieces_around.list ++ spell_pieces a.right) in
+      let h = length-append (spell_pieces pieces_around.list) (spell_pieces a.right) in
+      ap (λ v. length (spell_pieces v)) a.is ∙ ap length f ∙ g ∙ ap (λ v. length (spell_pieces a.left) + v) h
 
-  among_only : (e : List Piece) → Among e → length e ≤ length pieces_around.list → e ≡ pieces_around.list
-  among_only e a h =
-      let k = among_length e a in
-      let x = no_length a.left (omega arith) in
-      let y = no_length a.right (omega arith) in
-      a.is ∙ ap (λ v. v ++ (pieces_around.list ++ a.right)) x ∙ ap (λ v. pieces_around.list ++ v) y ∙ append-nil _
+  no_steps : (d : List Piece) → Every (IsPiece M P) d → length (spell_pieces d) ≡ 0 → d ≡ []
+  no_steps [] i e = refl
+  no_steps (p ∷ d) i e = absurd (some_steps M P p d i.0 (nil_from_length _ e))
+
+  among_alone : (e : List Piece) (a : Among e) → a.left ≡ [] → a.right ≡ [] → e ≡ pieces_around.list
+  among_alone e a x y = a.is ∙ ap (λ v. v ++ (pieces_around.list ++ a.right)) x ∙ ap (λ v. pieces_around.list ++ v) y ∙ append-nil _
+
+  only_pieces : (e : List Piece) → Among e → length e ≤ length pieces_around.list → e ≡ pieces_around.list
+  only_pieces e a h = let k = among_pieces e a in among_alone e a (nil_from_length a.left (omega arith)) (nil_from_length a.right (omega arith))
+
+  only_steps : (e : List Piece) → Every (IsPiece M P) e → Among e → length (spell_pieces e) ≤ length (spell_pieces pieces_around.list) → e ≡ pieces_around.list
+  only_steps e i a h =
+      let k = among_steps e a in
+      let j = subst (Every (IsPiece M P)) a.is i in
+      let left = Every-front (IsPiece M P) a.left (pieces_around.list ++ a.right) j in
+      let right = Every-tail (IsPiece M P) pieces_around.list a.right (Every-tail (IsPiece M P) a.left (pieces_around.list ++ a.right) j) in
+      among_alone e a (no_steps a.left left (omega arith)) (no_steps a.right right (omega arith))
 
 walk_pieces : (M : Objects) (P : Rules) (d : List Piece) → IsWalk M P d → Every (IsPiece M P) d
 walk_pieces M P d w = (reached M P d w.context w.walks).pieces
@@ -197,8 +212,10 @@ module _ (M : Objects) (P : Rules) (continues : (v : List Step) → Decided (Con
         walk = r.list;
         is = as_walk r.list r.some r.pieces (rw r.spelled (completed_legal M P s l w));
         carries = record { before = w.front; behind = w.behind; is = r.spelled };
-        least = λ e k c. let a = among M P s l w e (walk_pieces M P e k) c in let n = among_length M P s l w e a in omega arith;
-        only = λ e k c h. among_only M P s l w e (among M P s l w e (walk_pieces M P e k) c) h;
+        least_pieces = λ e k c. let n = among_pieces M P s l w e (among M P s l w e (walk_pieces M P e k) c) in omega arith;
+        only_by_pieces = λ e k c h. only_pieces M P s l w e (among M P s l w e (walk_pieces M P e k) c) h;
+        least_steps = λ e k c. let n = among_steps M P s l w e (among M P s l w e (walk_pieces M P e k) c) in omega arith;
+        only_by_steps = λ e k c h. let i = walk_pieces M P e k in only_steps M P s l w e i (among M P s l w e i c) h;
       }
 
   pub shortest : (s : List Step) → Legal M P s → HasShortest M P s

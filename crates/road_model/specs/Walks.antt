@@ -46,10 +46,12 @@ pub record Carries (d : List Piece) (s : List Step) : Type 0 where
   pub behind : List Step
   pub is : spell_pieces d ≡ before ++ (s ++ behind)
 
--- of the walks that carry s, exactly one is shortest
+-- of the walks that carry s, exactly one is shortest, by pieces and by steps alike
 pub record HasShortest (M : Objects) (P : Rules) (s : List Step) : Type 0 where
   pub walk : List Piece
   pub is : IsWalk M P walk
   pub carries : Carries walk s
-  pub least : (e : List Piece) → IsWalk M P e → Carries e s → length walk ≤ length e
-  pub only : (e : List Piece) → IsWalk M P e → Carries e s → length e ≤ length walk → e ≡ walk
+  pub least_pieces : (e : List Piece) → IsWalk M P e → Carries e s → length walk ≤ length e
+  pub only_by_pieces : (e : List Piece) → IsWalk M P e → Carries e s → length e ≤ length walk → e ≡ walk
+  pub least_steps : (e : List Piece) → IsWalk M P e → Carries e s → length (spell_pieces walk) ≤ length (spell_pieces e)
+  pub only_by_steps : (e : List Piece) → IsWalk M P e → Carries e s → length (spell_pieces e) ≤ length (spell_pieces walk) → e ≡ walk

@@ -158,7 +158,7 @@ pub fn context_decides<P: Profile>(profile: &P)
 {}
 
 /// Spelling is a one-to-one map from the walks onto the legal drives from junction to junction, and every legal drive is
-/// an infix of the spelling of exactly one shortest walk.
+/// an infix of the spelling of exactly one shortest walk, by pieces and by steps alike.
 pub fn walk_law<P: Profile>(profile: &P)
     ensures legal { (M : Objects) (d : List Piece) → IsWalk M (P.rules profile.now) d → IsJunctionDrive M (P.rules profile.now) (spell_pieces d) }
     ensures one_to_one { (M : Objects) (d e : List Piece)
