@@ -16,3 +16,4 @@ pub mod Turning
 pub mod Format
 pub mod BlockMap
 pub mod Naming
+pub mod Broken

@@ -20,6 +20,7 @@ ghost use Rattle.road_model.specs.Blocks.{name_of};
 ghost use Rattle.road_model.specs.Turning.{HasTurnSteps, BeginsWord, EndsPiece};
 ghost use Rattle.road_model.specs.Walks.{WalksTo, IsWalk, IsJunctionDrive, IsSpelled, HasShortest};
 ghost use Rattle.road_model.specs.Naming.{OnePiece, OneEntry, OneBlock, OneGraph};
+ghost use Rattle.road_model.specs.Broken.{BrokenRule, Broken};
 
 use crate::Profile;
 
@@ -179,6 +180,18 @@ pub fn drive_grows<P: Profile>(profile: &P)
         → Legal M (P.rules profile.now) d
         → IsTrue (drivable M (P.rules profile.now) t)
         → GoesOn M (P.rules profile.now) d t ↔ Legal M (P.rules profile.now) (d ++ t ∷ []) }
+{}
+
+/// A drive breaks one rule first, at one step, and one that breaks a rule isn't legal.
+pub fn one_broken_rule<P: Profile>(profile: &P)
+    ensures one { (M : Objects) (d : List Step) (j k : ℕ) (a b : BrokenRule)
+        → Broken M (P.rules profile.now) d j a
+        → Broken M (P.rules profile.now) d k b
+        → (j ≡ k) × (a ≡ b) }
+    ensures illegal { (M : Objects) (d : List Step) (k : ℕ) (a : BrokenRule)
+        → Broken M (P.rules profile.now) d k a
+        → Legal M (P.rules profile.now) d
+        → ⊥ }
 {}
 
 /// The steps of a word lie on members of its restriction, and are at least two and at most 1,026.
