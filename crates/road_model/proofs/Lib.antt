@@ -25,3 +25,4 @@ pub mod WordMembers
 pub mod ShortWords
 pub mod TurnSteps
 pub mod ContextTargets
+pub mod BrokenRules
