@@ -34,12 +34,12 @@ one_lacking M s v w (AtTail e h) (AtHead l f k) = cc (ap (located M) e)
 one_lacking M s v w (AtHead l e h) (AtTail f k) = cc (ap (located M) f)
 one_lacking M s v w (AtHead l e h) (AtHead m f k) = cc
 
-one_answer : (M : Objects) (P : Rules) (s : Step) (x y : Access) → IsAnswered M P s x → IsAnswered M P s y → x ≡ y
+pub one_answer : (M : Objects) (P : Rules) (s : Step) (x y : Access) → IsAnswered M P s x → IsAnswered M P s y → x ≡ y
 one_answer M P s x y a b =
     let e : a.way ≡ b.way = let f = a.visible in let g = b.visible in cc in
     sym a.says ∙ ap (λ w. P.direction w.tags s.dir) e ∙ b.says
 
-one_before : (before : List Step) (x y : Step) → IsBehind before x → IsBehind before y → x ≡ y
+pub one_before : (before : List Step) (x y : Step) → IsBehind before x → IsBehind before y → x ≡ y
 one_before before x y a b = (same_last a.0 x b.0 y (sym a.1 ∙ b.1)).last
 
 one_meeting : (M : Objects) (s t x : Step) (v w : NodeId) → s ≡ t → Meets M s x v → Meets M t x w → v ≡ w

@@ -63,7 +63,7 @@ passes_from : {X : Type 0} (A Q : X → Type 0) (x : X) → A x × Q x → (a : 
 passes_from A Q x h = (x, h.1, (h.0, refl))
 
 -- the members that pass a further test
-fin_pass : {X : Type 0} {Q : X → Type 0} (A : X → Type 0) → ((x : X) → Decided (A x)) → Finite Q → Finite (λ x. A x × Q x)
+pub fin_pass : {X : Type 0} {Q : X → Type 0} (A : X → Type 0) → ((x : X) → Decided (A x)) → Finite Q → Finite (λ x. A x × Q x)
 fin_pass {X = X} {Q = Q} A each f = fin_like (passes_to A Q) (passes_from A Q) (fin_bind f (λ x. fin_if (each x) (λ a. fin_one x)))
 
 module _ (M : Objects) (P : Rules) where
@@ -168,7 +168,7 @@ same_relation : (v w : RelationId) → v.0 ≡ w.0 → v ≡ w
 same_relation v w e = λ i. record { 0 = e i }
 
 -- the numbers of the relations that have an entry
-relations_in : List (Key × Entry) → List RelationId
+pub relations_in : List (Key × Entry) → List RelationId
 relations_in [] = []
 relations_in (e ∷ es) = elim e.0 [ NodeKey n ↦ relations_in es | WayKey w ↦ relations_in es | RelationKey r ↦ r ∷ relations_in es ]
 
@@ -187,7 +187,7 @@ has_entry : (b : Relation) (o : Option Entry) → relation_body (body_in o) ≡ 
 has_entry b None h = cc
 has_entry b (Some e) h = (e, refl)
 
-visible_in : (M : Objects) (r : RelationId) (b : Relation) → relation_of M r ≡ Some b → In r (relations_in (entries M))
+pub visible_in : (M : Objects) (r : RelationId) (b : Relation) → relation_of M r ≡ Some b → In r (relations_in (entries M))
 unfolding relation_of visible
 visible_in M r b h = let e = has_entry b (get M (RelationKey r)) h in relation_in r e.0 (entries M) (sym (get-entries M (RelationKey r)) ∙ e.1)
 
@@ -277,11 +277,38 @@ module _ (M : Objects) (P : Rules) where
       (λ u h. record { relation = h.0; only = h.2.0; binding = h.2.2.binding; word = h.2.2.word })
       (λ u w. (w.relation, visible_in M w.relation w.word.body w.word.visible, (w.only, in_bools w.only, record { binding = w.binding; word = w.word })))
 
+pair_from : {A B : Type 0} (y : A × B) (a : A) (b : B) → a ≡ y.0 → b ≡ y.1 → (a, b) ≡ y
+pair_from y a b e f = λ i. (e i, f i)
+
+module _ (M : Objects) (P : Rules) (r : RelationId) (only : Bool) where
+  Bound : ℕ × List Step → Type 0
+  Bound y = IsWord M P r only y.0 y.1
+
+  binds : (b : Relation) → relation_of M r ≡ Some b → (n : ℕ) (u : List Step) → IsWord M P r only n u → n ≡ binding_of (vias b)
+  binds b v n u w = w.bound ∙ ap (λ c. binding_of (vias c)) (same_body M P b w.body r v w.visible)
+
+  fin_bound : (b : Relation) → relation_of M r ≡ Some b → Finite Bound
+  unfolding Bound
+  fin_bound b v = fin_by
+      (fin_bind (fin_word M P r only b v (gives_decided M P only b)) (λ u. fin_one (binding_of (vias b), u)))
+      (λ y h. let e = binds b v h.1.binding h.0 h.1.word in subst Bound (pair_from y h.1.binding h.0 (e ∙ sym (ap (λ z. z.0) h.2)) (sym (ap (λ z. z.1) h.2))) h.1.word)
+      (λ y w. (y.1, record { binding = y.0; word = w }, sym (pair_from y (binding_of (vias b)) y.1 (sym (binds b v y.0 y.1 w)) refl)))
+
+  fin_bound_of : (o : Option Relation) → relation_of M r ≡ o → Finite Bound
+  unfolding Bound
+  fin_bound_of None e = fin_none (λ y w. let f = w.visible in cc (e, f))
+  fin_bound_of (Some b) e = fin_bound b e
+
+  -- the words of one relation and kind, each with its binding length
+  pub fin_words_of : Finite (λ (y : ℕ × List Step). IsWord M P r only y.0 y.1)
+  unfolding Bound
+  fin_words_of = fin_bound_of (relation_of M r) refl
+
 -- whether a list goes on as another
-record More (v u : List Step) : Type 0 where
-  next : Step
-  rest : List Step
-  is : u ≡ v ++ next ∷ rest
+pub record More (v u : List Step) : Type 0 where
+  pub next : Step
+  pub rest : List Step
+  pub is : u ≡ v ++ next ∷ rest
 
 decided_dir : (a b : Dir) → Decided (a ≡ b)
 decided_dir Forward Forward = inl refl
@@ -289,7 +316,7 @@ decided_dir Forward Backward = inr (λ e. cc)
 decided_dir Backward Forward = inr (λ e. cc)
 decided_dir Backward Backward = inl refl
 
-decided_step : (s t : Step) → Decided (s ≡ t)
+pub decided_step : (s t : Step) → Decided (s ≡ t)
 decided_step s t = decided_like (λ h. λ i. record { way = h.0 i; index = h.1.0 i; dir = h.1.1 i }) (λ e. (ap (λ x. x.way) e, (ap (λ x. x.index) e, ap (λ x. x.dir) e)))
     (decided_both (decided_way s.way t.way) (decided_both (decided_number s.index t.index) (decided_dir s.dir t.dir)))
 
@@ -298,7 +325,7 @@ more_after s v t u (inl e) (inl m) = inl (record { next = m.next; rest = m.rest;
 more_after s v t u (inl e) (inr n) = inr (λ m. let f = m.is in n (record { next = m.next; rest = m.rest; is = cc (f) }))
 more_after s v t u (inr n) d = inr (λ m. let f = m.is in n (cc (f)))
 
-more_decided : (v u : List Step) → Decided (More v u)
+pub more_decided : (v u : List Step) → Decided (More v u)
 more_decided [] [] = inr (λ m. let f = m.is in cc (f))
 more_decided [] (t ∷ u) = inl (record { next = t; rest = u; is = refl })
 more_decided (s ∷ v) [] = inr (λ m. let f = m.is in cc (f))

@@ -26,3 +26,5 @@ pub mod ShortWords
 pub mod TurnSteps
 pub mod ContextTargets
 pub mod BrokenRules
+pub mod RulesDecided
+pub mod FirstBroken

@@ -182,7 +182,7 @@ pub fn drive_grows<P: Profile>(profile: &P)
         → GoesOn M (P.rules profile.now) d t ↔ Legal M (P.rules profile.now) (d ++ t ∷ []) }
 {}
 
-/// A drive breaks one rule first, at one step, and one that breaks a rule isn't legal.
+/// A drive that is neither empty nor legal breaks some rule first, one alone and at one step; a legal one breaks none.
 pub fn one_broken_rule<P: Profile>(profile: &P)
     ensures one { (M : Objects) (d : List Step) (j k : ℕ) (a b : BrokenRule)
         → Broken M (P.rules profile.now) d j a
@@ -192,6 +192,10 @@ pub fn one_broken_rule<P: Profile>(profile: &P)
         → Broken M (P.rules profile.now) d k a
         → Legal M (P.rules profile.now) d
         → ⊥ }
+    ensures some { (M : Objects) (d : List Step)
+        → (d ≡ [] → ⊥)
+        → (Legal M (P.rules profile.now) d → ⊥)
+        → (k : ℕ) × (a : BrokenRule) × Broken M (P.rules profile.now) d k a }
 {}
 
 /// The steps of a word lie on members of its restriction, and are at least two and at most 1,026.
