@@ -106,7 +106,7 @@ module _ (M : Objects) (P : Rules) where
         l.no w.front w.word [] (w.ends ∙ ap (λ v. w.front ++ v) (sym (append-nil w.word))) (record { relation = r; binding = w.binding; word = w.is })
     none_applies (Only r) h =
         let w = h.holds in
-        w.lacks (l.only w.front w.p s [] (ap (λ v. v ++ s ∷ []) w.ends ∙ append_assoc w.front w.p (s ∷ [])) w.next (record { binding = w.binding; rest = w.rest; word = record { relation = r; word = w.word }; bound = w.bound }))
+        w.lacks (l.only w.front w.driven s [] (ap (λ v. v ++ s ∷ []) w.ends ∙ append_assoc w.front w.driven (s ∷ [])) w.next (record { binding = w.binding; rest = w.rest; word = record { relation = r; word = w.word }; bound = w.bound }))
 
   free_by : (s : Step) (w : Way) (a : Access) → way_of M s.way ≡ Some w → P.direction w.tags s.dir ≡ a → ((by : ClosedBy) → IsAnswered M P s (ClosedAccess by) → ⊥) → (IsAnswered M P s WrongWayAccess → ⊥) → IsTrue (is_free a)
   free_by s w Free e f c n = refl
@@ -165,7 +165,7 @@ module _ (M : Objects) (P : Rules) where
         | inl k ↦ k
         | inr l ↦ absurd (elim (least_only M P before s) [
           | inl r ↦ none (Only r.0) r.1
-          | inr n ↦ n m.word.relation (record { front = a; p = p; ends = e; lacks = l; next = x; rest = m.rest; binding = m.binding; word = m.word.word; bound = m.bound })
+          | inr n ↦ n m.word.relation (record { front = a; driven = p; ends = e; lacks = l; next = x; rest = m.rest; binding = m.binding; word = m.word.word; bound = m.bound })
         ])
       ];
     }

@@ -303,8 +303,8 @@ module _ (M : Objects) (P : Rules) where
 
   leaves_only_decided : (before : List Step) (s : Step) (r : RelationId) → Decided (LeavesOnlyWord M P before s r)
   leaves_only_decided before s r = decided_like
-      (λ h. let y = h.2.1 in record { front = h.0.0; p = h.0.1; ends = h.1; lacks = h.2.0; next = y.2.0.next; rest = y.2.0.rest; binding = y.0.0; word = subst (IsWord M P r true y.0.0) y.2.0.is y.1; bound = y.2.1 })
-      (λ e. ((e.front, e.p), e.ends, (e.lacks, ((e.binding, e.p ++ e.next ∷ e.rest), e.word, (record { next = e.next; rest = e.rest; is = refl }, e.bound)))))
+      (λ h. let y = h.2.1 in record { front = h.0.0; driven = h.0.1; ends = h.1; lacks = h.2.0; next = y.2.0.next; rest = y.2.0.rest; binding = y.0.0; word = subst (IsWord M P r true y.0.0) y.2.0.is y.1; bound = y.2.1 })
+      (λ e. ((e.front, e.driven), e.ends, (e.lacks, ((e.binding, e.driven ++ e.next ∷ e.rest), e.word, (record { next = e.next; rest = e.rest; is = refl }, e.bound)))))
       (search_finite (λ z. (Must M P z.1 s → ⊥) × ((y : ℕ × List Step) × IsWord M P r true y.0 y.1 × (More z.1 y.1 × (y.0 ≤ length z.1)))) (fin_cuts before)
       (λ z. decided_both (decided_not (must_decided z.1 s)) (search_finite (λ y. More z.1 y.1 × (y.0 ≤ length z.1)) (fin_words_of M P r true) (λ y. decided_both (more_decided z.1 y.1) (decided_upto _ _)))))
 

@@ -93,18 +93,18 @@ pub record EndsNoWord (M : Objects) (P : Rules) (d : List Step) (r : RelationId)
   pub binding : ℕ
   pub is : IsWord M P r false binding word
 
--- Some Only word of the relation has p as a proper prefix not shorter than its binding length, where p ends the steps
--- before s; and s isn't one of the next steps that Only words demand behind p (OSM wiki, Relation:restriction).
+-- Some Only word of the relation has `driven` as a proper prefix not shorter than its binding length, where `driven` ends
+-- the steps before s; and s isn't one of the next steps that Only words demand there (OSM wiki, Relation:restriction).
 pub record LeavesOnlyWord (M : Objects) (P : Rules) (before : List Step) (s : Step) (r : RelationId) : Type 0 where
   pub front : List Step
-  pub p : List Step
-  pub ends : before ≡ front ++ p
-  pub lacks : Must M P p s → ⊥
+  pub driven : List Step
+  pub ends : before ≡ front ++ driven
+  pub lacks : Must M P driven s → ⊥
   pub next : Step
   pub rest : List Step
   pub binding : ℕ
-  pub word : IsWord M P r true binding (p ++ next ∷ rest)
-  pub bound : binding ≤ length p
+  pub word : IsWord M P r true binding (driven ++ next ∷ rest)
+  pub bound : binding ≤ length driven
 
 -- r is the least number of a relation of which the fact holds
 pub record IsLeast (Q : RelationId → Type 0) (r : RelationId) : Type 0 where
