@@ -20,6 +20,7 @@ pub struct Block {
 }
 
 impl Block {
+    /// An equal value.
     pub fn copy(&self) -> Result<Block, NoMemory>
         ensures { IfOk result (λ b. b ≡ self.now) }
     {
@@ -89,7 +90,7 @@ impl Blocks {
     /// dropped; that never comes where the way has a block or there is room to spare.
     pub fn insert(&mut self, block: Block) -> Result<(), NoMemory>
         ensures ok { OnOk result (self.new.map ≡ inserted self.old.map block.way block) }
-        ensures err { OnErr result (self.new.map ≡ self.old.map) }
+        ensures err { OnErr result (self.new ≡ self.old) }
         ensures new_way { OnErr result (get self.old.map block.way ≡ None) }
         ensures no_room { OnErr result (self.old.spare ≡ 0) }
         ensures spare { self.old.spare ≤ self.new.spare + 1 }
@@ -99,7 +100,10 @@ impl Blocks {
                 self.list[at] = block;
                 Ok(())
             }
-            Err(at) => Ok(self.list.insert(at, block)?),
+            Err(at) => {
+                self.list.reserve(1)?;
+                Ok(self.list.insert(at, block)?)
+            }
         }
     }
 

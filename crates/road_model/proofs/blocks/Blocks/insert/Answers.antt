@@ -32,14 +32,16 @@ pub invariant_of-self-in-Err : goal.invariant_of-self-in-Err
 invariant_of-self-in-Err c =
     let e = c.in-Err.ensures in
     rw c.in_ok-insert-in-Err.ensures.items
-    (rises_insert way_in way_cmp way_cmp_total c.args.block _ c.in-Err.at c.self.invariant (gap_of way_in way_cmp way_cmp_total _ _ _ _ c.as_slice.ensures.value e.within e.below e.behind))
+    (rw c.reserve.ensures.items
+    (rises_insert way_in way_cmp way_cmp_total c.args.block _ c.in-Err.at c.self.invariant (gap_of way_in way_cmp way_cmp_total _ _ _ _ c.as_slice.ensures.value e.within e.below e.behind)))
 
 pub returns-in_ok-insert-in-Err-clause-ok : goal.returns-in_ok-insert-in-Err-clause-ok
 returns-in_ok-insert-in-Err-clause-ok c =
     let e = c.in-Err.ensures in
     rw c.in_ok-insert-in-Err.ensures.items
+    (rw c.reserve.ensures.items
     (map_insert way_in way_cmp way_cmp_total c.args.block _ c.in-Err.at c.self.invariant (gap_of way_in way_cmp way_cmp_total _ _ _ _ c.as_slice.ensures.value e.within e.below e.behind)
-    ∙ ap (λ m. inserted m.map c.args.block.way c.args.block) c.self.view_is)
+    ∙ ap (λ m. inserted m.map c.args.block.way c.args.block) c.self.view_is))
 
 on_err : {T E P : Type 0} (r : Result T E) → P → OnErr r P
 on_err (Ok x) p = tt
@@ -47,6 +49,12 @@ on_err (Err y) p = p
 
 pub returns-in_err-insert-in-Err-clause-new_way : goal.returns-in_err-insert-in-Err-clause-new_way
 returns-in_err-insert-in-Err-clause-new_way c =
+    let e = c.in-Err.ensures in
+    on_err _ (ap (λ m. get m.map c.args.block.way) (sym c.self.view_is)
+    ∙ get_gap way_in way_cmp way_cmp_total c.args.block.way _ c.in-Err.at (gap_of way_in way_cmp way_cmp_total _ _ _ _ c.as_slice.ensures.value e.within e.below e.behind))
+
+pub returns-in_err-reserve-in-Err-clause-new_way : goal.returns-in_err-reserve-in-Err-clause-new_way
+returns-in_err-reserve-in-Err-clause-new_way c =
     let e = c.in-Err.ensures in
     on_err _ (ap (λ m. get m.map c.args.block.way) (sym c.self.view_is)
     ∙ get_gap way_in way_cmp way_cmp_total c.args.block.way _ c.in-Err.at (gap_of way_in way_cmp way_cmp_total _ _ _ _ c.as_slice.ensures.value e.within e.below e.behind))
