@@ -1,5 +1,5 @@
 //! Nodes where pieces end, with what is to be known of them.
-ghost use Rattle.std.specs.Prelude.{◌≡◌, IfOk, option_copied};
+ghost use Rattle.std.specs.Prelude.{◌≡◌, IfOk, OnOk, Some, option_copied};
 ghost use Rattle.std.specs.BTreeMap.{get};
 ghost use Rattle.road_base.specs.Objects.{Objects};
 ghost use Rattle.road_model.specs.Rules.{Rules};
@@ -49,7 +49,8 @@ impl Intersections {
 
     /// Keeps what is known of a node. Where no memory is found it is dropped.
     pub fn keep(&mut self, intersection: Intersection) -> Result<(), NoMemory>
-        ensures { (M : Objects) (P : Rules) → IsIntersection M P intersection → AreIntersections M P self.old → AreIntersections M P self.new }
+        ensures known { (M : Objects) (P : Rules) → IsIntersection M P intersection → AreIntersections M P self.old → AreIntersections M P self.new }
+        ensures there { OnOk result (get node_cmp self.new.by_node intersection.node ≡ Some intersection) }
     {
         self.by_node.insert(intersection.node, intersection)?;
         Ok(())
