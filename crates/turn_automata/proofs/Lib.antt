@@ -1,6 +1,6 @@
 pub mod Deciding
 pub mod Ends
-pub mod Falling
+pub mod Linking
 pub mod Growing
 pub mod Joining
 pub mod Keys

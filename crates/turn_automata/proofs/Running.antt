@@ -5,7 +5,7 @@ use Rattle.road_base.specs.declared.ids.Step.{Step}
 use Rattle.restrictions.specs.declared.word_list.Word.{Word}
 use Rattle.turn_automata.specs.declared.turns.Turns.{Turns}
 use Rattle.turn_automata.specs.Trees.{Stands}
-use Rattle.turn_automata.specs.Falls.{IsLongestIn, AreFalls}
+use Rattle.turn_automata.specs.FailureLinks.{IsLongestIn, AreFailureLinks}
 use Rattle.turn_automata.specs.Watched.{IsWatchable, NoIn, Stops}
 use Rattle.turn_automata.specs.Turns.{IsWatching}
 use Rattle.turn_automata.specs.Machines.{Machine, Watches, IsMachine}
@@ -26,8 +26,8 @@ module _ (W : List Word) (ps : List (List Step)) where
   }
 
   module _ (fs gs : List ℕ) (t : Turns) (stopped : Bool) (is : IsMachine W ps fs t stopped) (same : gs ≡ fs) where
-    pub falls_there : AreFalls ps gs
-    falls_there = subst (AreFalls ps) (sym same) is.watching.falls
+    pub links_there : AreFailureLinks ps gs
+    links_there = subst (AreFailureLinks ps) (sym same) is.watching.links
 
     pub watching_there : IsWatching W ps gs t
     watching_there = subst (λ v. IsWatching W ps v t) (sym same) is.watching

@@ -1,4 +1,4 @@
--- The turns that visits give are those of the words, and with the falls they tell which steps the words stop.
+-- The turns that visits give are those of the words, and with the links they tell which steps the words stop.
 use Rattle.std.proofs.Common.{◌≡◌, ℕ, suc, ◌+◌, ◌≤◌, ◌↔◌, inl, inr, Bool, true, false, cond, not, IsTrue, List, [], ◌∷◌, ◌++◌, length, slice_get, Some, Contains, refl, sym, ap, subst, ◌∙◌, arith, append_assoc, length-append}
 use Rattle.std.proofs.lemmas.Bool.{false≢true}
 use Rattle.std.proofs.lemmas.List.Elements.{Contains-append_left, Contains-push, Contains-push_cases}
@@ -20,7 +20,7 @@ use Rattle.turn_automata.proofs.Ends.{Ends, Nil, Last, ends, same_last}
 use Rattle.turn_automata.proofs.Watching.{no_watchable, must_watchable}
 use Rattle.turn_automata.proofs.Standing.{one_stands, contains_at, at_contains}
 use Rattle.turn_automata.proofs.Visiting.{at_cut, visit_list}
-use Rattle.turn_automata.proofs.Falling.{IsLeft}
+use Rattle.turn_automata.proofs.Linking.{IsLeft}
 use Rattle.turn_automata.proofs.Keys.{edge_exact, found_exact}
 
 module _ {K : Type 0} (Gives : Visit → K → Type 0) (vs : List Visit) (v : Visit) where

@@ -1,4 +1,4 @@
-pub mod Falls
+pub mod FailureLinks
 pub mod Machines
 pub mod Trees
 pub mod Turns

@@ -3,7 +3,7 @@ use Rattle.std.specs.Prelude.{◌≡◌, ℕ, ◌↔◌, List, [], length, Bool,
 use Rattle.road_base.specs.declared.ids.Step.{Step}
 use Rattle.restrictions.specs.declared.word_list.Word.{Word}
 use Rattle.turn_automata.specs.declared.turns.Turns.{Turns}
-use Rattle.turn_automata.specs.Falls.{Descends}
+use Rattle.turn_automata.specs.FailureLinks.{Descends}
 use Rattle.turn_automata.specs.Turns.{IsWatching}
 use Rattle.turn_automata.specs.Watched.{Watched, NoIn}
 
@@ -23,8 +23,8 @@ pub record Watches (m : Machine) (n : ℕ) (d : List Step) : Type 0 where
   pub is : StandsFor m n list
 
 -- the parts of an automaton are those of its words; it is stopped from the first if a No word has no steps
-pub record IsMachine (W : List Word) (ps : List (List Step)) (falls : List ℕ) (turns : Turns) (stopped : Bool) : Type 0 where
-  pub len : length falls ≡ length ps
-  pub descends : Descends falls
-  pub watching : IsWatching W ps falls turns
+pub record IsMachine (W : List Word) (ps : List (List Step)) (links : List ℕ) (turns : Turns) (stopped : Bool) : Type 0 where
+  pub len : length links ≡ length ps
+  pub descends : Descends links
+  pub watching : IsWatching W ps links turns
   pub never : IsTrue stopped ↔ NoIn W []

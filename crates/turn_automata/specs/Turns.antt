@@ -9,7 +9,7 @@ use Rattle.restrictions.specs.declared.word_list.Word.{Word}
 use Rattle.turn_automata.specs.declared.visits.Visit.{Visit}
 use Rattle.turn_automata.specs.declared.turns.Turns.{Turns}
 use Rattle.turn_automata.specs.Trees.{Stands, IsClosed}
-use Rattle.turn_automata.specs.Falls.{AreFalls}
+use Rattle.turn_automata.specs.FailureLinks.{AreFailureLinks}
 use Rattle.turn_automata.specs.Watched.{IsWatchable, NoIn, Must}
 
 -- by state, then step
@@ -57,9 +57,9 @@ pub record AreTurns (W : List Word) (ps : List (List Step)) (t : Turns) : Type 0
 abbrev pub StopsAt : List Word → List Step → Step → Type 0
 StopsAt W p s = NoIn W (p ++ s ∷ []) ⊎ ((x : Step) × Must W p x × (Must W p s → ⊥))
 
--- the lists, falls and turns are those of the words
+-- the lists, failure links and turns are those of the words
 pub record IsWatching (W : List Word) (ps : List (List Step)) (fs : List ℕ) (t : Turns) : Type 0 where
   pub closed : IsClosed ps
   pub lists : (p : List Step) → Contains ps p ↔ IsWatchable W p
-  pub falls : AreFalls ps fs
+  pub links : AreFailureLinks ps fs
   pub turns : AreTurns W ps t

@@ -5,7 +5,7 @@ ghost use Rattle.turn_automata.specs.Trees.{IsClosed};
 ghost use Rattle.turn_automata.specs.Watched.{IsWatchable, NoIn, Stops};
 ghost use Rattle.turn_automata.specs.Machines.{StandsFor, Watches};
 
-use crate::falls::{falls_of, longest};
+use crate::failure_links::{failure_links_of, longest};
 use crate::tree::{Tree, list_len};
 use crate::turns::{Turns, stops, turns_of};
 use crate::visits::{Reading, read_words};
@@ -23,7 +23,7 @@ pub struct State(pub usize);
 pub struct Automaton {
     words: WordList,
     tree: Tree,
-    falls: Vec<usize>,
+    links: Vec<usize>,
     turns: Turns,
     stopped: bool,
 }
@@ -35,7 +35,7 @@ impl Model for Automaton {
 
     ghost view = { λ a. record { words = a.words; states = a.tree } };
 
-    ghost invariant = { λ a. IsMachine a.words a.tree a.falls.items a.turns a.stopped };
+    ghost invariant = { λ a. IsMachine a.words a.tree a.links.items a.turns a.stopped };
 }
 
 impl Automaton {
@@ -45,14 +45,14 @@ impl Automaton {
     {
         let list = words.items();
         let Reading { tree, visits } = read_words(alloc, list)?;
-        let falls = falls_of(alloc, &tree)?;
+        let links = failure_links_of(alloc, &tree)?;
         let turns = turns_of(alloc, list, &tree, visits.as_slice())?;
         let stopped = has_empty_no(list);
         let words = words.copy()?;
         Ok(Automaton {
             words,
             tree,
-            falls,
+            links,
             turns,
             stopped,
         })
@@ -88,7 +88,7 @@ impl Automaton {
         ensures state { Watches self.now result.0 (step ∷ []) }
         ensures known { result.0 < length self.now.states }
     {
-        State(longest(&self.tree, self.falls.as_slice(), 0, step))
+        State(longest(&self.tree, self.links.as_slice(), 0, step))
     }
 
     /// The state after one more step, None exactly where the words stop it: where a No word ends with the step, or some
@@ -101,10 +101,10 @@ impl Automaton {
         ensures driven { IfSome result (λ next. (d : List Step) → Watches self.now state.0 d → Watches self.now next.0 (d ++ step ∷ [])) }
         ensures known { IfSome result (λ next. next.0 < length self.now.states) }
     {
-        if self.stopped || stops(&self.turns, self.falls.as_slice(), state.0, step) {
+        if self.stopped || stops(&self.turns, self.links.as_slice(), state.0, step) {
             return None;
         }
-        Some(State(longest(&self.tree, self.falls.as_slice(), state.0, step)))
+        Some(State(longest(&self.tree, self.links.as_slice(), state.0, step)))
     }
 
     /// How many steps the state's list has. Takes time of the order of their number.

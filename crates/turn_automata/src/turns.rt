@@ -3,7 +3,7 @@ ghost use Rattle.std.specs.Prelude.{◌≡◌, ℕ, ◌<◌, ◌+◌, ◌↔◌,
 ghost use Rattle.road_base.specs.declared.ids.Step.{Step};
 ghost use Rattle.restrictions.specs.declared.word_list.Word.{Word};
 ghost use Rattle.turn_automata.specs.Trees.{Stands, IsClosed};
-ghost use Rattle.turn_automata.specs.Falls.{Descends};
+ghost use Rattle.turn_automata.specs.FailureLinks.{Descends};
 ghost use Rattle.turn_automata.specs.Watched.{NoIn, Stops};
 ghost use Rattle.turn_automata.specs.Visits.{AreVisits};
 ghost use Rattle.turn_automata.specs.declared.visits.Visit.{Visit};
@@ -40,18 +40,18 @@ impl Turns {
     }
 }
 
-/// Whether the words stop the step behind this list. Takes three look-ups for each list that it falls to.
-pub fn stops(turns: &Turns, falls: &[usize], list: usize, step: Step) -> bool
-    requires within { list < length falls.now }
-    requires descends { Descends falls.now }
-    ensures { (W : List Word) (ps : List (List Step)) → IsWatching W ps falls.now turns.now → (NoIn W [] → ⊥) → (p : List Step) → Stands ps list p → IsTrue result ↔ Stops W p step }
+/// Whether the words stop the step behind this list. Takes three look-ups for each list on its failure links.
+pub fn stops(turns: &Turns, links: &[usize], list: usize, step: Step) -> bool
+    requires within { list < length links.now }
+    requires descends { Descends links.now }
+    ensures { (W : List Word) (ps : List (List Step)) → IsWatching W ps links.now turns.now → (NoIn W [] → ⊥) → (p : List Step) → Stands ps list p → IsTrue result ↔ Stops W p step }
 {
     let mut end = list;
     while end > 0 {
         if turns.stop_at(end, step) {
             return true;
         }
-        end = falls[end];
+        end = links[end];
     }
     turns.stop_at(0, step)
 }

@@ -1,21 +1,21 @@
 use Rattle.std.proofs.Common.{[], arith, sym, subst}
 use Rattle.turn_automata.specs.Trees.{Stands}
-use Rattle.turn_automata.proofs.Falling.{falls_first, falls_next, falls_below}
-use Rattle.turn_automata.proofs.falls.fall_of.Goals as goal
+use Rattle.turn_automata.proofs.Linking.{links_first, links_next, links_below}
+use Rattle.turn_automata.proofs.failure_links.failure_link_of.Goals as goal
 
 pub returns-then-from-eq0-clause-longest : goal.returns-then-from-eq0-clause-longest
 returns-then-from-eq0-clause-longest c =
-    falls_first c.args.tree.now c.closed.ensures c.args.list c.edge-from.result.1
+    links_first c.args.tree.now c.closed.ensures c.args.list c.edge-from.result.1
     (c.edge-from.ensures.is [] (subst (λ n. Stands c.args.tree.now n []) (sym c.if-from-eq0.true) c.closed.ensures.empty))
 
 pub returns-else-from-eq0-clause-less : goal.returns-else-from-eq0-clause-less
 returns-else-from-eq0-clause-less c =
-    falls_below c.args.tree.now c.closed.ensures c.args.falls.now c.requires.falls c.edge-from.result.0 c.args.list c.edge-from.result.1 c.longest.result
+    links_below c.args.tree.now c.closed.ensures c.args.links.now c.requires.links c.edge-from.result.0 c.args.list c.edge-from.result.1 c.longest.result
     (omega (arith, c.if-from-eq0.false)) (omega (arith, c.edge-from.ensures.less)) c.edge-from.ensures.is (omega (arith, c.edge-from.ensures.less))
-    (c.longest.ensures.longest c.requires.falls) c.requires.rises
+    (c.longest.ensures.longest c.requires.links) c.requires.rises
 
 pub returns-else-from-eq0-clause-longest : goal.returns-else-from-eq0-clause-longest
 returns-else-from-eq0-clause-longest c =
-    falls_next c.args.tree.now c.closed.ensures c.args.falls.now c.requires.falls c.edge-from.result.0 c.args.list c.edge-from.result.1 c.longest.result
+    links_next c.args.tree.now c.closed.ensures c.args.links.now c.requires.links c.edge-from.result.0 c.args.list c.edge-from.result.1 c.longest.result
     (omega (arith, c.if-from-eq0.false)) (omega (arith, c.edge-from.ensures.less)) c.edge-from.ensures.is (omega (arith, c.edge-from.ensures.less))
-    (c.longest.ensures.longest c.requires.falls)
+    (c.longest.ensures.longest c.requires.links)

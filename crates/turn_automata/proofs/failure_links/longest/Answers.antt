@@ -1,6 +1,6 @@
 use Rattle.std.proofs.Common.{◌≡◌, arith, subst}
-use Rattle.turn_automata.proofs.Falling.{IsLeft, GoesOn, prefix_there, all_left, goes_on, falls_back, begins}
-use Rattle.turn_automata.proofs.falls.longest.Goals as goal
+use Rattle.turn_automata.proofs.Linking.{IsLeft, GoesOn, prefix_there, all_left, goes_on, links_back, begins}
+use Rattle.turn_automata.proofs.failure_links.longest.Goals as goal
 
 pub loop-end-init : goal.loop-end-init
 loop-end-init c = record {
@@ -18,7 +18,7 @@ loop-end-preserved c =
     let down = c.requires.descends c.loop-end.end c.loop-end-test.true c.loop-end.invariant.within in
     record {
       within = omega (arith, down, c.loop-end.invariant.within);
-      left = λ are p st. falls_back c.args.tree.now c.closed.ensures (GoesOn c.args.tree.now c.args.step) (λ b h. prefix_there c.args.tree.now c.closed.ensures b c.args.step h) c.args.falls.now are p c.loop-end.end c.loop-end-test.true c.loop-end.invariant.within (c.loop-end.invariant.left are p st) c.in_default.ensures.none;
+      left = λ are p st. links_back c.args.tree.now c.closed.ensures (GoesOn c.args.tree.now c.args.step) (λ b h. prefix_there c.args.tree.now c.closed.ensures b c.args.step h) c.args.links.now are p c.loop-end.end c.loop-end-test.true c.loop-end.invariant.within (c.loop-end.invariant.left are p st) c.in_default.ensures.none;
     }
 
 pub returns-clause-longest : goal.returns-clause-longest

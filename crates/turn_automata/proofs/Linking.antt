@@ -3,7 +3,7 @@ use Rattle.std.proofs.Common.{◌≡◌, ℕ, suc, ◌+◌, ◌<◌, ◌≤◌, 
 use Rattle.std.proofs.lemmas.List.{get_or_append_left}
 use Rattle.std.proofs.Math.Seq.{get_or-append_seam}
 use Rattle.turn_automata.specs.Trees.{Stands, Rises, IsClosed}
-use Rattle.turn_automata.specs.Falls.{IsLongestIn, AreFalls, Descends}
+use Rattle.turn_automata.specs.FailureLinks.{IsLongestIn, AreFailureLinks, Descends}
 use Rattle.turn_automata.proofs.Ends.{Ends, Nil, Last, ends, same_last, shorter_end, longest_grows, cons_not_nil}
 use Rattle.turn_automata.proofs.Standing.{one_stands, some_at, contains_at, at_contains}
 
@@ -56,31 +56,31 @@ module _ {S : Type 0} (ps : List (List S)) (closed : IsClosed ps) where
 
   -- where it hasn't, the longest shorter one is left
   module _ (G : List S → Type 0) (there : (b : List S) → G b → Contains ps b) where
-    falls_to : (p : List S) (x : S) (d front : List S) (m : ℕ) → p ≡ front ++ x ∷ d
+    links_to : (p : List S) (x : S) (d front : List S) (m : ℕ) → p ≡ front ++ x ∷ d
         → ((a b : List S) → p ≡ a ++ b → G b → length b ≤ length (x ∷ d))
         → (G (x ∷ d) → ⊥) → IsLongestIn ps d m → IsLeft ps G p m
-    falls_to p x d front m is others none fall = record {
-      end = fall.list;
-      at = fall.at;
-      front = front ++ (x ∷ fall.longest.front);
-      is = is ∙ ap (λ v. front ++ (x ∷ v)) fall.longest.is ∙ sym (append_assoc front (x ∷ fall.longest.front) fall.list);
+    links_to p x d front m is others none link = record {
+      end = link.list;
+      at = link.at;
+      front = front ++ (x ∷ link.longest.front);
+      is = is ∙ ap (λ v. front ++ (x ∷ v)) link.longest.is ∙ sym (append_assoc front (x ∷ link.longest.front) link.list);
       others = λ a b e h. let c = shorter_end front a (x ∷ d) b (sym is ∙ e) (others a b e h) in by b h c.0 c.1;
     }
       where
-        by : (b : List S) → G b → (c : List S) → x ∷ d ≡ c ++ b → length b ≤ length fall.list
+        by : (b : List S) → G b → (c : List S) → x ∷ d ≡ c ++ b → length b ≤ length link.list
         by b h [] e = absurd (none (subst G (sym e) h))
-        by b h (y ∷ c) e = fall.longest.longest c b (cc) (there b h)
+        by b h (y ∷ c) e = link.longest.longest c b (cc) (there b h)
 
   nonempty : (n : ℕ) (p : List S) → 0 < n → Stands ps n p → (x : S) × (d : List S) × (p ≡ x ∷ d)
   nonempty n [] h st = let e : n ≡ 0 = closed.once n 0 [] st closed.empty in absurd (omega arith)
   nonempty n (x ∷ d) h st = (x, d, refl)
 
-  pub falls_back : (G : List S → Type 0) (there : (b : List S) → G b → Contains ps b) (falls : List ℕ) → AreFalls ps falls → (p : List S) (n : ℕ) → 0 < n → n < length falls → (left : IsLeft ps G p n)
-      → ((q : List S) → Stands ps n q → G q → ⊥) → IsLeft ps G p (get_or falls n 0)
-  falls_back G there falls are p n low high left none =
+  pub links_back : (G : List S → Type 0) (there : (b : List S) → G b → Contains ps b) (links : List ℕ) → AreFailureLinks ps links → (p : List S) (n : ℕ) → 0 < n → n < length links → (left : IsLeft ps G p n)
+      → ((q : List S) → Stands ps n q → G q → ⊥) → IsLeft ps G p (get_or links n 0)
+  links_back G there links are p n low high left none =
       let e = nonempty n left.end low left.at in
       let at : Stands ps n (e.0 ∷ e.1) = subst (Stands ps n) e.2 left.at in
-      falls_to G there p e.0 e.1 left.front (get_or falls n 0) (left.is ∙ ap (λ v. left.front ++ v) e.2)
+      links_to G there p e.0 e.1 left.front (get_or links n 0) (left.is ∙ ap (λ v. left.front ++ v) e.2)
       (λ a b q h. subst (λ v. length b ≤ length v) e.2 (left.others a b q h)) (none (e.0 ∷ e.1) at) (are n e.0 e.1 high at)
 
   -- where nothing is left, what the step begins is the longest
@@ -131,9 +131,9 @@ module _ {S : Type 0} (ps : List (List S)) (closed : IsClosed ps) where
       by [] b e h = absurd (none (subst (Contains ps) (sym e) h))
       by (z ∷ a) b e h = let l : 1 ≡ suc (length a + length b) = ap length e ∙ ap suc (length-append a b) in omega arith
 
-  -- the fall of a list of one step
-  pub falls_first : (n : ℕ) (y : S) → Stands ps n (y ∷ []) → (x : S) (d : List S) → Stands ps n (x ∷ d) → IsLongestIn ps d 0
-  falls_first n y one x d st =
+  -- the link of a list of one step
+  pub links_first : (n : ℕ) (y : S) → Stands ps n (y ∷ []) → (x : S) (d : List S) → Stands ps n (x ∷ d) → IsLongestIn ps d 0
+  links_first n y one x d st =
       let e : x ∷ d ≡ y ∷ [] = one_stands ps n (x ∷ d) (y ∷ []) st one in
       let z : [] ≡ d = cc in
       subst (λ v. IsLongestIn ps v 0) z (record {
@@ -142,12 +142,12 @@ module _ {S : Type 0} (ps : List (List S)) (closed : IsClosed ps) where
         longest = record { front = []; is = refl; holds = contains_at ps 0 [] closed.empty; longest = λ a b q h. no_longer a b [] q };
       })
 
-  -- the fall of a list that grew from one whose fall is known
-  module _ (falls : List ℕ) (are : AreFalls ps falls) (from n : ℕ) (y : S) (r : ℕ) (low : 0 < from) (high : from < length falls)
+  -- the link of a list that grew from one whose link is known
+  module _ (links : List ℕ) (are : AreFailureLinks ps links) (from n : ℕ) (y : S) (r : ℕ) (low : 0 < from) (high : from < length links)
       (edge : (p : List S) → Stands ps from p → Stands ps n (p ++ y ∷ [])) (within : from < length ps)
-      (found : (p : List S) → Stands ps (get_or falls from 0) p → IsLongestIn ps (p ++ y ∷ []) r) where
-    pub falls_next : (x : S) (d : List S) → Stands ps n (x ∷ d) → IsLongestIn ps d r
-    falls_next x d st =
+      (found : (p : List S) → Stands ps (get_or links from 0) p → IsLongestIn ps (p ++ y ∷ []) r) where
+    pub links_next : (x : S) (d : List S) → Stands ps n (x ∷ d) → IsLongestIn ps d r
+    links_next x d st =
         let u = some_at ps from within in
         let v = nonempty from u.0 low u.1 in
         let old = are from v.0 v.1 high (subst (Stands ps from) v.2 u.1) in
@@ -161,44 +161,44 @@ module _ {S : Type 0} (ps : List (List S)) (closed : IsClosed ps) where
           longest = longest_grows (Contains ps) prefix_there v.1 old.list new.list y old.longest new.longest;
         })
 
-    pub falls_below : Rises ps → r < n
-    falls_below rises =
+    pub links_below : Rises ps → r < n
+    links_below rises =
         let u = some_at ps from within in
         let v = nonempty from u.0 low u.1 in
         let d = v.1 ++ y ∷ [] in
         let grown : Stands ps n (v.0 ∷ d) = subst (λ q. Stands ps n (q ++ y ∷ [])) v.2 (edge u.0 u.1) in
-        let fall = falls_next v.0 d grown in
-        let short : length fall.list ≤ length d = no_longer fall.longest.front fall.list d fall.longest.is in
-        let up : n ≤ r → suc (length d) ≤ length fall.list = rises n r (v.0 ∷ d) fall.list grown fall.at in
+        let link = links_next v.0 d grown in
+        let short : length link.list ≤ length d = no_longer link.longest.front link.list d link.longest.is in
+        let up : n ≤ r → suc (length d) ≤ length link.list = rises n r (v.0 ∷ d) link.list grown link.at in
         below n r (λ h. let k = up h in omega arith)
       where
         below : (a b : ℕ) → (a ≤ b → ⊥) → b < a
         below a b h = grind (arith, h)
 
-  pub falls_none : (falls : List ℕ) → falls ≡ 0 ∷ [] → AreFalls ps falls
-  falls_none falls e n x d h st =
-      let l : length falls ≡ 1 = ap length e in
+  pub links_none : (links : List ℕ) → links ≡ 0 ∷ [] → AreFailureLinks ps links
+  links_none links e n x d h st =
+      let l : length links ≡ 1 = ap length e in
       let z : n ≡ 0 = omega arith in
       absurd (cons_not_nil [] x d (one_stands ps 0 (x ∷ d) [] (subst (λ i. Stands ps i (x ∷ d)) z st) closed.empty))
 
-  pub falls_more : (falls new : List ℕ) (f : ℕ) → new ≡ falls ++ f ∷ [] → AreFalls ps falls
-      → ((x : S) (d : List S) → Stands ps (length falls) (x ∷ d) → IsLongestIn ps d f) → AreFalls ps new
-  falls_more falls new f e are next n x d h st = elim (cases n (length falls) (subst (λ v. n < length v) e h)) [
-    | inl l ↦ subst (IsLongestIn ps d) (sym (ap (λ v. get_or v n 0) e ∙ get_or_append_left falls (f ∷ []) 0 n l)) (are n x d l st)
-    | inr l ↦ subst (IsLongestIn ps d) (sym (ap (λ v. get_or v n 0) e ∙ ap (λ i. get_or (falls ++ f ∷ []) i 0) l ∙ get_or-append_seam falls f [] 0)) (next x d (subst (λ i. Stands ps i (x ∷ d)) l st))
+  pub links_more : (links new : List ℕ) (f : ℕ) → new ≡ links ++ f ∷ [] → AreFailureLinks ps links
+      → ((x : S) (d : List S) → Stands ps (length links) (x ∷ d) → IsLongestIn ps d f) → AreFailureLinks ps new
+  links_more links new f e are next n x d h st = elim (cases n (length links) (subst (λ v. n < length v) e h)) [
+    | inl l ↦ subst (IsLongestIn ps d) (sym (ap (λ v. get_or v n 0) e ∙ get_or_append_left links (f ∷ []) 0 n l)) (are n x d l st)
+    | inr l ↦ subst (IsLongestIn ps d) (sym (ap (λ v. get_or v n 0) e ∙ ap (λ i. get_or (links ++ f ∷ []) i 0) l ∙ get_or-append_seam links f [] 0)) (next x d (subst (λ i. Stands ps i (x ∷ d)) l st))
   ]
     where
-      cases : (a b : ℕ) → a < length (falls ++ f ∷ []) → (a < length falls) ⊎ (a ≡ length falls)
-      cases a b h = let l : length (falls ++ f ∷ []) ≡ length falls + 1 = length-append falls (f ∷ []) in grind arith
+      cases : (a b : ℕ) → a < length (links ++ f ∷ []) → (a < length links) ⊎ (a ≡ length links)
+      cases a b h = let l : length (links ++ f ∷ []) ≡ length links + 1 = length-append links (f ∷ []) in grind arith
 
-pub descends_more : (falls new : List ℕ) (f : ℕ) → new ≡ falls ++ f ∷ [] → Descends falls → f < length falls → Descends new
-descends_more falls new f e down low n h k = elim (cases n (subst (λ v. n < length v) e k)) [
-  | inl l ↦ subst (λ v. v < n) (sym (ap (λ v. get_or v n 0) e ∙ get_or_append_left falls (f ∷ []) 0 n l)) (down n h l)
-  | inr l ↦ subst (λ v. v < n) (sym (ap (λ v. get_or v n 0) e ∙ ap (λ i. get_or (falls ++ f ∷ []) i 0) l ∙ get_or-append_seam falls f [] 0)) (subst (λ i. f < i) (sym l) low)
+pub descends_more : (links new : List ℕ) (f : ℕ) → new ≡ links ++ f ∷ [] → Descends links → f < length links → Descends new
+descends_more links new f e down low n h k = elim (cases n (subst (λ v. n < length v) e k)) [
+  | inl l ↦ subst (λ v. v < n) (sym (ap (λ v. get_or v n 0) e ∙ get_or_append_left links (f ∷ []) 0 n l)) (down n h l)
+  | inr l ↦ subst (λ v. v < n) (sym (ap (λ v. get_or v n 0) e ∙ ap (λ i. get_or (links ++ f ∷ []) i 0) l ∙ get_or-append_seam links f [] 0)) (subst (λ i. f < i) (sym l) low)
 ]
   where
-    cases : (a : ℕ) → a < length (falls ++ f ∷ []) → (a < length falls) ⊎ (a ≡ length falls)
-    cases a h = let l : length (falls ++ f ∷ []) ≡ length falls + 1 = length-append falls (f ∷ []) in grind arith
+    cases : (a : ℕ) → a < length (links ++ f ∷ []) → (a < length links) ⊎ (a ≡ length links)
+    cases a h = let l : length (links ++ f ∷ []) ≡ length links + 1 = length-append links (f ∷ []) in grind arith
 
-pub descends_none : (falls : List ℕ) → falls ≡ 0 ∷ [] → Descends falls
-descends_none falls e n h k = let l : length falls ≡ 1 = ap length e in absurd (omega arith)
+pub descends_none : (links : List ℕ) → links ≡ 0 ∷ [] → Descends links
+descends_none links e n h k = let l : length links ≡ 1 = ap length e in absurd (omega arith)

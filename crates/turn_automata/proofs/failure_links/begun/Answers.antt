@@ -1,6 +1,6 @@
 use Rattle.std.proofs.Common.{[]}
-use Rattle.turn_automata.proofs.Falling.{begun_by, nothing_begun}
-use Rattle.turn_automata.proofs.falls.begun.Goals as goal
+use Rattle.turn_automata.proofs.Linking.{begun_by, nothing_begun}
+use Rattle.turn_automata.proofs.failure_links.begun.Goals as goal
 
 pub returns-in-Some-clause-longest : goal.returns-in-Some-clause-longest
 returns-in-Some-clause-longest c = begun_by c.args.tree.now c.closed.ensures c.args.step c.in-Some.child (c.in-Some.ensures.some [] c.closed.ensures.empty)

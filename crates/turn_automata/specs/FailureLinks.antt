@@ -1,4 +1,4 @@
--- Where an automaton falls back to: the longest of its lists that ends what was driven.
+-- Failure links: from each of an automaton's lists to the longest shorter one that ends it.
 use Rattle.std.specs.Prelude.{ℕ, ◌<◌, List, ◌∷◌, length, slice_index, Contains}
 use Rattle.road_model.specs.Contexts.{IsLongestEnd}
 use Rattle.turn_automata.specs.Trees.{Stands}
@@ -11,9 +11,9 @@ module _ {S : Type 0} where
     pub longest : IsLongestEnd (Contains ps) d list
 
   -- for each list but the empty one the number of the longest list that ends it and is shorter
-  abbrev pub AreFalls : List (List S) → List ℕ → Type 0
-  AreFalls ps falls = (n : ℕ) (x : S) (d : List S) → n < length falls → Stands ps n (x ∷ d) → IsLongestIn ps d (slice_index falls n)
+  abbrev pub AreFailureLinks : List (List S) → List ℕ → Type 0
+  AreFailureLinks ps links = (n : ℕ) (x : S) (d : List S) → n < length links → Stands ps n (x ∷ d) → IsLongestIn ps d (slice_index links n)
 
--- each number but the first is above the one to which it falls
+-- each number but the first is above the one to which its failure link leads
 abbrev pub Descends : List ℕ → Type 0
-Descends falls = (n : ℕ) → 0 < n → n < length falls → slice_index falls n < n
+Descends links = (n : ℕ) → 0 < n → n < length links → slice_index links n < n
