@@ -21,6 +21,7 @@ returns g c =
       walks = record {
         legal = c.walk_law.ensures.legal M;
         once = c.walk_law.ensures.one_to_one M;
+        contexts = c.walk_law.ensures.contexts M;
         all = c.walk_law.ensures.onto M;
         shortest = c.walk_law.ensures.shortest M;
       };
