@@ -1,16 +1,16 @@
-//! Drawn maps, each with the contexts and arcs of its graph. A line for each context: its pieces, each as `WAY.INDEX` with
-//! its direction, and behind `>` its arcs, each with how many pieces its target has where that is more than one.
+//! Drawn maps, each with the contexts and arcs of its graph as `graph_text` writes them.
 ghost use Rattle.std.specs.Prelude.{◌≡◌, ◌<◌};
 
-use crate::blocks::build_blocks;
+use crate::graph_text::graph_text;
 use crate::input::read_events;
+use crate::tests::compiled;
 use access_profile::Motorcar;
 use back_references::Indexed;
 use expanded_graph::build_block;
 use opl_lexer::Mode;
-use road_base::{Dir, Steps, WayId};
+use road_base::{Steps, WayId};
 use road_io::MemorySource;
-use road_model::{Block, Context, Piece, PieceName, TurnArc};
+use road_model::{Block, Piece};
 use std::alloc::Global;
 use std::marker::Brand;
 use std::sync::ledger::{Blank, Ledger};
@@ -20,10 +20,16 @@ use std::test::Fail;
 const NODES: &[u8] =
     b"n1 x0.001 y0\nn2 x0.002 y0\nn3 x0.003 y0\nn4 x0.004 y0\nn5 x0.005 y0\nn6 x0.006 y0\n";
 
+/// The map, with more lines behind it.
+fn with_lines(alloc: Global, map: &[u8], more: &[u8]) -> Result<Vec<u8>, Fail> {
+    let mut lines = map.to_vec(alloc)?;
+    lines.extend_from_slice(more)?;
+    Ok(lines)
+}
+
 /// The world of these nodes and lines.
 pub fn world_of(alloc: Global, lines: &[u8]) -> Result<Indexed, Fail> {
-    let mut input = NODES.to_vec(alloc)?;
-    input.extend_from_slice(lines)?;
+    let input = with_lines(alloc, NODES, lines)?;
     let mut source = MemorySource::new(input, Vec::new(alloc));
     match read_events(alloc, Mode::Extract, &mut source) {
         Ok(events) => Ok(Indexed::of(alloc, events)?),
@@ -31,80 +37,43 @@ pub fn world_of(alloc: Global, lines: &[u8]) -> Result<Indexed, Fail> {
     }
 }
 
-fn add_name(alloc: Global, out: &mut String, name: PieceName) -> Result<(), Fail> {
-    let sign = match name.dir {
-        Dir::Forward => '+',
-        Dir::Backward => '-',
-    };
-    let text = format!(in alloc; "{}.{}{sign}", name.way.0, name.index)?;
-    Ok(out.push_str(&text)?)
-}
-
-fn add_arc(alloc: Global, out: &mut String, arc: &TurnArc) -> Result<(), Fail> {
-    out.push_str(" ")?;
-    add_name(alloc, out, arc.piece)?;
-    if arc.length > 1 {
-        let text = format!(in alloc; "/{}", arc.length)?;
-        out.push_str(&text)?;
-    }
-    Ok(())
-}
-
-fn add_context(
-    alloc: Global,
-    out: &mut String,
-    piece: PieceName,
-    context: &Context,
-) -> Result<(), Fail> {
-    for name in context.before.items() {
-        add_name(alloc, out, *name)?;
-        out.push_str(" ")?;
-    }
-    add_name(alloc, out, piece)?;
-    out.push_str(" >")?;
-    for arc in context.arcs.items() {
-        add_arc(alloc, out, arc)?;
-    }
-    Ok(out.push_str("\n")?)
-}
-
-fn add_piece(alloc: Global, out: &mut String, piece: &Piece) -> Result<(), Fail> {
-    for context in piece.contexts.items() {
-        add_context(alloc, out, piece.name, context)?;
-    }
-    Ok(())
-}
-
-fn add_block(alloc: Global, out: &mut String, block: &Block) -> Result<(), Fail> {
-    for piece in block.pieces.items() {
-        add_piece(alloc, out, piece)?;
-    }
-    Ok(())
-}
-
-/// The contexts and arcs of the map.
-fn graph_text<L: Ledger>(alloc: Global, lines: &[u8], blank: Blank) -> Result<String, Fail>
+/// The contexts and arcs of the map's graph, by a whole run.
+fn compiled_text<L: Ledger>(alloc: Global, lines: &[u8], blank: Blank) -> Result<String, Fail>
     requires name { blank.name ≡ L.name }
     requires parts { blank.parts ≡ L.parts }
     requires some { 0 < L.parts }
 {
-    let world = world_of(alloc, lines)?;
-    let mut steps = Steps::<L>::new(blank);
-    let blocks = build_blocks(alloc, &world, &mut steps)?;
-    let mut out = String::new(alloc);
-    for block in blocks.items() {
-        add_block(alloc, &mut out, block)?;
-    }
-    Ok(out)
+    let input = with_lines(alloc, NODES, lines)?;
+    let graph = compiled::<L>(alloc, &input, blank)?;
+    graph_text(alloc, graph)
 }
 
-/// The contexts and arcs of one way of the map, whose block is built by itself.
-fn block_text<L: Ledger>(
+fn arc_count(piece: &Piece) -> usize {
+    let mut arcs = 0usize;
+    for context in piece.contexts.items() {
+        arcs = arcs.wrapping_add(context.arcs.items().len());
+    }
+    arcs
+}
+
+/// How many pieces, contexts and arcs a block has.
+fn counts(block: &Block) -> (usize, usize, usize) {
+    let pieces = block.pieces.items();
+    let (mut contexts, mut arcs) = (0usize, 0usize);
+    for piece in pieces {
+        contexts = contexts.wrapping_add(piece.contexts.items().len());
+        arcs = arcs.wrapping_add(arc_count(piece));
+    }
+    (pieces.len(), contexts, arcs)
+}
+
+/// How many pieces, contexts and arcs one way of the map has, whose block is built by itself.
+fn block_counts<L: Ledger>(
     alloc: Global,
     lines: &[u8],
     way: WayId,
     blank: Blank,
-) -> Result<String, Fail>
+) -> Result<(usize, usize, usize), Fail>
     requires name { blank.name ≡ L.name }
     requires parts { blank.parts ≡ L.parts }
     requires some { 0 < L.parts }
@@ -112,9 +81,7 @@ fn block_text<L: Ledger>(
     let world = world_of(alloc, lines)?;
     let mut steps = Steps::<L>::new(blank);
     let block = build_block(alloc, &world, &Motorcar, way, &mut steps)?;
-    let mut out = String::new(alloc);
-    add_block(alloc, &mut out, &block)?;
-    Ok(out)
+    Ok(counts(&block))
 }
 
 /// Way 1 from node 1 to 2, way 2 from 2 to 3, and so on, with ways 4 and 5 both from node 4:
@@ -194,17 +161,10 @@ fn pieces_follow_where_one_may_pass(rt: HostRuntime) -> Result<(), Fail> {
         ),
     ];
     for (lines, want) in cases {
-        let text = graph_text::<Brand>(rt.alloc(), lines, Blank::new(1))?;
+        let text = compiled_text::<Brand>(rt.alloc(), lines, Blank::new(1))?;
         assert_eq!(rt; text.as_str(), want);
     }
     Ok(())
-}
-
-/// The map, with more lines behind it.
-fn with_lines(alloc: Global, map: &[u8], more: &[u8]) -> Result<Vec<u8>, Fail> {
-    let mut lines = map.to_vec(alloc)?;
-    lines.extend_from_slice(more)?;
-    Ok(lines)
 }
 
 #[test]
@@ -277,7 +237,7 @@ fn restrictions_take_turns_away(rt: HostRuntime) -> Result<(), Fail> {
     ];
     for (map, rules, want) in cases {
         let lines = with_lines(rt.alloc(), map, rules)?;
-        let text = graph_text::<Brand>(rt.alloc(), &lines, Blank::new(1))?;
+        let text = compiled_text::<Brand>(rt.alloc(), &lines, Blank::new(1))?;
         assert_eq!(rt; text.as_str(), want);
     }
     Ok(())
@@ -334,7 +294,7 @@ fn contexts_remember_where_one_came_from(rt: HostRuntime) -> Result<(), Fail> {
     ];
     for (map, rules, want) in cases {
         let lines = with_lines(rt.alloc(), map, rules)?;
-        let text = graph_text::<Brand>(rt.alloc(), &lines, Blank::new(1))?;
+        let text = compiled_text::<Brand>(rt.alloc(), &lines, Blank::new(1))?;
         assert_eq!(rt; text.as_str(), want);
     }
     Ok(())
@@ -342,7 +302,14 @@ fn contexts_remember_where_one_came_from(rt: HostRuntime) -> Result<(), Fail> {
 
 #[test]
 fn a_block_is_built_by_itself(rt: HostRuntime) -> Result<(), Fail> {
-    let text = block_text::<Brand>(rt.alloc(), FORK, WayId(10), Blank::new(1))?;
-    assert_eq!(rt; text.as_str(), "10.0+ > 11.0+ 12.0+\n10.0- > 10.0+\n");
+    let cases: [(&[u8], (usize, usize, usize)); 3] = [
+        (b"w10 Thighway=residential Nn1,n2,n3", (2, 2, 2)),
+        (FORK, (2, 2, 3)),
+        (b"w10 Twaterway=river Nn1,n2,n3", (0, 0, 0)),
+    ];
+    for (lines, want) in cases {
+        let found = block_counts::<Brand>(rt.alloc(), lines, WayId(10), Blank::new(1))?;
+        assert_eq!(rt; found, want);
+    }
     Ok(())
 }

@@ -79,7 +79,8 @@ fn compile<S: Source, W: Site, L: Ledger>(
 /// Does what the words ask, reading from the source and putting to the site, and answers how it ended. It returns for any
 /// words, source and site: a source that never ends is left as soon as it passed a limit, 2^30 bytes in all or 2^24 in a line.
 ///
-/// `- compile` puts the graph's bytes of the extract on the source. Other words are answered by the usage line.
+/// `- compile` puts the graph's bytes of the extract on the source, and `steps` rises by one for each block that is built.
+/// Other words are answered by the usage line.
 pub fn run<S: Source, W: Site, L: Ledger>(
     alloc: Global,
     words: &[&str],

@@ -68,6 +68,27 @@ const STREET_GRAPH: &[u8] = b"\
     \x01\x00\x00\x00\x00\x00\x00\x00\x00\x00\x00\x00\x00\x00\x00\x00\
     \x01\x00\x00\x00\x00\x00\x00\x00\x01\x00\x00\x00\x01\x00\x00\x00\x00\x00\x00\x00\x0a\x00\x00\x00\x00\x00\x00\x00\x00\x00\x00\x00\x00\x01\x00\x00\x00";
 
+/// Way 10 round from node 1 to itself, driven against its line alone.
+const RING: &[u8] = b"n1 x0.001 y0\nn2 x0.002 y0\nn3 x0.003 y0\n\
+    w10 Thighway=residential,junction=roundabout,oneway=-1 Nn1,n2,n3,n1\n";
+
+/// The graph of `RING`: one piece over the nodes 1, 3, 2, 1, with one arc, to itself.
+const RING_GRAPH: &[u8] = b"\
+    OSMROAD1\x01\x00\x00\x00\x01\x00\x00\x00\x00\x00\x00\x00\
+    \x0a\x00\x00\x00\x00\x00\x00\x00\x01\x00\x00\x00\
+    \x00\x00\x00\x00\x03\x00\x00\x00\x01\
+    \x01\x00\x00\x00\x00\x00\x00\x00\x10\x27\x00\x00\x00\x00\x00\x00\
+    \x03\x00\x00\x00\x00\x00\x00\x00\x30\x75\x00\x00\x00\x00\x00\x00\
+    \x02\x00\x00\x00\x00\x00\x00\x00\x20\x4e\x00\x00\x00\x00\x00\x00\
+    \x01\x00\x00\x00\x00\x00\x00\x00\x10\x27\x00\x00\x00\x00\x00\x00\
+    \x01\x00\x00\x00\x00\x00\x00\x00\x01\x00\x00\x00\x01\x00\x00\x00\x00\x00\x00\x00\x0a\x00\x00\x00\x00\x00\x00\x00\x00\x00\x00\x00\x01\x01\x00\x00\x00";
+
+/// `STREET` without its middle node, and then with it, each line with a version.
+const STREET_CUT: &[u8] = b"n1 v1 x0 y0\nn3 v1 x0.002 y0\nw10 v1 Thighway=residential Nn1,n2,n3\n";
+
+const STREET_MENDED: &[u8] =
+    b"n1 v1 x0 y0\nn3 v1 x0.002 y0\nw10 v1 Thighway=residential Nn1,n2,n3\nn2 v1 x0.001 y0\n";
+
 /// The graph of nothing: the header alone.
 const NO_GRAPH: &[u8] = b"OSMROAD1\x01\x00\x00\x00\x00\x00\x00\x00\x00\x00\x00\x00";
 
@@ -112,6 +133,19 @@ fn ended<L: Ledger>(alloc: Global, case: &Case, blank: Blank) -> Result<(Status,
     Ok((status, site.output().to_vec(alloc)?))
 }
 
+/// The graph of the extract, by a whole run.
+pub fn compiled<L: Ledger>(alloc: Global, input: &[u8], blank: Blank) -> Result<Vec<u8>, Fail>
+    requires name { blank.name ≡ L.name }
+    requires parts { blank.parts ≡ L.parts }
+    requires some { 0 < L.parts }
+{
+    let case = compiles(input, Status::Done, b"");
+    match ended::<L>(alloc, &case, blank)? {
+        (Status::Done, graph) => Ok(graph),
+        _ => Err(Fail::from("the extract isn't compiled")),
+    }
+}
+
 #[test]
 fn extracts_are_compiled(rt: HostRuntime) -> Result<(), Fail> {
     let cases = [
@@ -133,6 +167,9 @@ fn extracts_are_compiled(rt: HostRuntime) -> Result<(), Fail> {
         ),
         // A building, a route and a gate off the road change nothing.
         compiles(STREET_SURROUNDINGS, Status::Done, STREET_GRAPH),
+        compiles(RING, Status::Done, RING_GRAPH),
+        compiles(STREET_CUT, Status::Done, NO_GRAPH),
+        compiles(STREET_MENDED, Status::Done, STREET_GRAPH),
     ];
     for case in &cases {
         let (status, output) = ended::<Brand>(rt.alloc(), case, Blank::new(1))?;

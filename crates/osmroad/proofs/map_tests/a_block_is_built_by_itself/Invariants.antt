@@ -1,5 +1,5 @@
 use Rattle.osmroad.proofs.map_tests.a_block_is_built_by_itself.Given as goal
 
 -- the ledger that was just made
-abbrev pub ghosts-block_text : goal.ghosts-block_text
-ghosts-block_text g a = record { name = a.blank.name; parts = a.blank.parts }
+abbrev pub ghosts-block_counts : goal.ghosts-block_counts
+ghosts-block_counts g a = record { name = a.blank.name; parts = a.blank.parts }

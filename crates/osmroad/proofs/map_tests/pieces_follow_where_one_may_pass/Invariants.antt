@@ -1,5 +1,5 @@
 use Rattle.osmroad.proofs.map_tests.pieces_follow_where_one_may_pass.Given as goal
 
 -- the ledger that was just made
-abbrev pub ghosts-graph_text : goal.ghosts-graph_text
-ghosts-graph_text g a = record { name = a.blank.name; parts = a.blank.parts }
+abbrev pub ghosts-compiled_text : goal.ghosts-compiled_text
+ghosts-compiled_text g a = record { name = a.blank.name; parts = a.blank.parts }
