@@ -12,6 +12,3 @@ mod restricting;
 
 pub use deciding_key::deciding;
 pub use motorcar::Motorcar;
-
-#[cfg(test)]
-mod tests;

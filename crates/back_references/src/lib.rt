@@ -14,7 +14,5 @@ mod collecting;
 mod index;
 mod indexed;
 mod references;
-#[cfg(test)]
-mod tests;
 
 pub use indexed::Indexed;

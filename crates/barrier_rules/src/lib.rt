@@ -47,6 +47,3 @@ fn is_open_barrier(barrier: &str) -> bool
         _ => false,
     }
 }
-
-#[cfg(test)]
-mod tests;

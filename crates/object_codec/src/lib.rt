@@ -79,6 +79,3 @@ fn read_events(alloc: Global, bytes: &[u8]) -> Result<(Vec<Event>, &[u8]), Unrea
     let (events, rest) = read_all::<Event>(alloc, count, rest)?;
     Ok((events, rest))
 }
-
-#[cfg(test)]
-mod tests;

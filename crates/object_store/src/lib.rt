@@ -12,8 +12,6 @@ mod changes;
 mod objects;
 mod ranges;
 mod standing;
-#[cfg(test)]
-mod tests;
 
 pub use objects::Objects;
 pub use ranges::{Numbered, Ranges};

@@ -74,6 +74,3 @@ fn is_oneway_road(tags: &Tags) -> bool
     matches!(tags.get("junction"), Some("roundabout" | "circular"))
         || matches!(tags.get("highway"), Some("motorway"))
 }
-
-#[cfg(test)]
-mod tests;

@@ -18,6 +18,3 @@ pub use fault::{FaultKind, LexError};
 pub use field_iter::{FieldIter, fields};
 pub use mode::Mode;
 pub use numbers::{coordinate, version, whole};
-
-#[cfg(test)]
-mod tests;

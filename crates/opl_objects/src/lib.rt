@@ -17,8 +17,3 @@ mod tag_list;
 pub use fault::{Fault, ReadError};
 pub use opl_lexer::Mode;
 pub use reader::Reader;
-
-#[cfg(test)]
-mod fault_tests;
-#[cfg(test)]
-mod tests;

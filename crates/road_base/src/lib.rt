@@ -26,6 +26,3 @@ pub use objects::{Body, Member, Members, Node, Relation, Way};
 pub use steps::Steps;
 pub use tags::Tags;
 pub use text::Text;
-
-#[cfg(test)]
-mod tests;

@@ -14,8 +14,6 @@ mod blocks;
 pub mod laws;
 mod lists;
 mod profile;
-#[cfg(test)]
-mod tests;
 mod world;
 
 pub use access_values::has_open_value;

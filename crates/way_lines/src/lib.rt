@@ -11,6 +11,3 @@ mod steps;
 pub use line_nodes::{LineNodes, line, line_at, line_len, nodes_of};
 pub use passing::pass;
 pub use steps::{drivable, head, is_located, is_open, is_road, tail};
-
-#[cfg(test)]
-mod tests;

@@ -1,4 +1,4 @@
-use Rattle.road_base.proofs.tests.steps_are_counted.Given as goal
+use Rattle.library_tests.proofs.road_base_tests.steps_are_counted.Given as goal
 
 -- the ledger that was just made
 abbrev pub ghosts-count_two : goal.ghosts-count_two

@@ -1,6 +1,6 @@
 //! Every fault, wherever it may stand.
-use super::*;
-use opl_lexer::FaultKind;
+use opl_lexer::{FaultKind, Mode};
+use opl_objects::{Fault, ReadError, Reader};
 use road_base::Event;
 use std::alloc::{AllocError, Global};
 use std::test::Fail;
@@ -32,6 +32,7 @@ const LINES: &[Case] = &[
     (b"n1 v1 vx", 3, FaultKind::Repeated),
     (b"n1 v1 x1 y1 x", 5, FaultKind::Repeated),
     (b"n1 v1 T  T", 4, FaultKind::Repeated),
+    (b"n1 v1 Ta=b Tc=d x0 y0", 4, FaultKind::Repeated),
     (b"n1 c1 v1 i2 c", 5, FaultKind::Repeated),
     (b"n1 v1 dV\tdV", 4, FaultKind::Repeated),
     (b"w1 v1 Nn1 Nn1", 4, FaultKind::Repeated),
@@ -48,6 +49,7 @@ const LINES: &[Case] = &[
     (b"n1 v1 Ta%=b", 3, FaultKind::BadEscape),
     (b"n1 v1 Ta=%", 3, FaultKind::BadEscape),
     (b"n1 v1 Ta=%%", 3, FaultKind::BadEscape),
+    (b"n1 v1 Ta=%d800%", 3, FaultKind::BadEscape),
     (b"n1 v1 Ta=b,c=%d800%", 3, FaultKind::BadEscape),
     (b"n1 v1 Ta=%110000%", 3, FaultKind::BadEscape),
     (b"n1 v1 Ta=%0000041%", 3, FaultKind::BadEscape),

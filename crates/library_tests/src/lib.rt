@@ -1,0 +1,36 @@
+//! Tests of the libraries: tables and vectors from outside, and each public call that takes memory once on its happy path,
+//! with ample memory.
+//!
+//! A crate is proved once more with its tests, so those of most libraries stand together here. Where a test looks into a
+//! crate, or a call of it asks what is proved there alone, it stands there (`road_io`, `graph_file`); whole runs are tried
+//! in `osmroad`.
+#![tactic(auto)]
+
+#[cfg(test)]
+mod access_profile_tests;
+#[cfg(test)]
+mod back_references_tests;
+#[cfg(test)]
+mod barrier_rules_tests;
+#[cfg(test)]
+mod makers;
+#[cfg(test)]
+mod object_codec_tests;
+#[cfg(test)]
+mod object_store_tests;
+#[cfg(test)]
+mod oneway_rules_tests;
+#[cfg(test)]
+mod opl_fault_tests;
+#[cfg(test)]
+mod opl_lexer_tests;
+#[cfg(test)]
+mod opl_objects_tests;
+#[cfg(test)]
+mod road_base_tests;
+#[cfg(test)]
+mod road_model_tests;
+#[cfg(test)]
+mod turn_automata_tests;
+#[cfg(test)]
+mod way_lines_tests;

@@ -1,0 +1,60 @@
+//! Texts, tags and events for tests.
+ghost use Rattle.std.specs.Prelude.{◌≡◌, IfOk};
+
+use back_references::Indexed;
+use opl_objects::{Mode, ReadError, Reader};
+use road_base::{Body, Event, Key, NoMemory, Tags, Text};
+use std::alloc::Global;
+use std::test::Fail;
+
+pub fn text(alloc: Global, of: &str) -> Result<Text, NoMemory>
+    ensures { IfOk result (λ t. t ≡ of.now) }
+{
+    Ok(Text::from_string(String::from_str(alloc, of)?))
+}
+
+pub fn no_tags(alloc: Global) -> Tags {
+    Tags::from_list(Vec::new(alloc))
+}
+
+/// The tags of these pairs of a key and a value, which ascend by key.
+pub fn tags_of(list: Vec<(Text, Text)>) -> Result<Tags, Fail> {
+    if list.len() > 65_535 || !Tags::are_ascending(&list) {
+        return Err(Fail::from("the keys don't ascend"));
+    }
+    Ok(Tags::from_list(list))
+}
+
+/// Tags of pairs such as `access=no`, parted by spaces, in any order.
+pub fn tags(alloc: Global, of: &str) -> Result<Tags, Fail> {
+    let mut list = Vec::new(alloc);
+    for pair in of.split(' ') {
+        if let Some((key, value)) = pair.split_once('=') {
+            list.push((text(alloc, key)?, text(alloc, value)?))?;
+        }
+    }
+    list.sort_by(|a, b| a.0.as_str().cmp(b.0.as_str()))?;
+    tags_of(list)
+}
+
+pub fn deletion(key: Key, version: u32) -> Event {
+    Event {
+        key,
+        version,
+        body: Body::Deleted,
+    }
+}
+
+fn events_of(alloc: Global, lines: &[u8]) -> Result<Vec<Event>, ReadError> {
+    let mut reader = Reader::new(alloc, Mode::Extract);
+    reader.feed(lines)?;
+    reader.finish()
+}
+
+/// The world of an extract.
+pub fn world_of(alloc: Global, lines: &[u8]) -> Result<Indexed, Fail> {
+    match events_of(alloc, lines) {
+        Ok(events) => Ok(Indexed::of(alloc, events)?),
+        Err(_) => Err(Fail::from("the extract isn't read")),
+    }
+}

@@ -1,0 +1,150 @@
+//! That the calls which take memory find it, and that a profile can be written.
+ghost use Rattle.std.specs.Prelude.{false};
+
+use road_base::{Dir, Location, NoMemory, NodeId, Tags, WayId};
+use road_model::{
+    Access, Arcs, Block, Blocks, Context, Contexts, Names, Piece, PieceName, Pieces, Place, Places,
+    Profile, RuleKind, TurnArc, laws,
+};
+use std::alloc::Global;
+use std::test::Fail;
+
+fn name(way: i64) -> PieceName {
+    PieceName {
+        way: WayId(way),
+        index: 0,
+        dir: Dir::Forward,
+    }
+}
+
+/// A block with one piece, of one context with one arc.
+fn block_of(alloc: Global, way: i64, end: u32) -> Result<Block, NoMemory> {
+    let arc = TurnArc {
+        piece: name(9),
+        length: 2,
+    };
+    let context = Context {
+        before: Names::from_list(vec![in alloc; name(7)]?),
+        arcs: Arcs::from_list(vec![in alloc; arc]?),
+    };
+    let place = Place {
+        node: NodeId(1),
+        location: Location { lon: 10, lat: 20 },
+    };
+    let piece = Piece {
+        name: name(way),
+        end,
+        places: Places::from_list(vec![in alloc; place, place]?),
+        contexts: Contexts::from_list(vec![in alloc; context]?),
+    };
+    Ok(Block {
+        way: WayId(way),
+        pieces: Pieces::from_list(vec![in alloc; piece]?),
+    })
+}
+
+#[test]
+fn each_way_has_the_block_put_last(rt: HostRuntime) -> Result<(), Fail> {
+    for (ways, want) in [
+        (
+            [-5, 1, 2, 2],
+            [(WayId(-5), 0), (WayId(1), 1), (WayId(2), 3)],
+        ),
+        (
+            [2, 1, -5, 1],
+            [(WayId(-5), 2), (WayId(1), 3), (WayId(2), 0)],
+        ),
+        (
+            [1, 2, -5, -5],
+            [(WayId(-5), 3), (WayId(1), 0), (WayId(2), 1)],
+        ),
+    ] {
+        let mut blocks = Blocks::new(rt.alloc());
+        for (way, end) in ways.into_iter().zip(0..) {
+            blocks.insert(block_of(rt.alloc(), way, end)?)?;
+        }
+        let mut found = Vec::new(rt.alloc());
+        for block in blocks.items() {
+            for piece in block.pieces.items() {
+                found.push((block.way, piece.end))?;
+            }
+        }
+        assert_eq!(rt; found.as_slice(), want.as_slice());
+    }
+    Ok(())
+}
+
+#[test]
+fn blocks_are_taken_out_and_copied(rt: HostRuntime) -> Result<(), Fail> {
+    let mut blocks = Blocks::new(rt.alloc());
+    blocks.reserve(3)?;
+    for way in [1, -5, 2] {
+        blocks.insert(block_of(rt.alloc(), way, 0)?)?;
+    }
+    let taken = blocks.remove(WayId(1)).map(|block| block.way);
+    assert_eq!(rt; taken, Some(WayId(1)));
+    assert!(rt; blocks.remove(WayId(1)).is_none());
+    let copy = blocks.copy()?;
+    for (way, stands) in [(-5, true), (1, false), (2, true), (3, false)] {
+        assert_eq!(rt; blocks.get(WayId(way)).is_some(), stands);
+        assert_eq!(rt; copy.get(WayId(way)).is_some(), stands);
+    }
+    Ok(())
+}
+
+#[test]
+fn copies_are_made(rt: HostRuntime) -> Result<(), Fail> {
+    let block = block_of(rt.alloc(), 4, 6)?;
+    let copy = block.copy()?;
+    assert_eq!(rt; copy.way, block.way);
+    for (a, b) in copy.pieces.items().iter().zip(block.pieces.items()) {
+        assert_eq!(rt; a.end, b.end);
+        assert_eq!(rt; a.places.items(), b.places.items());
+    }
+    Ok(())
+}
+
+/// A profile that closes every way.
+#[derive(Clone, Copy)]
+struct Nobody;
+
+impl Profile for Nobody {
+    ghost use Rattle.road_model.specs.declared.answers.Access.TheVariants.{WrongWay};
+    ghost use Rattle.road_model.specs.declared.answers.RuleKind.TheVariants.{Absent};
+    ghost use Rattle.std.proofs.lemmas.Bool.{false≢true};
+
+    ghost rules = { λ _. record { number = 0; direction = λ t d. WrongWay; node_open = λ t. false; turns = λ t. false; rule = λ t. Absent } };
+
+    ghost free_needs_highway = { λ p tags dir free. absurd (false≢true free) };
+
+    fn number(&self) -> u32 {
+        0
+    }
+
+    fn direction(&self, _tags: &Tags, _dir: Dir) -> Access {
+        Access::WrongWay
+    }
+
+    fn node_open(&self, _tags: &Tags) -> bool {
+        false
+    }
+
+    fn turns(&self, _tags: &Tags) -> bool {
+        false
+    }
+
+    fn rule(&self, _tags: &Tags) -> RuleKind {
+        RuleKind::Absent
+    }
+}
+
+#[test]
+fn laws_hold_of_any_profile() {
+    laws::one_name(&Nobody);
+    laws::one_block(&Nobody);
+    laws::one_graph(&Nobody);
+    laws::one_piece(&Nobody);
+    laws::whole_pieces(&Nobody);
+    laws::context_decides(&Nobody);
+    laws::walk_law(&Nobody);
+}
