@@ -7,6 +7,7 @@ const NUMBERS_A_RANGE: usize = 2;
 
 /// What has a number of its own, by which a list of them is in order.
 pub trait Numbered {
+    /// The number.
     fn number(&self) -> i64;
 }
 

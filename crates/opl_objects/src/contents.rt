@@ -16,7 +16,7 @@ use std::alloc::Global;
 /// The most items of a list.
 pub const MOST_ITEMS: usize = 65_535;
 
-/// A list goes on behind its last item.
+/// A list has more than 65,535 items.
 pub const TOO_MANY: LexError = LexError::Kind(FaultKind::TooMany);
 
 const BAD_REF: LexError = LexError::Kind(FaultKind::BadRef);
@@ -178,8 +178,8 @@ fn reference(item: &str) -> Option<NodeId>
     }
 }
 
-/// The references of a list, in order. `BadRef` comes exactly where the first item in fault stands before any item
-/// behind the 65,535th, which is `TooMany`.
+/// The references of a list, in order. `BadRef` comes where one of the first 65,535 items is in fault, and else `TooMany`
+/// where the item behind the 65,535th begins.
 pub fn refs(alloc: Global, contents: &str) -> Result<Refs, LexError>
     ensures ok { IfOk result (IsGood (list_of ref_of contents.now)) }
     ensures err { IfErr result (IsBad (list_of ref_of contents.now)) }

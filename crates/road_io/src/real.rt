@@ -24,6 +24,7 @@ impl<R: Read> Model for RealSource<R> {
 }
 
 impl<R: Read> RealSource<R> {
+    /// Over this reader. No call has failed yet.
     pub fn new(reader: R) -> RealSource<R>
         ensures { result ≡ record { beneath = reader; faults = 0 } }
     {
@@ -68,6 +69,7 @@ impl<W: Write> Model for RealSite<W> {
 }
 
 impl<W: Write> RealSite<W> {
+    /// Over this writer. No call has failed yet.
     pub fn new(output: W) -> RealSite<W>
         ensures { result ≡ record { beneath = output; faults = 0 } }
     {

@@ -48,7 +48,7 @@ pub enum Unusable {
     /// A from, via or to member isn't visible, or is a way without the key `highway` or with fewer than two nodes on its
     /// line.
     Missing,
-    /// A from or to way doesn't end where the turn is, or a via way begins and ends at one node.
+    /// No from way or no to way ends where the turn is, or a via way begins and ends at one node.
     NotAnEnd,
     /// The via ways don't lead from a from way to a to way.
     NotConnected,

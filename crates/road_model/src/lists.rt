@@ -45,6 +45,7 @@ pub struct Piece {
 }
 
 impl Context {
+    /// An equal value.
     pub fn copy(&self) -> Result<Context, NoMemory>
         ensures { IfOk result (λ c. c ≡ self.now) }
     {
@@ -55,6 +56,7 @@ impl Context {
 }
 
 impl Piece {
+    /// An equal value.
     pub fn copy(&self) -> Result<Piece, NoMemory>
         ensures { IfOk result (λ p. p ≡ self.now) }
     {
@@ -99,6 +101,7 @@ impl Names {
         self.list.as_slice()
     }
 
+    /// An equal value.
     pub fn copy(&self) -> Result<Names, NoMemory>
         ensures { IfOk result (λ l. l ≡ self.now) }
     {
@@ -137,6 +140,7 @@ impl Arcs {
         self.list.as_slice()
     }
 
+    /// An equal value.
     pub fn copy(&self) -> Result<Arcs, NoMemory>
         ensures { IfOk result (λ l. l ≡ self.now) }
     {
@@ -175,6 +179,7 @@ impl Places {
         self.list.as_slice()
     }
 
+    /// An equal value.
     pub fn copy(&self) -> Result<Places, NoMemory>
         ensures { IfOk result (λ l. l ≡ self.now) }
     {
@@ -213,6 +218,7 @@ impl Contexts {
         self.list.as_slice()
     }
 
+    /// An equal value.
     pub fn copy(&self) -> Result<Contexts, NoMemory>
         ensures { IfOk result (λ l. l ≡ self.now) }
     {
@@ -255,6 +261,7 @@ impl Pieces {
         self.list.as_slice()
     }
 
+    /// An equal value.
     pub fn copy(&self) -> Result<Pieces, NoMemory>
         ensures { IfOk result (λ l. l ≡ self.now) }
     {

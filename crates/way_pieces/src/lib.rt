@@ -1,6 +1,6 @@
 //! Pieces: the runs of roads between junctions, by their names, and the steps that each one is driven in.
 //!
-//! `spans_of`, `pieces_of` and `spell` go along the way's line once: with n references and w ways at their nodes they
+//! `spans_of`, `pieces_of` and `spell` go along the way's line a few times: with n references and w ways at their nodes they
 //! take time of the order of n log n + w, and memory of the order of n. `PiecesByWay` cuts each way into pieces once, in
 //! the same time, and keeps them in memory of the order of their number: then to find a node's departures takes, for each
 //! way there, the logarithm of the number of its pieces, and one step for each departure. `departures_from` and
