@@ -14,9 +14,6 @@ use road_model::{Profile, World};
 use std::alloc::Global;
 use way_lines::{is_road, nodes_of};
 
-/// How long a line may be to be searched for each of its nodes.
-pub const SEARCHED: usize = 128;
-
 /// The junction positions of a road's line, ascending; none of any other way.
 pub fn junctions_of<M: World, P: Profile>(
     alloc: Global,
@@ -33,7 +30,7 @@ pub fn junctions_of<M: World, P: Profile>(
         return Ok(Vec::new(alloc));
     };
     let nodes = nodes_of(alloc, body)?;
-    let repeats = Repeats::of(alloc, nodes.as_slice(), SEARCHED)?;
+    let repeats = Repeats::of(alloc, nodes.as_slice())?;
     junctions_along(alloc, world, profile, way, &repeats)
 }
 

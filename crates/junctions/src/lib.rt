@@ -13,6 +13,6 @@ mod plain;
 mod repeats;
 mod seen;
 
-pub use junction_list::{SEARCHED, junctions_along, junctions_of};
+pub use junction_list::{junctions_along, junctions_of};
 pub use plain::is_plain;
 pub use repeats::Repeats;

@@ -10,6 +10,9 @@ use std::collections::BTreeMap;
 use std::marker::Model;
 use way_lines::line;
 
+/// How many nodes a list may have to be searched for each question.
+const SEARCHED: usize = 128;
+
 /// The nodes of a list, and for each of them whether it stands there more than once: for a short list by going through
 /// it, for a long one by a map. Contracts see the list.
 #[derive(Drop)]
@@ -33,12 +36,12 @@ impl<'a> Model for Repeats<'a> {
 impl<'a> Repeats<'a> {
     ghost use Rattle.junctions.specs.Repeats.{is_repeated};
 
-    /// A list of up to so many nodes is searched for each question, which takes no memory; a longer one is gone through
-    /// once, and a question then takes the logarithm of its length.
-    pub fn of(alloc: Global, nodes: &'a [NodeId], searched: usize) -> Result<Repeats<'a>, NoMemory>
+    /// A list of up to 128 nodes is searched for each question, which takes no memory; the nodes of a longer one are put
+    /// into an ordered map once, and a question then takes the logarithm of its length.
+    pub fn of(alloc: Global, nodes: &'a [NodeId]) -> Result<Repeats<'a>, NoMemory>
         ensures { IfOk result (λ r. r ≡ nodes.now) }
     {
-        if nodes.len() <= searched {
+        if nodes.len() <= SEARCHED {
             return Ok(Repeats { nodes, marks: None });
         }
         let marks = marks_of(alloc, nodes)?;

@@ -10,7 +10,7 @@ ghost use Rattle.way_pieces.specs.Stretches.{IsStretch, IsSpanBelow, span_on, ad
 
 use crate::roads::{Road, is_open, road_of};
 use crate::stretches::Stretch;
-use junctions::{Repeats, SEARCHED, junctions_along};
+use junctions::{Repeats, junctions_along};
 use road_base::{Dir, NoMemory, NodeId, WayId};
 use road_model::{PieceName, Profile, World};
 use std::alloc::Global;
@@ -40,7 +40,7 @@ pub fn spans_of<M: World, P: Profile>(
         return Ok(Vec::new(alloc));
     }
     let nodes = nodes_of(alloc, body)?;
-    let line = Repeats::of(alloc, nodes.as_slice(), SEARCHED)?;
+    let line = Repeats::of(alloc, nodes.as_slice())?;
     let junctions = junctions_along(alloc, world, profile, way, &line)?;
     spans_along(
         alloc,
