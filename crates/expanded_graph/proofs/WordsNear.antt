@@ -1,11 +1,7 @@
 -- The words that are gathered are those near a way.
-use Rattle.std.proofs.Common.{◌≡◌, ℕ, ◌+◌, ◌<◌, ◌≤◌, ◌⊎◌, inl, inr, List, [], ◌∷◌, length, get_or, take, Contains, Some, Bool, true, refl, sym, ap, subst, ◌∙◌, arith}
+use Rattle.std.proofs.Common.{◌≡◌, ℕ, ◌+◌, ◌<◌, ◌≤◌, ◌⊎◌, inl, inr, List, [], ◌∷◌, length, get_or, take, Contains, Some, Bool, refl, sym, subst, ◌∙◌, arith}
 use Rattle.std.proofs.lemmas.List.{take_more, take_all}
 use Rattle.std.proofs.lemmas.List.Elements.{Contains-push_cases, Contains-append_left, Contains-append_right, Contains-append_cases}
-use Rattle.std.specs.Ordering.{int_eq}
-use Rattle.std.specs.Cmp.{IsEquivalence}
-use Rattle.std.proofs.lemmas.Cmp.{int_eq_equiv}
-use Rattle.std.proofs.lemmas.Bool.Decides.{Decides-int_eq}
 use Rattle.road_base.specs.declared.objects.Relation.{Relation}
 use Rattle.road_base.specs.declared.ids.WayId.{WayId}
 use Rattle.road_base.specs.declared.ids.RelationId.{RelationId}
@@ -41,24 +37,6 @@ module _ {X : Type 0} (xs : List X) where
 
 pub among_none : {X : Type 0} (x : X) → Contains [] x → ⊥
 among_none x c = let l = c.1 in omega arith
-
-abbrev pub same_number : RelationId → RelationId → Bool
-same_number a b = int_eq a.0 b.0
-
-pub same_numbers : IsEquivalence same_number
-same_numbers = record { refl = λ x. int_eq_equiv.refl x.0; symm = λ x y. int_eq_equiv.symm x.0 y.0; congr = λ x y z. int_eq_equiv.congr x.0 y.0 z.0 }
-
-pub same_number_is : (a b : RelationId) → same_number a b ≡ true → a ≡ b
-same_number_is a b e = ap (λ n. record { 0 = n }) ((Decides-int_eq a.0 b.0).0 e)
-
-abbrev pub same_way : WayId → WayId → Bool
-same_way a b = int_eq a.0 b.0
-
-pub same_ways : IsEquivalence same_way
-same_ways = record { refl = λ x. int_eq_equiv.refl x.0; symm = λ x y. int_eq_equiv.symm x.0 y.0; congr = λ x y z. int_eq_equiv.congr x.0 y.0 z.0 }
-
-pub same_way_is : (a b : WayId) → same_way a b ≡ true → a ≡ b
-same_way_is a b e = ap (λ n. record { 0 = n }) ((Decides-int_eq a.0 b.0).0 e)
 
 pub restrict : (M : Objects) (v : WayId) (r : RelationId) → IsOn M v r → IsRestriction M r
 restrict M v r h = record { body = h.body; visible = h.is; restriction = h.restriction }

@@ -1,6 +1,7 @@
 //! The words that matter on a way.
 ghost use Rattle.std.specs.Prelude.{◌≡◌, ◌++◌, ◌↔◌, Contains, IfOk, IsTrue, OnOk};
 ghost use Rattle.std.specs.List.{All};
+ghost use Rattle.std.specs.FinMap.{IsAntisymmetric};
 ghost use Rattle.road_base.specs.declared.ids.WayId.{WayId};
 ghost use Rattle.road_base.specs.declared.ids.RelationId.{RelationId};
 ghost use Rattle.restrictions.specs.declared.word_list.Word.{Word};
@@ -10,7 +11,7 @@ ghost use Rattle.expanded_graph.specs.Known.{AreWordsOf, GainsWords, IsOn};
 
 use restrictions::{Word, WordList, WordsError, words};
 use road_base::{NoMemory, RelationId, Step, WayId};
-use road_model::laws::words_on_ways;
+use road_model::laws::{name_order, number_order, words_on_ways};
 use road_model::{Profile, World};
 use std::alloc::Global;
 
@@ -93,7 +94,8 @@ fn ways_near(alloc: Global, words: &[Word], way: WayId) -> Result<Vec<WayId>, No
             add_ways(&mut ways, steps)?;
         }
     }
-    leave_ways_once(&mut ways);
+    name_order();
+    leave_once(&mut ways);
     Ok(ways)
 }
 
@@ -137,14 +139,6 @@ fn add_way(ways: &mut Vec<WayId>, way: WayId) -> Result<(), NoMemory>
     Ok(())
 }
 
-/// Each way once, ascending.
-fn leave_ways_once(ways: &mut Vec<WayId>)
-    ensures { (w : WayId) → Contains ways.new.items w ↔ Contains ways.old.items w }
-{
-    ways.sort_unstable();
-    ways.dedup();
-}
-
 /// The restrictions of which one of the ways is a member, each once.
 fn relations_on<M: World>(
     alloc: Global,
@@ -158,14 +152,16 @@ fn relations_on<M: World>(
     for way in ways {
         relations.extend_from_slice(world.rules_of_way(*way))?;
     }
+    number_order();
     leave_once(&mut relations);
     Ok(relations)
 }
 
-/// Each number once, ascending.
-fn leave_once(relations: &mut Vec<RelationId>)
-    ensures { (r : RelationId) → Contains relations.new.items r ↔ Contains relations.old.items r }
+/// Each value once, ascending.
+fn leave_once<T: Ord + Copy>(list: &mut Vec<T>)
+    requires { IsAntisymmetric T.cmp }
+    ensures { (x : T) → Contains list.new.items x ↔ Contains list.old.items x }
 {
-    relations.sort_unstable();
-    relations.dedup();
+    list.sort_unstable();
+    list.dedup();
 }

@@ -26,7 +26,7 @@ loop-way-preserved g c =
     }
 
 pub returns-clause-sound : goal.returns-clause-sound
-returns-clause-sound g c k d l = c.loop-way.invariant.sound _ ((c.leave_once.ensures _).0 (Contains-get_or c.leave_once.new.relations.items k d l))
+returns-clause-sound g c k d l = c.loop-way.invariant.sound _ ((c.leave_once.ensures _).0 (Contains-get_or c.leave_once.new.list.items k d l))
 
 pub returns-clause-all : goal.returns-clause-all
 returns-clause-all g c w r h on = (c.leave_once.ensures r).1 (c.loop-way.invariant.so_far w r (among_all c.args.ways.now c.loop-way.way-index c.loop-way-test.false w h) on)

@@ -44,7 +44,7 @@ loop-word-preserved c =
     ]
 
 pub returns-clause-own : goal.returns-clause-own
-returns-clause-own c = (c.leave_ways_once.ensures c.args.way).1 c.loop-word.invariant.own
+returns-clause-own c = (c.leave_once.ensures c.args.way).1 c.loop-word.invariant.own
 
 pub returns-clause-shared : goal.returns-clause-shared
-returns-clause-shared c u w h between on = (c.leave_ways_once.ensures w).1 (c.loop-word.invariant.so_far u w (among_all c.args.words.now c.loop-word.word-index c.loop-word-test.false u h) between on)
+returns-clause-shared c u w h between on = (c.leave_once.ensures w).1 (c.loop-word.invariant.so_far u w (among_all c.args.words.now c.loop-word.word-index c.loop-word-test.false u h) between on)
