@@ -1,7 +1,7 @@
 //! What the via members of a restriction spell.
 ghost use Rattle.std.specs.Prelude.{◌≡◌, ◌++◌, OnOk, IfOk, IfSome, IfNone, Some, None};
 ghost use Rattle.road_model.specs.Driving.{is_open};
-ghost use Rattle.road_model.specs.Lines.{line_of, forward_steps, backward_steps};
+ghost use Rattle.road_model.specs.Lines.{line_of};
 ghost use Rattle.road_model.specs.Restrictions.{whole_way};
 ghost use Rattle.restrictions.specs.Runs.{leave_of, steps_of};
 
@@ -10,6 +10,7 @@ use crate::runs::{Allowed, cross};
 use road_base::{Dir, Key, NoMemory, NodeId, Step, WayId};
 use road_model::{Profile, World};
 use std::alloc::Global;
+use way_lines::add_steps;
 
 /// What the via members spell, and the nodes where they are entered and left.
 #[derive(Drop)]
@@ -62,36 +63,5 @@ fn add_whole_way<M: World>(
     ensures { OnOk result (steps.new.items ≡ steps.old.items ++ whole_way (M.objects world.now) way dir) }
 {
     let count = nodes_on(world, way).saturating_sub(1);
-    match dir {
-        Dir::Forward => add_forward(steps, way, count),
-        Dir::Backward => add_backward(steps, way, count),
-    }
-}
-
-/// Adds the first steps along the way.
-fn add_forward(steps: &mut Vec<Step>, way: WayId, count: u32) -> Result<(), NoMemory>
-    ensures { OnOk result (steps.new.items ≡ steps.old.items ++ forward_steps way 0 count) }
-{
-    for index in 0..count {
-        steps.push(Step {
-            way,
-            index,
-            dir: Dir::Forward,
-        })?;
-    }
-    Ok(())
-}
-
-/// Adds the first steps of the way, against it.
-fn add_backward(steps: &mut Vec<Step>, way: WayId, count: u32) -> Result<(), NoMemory>
-    ensures { OnOk result (steps.new.items ≡ steps.old.items ++ backward_steps way 0 count) }
-{
-    for done in 0..count {
-        steps.push(Step {
-            way,
-            index: count - done - 1,
-            dir: Dir::Backward,
-        })?;
-    }
-    Ok(())
+    add_steps(steps, way, 0, count, dir)
 }

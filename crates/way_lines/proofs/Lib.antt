@@ -1,4 +1,5 @@
 pub mod Short
+pub mod Adding
 pub mod Pairs
 pub mod Walking
 pub mod Referring

@@ -4,7 +4,6 @@ pub mod Driving
 pub mod Neighbouring
 pub mod NameOrder
 pub mod Adding
-pub mod Stepping
 pub mod Beginning
 pub mod Departing
 pub mod Filtering

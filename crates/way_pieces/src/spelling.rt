@@ -1,16 +1,15 @@
 //! The steps in which a piece is driven.
-ghost use Rattle.std.specs.Prelude.{◌≡◌, ◌≢◌, ◌<◌, ◌≤◌, ◌+◌, ◌-◌, ℕ, IfOk, IfSome, IfNone, length, slice_index_or};
-ghost use Rattle.road_model.specs.Lines.{steps_from, forward_steps, backward_steps};
+ghost use Rattle.std.specs.Prelude.{◌≢◌, ◌<◌, ◌+◌, ℕ, IfOk, IfSome, IfNone, length, slice_index_or};
 ghost use Rattle.road_model.specs.Pieces.{IsPiece};
 ghost use Rattle.way_pieces.specs.Names.{IsSpelling, NamesNone};
 ghost use Rattle.way_pieces.specs.Stretches.{IsNext, named};
 
 use crate::stretches::{Stretch, is_piece};
 use junctions::junctions_of;
-use road_base::{Dir, Drive, NoMemory, Step};
+use road_base::{Drive, NoMemory};
 use road_model::{PieceName, Profile, World};
 use std::alloc::Global;
-use way_lines::nodes_of;
+use way_lines::{add_steps, nodes_of};
 
 /// The steps of the piece in order of travel, None exactly where there is no such piece.
 pub fn spell<M: World, P: Profile>(
@@ -25,7 +24,14 @@ pub fn spell<M: World, P: Profile>(
     let Some(end) = end_of(alloc, world, profile, piece)? else {
         return Ok(None);
     };
-    let steps = steps_to(alloc, piece, end)?;
+    let mut steps = Vec::new(alloc);
+    add_steps(
+        &mut steps,
+        piece.way,
+        piece.index,
+        end - piece.index,
+        piece.dir,
+    )?;
     Ok(Some(Drive::from_list(steps)))
 }
 
@@ -69,46 +75,4 @@ fn next_behind(positions: &[u32], index: u32) -> Option<u32>
         }
     }
     None
-}
-
-fn steps_to(alloc: Global, piece: PieceName, end: u32) -> Result<Vec<Step>, NoMemory>
-    requires { piece.index ≤ end }
-    ensures { IfOk result (λ v. v.items ≡ steps_from piece.way piece.index (end - piece.index) piece.dir) }
-{
-    match piece.dir {
-        Dir::Forward => steps_up(alloc, piece, end),
-        Dir::Backward => steps_down(alloc, piece, end),
-    }
-}
-
-/// The steps of the way from the piece's lower position up to its upper one.
-fn steps_up(alloc: Global, piece: PieceName, end: u32) -> Result<Vec<Step>, NoMemory>
-    requires { piece.index ≤ end }
-    ensures { IfOk result (λ v. v.items ≡ forward_steps piece.way piece.index (end - piece.index)) }
-{
-    let mut steps = Vec::new(alloc);
-    for index in piece.index..end {
-        steps.push(Step {
-            way: piece.way,
-            index,
-            dir: Dir::Forward,
-        })?;
-    }
-    Ok(steps)
-}
-
-/// The steps against the way from the piece's upper position down to its lower one.
-fn steps_down(alloc: Global, piece: PieceName, end: u32) -> Result<Vec<Step>, NoMemory>
-    requires { piece.index ≤ end }
-    ensures { IfOk result (λ v. v.items ≡ backward_steps piece.way piece.index (end - piece.index)) }
-{
-    let mut steps = Vec::new(alloc);
-    for count in 0..end - piece.index {
-        steps.push(Step {
-            way: piece.way,
-            index: end - count - 1,
-            dir: Dir::Backward,
-        })?;
-    }
-    Ok(steps)
 }
