@@ -1,5 +1,5 @@
--- A road passes the nodes that it refers to, and no others.
-use Rattle.std.proofs.Common.{◌≡◌, ℕ, zero, suc, cond, List, [], ◌∷◌, slice_get, Option, Some, None, Bool, true, false, IsTrue, Contains, ◌⊎◌, inl, inr, refl, sym, ap, ◌∙◌, arith}
+-- A way passes the nodes that it refers to, and one that isn't visible is no road.
+use Rattle.std.proofs.Common.{◌≡◌, ℕ, zero, suc, cond, List, [], ◌∷◌, slice_get, Option, Some, None, Bool, true, false, IsTrue, Contains, ◌⊎◌, inl, inr, refl, ap, ◌∙◌, arith}
 use Rattle.std.proofs.lemmas.Bool.{or_cases, false≢true}
 use Rattle.road_base.specs.declared.ids.NodeId.{NodeId}
 use Rattle.road_base.specs.declared.ids.WayId.{WayId}
@@ -7,8 +7,7 @@ use Rattle.road_base.specs.declared.ids.Dir.{Dir}
 use Rattle.road_base.specs.declared.ids.Dir.TheVariants.{Forward, Backward}
 use Rattle.road_base.specs.declared.objects.Way.{Way}
 use Rattle.road_base.specs.Objects.{Objects, way_of}
-use Rattle.road_base.specs.Tags.{TagList}
-use Rattle.road_model.specs.Rules.{Rules, is_free, has_highway}
+use Rattle.road_model.specs.Rules.{Rules}
 use Rattle.road_model.specs.Lines.{same_node, changes, changes_from, refs_of, line_of, node_at}
 use Rattle.road_model.specs.Driving.{open_way, is_open, is_road}
 use Rattle.road_model.specs.Links.{RefersTo}
@@ -16,27 +15,9 @@ use Rattle.junctions.proofs.Counting.{node_from_same}
 
 -- ---- references and lines
 
-later : (x y : NodeId) (xs : List NodeId) → Contains xs y → Contains (x ∷ xs) y
-later x y xs (k, within, is) = (suc k, omega arith, is)
-
 contains_cases : (x v : NodeId) (xs : List NodeId) → Contains (x ∷ xs) v → (x ≡ v) ⊎ Contains xs v
 contains_cases x v xs (zero, within, is) = inl is
 contains_cases x v xs (suc k, within, is) = inr (k, omega arith, is)
-
-on_either : (x y v : NodeId) (ys : List NodeId) (k : ℕ) (same : Bool) → ((k : ℕ) → slice_get (changes_from x ys) k ≡ Some v → Contains ys v) → ((k : ℕ) → slice_get (changes_from y ys) k ≡ Some v → Contains ys v) → slice_get (cond same (changes_from x ys) (y ∷ changes_from y ys)) k ≡ Some v → Contains (y ∷ ys) v
-on_either x y v ys k true dropped kept found = later y v ys (dropped k found)
-on_either x y v ys zero false dropped kept found = (0, omega arith, (cc))
-on_either x y v ys (suc k) false dropped kept found = later y v ys (kept k found)
-
-among_behind : (x v : NodeId) (ys : List NodeId) (k : ℕ) → slice_get (changes_from x ys) k ≡ Some v → Contains ys v
-among_behind x v [] k found = cc
-among_behind x v (y ∷ ys) k found = on_either x y v ys k (same_node x y) (among_behind x v ys) (among_behind y v ys) found
-
--- what stands on a line stands among the references that make it
-among_refs : (v : NodeId) (xs : List NodeId) (k : ℕ) → slice_get (changes xs) k ≡ Some v → Contains xs v
-among_refs v [] k found = cc
-among_refs v (x ∷ xs) zero found = (0, omega arith, (cc))
-among_refs v (x ∷ xs) (suc k) found = later x v xs (among_behind x v xs k found)
 
 -- x is the node, or it stands on the line behind x
 abbrev IsBehind : NodeId → NodeId → List NodeId → Type 0
@@ -75,34 +56,6 @@ visible_line M w body visible = ap (λ (o : Option Way). changes (refs_of o)) vi
 pub visible_node : (M : Objects) (w : WayId) (body : Way) (k : ℕ) → way_of M w ≡ Some body → node_at M w k ≡ slice_get (changes body.refs) k
 unfolding node_at
 visible_node M w body k visible = ap (λ (xs : List NodeId). slice_get xs k) (visible_line M w body visible)
-
--- an open way is visible, and free in the direction
-opened : (P : Rules) (way : Option Way) (d : Dir) → open_way P way d ≡ true → (body : Way) × ((way ≡ Some body) × (is_free (P.direction body.tags d) ≡ true))
-opened P None d is = absurd (false≢true is)
-opened P (Some body) d is = (body, (refl, is))
-
-module _ (M : Objects) (P : Rules) (needs : (tags : TagList) (d : Dir) → IsTrue (is_free (P.direction tags d)) → IsTrue (has_highway tags)) where
-  abbrev IsHighway : WayId → Type 0
-  IsHighway u = (body : Way) × ((way_of M u ≡ Some body) × IsTrue (has_highway body.tags))
-
-  open_highway : (u : WayId) (d : Dir) → is_open M P u d ≡ true → IsHighway u
-  unfolding is_open
-  open_highway u d is = let way = opened P (way_of M u) d is in (way.0, (way.1.0, needs (way.0).tags d way.1.1))
-
-  -- a road is visible and has the key `highway`
-  pub road_highway : (u : WayId) → IsTrue (is_road M P u) → IsHighway u
-  road_highway u road = elim (or_cases _ _ road) [ inl a ↦ open_highway u Forward a | inr b ↦ open_highway u Backward b ]
-
-  -- a road refers to the nodes that it passes
-  pub refers : (u : WayId) (j : ℕ) (v : NodeId) → IsTrue (is_road M P u) → node_at M u j ≡ Some v → RefersTo M u v
-  refers u j v road at =
-      let way = road_highway u road in
-      record {
-        body = way.0;
-        is = way.1.0;
-        highway = way.1.1;
-        member = among_refs v (way.0).refs j (sym (visible_node M u way.0 j way.1.0) ∙ at);
-      }
 
 -- a way passes the nodes that it refers to
 pub passes : (M : Objects) (u : WayId) (v : NodeId) → RefersTo M u v → (j : ℕ) × (node_at M u j ≡ Some v)

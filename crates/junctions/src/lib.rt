@@ -8,7 +8,6 @@
 #![tactic(auto)]
 
 mod junction_list;
-pub mod laws;
 mod plain;
 mod repeats;
 mod seen;

@@ -8,6 +8,7 @@ ghost use Rattle.junctions.specs.Passing.{AreNeighbours, IsOnNoOther, IsPassed, 
 use crate::repeats::stands_again;
 use crate::seen::{Seen, see};
 use road_base::{NodeId, Way, WayId};
+use road_model::laws::roads_refer;
 use road_model::{Profile, World};
 use way_lines::{is_road, line_at, line_len};
 
@@ -119,6 +120,7 @@ fn may_pass(near: Seen, here: Seen, far: NodeId) -> bool
 fn is_on_other<M: World, P: Profile>(world: &M, profile: &P, way: WayId, node: NodeId) -> bool
     ensures { IsFalse result ↔ IsOnNoOther (M.objects world.now) (P.rules profile.now) way node }
 {
+    roads_refer(profile);
     for other in world.ways_at(node) {
         if is_other_road(world, profile, way, *other) {
             return true;

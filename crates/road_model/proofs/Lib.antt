@@ -28,3 +28,4 @@ pub mod ContextTargets
 pub mod BrokenRules
 pub mod RulesDecided
 pub mod FirstBroken
+pub mod Referring

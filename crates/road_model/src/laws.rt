@@ -4,18 +4,19 @@ ghost use Rattle.std.specs.Cmp.{IsTotalOrder};
 ghost use Rattle.std.specs.FinMap.{IsAntisymmetric};
 ghost use Rattle.road_base.specs.Objects.{Objects};
 ghost use Rattle.road_base.specs.declared.ids.NodeId.{NodeId};
+ghost use Rattle.road_base.specs.declared.ids.WayId.{WayId};
 ghost use Rattle.road_base.specs.declared.ids.RelationId.{RelationId};
 ghost use Rattle.road_base.specs.declared.ids.Key.TheVariants.{Way as WayKey};
 ghost use Rattle.road_base.specs.declared.ids.Step.{Step};
 ghost use Rattle.road_model.specs.declared.lists.PieceName.{PieceName};
 ghost use Rattle.road_model.specs.Orders.{node_cmp, way_cmp, relation_cmp, name_cmp, names_cmp};
-ghost use Rattle.road_model.specs.Lines.{head_of};
-ghost use Rattle.road_model.specs.Driving.{drivable, Leaves};
+ghost use Rattle.road_model.specs.Lines.{head_of, node_at};
+ghost use Rattle.road_model.specs.Driving.{drivable, is_road, Leaves};
 ghost use Rattle.road_model.specs.Pieces.{Piece, IsPiece, IsInOnePiece, BeginsPiece, spell};
 ghost use Rattle.road_model.specs.Words.{IsWord};
 ghost use Rattle.road_model.specs.Contexts.{Every};
 ghost use Rattle.road_model.specs.Network.{AnyWord, Legal, GoesOn, IsContext, IsContextOf, HasNoWords, spell_pieces};
-ghost use Rattle.road_model.specs.Links.{HasMember};
+ghost use Rattle.road_model.specs.Links.{HasMember, RefersTo};
 ghost use Rattle.road_model.specs.Blocks.{name_of};
 ghost use Rattle.road_model.specs.Turning.{HasTurnSteps, BeginsWord, EndsPiece};
 ghost use Rattle.road_model.specs.Walks.{WalksTo, IsWalk, IsJunctionDrive, IsSpelled, HasShortest};
@@ -276,4 +277,10 @@ pub fn context_target<P: Profile>(profile: &P)
         → BeginsWord M (P.rules profile.now) (b ++ x ∷ [])
         → ((k l : List Step) → q ≡ k ++ l → BeginsWord M (P.rules profile.now) (l ++ x ∷ []) → length l ≤ length b)
         → (e : List Piece) × HasTurnSteps e b × IsContextOf M (P.rules profile.now) (c ++ t ∷ []) (e ++ t ∷ []) × ((d : List Piece) × (c ≡ d ++ e)) }
+{}
+
+/// A road is linked to each node that its line passes, and so is the way of a drivable step to the node where it begins.
+pub fn roads_refer<P: Profile>(profile: &P)
+    ensures passed { (M : Objects) (w : WayId) (i : ℕ) (v : NodeId) → IsTrue (is_road M (P.rules profile.now) w) → node_at M w i ≡ Some v → RefersTo M w v }
+    ensures left { (M : Objects) (v : NodeId) (u : Step) → Leaves M (P.rules profile.now) v u → RefersTo M u.way v }
 {}

@@ -2,4 +2,3 @@ pub mod Short
 pub mod Adding
 pub mod Pairs
 pub mod Walking
-pub mod Referring

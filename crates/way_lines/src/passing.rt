@@ -7,6 +7,7 @@ ghost use Rattle.road_model.specs.Driving.{Leaves, MayTurn, Passes, drivable, sh
 use crate::line_nodes::line;
 use crate::steps::{drivable, ends, is_drivable_between};
 use road_base::{Dir, NodeId, Step, WayId};
+use road_model::laws::roads_refer;
 use road_model::{Profile, World};
 
 /// Whether the node is visible and shut, as at a bollard.
@@ -69,6 +70,7 @@ fn is_only_leaving<M: World, P: Profile>(world: &M, profile: &P, node: NodeId, s
         ↔ (Leaves (M.objects world.now) (P.rules profile.now) node step
         × ((u : Step) → Leaves (M.objects world.now) (P.rules profile.now) node u → u ≡ step)) }
 {
+    roads_refer(profile);
     if !leaves(world, profile, node, step) {
         return false;
     }

@@ -6,7 +6,7 @@ use Rattle.std.proofs.lemmas.List.Elements.{Contains-get_or}
 use Rattle.road_base.specs.declared.ids.WayId.{WayId}
 use Rattle.road_model.specs.Driving.{is_road}
 use Rattle.junctions.proofs.Appending.{one_more}
-use Rattle.junctions.proofs.Referring.{refers, passes}
+use Rattle.junctions.proofs.Referring.{passes}
 use Rattle.junctions.proofs.plain.is_on_other.Goals as goal
 
 pub returns-then-is_other_road : goal.returns-then-is_other_road
@@ -35,12 +35,11 @@ loop-other-preserved g c = λ v has road.
 pub returns : goal.returns
 returns g c =
     let M = g.M.World.objects c.args.world.now in
-    let P = g.P.Profile.rules c.args.profile.now in
     let ways = c.ways_at-other-items.result.now in
     let past = c.loop-other-test.false in
     let whole : take c.loop-other.other-index ways ≡ ways = take_all c.loop-other.other-index ways (omega arith) in (
       λ yes v j road at.
-          let link = refers M P (g.met.P.Profile.free_needs_highway c.args.profile.now) v j c.args.node road at in
+          let link = c.roads_refer.ensures.passed M v j c.args.node road at in
           c.loop-other.invariant v (subst (λ (ws : List WayId). Contains ws v) (sym whole) (c.ways_at-other-items.ensures.complete v link)) road,
       λ h. refl,
     )

@@ -42,6 +42,6 @@ returns-clause-departures g c =
     lists_same (λ d. d.piece) name_cmp (SoFar M P v (take i ways)) (IsDeparture M P v) c.loop-way.departures.items c.loop-way.invariant.listed
     (λ z so. so.1)
     (λ z dep. (
-      subst (λ (ws : List WayId). Contains ws z.first.way) (sym whole) (c.ways_at-way-items.ensures.complete z.first.way (passes M P v z dep (c.roads_refer.ensures M))),
+      subst (λ (ws : List WayId). Contains ws z.first.way) (sym whole) (c.ways_at-way-items.ensures.complete z.first.way (passes M P v z dep (c.roads_refer.ensures.passed M))),
       dep,
     ))
