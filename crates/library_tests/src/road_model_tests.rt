@@ -147,4 +147,6 @@ fn laws_hold_of_any_profile() {
     laws::whole_pieces(&Nobody);
     laws::context_decides(&Nobody);
     laws::walk_law(&Nobody);
+    laws::one_broken_rule(&Nobody);
+    laws::roads_refer(&Nobody);
 }

@@ -4,7 +4,7 @@ use access_profile::Motorcar;
 use road_base::{Dir, NodeId, Refs, Step, Way, WayId};
 use std::alloc::Global;
 use std::test::Fail;
-use way_lines::{drivable, head, line, line_at, line_len, pass, tail};
+use way_lines::{add_steps, drivable, head, line, line_at, line_len, pass, tail};
 
 fn way(alloc: Global, refs: &[i64]) -> Result<Way, Fail> {
     let mut list = Vec::new(alloc);
@@ -85,6 +85,21 @@ fn steps_have_ends(rt: HostRuntime) -> Result<(), Fail> {
         );
         assert_eq!(rt; drivable(&world, &Motorcar, step), drives, "{step:?}");
     }
+    Ok(())
+}
+
+#[test]
+fn steps_are_added_in_order_of_travel(rt: HostRuntime) -> Result<(), Fail> {
+    let mut steps = Vec::new(rt.alloc());
+    add_steps(&mut steps, WayId(7), 3, 2, Dir::Forward)?;
+    add_steps(&mut steps, WayId(8), 0, 2, Dir::Backward)?;
+    let wanted = [
+        step(7, 3, Dir::Forward),
+        step(7, 4, Dir::Forward),
+        step(8, 1, Dir::Backward),
+        step(8, 0, Dir::Backward),
+    ];
+    assert_eq!(rt; steps.as_slice(), wanted.as_slice());
     Ok(())
 }
 
