@@ -1,6 +1,5 @@
 //! Texts and tags.
 ghost use Rattle.std.specs.Prelude.{◌≡◌, ◌++◌, OnOk, OnErr};
-ghost use Rattle.road_base.specs.Tags.{is_above, is_ascending};
 ghost use Rattle.object_codec.specs.Spelling.{text_bytes, tags_bytes, TextFits, TagsFit};
 ghost use Rattle.object_codec.specs.Reading.{Keeps};
 ghost use Rattle.object_codec.specs.OneSpelling.{text_one, tags_one};
@@ -52,33 +51,9 @@ impl Spell for Tags {
 
     fn read(alloc: Global, bytes: &[u8]) -> Result<(Tags, &[u8]), Unread> {
         let (list, rest) = read_list::<(Text, Text)>(alloc, bytes)?;
-        if !ascend(&list) {
+        if !Tags::are_ascending(&list) {
             return Err(Unread::Malformed);
         }
         Ok((Tags::from_list(list), rest))
     }
-}
-
-/// The keys strictly ascend.
-fn ascend(tags: &[(Text, Text)]) -> bool
-    ensures { result ≡ is_ascending tags.now }
-{
-    match tags {
-        [] => true,
-        [first, rest @ ..] => ascend_above(&first.0, rest),
-    }
-}
-
-/// The keys strictly ascend, and the first is above the key.
-fn ascend_above(key: &Text, tags: &[(Text, Text)]) -> bool
-    ensures { result ≡ is_above key.now tags.now }
-{
-    let mut below = key;
-    for tag in tags {
-        if !below.as_str().cmp(tag.0.as_str()).is_lt() {
-            return false;
-        }
-        below = &tag.0;
-    }
-    true
 }

@@ -5,8 +5,8 @@ use Rattle.object_codec.specs.OneSpelling.{list_one, pair_one, text_one}
 use Rattle.object_codec.proofs.Fronts.{value_refused}
 use Rattle.object_codec.proofs.texts.TagsSpell.read.Goals as goal
 
-pub returns-then-not-ascend-clause-malformed : goal.returns-then-not-ascend-clause-malformed
+pub returns-then-not-are_ascending-clause-malformed : goal.returns-then-not-are_ascending-clause-malformed
 unfolding tags_bytes TagsFit
-returns-then-not-ascend-clause-malformed c = λ tags r whole.
-    let refused = ap is_ascending (sym c.deref.ensures.value) ∙ sym c.ascend.ensures ∙ c.if-not-ascend.true in
+returns-then-not-are_ascending-clause-malformed c = λ tags r whole.
+    let refused = ap is_ascending (sym c.deref.ensures.value) ∙ sym c.are_ascending.ensures ∙ c.if-not-are_ascending.true in
     value_refused (list_bytes (pair_bytes text_bytes text_bytes)) (ListFits (PairFits TextFits TextFits)) (list_one (pair_bytes text_bytes text_bytes) (PairFits TextFits TextFits) (pair_one text_bytes TextFits text_bytes TextFits text_one text_one)) is_ascending c.args.bytes.now c.in_ok-list.list.items c.in_ok-list.rest.now c.in_ok-list.ensures.found refused tags r (record { fits = whole.fits.1; parts = whole.parts }) whole.fits.0
