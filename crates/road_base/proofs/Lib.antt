@@ -3,3 +3,4 @@ pub mod TagSearch
 pub mod KeyOrder
 pub mod Applied
 pub mod EqualPlaces
+pub mod Appends

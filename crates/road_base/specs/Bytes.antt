@@ -1,5 +1,5 @@
--- Numbers as bytes, little endian, and lists of what has bytes.
-use Rattle.std.specs.Prelude.{ℕ, ℤ, List, [], ◌∷◌, ◌++◌}
+-- Numbers as bytes, little endian, lists of what has bytes, and what an append leaves.
+use Rattle.std.specs.Prelude.{◌≡◌, ℕ, ℤ, List, [], ◌∷◌, ◌++◌, length, take}
 use Rattle.std.specs.Int.{w32, w64, to_le_bytes, cast_unsigned}
 
 abbrev pub u32_bytes : ℕ → List ℕ
@@ -18,3 +18,7 @@ i64_bytes z = to_le_bytes w64 (cast_unsigned w64 z)
 abbrev pub joined : {A : Type 0} → (A → List ℕ) → List A → List ℕ
 joined spell [] = []
 joined spell (x ∷ xs) = spell x ++ joined spell xs
+
+-- the old bytes still stand in front
+abbrev pub Keeps : List ℕ → List ℕ → Type 0
+Keeps old new = take (length old) new ≡ old

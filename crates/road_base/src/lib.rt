@@ -1,11 +1,12 @@
-//! The numbers, objects, events and steps that every other crate speaks of.
+//! The numbers, objects, events and steps that every other crate speaks of, and how numbers are appended to bytes.
 //!
 //! An object map is what a list of events leaves: for each key the first entry of the greatest version.
-//! `specs/Objects.antt` and `specs/Applying.antt` say so. A copy or a comparison costs the size of what is gone over, and
-//! so does a test whether tags ascend; a look-up among tags costs the logarithm of their number, and everything else a
-//! constant.
+//! `specs/Objects.antt` and `specs/Applying.antt` say so. A copy, a comparison or an append costs the size of what is gone
+//! over, and so does a test whether tags ascend; a look-up among tags costs the logarithm of their number, and everything
+//! else a constant.
 #![tactic(auto)]
 
+mod bytes;
 mod event;
 mod ids;
 pub mod laws;
@@ -17,6 +18,7 @@ mod steps;
 mod tags;
 mod text;
 
+pub use bytes::{Format, LittleEndian, put_all};
 pub use event::Event;
 pub use ids::{Dir, Key, NodeId, RelationId, Sequence, Step, WayId};
 pub use lists::{Drive, Keys, Refs, Ways};
