@@ -7,17 +7,14 @@
 ghost use Rattle.std.specs.Prelude.{◌≡◌, ◌++◌, ◌<◌, ◌^◌, length, OnOk, OnErr, codes};
 ghost use Rattle.std.specs.List.{AllByRecursion};
 ghost use Rattle.std.specs.FinMap.{values};
-ghost use Rattle.road_base.specs.Bytes.{u32_bytes, u64_bytes};
+ghost use Rattle.road_base.specs.Bytes.{u32_bytes, u64_bytes, Keeps};
 ghost use Rattle.road_model.specs.Format.{graph_bytes, BlockFits, IsBlockForm, IsGraphFile};
-ghost use Rattle.graph_file.specs.Appending.{Keeps};
 
-mod numbers;
 mod pieces;
-mod spelling;
 
-use road_base::NoMemory;
+use pieces::GraphFile;
+use road_base::{LittleEndian, NoMemory, put_all};
 use road_model::{Block, Blocks};
-use spelling::{Spell, put_all};
 
 /// Appends the bytes of a graph file: the magic, the profile's number, how many blocks there are, and the blocks in
 /// ascending order of their ways. Where no memory is found nothing is appended. Costs as many steps as it appends
@@ -45,7 +42,7 @@ fn put_graph(profile: u32, blocks: &[Block], out: &mut Vec<u8>) -> Result<(), No
     ensures err { OnErr result (Keeps out.old.items out.new.items) }
 {
     put_header(profile, blocks.len() as u64, out)?;
-    put_all(blocks, out)
+    put_all::<GraphFile, Block>(blocks, out)
 }
 
 fn put_header(profile: u32, count: u64, out: &mut Vec<u8>) -> Result<(), NoMemory>

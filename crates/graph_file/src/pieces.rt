@@ -1,93 +1,103 @@
 //! Blocks, pieces, contexts and arcs, as the file spells them.
-ghost use Rattle.std.specs.Prelude.{◌<◌, ◌^◌, FitsSigned};
+ghost use Rattle.std.specs.Prelude.{◌≡◌, ◌++◌, ◌<◌, ◌^◌, FitsSigned, OnOk, OnErr};
 ghost use Rattle.std.specs.Int.{w64};
-ghost use Rattle.road_model.specs.Format.{name_bytes, place_bytes, arc_bytes, context_bytes, piece_bytes, block_bytes, IsContextForm, IsPieceForm, IsBlockForm, NameFits, ContextFits, PieceFits, BlockFits};
+ghost use Rattle.road_model.specs.Format.{dir_bytes, name_bytes, place_bytes, arc_bytes, context_bytes, piece_bytes, block_bytes, IsContextForm, IsPieceForm, IsBlockForm, NameFits, ContextFits, PieceFits, BlockFits};
 
-use crate::spelling::{Spell, put_all};
-use road_base::NoMemory;
+use road_base::{Dir, Format, LittleEndian, NoMemory, put_all};
 use road_model::{Block, Context, Piece, PieceName, Place, TurnArc};
 
-impl Spell for PieceName {
+/// The format of a graph file.
+pub(crate) struct GraphFile;
+
+/// Appends the direction's byte. Where no memory is found nothing is appended.
+fn put_dir(dir: Dir, out: &mut Vec<u8>) -> Result<(), NoMemory>
+    ensures ok { OnOk result (out.new.items ≡ out.old.items ++ dir_bytes dir) }
+    ensures err { OnErr result (out.new.items ≡ out.old.items) }
+{
+    (dir as u8).put(out)
+}
+
+impl Format<PieceName> for GraphFile {
     ghost spelling = { name_bytes };
 
     ghost fits = { NameFits };
 
-    fn put(&self, out: &mut Vec<u8>) -> Result<(), NoMemory> {
-        self.way.0.put(out)?;
-        self.index.put(out)?;
-        self.dir.put(out)
+    fn put(name: &PieceName, out: &mut Vec<u8>) -> Result<(), NoMemory> {
+        name.way.0.put(out)?;
+        name.index.put(out)?;
+        put_dir(name.dir, out)
     }
 }
 
-impl Spell for Place {
+impl Format<Place> for GraphFile {
     ghost spelling = { place_bytes };
 
     ghost fits = { λ x. FitsSigned w64 x.node.0 };
 
-    fn put(&self, out: &mut Vec<u8>) -> Result<(), NoMemory> {
-        self.node.0.put(out)?;
-        self.location.lon.put(out)?;
-        self.location.lat.put(out)
+    fn put(place: &Place, out: &mut Vec<u8>) -> Result<(), NoMemory> {
+        place.node.0.put(out)?;
+        place.location.lon.put(out)?;
+        place.location.lat.put(out)
     }
 }
 
-impl Spell for TurnArc {
+impl Format<TurnArc> for GraphFile {
     ghost spelling = { arc_bytes };
 
     ghost fits = { λ a. NameFits a.piece × (a.length < 2 ^ 32) };
 
-    fn put(&self, out: &mut Vec<u8>) -> Result<(), NoMemory> {
-        self.piece.put(out)?;
-        self.length.put(out)
+    fn put(arc: &TurnArc, out: &mut Vec<u8>) -> Result<(), NoMemory> {
+        GraphFile::put(&arc.piece, out)?;
+        arc.length.put(out)
     }
 }
 
-impl Spell for Context {
+impl Format<Context> for GraphFile {
     ghost spelling = { context_bytes };
 
     ghost has_form = { IsContextForm };
 
     ghost fits = { ContextFits };
 
-    fn put(&self, out: &mut Vec<u8>) -> Result<(), NoMemory> {
-        let before = self.before.items();
-        let arcs = self.arcs.items();
+    fn put(context: &Context, out: &mut Vec<u8>) -> Result<(), NoMemory> {
+        let before = context.before.items();
+        let arcs = context.arcs.items();
         (before.len() as u32 + 1).put(out)?;
-        put_all(before, out)?;
+        put_all::<GraphFile, PieceName>(before, out)?;
         (arcs.len() as u64).put(out)?;
-        put_all(arcs, out)
+        put_all::<GraphFile, TurnArc>(arcs, out)
     }
 }
 
-impl Spell for Piece {
+impl Format<Piece> for GraphFile {
     ghost spelling = { piece_bytes };
 
     ghost has_form = { IsPieceForm };
 
     ghost fits = { PieceFits };
 
-    fn put(&self, out: &mut Vec<u8>) -> Result<(), NoMemory> {
-        let contexts = self.contexts.items();
-        self.name.index.put(out)?;
-        self.end.put(out)?;
-        self.name.dir.put(out)?;
-        put_all(self.places.items(), out)?;
+    fn put(piece: &Piece, out: &mut Vec<u8>) -> Result<(), NoMemory> {
+        let contexts = piece.contexts.items();
+        piece.name.index.put(out)?;
+        piece.end.put(out)?;
+        put_dir(piece.name.dir, out)?;
+        put_all::<GraphFile, Place>(piece.places.items(), out)?;
         (contexts.len() as u64).put(out)?;
-        put_all(contexts, out)
+        put_all::<GraphFile, Context>(contexts, out)
     }
 }
 
-impl Spell for Block {
+impl Format<Block> for GraphFile {
     ghost spelling = { block_bytes };
 
     ghost has_form = { IsBlockForm };
 
     ghost fits = { BlockFits };
 
-    fn put(&self, out: &mut Vec<u8>) -> Result<(), NoMemory> {
-        let pieces = self.pieces.items();
-        self.way.0.put(out)?;
+    fn put(block: &Block, out: &mut Vec<u8>) -> Result<(), NoMemory> {
+        let pieces = block.pieces.items();
+        block.way.0.put(out)?;
         (pieces.len() as u32).put(out)?;
-        put_all(pieces, out)
+        put_all::<GraphFile, Piece>(pieces, out)
     }
 }

@@ -2,7 +2,7 @@ use Rattle.std.proofs.Common.{arith}
 use Rattle.std.proofs.Math.Facts.{Fits-of_lt}
 use Rattle.graph_file.proofs.Appends.{third}
 use Rattle.graph_file.proofs.Counting.{few_pieces}
-use Rattle.graph_file.proofs.pieces.BlockSpell.put.Goals as goal
+use Rattle.graph_file.proofs.pieces.GraphFileFormatBlock.put.Goals as goal
 
 pub overflow_cast-pieces : goal.overflow_cast-pieces
 overflow_cast-pieces c = rw c.items-pieces.ensures (Fits-of_lt (omega (arith, few_pieces _ c.requires.ascend c.requires.pieces)))

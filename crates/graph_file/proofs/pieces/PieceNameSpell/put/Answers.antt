@@ -1,5 +1,0 @@
-use Rattle.graph_file.proofs.Appends.{third}
-use Rattle.graph_file.proofs.pieces.PieceNameSpell.put.Goals as goal
-
-pub returns-clause-ok : goal.returns-clause-ok
-returns-clause-ok c = third c.put-3.result _ _ _ _ _ _ _ c.in_ok-put.ensures.ok c.in_ok-put-2.ensures.ok c.put-3.ensures.ok
