@@ -1,11 +1,7 @@
--- Appending a spelling, and reading one from the front of bytes.
-use Rattle.std.specs.Prelude.{◌≡◌, ℕ, List, ◌++◌, length, take}
+-- Reading a spelling from the front of bytes.
+use Rattle.std.specs.Prelude.{◌≡◌, ℕ, List, ◌++◌}
 use Rattle.object_codec.specs.declared.unread.Unread.{Unread}
 use Rattle.object_codec.specs.declared.unread.Unread.TheVariants.{Malformed, Memory}
-
--- the old bytes still stand in front
-abbrev pub Keeps : List ℕ → List ℕ → Type 0
-Keeps old new = take (length old) new ≡ old
 
 -- the bytes are the spelling of x, which the types can hold, and then the rest
 pub record Begins {A : Type 0} (spell : A → List ℕ) (Fits : A → Type 0) (bytes : List ℕ) (x : A) (rest : List ℕ) : Type 0 where

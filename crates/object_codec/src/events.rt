@@ -1,7 +1,8 @@
 //! Bodies and events.
 ghost use Rattle.std.specs.Prelude.{◌≡◌, ◌++◌, ◌∷◌, OnOk, OnErr, IfOk, IfErr};
+ghost use Rattle.road_base.specs.Bytes.{Keeps};
 ghost use Rattle.object_codec.specs.Spelling.{body_bytes, event_bytes, BodyFits, IsBodyOf, EventFits};
-ghost use Rattle.object_codec.specs.Reading.{Keeps, Begins, NoneBegins, IfMalformed};
+ghost use Rattle.object_codec.specs.Reading.{Begins, NoneBegins, IfMalformed};
 ghost use Rattle.object_codec.specs.OneSpelling.{event_one};
 
 use crate::spelling::Spell;

@@ -6,9 +6,10 @@
 #![tactic(auto)]
 
 ghost use Rattle.std.specs.Prelude.{◌≡◌, List, ◌++◌, OnOk, OnErr, IfOk, IfErr, IfSome, IfNone};
+ghost use Rattle.road_base.specs.Bytes.{Keeps};
 ghost use Rattle.road_base.specs.declared.event.Event.{Event};
 ghost use Rattle.object_codec.specs.Spelling.{events_bytes, AreEvents};
-ghost use Rattle.object_codec.specs.Reading.{Keeps, Begins, NoneBegins, IfMalformed};
+ghost use Rattle.object_codec.specs.Reading.{Begins, NoneBegins, IfMalformed};
 
 mod events;
 pub mod laws;
@@ -19,9 +20,9 @@ mod spelling;
 mod texts;
 mod unread;
 
-use lists::{put_all, read_all};
-use road_base::{Event, NoMemory};
-use spelling::Spell;
+use lists::read_all;
+use road_base::{Event, NoMemory, put_all};
+use spelling::{EventFormat, Spell};
 use std::alloc::Global;
 use unread::Unread;
 
@@ -66,7 +67,7 @@ fn put_events(events: &[Event], out: &mut Vec<u8>) -> Result<(), NoMemory>
     ensures err { OnErr result (Keeps out.old.items out.new.items) }
 {
     (events.len() as u64).put(out)?;
-    put_all(events, out)
+    put_all::<EventFormat, Event>(events, out)
 }
 
 /// Reads how many events there are, and these, and lends the bytes behind the last.

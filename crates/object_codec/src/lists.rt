@@ -1,29 +1,17 @@
 //! Lists, each with how many there are in front.
 ghost use Rattle.std.specs.Prelude.{◌≡◌, ◌++◌, ◌≤◌, length, OnOk, OnErr, IfOk, IfErr};
 ghost use Rattle.std.specs.List.{AllByRecursion};
-ghost use Rattle.road_base.specs.Bytes.{joined};
+ghost use Rattle.road_base.specs.Bytes.{joined, Keeps};
 ghost use Rattle.object_codec.specs.Spelling.{list_bytes, ListFits, AreSoMany};
-ghost use Rattle.object_codec.specs.Reading.{Keeps, Begins, NoneBegins, IfMalformed};
+ghost use Rattle.object_codec.specs.Reading.{Begins, NoneBegins, IfMalformed};
 
-use crate::spelling::Spell;
+use crate::spelling::{EventFormat, Spell};
 use crate::unread::Unread;
-use road_base::NoMemory;
+use road_base::{NoMemory, put_all};
 use std::alloc::Global;
 
 /// How many items a list of an object has at most.
 const MOST: u32 = 65_535;
-
-/// Appends the spelling of each, in order.
-pub(crate) fn put_all<T: Spell>(items: &[T], out: &mut Vec<u8>) -> Result<(), NoMemory>
-    ensures ok { OnOk result (out.new.items ≡ out.old.items ++ joined T.spelling items.now) }
-    ensures fit { OnOk result (AllByRecursion T.fits items.now) }
-    ensures err { OnErr result (Keeps out.old.items out.new.items) }
-{
-    for item in items {
-        item.put(out)?;
-    }
-    Ok(())
-}
 
 /// Reads so many. Takes memory for those alone that it has read.
 pub(crate) fn read_all<T: Spell + Drop>(
@@ -52,7 +40,7 @@ pub(crate) fn put_list<T: Spell>(items: &[T], out: &mut Vec<u8>) -> Result<(), N
     ensures err { OnErr result (Keeps out.old.items out.new.items) }
 {
     (items.len() as u32).put(out)?;
-    put_all(items, out)
+    put_all::<EventFormat, T>(items, out)
 }
 
 /// Reads how many there are, at most 65,535, and then these.

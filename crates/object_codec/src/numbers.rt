@@ -7,7 +7,7 @@ ghost use Rattle.object_codec.specs.OneSpelling.{u32_one, u64_one, i32_one, i64_
 
 use crate::spelling::Spell;
 use crate::unread::Unread;
-use road_base::{NoMemory, NodeId};
+use road_base::{LittleEndian, NoMemory, NodeId};
 use std::alloc::Global;
 
 impl Spell for u32 {
@@ -18,7 +18,7 @@ impl Spell for u32 {
     ghost one = { u32_one };
 
     fn put(&self, out: &mut Vec<u8>) -> Result<(), NoMemory> {
-        Ok(out.extend_from_slice(&self.to_le_bytes())?)
+        LittleEndian::put(self, out)
     }
 
     fn read(_alloc: Global, bytes: &[u8]) -> Result<(u32, &[u8]), Unread> {
@@ -39,7 +39,7 @@ impl Spell for u64 {
     ghost one = { u64_one };
 
     fn put(&self, out: &mut Vec<u8>) -> Result<(), NoMemory> {
-        Ok(out.extend_from_slice(&self.to_le_bytes())?)
+        LittleEndian::put(self, out)
     }
 
     fn read(_alloc: Global, bytes: &[u8]) -> Result<(u64, &[u8]), Unread> {
@@ -62,7 +62,7 @@ impl Spell for i32 {
     ghost one = { i32_one };
 
     fn put(&self, out: &mut Vec<u8>) -> Result<(), NoMemory> {
-        Ok(out.extend_from_slice(&self.to_le_bytes())?)
+        LittleEndian::put(self, out)
     }
 
     fn read(_alloc: Global, bytes: &[u8]) -> Result<(i32, &[u8]), Unread> {
@@ -83,7 +83,7 @@ impl Spell for i64 {
     ghost one = { i64_one };
 
     fn put(&self, out: &mut Vec<u8>) -> Result<(), NoMemory> {
-        Ok(out.extend_from_slice(&self.to_le_bytes())?)
+        LittleEndian::put(self, out)
     }
 
     fn read(_alloc: Global, bytes: &[u8]) -> Result<(i64, &[u8]), Unread> {
@@ -107,7 +107,7 @@ impl Spell for NodeId {
     ghost one = { node_id_one };
 
     fn put(&self, out: &mut Vec<u8>) -> Result<(), NoMemory> {
-        self.0.put(out)
+        LittleEndian::put(&self.0, out)
     }
 
     fn read(alloc: Global, bytes: &[u8]) -> Result<(NodeId, &[u8]), Unread> {

@@ -1,11 +1,12 @@
 //! What has a spelling: writing it behind bytes, and reading it from the front of bytes.
 ghost use Rattle.std.specs.Prelude.{◌≡◌, ℕ, List, ◌++◌, OnOk, OnErr, IfOk, IfErr};
+ghost use Rattle.road_base.specs.Bytes.{Keeps};
 ghost use Rattle.object_codec.specs.Spelling.{pair_bytes, PairFits};
-ghost use Rattle.object_codec.specs.Reading.{Keeps, Begins, NoneBegins, IfMalformed, IsOneSpelling};
+ghost use Rattle.object_codec.specs.Reading.{Begins, NoneBegins, IfMalformed, IsOneSpelling};
 ghost use Rattle.object_codec.specs.OneSpelling.{pair_one};
 
 use crate::unread::Unread;
-use road_base::NoMemory;
+use road_base::{Format, NoMemory};
 use std::alloc::Global;
 
 /// What has a spelling.
@@ -28,6 +29,19 @@ pub(crate) trait Spell {
 
     /// No spelling begins another one, and each is that of one value.
     ghost one: { IsOneSpelling spelling fits };
+}
+
+/// The format of events.
+pub(crate) struct EventFormat;
+
+impl<T: Spell> Format<T> for EventFormat {
+    ghost spelling = { T.spelling };
+
+    ghost fits = { T.fits };
+
+    fn put(item: &T, out: &mut Vec<u8>) -> Result<(), NoMemory> {
+        item.put(out)
+    }
 }
 
 /// The first, and then the second.

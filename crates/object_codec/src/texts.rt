@@ -1,7 +1,7 @@
 //! Texts and tags.
 ghost use Rattle.std.specs.Prelude.{◌≡◌, ◌++◌, OnOk, OnErr};
+ghost use Rattle.road_base.specs.Bytes.{Keeps};
 ghost use Rattle.object_codec.specs.Spelling.{text_bytes, tags_bytes, TextFits, TagsFit};
-ghost use Rattle.object_codec.specs.Reading.{Keeps};
 ghost use Rattle.object_codec.specs.OneSpelling.{text_one, tags_one};
 
 use crate::lists::{put_list, read_list};
