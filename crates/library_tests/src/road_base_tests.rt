@@ -3,8 +3,8 @@ ghost use Rattle.std.specs.Prelude.{◌≡◌, ◌<◌};
 
 use crate::makers::text;
 use road_base::{
-    Body, Dir, Drive, Event, Key, Keys, Location, Member, Members, NoMemory, Node, NodeId, Refs,
-    Relation, RelationId, Step, Steps, Tags, Way, WayId, Ways,
+    Body, Dir, Drive, Event, Key, Keys, LittleEndian, Location, Member, Members, NoMemory, Node,
+    NodeId, Refs, Relation, RelationId, Step, Steps, Tags, Way, WayId, Ways,
 };
 use std::alloc::{AllocError, AllocFailed, Global};
 use std::marker::Brand;
@@ -180,6 +180,21 @@ fn keys_are_copied(rt: HostRuntime) -> Result<(), Fail> {
 fn ways_are_copied(rt: HostRuntime) -> Result<(), Fail> {
     let copied = Ways::from_list(vec![in rt.alloc(); WayId(9), WayId(-9)]?).copy()?;
     assert_eq!(rt; copied.items(), [WayId(9), WayId(-9)].as_slice());
+    Ok(())
+}
+
+#[test]
+fn numbers_are_little_endian(rt: HostRuntime) -> Result<(), Fail> {
+    let mut out = Vec::new(rt.alloc());
+    7u8.put(&mut out)?;
+    0x0102_0304u32.put(&mut out)?;
+    0x0102_0304_0506_0708u64.put(&mut out)?;
+    (-2i32).put(&mut out)?;
+    i64::MIN.put(&mut out)?;
+    assert_eq!(rt;
+        out.as_slice(),
+        b"\x07\x04\x03\x02\x01\x08\x07\x06\x05\x04\x03\x02\x01\xfe\xff\xff\xff\0\0\0\0\0\0\0\x80".as_slice()
+    );
     Ok(())
 }
 
