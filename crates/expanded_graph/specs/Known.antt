@@ -46,9 +46,9 @@ NamesEnd M P s name = (n : PieceName) → (name ≡ Some n) ↔ EndsPiece M P s 
 abbrev pub IsLastOf : PieceSpan → Step → Type 0
 IsLastOf s x = (front : List Step) × (spell (piece_of s) ≡ front ++ x ∷ [])
 
--- whether the steps may be driven, told by the words near a way where the steps lie on ways near it
+-- whether the steps may be driven, told by the words near a way where the steps are near it
 abbrev pub IsDriven : Objects → Rules → List Word → List Step → Bool → Type 0
-IsDriven M P words q drives = (w : WayId) → AreWordsNear M P w words → ((s : Step) → Contains q s → IsNear M P w s.way) → IsTrue drives ↔ Legal M P q
+IsDriven M P words q drives = (w : WayId) → AreWordsNear M P w words → ((s : Step) → Contains q s → IsNear M P w s) → IsTrue drives ↔ Legal M P q
 
 -- What is known of the state with the list q: each of its steps ends a piece or doesn't, and the pieces are as many as
 -- the steps that do.

@@ -1,4 +1,4 @@
--- The ways and words that matter to what may follow on a way.
+-- The steps and words that matter to what may follow on a way.
 use Rattle.std.specs.Prelude.{◌≡◌, List, [], ◌∷◌, ◌++◌, Contains}
 use Rattle.road_base.specs.declared.ids.WayId.{WayId}
 use Rattle.road_base.specs.declared.ids.Step.{Step}
@@ -22,13 +22,22 @@ pub record HasStepBetween (w : WayId) (u : List Step) : Type 0 where
   pub is : u ≡ first ∷ (middle ++ last ∷ [])
   pub on : HasStepOn w middle
 
--- The way w itself, or a way on which a word has a step that has a step on w between its first and its last: the pieces of
--- a context that ends on w lie on such ways, since the context of several pieces begins a word and the word goes on.
-pub data IsNear (M : Objects) (P : Rules) (w v : WayId) : Type 0 where
-  Itself : v ≡ w → IsNear M P w v
-  Shares : (u : List Step) → AnyWord M P u → HasStepBetween w u → HasStepOn v u → IsNear M P w v
+-- the first of the steps lies on the way
+pub record BeginsOn (v : WayId) (u : List Step) : Type 0 where
+  pub first : Step
+  pub rest : List Step
+  pub is : u ≡ first ∷ rest
+  pub on : first.way ≡ v
 
--- words of the map, and among them all that have a step on a way near w
+-- The step is near way w: it lies on w, or it is one of a word that has a step on w between its first and its last. The
+-- steps of a context that ends on w are near w from the last one of its first piece on, since the context of several
+-- pieces begins a word and the word goes on.
+pub data IsNear (M : Objects) (P : Rules) (w : WayId) (s : Step) : Type 0 where
+  OnIt : s.way ≡ w → IsNear M P w s
+  Shares : (u : List Step) → AnyWord M P u → HasStepBetween w u → Contains u s → IsNear M P w s
+
+-- words of the map, and among them all that have a step on w, and all whose first step is near w
 pub record AreWordsNear (M : Objects) (P : Rules) (w : WayId) (words : List Word) : Type 0 where
   pub sound : (u : Word) → Contains words u → IsWord M P u.relation u.only u.binding u.steps
-  pub all : (u : Word) → IsWord M P u.relation u.only u.binding u.steps → (v : WayId) → IsNear M P w v → HasStepOn v u.steps → Contains words u
+  pub on : (u : Word) → IsWord M P u.relation u.only u.binding u.steps → HasStepOn w u.steps → Contains words u
+  pub from : (u : Word) → IsWord M P u.relation u.only u.binding u.steps → (first : Step) (rest : List Step) → u.steps ≡ first ∷ rest → IsNear M P w first → Contains words u

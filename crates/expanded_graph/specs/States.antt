@@ -15,8 +15,8 @@ use Rattle.expanded_graph.specs.Near.{IsNear, AreWordsNear}
 
 -- what is said of the state with the list q
 pub record AreFacts (M : Objects) (P : Rules) (w : WayId) (q : List Step) (f : StateFacts) : Type 0 where
-  -- whether it may be driven, where all its steps lie on ways near w
-  pub legal : (q ≡ [] → ⊥) → ((s : Step) → Contains q s → IsNear M P w s.way) → IsTrue f.is_legal ↔ Legal M P q
+  -- whether it may be driven, where all its steps are near w
+  pub legal : (q ≡ [] → ⊥) → ((s : Step) → Contains q s → IsNear M P w s) → IsTrue f.is_legal ↔ Legal M P q
   -- the piece that its last step ends
   pub ends : (b : List Step) (x : Step) → q ≡ b ++ x ∷ [] → (n : PieceName) → (f.ends ≡ Some n) ↔ EndsPiece M P x n
   -- how many pieces it spells
