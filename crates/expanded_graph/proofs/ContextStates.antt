@@ -21,7 +21,7 @@ use Rattle.turn_automata.specs.Trees.{IsClosed}
 use Rattle.turn_automata.specs.Watched.{IsWatchable, IsProperPrefix}
 use Rattle.turn_automata.specs.Machines.{Machine, StandsFor, Watches}
 use Rattle.expanded_graph.specs.declared.states.StateFacts.{StateFacts}
-use Rattle.expanded_graph.specs.Near.{IsNear, Itself, Shares}
+use Rattle.expanded_graph.specs.Near.{IsNear, Shares}
 use Rattle.expanded_graph.specs.States.{AreFacts, AreStates}
 use Rattle.expanded_graph.specs.Contexts.{IsReached, IsEnding, EndsWithName, IsContextIn}
 use Rattle.expanded_graph.specs.Travel.{Arrives}
@@ -51,13 +51,13 @@ module _ (M : Objects) (P : Rules) (laws : StepLaws M P) (m : Machine) (facts : 
       let r = spell_ends p piece.ascends in
       ap (λ x. x.way) (sym (same_from_push r.front front (last_step p) s (sym r.is ∙ e)).1)
 
-  -- the steps of a list of two steps or more that begins a word and ends on the piece lie on near ways
-  all_near : (q : List Step) (first : Step) (middle : List Step) (last : Step) → q ≡ first ∷ (middle ++ last ∷ []) → last.way ≡ p.way → BeginsWord M P q → (s : Step) → Contains q s → IsNear M P p.way s.way
+  -- the steps of a list of two steps or more that begins a word and ends on the piece are near its way
+  all_near : (q : List Step) (first : Step) (middle : List Step) (last : Step) → q ≡ first ∷ (middle ++ last ∷ []) → last.way ≡ p.way → BeginsWord M P q → (s : Step) → Contains q s → IsNear M P p.way s
   all_near q first middle last e on b s has =
       let u = q ++ b.next ∷ b.more in
       Shares u b.word
       (between_longer p.way q first middle last b.next b.more e on)
-      (record { step = s; among = contains_from_in u s (in_left q (b.next ∷ b.more) s (in_from_contains q s has)); on = refl })
+      (contains_from_in u s (in_left q (b.next ∷ b.more) s (in_from_contains q s has)))
 
   -- ---- from a state to its context
 
@@ -140,8 +140,7 @@ module _ (M : Objects) (P : Rules) (laws : StepLaws M P) (m : Machine) (facts : 
       let r = spell_ends p piece.ascends in
       let long = turn_ends_long before p q r.front last some steps.1 r.is in
       let final : In last q = subst (In last) (sym long.2) (inr (in_end long.1 last [])) in
-      let near : IsNear M P p.way last.way = Itself refl in
-      let there = (lists q).1 (inl (begins_to M P p.way m.words known.words q last final near steps.2)) in
+      let there = (lists q).1 (inl (begins_to M P p.way m.words known.words q last final refl steps.2)) in
       let n = at_in m.states q (in_from_contains m.states q there) in
       let f = fact_of n.0 q n.1 in
       let are = known.each n.0 q f.0 n.1 f.1 in

@@ -23,13 +23,12 @@ use Rattle.way_pieces.specs.declared.departures.Departure.{Departure}
 use Rattle.way_pieces.specs.Names.{IsDeparture}
 use Rattle.expanded_graph.specs.declared.intersections.Intersection.{Intersection}
 use Rattle.expanded_graph.specs.declared.states.StateFacts.{StateFacts}
-use Rattle.expanded_graph.specs.Near.{IsNear, Itself}
 use Rattle.expanded_graph.specs.Contexts.{IsReached}
 use Rattle.expanded_graph.specs.Turning.{IsIntersection, may_follow}
 use Rattle.expanded_graph.proofs.Members.{In, in_end, in_left}
 use Rattle.expanded_graph.proofs.Ends.{spell_begins, spell_ends, first_step, last_step}
 use Rattle.expanded_graph.proofs.Runs.{cons_not_nil, cut_last, nil_or_last, some_at, every_left, every_right, turn_ends, context_pieces, turn_count}
-use Rattle.expanded_graph.proofs.Stopping.{LongWords, begins_from, begins_to, goes_on_near}
+use Rattle.expanded_graph.proofs.Stopping.{LongWords, Tells, tells_on, begins_from, begins_to, goes_on_near}
 use Rattle.expanded_graph.proofs.Passing.{Laws, departure_by, is_departure, listed, passes_by, follows_by}
 
 -- a piece may follow a context where its first step may go on behind the turn steps
@@ -60,11 +59,14 @@ module _ (M : Objects) (P : Rules) (laws : Laws M P) (by_turn : GoesByTurn M P) 
   ends : r.steps ≡ front ++ r.arrives.last ∷ []
   ends = (turn_ends r.before r.piece r.steps r.arrives.front r.arrives.last (subst (λ l. HasTurnSteps l r.steps) r.is r.turn) r.arrives.ends).1
 
-  near : IsNear M P r.way r.arrives.last.way
-  near =
+  on_way : r.arrives.last.way ≡ r.way
+  on_way =
       let e = spell_ends r.piece last_piece.ascends in
       let same = same_from_push e.front r.arrives.front (last_step r.piece) r.arrives.last (sym e.is ∙ r.arrives.ends) in
-      Itself (ap (λ s. s.way) (sym same.1) ∙ r.on)
+      ap (λ s. s.way) (sym same.1) ∙ r.on
+
+  tells : Tells M P m.words r.steps
+  tells = tells_on M P r.way m.words r.states.words r.steps front r.arrives.last ends on_way
 
   -- an arc goes on behind the turn steps
   goes : (a : TurnArc) (e : IsArcEntry M P c a) (x : Step) (more : List Step) → spell e.piece ≡ x ∷ more → GoesOn M P r.steps x
@@ -108,7 +110,7 @@ module _ (M : Objects) (P : Rules) (laws : Laws M P) (by_turn : GoesByTurn M P) 
       -- no arc leads where the words stop it
       pub none_stops : Stops m.words r.watches.list d.first → (a : TurnArc) → IsArcEntry M P c a → a.piece ≡ d.piece → ⊥
       none_stops stop a e same =
-          let near_goes = goes_on_near M P r.way m.words r.states.words more.long r.steps front r.arrives.last d.first ends near in
+          let near_goes = goes_on_near M P r.way m.words r.states.words more.long r.steps front r.arrives.last d.first ends tells in
           (near_goes.0 (goes_by a e same)).1 ((more.decides m.words r.steps r.watches.list d.first r.watches.watched).1 stop)
 
       module _ (closed : IsClosed m.states) (follow : may_follow i u d ≡ true) (on : Stops m.words r.watches.list d.first → ⊥) (next : ℕ) (to : Watches m next (r.watches.list ++ d.first ∷ [])) (len : ℕ) (is_len : IsTargetLen m facts next len) where
@@ -123,7 +125,7 @@ module _ (M : Objects) (P : Rules) (laws : Laws M P) (by_turn : GoesByTurn M P) 
 
         legal : Legal M P (spell_pieces c ++ spell t)
         legal =
-            let near_goes = goes_on_near M P r.way m.words r.states.words more.long r.steps front r.arrives.last x ends near in
+            let near_goes = goes_on_near M P r.way m.words r.states.words more.long r.steps front r.arrives.last x ends tells in
             let going = near_goes.1 (passes_by M P laws r.piece last_piece i known u r.arrives d j follow, λ s. on ((more.decides m.words r.steps r.watches.list x r.watches.watched).0 s)) in
             (by_turn c r.steps t x departure.more r.context r.turn r.legal departure.is departure.begins).1 going
 
@@ -143,7 +145,7 @@ module _ (M : Objects) (P : Rules) (laws : Laws M P) (by_turn : GoesByTurn M P) 
               | inl z ↦ absurd (some z)
               | inr k ↦ subst (In r.arrives.last) (sym k.is) (in_end k.rest r.arrives.last [])
             ] in
-            let prefix = begins_to M P r.way m.words r.states.words (b ++ x ∷ []) r.arrives.last (in_left b (x ∷ []) r.arrives.last here) near begins in
+            let prefix = begins_to M P r.way m.words r.states.words (b ++ x ∷ []) r.arrives.last (in_left b (x ∷ []) r.arrives.last here) on_way begins in
             let most = watched.longest a (b ++ x ∷ []) (ap (λ l. l ++ x ∷ []) e ∙ append_assoc a b (x ∷ [])) (inl prefix) in
             let l = length-append b (x ∷ []) in
             omega arith

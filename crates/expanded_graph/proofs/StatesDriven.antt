@@ -17,9 +17,8 @@ use Rattle.turn_automata.specs.Watched.{Stops}
 use Rattle.expanded_graph.specs.Near.{IsNear}
 use Rattle.expanded_graph.specs.Known.{IsDriven}
 use Rattle.expanded_graph.proofs.Ends.{located_some, both_located}
-use Rattle.expanded_graph.proofs.Members.{contains_from_in, in_end}
 use Rattle.expanded_graph.proofs.Runs.{cons_not_nil}
-use Rattle.expanded_graph.proofs.Stopping.{LongWords, goes_on_near}
+use Rattle.expanded_graph.proofs.Stopping.{LongWords, tells_near, goes_on_near}
 
 is_some_from : (o : Option State) → (o ≡ None → ⊥) → IsTrue (is_some o)
 is_some_from None n = absurd (n refl)
@@ -62,7 +61,7 @@ module _ (M : Objects) (P : Rules) where
         before_legal : Legal M P (p ++ x ∷ []) → Legal M P p
         before_legal l = laws.parts [] p (x ∷ []) some_before l
 
-        all_before : (w : WayId) → ((s : Step) → Contains (p ++ x ∷ []) s → IsNear M P w s.way) → (s : Step) → Contains p s → IsNear M P w s.way
+        all_before : (w : WayId) → ((s : Step) → Contains (p ++ x ∷ []) s → IsNear M P w s) → (s : Step) → Contains p s → IsNear M P w s
         all_before w all s c = all s (Contains-append_left p (x ∷ []) s c)
 
         -- behind steps that may not be driven
@@ -83,8 +82,7 @@ module _ (M : Objects) (P : Rules) where
           -- a step that the words stop or don't
           pub next_step : IsDriven M P W p true → Passes M P last x → (go : Option State) → (go ≡ None) ↔ Stops W p x → IsDriven M P W (p ++ x ∷ []) (is_some go)
           next_step h passes go stop w near all =
-              let here : IsNear M P w last.way = all_before w all last (subst (λ v. Contains v last) (sym ends) (contains_from_in (front ++ last ∷ []) last (in_end front last []))) in
-              let decides = goes_on_near M P w W near laws.long p front last x ends here in
+              let decides = goes_on_near M P w W near laws.long p front last x ends (tells_near M P w W near p (all_before w all)) in
               let legal : Legal M P p = (h w near (all_before w all)).0 refl in (
                 λ t. (laws.grows p x legal drives).0 (decides.1 (passes, λ s. not_none go t (stop.1 s))),
                 λ l. is_some_from go (λ e. (decides.0 (goes l)).1 (stop.0 e)),

@@ -28,7 +28,6 @@ use Rattle.expanded_graph.specs.States.{AreFacts}
 use Rattle.expanded_graph.proofs.Members.{In, in_from_contains, contains_from_in}
 use Rattle.expanded_graph.proofs.Runs.{cons_not_nil}
 use Rattle.expanded_graph.proofs.Stopping.{same_or_not}
-use Rattle.expanded_graph.proofs.WordsNear.{among_none}
 
 module _ {X : Type 0} where
   pub there_cases : (xs : List X) (y : X) (i : ℕ) (x : X) → slice_get (xs ++ y ∷ []) i ≡ Some x → (slice_get xs i ≡ Some x) ⊎ ((i ≡ length xs) × (y ≡ x))
@@ -139,7 +138,7 @@ module _ (M : Objects) (P : Rules) where
   at_rest W f shut none = record {
     driven = λ w near all. (λ e. absurd (false≢true (sym shut ∙ e)), λ l. absurd (l.not_empty refl));
     ends = λ b x e. absurd (cons_not_nil b x [] (sym e));
-    named = λ s c. absurd (among_none s c);
+    named = λ s c. absurd (in_from_contains [] s c);
     counted = λ name is. none;
   }
 

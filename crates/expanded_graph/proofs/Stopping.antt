@@ -1,4 +1,4 @@
--- The words near a way decide what may go on behind steps that end on it or on a way near it.
+-- The words near a way decide what may go on behind steps that end on it or are all near it.
 use Rattle.std.proofs.Common.{◌≡◌, ℕ, ◌≤◌, ◌↔◌, List, [], ◌∷◌, ◌++◌, length, ◌⊎◌, inl, inr, refl, sym, ap, ◌∙◌, subst, arith, Bool, true, false, Contains}
 use Rattle.std.specs.Ordering.{int_eq}
 use Rattle.std.proofs.lemmas.Bool.{false≢true, cases_Bool, cases_eq}
@@ -22,7 +22,7 @@ use Rattle.restrictions.specs.declared.word_list.Word.{Word}
 use Rattle.turn_automata.specs.Watched.{IsProperPrefix, NoIn, Must as MustIn, Stops}
 use Rattle.expanded_graph.specs.Near.{IsNear, AreWordsNear}
 use Rattle.expanded_graph.proofs.Members.{In, in_from_contains, contains_from_in, in_end, in_left}
-use Rattle.expanded_graph.proofs.Runs.{cons_not_nil, cut_last}
+use Rattle.expanded_graph.proofs.Runs.{cons_not_nil, cut_last, nil_or_cons}
 
 -- ---- steps and words can be told apart
 
@@ -120,17 +120,43 @@ binds (RelationKey r ∷ ks) = omega arith
 abbrev pub LongWords : Objects → Rules → Type 0
 LongWords M P = (r : RelationId) (only : Bool) (binding : ℕ) (u : List Step) → IsWord M P r only binding u → (first : Step) × (middle : List Step) × (last : Step) × (u ≡ first ∷ (middle ++ last ∷ []))
 
+-- the word as it stands in a list
+abbrev pub as_word : RelationId → Bool → ℕ → List Step → Word
+as_word r o b u = record { relation = r; only = o; binding = b; steps = u }
+
+-- each word of the map that begins with one or more of the last steps of q stands in the list
+abbrev pub Tells : Objects → Rules → List Word → List Step → Type 0
+Tells M P W q = (a p more u : List Step) → q ≡ a ++ p → (p ≡ [] → ⊥) → u ≡ p ++ more → (r : RelationId) (o : Bool) (b : ℕ) → IsWord M P r o b u → Contains W (as_word r o b u)
+
 module _ (M : Objects) (P : Rules) (w : WayId) (W : List Word) (near : AreWordsNear M P w W) where
   word_is : (v : Word) → Contains W v → (o : Bool) (b : ℕ) (u : List Step) → v.only ≡ o → v.binding ≡ b → v.steps ≡ u → IsWord M P v.relation o b u
   word_is v has o b u e f g =
       let h = near.sound v has in
       subst (λ x. IsWord M P v.relation o b x) g (subst (λ x. IsWord M P v.relation o x v.steps) f (subst (λ x. IsWord M P v.relation x v.binding v.steps) e h))
 
-  abbrev as_word : RelationId → Bool → ℕ → List Step → Word
-  as_word r o b u = record { relation = r; only = o; binding = b; steps = u }
+  among : (r : RelationId) (o : Bool) (b : ℕ) (u : List Step) (s : Step) → IsWord M P r o b u → In s u → s.way ≡ w → Contains W (as_word r o b u)
+  among r o b u s h i e = near.on (as_word r o b u) h (record { step = s; among = contains_from_in u s i; on = e })
 
-  among : (r : RelationId) (o : Bool) (b : ℕ) (u : List Step) (s : Step) → IsWord M P r o b u → In s u → IsNear M P w s.way → Contains W (as_word r o b u)
-  among r o b u s h i n = near.all (as_word r o b u) h s.way n (record { step = s; among = contains_from_in u s i; on = refl })
+  last_in : (q front : List Step) (last : Step) → q ≡ front ++ last ∷ [] → (a p : List Step) → q ≡ a ++ p → (p ≡ [] → ⊥) → In last p
+  last_in q front last ends a p e some = elim (cut_last front a p last (sym ends ∙ e)) [
+    | inl n ↦ absurd (some n)
+    | inr r ↦ subst (In last) (sym r.is) (in_end r.rest last [])
+  ]
+
+  -- where the last of the steps lies on the way
+  pub tells_on : (q front : List Step) (last : Step) → q ≡ front ++ last ∷ [] → last.way ≡ w → Tells M P W q
+  tells_on q front last ends here a p more u e some is r o b h =
+      among r o b u last h (subst (In last) (sym is) (in_left p more last (last_in q front last ends a p e some))) here
+
+  -- where all of the steps are near the way
+  pub tells_near : (q : List Step) → ((s : Step) → Contains q s → IsNear M P w s) → Tells M P W q
+  tells_near q all a p more u e some is r o b h = elim (nil_or_cons p) [
+    | inl n ↦ absurd (some n)
+    | inr v ↦
+        let begins : p ≡ v.0 ∷ v.1 = v.2 in
+        let first : In v.0 q = subst (In v.0) (sym (e ∙ ap (λ l. a ++ l) begins)) (in_end a v.0 v.1) in
+        near.from (as_word r o b u) h v.0 (v.1 ++ more) (is ∙ ap (λ l. l ++ more) begins) (all v.0 (contains_from_in q v.0 first))
+  ]
 
   no_from : (u : List Step) → NoIn W u → NoWord M P u
   no_from u n = record { relation = n.word.relation; binding = n.word.binding; word = word_is n.word n.among false n.word.binding u n.no refl n.is }
@@ -141,20 +167,11 @@ module _ (M : Objects) (P : Rules) (w : WayId) (W : List Word) (near : AreWordsN
   pub begins_from : (p : List Step) → (p ≡ [] → ⊥) → IsProperPrefix W p → BeginsWord M P p
   begins_from p some v = record { some = some; next = v.next; more = v.rest; word = record { relation = v.word.relation; only = v.word.only; binding = v.word.binding; word = word_is v.word v.among v.word.only v.word.binding (p ++ v.next ∷ v.rest) refl refl v.is } }
 
-  pub begins_to : (p : List Step) (s : Step) → In s p → IsNear M P w s.way → BeginsWord M P p → IsProperPrefix W p
-  begins_to p s i n b =
+  pub begins_to : (p : List Step) (s : Step) → In s p → s.way ≡ w → BeginsWord M P p → IsProperPrefix W p
+  begins_to p s i e b =
       let a = b.word in
       let u = p ++ b.next ∷ b.more in
-      record { word = as_word a.relation a.only a.binding u; among = among a.relation a.only a.binding u s a.word (in_left p (b.next ∷ b.more) s i) n; next = b.next; rest = b.more; is = refl }
-
-  no_to : (u : List Step) (s : Step) → In s u → IsNear M P w s.way → NoWord M P u → NoIn W u
-  no_to u s i n h = record { word = as_word h.relation false h.binding u; among = among h.relation false h.binding u s h.word i n; no = refl; is = refl }
-
-  must_to : (p : List Step) (s x : Step) → In s p → IsNear M P w s.way → Must M P p x → MustIn W p x
-  must_to p s x i n m =
-      let h = m.word in
-      let u = p ++ x ∷ m.rest in
-      record { binding = m.binding; rest = m.rest; word = record { word = as_word h.relation true m.binding u; among = among h.relation true m.binding u s h.word (in_left p (x ∷ m.rest) s i) n; only = refl; bound = refl; is = refl }; bound = m.bound }
+      record { word = as_word a.relation a.only a.binding u; among = among a.relation a.only a.binding u s a.word (in_left p (b.next ∷ b.more) s i) e; next = b.next; rest = b.more; is = refl }
 
   -- what must follow follows some step
   must_behind : (p : List Step) (x : Step) → Must M P p x → p ≡ [] → ⊥
@@ -166,18 +183,19 @@ module _ (M : Objects) (P : Rules) (w : WayId) (W : List Word) (near : AreWordsN
       let none : length p ≡ 0 = ap length e in
       omega (arith, one)
 
-  module _ (long : LongWords M P) (q front : List Step) (last x : Step) (ends : q ≡ front ++ last ∷ []) (here : IsNear M P w last.way) where
-    last_in : (a b : List Step) → q ≡ a ++ b → (b ≡ [] → ⊥) → In last b
-    last_in a b e some = elim (cut_last front a b last (sym ends ∙ e)) [
-      | inl n ↦ absurd (some n)
-      | inr r ↦ subst (In last) (sym r.is) (in_end r.rest last [])
-    ]
+  module _ (long : LongWords M P) (q front : List Step) (last x : Step) (ends : q ≡ front ++ last ∷ []) (tells : Tells M P W q) where
+    no_to : (a p more u : List Step) → q ≡ a ++ p → (p ≡ [] → ⊥) → u ≡ p ++ more → NoWord M P u → NoIn W u
+    no_to a p more u e some is h = record { word = as_word h.relation false h.binding u; among = tells a p more u e some is h.relation false h.binding h.word; no = refl; is = refl }
+
+    must_to : (a p : List Step) (y : Step) → q ≡ a ++ p → Must M P p y → MustIn W p y
+    must_to a p y e m =
+        let h = m.word in
+        let u = p ++ y ∷ m.rest in
+        record { binding = m.binding; rest = m.rest; word = record { word = as_word h.relation true m.binding u; among = tells a p (y ∷ m.rest) u e (must_behind p y m) refl h.relation true m.binding h.word; only = refl; bound = refl; is = refl }; bound = m.bound }
 
     no_stop : GoesOn M P q x → Stops W q x → ⊥
     no_stop g (inl f) = g.no f.front f.word f.is (no_from f.word f.no)
-    no_stop g (inr r) =
-        let m = must_from r.end r.other r.must in
-        r.lacks (must_to r.end last x (last_in r.front r.end r.is (must_behind r.end r.other m)) here (g.only r.front r.end r.is r.other m))
+    no_stop g (inr r) = r.lacks (must_to r.front r.end x r.is (g.only r.front r.end r.is r.other (must_from r.end r.other r.must)))
 
     no_word_ends : (Stops W q x → ⊥) → (a u : List Step) → q ++ x ∷ [] ≡ a ++ u → NoWord M P u → ⊥
     no_word_ends goes a u e n =
@@ -186,14 +204,13 @@ module _ (M : Objects) (P : Rules) (w : WayId) (W : List Word) (near : AreWordsN
           | inl none ↦ cons_not_nil [] l.0 (l.1 ++ l.2 ∷ []) (sym l.3 ∙ none)
           | inr r ↦
               let some : r.rest ≡ [] → ⊥ = λ z. cons_not_nil l.1 l.2 [] (let k : l.0 ∷ (l.1 ++ l.2 ∷ []) ≡ x ∷ [] = sym l.3 ∙ (r.is ∙ ap (λ v. v ++ x ∷ []) z) in cc) in
-              let i : In last u = subst (In last) (sym r.is) (in_left r.rest (x ∷ []) last (last_in a r.rest r.front some)) in
-              goes (inl (record { word = u; no = no_to u last i here n; front = a; is = e }))
+              goes (inl (record { word = u; no = no_to a r.rest (x ∷ []) u r.front some r.is n; front = a; is = e }))
         ]
 
     demanded : (Stops W q x → ⊥) → (a p : List Step) → q ≡ a ++ p → (y : Step) → Must M P p y → Must M P p x
     demanded goes a p e y m = elim (must_or_not W p x) [
       | inl k ↦ must_from p x k
-      | inr n ↦ absurd (goes (inr (record { end = p; front = a; is = e; other = y; must = must_to p last y (last_in a p e (must_behind p y m)) here m; lacks = n })))
+      | inr n ↦ absurd (goes (inr (record { end = p; front = a; is = e; other = y; must = must_to a p y e m; lacks = n })))
     ]
 
     -- x may go on behind q exactly where it may follow q's last step and the words near the way don't stop it
