@@ -1,9 +1,9 @@
 -- The steps between the first and the last of a list.
-use Rattle.std.proofs.Common.{◌≡◌, ◌-◌, ◌≤◌, List, [], ◌∷◌, ◌++◌, length, take, drop, inl, inr, sym, ap, ◌∙◌, subst, arith, append_assoc, length-append, Contains}
+use Rattle.std.proofs.Common.{◌≡◌, ◌-◌, ◌≤◌, List, [], ◌∷◌, ◌++◌, length, take, drop, inl, inr, refl, sym, ap, ◌∙◌, subst, arith, append_assoc, length-append, Contains}
 use Rattle.std.proofs.Math.Seq.{take-append_seam}
 use Rattle.road_base.specs.declared.ids.WayId.{WayId}
 use Rattle.road_base.specs.declared.ids.Step.{Step}
-use Rattle.expanded_graph.specs.Near.{HasStepOn, HasStepBetween}
+use Rattle.expanded_graph.specs.Near.{HasStepOn, HasStepBetween, BeginsOn}
 use Rattle.expanded_graph.proofs.Members.{in_from_contains, contains_from_in, in_left, in_end}
 use Rattle.expanded_graph.proofs.Runs.{cons_not_nil, nil_or_last}
 
@@ -35,6 +35,9 @@ module _ (w : WayId) where
       let s = b.on in
       let among = contains_from_in (b.first ∷ (b.middle ++ b.last ∷ [])) s.step (inr (in_left b.middle (b.last ∷ []) s.step (in_from_contains b.middle s.step s.among))) in
       record { step = s.step; among = subst (λ l. Contains l s.step) (sym b.is) among; on = s.on }
+
+  pub on_from_begins : (u : List Step) → BeginsOn w u → HasStepOn w u
+  on_from_begins u b = record { step = b.first; among = subst (λ l. Contains l b.first) (sym b.is) (contains_from_in (b.first ∷ b.rest) b.first (inl refl)); on = b.on }
 
   -- the last of two steps or more stands between the first and the last of a longer list
   pub between_longer : (q : List Step) (first : Step) (middle : List Step) (last next : Step) (more : List Step) → q ≡ first ∷ (middle ++ last ∷ []) → last.way ≡ w → HasStepBetween w (q ++ next ∷ more)

@@ -12,6 +12,7 @@ pub mod Passing
 pub mod Chosen
 pub mod Leading
 pub mod Learning
+pub mod Beginning
 pub mod Together
 pub mod Ending
 pub mod Naming

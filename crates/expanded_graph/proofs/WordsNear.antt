@@ -1,5 +1,5 @@
 -- The words that are gathered are those near a way.
-use Rattle.std.proofs.Common.{◌≡◌, ℕ, ◌+◌, ◌<◌, ◌≤◌, ◌⊎◌, inl, inr, List, [], ◌∷◌, length, get_or, take, Contains, Some, Bool, refl, sym, subst, ◌∙◌, arith}
+use Rattle.std.proofs.Common.{◌≡◌, ℕ, ◌+◌, ◌<◌, ◌≤◌, ◌⊎◌, ◌↔◌, inl, inr, List, [], ◌∷◌, length, get_or, take, Contains, Some, Bool, refl, sym, subst, ◌∙◌, arith}
 use Rattle.std.proofs.lemmas.List.{take_more, take_all}
 use Rattle.std.proofs.lemmas.List.Elements.{Contains-push_cases, Contains-append_left, Contains-append_right, Contains-append_cases}
 use Rattle.road_base.specs.declared.objects.Relation.{Relation}
@@ -18,9 +18,10 @@ use Rattle.restrictions.specs.declared.word_list.Word.{Word}
 use Rattle.restrictions.specs.declared.relation_words.WordsError.{WordsError}
 use Rattle.restrictions.specs.declared.relation_words.WordsError.TheVariants.{Unusable as OfNoUse}
 use Rattle.restrictions.specs.Words.{IsRestriction, IsWordOf, SaysCause}
-use Rattle.expanded_graph.specs.Near.{IsNear, Itself, Shares, HasStepOn, HasStepBetween, AreWordsNear}
-use Rattle.expanded_graph.specs.Known.{AreWordsOf, GainsWords, IsOn}
-use Rattle.expanded_graph.proofs.Between.{on_from_between}
+use Rattle.expanded_graph.specs.Near.{OnIt, Shares, HasStepOn, HasStepBetween, BeginsOn, AreWordsNear}
+use Rattle.expanded_graph.specs.Known.{AreWordsOf, GainsApart, GainsWords, IsOn}
+use Rattle.expanded_graph.specs.Beginnings.{IsWordFrom, AreWordsFrom}
+use Rattle.expanded_graph.proofs.Between.{on_from_between, on_from_begins}
 
 module _ {X : Type 0} (xs : List X) where
   pub among_more : (i : ℕ) (d : X) → i < length xs → (x : X) → Contains (take (i + 1) xs) x → Contains (take i xs) x ⊎ (get_or xs i d ≡ x)
@@ -43,6 +44,12 @@ restrict M v r h = record { body = h.body; visible = h.is; restriction = h.restr
 
 some_same : (a b : Relation) → Some a ≡ Some b → a ≡ b
 some_same a b e = cc
+
+-- words of the map, among them all that have a step on w, and all that begin on one of the ways
+pub record Gathers (M : Objects) (P : Rules) (w : WayId) (ways : List WayId) (words : List Word) : Type 0 where
+  pub sound : (u : Word) → Contains words u → IsWord M P u.relation u.only u.binding u.steps
+  pub on : (u : Word) → IsWord M P u.relation u.only u.binding u.steps → HasStepOn w u.steps → Contains words u
+  pub so_far : (v : WayId) (u : Word) → Contains ways v → IsWordFrom M P v u → Contains words u
 
 module _ (M : Objects) (P : Rules) where
   -- a restriction of no use has no words
@@ -67,26 +74,98 @@ module _ (M : Objects) (P : Rules) where
     ]);
   }
 
-  -- what the words near a way are gathered from
-  module _ (w : WayId)
-      (members : (r : RelationId) (only : Bool) (binding : ℕ) (u : List Step) (s : Step) → IsWord M P r only binding u → Contains u s → HasMember M r (WayKey s.way))
-      (own : List RelationId) (owns : Lists (λ r. r) relation_cmp (λ r. HasMember M r (WayKey w)) own)
-      (words : List Word) (are : AreWordsOf M P own words)
-      (ways : List WayId) (itself : Contains ways w) (shared : (u : Word) (v : WayId) → Contains words u → HasStepBetween w u.steps → HasStepOn v u.steps → Contains ways v)
-      (relations : List RelationId) (all : (v : WayId) (r : RelationId) → Contains ways v → IsOn M v r → Contains relations r)
-      (near : List Word) (of : AreWordsOf M P relations near) where
-    on_way : (u : Word) (v : WayId) → IsWord M P u.relation u.only u.binding u.steps → HasStepOn v u.steps → IsOn M v u.relation
-    on_way u v i s = subst (λ x. HasMember M u.relation (WayKey x)) s.on (members u.relation u.only u.binding u.steps s.step i s.among)
+  module _ (members : (r : RelationId) (only : Bool) (binding : ℕ) (u : List Step) (s : Step) → IsWord M P r only binding u → Contains u s → HasMember M r (WayKey s.way)) where
+    -- a word that has a step on the way is one of the way's restrictions
+    on_own : (w : WayId) (own : List RelationId) → Lists (λ r. r) relation_cmp (IsOn M w) own → (words : List Word) → AreWordsOf M P own words → (u : Word) → IsWord M P u.relation u.only u.binding u.steps → HasStepOn w u.steps → Contains words u
+    on_own w own owns words are u is s =
+        let member = subst (λ v. HasMember M u.relation (WayKey v)) s.on (members u.relation u.only u.binding u.steps s.step is s.among) in
+        are.all u (owns.complete u.relation member) (record { of = refl; is = is })
 
-    near_listed : (v : WayId) → IsNear M P w v → Contains ways v
-    near_listed v (Itself e) = subst (Contains ways) (sym e) itself
-    near_listed v (Shares steps any between there) =
-        let r = any.relation in
-        let u : Word = record { relation = any.relation; only = any.only; binding = any.binding; steps = steps } in
-        shared u v (are.all u (owns.complete r (on_way u w any.word (on_from_between w steps between))) (record { of = refl; is = any.word })) between there
+    -- those of the way's restrictions that begin on it are all that do
+    pub own_from : (w : WayId) (own : List RelationId) → Lists (λ r. r) relation_cmp (IsOn M w) own → (words : List Word) → AreWordsOf M P own words → (kept : List Word) → ((u : Word) → Contains kept u ↔ (Contains words u × BeginsOn w u.steps)) → AreWordsFrom M P w kept
+    own_from w own owns words are kept those u = (
+      λ c. let k = (those u).0 c in ((are.sound u k.0).1.is, k.1),
+      λ k. (those u).1 (on_own w own owns words are u k.0 (on_from_begins w u.steps k.1), k.1),
+    )
 
-    pub gathered : AreWordsNear M P w near
-    gathered = record {
-      sound = λ u c. (of.sound u c).1.is;
-      all = λ u i v n s. of.all u (all v u.relation (near_listed v n) (on_way u v i s)) (record { of = refl; is = i });
-    }
+    module _ (w : WayId) (own : List RelationId) (owns : Lists (λ r. r) relation_cmp (IsOn M w) own) (words : List Word) (are : AreWordsOf M P own words) where
+      -- the words that are listed before those that begin on other ways
+      pub gathers_own : Gathers M P w [] words
+      gathers_own = record {
+        sound = λ u c. (are.sound u c).1.is;
+        on = on_own w own owns words are;
+        so_far = λ v u none from. absurd (among_none v none);
+      }
+
+      -- what was gathered on all ways near the way
+      pub gathered : (ways : List WayId) → ((u : Word) (v : WayId) → Contains words u → HasStepBetween w u.steps → HasStepOn v u.steps → Contains ways v) → (all : List Word) → Gathers M P w ways all → AreWordsNear M P w all
+      gathered ways shared all g = record {
+        sound = g.sound;
+        on = g.on;
+        from = λ u is first rest e near. elim near [
+          | OnIt on ↦ g.on u is (on_from_begins w u.steps (record { first = first; rest = rest; is = e; on = on }))
+          | Shares steps any between among ↦
+              let shares : Word = record { relation = any.relation; only = any.only; binding = any.binding; steps = steps } in
+              let there = on_own w own owns words are shares any.word (on_from_between w steps between) in
+              g.so_far first.way u (shared shares first.way there between (record { step = first; among = among; on = refl })) (is, record { first = first; rest = rest; is = e; on = refl })
+        ];
+      }
+
+  -- the words that begin on one way more
+  pub gathers_more : (w : WayId) (ways : List WayId) (i : ℕ) (d : WayId) (old new : List Word) → i < length ways → Gathers M P w (take i ways) old → GainsApart w (IsWordFrom M P (get_or ways i d)) old new → Gathers M P w (take (i + 1) ways) new
+  gathers_more w ways i d old new l g a = record {
+    sound = λ u c. elim (a.others u c) [
+      | inl o ↦ g.sound u o
+      | inr f ↦ f.0
+    ];
+    on = λ u is on. a.kept u (g.on u is on);
+    so_far = λ v u c from. elim (among_more ways i d l v c) [
+      | inl o ↦ a.kept u (g.so_far v u o from)
+      | inr e ↦ elim (a.apart u (subst (λ x. IsWordFrom M P x u) (sym e) from)) [
+        | inl there ↦ there
+        | inr on ↦ a.kept u (g.on u from.0 on)
+      ]
+    ];
+  }
+
+  -- on the way itself nothing is to be added
+  pub apart_itself : (v w : WayId) (old : List Word) → v ≡ w → GainsApart w (IsWordFrom M P v) old old
+  apart_itself v w old e = record {
+    kept = λ u c. c;
+    apart = λ u f. inr (subst (λ x. HasStepOn x u.steps) e (on_from_begins v u.steps f.1));
+    others = λ u c. inl c;
+  }
+
+-- the same for equal demands
+pub apart_same : (w : WayId) (A B : Word → Type 0) (old new : List Word) → ((u : Word) → A u ↔ B u) → GainsApart w A old new → GainsApart w B old new
+apart_same w A B old new same g = record {
+  kept = g.kept;
+  apart = λ u b. g.apart u ((same u).1 b);
+  others = λ u c. elim (g.others u c) [
+    | inl o ↦ inl o
+    | inr a ↦ inr ((same u).0 a)
+  ];
+}
+
+pub apart_none : (w : WayId) (old : List Word) → GainsApart w (Contains []) old old
+apart_none w old = record { kept = λ u c. c; apart = λ u none. absurd (among_none u none); others = λ u c. inl c }
+
+-- one word more is looked at
+pub apart_more : (w : WayId) (more : List Word) (i : ℕ) (d : Word) (first old new : List Word) → i < length more → d ≡ get_or more i d → GainsApart w (Contains (take i more)) first old → GainsApart w (λ u. u ≡ d) old new → GainsApart w (Contains (take (i + 1) more)) first new
+apart_more w more i d first old new l is g a = record {
+  kept = λ u c. a.kept u (g.kept u c);
+  apart = λ u c. elim (among_more more i d l u c) [
+    | inl o ↦ elim (g.apart u o) [
+      | inl there ↦ inl (a.kept u there)
+      | inr on ↦ inr on
+    ]
+    | inr e ↦ a.apart u (sym (is ∙ e))
+  ];
+  others = λ u c. elim (a.others u c) [
+    | inl o ↦ elim (g.others u o) [
+      | inl before ↦ inl before
+      | inr asked ↦ inr (among_before more i d l u asked)
+    ]
+    | inr e ↦ inr (subst (Contains (take (i + 1) more)) (sym (e ∙ is)) (among_last more i d l))
+  ];
+}

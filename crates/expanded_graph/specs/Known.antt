@@ -1,5 +1,5 @@
 -- What is gathered on the way to the words near a way, and to the facts of states.
-use Rattle.std.specs.Prelude.{◌≡◌, ℕ, ◌≤◌, ◌↔◌, List, [], ◌∷◌, ◌++◌, length, filter_map, Bool, Option, Some, IsTrue, Contains, slice_get}
+use Rattle.std.specs.Prelude.{◌≡◌, ℕ, ◌≤◌, ◌↔◌, ◌⊎◌, List, [], ◌∷◌, ◌++◌, length, filter_map, Bool, Option, Some, IsTrue, Contains, slice_get}
 use Rattle.road_base.specs.declared.ids.WayId.{WayId}
 use Rattle.road_base.specs.declared.ids.RelationId.{RelationId}
 use Rattle.road_base.specs.declared.ids.Step.{Step}
@@ -17,7 +17,7 @@ use Rattle.turn_automata.specs.Machines.{Machine, StandsFor}
 use Rattle.way_pieces.specs.declared.spans.PieceSpan.{PieceSpan}
 use Rattle.way_pieces.specs.Names.{piece_of}
 use Rattle.expanded_graph.specs.declared.states.StateFacts.{StateFacts}
-use Rattle.expanded_graph.specs.Near.{IsNear, AreWordsNear}
+use Rattle.expanded_graph.specs.Near.{HasStepOn, IsNear, AreWordsNear}
 
 -- ---- words
 
@@ -31,6 +31,12 @@ pub record GainsWords (M : Objects) (P : Rules) (r : RelationId) (old new : List
   pub more : List Word
   pub appended : new ≡ old ++ more
   pub exactly : (u : Word) → Contains more u ↔ IsWordOf M P r u
+
+-- the list has got words of those asked for, all but some that have a step on way w, and nothing else
+pub record GainsApart (w : WayId) (Asked : Word → Type 0) (old new : List Word) : Type 0 where
+  pub kept : (u : Word) → Contains old u → Contains new u
+  pub apart : (u : Word) → Asked u → Contains new u ⊎ HasStepOn w u.steps
+  pub others : (u : Word) → Contains new u → Contains old u ⊎ Asked u
 
 -- the way is a member of the restriction
 abbrev pub IsOn : Objects → WayId → RelationId → Type 0

@@ -13,6 +13,7 @@ use Rattle.way_pieces.specs.Starts.{ArePiecesByWay}
 use Rattle.expanded_graph.specs.declared.intersections.Intersection.{Intersection}
 use Rattle.expanded_graph.specs.declared.intersections.Intersections.{Intersections}
 use Rattle.expanded_graph.specs.declared.cache.Cache.{Cache}
+use Rattle.expanded_graph.specs.Beginnings.{AreWordsByWay}
 
 -- what is known of the node is so
 pub record IsIntersection (M : Objects) (P : Rules) (i : Intersection) : Type 0 where
@@ -28,6 +29,7 @@ pub record AreIntersections (M : Objects) (P : Rules) (known : Intersections) : 
 pub record IsCache (M : Objects) (P : Rules) (c : Cache) : Type 0 where
   pub pieces : ArePiecesByWay M P c.pieces
   pub intersections : AreIntersections M P c.intersections
+  pub beginnings : AreWordsByWay M P c.beginnings
 
 -- Who comes from the node u may go on by the departure: back to u at a place to turn round, where nothing goes through
 -- and where nothing else leaves, and elsewhere where the node isn't shut.

@@ -80,7 +80,7 @@ fn block_of<M: World, P: Profile>(
         return Ok(bare_block(alloc, way));
     };
     let spans = spans_on(alloc, world, profile, &mut cache.pieces, way)?;
-    let states = States::of(alloc, world, profile, &mut cache.pieces, way)?;
+    let states = States::of(alloc, world, profile, cache, way)?;
     let endings = endings_on(alloc, &states, way)?;
     let nodes = way_nodes_of(alloc, world, body)?;
     let pieces = pieces_along(

@@ -25,6 +25,7 @@ mod pieces;
 mod places;
 mod states;
 mod words;
+mod words_by_way;
 
 pub use block::{build_block, build_block_with};
 pub use cache::Cache;

@@ -6,7 +6,9 @@ ghost use Rattle.turn_automata.specs.Machines.{StandsFor};
 ghost use Rattle.way_pieces.specs.Starts.{ArePiecesByWay};
 ghost use Rattle.expanded_graph.specs.Known.{NamesEnd, IsKnown, AreKnown, AreAllShort, IsDriven};
 ghost use Rattle.expanded_graph.specs.States.{AreStates};
+ghost use Rattle.expanded_graph.specs.Turning.{IsCache};
 
+use crate::cache::Cache;
 use crate::last_steps::piece_ended_by;
 use crate::words::words_near;
 use road_base::{NoMemory, Step, WayId};
@@ -34,25 +36,25 @@ pub struct States {
 }
 
 impl States {
-    /// The states on the way. Each way on which a state's last step lies is learnt, which stays so where no memory is
-    /// found; all else takes a few look-ups for each state.
+    /// The states on the way. The words that begin on the ways near it are learnt, and the pieces of each way on which a
+    /// state's last step lies, which stays so where no memory is found; all else takes a few look-ups for each state.
     pub fn of<M: World, P: Profile>(
         alloc: Global,
         world: &M,
         profile: &P,
-        pieces: &mut PiecesByWay,
+        cache: &mut Cache,
         way: WayId,
     ) -> Result<States, NoMemory>
-        requires { ArePiecesByWay (M.objects world.now) (P.rules profile.now) pieces.old }
-        ensures pieces { ArePiecesByWay (M.objects world.now) (P.rules profile.now) pieces.new }
+        requires { IsCache (M.objects world.now) (P.rules profile.now) cache.old }
+        ensures cache { IsCache (M.objects world.now) (P.rules profile.now) cache.new }
         ensures states { IfOk result (λ s. AreStates (M.objects world.now) (P.rules profile.now) way s.automaton.words s.automaton.states s.facts.items) }
     {
         words_on_ways(profile);
         context_steps(profile);
-        let words = words_near(alloc, world, profile, way)?;
+        let words = words_near(alloc, world, profile, &mut cache.beginnings, way)?;
         let automaton = Automaton::of(alloc, &words)?;
         automaton.closed();
-        let facts = facts_of(alloc, world, profile, pieces, &automaton)?;
+        let facts = facts_of(alloc, world, profile, &mut cache.pieces, &automaton)?;
         Ok(States { automaton, facts })
     }
 }

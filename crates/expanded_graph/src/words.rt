@@ -7,36 +7,85 @@ ghost use Rattle.road_base.specs.declared.ids.RelationId.{RelationId};
 ghost use Rattle.restrictions.specs.declared.word_list.Word.{Word};
 ghost use Rattle.restrictions.specs.Words.{IsRestriction};
 ghost use Rattle.expanded_graph.specs.Near.{AreWordsNear, HasStepBetween, HasStepOn};
-ghost use Rattle.expanded_graph.specs.Known.{AreWordsOf, GainsWords, IsOn};
+ghost use Rattle.expanded_graph.specs.Known.{AreWordsOf, GainsApart, GainsWords};
+ghost use Rattle.expanded_graph.specs.Beginnings.{AreWordsByWay, IsWordFrom};
 
+use crate::words_by_way::WordsByWay;
 use restrictions::{Word, WordList, WordsError, words};
 use road_base::{NoMemory, RelationId, Step, WayId};
-use road_model::laws::{name_order, number_order, words_on_ways};
+use road_model::laws::{name_order, words_on_ways};
 use road_model::{Profile, World};
 use std::alloc::Global;
 
-/// Words of the map, among them all that have a step on a way near this one: the way itself, or one on which a word has a
-/// step that has a step on this way between its first and its last. Takes the time of the words that it lists, and once
-/// more of those of the way's own restrictions.
+/// Words of the map: those of the way's own restrictions, among them all that have a step on it, and those that begin on
+/// a way near it, on which a word that has a step on this way between its first and its last has a step. Where the words
+/// that begin on a way near it aren't known they are found, which stays so where no memory is found. Takes the time of the
+/// words that it lists, and of the words of the restrictions of each way that it learns.
 pub fn words_near<M: World, P: Profile>(
     alloc: Global,
     world: &M,
     profile: &P,
+    beginnings: &mut WordsByWay,
     way: WayId,
 ) -> Result<WordList, NoMemory>
-    ensures { IfOk result (AreWordsNear (M.objects world.now) (P.rules profile.now) way) }
+    requires { AreWordsByWay (M.objects world.now) (P.rules profile.now) beginnings.old }
+    ensures beginnings { AreWordsByWay (M.objects world.now) (P.rules profile.now) beginnings.new }
+    ensures near { IfOk result (AreWordsNear (M.objects world.now) (P.rules profile.now) way) }
 {
     words_on_ways(profile);
     let own = world.rules_of_way(way);
-    let words = words_of(alloc, world, profile, own)?;
+    let mut words = words_of(alloc, world, profile, own)?;
     let ways = ways_near(alloc, words.as_slice(), way)?;
-    let relations = relations_on(alloc, world, ways.as_slice())?;
-    let near = words_of(alloc, world, profile, relations.as_slice())?;
-    Ok(WordList::from_list(near))
+    for near in ways.as_slice() {
+        add_words_from(alloc, &mut words, world, profile, beginnings, *near, way)?;
+    }
+    Ok(WordList::from_list(words))
+}
+
+/// Adds the words that begin on the way near this one, but for those that have a step on this one.
+fn add_words_from<M: World, P: Profile>(
+    alloc: Global,
+    list: &mut Vec<Word>,
+    world: &M,
+    profile: &P,
+    beginnings: &mut WordsByWay,
+    near: WayId,
+    way: WayId,
+) -> Result<(), NoMemory>
+    requires { AreWordsByWay (M.objects world.now) (P.rules profile.now) beginnings.old }
+    ensures beginnings { AreWordsByWay (M.objects world.now) (P.rules profile.now) beginnings.new }
+    ensures gained { OnOk result (GainsApart way (IsWordFrom (M.objects world.now) (P.rules profile.now) near) list.old.items list.new.items) }
+{
+    if near == way {
+        return Ok(());
+    }
+    beginnings.learn(alloc, world, profile, near)?;
+    append_apart(list, beginnings.at(near).as_slice(), way)
+}
+
+/// Adds equal words, but for those that have a step on the way.
+fn append_apart(list: &mut Vec<Word>, more: &[Word], way: WayId) -> Result<(), NoMemory>
+    ensures { OnOk result (GainsApart way (Contains more.now) list.old.items list.new.items) }
+{
+    for word in more {
+        add_apart(list, word, way)?;
+    }
+    Ok(())
+}
+
+/// Adds an equal word, unless it has a step on the way.
+fn add_apart(list: &mut Vec<Word>, word: &Word, way: WayId) -> Result<(), NoMemory>
+    ensures { OnOk result (GainsApart way (λ u. u ≡ word.now) list.old.items list.new.items) }
+{
+    if has_step_on(word.steps.items(), way) {
+        return Ok(());
+    }
+    list.push(word.copy()?)?;
+    Ok(())
 }
 
 /// The words of these restrictions. One that is of no use gives none.
-fn words_of<M: World, P: Profile>(
+pub fn words_of<M: World, P: Profile>(
     alloc: Global,
     world: &M,
     profile: &P,
@@ -80,14 +129,11 @@ fn append(list: &mut Vec<Word>, more: &[Word]) -> Result<(), NoMemory>
     Ok(())
 }
 
-/// The way, and those on which its words have a step that have a step on the way between their first and their last, each
-/// once.
+/// The ways on which a word has a step that has a step on the way between its first and its last, each once.
 fn ways_near(alloc: Global, words: &[Word], way: WayId) -> Result<Vec<WayId>, NoMemory>
-    ensures own { IfOk result (λ v. Contains v.items way) }
-    ensures shared { IfOk result (λ v. (u : Word) (w : WayId) → Contains words.now u → HasStepBetween way u.steps → HasStepOn w u.steps → Contains v.items w) }
+    ensures { IfOk result (λ v. (u : Word) (w : WayId) → Contains words.now u → HasStepBetween way u.steps → HasStepOn w u.steps → Contains v.items w) }
 {
     let mut ways = Vec::new(alloc);
-    ways.push(way)?;
     for word in words {
         let steps = word.steps.items();
         if has_step_between(steps, way) {
@@ -137,24 +183,6 @@ fn add_way(ways: &mut Vec<WayId>, way: WayId) -> Result<(), NoMemory>
     }
     ways.push(way)?;
     Ok(())
-}
-
-/// The restrictions of which one of the ways is a member, each once.
-fn relations_on<M: World>(
-    alloc: Global,
-    world: &M,
-    ways: &[WayId],
-) -> Result<Vec<RelationId>, NoMemory>
-    ensures sound { IfOk result (λ v. All (IsRestriction (M.objects world.now)) v.items) }
-    ensures all { IfOk result (λ v. (w : WayId) (r : RelationId) → Contains ways.now w → IsOn (M.objects world.now) w r → Contains v.items r) }
-{
-    let mut relations = Vec::new(alloc);
-    for way in ways {
-        relations.extend_from_slice(world.rules_of_way(*way))?;
-    }
-    number_order();
-    leave_once(&mut relations);
-    Ok(relations)
 }
 
 /// Each value once, ascending.

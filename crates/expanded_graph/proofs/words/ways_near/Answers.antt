@@ -1,7 +1,6 @@
 -- The ways of one word more stand there.
 use Rattle.std.proofs.Common.{inl, inr, sym, ap, ◌∙◌, ◌≡◌, subst, Contains, List}
 use Rattle.std.proofs.lemmas.Bool.{false≢true}
-use Rattle.std.proofs.lemmas.List.Elements.{Contains-push}
 use Rattle.road_base.specs.declared.ids.WayId.{WayId}
 use Rattle.restrictions.specs.declared.word_list.Word.{Word}
 use Rattle.expanded_graph.specs.Near.{HasStepBetween, HasStepOn}
@@ -10,10 +9,7 @@ use Rattle.expanded_graph.proofs.words.ways_near.Goals as goal
 use Rattle.expanded_graph.proofs.words.ways_near.Goals.{then-has_step_between+in_ok-add_ways, else-has_step_between}
 
 pub loop-word-init : goal.loop-word-init
-loop-word-init c = record {
-  own = subst (λ (l : List WayId). Contains l c.args.way) (sym c.in_ok-push.ensures.items) (Contains-push c.new-ways.result.items c.args.way);
-  so_far = λ u w h b on. absurd (among_none u h);
-}
+loop-word-init c u w h b on = absurd (among_none u h)
 
 pub loop-word-preserved : goal.loop-word-preserved
 loop-word-preserved c =
@@ -25,26 +21,17 @@ loop-word-preserved c =
           let kept = b.in_ok-add_ways.ensures.kept in
           let there = b.in_ok-add_ways.ensures.there in
           let same = ap (λ v. v.items) (sym b.ways-is) in
-          record {
-            own = subst (λ (l : List WayId). Contains l c.args.way) same (kept c.args.way before.own);
-            so_far = λ u w h between on. subst (λ (l : List WayId). Contains l w) same (elim (among_more c.args.words.now c.loop-word.word-index c.word-item.result c.loop-word-test.true u h) [
-              | inl o ↦ kept w (before.so_far u w o between on)
-              | inr e ↦ there w (subst (HasStepOn w) (steps_of u (c.word-item.is ∙ e)) on)
-            ]);
-          }
+          λ u w h between on. subst (λ (l : List WayId). Contains l w) same (elim (among_more c.args.words.now c.loop-word.word-index c.word-item.result c.loop-word-test.true u h) [
+            | inl o ↦ kept w (before u w o between on)
+            | inr e ↦ there w (subst (HasStepOn w) (steps_of u (c.word-item.is ∙ e)) on)
+          ])
       | else-has_step_between b ↦
           let same = ap (λ v. v.items) (sym b.ways-is) in
-          record {
-            own = subst (λ (l : List WayId). Contains l c.args.way) same before.own;
-            so_far = λ u w h between on. subst (λ (l : List WayId). Contains l w) same (elim (among_more c.args.words.now c.loop-word.word-index c.word-item.result c.loop-word-test.true u h) [
-              | inl o ↦ before.so_far u w o between on
-              | inr e ↦ absurd (false≢true (sym b.if-has_step_between.false ∙ tells.1 (subst (HasStepBetween c.args.way) (steps_of u (c.word-item.is ∙ e)) between)))
-            ]);
-          }
+          λ u w h between on. subst (λ (l : List WayId). Contains l w) same (elim (among_more c.args.words.now c.loop-word.word-index c.word-item.result c.loop-word-test.true u h) [
+            | inl o ↦ before u w o between on
+            | inr e ↦ absurd (false≢true (sym b.if-has_step_between.false ∙ tells.1 (subst (HasStepBetween c.args.way) (steps_of u (c.word-item.is ∙ e)) between)))
+          ])
     ]
 
-pub returns-clause-own : goal.returns-clause-own
-returns-clause-own c = (c.leave_once.ensures c.args.way).1 c.loop-word.invariant.own
-
-pub returns-clause-shared : goal.returns-clause-shared
-returns-clause-shared c u w h between on = (c.leave_once.ensures w).1 (c.loop-word.invariant.so_far u w (among_all c.args.words.now c.loop-word.word-index c.loop-word-test.false u h) between on)
+pub returns : goal.returns
+returns c u w h between on = (c.leave_once.ensures w).1 (c.loop-word.invariant u w (among_all c.args.words.now c.loop-word.word-index c.loop-word-test.false u h) between on)

@@ -9,7 +9,7 @@ facts_of-requires-clause-short g c =
     let M = g.M.World.objects c.args.world.now in
     let P = g.P.Profile.rules c.args.profile.now in
     let m = c.in_ok-automaton.automaton in
-    let near : AreWordsNear M P c.args.way m.words = subst (AreWordsNear M P c.args.way) (sym c.in_ok-automaton.ensures) c.in_ok-words.ensures in
+    let near : AreWordsNear M P c.args.way m.words = subst (AreWordsNear M P c.args.way) (sym c.in_ok-automaton.ensures) c.in_ok-words.ensures.near in
     all_short M P c.args.way m.words m.states near c.closed.ensures.lists (c.words_on_ways.ensures.short M)
 
 pub returns-clause-states : goal.returns-clause-states
@@ -17,7 +17,7 @@ returns-clause-states g c =
     let M = g.M.World.objects c.args.world.now in
     let P = g.P.Profile.rules c.args.profile.now in
     let m = c.in_ok-automaton.automaton in
-    let near : AreWordsNear M P c.args.way m.words = subst (AreWordsNear M P c.args.way) (sym c.in_ok-automaton.ensures) c.in_ok-words.ensures in
+    let near : AreWordsNear M P c.args.way m.words = subst (AreWordsNear M P c.args.way) (sym c.in_ok-automaton.ensures) c.in_ok-words.ensures.near in
     record {
       words = near;
       count = c.in_ok-facts.ensures.count;
