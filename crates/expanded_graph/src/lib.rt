@@ -5,8 +5,10 @@
 //! learnt (`Cache`) from one way to the next, so that the blocks of a whole map cut each way and ask each node once. They
 //! then take memory of the order of the number of the map's pieces, and a look-up the logarithm of the number of its ways
 //! or nodes.
-//! The words of the restrictions near the way make an automaton (`turn_automata`); they are found anew for each way near
-//! which they are. Each of its states is looked at once, in the time of the references of the ways of its last two steps, and
+//! The words of restrictions that have a step on the way, and those that begin with a step near it, make an automaton
+//! (`turn_automata`). Those of the way's own restrictions are found for it alone. The words that begin on a way are found
+//! once for all blocks, in the time of the words of its restrictions, and kept in memory of their own size (`Cache`).
+//! Each state of the automaton is looked at once, in the time of the references of the ways of its last two steps, and
 //! where the last one turns back, of all ways at the node there: those whose steps may be driven and end a piece of the way
 //! stand for its contexts of two pieces or more, and the state after one more step tells whether there is an arc, and where it
 //! leads. They are sorted by the pieces that they end. Where no restriction is near there is the state of no steps alone. Each
