@@ -3,11 +3,10 @@
 //! `run` is the one call that does all that the program does, over any source and site; `main` hands it standard input
 //! and standard output. The words `- compile` build the graph of an extract: the input is read part by part into
 //! events (`input`), of each object the first event of the greatest version stands (`graph`), each way with pieces becomes
-//! its block (`blocks`), and the blocks become the graph's bytes. Time grows as n log n with the input, the graph
-//! and the words near each way together (`expanded_graph`), and memory stays a small multiple of the input, the graph and
-//! the words near one way. The graph of a town is about as large as its extract; that of a node with very many ways grows
-//! with the square of their number. The words near ways may be many: those of all rules on one way are gone through for each
-//! via way of the rules that lead to it.
+//! its block (`blocks`), and the blocks become the graph's bytes. Time grows as n log n with the input, the graph, and the
+//! words that are looked at for each way (`expanded_graph`); memory stays a small multiple of the input, the graph and the
+//! words. The graph of a town is about as large as its extract; that of a node with very many ways grows with the square of
+//! their number.
 #![tactic(auto)]
 
 ghost use Rattle.std.specs.Prelude.{◌≡◌, ◌<◌};
