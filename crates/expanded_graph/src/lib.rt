@@ -7,7 +7,8 @@
 //! or nodes.
 //! The words of restrictions that have a step on the way, and those that begin with a step near it, make an automaton
 //! (`turn_automata`). Those of the way's own restrictions are found for it alone. The words that begin on a way are found
-//! once for all blocks, in the time of the words of its restrictions, and kept in memory of their own size (`Cache`).
+//! once for all blocks, in the time of the words of its restrictions, kept in memory of their own size (`Cache`), and copied
+//! for each way near which that way is.
 //! Each state of the automaton is looked at once, in the time of the references of the ways of its last two steps, and
 //! where the last one turns back, of all ways at the node there: those whose steps may be driven and end a piece of the way
 //! stand for its contexts of two pieces or more, and the state after one more step tells whether there is an arc, and where it
