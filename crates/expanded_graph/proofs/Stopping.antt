@@ -6,6 +6,7 @@ use Rattle.std.proofs.lemmas.Bool.Decides.{Decides-int_eq}
 use Rattle.std.proofs.lemmas.List.{same_from_push}
 use Rattle.road_base.specs.declared.ids.Key.{Key}
 use Rattle.road_base.specs.declared.ids.Key.TheVariants.{Node as NodeKey, Way as WayKey, Relation as RelationKey}
+use Rattle.road_base.specs.declared.ids.NodeId.{NodeId}
 use Rattle.road_base.specs.declared.ids.WayId.{WayId}
 use Rattle.road_base.specs.declared.ids.RelationId.{RelationId}
 use Rattle.road_base.specs.declared.ids.Dir.{Dir}
@@ -15,14 +16,14 @@ use Rattle.road_base.specs.Objects.{Objects}
 use Rattle.road_model.specs.Rules.{Rules}
 use Rattle.road_model.specs.Restrictions.{vias}
 use Rattle.road_model.specs.Driving.{Passes}
-use Rattle.road_model.specs.Words.{IsWord, binding_of}
+use Rattle.road_model.specs.Words.{IsVia, IsWord, binding_of}
 use Rattle.road_model.specs.Network.{NoWord, Must, GoesOn}
 use Rattle.road_model.specs.Turning.{BeginsWord}
 use Rattle.restrictions.specs.declared.word_list.Word.{Word}
 use Rattle.turn_automata.specs.Watched.{IsProperPrefix, NoIn, Must as MustIn, Stops}
 use Rattle.expanded_graph.specs.Near.{IsNear, AreWordsNear}
 use Rattle.expanded_graph.proofs.Members.{In, in_from_contains, contains_from_in, in_end, in_left}
-use Rattle.expanded_graph.proofs.Runs.{cons_not_nil, cut_last, nil_or_cons}
+use Rattle.expanded_graph.proofs.Runs.{cons_not_nil, cut_last}
 
 -- ---- steps and words can be told apart
 
@@ -124,9 +125,30 @@ LongWords M P = (r : RelationId) (only : Bool) (binding : ℕ) (u : List Step) �
 abbrev pub as_word : RelationId → Bool → ℕ → List Step → Word
 as_word r o b u = record { relation = r; only = o; binding = b; steps = u }
 
--- each word of the map that begins with one or more of the last steps of q stands in the list
-abbrev pub Tells : Objects → Rules → List Word → List Step → Type 0
-Tells M P W q = (a p more u : List Step) → q ≡ a ++ p → (p ≡ [] → ⊥) → u ≡ p ++ more → (r : RelationId) (o : Bool) (b : ℕ) → IsWord M P r o b u → Contains W (as_word r o b u)
+-- All words of the map that decide what may follow behind q stand in the list: the No words of which all steps but the
+-- last are last steps of q, and the Only words that begin with as many of the last steps of q as bind, or more.
+pub record Tells (M : Objects) (P : Rules) (W : List Word) (q : List Step) : Type 0 where
+  pub no : (a p : List Step) (x : Step) → q ≡ a ++ p → (p ≡ [] → ⊥) → (r : RelationId) (b : ℕ) → IsWord M P r false b (p ++ x ∷ []) → Contains W (as_word r false b (p ++ x ∷ []))
+  pub must : (a p : List Step) (y : Step) (rest : List Step) → q ≡ a ++ p → (p ≡ [] → ⊥) → (r : RelationId) (b : ℕ) → IsWord M P r true b (p ++ y ∷ rest) → b ≤ length p → Contains W (as_word r true b (p ++ y ∷ rest))
+
+in_right : (a p : List Step) (s : Step) → In s p → In s (a ++ p)
+in_right [] p s i = i
+in_right (x ∷ a) p s i = inr (in_right a p s i)
+
+-- via members that let a rule bind from the first step on spell no steps
+no_via : (M : Objects) (P : Rules) (ks : List Key) (v : NodeId) (steps : List Step) (out : NodeId) → binding_of ks ≤ 1 → IsVia M P ks v steps out → steps ≡ []
+no_via M P [] v steps out one h = absurd h
+no_via M P (NodeKey n ∷ []) v steps out one h = h.1
+no_via M P (NodeKey n ∷ k ∷ ks) v steps out one h = absurd h
+no_via M P (WayKey w ∷ ks) v steps out one h = absurd (omega arith)
+no_via M P (RelationKey r ∷ ks) v steps out one h = absurd h
+
+-- a word that binds from its first step on has two steps in all
+two_in_all : (M : Objects) (P : Rules) (r : RelationId) (o : Bool) (b : ℕ) (s t : Step) (rest : List Step) → IsWord M P r o b (s ∷ t ∷ rest) → b ≤ 1 → rest ≡ []
+two_in_all M P r o b s t rest h one =
+    let none = no_via M P (vias h.body) h.enter h.via h.leave (subst (λ k. k ≤ 1) h.bound one) h.via_is in
+    let is : s ∷ t ∷ rest ≡ h.first ∷ h.last ∷ [] = h.spelled ∙ ap (λ l. h.first ∷ (l ++ h.last ∷ [])) none in
+    cc
 
 module _ (M : Objects) (P : Rules) (w : WayId) (W : List Word) (near : AreWordsNear M P w W) where
   word_is : (v : Word) → Contains W v → (o : Bool) (b : ℕ) (u : List Step) → v.only ≡ o → v.binding ≡ b → v.steps ≡ u → IsWord M P v.relation o b u
@@ -145,18 +167,39 @@ module _ (M : Objects) (P : Rules) (w : WayId) (W : List Word) (near : AreWordsN
 
   -- where the last of the steps lies on the way
   pub tells_on : (q front : List Step) (last : Step) → q ≡ front ++ last ∷ [] → last.way ≡ w → Tells M P W q
-  tells_on q front last ends here a p more u e some is r o b h =
-      among r o b u last h (subst (In last) (sym is) (in_left p more last (last_in q front last ends a p e some))) here
+  tells_on q front last ends here =
+      let there : (a p more : List Step) → q ≡ a ++ p → (p ≡ [] → ⊥) → In last (p ++ more) = λ a p more e some. in_left p more last (last_in q front last ends a p e some) in
+      record {
+        no = λ a p x e some r b h. among r false b (p ++ x ∷ []) last h (there a p (x ∷ []) e some) here;
+        must = λ a p y rest e some r b h bound. among r true b (p ++ y ∷ rest) last h (there a p (y ∷ rest) e some) here;
+      }
 
-  -- where all of the steps are near the way
-  pub tells_near : (q : List Step) → ((s : Step) → Contains q s → IsNear M P w s) → Tells M P W q
-  tells_near q all a p more u e some is r o b h = elim (nil_or_cons p) [
-    | inl n ↦ absurd (some n)
-    | inr v ↦
-        let begins : p ≡ v.0 ∷ v.1 = v.2 in
-        let first : In v.0 q = subst (In v.0) (sym (e ∙ ap (λ l. a ++ l) begins)) (in_end a v.0 v.1) in
-        near.from (as_word r o b u) h v.0 (v.1 ++ more) (is ∙ ap (λ l. l ++ more) begins) (all v.0 (contains_from_in q v.0 first))
-  ]
+  module _ (q : List Step) (all : (s : Step) → Contains q s → IsNear M P w s) where
+    near_in : (a p : List Step) (s : Step) → q ≡ a ++ p → In s p → IsNear M P w s
+    near_in a p s e i = all s (contains_from_in q s (subst (In s) (sym e) (in_right a p s i)))
+
+    -- a word that begins with two of the steps
+    near_two : (a p more : List Step) (s t : Step) → q ≡ a ++ s ∷ t ∷ p → (r : RelationId) (o : Bool) (b : ℕ) → IsWord M P r o b (s ∷ t ∷ (p ++ more)) → Contains W (as_word r o b (s ∷ t ∷ (p ++ more)))
+    near_two a p more s t e r o b h =
+        near.from (as_word r o b (s ∷ t ∷ (p ++ more))) h s t (p ++ more) refl (near_in a (s ∷ t ∷ p) s e (inl refl)) (inr (near_in a (s ∷ t ∷ p) t e (inr (inl refl))))
+
+    -- a word of two steps in all that begins with one of the steps
+    near_one : (a rest : List Step) (s t : Step) → q ≡ a ++ s ∷ [] → rest ≡ [] → (r : RelationId) (o : Bool) (b : ℕ) → IsWord M P r o b (s ∷ t ∷ rest) → Contains W (as_word r o b (s ∷ t ∷ rest))
+    near_one a rest s t e none r o b h = near.from (as_word r o b (s ∷ t ∷ rest)) h s t rest refl (near_in a (s ∷ []) s e (inl refl)) (inl none)
+
+    near_no : (a p : List Step) (x : Step) → q ≡ a ++ p → (p ≡ [] → ⊥) → (r : RelationId) (b : ℕ) → IsWord M P r false b (p ++ x ∷ []) → Contains W (as_word r false b (p ++ x ∷ []))
+    near_no a [] x e some r b h = absurd (some refl)
+    near_no a (s ∷ []) x e some r b h = near_one a [] s x e refl r false b h
+    near_no a (s ∷ t ∷ p) x e some r b h = near_two a p (x ∷ []) s t e r false b h
+
+    near_must : (a p : List Step) (y : Step) (rest : List Step) → q ≡ a ++ p → (p ≡ [] → ⊥) → (r : RelationId) (b : ℕ) → IsWord M P r true b (p ++ y ∷ rest) → b ≤ length p → Contains W (as_word r true b (p ++ y ∷ rest))
+    near_must a [] y rest e some r b h bound = absurd (some refl)
+    near_must a (s ∷ []) y rest e some r b h bound = near_one a rest s y e (two_in_all M P r true b s y rest h bound) r true b h
+    near_must a (s ∷ t ∷ p) y rest e some r b h bound = near_two a p (y ∷ rest) s t e r true b h
+
+    -- where all of the steps are near the way
+    pub tells_near : Tells M P W q
+    tells_near = record { no = near_no; must = near_must }
 
   no_from : (u : List Step) → NoIn W u → NoWord M P u
   no_from u n = record { relation = n.word.relation; binding = n.word.binding; word = word_is n.word n.among false n.word.binding u n.no refl n.is }
@@ -184,14 +227,16 @@ module _ (M : Objects) (P : Rules) (w : WayId) (W : List Word) (near : AreWordsN
       omega (arith, one)
 
   module _ (long : LongWords M P) (q front : List Step) (last x : Step) (ends : q ≡ front ++ last ∷ []) (tells : Tells M P W q) where
-    no_to : (a p more u : List Step) → q ≡ a ++ p → (p ≡ [] → ⊥) → u ≡ p ++ more → NoWord M P u → NoIn W u
-    no_to a p more u e some is h = record { word = as_word h.relation false h.binding u; among = tells a p more u e some is h.relation false h.binding h.word; no = refl; is = refl }
+    no_to : (a p u : List Step) (y : Step) → q ≡ a ++ p → (p ≡ [] → ⊥) → u ≡ p ++ y ∷ [] → NoWord M P u → NoIn W u
+    no_to a p u y e some is h =
+        let there = tells.no a p y e some h.relation h.binding (subst (IsWord M P h.relation false h.binding) is h.word) in
+        record { word = as_word h.relation false h.binding (p ++ y ∷ []); among = there; no = refl; is = sym is }
 
     must_to : (a p : List Step) (y : Step) → q ≡ a ++ p → Must M P p y → MustIn W p y
     must_to a p y e m =
         let h = m.word in
         let u = p ++ y ∷ m.rest in
-        record { binding = m.binding; rest = m.rest; word = record { word = as_word h.relation true m.binding u; among = tells a p (y ∷ m.rest) u e (must_behind p y m) refl h.relation true m.binding h.word; only = refl; bound = refl; is = refl }; bound = m.bound }
+        record { binding = m.binding; rest = m.rest; word = record { word = as_word h.relation true m.binding u; among = tells.must a p y m.rest e (must_behind p y m) h.relation m.binding h.word m.bound; only = refl; bound = refl; is = refl }; bound = m.bound }
 
     no_stop : GoesOn M P q x → Stops W q x → ⊥
     no_stop g (inl f) = g.no f.front f.word f.is (no_from f.word f.no)
@@ -204,7 +249,7 @@ module _ (M : Objects) (P : Rules) (w : WayId) (W : List Word) (near : AreWordsN
           | inl none ↦ cons_not_nil [] l.0 (l.1 ++ l.2 ∷ []) (sym l.3 ∙ none)
           | inr r ↦
               let some : r.rest ≡ [] → ⊥ = λ z. cons_not_nil l.1 l.2 [] (let k : l.0 ∷ (l.1 ++ l.2 ∷ []) ≡ x ∷ [] = sym l.3 ∙ (r.is ∙ ap (λ v. v ++ x ∷ []) z) in cc) in
-              goes (inl (record { word = u; no = no_to a r.rest (x ∷ []) u r.front some r.is n; front = a; is = e }))
+              goes (inl (record { word = u; no = no_to a r.rest u x r.front some r.is n; front = a; is = e }))
         ]
 
     demanded : (Stops W q x → ⊥) → (a p : List Step) → q ≡ a ++ p → (y : Step) → Must M P p y → Must M P p x
