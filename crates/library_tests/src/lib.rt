@@ -3,7 +3,7 @@
 //!
 //! A crate is proved once more with its tests, so those of most libraries stand together here. Where a test looks into a
 //! crate, or a call of it asks what is proved there alone, it stands there (`road_io`, `graph_file`); whole runs are tried
-//! in `osmroad`.
+//! in `osmroad`. `makers` makes texts, tags, events and worlds for them, in the time of what is made.
 #![tactic(auto)]
 
 #[cfg(test)]
@@ -12,8 +12,7 @@ mod access_profile_tests;
 mod back_references_tests;
 #[cfg(test)]
 mod barrier_rules_tests;
-#[cfg(test)]
-mod makers;
+pub mod makers;
 #[cfg(test)]
 mod object_codec_tests;
 #[cfg(test)]

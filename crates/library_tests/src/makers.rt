@@ -1,5 +1,6 @@
-//! Texts, tags and events for tests.
-ghost use Rattle.std.specs.Prelude.{◌≡◌, IfOk};
+//! Texts, tags, events and worlds for tests.
+ghost use Rattle.std.specs.Prelude.{◌≡◌, [], IfOk};
+ghost use Rattle.road_base.specs.declared.objects.Body.TheVariants.{Deleted};
 
 use back_references::Indexed;
 use opl_objects::{Mode, ReadError, Reader};
@@ -7,18 +8,24 @@ use road_base::{Body, Event, Key, NoMemory, Tags, Text};
 use std::alloc::Global;
 use std::test::Fail;
 
+/// An equal text.
 pub fn text(alloc: Global, of: &str) -> Result<Text, NoMemory>
     ensures { IfOk result (λ t. t ≡ of.now) }
 {
     Ok(Text::from_string(String::from_str(alloc, of)?))
 }
 
-pub fn no_tags(alloc: Global) -> Tags {
+/// No tags. Takes no memory.
+pub fn no_tags(alloc: Global) -> Tags
+    ensures { result ≡ [] }
+{
     Tags::from_list(Vec::new(alloc))
 }
 
 /// The tags of these pairs of a key and a value, which ascend by key.
-pub fn tags_of(list: Vec<(Text, Text)>) -> Result<Tags, Fail> {
+pub fn tags_of(list: Vec<(Text, Text)>) -> Result<Tags, Fail>
+    ensures { IfOk result (λ t. t ≡ list.items) }
+{
     if list.len() > 65_535 || !Tags::are_ascending(&list) {
         return Err(Fail::from("the keys don't ascend"));
     }
@@ -37,7 +44,12 @@ pub fn tags(alloc: Global, of: &str) -> Result<Tags, Fail> {
     tags_of(list)
 }
 
-pub fn deletion(key: Key, version: u32) -> Event {
+/// The deletion of the object in that version.
+pub fn deletion(key: Key, version: u32) -> Event
+    ensures key { result.key ≡ key }
+    ensures version { result.version ≡ version }
+    ensures deleted { result.body ≡ Deleted }
+{
     Event {
         key,
         version,
