@@ -3,6 +3,7 @@ pub mod Ascending
 pub mod Ends
 pub mod Runs
 pub mod Between
+pub mod GoingOn
 pub mod WordsNear
 pub mod Stopping
 pub mod LastSteps

@@ -13,13 +13,14 @@ use Rattle.road_model.specs.Orders.{Lists, relation_cmp}
 use Rattle.road_model.specs.declared.answers.Unusable.{Unusable}
 use Rattle.road_model.specs.Restrictions.{Holds}
 use Rattle.road_model.specs.Words.{IsWord}
+use Rattle.road_model.specs.Network.{AnyWord}
 use Rattle.road_model.specs.Links.{HasMember}
 use Rattle.restrictions.specs.declared.word_list.Word.{Word}
 use Rattle.restrictions.specs.declared.relation_words.WordsError.{WordsError}
 use Rattle.restrictions.specs.declared.relation_words.WordsError.TheVariants.{Unusable as OfNoUse}
 use Rattle.restrictions.specs.Words.{IsRestriction, IsWordOf, SaysCause}
 use Rattle.expanded_graph.specs.Near.{OnIt, Shares, HasStepOn, HasStepBetween, BeginsOn, AreWordsNear}
-use Rattle.expanded_graph.specs.Known.{AreWordsOf, GainsApart, GainsWords, IsOn}
+use Rattle.expanded_graph.specs.Known.{AreWordsOf, GainsApart, GainsWords, GoesOnOver, IsOn}
 use Rattle.expanded_graph.specs.Beginnings.{IsWordFrom, AreWordsFrom}
 use Rattle.expanded_graph.proofs.Between.{on_from_between, on_from_begins}
 
@@ -45,11 +46,21 @@ restrict M v r h = record { body = h.body; visible = h.is; restriction = h.restr
 some_same : (a b : Relation) → Some a ≡ Some b → a ≡ b
 some_same a b e = cc
 
--- words of the map, among them all that have a step on w, and all that begin on one of the ways
-pub record Gathers (M : Objects) (P : Rules) (w : WayId) (ways : List WayId) (words : List Word) : Type 0 where
+-- words of the map, among them all that have a step on w, and all that begin on one of the ways so far and go on over all
+pub record Gathers (M : Objects) (P : Rules) (w : WayId) (all ways : List WayId) (words : List Word) : Type 0 where
   pub sound : (u : Word) → Contains words u → IsWord M P u.relation u.only u.binding u.steps
   pub on : (u : Word) → IsWord M P u.relation u.only u.binding u.steps → HasStepOn w u.steps → Contains words u
-  pub so_far : (v : WayId) (u : Word) → Contains ways v → IsWordFrom M P v u → Contains words u
+  pub so_far : (v : WayId) (u : Word) → Contains ways v → IsWordFrom M P v u → GoesOnOver all u.steps → Contains words u
+
+second_among : (u : List Step) (first second : Step) (rest : List Step) → u ≡ first ∷ second ∷ rest → Contains u second
+second_among u first second rest e = subst (λ l. Contains l second) (sym e) (1, omega arith, refl)
+
+-- a list that goes on behind its second step is known by what stands there
+goes_on : (ways : List WayId) (u : List Step) (first second : Step) (rest : List Step) → u ≡ first ∷ second ∷ rest → (rest ≡ []) ⊎ Contains ways second.way → GoesOnOver ways u
+goes_on ways u first second rest e goes = λ a b more f. elim goes [
+  | inl none ↦ inl (let same : more ≡ rest = cc in same ∙ none)
+  | inr c ↦ inr (let same : second ≡ b = cc in subst (λ (x : Step). Contains ways x.way) same c)
+]
 
 module _ (M : Objects) (P : Rules) where
   -- a restriction of no use has no words
@@ -90,38 +101,51 @@ module _ (M : Objects) (P : Rules) where
 
     module _ (w : WayId) (own : List RelationId) (owns : Lists (λ r. r) relation_cmp (IsOn M w) own) (words : List Word) (are : AreWordsOf M P own words) where
       -- the words that are listed before those that begin on other ways
-      pub gathers_own : Gathers M P w [] words
-      gathers_own = record {
+      pub gathers_own : (ways : List WayId) → Gathers M P w ways [] words
+      gathers_own ways = record {
         sound = λ u c. (are.sound u c).1.is;
         on = on_own w own owns words are;
-        so_far = λ v u none from. absurd (among_none v none);
+        so_far = λ v u none from goes. absurd (among_none v none);
       }
 
+      -- the ways of the steps that are near the way
+      way_listed : (ways : List WayId) → ((u : Word) (v : WayId) → Contains words u → HasStepBetween w u.steps → HasStepOn v u.steps → Contains ways v) → (s : Step) (steps : List Step) → AnyWord M P steps → HasStepBetween w steps → Contains steps s → Contains ways s.way
+      way_listed ways shared s steps any between among =
+          let shares : Word = record { relation = any.relation; only = any.only; binding = any.binding; steps = steps } in
+          let listed = on_own w own owns words are shares any.word (on_from_between w steps between) in
+          shared shares s.way listed between (record { step = s; among = among; on = refl })
+
       -- what was gathered on all ways near the way
-      pub gathered : (ways : List WayId) → ((u : Word) (v : WayId) → Contains words u → HasStepBetween w u.steps → HasStepOn v u.steps → Contains ways v) → (all : List Word) → Gathers M P w ways all → AreWordsNear M P w all
+      pub gathered : (ways : List WayId) → ((u : Word) (v : WayId) → Contains words u → HasStepBetween w u.steps → HasStepOn v u.steps → Contains ways v) → (all : List Word) → Gathers M P w ways ways all → AreWordsNear M P w all
       gathered ways shared all g = record {
         sound = g.sound;
         on = g.on;
-        from = λ u is first rest e near. elim near [
-          | OnIt on ↦ g.on u is (on_from_begins w u.steps (record { first = first; rest = rest; is = e; on = on }))
+        from = λ u is first second rest e near goes. elim near [
+          | OnIt on ↦ g.on u is (on_from_begins w u.steps (record { first = first; rest = second ∷ rest; is = e; on = on }))
           | Shares steps any between among ↦
-              let shares : Word = record { relation = any.relation; only = any.only; binding = any.binding; steps = steps } in
-              let there = on_own w own owns words are shares any.word (on_from_between w steps between) in
-              g.so_far first.way u (shared shares first.way there between (record { step = first; among = among; on = refl })) (is, record { first = first; rest = rest; is = e; on = refl })
+              let from : IsWordFrom M P first.way u = (is, record { first = first; rest = second ∷ rest; is = e; on = refl }) in
+              let begins = way_listed ways shared first steps any between among in
+              elim goes [
+                | inl none ↦ g.so_far first.way u begins from (goes_on ways u.steps first second rest e (inl none))
+                | inr close ↦ elim close [
+                  | OnIt on ↦ g.on u is (record { step = second; among = second_among u.steps first second rest e; on = on })
+                  | Shares others more inside here ↦ g.so_far first.way u begins from (goes_on ways u.steps first second rest e (inr (way_listed ways shared second others more inside here)))
+                ]
+              ]
         ];
       }
 
   -- the words that begin on one way more
-  pub gathers_more : (w : WayId) (ways : List WayId) (i : ℕ) (d : WayId) (old new : List Word) → i < length ways → Gathers M P w (take i ways) old → GainsApart w (IsWordFrom M P (get_or ways i d)) old new → Gathers M P w (take (i + 1) ways) new
+  pub gathers_more : (w : WayId) (ways : List WayId) (i : ℕ) (d : WayId) (old new : List Word) → i < length ways → Gathers M P w ways (take i ways) old → GainsApart ways w (IsWordFrom M P (get_or ways i d)) old new → Gathers M P w ways (take (i + 1) ways) new
   gathers_more w ways i d old new l g a = record {
     sound = λ u c. elim (a.others u c) [
       | inl o ↦ g.sound u o
       | inr f ↦ f.0
     ];
     on = λ u is on. a.kept u (g.on u is on);
-    so_far = λ v u c from. elim (among_more ways i d l v c) [
-      | inl o ↦ a.kept u (g.so_far v u o from)
-      | inr e ↦ elim (a.apart u (subst (λ x. IsWordFrom M P x u) (sym e) from)) [
+    so_far = λ v u c from goes. elim (among_more ways i d l v c) [
+      | inl o ↦ a.kept u (g.so_far v u o from goes)
+      | inr e ↦ elim (a.apart u (subst (λ x. IsWordFrom M P x u) (sym e) from) goes) [
         | inl there ↦ there
         | inr on ↦ a.kept u (g.on u from.0 on)
       ]
@@ -129,37 +153,37 @@ module _ (M : Objects) (P : Rules) where
   }
 
   -- on the way itself nothing is to be added
-  pub apart_itself : (v w : WayId) (old : List Word) → v ≡ w → GainsApart w (IsWordFrom M P v) old old
-  apart_itself v w old e = record {
+  pub apart_itself : (ways : List WayId) (v w : WayId) (old : List Word) → v ≡ w → GainsApart ways w (IsWordFrom M P v) old old
+  apart_itself ways v w old e = record {
     kept = λ u c. c;
-    apart = λ u f. inr (subst (λ x. HasStepOn x u.steps) e (on_from_begins v u.steps f.1));
+    apart = λ u f goes. inr (subst (λ x. HasStepOn x u.steps) e (on_from_begins v u.steps f.1));
     others = λ u c. inl c;
   }
 
 -- the same for equal demands
-pub apart_same : (w : WayId) (A B : Word → Type 0) (old new : List Word) → ((u : Word) → A u ↔ B u) → GainsApart w A old new → GainsApart w B old new
-apart_same w A B old new same g = record {
+pub apart_same : (ways : List WayId) (w : WayId) (A B : Word → Type 0) (old new : List Word) → ((u : Word) → A u ↔ B u) → GainsApart ways w A old new → GainsApart ways w B old new
+apart_same ways w A B old new same g = record {
   kept = g.kept;
-  apart = λ u b. g.apart u ((same u).1 b);
+  apart = λ u b goes. g.apart u ((same u).1 b) goes;
   others = λ u c. elim (g.others u c) [
     | inl o ↦ inl o
     | inr a ↦ inr ((same u).0 a)
   ];
 }
 
-pub apart_none : (w : WayId) (old : List Word) → GainsApart w (Contains []) old old
-apart_none w old = record { kept = λ u c. c; apart = λ u none. absurd (among_none u none); others = λ u c. inl c }
+pub apart_none : (ways : List WayId) (w : WayId) (old : List Word) → GainsApart ways w (Contains []) old old
+apart_none ways w old = record { kept = λ u c. c; apart = λ u none goes. absurd (among_none u none); others = λ u c. inl c }
 
 -- one word more is looked at
-pub apart_more : (w : WayId) (more : List Word) (i : ℕ) (d : Word) (first old new : List Word) → i < length more → d ≡ get_or more i d → GainsApart w (Contains (take i more)) first old → GainsApart w (λ u. u ≡ d) old new → GainsApart w (Contains (take (i + 1) more)) first new
-apart_more w more i d first old new l is g a = record {
+pub apart_more : (ways : List WayId) (w : WayId) (more : List Word) (i : ℕ) (d : Word) (first old new : List Word) → i < length more → d ≡ get_or more i d → GainsApart ways w (Contains (take i more)) first old → GainsApart ways w (λ u. u ≡ d) old new → GainsApart ways w (Contains (take (i + 1) more)) first new
+apart_more ways w more i d first old new l is g a = record {
   kept = λ u c. a.kept u (g.kept u c);
-  apart = λ u c. elim (among_more more i d l u c) [
-    | inl o ↦ elim (g.apart u o) [
+  apart = λ u c goes. elim (among_more more i d l u c) [
+    | inl o ↦ elim (g.apart u o goes) [
       | inl there ↦ inl (a.kept u there)
       | inr on ↦ inr on
     ]
-    | inr e ↦ a.apart u (sym (is ∙ e))
+    | inr e ↦ a.apart u (sym (is ∙ e)) goes
   ];
   others = λ u c. elim (a.others u c) [
     | inl o ↦ elim (g.others u o) [

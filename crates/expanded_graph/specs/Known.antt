@@ -32,10 +32,15 @@ pub record GainsWords (M : Objects) (P : Rules) (r : RelationId) (old new : List
   pub appended : new ≡ old ++ more
   pub exactly : (u : Word) → Contains more u ↔ IsWordOf M P r u
 
--- the list has got words of those asked for, all but some that have a step on way w, and nothing else
-pub record GainsApart (w : WayId) (Asked : Word → Type 0) (old new : List Word) : Type 0 where
+-- there are no more than two steps, or the second lies on one of the ways
+abbrev pub GoesOnOver : List WayId → List Step → Type 0
+GoesOnOver ways u = (first second : Step) (rest : List Step) → u ≡ first ∷ second ∷ rest → (rest ≡ []) ⊎ Contains ways second.way
+
+-- the list has got words of those asked for, of the ones that go on over the ways all but some that have a step on way w,
+-- and nothing else
+pub record GainsApart (ways : List WayId) (w : WayId) (Asked : Word → Type 0) (old new : List Word) : Type 0 where
   pub kept : (u : Word) → Contains old u → Contains new u
-  pub apart : (u : Word) → Asked u → Contains new u ⊎ HasStepOn w u.steps
+  pub apart : (u : Word) → Asked u → GoesOnOver ways u.steps → Contains new u ⊎ HasStepOn w u.steps
   pub others : (u : Word) → Contains new u → Contains old u ⊎ Asked u
 
 -- the way is a member of the restriction

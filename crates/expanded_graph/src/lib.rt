@@ -5,10 +5,11 @@
 //! learnt (`Cache`) from one way to the next, so that the blocks of a whole map cut each way and ask each node once. They
 //! then take memory of the order of the number of the map's pieces, and a look-up the logarithm of the number of its ways
 //! or nodes.
-//! The words of restrictions that have a step on the way, and those that begin with a step near it, make an automaton
-//! (`turn_automata`). Those of the way's own restrictions are found for it alone. The words that begin on a way are found
-//! once for all blocks, in the time of the words of its restrictions, kept in memory of their own size (`Cache`), and copied
-//! for each way near which that way is.
+//! The words of restrictions that have a step on the way, and those that begin with a step near it and have no more than two
+//! steps or a second one near it, too, make an automaton (`turn_automata`). Those of the way's own restrictions are found for
+//! it alone. The words that begin on a way are found once for all blocks, in the time of the words of its restrictions, kept
+//! in memory of their own size (`Cache`), looked at for each way near which that way is, and copied where they go on near it
+//! or end there.
 //! Each state of the automaton is looked at once, in the time of the references of the ways of its last two steps, and
 //! where the last one turns back, of all ways at the node there: those whose steps may be driven and end a piece of the way
 //! stand for its contexts of two pieces or more, and the state after one more step tells whether there is an arc, and where it

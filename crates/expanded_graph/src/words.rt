@@ -1,13 +1,15 @@
 //! The words that matter on a way.
 ghost use Rattle.std.specs.Prelude.{◌≡◌, ◌++◌, ◌↔◌, Contains, IfOk, IsTrue, OnOk};
 ghost use Rattle.std.specs.List.{All};
+ghost use Rattle.std.specs.List.Sorted.{IsStrictlySortedBy};
 ghost use Rattle.std.specs.FinMap.{IsAntisymmetric};
 ghost use Rattle.road_base.specs.declared.ids.WayId.{WayId};
 ghost use Rattle.road_base.specs.declared.ids.RelationId.{RelationId};
+ghost use Rattle.road_model.specs.Orders.{way_cmp};
 ghost use Rattle.restrictions.specs.declared.word_list.Word.{Word};
 ghost use Rattle.restrictions.specs.Words.{IsRestriction};
 ghost use Rattle.expanded_graph.specs.Near.{AreWordsNear, HasStepBetween, HasStepOn};
-ghost use Rattle.expanded_graph.specs.Known.{AreWordsOf, GainsApart, GainsWords};
+ghost use Rattle.expanded_graph.specs.Known.{AreWordsOf, GainsApart, GainsWords, GoesOnOver};
 ghost use Rattle.expanded_graph.specs.Beginnings.{AreWordsByWay, IsWordFrom};
 
 use crate::words_by_way::WordsByWay;
@@ -17,10 +19,12 @@ use road_model::laws::{name_order, words_on_ways};
 use road_model::{Profile, World};
 use std::alloc::Global;
 
-/// Words of the map: those of the way's own restrictions, among them all that have a step on it, and those that begin on
-/// a way near it, on which a word that has a step on this way between its first and its last has a step. Where the words
-/// that begin on a way near it aren't known they are found, which stays so where no memory is found. Takes the time of the
-/// words that it lists, and of the words of the restrictions of each way that it learns.
+/// Words of the map: those of the way's own restrictions, among them all that have a step on it, and of those that begin
+/// on a way near it, on which a word that has a step on this way between its first and its last has a step, the ones that
+/// have no more than two steps or of which the second lies on such a way, too. Where the words that begin on a way near it
+/// aren't known they are found, which stays so where no memory is found. Takes the time of the words that it lists, of a
+/// search among the ways near it for each word that begins on one of them, and of the words of the restrictions of each way
+/// that it learns.
 pub fn words_near<M: World, P: Profile>(
     alloc: Global,
     world: &M,
@@ -35,14 +39,18 @@ pub fn words_near<M: World, P: Profile>(
     words_on_ways(profile);
     let own = world.rules_of_way(way);
     let mut words = words_of(alloc, world, profile, own)?;
-    let ways = ways_near(alloc, words.as_slice(), way)?;
-    for near in ways.as_slice() {
-        add_words_from(alloc, &mut words, world, profile, beginnings, *near, way)?;
+    let found = ways_near(alloc, words.as_slice(), way)?;
+    let ways = found.as_slice();
+    for near in ways {
+        add_words_from(
+            alloc, &mut words, world, profile, beginnings, *near, ways, way,
+        )?;
     }
     Ok(WordList::from_list(words))
 }
 
-/// Adds the words that begin on the way near this one, but for those that have a step on this one.
+/// Adds the words that begin on the way near this one and go on over the ways near it, but for those that have a step on
+/// this one.
 fn add_words_from<M: World, P: Profile>(
     alloc: Global,
     list: &mut Vec<Word>,
@@ -50,38 +58,60 @@ fn add_words_from<M: World, P: Profile>(
     profile: &P,
     beginnings: &mut WordsByWay,
     near: WayId,
+    ways: &[WayId],
     way: WayId,
 ) -> Result<(), NoMemory>
-    requires { AreWordsByWay (M.objects world.now) (P.rules profile.now) beginnings.old }
+    requires beginnings { AreWordsByWay (M.objects world.now) (P.rules profile.now) beginnings.old }
+    requires sorted { IsStrictlySortedBy way_cmp ways.now }
     ensures beginnings { AreWordsByWay (M.objects world.now) (P.rules profile.now) beginnings.new }
-    ensures gained { OnOk result (GainsApart way (IsWordFrom (M.objects world.now) (P.rules profile.now) near) list.old.items list.new.items) }
+    ensures gained { OnOk result (GainsApart ways.now way (IsWordFrom (M.objects world.now) (P.rules profile.now) near) list.old.items list.new.items) }
 {
     if near == way {
         return Ok(());
     }
     beginnings.learn(alloc, world, profile, near)?;
-    append_apart(list, beginnings.at(near).as_slice(), way)
+    append_apart(list, beginnings.at(near).as_slice(), ways, way)
 }
 
-/// Adds equal words, but for those that have a step on the way.
-fn append_apart(list: &mut Vec<Word>, more: &[Word], way: WayId) -> Result<(), NoMemory>
-    ensures { OnOk result (GainsApart way (Contains more.now) list.old.items list.new.items) }
+/// Adds equal words of those that go on over the ways, but for those that have a step on the way.
+fn append_apart(
+    list: &mut Vec<Word>,
+    more: &[Word],
+    ways: &[WayId],
+    way: WayId,
+) -> Result<(), NoMemory>
+    requires { IsStrictlySortedBy way_cmp ways.now }
+    ensures { OnOk result (GainsApart ways.now way (Contains more.now) list.old.items list.new.items) }
 {
     for word in more {
-        add_apart(list, word, way)?;
+        add_apart(list, word, ways, way)?;
     }
     Ok(())
 }
 
-/// Adds an equal word, unless it has a step on the way.
-fn add_apart(list: &mut Vec<Word>, word: &Word, way: WayId) -> Result<(), NoMemory>
-    ensures { OnOk result (GainsApart way (λ u. u ≡ word.now) list.old.items list.new.items) }
+/// Adds an equal word if it goes on over the ways, unless it has a step on the way.
+fn add_apart(list: &mut Vec<Word>, word: &Word, ways: &[WayId], way: WayId) -> Result<(), NoMemory>
+    requires { IsStrictlySortedBy way_cmp ways.now }
+    ensures { OnOk result (GainsApart ways.now way (λ u. u ≡ word.now) list.old.items list.new.items) }
 {
-    if has_step_on(word.steps.items(), way) {
+    let steps = word.steps.items();
+    if !goes_on_near(steps, ways) || has_step_on(steps, way) {
         return Ok(());
     }
     list.push(word.copy()?)?;
     Ok(())
+}
+
+/// Whether there are no more than two steps, or the second lies on one of the ways. Takes the time of a search among them.
+fn goes_on_near(steps: &[Step], ways: &[WayId]) -> bool
+    requires { IsStrictlySortedBy way_cmp ways.now }
+    ensures { IsTrue result ↔ GoesOnOver ways.now steps.now }
+{
+    name_order();
+    match steps {
+        [_, second, _, ..] => ways.binary_search(&second.way).is_ok(),
+        _ => true,
+    }
 }
 
 /// The words of these restrictions. One that is of no use gives none.
@@ -129,9 +159,10 @@ fn append(list: &mut Vec<Word>, more: &[Word]) -> Result<(), NoMemory>
     Ok(())
 }
 
-/// The ways on which a word has a step that has a step on the way between its first and its last, each once.
+/// The ways on which a word has a step that has a step on the way between its first and its last, each once, ascending.
 fn ways_near(alloc: Global, words: &[Word], way: WayId) -> Result<Vec<WayId>, NoMemory>
-    ensures { IfOk result (λ v. (u : Word) (w : WayId) → Contains words.now u → HasStepBetween way u.steps → HasStepOn w u.steps → Contains v.items w) }
+    ensures sorted { IfOk result (λ v. IsStrictlySortedBy way_cmp v.items) }
+    ensures there { IfOk result (λ v. (u : Word) (w : WayId) → Contains words.now u → HasStepBetween way u.steps → HasStepOn w u.steps → Contains v.items w) }
 {
     let mut ways = Vec::new(alloc);
     for word in words {
@@ -188,7 +219,8 @@ fn add_way(ways: &mut Vec<WayId>, way: WayId) -> Result<(), NoMemory>
 /// Each value once, ascending.
 fn leave_once<T: Ord + Copy>(list: &mut Vec<T>)
     requires { IsAntisymmetric T.cmp }
-    ensures { (x : T) → Contains list.new.items x ↔ Contains list.old.items x }
+    ensures sorted { IsStrictlySortedBy T.cmp list.new.items }
+    ensures same { (x : T) → Contains list.new.items x ↔ Contains list.old.items x }
 {
     list.sort_unstable();
     list.dedup();

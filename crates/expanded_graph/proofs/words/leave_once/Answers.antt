@@ -1,16 +1,22 @@
--- A sort and the removal of repeats leave the same values.
+-- A sort and the removal of repeats leave the same values, each below the next.
 use Rattle.std.proofs.Common.{◌≡◌, Bool, List, sym, ap, subst, ◌∙◌, Contains}
 use Rattle.std.specs.Cmp.{Equal-is}
 use Rattle.std.specs.List.{dedup}
+use Rattle.std.specs.List.Sorted.{IsStrictlySortedBy}
 use Rattle.std.specs.Ordering.{eq_by_cmp}
 use Rattle.std.proofs.lemmas.Cmp.{eq_by_cmp_equiv}
 use Rattle.std.proofs.lemmas.List.Filters.{dedup_is}
-use Rattle.std.proofs.lemmas.List.Kept.{Contains-dedup, Contains-from_dedup}
+use Rattle.std.proofs.lemmas.List.Kept.{Contains-dedup, Contains-from_dedup, IsStrictlySortedBy-dedup}
 use Rattle.std.proofs.lemmas.List.Sorted.{Contains-permutation, IsPermutation-sym}
 use Rattle.expanded_graph.proofs.words.leave_once.Goals as goal
 
-pub returns : goal.returns
-returns g c x =
+pub returns-clause-sorted : goal.returns-clause-sorted
+returns-clause-sorted g c =
+    let E = g.T.PartialEq.eq in
+    subst (IsStrictlySortedBy g.T.Ord.cmp) (sym (dedup_is E _ _ c.dedup.ensures.filtered)) (IsStrictlySortedBy-dedup g.met.T.Ord.total (λ x y. g.met.T.Ord.matches_eq x y) c.sort_unstable.new.self.items c.sort_unstable.ensures.sorted)
+
+pub returns-clause-same : goal.returns-clause-same
+returns-clause-same g c x =
     let T = g.row.T.Denot in
     let E = g.T.PartialEq.eq in
     let C = g.T.Ord.cmp in

@@ -33,5 +33,5 @@ loop-word-preserved c =
           ])
     ]
 
-pub returns : goal.returns
-returns c u w h between on = (c.leave_once.ensures w).1 (c.loop-word.invariant u w (among_all c.args.words.now c.loop-word.word-index c.loop-word-test.false u h) between on)
+pub returns-clause-there : goal.returns-clause-there
+returns-clause-there c u w h between on = (c.leave_once.ensures.same w).1 (c.loop-word.invariant u w (among_all c.args.words.now c.loop-word.word-index c.loop-word-test.false u h) between on)

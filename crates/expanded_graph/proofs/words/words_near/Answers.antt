@@ -17,7 +17,7 @@ loop-near-init g c =
     let P = g.P.Profile.rules c.args.profile.now in
     record {
       beginnings = c.requires;
-      gathers = gathers_own M P (c.words_on_ways.ensures.members M) c.args.way c.rules_of_way-own.result.now c.rules_of_way-own.ensures c.in_ok-words.words.items c.in_ok-words.ensures;
+      gathers = gathers_own M P (c.words_on_ways.ensures.members M) c.args.way c.rules_of_way-own.result.now c.rules_of_way-own.ensures c.in_ok-words.words.items c.in_ok-words.ensures c.as_slice-ways.result.now;
     }
 
 pub loop-near-preserved : goal.loop-near-preserved
@@ -26,7 +26,7 @@ loop-near-preserved g c =
     let P = g.P.Profile.rules c.args.profile.now in
     record {
       beginnings = c.add_words_from.ensures.beginnings;
-      gathers = gathers_more M P c.args.way c.as_slice-near-items.result.now c.loop-near.near-index _ c.loop-near.words.items c.add_words_from.new.list.items c.loop-near-test.true c.loop-near.invariant.gathers c.in_ok-add_words_from.ensures.gained;
+      gathers = gathers_more M P c.args.way c.as_slice-ways.result.now c.loop-near.near-index _ c.loop-near.words.items c.add_words_from.new.list.items c.loop-near-test.true c.loop-near.invariant.gathers c.in_ok-add_words_from.ensures.gained;
     }
 
 pub returns-clause-near : goal.returns-clause-near
@@ -35,12 +35,12 @@ returns-clause-near g c =
     let P = g.P.Profile.rules c.args.profile.now in
     let w = c.args.way in
     let words = c.in_ok-words.words.items in
-    let ways = c.as_slice-near-items.result.now in
+    let ways = c.as_slice-ways.result.now in
     let i = c.loop-near.near-index in
     let past = c.loop-near-test.false in
     let all = c.loop-near.words.items in
-    let gathers : Gathers M P w ways all = subst (λ (l : List WayId). Gathers M P w l all) (take_all i ways (omega arith)) c.loop-near.invariant.gathers in
-    let there = subst (λ (l : List Word). (u : Word) (v : WayId) → Contains l u → HasStepBetween w u.steps → HasStepOn v u.steps → Contains c.in_ok-ways.ways.items v) c.as_slice.ensures.value c.in_ok-ways.ensures in
-    let shared = subst (λ (l : List WayId). (u : Word) (v : WayId) → Contains words u → HasStepBetween w u.steps → HasStepOn v u.steps → Contains l v) (sym c.as_slice-near-items.ensures.value) there in
+    let gathers : Gathers M P w ways ways all = subst (λ (l : List WayId). Gathers M P w ways l all) (take_all i ways (omega arith)) c.loop-near.invariant.gathers in
+    let there = subst (λ (l : List Word). (u : Word) (v : WayId) → Contains l u → HasStepBetween w u.steps → HasStepOn v u.steps → Contains c.in_ok-found.found.items v) c.as_slice.ensures.value c.in_ok-found.ensures.there in
+    let shared = subst (λ (l : List WayId). (u : Word) (v : WayId) → Contains words u → HasStepBetween w u.steps → HasStepOn v u.steps → Contains l v) (sym c.as_slice-ways.ensures.value) there in
     subst (AreWordsNear M P w) (sym c.from_list.ensures)
     (gathered M P (c.words_on_ways.ensures.members M) w c.rules_of_way-own.result.now c.rules_of_way-own.ensures words c.in_ok-words.ensures ways shared all gathers)

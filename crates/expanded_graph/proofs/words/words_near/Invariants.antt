@@ -7,5 +7,5 @@ use Rattle.expanded_graph.proofs.words.words_near.Given as goal
 abbrev pub invariant-loop-near : goal.invariant-loop-near
 invariant-loop-near g l = record {
   beginnings : AreWordsByWay (g.M.World.objects l.world) (g.P.Profile.rules l.profile) l.beginnings;
-  gathers : Gathers (g.M.World.objects l.world) (g.P.Profile.rules l.profile) l.way (take l.near-index l.near-items) l.words.items;
+  gathers : Gathers (g.M.World.objects l.world) (g.P.Profile.rules l.profile) l.way l.ways (take l.near-index l.ways) l.words.items;
 }
