@@ -4,7 +4,7 @@
 set -eu
 . "$(dirname "$0")/program.sh"
 
-for case in twice star comb ends vias prefix shared rules members turns; do
+for case in twice star comb ends vias prefix shared onward rules members turns; do
     python3 "$here/hostile.py" "$case" >"$room/extract.opl"
     status=0
     taskset -c 1 /usr/bin/time -q -f '%U %S %M' -o "$room/times" "$program" - compile <"$room/extract.opl" >"$room/out" || status=$?

@@ -11,6 +11,7 @@ CASE is one of
   vias        a rule over 16 via ways of 64 steps each, all nodes junctions
   prefix      500 rules that share a prefix of 16 via ways
   shared      10,000 rules from one-way streets, each over a street of its own and then over one way that all share
+  onward      10,000 rules from one way, each over a one-way street of its own
   rules       a million restrictions from one way to another
   members     a restriction of 65,535 members
   turns       16 from and 16 to members at one node
@@ -103,6 +104,16 @@ def shared():
         rule(1 + i, 'no_u_turn', ['w%d@from' % first, 'w%d@via' % second, 'w1@via', 'w2@to'])
 
 
+def onward():
+    nodes(1, 2 + 2 * 10**4)
+    way(1, [1, 2])
+    for i in range(10**4):
+        first, second = 3 + 2 * i, 4 + 2 * i
+        for number, refs in ((first, [2, first]), (second, [first, second])):
+            write('w%d v1 Thighway=residential,oneway=yes N%s\n' % (number, ','.join('n%d' % r for r in refs)))
+        rule(1 + i, 'no_u_turn', ['w1@from', 'w%d@via' % first, 'w%d@to' % second])
+
+
 def rules():
     nodes(1, 3)
     way(1, [1, 2])
@@ -126,7 +137,7 @@ def turns():
     rule(1, 'no_exit', ['w%d@from' % (1 + i) for i in range(16)] + ['n1@via'] + ['w%d@to' % (101 + i) for i in range(16)])
 
 
-cases = {f.__name__: f for f in (twice, star, comb, ends, vias, prefix, shared, rules, members, turns)}
+cases = {f.__name__: f for f in (twice, star, comb, ends, vias, prefix, shared, onward, rules, members, turns)}
 if len(sys.argv) != 2 or sys.argv[1] not in cases:
     sys.exit(__doc__)
 cases[sys.argv[1]]()
