@@ -35,15 +35,19 @@ by_kind_and_number-key_cmp (Relation a) (Relation b) = refl
 
 pub key_cmp_total : IsTotalOrder key_cmp
 key_cmp_total =
-    subst IsTotalOrder (λ i a b. by_kind_and_number-key_cmp a b i) (then_total (on_total kind_of nat_cmp_total) (on_total number_of int_cmp_total))
+    subst IsTotalOrder (λ i a b. by_kind_and_number-key_cmp a b i)
+    (then_total (on_total kind_of nat_cmp_total) (on_total number_of int_cmp_total))
 
 pub key_cmp-IsAntisymmetric : IsAntisymmetric key_cmp
-key_cmp-IsAntisymmetric (Node a) (Node b) tied = ap (λ (n : ℤ). Node (record { 0 = n })) (int_cmp-IsAntisymmetric a.0 b.0 tied)
+key_cmp-IsAntisymmetric (Node a) (Node b) tied = ap (λ (n : ℤ). Node (record { 0 = n }))
+    (int_cmp-IsAntisymmetric a.0 b.0 tied)
 key_cmp-IsAntisymmetric (Node a) (Way b) tied = cc
 key_cmp-IsAntisymmetric (Node a) (Relation b) tied = cc
 key_cmp-IsAntisymmetric (Way a) (Node b) tied = cc
-key_cmp-IsAntisymmetric (Way a) (Way b) tied = ap (λ (n : ℤ). Way (record { 0 = n })) (int_cmp-IsAntisymmetric a.0 b.0 tied)
+key_cmp-IsAntisymmetric (Way a) (Way b) tied = ap (λ (n : ℤ). Way (record { 0 = n }))
+    (int_cmp-IsAntisymmetric a.0 b.0 tied)
 key_cmp-IsAntisymmetric (Way a) (Relation b) tied = cc
 key_cmp-IsAntisymmetric (Relation a) (Node b) tied = cc
 key_cmp-IsAntisymmetric (Relation a) (Way b) tied = cc
-key_cmp-IsAntisymmetric (Relation a) (Relation b) tied = ap (λ (n : ℤ). Relation (record { 0 = n })) (int_cmp-IsAntisymmetric a.0 b.0 tied)
+key_cmp-IsAntisymmetric (Relation a) (Relation b) tied = ap (λ (n : ℤ). Relation (record { 0 = n }))
+    (int_cmp-IsAntisymmetric a.0 b.0 tied)

@@ -3,7 +3,8 @@ use Rattle.std.specs.Prelude.{Bool, true, false}
 use Rattle.road_base.specs.declared.ids.Key.{Key}
 use Rattle.road_base.specs.declared.ids.Key.TheVariants.{Node as NodeKey, Way as WayKey, Relation as RelationKey}
 use Rattle.road_base.specs.declared.objects.Body.{Body}
-use Rattle.road_base.specs.declared.objects.Body.TheVariants.{Node as NodeBody, Way as WayBody, Relation as RelationBody, Deleted}
+use Rattle.road_base.specs.declared.objects.Body.TheVariants.{Node as NodeBody, Way as WayBody}
+use Rattle.road_base.specs.declared.objects.Body.TheVariants.{Relation as RelationBody, Deleted}
 
 -- a deletion may be any object's, and a visible body is of the key's kind
 abbrev pub has_kind : Key → Body → Bool

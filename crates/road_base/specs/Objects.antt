@@ -13,7 +13,8 @@ use Rattle.road_base.specs.declared.objects.Node.{Node}
 use Rattle.road_base.specs.declared.objects.Way.{Way}
 use Rattle.road_base.specs.declared.objects.Relation.{Relation}
 use Rattle.road_base.specs.declared.objects.Body.{Body}
-use Rattle.road_base.specs.declared.objects.Body.TheVariants.{Node as NodeBody, Way as WayBody, Relation as RelationBody, Deleted}
+use Rattle.road_base.specs.declared.objects.Body.TheVariants.{Node as NodeBody, Way as WayBody}
+use Rattle.road_base.specs.declared.objects.Body.TheVariants.{Relation as RelationBody, Deleted}
 
 -- nodes, ways, relations, then by number
 abbrev pub key_cmp : Key → Key → Ordering
@@ -38,7 +39,13 @@ Objects = FinMap key_cmp Entry
 
 abbrev pub body_in : Option Entry → Option Body
 body_in None = None
-body_in (Some e) = elim e.body [ NodeBody n ↦ Some (NodeBody n) | WayBody w ↦ Some (WayBody w) | RelationBody r ↦ Some (RelationBody r) | Deleted ↦ None ]
+body_in (Some e) = elim e.body [
+  | NodeBody n ↦ Some (NodeBody n)
+  | WayBody w ↦ Some (WayBody w)
+  | RelationBody r
+      ↦ Some (RelationBody r)
+  | Deleted ↦ None
+]
 
 abbrev pub node_in : Option Body → Option Node
 node_in None = None

@@ -1,10 +1,12 @@
-//! Laws of keys and of what events leave of an object map, each the contract of a function that does nothing.
-ghost use Rattle.std.specs.Prelude.{◌≡◌, List, ◌++◌};
+//! Laws of keys, of what events leave of an object map, and of histories, each the contract of a function that does
+//! nothing.
+ghost use Rattle.std.specs.Prelude.{◌≡◌, ◌+◌, List, ◌++◌};
 ghost use Rattle.std.specs.Cmp.{IsTotalOrder};
 ghost use Rattle.std.specs.Ordering.{eq_by_cmp};
 ghost use Rattle.std.specs.FinMap.{IsAntisymmetric};
 ghost use Rattle.road_base.specs.Applying.{IsApplied};
 ghost use Rattle.road_base.specs.Objects.{Objects, key_cmp};
+ghost use Rattle.road_base.specs.History.{History, HasObjects, SameForReader, kept, with_change};
 ghost use Rattle.road_base.specs.declared.event.Event.{Event};
 ghost use Rattle.road_base.specs.declared.ids.Key.{Key};
 
@@ -35,4 +37,21 @@ pub fn applied_in_turn()
         → IsApplied M first N
         → IsApplied N second O
         → IsApplied M (first ++ second) O }
+{}
+
+/// A history has one object map and no other. One more change is applied to the objects, and raises the kept number by
+/// one. Histories with the same kept number that share an object map are the same for a reader.
+pub fn history_objects()
+    ensures some { (h : History) → (M : Objects) × HasObjects h M }
+    ensures one { (h : History) (M N : Objects) → HasObjects h M → HasObjects h N → M ≡ N }
+    ensures grows { (h : History) (change : List Event) (M N : Objects)
+        → HasObjects h M
+        → IsApplied M change N
+        → HasObjects (with_change h change) N }
+    ensures counts { (h : History) (change : List Event) → kept (with_change h change) ≡ kept h + 1 }
+    ensures same { (g h : History) (M : Objects)
+        → kept g ≡ kept h
+        → HasObjects g M
+        → HasObjects h M
+        → SameForReader g h }
 {}

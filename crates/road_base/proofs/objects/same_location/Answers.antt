@@ -15,7 +15,8 @@ same_place a b r is h =
     equal_places a b e f
 
 place_same : (a b : Location) (r : Bool) → r ≡ (int_eq a.lon b.lon && int_eq a.lat b.lat) → a ≡ b → IsTrue r
-place_same a b r is h = is ∙ and_from _ _ ((Decides-int_eq a.lon b.lon).1 (ap (λ (l : Location). l.lon) h)) ((Decides-int_eq a.lat b.lat).1 (ap (λ (l : Location). l.lat) h))
+place_same a b r is h = is ∙ and_from _ _ ((Decides-int_eq a.lon b.lon).1 (ap (λ (l : Location). l.lon) h))
+    ((Decides-int_eq a.lat b.lat).1 (ap (λ (l : Location). l.lat) h))
 
 inner : (a b : Location) → Some a ≡ Some b → a ≡ b
 inner a b e = cc
@@ -23,5 +24,9 @@ inner a b e = cc
 pub returns-in-Some-Some : goal.returns-in-Some-Some
 returns-in-Some-Some c =
     let x = c.in-Some-Some.this in
-    let y = c.in-Some-Some.that in
-    (λ h. c.in-Some-Some.is-0 ∙ ap Some (same_place x y _ c.eq.ensures h) ∙ sym c.in-Some-Some.is-1, λ h. place_same x y _ c.eq.ensures (inner x y (sym c.in-Some-Some.is-0 ∙ h ∙ c.in-Some-Some.is-1)))
+    let y = c.in-Some-Some.that in (
+      λ h. c.in-Some-Some.is-0 ∙ ap Some (same_place x y _ c.eq.ensures h)
+          ∙ sym c.in-Some-Some.is-1,
+      λ h. place_same x y _ c.eq.ensures
+          (inner x y (sym c.in-Some-Some.is-0 ∙ h ∙ c.in-Some-Some.is-1)),
+    )

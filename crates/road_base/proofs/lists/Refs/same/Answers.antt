@@ -7,8 +7,11 @@ use Rattle.road_base.specs.declared.ids.NodeId.{NodeId}
 use Rattle.road_base.proofs.lists.Refs.same.Goals as goal
 
 node_eq-Decides : (a b : NodeId) → Decides (int_eq a.0 b.0) (a ≡ b)
-node_eq-Decides a b =
-    (λ e. ap (λ n. record { 0 = n }) ((Decides-int_eq a.0 b.0).0 e), λ e. (Decides-int_eq a.0 b.0).1 (ap (λ (n : NodeId). n.0) e))
+node_eq-Decides a b = (
+  λ e. ap (λ n. record { 0 = n }) ((Decides-int_eq a.0 b.0).0 e),
+  λ e. (Decides-int_eq a.0 b.0).1
+      (ap (λ (n : NodeId). n.0) e),
+)
 
 pub returns : goal.returns
 returns c =

@@ -1,5 +1,7 @@
-//! Ranges of numbers, which tell where in a list in order a number may stand.
-use road_base::{Event, Key, NoMemory, NodeId, WayId};
+//! Ranges of numbers, which tell where in a list in order a number may stand: hints, without a promise.
+ghost use Rattle.std.specs.Prelude.{◌<◌, ◌≤◌, length, IfSome};
+
+use crate::{Event, Key, NoMemory, NodeId, WayId};
 use std::alloc::Global;
 
 /// About how many numbers one range is to hold.
@@ -34,8 +36,8 @@ impl Numbered for Event {
     }
 }
 
-/// Ranges of numbers, all of 2 to the power `shift` numbers, from `first` on; for each the position in a list of the first
-/// item whose number is of that range or of a later one, and at the end the list's length. A position above
+/// Ranges of numbers, all of 2 to the power `shift` numbers, from `first` on; for each the position in a list of the
+/// first item whose number is of that range or of a later one, and at the end the list's length. A position above
 /// 4,294,967,295 is kept as that number. Empty where no memory was found.
 ///
 /// Nothing is promised of what is told here: whoever looks up compares it with the list before relying on it.
@@ -56,8 +58,8 @@ impl Ranges {
         }
     }
 
-    /// The ranges of the items' numbers, which don't fall; and no ranges where there are no items or no memory is found.
-    /// Takes about two bytes an item, and the time of one run over them.
+    /// The ranges of the items' numbers, which don't fall; and no ranges where there are no items or no memory is
+    /// found. Takes about two bytes an item, and the time of one run over them.
     pub fn of<T: Numbered>(alloc: Global, items: &[T]) -> Ranges {
         let Some((first, last)) = ends_of(items) else {
             return Ranges::new(alloc);
@@ -84,6 +86,50 @@ impl Ranges {
             *self.starts.get(next)? as usize,
         ))
     }
+
+    /// Where the first item stands whose number isn't below this one, in the list whose ranges these are. Takes the
+    /// time of a search among the items of one range. That it stands there isn't promised: whoever asks looks whether
+    /// the item at that position is the one, and the item before it isn't.
+    pub fn place<T: Numbered>(&self, items: &[T], number: i64) -> usize
+        ensures { result ≤ length items.now }
+    {
+        if number < self.first {
+            return 0;
+        }
+        match self.part_of(number) {
+            Some((from, to)) => first_from(items, number, from, to),
+            None => items.len(),
+        }
+    }
+
+    /// Where the first item of the number stands in the list whose ranges these are, if there is one. That it is
+    /// found where it is there isn't promised: whoever asks looks whether the item at that position is the one.
+    pub fn find<T: Numbered>(&self, items: &[T], number: i64) -> Option<usize>
+        ensures { IfSome result (λ at. at < length items.now) }
+    {
+        let at = self.place(items, number);
+        match items.get(at) {
+            Some(item) if item.number() == number => Some(at),
+            _ => None,
+        }
+    }
+}
+
+/// Where a search for the first item whose number isn't below this one ends, between the two positions.
+fn first_from<T: Numbered>(items: &[T], number: i64, from: usize, to: usize) -> usize
+    ensures { result ≤ length items.now }
+{
+    let mut high = to.min(items.len());
+    let mut low = from.min(high);
+    while low < high {
+        let middle = low + (high - low) / 2;
+        if items[middle].number() < number {
+            low = middle + 1;
+        } else {
+            high = middle;
+        }
+    }
+    low
 }
 
 /// The first and the last number.
