@@ -1,5 +1,6 @@
 -- Where an arc leads is found among the ends of the context's steps.
-use Rattle.std.proofs.Common.{◌≡◌, ◌≤◌, List, [], ◌∷◌, ◌++◌, length, refl, sym, ap, ◌∙◌, subst, arith, append_assoc, append-nil, length-append}
+use Rattle.std.proofs.Common.{◌≡◌, ◌≤◌, List, [], ◌∷◌, ◌++◌, length, refl, sym, ap, ◌∙◌, subst, arith, append_assoc}
+use Rattle.std.proofs.Common.{append-nil, length-append}
 use Rattle.road_base.specs.declared.ids.Step.{Step}
 use Rattle.road_base.specs.Objects.{Objects}
 use Rattle.road_model.specs.Rules.{Rules}
@@ -10,32 +11,50 @@ use Rattle.road_model.specs.Turning.{HasTurnSteps, BeginsWord}
 use Rattle.road_model.proofs.Splits.{Cut, Behind, Before, cut, cons_not_nil, same_last, Ends, Nil, Last, ends}
 use Rattle.road_model.proofs.LongestContext.{Every-tail, Every-append, Located, locate, many}
 use Rattle.road_model.proofs.Shapes.{Mid, Inner, one_next, stretch, piece_shape, word_shape}
-use Rattle.road_model.proofs.Walking.{Continues, inner_legal, context_pieces, spell_pieces-append, spell_pieces-push}
+use Rattle.road_model.proofs.WalkLists.{Continues, inner_legal, context_pieces, spell_pieces-append, spell_pieces-push}
 use Rattle.road_model.proofs.TurnSteps.{whole_spelling}
 
 module _ (M : Objects) (P : Rules) where
   -- a word that goes on behind a step of a piece goes on behind the piece's end
-  beyond : (t : Piece) → IsPiece M P t → (w a : List Step) (z : Step) (b : List Step) (n : Step) (m : List Step) → spell t ≡ a ++ z ∷ b → AnyWord M P ((w ++ z ∷ []) ++ n ∷ m) → Continues M P (w ++ z ∷ b)
+  beyond : (t : Piece) → IsPiece M P t → (w a : List Step) (z : Step) (b : List Step) (n : Step) (m : List Step)
+      → spell t ≡ a ++ z ∷ b → AnyWord M P ((w ++ z ∷ []) ++ n ∷ m) → Continues M P (w ++ z ∷ b)
   beyond t i w a z [] n m e k = record { next = n; rest = m; word = k }
   beyond t i w a z (y ∷ b) n [] e k =
       let link = (stretch M P t i).links a z y b e in
       let shape = word_shape M P k.relation k.only k.binding ((w ++ z ∷ []) ++ n ∷ []) k.word in
-      let same : n ≡ y = one_next z n y (shape.straight w z n [] (append_assoc w (z ∷ []) (n ∷ [])) link.mid) link.next in
+      let same : n ≡ y = one_next z n y (shape.straight w z n [] (append_assoc w (z ∷ []) (n ∷ [])) link.mid) link.next
+      in
       absurd (shape.stops (w ++ z ∷ []) n refl (subst (Inner M P) (sym same) link.inner))
   beyond t i w a z (y ∷ b) n (l ∷ m) e k =
       let link = (stretch M P t i).links a z y b e in
       let shape = word_shape M P k.relation k.only k.binding ((w ++ z ∷ []) ++ n ∷ l ∷ m) k.word in
-      let same : n ≡ y = one_next z n y (shape.straight w z n (l ∷ m) (append_assoc w (z ∷ []) (n ∷ l ∷ m)) link.mid) link.next in
+      let same : n ≡ y = one_next z n y (shape.straight w z n (l ∷ m) (append_assoc w (z ∷ []) (n ∷ l ∷ m)) link.mid)
+      link.next in
       subst (Continues M P) (append_assoc w (z ∷ []) (y ∷ b))
       (beyond t i (w ++ z ∷ []) (a ++ z ∷ []) y b l m (e ∙ sym (append_assoc a (z ∷ []) (y ∷ b)))
-      (subst (AnyWord M P) (ap (λ x. (w ++ z ∷ []) ++ x ∷ l ∷ m) same ∙ sym (append_assoc (w ++ z ∷ []) (y ∷ []) (l ∷ m))) k))
+      (subst (AnyWord M P) (ap (λ x. (w ++ z ∷ []) ++ x ∷ l ∷ m) same
+      ∙ sym (append_assoc (w ++ z ∷ []) (y ∷ []) (l ∷ m))) k))
 
-  cut_behind : (v : List Step) (x : Step) (more : List Step) (n : Step) (m : List Step) → AnyWord M P (v ++ x ∷ (more ++ n ∷ m)) → BeginsWord M P (v ++ x ∷ [])
-  cut_behind v x [] n m w = record { some = cons_not_nil v x []; next = n; more = m; word = subst (AnyWord M P) (sym (append_assoc v (x ∷ []) (n ∷ m))) w }
-  cut_behind v x (y ∷ more) n m w = record { some = cons_not_nil v x []; next = y; more = more ++ n ∷ m; word = subst (AnyWord M P) (sym (append_assoc v (x ∷ []) (y ∷ (more ++ n ∷ m)))) w }
+  cut_behind : (v : List Step) (x : Step) (more : List Step) (n : Step) (m : List Step)
+      → AnyWord M P (v ++ x ∷ (more ++ n ∷ m)) → BeginsWord M P (v ++ x ∷ [])
+  cut_behind v x [] n m w = record {
+    some = cons_not_nil v x [];
+    next = n;
+    more = m;
+    word = subst (AnyWord M P)
+        (sym (append_assoc v (x ∷ []) (n ∷ m))) w;
+  }
+  cut_behind v x (y ∷ more) n m w = record {
+    some = cons_not_nil v x [];
+    next = y;
+    more = more ++ n
+        ∷ m;
+    word = subst (AnyWord M P) (sym (append_assoc v (x ∷ []) (y ∷ (more ++ n ∷ m)))) w;
+  }
 
   -- the steps of pieces that end c end the steps of c
-  ends_steps : (c : List Piece) (q : List Step) (h : HasTurnSteps c q) (d e : List Piece) (b : List Step) → c ≡ d ++ e → (k : HasTurnSteps e b) → (a : List Step) × (q ≡ a ++ b)
+  ends_steps : (c : List Piece) (q : List Step) (h : HasTurnSteps c q) (d e : List Piece) (b : List Step) → c ≡ d ++ e
+      → (k : HasTurnSteps e b) → (a : List Step) × (q ≡ a ++ b)
   ends_steps c q h [] e b g k =
       let u = h.is in let v = k.is in
       let f : h.first ≡ k.first = cc (u, v, g) in
@@ -44,8 +63,12 @@ module _ (M : Objects) (P : Rules) where
       ([], h.steps ∙ (λ z. s.last z ∷ spell_pieces (o z)) ∙ sym k.steps)
   ends_steps c q h (p ∷ d) e b g k =
       let u = h.is in
-      let o : h.others ≡ d ++ e = cc (u, g) in
-      (h.last ∷ (spell_pieces d ++ k.front), h.steps ∙ ap (λ v. h.last ∷ v) (ap spell_pieces o ∙ spell_pieces-append M P d e ∙ ap (λ v. spell_pieces d ++ v) (whole_spelling e b k) ∙ sym (append_assoc (spell_pieces d) k.front b)))
+      let o : h.others ≡ d ++ e = cc (u, g) in (
+        h.last ∷ (spell_pieces d ++ k.front),
+        h.steps
+            ∙ ap (λ v. h.last ∷ v) (ap spell_pieces o ∙ spell_pieces-append M P d e
+            ∙ ap (λ v. spell_pieces d ++ v) (whole_spelling e b k) ∙ sym (append_assoc (spell_pieces d) k.front b)),
+      )
 
   -- the last piece's first step begins a word with the steps of the pieces before it
   record Begun (e : List Piece) (x : Step) : Type 0 where
@@ -54,20 +77,33 @@ module _ (M : Objects) (P : Rules) where
     some : steps ≡ [] → ⊥
     begins : BeginsWord M P (steps ++ x ∷ [])
 
-  begun : (e : List Piece) (t : Piece) (x : Step) (more : List Step) → spell t ≡ x ∷ more → (e ≡ [] → ⊥) → IsContext M P (e ++ t ∷ []) → Begun e x
+  begun : (e : List Piece) (t : Piece) (x : Step) (more : List Step) → spell t ≡ x ∷ more → (e ≡ [] → ⊥)
+      → IsContext M P (e ++ t ∷ []) → Begun e x
   begun [] t x more g some k = absurd (some refl)
   begun (h ∷ e) t x more g some (One p f i) = absurd (cons_not_nil e t [] (cc))
   begun (h ∷ e) t x more g some (Many m) =
       let u = m.is in
       let f : m.first ≡ h = cc (u) in
       let o : m.second ∷ m.others ≡ e ++ t ∷ [] = cc (u) in
-      let behind : spell_pieces (m.second ∷ m.others) ++ m.next ∷ m.rest ≡ spell_pieces e ++ x ∷ (more ++ m.next ∷ m.rest) =
-      ap (λ v. v ++ m.next ∷ m.rest) (ap spell_pieces o ∙ spell_pieces-push M P e t ∙ ap (λ v. spell_pieces e ++ v) g) ∙ append_assoc (spell_pieces e) (x ∷ more) (m.next ∷ m.rest) in
+      let behind : spell_pieces (m.second ∷ m.others) ++ m.next ∷ m.rest
+      ≡ spell_pieces e ++ x ∷ (more ++ m.next ∷ m.rest) =
+      ap (λ v. v ++ m.next ∷ m.rest) (ap spell_pieces o ∙ spell_pieces-push M P e t ∙ ap (λ v. spell_pieces e ++ v) g)
+      ∙ append_assoc (spell_pieces e) (x ∷ more) (m.next ∷ m.rest) in
       record {
         steps = m.last ∷ spell_pieces e;
-        turn = record { first = h; others = e; is = refl; front = m.front; last = m.last; ends = ap spell (sym f) ∙ m.ends; steps = refl };
+        turn = record {
+          first = h;
+          others = e;
+          is = refl;
+          front = m.front;
+          last = m.last;
+          ends = ap spell (sym f)
+              ∙ m.ends;
+          steps = refl;
+        };
         some = cons_not_nil [] m.last (spell_pieces e);
-        begins = cut_behind (m.last ∷ spell_pieces e) x more m.next m.rest (subst (AnyWord M P) (ap (λ v. m.last ∷ v) behind) m.word);
+        begins = cut_behind (m.last ∷ spell_pieces e) x more m.next m.rest
+            (subst (AnyWord M P) (ap (λ v. m.last ∷ v) behind) m.word);
       }
 
   -- a context b that ends c and t is t alone, or begins with steps of c
@@ -84,7 +120,8 @@ module _ (M : Objects) (P : Rules) where
     Short : length b ≤ 1 → Ending c q t x b
     Long : Longer c q t x b → Ending c q t x b
 
-  ending : (c : List Piece) (q : List Step) (h : HasTurnSteps c q) (t : Piece) (x : Step) (more : List Step) → spell t ≡ x ∷ more → (a b : List Piece) → c ++ t ∷ [] ≡ a ++ b → IsContext M P b → Ends b → Ending c q t x b
+  ending : (c : List Piece) (q : List Step) (h : HasTurnSteps c q) (t : Piece) (x : Step) (more : List Step)
+      → spell t ≡ x ∷ more → (a b : List Piece) → c ++ t ∷ [] ≡ a ++ b → IsContext M P b → Ends b → Ending c q t x b
   ending c q h t x more e a b f k (Nil n) = Short (let g = ap length n in omega arith)
   ending c q h t x more e a b f k (Last [] u n) = Short (let g = ap length n in omega arith)
   ending c q h t x more e a b f k (Last (p ∷ o) u n) =
@@ -97,12 +134,15 @@ module _ (M : Objects) (P : Rules) where
   NoneBegins : List Step → Step → Type 0
   NoneBegins q x = (a b : List Step) → q ≡ a ++ b → (b ≡ [] → ⊥) → BeginsWord M P (b ++ x ∷ []) → ⊥
 
-  only_short : (c : List Piece) (q : List Step) (t : Piece) (x : Step) → NoneBegins q x → (b : List Piece) → Ending c q t x b → length b ≤ 1
+  only_short : (c : List Piece) (q : List Step) (t : Piece) (x : Step) → NoneBegins q x → (b : List Piece)
+      → Ending c q t x b → length b ≤ 1
   unfolding NoneBegins
   only_short c q t x none b (Short l) = l
   only_short c q t x none b (Long r) = absurd (none r.before r.begun.steps r.ends r.begun.some r.begun.begins)
 
-  pub target_alone : (c : List Piece) (q : List Step) (t : Piece) (x : Step) (more : List Step) → HasTurnSteps c q → IsPiece M P t → spell t ≡ x ∷ more → ((a b : List Step) → q ≡ a ++ b → (b ≡ [] → ⊥) → BeginsWord M P (b ++ x ∷ []) → ⊥) → IsContextOf M P (c ++ t ∷ []) (t ∷ [])
+  pub target_alone : (c : List Piece) (q : List Step) (t : Piece) (x : Step) (more : List Step) → HasTurnSteps c q
+      → IsPiece M P t → spell t ≡ x ∷ more → ((a b : List Step) → q ≡ a ++ b → (b ≡ [] → ⊥)
+      → BeginsWord M P (b ++ x ∷ []) → ⊥) → IsContextOf M P (c ++ t ∷ []) (t ∷ [])
   unfolding NoneBegins
   target_alone c q t x more h i e none = record {
     front = c;
@@ -118,69 +158,106 @@ module _ (M : Objects) (P : Rules) where
     front : List Piece
     is : c ≡ front ++ pieces
 
-  end_at : (c : List Piece) (q : List Step) (h : HasTurnSteps c q) (a : List Step) (y : Step) (b : List Step) → Located spell h.others a y b → EndOf c (y ∷ b)
+  end_at : (c : List Piece) (q : List Step) (h : HasTurnSteps c q) (a : List Step) (y : Step) (b : List Step)
+      → Located spell h.others a y b → EndOf c (y ∷ b)
   end_at c q h a y b l = record {
     pieces = l.piece ∷ l.behind;
-    turn = record { first = l.piece; others = l.behind; is = refl; front = l.front; last = y; ends = l.ends; steps = ap (λ v. y ∷ v) l.rest };
+    turn = record {
+      first = l.piece;
+      others = l.behind;
+      is = refl;
+      front = l.front;
+      last = y;
+      ends = l.ends;
+      steps = ap
+          (λ v. y ∷ v) l.rest;
+    };
     front = h.first ∷ l.before;
     is = h.is ∙ ap (λ v. h.first ∷ v) l.is;
   }
 
-  end_of : (c : List Piece) (q : List Step) → HasTurnSteps c q → Every (IsPiece M P) c → (a : List Step) (y : Step) (b : List Step) → q ≡ a ++ y ∷ b → (Mid M P y → ⊥) → EndOf c (y ∷ b)
+  end_of : (c : List Piece) (q : List Step) → HasTurnSteps c q → Every (IsPiece M P) c
+      → (a : List Step) (y : Step) (b : List Step) → q ≡ a ++ y ∷ b → (Mid M P y → ⊥) → EndOf c (y ∷ b)
   end_of c q h i [] y b g n = record { pieces = c; turn = subst (HasTurnSteps c) g h; front = []; is = refl }
   end_of c q h i (z ∷ a) y b g n =
       let u = h.steps in
       let rest : spell_pieces h.others ≡ a ++ y ∷ b = cc (u, g) in
-      end_at c q h a y b (locate spell (IsPiece M P) (Mid M P) (piece_shape M P) h.others a y b ((subst (Every (IsPiece M P)) h.is i).1) n rest)
+      end_at c q h a y b (locate spell (IsPiece M P) (Mid M P) (piece_shape M P) h.others a y b
+      ((subst (Every (IsPiece M P)) h.is i).1) n rest)
 
-  end_begins : (c : List Piece) (q : List Step) → HasTurnSteps c q → Every (IsPiece M P) c → (x : Step) (a b : List Step) → q ≡ a ++ b → (b ≡ [] → ⊥) → BeginsWord M P (b ++ x ∷ []) → EndOf c b
+  end_begins : (c : List Piece) (q : List Step) → HasTurnSteps c q → Every (IsPiece M P) c
+      → (x : Step) (a b : List Step) → q ≡ a ++ b → (b ≡ [] → ⊥) → BeginsWord M P (b ++ x ∷ []) → EndOf c b
   end_begins c q h i x a [] g some w = absurd (some refl)
   end_begins c q h i x a (y ∷ b) g some w =
       let k = w.word in
-      end_of c q h i a y b g ((word_shape M P k.relation k.only k.binding (((y ∷ b) ++ x ∷ []) ++ w.next ∷ w.more) k.word).starts y ((b ++ x ∷ []) ++ w.next ∷ w.more) refl)
+      end_of c q h i a y b g ((word_shape M P k.relation k.only k.binding (((y ∷ b) ++ x ∷ []) ++ w.next ∷ w.more)
+      k.word).starts y ((b ++ x ∷ []) ++ w.next ∷ w.more) refl)
 
   -- fewer steps are those of fewer pieces
-  shorter : (e f : List Piece) (b v : List Step) → HasTurnSteps e b → HasTurnSteps f v → length v ≤ length b → (c : List Piece) → f ≡ c ++ e → length f ≤ length e
+  shorter : (e f : List Piece) (b v : List Step) → HasTurnSteps e b → HasTurnSteps f v → length v ≤ length b
+      → (c : List Piece) → f ≡ c ++ e → length f ≤ length e
   shorter e f b v h k l [] g = let n = ap length g in omega arith
   shorter e f b v h k l (p ∷ c) g =
       let u = k.is in
       let o : k.others ≡ c ++ e = cc (u, g) in
-      let steps : v ≡ k.last ∷ (spell_pieces c ++ (h.front ++ b)) = k.steps ∙ ap (λ w. k.last ∷ w) (ap spell_pieces o ∙ spell_pieces-append M P c e ∙ ap (λ w. spell_pieces c ++ w) (whole_spelling e b h)) in
-      let n = ap length steps in let m = length-append (spell_pieces c) (h.front ++ b) in let r = length-append h.front b in
+      let steps : v ≡ k.last ∷ (spell_pieces c ++ (h.front ++ b)) = k.steps
+      ∙ ap (λ w. k.last ∷ w) (ap spell_pieces o ∙ spell_pieces-append M P c e
+      ∙ ap (λ w. spell_pieces c ++ w) (whole_spelling e b h)) in
+      let n = ap length steps in let m = length-append (spell_pieces c) (h.front ++ b) in let r = length-append h.front
+      b in
       absurd (omega arith)
 
-  within_length : (c d e f g : List Piece) (b v : List Step) → HasTurnSteps e b → HasTurnSteps g v → length v ≤ length b → Cut d e f g → length g ≤ length e
+  within_length : (c d e f g : List Piece) (b v : List Step) → HasTurnSteps e b → HasTurnSteps g v → length v ≤ length b
+      → Cut d e f g → length g ≤ length e
   within_length c d e f g b v h k l (Behind a p r) = let n = ap length r in let m = length-append a g in omega arith
   within_length c d e f g b v h k l (Before z a p r) = shorter e g b v h k l (z ∷ a) r
 
-  longest_end : (c : List Piece) (q : List Step) (t : Piece) (x : Step) (b : List Step) (e : EndOf c b) → ((k l : List Step) → q ≡ k ++ l → BeginsWord M P (l ++ x ∷ []) → length l ≤ length b) → (f : List Piece) → Ending c q t x f → length f ≤ length (e.pieces ++ t ∷ [])
+  longest_end : (c : List Piece) (q : List Step) (t : Piece) (x : Step) (b : List Step) (e : EndOf c b)
+      → ((k l : List Step) → q ≡ k ++ l → BeginsWord M P (l ++ x ∷ []) → length l ≤ length b) → (f : List Piece)
+      → Ending c q t x f → length f ≤ length (e.pieces ++ t ∷ [])
   longest_end c q t x b e most f (Short l) = let n = length-append e.pieces (t ∷ []) in omega arith
   longest_end c q t x b e most f (Long r) =
       let m = most r.before r.begun.steps r.ends r.begun.begins in
-      let w = within_length c e.front e.pieces r.front r.pieces b r.begun.steps e.turn r.begun.turn m (cut e.front e.pieces r.front r.pieces (sym e.is ∙ r.within)) in
+      let w = within_length c e.front e.pieces r.front r.pieces b r.begun.steps e.turn r.begun.turn m
+      (cut e.front e.pieces r.front r.pieces (sym e.is ∙ r.within)) in
       let n = length-append e.pieces (t ∷ []) in let o = length-append r.pieces (t ∷ []) in let l = ap length r.is in
       omega arith
 
   -- the pieces of such steps are a context with the piece behind them
-  end_context : (c : List Piece) (t : Piece) (x : Step) (more b : List Step) → Every (IsPiece M P) c → IsPiece M P t → spell t ≡ x ∷ more → Legal M P (spell_pieces c ++ spell t) → BeginsWord M P (b ++ x ∷ []) → (e : EndOf c b) → IsContext M P (e.pieces ++ t ∷ [])
+  end_context : (c : List Piece) (t : Piece) (x : Step) (more b : List Step) → Every (IsPiece M P) c → IsPiece M P t
+      → spell t ≡ x ∷ more → Legal M P (spell_pieces c ++ spell t) → BeginsWord M P (b ++ x ∷ []) → (e : EndOf c b)
+      → IsContext M P (e.pieces ++ t ∷ [])
   end_context c t x more b j i g l w e =
       let k = e.turn in
       let j' = Every-tail (IsPiece M P) e.front e.pieces (subst (Every (IsPiece M P)) e.is j) in
       let every = Every-append (IsPiece M P) e.pieces (t ∷ []) j' (i, tt) in
       let pieces : e.pieces ++ t ∷ [] ≡ k.first ∷ (k.others ++ t ∷ []) = ap (λ v. v ++ t ∷ []) k.is in
       let whole : spell_pieces c ++ spell t ≡ spell_pieces e.front ++ (spell_pieces (e.pieces ++ t ∷ []) ++ []) =
-      ap (λ v. v ++ spell t) (ap spell_pieces e.is ∙ spell_pieces-append M P e.front e.pieces) ∙ append_assoc (spell_pieces e.front) (spell_pieces e.pieces) (spell t)
-      ∙ ap (λ v. spell_pieces e.front ++ v) (sym (spell_pieces-push M P e.pieces t) ∙ sym (append-nil (spell_pieces (e.pieces ++ t ∷ [])))) in
-      let ne : spell_pieces (e.pieces ++ t ∷ []) ≡ [] → ⊥ = λ z. cons_not_nil (spell_pieces e.pieces) x more (ap (λ v. spell_pieces e.pieces ++ v) (sym g) ∙ sym (spell_pieces-push M P e.pieces t) ∙ z) in
-      let legal = inner_legal M P (spell_pieces e.front) (spell_pieces (e.pieces ++ t ∷ [])) [] ne (subst (Legal M P) whole l) in
+      ap (λ v. v ++ spell t) (ap spell_pieces e.is ∙ spell_pieces-append M P e.front e.pieces)
+      ∙ append_assoc (spell_pieces e.front) (spell_pieces e.pieces) (spell t)
+      ∙ ap (λ v. spell_pieces e.front ++ v) (sym (spell_pieces-push M P e.pieces t)
+      ∙ sym (append-nil (spell_pieces (e.pieces ++ t ∷ [])))) in
+      let ne : spell_pieces (e.pieces ++ t ∷ []) ≡ []
+      → ⊥ = λ z. cons_not_nil (spell_pieces e.pieces) x more
+      (ap (λ v. spell_pieces e.pieces ++ v) (sym g) ∙ sym (spell_pieces-push M P e.pieces t) ∙ z) in
+      let legal = inner_legal M P (spell_pieces e.front) (spell_pieces (e.pieces ++ t ∷ [])) [] ne
+      (subst (Legal M P) whole l) in
       let on = beyond t i b [] x more w.next w.more g w.word in
       let steps : b ++ x ∷ more ≡ k.last ∷ spell_pieces (k.others ++ t ∷ []) =
-      ap (λ v. b ++ v) (sym g) ∙ ap (λ v. v ++ spell t) k.steps ∙ ap (λ v. k.last ∷ v) (sym (spell_pieces-push M P k.others t)) in
+      ap (λ v. b ++ v) (sym g) ∙ ap (λ v. v ++ spell t) k.steps
+      ∙ ap (λ v. k.last ∷ v) (sym (spell_pieces-push M P k.others t)) in
       subst (IsContext M P) (sym pieces)
-      (many spell (IsPiece M P) (Legal M P) (AnyWord M P) k.first k.others t [] (subst (Every (IsPiece M P)) pieces every) (subst (λ v. Legal M P (spell_pieces v)) pieces legal) k.front k.last k.ends on.next on.rest
+      (many spell (IsPiece M P) (Legal M P) (AnyWord M P) k.first k.others t []
+      (subst (Every (IsPiece M P)) pieces every) (subst (λ v. Legal M P (spell_pieces v)) pieces legal) k.front
+      k.last k.ends on.next on.rest
       (subst (λ v. AnyWord M P (v ++ on.next ∷ on.rest)) steps on.word))
 
-  pub target_longer : (c : List Piece) (q : List Step) (t : Piece) (x : Step) (more a b : List Step) → IsContext M P c → HasTurnSteps c q → IsPiece M P t → spell t ≡ x ∷ more → Legal M P (spell_pieces c ++ spell t) → q ≡ a ++ b → (b ≡ [] → ⊥) → BeginsWord M P (b ++ x ∷ []) → ((k l : List Step) → q ≡ k ++ l → BeginsWord M P (l ++ x ∷ []) → length l ≤ length b) → (e : List Piece) × HasTurnSteps e b × IsContextOf M P (c ++ t ∷ []) (e ++ t ∷ []) × ((d : List Piece) × (c ≡ d ++ e))
+  pub target_longer : (c : List Piece) (q : List Step) (t : Piece) (x : Step) (more a b : List Step) → IsContext M P c
+      → HasTurnSteps c q → IsPiece M P t → spell t ≡ x ∷ more → Legal M P (spell_pieces c ++ spell t) → q ≡ a ++ b
+      → (b ≡ [] → ⊥) → BeginsWord M P (b ++ x ∷ [])
+      → ((k l : List Step) → q ≡ k ++ l → BeginsWord M P (l ++ x ∷ []) → length l ≤ length b)
+      → (e : List Piece) × HasTurnSteps e b × IsContextOf M P (c ++ t ∷ []) (e ++ t ∷ [])
+      × ((d : List Piece) × (c ≡ d ++ e))
   target_longer c q t x more a b k h i g l s some w most =
       let j = context_pieces M P c k in
       let e = end_begins c q h j x a b s some w in

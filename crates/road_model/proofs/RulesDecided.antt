@@ -1,5 +1,6 @@
 -- Whether a rule applies to a step is decided, since an object map is finite.
-use Rattle.std.proofs.Common.{◌≡◌, ◌≢◌, ℕ, suc, zero, ◌+◌, ◌<◌, ◌≤◌, List, [], ◌∷◌, ◌++◌, length, ◌⊎◌, inl, inr, refl, sym, ap, ◌∙◌, subst, arith, true, false, Option, Some, None, Ordering, IsTrue, IsFalse}
+use Rattle.std.proofs.Common.{◌≡◌, ◌≢◌, ℕ, suc, zero, ◌+◌, ◌<◌, ◌≤◌, List, [], ◌∷◌, ◌++◌, length, ◌⊎◌, inl, inr, refl}
+use Rattle.std.proofs.Common.{sym, ap, ◌∙◌, subst, arith, true, false, Option, Some, None, Ordering, IsTrue, IsFalse}
 use Rattle.std.specs.declared.cmp.Ordering.TheVariants.{Less, Equal, Greater}
 use Rattle.std.specs.Ordering.{is_le, is_gt, ordering_reverse}
 use Rattle.std.specs.FinMap.{entries}
@@ -14,23 +15,29 @@ use Rattle.road_base.specs.declared.objects.Way.{Way}
 use Rattle.road_base.specs.Objects.{Objects, way_of}
 use Rattle.road_model.specs.declared.answers.ClosedBy.{ClosedBy}
 use Rattle.road_model.specs.declared.answers.Access.{Access}
-use Rattle.road_model.specs.declared.answers.Access.TheVariants.{Free, Closed as ClosedAccess, WrongWay as WrongWayAccess}
+use Rattle.road_model.specs.declared.answers.Access.TheVariants.{Free, Closed as ClosedAccess}
+use Rattle.road_model.specs.declared.answers.Access.TheVariants.{WrongWay as WrongWayAccess}
 use Rattle.road_model.specs.Rules.{Rules}
 use Rattle.road_model.specs.Lines.{line_of, tail_of, head_of}
 use Rattle.road_model.specs.Driving.{located, shut, turning_place, Leaves, MayTurn, AtPlace, AtShut, AtDeadEnd}
 use Rattle.road_model.specs.Words.{IsWord}
 use Rattle.road_model.specs.Network.{Must}
 use Rattle.road_model.specs.Orders.{relation_cmp}
-use Rattle.road_model.specs.Broken.{LacksNode, AtTail, AtHead, IsAnswered, IsBehind, Meets, IsApart, PassesBarrier, TurnsBack, EndsNoWord, LeavesOnlyWord, IsLeast}
+use Rattle.road_model.specs.Broken.{LacksNode, AtTail, AtHead, IsAnswered, IsBehind, Meets, IsApart, PassesBarrier}
+use Rattle.road_model.specs.Broken.{TurnsBack, EndsNoWord, LeavesOnlyWord, IsLeast}
 use Rattle.road_model.proofs.Members.{In}
 use Rattle.road_model.proofs.Splits.{Ends, Nil, Last, ends, cons_not_nil}
-use Rattle.road_model.proofs.Decided.{Decided, decided_both, decided_not, decided_like, decided_true, decided_false, some_in}
+use Rattle.road_model.proofs.Decided.{Decided, decided_both, decided_not, decided_like, decided_true, decided_false}
+use Rattle.road_model.proofs.Decided.{some_in}
 use Rattle.road_model.proofs.Positions.{decided_option, open_in, at_within, ways_in}
-use Rattle.road_model.proofs.Spelling.{step}
+use Rattle.road_model.proofs.StepPlaces.{step}
 use Rattle.road_model.proofs.OnePiece.{parts}
+use Rattle.road_model.proofs.StepEnds.{some_located}
 use Rattle.road_model.proofs.TotalOrders.{relation_cmp_total}
-use Rattle.road_model.proofs.Enumerated.{Finite, fin_none, fin_one, fin_or, fin_by, fin_if, fin_bind, fin_list, fin_some, search_finite}
-use Rattle.road_model.proofs.FiniteWords.{fin_pass, relations_in, visible_in, fin_words_of, More, more_decided, decided_step}
+use Rattle.road_model.proofs.Enumerated.{Finite, fin_none, fin_one, fin_or, fin_by, fin_if, fin_bind, fin_list}
+use Rattle.road_model.proofs.Enumerated.{fin_some, search_finite}
+use Rattle.road_model.proofs.FiniteWords.{fin_pass, relations_in, visible_in, fin_words_of, More, more_decided}
+use Rattle.road_model.proofs.FiniteWords.{decided_step}
 use Rattle.road_model.proofs.BrokenRules.{one_answer, one_before}
 
 decided_or : {A B : Type 0} → Decided A → Decided B → Decided (A ⊎ B)
@@ -38,20 +45,22 @@ decided_or (inl a) d = inl (inl a)
 decided_or (inr n) (inl b) = inl (inr b)
 decided_or (inr n) (inr m) = inr (λ h. elim h [ inl a ↦ n a | inr b ↦ m b ])
 
-decided_upto : (a b : ℕ) → Decided (a ≤ b)
+pub decided_upto : (a b : ℕ) → Decided (a ≤ b)
 decided_upto a b = grind arith
 
 -- whether nothing has the property
-none_listed : {X : Type 0} {Q : X → Type 0} (l : List X) → ((x : X) → In x l → Q x) → ((x : X) → Q x → In x l) → Decided ((x : X) → Q x → ⊥)
+none_listed : {X : Type 0} {Q : X → Type 0} (l : List X) → ((x : X) → In x l → Q x) → ((x : X) → Q x → In x l)
+    → Decided ((x : X) → Q x → ⊥)
 none_listed [] sound complete = inl (λ x q. complete x q)
 none_listed (a ∷ l) sound complete = inr (λ n. n a (sound a (inl refl)))
 
 none_decided : {X : Type 0} {Q : X → Type 0} → Finite Q → Decided ((x : X) → Q x → ⊥)
 none_decided f = none_listed f.list f.sound f.complete
 
-fin_below : (n : ℕ) → Finite (λ i. i < n)
+pub fin_below : (n : ℕ) → Finite (λ i. i < n)
 fin_below zero = fin_none (λ i l. omega arith)
-fin_below (suc n) = fin_by (fin_or (fin_one n) (fin_below n)) (λ i q. elim q [ inl e ↦ omega arith | inr l ↦ omega arith ]) (λ i l. grind arith)
+fin_below (suc n) = fin_by (fin_or (fin_one n) (fin_below n))
+    (λ i q. elim q [ inl e ↦ omega arith | inr l ↦ omega arith ]) (λ i l. grind arith)
 
 -- ---- cuts of a list
 
@@ -59,17 +68,24 @@ no_parts : {X : Type 0} (a b : List X) → [] ≡ a ++ b → ◌≡◌ {A = List
 no_parts [] b e = ap (λ v. ([], v)) (sym e)
 no_parts (x ∷ a) b e = cc
 
-first_part : {X : Type 0} (x : X) (d a b : List X) → x ∷ d ≡ a ++ b → (◌≡◌ {A = List X × List X} (a, b) ([], x ∷ d)) ⊎ ((z : List X × List X) × (d ≡ z.0 ++ z.1) × (◌≡◌ {A = List X × List X} (a, b) (x ∷ z.0, z.1)))
+first_part : {X : Type 0} (x : X) (d a b : List X) → x ∷ d ≡ a ++ b
+    → (◌≡◌ {A = List X × List X} (a, b) ([], x ∷ d))
+    ⊎ ((z : List X × List X) × (d ≡ z.0 ++ z.1) × (◌≡◌ {A = List X × List X} (a, b) (x ∷ z.0, z.1)))
 first_part x d [] b e = inl (ap (λ v. ([], v)) (sym e))
 first_part x d (y ∷ a) b e = let f : y ≡ x = cc in inr ((a, b), cc, ap (λ v. (v ∷ a, b)) f)
 
 fin_cuts : {X : Type 0} (d : List X) → Finite (λ (z : List X × List X). d ≡ z.0 ++ z.1)
 fin_cuts [] = fin_by (fin_one ([], [])) (λ z e. sym (ap (λ y. y.0 ++ y.1) e)) (λ z e. no_parts z.0 z.1 e)
 fin_cuts (x ∷ d) = fin_by (fin_or (fin_one ([], x ∷ d)) (fin_bind (fin_cuts d) (λ z. fin_one (x ∷ z.0, z.1))))
-    (λ z h. elim h [ inl e ↦ sym (ap (λ y. y.0 ++ y.1) e) | inr r ↦ ap (λ v. x ∷ v) r.1 ∙ sym (ap (λ y. y.0 ++ y.1) r.2) ])
+    (λ z h. elim h [
+      | inl e ↦ sym (ap (λ y. y.0 ++ y.1) e)
+      | inr r ↦ ap (λ v. x ∷ v) r.1
+          ∙ sym (ap (λ y. y.0 ++ y.1) r.2)
+    ])
     (λ z e. first_part x d z.0 z.1 e)
 
-steps_more : (s : Step) (v : List Step) (t : Step) (u : List Step) → Decided (s ≡ t) → Decided (v ≡ u) → Decided (s ∷ v ≡ t ∷ u)
+steps_more : (s : Step) (v : List Step) (t : Step) (u : List Step) → Decided (s ≡ t) → Decided (v ≡ u)
+    → Decided (s ∷ v ≡ t ∷ u)
 steps_more s v t u (inl e) (inl f) = inl (cc)
 steps_more s v t u (inl e) (inr n) = inr (λ f. n (cc))
 steps_more s v t u (inr n) d = inr (λ f. n (cc))
@@ -84,7 +100,8 @@ decided_steps (s ∷ v) (t ∷ u) = steps_more s v t u (decided_step s t) (decid
 GoesBy : List Step → Step → List Step → Type 0
 GoesBy v x u = (rest : List Step) × (u ≡ v ++ x ∷ rest)
 
-goes_more : (s : Step) (v : List Step) (x t : Step) (u : List Step) → Decided (s ≡ t) → Decided (GoesBy v x u) → Decided (GoesBy (s ∷ v) x (t ∷ u))
+goes_more : (s : Step) (v : List Step) (x t : Step) (u : List Step) → Decided (s ≡ t) → Decided (GoesBy v x u)
+    → Decided (GoesBy (s ∷ v) x (t ∷ u))
 unfolding GoesBy
 goes_more s v x t u (inl e) (inl m) = let f = m.1 in inl (m.0, cc (e, f))
 goes_more s v x t u (inl e) (inr n) = inr (λ m. let f = m.1 in n (m.0, cc (f)))
@@ -93,7 +110,8 @@ goes_more s v x t u (inr n) d = inr (λ m. let f = m.1 in n (cc (f)))
 goes_decided : (v : List Step) (x : Step) (u : List Step) → Decided (GoesBy v x u)
 unfolding GoesBy
 goes_decided [] x [] = inr (λ m. let f = m.1 in cc (f))
-goes_decided [] x (t ∷ u) = decided_like (λ e. (u, ap (λ v. v ∷ u) (sym e))) (λ m. let f = m.1 in cc (f)) (decided_step x t)
+goes_decided [] x (t ∷ u) = decided_like (λ e. (u, ap (λ v. v ∷ u) (sym e))) (λ m. let f = m.1 in cc (f))
+    (decided_step x t)
 goes_decided (s ∷ v) x [] = inr (λ m. let f = m.1 in cc (f))
 goes_decided (s ∷ v) x (t ∷ u) = goes_more s v x t u (decided_step s t) (goes_decided v x u)
 
@@ -103,7 +121,8 @@ Upto : RelationId → RelationId → Type 0
 Upto a b = IsTrue (is_le (relation_cmp a b))
 
 -- of two relations one isn't above the other
-either : (a b : RelationId) (r s : Ordering) → relation_cmp a b ≡ r → relation_cmp b a ≡ s → r ≡ ordering_reverse s → Upto a b ⊎ Upto b a
+either : (a b : RelationId) (r s : Ordering) → relation_cmp a b ≡ r → relation_cmp b a ≡ s → r ≡ ordering_reverse s
+    → Upto a b ⊎ Upto b a
 unfolding Upto
 either a b Less s e f g = inl (ap is_le e)
 either a b Equal s e f g = inl (ap is_le e)
@@ -139,15 +158,37 @@ module _ (Q : RelationId → Type 0) (each : (r : RelationId) → Decided (Q r))
   NoneIn : List RelationId → Type 0
   NoneIn xs = (q : RelationId) → In q xs → Q q → ⊥
 
-  least_of_two : (x : RelationId) (xs : List RelationId) → Q x → (l : LeastIn xs) → Upto x l.r ⊎ Upto l.r x → LeastIn (x ∷ xs)
-  least_of_two x xs q l (inl h) = record { r = x; has = q; low = λ z i k. elim i [ inl e ↦ subst (Upto x) (sym e) (itself x) | inr j ↦ through x l.r z h (l.low z j k) ] }
-  least_of_two x xs q l (inr h) = record { r = l.r; has = l.has; low = λ z i k. elim i [ inl e ↦ subst (Upto l.r) (sym e) h | inr j ↦ l.low z j k ] }
+  least_of_two : (x : RelationId) (xs : List RelationId) → Q x → (l : LeastIn xs) → Upto x l.r ⊎ Upto l.r x
+      → LeastIn (x ∷ xs)
+  least_of_two x xs q l (inl h) = record {
+    r = x;
+    has = q;
+    low = λ z i k. elim i
+        [ inl e ↦ subst (Upto x) (sym e) (itself x) | inr j ↦ through x l.r z h (l.low z j k) ];
+  }
+  least_of_two x xs q l (inr h) = record {
+    r = l.r;
+    has = l.has;
+    low = λ z i k. elim i
+        [ inl e ↦ subst (Upto l.r) (sym e) h | inr j ↦ l.low z j k ];
+  }
 
-  least_more : (x : RelationId) (xs : List RelationId) → Decided (Q x) → LeastIn xs ⊎ NoneIn xs → LeastIn (x ∷ xs) ⊎ NoneIn (x ∷ xs)
+  least_more : (x : RelationId) (xs : List RelationId) → Decided (Q x) → LeastIn xs ⊎ NoneIn xs
+      → LeastIn (x ∷ xs) ⊎ NoneIn (x ∷ xs)
   unfolding NoneIn
-  least_more x xs (inl q) (inl l) = inl (least_of_two x xs q l (either x l.r _ _ refl refl (relation_cmp_total.antisymm x l.r)))
-  least_more x xs (inl q) (inr n) = inl (record { r = x; has = q; low = λ z i k. elim i [ inl e ↦ subst (Upto x) (sym e) (itself x) | inr j ↦ absurd (n z j k) ] })
-  least_more x xs (inr m) (inl l) = inl (record { r = l.r; has = l.has; low = λ z i k. elim i [ inl e ↦ absurd (m (subst Q e k)) | inr j ↦ l.low z j k ] })
+  least_more x xs (inl q) (inl l) = inl (least_of_two x xs q l
+      (either x l.r _ _ refl refl (relation_cmp_total.antisymm x l.r)))
+  least_more x xs (inl q) (inr n) = inl (record {
+    r = x;
+    has = q;
+    low = λ z i k. elim i [
+      | inl e ↦ subst (Upto x) (sym e) (itself x)
+      | inr j
+          ↦ absurd (n z j k)
+    ];
+  })
+  least_more x xs (inr m) (inl l) = inl (record
+      { r = l.r; has = l.has; low = λ z i k. elim i [ inl e ↦ absurd (m (subst Q e k)) | inr j ↦ l.low z j k ] })
   least_more x xs (inr m) (inr n) = inr (λ z i k. elim i [ inl e ↦ m (subst Q e k) | inr j ↦ n z j k ])
 
   least_in : (xs : List RelationId) → LeastIn xs ⊎ NoneIn xs
@@ -156,20 +197,17 @@ module _ (Q : RelationId → Type 0) (each : (r : RelationId) → Decided (Q r))
   least_in (x ∷ xs) = least_more x xs (each x) (least_in xs)
 
   -- where some relation of a list that has all has the property, one is the least of them
-  least_decided : (xs : List RelationId) → ((r : RelationId) → Q r → In r xs) → ((r : RelationId) × IsLeast Q r) ⊎ ((r : RelationId) → Q r → ⊥)
+  least_decided : (xs : List RelationId) → ((r : RelationId) → Q r → In r xs)
+      → ((r : RelationId) × IsLeast Q r) ⊎ ((r : RelationId) → Q r → ⊥)
   unfolding NoneIn Upto
   least_decided xs all = elim (least_in xs) [
     | inl l ↦ inl (l.r, record { holds = l.has; least = λ q k. l.low q (all q k) k })
     | inr n ↦ inr (λ r k. n r (all r k) k)
   ]
 
-in_dirs : (d : Dir) → In d (Forward ∷ Backward ∷ [])
+pub in_dirs : (d : Dir) → In d (Forward ∷ Backward ∷ [])
 in_dirs Forward = inl refl
 in_dirs Backward = inr (inl refl)
-
-pub some_located : (M : Objects) (o : Option NodeId) → IsTrue (located M o) → (v : NodeId) × (o ≡ Some v)
-some_located M None h = absurd (false≢true h)
-some_located M (Some v) h = (v, refl)
 
 module _ (M : Objects) (P : Rules) where
   -- ---- nodes and ways
@@ -180,13 +218,17 @@ module _ (M : Objects) (P : Rules) where
       (λ h. lacking s h.0 h.1)
       (decided_or
       (search_finite (λ v. IsFalse (located M (Some v))) (fin_some (tail_of M s)) (λ v. decided_false _))
-      (decided_both (decided_true _) (search_finite (λ v. IsFalse (located M (Some v))) (fin_some (head_of M s)) (λ v. decided_false _))))
+      (decided_both (decided_true _) (search_finite (λ v. IsFalse (located M (Some v))) (fin_some (head_of M s))
+      (λ v. decided_false _))))
     where
-      lacking : (s : Step) (v : NodeId) → LacksNode M s v → ((v : NodeId) × (tail_of M s ≡ Some v) × IsFalse (located M (Some v))) ⊎ (IsTrue (located M (tail_of M s)) × ((v : NodeId) × (head_of M s ≡ Some v) × IsFalse (located M (Some v))))
+      lacking : (s : Step) (v : NodeId) → LacksNode M s v
+          → ((v : NodeId) × (tail_of M s ≡ Some v) × IsFalse (located M (Some v)))
+          ⊎ (IsTrue (located M (tail_of M s)) × ((v : NodeId) × (head_of M s ≡ Some v) × IsFalse (located M (Some v))))
       lacking s v (AtTail e f) = inl (v, e, f)
       lacking s v (AtHead l e f) = inr (l, (v, e, f))
 
-  answer_by : (s : Step) (o : Option Way) → way_of M s.way ≡ o → ((a : Access) × IsAnswered M P s a) ⊎ ((a : Access) → IsAnswered M P s a → ⊥)
+  answer_by : (s : Step) (o : Option Way) → way_of M s.way ≡ o
+      → ((a : Access) × IsAnswered M P s a) ⊎ ((a : Access) → IsAnswered M P s a → ⊥)
   answer_by s None e = inr (λ a h. let f = h.visible in cc (e, f))
   answer_by s (Some w) e = inl (P.direction w.tags s.dir, record { way = w; visible = e; says = refl })
 
@@ -194,7 +236,8 @@ module _ (M : Objects) (P : Rules) where
   pub answer_of : (s : Step) → ((a : Access) × IsAnswered M P s a) ⊎ ((a : Access) → IsAnswered M P s a → ⊥)
   answer_of s = answer_by s (way_of M s.way) refl
 
-  closed_by : (s : Step) (a : Access) → IsAnswered M P s a → Decided ((by : ClosedBy) × IsAnswered M P s (ClosedAccess by))
+  closed_by : (s : Step) (a : Access) → IsAnswered M P s a
+      → Decided ((by : ClosedBy) × IsAnswered M P s (ClosedAccess by))
   closed_by s Free h = inr (λ k. let e = one_answer M P s _ _ h k.1 in cc (e))
   closed_by s (ClosedAccess by) h = inl (by, h)
   closed_by s WrongWayAccess h = inr (λ k. let e = one_answer M P s _ _ h k.1 in cc (e))
@@ -214,7 +257,8 @@ module _ (M : Objects) (P : Rules) where
 
   fin_behind_of : (before : List Step) → Ends before → Finite (IsBehind before)
   fin_behind_of before (Nil n) = fin_none (λ x h. cons_not_nil h.0 x [] (sym h.1 ∙ n))
-  fin_behind_of before (Last front y e) = fin_by (fin_one y) (λ x f. (front, e ∙ ap (λ v. front ++ v ∷ []) (sym f))) (λ x h. one_before before x y h (front, e))
+  fin_behind_of before (Last front y e) = fin_by (fin_one y) (λ x f. (front, e ∙ ap (λ v. front ++ v ∷ []) (sym f)))
+      (λ x h. one_before before x y h (front, e))
 
   fin_behind : (before : List Step) → Finite (IsBehind before)
   fin_behind before = fin_behind_of before (ends before)
@@ -233,17 +277,23 @@ module _ (M : Objects) (P : Rules) where
   barrier_decided before s = decided_like
       (λ h. (h.2.0, record { last = h.0; behind = h.1; meets = h.2.1; on = h.2.2.0; barrier = h.2.2.1 }))
       (λ h. (h.1.last, h.1.behind, (h.0, h.1.meets, (h.1.on, h.1.barrier))))
-      (search_finite (λ x. (v : NodeId) × Meets M x s v × ((head_of M s ≢ tail_of M x) × IsTrue (shut M P v))) (fin_behind before)
-      (λ x. search_finite (λ v. (head_of M s ≢ tail_of M x) × IsTrue (shut M P v)) (fin_meets x s) (λ v. decided_both (decided_not (decided_option _ _)) (decided_true _))))
+      (search_finite (λ x. (v : NodeId) × Meets M x s v × ((head_of M s ≢ tail_of M x) × IsTrue (shut M P v)))
+      (fin_behind before)
+      (λ x. search_finite (λ v. (head_of M s ≢ tail_of M x) × IsTrue (shut M P v)) (fin_meets x s)
+      (λ v. decided_both (decided_not (decided_option _ _)) (decided_true _))))
 
   -- ---- turning round
 
   leaves_decided : (v : NodeId) (s : Step) → Decided (Leaves M P v s)
-  leaves_decided v s = decided_like (λ h. record { drives = h.0; tail = h.1 }) (λ h. (h.drives, h.tail)) (decided_both (decided_true _) (decided_option _ _))
+  leaves_decided v s = decided_like (λ h. record { drives = h.0; tail = h.1 }) (λ h. (h.drives, h.tail))
+      (decided_both (decided_true _) (decided_option _ _))
 
   fin_leaves : (v : NodeId) → Finite (Leaves M P v)
   fin_leaves v = fin_by
-      (fin_bind (fin_list (ways_in (entries M))) (λ w. fin_bind (fin_list (Forward ∷ Backward ∷ [])) (λ d. fin_bind (fin_below (length (line_of M w))) (λ i. fin_if (leaves_decided v (step w d i)) (λ l. fin_one (step w d i))))))
+      (fin_bind (fin_list (ways_in (entries M)))
+      (λ w. fin_bind (fin_list (Forward ∷ Backward ∷ []))
+      (λ d. fin_bind (fin_below (length (line_of M w)))
+      (λ i. fin_if (leaves_decided v (step w d i)) (λ l. fin_one (step w d i))))))
       (λ s h. subst (Leaves M P v) (sym h.2.2.2.1) h.2.2.2.0)
       (λ s l. let p = parts M P s.way s.dir s.index l.drives in
       let n = some_located M _ p.next in
@@ -256,7 +306,8 @@ module _ (M : Objects) (P : Rules) where
     | inr n ↦ inl (λ u l. elim (decided_step u s) [ inl e ↦ e | inr m ↦ absurd (n (u, l, m)) ])
   ]
 
-  turns_by : (v : NodeId) (s : Step) → MayTurn M P v s → IsTrue (turning_place M P v) ⊎ (IsTrue (shut M P v) ⊎ (Leaves M P v s × ((u : Step) → Leaves M P v u → u ≡ s)))
+  turns_by : (v : NodeId) (s : Step) → MayTurn M P v s
+      → IsTrue (turning_place M P v) ⊎ (IsTrue (shut M P v) ⊎ (Leaves M P v s × ((u : Step) → Leaves M P v u → u ≡ s)))
   turns_by v s (AtPlace h) = inl h
   turns_by v s (AtShut h) = inr (inl h)
   turns_by v s (AtDeadEnd l h) = inr (inr (l, h))
@@ -271,43 +322,90 @@ module _ (M : Objects) (P : Rules) where
   back_decided before s = decided_like
       (λ h. (h.2.0, record { last = h.0; behind = h.1; meets = h.2.1; back = h.2.2.0; may_not = h.2.2.1 }))
       (λ h. (h.1.last, h.1.behind, (h.0, h.1.meets, (h.1.back, h.1.may_not))))
-      (search_finite (λ x. (v : NodeId) × Meets M x s v × ((head_of M s ≡ tail_of M x) × (MayTurn M P v s → ⊥))) (fin_behind before)
-      (λ x. search_finite (λ v. (head_of M s ≡ tail_of M x) × (MayTurn M P v s → ⊥)) (fin_meets x s) (λ v. decided_both (decided_option _ _) (decided_not (may_turn_decided v s)))))
+      (search_finite (λ x. (v : NodeId) × Meets M x s v × ((head_of M s ≡ tail_of M x) × (MayTurn M P v s → ⊥)))
+      (fin_behind before)
+      (λ x. search_finite (λ v. (head_of M s ≡ tail_of M x) × (MayTurn M P v s → ⊥)) (fin_meets x s)
+      (λ v. decided_both (decided_option _ _) (decided_not (may_turn_decided v s)))))
 
   -- ---- words
 
   ends_no_decided : (d : List Step) (r : RelationId) → Decided (EndsNoWord M P d r)
   ends_no_decided d r = decided_like
-      (λ h. record { front = h.0.0; word = h.0.1; ends = h.1; binding = h.2.0.0; is = subst (IsWord M P r false h.2.0.0) h.2.2 h.2.1 })
+      (λ h. record {
+        front = h.0.0;
+        word = h.0.1;
+        ends = h.1;
+        binding = h.2.0.0;
+        is = subst (IsWord M P r false h.2.0.0)
+            h.2.2 h.2.1;
+      })
       (λ e. ((e.front, e.word), e.ends, ((e.binding, e.word), e.is, refl)))
       (search_finite (λ z. (y : ℕ × List Step) × IsWord M P r false y.0 y.1 × (y.1 ≡ z.1)) (fin_cuts d)
       (λ z. search_finite (λ y. y.1 ≡ z.1) (fin_words_of M P r false) (λ y. decided_steps y.1 z.1)))
 
   -- the least relation with a No word that ends the drive
-  pub least_no : (d : List Step) → ((r : RelationId) × IsLeast (EndsNoWord M P d) r) ⊎ ((r : RelationId) → EndsNoWord M P d r → ⊥)
-  least_no d = least_decided (EndsNoWord M P d) (ends_no_decided d) (relations_in (entries M)) (λ r e. visible_in M r e.is.body e.is.visible)
+  pub least_no : (d : List Step) → ((r : RelationId) × IsLeast (EndsNoWord M P d) r)
+      ⊎ ((r : RelationId) → EndsNoWord M P d r → ⊥)
+  least_no d = least_decided (EndsNoWord M P d) (ends_no_decided d) (relations_in (entries M))
+      (λ r e. visible_in M r e.is.body e.is.visible)
 
   Demands : List Step → Step → RelationId → Type 0
   Demands p x r = (y : ℕ × List Step) × IsWord M P r true y.0 y.1 × (GoesBy p x y.1 × (y.0 ≤ length p))
 
   demands_decided : (p : List Step) (x : Step) (r : RelationId) → Decided (Demands p x r)
   unfolding Demands
-  demands_decided p x r = search_finite (λ y. GoesBy p x y.1 × (y.0 ≤ length p)) (fin_words_of M P r true) (λ y. decided_both (goes_decided p x y.1) (decided_upto _ _))
+  demands_decided p x r = search_finite (λ y. GoesBy p x y.1 × (y.0 ≤ length p)) (fin_words_of M P r true)
+      (λ y. decided_both (goes_decided p x y.1) (decided_upto _ _))
 
   pub must_decided : (p : List Step) (x : Step) → Decided (Must M P p x)
   unfolding Demands GoesBy
   must_decided p x = elim (some_in (Demands p x) (demands_decided p x) (relations_in (entries M))) [
-    | inl h ↦ let y = h.2 in inl (record { binding = y.0.0; rest = y.2.0.0; word = record { relation = h.0; word = subst (IsWord M P h.0 true y.0.0) y.2.0.1 y.1 }; bound = y.2.1 })
-    | inr n ↦ inr (λ m. n m.word.relation (visible_in M m.word.relation m.word.word.body m.word.word.visible) ((m.binding, p ++ x ∷ m.rest), m.word.word, ((m.rest, refl), m.bound)))
+    | inl h ↦ let y = h.2 in inl (record {
+      binding = y.0.0;
+      rest = y.2.0.0;
+      word = record
+          { relation = h.0; word = subst (IsWord M P h.0 true y.0.0) y.2.0.1 y.1 };
+      bound = y.2.1;
+    })
+    | inr n ↦ inr (λ m. n m.word.relation (visible_in M m.word.relation m.word.word.body m.word.word.visible)
+        ((m.binding, p ++ x ∷ m.rest), m.word.word, ((m.rest, refl), m.bound)))
   ]
 
   leaves_only_decided : (before : List Step) (s : Step) (r : RelationId) → Decided (LeavesOnlyWord M P before s r)
   leaves_only_decided before s r = decided_like
-      (λ h. let y = h.2.1 in record { front = h.0.0; driven = h.0.1; ends = h.1; lacks = h.2.0; next = y.2.0.next; rest = y.2.0.rest; binding = y.0.0; word = subst (IsWord M P r true y.0.0) y.2.0.is y.1; bound = y.2.1 })
-      (λ e. ((e.front, e.driven), e.ends, (e.lacks, ((e.binding, e.driven ++ e.next ∷ e.rest), e.word, (record { next = e.next; rest = e.rest; is = refl }, e.bound)))))
-      (search_finite (λ z. (Must M P z.1 s → ⊥) × ((y : ℕ × List Step) × IsWord M P r true y.0 y.1 × (More z.1 y.1 × (y.0 ≤ length z.1)))) (fin_cuts before)
-      (λ z. decided_both (decided_not (must_decided z.1 s)) (search_finite (λ y. More z.1 y.1 × (y.0 ≤ length z.1)) (fin_words_of M P r true) (λ y. decided_both (more_decided z.1 y.1) (decided_upto _ _)))))
+      (λ h. let y = h.2.1 in record {
+        front = h.0.0;
+        driven = h.0.1;
+        ends = h.1;
+        lacks = h.2.0;
+        next = y.2.0.next;
+        rest
+            = y.2.0.rest;
+        binding = y.0.0;
+        word = subst (IsWord M P r true y.0.0) y.2.0.is y.1;
+        bound = y.2.1;
+      })
+      (λ e. (
+        (e.front, e.driven),
+        e.ends,
+        (
+          e.lacks,
+          (
+            (e.binding, e.driven ++ e.next ∷ e.rest),
+            e.word,
+            (record { next = e.next; rest = e.rest; is = refl }, e.bound),
+          ),
+        ),
+      ))
+      (search_finite (λ z. (Must M P z.1 s → ⊥)
+      × ((y : ℕ × List Step) × IsWord M P r true y.0 y.1 × (More z.1 y.1 × (y.0 ≤ length z.1)))) (fin_cuts before)
+      (λ z. decided_both (decided_not (must_decided z.1 s))
+      (search_finite (λ y. More z.1 y.1 × (y.0 ≤ length z.1)) (fin_words_of M P r true)
+      (λ y. decided_both (more_decided z.1 y.1) (decided_upto _ _)))))
 
   -- the least relation with an Only word that the step leaves
-  pub least_only : (before : List Step) (s : Step) → ((r : RelationId) × IsLeast (LeavesOnlyWord M P before s) r) ⊎ ((r : RelationId) → LeavesOnlyWord M P before s r → ⊥)
-  least_only before s = least_decided (LeavesOnlyWord M P before s) (leaves_only_decided before s) (relations_in (entries M)) (λ r e. visible_in M r e.word.body e.word.visible)
+  pub least_only : (before : List Step) (s : Step)
+      → ((r : RelationId) × IsLeast (LeavesOnlyWord M P before s) r)
+      ⊎ ((r : RelationId) → LeavesOnlyWord M P before s r → ⊥)
+  least_only before s = least_decided (LeavesOnlyWord M P before s) (leaves_only_decided before s)
+      (relations_in (entries M)) (λ r e. visible_in M r e.word.body e.word.visible)

@@ -1,5 +1,6 @@
 -- A word has at most 1,026 steps, and a context at most so many pieces.
-use Rattle.std.proofs.Common.{◌≡◌, ℕ, ◌+◌, ◌-◌, ◌≤◌, List, [], ◌∷◌, length, Bool, true, false, ◌||◌, IsTrue, refl, sym, ap, ◌∙◌, subst, arith, length-append}
+use Rattle.std.proofs.Common.{◌≡◌, ℕ, ◌+◌, ◌-◌, ◌≤◌, List, [], ◌∷◌, length, Bool, true, false, ◌||◌, IsTrue, refl, sym}
+use Rattle.std.proofs.Common.{ap, ◌∙◌, subst, arith, length-append}
 use Rattle.std.specs.Prelude.{nat_lt, sum_by}
 use Rattle.std.proofs.lemmas.Bool.{ltb-false}
 use Rattle.std.proofs.lemmas.List.Sums.{sum_by-cons}
@@ -29,7 +30,8 @@ last_of_four false false false true n = absurd (n refl)
 last_of_four false false false false n = refl
 
 module _ (M : Objects) (P : Rules) where
-  run_length : (allowed : WayId → Dir → Bool) (ks : List Key) (v : NodeId) (via : List Step) (out : NodeId) → IsRun M allowed ks v via out → length via ≡ sum_by (steps_on M) ks
+  run_length : (allowed : WayId → Dir → Bool) (ks : List Key) (v : NodeId) (via : List Step) (out : NodeId)
+      → IsRun M allowed ks v via out → length via ≡ sum_by (steps_on M) ks
   run_length allowed [] v via out h = ap length h.0
   run_length allowed (NodeKey n ∷ ks) v via out h = absurd h
   run_length allowed (WayKey w ∷ ks) v via out h =
@@ -41,16 +43,20 @@ module _ (M : Objects) (P : Rules) where
       e ∙ k ∙ ap (λ x. x + length h.2) n ∙ ap (λ x. length (line_of M w) - 1 + x) i ∙ sym s
   run_length allowed (RelationKey r ∷ ks) v via out h = absurd h
 
-  via_length : (ks : List Key) (v : NodeId) (via : List Step) (out : NodeId) → IsVia M P ks v via out → length via ≤ sum_by (steps_on M) ks
+  via_length : (ks : List Key) (v : NodeId) (via : List Step) (out : NodeId) → IsVia M P ks v via out
+      → length via ≤ sum_by (steps_on M) ks
   via_length [] v via out h = absurd h
   via_length (NodeKey n ∷ []) v via out h = let e = ap length h.1 in omega arith
   via_length (NodeKey n ∷ k ∷ ks) v via out h = absurd h
   via_length (WayKey w ∷ ks) v via out h = let e = run_length _ (WayKey w ∷ ks) v via out h in omega arith
   via_length (RelationKey r ∷ ks) v via out h = absurd h
 
-  pub short_word : (r : RelationId) (only : Bool) (binding : ℕ) (u : List Step) → IsWord M P r only binding u → length u ≤ 1026
+  pub short_word : (r : RelationId) (only : Bool) (binding : ℕ) (u : List Step) → IsWord M P r only binding u
+      → length u ≤ 1026
   short_word r only binding u w =
-      let few = ltb-false 1024 (sum_by (steps_on M) (vias w.body)) (last_of_four (nat_lt 16 (length (froms w.body))) (nat_lt 16 (length (vias w.body))) (nat_lt 16 (length (tos w.body))) _ (w.usable TooLong)) in
+      let few = ltb-false 1024 (sum_by (steps_on M) (vias w.body))
+      (last_of_four (nat_lt 16 (length (froms w.body))) (nat_lt 16 (length (vias w.body)))
+      (nat_lt 16 (length (tos w.body))) _ (w.usable TooLong)) in
       let v = via_length (vias w.body) w.enter w.via w.leave w.via_is in
       let e = ap length w.spelled in
       let k = length-append w.via (w.last ∷ []) in
@@ -62,7 +68,8 @@ module _ (M : Objects) (P : Rules) where
   as_many : (ps : List Piece) → Every (IsPiece M P) ps → length ps ≤ length (spell_pieces ps)
   as_many [] h = omega arith
   as_many (p ∷ ps) h =
-      let a = some_spelled p h.0 in let b = as_many ps h.1 in let e = length-append (spell p) (spell_pieces ps) in omega arith
+      let a = some_spelled p h.0 in let b = as_many ps h.1 in let e = length-append (spell p) (spell_pieces ps) in omega
+      arith
 
   pub short_context : (c : List Piece) → IsContext M P c → length c ≤ 1026
   short_context c (One p e i) = let k = ap length e in omega arith

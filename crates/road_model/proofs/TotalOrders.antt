@@ -3,7 +3,8 @@ use Rattle.std.proofs.Common.{Ordering, ◌⊎◌, inl, inr, ◌≡◌, length, 
 use Rattle.std.specs.declared.cmp.Ordering.TheVariants.{Less, Equal, Greater}
 use Rattle.std.specs.Ordering.{ordering_reverse, ordering_then}
 use Rattle.std.specs.Cmp.{IsTotalOrder}
-use Rattle.std.specs.FinMap.{IsAntisymmetric, int_cmp-IsAntisymmetric, nat_cmp-IsAntisymmetric, slice_cmp-IsAntisymmetric}
+use Rattle.std.specs.FinMap.{IsAntisymmetric, int_cmp-IsAntisymmetric, nat_cmp-IsAntisymmetric}
+use Rattle.std.specs.FinMap.{slice_cmp-IsAntisymmetric}
 use Rattle.std.proofs.lemmas.Cmp.{nat_cmp_total, int_cmp_total, on_total, then_total, lists_total}
 use Rattle.road_base.specs.declared.ids.NodeId.{NodeId}
 use Rattle.road_base.specs.declared.ids.WayId.{WayId}
@@ -50,7 +51,8 @@ dir_cmp_total = record { antisymm = dir_antisymm; trans = dir_trans; congr = dir
 
 pub name_cmp_total : IsTotalOrder name_cmp
 name_cmp_total = then_total (on_total (λ (n : PieceName). n.way) way_cmp_total)
-    (then_total (on_total (λ (n : PieceName). n.index) nat_cmp_total) (on_total (λ (n : PieceName). n.dir) dir_cmp_total))
+    (then_total (on_total (λ (n : PieceName). n.index) nat_cmp_total)
+    (on_total (λ (n : PieceName). n.dir) dir_cmp_total))
 
 pub names_cmp_total : IsTotalOrder names_cmp
 names_cmp_total = then_total (on_total length nat_cmp_total) (lists_total name_cmp_total)

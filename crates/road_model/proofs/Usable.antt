@@ -13,11 +13,13 @@ use Rattle.road_base.specs.Objects.{Objects}
 use Rattle.road_model.specs.declared.answers.RuleKind.{RuleKind}
 use Rattle.road_model.specs.declared.answers.RuleKind.TheVariants.{Freed, Absent, No, Only}
 use Rattle.road_model.specs.declared.answers.Unusable.{Unusable}
-use Rattle.road_model.specs.declared.answers.Unusable.TheVariants.{NotThisVehicle, NoValue, Members, Missing, NotAnEnd, NotConnected, ClosedVia, TooLong}
+use Rattle.road_model.specs.declared.answers.Unusable.TheVariants.{NotThisVehicle, NoValue, Members, Missing, NotAnEnd}
+use Rattle.road_model.specs.declared.answers.Unusable.TheVariants.{NotConnected, ClosedVia, TooLong}
 use Rattle.road_model.specs.Rules.{Rules}
 use Rattle.road_model.specs.Lines.{same_node}
 use Rattle.road_model.specs.Driving.{is_open}
-use Rattle.road_model.specs.Restrictions.{froms, vias, tos, way_ends, some_ends_at, meet, any_way, IsRun, Connects, Holds, IsUsable}
+use Rattle.road_model.specs.Restrictions.{froms, vias, tos, way_ends, some_ends_at, meet, any_way, IsRun, Connects}
+use Rattle.road_model.specs.Restrictions.{Holds, IsUsable}
 use Rattle.road_model.proofs.Members.{In}
 use Rattle.road_model.proofs.Decided.{Decided, decided_both, decided_not, decided_like, decided_true, some_in}
 use Rattle.road_model.proofs.Positions.{same_node_id}
@@ -43,7 +45,8 @@ decided_kind Only No = inr (λ e. cc)
 decided_kind Only Only = inl refl
 
 -- what passes the test for some member
-some_member : {X : Type 0} (test : X → Bool) (xs : List X) → IsTrue (list_any test xs) → (x : X) × In x xs × IsTrue (test x)
+some_member : {X : Type 0} (test : X → Bool) (xs : List X) → IsTrue (list_any test xs)
+    → (x : X) × In x xs × IsTrue (test x)
 some_member test [] h = absurd (false≢true h)
 some_member test (x ∷ xs) h = elim (or_cases _ _ h) [
   | inl a ↦ (x, inl refl, a)
@@ -51,11 +54,16 @@ some_member test (x ∷ xs) h = elim (or_cases _ _ h) [
 ]
 
 same_as_one : (x n : NodeId) → IsTrue (list_any (same_node x) (n ∷ [])) → x ≡ n
-same_as_one x n h = elim (or_cases _ _ h) [ inl a ↦ same_node_id x n ((Decides-int_eq x.0 n.0).0 a) | inr b ↦ absurd (false≢true b) ]
+same_as_one x n h = elim (or_cases _ _ h) [
+  | inl a ↦ same_node_id x n ((Decides-int_eq x.0 n.0).0 a)
+  | inr b
+      ↦ absurd (false≢true b)
+]
 
 module _ (M : Objects) where
   -- a node where some of the ways ends is one of their ends
-  an_end : (ks : List Key) (n : NodeId) → IsTrue (some_ends_at M ks (n ∷ [])) → (k : Key) × In k ks × In n (way_ends M k)
+  an_end : (ks : List Key) (n : NodeId) → IsTrue (some_ends_at M ks (n ∷ []))
+      → (k : Key) × In k ks × In n (way_ends M k)
   an_end ks n h =
       let k = some_member (λ k. meet (way_ends M k) (n ∷ [])) ks h in
       let x = some_member (λ x. list_any (same_node x) (n ∷ [])) (way_ends M k.0) k.2 in
@@ -71,14 +79,24 @@ module _ (M : Objects) where
 
     leads_decided : (n : NodeId) → Decided (Leads n)
     unfolding Leads
-    leads_decided n = search_finite (λ y. IsTrue (some_ends_at M (tos r) (y.1 ∷ []))) (fin_run M allowed (vias r) n) (λ y. decided_true _)
+    leads_decided n = search_finite (λ y. IsTrue (some_ends_at M (tos r) (y.1 ∷ []))) (fin_run M allowed (vias r) n)
+        (λ y. decided_true _)
 
     connects_decided : Decided (Connects M allowed r)
     unfolding Leads
     connects_decided = decided_like
-        (λ h. let l = h.2.1 in record { enter = h.0; steps = l.0.0; leave = l.0.1; run = l.1; from_end = h.2.0; to_end = l.2 })
+        (λ h. let l = h.2.1 in record {
+          enter = h.0;
+          steps = l.0.0;
+          leave = l.0.1;
+          run = l.1;
+          from_end = h.2.0;
+          to_end
+              = l.2;
+        })
         (λ c. (c.enter, an_end (froms r) c.enter c.from_end, (c.from_end, ((c.steps, c.leave), c.run, c.to_end))))
-        (search_finite (λ n. IsTrue (some_ends_at M (froms r) (n ∷ [])) × Leads n) (ends_of (froms r)) (λ n. decided_both (decided_true _) (leads_decided n)))
+        (search_finite (λ n. IsTrue (some_ends_at M (froms r) (n ∷ [])) × Leads n) (ends_of (froms r))
+        (λ n. decided_both (decided_true _) (leads_decided n)))
 
 module _ (M : Objects) (P : Rules) (r : Relation) where
   cause_decided : (cause : Unusable) → Decided (Holds M P r cause)
@@ -89,7 +107,8 @@ module _ (M : Objects) (P : Rules) (r : Relation) where
   cause_decided NotAnEnd = decided_true _
   cause_decided NotConnected = decided_both (decided_true _) (decided_not (connects_decided M any_way r))
   cause_decided ClosedVia = decided_like (λ h. (h.0, h.1.0, h.1.1)) (λ h. (h.0, (h.1, h.2)))
-      (decided_both (decided_true _) (decided_both (connects_decided M any_way r) (decided_not (connects_decided M (is_open M P) r))))
+      (decided_both (decided_true _) (decided_both (connects_decided M any_way r)
+      (decided_not (connects_decided M (is_open M P) r))))
   cause_decided TooLong = decided_true _
 
   causes : List Unusable

@@ -1,5 +1,6 @@
 -- The steps of a word lie on members of its restriction.
-use Rattle.std.proofs.Common.{◌≡◌, ℕ, zero, suc, ◌+◌, List, [], ◌∷◌, ◌++◌, ◌⊎◌, inl, inr, ap, ◌∙◌, sym, subst, Bool, true, false, cond, Contains, map, filter}
+use Rattle.std.proofs.Common.{◌≡◌, ℕ, zero, suc, ◌+◌, List, [], ◌∷◌, ◌++◌, ◌⊎◌, inl, inr, ap, ◌∙◌, sym, subst, Bool}
+use Rattle.std.proofs.Common.{true, false, cond, Contains, map, filter}
 use Rattle.std.specs.Prelude.{codes}
 use Rattle.std.specs.Str.{bytes_eq}
 use Rattle.road_base.specs.declared.ids.NodeId.{NodeId}
@@ -24,7 +25,8 @@ use Rattle.road_model.proofs.Enumerated.{in_cases}
 abbrev items : List Member → List Key
 items ms = map (λ m. m.item) ms
 
-kept : (b : Bool) (k : Key) (m : Member) (ms : List Member) → In k (items (cond b (m ∷ ms) ms)) → (k ≡ m.item) ⊎ In k (items ms)
+kept : (b : Bool) (k : Key) (m : Member) (ms : List Member) → In k (items (cond b (m ∷ ms) ms))
+    → (k ≡ m.item) ⊎ In k (items ms)
 kept true k m ms i = i
 kept false k m ms i = inr i
 
@@ -51,7 +53,8 @@ on_way : (w : WayId) (i n : ℕ) (d : Dir) (s : Step) → In s (steps_from w i n
 on_way w i n Forward s j = on_forward w i n s j
 on_way w i n Backward s j = on_backward w i n s j
 
-on_run : (M : Objects) (allowed : WayId → Dir → Bool) (ks : List Key) (v : NodeId) (via : List Step) (out : NodeId) (s : Step) → IsRun M allowed ks v via out → In s via → In (WayKey s.way) ks
+on_run : (M : Objects) (allowed : WayId → Dir → Bool) (ks : List Key) (v : NodeId) (via : List Step) (out : NodeId)
+    (s : Step) → IsRun M allowed ks v via out → In s via → In (WayKey s.way) ks
 on_run M allowed [] v via out s h i = subst (In s) h.0 i
 on_run M allowed (NodeKey n ∷ ks) v via out s h i = absurd h
 on_run M allowed (WayKey w ∷ ks) v via out s h i = elim (in_cases s (whole_way M w h.0) h.2 (subst (In s) h.6 i)) [
@@ -60,21 +63,28 @@ on_run M allowed (WayKey w ∷ ks) v via out s h i = elim (in_cases s (whole_way
 ]
 on_run M allowed (RelationKey r ∷ ks) v via out s h i = absurd h
 
-on_via : (M : Objects) (P : Rules) (ks : List Key) (v : NodeId) (via : List Step) (out : NodeId) (s : Step) → IsVia M P ks v via out → In s via → In (WayKey s.way) ks
+on_via : (M : Objects) (P : Rules) (ks : List Key) (v : NodeId) (via : List Step) (out : NodeId) (s : Step)
+    → IsVia M P ks v via out → In s via → In (WayKey s.way) ks
 on_via M P [] v via out s h i = absurd h
 on_via M P (NodeKey n ∷ []) v via out s h i = absurd (subst (In s) h.1 i)
 on_via M P (NodeKey n ∷ k ∷ ks) v via out s h i = absurd h
 on_via M P (WayKey w ∷ ks) v via out s h i = on_run M _ (WayKey w ∷ ks) v via out s h i
 on_via M P (RelationKey r ∷ ks) v via out s h i = absurd h
 
-module _ (M : Objects) (P : Rules) (r : RelationId) (only : Bool) (binding : ℕ) (u : List Step) (w : IsWord M P r only binding u) where
+module _ (M : Objects) (P : Rules) (r : RelationId) (only : Bool) (binding : ℕ) (u : List Step)
+    (w : IsWord M P r only binding u) where
   -- a first, a via or a last step of the word lies on a member
   on_parts : (s : Step) → (s ≡ w.first) ⊎ In s (w.via ++ w.last ∷ []) → In (WayKey s.way) (items w.body.members)
-  on_parts s (inl e) = role_member (codes "from") (WayKey s.way) w.body.members (subst (λ k. In (WayKey k) (in_role (codes "from") w.body.members)) (sym (ap (λ t. t.way) e ∙ w.first_ends.of)) (in_from_contains _ _ w.from_member))
+  on_parts s (inl e) = role_member (codes "from") (WayKey s.way) w.body.members
+      (subst (λ k. In (WayKey k) (in_role (codes "from") w.body.members)) (sym (ap (λ t. t.way) e ∙ w.first_ends.of))
+      (in_from_contains _ _ w.from_member))
   on_parts s (inr i) = elim (in_cases s w.via (w.last ∷ []) i) [
-    | inl j ↦ role_member (codes "via") (WayKey s.way) w.body.members (on_via M P (vias w.body) w.enter w.via w.leave s w.via_is j)
+    | inl j ↦ role_member (codes "via") (WayKey s.way) w.body.members
+        (on_via M P (vias w.body) w.enter w.via w.leave s w.via_is j)
     | inr j ↦ elim j [
-      | inl e ↦ role_member (codes "to") (WayKey s.way) w.body.members (subst (λ k. In (WayKey k) (in_role (codes "to") w.body.members)) (sym (ap (λ t. t.way) e ∙ w.last_begins.of)) (in_from_contains _ _ w.to_member))
+      | inl e ↦ role_member (codes "to") (WayKey s.way) w.body.members
+          (subst (λ k. In (WayKey k) (in_role (codes "to") w.body.members)) (sym (ap (λ t. t.way) e ∙ w.last_begins.of))
+          (in_from_contains _ _ w.to_member))
       | inr k ↦ absurd k
     ]
   ]

@@ -1,5 +1,6 @@
 -- Small maps, worked out by hand.
-use Rattle.std.proofs.Common.{◌≡◌, ℕ, List, [], ◌∷◌, ◌++◌, length, refl, Some, true, false, pos, codes, inl, sym, ◌∙◌, lit<}
+use Rattle.std.proofs.Common.{◌≡◌, ℕ, List, [], ◌∷◌, ◌++◌, length, refl, Some, None, true, false, pos, codes, inl, sym}
+use Rattle.std.proofs.Common.{◌∙◌, lit<}
 use Rattle.std.proofs.lemmas.Bool.{false≢true}
 use Rattle.std.specs.FinMap.{from_sorted, get, find, get-from_sorted}
 use Rattle.road_base.specs.declared.ids.NodeId.{NodeId}
@@ -10,17 +11,19 @@ use Rattle.road_base.specs.declared.ids.Key.TheVariants.{Node as NodeKey, Way as
 use Rattle.road_base.specs.declared.location.Location.{Location}
 use Rattle.road_base.specs.declared.objects.Relation.{Relation}
 use Rattle.road_base.specs.declared.objects.Body.{Body}
-use Rattle.road_base.specs.declared.objects.Body.TheVariants.{Node as NodeBody, Way as WayBody, Relation as RelationBody}
+use Rattle.road_base.specs.declared.objects.Body.TheVariants.{Node as NodeBody, Way as WayBody}
+use Rattle.road_base.specs.declared.objects.Body.TheVariants.{Relation as RelationBody}
 use Rattle.road_base.specs.Objects.{Objects, Entry, key_cmp, visible, node_of, way_of, relation_of}
 use Rattle.road_model.specs.declared.answers.Access.TheVariants.{Free}
 use Rattle.road_model.specs.declared.answers.RuleKind.TheVariants.{Absent, No}
-use Rattle.road_model.specs.declared.answers.Unusable.TheVariants.{NotThisVehicle, NoValue, Members, Missing, NotAnEnd, NotConnected, ClosedVia, TooLong}
+use Rattle.road_model.specs.declared.answers.Unusable.TheVariants.{NotThisVehicle, NoValue, Members, Missing, NotAnEnd}
+use Rattle.road_model.specs.declared.answers.Unusable.TheVariants.{NotConnected, ClosedVia, TooLong}
 use Rattle.road_model.specs.declared.lists.PieceName.{PieceName}
 use Rattle.road_model.specs.declared.lists.Place.{Place}
 use Rattle.road_model.specs.declared.lists.Piece.{Piece}
 use Rattle.road_model.specs.declared.blocks.Block.{Block}
 use Rattle.road_model.specs.Rules.{Rules}
-use Rattle.road_model.specs.Lines.{line_of, node_at}
+use Rattle.road_model.specs.Lines.{line_of, node_at, names_pair, end_at, tail_of, head_of}
 use Rattle.road_model.specs.Driving.{is_open, drivable}
 use Rattle.road_model.specs.Restrictions.{lacks_member, misses_end, IsUsable}
 use Rattle.road_model.specs.Words.{IsWord}
@@ -47,7 +50,12 @@ abbrev node_entry : ℕ → Location → Key × Entry
 node_entry n x = (NodeKey (node n), record { version = 1; body = NodeBody (record { tags = []; location = Some x }) })
 
 abbrev there_and_back : List (Key × Entry)
-there_and_back = node_entry 1 west ∷ node_entry 2 middle ∷ (WayKey (record { 0 = pos 10 }), record { version = 1; body = WayBody (record { tags = []; refs = node 1 ∷ node 1 ∷ node 2 ∷ node 1 ∷ [] }) }) ∷ []
+there_and_back = node_entry 1 west ∷ node_entry 2 middle
+    ∷ (
+      WayKey (record { 0 = pos 10 }),
+      record
+          { version = 1; body = WayBody (record { tags = []; refs = node 1 ∷ node 1 ∷ node 2 ∷ node 1 ∷ [] }) },
+    ) ∷ []
 
 abbrev small_map : Objects
 small_map = from_sorted there_and_back
@@ -60,13 +68,19 @@ line_without_repeats : line_of small_map (record { 0 = pos 10 }) ≡ node 1 ∷ 
 unfolding line_of way_of visible
 line_without_repeats = simp looked_up refl
 
-last_step_backward : drivable small_map all_free (record { way = record { 0 = pos 10 }; index = 1; dir = Backward }) ≡ true
+last_step_backward : drivable small_map all_free (record { way = record { 0 = pos 10 }; index = 1; dir = Backward })
+    ≡ true
 unfolding drivable is_open node_at line_of way_of node_of visible
 last_step_backward = simp looked_up refl
 
 no_step_behind : drivable small_map all_free (record { way = record { 0 = pos 10 }; index = 2; dir = Forward }) ≡ false
 unfolding drivable is_open node_at line_of way_of node_of visible
 no_step_behind = simp looked_up refl
+
+-- and it begins nowhere, though there is a node at its index
+no_tail_behind : tail_of small_map (record { way = record { 0 = pos 10 }; index = 2; dir = Forward }) ≡ None
+unfolding end_at names_pair line_of way_of visible
+no_tail_behind = simp looked_up refl
 
 -- ---- the graph of way 10 over the nodes 1, 2, 3: a piece each way, and at each end the way back
 
@@ -77,12 +91,19 @@ abbrev place : ℕ → Location → Place
 place n x = record { node = node n; location = x }
 
 abbrev piece : Dir → List Place → Dir → Piece
-piece d places turn = record { name = piece_name d; end = 2; places = places; contexts = record { before = []; arcs = record { piece = piece_name turn; length = 1 } ∷ [] } ∷ [] }
+piece d places turn = record {
+  name = piece_name d;
+  end = 2;
+  places = places;
+  contexts = record
+      { before = []; arcs = record { piece = piece_name turn; length = 1 } ∷ [] } ∷ [];
+}
 
 abbrev block : Block
 block = record {
   way = record { 0 = pos 10 };
-  pieces = piece Forward (place 1 west ∷ place 2 middle ∷ place 3 east ∷ []) Backward ∷ piece Backward (place 3 east ∷ place 2 middle ∷ place 1 west ∷ []) Forward ∷ [];
+  pieces = piece Forward (place 1 west ∷ place 2 middle ∷ place 3 east ∷ []) Backward
+      ∷ piece Backward (place 3 east ∷ place 2 middle ∷ place 1 west ∷ []) Forward ∷ [];
 }
 
 -- the magic OSMROAD1, profile 1, one block, and its way and two pieces
@@ -129,7 +150,9 @@ street refs = WayBody (record { tags = (codes "highway", codes "residential") �
 abbrev turn_rule : Relation
 turn_rule = record {
   tags = (codes "type", codes "restriction") ∷ [];
-  members = record { item = WayKey (record { 0 = pos 10 }); role = codes "from" } ∷ record { item = NodeKey (node 2); role = codes "via" } ∷ record { item = WayKey (record { 0 = pos 11 }); role = codes "to" } ∷ [];
+  members = record { item = WayKey (record { 0 = pos 10 }); role = codes "from" }
+      ∷ record { item = NodeKey (node 2); role = codes "via" }
+      ∷ record { item = WayKey (record { 0 = pos 11 }); role = codes "to" } ∷ [];
 }
 
 abbrev with_rule : List (Key × Entry)
@@ -170,12 +193,12 @@ rule_visible : relation_of rule_map (record { 0 = pos 5 }) ≡ Some turn_rule
 unfolding relation_of visible
 rule_visible = simp found refl
 
-ends : node_at rule_map (record { 0 = pos 10 }) 1 ≡ Some (node 2)
-unfolding node_at line_of way_of visible
+ends : head_of rule_map (record { way = record { 0 = pos 10 }; index = 0; dir = Forward }) ≡ Some (node 2)
+unfolding end_at names_pair node_at line_of way_of visible
 ends = simp found refl
 
-begins : node_at rule_map (record { 0 = pos 11 }) 0 ≡ Some (node 2)
-unfolding node_at line_of way_of visible
+begins : tail_of rule_map (record { way = record { 0 = pos 11 }; index = 0; dir = Forward }) ≡ Some (node 2)
+unfolding end_at names_pair node_at line_of way_of visible
 begins = simp found refl
 
 two_nodes : length (line_of rule_map (record { 0 = pos 10 })) ≡ 2
@@ -183,7 +206,9 @@ unfolding line_of way_of visible
 two_nodes = simp found refl
 
 -- the forbidden turn is its word
-turn_is_word : IsWord rule_map no_turn (record { 0 = pos 5 }) false 1 (record { way = record { 0 = pos 10 }; index = 0; dir = Forward } ∷ record { way = record { 0 = pos 11 }; index = 0; dir = Forward } ∷ [])
+turn_is_word : IsWord rule_map no_turn (record { 0 = pos 5 }) false 1
+    (record { way = record { 0 = pos 10 }; index = 0; dir = Forward }
+    ∷ record { way = record { 0 = pos 11 }; index = 0; dir = Forward } ∷ [])
 turn_is_word = record {
   body = turn_rule;
   visible = rule_visible;

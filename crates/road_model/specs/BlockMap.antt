@@ -20,4 +20,5 @@ block_map bs = from_entries (map entry_of bs)
 
 abbrev pub coded_block_map : Coded BlockMap
 coded_block_map =
-    code_by (FinMap way_cmp Block × ℕ) (coded× (code (way.the_row).coded (block.the_row).coded) coded_ℕ) (λ b. (b.map, b.spare)) (λ p. record { map = p.0; spare = p.1 }) (λ _. refl)
+    code_by (FinMap way_cmp Block × ℕ) (coded× (code (way.the_row).coded (block.the_row).coded) coded_ℕ)
+    (λ b. (b.map, b.spare)) (λ p. record { map = p.0; spare = p.1 }) (λ _. refl)

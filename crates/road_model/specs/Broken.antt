@@ -93,8 +93,9 @@ pub record EndsNoWord (M : Objects) (P : Rules) (d : List Step) (r : RelationId)
   pub binding : ℕ
   pub is : IsWord M P r false binding word
 
--- Some Only word of the relation has `driven` as a proper prefix not shorter than its binding length, where `driven` ends
--- the steps before s; and s isn't one of the next steps that Only words demand there (OSM wiki, Relation:restriction).
+-- Some Only word of the relation has `driven` as a proper prefix not shorter than its binding length, where `driven`
+-- ends the steps before s; and s isn't one of the next steps that Only words demand there (OSM wiki,
+-- Relation:restriction).
 pub record LeavesOnlyWord (M : Objects) (P : Rules) (before : List Step) (s : Step) (r : RelationId) : Type 0 where
   pub front : List Step
   pub driven : List Step
@@ -124,8 +125,8 @@ Applies M P before s (Only r) = IsLeast (LeavesOnlyWord M P before s) r
 
 -- ---- the first broken rule
 
--- k is the least number from 1 on such that the first k steps of the drive d aren't legal, and of the rules that apply to
--- step k this one has the first place
+-- k is the least number from 1 on such that the first k steps of the drive d aren't legal, and of the rules that
+-- apply to step k this one has the first place
 pub record Broken (M : Objects) (P : Rules) (d : List Step) (k : ℕ) (rule : BrokenRule) : Type 0 where
   pub before : List Step
   pub step : Step

@@ -50,7 +50,8 @@ turning_place M P v = node_turns P (node_of M v)
 
 -- the way is open in the step's direction, and both nodes are visible with locations
 unfoldable pub drivable : Objects → Rules → Step → Bool
-drivable M P s = is_open M P s.way s.dir && (located M (node_at M s.way s.index) && located M (node_at M s.way (s.index + 1)))
+drivable M P s = is_open M P s.way s.dir && (located M (node_at M s.way s.index)
+    && located M (node_at M s.way (s.index + 1)))
 
 -- the step is drivable and leaves the node
 pub record Leaves (M : Objects) (P : Rules) (v : NodeId) (s : Step) : Type 0 where

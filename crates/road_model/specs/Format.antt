@@ -1,5 +1,6 @@
 -- The bytes of a graph file. All numbers are little endian.
-use Rattle.std.specs.Prelude.{◌≡◌, ℕ, ◌+◌, ◌-◌, ◌<◌, ◌≤◌, ◌^◌, List, [], ◌∷◌, ◌++◌, length, map, IsTrue, FitsSigned, codes}
+use Rattle.std.specs.Prelude.{◌≡◌, ℕ, ◌+◌, ◌-◌, ◌<◌, ◌≤◌, ◌^◌, List, [], ◌∷◌, ◌++◌, length, map, IsTrue, FitsSigned}
+use Rattle.std.specs.Prelude.{codes}
 use Rattle.std.specs.List.{AllByRecursion}
 use Rattle.std.specs.Ordering.{nat_cmp, ordering_then}
 use Rattle.std.specs.Int.{w64}
@@ -36,19 +37,23 @@ arc_bytes a = name_bytes a.piece ++ u32_bytes a.length
 
 -- how many pieces it has, the names of all but the last, and its arcs
 abbrev pub context_bytes : Context → List ℕ
-context_bytes c = u32_bytes (length c.before + 1) ++ (joined name_bytes c.before ++ (u64_bytes (length c.arcs) ++ joined arc_bytes c.arcs))
+context_bytes c = u32_bytes (length c.before + 1)
+    ++ (joined name_bytes c.before ++ (u64_bytes (length c.arcs) ++ joined arc_bytes c.arcs))
 
 -- its positions and direction, its nodes and its contexts
 abbrev pub piece_bytes : Piece → List ℕ
 piece_bytes p =
-    u32_bytes p.name.index ++ (u32_bytes p.end ++ (dir_bytes p.name.dir ++ (joined place_bytes p.places ++ (u64_bytes (length p.contexts) ++ joined context_bytes p.contexts))))
+    u32_bytes p.name.index ++ (u32_bytes p.end
+    ++ (dir_bytes p.name.dir ++ (joined place_bytes p.places
+    ++ (u64_bytes (length p.contexts) ++ joined context_bytes p.contexts))))
 
 abbrev pub block_bytes : Block → List ℕ
 block_bytes b = i64_bytes b.way.0 ++ (u32_bytes (length b.pieces) ++ joined piece_bytes b.pieces)
 
 -- the magic, the profile's number, how many blocks there are, and the blocks
 abbrev pub graph_bytes : ℕ → List Block → List ℕ
-graph_bytes profile blocks = codes "OSMROAD1" ++ (u32_bytes profile ++ (u64_bytes (length blocks) ++ joined block_bytes blocks))
+graph_bytes profile blocks = codes "OSMROAD1"
+    ++ (u32_bytes profile ++ (u64_bytes (length blocks) ++ joined block_bytes blocks))
 
 -- ---- grammar
 

@@ -17,3 +17,5 @@ pub mod Format
 pub mod BlockMap
 pub mod Naming
 pub mod Broken
+pub mod OnNetwork
+pub mod Networks

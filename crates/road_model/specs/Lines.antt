@@ -1,5 +1,6 @@
 -- The line of a way, and what the steps of it are.
-use Rattle.std.specs.Prelude.{ℕ, zero, suc, ◌+◌, List, [], ◌∷◌, Option, Some, None, Bool, cond, slice_get, nat_lt, length}
+use Rattle.std.specs.Prelude.{ℕ, zero, suc, ◌+◌, List, [], ◌∷◌, Option, Some, None, Bool, cond, slice_get, nat_lt}
+use Rattle.std.specs.Prelude.{length}
 use Rattle.std.specs.Ordering.{int_eq}
 use Rattle.road_base.specs.declared.ids.NodeId.{NodeId}
 use Rattle.road_base.specs.declared.ids.WayId.{WayId}
@@ -46,13 +47,17 @@ abbrev pub head_position : Dir → ℕ → ℕ
 head_position Forward i = i + 1
 head_position Backward i = i
 
--- the node where a step begins
-abbrev pub tail_of : Objects → Step → Option NodeId
-tail_of M s = node_at M s.way (tail_position s.dir s.index)
+-- the node at a position of the step's way, where the step names a pair
+unfoldable pub end_at : Objects → Step → ℕ → Option NodeId
+end_at M s i = cond (names_pair M s) (node_at M s.way i) None
 
--- the node where a step ends
+-- the node where a step begins; a step that names no pair begins nowhere
+abbrev pub tail_of : Objects → Step → Option NodeId
+tail_of M s = end_at M s (tail_position s.dir s.index)
+
+-- the node where a step ends; a step that names no pair ends nowhere
 abbrev pub head_of : Objects → Step → Option NodeId
-head_of M s = node_at M s.way (head_position s.dir s.index)
+head_of M s = end_at M s (head_position s.dir s.index)
 
 -- n steps along the way from position i, in order of travel
 abbrev pub forward_steps : WayId → ℕ → ℕ → List Step

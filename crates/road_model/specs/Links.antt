@@ -1,5 +1,6 @@
--- Links between objects, what is within some number of links, and the ways that a change touches. Of these definitions the
--- contracts speak of references, members and changed keys; the others say which blocks a change may alter.
+-- Links between objects, what is within some number of links, and the ways that a change touches. Of these
+-- definitions the contracts speak of references, members and changed keys; the others say which blocks a change may
+-- alter.
 use Rattle.std.specs.Prelude.{◌≡◌, ℕ, zero, suc, ◌⊎◌, List, Some, IsTrue, Contains, map}
 use Rattle.road_base.specs.declared.ids.NodeId.{NodeId}
 use Rattle.road_base.specs.declared.ids.WayId.{WayId}

@@ -1,4 +1,4 @@
--- That names and object maps leave no choice.
+-- That names and object maps leave no choice, and that every way has a block and every object map a graph.
 use Rattle.std.specs.Prelude.{◌≡◌, ℕ, List}
 use Rattle.road_base.specs.declared.ids.WayId.{WayId}
 use Rattle.road_base.specs.Objects.{Objects}
@@ -24,3 +24,11 @@ OneBlock M P = (w : WayId) (a b : Block) → IsBlock M P w a → IsBlock M P w b
 -- an object map has one graph, byte for byte
 abbrev pub OneGraph : Objects → Rules → Type 0
 OneGraph M P = (a b : List ℕ) → IsGraph M P a → IsGraph M P b → a ≡ b
+
+-- every way has a block
+abbrev pub HasBlock : Objects → Rules → Type 0
+HasBlock M P = (w : WayId) → (b : Block) × IsBlock M P w b
+
+-- the object map has a graph
+abbrev pub HasGraph : Objects → Rules → Type 0
+HasGraph M P = (bytes : List ℕ) × IsGraph M P bytes

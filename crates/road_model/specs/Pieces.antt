@@ -9,8 +9,9 @@ use Rattle.road_model.specs.Rules.{Rules}
 use Rattle.road_model.specs.Lines.{line_of, node_at, steps_from}
 use Rattle.road_model.specs.Driving.{is_road, located, shut, turning_place, drivable}
 
--- position i of the way's line is plain; every other position is a junction
+-- position i of a road's line is plain; every other position of a road's line is a junction
 pub record IsPlain (M : Objects) (P : Rules) (w : WayId) (i : ℕ) : Type 0 where
+  pub road : IsTrue (is_road M P w)
   pub not_first : 0 < i
   pub not_last : i + 1 < length (line_of M w)
   pub node : NodeId
@@ -35,7 +36,8 @@ pub record IsPiece (M : Objects) (P : Rules) (p : Piece) : Type 0 where
   pub first : IsPlain M P p.way p.index → ⊥
   pub last : IsPlain M P p.way p.end → ⊥
   pub inner : (k : ℕ) → p.index < k → k < p.end → IsPlain M P p.way k
-  pub drives : (k : ℕ) → p.index ≤ k → k < p.end → IsTrue (drivable M P (record { way = p.way; index = k; dir = p.dir }))
+  pub drives : (k : ℕ) → p.index ≤ k → k < p.end
+      → IsTrue (drivable M P (record { way = p.way; index = k; dir = p.dir }))
 
 abbrev pub spell : Piece → List Step
 spell p = steps_from p.way p.index (p.end - p.index) p.dir

@@ -1,5 +1,6 @@
 -- The members of a restriction, and the causes for which it may be of no use (OSM wiki, Relation:restriction).
-use Rattle.std.specs.Prelude.{◌≡◌, ℕ, ◌-◌, nat_le, nat_lt, ◌&&◌, ◌||◌, not, is_some, sum_by, List, [], ◌∷◌, ◌++◌, length, Option, Some, None, Bool, true, false, IsTrue, map, filter, codes}
+use Rattle.std.specs.Prelude.{◌≡◌, ℕ, ◌-◌, nat_le, nat_lt, ◌&&◌, ◌||◌, not, is_some, sum_by, List, [], ◌∷◌, ◌++◌}
+use Rattle.std.specs.Prelude.{length, Option, Some, None, Bool, true, false, IsTrue, map, filter, codes}
 use Rattle.std.specs.Str.{bytes_eq}
 use Rattle.std.specs.List.{list_all, list_any}
 use Rattle.road_base.specs.declared.ids.NodeId.{NodeId}
@@ -15,7 +16,8 @@ use Rattle.road_base.specs.declared.objects.Way.{Way}
 use Rattle.road_base.specs.Objects.{Objects, node_of, way_of, relation_of}
 use Rattle.road_model.specs.declared.answers.RuleKind.TheVariants.{Freed, Absent}
 use Rattle.road_model.specs.declared.answers.Unusable.{Unusable}
-use Rattle.road_model.specs.declared.answers.Unusable.TheVariants.{NotThisVehicle, NoValue, Members, Missing, NotAnEnd, NotConnected, ClosedVia, TooLong}
+use Rattle.road_model.specs.declared.answers.Unusable.TheVariants.{NotThisVehicle, NoValue, Members, Missing, NotAnEnd}
+use Rattle.road_model.specs.declared.answers.Unusable.TheVariants.{NotConnected, ClosedVia, TooLong}
 use Rattle.road_model.specs.Rules.{Rules, has_highway, is_only}
 use Rattle.road_model.specs.Lines.{same_node, line_of, node_at, steps_from}
 use Rattle.road_model.specs.Driving.{is_open}
@@ -139,7 +141,8 @@ abbrev pub wrong_members : Bool → Relation → Bool
 wrong_members only r =
     ((is_empty (froms r) || is_empty (tos r)) || is_empty (vias r))
     || ((not (list_all is_way_key (froms r)) || not (list_all is_way_key (tos r)))
-    || (not (is_one_node (vias r) || are_ways (vias r)) || (only && (nat_lt 1 (length (froms r)) || nat_lt 1 (length (tos r))))))
+    || (not (is_one_node (vias r) || are_ways (vias r))
+    || (only && (nat_lt 1 (length (froms r)) || nat_lt 1 (length (tos r))))))
 
 abbrev pub is_tagged_highway : Option Way → Bool
 is_tagged_highway None = false
@@ -153,7 +156,8 @@ is_present M (RelationKey r) = is_some (relation_of M r)
 
 -- some from, via or to member isn't there
 abbrev pub lacks_member : Objects → Relation → Bool
-lacks_member M r = not (list_all (is_present M) (froms r)) || (not (list_all (is_present M) (vias r)) || not (list_all (is_present M) (tos r)))
+lacks_member M r = not (list_all (is_present M) (froms r))
+    || (not (list_all (is_present M) (vias r)) || not (list_all (is_present M) (tos r)))
 
 abbrev pub same_end : Option NodeId → Option NodeId → Bool
 same_end None b = false
@@ -170,7 +174,8 @@ is_ring M (RelationKey r) = false
 abbrev pub misses_end : Objects → Relation → Bool
 misses_end M r =
     list_any (is_ring M) (vias r)
-    || (not (some_ends_at M (froms r) (via_ends M (first_of (vias r)))) || not (some_ends_at M (tos r) (via_ends M (last_of (vias r)))))
+    || (not (some_ends_at M (froms r) (via_ends M (first_of (vias r))))
+    || not (some_ends_at M (tos r) (via_ends M (last_of (vias r)))))
 
 abbrev pub steps_on : Objects → Key → ℕ
 steps_on M (NodeKey n) = 0
@@ -179,7 +184,8 @@ steps_on M (RelationKey r) = 0
 
 -- more than 16 members of one role, or more than 1,024 steps on the via ways together
 abbrev pub is_too_long : Objects → Relation → Bool
-is_too_long M r = (nat_lt 16 (length (froms r)) || nat_lt 16 (length (vias r))) || (nat_lt 16 (length (tos r)) || nat_lt 1024 (sum_by (steps_on M) (vias r)))
+is_too_long M r = (nat_lt 16 (length (froms r)) || nat_lt 16 (length (vias r)))
+    || (nat_lt 16 (length (tos r)) || nat_lt 1024 (sum_by (steps_on M) (vias r)))
 
 abbrev pub any_way : WayId → Dir → Bool
 any_way w d = true

@@ -1,4 +1,4 @@
--- Walks over contexts and arcs, and the drives from junction to junction.
+-- Walks over contexts and arcs, the drives from junction to junction, and what the walks spell of them.
 use Rattle.std.specs.Prelude.{◌≡◌, ◌≤◌, List, [], ◌∷◌, ◌++◌, length}
 use Rattle.road_base.specs.declared.ids.Step.{Step}
 use Rattle.road_base.specs.Objects.{Objects}
@@ -9,7 +9,8 @@ use Rattle.road_model.specs.Network.{Legal, IsArc, spell_pieces}
 -- the pieces d are those of a walk that has come to context c: it starts at a context of one piece and follows arcs
 pub data WalksTo (M : Objects) (P : Rules) : List Piece → List Piece → Type 0 where
   Start : {d c : List Piece} (p : Piece) → IsPiece M P p → d ≡ p ∷ [] → c ≡ p ∷ [] → WalksTo M P d c
-  Go : {d c : List Piece} (e b : List Piece) (t : Piece) → WalksTo M P e b → IsArc M P b t c → d ≡ e ++ t ∷ [] → WalksTo M P d c
+  Go : {d c : List Piece} (e b : List Piece) (t : Piece) → WalksTo M P e b → IsArc M P b t c → d ≡ e ++ t ∷ []
+      → WalksTo M P d c
 
 -- the pieces are those of a walk
 pub record IsWalk (M : Objects) (P : Rules) (d : List Piece) : Type 0 where
@@ -54,4 +55,15 @@ pub record HasShortest (M : Objects) (P : Rules) (s : List Step) : Type 0 where
   pub least_pieces : (e : List Piece) → IsWalk M P e → Carries e s → length walk ≤ length e
   pub only_by_pieces : (e : List Piece) → IsWalk M P e → Carries e s → length e ≤ length walk → e ≡ walk
   pub least_steps : (e : List Piece) → IsWalk M P e → Carries e s → length (spell_pieces walk) ≤ length (spell_pieces e)
-  pub only_by_steps : (e : List Piece) → IsWalk M P e → Carries e s → length (spell_pieces e) ≤ length (spell_pieces walk) → e ≡ walk
+  pub only_by_steps : (e : List Piece) → IsWalk M P e → Carries e s
+      → length (spell_pieces e) ≤ length (spell_pieces walk) → e ≡ walk
+
+-- The walks over the arcs of the object map spell, each once, exactly the legal drives from junction to junction; the
+-- pieces of a walk decide to which context it has come; and every legal drive is part of the spelling of exactly one
+-- shortest walk, by pieces and by steps alike.
+pub record AreWalked (M : Objects) (P : Rules) : Type 0 where
+  pub legal : (d : List Piece) → IsWalk M P d → IsJunctionDrive M P (spell_pieces d)
+  pub one_to_one : (d e : List Piece) → IsWalk M P d → IsWalk M P e → spell_pieces d ≡ spell_pieces e → d ≡ e
+  pub contexts : (d b c : List Piece) → WalksTo M P d b → WalksTo M P d c → b ≡ c
+  pub onto : (s : List Step) → IsJunctionDrive M P s → IsSpelled M P s
+  pub shortest : (s : List Step) → Legal M P s → HasShortest M P s

@@ -38,8 +38,8 @@ IsVia M P (NodeKey n ∷ k ∷ ks) v steps out = ⊥
 IsVia M P (WayKey w ∷ ks) v steps out = IsRun M (is_open M P) (WayKey w ∷ ks) v steps out
 IsVia M P (RelationKey r ∷ ks) v steps out = ⊥
 
--- How many steps must have been driven before an Only rule demands the next one: 1 with a via node, and 2 with via ways,
--- so that it binds once the first via way was entered from the from way.
+-- How many steps must have been driven before an Only rule demands the next one: 1 with a via node, and 2 with via
+-- ways, so that it binds once the first via way was entered from the from way.
 abbrev pub binding_of : List Key → ℕ
 binding_of [] = 1
 binding_of (NodeKey n ∷ ks) = 1
@@ -52,23 +52,24 @@ kind_of false = No
 
 -- The list of steps is a word of the relation, an Only word or a No word, with its binding length. Any from member, any
 -- to member and any fitting directions of the via ways give one.
-pub record IsWord (M : Objects) (P : Rules) (r : RelationId) (only : Bool) (binding : ℕ) (steps : List Step) : Type 0 where
-  pub body : Relation
-  pub visible : relation_of M r ≡ Some body
-  pub restriction : IsTrue (is_restriction body.tags)
-  pub usable : IsUsable M P body
-  pub kind : P.rule body.tags ≡ kind_of only
-  pub from_way : WayId
-  pub to_way : WayId
-  pub from_member : Contains (froms body) (WayKey from_way)
-  pub to_member : Contains (tos body) (WayKey to_way)
-  pub bound : binding ≡ binding_of (vias body)
-  pub enter : NodeId
-  pub leave : NodeId
-  pub first : Step
-  pub via : List Step
-  pub last : Step
-  pub spelled : steps ≡ first ∷ (via ++ last ∷ [])
-  pub first_ends : IsEndInto M from_way enter first
-  pub via_is : IsVia M P (vias body) enter via leave
-  pub last_begins : IsEndFrom M to_way leave last
+pub record IsWord (M : Objects) (P : Rules) (r : RelationId) (only : Bool) (binding : ℕ) (steps : List Step) : Type 0
+  where
+    pub body : Relation
+    pub visible : relation_of M r ≡ Some body
+    pub restriction : IsTrue (is_restriction body.tags)
+    pub usable : IsUsable M P body
+    pub kind : P.rule body.tags ≡ kind_of only
+    pub from_way : WayId
+    pub to_way : WayId
+    pub from_member : Contains (froms body) (WayKey from_way)
+    pub to_member : Contains (tos body) (WayKey to_way)
+    pub bound : binding ≡ binding_of (vias body)
+    pub enter : NodeId
+    pub leave : NodeId
+    pub first : Step
+    pub via : List Step
+    pub last : Step
+    pub spelled : steps ≡ first ∷ (via ++ last ∷ [])
+    pub first_ends : IsEndInto M from_way enter first
+    pub via_is : IsVia M P (vias body) enter via leave
+    pub last_begins : IsEndFrom M to_way leave last

@@ -45,8 +45,8 @@ pub enum Unusable {
     NoValue,
     /// Its members are too few, too many, or of the wrong kinds.
     Members,
-    /// A from, via or to member isn't visible, or is a way without the key `highway` or with fewer than two nodes on its
-    /// line.
+    /// A from, via or to member isn't visible, or is a way without the key `highway` or with fewer than two nodes on
+    /// its line.
     Missing,
     /// No from way or no to way ends where the turn is, or a via way begins and ends at one node.
     NotAnEnd,

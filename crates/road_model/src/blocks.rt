@@ -1,5 +1,6 @@
 //! Blocks of the graph, one for each way with pieces.
-ghost use Rattle.std.specs.Prelude.{◌≡◌, ◌+◌, ◌≤◌, ◌↔◌, length, map, option_copied, None, Some, IfOk, IfErr, OnOk, OnErr, IsTrue, Contains};
+ghost use Rattle.std.specs.Prelude.{◌≡◌, ◌+◌, ◌≤◌, ◌↔◌, length, map, option_copied, None, Some, IfOk, IfErr, OnOk};
+ghost use Rattle.std.specs.Prelude.{OnErr, IsTrue, Contains};
 ghost use Rattle.std.specs.List.{HoldsAt, AllWithin};
 ghost use Rattle.std.specs.List.Sorted.{IsSearchInRange};
 ghost use Rattle.std.specs.declared.cmp.Ordering.TheVariants.{Less, Greater};
@@ -107,7 +108,8 @@ impl Blocks {
         }
     }
 
-    /// Takes the way's block out; None exactly where the way has none. Takes no memory, and leaves no less room to spare.
+    /// Takes the way's block out; None exactly where the way has none. Takes no memory, and leaves no less room to
+    /// spare.
     pub fn remove(&mut self, way: WayId) -> Option<Block>
         ensures taken { result ≡ get self.old.map way }
         ensures map { self.new.map ≡ removed self.old.map way }
@@ -128,14 +130,14 @@ impl Blocks {
         self.list.as_slice()
     }
 
-    /// The same blocks. How much room is to spare isn't copied.
+    /// An equal value: the same blocks, and as much room to spare.
     pub fn copy(&self) -> Result<Blocks, NoMemory>
-        ensures { IfOk result (λ blocks. blocks.map ≡ self.now.map) }
+        ensures { IfOk result (λ blocks. blocks ≡ self.now) }
     {
         let from = self.list.as_slice();
-        let mut list = Vec::with_capacity(*self.list.allocator(), from.len())?;
+        let mut list = Vec::with_capacity(*self.list.allocator(), self.list.capacity())?;
         for block in from {
-            list.push(block.copy()?)?;
+            list.push_reserved(block.copy()?);
         }
         Ok(Blocks { list })
     }

@@ -1,5 +1,6 @@
 //! Laws of the definitions, each the contract of a function that does nothing.
-ghost use Rattle.std.specs.Prelude.{◌≡◌, ◌↔◌, ℕ, ◌≤◌, List, [], ◌∷◌, ◌++◌, length, map, filter_map, Bool, Option, Some, IsTrue, Contains};
+ghost use Rattle.std.specs.Prelude.{◌≡◌, ◌↔◌, ℕ, ◌≤◌, List, [], ◌∷◌, ◌++◌, length, map, filter_map, Bool, Option, Some};
+ghost use Rattle.std.specs.Prelude.{IsTrue, Contains};
 ghost use Rattle.std.specs.Cmp.{IsTotalOrder};
 ghost use Rattle.std.specs.FinMap.{IsAntisymmetric};
 ghost use Rattle.road_base.specs.Objects.{Objects};
@@ -19,13 +20,14 @@ ghost use Rattle.road_model.specs.Network.{AnyWord, Legal, GoesOn, IsContext, Is
 ghost use Rattle.road_model.specs.Links.{HasMember, RefersTo};
 ghost use Rattle.road_model.specs.Blocks.{name_of};
 ghost use Rattle.road_model.specs.Turning.{HasTurnSteps, BeginsWord, EndsPiece};
-ghost use Rattle.road_model.specs.Walks.{WalksTo, IsWalk, IsJunctionDrive, IsSpelled, HasShortest};
-ghost use Rattle.road_model.specs.Naming.{OnePiece, OneEntry, OneBlock, OneGraph};
+ghost use Rattle.road_model.specs.Walks.{AreWalked};
+ghost use Rattle.road_model.specs.Naming.{OnePiece, OneEntry, OneBlock, OneGraph, HasBlock, HasGraph};
 ghost use Rattle.road_model.specs.Broken.{BrokenRule, Broken};
 
 use crate::Profile;
 
-/// Ways, names of pieces and lists of names stand in total orders, in which only equal ones tie. `cmp` compares names so.
+/// Ways, names of pieces and lists of names stand in total orders, in which only equal ones tie. `cmp` compares names
+/// so.
 pub fn name_order()
     ensures ways { IsTotalOrder way_cmp }
     ensures way_ties { IsAntisymmetric way_cmp }
@@ -60,9 +62,20 @@ pub fn one_graph<P: Profile>(profile: &P)
     ensures { (M : Objects) → OneGraph M (P.rules profile.now) }
 {}
 
+/// Every way has a block, over every object map.
+pub fn has_block<P: Profile>(profile: &P)
+    ensures { (M : Objects) → HasBlock M (P.rules profile.now) }
+{}
+
+/// Every object map has a graph.
+pub fn has_graph<P: Profile>(profile: &P)
+    ensures { (M : Objects) → HasGraph M (P.rules profile.now) }
+{}
+
 /// Each drivable step stands in the spelling of exactly one piece, once.
 pub fn one_piece<P: Profile>(profile: &P)
-    ensures { (M : Objects) (s : Step) → IsTrue (drivable M (P.rules profile.now) s) → IsInOnePiece M (P.rules profile.now) s }
+    ensures { (M : Objects) (s : Step) → IsTrue (drivable M (P.rules profile.now) s)
+        → IsInOnePiece M (P.rules profile.now) s }
 {}
 
 /// Where a piece ends, each drivable step that leaves is the first one of a piece.
@@ -75,8 +88,8 @@ pub fn steps_depart<P: Profile>(profile: &P)
         → BeginsPiece M (P.rules profile.now) u }
 {}
 
-/// A legal drive stays legal when the steps that stand before its first step in that step's piece are put before it, and
-/// when those that stand behind its last step in that step's piece are put behind it.
+/// A legal drive stays legal when the steps that stand before its first step in that step's piece are put before it,
+/// and when those that stand behind its last step in that step's piece are put behind it.
 pub fn whole_pieces<P: Profile>(profile: &P)
     ensures before { (M : Objects) (p : Piece) (front : List Step) (s : Step) (back rest : List Step)
         → IsPiece M (P.rules profile.now) p
@@ -90,16 +103,19 @@ pub fn whole_pieces<P: Profile>(profile: &P)
         → Legal M (P.rules profile.now) ((rest ++ s ∷ []) ++ back) }
 {}
 
-/// A piece alone spells a legal drive, and behind legal pieces it is legal exactly where its first step may go on there.
+/// A piece alone spells a legal drive, and behind legal pieces it is legal exactly where its first step may go on
+/// there.
 pub fn one_junction<P: Profile>(profile: &P)
-    ensures alone { (M : Objects) (p : Piece) → IsPiece M (P.rules profile.now) p → Legal M (P.rules profile.now) (spell p) }
+    ensures alone { (M : Objects) (p : Piece) → IsPiece M (P.rules profile.now) p
+        → Legal M (P.rules profile.now) (spell p) }
     ensures joined { (M : Objects) (d : List Piece) (t : Piece) (first : Step) (more : List Step)
         → Every (IsPiece M (P.rules profile.now)) d
         → (d ≡ [] → ⊥)
         → Legal M (P.rules profile.now) (spell_pieces d)
         → IsPiece M (P.rules profile.now) t
         → spell t ≡ first ∷ more
-        → Legal M (P.rules profile.now) (spell_pieces d ++ spell t) ↔ GoesOn M (P.rules profile.now) (spell_pieces d) first }
+        → Legal M (P.rules profile.now) (spell_pieces d ++ spell t)
+        ↔ GoesOn M (P.rules profile.now) (spell_pieces d) first }
 {}
 
 /// A run of neighbouring steps of a legal drive is legal.
@@ -122,7 +138,8 @@ pub fn words_at_junctions<P: Profile>(profile: &P)
         → spell p ≡ front ++ s ∷ t ∷ back
         → AnyWord M (P.rules profile.now) (before ++ t ∷ [])
         → ⊥ }
-    ensures goes_straight { (M : Objects) (p : Piece) (front : List Step) (s t next : Step) (back before rest : List Step)
+    ensures goes_straight { (M : Objects) (p : Piece) (front : List Step) (s t next : Step)
+        (back before rest : List Step)
         → IsPiece M (P.rules profile.now) p
         → spell p ≡ front ++ s ∷ t ∷ back
         → AnyWord M (P.rules profile.now) (before ++ s ∷ next ∷ rest)
@@ -133,20 +150,23 @@ pub fn words_at_junctions<P: Profile>(profile: &P)
 /// context, which is found piece by piece: with one more piece it is the longest one that ends the last one and this
 /// piece. Where no restriction gives a word, a context is one piece.
 pub fn contexts<P: Profile>(profile: &P)
-    ensures shorter { (M : Objects) (e : List Piece) (t : Piece) → (e ≡ [] → ⊥) → IsContext M (P.rules profile.now) (e ++ t ∷ []) → IsContext M (P.rules profile.now) e }
+    ensures shorter { (M : Objects) (e : List Piece) (t : Piece) → (e ≡ [] → ⊥)
+        → IsContext M (P.rules profile.now) (e ++ t ∷ []) → IsContext M (P.rules profile.now) e }
     ensures some { (M : Objects) (d : List Piece)
         → (d ≡ [] → ⊥)
         → Every (IsPiece M (P.rules profile.now)) d
         → Legal M (P.rules profile.now) (spell_pieces d)
         → (c : List Piece) × IsContextOf M (P.rules profile.now) d c }
-    ensures one { (M : Objects) (d b c : List Piece) → IsContextOf M (P.rules profile.now) d b → IsContextOf M (P.rules profile.now) d c → b ≡ c }
+    ensures one { (M : Objects) (d b c : List Piece) → IsContextOf M (P.rules profile.now) d b
+        → IsContextOf M (P.rules profile.now) d c → b ≡ c }
     ensures next { (M : Objects) (d b c : List Piece) (t : Piece)
         → Every (IsPiece M (P.rules profile.now)) d
         → IsPiece M (P.rules profile.now) t
         → IsContextOf M (P.rules profile.now) d b
         → IsContextOf M (P.rules profile.now) (b ++ t ∷ []) c
         → IsContextOf M (P.rules profile.now) (d ++ t ∷ []) c }
-    ensures alone { (M : Objects) (c : List Piece) → HasNoWords M (P.rules profile.now) → IsContext M (P.rules profile.now) c → (p : Piece) × (c ≡ p ∷ []) }
+    ensures alone { (M : Objects) (c : List Piece) → HasNoWords M (P.rules profile.now)
+        → IsContext M (P.rules profile.now) c → (p : Piece) × (c ≡ p ∷ []) }
 {}
 
 /// What may follow a legal list of pieces is decided by the longest context that ends it.
@@ -156,27 +176,21 @@ pub fn context_decides<P: Profile>(profile: &P)
         → Legal M (P.rules profile.now) (spell_pieces d)
         → IsContextOf M (P.rules profile.now) d c
         → IsPiece M (P.rules profile.now) t
-        → Legal M (P.rules profile.now) (spell_pieces d ++ spell t) ↔ Legal M (P.rules profile.now) (spell_pieces c ++ spell t) }
+        → Legal M (P.rules profile.now) (spell_pieces d ++ spell t)
+        ↔ Legal M (P.rules profile.now) (spell_pieces c ++ spell t) }
 {}
 
-/// Spelling is a one-to-one map from the walks onto the legal drives from junction to junction, and every legal drive is
-/// an infix of the spelling of exactly one shortest walk, by pieces and by steps alike.
+/// Spelling is a one-to-one map from the walks onto the legal drives from junction to junction, and every legal drive
+/// is an infix of the spelling of exactly one shortest walk, by pieces and by steps alike.
 pub fn walk_law<P: Profile>(profile: &P)
-    ensures legal { (M : Objects) (d : List Piece) → IsWalk M (P.rules profile.now) d → IsJunctionDrive M (P.rules profile.now) (spell_pieces d) }
-    ensures one_to_one { (M : Objects) (d e : List Piece)
-        → IsWalk M (P.rules profile.now) d
-        → IsWalk M (P.rules profile.now) e
-        → spell_pieces d ≡ spell_pieces e
-        → d ≡ e }
-    ensures contexts { (M : Objects) (d b c : List Piece) → WalksTo M (P.rules profile.now) d b → WalksTo M (P.rules profile.now) d c → b ≡ c }
-    ensures onto { (M : Objects) (s : List Step) → IsJunctionDrive M (P.rules profile.now) s → IsSpelled M (P.rules profile.now) s }
-    ensures shortest { (M : Objects) (s : List Step) → Legal M (P.rules profile.now) s → HasShortest M (P.rules profile.now) s }
+    ensures { (M : Objects) → AreWalked M (P.rules profile.now) }
 {}
 
-/// A drivable step alone is a legal drive, and a legal drive with one more drivable step is legal exactly where this step
-/// may go on.
+/// A drivable step alone is a legal drive, and a legal drive with one more drivable step is legal exactly where this
+/// step may go on.
 pub fn drive_grows<P: Profile>(profile: &P)
-    ensures alone { (M : Objects) (s : Step) → IsTrue (drivable M (P.rules profile.now) s) → Legal M (P.rules profile.now) (s ∷ []) }
+    ensures alone { (M : Objects) (s : Step) → IsTrue (drivable M (P.rules profile.now) s)
+        → Legal M (P.rules profile.now) (s ∷ []) }
     ensures grows { (M : Objects) (d : List Step) (t : Step)
         → Legal M (P.rules profile.now) d
         → IsTrue (drivable M (P.rules profile.now) t)
@@ -217,7 +231,8 @@ pub fn words_on_ways<P: Profile>(profile: &P)
 /// begin a word, and each such list of steps up to the last one of a piece is that of one context that ends with this
 /// piece. Where such steps end pieces they name the pieces. A context has at most 1,026 pieces.
 pub fn context_steps<P: Profile>(profile: &P)
-    ensures single { (M : Objects) (p : Piece) → IsPiece M (P.rules profile.now) p → (last : Step) × HasTurnSteps (p ∷ []) (last ∷ []) }
+    ensures single { (M : Objects) (p : Piece) → IsPiece M (P.rules profile.now) p
+        → (last : Step) × HasTurnSteps (p ∷ []) (last ∷ []) }
     ensures to { (M : Objects) (c : List Piece) (a b : Piece) (rest : List Piece)
         → IsContext M (P.rules profile.now) c
         → c ≡ a ∷ b ∷ rest
@@ -228,7 +243,8 @@ pub fn context_steps<P: Profile>(profile: &P)
         → q ≡ s ∷ (u ++ t ∷ [])
         → IsPiece M (P.rules profile.now) p
         → spell p ≡ front ++ t ∷ []
-        → (before : List Piece) × (before ≡ [] → ⊥) × HasTurnSteps (before ++ p ∷ []) q × IsContext M (P.rules profile.now) (before ++ p ∷ []) }
+        → (before : List Piece) × (before ≡ [] → ⊥) × HasTurnSteps (before ++ p ∷ []) q
+        × IsContext M (P.rules profile.now) (before ++ p ∷ []) }
     ensures one { (M : Objects) (c d : List Piece) (q : List Step)
         → Every (IsPiece M (P.rules profile.now)) c
         → Every (IsPiece M (P.rules profile.now)) d
@@ -243,8 +259,8 @@ pub fn context_steps<P: Profile>(profile: &P)
     ensures short { (M : Objects) (c : List Piece) → IsContext M (P.rules profile.now) c → length c ≤ 1026 }
 {}
 
-/// A piece may follow a context exactly where the piece's first step may go on behind the context's last steps, from the
-/// last one of its first piece on.
+/// A piece may follow a context exactly where the piece's first step may go on behind the context's last steps, from
+/// the last one of its first piece on.
 pub fn context_goes_on<P: Profile>(profile: &P)
     ensures { (M : Objects) (c : List Piece) (q : List Step) (t : Piece) (x : Step) (more : List Step)
         → IsContext M (P.rules profile.now) c
@@ -255,8 +271,9 @@ pub fn context_goes_on<P: Profile>(profile: &P)
         → Legal M (P.rules profile.now) (spell_pieces c ++ spell t) ↔ GoesOn M (P.rules profile.now) q x }
 {}
 
-/// Where an arc leads: the longest end of the context's steps with which the piece's first step begins a word, without
-/// being the whole of it, is that of the pieces that stay before the piece; where there is none, the piece stands alone.
+/// Where an arc leads: the longest end of the context's steps with which the piece's first step begins a word,
+/// without being the whole of it, is that of the pieces that stay before the piece; where there is none, the piece
+/// stands alone.
 pub fn context_target<P: Profile>(profile: &P)
     ensures alone { (M : Objects) (c : List Piece) (q : List Step) (t : Piece) (x : Step) (more : List Step)
         → IsContext M (P.rules profile.now) c
@@ -266,7 +283,8 @@ pub fn context_target<P: Profile>(profile: &P)
         → Legal M (P.rules profile.now) (spell_pieces c ++ spell t)
         → ((a b : List Step) → q ≡ a ++ b → (b ≡ [] → ⊥) → BeginsWord M (P.rules profile.now) (b ++ x ∷ []) → ⊥)
         → IsContextOf M (P.rules profile.now) (c ++ t ∷ []) (t ∷ []) }
-    ensures longer { (M : Objects) (c : List Piece) (q : List Step) (t : Piece) (x : Step) (more : List Step) (a b : List Step)
+    ensures longer { (M : Objects) (c : List Piece) (q : List Step) (t : Piece) (x : Step) (more : List Step)
+        (a b : List Step)
         → IsContext M (P.rules profile.now) c
         → HasTurnSteps c q
         → IsPiece M (P.rules profile.now) t
@@ -276,11 +294,14 @@ pub fn context_target<P: Profile>(profile: &P)
         → (b ≡ [] → ⊥)
         → BeginsWord M (P.rules profile.now) (b ++ x ∷ [])
         → ((k l : List Step) → q ≡ k ++ l → BeginsWord M (P.rules profile.now) (l ++ x ∷ []) → length l ≤ length b)
-        → (e : List Piece) × HasTurnSteps e b × IsContextOf M (P.rules profile.now) (c ++ t ∷ []) (e ++ t ∷ []) × ((d : List Piece) × (c ≡ d ++ e)) }
+        → (e : List Piece) × HasTurnSteps e b × IsContextOf M (P.rules profile.now) (c ++ t ∷ []) (e ++ t ∷ [])
+        × ((d : List Piece) × (c ≡ d ++ e)) }
 {}
 
-/// A road is linked to each node that its line passes, and so is the way of a drivable step to the node where it begins.
+/// A road is linked to each node that its line passes, and so is the way of a drivable step to the node where it
+/// begins.
 pub fn roads_refer<P: Profile>(profile: &P)
-    ensures passed { (M : Objects) (w : WayId) (i : ℕ) (v : NodeId) → IsTrue (is_road M (P.rules profile.now) w) → node_at M w i ≡ Some v → RefersTo M w v }
+    ensures passed { (M : Objects) (w : WayId) (i : ℕ) (v : NodeId) → IsTrue (is_road M (P.rules profile.now) w)
+        → node_at M w i ≡ Some v → RefersTo M w v }
     ensures left { (M : Objects) (v : NodeId) (u : Step) → Leaves M (P.rules profile.now) v u → RefersTo M u.way v }
 {}

@@ -2,10 +2,10 @@
 //! demand, and the turn-expanded graph of that.
 //!
 //! `specs/` has the definitions, over any object map and any profile. They know no index, automaton or search: they
-//! judge whole lists of steps against tags and members. The types here are what a profile answers and what a graph
-//! is made of. A graph's blocks lie in one list in the order of their ways: to find one is a binary search. One behind all
-//! others is put at the cost of a push; to put any other whose way is new, and to take one out, moves the blocks behind it.
-//! A copy costs the size of what is copied, and everything else a constant.
+//! judge whole lists of steps against tags and members. The types here are what a profile answers and what a graph is
+//! made of. A graph's blocks lie in one list in the order of their ways: to find one is a binary search. One behind
+//! all others is put at the cost of a push; to put any other whose way is new, and to take one out, moves the blocks
+//! behind it. A copy costs the size of what is copied, and everything else a constant.
 #![tactic(auto)]
 
 mod access_values;
@@ -13,6 +13,7 @@ mod answers;
 mod blocks;
 pub mod laws;
 mod lists;
+mod network;
 mod profile;
 mod world;
 
@@ -20,5 +21,6 @@ pub use access_values::has_open_value;
 pub use answers::{Access, AccessKey, ClosedBy, RuleKind, Unusable};
 pub use blocks::{Block, Blocks};
 pub use lists::{Arcs, Context, Contexts, Names, Piece, PieceName, Pieces, Place, Places, TurnArc};
+pub use network::Network;
 pub use profile::Profile;
 pub use world::World;

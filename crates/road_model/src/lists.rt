@@ -4,7 +4,8 @@ ghost use Rattle.std.specs.Prelude.{◌≡◌, IfOk};
 use road_base::{Dir, Location, NoMemory, NodeId, WayId};
 use std::marker::Model;
 
-/// What names a piece: its way, its lower position on the way's line, and its direction. Names are compared in this order.
+/// What names a piece: its way, its lower position on the way's line, and its direction. Names are compared in this
+/// order.
 #[derive(Clone, Copy, PartialEq, Eq, PartialOrd, Ord, Debug)]
 pub struct PieceName {
     pub way: WayId,

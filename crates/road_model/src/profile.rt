@@ -33,5 +33,6 @@ pub trait Profile: Copy {
         ensures { result ≡ (rules self.now).rule tags.now };
 
     /// A direction is free only for tags that carry the key `highway`.
-    ghost free_needs_highway: { (p : Self) (tags : TagList) (dir : Dir) → IsTrue (is_free ((rules p).direction tags dir)) → IsTrue (has_highway tags) };
+    ghost free_needs_highway: { (p : Self) (tags : TagList) (dir : Dir)
+        → IsTrue (is_free ((rules p).direction tags dir)) → IsTrue (has_highway tags) };
 }

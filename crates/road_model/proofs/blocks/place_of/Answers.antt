@@ -19,18 +19,22 @@ not_ge Greater e = cc
 
 pub returns-in-Some-clause-found : goal.returns-in-Some-clause-found
 returns-in-Some-clause-found c =
-    search_found way_in way_cmp way_cmp_total way_cmp_exact _ _ _ (c.binary_search_by_key.ensures.position way_in (answers_always _ _ _ (λ f a r g called. search rules)))
+    search_found way_in way_cmp way_cmp_total way_cmp_exact _ _ _
+    (c.binary_search_by_key.ensures.position way_in (answers_always _ _ _ (λ f a r g called. search rules)))
 
 pub returns-in-Some-clause-below : goal.returns-in-Some-clause-below
 returns-in-Some-clause-below c =
-    search_below way_in way_cmp way_cmp_total _ _ _ c.requires (c.binary_search_by_key.ensures.position way_in (answers_always _ _ _ (λ f a r g called. search rules)))
+    search_below way_in way_cmp way_cmp_total _ _ _ c.requires
+    (c.binary_search_by_key.ensures.position way_in (answers_always _ _ _ (λ f a r g called. search rules)))
 
 pub returns-in-Some-clause-behind : goal.returns-in-Some-clause-behind
 returns-in-Some-clause-behind c =
-    search_behind way_in way_cmp way_cmp_total _ _ _ c.requires (c.binary_search_by_key.ensures.position way_in (answers_always _ _ _ (λ f a r g called. search rules)))
+    search_behind way_in way_cmp way_cmp_total _ _ _ c.requires
+    (c.binary_search_by_key.ensures.position way_in (answers_always _ _ _ (λ f a r g called. search rules)))
 
 -- the last block's way isn't at or above the way
 pub returns-in_default-clause-below : goal.returns-in_default-clause-below
 returns-in_default-clause-below c =
     let e = c.in-Some.ensures in
-    below_last way_in way_cmp way_cmp_total _ _ c.in-Some.last.now c.requires e.item.3.0 (sym e.value) (not_ge _ (sym c.ge.ensures ∙ c.if-ge.false))
+    below_last way_in way_cmp way_cmp_total _ _ c.in-Some.last.now c.requires e.item.3.0 (sym e.value)
+    (not_ge _ (sym c.ge.ensures ∙ c.if-ge.false))

@@ -5,4 +5,5 @@ pub returns-clause-alone : goal.returns-clause-alone
 returns-clause-alone g c M d q t x more k h i e l none = target_alone M _ d q t x more h i e none
 
 pub returns-clause-longer : goal.returns-clause-longer
-returns-clause-longer g c M d q t x more a b k h i e l s some w most = target_longer M _ d q t x more a b k h i e l s some w most
+returns-clause-longer g c M d q t x more a b k h i e l s some w most = target_longer M _ d q t x more a b k h i e l s
+    some w most

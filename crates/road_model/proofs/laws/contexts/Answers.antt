@@ -1,4 +1,4 @@
-use Rattle.road_model.proofs.Walking.{without_last, longest_of_any, one_longest, next_context, one_alone}
+use Rattle.road_model.proofs.WalkLists.{without_last, longest_of_any, one_longest, next_context, one_alone}
 use Rattle.road_model.proofs.FiniteWords.{continues}
 use Rattle.road_model.proofs.laws.contexts.Goals as goal
 

@@ -1,6 +1,6 @@
 use Rattle.std.proofs.Common.{[]}
-use Rattle.road_model.proofs.Walking.{step_legal}
-use Rattle.road_model.proofs.Joining.{goes_on, one_more}
+use Rattle.road_model.proofs.WalkLists.{step_legal}
+use Rattle.road_model.proofs.JoinedPieces.{goes_on, one_more}
 use Rattle.road_model.proofs.laws.drive_grows.Goals as goal
 
 pub returns-clause-alone : goal.returns-clause-alone

@@ -1,4 +1,4 @@
-use Rattle.road_model.proofs.Walking.{inner_legal}
+use Rattle.road_model.proofs.WalkLists.{inner_legal}
 use Rattle.road_model.proofs.laws.drive_parts.Goals as goal
 
 pub returns : goal.returns

@@ -1,5 +1,6 @@
 use Rattle.std.proofs.Common.{inl, inr, refl}
-use Rattle.road_model.proofs.TotalOrders.{dir_cases, way_cmp_total, way_cmp_exact, name_cmp_total, name_cmp_exact, names_cmp_total, names_cmp_exact}
+use Rattle.road_model.proofs.TotalOrders.{dir_cases, way_cmp_total, way_cmp_exact, name_cmp_total, name_cmp_exact}
+use Rattle.road_model.proofs.TotalOrders.{names_cmp_total, names_cmp_exact}
 use Rattle.road_model.proofs.laws.name_order.Goals as goal
 
 pub returns-clause-ways : goal.returns-clause-ways

@@ -2,4 +2,10 @@ use Rattle.road_model.proofs.TotalOrders.{node_cmp_total, node_cmp_exact, relati
 use Rattle.road_model.proofs.laws.number_order.Goals as goal
 
 pub returns : goal.returns
-returns c = record { nodes = node_cmp_total; node_ties = node_cmp_exact; relations = relation_cmp_total; relation_ties = relation_cmp_exact }
+returns c = record {
+  nodes = node_cmp_total;
+  node_ties = node_cmp_exact;
+  relations = relation_cmp_total;
+  relation_ties
+      = relation_cmp_exact;
+}

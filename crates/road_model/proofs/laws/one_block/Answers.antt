@@ -1,4 +1,4 @@
-use Rattle.road_model.proofs.OneWriting.{one_block}
+use Rattle.road_model.proofs.UniqueEntries.{one_block}
 use Rattle.road_model.proofs.laws.one_block.Goals as goal
 
 pub returns : goal.returns

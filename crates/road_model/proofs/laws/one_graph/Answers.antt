@@ -1,4 +1,4 @@
-use Rattle.road_model.proofs.OneWriting.{one_graph}
+use Rattle.road_model.proofs.UniqueEntries.{one_graph}
 use Rattle.road_model.proofs.laws.one_graph.Goals as goal
 
 pub returns : goal.returns

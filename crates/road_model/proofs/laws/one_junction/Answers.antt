@@ -1,5 +1,5 @@
-use Rattle.road_model.proofs.Walking.{piece_legal}
-use Rattle.road_model.proofs.Joining.{one_junction}
+use Rattle.road_model.proofs.WalkLists.{piece_legal}
+use Rattle.road_model.proofs.JoinedPieces.{one_junction}
 use Rattle.road_model.proofs.laws.one_junction.Goals as goal
 
 pub returns-clause-alone : goal.returns-clause-alone

@@ -1,4 +1,4 @@
-use Rattle.road_model.proofs.OneWriting.{one_piece, one_entry}
+use Rattle.road_model.proofs.UniqueEntries.{one_piece, one_entry}
 use Rattle.road_model.proofs.laws.one_name.Goals as goal
 
 pub returns-clause-pieces : goal.returns-clause-pieces

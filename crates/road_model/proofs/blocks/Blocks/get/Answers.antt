@@ -15,11 +15,13 @@ returns-in-Ok c =
     let e = c.in-Ok.ensures in
     let v = c.as_slice-list.ensures.value in
     ap (λ b. Some b) (c.index-list-at.is ∙ ap (λ l. slice_index_or l c.in-Ok.at c.index-list-at.result) v)
-    ∙ sym (get_at way_in way_cmp way_cmp_total c.args.way _ c.in-Ok.at _ c.self.invariant (rw v at e.within) (rw v at e.found))
+    ∙ sym (get_at way_in way_cmp way_cmp_total c.args.way _ c.in-Ok.at _ c.self.invariant (rw v at e.within)
+    (rw v at e.found))
     ∙ ap (λ m. get m.map c.args.way) c.self.view_is
 
 pub returns-in-Err : goal.returns-in-Err
 returns-in-Err c =
     let e = c.in-Err.ensures in
-    sym (get_gap way_in way_cmp way_cmp_total c.args.way _ _ (gap_of way_in way_cmp way_cmp_total _ _ _ _ c.as_slice-list.ensures.value e.within e.below e.behind))
+    sym (get_gap way_in way_cmp way_cmp_total c.args.way _ _
+    (gap_of way_in way_cmp way_cmp_total _ _ _ _ c.as_slice-list.ensures.value e.within e.below e.behind))
     ∙ ap (λ m. get m.map c.args.way) c.self.view_is

@@ -10,12 +10,19 @@ use Rattle.road_model.proofs.blocks.Blocks.items.Goals as goal
 
 pub returns-clause-entries : goal.returns-clause-entries
 returns-clause-entries c =
-    ap (λ v. entries v.map) (sym c.self.view_is) ∙ entries_of (λ (b : Block). b.way) way_cmp way_cmp_total c.self.inside.list.items c.self.invariant ∙ ap (map entry_of) (sym c.as_slice.ensures.value)
+    ap (λ v. entries v.map) (sym c.self.view_is)
+    ∙ entries_of (λ (b : Block). b.way) way_cmp way_cmp_total c.self.inside.list.items c.self.invariant
+    ∙ ap (map entry_of) (sym c.as_slice.ensures.value)
 
 pub returns-clause-each : goal.returns-clause-each
 returns-clause-each c =
     let way_in : Block → WayId = λ b. b.way in
     let list = c.self.inside.list.items in
-    subst (λ (l : List Block). (b : Block) → Contains l b ↔ (get c.args.self.now.map b.way ≡ Some b)) (sym c.as_slice.ensures.value)
+    subst (λ (l : List Block). (b : Block) → Contains l b ↔ (get c.args.self.now.map b.way ≡ Some b))
+    (sym c.as_slice.ensures.value)
     (subst (λ v. (b : Block) → Contains list b ↔ (get v.map b.way ≡ Some b)) c.self.view_is
-    (λ b. (get_member way_in way_cmp way_cmp_total b list c.self.invariant, member_of_get way_in way_cmp way_cmp_total b.way b list)))
+    (λ b. (
+      get_member way_in way_cmp way_cmp_total b list c.self.invariant,
+      member_of_get way_in way_cmp way_cmp_total
+          b.way b list,
+    )))

@@ -16,7 +16,8 @@ use Rattle.road_model.proofs.TotalOrders.{way_cmp_total, name_cmp_total, names_c
 use Rattle.road_model.proofs.Unique.{lists_unique, same_by_place}
 
 -- a junction inside a piece would be plain
-same_end : (M : Objects) (P : Rules) (p q : Piece) → IsPiece M P p → IsPiece M P q → p.way ≡ q.way → p.index ≡ q.index → p.end ≡ q.end
+same_end : (M : Objects) (P : Rules) (p q : Piece) → IsPiece M P p → IsPiece M P q → p.way ≡ q.way → p.index ≡ q.index
+    → p.end ≡ q.end
 same_end M P p q a b w i =
     let ascends = a.ascends in let ascends' = b.ascends in
     elim (order p.end q.end) [
@@ -42,29 +43,37 @@ one_place M p k x y a b =
     let l : x.location ≡ y.location = cc (g, a.location, b.location) in
     λ i. record { node = f i; location = l i }
 
-places_same : (M : Objects) (p : Piece) (xs ys : List Place) → length xs ≡ length ys → ((k : ℕ) (x : Place) → slice_get xs k ≡ Some x → IsPlaceOf M p k x) → ((k : ℕ) (x : Place) → slice_get ys k ≡ Some x → IsPlaceOf M p k x) → xs ≡ ys
+places_same : (M : Objects) (p : Piece) (xs ys : List Place) → length xs ≡ length ys
+    → ((k : ℕ) (x : Place) → slice_get xs k ≡ Some x → IsPlaceOf M p k x)
+    → ((k : ℕ) (x : Place) → slice_get ys k ≡ Some x → IsPlaceOf M p k x) → xs ≡ ys
 places_same M p xs ys l a b = same_by_place xs ys l (λ k x y g h. one_place M p k x y (a k x g) (b k y h))
 
 -- two writings of one piece
-same_entry : (M : Objects) (P : Rules) (w : WayId) (e f : PieceEntry) (a : IsPieceEntry M P w e) (b : IsPieceEntry M P w f) → e.name ≡ f.name → a.piece ≡ b.piece → e ≡ f
+same_entry : (M : Objects) (P : Rules) (w : WayId) (e f : PieceEntry) (a : IsPieceEntry M P w e)
+    (b : IsPieceEntry M P w f) → e.name ≡ f.name → a.piece ≡ b.piece → e ≡ f
 same_entry M P w e f a b n p =
     let end : e.end ≡ f.end = cc (a.end_is, b.end_is, p) in
     let l : length e.places ≡ length f.places = cc (a.count, b.count, p) in
-    let places : e.places ≡ f.places = places_same M b.piece e.places f.places l (subst (λ q. (k : ℕ) (x : Place) → slice_get e.places k ≡ Some x → IsPlaceOf M q k x) p a.places) b.places in
-    let contexts : e.contexts ≡ f.contexts = lists_unique (λ (c : Context). c.before) names_cmp names_cmp_total (IsContextEntry M P b.piece) e.contexts f.contexts
+    let places : e.places ≡ f.places = places_same M b.piece e.places f.places l
+    (subst (λ q. (k : ℕ) (x : Place) → slice_get e.places k ≡ Some x → IsPlaceOf M q k x) p a.places) b.places in
+    let contexts : e.contexts ≡ f.contexts = lists_unique (λ (c : Context). c.before) names_cmp names_cmp_total
+    (IsContextEntry M P b.piece) e.contexts f.contexts
     (subst (λ q. Lists (λ c. c.before) names_cmp (IsContextEntry M P q) e.contexts) p a.contexts) b.contexts in
     λ i. record { name = n i; end = end i; places = places i; contexts = contexts i }
 
 pub one_entry : (M : Objects) (P : Rules) → OneEntry M P
-one_entry M P w e f a b n = same_entry M P w e f a b n (one_piece M P a.piece b.piece a.is b.is (sym a.named ∙ n ∙ b.named))
+one_entry M P w e f a b n = same_entry M P w e f a b n
+    (one_piece M P a.piece b.piece a.is b.is (sym a.named ∙ n ∙ b.named))
 
 pub one_block : (M : Objects) (P : Rules) → OneBlock M P
 one_block M P w a b g h =
     let way : a.way ≡ b.way = g.way ∙ sym h.way in
-    let pieces = lists_unique (λ (p : PieceEntry). p.name) name_cmp name_cmp_total (IsPieceEntry M P w) a.pieces b.pieces g.pieces h.pieces in
+    let pieces = lists_unique (λ (p : PieceEntry). p.name) name_cmp name_cmp_total (IsPieceEntry M P w) a.pieces
+    b.pieces g.pieces h.pieces in
     λ i. record { way = way i; pieces = pieces i }
 
 pub one_graph : (M : Objects) (P : Rules) → OneGraph M P
 one_graph M P a b g h =
-    let blocks = lists_unique (λ (x : Block). x.way) way_cmp way_cmp_total (IsRoadBlock M P) g.blocks h.blocks g.listed h.listed in
+    let blocks = lists_unique (λ (x : Block). x.way) way_cmp way_cmp_total (IsRoadBlock M P) g.blocks h.blocks g.listed
+    h.listed in
     cc (g.spelled, h.spelled, blocks)

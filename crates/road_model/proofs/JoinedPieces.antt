@@ -15,7 +15,8 @@ module _ (M : Objects) (P : Rules) where
   pub goes_on : (d more : List Step) (t : Step) → (d ≡ [] → ⊥) → Legal M P (d ++ t ∷ more) → GoesOn M P d t
   goes_on d more t some l = record {
     passes = λ a s e. l.follows a s t more (ap (λ v. v ++ t ∷ more) e ∙ append_assoc a (s ∷ []) (t ∷ more));
-    no = λ a u e w. l.no a u more (sym (append_assoc d (t ∷ []) more) ∙ ap (λ v. v ++ more) e ∙ append_assoc a u more) w;
+    no = λ a u e w. l.no a u more (sym (append_assoc d (t ∷ []) more) ∙ ap (λ v. v ++ more) e ∙ append_assoc a u more)
+        w;
     only = λ a p e x m. l.only a p t more (ap (λ v. v ++ t ∷ more) e ∙ append_assoc a p (t ∷ more)) x m;
   }
 
@@ -25,8 +26,10 @@ module _ (M : Objects) (P : Rules) where
     drives_last (z ∷ c) x b e = absurd (cons_not_nil c x b (cc))
 
     -- a cut before the last step falls in the drive
-    pair_last : (a : List Step) (z : Step) (c : List Step) (x y : Step) (b : List Step) → d ≡ a ++ z ∷ c → x ∷ y ∷ b ≡ (z ∷ c) ++ t ∷ [] → Passes M P x y
-    pair_last a z [] x y b e q = let k : y ≡ t = cc in let j : z ≡ x = cc in subst (Passes M P x) (sym k) (g.passes a x (e ∙ ap (λ v. a ++ v ∷ []) j))
+    pair_last : (a : List Step) (z : Step) (c : List Step) (x y : Step) (b : List Step) → d ≡ a ++ z ∷ c
+        → x ∷ y ∷ b ≡ (z ∷ c) ++ t ∷ [] → Passes M P x y
+    pair_last a z [] x y b e q = let k : y ≡ t = cc in let j : z
+        ≡ x = cc in subst (Passes M P x) (sym k) (g.passes a x (e ∙ ap (λ v. a ++ v ∷ []) j))
     pair_last a z (w ∷ c) x y b e q = l.follows a x y c (e ∙ ap (λ v. a ++ v) (cc))
 
     short : (c : List Step) (x y : Step) (b : List Step) → t ∷ [] ≡ c ++ x ∷ y ∷ b → ⊥
@@ -36,15 +39,20 @@ module _ (M : Objects) (P : Rules) where
     no_last : (a u b : List Step) → d ++ t ∷ [] ≡ a ++ (u ++ b) → Ends b → NoWord M P u → ⊥
     no_last a u b e (Nil n) w = g.no a u (e ∙ ap (λ v. a ++ (u ++ v)) n ∙ ap (λ v. a ++ v) (append-nil u)) w
     no_last a u b e (Last b' y n) w =
-        let r = same_last d t (a ++ (u ++ b')) y (e ∙ ap (λ v. a ++ (u ++ v)) n ∙ ap (λ v. a ++ v) (sym (append_assoc u b' (y ∷ []))) ∙ sym (append_assoc a (u ++ b') (y ∷ []))) in
+        let r = same_last d t (a ++ (u ++ b')) y
+        (e ∙ ap (λ v. a ++ (u ++ v)) n ∙ ap (λ v. a ++ v) (sym (append_assoc u b' (y ∷ [])))
+        ∙ sym (append_assoc a (u ++ b') (y ∷ []))) in
         l.no a u b' r.front w
 
-    only_last : (a p : List Step) (y : Step) (b : List Step) → d ++ t ∷ [] ≡ a ++ (p ++ y ∷ b) → Ends b → (x : Step) → Must M P p x → Must M P p y
+    only_last : (a p : List Step) (y : Step) (b : List Step) → d ++ t ∷ [] ≡ a ++ (p ++ y ∷ b) → Ends b → (x : Step)
+        → Must M P p x → Must M P p y
     only_last a p y b e (Nil n) x m =
         let r = same_last d t (a ++ p) y (e ∙ ap (λ v. a ++ (p ++ y ∷ v)) n ∙ sym (append_assoc a p (y ∷ []))) in
         subst (Must M P p) r.last (g.only a p r.front x m)
     only_last a p y b e (Last b' z n) x m =
-        let r = same_last d t (a ++ (p ++ y ∷ b')) z (e ∙ ap (λ v. a ++ (p ++ y ∷ v)) n ∙ ap (λ v. a ++ v) (sym (append_assoc p (y ∷ b') (z ∷ []))) ∙ sym (append_assoc a (p ++ y ∷ b') (z ∷ []))) in
+        let r = same_last d t (a ++ (p ++ y ∷ b')) z
+        (e ∙ ap (λ v. a ++ (p ++ y ∷ v)) n ∙ ap (λ v. a ++ v) (sym (append_assoc p (y ∷ b') (z ∷ [])))
+        ∙ sym (append_assoc a (p ++ y ∷ b') (z ∷ []))) in
         l.only a p y b' r.front x m
 
     -- a legal drive and a step that may go on there are a legal drive
@@ -63,9 +71,11 @@ module _ (M : Objects) (P : Rules) where
       only = λ a p y b e x m. only_last a p y b e (ends b) x m;
     }
 
-  pub one_junction : (d : List Step) (t : Piece) (first : Step) (more : List Step) → (d ≡ [] → ⊥) → Legal M P d → IsPiece M P t → spell t ≡ first ∷ more → Legal M P (d ++ spell t) ↔ GoesOn M P d first
+  pub one_junction : (d : List Step) (t : Piece) (first : Step) (more : List Step) → (d ≡ [] → ⊥) → Legal M P d
+      → IsPiece M P t → spell t ≡ first ∷ more → Legal M P (d ++ spell t) ↔ GoesOn M P d first
   one_junction d t first more some l i e = (
     (λ h. goes_on d more first some (subst (λ v. Legal M P (d ++ v)) e h)),
     (λ g. let drives = (stretch M P t i).drives [] first more e in
-        subst (λ v. Legal M P v) (append_assoc d (first ∷ []) more ∙ ap (λ v. d ++ v) (sym e)) (behind_whole M P t [] first more d i e (one_more d first l drives g))),
+        subst (λ v. Legal M P v) (append_assoc d (first ∷ []) more ∙ ap (λ v. d ++ v) (sym e))
+        (behind_whole M P t [] first more d i e (one_more d first l drives g))),
   )
