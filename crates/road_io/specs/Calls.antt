@@ -1,7 +1,8 @@
 -- What each call does to what is told.
-use Rattle.std.specs.Prelude.{◌≡◌, ◌⊎◌, ◌↔◌, ℕ, ◌≤◌, List, [], ◌++◌, length, take, drop, Result, Ok, Err}
+use Rattle.std.specs.Prelude.{◌≡◌, ◌⊎◌, ◌↔◌, ℕ, ◌≤◌, List, [], ◌++◌, length, take, drop}
+use Rattle.std.specs.Prelude.{Result, Ok, Err}
 use Rattle.road_io.specs.declared.outside.Failed.{Failed}
-use Rattle.road_io.specs.World.{World, extended}
+use Rattle.road_io.specs.Outside.{Outside, extended}
 
 -- The first n bytes of what is left stand first in the buffer, whose others are as before. There are none exactly where
 -- there is no room, or nothing left.
@@ -16,6 +17,6 @@ Takes old new (Ok n) before after = Gives n before old new × (after ≡ drop n 
 Takes old new (Err e) before after = after ≡ before
 
 -- The piece stands behind the output. A put that failed did nothing, or put a front of the piece.
-abbrev pub Puts : List ℕ → Result (Unit {0}) Failed → World → World → Type 0
-Puts piece (Ok u) w v = v ≡ extended piece w
-Puts piece (Err e) w v = (v ≡ w) ⊎ ((n : ℕ) × (v ≡ extended (take n piece) w))
+abbrev pub Puts : List ℕ → Result (Unit {0}) Failed → Outside → Outside → Type 0
+Puts piece (Ok u) before now = now ≡ extended piece before
+Puts piece (Err e) before now = (now ≡ before) ⊎ ((n : ℕ) × (now ≡ extended (take n piece) before))

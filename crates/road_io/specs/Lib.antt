@@ -1,5 +1,5 @@
 pub mod Told
-pub mod World
+pub mod Outside
 pub mod Calls
 pub mod Memory
 pub mod Real

@@ -2,7 +2,7 @@
 use Rattle.std.specs.Prelude.{◌≡◌, ◌⊎◌, ℕ, List, [], ◌++◌, drop, Contains, Result, Ok, Err}
 use Rattle.road_io.specs.declared.outside.Failed.{Failed}
 use Rattle.road_io.specs.Told.{one_more}
-use Rattle.road_io.specs.World.{World}
+use Rattle.road_io.specs.Outside.{Outside}
 
 -- The bytes left; the numbers of the reads that are to fail, counted from 0; how many reads there were, and how many of
 -- them failed.
@@ -40,8 +40,8 @@ abbrev pub starting_site : List ℕ → List ℕ → List ℕ → SiteState
 starting_site a b fails = record { a = a; b = b; output = []; fails = fails; calls = 0; faults = 0 }
 
 -- what a site in memory tells
-abbrev pub world_of : SiteState → World
-world_of s = record { output = s.output }
+abbrev pub outside_of : SiteState → Outside
+outside_of s = record { output = s.output }
 
 -- the next call that finds memory is to fail
 abbrev pub CallIsToFail : SiteState → Type 0
@@ -51,7 +51,8 @@ CallIsToFail s = Contains s.fails s.calls
 abbrev pub after_put : List ℕ → SiteState → SiteState
 after_put piece s = record s { output = s.output ++ piece; calls = one_more s.calls }
 
--- A call failed. Either it was to fail, or it found no memory and has no number.
+-- A call failed. Either it was to fail, or it found no memory and has no number: each call takes its memory first,
+-- and no clause says when there is none, so any call may fail so.
 abbrev pub FailsCall : SiteState → SiteState → Type 0
 FailsCall s t =
     (CallIsToFail s × (t ≡ record s { calls = one_more s.calls; faults = one_more s.faults }))

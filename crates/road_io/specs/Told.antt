@@ -1,5 +1,6 @@
 -- What an object tells, and how often its calls failed.
-use Rattle.std.specs.Prelude.{◌⊎◌, ℕ, ◌+◌, ◌-◌, ◌^◌, ◌<◌, ◌≤◌, min, Option, None, Some, Result, Ok, Err, IsErr}
+use Rattle.std.specs.Prelude.{◌≡◌, ◌⊎◌, ℕ, ◌+◌, ◌-◌, ◌^◌, ◌<◌, ◌≤◌, min, Option, None, Some}
+use Rattle.std.specs.Prelude.{Result, Ok, Err, IsOk, IsErr}
 
 -- An object that tells goes on telling, and what it tells changes so. One that doesn't never begins to.
 abbrev pub Told : {W : Type 0} → (W → W → Type 0) → Option W → Option W → Type 0
@@ -21,7 +22,9 @@ faults_after (Err error) n = one_more n
 abbrev pub Rose : ℕ → ℕ → Type 0
 Rose before now = (before < now) ⊎ (2 ^ 64 - 1 ≤ now)
 
--- the count doesn't fall, and a call fails only where it rose
+-- The count doesn't fall. A call fails only where it rose, and one that is Ok leaves it as it was: so whoever looks
+-- at the count before and after sees each call that failed.
 pub record Counts {T E : Type 0} (before now : ℕ) (result : Result T E) : Type 0 where
   pub never_falls : before ≤ now
   pub cause : IsErr result → Rose before now
+  pub stays : IsOk result → now ≡ before

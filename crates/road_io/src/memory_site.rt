@@ -59,9 +59,9 @@ impl MemorySite {
 
 impl Site for MemorySite {
     ghost use Rattle.std.specs.Prelude.{Some};
-    ghost use Rattle.road_io.specs.Memory.{world_of};
+    ghost use Rattle.road_io.specs.Memory.{outside_of};
 
-    ghost world = { λ s. Some (world_of s) };
+    ghost outside = { λ s. Some (outside_of s) };
 
     ghost faults = { λ s. s.faults };
 
@@ -73,7 +73,7 @@ impl Site for MemorySite {
     /// Takes the memory first. A put that finds none fails and has no number; one whose number is among those that are
     /// to fail does so. Neither puts anything.
     fn put(&mut self, piece: &[u8]) -> Result<(), Failed>
-        ensures told { Puts piece.now result (world_of self.old) (world_of self.new) }
+        ensures told { Puts piece.now result (outside_of self.old) (outside_of self.new) }
         ensures counts { Counts self.old.faults self.new.faults result }
 
         ensures fails { CallIsToFail self.old → IsErr result }

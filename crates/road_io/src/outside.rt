@@ -1,7 +1,7 @@
 //! What is read and what is put, as far as an object tells it.
 ghost use Rattle.std.specs.Prelude.{ℕ, List, Option, ◌≤◌, IfOk, length};
 ghost use Rattle.road_io.specs.Told.{Told, Counts};
-ghost use Rattle.road_io.specs.World.{World};
+ghost use Rattle.road_io.specs.Outside.{Outside};
 ghost use Rattle.road_io.specs.Calls.{Takes, Puts};
 
 /// A call of a source or a site failed.
@@ -13,7 +13,7 @@ pub trait Source {
     /// The bytes left, where they are told.
     ghost bytes_left: { Self → Option (List ℕ) };
 
-    /// How often a read failed. It never falls.
+    /// How often a read failed. It never falls, and stays where a read is Ok.
     ghost faults: { Self → ℕ };
 
     /// Reads bytes into the front of the buffer, and answers how many. Where there is room, none come exactly at the
@@ -27,13 +27,13 @@ pub trait Source {
 /// Where the output goes.
 pub trait Site {
     /// What has been put so far, where it is told.
-    ghost world: { Self → Option World };
+    ghost outside: { Self → Option Outside };
 
-    /// How often a call failed. It never falls.
+    /// How often a call failed. It never falls, and stays where a call is Ok.
     ghost faults: { Self → ℕ };
 
     /// Puts a piece behind the output. A put that failed may have put a front of it.
     fn put(&mut self, piece: &[u8]) -> Result<(), Failed>
-        ensures told { Told (Puts piece.now result) (world self.old) (world self.new) }
+        ensures told { Told (Puts piece.now result) (outside self.old) (outside self.new) }
         ensures counts { Counts (faults self.old) (faults self.new) result };
 }

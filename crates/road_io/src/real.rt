@@ -80,7 +80,7 @@ impl<W: Write> RealSite<W> {
 impl<W: Write> Site for RealSite<W> {
     ghost use Rattle.std.specs.Prelude.{None};
 
-    ghost world = { λ _. None };
+    ghost outside = { λ _. None };
 
     ghost faults = { λ s. s.faults };
 
