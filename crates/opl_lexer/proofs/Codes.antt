@@ -1,5 +1,6 @@
 -- Codes of characters, read from their digits.
-use Rattle.std.specs.Prelude.{◌≡◌, ◌≤◌, ◌<◌, ◌^◌, ◌==◌, ◌&&◌, ℕ, List, [], ◌∷◌, Bool, true, false, IsTrue, length, slice_index, nat_le, SomeIff, Result, Ok, Err, refl}
+use Rattle.std.specs.Prelude.{◌≡◌, ◌≤◌, ◌<◌, ◌^◌, ◌==◌, ◌&&◌, ℕ, List, [], ◌∷◌, Bool, true, false, IsTrue, length}
+use Rattle.std.specs.Prelude.{slice_index, nat_le, SomeIff, Result, Ok, Err, refl}
 use Rattle.std.specs.Char.{digit_value}
 use Rattle.std.specs.List.{list_all}
 use Rattle.std.specs.Result.{result_ok}
@@ -40,7 +41,8 @@ short_code ds all short =
     omega arith
 
 -- what reading a number says where no plus stands first
-pub code_read : {E : Type 0} (ds : List ℕ) (r : Result ℕ E) → length ds ≤ 6 → (slice_index ds 0 == 43) ≡ false → ParsesUnsigned 32 16 ds r → SomeIff (result_ok r) (IsNumeral 16 ds × (length ds ≤ 6)) (digits_value 16 ds)
+pub code_read : {E : Type 0} (ds : List ℕ) (r : Result ℕ E) → length ds ≤ 6 → (slice_index ds 0 == 43) ≡ false
+    → ParsesUnsigned 32 16 ds r → SomeIff (result_ok r) (IsNumeral 16 ds × (length ds ≤ 6)) (digits_value 16 ds)
 code_read ds (Ok n) short plus read =
     let here = rw plus at read in
     ((here.0.0, short), here.1)
@@ -55,7 +57,10 @@ alone_scalar : (v : ℕ) → scalar v ≡ true → all_scalars (v ∷ []) ≡ tr
 alone_scalar v e = rw e refl
 
 -- a code is digits, few enough, of a scalar value
-parts_from_tests : (ds : List ℕ) (digits some few value : Bool) → list_all is_hex ds ≡ digits → nat_le 1 (length ds) ≡ some → nat_le (length ds) 6 ≡ few → all_scalars (digits_value 16 ds ∷ []) ≡ value → (digits && (some && (few && value))) ≡ true → (IsNumeral 16 ds × (length ds ≤ 6)) × (scalar (digits_value 16 ds) ≡ true)
+parts_from_tests : (ds : List ℕ) (digits some few value : Bool) → list_all is_hex ds ≡ digits
+    → nat_le 1 (length ds) ≡ some → nat_le (length ds) 6 ≡ few → all_scalars (digits_value 16 ds ∷ []) ≡ value
+    → (digits && (some && (few && value))) ≡ true
+    → (IsNumeral 16 ds × (length ds ≤ 6)) × (scalar (digits_value 16 ds) ≡ true)
 parts_from_tests ds digits some few value d s f v e =
     let more = second_so digits (some && (few && value)) e in
     let rest = second_so some (few && value) more in
@@ -65,11 +70,14 @@ parts_from_tests ds digits some few value d s f v e =
     let one = scalar_alone (digits_value 16 ds) (v ∙ second_so few value rest) in
     (((omega arith, all), most), one)
 
-pub code_parts : (ds : List ℕ) → IsTrue (is_code ds) → (IsNumeral 16 ds × (length ds ≤ 6)) × (scalar (digits_value 16 ds) ≡ true)
+pub code_parts : (ds : List ℕ) → IsTrue (is_code ds)
+    → (IsNumeral 16 ds × (length ds ≤ 6)) × (scalar (digits_value 16 ds) ≡ true)
 code_parts ds e =
-    parts_from_tests ds (list_all is_hex ds) (nat_le 1 (length ds)) (nat_le (length ds) 6) (all_scalars (digits_value 16 ds ∷ [])) refl refl refl refl e
+    parts_from_tests ds (list_all is_hex ds) (nat_le 1 (length ds)) (nat_le (length ds) 6)
+    (all_scalars (digits_value 16 ds ∷ [])) refl refl refl refl e
 
-pub code_from_parts : (ds : List ℕ) → IsNumeral 16 ds × (length ds ≤ 6) → scalar (digits_value 16 ds) ≡ true → IsTrue (is_code ds)
+pub code_from_parts : (ds : List ℕ) → IsNumeral 16 ds × (length ds ≤ 6) → scalar (digits_value 16 ds) ≡ true
+    → IsTrue (is_code ds)
 code_from_parts ds (numeral, short) value =
     let some : nat_le 1 (length ds) ≡ true = let h = numeral.0 in grind (arith, nat_tests) in
     let few : nat_le (length ds) 6 ≡ true = grind (arith, nat_tests) in

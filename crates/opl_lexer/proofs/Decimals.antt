@@ -1,11 +1,13 @@
 -- Digits that are cut and joined.
-use Rattle.std.specs.Prelude.{◌≡◌, ◌≤◌, ◌<◌, ◌-◌, ◌*◌, ◌^◌, ℕ, zero, suc, List, [], ◌∷◌, take, drop, length, slice_index, Option, Some, None, SomeIff}
+use Rattle.std.specs.Prelude.{◌≡◌, ◌≤◌, ◌<◌, ◌-◌, ◌*◌, ◌^◌, ℕ, zero, suc, List, [], ◌∷◌, take, drop, length}
+use Rattle.std.specs.Prelude.{slice_index, Option, Some, None, SomeIff}
 use Rattle.std.specs.Char.{digit_value}
 use Rattle.std.specs.Str.Parse.{AllDigits, digits_value}
 use Rattle.std.proofs.Common.{arith, ◌∙◌}
 use Rattle.std.proofs.lemmas.Str.Parse.{digits_value_short, numerals_by_value, tells_digits}
 
-pub AllDigits-from_index : (ds : List ℕ) → ((k : ℕ) → k < length ds → digit_value (slice_index ds k) < 10) → AllDigits 10 ds
+pub AllDigits-from_index : (ds : List ℕ) → ((k : ℕ) → k < length ds → digit_value (slice_index ds k) < 10)
+    → AllDigits 10 ds
 AllDigits-from_index [] each = tt
 AllDigits-from_index (c ∷ cs) each = (each 0 (omega arith), AllDigits-from_index cs (λ k h. each (suc k) (omega arith)))
 

@@ -9,13 +9,15 @@ use Rattle.road_base.specs.declared.objects.Node.{Node}
 use Rattle.road_base.specs.declared.objects.Way.{Way}
 use Rattle.road_base.specs.declared.objects.Relation.{Relation}
 use Rattle.road_base.specs.declared.objects.Body.{Body}
-use Rattle.road_base.specs.declared.objects.Body.TheVariants.{Node as NodeBody, Way as WayBody, Relation as RelationBody}
+use Rattle.road_base.specs.declared.objects.Body.TheVariants.{Node as NodeBody, Way as WayBody}
+use Rattle.road_base.specs.declared.objects.Body.TheVariants.{Relation as RelationBody}
 use Rattle.road_base.specs.declared.event.Event.{Event}
 use Rattle.road_base.specs.Tags.{TagList, value_of}
 use Rattle.opl_lexer.specs.declared.mode.Mode.{Mode}
 use Rattle.opl_lexer.specs.Lines.{lines}
 use Rattle.opl_lexer.specs.Contents.{Parsed, Good, key_of}
-use Rattle.opl_lexer.specs.Spelling.{AreTags, HasPlace, IsNode, IsWay, IsRelation, HasBody, Spells, is_deleted, version_in}
+use Rattle.opl_lexer.specs.Spelling.{AreTags, HasPlace, IsNode, IsWay, IsRelation, HasBody, Spells, is_deleted}
+use Rattle.opl_lexer.specs.Spelling.{version_in}
 use Rattle.opl_lexer.specs.Reading.{ReadAll, object_lines}
 use Rattle.opl_lexer.proofs.OneReadingTags.{same_tags}
 use Rattle.opl_lexer.proofs.OneReadingEvents.{same_location, same_event}
@@ -37,7 +39,8 @@ one_tags list ts us p q =
     same_tags ts us p.ascending q.ascending (λ k. p.values k ∙ (ap (value_of k) same ∙ sym (q.values k)))
 
 one_place : (lon lat : Option ℤ) (a b : Option Location) → HasPlace lon lat a → HasPlace lon lat b → a ≡ b
-one_place (Some lon) (Some lat) a b p q = p.1 ∙ (ap Some (same_location p.0 q.0 (p.2 ∙ sym q.2) (p.3 ∙ sym q.3)) ∙ sym q.1)
+one_place (Some lon) (Some lat) a b p q = p.1
+    ∙ (ap Some (same_location p.0 q.0 (p.2 ∙ sym q.2) (p.3 ∙ sym q.3)) ∙ sym q.1)
 one_place (Some lon) None a b p q = p ∙ sym q
 one_place None lat a b p q = p ∙ sym q
 
@@ -59,7 +62,8 @@ one_relation others r s p q =
     let members : r.members ≡ s.members = one_good _ r.members s.members p.members q.members in
     λ i. record { tags = tags i; members = members i }
 
-one_body : (deleted : Bool) (others : List (List ℕ)) (key : Key) (a b : Body) → HasBody deleted others key a → HasBody deleted others key b → a ≡ b
+one_body : (deleted : Bool) (others : List (List ℕ)) (key : Key) (a b : Body) → HasBody deleted others key a
+    → HasBody deleted others key b → a ≡ b
 one_body true others key a b p q = p ∙ sym q
 one_body false others (NodeKey id) a b p q = p.1 ∙ (ap NodeBody (one_node others p.0 q.0 p.2 q.2) ∙ sym q.1)
 one_body false others (WayKey id) a b p q = p.1 ∙ (ap WayBody (one_way others p.0 q.0 p.2 q.2) ∙ sym q.1)
@@ -72,12 +76,15 @@ one_event mode line e d p q =
     let others : p.others ≡ q.others = cc in
     let key : e.key ≡ d.key = one_some (key_of p.object) e.key d.key p.key (ap key_of object ∙ q.key) in
     let version : e.version ≡ d.version = p.version ∙ (ap version_in others ∙ sym q.version) in
-    let same_others : HasBody (is_deleted p.others) p.others d.key d.body = subst (λ (os : List (List ℕ)). HasBody (is_deleted os) os d.key d.body) (sym others) q.body in
-    let same_key : HasBody (is_deleted p.others) p.others e.key d.body = subst (λ (k : Key). HasBody (is_deleted p.others) p.others k d.body) (sym key) same_others in
+    let same_others : HasBody (is_deleted p.others) p.others d.key d.body = subst
+    (λ (os : List (List ℕ)). HasBody (is_deleted os) os d.key d.body) (sym others) q.body in
+    let same_key : HasBody (is_deleted p.others) p.others e.key d.body = subst
+    (λ (k : Key). HasBody (is_deleted p.others) p.others k d.body) (sym key) same_others in
     same_event e d key version (one_body (is_deleted p.others) p.others e.key e.body d.body p.body same_key)
 
 -- where each line says one event, the lines say one list
-one_list : (mode : Mode) (ls : List (List ℕ)) (es ds : List Event) → AllZip (Spells mode) ls es → AllZip (Spells mode) ls ds → es ≡ ds
+one_list : (mode : Mode) (ls : List (List ℕ)) (es ds : List Event) → AllZip (Spells mode) ls es
+    → AllZip (Spells mode) ls ds → es ≡ ds
 one_list mode [] [] [] p q = refl
 one_list mode [] [] (d ∷ ds) p q = absurd q
 one_list mode [] (e ∷ es) ds p q = absurd p
@@ -88,5 +95,6 @@ one_list mode (l ∷ ls) (e ∷ es) (d ∷ ds) p q =
     let rest : es ≡ ds = one_list mode ls es ds p.1 q.1 in
     cc
 
-pub one_reading : (mode : Mode) (bytes : List ℕ) (events others : List Event) → ReadAll mode bytes events → ReadAll mode bytes others → events ≡ others
+pub one_reading : (mode : Mode) (bytes : List ℕ) (events others : List Event) → ReadAll mode bytes events
+    → ReadAll mode bytes others → events ≡ others
 one_reading mode bytes events others p q = one_list mode (object_lines (lines bytes)) events others p.each q.each

@@ -27,7 +27,8 @@ above_more k j (t ∷ ts) less up =
 above_greater : (k j : List ℕ) → text_cmp k j ≡ Less → bytes_eq j k ≡ false
 above_greater k j less = texts_ties j k ∙ ap is_eq (nat_list_cmp_total.antisymm j k ∙ ap ordering_reverse less)
 
-value_behind : (k : List ℕ) (t : List ℕ × List ℕ) (ts : TagList) → bytes_eq t.0 k ≡ false → value_of k (t ∷ ts) ≡ value_of k ts
+value_behind : (k : List ℕ) (t : List ℕ × List ℕ) (ts : TagList) → bytes_eq t.0 k ≡ false
+    → value_of k (t ∷ ts) ≡ value_of k ts
 value_behind k t ts differ = ap (λ b. cond b (Some t.1) (value_of k ts)) differ
 
 value_here : (k : List ℕ) (t : List ℕ × List ℕ) (ts : TagList) → t.0 ≡ k → value_of k (t ∷ ts) ≡ Some t.1
@@ -41,7 +42,8 @@ no_value k (t ∷ ts) up =
     value_behind k t ts (above_greater k t.0 less) ∙ no_value k ts (above_more k t.0 ts less (second_so _ _ up))
 
 -- a first key that is below the others' keys stands only here
-not_below : (t : List ℕ × List ℕ) (ts us : TagList) → IsTrue (is_above t.0 us) → ((k : List ℕ) → value_of k (t ∷ ts) ≡ value_of k us) → ⊥
+not_below : (t : List ℕ × List ℕ) (ts us : TagList) → IsTrue (is_above t.0 us)
+    → ((k : List ℕ) → value_of k (t ∷ ts) ≡ value_of k us) → ⊥
 not_below t ts us up same =
     let here : Some t.1 ≡ None = sym (value_here t.0 t ts refl) ∙ (same t.0 ∙ no_value t.0 us up) in
     cc
@@ -53,20 +55,23 @@ some_same : (a b : List ℕ) → Some a ≡ Some b → a ≡ b
 some_same a b e = cc
 
 -- behind equal first keys the values are equal too
-others_same : (t u : List ℕ × List ℕ) (ts us : TagList) → t.0 ≡ u.0 → IsAscending (t ∷ ts) → IsAscending (u ∷ us) → ((k : List ℕ) → value_of k (t ∷ ts) ≡ value_of k (u ∷ us)) → (k : List ℕ) → value_of k ts ≡ value_of k us
+others_same : (t u : List ℕ × List ℕ) (ts us : TagList) → t.0 ≡ u.0 → IsAscending (t ∷ ts) → IsAscending (u ∷ us)
+    → ((k : List ℕ) → value_of k (t ∷ ts) ≡ value_of k (u ∷ us)) → (k : List ℕ) → value_of k ts ≡ value_of k us
 others_same t u ts us key up vp same k =
     elim (bytes_eq t.0 k) as (λ r. bytes_eq t.0 k ≡ r → value_of k ts ≡ value_of k us) [
       | true ↦ λ e.
           let this : t.0 ≡ k = (bytes_eq-Decides t.0 k).0 e in
           let left : value_of k ts ≡ None = subst (λ (q : List ℕ). value_of q ts ≡ None) this (no_value t.0 ts up) in
-          let right : value_of k us ≡ None = subst (λ (q : List ℕ). value_of q us ≡ None) (sym key ∙ this) (no_value u.0 us vp) in
+          let right : value_of k us ≡ None = subst (λ (q : List ℕ). value_of q us ≡ None) (sym key ∙ this)
+          (no_value u.0 us vp) in
           left ∙ sym right
       | false ↦ λ e.
           let other : bytes_eq u.0 k ≡ false = subst (λ (q : List ℕ). bytes_eq q k ≡ false) key e in
           sym (value_behind k t ts e) ∙ (same k ∙ value_behind k u us other)
     ] refl
 
-pub same_tags : (ts us : TagList) → IsAscending ts → IsAscending us → ((k : List ℕ) → value_of k ts ≡ value_of k us) → ts ≡ us
+pub same_tags : (ts us : TagList) → IsAscending ts → IsAscending us → ((k : List ℕ) → value_of k ts ≡ value_of k us)
+    → ts ≡ us
 same_tags [] [] up vp same = refl
 same_tags [] (u ∷ us) up vp same = absurd (not_below u us [] refl (λ k. sym (same k)))
 same_tags (t ∷ ts) [] up vp same = absurd (not_below t ts [] refl same)
@@ -77,9 +82,11 @@ same_tags (t ∷ ts) (u ∷ us) up vp same =
           absurd (not_below t ts (u ∷ us) below same)
       | Equal ↦ λ e.
           let key : t.0 ≡ u.0 = (bytes_eq-Decides t.0 u.0).0 (texts_ties t.0 u.0 ∙ ap is_eq e) in
-          let value : t.1 ≡ u.1 = some_same t.1 u.1 (sym (value_here t.0 t ts refl) ∙ (same t.0 ∙ value_here t.0 u us (sym key))) in
+          let value : t.1 ≡ u.1 = some_same t.1 u.1
+          (sym (value_here t.0 t ts refl) ∙ (same t.0 ∙ value_here t.0 u us (sym key))) in
           let first : t ≡ u = pair_same t u key value in
-          let others : ts ≡ us = same_tags ts us (ascending t.0 ts up) (ascending u.0 us vp) (others_same t u ts us key up vp same) in
+          let others : ts ≡ us = same_tags ts us (ascending t.0 ts up) (ascending u.0 us vp)
+          (others_same t u ts us key up vp same) in
           cc
       | Greater ↦ λ e.
           let less : text_cmp u.0 t.0 ≡ Less = nat_list_cmp_total.antisymm u.0 t.0 ∙ ap ordering_reverse e in

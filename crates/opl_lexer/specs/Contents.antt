@@ -1,14 +1,18 @@
 -- What the contents of a field hold, or which fault stands first in them. (OPL File Format Manual.)
-use Rattle.std.specs.Prelude.{◌==◌, ◌||◌, ◌&&◌, nat_lt, ℕ, ℤ, List, [], ◌∷◌, Bool, true, false, cond, length, take, drop, slice_index, Option, Some, None}
+use Rattle.std.specs.Prelude.{◌==◌, ◌||◌, ◌&&◌, nat_lt, ℕ, ℤ, List, [], ◌∷◌, Bool, true, false, cond, length, take}
+use Rattle.std.specs.Prelude.{drop, slice_index, Option, Some, None}
 use Rattle.std.specs.Option.{option_map}
 use Rattle.std.specs.List.{list_all, before_first, after_first}
 use Rattle.road_base.specs.declared.ids.NodeId.{NodeId}
 use Rattle.road_base.specs.declared.ids.Key.{Key}
 use Rattle.road_base.specs.declared.ids.Key.TheVariants.{Node as NodeKey, Way as WayKey, Relation as RelationKey}
 use Rattle.road_base.specs.declared.objects.Member.{Member}
+use Rattle.opl_lexer.specs.Letters.{comma, equals_sign, point, minus_sign, at_sign, letter_n, letter_w, letter_r}
+use Rattle.opl_lexer.specs.Letters.{letter_x, letter_y, letter_V, letter_D}
 use Rattle.opl_lexer.specs.declared.fault.FaultKind.{FaultKind}
-use Rattle.opl_lexer.specs.declared.fault.FaultKind.TheVariants.{BadEscape, BadTag, BadMember, BadRef, TooMany, BadCoordinate, BadFlag}
-use Rattle.opl_lexer.specs.Pieces.{pieces}
+use Rattle.opl_lexer.specs.declared.fault.FaultKind.TheVariants.{BadEscape, BadTag, BadMember, BadRef, TooMany}
+use Rattle.opl_lexer.specs.declared.fault.FaultKind.TheVariants.{BadCoordinate, BadFlag}
+use Rattle.opl_lexer.specs.Parts.{parts}
 use Rattle.opl_lexer.specs.Numbers.{whole_of, coordinate_of, is_digit}
 use Rattle.opl_lexer.specs.Escapes.{unescaped}
 
@@ -41,7 +45,7 @@ but_bad (Bad earlier) kind = Bad earlier
 -- what commas join; nothing joined is no item
 abbrev pub items : List ℕ → List (List ℕ)
 items [] = []
-items (b ∷ bs) = pieces 44 (b ∷ bs)
+items (b ∷ bs) = parts comma (b ∷ bs)
 
 abbrev pub put_before : {A : Type 0} → Parsed A → Parsed (List A) → Parsed (List A)
 put_before (Good value) (Good values) = Good (value ∷ values)
@@ -68,7 +72,7 @@ list_of read contents = and_no_more (nat_lt 65535 (length (items contents))) (al
 abbrev pub text_of : List ℕ → Parsed (List ℕ)
 text_of text = or_fault BadEscape (unescaped text)
 
--- by the pieces between equals signs: a key and a value; a missing sign stands at the item's end
+-- by the parts between equals signs: a key and a value; a missing sign stands at the item's end
 abbrev pub tag_in : List (List ℕ) → Parsed (List ℕ × List ℕ)
 tag_in [] = Bad BadTag
 tag_in (key ∷ []) = but_bad (text_of key) BadTag
@@ -76,11 +80,15 @@ tag_in (key ∷ value ∷ []) = both (text_of key) (text_of value)
 tag_in (key ∷ value ∷ more ∷ others) = but_bad (both (text_of key) (text_of value)) BadTag
 
 abbrev pub tag_of : List ℕ → Parsed (List ℕ × List ℕ)
-tag_of item = tag_in (pieces 61 item)
+tag_of item = tag_in (parts equals_sign item)
+
+-- a digit, a point or a minus sign
+abbrev pub is_run_byte : ℕ → Bool
+is_run_byte b = is_digit b || ((b == point) || (b == minus_sign))
 
 -- digits, points and minus signs, if any
 abbrev pub is_run : List ℕ → Bool
-is_run text = list_all (λ b. is_digit b || ((b == 46) || (b == 45))) text
+is_run text = list_all is_run_byte text
 
 -- behind an `x`: a run, `y`, and a run
 abbrev pub is_place : List (List ℕ) → Bool
@@ -89,16 +97,17 @@ is_place (x ∷ []) = false
 is_place (x ∷ y ∷ []) = is_run x && is_run y
 is_place (x ∷ y ∷ more ∷ others) = false
 
--- by the pieces between `x`: a number, and maybe a place that is passed over
+-- by the parts between `x`: a number, and maybe a place that is passed over
 abbrev pub number_in : List (List ℕ) → Option ℤ
 number_in [] = None
 number_in (number ∷ []) = whole_of number
-number_in (number ∷ place ∷ []) = cond (is_place (pieces 121 place)) (whole_of number) None
+number_in (number ∷ place ∷ []) = cond (is_place (parts letter_y place)) (whole_of number) None
 number_in (number ∷ place ∷ more ∷ others) = None
 
 -- `n` and a node's number
 abbrev pub ref_of : List ℕ → Parsed NodeId
-ref_of item = or_fault BadRef (cond (slice_index item 0 == 110) (option_map (λ z. record { 0 = z }) (number_in (pieces 120 (drop 1 item)))) None)
+ref_of item = or_fault BadRef (cond (slice_index item 0 == letter_n)
+    (option_map (λ z. record { 0 = z }) (number_in (parts letter_x (drop 1 item)))) None)
 
 abbrev pub node_key : ℤ → Key
 node_key z = NodeKey (record { 0 = z })
@@ -112,9 +121,9 @@ relation_key z = RelationKey (record { 0 = z })
 -- `n`, `w` or `r` and a number: an object's key
 abbrev pub key_of : List ℕ → Option Key
 key_of text =
-    cond (slice_index text 0 == 110) (option_map node_key (whole_of (drop 1 text)))
-    (cond (slice_index text 0 == 119) (option_map way_key (whole_of (drop 1 text)))
-    (cond (slice_index text 0 == 114) (option_map relation_key (whole_of (drop 1 text))) None))
+    cond (slice_index text 0 == letter_n) (option_map node_key (whole_of (drop 1 text)))
+    (cond (slice_index text 0 == letter_w) (option_map way_key (whole_of (drop 1 text)))
+    (cond (slice_index text 0 == letter_r) (option_map relation_key (whole_of (drop 1 text))) None))
 
 abbrev pub member_with : Option Key → Parsed (List ℕ) → Parsed Member
 member_with None role = Bad BadMember
@@ -122,11 +131,12 @@ member_with (Some key) (Good role) = Good (record { item = key; role = role })
 member_with (Some key) (Bad kind) = Bad kind
 
 abbrev pub is_at : ℕ → Bool
-is_at b = b == 64
+is_at b = b == at_sign
 
 -- a key, `@`, and a role, which may hold an `@` too
 abbrev pub member_of : List ℕ → Parsed Member
-member_of item = cond (nat_lt (length (before_first is_at item)) (length item)) (member_with (key_of (before_first is_at item)) (text_of (after_first is_at item))) (Bad BadMember)
+member_of item = cond (nat_lt (length (before_first is_at item)) (length item))
+    (member_with (key_of (before_first is_at item)) (text_of (after_first is_at item))) (Bad BadMember)
 
 -- ---- single values
 
@@ -138,5 +148,5 @@ axis_of limit (b ∷ bs) = or_fault BadCoordinate (option_map Some (coordinate_o
 -- `V` or `D` alone: whether the object is deleted
 abbrev pub deletion_in : List ℕ → Parsed Bool
 deletion_in [] = Bad BadFlag
-deletion_in (b ∷ []) = cond (b == 86) (Good false) (cond (b == 68) (Good true) (Bad BadFlag))
+deletion_in (b ∷ []) = cond (b == letter_V) (Good false) (cond (b == letter_D) (Good true) (Bad BadFlag))
 deletion_in (b ∷ c ∷ cs) = Bad BadFlag

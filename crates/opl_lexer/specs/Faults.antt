@@ -1,17 +1,21 @@
 -- Which field of a line is in fault, and with what fault. (OPL File Format Manual.)
-use Rattle.std.specs.Prelude.{◌+◌, ◌==◌, ◌||◌, ℕ, ℤ, pos, List, [], ◌∷◌, ◌++◌, Bool, true, cond, length, drop, slice_index, Option, Some, None, codes}
+use Rattle.std.specs.Prelude.{◌+◌, ◌==◌, ◌||◌, ℕ, ℤ, pos, List, [], ◌∷◌, ◌++◌, Bool, true, cond, length, drop}
+use Rattle.std.specs.Prelude.{slice_index, Option, Some, None, codes}
 use Rattle.std.specs.Option.{option_map, option_or}
 use Rattle.std.specs.List.{list_any}
 use Rattle.std.specs.Str.{is_utf8}
 use Rattle.road_base.specs.declared.ids.Key.{Key}
 use Rattle.road_base.specs.declared.ids.Key.TheVariants.{Node as NodeKey, Way as WayKey, Relation as RelationKey}
+use Rattle.opl_lexer.specs.Letters.{hash_sign, letter_c}
 use Rattle.opl_lexer.specs.declared.fault.FaultKind.{FaultKind}
-use Rattle.opl_lexer.specs.declared.fault.FaultKind.TheVariants.{NotUtf8, UnknownLine, UnknownField, Repeated, BadNumber, NoVersion}
+use Rattle.opl_lexer.specs.declared.fault.FaultKind.TheVariants.{NotUtf8, UnknownLine, UnknownField, Repeated}
+use Rattle.opl_lexer.specs.declared.fault.FaultKind.TheVariants.{BadNumber, NoVersion}
 use Rattle.opl_lexer.specs.declared.mode.Mode.{Mode}
 use Rattle.opl_lexer.specs.declared.mode.Mode.TheVariants.{Extract, Change}
 use Rattle.opl_lexer.specs.Fields.{fields}
 use Rattle.opl_lexer.specs.Numbers.{version_of}
-use Rattle.opl_lexer.specs.Contents.{or_fault, fault_in, list_of, tag_of, ref_of, member_of, key_of, axis_of, deletion_in}
+use Rattle.opl_lexer.specs.Contents.{or_fault, fault_in, list_of, tag_of, ref_of, member_of, key_of, axis_of}
+use Rattle.opl_lexer.specs.Contents.{deletion_in}
 
 -- ---- the letters of fields
 
@@ -86,11 +90,12 @@ field_fault key earlier field =
 abbrev pub at_field : ℕ → Option FaultKind → Option (ℕ × FaultKind)
 at_field k fault = option_map (λ kind. (k, kind)) fault
 
--- The first of these fields that is in fault, by its number in the line: the object's own field is 1, and the others that
--- stand before these are `earlier`.
+-- The first of these fields that is in fault, by its number in the line: the object's own field is 1, and the others
+-- that stand before these are `earlier`.
 unfoldable pub first_bad : Key → List (List ℕ) → List (List ℕ) → Option (ℕ × FaultKind)
 first_bad key earlier [] = None
-first_bad key earlier (field ∷ others) = option_or (at_field (length earlier + 2) (field_fault key earlier field)) (first_bad key (earlier ++ field ∷ []) others)
+first_bad key earlier (field ∷ others) = option_or (at_field (length earlier + 2) (field_fault key earlier field))
+    (first_bad key (earlier ++ field ∷ []) others)
 
 -- a change's line has a version
 abbrev pub version_fault : Mode → List (List ℕ) → Option (ℕ × FaultKind)
@@ -100,7 +105,7 @@ version_fault Change others = cond (stands version_letter others) None (Some (0,
 -- a line without a field, a note, and a changeset are passed over
 abbrev pub is_passed_over : List (List ℕ) → Bool
 is_passed_over [] = true
-is_passed_over (object ∷ others) = (letter object == 35) || (letter object == 99)
+is_passed_over (object ∷ others) = (letter object == hash_sign) || (letter object == letter_c)
 
 -- `n`, `w` or `r`
 abbrev pub is_object : List ℕ → Bool
@@ -112,7 +117,8 @@ fault_behind mode (Some key) others = option_or (first_bad key [] others) (versi
 
 abbrev pub object_fault : Mode → List (List ℕ) → Option (ℕ × FaultKind)
 object_fault mode [] = None
-object_fault mode (object ∷ others) = cond (is_object object) (fault_behind mode (key_of object) others) (Some (1, UnknownLine))
+object_fault mode (object ∷ others) = cond (is_object object) (fault_behind mode (key_of object) others)
+    (Some (1, UnknownLine))
 
 -- The first fault of a line, and the number of its field; 0 stands for the whole line.
 unfoldable pub line_fault : Mode → List ℕ → Option (ℕ × FaultKind)

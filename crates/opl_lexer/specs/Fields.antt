@@ -1,10 +1,11 @@
 -- The fields of a line. (OPL File Format Manual.)
+use Rattle.opl_lexer.specs.Letters.{space, tab}
 use Rattle.std.specs.Prelude.{◌==◌, ◌||◌, ℕ, List, Bool, nat_lt, length}
 use Rattle.std.specs.List.{slice_split, filter}
 
 -- a space or a tab
 abbrev pub is_blank : ℕ → Bool
-is_blank b = (b == 32) || (b == 9)
+is_blank b = (b == space) || (b == tab)
 
 abbrev pub has_bytes : List ℕ → Bool
 has_bytes run = nat_lt 0 (length run)

@@ -22,7 +22,8 @@ at_line k fault = option_map (λ f. record { line = k; field = f.0; kind = f.1 }
 -- the fault of the first line in fault, where these lines have numbers from k on
 unfoldable pub first_fault : Mode → ℕ → List (List ℕ) → Option FaultAt
 first_fault mode k [] = None
-first_fault mode k (line ∷ others) = option_or (at_line k (line_fault mode (without_return line))) (first_fault mode (k + 1) others)
+first_fault mode k (line ∷ others) = option_or (at_line k (line_fault mode (without_return line)))
+    (first_fault mode (k + 1) others)
 
 -- the first fault of the input; lines are counted from 1, all of them
 abbrev pub input_fault : Mode → List ℕ → Option FaultAt

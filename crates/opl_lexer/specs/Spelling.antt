@@ -10,13 +10,15 @@ use Rattle.road_base.specs.declared.objects.Node.{Node}
 use Rattle.road_base.specs.declared.objects.Way.{Way}
 use Rattle.road_base.specs.declared.objects.Relation.{Relation}
 use Rattle.road_base.specs.declared.objects.Body.{Body}
-use Rattle.road_base.specs.declared.objects.Body.TheVariants.{Node as NodeBody, Way as WayBody, Relation as RelationBody, Deleted}
+use Rattle.road_base.specs.declared.objects.Body.TheVariants.{Node as NodeBody, Way as WayBody}
+use Rattle.road_base.specs.declared.objects.Body.TheVariants.{Relation as RelationBody, Deleted}
 use Rattle.road_base.specs.declared.event.Event.{Event}
 use Rattle.road_base.specs.Tags.{TagList, IsAscending, value_of}
 use Rattle.opl_lexer.specs.declared.mode.Mode.{Mode}
 use Rattle.opl_lexer.specs.Fields.{fields}
 use Rattle.opl_lexer.specs.Contents.{Good, Bad, list_of, tag_of, ref_of, member_of, key_of, axis_of, deletion_in}
-use Rattle.opl_lexer.specs.Faults.{letter, line_fault, is_passed_over, version_letter, deletion_letter, tags_letter, lon_letter, lat_letter, refs_letter, members_letter, most_lon, most_lat}
+use Rattle.opl_lexer.specs.Faults.{letter, line_fault, is_passed_over, version_letter, deletion_letter, tags_letter}
+use Rattle.opl_lexer.specs.Faults.{lon_letter, lat_letter, refs_letter, members_letter, most_lon, most_lat}
 
 -- what stands behind this letter, where a field has it
 abbrev pub text_behind : ℕ → List (List ℕ) → Option (List ℕ)
@@ -32,7 +34,8 @@ version_in others = elim (text_behind version_letter others) [ None ↦ 0 | Some
 
 -- an object is visible where nothing else is said
 abbrev pub is_deleted : List (List ℕ) → Bool
-is_deleted others = elim (text_behind deletion_letter others) [ None ↦ false | Some flag ↦ elim (deletion_in flag) [ Good deleted ↦ deleted | Bad kind ↦ false ] ]
+is_deleted others = elim (text_behind deletion_letter others)
+    [ None ↦ false | Some flag ↦ elim (deletion_in flag) [ Good deleted ↦ deleted | Bad kind ↦ false ] ]
 
 -- the tags that this list holds, ascending by key; of a key that stands twice the first value
 pub record AreTags (list : List ℕ) (tags : TagList) : Type 0 where
@@ -66,7 +69,8 @@ pub record IsRelation (others : List (List ℕ)) (relation : Relation) : Type 0 
 abbrev pub IsVisible : List (List ℕ) → Key → Body → Type 0
 IsVisible others (NodeKey id) body = (node : Node) × (body ≡ NodeBody node) × IsNode others node
 IsVisible others (WayKey id) body = (way : Way) × (body ≡ WayBody way) × IsWay others way
-IsVisible others (RelationKey id) body = (relation : Relation) × (body ≡ RelationBody relation) × IsRelation others relation
+IsVisible others (RelationKey id) body = (relation : Relation) × (body ≡ RelationBody relation)
+    × IsRelation others relation
 
 -- a deletion has no body, whatever its other fields hold
 abbrev pub HasBody : Bool → List (List ℕ) → Key → Body → Type 0

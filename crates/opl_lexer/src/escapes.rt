@@ -1,8 +1,10 @@
 //! Texts with escapes: `%h%` stands for the character whose code is h.
-ghost use Rattle.std.specs.Prelude.{◌≡◌, ◌<◌, ◌≤◌, ◌++◌, ℕ, List, [], ◌∷◌, ◌==◌, length, slice_index, Some, None, IsErrOf, ◌⊎◌, SomeIff, IfSome, IfNone, IfErr, OnOk, OnErr, option_map, IsTrue};
+ghost use Rattle.std.specs.Prelude.{◌≡◌, ◌<◌, ◌≤◌, ◌++◌, ℕ, List, [], ◌∷◌, ◌==◌, length, slice_index, Some, None};
+ghost use Rattle.std.specs.Prelude.{IsErrOf, ◌⊎◌, SomeIff, IfSome, IfNone, IfErr, OnOk, OnErr, option_map, IsTrue};
 ghost use Rattle.std.specs.Str.Parse.{IsNumeral, digits_value};
 ghost use Rattle.std.specs.String.{string_bytes};
-ghost use Rattle.opl_lexer.specs.Pieces.{Lacks, IsCutAt};
+ghost use Rattle.opl_lexer.specs.Letters.{percent_sign};
+ghost use Rattle.opl_lexer.specs.Parts.{Lacks, IsCutAt};
 ghost use Rattle.opl_lexer.specs.Escapes.{is_code, unescaped};
 ghost use Rattle.opl_lexer.specs.declared.fault.FaultKind.TheVariants.{BadEscape};
 ghost use Rattle.opl_lexer.specs.declared.fault.LexError.TheVariants.{Kind, NoMemory};
@@ -17,9 +19,9 @@ const MOST_DIGITS: usize = 6;
 
 /// What stands before the first percent sign, and what stands behind it.
 fn cut(text: &str) -> Option<(&str, &str)>
-    ensures some { IfSome result (λ parts. IsCutAt 37 text.now parts.0.now parts.1.now) }
+    ensures some { IfSome result (λ parts. IsCutAt percent_sign text.now parts.0.now parts.1.now) }
     ensures shorter { IfSome result (λ parts. length parts.1.now < length text.now) }
-    ensures none { IfNone result (Lacks 37 text.now) }
+    ensures none { IfNone result (Lacks percent_sign text.now) }
 {
     let Some(at) = memchr(b'%', text.as_bytes()) else {
         return None;
@@ -60,7 +62,8 @@ fn character(code: &str) -> Option<char>
 
 /// Appends the text with its escapes read. A refusal leaves a part of it behind `out`.
 fn append(text: &str, out: &mut String) -> Result<(), LexError>
-    ensures ok { OnOk result (option_map (λ read. string_bytes out.old ++ read) (unescaped text.now) ≡ Some (string_bytes out.new)) }
+    ensures ok { OnOk result (option_map (λ read. string_bytes out.old ++ read) (unescaped text.now)
+        ≡ Some (string_bytes out.new)) }
     ensures bad { IsErrOf result (Kind BadEscape) → unescaped text.now ≡ None }
     ensures only { IfErr result (λ e. (e ≡ Kind BadEscape) ⊎ (e ≡ NoMemory)) }
     ensures keeps { (part : List ℕ) × (string_bytes out.new ≡ string_bytes out.old ++ part) }
@@ -85,7 +88,8 @@ fn append(text: &str, out: &mut String) -> Result<(), LexError>
 /// of either case. `BadEscape` comes exactly where a percent sign doesn't begin such a form, or a code isn't a Unicode
 /// scalar value. At every refusal `out` is as before.
 pub fn unescape(text: &str, out: &mut String) -> Result<(), LexError>
-    ensures ok { OnOk result (option_map (λ read. string_bytes out.old ++ read) (unescaped text.now) ≡ Some (string_bytes out.new)) }
+    ensures ok { OnOk result (option_map (λ read. string_bytes out.old ++ read) (unescaped text.now)
+        ≡ Some (string_bytes out.new)) }
     ensures bad { IsErrOf result (Kind BadEscape) → unescaped text.now ≡ None }
     ensures only { IfErr result (λ e. (e ≡ Kind BadEscape) ⊎ (e ≡ NoMemory)) }
     ensures err { OnErr result (string_bytes out.new ≡ string_bytes out.old) }

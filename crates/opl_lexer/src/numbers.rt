@@ -1,20 +1,72 @@
 //! Numbers and coordinates, read from the text that spells them.
-ghost use Rattle.std.specs.Prelude.{◌≡◌, ◌<◌, ◌≤◌, ◌+◌, ◌-◌, ◌*◌, ◌^◌, ℕ, List, [], ◌∷◌, length, take, drop, slice_index, Some, SomeIff, IfSome, IfNone};
+ghost use Rattle.std.specs.Prelude.{◌≡◌, ◌<◌, ◌≤◌, ◌+◌, ◌-◌, ◌*◌, ◌^◌, ℕ, List, [], ◌∷◌, length, take, drop};
+ghost use Rattle.std.specs.Prelude.{slice_index, Some, SomeIff, IfSome, IfNone, IsTrue};
 ghost use Rattle.std.specs.Char.{digit_value};
 ghost use Rattle.std.specs.Str.Parse.{IsNumeral, digits_value, starts_with_minus};
-ghost use Rattle.opl_lexer.specs.Pieces.{pieces};
-ghost use Rattle.opl_lexer.specs.Numbers.{magnitude, whole_of, version_of, units_in, coordinate_of};
+ghost use Rattle.opl_lexer.specs.Letters.{point};
+ghost use Rattle.opl_lexer.specs.Parts.{parts};
+ghost use Rattle.opl_lexer.specs.Numbers.{IsFront, is_numeral, magnitude, whole_of, version_of, units_in};
+ghost use Rattle.opl_lexer.specs.Numbers.{coordinate_of};
 
-/// The value with one more digit behind it.
+/// How many digits a number may have whose value is surely below 2^63.
+const SAFE_DIGITS: usize = 18;
+
+/// The value of a digit.
 #[inline]
-fn with_digit(value: u64, byte: u8) -> Option<u64>
-    ensures { let next = value * 10 + digit_value byte in
-        SomeIff result ((digit_value byte < 10) × (next < 2 ^ 64)) next }
+fn digit(byte: u8) -> Option<u64>
+    ensures { SomeIff result (digit_value byte < 10) (digit_value byte) }
 {
     if byte < b'0' || b'9' < byte {
         return None;
     }
-    value.checked_mul(10)?.checked_add((byte - b'0') as u64)
+    Some((byte - b'0') as u64)
+}
+
+/// The value of the digits in front, of at most 18, and how many these are.
+#[inline]
+fn digits_in_front(bytes: &[u8]) -> (u64, usize)
+    ensures within { result.1 ≤ length bytes.now }
+    ensures few { result.1 ≤ 18 }
+    ensures front { IsFront bytes.now result.1 result.0 }
+    ensures stops { result.1 < 18 → result.1 < length bytes.now
+        → 10 ≤ digit_value (slice_index bytes.now result.1) }
+{
+    let most = bytes.len().min(SAFE_DIGITS);
+    let mut value = 0u64;
+    for at in 0..most {
+        let Some(digit) = digit(bytes[at]) else {
+            return (value, at);
+        };
+        value = value * 10 + digit;
+    }
+    (value, most)
+}
+
+/// The value with one more digit behind it.
+fn with_digit(value: u64, byte: u8) -> Option<u64>
+    ensures { let next = value * 10 + digit_value byte in
+        SomeIff result ((digit_value byte < 10) × (next < 2 ^ 64)) next }
+{
+    let digit = digit(byte)?;
+    value.checked_mul(10)?.checked_add(digit)
+}
+
+/// The value of any number of digits, at least one.
+#[inline(never)]
+fn many_digits(bytes: &[u8]) -> Option<u64>
+    requires { 0 < length bytes.now }
+    ensures { SomeIff result
+        (IsNumeral 10 bytes.now × (digits_value 10 bytes.now < 2 ^ 64))
+        (digits_value 10 bytes.now) }
+{
+    let mut value = 0u64;
+    for at in 0..bytes.len() {
+        let Some(next) = with_digit(value, bytes[at]) else {
+            return None;
+        };
+        value = next;
+    }
+    Some(value)
 }
 
 /// The value of digits alone, at least one.
@@ -27,14 +79,29 @@ fn digits(bytes: &[u8]) -> Option<u64>
     if bytes.is_empty() {
         return None;
     }
-    let mut value = 0u64;
-    for at in 0..bytes.len() {
-        let Some(next) = with_digit(value, bytes[at]) else {
-            return None;
-        };
-        value = next;
+    let (value, count) = digits_in_front(bytes);
+    if count == SAFE_DIGITS {
+        return many_digits(bytes);
+    }
+    if count < bytes.len() {
+        return None;
     }
     Some(value)
+}
+
+/// The number that the digits in front spell, of at most 18, and how many these are. None where no digit stands in
+/// front.
+#[inline]
+pub fn front_number(text: &str) -> Option<(i64, usize)>
+    ensures within { IfSome result (λ found. found.1 ≤ length text.now) }
+    ensures digits { IfSome result (λ found. IsTrue (is_numeral (take found.1 text.now))) }
+    ensures value { IfSome result (λ found. whole_of (take found.1 text.now) ≡ Some found.0) }
+{
+    let (value, count) = digits_in_front(text.as_bytes());
+    if count == 0 {
+        return None;
+    }
+    Some((value as i64, count))
 }
 
 /// Whether a minus stands in front, and what follows it.
@@ -131,9 +198,9 @@ fn places(bytes: &[u8]) -> Option<u64>
 /// What stands before the first point, and what stands behind it where there is one.
 #[inline]
 fn at_point(bytes: &[u8]) -> (&[u8], Option<&[u8]>)
-    ensures first { (others : List (List ℕ)) × (pieces 46 bytes.now ≡ result.0.now ∷ others) }
-    ensures cut { IfSome result.1 (λ behind. pieces 46 bytes.now ≡ result.0.now ∷ pieces 46 behind.now) }
-    ensures whole { IfNone result.1 (pieces 46 bytes.now ≡ result.0.now ∷ []) }
+    ensures first { (others : List (List ℕ)) × (parts point bytes.now ≡ result.0.now ∷ others) }
+    ensures cut { IfSome result.1 (λ behind. parts 46 bytes.now ≡ result.0.now ∷ parts point behind.now) }
+    ensures whole { IfNone result.1 (parts point bytes.now ≡ result.0.now ∷ []) }
 {
     for at in 0..bytes.len() {
         if bytes[at] == b'.' {
@@ -146,9 +213,10 @@ fn at_point(bytes: &[u8]) -> (&[u8], Option<&[u8]>)
 }
 
 /// A decimal in units of 1e-7, where it is below 1001.
-fn degrees(bytes: &[u8]) -> Option<u64>
-    ensures found { IfSome result (λ n. units_in (pieces 46 bytes.now) ≡ Some n) }
-    ensures none { IfNone result (IfSome (units_in (pieces 46 bytes.now)) (λ n. 10010000000 ≤ n)) }
+#[inline(never)]
+fn any_degrees(bytes: &[u8]) -> Option<u64>
+    ensures found { IfSome result (λ n. units_in (parts point bytes.now) ≡ Some n) }
+    ensures none { IfNone result (IfSome (units_in (parts point bytes.now)) (λ n. 10010000000 ≤ n)) }
     ensures bound { IfSome result (λ n. n < 10010000000) }
 {
     let (front, behind) = at_point(bytes);
@@ -165,6 +233,42 @@ fn degrees(bytes: &[u8]) -> Option<u64>
         return None;
     };
     Some(whole * 10_000_000 + behind)
+}
+
+/// A decimal in units of 1e-7, where it is below 1001 and has at most 18 digits in front.
+#[inline]
+fn plain_degrees(bytes: &[u8]) -> Option<u64>
+    ensures found { IfSome result (λ n. units_in (parts point bytes.now) ≡ Some n) }
+    ensures bound { IfSome result (λ n. n < 10010000000) }
+{
+    let (whole, count) = digits_in_front(bytes);
+    if count == 0 || whole > 1000 {
+        return None;
+    }
+    if count == bytes.len() {
+        return Some(whole * 10_000_000);
+    }
+    if bytes[count] != b'.' {
+        return None;
+    }
+    let (_, behind) = bytes.split_at(count + 1);
+    let Some(behind) = places(behind) else {
+        return None;
+    };
+    Some(whole * 10_000_000 + behind)
+}
+
+/// A decimal in units of 1e-7, where it is below 1001.
+fn degrees(bytes: &[u8]) -> Option<u64>
+    ensures found { IfSome result (λ n. units_in (parts point bytes.now) ≡ Some n) }
+    ensures none { IfNone result (IfSome (units_in (parts point bytes.now)) (λ n. 10010000000 ≤ n)) }
+    ensures bound { IfSome result (λ n. n < 10010000000) }
+{
+    let plain = plain_degrees(bytes);
+    if plain.is_some() {
+        return plain;
+    }
+    any_degrees(bytes)
 }
 
 /// A coordinate in units of 1e-7 degree, of at most the limit's size; digits after the seventh behind the point are

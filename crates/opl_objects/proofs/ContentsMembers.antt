@@ -1,5 +1,6 @@
 -- Members, cut at the first `@`.
-use Rattle.std.specs.Prelude.{◌≡◌, ◌==◌, ◌<◌, ◌+◌, ◌++◌, nat_lt, ℕ, List, [], ◌∷◌, true, false, take, drop, length, refl}
+use Rattle.std.specs.Prelude.{◌≡◌, ◌==◌, ◌<◌, ◌+◌, ◌++◌, nat_lt, ℕ, List, [], ◌∷◌, true, false, take, drop, length}
+use Rattle.std.specs.Prelude.{refl}
 use Rattle.std.specs.List.{position_or_len, before_first, after_first}
 use Rattle.std.proofs.Common.{arith, ◌∙◌, ap, length-append, cond}
 use Rattle.std.proofs.Math.Seq.{take-append_seam, drop-append-add}
@@ -7,7 +8,7 @@ use Rattle.std.proofs.lemmas.Bool.Decides.{nat_tests}
 use Rattle.std.proofs.lemmas.List.{take_all}
 use Rattle.std.proofs.lemmas.List.Elements.{All-head, All-tail}
 use Rattle.opl_lexer.specs.declared.fault.FaultKind.TheVariants.{BadMember}
-use Rattle.opl_lexer.specs.Pieces.{Lacks, IsCutAt}
+use Rattle.opl_lexer.specs.Parts.{Lacks, IsCutAt}
 use Rattle.opl_lexer.specs.Contents.{Bad, text_of, key_of, is_at, member_with, member_of}
 
 first_at : (front rest : List ℕ) → Lacks 64 front → position_or_len is_at (front ++ (64 ∷ rest)) ≡ length front
@@ -24,21 +25,28 @@ none_at (b ∷ bs) lacks =
     let others = none_at bs (All-tail (λ c. (c == 64) ≡ false) b bs lacks) in
     rw (here, others) (omega arith)
 
-pub member_cut : (item front rest : List ℕ) → IsCutAt 64 item front rest → member_of item ≡ member_with (key_of front) (text_of rest)
+pub member_cut : (item front rest : List ℕ) → IsCutAt 64 item front rest
+    → member_of item ≡ member_with (key_of front) (text_of rest)
 member_cut item front rest k =
-    let at : position_or_len is_at item ≡ length front = ap (position_or_len is_at) k.written ∙ first_at front rest k.first in
-    let before : before_first is_at item ≡ front = ap (λ n. take n item) at ∙ (ap (take (length front)) k.written ∙ take-append_seam front (64 ∷ rest)) in
-    let behind : after_first is_at item ≡ rest = ap (λ n. drop (n + 1) item) at ∙ (ap (drop (length front + 1)) k.written ∙ drop-append-add front (64 ∷ rest) 1) in
+    let at : position_or_len is_at item ≡ length front = ap (position_or_len is_at) k.written
+    ∙ first_at front rest k.first in
+    let before : before_first is_at item ≡ front = ap (λ n. take n item) at
+    ∙ (ap (take (length front)) k.written ∙ take-append_seam front (64 ∷ rest)) in
+    let behind : after_first is_at item ≡ rest = ap (λ n. drop (n + 1) item) at
+    ∙ (ap (drop (length front + 1)) k.written ∙ drop-append-add front (64 ∷ rest) 1) in
     let longer : length front < length item = omega (arith, ap length k.written, length-append front (64 ∷ rest)) in
     let test : nat_lt (length front) (length item) ≡ true = grind (arith, nat_tests) in
-    ap (λ f. cond (nat_lt (length f) (length item)) (member_with (key_of f) (text_of (after_first is_at item))) (Bad BadMember)) before
+    ap (λ f. cond (nat_lt (length f) (length item)) (member_with (key_of f) (text_of (after_first is_at item)))
+    (Bad BadMember)) before
     ∙ (ap (λ b. cond b (member_with (key_of front) (text_of (after_first is_at item))) (Bad BadMember)) test
     ∙ ap (λ r. member_with (key_of front) (text_of r)) behind)
 
 pub member_uncut : (item : List ℕ) → Lacks 64 item → member_of item ≡ Bad BadMember
 member_uncut item lacks =
     let at : position_or_len is_at item ≡ length item = none_at item lacks in
-    let before : before_first is_at item ≡ item = ap (λ n. take n item) at ∙ take_all (length item) item (omega arith) in
+    let before : before_first is_at item ≡ item = ap (λ n. take n item) at
+    ∙ take_all (length item) item (omega arith) in
     let test : nat_lt (length item) (length item) ≡ false = grind (arith, nat_tests) in
-    ap (λ f. cond (nat_lt (length f) (length item)) (member_with (key_of f) (text_of (after_first is_at item))) (Bad BadMember)) before
+    ap (λ f. cond (nat_lt (length f) (length item)) (member_with (key_of f) (text_of (after_first is_at item)))
+    (Bad BadMember)) before
     ∙ ap (λ b. cond b (member_with (key_of item) (text_of (after_first is_at item))) (Bad BadMember)) test

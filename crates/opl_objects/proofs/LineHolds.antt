@@ -1,5 +1,6 @@
 -- What a field more changes in what the fields hold.
-use Rattle.std.proofs.Common.{◌≡◌, ◌==◌, ℕ, List, [], ◌∷◌, ◌++◌, Bool, true, false, cond, drop, Option, Some, None, refl, sym, ap, ◌∙◌, subst, inl, inr, arith}
+use Rattle.std.proofs.Common.{◌≡◌, ◌==◌, ℕ, List, [], ◌∷◌, ◌++◌, Bool, true, false, cond, drop, Option, Some, None}
+use Rattle.std.proofs.Common.{refl, sym, ap, ◌∙◌, subst, inl, inr, arith}
 use Rattle.std.specs.List.{find}
 use Rattle.std.specs.Option.{option_or}
 use Rattle.std.specs.Str.Parse.{digits_value}
@@ -10,7 +11,8 @@ use Rattle.opl_lexer.specs.Numbers.{version_of}
 use Rattle.opl_lexer.specs.Faults.{letter, stands, contents_fault}
 use Rattle.opl_lexer.specs.Spelling.{text_behind}
 use Rattle.opl_objects.specs.declared.letters.Letter.{Letter}
-use Rattle.opl_objects.specs.declared.letters.Letter.TheVariants.{Version, Deletion, Changeset, Timestamp, UserId, User, Tags, Lon, Lat, Refs, Members}
+use Rattle.opl_objects.specs.declared.letters.Letter.TheVariants.{Version, Deletion, Changeset, Timestamp, UserId, User}
+use Rattle.opl_objects.specs.declared.letters.Letter.TheVariants.{Tags, Lon, Lat, Refs, Members}
 use Rattle.opl_objects.specs.declared.parts.Parts.{Parts}
 use Rattle.opl_objects.specs.LineLetters.{byte_of}
 use Rattle.opl_objects.specs.LineParts.{Holds, Puts, flag_in, good_axis}
@@ -30,14 +32,26 @@ or_none : (o : Option (List ℕ)) → option_or o None ≡ o
 or_none None = refl
 or_none (Some field) = refl
 
-held_here : (fields : List (List ℕ)) (field : List ℕ) (c : ℕ) → stands c fields ≡ false → (letter field == c) ≡ true → Some (drop 1 field) ≡ text_behind c (fields ++ field ∷ [])
-held_here fields field c new here = rw (find-append (λ f. letter f == c) fields (field ∷ []), not_held c fields new, here) refl
+held_here : (fields : List (List ℕ)) (field : List ℕ) (c : ℕ) → stands c fields ≡ false → (letter field == c) ≡ true
+    → Some (drop 1 field) ≡ text_behind c (fields ++ field ∷ [])
+held_here fields field c new here = rw (
+  find-append (λ f. letter f == c) fields (field ∷ []),
+  not_held c fields new,
+  here,
+) refl
 
-held_before : (fields : List (List ℕ)) (field : List ℕ) (c : ℕ) → (letter field == c) ≡ false → text_behind c fields ≡ text_behind c (fields ++ field ∷ [])
-held_before fields field c other = rw (find-append (λ f. letter f == c) fields (field ∷ []), other, or_none (find (λ f. letter f == c) fields)) refl
+held_before : (fields : List (List ℕ)) (field : List ℕ) (c : ℕ) → (letter field == c) ≡ false
+    → text_behind c fields ≡ text_behind c (fields ++ field ∷ [])
+held_before fields field c other = rw (
+  find-append (λ f. letter f == c) fields (field ∷ []),
+  other,
+  or_none
+      (find (λ f. letter f == c) fields),
+) refl
 
 -- a letter that is new
-pub held_more : (fields : List (List ℕ)) (field : List ℕ) (b : ℕ) → letter field ≡ b → stands b fields ≡ false → (c : ℕ) → with_text (λ a. text_behind a fields) b (drop 1 field) c ≡ text_behind c (fields ++ field ∷ [])
+pub held_more : (fields : List (List ℕ)) (field : List ℕ) (b : ℕ) → letter field ≡ b → stands b fields ≡ false → (c : ℕ)
+    → with_text (λ a. text_behind a fields) b (drop 1 field) c ≡ text_behind c (fields ++ field ∷ [])
 held_more fields field b here new c =
     elim (cases_eq c b) [
       | inl same ↦
@@ -68,18 +82,123 @@ some_is false v n e = cc
 version_value : (text : List ℕ) (n : ℕ) → version_of text ≡ Some n → n ≡ digits_value 10 text
 version_value text n e = some_is _ (digits_value 10 text) n e
 
-pub put_holds : (l : Letter) (found : ℕ → Option (List ℕ)) (text : List ℕ) (old new : Parts) → Puts l text old new → Holds found old → Holds (with_text found (byte_of l) text) new
-put_holds Version found text old new put holds = subst (Holds (with_text found 118 text)) (sym put.1) (record { version = version_value text new.version put.0; deleted = holds.deleted; tags = holds.tags; lon = holds.lon; lat = holds.lat; refs = holds.refs; members = holds.members })
-put_holds Deletion found text old new put holds = subst (Holds (with_text found 100 text)) (sym put.1) (record { version = holds.version; deleted = sym (ap flag_in put.0); tags = holds.tags; lon = holds.lon; lat = holds.lat; refs = holds.refs; members = holds.members })
-put_holds Tags found text old new put holds = subst (Holds (with_text found 84 text)) (sym put.1) (record { version = holds.version; deleted = holds.deleted; tags = put.0; lon = holds.lon; lat = holds.lat; refs = holds.refs; members = holds.members })
-put_holds Lon found text old new put holds = subst (Holds (with_text found 120 text)) (sym put.1) (record { version = holds.version; deleted = holds.deleted; tags = holds.tags; lon = sym (ap good_axis put.0); lat = holds.lat; refs = holds.refs; members = holds.members })
-put_holds Lat found text old new put holds = subst (Holds (with_text found 121 text)) (sym put.1) (record { version = holds.version; deleted = holds.deleted; tags = holds.tags; lon = holds.lon; lat = sym (ap good_axis put.0); refs = holds.refs; members = holds.members })
-put_holds Refs found text old new put holds = subst (Holds (with_text found 78 text)) (sym put.1) (record { version = holds.version; deleted = holds.deleted; tags = holds.tags; lon = holds.lon; lat = holds.lat; refs = put.0; members = holds.members })
-put_holds Members found text old new put holds = subst (Holds (with_text found 77 text)) (sym put.1) (record { version = holds.version; deleted = holds.deleted; tags = holds.tags; lon = holds.lon; lat = holds.lat; refs = holds.refs; members = put.0 })
-put_holds Changeset found text old new put holds = subst (Holds (with_text found 99 text)) (sym put) (record { version = holds.version; deleted = holds.deleted; tags = holds.tags; lon = holds.lon; lat = holds.lat; refs = holds.refs; members = holds.members })
-put_holds Timestamp found text old new put holds = subst (Holds (with_text found 116 text)) (sym put) (record { version = holds.version; deleted = holds.deleted; tags = holds.tags; lon = holds.lon; lat = holds.lat; refs = holds.refs; members = holds.members })
-put_holds UserId found text old new put holds = subst (Holds (with_text found 105 text)) (sym put) (record { version = holds.version; deleted = holds.deleted; tags = holds.tags; lon = holds.lon; lat = holds.lat; refs = holds.refs; members = holds.members })
-put_holds User found text old new put holds = subst (Holds (with_text found 117 text)) (sym put) (record { version = holds.version; deleted = holds.deleted; tags = holds.tags; lon = holds.lon; lat = holds.lat; refs = holds.refs; members = holds.members })
+pub put_holds : (l : Letter) (found : ℕ → Option (List ℕ)) (text : List ℕ) (old new : Parts) → Puts l text old new
+    → Holds found old → Holds (with_text found (byte_of l) text) new
+put_holds Version found text old new put holds = subst (Holds (with_text found 118 text)) (sym put.1)
+    (record {
+      version = version_value text new.version put.0;
+      deleted = holds.deleted;
+      tags = holds.tags;
+      lon
+          = holds.lon;
+      lat = holds.lat;
+      refs = holds.refs;
+      members = holds.members;
+    })
+put_holds Deletion found text old new put holds = subst (Holds (with_text found 100 text)) (sym put.1)
+    (record {
+      version = holds.version;
+      deleted = sym (ap flag_in put.0);
+      tags = holds.tags;
+      lon = holds.lon;
+      lat
+          = holds.lat;
+      refs = holds.refs;
+      members = holds.members;
+    })
+put_holds Tags found text old new put holds = subst (Holds (with_text found 84 text)) (sym put.1)
+    (record {
+      version = holds.version;
+      deleted = holds.deleted;
+      tags = put.0;
+      lon = holds.lon;
+      lat = holds.lat;
+      refs
+          = holds.refs;
+      members = holds.members;
+    })
+put_holds Lon found text old new put holds = subst (Holds (with_text found 120 text)) (sym put.1)
+    (record {
+      version = holds.version;
+      deleted = holds.deleted;
+      tags = holds.tags;
+      lon = sym (ap good_axis put.0);
+      lat
+          = holds.lat;
+      refs = holds.refs;
+      members = holds.members;
+    })
+put_holds Lat found text old new put holds = subst (Holds (with_text found 121 text)) (sym put.1)
+    (record {
+      version = holds.version;
+      deleted = holds.deleted;
+      tags = holds.tags;
+      lon = holds.lon;
+      lat = sym
+          (ap good_axis put.0);
+      refs = holds.refs;
+      members = holds.members;
+    })
+put_holds Refs found text old new put holds = subst (Holds (with_text found 78 text)) (sym put.1)
+    (record {
+      version = holds.version;
+      deleted = holds.deleted;
+      tags = holds.tags;
+      lon = holds.lon;
+      lat = holds.lat;
+      refs = put.0;
+      members = holds.members;
+    })
+put_holds Members found text old new put holds = subst (Holds (with_text found 77 text)) (sym put.1)
+    (record {
+      version = holds.version;
+      deleted = holds.deleted;
+      tags = holds.tags;
+      lon = holds.lon;
+      lat = holds.lat;
+      refs = holds.refs;
+      members = put.0;
+    })
+put_holds Changeset found text old new put holds = subst (Holds (with_text found 99 text)) (sym put)
+    (record {
+      version = holds.version;
+      deleted = holds.deleted;
+      tags = holds.tags;
+      lon = holds.lon;
+      lat = holds.lat;
+      refs = holds.refs;
+      members = holds.members;
+    })
+put_holds Timestamp found text old new put holds = subst (Holds (with_text found 116 text)) (sym put)
+    (record {
+      version = holds.version;
+      deleted = holds.deleted;
+      tags = holds.tags;
+      lon = holds.lon;
+      lat = holds.lat;
+      refs = holds.refs;
+      members = holds.members;
+    })
+put_holds UserId found text old new put holds = subst (Holds (with_text found 105 text)) (sym put)
+    (record {
+      version = holds.version;
+      deleted = holds.deleted;
+      tags = holds.tags;
+      lon = holds.lon;
+      lat = holds.lat;
+      refs = holds.refs;
+      members = holds.members;
+    })
+put_holds User found text old new put holds = subst (Holds (with_text found 117 text)) (sym put)
+    (record {
+      version = holds.version;
+      deleted = holds.deleted;
+      tags = holds.tags;
+      lon = holds.lon;
+      lat = holds.lat;
+      refs = holds.refs;
+      members = holds.members;
+    })
 
 -- no letter changes what stood
 pub put_seen : (l : Letter) (text : List ℕ) (old new : Parts) → Puts l text old new → new.seen ≡ old.seen
@@ -96,7 +215,8 @@ put_seen UserId text old new put = ap (λ p. p.seen) put
 put_seen User text old new put = ap (λ p. p.seen) put
 
 -- what is put is good
-pub put_good : (l : Letter) (text : List ℕ) (old new : Parts) → Puts l text old new → contents_fault (byte_of l) text ≡ None
+pub put_good : (l : Letter) (text : List ℕ) (old new : Parts) → Puts l text old new
+    → contents_fault (byte_of l) text ≡ None
 put_good Version text old new put = rw put.0 refl
 put_good Deletion text old new put = rw put.0 refl
 put_good Tags text old new put = rw put.0.read refl

@@ -1,5 +1,7 @@
 -- Which letters stood, and how many.
-use Rattle.std.proofs.Common.{◌≡◌, ◌==◌, ◌||◌, ◌<◌, ◌+◌, ℕ, List, [], ◌∷◌, ◌++◌, Bool, true, false, cond, length, get_or, set, refl, sym, ap, ◌∙◌, arith, inl, inr, lit<, length-append, get_or-set_other, get_or-set_same}
+use Rattle.std.proofs.Common.{◌≡◌, ◌==◌, ◌||◌, ◌<◌, ◌+◌, ℕ, List, [], ◌∷◌, ◌++◌, Bool, true, false, cond, length}
+use Rattle.std.proofs.Common.{get_or, set, refl, sym, ap, ◌∙◌, arith, inl, inr, lit<, length-append, get_or-set_other}
+use Rattle.std.proofs.Common.{get_or-set_same}
 use Rattle.std.specs.List.{count_by}
 use Rattle.std.proofs.lemmas.Bool.{cases_eq}
 use Rattle.std.proofs.lemmas.Bool.Decides.{nat_tests, Decides-eqb}
@@ -8,7 +10,8 @@ use Rattle.std.proofs.lemmas.List.Folds.{list_any-append}
 use Rattle.std.proofs.lemmas.List.Sums.{sum_by-set}
 use Rattle.opl_lexer.specs.Faults.{letter, stands}
 use Rattle.opl_objects.specs.declared.letters.Letter.{Letter}
-use Rattle.opl_objects.specs.declared.letters.Letter.TheVariants.{Version, Deletion, Changeset, Timestamp, UserId, User, Tags, Lon, Lat, Refs, Members}
+use Rattle.opl_objects.specs.declared.letters.Letter.TheVariants.{Version, Deletion, Changeset, Timestamp, UserId, User}
+use Rattle.opl_objects.specs.declared.letters.Letter.TheVariants.{Tags, Lon, Lat, Refs, Members}
 use Rattle.opl_objects.specs.LineLetters.{byte_of, place_of, AreMarked}
 
 -- each letter is a byte of ASCII
@@ -57,7 +60,9 @@ byte_at_place Members = refl
 
 -- the place at which a byte is marked
 abbrev place_at : ℕ → ℕ
-place_at b = cond (b == 118) 0 (cond (b == 100) 1 (cond (b == 99) 2 (cond (b == 116) 3 (cond (b == 105) 4 (cond (b == 117) 5 (cond (b == 84) 6 (cond (b == 120) 7 (cond (b == 121) 8 (cond (b == 78) 9 10)))))))))
+place_at b = cond (b == 118) 0 (cond (b == 100) 1
+    (cond (b == 99) 2 (cond (b == 116) 3 (cond (b == 105) 4
+    (cond (b == 117) 5 (cond (b == 84) 6 (cond (b == 120) 7 (cond (b == 121) 8 (cond (b == 78) 9 10)))))))))
 
 place_at_byte : (l : Letter) → place_at (byte_of l) ≡ place_of l
 place_at_byte Version = refl
@@ -79,37 +84,50 @@ same_place : (l m : Letter) → byte_of l ≡ byte_of m → place_of l ≡ place
 same_place l m e = sym (place_at_byte l) ∙ (ap place_at e ∙ place_at_byte m)
 
 -- one more field
-pub stands_more : (b : ℕ) (fields : List (List ℕ)) (field : List ℕ) → stands b (fields ++ field ∷ []) ≡ (stands b fields || (letter field == b))
+pub stands_more : (b : ℕ) (fields : List (List ℕ)) (field : List ℕ)
+    → stands b (fields ++ field ∷ []) ≡ (stands b fields || (letter field == b))
 stands_more b fields field = list_any-append (λ f. letter f == b) fields (field ∷ []) ∙ grind arith
 
-marked_same : (l m : Letter) (marks : List Bool) (fields : List (List ℕ)) (field : List ℕ) → length marks ≡ 11 → letter field ≡ byte_of l → place_of m ≡ place_of l
+marked_same : (l m : Letter) (marks : List Bool) (fields : List (List ℕ)) (field : List ℕ) → length marks ≡ 11
+    → letter field ≡ byte_of l → place_of m ≡ place_of l
     → get_or (set marks (place_of l) true) (place_of m) false ≡ stands (byte_of m) (fields ++ field ∷ [])
 marked_same l m marks fields field size here same =
     let inside : place_of l < length marks = omega (arith, place_below l) in
     let byte = here ∙ sym (same_byte m l same) in
-    let first : get_or (set marks (place_of l) true) (place_of m) false ≡ true = rw same (get_or-set_same marks (place_of l) true false inside) in
+    let first : get_or (set marks (place_of l) true) (place_of m) false
+    ≡ true = rw same (get_or-set_same marks (place_of l) true false inside) in
     let found : (letter field == byte_of m) ≡ true = (Decides-eqb (letter field) (byte_of m)).1 byte in
     let all : (stands (byte_of m) fields || (letter field == byte_of m)) ≡ true = grind (arith, nat_tests) in
     first ∙ sym (stands_more (byte_of m) fields field ∙ all)
 
-marked_other : (l m : Letter) (marks : List Bool) (fields : List (List ℕ)) (field : List ℕ) → AreMarked fields marks → letter field ≡ byte_of l → ¬ (place_of m ≡ place_of l)
+marked_other : (l m : Letter) (marks : List Bool) (fields : List (List ℕ)) (field : List ℕ) → AreMarked fields marks
+    → letter field ≡ byte_of l → ¬ (place_of m ≡ place_of l)
     → get_or (set marks (place_of l) true) (place_of m) false ≡ stands (byte_of m) (fields ++ field ∷ [])
 marked_other l m marks fields field marked here other =
     let kept = get_or-set_other marks (place_of l) (place_of m) true false other in
     let absent : ¬ (letter field ≡ byte_of m) = λ e. other (same_place m l (sym e ∙ here)) in
-    let all : (stands (byte_of m) fields || (letter field == byte_of m)) ≡ stands (byte_of m) fields = grind (arith, nat_tests) in
+    let all : (stands (byte_of m) fields || (letter field == byte_of m))
+    ≡ stands (byte_of m) fields = grind (arith, nat_tests) in
     kept ∙ (marked.each m ∙ sym (stands_more (byte_of m) fields field ∙ all))
 
-pub marked_more : (l : Letter) (marks : List Bool) (fields : List (List ℕ)) (field : List ℕ) → AreMarked fields marks → letter field ≡ byte_of l → get_or marks (place_of l) false ≡ false
+pub marked_more : (l : Letter) (marks : List Bool) (fields : List (List ℕ)) (field : List ℕ) → AreMarked fields marks
+    → letter field ≡ byte_of l → get_or marks (place_of l) false ≡ false
     → AreMarked (fields ++ field ∷ []) (set marks (place_of l) true)
 marked_more l marks fields field marked here new =
     let size = marked.size in
     let inside : place_of l < length marks = omega (arith, place_below l) in
-    let counted : count_by (λ (mark : Bool). mark) (set marks (place_of l) true) + cond (get_or marks (place_of l) false) 1 0 ≡ count_by (λ (mark : Bool). mark) marks + 1 = sum_by-set (λ mark. cond mark 1 0) marks (place_of l) true false inside in
+    let counted : count_by (λ (mark : Bool). mark) (set marks (place_of l) true) + cond
+    (get_or marks (place_of l) false) 1 0 ≡ count_by (λ (mark : Bool). mark) marks + 1 = sum_by-set
+    (λ mark. cond mark 1 0) marks (place_of l) true false inside in
     record {
       size = length-set marks (place_of l) true ∙ size;
-      each = λ m. elim (cases_eq (place_of m) (place_of l)) [ inl same ↦ marked_same l m marks fields field size here same | inr other ↦ marked_other l m marks fields field marked here other ];
-      count = (let before = marked.count in let absent : cond {A = ℕ} (get_or marks (place_of l) false) 1 0 ≡ 0 = ap (λ (b : Bool). cond {A = ℕ} b 1 0) new in omega (arith, length-append fields (field ∷ [])));
+      each = λ m. elim (cases_eq (place_of m) (place_of l)) [
+        | inl same ↦ marked_same l m marks fields field size here same
+        | inr other
+            ↦ marked_other l m marks fields field marked here other
+      ];
+      count = (let before = marked.count in let absent : cond {A = ℕ} (get_or marks (place_of l) false) 1 0
+          ≡ 0 = ap (λ (b : Bool). cond {A = ℕ} b 1 0) new in omega (arith, length-append fields (field ∷ [])));
     }
 
 -- a field with a letter has a byte

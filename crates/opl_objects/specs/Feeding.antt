@@ -2,8 +2,9 @@
 use Rattle.std.specs.Prelude.{◌≡◌, ◌≤◌, ◌+◌, ◌++◌, ℕ, List, [], ◌∷◌, length, vec_len, Option, Some, None}
 use Rattle.std.specs.List.{AllZip}
 use Rattle.road_base.specs.declared.event.Event.{Event}
+use Rattle.opl_lexer.specs.Letters.{newline}
 use Rattle.opl_lexer.specs.declared.mode.Mode.{Mode}
-use Rattle.opl_lexer.specs.Pieces.{Lacks, pieces}
+use Rattle.opl_lexer.specs.Parts.{Lacks, parts}
 use Rattle.opl_lexer.specs.Lines.{whole_lines}
 use Rattle.opl_lexer.specs.Spelling.{Spells}
 use Rattle.opl_lexer.specs.Reading.{ended_fault, input_fault, object_lines}
@@ -32,8 +33,8 @@ RefusedBy NoMemory mode fed = Unit {0}
 
 -- The bytes are so many whole lines without a fault, which gave these events, and then what is held.
 pub record IsOpen (mode : Mode) (fed held : List ℕ) (events : List Event) (lines : ℕ) : Type 0 where
-  pub parts : pieces 10 fed ≡ whole_lines fed ++ (held ∷ [])
-  pub open_line : Lacks 10 held
+  pub split : parts newline fed ≡ whole_lines fed ++ (held ∷ [])
+  pub open_line : Lacks newline held
   pub count : lines ≡ length (whole_lines fed)
   pub good : ended_fault mode fed ≡ None
   pub said : AllZip (Spells mode) (object_lines (whole_lines fed)) events

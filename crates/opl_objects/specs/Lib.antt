@@ -1,4 +1,5 @@
 pub mod Cutting
+pub mod References
 pub mod LineLetters
 pub mod LineParts
 pub mod Outcomes

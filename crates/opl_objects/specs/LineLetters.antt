@@ -1,8 +1,10 @@
 -- The letters that fields begin with, and which of them stood.
 use Rattle.std.specs.Prelude.{◌≡◌, ℕ, List, Bool, false, length, count_by, slice_index_or}
-use Rattle.opl_lexer.specs.Faults.{stands, version_letter, deletion_letter, tags_letter, lon_letter, lat_letter, refs_letter, members_letter}
+use Rattle.opl_lexer.specs.Faults.{stands, version_letter, deletion_letter, tags_letter, lon_letter, lat_letter}
+use Rattle.opl_lexer.specs.Faults.{refs_letter, members_letter}
 use Rattle.opl_objects.specs.declared.letters.Letter.{Letter}
-use Rattle.opl_objects.specs.declared.letters.Letter.TheVariants.{Version, Deletion, Changeset, Timestamp, UserId, User, Tags, Lon, Lat, Refs, Members}
+use Rattle.opl_objects.specs.declared.letters.Letter.TheVariants.{Version, Deletion, Changeset, Timestamp, UserId, User}
+use Rattle.opl_objects.specs.declared.letters.Letter.TheVariants.{Tags, Lon, Lat, Refs, Members}
 
 -- the byte that the letter is
 abbrev pub byte_of : Letter → ℕ

@@ -9,12 +9,14 @@ use Rattle.opl_lexer.specs.declared.fault.LexError.{LexError}
 use Rattle.opl_lexer.specs.declared.fault.LexError.TheVariants.{Kind, NoMemory as NoRoom}
 use Rattle.opl_lexer.specs.Numbers.{version_of}
 use Rattle.opl_lexer.specs.Contents.{Parsed, Good, Bad, list_of, ref_of, member_of, axis_of, deletion_in}
-use Rattle.opl_lexer.specs.Faults.{version_letter, deletion_letter, tags_letter, lon_letter, lat_letter, refs_letter, members_letter, most_lon, most_lat}
+use Rattle.opl_lexer.specs.Faults.{version_letter, deletion_letter, tags_letter, lon_letter, lat_letter, refs_letter}
+use Rattle.opl_lexer.specs.Faults.{members_letter, most_lon, most_lat}
 use Rattle.opl_lexer.specs.Spelling.{text_behind, AreTags, version_in, is_deleted, HasBody}
 use Rattle.opl_objects.specs.declared.line.LineError.{LineError}
 use Rattle.opl_objects.specs.declared.line.LineError.TheVariants.{Fault, NoMemory}
 use Rattle.opl_objects.specs.declared.letters.Letter.{Letter}
-use Rattle.opl_objects.specs.declared.letters.Letter.TheVariants.{Version, Deletion, Changeset, Timestamp, UserId, User, Tags, Lon, Lat, Refs, Members}
+use Rattle.opl_objects.specs.declared.letters.Letter.TheVariants.{Version, Deletion, Changeset, Timestamp, UserId, User}
+use Rattle.opl_objects.specs.declared.letters.Letter.TheVariants.{Tags, Lon, Lat, Refs, Members}
 use Rattle.opl_objects.specs.declared.parts.Parts.{Parts}
 use Rattle.opl_objects.specs.LineLetters.{AreMarked}
 

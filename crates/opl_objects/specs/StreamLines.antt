@@ -24,5 +24,6 @@ pub record Adds (mode : Mode) (line : List ℕ) (old new : List Event) : Type 0 
 
 -- the line with this number is in fault so, or memory ended
 abbrev pub IsFaultOf : ReadError → Mode → ℕ → List ℕ → Type 0
-IsFaultOf (Fault fault) mode number line = at_line number (line_fault mode (without_return line)) ≡ Some (place_of fault)
+IsFaultOf (Fault fault) mode number line = at_line number (line_fault mode (without_return line))
+    ≡ Some (place_of fault)
 IsFaultOf NoMemory mode number line = Unit {0}

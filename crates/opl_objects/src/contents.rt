@@ -1,15 +1,18 @@
 //! The contents of the fields that hold lists.
-ghost use Rattle.std.specs.Prelude.{◌≡◌, ◌==◌, ◌+◌, ◌||◌, false, min, length, IfOk, IfErr, IfSome, IfNone, drop, option_copied, slice_index};
-ghost use Rattle.opl_lexer.specs.Pieces.{pieces};
-ghost use Rattle.opl_lexer.specs.Numbers.{is_digit};
-ghost use Rattle.opl_lexer.specs.Contents.{items, or_fault, text_of, is_run, is_place, number_in, ref_of, key_of, member_of, list_of};
-ghost use Rattle.opl_objects.specs.Cutting.{other_pieces, is_letter};
+ghost use Rattle.std.specs.Prelude.{◌≡◌, ◌==◌, ◌+◌, ◌||◌, false, min, length, IfOk, IfErr, IfSome, IfNone, drop};
+ghost use Rattle.std.specs.Prelude.{option_copied, slice_index};
+ghost use Rattle.opl_lexer.specs.Letters.{comma, letter_x, letter_y};
+ghost use Rattle.opl_lexer.specs.Parts.{parts};
+ghost use Rattle.opl_lexer.specs.Contents.{items, or_fault, text_of, is_run, is_run_byte as is_run_byte_of, is_place};
+ghost use Rattle.opl_lexer.specs.Contents.{number_in, ref_of, key_of, member_of, list_of};
+ghost use Rattle.opl_objects.specs.Cutting.{other_parts, is_letter};
+ghost use Rattle.opl_objects.specs.References.{BeginsWithRef, BeginsWithoutRef};
 ghost use Rattle.opl_objects.specs.Outcomes.{IsGood, IsBad};
 ghost use Rattle.opl_lexer.specs.declared.fault.FaultKind.TheVariants.{BadRef};
 
 use crate::cut::at_first;
 pub use crate::tag_list::tags;
-use opl_lexer::{FaultKind, LexError, unescape, whole};
+use opl_lexer::{FaultKind, LexError, front_number, unescape, whole};
 use road_base::{Key, Member, Members, NodeId, Refs, RelationId, Text, WayId};
 use std::alloc::Global;
 
@@ -26,7 +29,7 @@ const BAD_MEMBER: LexError = LexError::Kind(FaultKind::BadMember);
 /// How many commas stand in a text.
 #[inline]
 fn commas(text: &str) -> usize
-    ensures { result + 1 ≡ length (pieces 44 text.now) }
+    ensures { result + 1 ≡ length (parts comma text.now) }
 {
     let bytes = text.as_bytes();
     let mut count = 0usize;
@@ -56,7 +59,7 @@ pub fn room(contents: &str) -> usize
 /// A list's text where it has an item.
 #[inline]
 pub fn first_items(contents: &str) -> Option<&str>
-    ensures { other_pieces 44 (option_copied result) ≡ items contents.now }
+    ensures { other_parts comma (option_copied result) ≡ items contents.now }
 {
     if contents.is_empty() {
         return None;
@@ -73,17 +76,15 @@ pub fn text(alloc: Global, raw: &str) -> Result<Text, LexError>
     if escape.is_none() {
         return Ok(Text::from_string(String::from_str(alloc, plain)?));
     }
-    let mut out = String::new(alloc);
-    match unescape(raw, &mut out) {
-        Ok(()) => Ok(Text::from_string(out)),
-        Err(error) => Err(error),
-    }
+    let mut out = String::with_capacity(alloc, raw.len())?;
+    unescape(raw, &mut out)?;
+    Ok(Text::from_string(out))
 }
 
 /// Whether a byte is a digit, a point or a minus sign.
 #[inline]
 fn is_run_byte(byte: u8) -> bool
-    ensures { result ≡ (is_digit byte || ((byte == 46) || (byte == 45))) }
+    ensures { result ≡ is_run_byte_of byte }
 {
     byte.is_ascii_digit() || byte == b'.' || byte == b'-'
 }
@@ -103,7 +104,7 @@ fn is_run(text: &str) -> bool
 
 /// Whether two runs stand here, a `y` between them.
 fn is_place(text: &str) -> bool
-    ensures { result ≡ is_place (pieces 121 text.now) }
+    ensures { result ≡ is_place (parts letter_y text.now) }
 {
     let (x, behind) = at_first(text, b'y');
     let Some(behind) = behind else {
@@ -119,7 +120,7 @@ fn is_place(text: &str) -> bool
 /// A number with a place behind it that is passed over, or alone.
 #[inline(never)]
 fn number_before_place(text: &str) -> Option<i64>
-    ensures { result ≡ number_in (pieces 120 text.now) }
+    ensures { result ≡ number_in (parts letter_x text.now) }
 {
     let (number, behind) = at_first(text, b'x');
     let Some(behind) = behind else {
@@ -138,7 +139,7 @@ fn number_before_place(text: &str) -> Option<i64>
 /// A number alone, or with a place behind it that is passed over.
 #[inline]
 fn number(text: &str) -> Option<i64>
-    ensures { result ≡ number_in (pieces 120 text.now) }
+    ensures { result ≡ number_in (parts letter_x text.now) }
 {
     let alone = whole(text);
     if alone.is_some() {
@@ -150,8 +151,8 @@ fn number(text: &str) -> Option<i64>
 /// The first byte where it is ASCII, and the text behind it.
 #[inline]
 fn letter(text: &str) -> Option<(u8, &str)>
-    ensures some { IfSome result (λ parts. slice_index text.now 0 ≡ parts.0) }
-    ensures rest { IfSome result (λ parts. parts.1.now ≡ drop 1 text.now) }
+    ensures some { IfSome result (λ found. slice_index text.now 0 ≡ found.0) }
+    ensures rest { IfSome result (λ found. found.1.now ≡ drop 1 text.now) }
     ensures none { IfNone result (is_letter (slice_index text.now 0) ≡ false) }
 {
     let bytes = text.as_bytes();
@@ -162,24 +163,57 @@ fn letter(text: &str) -> Option<(u8, &str)>
 }
 
 /// A reference: `n` and a node's number, maybe with a place behind it.
-#[inline]
+#[inline(never)]
 fn reference(item: &str) -> Option<NodeId>
     ensures { or_fault BadRef result ≡ ref_of item.now }
 {
-    let Some((letter, rest)) = letter(item) else {
-        return None;
-    };
+    let (letter, rest) = letter(item)?;
     if letter != b'n' {
         return None;
     }
-    match number(rest) {
-        Some(number) => Some(NodeId(number)),
-        None => None,
-    }
+    Some(NodeId(number(rest)?))
 }
 
-/// The references of a list, in order. `BadRef` comes where one of the first 65,535 items is in fault, and else `TooMany`
-/// where the item behind the 65,535th begins.
+/// The first reference where it is an `n` and digits alone, at most 18 of them, and the text behind the comma behind
+/// it. Most are; each is gone over once.
+#[inline]
+fn plain_reference(text: &str) -> Option<(NodeId, Option<&str>)>
+    ensures { IfSome result (λ found.
+        BeginsWithRef text.now found.0 (other_parts comma (option_copied found.1))) }
+{
+    let (letter, rest) = letter(text)?;
+    if letter != b'n' {
+        return None;
+    }
+    let (number, digits) = front_number(rest)?;
+    let end = digits + 1;
+    let bytes = text.as_bytes();
+    if end == bytes.len() {
+        return Some((NodeId(number), None));
+    }
+    if bytes[end] != b',' {
+        return None;
+    }
+    Some((NodeId(number), Some(&text[end + 1..])))
+}
+
+/// The first reference, and the text behind the comma behind it.
+#[inline]
+fn first_reference(text: &str) -> Option<(NodeId, Option<&str>)>
+    ensures some { IfSome result (λ found.
+        BeginsWithRef text.now found.0 (other_parts comma (option_copied found.1))) }
+    ensures none { IfNone result (BeginsWithoutRef text.now) }
+{
+    let plain = plain_reference(text);
+    if plain.is_some() {
+        return plain;
+    }
+    let (item, behind) = at_first(text, b',');
+    Some((reference(item)?, behind))
+}
+
+/// The references of a list, in order. `BadRef` comes where one of the first 65,535 items is in fault, and else
+/// `TooMany` where the item behind the 65,535th begins.
 pub fn refs(alloc: Global, contents: &str) -> Result<Refs, LexError>
     ensures ok { IfOk result (IsGood (list_of ref_of contents.now)) }
     ensures err { IfErr result (IsBad (list_of ref_of contents.now)) }
@@ -190,8 +224,7 @@ pub fn refs(alloc: Global, contents: &str) -> Result<Refs, LexError>
         if list.len() == MOST_ITEMS {
             return Err(TOO_MANY);
         }
-        let (item, behind) = at_first(rest, b',');
-        let Some(id) = reference(item) else {
+        let Some((id, behind)) = first_reference(rest) else {
             return Err(BAD_REF);
         };
         list.push(id)?;
@@ -205,12 +238,8 @@ pub fn refs(alloc: Global, contents: &str) -> Result<Refs, LexError>
 pub fn key(text: &str) -> Option<Key>
     ensures { result ≡ key_of text.now }
 {
-    let Some((letter, number)) = letter(text) else {
-        return None;
-    };
-    let Some(number) = whole(number) else {
-        return None;
-    };
+    let (letter, number) = letter(text)?;
+    let number = whole(number)?;
     match letter {
         b'n' => Some(Key::Node(NodeId(number))),
         b'w' => Some(Key::Way(WayId(number))),
@@ -231,10 +260,8 @@ fn member(alloc: Global, item: &str) -> Result<Member, LexError>
     let Some(item) = key(front) else {
         return Err(BAD_MEMBER);
     };
-    match text(alloc, role) {
-        Ok(role) => Ok(Member { item, role }),
-        Err(error) => Err(error),
-    }
+    let role = text(alloc, role)?;
+    Ok(Member { item, role })
 }
 
 /// The members of a list, in order. The fault is that of the first item in fault, or `TooMany` where the item behind
@@ -250,11 +277,7 @@ pub fn members(alloc: Global, contents: &str) -> Result<Members, LexError>
             return Err(TOO_MANY);
         }
         let (item, behind) = at_first(rest, b',');
-        let member = match member(alloc, item) {
-            Ok(member) => member,
-            Err(error) => return Err(error),
-        };
-        list.push(member)?;
+        list.push(member(alloc, item)?)?;
         next = behind;
     }
     Ok(Members::from_list(list))

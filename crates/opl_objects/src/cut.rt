@@ -1,13 +1,13 @@
 //! Where a text is cut.
 ghost use Rattle.std.specs.Prelude.{◌≡◌, ◌∷◌, ◌<◌, IfNone, IfSome, option_copied};
-ghost use Rattle.opl_lexer.specs.Pieces.{pieces, Lacks, IsCutAt};
-ghost use Rattle.opl_objects.specs.Cutting.{other_pieces};
+ghost use Rattle.opl_lexer.specs.Parts.{parts, Lacks, IsCutAt};
+ghost use Rattle.opl_objects.specs.Cutting.{other_parts};
 
 /// The text before the first such byte, and the text behind it where there is one.
 #[inline]
 pub fn at_first(text: &str, stop: u8) -> (&str, Option<&str>)
     requires { stop < 128 }
-    ensures pieces { pieces stop text.now ≡ result.0.now ∷ other_pieces stop (option_copied result.1) }
+    ensures parts { parts stop text.now ≡ result.0.now ∷ other_parts stop (option_copied result.1) }
     ensures cut { IfSome result.1 (λ rest. IsCutAt stop text.now result.0.now rest.now) }
     ensures whole { IfNone result.1 (result.0.now ≡ text.now) }
     ensures lacks { IfNone result.1 (Lacks stop text.now) }

@@ -5,8 +5,8 @@ ghost use Rattle.opl_objects.specs.declared.fault.ReadError.TheVariants.{NoMemor
 use opl_lexer::FaultKind;
 use std::alloc::{AllocError, AllocFailed};
 
-/// Where a fault stands, and what it is. Lines are counted from 1, all of them. The object's own field is 1, and field 0
-/// stands for the whole line.
+/// Where a fault stands, and what it is. Lines are counted from 1, all of them. The object's own field is 1, and
+/// field 0 stands for the whole line.
 #[derive(Clone, Copy, PartialEq, Eq, Debug)]
 pub struct Fault {
     pub line: u64,

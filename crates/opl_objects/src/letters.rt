@@ -1,5 +1,6 @@
 //! The letters that fields begin with.
-ghost use Rattle.std.specs.Prelude.{◌≡◌, ◌==◌, codes, false, true, is_some, replicate, slice_index_or, slice_set, IfSome};
+ghost use Rattle.std.specs.Prelude.{◌≡◌, ◌==◌, codes, false, true, is_some, replicate, slice_index_or, slice_set};
+ghost use Rattle.std.specs.Prelude.{IfSome};
 ghost use Rattle.std.specs.List.{list_any};
 ghost use Rattle.opl_lexer.specs.Faults.{letters_of};
 ghost use Rattle.opl_objects.specs.LineLetters.{byte_of, place_of};

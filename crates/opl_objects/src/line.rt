@@ -1,6 +1,7 @@
 //! One line.
 ghost use Rattle.std.specs.Prelude.{◌≡◌, ◌==◌, ◌||◌, None, Some, IfOk, IfErr, codes};
 ghost use Rattle.std.specs.List.{list_any};
+ghost use Rattle.opl_lexer.specs.Letters.{hash_sign, letter_c};
 ghost use Rattle.opl_lexer.specs.Contents.{key_of};
 ghost use Rattle.opl_lexer.specs.Faults.{fault_behind};
 ghost use Rattle.opl_lexer.specs.Left.{fields_left};
@@ -60,9 +61,7 @@ fn read_object(
         return Err(BAD_NUMBER);
     };
     let mut parts = Parts::new(alloc);
-    if let Err(error) = parts.read(alloc, key, others) {
-        return Err(error);
-    }
+    parts.read(alloc, key, others)?;
     if mode == Mode::Change && !parts.has_version() {
         return Err(NO_VERSION);
     }
@@ -72,7 +71,7 @@ fn read_object(
 /// Whether a line that begins so is a note or a changeset.
 #[inline]
 fn is_passed(byte: u8) -> bool
-    ensures { result ≡ ((byte == 35) || (byte == 99)) }
+    ensures { result ≡ ((byte == hash_sign) || (byte == letter_c)) }
 {
     byte == b'#' || byte == b'c'
 }
@@ -101,10 +100,7 @@ fn read_text(alloc: Global, mode: Mode, line: &str) -> Result<Option<Event>, Lin
     if !is_object(first) {
         return Err(UNKNOWN_LINE);
     }
-    match read_object(alloc, mode, object, others) {
-        Ok(event) => Ok(Some(event)),
-        Err(error) => Err(error),
-    }
+    Ok(Some(read_object(alloc, mode, object, others)?))
 }
 
 /// The event of a line without its newline and carriage return, or None where the line is passed over.

@@ -1,6 +1,7 @@
-//! The lines of a piece of the input.
+//! The lines of a part of the input.
 ghost use Rattle.std.specs.Prelude.{◌≡◌, ◌≤◌, ◌+◌, ◌++◌, [], length, vec_len, IfSome, IfNone, IfErr, OnOk};
-ghost use Rattle.opl_lexer.specs.Pieces.{Lacks, IsCutAt};
+ghost use Rattle.opl_lexer.specs.Letters.{newline};
+ghost use Rattle.opl_lexer.specs.Parts.{Lacks, IsCutAt};
 ghost use Rattle.opl_lexer.specs.Lines.{without_return};
 ghost use Rattle.opl_objects.specs.StreamLines.{Adds, IsFaultOf};
 
@@ -13,8 +14,8 @@ use road_base::Event;
 /// The bytes before the first newline, and those behind it.
 #[inline]
 pub fn first_line(bytes: &[u8]) -> Option<(&[u8], &[u8])>
-    ensures some { IfSome result (λ parts. IsCutAt 10 bytes.now parts.0.now parts.1.now) }
-    ensures none { IfNone result (Lacks 10 bytes.now) }
+    ensures some { IfSome result (λ parts. IsCutAt newline bytes.now parts.0.now parts.1.now) }
+    ensures none { IfNone result (Lacks newline bytes.now) }
 {
     let Some(at) = memchr(b'\n', bytes) else {
         return None;
@@ -47,9 +48,7 @@ pub fn take_line(
 {
     match read_line(*events.allocator(), mode, bare_line(line)) {
         Ok(Some(event)) => {
-            if events.push(event).is_err() {
-                return Err(ReadError::NoMemory);
-            }
+            events.push(event)?;
             Ok(())
         }
         Ok(None) => Ok(()),
@@ -78,9 +77,7 @@ pub fn end_line(
     if held.is_empty() {
         return take_line(mode, number, line, events);
     }
-    if held.extend_from_slice(line).is_err() {
-        return Err(ReadError::NoMemory);
-    }
+    held.extend_from_slice(line)?;
     let taken = take_line(mode, number, held.as_slice(), events);
     held.clear();
     taken

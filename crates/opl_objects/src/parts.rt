@@ -5,10 +5,13 @@ ghost use Rattle.opl_lexer.specs.declared.fault.FaultKind.{FaultKind};
 ghost use Rattle.opl_lexer.specs.declared.fault.FaultKind.TheVariants.{BadNumber};
 ghost use Rattle.opl_lexer.specs.Numbers.{version_of};
 ghost use Rattle.opl_lexer.specs.Contents.{or_fault, axis_of, deletion_in};
-ghost use Rattle.opl_lexer.specs.Faults.{letter as letter_byte, stands, version_letter, contents_fault, field_fault, first_bad, at_field, most_lon, most_lat};
+ghost use Rattle.opl_lexer.specs.Faults.{letter as letter_byte, stands, version_letter, contents_fault, field_fault};
+ghost use Rattle.opl_lexer.specs.Faults.{first_bad, at_field, most_lon, most_lat};
 ghost use Rattle.opl_lexer.specs.Left.{fields_left};
 ghost use Rattle.opl_lexer.specs.Spelling.{HasPlace, IsVisible, HasBody, is_deleted};
-ghost use Rattle.opl_objects.specs.declared.letters.Letter.TheVariants.{Version, Deletion, Tags as TagsLetter, Lon, Lat, Refs as RefsLetter, Members as MembersLetter};
+ghost use Rattle.opl_objects.specs.declared.letters.Letter.TheVariants.{Version, Deletion, Tags as TagsLetter, Lon};
+ghost use Rattle.opl_objects.specs.declared.letters.Letter.TheVariants.{Lat, Refs as RefsLetter};
+ghost use Rattle.opl_objects.specs.declared.letters.Letter.TheVariants.{Members as MembersLetter};
 ghost use Rattle.opl_objects.specs.Outcomes.{IsGood, IsBad};
 ghost use Rattle.opl_objects.specs.LineLetters.{byte_of};
 ghost use Rattle.opl_objects.specs.LineParts.{IsFault, IsFaultAt, IsAxis, AreRead, Puts, IsEvent};
@@ -45,10 +48,7 @@ fn version_number(contents: &str) -> Result<u32, LexError>
     ensures ok { IfOk result (IsGood (or_fault BadNumber (version_of contents.now))) }
     ensures err { IfErr result (IsBad (or_fault BadNumber (version_of contents.now))) }
 {
-    match version(contents) {
-        Some(number) => Ok(number),
-        None => Err(LexError::Kind(FaultKind::BadNumber)),
-    }
+    version(contents).ok_or(LexError::Kind(FaultKind::BadNumber))
 }
 
 /// Whether the object is deleted.
@@ -73,10 +73,11 @@ fn axis(contents: &str, limit: i32) -> Result<Option<i32>, LexError>
     if contents.is_empty() {
         return Ok(None);
     }
-    match coordinate(contents, limit) {
-        Some(units) => Ok(Some(units)),
-        None => Err(LexError::Kind(FaultKind::BadCoordinate)),
+    let units = coordinate(contents, limit);
+    if units.is_none() {
+        return Err(LexError::Kind(FaultKind::BadCoordinate));
     }
+    Ok(units)
 }
 
 /// The place with these coordinates, where both are there.

@@ -1,6 +1,8 @@
-//! Lines that come in pieces.
-ghost use Rattle.std.specs.Prelude.{◌≡◌, ◌<◌, ◌≤◌, ◌+◌, ◌^◌, ◌++◌, [], ◌∷◌, ℕ, List, length, vec_len, None, Some, IfOk, IfErr, OnOk};
-ghost use Rattle.opl_lexer.specs.Pieces.{Lacks};
+//! Lines that come in parts.
+ghost use Rattle.std.specs.Prelude.{◌≡◌, ◌<◌, ◌≤◌, ◌+◌, ◌^◌, ◌++◌, [], ◌∷◌, ℕ, List, length, vec_len, None, Some, IfOk};
+ghost use Rattle.std.specs.Prelude.{IfErr, OnOk};
+ghost use Rattle.opl_lexer.specs.Letters.{newline};
+ghost use Rattle.opl_lexer.specs.Parts.{Lacks};
 ghost use Rattle.opl_lexer.specs.Reading.{ReadAll, ended_fault};
 
 use crate::fault::ReadError;
@@ -9,7 +11,7 @@ use opl_lexer::Mode;
 use road_base::Event;
 use std::alloc::Global;
 
-/// A reader of OPL text, fed in pieces of any size.
+/// A reader of OPL text, fed in parts of any size.
 #[derive(Drop)]
 pub struct Reader {
     mode: Mode,
@@ -42,32 +44,30 @@ impl Reader {
         }
     }
 
-    /// Takes the next piece of the input; fewer than 2^64 bytes may come in all. A fault comes exactly where a line that
+    /// Takes the next part of the input; fewer than 2^64 bytes may come in all. A fault comes exactly where a line that
     /// has ended is in fault: the first one. A reader that has answered a fault or `NoMemory` answers it from then on.
-    pub fn feed(&mut self, piece: &[u8]) -> Result<(), ReadError>
-        requires { counted self.old + length piece.now < 2 ^ 64 }
+    pub fn feed(&mut self, part: &[u8]) -> Result<(), ReadError>
+        requires { counted self.old + length part.now < 2 ^ 64 }
         ensures read { (mode : Mode) (fed : List ℕ)
             → HasRead mode fed self.old
-            → HasRead mode (fed ++ piece.now) self.new }
+            → HasRead mode (fed ++ part.now) self.new }
         ensures ok { OnOk result ((mode : Mode) (fed : List ℕ)
             → HasRead mode fed self.old
-            → ended_fault mode (fed ++ piece.now) ≡ None) }
+            → ended_fault mode (fed ++ part.now) ≡ None) }
         ensures err { IfErr result (λ e. (mode : Mode) (fed : List ℕ)
             → HasRead mode fed self.old
-            → EndedBy e mode (fed ++ piece.now)) }
+            → EndedBy e mode (fed ++ part.now)) }
         ensures kept { IfErr result (λ e. answered self.new ≡ Some e) }
         ensures going { OnOk result (answered self.new ≡ None) }
         ensures again { (e : ReadError) → answered self.old ≡ Some e → result ≡ Err e }
-        ensures counted { counted self.new ≤ counted self.old + length piece.now }
+        ensures counted { counted self.new ≤ counted self.old + length part.now }
     {
         if let Some(error) = self.error {
             return Err(error);
         }
-        let mut rest = piece;
+        let mut rest = part;
         while let Some((line, behind)) = first_line(rest) {
-            if let Err(error) = self.end_line(line) {
-                return Err(error);
-            }
+            self.end_line(line)?;
             rest = behind;
         }
         self.hold(rest)
@@ -92,10 +92,8 @@ impl Reader {
             return Ok(events);
         }
         let number = self.lines + 1;
-        match take_line(self.mode, number, self.held.as_slice(), &mut events) {
-            Ok(()) => Ok(events),
-            Err(error) => Err(error),
-        }
+        take_line(self.mode, number, self.held.as_slice(), &mut events)?;
+        Ok(events)
     }
 
     /// Ends a line with these bytes.
@@ -104,8 +102,8 @@ impl Reader {
         requires room { counted self.old + length line.now + 1 < 2 ^ 64 }
         ensures read { (mode : Mode) (fed : List ℕ)
             → HasRead mode fed self.old
-            → Lacks 10 line.now
-            → HasRead mode (fed ++ (line.now ++ (10 ∷ []))) self.new }
+            → Lacks newline line.now
+            → HasRead mode (fed ++ (line.now ++ (newline ∷ []))) self.new }
         ensures kept { IfErr result (λ e. answered self.new ≡ Some e) }
         ensures going { OnOk result (answered self.new ≡ None) }
         ensures counted { counted self.new ≤ counted self.old + length line.now + 1 }
@@ -125,7 +123,7 @@ impl Reader {
         requires room { counted self.old + length part.now < 2 ^ 64 }
         ensures read { (mode : Mode) (fed : List ℕ)
             → HasRead mode fed self.old
-            → Lacks 10 part.now
+            → Lacks newline part.now
             → HasRead mode (fed ++ part.now) self.new }
         ensures kept { IfErr result (λ e. answered self.new ≡ Some e) }
         ensures going { OnOk result (answered self.new ≡ None) }

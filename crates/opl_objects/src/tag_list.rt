@@ -22,18 +22,12 @@ fn tag(alloc: Global, item: &str) -> Result<(Text, Text), LexError>
     ensures err { IfErr result (IsBad (tag_of item.now)) }
 {
     let (key, behind) = at_first(item, b'=');
-    let key = match text(alloc, key) {
-        Ok(key) => key,
-        Err(error) => return Err(error),
-    };
+    let key = text(alloc, key)?;
     let Some(behind) = behind else {
         return Err(BAD_TAG);
     };
     let (value, more) = at_first(behind, b'=');
-    let value = match text(alloc, value) {
-        Ok(value) => value,
-        Err(error) => return Err(error),
-    };
+    let value = text(alloc, value)?;
     if more.is_some() {
         return Err(BAD_TAG);
     }
@@ -53,11 +47,7 @@ fn pairs(alloc: Global, contents: &str) -> Result<Vec<(Text, Text)>, LexError>
             return Err(TOO_MANY);
         }
         let (item, behind) = at_first(rest, b',');
-        let pair = match tag(alloc, item) {
-            Ok(pair) => pair,
-            Err(error) => return Err(error),
-        };
-        list.push(pair)?;
+        list.push(tag(alloc, item)?)?;
         next = behind;
     }
     Ok(list)
@@ -82,15 +72,9 @@ pub fn tags(alloc: Global, contents: &str) -> Result<Tags, LexError>
     ensures ok { IfOk result (AreTags contents.now) }
     ensures err { IfErr result (IsBad (list_of tag_of contents.now)) }
 {
-    let list = match pairs(alloc, contents) {
-        Ok(list) => list,
-        Err(error) => return Err(error),
-    };
+    let list = pairs(alloc, contents)?;
     if Tags::are_ascending(&list) {
         return Ok(Tags::from_list(list));
     }
-    match in_order(list) {
-        Ok(list) => Ok(Tags::from_list(list)),
-        Err(error) => Err(error),
-    }
+    Ok(Tags::from_list(in_order(list)?))
 }

@@ -2,7 +2,7 @@ use Rattle.std.proofs.Common.{length}
 use denote.Text.{Utf8}
 use denote.Shadow.{shadow}
 use Rattle.std.specs.String.{string_bytes}
-use Rattle.opl_lexer.proofs.Unescaping.{HasRead}
+use Rattle.opl_lexer.proofs.EscapeSteps.{HasRead}
 use Rattle.opl_lexer.proofs.escapes.append.Given as goal
 
 abbrev pub invariant-loop-front : goal.invariant-loop-front

@@ -13,7 +13,8 @@ pub returns : goal.returns
 returns c =
     let code = c.args.code.now in
     let read = rw c.in-Some.is at c.code_value.ensures in
-    SomeIff-change c.from_u32.result (scalar c.in-Some.value ≡ true) (IsTrue (is_code code)) c.in-Some.value (digits_value 16 code) c.from_u32.ensures.value
+    SomeIff-change c.from_u32.result (scalar c.in-Some.value ≡ true) (IsTrue (is_code code)) c.in-Some.value
+    (digits_value 16 code) c.from_u32.ensures.value
     (λ s. code_from_parts code read.0 (rw read.1 at s))
     (λ e. rw read.1 (code_parts code e).1)
     read.1

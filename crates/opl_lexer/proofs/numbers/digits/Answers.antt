@@ -1,19 +1,24 @@
 use Rattle.std.proofs.Common.{arith, rules, ◌<◌, ◌^◌, length}
-use Rattle.std.specs.Str.Parse.{digits_value}
-use Rattle.opl_lexer.proofs.Reading.{HasRead-digit, HasRead-least, HasRead-end}
+use Rattle.opl_lexer.proofs.Decimals.{AllDigits-at}
+use Rattle.opl_lexer.proofs.FrontDigits.{front_whole, front_small}
 use Rattle.opl_lexer.proofs.numbers.digits.Goals as goal
 
--- no digit, or a number that is too large already
-pub returns-in_default : goal.returns-in_default
-returns-in_default c = λ p.
-    let read = c.loop-at.invariant in
-    let digit = HasRead-digit c.args.bytes.now c.loop-at.at c.loop-at.value read c.loop-at-test.true p.0.1 in
-    let least = HasRead-least c.args.bytes.now c.loop-at.at c.loop-at.value read c.loop-at-test.true in
-    let bound : digits_value 10 c.args.bytes.now < 2 ^ 64 = p.1 in
-    c.in_default.ensures (digit, omega arith)
+pub returns-then-count-bytes : goal.returns-then-count-bytes
+returns-then-count-bytes c = λ p.
+    let bytes = c.args.bytes.now in
+    let count = c.digits_in_front-value.result.1 in
+    let inside : count < length bytes = omega arith in
+    let digit = AllDigits-at bytes count p.0.1 inside in
+    let none = c.digits_in_front-value.ensures.stops (omega arith) inside in
+    absurd (omega arith)
 
 pub returns : goal.returns
 returns c =
-    let end = HasRead-end c.args.bytes.now c.loop-at.at c.loop-at.value c.loop-at.invariant (omega arith) in
-    let some : 0 < length c.args.bytes.now = search rules in
-    (((some, end.0), end.2), end.1)
+    let bytes = c.args.bytes.now in
+    let some : 0 < length bytes = search rules in
+    let whole = front_whole bytes c.digits_in_front-value.result.1 c.digits_in_front-value.result.0
+    c.digits_in_front-value.ensures.front (omega arith) in
+    let small = front_small bytes c.digits_in_front-value.result.1 c.digits_in_front-value.result.0
+    c.digits_in_front-value.ensures.front c.digits_in_front-value.ensures.few in
+    let same = whole.1 in
+    (((some, whole.0), omega arith), same)

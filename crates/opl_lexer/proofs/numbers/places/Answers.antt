@@ -1,6 +1,7 @@
 use Rattle.std.proofs.Common.{arith, ◌≡◌, ◌<◌, ◌*◌, ◌-◌, ◌^◌, length, take, drop}
 use Rattle.std.specs.Str.Parse.{AllDigits, IsNumeral, digits_value}
-use Rattle.opl_lexer.proofs.Decimals.{AllDigits-from_index, AllDigits-take, AllDigits-drop, AllDigits-join, AllDigits-at, digits_value-short, scaled, SomeIff-change}
+use Rattle.opl_lexer.proofs.Decimals.{AllDigits-from_index, AllDigits-take, AllDigits-drop, AllDigits-join}
+use Rattle.opl_lexer.proofs.Decimals.{AllDigits-at, digits_value-short, scaled, SomeIff-change}
 use Rattle.opl_lexer.proofs.numbers.places.Goals as goal
 
 pub returns-in_default-clause-value : goal.returns-in_default-clause-value

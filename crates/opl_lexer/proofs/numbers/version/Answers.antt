@@ -11,8 +11,10 @@ IsVersion text = IsNumeral 10 text × (digits_value 10 text < 2 ^ 32)
 
 -- what tells exactly is what the definition tells
 exactly : (text : List ℕ) (o : Option ℕ) → SomeIff o (IsVersion text) (digits_value 10 text) → o ≡ version_of text
-exactly text o h = chosen o (is_numeral text && nat_lt (digits_value 10 text) 4294967296) (IsVersion text) (digits_value 10 text)
-    (Decides-and (is_numeral text) (nat_lt (digits_value 10 text) 4294967296) (decides_numeral text) (Decides-ltb (digits_value 10 text) 4294967296)) h
+exactly text o h = chosen o (is_numeral text && nat_lt (digits_value 10 text) 4294967296) (IsVersion text)
+    (digits_value 10 text)
+    (Decides-and (is_numeral text) (nat_lt (digits_value 10 text) 4294967296) (decides_numeral text)
+    (Decides-ltb (digits_value 10 text) 4294967296)) h
 
 pub returns-in_default : goal.returns-in_default
 returns-in_default c =

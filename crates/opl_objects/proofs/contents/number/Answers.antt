@@ -5,5 +5,6 @@ use Rattle.opl_objects.proofs.contents.number.Goals as goal
 
 pub returns-then-is_some : goal.returns-then-is_some
 returns-then-is_some c =
-    let some : is_some (whole_of c.args.text.now) ≡ true = ap is_some (sym c.whole-alone.ensures) ∙ (sym c.is_some.ensures ∙ c.if-is_some.true) in
+    let some : is_some (whole_of c.args.text.now) ≡ true = ap is_some (sym c.whole-alone.ensures)
+    ∙ (sym c.is_some.ensures ∙ c.if-is_some.true) in
     c.whole-alone.ensures ∙ sym (number_alone c.args.text.now some)

@@ -1,10 +1,10 @@
 use Rattle.opl_objects.proofs.tag_list.tags.Goals as goal
 
-pub returns-in-Ok-in_order-clause-ok : goal.returns-in-Ok-in_order-clause-ok
-returns-in-Ok-in_order-clause-ok c =
-    rw c.from_list-in-Ok-in_order.ensures (record {
-      pairs = c.in-Ok.list.items;
-      read = c.in-Ok.ensures.ok;
-      ascending = c.in-Ok-in_order.ensures.ascending;
-      values = c.in-Ok-in_order.ensures.values;
+pub returns-clause-ok : goal.returns-clause-ok
+returns-clause-ok c =
+    rw c.from_list-2.ensures (record {
+      pairs = c.in_ok-list.list.items;
+      read = c.in_ok-list.ensures.ok;
+      ascending = c.in_ok-in_order.ensures.ascending;
+      values = c.in_ok-in_order.ensures.values;
     })

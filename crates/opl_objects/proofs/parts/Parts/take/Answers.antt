@@ -9,7 +9,8 @@ use Rattle.opl_objects.proofs.parts.Parts.take.Goals as goal
 
 pub returns-in_default-clause-err : goal.returns-in_default-clause-err
 returns-in_default-clause-err c = λ fields read.
-    fault_unknown c.args.key fields c.args.field.now (known_letter c.args.key c.args.field.now _ _ c.first_byte.ensures c.in_default.ensures.known)
+    fault_unknown c.args.key fields c.args.field.now
+    (known_letter c.args.key c.args.field.now _ _ c.first_byte.ensures c.in_default.ensures.known)
 
 pub returns-then-has-clause-err : goal.returns-then-has-clause-err
 returns-then-has-clause-err c = λ fields read.
@@ -25,7 +26,8 @@ returns-clause-read c = λ fields read.
     let l = c.in-Some.letter in
     let here : letter c.args.field.now ≡ byte_of l = sym (c.in-Some.ensures.byte ∙ c.first_byte.ensures) in
     let fresh : stands (byte_of l) fields ≡ false = sym (read.marked.each l) ∙ (sym c.has.ensures ∙ c.if-has.false) in
-    on_ok_weaker c.put.result (read_more l fields c.args.field.now c.behind.result.now c.args.self.now c.put.new.self c.add.new.self read here fresh c.add.ensures c.behind.ensures) c.put.ensures.ok
+    on_ok_weaker c.put.result (read_more l fields c.args.field.now c.behind.result.now c.args.self.now c.put.new.self
+    c.add.new.self read here fresh c.add.ensures c.behind.ensures) c.put.ensures.ok
 
 pub returns-clause-good : goal.returns-clause-good
 returns-clause-good c = λ fields read.

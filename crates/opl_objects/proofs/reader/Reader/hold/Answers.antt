@@ -8,6 +8,9 @@ pub returns-clause-read : goal.returns-clause-read
 returns-clause-read c = λ mode fed read lacks.
     let self = c.args.self.now in
     let grown : c.extend_from_slice.new.self.items ≡ self.held.items ++ c.args.part.now = grind (arith, common_steps) in
-    let longer : vec_len c.extend_from_slice.new.self ≤ vec_len self.held + length c.args.part.now = grind (arith, common_steps) in
-    let held = open_hold mode fed self.held.items c.args.part.now self.events.items self.lines (open_of mode fed self read c.requires.going) lacks in
-    has_open mode (fed ++ c.args.part.now) _ read.mode_is c.requires.going (fits_more fed c.args.part.now (counted self) _ read.fits (omega (arith, longer))) (rw grown held)
+    let longer : vec_len c.extend_from_slice.new.self ≤ vec_len self.held + length c.args.part.now = grind
+    (arith, common_steps) in
+    let held = open_hold mode fed self.held.items c.args.part.now self.events.items self.lines
+    (open_of mode fed self read c.requires.going) lacks in
+    has_open mode (fed ++ c.args.part.now) _ read.mode_is c.requires.going
+    (fits_more fed c.args.part.now (counted self) _ read.fits (omega (arith, longer))) (rw grown held)

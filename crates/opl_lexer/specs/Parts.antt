@@ -2,9 +2,9 @@
 use Rattle.std.specs.Prelude.{◌≡◌, ◌==◌, ◌++◌, ◌∷◌, ℕ, List, All, false}
 use Rattle.std.specs.List.{slice_split}
 
--- the pieces between the bytes that stop: always one more than these
-abbrev pub pieces : ℕ → List ℕ → List (List ℕ)
-pieces stop bs = slice_split (λ b. b == stop) bs
+-- the parts between the bytes that stop: always one more than these
+abbrev pub parts : ℕ → List ℕ → List (List ℕ)
+parts stop bs = slice_split (λ b. b == stop) bs
 
 -- the byte stands nowhere among these
 abbrev pub Lacks : ℕ → List ℕ → Type 0

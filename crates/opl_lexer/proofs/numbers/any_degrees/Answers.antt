@@ -1,12 +1,14 @@
 use Rattle.std.proofs.Common.{arith, ◌<◌, ◌^◌}
 use Rattle.std.specs.Str.Parse.{digits_value}
 use Rattle.opl_lexer.proofs.Numerals.{units_large, units_none, units_whole, units_behind}
-use Rattle.opl_lexer.proofs.numbers.degrees.Goals as goal
+use Rattle.opl_lexer.proofs.numbers.any_degrees.Goals as goal
 
 pub returns-in_default-clause-none : goal.returns-in_default-clause-none
 returns-in_default-clause-none c =
     let first = c.at_point.ensures.first in
-    rw first.1 (units_large c.at_point.result.0.now first.0 (λ numeral. let huge : digits_value 10 c.at_point.result.0.now < 2 ^ 64 → ⊥ = λ h. c.in_default.ensures (numeral, h) in omega arith))
+    rw first.1 (units_large c.at_point.result.0.now first.0
+    (λ numeral. let huge : digits_value 10 c.at_point.result.0.now < 2 ^ 64
+    → ⊥ = λ h. c.in_default.ensures (numeral, h) in omega arith))
 
 pub returns-then-whole-gt1000-clause-none : goal.returns-then-whole-gt1000-clause-none
 returns-then-whole-gt1000-clause-none c =
@@ -26,4 +28,5 @@ returns-in_default-places-clause-none c =
 pub returns-clause-found : goal.returns-clause-found
 returns-clause-found c =
     let cut = rw c.in-Some-behind.is at c.at_point.ensures.cut in
-    rw cut (units_behind c.at_point.result.0.now c.in-Some-behind.behind.now c.in-Some.whole c.in-Some-places.behind c.in-Some.ensures.0.0 c.in-Some.ensures.1 c.in-Some-places.ensures.value.0 c.in-Some-places.ensures.value.1)
+    rw cut (units_behind c.at_point.result.0.now c.in-Some-behind.behind.now c.in-Some.whole c.in-Some-places.behind
+    c.in-Some.ensures.0.0 c.in-Some.ensures.1 c.in-Some-places.ensures.value.0 c.in-Some-places.ensures.value.1)
