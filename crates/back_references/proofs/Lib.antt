@@ -1,5 +1,5 @@
 pub mod Members
 pub mod Lookups
 pub mod Parts
-pub mod Sorting
-pub mod Naming
+pub mod SortedPairs
+pub mod NamedObjects

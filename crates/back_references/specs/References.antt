@@ -8,7 +8,8 @@ use Rattle.road_base.specs.declared.ids.Key.{Key}
 use Rattle.road_base.specs.declared.ids.Key.TheVariants.{Node as NodeKey, Way as WayKey, Relation as RelationKey}
 use Rattle.road_base.specs.declared.objects.Member.{Member}
 use Rattle.road_base.specs.declared.objects.Body.{Body}
-use Rattle.road_base.specs.declared.objects.Body.TheVariants.{Node as NodeBody, Way as WayBody, Relation as RelationBody, Deleted}
+use Rattle.road_base.specs.declared.objects.Body.TheVariants.{Node as NodeBody, Way as WayBody}
+use Rattle.road_base.specs.declared.objects.Body.TheVariants.{Relation as RelationBody, Deleted}
 use Rattle.road_base.specs.declared.event.Event.{Event}
 use Rattle.road_model.specs.Rules.{has_highway, is_restriction}
 

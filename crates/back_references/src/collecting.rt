@@ -1,7 +1,8 @@
 //! The references that objects hold, as pairs.
 ghost use Rattle.std.specs.Prelude.{◌≡◌, ◌++◌, IfOk, OnOk, map};
 ghost use Rattle.std.specs.List.{flat_map};
-ghost use Rattle.back_references.specs.References.{highway_nodes, rule_members, way_references, node_rules, way_rules, node_pair, way_pair};
+ghost use Rattle.back_references.specs.References.{highway_nodes, rule_members, way_references, node_rules, way_rules};
+ghost use Rattle.back_references.specs.References.{node_pair, way_pair};
 
 use road_base::{Body, Event, Key, Member, NoMemory, NodeId, RelationId, WayId};
 use std::alloc::Global;

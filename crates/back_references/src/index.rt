@@ -1,5 +1,6 @@
 //! Pairs of a key and a value, in which the values of a key lie side by side.
-ghost use Rattle.std.specs.Prelude.{◌≡◌, ◌↔◌, ◌<◌, ◌≤◌, ◌-◌, [], true, false, IfOk, IsTrue, Contains, length, map, take, drop, slice_index_or};
+ghost use Rattle.std.specs.Prelude.{◌≡◌, ◌↔◌, ◌<◌, ◌≤◌, ◌-◌, [], true, false, IfOk, IsTrue, Contains, length, map};
+ghost use Rattle.std.specs.Prelude.{take, drop, slice_index_or};
 ghost use Rattle.std.specs.List.{AllWithin};
 ghost use Rattle.std.specs.List.Sorted.{IsPartitionedBy, IsPartitionPoint};
 ghost use Rattle.std.specs.Ordering.{is_le, is_lt};
@@ -7,8 +8,7 @@ ghost use Rattle.std.specs.FinMap.{IsAntisymmetric};
 ghost use Rattle.road_model.specs.Orders.{Lists, rises};
 ghost use Rattle.back_references.specs.Pairs.{pair_cmp};
 
-use object_store::{Numbered, Ranges};
-use road_base::NoMemory;
+use road_base::{NoMemory, Numbered, Ranges};
 use std::alloc::{AllocError, Global};
 use std::marker::Model;
 
@@ -31,7 +31,8 @@ impl<K: Ord + Copy + Numbered, V: Ord + Copy> Model for Index<K, V> {
 
     ghost view = { λ i. zip i.keys.items i.values.items };
 
-    ghost invariant = { λ i. (length i.values.items ≡ length i.keys.items) × IsTrue (rises (pair_cmp K.cmp V.cmp) (zip i.keys.items i.values.items)) };
+    ghost invariant = { λ i. (length i.values.items ≡ length i.keys.items)
+        × IsTrue (rises (pair_cmp K.cmp V.cmp) (zip i.keys.items i.values.items)) };
 }
 
 impl<K: Ord + Copy + Numbered, V: Ord + Copy> Index<K, V> {
@@ -69,20 +70,8 @@ impl<K: Ord + Copy + Numbered, V: Ord + Copy> Index<K, V> {
         requires { IsAntisymmetric K.cmp }
         ensures { Lists (λ v. v) V.cmp (λ v. Contains self.now (key, v)) result.now }
     {
-        match self.ranges.part_of(key.number()) {
-            Some((from, to)) => self.at_near(key, from, to),
-            None => self.at_near(key, 0, self.keys.len()),
-        }
-    }
-
-    /// The values of a key, ascending. The key is searched for between the two positions alone where those are around its
-    /// place, and else among all keys.
-    fn at_near(&self, key: K, from: usize, to: usize) -> &[V]
-        requires { IsAntisymmetric K.cmp }
-        ensures { Lists (λ v. v) V.cmp (λ v. Contains self.now (key, v)) result.now }
-    {
         let keys = self.keys.as_slice();
-        let low = first_near(keys, key, from, to);
+        let low = first_near(keys, key, self.ranges.place(keys, key.number()));
         let high = end_from(keys, low, key);
         part(self.values.as_slice(), low, high)
     }
@@ -91,21 +80,24 @@ impl<K: Ord + Copy + Numbered, V: Ord + Copy> Index<K, V> {
 /// The first position at which a key stands that isn't below this one.
 fn first_from<K: Ord + Copy>(keys: &[K], key: K) -> usize
     requires { IsPartitionedBy (λ a. is_lt (K.cmp a key)) keys.now }
-    ensures point { IsPartitionPoint (λ a. is_lt (K.cmp a key) ≡ true) (λ a. is_lt (K.cmp a key) ≡ false) keys.now result }
+    ensures point { IsPartitionPoint (λ a. is_lt (K.cmp a key) ≡ true) (λ a. is_lt (K.cmp a key) ≡ false) keys.now
+        result }
     ensures bound { result ≤ length keys.now }
 {
     keys.partition_point(|other| other.cmp(&key).is_lt())
 }
 
-/// The first position at which a key stands that isn't below this one. It is searched for between the two positions alone
-/// where the key before the first is below this one, and that at the second isn't.
-fn first_near<K: Ord + Copy>(keys: &[K], key: K, from: usize, to: usize) -> usize
-    requires { IsPartitionedBy (λ a. is_lt (K.cmp a key)) keys.now }
-    ensures point { IsPartitionPoint (λ a. is_lt (K.cmp a key) ≡ true) (λ a. is_lt (K.cmp a key) ≡ false) keys.now result }
+/// The first position at which a key stands that isn't below this one. Where it is the one given, the keys around it
+/// show so, and no search is made.
+fn first_near<K: Ord + Copy>(keys: &[K], key: K, at: usize) -> usize
+    requires parted { IsPartitionedBy (λ a. is_lt (K.cmp a key)) keys.now }
+    requires at { at ≤ length keys.now }
+    ensures point { IsPartitionPoint (λ a. is_lt (K.cmp a key) ≡ true) (λ a. is_lt (K.cmp a key) ≡ false) keys.now
+        result }
     ensures bound { result ≤ length keys.now }
 {
-    if from <= to && to <= keys.len() && ends_below(keys, from, key) && !is_below(keys, to, key) {
-        from + first_from(&keys[from..to], key)
+    if ends_below(keys, at, key) && !is_below(keys, at, key) {
+        at
     } else {
         first_from(keys, key)
     }
@@ -139,8 +131,8 @@ fn put_in_order<K: Ord + Copy, V: Ord + Copy>(pairs: &mut Vec<(K, V)>)
     pairs.dedup();
 }
 
-/// The first position from `low` on at which a key above this one stands. The keys of one node or way lie side by side and
-/// most often are few, so they are gone through.
+/// The first position from `low` on at which a key above this one stands. The keys of one node or way lie side by
+/// side and most often are few, so they are gone through.
 fn end_from<K: Ord + Copy>(keys: &[K], low: usize, key: K) -> usize
     requires { low ≤ length keys.now }
     ensures from { low ≤ result }

@@ -41,10 +41,10 @@ impl References {
         key_order();
         name_order();
         number_order();
-        let events = objects.items();
-        let ways = Index::of(alloc, way_references_in(alloc, events)?)?;
-        let node_rules = Index::of(alloc, node_rules_in(alloc, events)?)?;
-        let way_rules = Index::of(alloc, way_rules_in(alloc, events)?)?;
+        let relations = objects.relations();
+        let ways = Index::of(alloc, way_references_in(alloc, objects.ways())?)?;
+        let node_rules = Index::of(alloc, node_rules_in(alloc, relations)?)?;
+        let way_rules = Index::of(alloc, way_rules_in(alloc, relations)?)?;
         Ok(References {
             ways,
             node_rules,

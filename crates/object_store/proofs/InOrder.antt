@@ -1,5 +1,7 @@
 -- Lists in key order: what is found in them, and the entries of their maps.
-use Rattle.std.proofs.Common.{◌≡◌, ℕ, zero, suc, ◌<◌, ◌+◌, true, false, cond, IsTrue, List, [], ◌∷◌, length, map, filter, Some, None, inl, inr, ◌⊎◌, refl, sym, ap, ◌∙◌, subst, arith, slice_index_or, Ordering, Result, Ok, Err}
+use Rattle.std.proofs.Common.{◌≡◌, ℕ, zero, suc, ◌<◌, ◌+◌, true, false, cond, IsTrue, List, [], ◌∷◌, length, map}
+use Rattle.std.proofs.Common.{filter, Some, None, inl, inr, ◌⊎◌, refl, sym, ap, ◌∙◌, subst, arith, slice_index_or}
+use Rattle.std.proofs.Common.{Ordering, Result, Ok, Err}
 use Rattle.std.specs.declared.cmp.Ordering.TheVariants.{Less, Equal, Greater}
 use Rattle.std.specs.Ordering.{is_lt, is_eq, ordering_index, ordering_reverse}
 use Rattle.std.specs.Option.{option_to_list}
@@ -33,7 +35,8 @@ rest n [] h = refl
 rest n (y ∷ l) h = (and_parts _ _ h).1
 
 -- an event with a key among those of which the key is another's
-pub none_found : (k : Key) (xs : List Event) → ((x : Event) → In x xs → is_of k x ≡ false) → find key_cmp k (map pair_of xs) ≡ None
+pub none_found : (k : Key) (xs : List Event) → ((x : Event) → In x xs → is_of k x ≡ false)
+    → find key_cmp k (map pair_of xs) ≡ None
 none_found k [] h = refl
 none_found k (x ∷ xs) h = rw (h x (inl refl)) (none_found k xs (λ y i. h y (inr i)))
 
@@ -42,10 +45,12 @@ none_kept k [] h = refl
 none_kept k (x ∷ xs) h = rw (h x (inl refl)) (none_kept k xs (λ y i. h y (inr i)))
 
 -- one of the events is the key's, or none is
-pub one_or_none : (k : Key) (xs : List Event) → ((x : Event) × In x xs × (is_of k x ≡ true)) ⊎ ((x : Event) → In x xs → is_of k x ≡ false)
+pub one_or_none : (k : Key) (xs : List Event)
+    → ((x : Event) × In x xs × (is_of k x ≡ true)) ⊎ ((x : Event) → In x xs → is_of k x ≡ false)
 one_or_none k [] = inr (λ x i. absurd i)
 one_or_none k (x ∷ xs) =
-    elim (is_of k x) as (λ t. is_of k x ≡ t → ((y : Event) × In y (x ∷ xs) × (is_of k y ≡ true)) ⊎ ((y : Event) → In y (x ∷ xs) → is_of k y ≡ false)) [
+    elim (is_of k x) as (λ t. is_of k x ≡ t → ((y : Event) × In y (x ∷ xs) × (is_of k y ≡ true))
+    ⊎ ((y : Event) → In y (x ∷ xs) → is_of k y ≡ false)) [
       | true ↦ λ t. inl (x, inl refl, t)
       | false ↦ λ t. elim (one_or_none k xs) [
         | inl f ↦ inl (f.0, inr f.1, f.2)
@@ -57,16 +62,20 @@ module _ (total : IsTotalOrder key_cmp) where
   pub turned : (a b : Key) (r : Ordering) → key_cmp a b ≡ r → key_cmp b a ≡ ordering_reverse r
   turned a b r e = total.antisymm b a ∙ ap ordering_reverse e
 
-  pub above : (n : Key) (xs : List Event) → IsTrue (rises_from key_cmp n (map key_of xs)) → (x : Event) → In x xs → key_cmp n x.key ≡ Less
+  pub above : (n : Key) (xs : List Event) → IsTrue (rises_from key_cmp n (map key_of xs)) → (x : Event) → In x xs
+      → key_cmp n x.key ≡ Less
   above n [] h x i = absurd i
   above n (y ∷ xs) h x (inl e) = subst (λ z. key_cmp n (key_of z) ≡ Less) (sym e) (less _ (and_parts _ _ h).0)
-  above n (y ∷ xs) h x (inr i) = let p = and_parts _ _ h in total.trans n y.key x.key (less _ p.0) (above y.key xs p.1 x i)
+  above n (y ∷ xs) h x (inr i) = let p = and_parts _ _ h in total.trans n y.key x.key (less _ p.0)
+      (above y.key xs p.1 x i)
 
   -- nothing above a key is that key's
-  pub other_above : (n : Key) (xs : List Event) → IsTrue (rises_from key_cmp n (map key_of xs)) → (x : Event) → In x xs → is_of n x ≡ false
+  pub other_above : (n : Key) (xs : List Event) → IsTrue (rises_from key_cmp n (map key_of xs)) → (x : Event) → In x xs
+      → is_of n x ≡ false
   other_above n xs h x i = ap is_eq (above n xs h x i)
 
-  put_front : (x : Event) (xs : List Event) → IsTrue (rises_from key_cmp x.key (map key_of xs)) → put key_cmp x.key (entry_of x) (map pair_of xs) ≡ pair_of x ∷ map pair_of xs
+  put_front : (x : Event) (xs : List Event) → IsTrue (rises_from key_cmp x.key (map key_of xs))
+      → put key_cmp x.key (entry_of x) (map pair_of xs) ≡ pair_of x ∷ map pair_of xs
   put_front x [] h = refl
   put_front x (y ∷ ys) h = let e : key_cmp x.key y.key ≡ Less = less _ (and_parts _ _ h).0 in rw e refl
 
@@ -74,23 +83,30 @@ module _ (total : IsTotalOrder key_cmp) where
   pub entries_of : (xs : List Event) → IsInOrder xs → entries (objects_of xs) ≡ map pair_of xs
   entries_of [] h = nil_from_length _ (sym (len-entries empty) ∙ len-empty key_cmp Entry)
   entries_of (x ∷ xs) h =
-      entries-insert total (objects_of xs) x.key (entry_of x) ∙ ap (put key_cmp x.key (entry_of x)) (entries_of xs (rest x.key (map key_of xs) h)) ∙ put_front x xs h
+      entries-insert total (objects_of xs) x.key (entry_of x)
+      ∙ ap (put key_cmp x.key (entry_of x)) (entries_of xs (rest x.key (map key_of xs) h)) ∙ put_front x xs h
 
   module _ (exact : IsAntisymmetric key_cmp) where
     -- a key that the search meets at a place has the entry there
-    pub found_at : (k : Key) (xs : List Event) → IsInOrder xs → (i : ℕ) (d : Event) → i < length xs → (slice_index_or xs i d).key ≡ k → find key_cmp k (map pair_of xs) ≡ Some (entry_of (slice_index_or xs i d))
+    pub found_at : (k : Key) (xs : List Event) → IsInOrder xs → (i : ℕ) (d : Event) → i < length xs
+        → (slice_index_or xs i d).key ≡ k → find key_cmp k (map pair_of xs) ≡ Some (entry_of (slice_index_or xs i d))
     found_at k [] h i d l e = absurd (omega arith)
-    found_at k (x ∷ xs) h zero d l e = let t : key_cmp k x.key ≡ Equal = subst (λ n. key_cmp k n ≡ Equal) (sym e) (tied_itself total k) in rw t refl
+    found_at k (x ∷ xs) h zero d l e = let t : key_cmp k x.key
+        ≡ Equal = subst (λ n. key_cmp k n ≡ Equal) (sym e) (tied_itself total k) in rw t refl
     found_at k (x ∷ xs) h (suc i) d l e =
-        let below : key_cmp x.key k ≡ Less = subst (λ n. key_cmp x.key n ≡ Less) e (above x.key xs h (slice_index_or xs i d) (at_index xs i d (omega arith))) in
+        let below : key_cmp x.key k ≡ Less = subst (λ n. key_cmp x.key n ≡ Less) e
+        (above x.key xs h (slice_index_or xs i d) (at_index xs i d (omega arith))) in
         let g : key_cmp k x.key ≡ Greater = turned x.key k Less below in
         rw g (found_at k xs (rest x.key (map key_of xs) h) i d (omega arith) e)
 
     -- a key's events in a list in order are its entry in the list's map
-    pub own : (k : Key) (xs : List Event) → IsInOrder xs → option_to_list (find key_cmp k (map pair_of xs)) ≡ map entry_of (filter (is_of k) xs)
+    pub own : (k : Key) (xs : List Event) → IsInOrder xs
+        → option_to_list (find key_cmp k (map pair_of xs)) ≡ map entry_of (filter (is_of k) xs)
     own k [] h = refl
     own k (x ∷ xs) h =
-        elim (is_of k x) as (λ t. is_of k x ≡ t → option_to_list (cond t (Some (entry_of x)) (find key_cmp k (map pair_of xs))) ≡ map entry_of (cond t (x ∷ filter (is_of k) xs) (filter (is_of k) xs))) [
+        elim (is_of k x) as (λ t. is_of k x ≡ t → option_to_list
+        (cond t (Some (entry_of x)) (find key_cmp k (map pair_of xs)))
+        ≡ map entry_of (cond t (x ∷ filter (is_of k) xs) (filter (is_of k) xs))) [
           | true ↦ λ t.
               let e : k ≡ x.key = exact k x.key ((Equal-is _).0 t) in
               let up = subst (λ n. IsTrue (rises_from key_cmp n (map key_of xs))) (sym e) h in
@@ -101,25 +117,33 @@ module _ (total : IsTotalOrder key_cmp) where
 -- ---- what a search by an order that compares as keys are compared answers
 
 module _ (cmp : Key → Key → Ordering) (by_cmp : (a b : Key) → cmp a b ≡ key_cmp a b) where
-  pub search_some : IsAntisymmetric key_cmp → (k : Key) (xs : List Event) (r : Result ℕ ℕ) (i : ℕ) → r ≡ Ok i → IsBinarySearchResult (λ y. cmp (key_of y) k) xs r → (d : Event) → (slice_index_or xs i d).key ≡ k
+  pub search_some : IsAntisymmetric key_cmp → (k : Key) (xs : List Event) (r : Result ℕ ℕ) (i : ℕ) → r ≡ Ok i
+      → IsBinarySearchResult (λ y. cmp (key_of y) k) xs r → (d : Event) → (slice_index_or xs i d).key ≡ k
   search_some exact k xs (Ok j) i e h d =
       let f : j ≡ i = cc in subst (λ n. key_of (slice_index_or xs n d) ≡ k) f (exact _ _ (sym (by_cmp _ _) ∙ h d))
   search_some exact k xs (Err j) i e h d = cc
 
-  neighbours : (xs : List Event) → IsInOrder xs → (j : ℕ) (d : Event) → suc j < length xs → key_cmp (slice_index_or xs j d).key (slice_index_or xs (suc j) d).key ≡ Less
+  neighbours : (xs : List Event) → IsInOrder xs → (j : ℕ) (d : Event) → suc j < length xs
+      → key_cmp (slice_index_or xs j d).key (slice_index_or xs (suc j) d).key ≡ Less
   neighbours [] h j d l = absurd (omega arith)
   neighbours (x ∷ []) h j d l = absurd (omega arith)
   neighbours (x ∷ y ∷ ys) h zero d l = less _ (and_parts _ _ h).0
   neighbours (x ∷ y ∷ ys) h (suc j) d l = neighbours (y ∷ ys) (and_parts _ _ h).1 j d (omega arith)
 
-  sorted : IsTotalOrder key_cmp → (xs : List Event) → IsInOrder xs → IsSortedBy (λ a b. is_lt (key_cmp (key_of a) (key_of b))) xs
-  sorted total xs h j d z l = let e : j + 1 ≡ suc j = omega arith in rw e (ap is_lt (turned total (slice_index_or xs j d).key (slice_index_or xs (suc j) d).key Less (neighbours xs h j d (omega arith))))
+  sorted : IsTotalOrder key_cmp → (xs : List Event) → IsInOrder xs
+      → IsSortedBy (λ a b. is_lt (key_cmp (key_of a) (key_of b))) xs
+  sorted total xs h j d z l = let e : j + 1 ≡ suc j = omega arith in rw e
+      (ap is_lt (turned total (slice_index_or xs j d).key (slice_index_or xs (suc j) d).key Less
+      (neighbours xs h j d (omega arith))))
 
-  searchable : IsTotalOrder key_cmp → (k : Key) (xs : List Event) → IsInOrder xs → IsNonDecreasingBy (λ y. ordering_index (cmp (key_of y) k)) xs
+  searchable : IsTotalOrder key_cmp → (k : Key) (xs : List Event) → IsInOrder xs
+      → IsNonDecreasingBy (λ y. ordering_index (cmp (key_of y) k)) xs
   searchable total k xs h =
-      subst (λ (f : Key → Key → Ordering). IsNonDecreasingBy (λ y. ordering_index (f (key_of y) k)) xs) (λ i a b. sym (by_cmp a b) i) (searchable_from_sorted total key_of xs k (sorted total xs h))
+      subst (λ (f : Key → Key → Ordering). IsNonDecreasingBy (λ y. ordering_index (f (key_of y) k)) xs)
+      (λ i a b. sym (by_cmp a b) i) (searchable_from_sorted total key_of xs k (sorted total xs h))
 
-  other_there : (k : Key) (x : Event) (r : Ordering) → IsTotalOrder key_cmp → cmp x.key k ≡ r → is_eq r ≡ false → is_of k x ≡ false
+  other_there : (k : Key) (x : Event) (r : Ordering) → IsTotalOrder key_cmp → cmp x.key k ≡ r → is_eq r ≡ false
+      → is_of k x ≡ false
   other_there k x r total e h = ap is_eq (turned total x.key k r (sym (by_cmp _ _) ∙ e)) ∙ turned_other r h
     where
       turned_other : (r : Ordering) → is_eq r ≡ false → is_eq (ordering_reverse r) ≡ false
@@ -127,7 +151,8 @@ module _ (cmp : Key → Key → Ordering) (by_cmp : (a b : Key) → cmp a b ≡ 
       turned_other Equal h = cc
       turned_other Greater h = refl
 
-  pub search_none : IsTotalOrder key_cmp → (k : Key) (xs : List Event) (r : Result ℕ ℕ) (i : ℕ) → r ≡ Err i → IsInOrder xs → IsBinarySearchResult (λ y. cmp (key_of y) k) xs r → find key_cmp k (map pair_of xs) ≡ None
+  pub search_none : IsTotalOrder key_cmp → (k : Key) (xs : List Event) (r : Result ℕ ℕ) (i : ℕ) → r ≡ Err i
+      → IsInOrder xs → IsBinarySearchResult (λ y. cmp (key_of y) k) xs r → find key_cmp k (map pair_of xs) ≡ None
   search_none total k xs (Ok j) i e up h = cc
   search_none total k xs (Err j) i e up h =
       let point = h (searchable total k xs up) in
@@ -135,6 +160,8 @@ module _ (cmp : Key → Key → Ordering) (by_cmp : (a b : Key) → cmp a b ≡ 
       let c = contains_from_in xs x within in
       let l = c.1 in
       elim (cases_lt c.0 j) [
-        | inl low ↦ other_there k x Less total (subst (λ z. cmp (key_of z) k ≡ Less) c.2 (point.0 c.0 x (omega arith) low)) refl
-        | inr high ↦ other_there k x Greater total (subst (λ z. cmp (key_of z) k ≡ Greater) c.2 (point.1 c.0 x high l)) refl
+        | inl low ↦ other_there k x Less total (subst (λ z. cmp (key_of z) k ≡ Less) c.2
+            (point.0 c.0 x (omega arith) low)) refl
+        | inr high ↦ other_there k x Greater total (subst (λ z. cmp (key_of z) k ≡ Greater) c.2 (point.1 c.0 x high l))
+            refl
       ])

@@ -1,6 +1,7 @@
 pub mod Members
 pub mod InOrder
 pub mod StableSort
-pub mod Together
-pub mod Parts
-pub mod Changing
+pub mod StandingEvents
+pub mod KindsInOrder
+pub mod KindEntries
+pub mod ChangedKeys

@@ -1,5 +1,6 @@
 -- Members of a list, by recursion.
-use Rattle.std.proofs.Common.{◌≡◌, ℕ, zero, suc, ◌<◌, List, [], ◌∷◌, length, ◌⊎◌, inl, inr, sym, arith, Contains, slice_index_or}
+use Rattle.std.proofs.Common.{◌≡◌, ℕ, zero, suc, ◌<◌, List, [], ◌∷◌, length, ◌⊎◌, inl, inr, sym, arith, Contains}
+use Rattle.std.proofs.Common.{slice_index_or}
 
 abbrev pub In : {A : Type 0} → A → List A → Type 0
 In a [] = ⊥

@@ -15,7 +15,8 @@ abbrev pub coded_body : Coded Body
 coded_body = (body.the_row).coded
 
 abbrev pub coded_entry : Coded Entry
-coded_entry = code_by (ℕ × Body) (coded× coded_ℕ coded_body) (λ e. (e.version, e.body)) (λ p. record { version = p.0; body = p.1 }) (λ _. refl)
+coded_entry = code_by (ℕ × Body) (coded× coded_ℕ coded_body) (λ e. (e.version, e.body))
+    (λ p. record { version = p.0; body = p.1 }) (λ _. refl)
 
 abbrev pub coded_objects : Coded Objects
 coded_objects = code coded_key coded_entry

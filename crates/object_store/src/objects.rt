@@ -1,5 +1,5 @@
 //! The objects of a map.
-ghost use Rattle.std.specs.Prelude.{◌≡◌, IfOk, OnOk, OnErr, IfSome, map, option_copied};
+ghost use Rattle.std.specs.Prelude.{◌≡◌, IfOk, OnOk, OnErr, IfSome, map, filter, option_copied};
 ghost use Rattle.std.specs.FinMap.{empty, entries, get};
 ghost use Rattle.std.specs.Option.{option_map};
 ghost use Rattle.road_base.specs.Applying.{IsApplied, entry_of};
@@ -7,8 +7,9 @@ ghost use Rattle.road_base.specs.Objects.{Objects as ObjectMap};
 ghost use Rattle.road_model.specs.Links.{AreChanged};
 
 use crate::changes::changed_keys;
-use crate::ranges::Ranges;
-use crate::standing::{copies, event_near, event_of, settle, settle_with, standing};
+use crate::key_ranges::KeyRanges;
+use crate::kinds::{relations_in, ways_in};
+use crate::standing::{copies, event_at, event_of, settle, settle_with, standing};
 use road_base::laws::key_order;
 use road_base::{Event, Key, Keys, NoMemory};
 use std::alloc::Global;
@@ -18,7 +19,7 @@ use std::marker::Model;
 #[derive(Drop)]
 pub struct Objects {
     list: Vec<Event>,
-    nodes: Ranges,
+    ranges: KeyRanges,
 }
 
 impl Model for Objects {
@@ -37,7 +38,7 @@ impl Model for Objects {
 }
 
 impl Objects {
-    ghost use Rattle.object_store.specs.Listed.{pair_of, IsInOrder};
+    ghost use Rattle.object_store.specs.Listed.{pair_of, is_way, is_relation, IsInOrder, AreEntriesOf};
 
     /// No objects. Takes no memory.
     pub fn new(alloc: Global) -> Objects
@@ -45,7 +46,7 @@ impl Objects {
     {
         Objects {
             list: Vec::new(alloc),
-            nodes: Ranges::new(alloc),
+            ranges: KeyRanges::new(alloc),
         }
     }
 
@@ -55,8 +56,8 @@ impl Objects {
     {
         let mut list = events;
         settle(&mut list)?;
-        let nodes = ranges_of_nodes(*list.allocator(), list.as_slice());
-        Ok(Objects { list, nodes })
+        let ranges = KeyRanges::of(*list.allocator(), list.as_slice());
+        Ok(Objects { list, ranges })
     }
 
     /// The key's entry, as an event. None exactly where the key has no entry.
@@ -64,8 +65,8 @@ impl Objects {
         ensures entry { option_map entry_of (option_copied result) ≡ get self.now key }
         ensures key { IfSome (option_copied result) (λ e. e.key ≡ key) }
     {
-        match part_of_node(&self.nodes, key) {
-            Some((from, to)) => event_near(self.list.as_slice(), key, from, to),
+        match self.ranges.find(self.list.as_slice(), key) {
+            Some(at) => event_at(self.list.as_slice(), key, at),
             None => event_of(self.list.as_slice(), key),
         }
     }
@@ -77,6 +78,26 @@ impl Objects {
     {
         key_order();
         self.list.as_slice()
+    }
+
+    /// The entries of ways alone as events, in key order.
+    pub fn ways(&self) -> &[Event]
+        ensures entries { map pair_of result.now ≡ filter (λ p. is_way p.0) (entries self.now) }
+        ensures exactly { AreEntriesOf is_way self.now result.now }
+        ensures in_order { IsInOrder result.now }
+    {
+        key_order();
+        ways_in(self.list.as_slice())
+    }
+
+    /// The entries of relations alone as events, in key order.
+    pub fn relations(&self) -> &[Event]
+        ensures entries { map pair_of result.now ≡ filter (λ p. is_relation p.0) (entries self.now) }
+        ensures exactly { AreEntriesOf is_relation self.now result.now }
+        ensures in_order { IsInOrder result.now }
+    {
+        key_order();
+        relations_in(self.list.as_slice())
     }
 
     /// The keys whose visible body the events would change, ascending.
@@ -104,7 +125,7 @@ impl Objects {
         let events = standing(alloc, events)?;
         let keys = changed_keys(alloc, self.list.as_slice(), events.as_slice())?;
         settle_with(&mut self.list, events)?;
-        self.nodes = ranges_of_nodes(alloc, self.list.as_slice());
+        self.ranges = KeyRanges::of(alloc, self.list.as_slice());
         Ok(keys)
     }
 
@@ -114,8 +135,8 @@ impl Objects {
     {
         let alloc = *self.list.allocator();
         let list = copies(alloc, self.list.as_slice())?;
-        let nodes = ranges_of_nodes(alloc, list.as_slice());
-        Ok(Objects { list, nodes })
+        let ranges = KeyRanges::of(alloc, list.as_slice());
+        Ok(Objects { list, ranges })
     }
 
     /// Copies of all entries as events, in key order.
@@ -125,19 +146,5 @@ impl Objects {
         key_order();
         let list = copies(*self.list.allocator(), self.list.as_slice())?;
         Ok(list)
-    }
-}
-
-/// The ranges of the nodes of a list in key order.
-fn ranges_of_nodes(alloc: Global, list: &[Event]) -> Ranges {
-    let count = list.partition_point(|event| matches!(event.key, Key::Node(_)));
-    Ranges::of(alloc, &list[..count])
-}
-
-/// Where the key's event stands in the list, if it has one. None where the key is no node's, or of no range.
-fn part_of_node(nodes: &Ranges, key: Key) -> Option<(usize, usize)> {
-    match key {
-        Key::Node(id) => nodes.part_of(id.0),
-        _ => None,
     }
 }

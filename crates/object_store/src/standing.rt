@@ -1,8 +1,8 @@
 //! Of many events those that stand: of each key the first one of the greatest version.
-ghost use Rattle.std.specs.Prelude.{◌≡◌, ◌≤◌, ◌++◌, [], length, filter, take, drop, IfOk, OnOk, OnErr, IfSome, IsTrue, option_copied};
+ghost use Rattle.std.specs.Prelude.{◌≡◌, ◌++◌, IfOk, OnOk, OnErr, IfSome, option_copied};
 ghost use Rattle.std.specs.FinMap.{empty, get};
 ghost use Rattle.std.specs.Option.{option_map};
-ghost use Rattle.road_base.specs.Applying.{IsApplied, entry_of, is_of};
+ghost use Rattle.road_base.specs.Applying.{IsApplied, entry_of};
 ghost use Rattle.object_store.specs.Listed.{IsInOrder, objects_of};
 
 use road_base::laws::key_order;
@@ -74,42 +74,15 @@ pub fn event_of(list: &[Event], key: Key) -> Option<&Event>
     }
 }
 
-/// The key's event in a list in key order. It is searched for between the two positions alone where those are around it.
-pub fn event_near(list: &[Event], key: Key, from: usize, to: usize) -> Option<&Event>
+/// The key's event in a list in key order. It most often stands at this position.
+pub fn event_at(list: &[Event], key: Key, at: usize) -> Option<&Event>
     requires { IsInOrder list.now }
     ensures entry { option_map entry_of (option_copied result) ≡ get (objects_of list.now) key }
     ensures key { IfSome (option_copied result) (λ e. e.key ≡ key) }
 {
     key_order();
-    if from <= to && to <= list.len() && all_below(list, key, from) && all_above(list, key, to) {
-        event_of(&list[from..to], key)
-    } else {
-        event_of(list, key)
+    match list.get(at) {
+        Some(event) if event.key == key => Some(event),
+        _ => event_of(list, key),
     }
-}
-
-/// Whether the key is above those of the first events of a list in key order, of which there are so many.
-fn all_below(list: &[Event], key: Key, count: usize) -> bool
-    requires in_order { IsInOrder list.now }
-    requires count { count ≤ length list.now }
-    ensures { IsTrue result → filter (is_of key) (take count list.now) ≡ [] }
-{
-    key_order();
-    if count == 0 {
-        return true;
-    }
-    list[count - 1].key.cmp(&key).is_lt()
-}
-
-/// Whether the key is below those of the events from a position on, in a list in key order.
-fn all_above(list: &[Event], key: Key, at: usize) -> bool
-    requires in_order { IsInOrder list.now }
-    requires at { at ≤ length list.now }
-    ensures { IsTrue result → filter (is_of key) (drop at list.now) ≡ [] }
-{
-    key_order();
-    if at == list.len() {
-        return true;
-    }
-    key.cmp(&list[at].key).is_lt()
 }

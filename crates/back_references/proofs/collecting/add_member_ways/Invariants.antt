@@ -4,4 +4,5 @@ use Rattle.back_references.specs.References.{way_pair}
 use Rattle.back_references.proofs.collecting.add_member_ways.Given as goal
 
 abbrev pub invariant-loop-member : goal.invariant-loop-member
-invariant-loop-member l = l.pairs.items ≡ l.initial.pairs.items ++ flat_map (λ m. way_pair l.rule m.item) (take l.member-index l.members)
+invariant-loop-member l = l.pairs.items ≡ l.initial.pairs.items
+    ++ flat_map (λ m. way_pair l.rule m.item) (take l.member-index l.members)

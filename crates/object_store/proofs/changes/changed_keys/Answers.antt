@@ -5,7 +5,8 @@ use Rattle.road_base.specs.Applying.{entry_of}
 use Rattle.road_base.specs.Objects.{Objects}
 use Rattle.object_store.specs.Listed.{objects_of, IsInOrder}
 use Rattle.object_store.specs.Changes.{Alters}
-use Rattle.object_store.proofs.Changing.{IsPicked, AltersIn, none_picked, picked_one, picked_not, take_in_order, changed}
+use Rattle.object_store.proofs.ChangedKeys.{IsPicked, AltersIn, none_picked, picked_one, picked_not, take_in_order}
+use Rattle.object_store.proofs.ChangedKeys.{changed}
 use Rattle.object_store.proofs.changes.changed_keys.Goals as goal
 use Rattle.object_store.proofs.changes.changed_keys.Goals.{then-alters+in_ok-push, else-alters}
 
@@ -18,21 +19,30 @@ loop-event-preserved c =
     let xs : List Event = c.args.events.now in
     let e : Event = c.event-item.result in
     let front : List Event = take c.loop-event.event-index xs in
-    let step : take (c.loop-event.event-index + 1) xs ≡ front ++ e ∷ [] = take_more xs c.loop-event.event-index e c.loop-event-test.true ∙ ap (λ z. front ++ z ∷ []) (sym c.event-item.is) in
-    let up : IsInOrder (front ++ e ∷ []) = subst IsInOrder step (take_in_order (c.loop-event.event-index + 1) xs c.requires.events) in
+    let step : take (c.loop-event.event-index + 1) xs
+    ≡ front ++ e ∷ [] = take_more xs c.loop-event.event-index e c.loop-event-test.true
+    ∙ ap (λ z. front ++ z ∷ []) (sym c.event-item.is) in
+    let up : IsInOrder (front ++ e ∷ []) = subst IsInOrder step
+    (take_in_order (c.loop-event.event-index + 1) xs c.requires.events) in
     subst (λ l. IsPicked (AltersIn M) l c.if-alters.list.items) (sym step)
     (elim c.if-alters.branch [
       | then-alters+in_ok-push w ↦
-          subst (IsPicked (AltersIn M) (front ++ e ∷ [])) (sym (ap (λ v. v.items) w.list-is ∙ w.in_ok-push.ensures.items))
-          (picked_one c.key_order.ensures.total (AltersIn M) front e c.loop-event.list.items up c.loop-event.invariant (subst (λ o. Alters o (entry_of e)) c.event_of.ensures.entry (c.alters.ensures.0 w.if-alters.true)))
+          subst (IsPicked (AltersIn M) (front ++ e ∷ []))
+          (sym (ap (λ v. v.items) w.list-is ∙ w.in_ok-push.ensures.items))
+          (picked_one c.key_order.ensures.total (AltersIn M) front e c.loop-event.list.items up c.loop-event.invariant
+          (subst (λ o. Alters o (entry_of e)) c.event_of.ensures.entry (c.alters.ensures.0 w.if-alters.true)))
       | else-alters w ↦
           subst (IsPicked (AltersIn M) (front ++ e ∷ [])) (sym (ap (λ v. v.items) w.list-is))
-          (picked_not (AltersIn M) front e c.loop-event.list.items c.loop-event.invariant (λ p. let t = c.alters.ensures.1 (subst (λ o. Alters o (entry_of e)) (sym c.event_of.ensures.entry) p) in let f = w.if-alters.false in cc))
+          (picked_not (AltersIn M) front e c.loop-event.list.items c.loop-event.invariant
+          (λ p. let t = c.alters.ensures.1 (subst (λ o. Alters o (entry_of e)) (sym c.event_of.ensures.entry) p)
+          in let f = w.if-alters.false in cc))
     ])
 
 pub returns : goal.returns
 returns c =
     let M : Objects = objects_of c.args.before.now in
-    let all : take c.loop-event.event-index c.args.events.now ≡ c.args.events.now = take_all c.loop-event.event-index c.args.events.now c.loop-event-test.false in
+    let all : take c.loop-event.event-index c.args.events.now
+    ≡ c.args.events.now = take_all c.loop-event.event-index c.args.events.now c.loop-event-test.false in
     let picked = subst (λ l. IsPicked (AltersIn M) l c.loop-event.list.items) all c.loop-event.invariant in
-    λ N applied. changed c.key_order.ensures.total c.key_order.ensures.ties M N c.args.events.now c.from_list.result c.requires.events (subst (IsPicked (AltersIn M) c.args.events.now) (sym c.from_list.ensures) picked) applied
+    λ N applied. changed c.key_order.ensures.total c.key_order.ensures.ties M N c.args.events.now c.from_list.result
+    c.requires.events (subst (IsPicked (AltersIn M) c.args.events.now) (sym c.from_list.ensures) picked) applied

@@ -19,7 +19,8 @@ returns-clause-applied c =
     let sorted = c.in_ok-sort_by_key.ensures.sorted rank (answers_always _ _ _ (λ f a r g called. search rules)) in
     let stable = c.in_ok-sort_by_key.ensures.stable rank (answers_always _ _ _ (λ f a r g called. search rules)) in
     let left = dedup_same _ same _ (λ x y b f' x' y' k. search rules) _ _ c.dedup_by_key.ensures.filtered in
-    settled_by c.key_order.ensures.total _ c.key_order.ensures.by_cmp _ c.key_order.ensures.by_eq _ _ _ c.in_ok-sort_by_key.ensures.permutation sorted stable left
+    settled_by c.key_order.ensures.total _ c.key_order.ensures.by_cmp _ c.key_order.ensures.by_eq _ _ _
+    c.in_ok-sort_by_key.ensures.permutation sorted stable left
 
 pub returns-clause-in_order : goal.returns-clause-in_order
 returns-clause-in_order c =

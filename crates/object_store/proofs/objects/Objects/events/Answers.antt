@@ -6,4 +6,5 @@ use Rattle.object_store.proofs.objects.Objects.events.Goals as goal
 
 pub returns : goal.returns
 returns c =
-    sym (ap entries (sym c.self.view_is) ∙ entries_of c.key_order.ensures.total c.self.inside.list.items c.self.invariant ∙ ap (map pair_of) (sym (c.in_ok-list.ensures ∙ c.as_slice.ensures.value)))
+    sym (ap entries (sym c.self.view_is) ∙ entries_of c.key_order.ensures.total c.self.inside.list.items
+    c.self.invariant ∙ ap (map pair_of) (sym (c.in_ok-list.ensures ∙ c.as_slice.ensures.value)))

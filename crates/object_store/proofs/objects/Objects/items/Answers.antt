@@ -6,4 +6,5 @@ use Rattle.object_store.proofs.objects.Objects.items.Goals as goal
 
 pub returns-clause-entries : goal.returns-clause-entries
 returns-clause-entries c =
-    ap entries (sym c.self.view_is) ∙ entries_of c.key_order.ensures.total c.self.inside.list.items c.self.invariant ∙ ap (map pair_of) (sym c.as_slice.ensures.value)
+    ap entries (sym c.self.view_is) ∙ entries_of c.key_order.ensures.total c.self.inside.list.items c.self.invariant
+    ∙ ap (map pair_of) (sym c.as_slice.ensures.value)

@@ -13,7 +13,8 @@ use Rattle.road_model.specs.Links.{AreChanged}
 use Rattle.object_store.specs.Listed.{pair_of, objects_of, IsInOrder}
 use Rattle.object_store.proofs.InOrder.{own}
 
-same_left : (xs ys zs : List Entry) → first_greatest ys ≡ first_greatest zs → first_greatest (xs ++ ys) ≡ first_greatest (xs ++ zs)
+same_left : (xs ys zs : List Entry) → first_greatest ys ≡ first_greatest zs
+    → first_greatest (xs ++ ys) ≡ first_greatest (xs ++ zs)
 same_left [] ys zs e = e
 same_left (x ∷ xs) ys zs e = ap (newer x) (same_left xs ys zs e)
 
@@ -33,23 +34,32 @@ module _ (total : IsTotalOrder key_cmp) (exact : IsAntisymmetric key_cmp) where
   own_entry k xs h = ap option_to_list (get-from_entries total (map pair_of xs) k) ∙ own total exact k xs h
 
   -- those that stand leave of a key what all leave
-  same_greatest : (k : Key) (events stand : List Event) → IsInOrder stand → IsApplied empty events (objects_of stand) → first_greatest (entries_in events k) ≡ first_greatest (entries_in stand k)
+  same_greatest : (k : Key) (events stand : List Event) → IsInOrder stand → IsApplied empty events (objects_of stand)
+      → first_greatest (entries_in events k) ≡ first_greatest (entries_in stand k)
   same_greatest k events stand h applied =
-      ap first_greatest (sym (of_nothing events k)) ∙ sym (applied k) ∙ sym (greatest_alone (get (objects_of stand) k)) ∙ ap first_greatest (own_entry k stand h)
+      ap first_greatest (sym (of_nothing events k)) ∙ sym (applied k) ∙ sym (greatest_alone (get (objects_of stand) k))
+      ∙ ap first_greatest (own_entry k stand h)
 
-  pub standing_for : (M N : Objects) (events stand : List Event) → IsInOrder stand → IsApplied empty events (objects_of stand) → IsApplied M events N → IsApplied M stand N
+  pub standing_for : (M N : Objects) (events stand : List Event) → IsInOrder stand
+      → IsApplied empty events (objects_of stand) → IsApplied M events N → IsApplied M stand N
   standing_for M N events stand h standing applied k =
-      applied k ∙ same_left (option_to_list (get M k)) (entries_in events k) (entries_in stand k) (same_greatest k events stand h standing)
+      applied k ∙ same_left (option_to_list (get M k)) (entries_in events k) (entries_in stand k)
+      (same_greatest k events stand h standing)
 
-  pub standing_with : (before stand after events : List Event) → IsInOrder before → IsInOrder stand → IsApplied empty events (objects_of stand) → IsApplied empty (before ++ stand) (objects_of after) → IsApplied (objects_of before) events (objects_of after)
+  pub standing_with : (before stand after events : List Event) → IsInOrder before → IsInOrder stand
+      → IsApplied empty events (objects_of stand) → IsApplied empty (before ++ stand) (objects_of after)
+      → IsApplied (objects_of before) events (objects_of after)
   standing_with before stand after events g h standing together k =
       together k ∙ ap first_greatest (of_nothing (before ++ stand) k)
       ∙ ap (λ l. first_greatest (map entry_of l)) (filter-append (is_of k) before stand)
       ∙ ap first_greatest (map-append entry_of (filter (is_of k) before) (filter (is_of k) stand))
       ∙ ap (λ l. first_greatest (l ++ entries_in stand k)) (sym (own_entry k before g))
-      ∙ same_left (option_to_list (get (objects_of before) k)) (entries_in stand k) (entries_in events k) (sym (same_greatest k events stand h standing))
+      ∙ same_left (option_to_list (get (objects_of before) k)) (entries_in stand k) (entries_in events k)
+      (sym (same_greatest k events stand h standing))
 
 -- what is said of equal maps and lists
-pub moved_keys : (L M N : Objects) (xs ys : List Event) (keys : List Key) → L ≡ M → xs ≡ ys → ((O : Objects) → IsApplied L xs O → AreChanged L O keys) → IsApplied M ys N → AreChanged M N keys
+pub moved_keys : (L M N : Objects) (xs ys : List Event) (keys : List Key) → L ≡ M → xs ≡ ys
+    → ((O : Objects) → IsApplied L xs O → AreChanged L O keys) → IsApplied M ys N → AreChanged M N keys
 moved_keys L M N xs ys keys e f h applied =
-    subst (λ O. AreChanged O N keys) e (h N (subst (λ O. IsApplied O xs N) (sym e) (subst (λ l. IsApplied M l N) (sym f) applied)))
+    subst (λ O. AreChanged O N keys) e (h N (subst (λ O. IsApplied O xs N) (sym e)
+    (subst (λ l. IsApplied M l N) (sym f) applied)))

@@ -1,5 +1,6 @@
 -- What a sort and the removal of repeats leave of pairs.
-use Rattle.std.proofs.Common.{◌≡◌, Bool, ◌&&◌, IsTrue, List, [], ◌∷◌, length, map, refl, sym, ap, ◌∙◌, subst, Ordering, Contains}
+use Rattle.std.proofs.Common.{◌≡◌, Bool, ◌&&◌, IsTrue, List, [], ◌∷◌, length, map, refl, sym, ap, ◌∙◌, subst, Ordering}
+use Rattle.std.proofs.Common.{Contains}
 use Rattle.std.specs.declared.cmp.Ordering.TheVariants.{Less, Equal, Greater}
 use Rattle.std.specs.Ordering.{is_lt, is_eq, eq_by_cmp, ordering_then}
 use Rattle.std.specs.Cmp.{IsTotalOrder, Equal-is}
@@ -20,19 +21,24 @@ module _ {N : Type 0} (C : N → N → Ordering) where
   rises_strictly (x ∷ []) h = refl
   rises_strictly (x ∷ y ∷ ys) h = and_from _ _ (ap is_lt h.0.0) (rises_strictly (y ∷ ys) h.1)
 
-  module _ (total : IsTotalOrder C) (exact : IsAntisymmetric C) (E : N → N → Bool) (ties : (x y : N) → E x y ≡ is_eq (C x y)) (xs ys zs : List N) (moves : IsPermutation xs ys) (left : zs ≡ dedup E ys) where
+  module _ (total : IsTotalOrder C) (exact : IsAntisymmetric C) (E : N → N → Bool)
+      (ties : (x y : N) → E x y ≡ is_eq (C x y)) (xs ys zs : List N) (moves : IsPermutation xs ys)
+      (left : zs ≡ dedup E ys) where
     pub dedup_rises : IsSorted C ys → IsTrue (rises C zs)
-    dedup_rises sorted = subst (λ l. IsTrue (rises C l)) (sym left) (rises_strictly (dedup E ys) (IsStrictlySortedBy-dedup total ties ys sorted))
+    dedup_rises sorted = subst (λ l. IsTrue (rises C l)) (sym left)
+        (rises_strictly (dedup E ys) (IsStrictlySortedBy-dedup total ties ys sorted))
 
     by_cmp : zs ≡ dedup (eq_by_cmp C) ys
     by_cmp = left ∙ ap (λ (f : N → N → Bool). dedup f ys) (λ i x y. ties x y i)
 
     pub dedup_keeps : (p : N) → Contains xs p → Contains zs p
     dedup_keeps p c =
-        subst (λ l. Contains l p) (sym by_cmp) (Contains-dedup (eq_by_cmp_equiv total) (λ x y e. exact x y ((Equal-is _).0 e)) ys p (Contains-permutation xs ys p moves c))
+        subst (λ l. Contains l p) (sym by_cmp) (Contains-dedup (eq_by_cmp_equiv total)
+        (λ x y e. exact x y ((Equal-is _).0 e)) ys p (Contains-permutation xs ys p moves c))
 
     pub dedup_from_all : (p : N) → Contains zs p → Contains xs p
-    dedup_from_all p c = Contains-permutation ys xs p (IsPermutation-sym xs ys moves) (Contains-from_dedup E ys p (subst (λ l. Contains l p) left c))
+    dedup_from_all p c = Contains-permutation ys xs p (IsPermutation-sym xs ys moves)
+        (Contains-from_dedup E ys p (subst (λ l. Contains l p) left c))
 
 tied_parts : (r s : Ordering) → ordering_then r s ≡ Equal → (r ≡ Equal) × (s ≡ Equal)
 tied_parts Less s e = cc
@@ -54,7 +60,8 @@ module _ {A B : Type 0} where
   even_parts (p ∷ ps) = let e = even_parts ps in cc
 
   -- pairs of which both parts tie are equal
-  pub pairs_exact : (R : A → A → Ordering) (S : B → B → Ordering) → IsAntisymmetric R → IsAntisymmetric S → IsAntisymmetric (pair_cmp R S)
+  pub pairs_exact : (R : A → A → Ordering) (S : B → B → Ordering) → IsAntisymmetric R → IsAntisymmetric S
+      → IsAntisymmetric (pair_cmp R S)
   pairs_exact R S r s p q e =
       let t = tied_parts _ _ e in
       let f = r p.0 q.0 t.0 in

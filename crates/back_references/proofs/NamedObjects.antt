@@ -1,0 +1,378 @@
+-- The pairs of a map's entries of one kind name exactly what the map's links name.
+use Rattle.std.proofs.Common.{◌≡◌, ◌↔◌, true, false, Bool, cond, IsTrue, List, [], ◌∷◌, ◌++◌, map, Option, Some, None}
+use Rattle.std.proofs.Common.{inl, inr, ◌⊎◌, refl, sym, ap, ◌∙◌, subst, Contains, Ordering}
+use Rattle.std.specs.FinMap.{get, empty, get-empty}
+use Rattle.std.specs.List.{flat_map}
+use Rattle.road_base.specs.declared.ids.NodeId.{NodeId}
+use Rattle.road_base.specs.declared.ids.WayId.{WayId}
+use Rattle.road_base.specs.declared.ids.RelationId.{RelationId}
+use Rattle.road_base.specs.declared.ids.Key.{Key}
+use Rattle.road_base.specs.declared.ids.Key.TheVariants.{Node as NodeKey, Way as WayKey, Relation as RelationKey}
+use Rattle.road_base.specs.declared.objects.Member.{Member}
+use Rattle.road_base.specs.declared.objects.Way.{Way}
+use Rattle.road_base.specs.declared.objects.Relation.{Relation}
+use Rattle.road_base.specs.declared.objects.Body.{Body}
+use Rattle.road_base.specs.declared.objects.Body.TheVariants.{Node as NodeBody, Way as WayBody}
+use Rattle.road_base.specs.declared.objects.Body.TheVariants.{Relation as RelationBody, Deleted}
+use Rattle.road_base.specs.declared.event.Event.{Event}
+use Rattle.road_base.specs.Objects.{Objects, Entry, key_cmp, body_in, way_in, relation_in, visible, way_of, relation_of}
+use Rattle.road_base.specs.Applying.{entry_of}
+use Rattle.road_model.specs.Orders.{Lists}
+use Rattle.road_model.specs.Rules.{has_highway, is_restriction}
+use Rattle.road_model.specs.Links.{RefersTo, HasMember}
+use Rattle.object_store.specs.Listed.{is_way, is_relation, AreEntriesOf}
+use Rattle.back_references.specs.declared.references.References.{References}
+use Rattle.back_references.specs.Indexing.{IsIndexed}
+use Rattle.back_references.specs.References.{highway_nodes, rule_members, with_way, way_references, node_pair, way_pair}
+use Rattle.back_references.specs.References.{nodes_with_rule, ways_with_rule, node_rules, way_rules}
+use Rattle.back_references.proofs.Members.{In, in_from_contains, contains_from_in}
+
+-- ---- members of lists that are put together
+
+in_front : {A : Type 0} (xs ys : List A) (x : A) → In x xs → In x (xs ++ ys)
+in_front [] ys x i = absurd i
+in_front (y ∷ xs) ys x (inl h) = inl h
+in_front (y ∷ xs) ys x (inr i) = inr (in_front xs ys x i)
+
+in_behind : {A : Type 0} (xs ys : List A) (x : A) → In x ys → In x (xs ++ ys)
+in_behind [] ys x i = i
+in_behind (y ∷ xs) ys x i = inr (in_behind xs ys x i)
+
+in_either : {A : Type 0} (xs ys : List A) (x : A) → In x (xs ++ ys) → In x xs ⊎ In x ys
+in_either [] ys x i = inr i
+in_either (y ∷ xs) ys x (inl h) = inl (inl h)
+in_either (y ∷ xs) ys x (inr i) = elim (in_either xs ys x i) [ inl j ↦ inl (inr j) | inr j ↦ inr j ]
+
+in_flat : {X A : Type 0} (f : X → List A) (xs : List X) (x : X) (a : A) → In x xs → In a (f x) → In a (flat_map f xs)
+in_flat f [] x a i j = absurd i
+in_flat f (y ∷ xs) x a (inl e) j = in_front (f y) (flat_map f xs) a (subst (λ z. In a (f z)) e j)
+in_flat f (y ∷ xs) x a (inr i) j = in_behind (f y) (flat_map f xs) a (in_flat f xs x a i j)
+
+from_flat : {X A : Type 0} (f : X → List A) (xs : List X) (a : A) → In a (flat_map f xs)
+    → (x : X) × In x xs × In a (f x)
+from_flat f [] a i = absurd i
+from_flat f (y ∷ xs) a i = elim (in_either (f y) (flat_map f xs) a i) [
+  | inl j ↦ (y, inl refl, j)
+  | inr j ↦ let r = from_flat f xs a j in (r.0, inr r.1, r.2)
+]
+
+in_map : {X A : Type 0} (f : X → A) (xs : List X) (x : X) → In x xs → In (f x) (map f xs)
+in_map f [] x i = absurd i
+in_map f (y ∷ xs) x (inl e) = inl (ap f e)
+in_map f (y ∷ xs) x (inr i) = inr (in_map f xs x i)
+
+from_map : {X A : Type 0} (f : X → A) (xs : List X) (a : A) → In a (map f xs) → (x : X) × In x xs × (a ≡ f x)
+from_map f [] a i = absurd i
+from_map f (y ∷ xs) a (inl e) = (y, inl refl, e)
+from_map f (y ∷ xs) a (inr i) = let r = from_map f xs a i in (r.0, inr r.1, r.2)
+
+-- ---- the pairs of one event
+
+in_references : (k : Key) (ns : List NodeId) (n : NodeId) (w : WayId) → k ≡ WayKey w → In n ns
+    → In (n, w) (with_way k ns)
+in_references k ns n w e i = subst (λ j. In (n, w) (with_way j ns)) (sym e) (in_map (λ (m : NodeId). (m, w)) ns n i)
+
+from_references : (k : Key) (ns : List NodeId) (n : NodeId) (w : WayId) → In (n, w) (with_way k ns)
+    → (k ≡ WayKey w) × In n ns
+from_references (NodeKey a) ns n w i = absurd i
+from_references (WayKey v) ns n w i =
+    let r = from_map (λ (m : NodeId). (m, v)) ns (n, w) i in (
+      ap (λ (p : NodeId × WayId). WayKey p.1) (sym r.2),
+      subst (λ m. In m ns)
+          (sym (ap (λ (p : NodeId × WayId). p.0) r.2)) r.1,
+    )
+from_references (RelationKey a) ns n w i = absurd i
+
+from_node_pair : (r q : RelationId) (k : Key) (n : NodeId) → In (n, q) (node_pair r k) → (k ≡ NodeKey n) × (r ≡ q)
+from_node_pair r q (NodeKey m) n (inl e) =
+    (ap (λ (p : NodeId × RelationId). NodeKey p.0) (sym e), ap (λ (p : NodeId × RelationId). p.1) (sym e))
+from_node_pair r q (NodeKey m) n (inr i) = absurd i
+from_node_pair r q (WayKey w) n i = absurd i
+from_node_pair r q (RelationKey s) n i = absurd i
+
+from_way_pair : (r q : RelationId) (k : Key) (w : WayId) → In (w, q) (way_pair r k) → (k ≡ WayKey w) × (r ≡ q)
+from_way_pair r q (NodeKey m) w i = absurd i
+from_way_pair r q (WayKey v) w (inl e) = (
+  ap (λ (p : WayId × RelationId). WayKey p.0) (sym e),
+  ap
+      (λ (p : WayId × RelationId). p.1) (sym e),
+)
+from_way_pair r q (WayKey v) w (inr i) = absurd i
+from_way_pair r q (RelationKey s) w i = absurd i
+
+in_node_rules : (k : Key) (ms : List Member) (n : NodeId) (r : RelationId) → k ≡ RelationKey r
+    → In (NodeKey n) (map (λ m. m.item) ms) → In (n, r) (nodes_with_rule k ms)
+in_node_rules k ms n r e i =
+    let f = from_map (λ (m : Member). m.item) ms (NodeKey n) i in
+    subst (λ j. In (n, r) (nodes_with_rule j ms)) (sym e)
+    (in_flat (λ m. node_pair r m.item) ms f.0 (n, r) f.1 (subst (λ j. In (n, r) (node_pair r j)) f.2 (inl refl)))
+
+from_node_rules : (k : Key) (ms : List Member) (n : NodeId) (r : RelationId) → In (n, r) (nodes_with_rule k ms)
+    → (k ≡ RelationKey r) × In (NodeKey n) (map (λ m. m.item) ms)
+from_node_rules (NodeKey a) ms n r i = absurd i
+from_node_rules (WayKey a) ms n r i = absurd i
+from_node_rules (RelationKey q) ms n r i =
+    let f = from_flat (λ (m : Member). node_pair q m.item) ms (n, r) i in
+    let p = from_node_pair q r (f.0).item n f.2 in
+    (ap RelationKey p.1, subst (λ j. In j (map (λ m. m.item) ms)) p.0 (in_map (λ (m : Member). m.item) ms f.0 f.1))
+
+in_way_rules : (k : Key) (ms : List Member) (w : WayId) (r : RelationId) → k ≡ RelationKey r
+    → In (WayKey w) (map (λ m. m.item) ms) → In (w, r) (ways_with_rule k ms)
+in_way_rules k ms w r e i =
+    let f = from_map (λ (m : Member). m.item) ms (WayKey w) i in
+    subst (λ j. In (w, r) (ways_with_rule j ms)) (sym e)
+    (in_flat (λ m. way_pair r m.item) ms f.0 (w, r) f.1 (subst (λ j. In (w, r) (way_pair r j)) f.2 (inl refl)))
+
+from_way_rules : (k : Key) (ms : List Member) (w : WayId) (r : RelationId) → In (w, r) (ways_with_rule k ms)
+    → (k ≡ RelationKey r) × In (WayKey w) (map (λ m. m.item) ms)
+from_way_rules (NodeKey a) ms w r i = absurd i
+from_way_rules (WayKey a) ms w r i = absurd i
+from_way_rules (RelationKey q) ms w r i =
+    let f = from_flat (λ (m : Member). way_pair q m.item) ms (w, r) i in
+    let p = from_way_pair q r (f.0).item w f.2 in
+    (ap RelationKey p.1, subst (λ j. In j (map (λ m. m.item) ms)) p.0 (in_map (λ (m : Member). m.item) ms f.0 f.1))
+
+-- ---- visible bodies
+
+from_highway : (b : Body) (n : NodeId) → In n (highway_nodes b)
+    → (w : Way) × (b ≡ WayBody w) × IsTrue (has_highway w.tags) × In n w.refs
+from_highway (NodeBody m) n i = absurd i
+from_highway (WayBody w) n i =
+    elim (has_highway w.tags) as (λ t. has_highway w.tags ≡ t → In n (cond t w.refs [])
+    → (v : Way) × (WayBody w ≡ WayBody v) × IsTrue (has_highway v.tags) × In n v.refs) [
+      | true ↦ λ t j. (w, refl, t, j)
+      | false ↦ λ t j. absurd j
+    ] refl i
+from_highway (RelationBody r) n i = absurd i
+from_highway Deleted n i = absurd i
+
+in_highway : (b : Body) (w : Way) (n : NodeId) → b ≡ WayBody w → IsTrue (has_highway w.tags) → In n w.refs
+    → In n (highway_nodes b)
+in_highway b w n e h i = subst (λ c. In n (highway_nodes c)) (sym e) (subst (λ t. In n (cond t w.refs [])) (sym h) i)
+
+from_rule : (b : Body) (k : Key) → In k (map (λ m. m.item) (rule_members b))
+    → (r : Relation) × (b ≡ RelationBody r) × IsTrue (is_restriction r.tags) × In k (map (λ m. m.item) r.members)
+from_rule (NodeBody m) k i = absurd i
+from_rule (WayBody w) k i = absurd i
+from_rule (RelationBody r) k i =
+    elim (is_restriction r.tags) as (λ t. is_restriction r.tags ≡ t → In k (map (λ m. m.item) (cond t r.members []))
+    → (q : Relation) × (RelationBody r ≡ RelationBody q) × IsTrue (is_restriction q.tags)
+    × In k (map (λ m. m.item) q.members)) [
+      | true ↦ λ t j. (r, refl, t, j)
+      | false ↦ λ t j. absurd j
+    ] refl i
+from_rule Deleted k i = absurd i
+
+in_rule : (b : Body) (r : Relation) (k : Key) → b ≡ RelationBody r → IsTrue (is_restriction r.tags)
+    → In k (map (λ m. m.item) r.members) → In k (map (λ m. m.item) (rule_members b))
+in_rule b r k e h i = subst (λ c. In k (map (λ m. m.item) (rule_members c))) (sym e)
+    (subst (λ t. In k (map (λ m. m.item) (cond t r.members []))) (sym h) i)
+
+way_there : (o : Option Entry) (w : Way) → way_in (body_in o) ≡ Some w
+    → (e : Entry) × (o ≡ Some e) × (e.body ≡ WayBody w)
+way_there None w h = cc
+way_there (Some e) w h = (e, refl, way_body e.body h)
+  where
+    way_body : (b : Body) → way_in (elim b [
+      | NodeBody n ↦ Some (NodeBody n)
+      | WayBody w ↦ Some (WayBody w)
+      | RelationBody r ↦ Some (RelationBody r)
+      | Deleted ↦ None
+    ]) ≡ Some w → b ≡ WayBody w
+    way_body (NodeBody n) h = cc
+    way_body (WayBody v) h = cc
+    way_body (RelationBody r) h = cc
+    way_body Deleted h = cc
+
+relation_there : (o : Option Entry) (r : Relation) → relation_in (body_in o) ≡ Some r
+    → (e : Entry) × (o ≡ Some e) × (e.body ≡ RelationBody r)
+relation_there None r h = cc
+relation_there (Some e) r h = (e, refl, relation_body e.body h)
+  where
+    relation_body : (b : Body) → relation_in (elim b [
+      | NodeBody n ↦ Some (NodeBody n)
+      | WayBody w ↦ Some (WayBody w)
+      | RelationBody r ↦ Some (RelationBody r)
+      | Deleted ↦ None
+    ]) ≡ Some r → b ≡ RelationBody r
+    relation_body (NodeBody n) h = cc
+    relation_body (WayBody v) h = cc
+    relation_body (RelationBody q) h = cc
+    relation_body Deleted h = cc
+
+-- ---- no objects have no links
+
+no_way : (w : WayId) (n : NodeId) → RefersTo empty w n → ⊥
+unfolding way_of visible
+no_way w n r = let e = way_there (get empty (WayKey w)) r.body r.is in let f = get-empty {X = Entry} key_cmp (WayKey w)
+    in let g = e.1 in cc
+
+no_relation : (r : RelationId) (k : Key) → HasMember empty r k → ⊥
+unfolding relation_of visible
+no_relation r k h = let e = relation_there (get empty (RelationKey r)) h.body h.is in let f = get-empty {X = Entry}
+    key_cmp (RelationKey r) in let g = e.1 in cc
+
+nothing_in : {A : Type 0} (xs : List A) (a : A) → xs ≡ [] → Contains xs a → ⊥
+nothing_in xs a e c = subst (λ l. In a l) e (in_from_contains xs a c)
+
+pub empty_indexed : (held : References) → held.ways ≡ [] → held.node_rules ≡ [] → held.way_rules ≡ []
+    → IsIndexed empty held
+empty_indexed held ways nodes rules = record {
+  ways = λ n w. (λ c. absurd (nothing_in held.ways (n, w) ways c), λ h. absurd (no_way w n h));
+  node_rules = λ n r. (
+    λ c. absurd (nothing_in held.node_rules (n, r) nodes c),
+    λ h. absurd
+        (no_relation r (NodeKey n) h),
+  );
+  way_rules = λ w r. (λ c. absurd (nothing_in held.way_rules (w, r) rules c), λ h. absurd (no_relation r (WayKey w) h));
+}
+
+-- a list of what is asked for lists what is asked for in other words
+pub lists_alike : {A N : Type 0} (name : A → N) (R : N → N → Ordering) (Is As : A → Type 0) (xs : List A)
+    → ((x : A) → Is x ↔ As x) → Lists name R Is xs → Lists name R As xs
+lists_alike name R Is As xs alike l = record {
+  ascending = l.ascending;
+  sound = λ x c. (alike x).0 (l.sound x c);
+  complete = λ x h. l.complete x ((alike x).1 h);
+}
+
+-- ---- entries of one kind
+
+module _ (M : Objects) where
+  way_shown : (x : Event) (w : WayId) (v : Way) → get M (WayKey w) ≡ Some (entry_of x) → x.body ≡ WayBody v
+      → way_of M w ≡ Some v
+  unfolding way_of visible
+  way_shown x w v h e = ap (λ o. way_in (body_in o)) h ∙ shown x.body v e
+    where
+      shown : (b : Body) (v : Way) → b ≡ WayBody v
+          → way_in (elim b [
+            | NodeBody n ↦ Some (NodeBody n)
+            | WayBody w ↦ Some (WayBody w)
+            | RelationBody r
+                ↦ Some (RelationBody r)
+            | Deleted ↦ None
+          ]) ≡ Some v
+      shown (NodeBody n) v e = cc
+      shown (WayBody u) v e = cc
+      shown (RelationBody r) v e = cc
+      shown Deleted v e = cc
+
+  relation_shown : (x : Event) (r : RelationId) (q : Relation) → get M (RelationKey r) ≡ Some (entry_of x)
+      → x.body ≡ RelationBody q → relation_of M r ≡ Some q
+  unfolding relation_of visible
+  relation_shown x r q h e = ap (λ o. relation_in (body_in o)) h ∙ shown x.body q e
+    where
+      shown : (b : Body) (q : Relation) → b ≡ RelationBody q
+          → relation_in (elim b [
+            | NodeBody n ↦ Some (NodeBody n)
+            | WayBody w ↦ Some (WayBody w)
+            | RelationBody r
+                ↦ Some (RelationBody r)
+            | Deleted ↦ None
+          ]) ≡ Some q
+      shown (NodeBody n) q e = cc
+      shown (WayBody u) q e = cc
+      shown (RelationBody p) q e = cc
+      shown Deleted q e = cc
+
+  entry_way : (w : WayId) (v : Way) → way_of M w ≡ Some v
+      → (e : Entry) × (get M (WayKey w) ≡ Some e) × (e.body ≡ WayBody v)
+  unfolding way_of visible
+  entry_way w v h = way_there (get M (WayKey w)) v h
+
+  entry_relation : (r : RelationId) (q : Relation) → relation_of M r ≡ Some q
+      → (e : Entry) × (get M (RelationKey r) ≡ Some e) × (e.body ≡ RelationBody q)
+  unfolding relation_of visible
+  entry_relation r q h = relation_there (get M (RelationKey r)) q h
+
+  abbrev body_of : Entry → Body
+  body_of e = e.body
+
+  module _ (is_one : Key → Bool) (items : List Event) (are : AreEntriesOf is_one M items) where
+    item_found : (x : Event) (k : Key) → In x items → x.key ≡ k → get M k ≡ Some (entry_of x)
+    item_found x k i e = ap (get M) (sym e) ∙ (are.own x (contains_from_in items x i)).1
+
+    found_item : (k : Key) (e : Entry) → IsTrue (is_one k) → get M k ≡ Some e
+        → (x : Event) × In x items × (x.key ≡ k) × (entry_of x ≡ e)
+    found_item k e one h = let f = are.all k e one h in (f.0, in_from_contains items f.0 f.1, f.2, f.3)
+
+  -- ---- the pairs are the links
+
+  pub way_links : (items : List Event) → AreEntriesOf is_way M items → (n : NodeId) (w : WayId)
+      → Contains (flat_map way_references items) (n, w) ↔ RefersTo M w n
+  way_links items are n w = (to, back)
+    where
+      to : Contains (flat_map way_references items) (n, w) → RefersTo M w n
+      to c =
+          let f = from_flat way_references items (n, w) (in_from_contains _ _ c) in
+          let p = from_references (f.0).key (highway_nodes (f.0).body) n w f.2 in
+          let q = from_highway (f.0).body n p.1 in
+          record {
+            body = q.0;
+            is = way_shown f.0 w q.0 (item_found is_way items are f.0 (WayKey w) f.1 p.0) q.1;
+            highway = q.2;
+            member = contains_from_in _ _ q.3;
+          }
+
+      back : RefersTo M w n → Contains (flat_map way_references items) (n, w)
+      back r =
+          let e = entry_way w r.body r.is in
+          let f = found_item is_way items are (WayKey w) e.0 refl e.1 in
+          let b : (f.0).body ≡ WayBody r.body = ap body_of f.3 ∙ e.2 in
+          contains_from_in _ _ (in_flat way_references items f.0 (n, w) f.1
+          (in_references (f.0).key (highway_nodes (f.0).body) n w f.2
+          (in_highway (f.0).body r.body n b r.highway (in_from_contains _ _ r.member))))
+
+  pub node_links : (items : List Event) → AreEntriesOf is_relation M items → (n : NodeId) (r : RelationId)
+      → Contains (flat_map node_rules items) (n, r) ↔ HasMember M r (NodeKey n)
+  node_links items are n r = (to, back)
+    where
+      to : Contains (flat_map node_rules items) (n, r) → HasMember M r (NodeKey n)
+      to c =
+          let f = from_flat node_rules items (n, r) (in_from_contains _ _ c) in
+          let p = from_node_rules (f.0).key (rule_members (f.0).body) n r f.2 in
+          let q = from_rule (f.0).body (NodeKey n) p.1 in
+          record {
+            body = q.0;
+            is = relation_shown f.0 r q.0
+                (item_found is_relation items are f.0 (RelationKey r) f.1 p.0) q.1;
+            restriction = q.2;
+            member
+                = contains_from_in _ _ q.3;
+          }
+
+      back : HasMember M r (NodeKey n) → Contains (flat_map node_rules items) (n, r)
+      back h =
+          let e = entry_relation r h.body h.is in
+          let f = found_item is_relation items are (RelationKey r) e.0 refl e.1 in
+          let b : (f.0).body ≡ RelationBody h.body = ap body_of f.3 ∙ e.2 in
+          contains_from_in _ _ (in_flat node_rules items f.0 (n, r) f.1
+          (in_node_rules (f.0).key (rule_members (f.0).body) n r f.2
+          (in_rule (f.0).body h.body (NodeKey n) b h.restriction (in_from_contains _ _ h.member))))
+
+  pub rule_links : (items : List Event) → AreEntriesOf is_relation M items → (w : WayId) (r : RelationId)
+      → Contains (flat_map way_rules items) (w, r) ↔ HasMember M r (WayKey w)
+  rule_links items are w r = (to, back)
+    where
+      to : Contains (flat_map way_rules items) (w, r) → HasMember M r (WayKey w)
+      to c =
+          let f = from_flat way_rules items (w, r) (in_from_contains _ _ c) in
+          let p = from_way_rules (f.0).key (rule_members (f.0).body) w r f.2 in
+          let q = from_rule (f.0).body (WayKey w) p.1 in
+          record {
+            body = q.0;
+            is = relation_shown f.0 r q.0
+                (item_found is_relation items are f.0 (RelationKey r) f.1 p.0) q.1;
+            restriction = q.2;
+            member
+                = contains_from_in _ _ q.3;
+          }
+
+      back : HasMember M r (WayKey w) → Contains (flat_map way_rules items) (w, r)
+      back h =
+          let e = entry_relation r h.body h.is in
+          let f = found_item is_relation items are (RelationKey r) e.0 refl e.1 in
+          let b : (f.0).body ≡ RelationBody h.body = ap body_of f.3 ∙ e.2 in
+          contains_from_in _ _ (in_flat way_rules items f.0 (w, r) f.1
+          (in_way_rules (f.0).key (rule_members (f.0).body) w r f.2
+          (in_rule (f.0).body h.body (WayKey w) b h.restriction (in_from_contains _ _ h.member))))
