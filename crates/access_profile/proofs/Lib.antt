@@ -1,1 +1,1 @@
-mod Lacking
+mod MissingKeys

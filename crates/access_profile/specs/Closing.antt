@@ -3,7 +3,8 @@ use Rattle.std.specs.Prelude.{Option, Some, None, Bool, true, false, cond, codes
 use Rattle.road_base.specs.declared.ids.Dir.{Dir}
 use Rattle.road_base.specs.Tags.{TagList, value_of}
 use Rattle.road_model.specs.declared.answers.AccessKey.{AccessKey}
-use Rattle.road_model.specs.declared.answers.AccessKey.TheVariants.{Motorcar, MotorVehicle, Vehicle, Access as AccessTag}
+use Rattle.road_model.specs.declared.answers.AccessKey.TheVariants.{Motorcar, MotorVehicle, Vehicle}
+use Rattle.road_model.specs.declared.answers.AccessKey.TheVariants.{Access as AccessTag}
 use Rattle.road_model.specs.declared.answers.ClosedBy.{ClosedBy}
 use Rattle.road_model.specs.declared.answers.ClosedBy.TheVariants.{Area, Highway, Deciding}
 use Rattle.road_model.specs.declared.answers.Access.{Access}

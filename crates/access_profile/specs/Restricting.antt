@@ -36,7 +36,8 @@ is_excepted (Some value) = names_car value
 
 -- a value that forbids turns begins with `no_`, one that allows no other turns with `only_`
 unfoldable pub kind_of : List ℕ → RuleKind
-kind_of value = cond (starts_with nat_eq value (codes "no_")) No (cond (starts_with nat_eq value (codes "only_")) Only Absent)
+kind_of value = cond (starts_with nat_eq value (codes "no_")) No
+    (cond (starts_with nat_eq value (codes "only_")) Only Absent)
 
 -- the value for cars decides, and where there is none the value for all
 abbrev pub kind_by : Option (List ℕ) → Option (List ℕ) → RuleKind

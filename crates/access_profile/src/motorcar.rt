@@ -18,8 +18,8 @@ impl Profile for Motorcar {
         1
     }
 
-    /// Closed by `area=yes`, by a `highway` that is missing or isn't for cars, or by the deciding key; where no key closes
-    /// it, the wrong way where oneway doesn't allow the direction (OSM wiki, Key:access and Key:oneway).
+    /// Closed by `area=yes`, by a `highway` that is missing or isn't for cars, or by the deciding key; where no key
+    /// closes it, the wrong way where oneway doesn't allow the direction (OSM wiki, Key:access and Key:oneway).
     fn direction(&self, tags: &Tags, dir: Dir) -> Access {
         closing::direction(tags, dir)
     }

@@ -1,7 +1,8 @@
 //! What a restriction says to a car.
 ghost use Rattle.std.specs.Prelude.{◌≡◌, codes, reverse};
 ghost use Rattle.road_base.specs.Tags.{value_of};
-ghost use Rattle.access_profile.specs.Restricting.{behind_spaces, is_car_name, is_excepted, kind_of, names_car, rule, without_spaces};
+ghost use Rattle.access_profile.specs.Restricting.{behind_spaces, is_car_name, is_excepted, kind_of, names_car, rule};
+ghost use Rattle.access_profile.specs.Restricting.{without_spaces};
 
 use road_base::Tags;
 use road_model::RuleKind;

@@ -4,7 +4,8 @@ use Rattle.object_codec.specs.declared.unread.Unread.{Unread}
 use Rattle.object_codec.specs.declared.unread.Unread.TheVariants.{Malformed, Memory}
 
 -- the bytes are the spelling of x, which the types can hold, and then the rest
-pub record Begins {A : Type 0} (spell : A → List ℕ) (Fits : A → Type 0) (bytes : List ℕ) (x : A) (rest : List ℕ) : Type 0 where
+pub record Begins {A : Type 0} (spell : A → List ℕ) (Fits : A → Type 0) (bytes : List ℕ) (x : A) (rest : List ℕ) : Type
+    0 where
   pub fits : Fits x
   pub parts : bytes ≡ spell x ++ rest
 
@@ -18,4 +19,5 @@ IfMalformed Memory P = Unit {0}
 
 -- no spelling begins another one, and each is that of one value
 abbrev pub IsOneSpelling : {A : Type 0} → (A → List ℕ) → (A → Type 0) → Type 0
-IsOneSpelling {A} spell Fits = (x y : A) (bytes r s : List ℕ) → Begins spell Fits bytes x r → Begins spell Fits bytes y s → (x ≡ y) × (r ≡ s)
+IsOneSpelling {A} spell Fits = (x y : A) (bytes r s : List ℕ) → Begins spell Fits bytes x r
+    → Begins spell Fits bytes y s → (x ≡ y) × (r ≡ s)

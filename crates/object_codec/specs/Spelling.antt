@@ -1,5 +1,7 @@
--- The bytes that spell a list of events. All numbers are little endian, and a count or a length stands in front of what it counts.
-use Rattle.std.specs.Prelude.{◌≡◌, ℕ, ◌<◌, ◌≤◌, ◌^◌, List, [], ◌∷◌, ◌++◌, length, Option, Some, None, FitsSigned, IsUtf8, IsTrue}
+-- The bytes that spell a list of events. All numbers are little endian, and a count or a length stands in front of
+-- what it counts.
+use Rattle.std.specs.Prelude.{◌≡◌, ℕ, ◌<◌, ◌≤◌, ◌^◌, List, [], ◌∷◌, ◌++◌, length, Option, Some, None, FitsSigned}
+use Rattle.std.specs.Prelude.{IsUtf8, IsTrue}
 use Rattle.std.specs.List.{AllByRecursion}
 use Rattle.std.specs.Int.{w32, w64}
 use Rattle.road_base.specs.Bytes.{u32_bytes, u64_bytes, i32_bytes, i64_bytes, joined}
@@ -14,7 +16,8 @@ use Rattle.road_base.specs.declared.objects.Way.{Way}
 use Rattle.road_base.specs.declared.objects.Member.{Member}
 use Rattle.road_base.specs.declared.objects.Relation.{Relation}
 use Rattle.road_base.specs.declared.objects.Body.{Body}
-use Rattle.road_base.specs.declared.objects.Body.TheVariants.{Node as NodeBody, Way as WayBody, Relation as RelationBody, Deleted}
+use Rattle.road_base.specs.declared.objects.Body.TheVariants.{Node as NodeBody, Way as WayBody}
+use Rattle.road_base.specs.declared.objects.Body.TheVariants.{Relation as RelationBody, Deleted}
 use Rattle.road_base.specs.declared.event.Event.{Event}
 
 -- ---- spelling

@@ -49,7 +49,8 @@ pub fn decode(alloc: Global, bytes: &[u8]) -> Result<Option<Vec<Event>>, NoMemor
     ensures spelled { IfOk result (λ r. IfSome r (λ events. events_bytes events.items ≡ bytes.now)) }
     ensures only { IfOk result (λ r. (events : List Event) → AreEvents events → events_bytes events ≡ bytes.now
         → IfSome r (λ read. read.items ≡ events)) }
-    ensures none { IfOk result (λ r. IfNone r ((events : List Event) → AreEvents events → events_bytes events ≡ bytes.now → ⊥)) }
+    ensures none { IfOk result (λ r. IfNone r
+        ((events : List Event) → AreEvents events → events_bytes events ≡ bytes.now → ⊥)) }
 {
     match read_events(alloc, bytes) {
         Ok((events, [])) => Ok(Some(events)),

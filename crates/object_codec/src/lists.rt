@@ -20,7 +20,8 @@ pub(crate) fn read_all<T: Spell + Drop>(
     bytes: &[u8],
 ) -> Result<(Vec<T>, &[u8]), Unread>
     ensures found { IfOk result (λ x. Begins (joined T.spelling) (AreSoMany T.fits count) bytes.now x.0.items x.1.now) }
-    ensures malformed { IfErr result (λ e. IfMalformed e (NoneBegins (joined T.spelling) (AreSoMany T.fits count) bytes.now)) }
+    ensures malformed { IfErr result (λ e. IfMalformed e
+        (NoneBegins (joined T.spelling) (AreSoMany T.fits count) bytes.now)) }
 {
     let mut items = Vec::new(alloc);
     let mut rest = bytes;
@@ -49,7 +50,8 @@ pub(crate) fn read_list<T: Spell + Drop>(
     bytes: &[u8],
 ) -> Result<(Vec<T>, &[u8]), Unread>
     ensures found { IfOk result (λ x. Begins (list_bytes T.spelling) (ListFits T.fits) bytes.now x.0.items x.1.now) }
-    ensures malformed { IfErr result (λ e. IfMalformed e (NoneBegins (list_bytes T.spelling) (ListFits T.fits) bytes.now)) }
+    ensures malformed { IfErr result (λ e. IfMalformed e
+        (NoneBegins (list_bytes T.spelling) (ListFits T.fits) bytes.now)) }
 {
     let (count, rest) = u32::read(alloc, bytes)?;
     if count > MOST {

@@ -3,8 +3,12 @@ ghost use Rattle.std.specs.Prelude.{◌≡◌, ◌++◌, ◌∷◌, OnOk, OnErr,
 ghost use Rattle.std.specs.Int.{w64};
 ghost use Rattle.road_base.specs.Bytes.{i64_bytes, Keeps};
 ghost use Rattle.road_base.specs.Ranges.{is_in_range};
-ghost use Rattle.object_codec.specs.Spelling.{key_bytes, location_bytes, place_bytes, node_bytes, refs_bytes, way_bytes, member_bytes, members_bytes, relation_bytes, KeyFits, LocationFits, PlaceFits, NodeFits, RefsFit, WayFits, MemberFits, MembersFit, RelationFits};
-ghost use Rattle.object_codec.specs.OneSpelling.{key_one, location_one, place_one, node_one, refs_one, way_one, member_one, members_one, relation_one};
+ghost use Rattle.object_codec.specs.Spelling.{key_bytes, location_bytes, place_bytes, node_bytes, refs_bytes};
+ghost use Rattle.object_codec.specs.Spelling.{way_bytes, member_bytes, members_bytes, relation_bytes, KeyFits};
+ghost use Rattle.object_codec.specs.Spelling.{LocationFits, PlaceFits, NodeFits, RefsFit, WayFits, MemberFits};
+ghost use Rattle.object_codec.specs.Spelling.{MembersFit, RelationFits};
+ghost use Rattle.object_codec.specs.OneSpelling.{key_one, location_one, place_one, node_one, refs_one, way_one};
+ghost use Rattle.object_codec.specs.OneSpelling.{member_one, members_one, relation_one};
 
 use crate::lists::{put_list, read_list};
 use crate::spelling::Spell;

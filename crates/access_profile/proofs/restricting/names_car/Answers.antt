@@ -9,5 +9,6 @@ pub returns : goal.returns
 unfolding names_car
 returns c =
     any_from_yields_List (λ part. is_car_name (without_spaces part)) _ _ _ c.any.ensures.ran
-    (YieldsList-from_slice_split _ (λ b. b == 59) c.args.value.now c.split.ensures.rest c.split.ensures.done c.split.ensures.closure (λ x b q called. (search rules, search rules)))
+    (YieldsList-from_slice_split _ (λ b. b == 59) c.args.value.now c.split.ensures.rest c.split.ensures.done
+    c.split.ensures.closure (λ x b q called. (search rules, search rules)))
     (λ x b q called. (search rules, search rules))

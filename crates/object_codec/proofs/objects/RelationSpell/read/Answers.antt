@@ -1,6 +1,7 @@
 use Rattle.std.proofs.lemmas.Result.{err_from_is_err_and}
 use Rattle.road_base.specs.declared.objects.Relation.{Relation}
-use Rattle.object_codec.specs.Spelling.{relation_bytes, tags_bytes, members_bytes, RelationFits, TagsFit, MembersFit, pair_bytes, PairFits}
+use Rattle.object_codec.specs.Spelling.{relation_bytes, tags_bytes, members_bytes, RelationFits, TagsFit, MembersFit}
+use Rattle.object_codec.specs.Spelling.{pair_bytes, PairFits}
 use Rattle.object_codec.proofs.Fronts.{malformed_weaker, form_missing}
 use Rattle.object_codec.proofs.objects.RelationSpell.read.Goals as goal
 
@@ -8,4 +9,6 @@ pub returns-in_err-tags-clause-malformed : goal.returns-in_err-tags-clause-malfo
 unfolding relation_bytes RelationFits
 returns-in_err-tags-clause-malformed c =
     let p = err_from_is_err_and c.from_residual.result c.from_residual.ensures.1 in
-    rw (p.1, p.2) (malformed_weaker c.in_err-tags.field-0.0 (form_missing (λ (x : Relation). (x.tags, x.members)) (pair_bytes tags_bytes members_bytes) (PairFits TagsFit MembersFit) c.args.bytes.now) c.in_err-tags.ensures.malformed)
+    rw (p.1, p.2) (malformed_weaker c.in_err-tags.field-0.0
+    (form_missing (λ (x : Relation). (x.tags, x.members)) (pair_bytes tags_bytes members_bytes)
+    (PairFits TagsFit MembersFit) c.args.bytes.now) c.in_err-tags.ensures.malformed)
