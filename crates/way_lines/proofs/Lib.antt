@@ -1,4 +1,4 @@
 pub mod Short
-pub mod Adding
+pub mod AddedSteps
 pub mod Pairs
-pub mod Walking
+pub mod WalkedLines

@@ -3,7 +3,9 @@ use Rattle.std.proofs.Common.{◌≤◌, cond, List, [], ◌∷◌, length, Bool
 use Rattle.road_base.specs.declared.ids.NodeId.{NodeId}
 use Rattle.road_model.specs.Lines.{same_node, changes, changes_from}
 
-short_either : (x y : NodeId) (xs : List NodeId) (b : Bool) → length (changes_from x xs) ≤ length xs → length (changes_from y xs) ≤ length xs → length (cond b (changes_from x xs) (y ∷ changes_from y xs)) ≤ length (y ∷ xs)
+short_either : (x y : NodeId) (xs : List NodeId) (b : Bool) → length (changes_from x xs) ≤ length xs
+    → length (changes_from y xs) ≤ length xs → length (cond b (changes_from x xs) (y ∷ changes_from y xs)) ≤ length
+    (y ∷ xs)
 short_either x y xs true dropped kept = omega arith
 short_either x y xs false dropped kept = omega arith
 

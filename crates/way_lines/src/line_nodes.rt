@@ -14,7 +14,8 @@ pub struct LineNodes<'a> {
     rest: &'a [NodeId],
 }
 
-/// The nodes of the way's line, in order, at most 65,535. To go over all of them takes the time of the way's references.
+/// The nodes of the way's line, in order, at most 65,535. To go over all of them takes the time of the way's
+/// references.
 #[tactic(auto, using(crate::proofs::Short::short_line))]
 pub fn line(way: &Way) -> LineNodes<'_>
     ensures nodes { nodes_left result ≡ changes way.now.refs }

@@ -1,31 +1,32 @@
 //! Which step may follow which.
 ghost use Rattle.std.specs.Prelude.{◌≡◌, ◌≢◌, ◌+◌, ◌↔◌, Some, IsTrue, IsFalse};
 ghost use Rattle.road_base.specs.declared.ids.Step.{Step};
-ghost use Rattle.road_model.specs.Lines.{names_pair, node_at};
+ghost use Rattle.road_model.specs.Lines.{node_at};
+ghost use Rattle.road_model.specs.Networks.{made_on, map_of, on};
 ghost use Rattle.road_model.specs.Driving.{Leaves, MayTurn, Passes, drivable, shut, turning_place};
 
 use crate::line_nodes::line;
 use crate::steps::{drivable, ends, is_drivable_between};
 use road_base::{Dir, NodeId, Step, WayId};
 use road_model::laws::roads_refer;
-use road_model::{Profile, World};
+use road_model::{Network, Profile, World};
 
 /// Whether the node is visible and shut, as at a bollard.
-pub fn is_shut<M: World, P: Profile>(world: &M, profile: &P, node: NodeId) -> bool
-    ensures { result ≡ shut (M.objects world.now) (P.rules profile.now) node }
+fn is_shut<M: World, P: Profile>(network: &Network<'_, M, P>, node: NodeId) -> bool
+    ensures { result ≡ made_on network.now shut node }
 {
-    match world.node(node) {
-        Some(node) => !profile.node_open(&node.tags),
+    match network.world.node(node) {
+        Some(node) => !network.profile.node_open(&node.tags),
         None => false,
     }
 }
 
 /// Whether the node is visible and a place to turn round.
-pub fn is_turning_place<M: World, P: Profile>(world: &M, profile: &P, node: NodeId) -> bool
-    ensures { result ≡ turning_place (M.objects world.now) (P.rules profile.now) node }
+fn is_turning_place<M: World, P: Profile>(network: &Network<'_, M, P>, node: NodeId) -> bool
+    ensures { result ≡ made_on network.now turning_place node }
 {
-    match world.node(node) {
-        Some(node) => profile.turns(&node.tags),
+    match network.world.node(node) {
+        Some(node) => network.profile.turns(&node.tags),
         None => false,
     }
 }
@@ -34,48 +35,57 @@ pub fn is_turning_place<M: World, P: Profile>(world: &M, profile: &P, node: Node
 /// round there by t, and elsewhere that node isn't shut. A step that names no pair of a visible way's line follows
 /// none and is followed by none.
 pub fn pass<M: World, P: Profile>(world: &M, profile: &P, s: Step, t: Step) -> bool
-    ensures { IsTrue result
-        ↔ (IsTrue (names_pair (M.objects world.now) s)
-        × IsTrue (names_pair (M.objects world.now) t)
-        × Passes (M.objects world.now) (P.rules profile.now) s t) }
+    ensures { IsTrue result ↔ Passes (M.objects world.now) (P.rules profile.now) s t }
 {
-    let Some((from, at)) = ends(world, s) else {
+    passes(&Network::new(world, *profile), s, t)
+}
+
+/// Whether step t may follow step s.
+#[tactic(auto, using(crate::proofs::Pairs::no_end))]
+fn passes<M: World, P: Profile>(network: &Network<'_, M, P>, s: Step, t: Step) -> bool
+    ensures { IsTrue result ↔ on network.now Passes s t }
+{
+    let Some((from, at)) = ends(network.world, s) else {
         return false;
     };
-    let Some((next, to)) = ends(world, t) else {
+    let Some((next, to)) = ends(network.world, t) else {
         return false;
     };
     if next != at {
         return false;
     }
     if to == from {
-        may_turn(world, profile, at, t)
+        may_turn(network, at, t)
     } else {
-        !is_shut(world, profile, at)
+        !is_shut(network, at)
     }
 }
 
 /// Whether one may turn round at the node by the step.
-pub fn may_turn<M: World, P: Profile>(world: &M, profile: &P, node: NodeId, step: Step) -> bool
-    ensures { IsTrue result ↔ MayTurn (M.objects world.now) (P.rules profile.now) node step }
+fn may_turn<M: World, P: Profile>(network: &Network<'_, M, P>, node: NodeId, step: Step) -> bool
+    ensures { IsTrue result ↔ on network.now MayTurn node step }
 {
-    is_turning_place(world, profile, node)
-        || is_shut(world, profile, node)
-        || is_only_leaving(world, profile, node, step)
+    is_turning_place(network, node)
+        || is_shut(network, node)
+        || is_only_leaving(network, node, step)
 }
 
 /// Whether the step is the only drivable one that leaves the node.
-fn is_only_leaving<M: World, P: Profile>(world: &M, profile: &P, node: NodeId, step: Step) -> bool
+fn is_only_leaving<M: World, P: Profile>(
+    network: &Network<'_, M, P>,
+    node: NodeId,
+    step: Step,
+) -> bool
     ensures { IsTrue result
-        ↔ (Leaves (M.objects world.now) (P.rules profile.now) node step
-        × ((u : Step) → Leaves (M.objects world.now) (P.rules profile.now) node u → u ≡ step)) }
+        ↔ (on network.now Leaves node step
+        × ((u : Step) → on network.now Leaves node u → u ≡ step)) }
 {
-    roads_refer(profile);
-    if !leaves(world, profile, node, step) {
+    roads_refer(&network.profile);
+    if !leaves(network, node, step) {
         return false;
     }
-    for way in world.ways_at(node) {
-        if !none_but(world, profile, node, step, *way) {
+    for way in network.world.ways_at(node) {
+        if !none_but(network, node, step, *way) {
             return false;
         }
     }
@@ -83,19 +93,18 @@ fn is_only_leaving<M: World, P: Profile>(world: &M, profile: &P, node: NodeId, s
 }
 
 /// Whether the step may be driven and leaves the node.
-fn leaves<M: World, P: Profile>(world: &M, profile: &P, node: NodeId, step: Step) -> bool
-    ensures { IsTrue result ↔ Leaves (M.objects world.now) (P.rules profile.now) node step }
+fn leaves<M: World, P: Profile>(network: &Network<'_, M, P>, node: NodeId, step: Step) -> bool
+    ensures { IsTrue result ↔ on network.now Leaves node step }
 {
-    match ends(world, step) {
-        Some((tail, _)) => tail == node && drivable(world, profile, step),
+    match ends(network.world, step) {
+        Some((tail, _)) => tail == node && drivable(network.world, &network.profile, step),
         None => false,
     }
 }
 
 /// Whether no other step of the way than this one leaves the node.
 fn none_but<M: World, P: Profile>(
-    world: &M,
-    profile: &P,
+    network: &Network<'_, M, P>,
     node: NodeId,
     step: Step,
     way: WayId,
@@ -103,10 +112,10 @@ fn none_but<M: World, P: Profile>(
     ensures { IsTrue result
         ↔ ((u : Step)
         → u.way ≡ way
-        → Leaves (M.objects world.now) (P.rules profile.now) node u
+        → on network.now Leaves node u
         → u ≡ step) }
 {
-    let Some(body) = world.way(way) else {
+    let Some(body) = network.world.way(way) else {
         return true;
     };
     let mut nodes = line(body);
@@ -120,7 +129,7 @@ fn none_but<M: World, P: Profile>(
             index,
             dir: Dir::Forward,
         };
-        if other_leaves(world, profile, node, step, pair, first, second) {
+        if other_leaves(network, node, step, pair, first, second) {
             return false;
         }
         first = second;
@@ -131,21 +140,20 @@ fn none_but<M: World, P: Profile>(
 
 /// Whether one of the two steps between these neighbouring nodes leaves the node and is another than the given one.
 fn other_leaves<M: World, P: Profile>(
-    world: &M,
-    profile: &P,
+    network: &Network<'_, M, P>,
     node: NodeId,
     step: Step,
     pair: Step,
     first: NodeId,
     second: NodeId,
 ) -> bool
-    requires first { node_at (M.objects world.now) pair.way pair.index ≡ Some first }
-    requires second { node_at (M.objects world.now) pair.way (pair.index + 1) ≡ Some second }
+    requires first { node_at (map_of network.now) pair.way pair.index ≡ Some first }
+    requires second { node_at (map_of network.now) pair.way (pair.index + 1) ≡ Some second }
     ensures { IsFalse result
         ↔ ((u : Step)
         → u.way ≡ pair.way
         → u.index ≡ pair.index
-        → Leaves (M.objects world.now) (P.rules profile.now) node u
+        → on network.now Leaves node u
         → u ≡ step) }
 {
     let along = Step {
@@ -156,8 +164,25 @@ fn other_leaves<M: World, P: Profile>(
         dir: Dir::Backward,
         ..pair
     };
-    (first == node && along != step && is_drivable_between(world, profile, along, first, second))
-        || (second == node
-            && against != step
-            && is_drivable_between(world, profile, against, first, second))
+    (along != step && leaves_between(network, node, along, first, second))
+        || (against != step && leaves_between(network, node, against, first, second))
+}
+
+/// Whether the step, whose nodes are known, may be driven and leaves the node.
+fn leaves_between<M: World, P: Profile>(
+    network: &Network<'_, M, P>,
+    node: NodeId,
+    step: Step,
+    first: NodeId,
+    second: NodeId,
+) -> bool
+    requires first { node_at (map_of network.now) step.way step.index ≡ Some first }
+    requires second { node_at (map_of network.now) step.way (step.index + 1) ≡ Some second }
+    ensures { IsTrue result ↔ on network.now Leaves node step }
+{
+    let tail = match step.dir {
+        Dir::Forward => first,
+        Dir::Backward => second,
+    };
+    tail == node && is_drivable_between(network.world, &network.profile, step, first, second)
 }

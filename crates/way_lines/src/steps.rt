@@ -1,12 +1,12 @@
 //! Steps along ways: where they begin and end, and whether they may be driven.
-ghost use Rattle.std.specs.Prelude.{◌≡◌, ◌≤◌, ◌+◌, Some, None, slice_get, length, is_some, IfSome, nat_lt, if◌then◌else◌};
-ghost use Rattle.road_model.specs.Rules.{is_free};
+ghost use Rattle.std.specs.Prelude.{◌≡◌, ◌≤◌, ◌+◌, Some, None, slice_get, length, is_some, IfSome, nat_lt};
 ghost use Rattle.road_model.specs.Lines.{changes, head_of, names_pair, node_at, tail_of};
 ghost use Rattle.road_model.specs.Driving.{drivable, is_open, is_road, located};
 
 use crate::line_nodes::line_at;
+use crate::roads::{Road, is_free};
 use road_base::{Dir, NodeId, Step, Way, WayId};
-use road_model::{Access, Profile, World};
+use road_model::{Network, Profile, World};
 
 /// Whether the way is visible and open in the direction.
 #[tactic(auto, unfolding(road_model::specs::Driving::is_open))]
@@ -19,17 +19,11 @@ pub fn is_open<M: World, P: Profile>(world: &M, profile: &P, way: WayId, dir: Di
     }
 }
 
-fn is_free(access: Access) -> bool
-    ensures { result ≡ is_free access }
-{
-    matches!(access, Access::Free)
-}
-
 /// Whether the way is a road: visible, and open in some direction.
 pub fn is_road<M: World, P: Profile>(world: &M, profile: &P, way: WayId) -> bool
     ensures { result ≡ is_road (M.objects world.now) (P.rules profile.now) way }
 {
-    is_open(world, profile, way, Dir::Forward) || is_open(world, profile, way, Dir::Backward)
+    Road::of(&Network::new(world, *profile), way).is_open()
 }
 
 /// Whether the node is visible with a location.
@@ -73,8 +67,9 @@ pub(crate) fn is_drivable_between<M: World, P: Profile>(
 }
 
 /// The node where the step begins, None exactly where the step names no pair of a visible way's line.
+#[tactic(auto, using(crate::proofs::Pairs::no_end))]
 pub fn tail<M: World>(world: &M, step: Step) -> Option<NodeId>
-    ensures { result ≡ (if names_pair (M.objects world.now) step then tail_of (M.objects world.now) step else None) }
+    ensures { result ≡ tail_of (M.objects world.now) step }
 {
     match ends(world, step) {
         Some((tail, _)) => Some(tail),
@@ -83,8 +78,9 @@ pub fn tail<M: World>(world: &M, step: Step) -> Option<NodeId>
 }
 
 /// The node where the step ends, None exactly where the step names no pair of a visible way's line.
+#[tactic(auto, using(crate::proofs::Pairs::no_end))]
 pub fn head<M: World>(world: &M, step: Step) -> Option<NodeId>
-    ensures { result ≡ (if names_pair (M.objects world.now) step then head_of (M.objects world.now) step else None) }
+    ensures { result ≡ head_of (M.objects world.now) step }
 {
     match ends(world, step) {
         Some((_, head)) => Some(head),
@@ -94,7 +90,8 @@ pub fn head<M: World>(world: &M, step: Step) -> Option<NodeId>
 
 /// Where the step begins and ends, None exactly where the step names no pair of a visible way's line.
 pub fn ends<M: World>(world: &M, step: Step) -> Option<(NodeId, NodeId)>
-    ensures some { IfSome result (λ p. (tail_of (M.objects world.now) step ≡ Some p.0) × (head_of (M.objects world.now) step ≡ Some p.1)) }
+    ensures some { IfSome result (λ p. (tail_of (M.objects world.now) step ≡ Some p.0)
+        × (head_of (M.objects world.now) step ≡ Some p.1)) }
     ensures named { is_some result ≡ names_pair (M.objects world.now) step }
 {
     let Some((first, second)) = pair(world, step) else {
@@ -109,7 +106,8 @@ pub fn ends<M: World>(world: &M, step: Step) -> Option<(NodeId, NodeId)>
 /// The nodes at the step's positions, in the order of the line.
 #[tactic(auto, unfolding(road_model::specs::Lines::node_at, road_model::specs::Lines::line_of, road_model::specs::Lines::names_pair))]
 fn pair<M: World>(world: &M, step: Step) -> Option<(NodeId, NodeId)>
-    ensures some { IfSome result (λ p. (node_at (M.objects world.now) step.way step.index ≡ Some p.0) × (node_at (M.objects world.now) step.way (step.index + 1) ≡ Some p.1)) }
+    ensures some { IfSome result (λ p. (node_at (M.objects world.now) step.way step.index ≡ Some p.0)
+        × (node_at (M.objects world.now) step.way (step.index + 1) ≡ Some p.1)) }
     ensures named { is_some result ≡ names_pair (M.objects world.now) step }
 {
     let Some(way) = world.way(step.way) else {
@@ -120,7 +118,8 @@ fn pair<M: World>(world: &M, step: Step) -> Option<(NodeId, NodeId)>
 
 /// The nodes at a position of the way's line and the next one.
 fn pair_at(way: &Way, index: u32) -> Option<(NodeId, NodeId)>
-    ensures some { IfSome result (λ p. (slice_get (changes way.now.refs) index ≡ Some p.0) × (slice_get (changes way.now.refs) (index + 1) ≡ Some p.1)) }
+    ensures some { IfSome result (λ p. (slice_get (changes way.now.refs) index ≡ Some p.0)
+        × (slice_get (changes way.now.refs) (index + 1) ≡ Some p.1)) }
     ensures named { is_some result ≡ nat_lt (index + 1) (length (changes way.now.refs)) }
 {
     let position = index as usize;

@@ -14,4 +14,5 @@ same (Some node) = refl
 pub returns : goal.returns
 returns c =
     sym (same c.nth.result)
-    ∙ nth_from_yields_List c.nth.result c.nth.new.self c.args.position c.nth.ensures.ran (YieldsList-from_first (λ x. x) nodes_left (changes c.args.way.now.refs) c.line.ensures.nodes)
+    ∙ nth_from_yields_List c.nth.result c.nth.new.self c.args.position c.nth.ensures.ran
+    (YieldsList-from_first (λ x. x) nodes_left (changes c.args.way.now.refs) c.line.ensures.nodes)

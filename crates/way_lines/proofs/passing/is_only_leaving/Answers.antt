@@ -6,7 +6,7 @@ use Rattle.way_lines.proofs.passing.is_only_leaving.Goals as goal
 
 pub returns : goal.returns
 returns g c =
-    let M = g.M.World.objects c.args.world.now in
+    let M = g.M.World.objects c.args.network.now.world.now in
     let ways = c.ways_at-way-items.result.now in
     let past = c.loop-way-test.false in
     let whole : take c.loop-way.way-index ways ≡ ways = take_all c.loop-way.way-index ways (omega arith) in (

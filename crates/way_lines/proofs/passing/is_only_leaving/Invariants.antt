@@ -6,4 +6,5 @@ use Rattle.way_lines.proofs.passing.is_only_leaving.Given as goal
 -- no step of the ways so far leaves
 abbrev pub invariant-loop-way : goal.invariant-loop-way
 invariant-loop-way g l =
-    (u : Step) → Contains (take l.way-index l.way-items) u.way → Leaves (g.M.World.objects l.world) (g.P.Profile.rules l.profile) l.node u → u ≡ l.step
+    (u : Step) → Contains (take l.way-index l.way-items) u.way
+    → Leaves (g.M.World.objects l.network.world.now) (g.P.Profile.rules l.network.profile) l.node u → u ≡ l.step

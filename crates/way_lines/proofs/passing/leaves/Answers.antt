@@ -7,5 +7,6 @@ use Rattle.way_lines.proofs.passing.leaves.Goals as goal
 pub returns-in-None : goal.returns-in-None
 returns-in-None g c = (
   λ yes. absurd (false≢true yes),
-  λ goes. undrivable (g.M.World.objects c.args.world.now) (g.P.Profile.rules c.args.profile.now) c.args.step c.in-None.ensures.named ∙ goes.drives,
+  λ goes. undrivable (g.M.World.objects c.args.network.now.world.now) (g.P.Profile.rules c.args.network.now.profile)
+      c.args.step c.in-None.ensures.named ∙ goes.drives,
 )

@@ -1,5 +1,6 @@
 -- A list that is walked from its front, and the steps of a way that is walked so.
-use Rattle.std.proofs.Common.{◌≡◌, ℕ, zero, suc, ◌+◌, ◌<◌, ◌≤◌, List, [], ◌∷◌, length, drop, slice_get, Option, Some, IsTrue, ap, ◌∙◌, inl, inr, arith, add-one}
+use Rattle.std.proofs.Common.{◌≡◌, ℕ, zero, suc, ◌+◌, ◌<◌, ◌≤◌, List, [], ◌∷◌, length, drop, slice_get, Option, Some}
+use Rattle.std.proofs.Common.{IsTrue, ap, ◌∙◌, inl, inr, arith, add-one}
 use Rattle.std.proofs.Math.Nat.{eq-or-lt_of_le}
 use Rattle.road_base.specs.declared.ids.NodeId.{NodeId}
 use Rattle.road_base.specs.declared.ids.WayId.{WayId}
@@ -30,7 +31,8 @@ left_behind (z ∷ zs) (suc i) x ys left = left_behind zs i x ys left
 pub behind_front : {A : Type 0} (xs : List A) (i : ℕ) (x : A) (ys : List A) → drop i xs ≡ x ∷ ys → drop (i + 1) xs ≡ ys
 behind_front xs i x ys left = rw add-one (left_behind xs i x ys left)
 
-pub length_front : {A : Type 0} (xs : List A) (i : ℕ) (x : A) (ys : List A) → drop i xs ≡ x ∷ ys → length xs ≡ i + (1 + length ys)
+pub length_front : {A : Type 0} (xs : List A) (i : ℕ) (x : A) (ys : List A) → drop i xs ≡ x ∷ ys
+    → length xs ≡ i + (1 + length ys)
 length_front [] zero x ys left = cc
 length_front [] (suc i) x ys left = cc
 length_front (z ∷ zs) zero x ys left = let same = ap length left in omega arith
@@ -44,12 +46,14 @@ unfolding line_of
 visible_line M w body visible = ap (λ (o : Option Way). changes (refs_of o)) visible
 
 -- the node at a position where a way's line is walked
-pub node_there : (M : Objects) (w : WayId) (i : ℕ) (x : NodeId) (ys : List NodeId) → drop i (line_of M w) ≡ x ∷ ys → node_at M w i ≡ Some x
+pub node_there : (M : Objects) (w : WayId) (i : ℕ) (x : NodeId) (ys : List NodeId) → drop i (line_of M w) ≡ x ∷ ys
+    → node_at M w i ≡ Some x
 unfolding node_at
 node_there M w i x ys left = at_front (line_of M w) i x ys left
 
 -- where one node is left of a line, each step that can be driven stands before it
-pub before_last : (M : Objects) (P : Rules) (w : WayId) (i : ℕ) (x : NodeId) (ys : List NodeId) → drop i (line_of M w) ≡ x ∷ ys → ys ≡ [] → (u : Step) → u.way ≡ w → IsTrue (drivable M P u) → u.index < i
+pub before_last : (M : Objects) (P : Rules) (w : WayId) (i : ℕ) (x : NodeId) (ys : List NodeId)
+    → drop i (line_of M w) ≡ x ∷ ys → ys ≡ [] → (u : Step) → u.way ≡ w → IsTrue (drivable M P u) → u.index < i
 before_last M P w i x ys left none u on drives =
     let within = on_line M P u drives in
     let same : length (line_of M u.way) ≡ length (line_of M w) = ap (λ v. length (line_of M v)) on in
@@ -58,7 +62,8 @@ before_last M P w i x ys left none u on drives =
     omega arith
 
 -- no step of an empty line can be driven
-pub no_line : (M : Objects) (P : Rules) (w : WayId) → line_of M w ≡ [] → (u : Step) → u.way ≡ w → IsTrue (drivable M P u) → ⊥
+pub no_line : (M : Objects) (P : Rules) (w : WayId) → line_of M w ≡ [] → (u : Step) → u.way ≡ w
+    → IsTrue (drivable M P u) → ⊥
 no_line M P w none u on drives =
     let within = on_line M P u drives in
     let empty : length (line_of M u.way) ≡ 0 = ap (λ v. length (line_of M v)) on ∙ ap length none in
@@ -68,7 +73,8 @@ no_line M P w none u on drives =
 abbrev pub NoneBelow : Objects → Rules → NodeId → Step → WayId → ℕ → Type 0
 NoneBelow M P v t w i = (u : Step) → u.way ≡ w → u.index < i → Leaves M P v u → u ≡ t
 
-pub one_more : (M : Objects) (P : Rules) (v : NodeId) (t : Step) (w : WayId) (i : ℕ) → NoneBelow M P v t w i → ((u : Step) → u.way ≡ w → u.index ≡ i → Leaves M P v u → u ≡ t) → NoneBelow M P v t w (i + 1)
+pub one_more : (M : Objects) (P : Rules) (v : NodeId) (t : Step) (w : WayId) (i : ℕ) → NoneBelow M P v t w i
+    → ((u : Step) → u.way ≡ w → u.index ≡ i → Leaves M P v u → u ≡ t) → NoneBelow M P v t w (i + 1)
 one_more M P v t w i before here u on below goes =
     let upto : u.index ≤ i = omega arith in
     elim (eq-or-lt_of_le upto) [
