@@ -1,5 +1,4 @@
-pub mod Counting
-pub mod Referring
+pub mod NodeCounts
+pub mod RoadNodes
 pub mod Positions
-pub mod Appending
-pub mod Passing
+pub mod LongerLists

@@ -1,5 +1,5 @@
 -- Junction positions of roads.
-use Rattle.std.specs.Prelude.{◌≡◌, ℕ, ◌<◌, ◌⊎◌, List, [], ◌∷◌, ◌++◌, length, IsTrue, Contains}
+use Rattle.std.specs.Prelude.{ℕ, ◌<◌, ◌⊎◌, List, length, IsTrue, Contains}
 use Rattle.std.specs.Ordering.{nat_cmp}
 use Rattle.road_base.specs.declared.ids.WayId.{WayId}
 use Rattle.road_base.specs.Objects.{Objects}
@@ -19,7 +19,3 @@ pub record IsJunction (M : Objects) (P : Rules) (w : WayId) (i : ℕ) : Type 0 w
 pub record AreJunctions (M : Objects) (P : Rules) (w : WayId) (positions : List ℕ) : Type 0 where
   pub listed : Lists (λ i. i) nat_cmp (IsJunction M P w) positions
   pub others : (i : ℕ) → IsTrue (is_road M P w) → i < length (line_of M w) → Contains positions i ⊎ IsPlain M P w i
-
--- the position was listed behind the others, if it isn't plain
-abbrev pub Sorts : Type 0 → ℕ → List ℕ → List ℕ → Type 0
-Sorts Plain i old new = (Plain × (new ≡ old)) ⊎ ((Plain → ⊥) × (new ≡ old ++ i ∷ []))

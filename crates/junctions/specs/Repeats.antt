@@ -1,9 +1,15 @@
 -- How often a node stands in a list, and how it is remembered.
-use Rattle.std.specs.Prelude.{◌≡◌, ℕ, zero, suc, ◌+◌, nat_lt, List, [], ◌∷◌, Bool, true, false, cond, Option, Some, None}
+use Rattle.std.specs.Prelude.{◌≡◌, ℕ, zero, suc, ◌+◌, nat_lt, List, [], ◌∷◌, map, Bool, true, false, cond, Option, Some}
+use Rattle.std.specs.Prelude.{None}
 use Rattle.std.specs.BTreeMap.{BTreeMap, get}
 use Rattle.road_base.specs.declared.ids.NodeId.{NodeId}
 use Rattle.road_model.specs.Lines.{same_node}
 use Rattle.road_model.specs.Orders.{node_cmp}
+use Rattle.way_lines.specs.declared.road_line.LineNode.{LineNode}
+
+-- the nodes of a line
+abbrev pub nodes_of : List LineNode → List NodeId
+nodes_of line = map (λ n. n.node) line
 
 -- how often the node stands in the list
 abbrev pub times : NodeId → List NodeId → ℕ

@@ -1,51 +1,65 @@
 //! Whether a position of a road's line is plain.
-ghost use Rattle.std.specs.Prelude.{◌≡◌, ◌≢◌, ◌≤◌, ◌<◌, ◌+◌, ◌↔◌, IsTrue, IsFalse, IfSome, IfNone, length};
+ghost use Rattle.std.specs.Prelude.{◌≡◌, ◌≤◌, ◌<◌, ◌+◌, ◌↔◌, IsTrue, IsFalse, IfSome, IfNone, length, map};
 ghost use Rattle.road_model.specs.Lines.{changes};
 ghost use Rattle.road_model.specs.Driving.{is_road};
+ghost use Rattle.road_model.specs.Networks.{made_on, on};
 ghost use Rattle.road_model.specs.Pieces.{IsPlain};
-ghost use Rattle.junctions.specs.Passing.{AreNeighbours, IsOnNoOther, IsPassed, IsSeen, about};
+ghost use Rattle.way_lines.specs.RoadLines.{AreRoads, IsRoad, line_node};
+ghost use Rattle.junctions.specs.Passing.{AreNeighbours, IsOnNoOther, IsPassed, MayPass};
 
 use crate::repeats::stands_again;
-use crate::seen::{Seen, see};
 use road_base::{NodeId, Way, WayId};
 use road_model::laws::roads_refer;
-use road_model::{Profile, World};
-use way_lines::{is_road, line_at, line_len};
+use road_model::{Network, Profile, World};
+use way_lines::{LineNode, Road, Roads, line_at, line_len};
 
 /// The nodes before, at and behind a position inside a line.
 #[derive(Clone, Copy, Debug)]
 pub struct Neighbours {
-    pub before: NodeId,
-    pub here: NodeId,
-    pub behind: NodeId,
+    pub before: LineNode,
+    pub here: LineNode,
+    pub behind: LineNode,
 }
 
 /// Whether the position of the road's line is plain: it is neither the first nor the last, the nodes before, at and
 /// behind it are visible with locations, those before and behind differ, and the one there stands at no other position
 /// of any road's line, isn't shut and is no turning place. A way that is no road has no plain positions.
 pub fn is_plain<M: World, P: Profile>(world: &M, profile: &P, way: WayId, position: usize) -> bool
-    ensures { IsTrue result
-        ↔ (IsTrue (is_road (M.objects world.now) (P.rules profile.now) way)
-        × IsPlain (M.objects world.now) (P.rules profile.now) way position) }
+    ensures { IsTrue result ↔ IsPlain (M.objects world.now) (P.rules profile.now) way position }
 {
-    if !is_road(world, profile, way) {
+    is_plain_on(&Network::new(world, *profile), way, position)
+}
+
+/// Whether the position of the road's line is plain.
+fn is_plain_on<M: World, P: Profile>(
+    network: &Network<'_, M, P>,
+    way: WayId,
+    position: usize,
+) -> bool
+    ensures { IsTrue result ↔ on network.now IsPlain way position }
+{
+    if !Road::of(network, way).is_open() {
         return false;
     }
-    let Some(body) = world.way(way) else {
+    let Some(body) = network.world.way(way) else {
         return false;
     };
-    let Some(nodes) = nodes_about(body, position) else {
+    let Some(nodes) = neighbours_of(network, body, position) else {
         return false;
     };
-    if stands_again(body, nodes.here) {
+    if stands_again(body, nodes.here.node) {
         return false;
     }
-    is_passed(world, profile, way, nodes)
+    is_passed(network, None, way, nodes)
 }
 
 /// The nodes about a position, None exactly where it doesn't lie inside the way's line.
-fn nodes_about(way: &Way, position: usize) -> Option<Neighbours>
-    ensures some { IfSome result (AreNeighbours (changes way.now.refs) position) }
+fn neighbours_of<M: World, P: Profile>(
+    network: &Network<'_, M, P>,
+    way: &Way,
+    position: usize,
+) -> Option<Neighbours>
+    ensures some { IfSome result (AreNeighbours (map (made_on network.now line_node) (changes way.now.refs)) position) }
     ensures none { IfNone result (0 < position → length (changes way.now.refs) ≤ position + 1) }
 {
     if position == 0 || position >= line_len(way) {
@@ -61,68 +75,67 @@ fn nodes_about(way: &Way, position: usize) -> Option<Neighbours>
         return None;
     };
     Some(Neighbours {
-        before,
-        here,
-        behind,
+        before: LineNode::of(network, before),
+        here: LineNode::of(network, here),
+        behind: LineNode::of(network, behind),
+    })
+}
+
+/// The nodes about a position, None exactly where it doesn't lie inside the line.
+pub fn neighbours_at(line: &[LineNode], at: usize) -> Option<Neighbours>
+    ensures some { IfSome result (AreNeighbours line.now at) }
+    ensures none { IfNone result (0 < at → length line.now ≤ at + 1) }
+{
+    if at == 0 || at >= line.len() {
+        return None;
+    }
+    if at + 1 == line.len() {
+        return None;
+    }
+    Some(Neighbours {
+        before: line[at - 1],
+        here: line[at],
+        behind: line[at + 1],
     })
 }
 
 /// Whether one drives on at the node between its neighbours, where the way stands there but once.
-fn is_passed<M: World, P: Profile>(world: &M, profile: &P, way: WayId, nodes: Neighbours) -> bool
-    ensures { IsTrue result ↔ IsPassed (M.objects world.now) (P.rules profile.now) way nodes }
-{
-    let near = see(world, profile, nodes.before);
-    let here = see(world, profile, nodes.here);
-    match pass_over(world, profile, way, near, here, nodes.behind) {
-        Some(_) => true,
-        None => false,
-    }
-}
-
-/// What is behind the node here, where one drives on there from the node near to the one far, and the way stands here
-/// but once. The far node is looked up last, and only where the others allow it.
-pub fn pass_over<M: World, P: Profile>(
-    world: &M,
-    profile: &P,
+pub fn is_passed<M: World, P: Profile>(
+    network: &Network<'_, M, P>,
+    roads: Option<&Roads>,
     way: WayId,
-    near: Seen,
-    here: Seen,
-    far: NodeId,
-) -> Option<Seen>
-    requires near { IsSeen (M.objects world.now) (P.rules profile.now) near }
-    requires here { IsSeen (M.objects world.now) (P.rules profile.now) here }
-    ensures some { IfSome result (λ s. (s.node ≡ far)
-        × (IsSeen (M.objects world.now) (P.rules profile.now) s
-        × IsPassed (M.objects world.now) (P.rules profile.now) way (about near here far))) }
-    ensures none { IfNone result (IsPassed (M.objects world.now) (P.rules profile.now) way (about near here far) → ⊥) }
+    nodes: Neighbours,
+) -> bool
+    requires { IfSome roads (λ r. on network.now AreRoads r.now) }
+    ensures { IsTrue result ↔ on network.now IsPassed way nodes }
 {
-    if !may_pass(near, here, far) {
-        return None;
-    }
-    if is_on_other(world, profile, way, here.node) {
-        return None;
-    }
-    let beyond = see(world, profile, far);
-    if !beyond.located {
-        return None;
-    }
-    Some(beyond)
+    may_pass(nodes.before, nodes.here, nodes.behind)
+        && !is_on_other(network, roads, way, nodes.here.node)
 }
 
-/// Whether the node here goes through, and one comes from a located node that isn't the far one.
-fn may_pass(near: Seen, here: Seen, far: NodeId) -> bool
-    ensures { IsTrue result ↔ (IsTrue here.through × (IsTrue near.located × (near.node ≢ far))) }
+/// Whether the node here goes through, and its neighbours lie somewhere and are two.
+fn may_pass(before: LineNode, here: LineNode, behind: LineNode) -> bool
+    ensures { IsTrue result ↔ MayPass before here behind }
 {
-    here.through && near.located && near.node != far
+    here.goes_through
+        && before.location.is_some()
+        && behind.location.is_some()
+        && before.node != behind.node
 }
 
 /// Whether a road other than the way passes the node.
-fn is_on_other<M: World, P: Profile>(world: &M, profile: &P, way: WayId, node: NodeId) -> bool
-    ensures { IsFalse result ↔ IsOnNoOther (M.objects world.now) (P.rules profile.now) way node }
+fn is_on_other<M: World, P: Profile>(
+    network: &Network<'_, M, P>,
+    roads: Option<&Roads>,
+    way: WayId,
+    node: NodeId,
+) -> bool
+    requires { IfSome roads (λ r. on network.now AreRoads r.now) }
+    ensures { IsFalse result ↔ on network.now IsOnNoOther way node }
 {
-    roads_refer(profile);
-    for other in world.ways_at(node) {
-        if is_other_road(world, profile, way, *other) {
+    roads_refer(&network.profile);
+    for other in network.world.ways_at(node) {
+        if is_other_road(network, roads, way, *other) {
             return true;
         }
     }
@@ -130,8 +143,30 @@ fn is_on_other<M: World, P: Profile>(world: &M, profile: &P, way: WayId, node: N
 }
 
 /// Whether the other is a road, and not the way.
-fn is_other_road<M: World, P: Profile>(world: &M, profile: &P, way: WayId, other: WayId) -> bool
-    ensures { IsFalse result ↔ (IsTrue (is_road (M.objects world.now) (P.rules profile.now) other) → other ≡ way) }
+fn is_other_road<M: World, P: Profile>(
+    network: &Network<'_, M, P>,
+    roads: Option<&Roads>,
+    way: WayId,
+    other: WayId,
+) -> bool
+    requires { IfSome roads (λ r. on network.now AreRoads r.now) }
+    ensures { IsFalse result ↔ (IsTrue (made_on network.now is_road other) → other ≡ way) }
 {
-    other != way && is_road(world, profile, other)
+    other != way && road_of(network, roads, other).is_open()
+}
+
+/// The directions of the way, looked for among those that were asked before, if there are such.
+fn road_of<M: World, P: Profile>(
+    network: &Network<'_, M, P>,
+    roads: Option<&Roads>,
+    way: WayId,
+) -> Road
+    requires { IfSome roads (λ r. on network.now AreRoads r.now) }
+    ensures way { result.way ≡ way }
+    ensures directions { on network.now IsRoad result }
+{
+    match roads {
+        Some(roads) => roads.road(network, way),
+        None => Road::of(network, way),
+    }
 }

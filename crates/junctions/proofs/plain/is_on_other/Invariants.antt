@@ -6,4 +6,5 @@ use Rattle.junctions.proofs.plain.is_on_other.Given as goal
 -- each road among the ways so far is the way
 abbrev pub invariant-loop-other : goal.invariant-loop-other
 invariant-loop-other g l =
-    (v : WayId) → Contains (take l.other-index l.other-items) v → IsTrue (is_road (g.M.World.objects l.world) (g.P.Profile.rules l.profile) v) → v ≡ l.way
+    (v : WayId) → Contains (take l.other-index l.other-items) v
+    → IsTrue (is_road (g.M.World.objects l.network.world.now) (g.P.Profile.rules l.network.profile) v) → v ≡ l.way

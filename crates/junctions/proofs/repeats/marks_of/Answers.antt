@@ -1,13 +1,13 @@
-use Rattle.std.proofs.Common.{◌≡◌, ◌+◌, take, get_or, pos, sym, subst, ◌++◌, ◌∷◌, [], List}
-use Rattle.std.proofs.lemmas.List.{take_more}
+use Rattle.std.proofs.Common.{take, sym, subst, List}
 use Rattle.road_base.specs.declared.ids.NodeId.{NodeId}
-use Rattle.junctions.specs.Repeats.{AreMarks}
+use Rattle.junctions.specs.Repeats.{AreMarks, nodes_of}
+use Rattle.junctions.proofs.NodeCounts.{take_one}
 use Rattle.junctions.proofs.repeats.marks_of.Goals as goal
 
-pub loop-node-preserved : goal.loop-node-preserved
-loop-node-preserved c =
-    let xs = c.args.nodes.now in
-    let i = c.loop-node.node-index in
-    let x : NodeId = get_or xs i (record { 0 = pos 0 }) in
-    let more : take (i + 1) xs ≡ take i xs ++ x ∷ [] = take_more xs i (record { 0 = pos 0 }) c.loop-node-test.true in
-    subst (λ (ms : List NodeId). AreMarks ms c.mark_node.new.marks) (sym more) (c.in_ok-mark_node.ensures (take i xs) c.loop-node.invariant)
+pub loop-at-preserved : goal.loop-at-preserved
+loop-at-preserved c =
+    let xs = c.args.line.now in
+    let i = c.loop-at.at-index in
+    let more = take_one xs i c.at-item.result c.at-item.is c.loop-at-test.true in
+    let marked = c.in_ok-mark_node.ensures (nodes_of (take i xs)) c.loop-at.invariant in
+    subst (λ (ms : List NodeId). AreMarks ms c.mark_node.new.marks) (sym more) marked

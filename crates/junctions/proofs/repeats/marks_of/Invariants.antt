@@ -1,7 +1,7 @@
 use Rattle.std.proofs.Common.{take}
-use Rattle.junctions.specs.Repeats.{AreMarks}
+use Rattle.junctions.specs.Repeats.{AreMarks, nodes_of}
 use Rattle.junctions.proofs.repeats.marks_of.Given as goal
 
 -- the nodes so far are marked
-abbrev pub invariant-loop-node : goal.invariant-loop-node
-invariant-loop-node l = AreMarks (take l.node-index l.nodes) l.marks
+abbrev pub invariant-loop-at : goal.invariant-loop-at
+invariant-loop-at l = AreMarks (nodes_of (take l.at-index l.line)) l.marks

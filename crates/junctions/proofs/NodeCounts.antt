@@ -1,14 +1,18 @@
 -- How often a node stands in a list, and the marks that remember it.
-use Rattle.std.proofs.Common.{◌≡◌, ℕ, zero, suc, ◌+◌, ◌<◌, ◌≤◌, length, drop, get_or, drop-cons, Bool, true, false, cond, List, [], ◌∷◌, ◌++◌, slice_get, Some, is_some, refl, sym, ap, ◌∙◌, arith, add-one, add-zero, zero-add}
+use Rattle.std.proofs.Common.{◌≡◌, ℕ, zero, suc, ◌+◌, ◌<◌, ◌≤◌, length, take, drop, get_or, drop-cons, Bool, true}
+use Rattle.std.proofs.Common.{false, cond, List, [], ◌∷◌, ◌++◌, slice_get, Some, is_some, refl, sym, ap, ◌∙◌, arith}
+use Rattle.std.proofs.Common.{add-one, add-zero, zero-add}
 use Rattle.std.proofs.Math.ListN.{drop_of_length-le}
 use Rattle.std.specs.BTreeMap.{BTreeMap, get}
 use Rattle.std.specs.Cmp.{int_eq_equiv, signed_Decides}
 use Rattle.std.proofs.lemmas.Bool.{false≢true}
+use Rattle.std.proofs.lemmas.List.{map_more}
 use Rattle.std.proofs.lemmas.Bool.Decides.{Decides-int_eq}
 use Rattle.road_base.specs.declared.ids.NodeId.{NodeId}
 use Rattle.road_model.specs.Lines.{same_node}
 use Rattle.road_model.specs.Orders.{node_cmp}
-use Rattle.junctions.specs.Repeats.{times, mark, AreMarks}
+use Rattle.way_lines.specs.declared.road_line.LineNode.{LineNode}
+use Rattle.junctions.specs.Repeats.{times, mark, nodes_of, AreMarks}
 
 pub node_from_same : (a b : NodeId) → same_node a b ≡ true → a ≡ b
 node_from_same a b e = let same : a.0 ≡ b.0 = (signed_Decides a.0 b.0).0 e in λ i. record { 0 = same i }
@@ -31,14 +35,18 @@ pub times-append : (n : NodeId) (xs ys : List NodeId) → times n (xs ++ ys) ≡
 times-append n [] ys = sym (zero-add (times n ys))
 times-append n (x ∷ xs) ys = omega (arith, times-append n xs ys)
 
-times_one_more : (n : NodeId) (xs : List NodeId) (x : NodeId) → times n (xs ++ x ∷ []) ≡ times n xs + cond (same_node n x) 1 0
+times_one_more : (n : NodeId) (xs : List NodeId) (x : NodeId)
+    → times n (xs ++ x ∷ []) ≡ times n xs + cond (same_node n x) 1 0
 times_one_more n xs x = times-append n xs (x ∷ []) ∙ ap (λ k. times n xs + k) (add-zero (cond (same_node n x) 1 0))
 
 -- one node more
-pub mark_one : (ms : List NodeId) (m n : BTreeMap NodeId Bool) (node q : NodeId) (again : Bool) → again ≡ is_some (get node_cmp m node) → get node_cmp n q ≡ cond (same_node node q) (Some again) (get node_cmp m q) → AreMarks ms m → get node_cmp n q ≡ mark (times q (ms ++ node ∷ []))
+pub mark_one : (ms : List NodeId) (m n : BTreeMap NodeId Bool) (node q : NodeId) (again : Bool)
+    → again ≡ is_some (get node_cmp m node) → get node_cmp n q ≡ cond (same_node node q) (Some again) (get node_cmp m q)
+    → AreMarks ms m → get node_cmp n q ≡ mark (times q (ms ++ node ∷ []))
 mark_one ms m n node q again met is marks =
     is
-    ∙ elim (same_node node q) as (λ b. same_node node q ≡ b → cond b (Some again) (get node_cmp m q) ≡ mark (times q ms + cond b 1 0)) [
+    ∙ elim (same_node node q) as (λ b. same_node node q ≡ b
+    → cond b (Some again) (get node_cmp m q) ≡ mark (times q ms + cond b 1 0)) [
       | true ↦ λ e.
           let same : node ≡ q = node_from_same node q e in
           let seen : again ≡ is_some (mark (times q ms)) = met ∙ ap is_some (ap (get node_cmp m) same ∙ marks q) in
@@ -68,14 +76,16 @@ twice : (v x : NodeId) (xs : List NodeId) (j : ℕ) → v ≡ x → slice_get xs
 twice v x xs j same is few = twice_by (same_node v x) (times v xs) (same_from_node v x same) (counted v xs j is) few
 
 -- a node that is counted but once stands at one place
-pub once_at : (v : NodeId) (xs : List NodeId) → times v xs ≤ 1 → (i j : ℕ) → slice_get xs i ≡ Some v → slice_get xs j ≡ Some v → i ≡ j
+pub once_at : (v : NodeId) (xs : List NodeId) → times v xs ≤ 1 → (i j : ℕ) → slice_get xs i ≡ Some v
+    → slice_get xs j ≡ Some v → i ≡ j
 once_at v [] few i j a b = cc
 once_at v (x ∷ xs) few zero zero a b = refl
 once_at v (x ∷ xs) few zero (suc j) a b = let same : v ≡ x = cc in absurd (twice v x xs j same b few)
 once_at v (x ∷ xs) few (suc i) zero a b = let same : v ≡ x = cc in absurd (twice v x xs i same a few)
 once_at v (x ∷ xs) few (suc i) (suc j) a b = ap suc (once_at v xs (omega arith) i j a b)
 
-absent_either : (v x : NodeId) (xs : List NodeId) (b : Bool) → same_node v x ≡ b → ((j : ℕ) → slice_get (x ∷ xs) j ≡ Some v → ⊥) → times v xs ≡ 0 → cond b 1 0 + times v xs ≡ 0
+absent_either : (v x : NodeId) (xs : List NodeId) (b : Bool) → same_node v x ≡ b
+    → ((j : ℕ) → slice_get (x ∷ xs) j ≡ Some v → ⊥) → times v xs ≡ 0 → cond b 1 0 + times v xs ≡ 0
 absent_either v x xs true e none rest = absurd (none 0 (ap Some (sym (node_from_same v x e))))
 absent_either v x xs false e none rest = omega arith
 
@@ -89,25 +99,36 @@ zero_suc j e = omega arith
 suc_same : (i j : ℕ) → suc i ≡ suc j → i ≡ j
 suc_same i j e = omega arith
 
-few_either : (v x : NodeId) (xs : List NodeId) (b : Bool) → same_node v x ≡ b → ((i j : ℕ) → slice_get (x ∷ xs) i ≡ Some v → slice_get (x ∷ xs) j ≡ Some v → i ≡ j) → times v xs ≤ 1 → cond b 1 0 + times v xs ≤ 1
+few_either : (v x : NodeId) (xs : List NodeId) (b : Bool) → same_node v x ≡ b
+    → ((i j : ℕ) → slice_get (x ∷ xs) i ≡ Some v → slice_get (x ∷ xs) j ≡ Some v → i ≡ j) → times v xs ≤ 1
+    → cond b 1 0 + times v xs ≤ 1
 few_either v x xs true e one rest =
     let none = absent v xs (λ j is. zero_suc j (one 0 (suc j) (ap Some (sym (node_from_same v x e))) is)) in
     omega arith
 few_either v x xs false e one rest = omega arith
 
 -- a node that stands at one place at most is counted but once
-pub few : (v : NodeId) (xs : List NodeId) → ((i j : ℕ) → slice_get xs i ≡ Some v → slice_get xs j ≡ Some v → i ≡ j) → times v xs ≤ 1
+pub few : (v : NodeId) (xs : List NodeId) → ((i j : ℕ) → slice_get xs i ≡ Some v → slice_get xs j ≡ Some v → i ≡ j)
+    → times v xs ≤ 1
 few v [] one = omega arith
-few v (x ∷ xs) one = few_either v x xs (same_node v x) refl one (few v xs (λ i j a b. suc_same i j (one (suc i) (suc j) a b)))
+few v (x ∷ xs) one = few_either v x xs (same_node v x) refl one
+    (few v xs (λ i j a b. suc_same i j (one (suc i) (suc j) a b)))
 
--- the node at a place counts, and what is behind it
-pub drop_one : (n : NodeId) (xs : List NodeId) (i : ℕ) (d : NodeId) → i < length xs → times n (drop i xs) ≡ cond (same_node n (get_or xs i d)) 1 0 + times n (drop (i + 1) xs)
-drop_one n xs i d within =
-    let e : drop i xs ≡ get_or xs i d ∷ drop (i + 1) xs = rw (add-one, drop-cons xs i d) in
-    ap (times n) e
+-- the node at a place of a line counts, and what is behind it
+pub drop_one : (n : NodeId) (xs : List LineNode) (i : ℕ) (y : LineNode) → y ≡ get_or xs i y → i < length xs
+    → times n (nodes_of (drop i xs)) ≡ cond (same_node n y.node) 1 0 + times n (nodes_of (drop (i + 1) xs))
+drop_one n xs i y is within =
+    let e : drop i xs ≡ get_or xs i y ∷ drop (i + 1) xs = rw (add-one, drop-cons xs i y) in
+    ap (λ (l : List LineNode). times n (nodes_of l)) (e ∙ ap (λ (z : LineNode). z ∷ drop (i + 1) xs) (sym is))
 
-pub drop_all : (n : NodeId) (xs : List NodeId) (i : ℕ) → length xs ≤ i → times n (drop i xs) ≡ 0
-drop_all n xs i past = ap (times n) (drop_of_length-le xs past)
+-- the nodes up to a place of a line and the one there
+pub take_one : (xs : List LineNode) (i : ℕ) (y : LineNode) → y ≡ get_or xs i y → i < length xs
+    → nodes_of (take (i + 1) xs) ≡ nodes_of (take i xs) ++ y.node ∷ []
+take_one xs i y is within = map_more (λ (n : LineNode). n.node) xs i y within
+    ∙ ap (λ (z : LineNode). nodes_of (take i xs) ++ z.node ∷ []) (sym is)
+
+pub drop_all : (n : NodeId) (xs : List LineNode) (i : ℕ) → length xs ≤ i → times n (nodes_of (drop i xs)) ≡ 0
+drop_all n xs i past = ap (λ (l : List LineNode). times n (nodes_of l)) (drop_of_length-le xs past)
 
 pub one_at_most : (b : Bool) → cond b 1 0 ≤ 1
 one_at_most true = omega arith
