@@ -38,7 +38,11 @@ tied_ways : (v w : WayId) → v ≡ w → way_cmp v w ≡ Equal
 tied_ways v w same = subst (λ u. way_cmp v u ≡ Equal) same (tied_itself way_cmp_total v)
 
 pub index_next : (a b : PieceName) → a.way ≡ b.way → a.index < b.index → IsTrue (is_lt (name_cmp a b))
-index_next a b same below = less_second (way_cmp a.way b.way) _ (tied_ways a.way b.way same) (less_first (nat_cmp a.index b.index) _ (below_less a.index b.index below))
+index_next a b same below = less_second (way_cmp a.way b.way) _ (tied_ways a.way b.way same)
+    (less_first (nat_cmp a.index b.index) _ (below_less a.index b.index below))
 
-pub dir_last : (w : WayId) (i : ℕ) → IsTrue (is_lt (name_cmp (record { way = w; index = i; dir = Forward }) (record { way = w; index = i; dir = Backward })))
-dir_last w i = less_second (way_cmp w w) _ (tied_itself way_cmp_total w) (less_second (nat_cmp i i) (dir_cmp Forward Backward) (tied_itself nat_cmp_total i) refl)
+pub dir_last : (w : WayId) (i : ℕ)
+    → IsTrue (is_lt (name_cmp (record { way = w; index = i; dir = Forward })
+    (record { way = w; index = i; dir = Backward })))
+dir_last w i = less_second (way_cmp w w) _ (tied_itself way_cmp_total w)
+    (less_second (nat_cmp i i) (dir_cmp Forward Backward) (tied_itself nat_cmp_total i) refl)

@@ -1,5 +1,5 @@
 pub mod Departures
 pub mod Names
-pub mod Roads
+pub mod RoadPieces
 pub mod Starts
 pub mod Stretches

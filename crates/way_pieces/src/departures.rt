@@ -3,9 +3,9 @@ ghost use Rattle.std.specs.Prelude.{IfOk};
 ghost use Rattle.road_model.specs.Orders.{Lists, name_cmp};
 ghost use Rattle.way_pieces.specs.Names.{IsDeparture};
 
-use crate::pieces_by_way::PiecesByWay;
+use crate::road_pieces::RoadPieces;
 use road_base::{NoMemory, NodeId, Step};
-use road_model::{PieceName, Profile, World};
+use road_model::{Network, PieceName, Profile, World};
 use std::alloc::Global;
 
 /// A piece that leaves a node: its name, its first step, and the node where that step ends.
@@ -23,8 +23,10 @@ pub fn departures_from<M: World, P: Profile>(
     profile: &P,
     node: NodeId,
 ) -> Result<Vec<Departure>, NoMemory>
-    ensures { IfOk result (λ v. Lists (λ d. d.piece) name_cmp (IsDeparture (M.objects world.now) (P.rules profile.now) node) v.items) }
+    ensures { let departs = IsDeparture (M.objects world.now) (P.rules profile.now) node in
+        IfOk result (λ v. Lists (λ d. d.piece) name_cmp departs v.items) }
 {
-    let mut known = PiecesByWay::new(alloc);
-    known.departures(alloc, world, profile, node)
+    let network = Network::new(world, *profile);
+    let none_cut = RoadPieces::of(alloc, &network, &[])?;
+    none_cut.departures(alloc, &network, node)
 }

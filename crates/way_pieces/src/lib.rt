@@ -1,16 +1,15 @@
 //! Pieces: the runs of roads between junctions, by their names, and the steps that each one is driven in.
 //!
-//! `spans_of`, `pieces_of` and `spell` go along the way's line a few times: with n references and w ways at their nodes they
-//! take time of the order of n log n + w, and memory of the order of n. `PiecesByWay` cuts each way into pieces once, in
-//! the same time, and keeps them in memory of the order of their number: then to find a node's departures takes, for each
-//! way there, the logarithm of the number of its pieces, and one step for each departure. `departures_from` and
-//! `pieces_from` cut all ways at the node.
+//! A way is cut from its line (`way_lines::RoadLine`), which is read once, and its junctions: with n references and w
+//! ways at their nodes in time of the order of n log n + w, and memory of the order of n. `RoadPieces` cuts many ways,
+//! each once, and keeps their pieces, and where these start, in flat lists: then a node's departures take, for each way
+//! there, a short search, the logarithm of the number of its pieces, and one step for each departure. `departures_from`
+//! and `pieces_from` cut all ways at the node, `pieces_of`, `spans_of` and `spell` the way alone.
 #![tactic(auto)]
 
 mod departures;
 mod names;
-mod pieces_by_way;
-mod roads;
+mod road_pieces;
 mod spans;
 mod spelling;
 mod starts;
@@ -18,7 +17,7 @@ mod stretches;
 
 pub use departures::{Departure, departures_from};
 pub use names::{pieces_from, pieces_of};
-pub use pieces_by_way::{PiecesByWay, WayPieces};
-pub use spans::{PieceSpan, spans_of};
+pub use road_pieces::{RoadPieces, WayPieces, spans_of};
+pub use spans::PieceSpan;
 pub use spelling::spell;
 pub use starts::Start;

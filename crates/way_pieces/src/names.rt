@@ -4,7 +4,8 @@ ghost use Rattle.road_model.specs.Orders.{Lists, name_cmp};
 ghost use Rattle.way_pieces.specs.Names.{IsNameOn, IsNameFrom};
 
 use crate::departures::{Departure, departures_from};
-use crate::spans::{PieceSpan, spans_of};
+use crate::road_pieces::spans_of;
+use crate::spans::PieceSpan;
 use road_base::{NoMemory, NodeId, WayId};
 use road_model::{Names, PieceName, Profile, World};
 use std::alloc::{AllocError, Global};
@@ -16,7 +17,8 @@ pub fn pieces_of<M: World, P: Profile>(
     profile: &P,
     way: WayId,
 ) -> Result<Names, NoMemory>
-    ensures { IfOk result (λ names. Lists (λ n. n) name_cmp (IsNameOn (M.objects world.now) (P.rules profile.now) way) names) }
+    ensures { let is_name = IsNameOn (M.objects world.now) (P.rules profile.now) way in
+        IfOk result (λ names. Lists (λ n. n) name_cmp is_name names) }
 {
     let spans = spans_of(alloc, world, profile, way)?;
     let names = span_names(alloc, spans.as_slice())?;
@@ -36,7 +38,8 @@ pub fn pieces_from<M: World, P: Profile>(
     profile: &P,
     node: NodeId,
 ) -> Result<Names, NoMemory>
-    ensures { IfOk result (λ names. Lists (λ n. n) name_cmp (IsNameFrom (M.objects world.now) (P.rules profile.now) node) names) }
+    ensures { let is_name = IsNameFrom (M.objects world.now) (P.rules profile.now) node in
+        IfOk result (λ names. Lists (λ n. n) name_cmp is_name names) }
 {
     let departures = departures_from(alloc, world, profile, node)?;
     let names = departure_names(alloc, departures.as_slice())?;

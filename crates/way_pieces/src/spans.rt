@@ -1,20 +1,17 @@
 //! The pieces of a way.
-ghost use Rattle.std.specs.Prelude.{◌≡◌, ◌&&◌, IfOk, OnOk};
-ghost use Rattle.road_model.specs.Lines.{line_of, node_at};
-ghost use Rattle.road_model.specs.Driving.{located};
+ghost use Rattle.std.specs.Prelude.{◌≡◌, IfOk, OnOk, slice_get};
 ghost use Rattle.road_model.specs.Orders.{Lists, name_cmp};
+ghost use Rattle.road_model.specs.Networks.{on};
 ghost use Rattle.junctions.specs.Junctions.{AreJunctions};
+ghost use Rattle.way_lines.specs.RoadLines.{IsRoadLine};
 ghost use Rattle.way_pieces.specs.Names.{IsSpanOn};
-ghost use Rattle.way_pieces.specs.Roads.{IsRoad};
-ghost use Rattle.way_pieces.specs.Stretches.{IsStretch, IsSpanBelow, span_on, added};
+ghost use Rattle.way_pieces.specs.Stretches.{is_located, has_located_ends, span_on, added, both_added};
 
-use crate::roads::{Road, is_open, road_of};
 use crate::stretches::Stretch;
-use junctions::{Repeats, junctions_along};
-use road_base::{Dir, NoMemory, NodeId, WayId};
-use road_model::{PieceName, Profile, World};
+use road_base::{Dir, NoMemory};
+use road_model::{Network, PieceName, Profile, World};
 use std::alloc::Global;
-use way_lines::{is_located, nodes_of};
+use way_lines::{LineNode, Road, RoadLine};
 
 /// A piece with both its positions: its name has the lower one, `end` is the upper one.
 #[derive(Clone, Copy, Debug, PartialEq, Eq)]
@@ -23,101 +20,62 @@ pub struct PieceSpan {
     pub end: u32,
 }
 
-/// The pieces of the way, each once, by position and forward before backward.
-pub fn spans_of<M: World, P: Profile>(
+/// The pieces of the way whose line this is and whose junctions these are, each once, by position and forward before
+/// backward.
+pub fn spans_along<M: World, P: Profile>(
     alloc: Global,
-    world: &M,
-    profile: &P,
-    way: WayId,
-) -> Result<Vec<PieceSpan>, NoMemory>
-    ensures { IfOk result (λ v. Lists (λ s. s.name) name_cmp (IsSpanOn (M.objects world.now) (P.rules profile.now) way) v.items) }
-{
-    let Some(body) = world.way(way) else {
-        return Ok(Vec::new(alloc));
-    };
-    let road = road_of(world, profile, way, body);
-    if !is_open(road) {
-        return Ok(Vec::new(alloc));
-    }
-    let nodes = nodes_of(alloc, body)?;
-    let line = Repeats::of(alloc, nodes.as_slice())?;
-    let junctions = junctions_along(alloc, world, profile, way, &line)?;
-    spans_along(
-        alloc,
-        world,
-        profile,
-        road,
-        nodes.as_slice(),
-        junctions.as_slice(),
-    )
-}
-
-/// The pieces of the road, where these are the nodes of its line and its junctions.
-fn spans_along<M: World, P: Profile>(
-    alloc: Global,
-    world: &M,
-    profile: &P,
-    road: Road,
-    nodes: &[NodeId],
+    network: &Network<'_, M, P>,
+    line: &RoadLine,
     junctions: &[u32],
 ) -> Result<Vec<PieceSpan>, NoMemory>
-    requires directions { IsRoad (M.objects world.now) (P.rules profile.now) road }
-    requires line { nodes.now ≡ line_of (M.objects world.now) road.way }
-    requires junctions { AreJunctions (M.objects world.now) (P.rules profile.now) road.way junctions.now }
-    ensures { IfOk result (λ v. Lists (λ s. s.name) name_cmp (IsSpanOn (M.objects world.now) (P.rules profile.now) road.way) v.items) }
+    requires line { on network.now IsRoadLine line.now }
+    requires junctions { on network.now AreJunctions line.now.road.way junctions.now }
+    ensures { IfOk result (λ v. Lists (λ s. s.name) name_cmp (on network.now IsSpanOn line.now.road.way) v.items) }
 {
     if junctions.len() == 0 {
         return Ok(Vec::new(alloc));
     }
     let mut spans = Vec::with_capacity(alloc, 2 * (junctions.len() - 1))?;
-    let mut low = is_located(world, nodes[junctions[0] as usize]);
     for at in 1..junctions.len() {
         let stretch = Stretch {
-            way: road.way,
+            way: line.road.way,
             index: junctions[at - 1],
             end: junctions[at],
         };
-        let high = is_located(world, nodes[stretch.end as usize]);
-        add_spans(&mut spans, world, profile, road, stretch, low, high)?;
-        low = high;
+        if !has_located_ends(line.nodes.as_slice(), stretch) {
+            continue;
+        }
+        add_spans(&mut spans, line.road, stretch)?;
     }
     Ok(spans)
 }
 
-/// Adds the pieces between two neighbouring junctions of the road, of which it is known whether they are located, to
-/// those below.
-fn add_spans<M: World, P: Profile>(
-    spans: &mut Vec<PieceSpan>,
-    world: &M,
-    profile: &P,
-    road: Road,
-    stretch: Stretch,
-    low: bool,
-    high: bool,
-) -> Result<(), NoMemory>
-    requires directions { IsRoad (M.objects world.now) (P.rules profile.now) road }
-    requires way { stretch.way ≡ road.way }
-    requires stretch { IsStretch (M.objects world.now) (P.rules profile.now) stretch }
-    requires low { low ≡ located (M.objects world.now) (node_at (M.objects world.now) stretch.way stretch.index) }
-    requires high { high ≡ located (M.objects world.now) (node_at (M.objects world.now) stretch.way stretch.end) }
-    ensures { OnOk result
-        (Lists (λ s. s.name) name_cmp (IsSpanBelow (M.objects world.now) (P.rules profile.now) stretch.way stretch.index) spans.old.items
-        → Lists (λ s. s.name) name_cmp (IsSpanBelow (M.objects world.now) (P.rules profile.now) stretch.way stretch.end) spans.new.items) }
+/// Whether the nodes at both junctions are visible with a location. The nodes are those of the way's line.
+fn has_located_ends(nodes: &[LineNode], stretch: Stretch) -> bool
+    ensures { result ≡ has_located_ends nodes.now stretch }
+{
+    is_located(nodes, stretch.index) && is_located(nodes, stretch.end)
+}
+
+/// Whether there is a node at the position that is visible with a location.
+fn is_located(nodes: &[LineNode], position: u32) -> bool
+    ensures { result ≡ is_located (slice_get nodes.now position) }
+{
+    match nodes.get(position as usize) {
+        Some(node) => node.location.is_some(),
+        None => false,
+    }
+}
+
+/// Adds the pieces between two neighbouring junctions of the road, both located, in the directions in which it is open.
+fn add_spans(spans: &mut Vec<PieceSpan>, road: Road, stretch: Stretch) -> Result<(), NoMemory>
+    ensures { OnOk result (spans.new.items ≡ both_added spans.old.items road stretch) }
 {
     let along = span_on(stretch, Dir::Forward);
     let against = span_on(stretch, Dir::Backward);
-    let forward = is_driven(road.forward, low, high);
-    let backward = is_driven(road.backward, low, high);
-    add_if(spans, forward, along)?;
-    add_if(spans, backward, against)?;
+    add_if(spans, road.forward, along)?;
+    add_if(spans, road.backward, against)?;
     Ok(())
-}
-
-/// Whether the way is open, and both ends are located.
-fn is_driven(free: bool, low: bool, high: bool) -> bool
-    ensures { result ≡ (free && (low && high)) }
-{
-    free && low && high
 }
 
 fn span_on(stretch: Stretch, dir: Dir) -> PieceSpan

@@ -1,15 +1,15 @@
 //! The steps in which a piece is driven.
-ghost use Rattle.std.specs.Prelude.{◌≢◌, ◌<◌, ◌+◌, ℕ, IfOk, IfSome, IfNone, length, slice_index_or};
+ghost use Rattle.std.specs.Prelude.{◌≡◌, ◌≢◌, ◌↔◌, IsTrue, IfOk, IfSome, IfNone, Contains};
 ghost use Rattle.road_model.specs.Pieces.{IsPiece};
+ghost use Rattle.way_pieces.specs.declared.spans.PieceSpan.{PieceSpan};
 ghost use Rattle.way_pieces.specs.Names.{IsSpelling, NamesNone};
-ghost use Rattle.way_pieces.specs.Stretches.{IsNext, named};
 
-use crate::stretches::{Stretch, is_piece};
-use junctions::junctions_of;
+use crate::road_pieces::spans_of;
+use crate::spans::PieceSpan;
 use road_base::{Drive, NoMemory};
 use road_model::{PieceName, Profile, World};
 use std::alloc::Global;
-use way_lines::{add_steps, nodes_of};
+use way_lines::add_steps;
 
 /// The steps of the piece in order of travel, None exactly where there is no such piece.
 pub fn spell<M: World, P: Profile>(
@@ -18,10 +18,13 @@ pub fn spell<M: World, P: Profile>(
     profile: &P,
     piece: PieceName,
 ) -> Result<Option<Drive>, NoMemory>
-    ensures some { IfOk result (λ answer. IfSome answer (IsSpelling (M.objects world.now) (P.rules profile.now) piece)) }
-    ensures none { IfOk result (λ answer. IfNone answer (NamesNone (M.objects world.now) (P.rules profile.now) piece)) }
+    ensures some { let spells = IsSpelling (M.objects world.now) (P.rules profile.now) piece in
+        IfOk result (λ answer. IfSome answer spells) }
+    ensures none { let no_piece = NamesNone (M.objects world.now) (P.rules profile.now) piece in
+        IfOk result (λ answer. IfNone answer no_piece) }
 {
-    let Some(end) = end_of(alloc, world, profile, piece)? else {
+    let spans = spans_of(alloc, world, profile, piece.way)?;
+    let Some(span) = span_named(spans.as_slice(), piece) else {
         return Ok(None);
     };
     let mut steps = Vec::new(alloc);
@@ -29,50 +32,27 @@ pub fn spell<M: World, P: Profile>(
         &mut steps,
         piece.way,
         piece.index,
-        end - piece.index,
+        span.end - piece.index,
         piece.dir,
     )?;
     Ok(Some(Drive::from_list(steps)))
 }
 
-/// The upper position of the piece, None exactly where there is no such piece.
-fn end_of<M: World, P: Profile>(
-    alloc: Global,
-    world: &M,
-    profile: &P,
-    piece: PieceName,
-) -> Result<Option<u32>, NoMemory>
-    ensures some { IfOk result (λ answer. IfSome answer (λ end. IsPiece (M.objects world.now) (P.rules profile.now) (named piece end))) }
-    ensures none { IfOk result (λ answer. IfNone answer (NamesNone (M.objects world.now) (P.rules profile.now) piece)) }
+/// The span of that name, None exactly where there is none.
+fn span_named(spans: &[PieceSpan], name: PieceName) -> Option<PieceSpan>
+    ensures some { IfSome result (λ s. Contains spans.now s × (s.name ≡ name)) }
+    ensures none { IfNone result ((s : PieceSpan) → Contains spans.now s → s.name ≢ name) }
 {
-    let junctions = junctions_of(alloc, world, profile, piece.way)?;
-    let Some(end) = next_behind(junctions.as_slice(), piece.index) else {
-        return Ok(None);
-    };
-    let Some(body) = world.way(piece.way) else {
-        return Ok(None);
-    };
-    let nodes = nodes_of(alloc, body)?;
-    let stretch = Stretch {
-        way: piece.way,
-        index: piece.index,
-        end,
-    };
-    if !is_piece(world, profile, nodes.as_slice(), stretch, piece.dir) {
-        return Ok(None);
-    }
-    Ok(Some(end))
-}
-
-/// The position next behind this one, None where it isn't listed or is the last.
-fn next_behind(positions: &[u32], index: u32) -> Option<u32>
-    ensures some { IfSome result (λ next. IsNext positions.now index next) }
-    ensures none { IfNone result ((k : ℕ) → k + 1 < length positions.now → slice_index_or positions.now k 0 ≢ index) }
-{
-    for at in 1..positions.len() {
-        if positions[at - 1] == index {
-            return Some(positions[at]);
+    for span in spans {
+        if is_named(*span, name) {
+            return Some(*span);
         }
     }
     None
+}
+
+fn is_named(span: PieceSpan, name: PieceName) -> bool
+    ensures { IsTrue result ↔ (span.name ≡ name) }
+{
+    span.name == name
 }

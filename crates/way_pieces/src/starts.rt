@@ -10,6 +10,7 @@ use crate::departures::Departure;
 use crate::spans::PieceSpan;
 use road_base::{Dir, NoMemory, NodeId, Step};
 use std::alloc::Global;
+use way_lines::LineNode;
 
 /// A departure, and the node that it leaves.
 #[derive(Clone, Copy, Debug)]
@@ -21,7 +22,7 @@ pub struct Start {
 /// Where each of the pieces starts. The nodes are those of the way's line.
 pub fn starts_of(
     alloc: Global,
-    nodes: &[NodeId],
+    nodes: &[LineNode],
     spans: &[PieceSpan],
 ) -> Result<Vec<Start>, NoMemory>
     requires { All (IsWithin (length nodes.now)) spans.now }
@@ -34,7 +35,7 @@ pub fn starts_of(
     Ok(starts)
 }
 
-fn start_on(nodes: &[NodeId], span: PieceSpan) -> Start
+fn start_on(nodes: &[LineNode], span: PieceSpan) -> Start
     requires { IsWithin (length nodes.now) span }
     ensures { result ≡ start_on nodes.now span }
 {
@@ -51,13 +52,13 @@ fn start_on(nodes: &[NodeId], span: PieceSpan) -> Start
 }
 
 /// The start of the piece, which begins with the step between these positions.
-fn start_by(nodes: &[NodeId], span: PieceSpan, tail: u32, index: u32, head: u32) -> Start
+fn start_by(nodes: &[LineNode], span: PieceSpan, tail: u32, index: u32, head: u32) -> Start
     requires tail { tail < length nodes.now }
     requires head { head < length nodes.now }
     ensures { result ≡ start_by nodes.now span tail index head }
 {
     Start {
-        node: nodes[tail as usize],
+        node: nodes[tail as usize].node,
         departure: Departure {
             piece: span.name,
             first: Step {
@@ -65,7 +66,7 @@ fn start_by(nodes: &[NodeId], span: PieceSpan, tail: u32, index: u32, head: u32)
                 index,
                 dir: span.name.dir,
             },
-            toward: nodes[head as usize],
+            toward: nodes[head as usize].node,
         },
     }
 }

@@ -4,7 +4,7 @@ use Rattle.std.specs.Ordering.{is_lt, is_le}
 use Rattle.std.proofs.lemmas.List.Sorted.{IsPartitionPoint-from_clause}
 use Rattle.road_model.specs.Orders.{node_cmp}
 use Rattle.way_pieces.proofs.NameOrder.{node_cmp_total}
-use Rattle.way_pieces.proofs.Starting.{below_parted, upto_parted, low_first, part_leaves}
+use Rattle.way_pieces.proofs.StartOrder.{below_parted, upto_parted, low_first, part_leaves}
 use Rattle.way_pieces.proofs.starts.leaving.Goals as goal
 
 pub part-requires-clause-rising : goal.part-requires-clause-rising
@@ -12,8 +12,12 @@ part-requires-clause-rising c =
     let v = c.args.node in
     let xs = c.args.starts.now in
     low_first v xs c.partition_point-low.result c.partition_point-high.result
-    (IsPartitionPoint-from_clause (λ s. is_lt (node_cmp s.node v)) xs c.partition_point-low.result c.partition_point-low.ensures.partitioned (below_parted node_cmp_total v xs c.requires) (λ a r q k. search rules))
-    (IsPartitionPoint-from_clause (λ s. is_le (node_cmp s.node v)) xs c.partition_point-high.result c.partition_point-high.ensures.partitioned (upto_parted node_cmp_total v xs c.requires) (λ a r q k. search rules))
+    (IsPartitionPoint-from_clause (λ s. is_lt (node_cmp s.node v)) xs c.partition_point-low.result
+    c.partition_point-low.ensures.partitioned (below_parted node_cmp_total v xs c.requires)
+    (λ a r q k. search rules))
+    (IsPartitionPoint-from_clause (λ s. is_le (node_cmp s.node v)) xs c.partition_point-high.result
+    c.partition_point-high.ensures.partitioned (upto_parted node_cmp_total v xs c.requires)
+    (λ a r q k. search rules))
     c.partition_point-low.ensures.bound c.partition_point-high.ensures.bound
 
 pub returns : goal.returns
@@ -22,6 +26,10 @@ returns c =
     let xs = c.args.starts.now in
     c.part.ensures
     ∙ part_leaves v xs c.partition_point-low.result c.partition_point-high.result
-    (IsPartitionPoint-from_clause (λ s. is_lt (node_cmp s.node v)) xs c.partition_point-low.result c.partition_point-low.ensures.partitioned (below_parted node_cmp_total v xs c.requires) (λ a r q k. search rules))
-    (IsPartitionPoint-from_clause (λ s. is_le (node_cmp s.node v)) xs c.partition_point-high.result c.partition_point-high.ensures.partitioned (upto_parted node_cmp_total v xs c.requires) (λ a r q k. search rules))
+    (IsPartitionPoint-from_clause (λ s. is_lt (node_cmp s.node v)) xs c.partition_point-low.result
+    c.partition_point-low.ensures.partitioned (below_parted node_cmp_total v xs c.requires)
+    (λ a r q k. search rules))
+    (IsPartitionPoint-from_clause (λ s. is_le (node_cmp s.node v)) xs c.partition_point-high.result
+    c.partition_point-high.ensures.partitioned (upto_parted node_cmp_total v xs c.requires)
+    (λ a r q k. search rules))
     c.partition_point-low.ensures.bound c.partition_point-high.ensures.bound

@@ -9,7 +9,9 @@ abbrev node : Start → NodeId
 node s = s.node
 
 pub returns-clause-sorted : goal.returns-clause-sorted
-returns-clause-sorted c = c.in_ok-sort_by_key.ensures.sorted node (answers_always _ _ _ (λ f a r g called. search rules))
+returns-clause-sorted c = c.in_ok-sort_by_key.ensures.sorted node
+    (answers_always _ _ _ (λ f a r g called. search rules))
 
 pub returns-clause-stable : goal.returns-clause-stable
-returns-clause-stable c = c.in_ok-sort_by_key.ensures.stable node (answers_always _ _ _ (λ f a r g called. search rules))
+returns-clause-stable c = c.in_ok-sort_by_key.ensures.stable node
+    (answers_always _ _ _ (λ f a r g called. search rules))

@@ -1,0 +1,65 @@
+-- What is known of each of several roads, side by side with their list.
+use Rattle.std.proofs.Common.{
+  ◌≡◌,
+  ℕ,
+  zero,
+  suc,
+  ◌<◌,
+  List,
+  [],
+  ◌∷◌,
+  ◌++◌,
+  length,
+  get_or,
+  slice_get,
+  Some,
+  ◌⊎◌,
+  inl,
+  inr,
+  refl,
+  sym,
+  ap,
+  subst,
+  ◌∙◌,
+  arith,
+}
+use Rattle.std.proofs.lemmas.Option.{same_Some, none-some, slice_get-get_or}
+use Rattle.road_base.specs.declared.ids.WayId.{WayId}
+use Rattle.way_lines.specs.declared.roads.Road.{Road}
+
+-- the last one, or one of those before
+pushed_cases : {A : Type 0} (xs : List A) (x y : A) (k : ℕ) → slice_get (xs ++ x ∷ []) k ≡ Some y
+    → (slice_get xs k ≡ Some y) ⊎ ((k ≡ length xs) × (x ≡ y))
+pushed_cases [] x y zero e = inr (refl, same_Some x y e)
+pushed_cases [] x y (suc k) e = absurd (none-some y e)
+pushed_cases (z ∷ xs) x y zero e = inl e
+pushed_cases (z ∷ xs) x y (suc k) e = elim (pushed_cases xs x y k e) [
+  | inl before ↦ inl before
+  | inr last ↦ let at = last.0 in inr (omega arith, last.1)
+]
+
+module _ {A : Type 0} (Is : WayId → A → Type 0) where
+  -- each of them is known of the road at its place
+  abbrev pub AreKnown : List Road → List A → Type 0
+  AreKnown roads known = (k : ℕ) (road : Road) (x : A) → slice_get roads k ≡ Some road → slice_get known k ≡ Some x
+      → Is road.way x
+
+  pub none_known : (roads : List Road) (known : List A) → known ≡ [] → AreKnown roads known
+  none_known roads known none k road x at is = absurd (none-some x (ap (λ (l : List A). slice_get l k) (sym none) ∙ is))
+
+  -- one road more
+  pub more_known : (roads : List Road) (i : ℕ) (d : Road) (old new : List A) (x y : A) → i < length roads
+      → length old ≡ i
+      → new ≡ old ++ y ∷ [] → y ≡ x → Is (get_or roads i d).way x → AreKnown roads old → AreKnown roads new
+  more_known roads i d old new x y within count pushed same is known k road z at has =
+      elim (pushed_cases old y z k (ap (λ (l : List A). slice_get l k) (sym pushed) ∙ has)) [
+        | inl before ↦ known k road z at before
+        | inr last ↦
+            let here : get_or roads i d ≡ road = same_Some (get_or roads i d) road
+            (sym (slice_get-get_or roads i d within) ∙ (ap (slice_get roads) (sym (last.0 ∙ count)) ∙ at)) in
+            subst (λ (r : Road). Is r.way z) here (subst (Is (get_or roads i d).way) (sym same ∙ last.1) is)
+      ]
+
+  pub known_of : (ways : List Road) (roads : List Road) (known : List A) → ways ≡ roads → AreKnown ways known
+      → AreKnown roads known
+  known_of ways roads known same each = subst (λ (l : List Road). AreKnown l known) same each

@@ -1,0 +1,386 @@
+-- The starts of a way's pieces are its departures, and those of a node stand together once they are sorted.
+use Rattle.std.proofs.Common.{
+  ◌≡◌,
+  ℕ,
+  suc,
+  ◌+◌,
+  ◌-◌,
+  ◌<◌,
+  ◌≤◌,
+  ◌&&◌,
+  inl,
+  inr,
+  not,
+  Bool,
+  true,
+  false,
+  List,
+  [],
+  ◌∷◌,
+  length,
+  map,
+  take,
+  drop,
+  get_or,
+  pos,
+  Some,
+  IsTrue,
+  Contains,
+  Ordering,
+  refl,
+  sym,
+  ap,
+  subst,
+  ◌∙◌,
+  arith,
+}
+use Rattle.std.specs.declared.cmp.Ordering.TheVariants.{Less, Equal, Greater}
+use Rattle.std.specs.Ordering.{is_lt, is_le, is_eq, ordering_reverse, ordering_index}
+use Rattle.std.specs.Cmp.{IsTotalOrder}
+use Rattle.std.specs.FinMap.{IsAntisymmetric}
+use Rattle.std.specs.List.{All, filter}
+use Rattle.std.specs.List.Sorted.{IsPartitionPoint, IsPartitionedBy, IsSortedByKey, IsStableByKey, ties}
+use Rattle.std.proofs.Math.Dec.{ltb, leb}
+use Rattle.std.proofs.lemmas.Bool.{cases_lt}
+use Rattle.std.proofs.lemmas.Cmp.{tied_itself}
+use Rattle.std.proofs.lemmas.List.Elements.{filter_agree, Contains-get_or}
+use Rattle.std.proofs.lemmas.List.Sorted.{searchable_from_sorted, IsPartitionedBy-ltb, IsPartitionedBy-leb}
+use Rattle.road_base.specs.declared.ids.NodeId.{NodeId}
+use Rattle.road_base.specs.declared.ids.WayId.{WayId}
+use Rattle.road_base.specs.declared.ids.Step.{Step}
+use Rattle.road_base.specs.declared.ids.Dir.{Dir}
+use Rattle.road_base.specs.declared.ids.Dir.TheVariants.{Forward, Backward}
+use Rattle.road_base.specs.Objects.{Objects}
+use Rattle.road_model.specs.Rules.{Rules}
+use Rattle.road_model.specs.Lines.{
+  same_node,
+  line_of,
+  node_at,
+  tail_of,
+  head_of,
+  forward_steps,
+  backward_steps,
+  steps_from,
+}
+use Rattle.road_model.specs.Driving.{is_road}
+use Rattle.way_lines.specs.declared.road_line.LineNode.{LineNode}
+use Rattle.way_lines.specs.RoadLines.{line_node}
+use Rattle.road_model.specs.Orders.{Lists, rises, node_cmp, name_cmp}
+use Rattle.way_pieces.specs.declared.spans.PieceSpan.{PieceSpan}
+use Rattle.way_pieces.specs.declared.departures.Departure.{Departure}
+use Rattle.way_pieces.specs.declared.starts.Start.{Start}
+use Rattle.way_pieces.specs.Names.{IsDeparture, IsSpanOn, piece_of}
+use Rattle.way_pieces.specs.Departures.{IsOver}
+use Rattle.way_pieces.specs.RoadPieces.{AreStarts}
+use Rattle.way_pieces.specs.Starts.{IsWithin, no_node, node_in, start_toward, start_on, leaving}
+use Rattle.way_pieces.proofs.SpanOrder.{span_of}
+use Rattle.way_pieces.proofs.JoinedLists.{map_has, map_from}
+use Rattle.way_pieces.proofs.DepartureLists.{some_node, name_way}
+use Rattle.way_pieces.proofs.DrivenSteps.{as_long, named_end, node_there, piece_last, piece_road}
+use Rattle.way_pieces.proofs.FilteredLists.{filter_has, filter_from, filter_part, rises_kept}
+
+-- ---- what a start has of its piece
+
+abbrev span : WayId → ℕ → ℕ → Dir → PieceSpan
+span w i j d = record { name = record { way = w; index = i; dir = d }; end = j }
+
+name_is : (nodes : List LineNode) (s : PieceSpan) (d : Dir) → (start_toward nodes s d).departure.piece ≡ s.name
+name_is nodes s Forward = refl
+name_is nodes s Backward = refl
+
+way_is : (nodes : List LineNode) (s : PieceSpan) (d : Dir) → (start_toward nodes s d).departure.first.way ≡ s.name.way
+way_is nodes s Forward = refl
+way_is nodes s Backward = refl
+
+-- a piece begins with its start's step
+begins_with : (nodes : List LineNode) (w : WayId) (i j : ℕ) (d : Dir) → i < j
+    → (more : List Step) × (steps_from w i (j - i) d ≡ (start_on nodes (span w i j d)).departure.first ∷ more)
+begins_with nodes w i j Forward up =
+    let n : j - i ≡ suc (j - i - 1) = omega arith in
+    (forward_steps w (i + 1) (j - i - 1), ap (λ k. forward_steps w i k) n)
+begins_with nodes w i j Backward up =
+    let n : j - i ≡ suc (j - i - 1) = omega arith in
+    let last : i + (j - i - 1) ≡ j - 1 = omega arith in
+    let first : ℕ → Step = λ k. record { way = w; index = k; dir = Backward } in (
+      backward_steps w i (j - i - 1),
+      ap (λ k. backward_steps w i k) n
+          ∙ ap (λ k. first k ∷ backward_steps w i (j - i - 1)) last,
+    )
+
+module _ (M : Objects) (P : Rules) (nodes : List LineNode) (w : WayId)
+    (line : nodes ≡ map (line_node M P) (line_of M w)) where
+  line_within : (k : ℕ) → k < length nodes → k < length (line_of M w)
+  line_within k within = let same = as_long M P w nodes line in omega arith
+
+  there : (k : ℕ) → k < length nodes → node_at M w k ≡ Some (node_in nodes k)
+  there k within = node_there M P w nodes line k no_node within
+
+  leaves : (i j : ℕ) (d : Dir) → i < j → j < length nodes
+      → tail_of M (start_on nodes (span w i j d)).departure.first ≡ Some (start_on nodes (span w i j d)).node
+  leaves i j Forward up within =
+      named_end M (record { way = w; index = i; dir = Forward }) i (line_within (i + 1) (omega arith))
+      ∙ there i (omega arith)
+  leaves i j Backward up within =
+      let same : j ≡ j - 1 + 1 = omega arith in
+      named_end M (record { way = w; index = j - 1; dir = Backward }) (j - 1 + 1)
+      (line_within (j - 1 + 1) (omega arith))
+      ∙ subst (λ k. node_at M w k ≡ Some (node_in nodes j)) same (there j within)
+
+  toward : (i j : ℕ) (d : Dir) → i < j → j < length nodes
+      → head_of M (start_on nodes (span w i j d)).departure.first
+      ≡ Some (start_on nodes (span w i j d)).departure.toward
+  toward i j Forward up within =
+      named_end M (record { way = w; index = i; dir = Forward }) (i + 1) (line_within (i + 1) (omega arith))
+      ∙ there (i + 1) (omega arith)
+  toward i j Backward up within =
+      named_end M (record { way = w; index = j - 1; dir = Backward }) (j - 1) (line_within (j - 1 + 1) (omega arith))
+      ∙ there (j - 1) (omega arith)
+
+heads : (x y : Step) (xs ys : List Step) → x ∷ xs ≡ y ∷ ys → x ≡ y
+heads x y xs ys e = cc
+
+module _ (M : Objects) (P : Rules) (w : WayId) (nodes : List LineNode)
+    (line : IsTrue (is_road M P w) → nodes ≡ map (line_node M P) (line_of M w)) where
+  line_by : (s : PieceSpan) → IsSpanOn M P w s → nodes ≡ map (line_node M P) (line_of M s.name.way)
+  line_by s on =
+      line (subst (λ v. IsTrue (is_road M P v)) on.of (piece_road M P (piece_of s) on.is))
+      ∙ ap (λ v. map (line_node M P) (line_of M v)) (sym on.of)
+
+  -- the line reaches so far
+  pub within : (s : PieceSpan) → IsSpanOn M P w s → IsWithin (length nodes) s
+  within s on =
+      let last = (piece_last M P (piece_of s) on.is).on_line in
+      let same = as_long M P s.name.way nodes (line_by s on) in
+      ((on.is).ascends, omega arith)
+
+  pub all_within : (spans : List PieceSpan) → Lists (λ s. s.name) name_cmp (IsSpanOn M P w) spans
+      → All (IsWithin (length nodes)) spans
+  all_within spans lists k d inside = within (get_or spans k d)
+      (lists.sound (get_or spans k d) (Contains-get_or spans k d inside))
+
+  -- a piece's start is a departure
+  start_departs : (s : PieceSpan) → IsSpanOn M P w s
+      → IsDeparture M P (start_on nodes s).node (start_on nodes s).departure
+  start_departs s on =
+      let fits = within s on in
+      let opening = begins_with nodes s.name.way s.name.index s.end s.name.dir fits.0 in
+      record {
+        piece = piece_of s;
+        is = on.is;
+        named = name_is nodes s s.name.dir;
+        more = opening.0;
+        begins = opening.1;
+        leaves = leaves M P nodes s.name.way (line_by s on) s.name.index s.end s.name.dir fits.0 fits.1;
+        toward = toward M P nodes s.name.way (line_by s on) s.name.index s.end s.name.dir fits.0 fits.1;
+      }
+
+  start_over : (s : PieceSpan) → IsSpanOn M P w s → IsOver M P (start_on nodes s).node w (start_on nodes s).departure
+  start_over s on = (way_is nodes s s.name.dir ∙ on.of, start_departs s on)
+
+  -- each departure over the way is a piece's start
+  module _ (v : NodeId) (z : Departure) (is_over : IsOver M P v w z) where
+    abbrev own : PieceSpan
+    own = span_of (is_over.1).piece
+
+    own_span : IsSpanOn M P w own
+    own_span = record {
+      of = sym (ap (λ n. n.way) (is_over.1).named)
+          ∙ (name_way M P v z is_over.1 ∙ is_over.0);
+      is = (is_over.1).is;
+    }
+
+    same_first : (start_on nodes own).departure.first ≡ z.first
+    same_first =
+        let opening = begins_with nodes own.name.way own.name.index own.end own.name.dir ((is_over.1).is).ascends in
+        heads (start_on nodes own).departure.first z.first opening.0 (is_over.1).more
+        (sym opening.1 ∙ (is_over.1).begins)
+
+    same_start_node : (start_on nodes own).node ≡ v
+    same_start_node = some_node (start_on nodes own).node v
+        (sym (start_departs own own_span).leaves ∙ (ap (tail_of M) same_first ∙ (is_over.1).leaves))
+
+    same_departure : (start_on nodes own).departure ≡ z
+    same_departure =
+        let toward = some_node (start_on nodes own).departure.toward z.toward
+        (sym (start_departs own own_span).toward ∙ (ap (head_of M) same_first ∙ (is_over.1).toward)) in
+        let name : (start_on nodes own).departure.piece ≡ z.piece = name_is nodes own own.name.dir
+        ∙ sym (is_over.1).named in
+        λ x. record { piece = name x; first = same_first x; toward = toward x }
+
+-- ---- the starts of one node
+
+names_are : (nodes : List LineNode) (spans : List PieceSpan)
+    → map (λ t. t.departure.piece) (map (start_on nodes) spans) ≡ map (λ s. s.name) spans
+names_are nodes [] = refl
+names_are nodes (s ∷ ss) =
+    ap (λ n. n ∷ map (λ t. t.departure.piece) (map (start_on nodes) ss)) (name_is nodes s s.name.dir)
+    ∙ ap (λ l. s.name ∷ l) (names_are nodes ss)
+
+names_through : (ts : List Start) → map (λ t. t.departure.piece) ts ≡ map (λ d. d.piece) (map (λ t. t.departure) ts)
+names_through [] = refl
+names_through (t ∷ ts) = ap (λ l. t.departure.piece ∷ l) (names_through ts)
+
+is_tied : (r : Ordering) → is_eq r ≡ true → r ≡ Equal
+is_tied Less h = cc
+is_tied Equal h = refl
+is_tied Greater h = cc
+
+module _ (M : Objects) (P : Rules) (w : WayId) (nodes : List LineNode)
+    (line : IsTrue (is_road M P w) → nodes ≡ map (line_node M P) (line_of M w)) (names : IsTotalOrder name_cmp)
+    (total : IsTotalOrder node_cmp) (exact : IsAntisymmetric node_cmp) (spans : List PieceSpan)
+    (lists : Lists (λ s. s.name) name_cmp (IsSpanOn M P w) spans) (v : NodeId) where
+  abbrev here : Start → Bool
+  here t = same_node t.node v
+
+  abbrev starts : List Start
+  starts = map (start_on nodes) spans
+
+  sound : (z : Departure) → Contains (leaving v starts) z → IsOver M P v w z
+  sound z has =
+      let t = map_from (λ t. t.departure) (filter here starts) z has in
+      let passes = filter_from here starts t.0 (t.1).0 in
+      let s = map_from (start_on nodes) spans t.0 passes.0 in
+      let over = start_over M P w nodes line s.0 (lists.sound s.0 (s.1).0) in
+      let same : (start_on nodes s.0).node ≡ v = ap (λ (u : Start). u.node) (sym (s.1).1)
+      ∙ exact (t.0).node v (is_tied _ passes.1) in
+      let departure : (start_on nodes s.0).departure ≡ z = ap (λ (u : Start). u.departure) (sym (s.1).1)
+      ∙ sym (t.1).1 in
+      subst (λ u. IsOver M P u w z) same (subst (IsOver M P (start_on nodes s.0).node w) departure over)
+
+  complete : (z : Departure) → IsOver M P v w z → Contains (leaving v starts) z
+  complete z is_over =
+      let s = own M P w nodes line v z is_over in
+      let has = map_has (start_on nodes) spans s (lists.complete s (own_span M P w nodes line v z is_over)) in
+      let node = same_start_node M P w nodes line v z is_over in
+      let passes : here (start_on nodes s) ≡ true = ap (λ u. same_node u v) node ∙ ap is_eq (tied_itself total v) in
+      subst (Contains (leaving v starts)) (same_departure M P w nodes line v z is_over)
+      (map_has (λ t. t.departure) (filter here starts) (start_on nodes s)
+      (filter_has here starts (start_on nodes s) has passes))
+
+  pub starts_listed : Lists (λ d. d.piece) name_cmp (IsOver M P v w) (leaving v starts)
+  starts_listed = record {
+    ascending = subst (λ l. IsTrue (rises name_cmp l)) (names_through (filter here starts))
+        (rises_kept name_cmp names (λ t. t.departure.piece) here starts
+        (subst (λ l. IsTrue (rises name_cmp l)) (sym (names_are nodes spans)) lists.ascending));
+    sound = sound;
+    complete = complete;
+  }
+
+-- ---- sorted by node
+
+tied_by : (r : Ordering) → (not (is_lt (ordering_reverse r)) && not (is_lt r)) ≡ is_eq r
+tied_by Less = refl
+tied_by Equal = refl
+tied_by Greater = refl
+
+-- some start at the node
+abbrev start_at : NodeId → Start
+start_at v = record {
+  node = v;
+  departure = record {
+    piece = record { way = record { 0 = pos 0 }; index = 0; dir = Forward };
+    first = record { way = record { 0 = pos 0 }; index = 0; dir = Forward };
+    toward = v;
+  };
+}
+
+-- a stable sort leaves the starts of each node as they were
+pub leaving_kept : IsTotalOrder node_cmp → (v : NodeId) (xs ys : List Start)
+    → IsStableByKey (λ s. s.node) node_cmp xs ys → leaving v xs ≡ leaving v ys
+leaving_kept total v xs ys stable =
+    let lt = λ (a b : Start). is_lt (node_cmp a.node b.node) in
+    let same : (t : Start) → ties lt (start_at v) t ≡ same_node t.node v =
+    λ t. ap (λ r. not (is_lt r) && not (is_lt (node_cmp t.node v))) (total.antisymm v t.node)
+    ∙ tied_by (node_cmp t.node v) in
+    ap (λ (l : List Start). map (λ s. s.departure) l)
+    (sym (filter_agree (ties lt (start_at v)) (λ t. same_node t.node v) same xs)
+    ∙ (sym (stable (start_at v)) ∙ filter_agree (ties lt (start_at v)) (λ t. same_node t.node v) same ys))
+
+lt_index : (r : Ordering) → ltb (ordering_index r) 1 ≡ is_lt r
+lt_index Less = refl
+lt_index Equal = refl
+lt_index Greater = refl
+
+le_index : (r : Ordering) → leb (ordering_index r) 1 ≡ is_le r
+le_index Less = refl
+le_index Equal = refl
+le_index Greater = refl
+
+less_apart : (r : Ordering) → is_lt r ≡ true → is_eq r ≡ false
+less_apart Less h = refl
+less_apart Equal h = cc
+less_apart Greater h = cc
+
+more_apart : (r : Ordering) → is_le r ≡ false → is_eq r ≡ false
+more_apart Less h = cc
+more_apart Equal h = cc
+more_apart Greater h = refl
+
+between : (r : Ordering) → is_lt r ≡ false → is_le r ≡ true → is_eq r ≡ true
+between Less h g = cc
+between Equal h g = refl
+between Greater h g = cc
+
+upto : (r : Ordering) → is_lt r ≡ true → is_le r ≡ true
+upto Less h = refl
+upto Equal h = cc
+upto Greater h = cc
+
+not_both : (b : Bool) → b ≡ true → b ≡ false → ⊥
+not_both b h g = cc
+
+module _ (total : IsTotalOrder node_cmp) (v : NodeId) (xs : List Start)
+    (sorted : IsSortedByKey (λ s. s.node) node_cmp xs) where
+  pub below_parted : IsPartitionedBy (λ s. is_lt (node_cmp s.node v)) xs
+  below_parted =
+      let same : (λ (s : Start). ltb (ordering_index (node_cmp s.node v)) 1)
+      ≡ (λ (s : Start). is_lt (node_cmp s.node v)) = λ i s. lt_index (node_cmp s.node v) i in
+      subst (λ (q : Start → Bool). IsPartitionedBy q xs) same
+      (IsPartitionedBy-ltb (λ s. ordering_index (node_cmp s.node v)) xs 1
+      (searchable_from_sorted total (λ s. s.node) xs v sorted))
+
+  pub upto_parted : IsPartitionedBy (λ s. is_le (node_cmp s.node v)) xs
+  upto_parted =
+      let same : (λ (s : Start). leb (ordering_index (node_cmp s.node v)) 1)
+      ≡ (λ (s : Start). is_le (node_cmp s.node v)) = λ i s. le_index (node_cmp s.node v) i in
+      subst (λ (q : Start → Bool). IsPartitionedBy q xs) same
+      (IsPartitionedBy-leb (λ s. ordering_index (node_cmp s.node v)) xs 1
+      (searchable_from_sorted total (λ s. s.node) xs v sorted))
+
+module _ (v : NodeId) (xs : List Start) (low high : ℕ)
+    (below : IsPartitionPoint (λ s. is_lt (node_cmp s.node v) ≡ true) (λ s. is_lt (node_cmp s.node v) ≡ false) xs low)
+    (within : IsPartitionPoint (λ s. is_le (node_cmp s.node v) ≡ true) (λ s. is_le (node_cmp s.node v) ≡ false) xs high)
+    (low_fits : low ≤ length xs) (high_fits : high ≤ length xs) where
+  pub low_first : low ≤ high
+  low_first = elim (cases_lt high low) [
+    | inl l ↦ absurd (not_both _ (upto _ (below.0 high (start_at v) (omega arith) l))
+        (within.1 high (start_at v) (omega arith) (omega arith)))
+    | inr le ↦ le
+  ]
+
+  -- the starts of a node stand between the two places
+  pub part_leaves : take (high - low) (drop low xs) ≡ filter (λ s. same_node s.node v) xs
+  part_leaves =
+      let up = low_first in
+      let sum : low + (high - low) ≡ high = omega arith in
+      sym (filter_part (λ s. same_node s.node v) xs low (high - low) (omega arith)
+      (λ k d l. less_apart _ (below.0 k d (omega arith) l))
+      (λ k d m l. between _ (below.1 k d m (omega arith)) (within.0 k d (omega arith) (omega arith)))
+      (λ k d m l. more_apart _ (within.1 k d (omega arith) l)))
+
+-- ---- the starts of a way
+
+module _ (M : Objects) (P : Rules) (w : WayId) (names : IsTotalOrder name_cmp) (total : IsTotalOrder node_cmp)
+    (exact : IsAntisymmetric node_cmp) where
+  -- the starts of its pieces, sorted
+  pub are_starts : (nodes : List LineNode) → (IsTrue (is_road M P w) → nodes ≡ map (line_node M P) (line_of M w))
+      → (spans : List PieceSpan) → Lists (λ s. s.name) name_cmp (IsSpanOn M P w) spans → (old new : List Start)
+      → old ≡ map (start_on nodes) spans → IsSortedByKey (λ s. s.node) node_cmp new
+      → IsStableByKey (λ s. s.node) node_cmp old new → AreStarts M P w new
+  are_starts nodes line spans lists old new made sorted stable = record {
+    ascending = sorted;
+    exactly = λ v.
+        subst (λ (l : List Departure). Lists (λ d. d.piece) name_cmp (IsOver M P v w) l)
+        (sym (ap (leaving v) made) ∙ leaving_kept total v old new stable)
+        (starts_listed M P w nodes line names total exact spans lists v);
+  }

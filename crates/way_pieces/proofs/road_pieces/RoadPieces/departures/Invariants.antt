@@ -1,0 +1,11 @@
+use Rattle.std.proofs.Common.{take}
+use Rattle.road_model.specs.Orders.{Lists, name_cmp}
+use Rattle.way_pieces.proofs.DepartureLists.{SoFar}
+use Rattle.way_pieces.proofs.road_pieces.RoadPieces.departures.Given as goal
+
+-- the departures over the ways so far are listed
+abbrev pub invariant-loop-way : goal.invariant-loop-way
+invariant-loop-way g l =
+    Lists (λ d. d.piece) name_cmp
+    (SoFar (g.M.World.objects l.network.world.now) (g.P.Profile.rules l.network.profile) l.node
+    (take l.way-index l.way-items)) l.departures.items

@@ -1,0 +1,45 @@
+-- The pieces of a way, and the departures over it by the node that they leave.
+use Rattle.std.specs.Prelude.{◌≡◌, ℕ, List, Some, length, slice_get}
+use Rattle.std.specs.List.Sorted.{IsSortedByKey}
+use Rattle.road_base.specs.declared.ids.NodeId.{NodeId}
+use Rattle.road_base.specs.declared.ids.WayId.{WayId}
+use Rattle.road_base.specs.Objects.{Objects}
+use Rattle.road_model.specs.Rules.{Rules}
+use Rattle.road_model.specs.Orders.{Lists, node_cmp, name_cmp}
+use Rattle.way_lines.specs.declared.roads.Road.{Road}
+use Rattle.way_lines.specs.RoadLines.{AreRoads}
+use Rattle.way_pieces.specs.declared.spans.PieceSpan.{PieceSpan}
+use Rattle.way_pieces.specs.declared.starts.Start.{Start}
+use Rattle.way_pieces.specs.declared.road_pieces.WayPieces.{WayPieces}
+use Rattle.way_pieces.specs.declared.road_pieces.RoadPieces.{RoadPieces}
+use Rattle.way_pieces.specs.Names.{IsSpanOn}
+use Rattle.way_pieces.specs.Departures.{IsOver}
+use Rattle.way_pieces.specs.Starts.{leaving}
+
+-- all pieces of the way, by position and forward before backward
+abbrev pub AreSpans : Objects → Rules → WayId → List PieceSpan → Type 0
+AreSpans M P w spans = Lists (λ s. s.name) name_cmp (IsSpanOn M P w) spans
+
+-- the starts ascend by node, and those of a node are the departures over the way, ascending by name
+pub record AreStarts (M : Objects) (P : Rules) (w : WayId) (starts : List Start) : Type 0 where
+  pub ascending : IsSortedByKey (λ s. s.node) node_cmp starts
+  pub exactly : (v : NodeId) → Lists (λ d. d.piece) name_cmp (IsOver M P v w) (leaving v starts)
+
+-- the pieces of the way, and where they start
+pub record AreWayPieces (M : Objects) (P : Rules) (w : WayId) (t : WayPieces) : Type 0 where
+  pub spans : AreSpans M P w t.spans.items
+  pub starts : AreStarts M P w t.starts.items
+
+-- the pieces of each road, and where they start
+pub record AreRoadPieces (M : Objects) (P : Rules) (p : RoadPieces) : Type 0 where
+  pub roads : AreRoads M P p.roads
+  pub span_count : length p.spans ≡ length p.roads.roads.items
+  pub start_count : length p.starts ≡ length p.roads.roads.items
+  pub spans : (k : ℕ) (road : Road) (spans : List PieceSpan)
+      → slice_get p.roads.roads.items k ≡ Some road
+      → slice_get p.spans k ≡ Some spans
+      → AreSpans M P road.way spans
+  pub starts : (k : ℕ) (road : Road) (starts : List Start)
+      → slice_get p.roads.roads.items k ≡ Some road
+      → slice_get p.starts k ≡ Some starts
+      → AreStarts M P road.way starts

@@ -1,0 +1,206 @@
+//! Roads cut into pieces.
+ghost use Rattle.std.specs.Prelude.{◌≡◌, map, IfOk, IfSome, OnOk};
+ghost use Rattle.road_base.specs.Objects.{Objects};
+ghost use Rattle.road_model.specs.Rules.{Rules};
+ghost use Rattle.road_model.specs.Orders.{Lists, name_cmp};
+ghost use Rattle.road_model.specs.Networks.{on};
+ghost use Rattle.way_lines.specs.RoadLines.{AreRoads, IsRoad};
+ghost use Rattle.way_pieces.specs.Names.{IsDeparture};
+ghost use Rattle.way_pieces.specs.Departures.{IsOver, Gains};
+ghost use Rattle.way_pieces.specs.RoadPieces.{AreSpans, AreStarts, AreWayPieces, AreRoadPieces};
+
+use crate::departures::Departure;
+use crate::spans::{PieceSpan, spans_along};
+use crate::starts::{Start, add_starts, leaving, put_in_order, starts_of};
+use junctions::junctions_along;
+use road_base::{Dir, Groups, NoMemory, NodeId, WayId};
+use road_model::laws::{name_order, number_order, roads_refer};
+use road_model::{Network, Profile, World};
+use std::alloc::Global;
+use way_lines::{LineNode, Road, RoadLine, Roads};
+
+/// The pieces of a way by their names, and where they start by the nodes from which one departs.
+#[derive(Drop)]
+pub struct WayPieces {
+    pub spans: Vec<PieceSpan>,
+    pub starts: Vec<Start>,
+    ends: Vec<NodeId>,
+}
+
+impl WayPieces {
+    /// The pieces of the way whose directions these are. Its line is read once.
+    pub fn of<M: World, P: Profile>(
+        alloc: Global,
+        network: &Network<'_, M, P>,
+        roads: &Roads,
+        road: Road,
+    ) -> Result<WayPieces, NoMemory>
+        requires roads { on network.now AreRoads roads.now }
+        requires road { on network.now IsRoad road }
+        ensures { IfOk result (on network.now AreWayPieces road.way) }
+    {
+        name_order();
+        number_order();
+        let line = RoadLine::of(alloc, network, road)?;
+        let junctions = junctions_along(alloc, network, roads, &line)?;
+        let spans = spans_along(alloc, network, &line, junctions.as_slice())?;
+        let nodes = line.nodes.as_slice();
+        let mut starts = starts_of(alloc, nodes, spans.as_slice())?;
+        put_in_order(&mut starts)?;
+        let ends = ends_of(alloc, nodes, spans.as_slice())?;
+        Ok(WayPieces {
+            spans,
+            starts,
+            ends,
+        })
+    }
+}
+
+/// The pieces of the way, each once, by position and forward before backward.
+pub fn spans_of<M: World, P: Profile>(
+    alloc: Global,
+    world: &M,
+    profile: &P,
+    way: WayId,
+) -> Result<Vec<PieceSpan>, NoMemory>
+    ensures { IfOk result (λ v. AreSpans (M.objects world.now) (P.rules profile.now) way v.items) }
+{
+    let network = Network::new(world, *profile);
+    let roads = Roads::new(alloc);
+    let pieces = WayPieces::of(alloc, &network, &roads, Road::of(&network, way))?;
+    Ok(pieces.spans)
+}
+
+/// The nodes where the pieces of the way end whose line these nodes are.
+fn ends_of(
+    alloc: Global,
+    nodes: &[LineNode],
+    spans: &[PieceSpan],
+) -> Result<Vec<NodeId>, NoMemory> {
+    let mut ends = Vec::with_capacity(alloc, spans.len())?;
+    for span in spans {
+        let position = match span.name.dir {
+            Dir::Forward => span.end,
+            Dir::Backward => span.name.index,
+        };
+        if let Some(end) = nodes.get(position as usize) {
+            ends.push(end.node)?;
+        }
+    }
+    Ok(ends)
+}
+
+/// Roads that were cut into pieces, each once. The pieces of one of them are found in the time of a short search, where
+/// they were given in ascending order.
+#[derive(Drop)]
+pub struct RoadPieces {
+    roads: Roads,
+    spans: Groups<PieceSpan>,
+    starts: Groups<Start>,
+    ends: Vec<NodeId>,
+}
+
+impl RoadPieces {
+    /// These ways, cut into pieces. One that isn't visible or is no road has none.
+    pub fn of<M: World, P: Profile>(
+        alloc: Global,
+        network: &Network<'_, M, P>,
+        ways: &[WayId],
+    ) -> Result<RoadPieces, NoMemory>
+        ensures are { IfOk result (on network.now AreRoadPieces) }
+        ensures ways { IfOk result (λ p. map (λ x. x.way) p.roads.roads.items ≡ ways.now) }
+    {
+        let roads = Roads::of(alloc, network, ways)?;
+        let mut spans = Groups::new(alloc);
+        let mut starts = Groups::new(alloc);
+        let mut ends = Vec::new(alloc);
+        for road in roads.items() {
+            let pieces = WayPieces::of(alloc, network, &roads, *road)?;
+            spans.push(pieces.spans.as_slice())?;
+            starts.push(pieces.starts.as_slice())?;
+            ends.extend_from_slice(pieces.ends.as_slice())?;
+        }
+        Ok(RoadPieces {
+            roads,
+            spans,
+            starts,
+            ends,
+        })
+    }
+
+    /// The directions of the ways that were cut.
+    pub fn roads(&self) -> &Roads
+        ensures { result.now ≡ self.now.roads }
+    {
+        &self.roads
+    }
+
+    /// The nodes where the pieces end, in no order, some more than once.
+    pub fn ends(&self) -> &[NodeId] {
+        self.ends.as_slice()
+    }
+
+    /// The pieces of the way, if it is found among those that were cut.
+    pub fn spans_of(&self, way: WayId) -> Option<&[PieceSpan]>
+        ensures { IfSome result (λ spans. (M : Objects) (P : Rules)
+            → AreRoadPieces M P self.now
+            → AreSpans M P way spans.now) }
+    {
+        let at = self.roads.place_of(way)?;
+        if at >= self.spans.len() {
+            return None;
+        }
+        Some(self.spans.at(at))
+    }
+
+    /// Where the pieces of the way start, by node, if it is found among those that were cut.
+    fn starts_of(&self, way: WayId) -> Option<&[Start]>
+        ensures { IfSome result (λ starts. (M : Objects) (P : Rules)
+            → AreRoadPieces M P self.now
+            → AreStarts M P way starts.now) }
+    {
+        let at = self.roads.place_of(way)?;
+        if at >= self.starts.len() {
+            return None;
+        }
+        Some(self.starts.at(at))
+    }
+
+    /// The pieces whose first step leaves the node, each once, ascending by name. A way at the node that isn't found
+    /// among those that were cut is cut for this call alone.
+    pub fn departures<M: World, P: Profile>(
+        &self,
+        alloc: Global,
+        network: &Network<'_, M, P>,
+        node: NodeId,
+    ) -> Result<Vec<Departure>, NoMemory>
+        requires { on network.now AreRoadPieces self.now }
+        ensures { IfOk result (λ v. Lists (λ d. d.piece) name_cmp (on network.now IsDeparture node) v.items) }
+    {
+        roads_refer(&network.profile);
+        let mut departures = Vec::new(alloc);
+        for way in network.world.ways_at(node) {
+            self.add_over(alloc, &mut departures, network, *way, node)?;
+        }
+        Ok(departures)
+    }
+
+    /// Adds the departures from the node over the way.
+    fn add_over<M: World, P: Profile>(
+        &self,
+        alloc: Global,
+        departures: &mut Vec<Departure>,
+        network: &Network<'_, M, P>,
+        way: WayId,
+        node: NodeId,
+    ) -> Result<(), NoMemory>
+        requires { on network.now AreRoadPieces self.now }
+        ensures { OnOk result (Gains (on network.now IsOver node way) departures.old.items departures.new.items) }
+    {
+        if let Some(starts) = self.starts_of(way) {
+            return add_starts(departures, leaving(starts, node));
+        }
+        let own = WayPieces::of(alloc, network, &self.roads, self.roads.road(network, way))?;
+        add_starts(departures, leaving(own.starts.as_slice(), node))
+    }
+}
