@@ -1,5 +1,6 @@
 -- What stands in a list that is made of others, and that none stands twice.
-use Rattle.std.proofs.Common.{◌≡◌, ◌≢◌, zero, suc, ◌⊎◌, inl, inr, List, [], ◌∷◌, ◌++◌, map, Contains, refl, sym, subst, ◌∙◌, arith}
+use Rattle.std.proofs.Common.{◌≡◌, ◌≢◌, zero, suc, ◌⊎◌, inl, inr, List, [], ◌∷◌, ◌++◌, map, Contains, refl, sym, subst}
+use Rattle.std.proofs.Common.{◌∙◌, arith}
 use Rattle.std.specs.List.{AllByRecursion, flat_map}
 use Rattle.std.proofs.lemmas.List.Elements.{Contains-append_cases, Contains-append_left, Contains-append_right}
 use Rattle.restrictions.specs.Words.{AreDistinct}
@@ -29,11 +30,13 @@ module _ {A : Type 0} where
 
   pub all_at : (P : A → Type 0) (xs : List A) (y : A) → AllByRecursion P xs → Contains xs y → P y
   all_at P [] y all has = absurd (in_none y has)
-  all_at P (x ∷ xs) y all has = elim (in_either x y xs has) [ inl is ↦ subst P (sym is) all.0 | inr more ↦ all_at P xs y all.1 more ]
+  all_at P (x ∷ xs) y all has = elim (in_either x y xs has)
+      [ inl is ↦ subst P (sym is) all.0 | inr more ↦ all_at P xs y all.1 more ]
 
   -- ---- none stands twice
 
-  pub distinct_append : (xs ys : List A) → AreDistinct xs → AreDistinct ys → ((z : A) → Contains xs z → Contains ys z → ⊥) → AreDistinct (xs ++ ys)
+  pub distinct_append : (xs ys : List A) → AreDistinct xs → AreDistinct ys
+      → ((z : A) → Contains xs z → Contains ys z → ⊥) → AreDistinct (xs ++ ys)
   distinct_append [] ys left right apart = right
   distinct_append (x ∷ xs) ys left right apart = (
     all_from (λ y. x ≢ y) (xs ++ ys) (λ y has same. elim (Contains-append_cases xs ys y has) [
@@ -44,7 +47,8 @@ module _ {A : Type 0} where
   )
 
   pub distinct_push : (xs : List A) (y : A) → AreDistinct xs → (Contains xs y → ⊥) → AreDistinct (xs ++ y ∷ [])
-  distinct_push xs y once new = distinct_append xs (y ∷ []) once (tt, tt) (λ z on_left on_right. new (subst (Contains xs) (in_one y z on_right) on_left))
+  distinct_push xs y once new = distinct_append xs (y ∷ []) once (tt, tt)
+      (λ z on_left on_right. new (subst (Contains xs) (in_one y z on_right) on_left))
 
 module _ {A B : Type 0} where
   -- ---- maps
@@ -63,7 +67,8 @@ module _ {A B : Type 0} where
     | inr more ↦ let found = of_map f xs z more in (found.0, in_tail y found.0 xs found.1, found.2)
   ]
 
-  pub distinct_map : (f : A → B) → ((x y : A) → f x ≡ f y → x ≡ y) → (xs : List A) → AreDistinct xs → AreDistinct (map f xs)
+  pub distinct_map : (f : A → B) → ((x y : A) → f x ≡ f y → x ≡ y) → (xs : List A) → AreDistinct xs
+      → AreDistinct (map f xs)
   distinct_map f one [] once = tt
   distinct_map f one (x ∷ xs) once = (
     all_from (λ z. f x ≢ z) (map f xs) (λ z has same.
@@ -74,22 +79,26 @@ module _ {A B : Type 0} where
 
   -- ---- lists joined
 
-  pub in_joined : (f : A → List B) (xs : List A) (x : A) (z : B) → Contains xs x → Contains (f x) z → Contains (flat_map f xs) z
+  pub in_joined : (f : A → List B) (xs : List A) (x : A) (z : B) → Contains xs x → Contains (f x) z
+      → Contains (flat_map f xs) z
   in_joined f [] x z has inside = absurd (in_none x has)
   in_joined f (y ∷ xs) x z has inside = elim (in_either y x xs has) [
     | inl is ↦ Contains-append_left (f y) (flat_map f xs) z (subst (λ w. Contains (f w) z) is inside)
     | inr more ↦ Contains-append_right (f y) (flat_map f xs) z (in_joined f xs x z more inside)
   ]
 
-  pub of_joined : (f : A → List B) (xs : List A) (z : B) → Contains (flat_map f xs) z → (x : A) × Contains xs x × Contains (f x) z
+  pub of_joined : (f : A → List B) (xs : List A) (z : B) → Contains (flat_map f xs) z
+      → (x : A) × Contains xs x × Contains (f x) z
   of_joined f [] z has = absurd (in_none z has)
   of_joined f (y ∷ xs) z has = elim (Contains-append_cases (f y) (flat_map f xs) z has) [
     | inl here ↦ (y, in_head y xs, here)
     | inr more ↦ let found = of_joined f xs z more in (found.0, in_tail y found.0 xs found.1, found.2)
   ]
 
-  pub distinct_joined : (f : A → List B) (xs : List A) → AreDistinct xs → ((x : A) → AreDistinct (f x)) → ((x y : A) (z : B) → Contains (f x) z → Contains (f y) z → x ≡ y) → AreDistinct (flat_map f xs)
+  pub distinct_joined : (f : A → List B) (xs : List A) → AreDistinct xs → ((x : A) → AreDistinct (f x))
+      → ((x y : A) (z : B) → Contains (f x) z → Contains (f y) z → x ≡ y) → AreDistinct (flat_map f xs)
   distinct_joined f [] once inner apart = tt
-  distinct_joined f (x ∷ xs) once inner apart = distinct_append (f x) (flat_map f xs) (inner x) (distinct_joined f xs once.1 inner apart) (λ z here there.
+  distinct_joined f (x ∷ xs) once inner apart = distinct_append (f x) (flat_map f xs) (inner x)
+      (distinct_joined f xs once.1 inner apart) (λ z here there.
       let found = of_joined f xs z there in
       all_at (λ y. x ≢ y) xs found.0 once.0 found.1 (apart x found.0 z here found.2))

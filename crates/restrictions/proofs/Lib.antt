@@ -1,4 +1,5 @@
 pub mod LineEnds
+pub mod Members
 pub mod OneRun
 pub mod DistinctLists
 pub mod EndLists

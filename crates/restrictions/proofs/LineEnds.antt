@@ -1,6 +1,7 @@
 -- The first and the last node of a line are the first and the last reference.
 use Rattle.std.specs.Prelude.{slice_get}
-use Rattle.std.proofs.Common.{◌≡◌, ℕ, ◌-◌, ◌<◌, ◌≤◌, get_or, List, [], ◌∷◌, Some, is_some, nat_le, Bool, true, false, cond, length, refl, sym, ap, ◌∙◌, arith}
+use Rattle.std.proofs.Common.{◌≡◌, ℕ, ◌-◌, ◌<◌, ◌≤◌, get_or, List, [], ◌∷◌, Some, is_some, nat_le, Bool, true, false}
+use Rattle.std.proofs.Common.{cond, length, refl, sym, ap, ◌∙◌, arith}
 use Rattle.std.proofs.lemmas.Bool.Decides.{Decides-int_eq, nat_tests}
 use Rattle.std.proofs.lemmas.Option.{slice_get-get_or}
 use Rattle.road_base.specs.declared.ids.NodeId.{NodeId}
@@ -25,7 +26,9 @@ at_last x ys =
     let e : length (x ∷ ys) - 1 ≡ length ys = omega arith in
     ap (λ (n : ℕ). slice_get (x ∷ ys) n) e ∙ last_at x ys
 
-kept_by : (x y : NodeId) (ys : List NodeId) (b : Bool) → same_node x y ≡ b → last_or x (changes_from x ys) ≡ last_or x ys → last_or y (changes_from y ys) ≡ last_or y ys → last_or x (cond b (changes_from x ys) (y ∷ changes_from y ys)) ≡ last_or y ys
+kept_by : (x y : NodeId) (ys : List NodeId) (b : Bool) → same_node x y ≡ b
+    → last_or x (changes_from x ys) ≡ last_or x ys → last_or y (changes_from y ys) ≡ last_or y ys
+    → last_or x (cond b (changes_from x ys) (y ∷ changes_from y ys)) ≡ last_or y ys
 kept_by x y ys true same dropped kept = dropped ∙ ap (λ (n : NodeId). last_or n ys) (node_from_same x y same)
 kept_by x y ys false same dropped kept = kept
 
@@ -37,7 +40,8 @@ pub line_ends_first : (xs : List NodeId) → slice_get (changes xs) 0 ≡ slice_
 line_ends_first [] = refl
 line_ends_first (x ∷ xs) = refl
 
-pub line_ends_last : (xs : List NodeId) → slice_get (changes xs) (length (changes xs) - 1) ≡ slice_get xs (length xs - 1)
+pub line_ends_last : (xs : List NodeId) → slice_get (changes xs) (length (changes xs) - 1)
+    ≡ slice_get xs (length xs - 1)
 line_ends_last [] = refl
 line_ends_last (x ∷ xs) = at_last x (changes_from x xs) ∙ (ap Some (last_kept x xs) ∙ sym (at_last x xs))
 

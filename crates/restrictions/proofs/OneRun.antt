@@ -1,5 +1,7 @@
--- A run of ways that are driven whole is one and no other: what the definitions of a run say, and what the functions answer.
-use Rattle.std.proofs.Common.{◌≡◌, Bool, true, false, cond, ◌||◌, ◌⊎◌, inl, inr, List, [], ◌∷◌, ◌++◌, length, Option, Some, None, refl, sym, ap, subst, ◌∙◌, ◌↔◌}
+-- A run of ways that are driven whole is one and no other: what the definitions of a run say, and what the functions
+-- answer.
+use Rattle.std.proofs.Common.{◌≡◌, Bool, true, false, cond, ◌||◌, ◌⊎◌, inl, inr, List, [], ◌∷◌, ◌++◌, length, Option}
+use Rattle.std.proofs.Common.{Some, None, refl, sym, ap, subst, ◌∙◌, ◌↔◌}
 use Rattle.std.specs.List.{list_any}
 use Rattle.std.proofs.lemmas.Bool.{false≢true, or_parts, and_parts, and_from, or_cases, or_left, or_right}
 use Rattle.std.proofs.lemmas.Bool.Decides.{Decides-int_eq}
@@ -14,8 +16,10 @@ use Rattle.road_base.specs.declared.ids.Dir.TheVariants.{Forward, Backward}
 use Rattle.road_base.specs.declared.objects.Relation.{Relation}
 use Rattle.road_base.specs.Objects.{Objects}
 use Rattle.road_model.specs.Lines.{line_of, node_at, same_node}
-use Rattle.road_model.specs.Restrictions.{IsRun, Connects, begin_position, end_position, is_ring, are_ways, same_end, whole_way, vias, froms, tos, some_ends_at}
-use Rattle.restrictions.specs.Runs.{across, arrives, dir_between, dir_from, end_in, first_node, last_node, first_enter, last_enter, leads, leave_of, out_of, steps_in, steps_of}
+use Rattle.road_model.specs.Restrictions.{IsRun, Connects, begin_position, end_position, is_ring, are_ways, same_end}
+use Rattle.road_model.specs.Restrictions.{whole_way, vias, froms, tos, some_ends_at}
+use Rattle.restrictions.specs.Runs.{across, arrives, dir_between, dir_from, end_in, first_node, last_node, first_enter}
+use Rattle.restrictions.specs.Runs.{last_enter, leads, leave_of, out_of, steps_in, steps_of}
 use Rattle.restrictions.proofs.LineEnds.{node_from_same}
 
 same_self : (v : NodeId) → same_node v v ≡ true
@@ -35,21 +39,28 @@ dir_none (Some a) None = refl
 dir_none (Some a) (Some b) = refl
 
 dir_first : (a b : Option NodeId) (v : NodeId) → a ≡ Some v → dir_between a b (Some v) ≡ Some Forward
-dir_first a b v begins = ap (λ (t : Bool). cond t (Some Forward) (cond (same_end b (Some v)) (Some Backward) None)) (end_there a v begins)
+dir_first a b v begins = ap (λ (t : Bool). cond t (Some Forward) (cond (same_end b (Some v)) (Some Backward) None))
+    (end_there a v begins)
 
-dir_last : (a b : Option NodeId) (v : NodeId) → same_end a b ≡ false → b ≡ Some v → dir_between a b (Some v) ≡ Some Backward
+dir_last : (a b : Option NodeId) (v : NodeId) → same_end a b ≡ false → b ≡ Some v
+    → dir_between a b (Some v) ≡ Some Backward
 dir_last a b v apart begins =
     let other : same_end a (Some v) ≡ false = ap (λ (o : Option NodeId). same_end a o) (sym begins) ∙ apart in
     ap (λ (t : Bool). cond t (Some Forward) (cond (same_end b (Some v)) (Some Backward) None)) other
     ∙ ap (λ (t : Bool). cond t (Some Backward) None) (end_there b v begins)
 
 -- in which direction a line is driven from a node, and that it begins there
-dir_cases_by : (a b : Option NodeId) (v : NodeId) (s t : Bool) → same_end a (Some v) ≡ s → same_end b (Some v) ≡ t → (cond s (Some Forward) (cond t (Some Backward) None) ≡ None) ⊎ (((cond s (Some Forward) (cond t (Some Backward) None) ≡ Some Forward) × (a ≡ Some v)) ⊎ ((cond s (Some Forward) (cond t (Some Backward) None) ≡ Some Backward) × (b ≡ Some v)))
+dir_cases_by : (a b : Option NodeId) (v : NodeId) (s t : Bool) → same_end a (Some v) ≡ s → same_end b (Some v) ≡ t
+    → (cond s (Some Forward) (cond t (Some Backward) None) ≡ None)
+    ⊎ (((cond s (Some Forward) (cond t (Some Backward) None) ≡ Some Forward) × (a ≡ Some v))
+    ⊎ ((cond s (Some Forward) (cond t (Some Backward) None) ≡ Some Backward) × (b ≡ Some v)))
 dir_cases_by a b v true t at_a at_b = inr (inl (refl, there_end a v at_a))
 dir_cases_by a b v false true at_a at_b = inr (inr (refl, there_end b v at_b))
 dir_cases_by a b v false false at_a at_b = inl refl
 
-dir_cases : (a b : Option NodeId) (v : NodeId) → (dir_between a b (Some v) ≡ None) ⊎ (((dir_between a b (Some v) ≡ Some Forward) × (a ≡ Some v)) ⊎ ((dir_between a b (Some v) ≡ Some Backward) × (b ≡ Some v)))
+dir_cases : (a b : Option NodeId) (v : NodeId)
+    → (dir_between a b (Some v) ≡ None) ⊎ (((dir_between a b (Some v) ≡ Some Forward) × (a ≡ Some v))
+    ⊎ ((dir_between a b (Some v) ≡ Some Backward) × (b ≡ Some v)))
 dir_cases a b v = dir_cases_by a b v (same_end a (Some v)) (same_end b (Some v)) refl refl
 
 module _ (M : Objects) (allowed : WayId → Dir → Bool) where
@@ -64,51 +75,76 @@ module _ (M : Objects) (allowed : WayId → Dir → Bool) where
 
   -- ---- what a run says, the functions answer
 
-  run_dir : (w : WayId) (d : Dir) (v next : NodeId) → is_ring M (WayKey w) ≡ false → node_at M w (begin_position (length (line_of M w)) d) ≡ Some v → node_at M w (end_position (length (line_of M w)) d) ≡ Some next → dir_from M w (Some v) ≡ Some d
+  run_dir : (w : WayId) (d : Dir) (v next : NodeId) → is_ring M (WayKey w) ≡ false
+      → node_at M w (begin_position (length (line_of M w)) d) ≡ Some v
+      → node_at M w (end_position (length (line_of M w)) d) ≡ Some next → dir_from M w (Some v) ≡ Some d
   run_dir w Forward v next apart begins ends = dir_first (first_node M w) (last_node M w) v begins
   run_dir w Backward v next apart begins ends = dir_last (first_node M w) (last_node M w) v apart begins
 
-  end_position_is : (w : WayId) (d : Dir) → end_in (first_node M w) (last_node M w) d ≡ node_at M w (end_position (length (line_of M w)) d)
+  end_position_is : (w : WayId) (d : Dir) → end_in (first_node M w) (last_node M w) d
+      ≡ node_at M w (end_position (length (line_of M w)) d)
   end_position_is w Forward = refl
   end_position_is w Backward = refl
 
-  run_out : (w : WayId) (d : Dir) (next : NodeId) → allowed w d ≡ true → node_at M w (end_position (length (line_of M w)) d) ≡ Some next → out_of M allowed w (Some d) ≡ Some next
-  run_out w d next may ends = ap (λ (b : Bool). cond b (end_in (first_node M w) (last_node M w) d) None) may ∙ (end_position_is w d ∙ ends)
+  run_out : (w : WayId) (d : Dir) (next : NodeId) → allowed w d ≡ true
+      → node_at M w (end_position (length (line_of M w)) d) ≡ Some next → out_of M allowed w (Some d) ≡ Some next
+  run_out w d next may ends = ap (λ (b : Bool). cond b (end_in (first_node M w) (last_node M w) d) None) may
+      ∙ (end_position_is w d ∙ ends)
 
-  pub one_run : (ks : List Key) (v : NodeId) (s : List Step) (o : NodeId) → list_any (is_ring M) ks ≡ false → IsRun M allowed ks v s o → (leave_of M allowed ks (Some v) ≡ Some o) × (s ≡ steps_of M allowed ks (Some v))
+  pub one_run : (ks : List Key) (v : NodeId) (s : List Step) (o : NodeId) → list_any (is_ring M) ks ≡ false
+      → IsRun M allowed ks v s o → (leave_of M allowed ks (Some v) ≡ Some o) × (s ≡ steps_of M allowed ks (Some v))
   one_run [] v s o lines (none, same) = (ap Some same, none)
   one_run (NodeKey n ∷ ks) v s o lines run = absurd run
   one_run (WayKey w ∷ ks) v s o lines (d, next, rest, may, begins, ends, spelled, behind) =
       let ring = or_parts (is_ring M (WayKey w)) (list_any (is_ring M) ks) lines in
       let dir : dir_from M w (Some v) ≡ Some d = run_dir w d v next ring.0 begins ends in
-      let out : across M allowed (WayKey w) (Some v) ≡ Some next = ap (λ (e : Option Dir). out_of M allowed w e) dir ∙ run_out w d next may ends in
+      let out : across M allowed (WayKey w) (Some v) ≡ Some next = ap (λ (e : Option Dir). out_of M allowed w e) dir
+      ∙ run_out w d next may ends in
       let more = one_run ks next rest o ring.1 behind in (
         ap (λ (u : Option NodeId). leave_of M allowed ks u) out ∙ more.0,
         spelled
-            ∙ (ap (λ (r : List Step). whole_way M w d ++ r) (more.1 ∙ ap (λ (u : Option NodeId). steps_of M allowed ks u) (sym out))
-            ∙ ap (λ (e : Option Dir). steps_in M w e ++ steps_of M allowed ks (across M allowed (WayKey w) (Some v))) (sym dir)),
+            ∙ (ap (λ (r : List Step). whole_way M w d ++ r)
+            (more.1 ∙ ap (λ (u : Option NodeId). steps_of M allowed ks u) (sym out))
+            ∙ ap (λ (e : Option Dir). steps_in M w e ++ steps_of M allowed ks (across M allowed (WayKey w) (Some v)))
+            (sym dir)),
       )
   one_run (RelationKey r ∷ ks) v s o lines run = absurd run
 
   -- ---- what the functions answer is a run
 
-  step_on : (w : WayId) (ks : List Key) (v o : NodeId) (d : Dir) → dir_from M w (Some v) ≡ Some d → node_at M w (begin_position (length (line_of M w)) d) ≡ Some v → ((u : NodeId) → leave_of M allowed ks (Some u) ≡ Some o → IsRun M allowed ks u (steps_of M allowed ks (Some u)) o) → (may : Bool) (end : Option NodeId) → allowed w d ≡ may → end_in (first_node M w) (last_node M w) d ≡ end → leave_of M allowed ks (cond may end None) ≡ Some o → IsRun M allowed (WayKey w ∷ ks) v (whole_way M w d ++ steps_of M allowed ks (cond may end None)) o
-  step_on w ks v o d dir begins behind false end barred ends leaves = absurd (none-some o (sym (from_nowhere ks) ∙ leaves))
-  step_on w ks v o d dir begins behind true None granted ends leaves = absurd (none-some o (sym (from_nowhere ks) ∙ leaves))
+  step_on : (w : WayId) (ks : List Key) (v o : NodeId) (d : Dir) → dir_from M w (Some v) ≡ Some d
+      → node_at M w (begin_position (length (line_of M w)) d) ≡ Some v
+      → ((u : NodeId) → leave_of M allowed ks (Some u) ≡ Some o
+      → IsRun M allowed ks u (steps_of M allowed ks (Some u)) o) → (may : Bool) (end : Option NodeId)
+      → allowed w d ≡ may → end_in (first_node M w) (last_node M w) d ≡ end
+      → leave_of M allowed ks (cond may end None) ≡ Some o
+      → IsRun M allowed (WayKey w ∷ ks) v (whole_way M w d ++ steps_of M allowed ks (cond may end None)) o
+  step_on w ks v o d dir begins behind false end barred ends leaves = absurd
+      (none-some o (sym (from_nowhere ks) ∙ leaves))
+  step_on w ks v o d dir begins behind true None granted ends leaves = absurd
+      (none-some o (sym (from_nowhere ks) ∙ leaves))
   step_on w ks v o d dir begins behind true (Some u) granted ends leaves =
       (d, u, steps_of M allowed ks (Some u), granted, begins, sym (end_position_is w d) ∙ ends, refl, behind u leaves)
 
-  step_by : (w : WayId) (ks : List Key) (v o : NodeId) (d : Dir) → dir_from M w (Some v) ≡ Some d → node_at M w (begin_position (length (line_of M w)) d) ≡ Some v → ((u : NodeId) → leave_of M allowed ks (Some u) ≡ Some o → IsRun M allowed ks u (steps_of M allowed ks (Some u)) o) → leave_of M allowed (WayKey w ∷ ks) (Some v) ≡ Some o → IsRun M allowed (WayKey w ∷ ks) v (steps_of M allowed (WayKey w ∷ ks) (Some v)) o
+  step_by : (w : WayId) (ks : List Key) (v o : NodeId) (d : Dir) → dir_from M w (Some v) ≡ Some d
+      → node_at M w (begin_position (length (line_of M w)) d) ≡ Some v
+      → ((u : NodeId) → leave_of M allowed ks (Some u) ≡ Some o
+      → IsRun M allowed ks u (steps_of M allowed ks (Some u)) o) → leave_of M allowed (WayKey w ∷ ks) (Some v) ≡ Some o
+      → IsRun M allowed (WayKey w ∷ ks) v (steps_of M allowed (WayKey w ∷ ks) (Some v)) o
   step_by w ks v o d dir begins behind leaves =
-      let P : Option Dir → Type 0 = λ e. leave_of M allowed ks (out_of M allowed w e) ≡ Some o → IsRun M allowed (WayKey w ∷ ks) v (steps_in M w e ++ steps_of M allowed ks (out_of M allowed w e)) o in
-      let known : P (Some d) = step_on w ks v o d dir begins behind (allowed w d) (end_in (first_node M w) (last_node M w) d) refl refl in
+      let P : Option Dir → Type 0 = λ e. leave_of M allowed ks (out_of M allowed w e) ≡ Some o
+      → IsRun M allowed (WayKey w ∷ ks) v (steps_in M w e ++ steps_of M allowed ks (out_of M allowed w e)) o in
+      let known : P (Some d) = step_on w ks v o d dir begins behind (allowed w d)
+      (end_in (first_node M w) (last_node M w) d) refl refl in
       subst P (sym dir) known leaves
 
-  pub is_run : (ks : List Key) (v o : NodeId) → leave_of M allowed ks (Some v) ≡ Some o → IsRun M allowed ks v (steps_of M allowed ks (Some v)) o
+  pub is_run : (ks : List Key) (v o : NodeId) → leave_of M allowed ks (Some v) ≡ Some o
+      → IsRun M allowed ks v (steps_of M allowed ks (Some v)) o
   is_run [] v o leaves = (refl, same_Some v o leaves)
   is_run (NodeKey n ∷ ks) v o leaves = absurd (none-some o (sym (from_nowhere ks) ∙ leaves))
   is_run (WayKey w ∷ ks) v o leaves = elim (dir_cases (first_node M w) (last_node M w) v) [
-    | inl none ↦ absurd (none-some o (sym (ap (λ (e : Option Dir). leave_of M allowed ks (out_of M allowed w e)) none ∙ from_nowhere ks) ∙ leaves))
+    | inl none ↦ absurd (none-some o (sym (ap (λ (e : Option Dir). leave_of M allowed ks (out_of M allowed w e)) none
+        ∙ from_nowhere ks) ∙ leaves))
     | inr some ↦ elim some [
       | inl on ↦ step_by w ks v o Forward on.0 on.1 (λ u. is_run ks u o) leaves
       | inr back ↦ step_by w ks v o Backward back.0 back.1 (λ u. is_run ks u o) leaves
@@ -117,14 +153,17 @@ module _ (M : Objects) (allowed : WayId → Dir → Bool) where
   is_run (RelationKey r ∷ ks) v o leaves = absurd (none-some o (sym (from_nowhere ks) ∙ leaves))
 
   -- a run begins at an end of the first way
-  begin_cases : (w : WayId) (d : Dir) (v : NodeId) → node_at M w (begin_position (length (line_of M w)) d) ≡ Some v → (first_node M w ≡ Some v) ⊎ (last_node M w ≡ Some v)
+  begin_cases : (w : WayId) (d : Dir) (v : NodeId) → node_at M w (begin_position (length (line_of M w)) d) ≡ Some v
+      → (first_node M w ≡ Some v) ⊎ (last_node M w ≡ Some v)
   begin_cases w Forward v begins = inl begins
   begin_cases w Backward v begins = inr begins
 
-  pub run_begins : (w : WayId) (ks : List Key) (v : NodeId) (s : List Step) (o : NodeId) → IsRun M allowed (WayKey w ∷ ks) v s o → (first_node M w ≡ Some v) ⊎ (last_node M w ≡ Some v)
+  pub run_begins : (w : WayId) (ks : List Key) (v : NodeId) (s : List Step) (o : NodeId)
+      → IsRun M allowed (WayKey w ∷ ks) v s o → (first_node M w ≡ Some v) ⊎ (last_node M w ≡ Some v)
   run_begins w ks v s o (d, next, rest, may, begins, ends, spelled, more) = begin_cases w d v begins
 
-  enters_at : (ks : List Key) (v : NodeId) (s : List Step) (o : NodeId) → are_ways ks ≡ true → IsRun M allowed ks v s o → (first_enter M ks ≡ Some v) ⊎ (last_enter M ks ≡ Some v)
+  enters_at : (ks : List Key) (v : NodeId) (s : List Step) (o : NodeId) → are_ways ks ≡ true → IsRun M allowed ks v s o
+      → (first_enter M ks ≡ Some v) ⊎ (last_enter M ks ≡ Some v)
   enters_at [] v s o ways run = absurd (false≢true ways)
   enters_at (NodeKey n ∷ ks) v s o ways run = absurd run
   enters_at (WayKey w ∷ ks) v s o ways run = run_begins w ks v s o run
@@ -132,13 +171,15 @@ module _ (M : Objects) (allowed : WayId → Dir → Bool) where
 
   -- ---- whether the via ways connect
 
-  arrives_at : (r : Relation) (out : Option NodeId) → arrives M r out ≡ true → (leave : NodeId) × (out ≡ Some leave) × (some_ends_at M (tos r) (leave ∷ []) ≡ true)
+  arrives_at : (r : Relation) (out : Option NodeId) → arrives M r out ≡ true
+      → (leave : NodeId) × (out ≡ Some leave) × (some_ends_at M (tos r) (leave ∷ []) ≡ true)
   arrives_at r None there = absurd (false≢true there)
   arrives_at r (Some leave) there = (leave, refl, there)
 
   connects_from : (r : Relation) (v : NodeId) → leads M allowed r v ≡ true → Connects M allowed r
   connects_from r v there =
-      let parts = and_parts (some_ends_at M (froms r) (v ∷ [])) (arrives M r (leave_of M allowed (vias r) (Some v))) there in
+      let parts = and_parts (some_ends_at M (froms r) (v ∷ [])) (arrives M r (leave_of M allowed (vias r) (Some v)))
+      there in
       let out = arrives_at r (leave_of M allowed (vias r) (Some v)) parts.1 in
       record {
         enter = v;
@@ -149,27 +190,42 @@ module _ (M : Objects) (allowed : WayId → Dir → Bool) where
         to_end = out.2;
       }
 
-  leads_there : (r : Relation) → list_any (is_ring M) (vias r) ≡ false → (k : Connects M allowed r) → leads M allowed r k.enter ≡ true
+  leads_there : (r : Relation) → list_any (is_ring M) (vias r) ≡ false → (k : Connects M allowed r)
+      → leads M allowed r k.enter ≡ true
   leads_there r lines k =
       let run = one_run (vias r) k.enter k.steps k.leave lines k.run in
-      and_from (some_ends_at M (froms r) (k.enter ∷ [])) (arrives M r (leave_of M allowed (vias r) (Some k.enter))) k.from_end (ap (λ (u : Option NodeId). arrives M r u) run.0 ∙ k.to_end)
+      and_from (some_ends_at M (froms r) (k.enter ∷ [])) (arrives M r (leave_of M allowed (vias r) (Some k.enter)))
+      k.from_end (ap (λ (u : Option NodeId). arrives M r u) run.0 ∙ k.to_end)
 
   -- else they connect where they lead from one of its two ends
-  pub connect_by : (r : Relation) (a b : NodeId) → are_ways (vias r) ≡ true → list_any (is_ring M) (vias r) ≡ false → first_enter M (vias r) ≡ Some a → last_enter M (vias r) ≡ Some b → ((leads M allowed r a || leads M allowed r b) ≡ true) ↔ Connects M allowed r
+  pub connect_by : (r : Relation) (a b : NodeId) → are_ways (vias r) ≡ true → list_any (is_ring M) (vias r) ≡ false
+      → first_enter M (vias r) ≡ Some a → last_enter M (vias r) ≡ Some b
+      → ((leads M allowed r a || leads M allowed r b) ≡ true) ↔ Connects M allowed r
   connect_by r a b ways lines first last = (
-    λ is. elim (or_cases (leads M allowed r a) (leads M allowed r b) is) [ inl from_a ↦ connects_from r a from_a | inr from_b ↦ connects_from r b from_b ],
+    λ is. elim (or_cases (leads M allowed r a) (leads M allowed r b) is)
+        [ inl from_a ↦ connects_from r a from_a | inr from_b ↦ connects_from r b from_b ],
     λ k. elim (enters_at (vias r) k.enter k.steps k.leave ways k.run) [
-      | inl is ↦ or_left (leads M allowed r a) (leads M allowed r b) (ap (λ (v : NodeId). leads M allowed r v) (same_Some a k.enter (sym first ∙ is)) ∙ leads_there r lines k)
-      | inr is ↦ or_right (leads M allowed r a) (leads M allowed r b) (ap (λ (v : NodeId). leads M allowed r v) (same_Some b k.enter (sym last ∙ is)) ∙ leads_there r lines k)
+      | inl is ↦ or_left (leads M allowed r a) (leads M allowed r b)
+          (ap (λ (v : NodeId). leads M allowed r v) (same_Some a k.enter (sym first ∙ is)) ∙ leads_there r lines k)
+      | inr is ↦ or_right (leads M allowed r a) (leads M allowed r b)
+          (ap (λ (v : NodeId). leads M allowed r v) (same_Some b k.enter (sym last ∙ is)) ∙ leads_there r lines k)
     ],
   )
 
   -- the same, where a call has answered for the first end, and one for the second
-  pub connect_first : (r : Relation) (ks : List Key) (a b : NodeId) (answer : Bool) → ks ≡ vias r → are_ways (vias r) ≡ true → list_any (is_ring M) (vias r) ≡ false → Some a ≡ first_enter M ks → Some b ≡ last_enter M ks → answer ≡ leads M allowed r a → answer ≡ true → (answer ≡ true) ↔ Connects M allowed r
-  connect_first r ks a b answer are ways lines first last is holds = (λ h. connects_from r a (sym is ∙ holds), λ k. holds)
+  pub connect_first : (r : Relation) (ks : List Key) (a b : NodeId) (answer : Bool) → ks ≡ vias r
+      → are_ways (vias r) ≡ true → list_any (is_ring M) (vias r) ≡ false → Some a ≡ first_enter M ks
+      → Some b ≡ last_enter M ks → answer ≡ leads M allowed r a → answer ≡ true → (answer ≡ true) ↔ Connects M allowed r
+  connect_first r ks a b answer are ways lines first last is holds
+      = (λ h. connects_from r a (sym is ∙ holds), λ k. holds)
 
-  pub connect_second : (r : Relation) (ks : List Key) (a b : NodeId) (answer other : Bool) → ks ≡ vias r → are_ways (vias r) ≡ true → list_any (is_ring M) (vias r) ≡ false → Some a ≡ first_enter M ks → Some b ≡ last_enter M ks → answer ≡ leads M allowed r a → answer ≡ false → other ≡ leads M allowed r b → (other ≡ true) ↔ Connects M allowed r
+  pub connect_second : (r : Relation) (ks : List Key) (a b : NodeId) (answer other : Bool) → ks ≡ vias r
+      → are_ways (vias r) ≡ true → list_any (is_ring M) (vias r) ≡ false → Some a ≡ first_enter M ks
+      → Some b ≡ last_enter M ks → answer ≡ leads M allowed r a → answer ≡ false → other ≡ leads M allowed r b
+      → (other ≡ true) ↔ Connects M allowed r
   connect_second r ks a b answer other are ways lines first last is fails also =
-      let both = connect_by r a b ways lines (ap (first_enter M) (sym are) ∙ sym first) (ap (last_enter M) (sym are) ∙ sym last) in
-      let same : (leads M allowed r a || leads M allowed r b) ≡ other = ap (λ (t : Bool). t || leads M allowed r b) (sym is ∙ fails) ∙ sym also in
+      let both = connect_by r a b ways lines (ap (first_enter M) (sym are) ∙ sym first)
+      (ap (last_enter M) (sym are) ∙ sym last) in
+      let same : (leads M allowed r a || leads M allowed r b)
+      ≡ other = ap (λ (t : Bool). t || leads M allowed r b) (sym is ∙ fails) ∙ sym also in
       (λ h. both.0 (same ∙ h), λ k. sym same ∙ both.1 k)

@@ -1,7 +1,8 @@
 -- Kinds of causes.
 use Rattle.std.specs.Prelude.{Bool, true, false}
 use Rattle.road_model.specs.declared.answers.Unusable.{Unusable}
-use Rattle.road_model.specs.declared.answers.Unusable.TheVariants.{NotThisVehicle, NoValue, Members, Missing, NotAnEnd, NotConnected, ClosedVia, TooLong}
+use Rattle.road_model.specs.declared.answers.Unusable.TheVariants.{NotThisVehicle, NoValue, Members, Missing, NotAnEnd}
+use Rattle.road_model.specs.declared.answers.Unusable.TheVariants.{NotConnected, ClosedVia, TooLong}
 
 -- the cause speaks of the way over the via ways alone
 abbrev pub is_of_via : Unusable → Bool

@@ -1,5 +1,6 @@
 -- The end steps of ways into a node or out of it, as lists.
-use Rattle.std.specs.Prelude.{◌-◌, nat_eq, nat_le, Bool, true, false, cond, ◌&&◌, List, [], ◌∷◌, ◌++◌, length, Option, Some, None}
+use Rattle.std.specs.Prelude.{◌-◌, nat_eq, nat_le, Bool, true, false, cond, ◌&&◌, List, [], ◌∷◌, ◌++◌, length, Option}
+use Rattle.std.specs.Prelude.{Some, None}
 use Rattle.std.specs.Ordering.{int_eq}
 use Rattle.std.specs.List.{list_any}
 use Rattle.road_base.specs.declared.ids.NodeId.{NodeId}
@@ -31,13 +32,16 @@ abbrev pub last_dir : Side → Dir
 last_dir Into = Forward
 last_dir OutOf = Backward
 
--- the end step at the beginning of the way's line, if that is the node
+-- the end step at the beginning of the way's line, if that is the node and another one stands behind it
 abbrev pub first_end : Objects → Side → WayId → NodeId → Option Step
-first_end M side w v = cond (same_end (first_node M w) (Some v)) (Some (record { way = w; index = 0; dir = first_dir side })) None
+first_end M side w v =
+    cond (nat_le 2 (length (line_of M w)) && same_end (first_node M w) (Some v))
+    (Some (record { way = w; index = 0; dir = first_dir side })) None
 
 -- the one at the end of the line
 abbrev pub last_end : Objects → Side → WayId → NodeId → Option Step
-last_end M side w v = cond (nat_le 2 (length (line_of M w)) && same_end (last_node M w) (Some v)) (Some (record { way = w; index = length (line_of M w) - 2; dir = last_dir side })) None
+last_end M side w v = cond (nat_le 2 (length (line_of M w)) && same_end (last_node M w) (Some v))
+    (Some (record { way = w; index = length (line_of M w) - 2; dir = last_dir side })) None
 
 abbrev pub same_dir : Dir → Dir → Bool
 same_dir Forward Forward = true

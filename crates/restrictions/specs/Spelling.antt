@@ -17,7 +17,13 @@ use Rattle.restrictions.specs.Runs.{first_enter, last_enter, leave_of, steps_of}
 use Rattle.restrictions.specs.Ends.{ends_of}
 
 abbrev pub word_of : Rule → Step → List Step → Step → Word
-word_of rule first via last = record { relation = rule.relation; only = rule.only; binding = rule.binding; steps = first ∷ (via ++ last ∷ []) }
+word_of rule first via last = record {
+  relation = rule.relation;
+  only = rule.only;
+  binding = rule.binding;
+  steps = first
+      ∷ (via ++ last ∷ []);
+}
 
 -- the words that begin with this step
 abbrev pub words_from : Rule → Step → List Step → List Step → List Word
@@ -28,7 +34,8 @@ words_by rule firsts via lasts = flat_map (λ first. words_from rule first via l
 
 -- the words over these via steps, entered and left at these nodes
 abbrev pub words_at : Objects → Rule → Relation → NodeId → List Step → NodeId → List Word
-words_at M rule r enter via leave = words_by rule (ends_of M Into enter (froms r) []) via (ends_of M OutOf leave (tos r) [])
+words_at M rule r enter via leave = words_by rule (ends_of M Into enter (froms r) []) via
+    (ends_of M OutOf leave (tos r) [])
 
 abbrev pub words_to : Objects → Rule → Relation → NodeId → List Step → Option NodeId → List Word
 words_to M rule r enter via None = []
@@ -36,7 +43,8 @@ words_to M rule r enter via (Some leave) = words_at M rule r enter via leave
 
 -- the words over via ways that are entered at the node
 abbrev pub words_over : Objects → Rules → Rule → Relation → NodeId → List Word
-words_over M P rule r enter = words_to M rule r enter (steps_of M (is_open M P) (vias r) (Some enter)) (leave_of M (is_open M P) (vias r) (Some enter))
+words_over M P rule r enter = words_to M rule r enter (steps_of M (is_open M P) (vias r) (Some enter))
+    (leave_of M (is_open M P) (vias r) (Some enter))
 
 abbrev pub words_over_if : Objects → Rules → Rule → Relation → Option NodeId → List Word
 words_over_if M P rule r None = []
@@ -47,7 +55,8 @@ abbrev pub words_with : Objects → Rules → Rule → Relation → List Key →
 words_with M P rule r [] = []
 words_with M P rule r (NodeKey n ∷ []) = words_at M rule r n [] n
 words_with M P rule r (NodeKey n ∷ k ∷ ks) = []
-words_with M P rule r (WayKey w ∷ ks) = words_over_if M P rule r (first_enter M (WayKey w ∷ ks)) ++ words_over_if M P rule r (last_enter M (WayKey w ∷ ks))
+words_with M P rule r (WayKey w ∷ ks) = words_over_if M P rule r (first_enter M (WayKey w ∷ ks))
+    ++ words_over_if M P rule r (last_enter M (WayKey w ∷ ks))
 words_with M P rule r (RelationKey q ∷ ks) = []
 
 abbrev pub words_of : Objects → Rules → Rule → Relation → List Word

@@ -1,15 +1,16 @@
 //! The causes for which a restriction is of no use.
-ghost use Rattle.std.specs.Prelude.{◌≡◌, ◌≤◌, ◌&&◌, length, nat_le, sum_by};
+ghost use Rattle.std.specs.Prelude.{◌≡◌, ◌≤◌, ◌&&◌, length, nat_le, nat_lt, sum_by};
 ghost use Rattle.std.specs.List.{list_all, list_any};
 ghost use Rattle.road_base.specs.Objects.{way_of};
 ghost use Rattle.road_model.specs.Lines.{line_of};
-ghost use Rattle.road_model.specs.Restrictions.{are_ways, first_of, is_one_node, is_present, is_ring, is_tagged_highway, is_too_long, is_way_key, lacks_member, last_of, misses_end, steps_on, wrong_members};
+ghost use Rattle.road_model.specs.Restrictions.{are_ways, first_of, is_one_node, is_present, is_ring};
+ghost use Rattle.road_model.specs.Restrictions.{is_tagged_highway, is_too_long, is_way_key, lacks_member, last_of};
+ghost use Rattle.road_model.specs.Restrictions.{misses_end, steps_on, wrong_members};
 
-use crate::line_ends::{is_ring, nodes_on, some_ends_at_via};
+use crate::line_ends::{has_two_nodes, is_ring, nodes_on, some_ends_at_via};
 use crate::roles::Roles;
 use road_base::{Key, WayId};
 use road_model::World;
-use way_lines::line_at;
 
 /// Whether the members are too few, too many, or of the wrong kinds.
 pub fn wrong_members(only: bool, roles: &Roles<'_>) -> bool
@@ -52,13 +53,12 @@ fn is_one_node(keys: &[Key]) -> bool
     matches!(keys, [Key::Node(_)])
 }
 
-/// Whether some from, via or to member isn't there.
+/// Whether some from, via or to member isn't there. Each is looked at once, however often it stands there.
+#[tactic(auto, using(crate::proofs::Members::lacks_some))]
 pub fn lacks_member<M: World>(world: &M, roles: &Roles<'_>) -> bool
     ensures { result ≡ lacks_member (M.objects world.now) roles.now.body.now }
 {
-    !are_present(world, roles.froms.as_slice())
-        || !are_present(world, roles.vias.as_slice())
-        || !are_present(world, roles.tos.as_slice())
+    !are_present(world, roles.once.as_slice())
 }
 
 fn are_present<M: World>(world: &M, keys: &[Key]) -> bool
@@ -67,7 +67,8 @@ fn are_present<M: World>(world: &M, keys: &[Key]) -> bool
     keys.iter().all(|key| is_present(world, *key))
 }
 
-/// Whether the object is visible, and where it is a way, carries the key `highway` and has two nodes or more on its line.
+/// Whether the object is visible, and where it is a way, carries the key `highway` and has two nodes or more on its
+/// line.
 fn is_present<M: World>(world: &M, key: Key) -> bool
     ensures { result ≡ is_present (M.objects world.now) key }
 {
@@ -78,14 +79,14 @@ fn is_present<M: World>(world: &M, key: Key) -> bool
     }
 }
 
-#[tactic(auto, unfolding(road_model::specs::Lines::line_of), using(crate::proofs::LineEnds::has_second))]
+#[tactic(auto, unfolding(road_model::specs::Lines::line_of))]
 fn is_street<M: World>(world: &M, way: WayId) -> bool
     ensures { result
         ≡ (is_tagged_highway (way_of (M.objects world.now) way)
         && nat_le 2 (length (line_of (M.objects world.now) way))) }
 {
     match world.way(way) {
-        Some(body) => body.tags.get("highway").is_some() && line_at(body, 1).is_some(),
+        Some(body) => body.tags.get("highway").is_some() && has_two_nodes(body),
         None => false,
     }
 }
@@ -131,19 +132,21 @@ pub fn is_too_long<M: World>(world: &M, roles: &Roles<'_>) -> bool
     roles.froms.len() > 16
         || roles.vias.len() > 16
         || roles.tos.len() > 16
-        || steps_on_all(world, roles.vias.as_slice()) > 1024
+        || has_many_steps(world, roles.vias.as_slice())
 }
 
-/// How many steps these ways have together.
-fn steps_on_all<M: World>(world: &M, keys: &[Key]) -> usize
-    requires { length keys.now ≤ 16 }
-    ensures { result ≡ sum_by (steps_on (M.objects world.now)) keys.now }
+/// Whether these ways have more than 1,024 steps together. Looks at none behind those that have.
+fn has_many_steps<M: World>(world: &M, keys: &[Key]) -> bool
+    ensures { result ≡ nat_lt 1024 (sum_by (steps_on (M.objects world.now)) keys.now) }
 {
     let mut steps = 0;
     for key in keys {
         steps += steps_on(world, *key);
+        if steps > 1024 {
+            return true;
+        }
     }
-    steps
+    false
 }
 
 /// How many steps it has, if it is a way.

@@ -1,9 +1,11 @@
 //! The end steps of ways into a node and out of it.
-ghost use Rattle.std.specs.Prelude.{◌≡◌, OnOk, IfOk, []};
+ghost use Rattle.std.specs.Prelude.{◌≡◌, ◌<◌, OnOk, IfOk, IsTrue, Some, [], length, take, slice_get, Contains};
 ghost use Rattle.std.specs.List.{list_any};
-ghost use Rattle.restrictions.specs.Ends.{added, ends_of, first_dir, first_end, last_dir, last_end, same_step, with_ends};
+ghost use Rattle.road_base.specs.declared.ids.Key.{Key};
+ghost use Rattle.restrictions.specs.Ends.{added, ends_of, first_dir, first_end, last_dir, last_end, same_step};
+ghost use Rattle.restrictions.specs.Ends.{with_ends};
 
-use crate::line_ends::{line_ends, nodes_on};
+use crate::line_ends::{has_steps, line_ends, nodes_on};
 use road_base::{Dir, Key, NoMemory, NodeId, Step, WayId};
 use road_model::World;
 use std::alloc::Global;
@@ -15,7 +17,8 @@ pub enum Side {
     OutOf,
 }
 
-/// The end steps of these ways into the node or out of it, each once.
+/// The end steps of these ways into the node or out of it, each once. A way that stands among them several times is
+/// looked at once; to see whether it stands there before takes the time of the square of their number.
 pub fn ends_of<M: World>(
     alloc: Global,
     world: &M,
@@ -26,12 +29,20 @@ pub fn ends_of<M: World>(
     ensures { IfOk result (λ steps. steps.items ≡ ends_of (M.objects world.now) side node ways.now []) }
 {
     let mut steps = Vec::new(alloc);
-    let mut rest = ways;
-    while let [key, behind @ ..] = rest {
-        add_ends(&mut steps, world, side, *key, node)?;
-        rest = behind;
+    for at in 0..ways.len() {
+        if !stands_before(ways, at) {
+            add_ends(&mut steps, world, side, ways[at], node)?;
+        }
     }
     Ok(steps)
+}
+
+/// Whether the key at the place stands at an earlier one, too.
+fn stands_before(keys: &[Key], at: usize) -> bool
+    requires { at < length keys.now }
+    ensures { IsTrue result → (k : Key) → slice_get keys.now at ≡ Some k → Contains (take at keys.now) k }
+{
+    keys[..at].contains(&keys[at])
 }
 
 /// Adds the end steps of the way that aren't there yet.
@@ -54,14 +65,14 @@ fn add_ends<M: World>(
     Ok(())
 }
 
-/// The end step at the beginning of the line, if that is the node.
+/// The end step at the beginning of the line, if that is the node and another one stands behind it.
 fn first_end<M: World>(world: &M, side: Side, way: WayId, node: NodeId) -> Option<Step>
     ensures { result ≡ first_end (M.objects world.now) side way node }
 {
     let Some(ends) = line_ends(world, way) else {
         return None;
     };
-    if ends.first != node {
+    if ends.first != node || !has_steps(world, way) {
         return None;
     }
     Some(Step {

@@ -66,7 +66,8 @@ fn first_cause_on_via<M: World, P: Profile>(
     requires { IsFalse (list_any (is_ring (M.objects world.now)) (vias roles.now.body.now)) }
     ensures some { IfSome result (λ cause. IsTrue (is_of_via cause)
         × Holds (M.objects world.now) (P.rules profile.now) roles.now.body.now cause) }
-    ensures none { IfNone result ((Holds (M.objects world.now) (P.rules profile.now) roles.now.body.now NotConnected → ⊥)
+    ensures none { IfNone result ((Holds (M.objects world.now) (P.rules profile.now) roles.now.body.now NotConnected
+        → ⊥)
         × (Holds (M.objects world.now) (P.rules profile.now) roles.now.body.now ClosedVia → ⊥)) }
 {
     if !are_ways(roles.vias.as_slice()) {

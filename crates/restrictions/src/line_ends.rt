@@ -1,12 +1,12 @@
 //! The ends of ways' lines, and how many nodes these have.
-ghost use Rattle.std.specs.Prelude.{◌≡◌, ◌≤◌, ◌-◌, length, slice_get, option_map};
+ghost use Rattle.std.specs.Prelude.{◌≡◌, ◌≤◌, ◌-◌, length, nat_le, slice_get, option_map};
 ghost use Rattle.std.specs.List.{list_any};
 ghost use Rattle.road_model.specs.Lines.{changes, line_of, node_at, same_node};
 ghost use Rattle.road_model.specs.Restrictions.{is_ring, line_ends, meet, some_ends_at, via_ends, way_ends};
 
-use road_base::{Key, NodeId, WayId};
+use road_base::{Key, NodeId, Way, WayId};
 use road_model::World;
-use way_lines::line_len;
+use way_lines::{line_at, line_len};
 
 /// The first and the last node of a line.
 #[derive(Clone, Copy)]
@@ -19,7 +19,8 @@ pub struct Ends {
 #[tactic(auto, unfolding(road_model::specs::Lines::node_at, road_model::specs::Lines::line_of), using(crate::proofs::LineEnds::line_ends_first, crate::proofs::LineEnds::line_ends_last))]
 pub fn line_ends<M: World>(world: &M, way: WayId) -> Option<Ends>
     ensures first { option_map (λ e. e.first) result ≡ node_at (M.objects world.now) way 0 }
-    ensures last { option_map (λ e. e.last) result ≡ node_at (M.objects world.now) way (length (line_of (M.objects world.now) way) - 1) }
+    ensures last { option_map (λ e. e.last) result
+        ≡ node_at (M.objects world.now) way (length (line_of (M.objects world.now) way) - 1) }
 {
     match world.way(way) {
         Some(body) => ends_of(body.refs.items()),
@@ -52,6 +53,26 @@ pub fn nodes_on<M: World>(world: &M, way: WayId) -> u32
         Some(body) => line_len(body) as u32,
         None => 0,
     }
+}
+
+/// Whether the way's line has two nodes or more. Takes the time of the references that repeat the first one at its
+/// beginning.
+#[tactic(auto, unfolding(road_model::specs::Lines::line_of))]
+pub fn has_steps<M: World>(world: &M, way: WayId) -> bool
+    ensures { result ≡ nat_le 2 (length (line_of (M.objects world.now) way)) }
+{
+    match world.way(way) {
+        Some(body) => has_two_nodes(body),
+        None => false,
+    }
+}
+
+/// Whether the way's line has two nodes or more.
+#[tactic(auto, using(crate::proofs::LineEnds::has_second))]
+pub fn has_two_nodes(way: &Way) -> bool
+    ensures { result ≡ nat_le 2 (length (changes way.now.refs)) }
+{
+    line_at(way, 1).is_some()
 }
 
 /// Whether some of the ways has an end at one of the nodes.

@@ -30,9 +30,15 @@ pub fn pass_ways<M: World, P: Profile>(
     enter: NodeId,
 ) -> Result<Option<Passage>, NoMemory>
     ensures enter { IfOk result (λ answer. IfSome answer (λ passage. passage.enter ≡ enter)) }
-    ensures steps { IfOk result (λ answer. IfSome answer (λ passage. passage.steps.items ≡ steps_of (M.objects world.now) (is_open (M.objects world.now) (P.rules profile.now)) ways.now (Some enter))) }
-    ensures leave { IfOk result (λ answer. IfSome answer (λ passage. leave_of (M.objects world.now) (is_open (M.objects world.now) (P.rules profile.now)) ways.now (Some enter) ≡ Some passage.leave)) }
-    ensures none { IfOk result (λ answer. IfNone answer (leave_of (M.objects world.now) (is_open (M.objects world.now) (P.rules profile.now)) ways.now (Some enter) ≡ None)) }
+    ensures steps { IfOk result (λ answer. IfSome answer
+        (λ passage. passage.steps.items ≡ steps_of (M.objects world.now)
+        (is_open (M.objects world.now) (P.rules profile.now)) ways.now (Some enter))) }
+    ensures leave { IfOk result (λ answer. IfSome answer
+        (λ passage. leave_of (M.objects world.now) (is_open (M.objects world.now) (P.rules profile.now)) ways.now
+        (Some enter) ≡ Some passage.leave)) }
+    ensures none { IfOk result (λ answer. IfNone answer
+        (leave_of (M.objects world.now) (is_open (M.objects world.now) (P.rules profile.now)) ways.now (Some enter)
+        ≡ None)) }
 {
     let mut steps = Vec::new(alloc);
     let mut at = enter;

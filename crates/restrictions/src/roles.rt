@@ -1,7 +1,10 @@
 //! The members of a relation by their roles.
-ghost use Rattle.std.specs.Prelude.{◌≡◌, IfOk, codes};
+ghost use Rattle.std.specs.Prelude.{◌≡◌, ◌↔◌, ◌&&◌, Bool, Contains, IfOk, codes};
+ghost use Rattle.std.specs.List.{list_all};
+ghost use Rattle.road_base.specs.declared.ids.Key.{Key};
 ghost use Rattle.road_model.specs.Restrictions.{in_role};
 
+use road_base::laws::key_order;
 use road_base::{Key, Member, NoMemory, Relation};
 use std::alloc::{AllocError, Global};
 
@@ -12,9 +15,13 @@ pub struct Roles<'a> {
     pub froms: Vec<Key>,
     pub vias: Vec<Key>,
     pub tos: Vec<Key>,
+    /// Each object that has one of these roles once, so that what holds of all of them holds of all members.
+    pub once: Vec<Key>,
     pub ghost from_members: { froms.items ≡ in_role (codes "from") body.now.members },
     pub ghost via_members: { vias.items ≡ in_role (codes "via") body.now.members },
     pub ghost to_members: { tos.items ≡ in_role (codes "to") body.now.members },
+    pub ghost members_once: { (test : Key → Bool) → list_all test once.items
+        ≡ (list_all test froms.items && (list_all test vias.items && list_all test tos.items)) },
 }
 
 /// The members of the relation by role.
@@ -25,12 +32,36 @@ pub fn roles_of(alloc: Global, body: &Relation) -> Result<Roles<'_>, NoMemory>
     let froms = in_role(alloc, members, "from")?;
     let vias = in_role(alloc, members, "via")?;
     let tos = in_role(alloc, members, "to")?;
+    let once = each_once(alloc, froms.as_slice(), vias.as_slice(), tos.as_slice())?;
     Ok(Roles {
         body,
         froms,
         vias,
         tos,
+        once,
     })
+}
+
+/// Each key of the lists once.
+fn each_once(alloc: Global, froms: &[Key], vias: &[Key], tos: &[Key]) -> Result<Vec<Key>, NoMemory>
+    ensures { IfOk result (λ v. (test : Key → Bool) → list_all test v.items
+        ≡ (list_all test froms.now && (list_all test vias.now && list_all test tos.now))) }
+{
+    let mut keys = Vec::new(alloc);
+    keys.extend_from_slice(froms)?;
+    keys.extend_from_slice(vias)?;
+    keys.extend_from_slice(tos)?;
+    leave_once(&mut keys);
+    Ok(keys)
+}
+
+/// Each key once.
+fn leave_once(keys: &mut Vec<Key>)
+    ensures { (k : Key) → Contains keys.new.items k ↔ Contains keys.old.items k }
+{
+    key_order();
+    keys.sort_unstable();
+    keys.dedup();
 }
 
 /// The members of the role, in order.

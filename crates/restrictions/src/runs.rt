@@ -3,7 +3,8 @@ ghost use Rattle.std.specs.Prelude.{◌≡◌, ◌↔◌, Some, None, IsTrue, Is
 ghost use Rattle.std.specs.List.{list_any};
 ghost use Rattle.road_base.specs.declared.ids.Key.TheVariants.{Way as WayKey};
 ghost use Rattle.road_model.specs.Restrictions.{Connects, are_ways, is_ring, vias};
-ghost use Rattle.restrictions.specs.Runs.{across, allows, dir_between, dir_from, end_in, first_enter, last_enter, leads, leave_of};
+ghost use Rattle.restrictions.specs.Runs.{across, allows, dir_between, dir_from, end_in, first_enter, last_enter};
+ghost use Rattle.restrictions.specs.Runs.{leads, leave_of};
 
 use crate::line_ends::{Ends, line_ends, some_ends_at};
 use crate::roles::Roles;
@@ -37,8 +38,10 @@ pub fn cross<M: World, P: Profile>(
 ) -> Option<Crossing>
     ensures some { IfSome result (λ c. (key ≡ WayKey c.way)
         × (dir_from (M.objects world.now) c.way (Some from) ≡ Some c.dir)
-        × (across (M.objects world.now) (allows (M.objects world.now) (P.rules profile.now) allowed) key (Some from) ≡ Some c.out)) }
-    ensures none { IfNone result (across (M.objects world.now) (allows (M.objects world.now) (P.rules profile.now) allowed) key (Some from) ≡ None) }
+        × (across (M.objects world.now) (allows (M.objects world.now) (P.rules profile.now) allowed) key (Some from)
+        ≡ Some c.out)) }
+    ensures none { IfNone result (across (M.objects world.now)
+        (allows (M.objects world.now) (P.rules profile.now) allowed) key (Some from) ≡ None) }
 {
     let Key::Way(way) = key else {
         return None;
@@ -107,7 +110,8 @@ pub fn leave_of<M: World, P: Profile>(
     ways: &[Key],
     enter: NodeId,
 ) -> Option<NodeId>
-    ensures { result ≡ leave_of (M.objects world.now) (allows (M.objects world.now) (P.rules profile.now) allowed) ways.now (Some enter) }
+    ensures { result ≡ leave_of (M.objects world.now) (allows (M.objects world.now) (P.rules profile.now) allowed)
+        ways.now (Some enter) }
 {
     let mut at = enter;
     let mut rest = ways;
@@ -130,7 +134,8 @@ pub fn connects<M: World, P: Profile>(
 ) -> bool
     requires ways { IsTrue (are_ways (vias roles.now.body.now)) }
     requires lines { IsFalse (list_any (is_ring (M.objects world.now)) (vias roles.now.body.now)) }
-    ensures { IsTrue result ↔ Connects (M.objects world.now) (allows (M.objects world.now) (P.rules profile.now) allowed) roles.now.body.now }
+    ensures { IsTrue result ↔ Connects (M.objects world.now)
+        (allows (M.objects world.now) (P.rules profile.now) allowed) roles.now.body.now }
 {
     let Some(ends) = first_ends(world, roles.vias.as_slice()) else {
         return false;
@@ -158,7 +163,8 @@ fn leads_from<M: World, P: Profile>(
     roles: &Roles<'_>,
     enter: NodeId,
 ) -> bool
-    ensures { result ≡ leads (M.objects world.now) (allows (M.objects world.now) (P.rules profile.now) allowed) roles.now.body.now enter }
+    ensures { result ≡ leads (M.objects world.now) (allows (M.objects world.now) (P.rules profile.now) allowed)
+        roles.now.body.now enter }
 {
     if !some_ends_at(world, roles.froms.as_slice(), &[enter]) {
         return false;

@@ -53,7 +53,8 @@ pub fn words_of<M: World, P: Profile>(
     rule: Rule,
     roles: &Roles<'_>,
 ) -> Result<Vec<Word>, NoMemory>
-    ensures { IfOk result (λ words. words.items ≡ words_of (M.objects world.now) (P.rules profile.now) rule roles.now.body.now) }
+    ensures { IfOk result (λ words. words.items
+        ≡ words_of (M.objects world.now) (P.rules profile.now) rule roles.now.body.now) }
 {
     let mut words = Vec::new(alloc);
     let vias = roles.vias.as_slice();
@@ -84,7 +85,8 @@ fn add_words_over<M: World, P: Profile>(
     roles: &Roles<'_>,
     enter: NodeId,
 ) -> Result<(), NoMemory>
-    ensures { OnOk result (words.new.items ≡ words.old.items ++ words_over (M.objects world.now) (P.rules profile.now) rule roles.now.body.now enter) }
+    ensures { OnOk result (words.new.items ≡ words.old.items
+        ++ words_over (M.objects world.now) (P.rules profile.now) rule roles.now.body.now enter) }
 {
     let Some(passage) = pass_ways(alloc, world, profile, roles.vias.as_slice(), enter)? else {
         return Ok(());

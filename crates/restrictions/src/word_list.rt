@@ -59,6 +59,13 @@ impl WordList {
         self.list.as_slice()
     }
 
+    /// The same words. Takes no memory.
+    pub fn into_list(self) -> Vec<Word>
+        ensures { result.items ≡ self }
+    {
+        self.list
+    }
+
     /// An equal value.
     pub fn copy(&self) -> Result<WordList, NoMemory>
         ensures { IfOk result (λ l. l ≡ self.now) }
