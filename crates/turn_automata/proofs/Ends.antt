@@ -1,5 +1,6 @@
 -- The longest end of a list that has a property: there is at most one, and how it changes when the list grows.
-use Rattle.std.proofs.Common.{◌≡◌, ◌+◌, ◌≤◌, List, [], ◌∷◌, ◌++◌, length, refl, sym, ap, subst, ◌∙◌, arith, append_assoc, append-nil, length-append}
+use Rattle.std.proofs.Common.{◌≡◌, ◌+◌, ◌≤◌, List, [], ◌∷◌, ◌++◌, length, refl, sym, ap, subst, ◌∙◌, arith}
+use Rattle.std.proofs.Common.{append_assoc, append-nil, length-append}
 use Rattle.road_model.specs.Contexts.{IsLongestEnd}
 
 module _ {S : Type 0} where
@@ -54,7 +55,8 @@ module _ {S : Type 0} where
 
     module _ (closed : (p : List S) (s : S) → Q (p ++ s ∷ []) → Q p) where
       -- an end with the property of the list with s behind it ends the longest end with s behind it
-      pub ends_longest : (d p : List S) (s : S) → IsLongestEnd Q d p → (a b : List S) → d ++ s ∷ [] ≡ a ++ b → Q b → (c : List S) × (p ++ s ∷ [] ≡ c ++ b)
+      pub ends_longest : (d p : List S) (s : S) → IsLongestEnd Q d p → (a b : List S) → d ++ s ∷ [] ≡ a ++ b → Q b
+          → (c : List S) × (p ++ s ∷ [] ≡ c ++ b)
       ends_longest d p s l a b e h = by (ends b)
         where
           by : Ends b → (c : List S) × (p ++ s ∷ [] ≡ c ++ b)
@@ -62,23 +64,31 @@ module _ {S : Type 0} where
           by (Last b' y n) =
               let same = same_last d s (a ++ b') y (e ∙ ap (λ v. a ++ v) n ∙ sym (append_assoc a b' (y ∷ []))) in
               let less : length b' ≤ length p = l.longest a b' same.front (closed b' y (subst Q n h)) in
-              let c = shorter_end l.front a p b' (sym l.is ∙ same.front) less in
-              (c.0, ap (λ v. v ++ s ∷ []) c.1 ∙ append_assoc c.0 b' (s ∷ []) ∙ ap (λ v. c.0 ++ (b' ++ v ∷ [])) same.last ∙ ap (λ v. c.0 ++ v) (sym n))
+              let c = shorter_end l.front a p b' (sym l.is ∙ same.front) less in (
+                c.0,
+                ap (λ v. v ++ s ∷ []) c.1 ∙ append_assoc c.0 b' (s ∷ []) ∙ ap (λ v. c.0 ++ (b' ++ v ∷ [])) same.last
+                    ∙ ap (λ v. c.0 ++ v) (sym n),
+              )
 
-      pub longest_grows : (d p r : List S) (s : S) → IsLongestEnd Q d p → IsLongestEnd Q (p ++ s ∷ []) r → IsLongestEnd Q (d ++ s ∷ []) r
+      pub longest_grows : (d p r : List S) (s : S) → IsLongestEnd Q d p → IsLongestEnd Q (p ++ s ∷ []) r
+          → IsLongestEnd Q (d ++ s ∷ []) r
       longest_grows d p r s l m = record {
         front = l.front ++ m.front;
-        is = ap (λ v. v ++ s ∷ []) l.is ∙ append_assoc l.front p (s ∷ []) ∙ ap (λ v. l.front ++ v) m.is ∙ sym (append_assoc l.front m.front r);
+        is = ap (λ v. v ++ s ∷ []) l.is ∙ append_assoc l.front p (s ∷ []) ∙ ap (λ v. l.front ++ v) m.is
+            ∙ sym (append_assoc l.front m.front r);
         holds = m.holds;
         longest = λ a b e h. let c = ends_longest d p s l a b e h in m.longest c.0 b c.1 h;
       }
 
-      pub longest_before : (d p r : List S) (s : S) → IsLongestEnd Q d p → IsLongestEnd Q (d ++ s ∷ []) r → IsLongestEnd Q (p ++ s ∷ []) r
+      pub longest_before : (d p r : List S) (s : S) → IsLongestEnd Q d p → IsLongestEnd Q (d ++ s ∷ []) r
+          → IsLongestEnd Q (p ++ s ∷ []) r
       longest_before d p r s l m =
           let c = ends_longest d p s l m.front r m.is m.holds in
           record {
             front = c.0;
             is = c.1;
             holds = m.holds;
-            longest = λ a b e h. m.longest (l.front ++ a) b (ap (λ v. v ++ s ∷ []) l.is ∙ append_assoc l.front p (s ∷ []) ∙ ap (λ v. l.front ++ v) e ∙ sym (append_assoc l.front a b)) h;
+            longest = λ a b e h. m.longest (l.front ++ a) b
+                (ap (λ v. v ++ s ∷ []) l.is ∙ append_assoc l.front p (s ∷ []) ∙ ap (λ v. l.front ++ v) e
+                ∙ sym (append_assoc l.front a b)) h;
           }

@@ -26,7 +26,8 @@ dir_exact Backward Backward h = refl
 
 step_exact : (a b : Step) → step_order.cmp a b ≡ Equal → a ≡ b
 step_exact a b h =
-    let p = both_equal (int_cmp a.way.0 b.way.0) (ordering_then (nat_cmp a.index b.index) (dir_order.cmp a.dir b.dir)) h in
+    let p = both_equal (int_cmp a.way.0 b.way.0) (ordering_then (nat_cmp a.index b.index) (dir_order.cmp a.dir b.dir)) h
+    in
     let q = both_equal (nat_cmp a.index b.index) (dir_order.cmp a.dir b.dir) p.1 in
     let w = exact_signed a.way.0 b.way.0 p.0 in
     let i = exact_unsigned a.index b.index q.0 in
@@ -46,5 +47,6 @@ is_equal Equal h = refl
 is_equal Greater h = absurd (false≢true h)
 
 -- a test that finds an edge finds that one
-pub found_exact : {K : Type 0} (R : K → K → Ordering) → ((a b : K) → R a b ≡ Equal → a ≡ b) → (a b : K) → is_at (R a) b ≡ true → a ≡ b
+pub found_exact : {K : Type 0} (R : K → K → Ordering) → ((a b : K) → R a b ≡ Equal → a ≡ b) → (a b : K)
+    → is_at (R a) b ≡ true → a ≡ b
 found_exact R exact a b h = exact a b (is_equal (R a b) h)

@@ -1,5 +1,6 @@
 -- Equality of edges is that of values, so a look-up in a list of edges finds the edge itself, or it isn't there.
-use Rattle.std.proofs.Common.{◌≡◌, ℕ, ◌<◌, true, false, ◌&&◌, List, length, get_or, slice_get, position, Some, nat_eq, refl, sym, ap, ◌∙◌}
+use Rattle.std.proofs.Common.{◌≡◌, ℕ, ◌<◌, true, false, ◌&&◌, List, length, get_or, slice_get, position, Some, nat_eq}
+use Rattle.std.proofs.Common.{refl, sym, ap, ◌∙◌}
 use Rattle.std.specs.List.{list_any}
 use Rattle.std.specs.Ordering.{int_eq}
 use Rattle.std.proofs.lemmas.Bool.{false≢true, and_parts, and_from}
@@ -48,11 +49,13 @@ edge_itself a =
     (and_from _ _ ((Decides-eqb a.step.index a.step.index).1 refl) (dir_itself a.step.dir)))
 
 -- an edge that a look-up doesn't find stands nowhere
-pub not_among : (es : List Edge) (e : Edge) → list_any (edge_equality.eq e) es ≡ false → (k : ℕ) → slice_get es k ≡ Some e → ⊥
+pub not_among : (es : List Edge) (e : Edge) → list_any (edge_equality.eq e) es ≡ false → (k : ℕ)
+    → slice_get es k ≡ Some e → ⊥
 not_among es e h k at =
     let within : k < length es = slice_get_within es k e at in
     let there : get_or es k e ≡ e = get_or_from_slice_get es k e e at in
-    absurd (false≢true (sym h ∙ list_any_at (edge_equality.eq e) es k e within (ap (edge_equality.eq e) there ∙ edge_itself e)))
+    absurd (false≢true (sym h ∙ list_any_at (edge_equality.eq e) es k e within
+    (ap (edge_equality.eq e) there ∙ edge_itself e)))
 
 -- an edge stands where a look-up finds it
 pub found : (es : List Edge) (e : Edge) (k : ℕ) → position (edge_equality.eq e) es ≡ Some k → slice_get es k ≡ Some e

@@ -12,7 +12,8 @@ module _ {S : Type 0} where
 
   -- for each list but the empty one the number of the longest list that ends it and is shorter
   abbrev pub AreFailureLinks : List (List S) → List ℕ → Type 0
-  AreFailureLinks ps links = (n : ℕ) (x : S) (d : List S) → n < length links → Stands ps n (x ∷ d) → IsLongestIn ps d (slice_index links n)
+  AreFailureLinks ps links = (n : ℕ) (x : S) (d : List S) → n < length links → Stands ps n (x ∷ d)
+      → IsLongestIn ps d (slice_index links n)
 
 -- each number but the first is above the one to which its failure link leads
 abbrev pub Descends : List ℕ → Type 0

@@ -23,8 +23,9 @@ pub record Watches (m : Machine) (n : ℕ) (d : List Step) : Type 0 where
   pub is : StandsFor m n list
 
 -- the parts of an automaton are those of its words; it is stopped from the first if a No word has no steps
-pub record IsMachine (W : List Word) (ps : List (List Step)) (links : List ℕ) (turns : Turns) (stopped : Bool) : Type 0 where
-  pub len : length links ≡ length ps
-  pub descends : Descends links
-  pub watching : IsWatching W ps links turns
-  pub never : IsTrue stopped ↔ NoIn W []
+pub record IsMachine (W : List Word) (ps : List (List Step)) (links : List ℕ) (turns : Turns) (stopped : Bool) : Type 0
+  where
+    pub len : length links ≡ length ps
+    pub descends : Descends links
+    pub watching : IsWatching W ps links turns
+    pub never : IsTrue stopped ↔ NoIn W []

@@ -1,5 +1,6 @@
 -- What follows from the words where a step is driven behind a watched list.
-use Rattle.std.specs.Prelude.{◌≡◌, ℕ, ◌+◌, ◌≤◌, ◌↔◌, ◌⊎◌, List, [], ◌∷◌, ◌++◌, length, Bool, true, false, IsTrue, Some, slice_get, Contains}
+use Rattle.std.specs.Prelude.{◌≡◌, ℕ, ◌+◌, ◌≤◌, ◌↔◌, ◌⊎◌, List, [], ◌∷◌, ◌++◌, length, Bool, true, false, IsTrue, Some}
+use Rattle.std.specs.Prelude.{slice_get, Contains}
 use Rattle.std.specs.Ordering.{nat_cmp, ordering_then}
 use Rattle.std.specs.declared.cmp.Ordering.{Ordering}
 use Rattle.std.specs.BTreeSet.{contains}
@@ -49,9 +50,12 @@ pub record AreMarked (W : List Word) (vs : List Visit) (t : Turns) : Type 0 wher
 
 -- the turns behind the lists that are those of the words
 pub record AreTurns (W : List Word) (ps : List (List Step)) (t : Turns) : Type 0 where
-  pub ends : (n : ℕ) (p : List Step) (x : Step) → Stands ps n p → IsTrue (contains edge_cmp t.ends (n, x)) ↔ NoIn W (p ++ x ∷ [])
-  pub demanded : (n : ℕ) (p : List Step) (x : Step) → Stands ps n p → IsTrue (contains edge_cmp t.demanded (n, x)) ↔ Must W p x
-  pub demanding : (n : ℕ) (p : List Step) → Stands ps n p → IsTrue (contains nat_cmp t.demanding n) ↔ ((x : Step) × Must W p x)
+  pub ends : (n : ℕ) (p : List Step) (x : Step) → Stands ps n p
+      → IsTrue (contains edge_cmp t.ends (n, x)) ↔ NoIn W (p ++ x ∷ [])
+  pub demanded : (n : ℕ) (p : List Step) (x : Step) → Stands ps n p
+      → IsTrue (contains edge_cmp t.demanded (n, x)) ↔ Must W p x
+  pub demanding : (n : ℕ) (p : List Step) → Stands ps n p
+      → IsTrue (contains nat_cmp t.demanding n) ↔ ((x : Step) × Must W p x)
 
 -- behind p itself the words stop s: a No word ends there, or some step must come and s isn't one that must
 abbrev pub StopsAt : List Word → List Step → Step → Type 0

@@ -42,14 +42,16 @@ pub record IsNext (W : List Word) (ps : List (List Step)) (v : Visit) (qs : List
 
 -- the visits of first steps
 pub record AreFirst (W : List Word) (vs : List Visit) (n : ℕ) : Type 0 where
-  pub sound : (v : Visit) → Contains vs v → (w : Word) × (slice_get W v.word ≡ Some w) × (0 < length w.steps) × (v.depth ≡ 0) × (v.state ≡ 0)
+  pub sound : (v : Visit) → Contains vs v → (w : Word) × (slice_get W v.word ≡ Some w) × (0 < length w.steps)
+      × (v.depth ≡ 0) × (v.state ≡ 0)
   pub complete : (i : ℕ) (w : Word) → i < n → slice_get W i ≡ Some w → 0 < length w.steps → Reaches vs i 0
 
 -- Of visits in the order of their depths the first n were followed by those of the steps behind.
 pub record AreFollowed (W : List Word) (ps : List (List Step)) (vs : List Visit) (n : ℕ) : Type 0 where
   pub sound : (v : Visit) → Contains vs v → IsVisit W ps v
   pub begun : (i : ℕ) (w : Word) → slice_get W i ≡ Some w → 0 < length w.steps → Reaches vs i 0
-  pub followed : (j : ℕ) (v : Visit) → j < n → slice_get vs j ≡ Some v → (w : Word) → slice_get W v.word ≡ Some w → v.depth + 1 < length w.steps → Reaches vs v.word (v.depth + 1)
+  pub followed : (j : ℕ) (v : Visit) → j < n → slice_get vs j ≡ Some v → (w : Word) → slice_get W v.word ≡ Some w
+      → v.depth + 1 < length w.steps → Reaches vs v.word (v.depth + 1)
   pub watched : (p : List Step) → Contains ps p → IsWatchable W p
   pub rises : Rises ps
   pub order : (j k : ℕ) (v u : Visit) → slice_get vs j ≡ Some v → slice_get vs k ≡ Some u → j ≤ k → v.depth ≤ u.depth

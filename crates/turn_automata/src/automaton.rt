@@ -1,5 +1,6 @@
 //! The automaton of a list of words.
-ghost use Rattle.std.specs.Prelude.{◌≡◌, ◌↔◌, ◌<◌, List, [], ◌∷◌, ◌++◌, length, false, None, IfOk, IfSome, IsTrue, Contains};
+ghost use Rattle.std.specs.Prelude.{◌≡◌, ◌↔◌, ◌<◌, List, [], ◌∷◌, ◌++◌, length, false, None, IfOk, IfSome, IsTrue};
+ghost use Rattle.std.specs.Prelude.{Contains};
 ghost use Rattle.road_base.specs.declared.ids.Step.{Step};
 ghost use Rattle.turn_automata.specs.Trees.{IsClosed};
 ghost use Rattle.turn_automata.specs.Watched.{IsWatchable, NoIn, Stops};
@@ -96,9 +97,11 @@ impl Automaton {
     pub fn go(&self, state: State, step: Step) -> Option<State>
         requires { state.0 < length self.now.states }
         ensures none { (p : List Step) → StandsFor self.now state.0 p → (result ≡ None) ↔ Stops self.now.words p step }
-        ensures some { IfSome result (λ next. (p : List Step) → StandsFor self.now state.0 p → Watches self.now next.0 (p ++ step ∷ [])) }
+        ensures some { IfSome result (λ next. (p : List Step) → StandsFor self.now state.0 p
+            → Watches self.now next.0 (p ++ step ∷ [])) }
         ensures stopped { (d : List Step) → Watches self.now state.0 d → (result ≡ None) ↔ Stops self.now.words d step }
-        ensures driven { IfSome result (λ next. (d : List Step) → Watches self.now state.0 d → Watches self.now next.0 (d ++ step ∷ [])) }
+        ensures driven { IfSome result (λ next. (d : List Step) → Watches self.now state.0 d
+            → Watches self.now next.0 (d ++ step ∷ [])) }
         ensures known { IfSome result (λ next. next.0 < length self.now.states) }
     {
         if self.stopped || stops(&self.turns, self.links.as_slice(), state.0, step) {

@@ -18,7 +18,8 @@ pub struct Edge {
 
 // By hand, since a `Step` can't be hashed.
 impl Hash for Edge {
-    ghost hash_input = { λ e. fed.usize e.from ++ fed.i64 e.step.way.0 ++ fed.u32 e.step.index ++ fed.bool (dir_equality.eq e.step.dir Forward) };
+    ghost hash_input = { λ e. fed.usize e.from ++ fed.i64 e.step.way.0 ++ fed.u32 e.step.index
+        ++ fed.bool (dir_equality.eq e.step.dir Forward) };
 
     ghost respects_eq = { Prim.search (hashing, rules) };
 

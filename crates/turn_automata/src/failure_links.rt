@@ -9,12 +9,14 @@ use road_base::{NoMemory, Step};
 use std::alloc::Global;
 
 /// The longest list of the tree that ends the given list with the step behind it. `links` need hold no more than the
-/// lists up to the given one. Takes one look-up for each list on its failure links, at most as many as the list has steps.
+/// lists up to the given one. Takes one look-up for each list on its failure links, at most as many as the list has
+/// steps.
 pub fn longest(tree: &Tree, links: &[usize], list: usize, step: Step) -> usize
     requires within { list < length links.now }
     requires descends { Descends links.now }
     ensures within { result < length tree.now }
-    ensures longest { AreFailureLinks tree.now links.now → (p : List Step) → Stands tree.now list p → IsLongestIn tree.now (p ++ step ∷ []) result }
+    ensures longest { AreFailureLinks tree.now links.now → (p : List Step) → Stands tree.now list p
+        → IsLongestIn tree.now (p ++ step ∷ []) result }
 {
     tree.closed();
     let mut end = list;

@@ -11,7 +11,8 @@ pub fn one_watched()
 
 /// What is watched after one more step depends on what was watched before it alone.
 pub fn watched_grows()
-    ensures { (W : List Word) (d p r : List Step) (s : Step) → Watched W d p → Watched W (d ++ s ∷ []) r ↔ Watched W (p ++ s ∷ []) r }
+    ensures { (W : List Word) (d p r : List Step) (s : Step) → Watched W d p
+        → Watched W (d ++ s ∷ []) r ↔ Watched W (p ++ s ∷ []) r }
 {}
 
 /// What is watched decides which next steps are stopped, as the whole drive does.
@@ -21,5 +22,6 @@ pub fn watched_decides()
 
 /// A step that isn't stopped is one that must come, behind each end of the drive behind which some step must.
 pub fn unstopped_is_demanded()
-    ensures { (W : List Word) (p : List Step) (s : Step) → (Stops W p s → ⊥) → (front end : List Step) (x : Step) → p ≡ front ++ end → Must W end x → Must W end s }
+    ensures { (W : List Word) (p : List Step) (s : Step) → (Stops W p s → ⊥) → (front end : List Step) (x : Step)
+        → p ≡ front ++ end → Must W end x → Must W end s }
 {}

@@ -55,8 +55,10 @@ impl Tree {
     /// The number of the list that is this one with the step behind it, None where it isn't there.
     pub fn child(&self, list: usize, step: Step) -> Option<usize>
         ensures within { IfSome result (λ child. child < length self.now) }
-        ensures some { IfSome result (λ child. (p : List Step) → Stands self.now list p → Stands self.now child (p ++ step ∷ [])) }
-        ensures none { IfNone result ((p : List Step) → Stands self.now list p → Contains self.now (p ++ step ∷ []) → ⊥) }
+        ensures some { IfSome result (λ child. (p : List Step) → Stands self.now list p
+            → Stands self.now child (p ++ step ∷ [])) }
+        ensures none { IfNone result ((p : List Step) → Stands self.now list p → Contains self.now (p ++ step ∷ [])
+            → ⊥) }
     {
         let edge = Edge { from: list, step };
         let index = self.edges.get_index_of(&edge)?;
@@ -80,8 +82,10 @@ impl Tree {
     /// The number of the list that is this one with the step behind it, which joins the others where it is new.
     pub fn add(&mut self, list: usize, step: Step) -> Result<usize, NoMemory>
         requires { list < length self.old }
-        ensures number { IfOk result (λ child. (p : List Step) → Stands self.old list p → Stands self.new child (p ++ step ∷ [])) }
-        ensures grown { OnOk result ((p : List Step) → Stands self.old list p → IsGrownBy self.old (p ++ step ∷ []) self.new) }
+        ensures number { IfOk result (λ child. (p : List Step) → Stands self.old list p
+            → Stands self.new child (p ++ step ∷ [])) }
+        ensures grown { OnOk result ((p : List Step) → Stands self.old list p
+            → IsGrownBy self.old (p ++ step ∷ []) self.new) }
     {
         let (index, _) = self.edges.insert_full(Edge { from: list, step })?;
         // The length of a set is below 2^63, so the sum fits.

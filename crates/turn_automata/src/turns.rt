@@ -1,5 +1,6 @@
 //! Which steps the words stop behind which lists.
-ghost use Rattle.std.specs.Prelude.{◌≡◌, ℕ, ◌<◌, ◌+◌, ◌↔◌, List, [], ◌∷◌, ◌++◌, length, true, false, IfOk, OnOk, IsTrue, Some, slice_get, Contains};
+ghost use Rattle.std.specs.Prelude.{◌≡◌, ℕ, ◌<◌, ◌+◌, ◌↔◌, List, [], ◌∷◌, ◌++◌, length, true, false, IfOk, OnOk};
+ghost use Rattle.std.specs.Prelude.{IsTrue, Some, slice_get, Contains};
 ghost use Rattle.road_base.specs.declared.ids.Step.{Step};
 ghost use Rattle.restrictions.specs.declared.word_list.Word.{Word};
 ghost use Rattle.turn_automata.specs.Trees.{Stands, IsClosed};
@@ -28,7 +29,8 @@ pub struct Turns {
 impl Turns {
     /// Whether the words stop the step behind this list itself, not looking at what ends it.
     fn stop_at(&self, list: usize, step: Step) -> bool
-        ensures { (W : List Word) (ps : List (List Step)) (p : List Step) → AreTurns W ps self.now → Stands ps list p → IsTrue result ↔ StopsAt W p step }
+        ensures { (W : List Word) (ps : List (List Step)) (p : List Step) → AreTurns W ps self.now → Stands ps list p
+            → IsTrue result ↔ StopsAt W p step }
     {
         if self.ends.contains(&(list, step)) {
             return true;
@@ -44,7 +46,8 @@ impl Turns {
 pub fn stops(turns: &Turns, links: &[usize], list: usize, step: Step) -> bool
     requires within { list < length links.now }
     requires descends { Descends links.now }
-    ensures { (W : List Word) (ps : List (List Step)) → IsWatching W ps links.now turns.now → (NoIn W [] → ⊥) → (p : List Step) → Stands ps list p → IsTrue result ↔ Stops W p step }
+    ensures { (W : List Word) (ps : List (List Step)) → IsWatching W ps links.now turns.now → (NoIn W [] → ⊥)
+        → (p : List Step) → Stands ps list p → IsTrue result ↔ Stops W p step }
 {
     let mut end = list;
     while end > 0 {
@@ -81,7 +84,8 @@ pub fn turns_of(
 fn mark(words: &[Word], visit: Visit, turns: &mut Turns) -> Result<(), NoMemory>
     requires within { visit.word < length words.now }
     requires inside { (w : Word) → slice_get words.now visit.word ≡ Some w → visit.depth < length w.steps }
-    ensures { OnOk result ((vs : List Visit) → AreMarked words.now vs turns.old → AreMarked words.now (vs ++ visit ∷ []) turns.new) }
+    ensures { OnOk result ((vs : List Visit) → AreMarked words.now vs turns.old
+        → AreMarked words.now (vs ++ visit ∷ []) turns.new) }
 {
     let word = &words[visit.word];
     if word.only {
@@ -95,7 +99,8 @@ fn mark(words: &[Word], visit: Visit, turns: &mut Turns) -> Result<(), NoMemory>
 fn mark_no(word: &Word, visit: Visit, turns: &mut Turns) -> Result<(), NoMemory>
     requires no { word.now.only ≡ false }
     requires inside { visit.depth < length word.now.steps }
-    ensures { OnOk result ((W : List Word) (vs : List Visit) → slice_get W visit.word ≡ Some word.now → AreMarked W vs turns.old → AreMarked W (vs ++ visit ∷ []) turns.new) }
+    ensures { OnOk result ((W : List Word) (vs : List Visit) → slice_get W visit.word ≡ Some word.now
+        → AreMarked W vs turns.old → AreMarked W (vs ++ visit ∷ []) turns.new) }
 {
     let steps = word.steps.items();
     if visit.depth + 1 < steps.len() {
@@ -109,7 +114,8 @@ fn mark_no(word: &Word, visit: Visit, turns: &mut Turns) -> Result<(), NoMemory>
 fn mark_only(word: &Word, visit: Visit, turns: &mut Turns) -> Result<(), NoMemory>
     requires only { word.now.only ≡ true }
     requires inside { visit.depth < length word.now.steps }
-    ensures { OnOk result ((W : List Word) (vs : List Visit) → slice_get W visit.word ≡ Some word.now → AreMarked W vs turns.old → AreMarked W (vs ++ visit ∷ []) turns.new) }
+    ensures { OnOk result ((W : List Word) (vs : List Visit) → slice_get W visit.word ≡ Some word.now
+        → AreMarked W vs turns.old → AreMarked W (vs ++ visit ∷ []) turns.new) }
 {
     if visit.depth < word.binding as usize {
         return Ok(());

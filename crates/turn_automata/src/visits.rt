@@ -80,7 +80,8 @@ fn follow(
     requires within { at < length visits.old.items }
     requires before { AreFollowed words.now tree.old visits.old.items at }
     ensures followed { OnOk result (AreFollowed words.now tree.new visits.new.items (at + 1)) }
-    ensures less { OnOk result (work words.now (drop (at + 1) visits.new.items) < work words.now (drop at visits.old.items)) }
+    ensures less { OnOk result (work words.now (drop (at + 1) visits.new.items) < work words.now
+        (drop at visits.old.items)) }
 {
     match next_of(words, tree, visits[at])? {
         Some(next) => {

@@ -3,12 +3,13 @@ use Rattle.std.proofs.lemmas.Option.{slice_get_within}
 use Rattle.road_base.specs.declared.ids.Step.{Step}
 use Rattle.turn_automata.specs.Trees.{Stands}
 use Rattle.turn_automata.specs.FailureLinks.{IsLongestIn}
-use Rattle.turn_automata.proofs.Linking.{links_none, links_more, descends_none, descends_more}
+use Rattle.turn_automata.proofs.LongestEnds.{links_none, links_more, descends_none, descends_more}
 use Rattle.turn_automata.proofs.failure_links.failure_links_of.Goals as goal
 
 pub loop-list-init : goal.loop-list-init
 loop-list-init c =
-    let e : c.push.new.self.items ≡ 0 ∷ [] = c.in_ok-push.ensures.items ∙ ap (λ (v : List ℕ). v ++ 0 ∷ []) c.new-links.ensures.items in
+    let e : c.push.new.self.items ≡ 0 ∷ [] = c.in_ok-push.ensures.items
+    ∙ ap (λ (v : List ℕ). v ++ 0 ∷ []) c.new-links.ensures.items in
     record {
       low = omega arith;
       len = ap length e;
@@ -25,9 +26,12 @@ loop-list-preserved c =
     record {
       low = omega arith;
       len = ap length e ∙ l ∙ ap (λ n. n + 1) c.loop-list.invariant.len;
-      descends = descends_more links c.push-in-loop-list.new.self.items f e c.loop-list.invariant.descends (subst (λ n. f < n) (sym c.loop-list.invariant.len) c.failure_link_of-link.ensures.less);
-      links = links_more c.args.tree.now c.closed.ensures links c.push-in-loop-list.new.self.items f e c.loop-list.invariant.links
-          (subst (λ n. (x : Step) (d : List Step) → Stands c.args.tree.now n (x ∷ d) → IsLongestIn c.args.tree.now d f) (sym c.loop-list.invariant.len) c.failure_link_of-link.ensures.longest);
+      descends = descends_more links c.push-in-loop-list.new.self.items f e c.loop-list.invariant.descends
+          (subst (λ n. f < n) (sym c.loop-list.invariant.len) c.failure_link_of-link.ensures.less);
+      links = links_more c.args.tree.now c.closed.ensures links c.push-in-loop-list.new.self.items f e
+          c.loop-list.invariant.links
+          (subst (λ n. (x : Step) (d : List Step) → Stands c.args.tree.now n (x ∷ d) → IsLongestIn c.args.tree.now d f)
+          (sym c.loop-list.invariant.len) c.failure_link_of-link.ensures.longest);
     }
 
 pub returns-clause-len : goal.returns-clause-len

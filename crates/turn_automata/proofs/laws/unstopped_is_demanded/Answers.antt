@@ -1,4 +1,4 @@
-use Rattle.turn_automata.proofs.Deciding.{demanded}
+use Rattle.turn_automata.proofs.DecidedSteps.{demanded}
 use Rattle.turn_automata.proofs.laws.unstopped_is_demanded.Goals as goal
 
 pub returns : goal.returns

@@ -1,4 +1,4 @@
-use Rattle.turn_automata.proofs.Watching.{stops_same}
+use Rattle.turn_automata.proofs.WatchedSteps.{stops_same}
 use Rattle.turn_automata.proofs.laws.watched_decides.Goals as goal
 
 pub returns : goal.returns

@@ -1,4 +1,4 @@
-use Rattle.turn_automata.proofs.Watching.{watched_grows}
+use Rattle.turn_automata.proofs.WatchedSteps.{watched_grows}
 use Rattle.turn_automata.proofs.laws.watched_grows.Goals as goal
 
 pub returns : goal.returns

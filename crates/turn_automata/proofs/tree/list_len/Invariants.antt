@@ -8,7 +8,8 @@ abbrev pub invariant-loop-rest : goal.invariant-loop-rest
 invariant-loop-rest l = record {
   within : l.rest < length l.tree;
   fits : l.len + l.rest ≤ l.list;
-  steps : (p : List Step) → Stands l.tree l.list p → (q : List Step) × Stands l.tree l.rest q × (length p ≡ length q + l.len);
+  steps : (p : List Step) → Stands l.tree l.list p
+      → (q : List Step) × Stands l.tree l.rest q × (length p ≡ length q + l.len);
 }
 
 abbrev pub decreases-loop-rest : goal.decreases-loop-rest

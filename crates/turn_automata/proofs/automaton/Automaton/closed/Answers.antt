@@ -10,4 +10,5 @@ pub returns-clause-closed : goal.returns-clause-closed
 returns-clause-closed c = subst (λ (m : Machine). IsClosed m.states) c.self.view_is c.self.invariant.watching.closed
 
 pub returns-clause-lists : goal.returns-clause-lists
-returns-clause-lists c = subst (λ (m : Machine). (p : List Step) → Contains m.states p ↔ IsWatchable m.words p) c.self.view_is c.self.invariant.watching.lists
+returns-clause-lists c = subst (λ (m : Machine). (p : List Step) → Contains m.states p ↔ IsWatchable m.words p)
+    c.self.view_is c.self.invariant.watching.lists

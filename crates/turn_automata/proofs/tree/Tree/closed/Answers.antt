@@ -1,6 +1,6 @@
 use Rattle.std.proofs.Common.{subst}
 use Rattle.turn_automata.specs.Trees.{IsClosed}
-use Rattle.turn_automata.proofs.Growing.{closed}
+use Rattle.turn_automata.proofs.TreeLists.{closed}
 use Rattle.turn_automata.proofs.tree.Tree.closed.Goals as goal
 
 pub returns : goal.returns

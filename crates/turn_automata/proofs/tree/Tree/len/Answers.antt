@@ -1,6 +1,6 @@
 use Rattle.std.proofs.Common.{◌≡◌, ◌+◌, length, arith, ap}
 use Rattle.turn_automata.specs.Trees.{lists_of}
-use Rattle.turn_automata.proofs.Growing.{length_lists}
+use Rattle.turn_automata.proofs.TreeLists.{length_lists}
 use Rattle.turn_automata.proofs.tree.Tree.len.Goals as goal
 
 pub returns : goal.returns

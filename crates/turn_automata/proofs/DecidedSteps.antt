@@ -1,5 +1,6 @@
 -- Whether a step must come is decided by the words, so what isn't stopped is among the steps that must.
-use Rattle.std.proofs.Common.{◌≡◌, ℕ, zero, suc, ◌≤◌, ◌⊎◌, inl, inr, Bool, true, false, ℤ, List, [], ◌∷◌, ◌++◌, length, Contains, refl, sym, ap, subst, arith}
+use Rattle.std.proofs.Common.{◌≡◌, ℕ, zero, suc, ◌≤◌, ◌⊎◌, inl, inr, Bool, true, false, ℤ, List, [], ◌∷◌, ◌++◌, length}
+use Rattle.std.proofs.Common.{Contains, refl, sym, ap, subst, arith}
 use Rattle.std.specs.Ordering.{int_eq}
 use Rattle.std.proofs.lemmas.Bool.{cases_eq, false≢true}
 use Rattle.std.proofs.lemmas.Bool.Decides.{Decides-int_eq}
@@ -54,15 +55,18 @@ goes_by (x ∷ xs) (y ∷ q) s = elim (same_step x y) [
   | inr n ↦ inr (λ r. n (head_is x y xs (q ++ s ∷ r.0) r.1))
 ]
 
-in_rest : (P : Word → Type 0) (w : Word) (W : List Word) → (P w → ⊥) → (u : Word) → Contains (w ∷ W) u → P u → Contains W u
+in_rest : (P : Word → Type 0) (w : Word) (W : List Word) → (P w → ⊥) → (u : Word) → Contains (w ∷ W) u → P u
+    → Contains W u
 in_rest P w W none u (zero, l, is) p = absurd (none (subst P (sym is) p))
 in_rest P w W none u (suc k, l, is) p = (k, omega arith, is)
 
-some_word : (P : Word → Type 0) → ((w : Word) → Decided (P w)) → (W : List Word) → Decided ((w : Word) × Contains W w × P w)
+some_word : (P : Word → Type 0) → ((w : Word) → Decided (P w)) → (W : List Word)
+    → Decided ((w : Word) × Contains W w × P w)
 some_word P each [] = inr (λ r. let l = r.1.1 in absurd (omega arith))
 some_word P each (w ∷ W) = elim (each w) [
   | inl p ↦ inl (w, (0, omega arith, refl), p)
-  | inr n ↦ like (λ r. (r.0, Contains-append_right (w ∷ []) W r.0 r.1, r.2)) (λ r. (r.0, in_rest P w W n r.0 r.1 r.2, r.2)) (some_word P each W)
+  | inr n ↦ like (λ r. (r.0, Contains-append_right (w ∷ []) W r.0 r.1, r.2))
+      (λ r. (r.0, in_rest P w W n r.0 r.1 r.2, r.2)) (some_word P each W)
 ]
 
 at_most : (a b : ℕ) → Decided (a ≤ b)
@@ -84,11 +88,27 @@ must_decided W q s =
       word = record { word = r.0; among = r.1; only = r.2.0; bound = refl; is = r.2.1.1.1 };
       bound = r.2.1.0;
     })
-    (λ m. (m.word.word, m.word.among, (m.word.only, (subst (λ n. n ≤ length q) (sym m.word.bound) m.bound, (m.rest, m.word.is)))))
+    (λ m. (
+      m.word.word,
+      m.word.among,
+      (
+        m.word.only,
+        (subst (λ n. n ≤ length q) (sym m.word.bound) m.bound, (m.rest, m.word.is)),
+      ),
+    ))
     (some_word (Demands q s) (demands q s) W)
 
-pub demanded : (W : List Word) (p : List Step) (s : Step) → (Stops W p s → ⊥) → (front end : List Step) (x : Step) → p ≡ front ++ end → Must W end x → Must W end s
+pub demanded : (W : List Word) (p : List Step) (s : Step) → (Stops W p s → ⊥) → (front end : List Step) (x : Step)
+    → p ≡ front ++ end → Must W end x → Must W end s
 demanded W p s free front end x is must = elim (must_decided W end s) [
   | inl m ↦ m
-  | inr lacks ↦ absurd (free (inr (record { end = end; front = front; is = is; other = x; must = must; lacks = lacks })))
+  | inr lacks ↦ absurd (free (inr (record {
+    end = end;
+    front = front;
+    is = is;
+    other = x;
+    must = must;
+    lacks
+        = lacks;
+  })))
 ]
