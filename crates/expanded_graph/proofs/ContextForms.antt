@@ -1,5 +1,26 @@
 -- All contexts of a piece in order are what is to be listed, in the form in which graphs are written.
-use Rattle.std.proofs.Common.{◌≡◌, ◌+◌, ◌≤◌, List, [], ◌∷◌, ◌++◌, length, map, inl, inr, refl, sym, ap, ◌∙◌, subst, arith, IsTrue, Contains, length-append}
+use Rattle.std.proofs.Common.{
+  ◌≡◌,
+  ◌+◌,
+  ◌≤◌,
+  List,
+  [],
+  ◌∷◌,
+  ◌++◌,
+  length,
+  map,
+  inl,
+  inr,
+  refl,
+  sym,
+  ap,
+  ◌∙◌,
+  subst,
+  arith,
+  IsTrue,
+  Contains,
+  length-append,
+}
 use Rattle.std.specs.declared.cmp.Ordering.TheVariants.{Greater}
 use Rattle.std.specs.Ordering.{nat_cmp, is_lt, ordering_then}
 use Rattle.std.specs.Cmp.{IsTotalOrder, nat_cmp_is}
@@ -23,8 +44,8 @@ use Rattle.road_model.specs.Format.{IsContextForm, begins_alone}
 use Rattle.road_model.specs.Naming.{OnePiece}
 use Rattle.expanded_graph.specs.Contexts.{HasContexts}
 use Rattle.expanded_graph.proofs.Members.{In, in_from_contains, contains_from_in}
-use Rattle.expanded_graph.proofs.Ascending.{climbs}
-use Rattle.expanded_graph.proofs.Sorting.{each_member}
+use Rattle.expanded_graph.proofs.AscendingLists.{climbs}
+use Rattle.expanded_graph.proofs.DistinctNames.{each_member}
 use Rattle.expanded_graph.proofs.ContextStates.{one_context}
 
 no_less : (l : List PieceName) → IsTrue (is_lt (names_cmp l [])) → l ≡ []
@@ -33,7 +54,10 @@ no_less (x ∷ l) h =
     let above : Greater ≡ nat_cmp (length (x ∷ l)) 0 = nat_cmp_is (length (x ∷ l)) 0 Greater (omega arith) in
     absurd (false≢true (ap (λ o. is_lt (ordering_then o (slice_cmp name_cmp (x ∷ l) []))) above ∙ h))
 
-module _ (M : Objects) (P : Rules) (one : OnePiece M P) (names : IsTotalOrder name_cmp) (lists : IsTotalOrder names_cmp) (short : (c : List Piece) → IsContext M P c → length c ≤ 1026) (p : Piece) (piece : IsPiece M P p) (es fs : List Context) (has : HasContexts M P p es) (moved : IsPermutation es fs) (up : IsTrue (rises names_cmp (map (λ c. c.before) fs))) where
+module _ (M : Objects) (P : Rules) (one : OnePiece M P) (names : IsTotalOrder name_cmp)
+    (lists : IsTotalOrder names_cmp) (short : (c : List Piece) → IsContext M P c → length c ≤ 1026) (p : Piece)
+    (piece : IsPiece M P p) (es fs : List Context) (has : HasContexts M P p es) (moved : IsPermutation es fs)
+    (up : IsTrue (rises names_cmp (map (λ c. c.before) fs))) where
   pub listed : Lists (λ c. c.before) names_cmp (IsContextEntry M P p) fs
   listed = record {
     ascending = up;
@@ -47,7 +71,8 @@ module _ (M : Objects) (P : Rules) (one : OnePiece M P) (names : IsTotalOrder na
   alone : (e : Context) × Contains fs e × (e.before ≡ [])
   alone = let r = has.all [] (One p refl piece) in (r.0, Contains-permutation es fs r.0 moved r.1, r.2)
 
-  first_is : (gs : List Context) → IsTrue (rises names_cmp (map (λ c. c.before) gs)) → (e : Context) → In e gs → e.before ≡ [] → begins_alone gs
+  first_is : (gs : List Context) → IsTrue (rises names_cmp (map (λ c. c.before) gs)) → (e : Context) → In e gs
+      → e.before ≡ [] → begins_alone gs
   first_is [] climb e i none = absurd i
   first_is (g ∷ gs) climb e (inl same) none = ap (λ c. c.before) (sym same) ∙ none
   first_is (g ∷ gs) climb e (inr i) none =
@@ -61,7 +86,8 @@ module _ (M : Objects) (P : Rules) (one : OnePiece M P) (names : IsTotalOrder na
   some_pieces c (One q e h) = let l : length c ≡ 1 = ap length e in omega arith
   some_pieces c (Many m) = let l : length c ≡ length m.others + 2 = ap length m.is ∙ omega arith in omega arith
 
-  target : (e : Context) (h : IsContextEntry M P p e) (a : TurnArc) → In a e.arcs → (1 ≤ a.length) × (a.length ≤ length e.before + 2)
+  target : (e : Context) (h : IsContextEntry M P p e) (a : TurnArc) → In a e.arcs → (1 ≤ a.length)
+      × (a.length ≤ length e.before + 2)
   target e h a i =
       let k = h.arcs.sound a (contains_from_in e.arcs a i) in
       let low = some_pieces k.target k.arc.to.holds in

@@ -1,5 +1,29 @@
 -- Contexts of two pieces or more and the states in which they end determine each other.
-use Rattle.std.proofs.Common.{◌≡◌, ℕ, ◌≤◌, ◌↔◌, List, [], ◌∷◌, ◌++◌, length, map, inl, inr, refl, sym, ap, ◌∙◌, subst, arith, Some, IsTrue, slice_get, Contains, length-append}
+use Rattle.std.proofs.Common.{
+  ◌≡◌,
+  ℕ,
+  ◌≤◌,
+  ◌↔◌,
+  List,
+  [],
+  ◌∷◌,
+  ◌++◌,
+  length,
+  map,
+  inl,
+  inr,
+  refl,
+  sym,
+  ap,
+  ◌∙◌,
+  subst,
+  arith,
+  Some,
+  IsTrue,
+  slice_get,
+  Contains,
+  length-append,
+}
 use Rattle.std.specs.Cmp.{IsTotalOrder}
 use Rattle.std.proofs.lemmas.Option.{slice_get_within}
 use Rattle.std.proofs.lemmas.List.{same_from_push}
@@ -28,18 +52,31 @@ use Rattle.expanded_graph.specs.Travel.{Arrives}
 use Rattle.expanded_graph.proofs.Members.{In, in_from_contains, contains_from_in, at_in, in_at, in_end, in_left}
 use Rattle.expanded_graph.proofs.Ends.{spell_ends, last_step}
 use Rattle.expanded_graph.proofs.LastSteps.{last_drives}
-use Rattle.expanded_graph.proofs.Runs.{cons_not_nil, some_at, one_at, turn_ends_long, every_left, context_pieces, one_turn}
+use Rattle.expanded_graph.proofs.Runs.{
+  cons_not_nil,
+  some_at,
+  one_at,
+  turn_ends_long,
+  every_left,
+  context_pieces,
+  one_turn,
+}
 use Rattle.expanded_graph.proofs.Between.{between_longer}
-use Rattle.expanded_graph.proofs.Ascending.{lists_unique}
-use Rattle.expanded_graph.proofs.Stopping.{begins_from, begins_to}
+use Rattle.expanded_graph.proofs.AscendingLists.{lists_unique}
+use Rattle.expanded_graph.proofs.StopsNear.{begins_from, begins_to}
 
 -- the laws of contexts and their steps
 pub record StepLaws (M : Objects) (P : Rules) : Type 0 where
   pub one : OnePiece M P
-  pub to : (c : List Piece) (a b : Piece) (rest : List Piece) → IsContext M P c → c ≡ a ∷ b ∷ rest → (q : List Step) × HasTurnSteps c q × BeginsWord M P q × Legal M P q
-  pub from : (q : List Step) (s : Step) (u : List Step) (t : Step) (p : Piece) (front : List Step) → Legal M P q → BeginsWord M P q → q ≡ s ∷ (u ++ t ∷ []) → IsPiece M P p → spell p ≡ front ++ t ∷ [] → (before : List Piece) × (before ≡ [] → ⊥) × HasTurnSteps (before ++ p ∷ []) q × IsContext M P (before ++ p ∷ [])
+  pub to : (c : List Piece) (a b : Piece) (rest : List Piece) → IsContext M P c → c ≡ a ∷ b ∷ rest → (q : List Step)
+      × HasTurnSteps c q × BeginsWord M P q × Legal M P q
+  pub from : (q : List Step) (s : Step) (u : List Step) (t : Step) (p : Piece) (front : List Step) → Legal M P q
+      → BeginsWord M P q → q ≡ s ∷ (u ++ t ∷ []) → IsPiece M P p → spell p ≡ front ++ t ∷ [] → (before : List Piece)
+      × (before ≡ [] → ⊥) × HasTurnSteps (before ++ p ∷ []) q × IsContext M P (before ++ p ∷ [])
 
-module _ (M : Objects) (P : Rules) (laws : StepLaws M P) (m : Machine) (facts : List StateFacts) (closed : IsClosed m.states) (lists : (q : List Step) → Contains m.states q ↔ IsWatchable m.words q) (p : Piece) (piece : IsPiece M P p) (known : AreStates M P p.way m.words m.states facts) where
+module _ (M : Objects) (P : Rules) (laws : StepLaws M P) (m : Machine) (facts : List StateFacts)
+    (closed : IsClosed m.states) (lists : (q : List Step) → Contains m.states q ↔ IsWatchable m.words q) (p : Piece)
+    (piece : IsPiece M P p) (known : AreStates M P p.way m.words m.states facts) where
   fact_of : (k : ℕ) (q : List Step) → StandsFor m k q → (f : StateFacts) × (slice_get facts k ≡ Some f)
   fact_of k q at =
       let within = slice_get_within m.states k q at in
@@ -52,7 +89,8 @@ module _ (M : Objects) (P : Rules) (laws : StepLaws M P) (m : Machine) (facts : 
       ap (λ x. x.way) (sym (same_from_push r.front front (last_step p) s (sym r.is ∙ e)).1)
 
   -- the steps of a list of two steps or more that begins a word and ends on the piece are near its way
-  all_near : (q : List Step) (first : Step) (middle : List Step) (last : Step) → q ≡ first ∷ (middle ++ last ∷ []) → last.way ≡ p.way → BeginsWord M P q → (s : Step) → Contains q s → IsNear M P p.way s
+  all_near : (q : List Step) (first : Step) (middle : List Step) (last : Step) → q ≡ first ∷ (middle ++ last ∷ [])
+      → last.way ≡ p.way → BeginsWord M P q → (s : Step) → Contains q s → IsNear M P p.way s
   all_near q first middle last e on b s has =
       let u = q ++ b.next ∷ b.more in
       Shares u b.word
@@ -69,22 +107,27 @@ module _ (M : Objects) (P : Rules) (laws : StepLaws M P) (m : Machine) (facts : 
     facts_are = known.each n list e.known e.at e.fact
 
     ends_piece : EndsPiece M P e.last (name_of p)
-    ends_piece = (facts_are.ends (e.first ∷ e.middle) e.last refl (name_of p)).0 (subst (λ f. f.ends ≡ Some (name_of p)) (one_at facts n named.known e.known named.fact e.fact) named.ends)
+    ends_piece =
+        (facts_are.ends (e.first ∷ e.middle) e.last refl (name_of p)).0
+        (subst (λ f. f.ends ≡ Some (name_of p)) (one_at facts n named.known e.known named.fact e.fact) named.ends)
 
     spelled : spell p ≡ ends_piece.front ++ e.last ∷ []
     spelled = ap spell (laws.one p ends_piece.piece piece ends_piece.is ends_piece.named) ∙ ends_piece.ends
 
     prefix : IsProperPrefix m.words list
-    prefix = elim ((lists list).0 (contains_from_in m.states list (in_at m.states list n e.at))) [ inl h ↦ h | inr none ↦ absurd (cons_not_nil [] e.first (e.middle ++ e.last ∷ []) none) ]
+    prefix = elim ((lists list).0 (contains_from_in m.states list (in_at m.states list n e.at)))
+        [ inl h ↦ h | inr none ↦ absurd (cons_not_nil [] e.first (e.middle ++ e.last ∷ []) none) ]
 
     begins : BeginsWord M P list
     begins = begins_from M P p.way m.words known.words list (cons_not_nil [] e.first (e.middle ++ e.last ∷ [])) prefix
 
     legal : Legal M P list
-    legal = (facts_are.legal (cons_not_nil [] e.first (e.middle ++ e.last ∷ [])) (all_near list e.first e.middle e.last refl (last_way ends_piece.front e.last spelled) begins)).0 e.legal
+    legal = (facts_are.legal (cons_not_nil [] e.first (e.middle ++ e.last ∷ []))
+        (all_near list e.first e.middle e.last refl (last_way ends_piece.front e.last spelled) begins)).0 e.legal
 
     -- the context that ends in the state
-    pub context_there : (before : List Piece) × (before ≡ [] → ⊥) × HasTurnSteps (before ++ p ∷ []) list × IsContext M P (before ++ p ∷ [])
+    pub context_there : (before : List Piece) × (before ≡ [] → ⊥) × HasTurnSteps (before ++ p ∷ []) list
+        × IsContext M P (before ++ p ∷ [])
     context_there = laws.from list e.first e.middle e.last p ends_piece.front legal begins refl piece spelled
 
     short_end : (a b : List Step) → list ≡ a ++ b → length b ≤ length list
@@ -98,7 +141,12 @@ module _ (M : Objects) (P : Rules) (laws : StepLaws M P) (m : Machine) (facts : 
       steps = list;
       turn = context_there.2;
       legal = legal;
-      watches = record { list = list; watched = record { front = []; is = refl; holds = inl prefix; longest = λ a b h w. short_end a b h }; is = e.at };
+      watches = record {
+        list = list;
+        watched = record { front = []; is = refl; holds = inl prefix; longest = λ a b h w. short_end a b h };
+        is =
+            e.at;
+      };
       before = context_there.0;
       piece = p;
       is = refl;
@@ -106,7 +154,8 @@ module _ (M : Objects) (P : Rules) (laws : StepLaws M P) (m : Machine) (facts : 
       arrives = arrives;
     }
 
-    pub context_in : (x : Context) → x.before ≡ map name_of context_there.0 → Lists (λ a. a.piece) name_cmp (IsArcEntry M P (context_there.0 ++ p ∷ [])) x.arcs → IsContextIn M P m p n x
+    pub context_in : (x : Context) → x.before ≡ map name_of context_there.0
+        → Lists (λ a. a.piece) name_cmp (IsArcEntry M P (context_there.0 ++ p ∷ [])) x.arcs → IsContextIn M P m p n x
     context_in x names arcs = record {
       entry = record { before = context_there.0; context = context_there.3; named = names; arcs = arcs };
       longer = context_there.1;
@@ -117,7 +166,8 @@ module _ (M : Objects) (P : Rules) (laws : StepLaws M P) (m : Machine) (facts : 
 
   -- ---- from a context to its state
 
-  two_pieces : (before : List Piece) → (before ≡ [] → ⊥) → (a : Piece) × (b : Piece) × (rest : List Piece) × (before ++ p ∷ [] ≡ a ∷ b ∷ rest)
+  two_pieces : (before : List Piece) → (before ≡ [] → ⊥) → (a : Piece) × (b : Piece) × (rest : List Piece)
+      × (before ++ p ∷ [] ≡ a ∷ b ∷ rest)
   two_pieces [] some = absurd (some refl)
   two_pieces (a ∷ []) some = (a, p, [], refl)
   two_pieces (a ∷ b ∷ rest) some = (a, b, rest ++ p ∷ [], refl)
@@ -144,7 +194,8 @@ module _ (M : Objects) (P : Rules) (laws : StepLaws M P) (m : Machine) (facts : 
       let n = at_in m.states q (in_from_contains m.states q there) in
       let f = fact_of n.0 q n.1 in
       let are = known.each n.0 q f.0 n.1 f.1 in
-      let ends = (are.ends (long.0 ∷ long.1) last long.2 (name_of p)).1 (record { piece = p; is = piece; named = refl; front = r.front; ends = r.is }) in
+      let ends = (are.ends (long.0 ∷ long.1) last long.2 (name_of p)).1
+      (record { piece = p; is = piece; named = refl; front = r.front; ends = r.is }) in
       let some_steps : q ≡ [] → ⊥ = λ z. cons_not_nil [] long.0 (long.1 ++ last ∷ []) (sym long.2 ∙ z) in
       record {
         number = n.0;
@@ -168,7 +219,8 @@ module _ (M : Objects) (P : Rules) (laws : StepLaws M P) (m : Machine) (facts : 
 
 -- ---- names tell contexts apart
 
-pub same_pieces : (M : Objects) (P : Rules) → OnePiece M P → (a b : List Piece) → Every (IsPiece M P) a → Every (IsPiece M P) b → map name_of a ≡ map name_of b → a ≡ b
+pub same_pieces : (M : Objects) (P : Rules) → OnePiece M P → (a b : List Piece) → Every (IsPiece M P) a
+    → Every (IsPiece M P) b → map name_of a ≡ map name_of b → a ≡ b
 same_pieces M P one [] [] f g e = refl
 same_pieces M P one [] (y ∷ b) f g e = cc
 same_pieces M P one (x ∷ a) [] f g e = cc
@@ -180,42 +232,55 @@ same_pieces M P one (x ∷ a) (y ∷ b) f g e =
     cc
 
 module _ (M : Objects) (P : Rules) (one : OnePiece M P) (p : Piece) where
-  same_before : (e f : Context) (h : IsContextEntry M P p e) (k : IsContextEntry M P p f) → e.before ≡ f.before → h.before ≡ k.before
+  same_before : (e f : Context) (h : IsContextEntry M P p e) (k : IsContextEntry M P p f) → e.before ≡ f.before
+      → h.before ≡ k.before
   same_before e f h k same =
-      same_pieces M P one h.before k.before (every_left (IsPiece M P) h.before (p ∷ []) (context_pieces M P (h.before ++ p ∷ []) h.context)) (every_left (IsPiece M P) k.before (p ∷ []) (context_pieces M P (k.before ++ p ∷ []) k.context)) (sym h.named ∙ (same ∙ k.named))
+      same_pieces M P one h.before k.before
+      (every_left (IsPiece M P) h.before (p ∷ []) (context_pieces M P (h.before ++ p ∷ []) h.context))
+      (every_left (IsPiece M P) k.before (p ∷ []) (context_pieces M P (k.before ++ p ∷ []) k.context))
+      (sym h.named ∙ (same ∙ k.named))
 
   -- a context is written in one way
-  pub one_context : IsTotalOrder name_cmp → (e f : Context) → IsContextEntry M P p e → IsContextEntry M P p f → e.before ≡ f.before → e ≡ f
+  pub one_context : IsTotalOrder name_cmp → (e f : Context) → IsContextEntry M P p e → IsContextEntry M P p f
+      → e.before ≡ f.before → e ≡ f
   one_context total e f h k same =
       let before = same_before e f h k same in
-      let arcs = lists_unique (λ (a : TurnArc). a.piece) name_cmp total (IsArcEntry M P (k.before ++ p ∷ [])) e.arcs f.arcs (subst (λ b. Lists (λ a. a.piece) name_cmp (IsArcEntry M P (b ++ p ∷ [])) e.arcs) before h.arcs) k.arcs in
+      let arcs = lists_unique (λ (a : TurnArc). a.piece) name_cmp total (IsArcEntry M P (k.before ++ p ∷ [])) e.arcs
+      f.arcs (subst (λ b. Lists (λ a. a.piece) name_cmp (IsArcEntry M P (b ++ p ∷ [])) e.arcs) before h.arcs)
+      k.arcs in
       λ i. record { before = same i; arcs = arcs i }
 
   -- contexts that end in different states have different names
-  pub one_state : (m : Machine) → IsClosed m.states → (n k : ℕ) (e f : Context) → IsContextIn M P m p n e → IsContextIn M P m p k f → e.before ≡ f.before → n ≡ k
+  pub one_state : (m : Machine) → IsClosed m.states → (n k : ℕ) (e f : Context) → IsContextIn M P m p n e
+      → IsContextIn M P m p k f → e.before ≡ f.before → n ≡ k
   one_state m closed n k e f h g same =
       let before = same_before e f h.entry g.entry same in
-      let steps = one_turn (g.entry.before ++ p ∷ []) h.steps g.steps (subst (λ b. HasTurnSteps (b ++ p ∷ []) h.steps) before h.turn) g.turn in
+      let steps = one_turn (g.entry.before ++ p ∷ []) h.steps g.steps
+      (subst (λ b. HasTurnSteps (b ++ p ∷ []) h.steps) before h.turn) g.turn in
       closed.once n k g.steps (subst (StandsFor m n) steps h.at) g.at
 
 -- ---- a piece alone
 
-module _ (M : Objects) (P : Rules) (alone : (s : Step) → IsTrue (drivable M P s) → Legal M P (s ∷ [])) (m : Machine) (facts : List StateFacts) (p : Piece) (piece : IsPiece M P p) (known : AreStates M P p.way m.words m.states facts) (front : List Step) (last : Step) (ends : spell p ≡ front ++ last ∷ []) (n : ℕ) (to : Watches m n (last ∷ [])) where
-  pub reached_alone : (u v : NodeId) → Arrives M p u v → IsReached M P m facts n u v (p ∷ [])
-  reached_alone u v arrives = record {
-    way = p.way;
-    states = known;
-    context = One p refl piece;
-    steps = last ∷ [];
-    turn = record { first = p; others = []; is = refl; front = front; last = last; ends = ends; steps = refl };
-    legal = alone last (last_drives M P p front last piece ends);
-    watches = to;
-    before = [];
-    piece = p;
-    is = refl;
-    on = refl;
-    arrives = arrives;
-  }
+module _ (M : Objects) (P : Rules) (alone : (s : Step) → IsTrue (drivable M P s) → Legal M P (s ∷ [])) (m : Machine)
+    (facts : List StateFacts) (p : Piece) (piece : IsPiece M P p) (known : AreStates M P p.way m.words m.states facts)
+    (front : List Step) (last : Step) (ends : spell p ≡ front ++ last ∷ []) (n : ℕ) (to : Watches m n (last ∷ []))
+  where
+    pub reached_alone : (u v : NodeId) → Arrives M p u v → IsReached M P m facts n u v (p ∷ [])
+    reached_alone u v arrives = record {
+      way = p.way;
+      states = known;
+      context = One p refl piece;
+      steps = last ∷ [];
+      turn = record { first = p; others = []; is = refl; front = front; last = last; ends = ends; steps = refl };
+      legal = alone last (last_drives M P p front last piece ends);
+      watches = to;
+      before = [];
+      piece = p;
+      is = refl;
+      on = refl;
+      arrives = arrives;
+    }
 
-  pub entry_alone : (x : Context) → x.before ≡ [] → Lists (λ a. a.piece) name_cmp (IsArcEntry M P (p ∷ [])) x.arcs → IsContextEntry M P p x
-  entry_alone x none arcs = record { before = []; context = One p refl piece; named = none; arcs = arcs }
+    pub entry_alone : (x : Context) → x.before ≡ [] → Lists (λ a. a.piece) name_cmp (IsArcEntry M P (p ∷ [])) x.arcs
+        → IsContextEntry M P p x
+    entry_alone x none arcs = record { before = []; context = One p refl piece; named = none; arcs = arcs }

@@ -1,6 +1,35 @@
 -- The first and the last step of a piece, and the nodes of a drivable step.
-use Rattle.std.proofs.Common.{◌≡◌, ℕ, zero, suc, ◌+◌, ◌-◌, ◌<◌, ◌≤◌, List, [], ◌∷◌, ◌++◌, length, ◌⊎◌, inl, inr, refl, sym, ap, ◌∙◌, subst, arith, Option, Some, None, IsTrue, slice_get}
-use Rattle.std.proofs.lemmas.Bool.{and_parts, false≢true}
+use Rattle.std.proofs.Common.{
+  ◌≡◌,
+  ℕ,
+  zero,
+  suc,
+  ◌+◌,
+  ◌-◌,
+  ◌<◌,
+  ◌≤◌,
+  List,
+  [],
+  ◌∷◌,
+  ◌++◌,
+  length,
+  ◌⊎◌,
+  inl,
+  inr,
+  refl,
+  sym,
+  ap,
+  ◌∙◌,
+  subst,
+  arith,
+  Option,
+  Some,
+  None,
+  cond,
+  IsTrue,
+  slice_get,
+}
+use Rattle.std.proofs.lemmas.Bool.{and_parts, false≢true, lt-ltb}
 use Rattle.std.proofs.lemmas.Option.{slice_get_within}
 use Rattle.road_base.specs.declared.ids.NodeId.{NodeId}
 use Rattle.road_base.specs.declared.ids.WayId.{WayId}
@@ -9,7 +38,17 @@ use Rattle.road_base.specs.declared.ids.Dir.{Dir}
 use Rattle.road_base.specs.declared.ids.Dir.TheVariants.{Forward, Backward}
 use Rattle.road_base.specs.Objects.{Objects}
 use Rattle.road_model.specs.Rules.{Rules}
-use Rattle.road_model.specs.Lines.{line_of, node_at, head_of, forward_steps, backward_steps, steps_from}
+use Rattle.road_model.specs.Lines.{
+  line_of,
+  node_at,
+  names_pair,
+  end_at,
+  head_of,
+  head_position,
+  forward_steps,
+  backward_steps,
+  steps_from,
+}
 use Rattle.road_model.specs.Driving.{located, drivable}
 use Rattle.road_model.specs.Pieces.{IsPlain, Piece, IsPiece, spell}
 use Rattle.road_model.specs.Blocks.{name_of}
@@ -32,6 +71,13 @@ first_step p = step p.way (first_index p.dir p.index p.end) p.dir
 abbrev pub last_step : Piece → Step
 last_step p = step p.way (last_index p.dir p.index p.end) p.dir
 
+-- where a step that names a pair begins and ends
+pub named_end : (M : Objects) (s : Step) (i : ℕ) → s.index + 1 < length (line_of M s.way)
+    → end_at M s i ≡ node_at M s.way i
+unfolding end_at names_pair
+named_end M s i within =
+    ap (λ b. cond b (node_at M s.way i) None) (lt-ltb (s.index + 1) (length (line_of M s.way)) within)
+
 pub record BeginsWith (s : Step) (l : List Step) : Type 0 where
   pub rest : List Step
   pub is : l ≡ s ∷ rest
@@ -43,31 +89,47 @@ pub record EndsWith (s : Step) (l : List Step) : Type 0 where
 at_index : (w : WayId) (d : Dir) (i j : ℕ) → i ≡ j → step w i d ≡ step w j d
 at_index w d i j e = ap (λ k. step w k d) e
 
-begins_by : (w : WayId) (i n j : ℕ) (d : Dir) → j ≡ i + suc n → BeginsWith (step w (first_index d i j) d) (steps_from w i (suc n) d)
+begins_by : (w : WayId) (i n j : ℕ) (d : Dir) → j ≡ i + suc n
+    → BeginsWith (step w (first_index d i j) d) (steps_from w i (suc n) d)
 begins_by w i n j Forward e = record { rest = forward_steps w (i + 1) n; is = refl }
-begins_by w i n j Backward e = record { rest = backward_steps w i n; is = ap (λ s. s ∷ backward_steps w i n) (at_index w Backward (i + n) (j - 1) (omega arith)) }
+begins_by w i n j Backward e =
+    record {
+      rest = backward_steps w i n;
+      is = ap (λ s. s ∷ backward_steps w i n) (at_index w Backward (i + n) (j - 1) (omega arith));
+    }
 
 ends_forward : (w : WayId) (i n j : ℕ) → j ≡ i + n → EndsWith (step w j Forward) (forward_steps w i (suc n))
 ends_forward w i zero j e = record { front = []; is = ap (λ s. s ∷ []) (at_index w Forward i j (omega arith)) }
-ends_forward w i (suc n) j e = let r = ends_forward w (i + 1) n j (omega arith) in record { front = step w i Forward ∷ r.front; is = ap (λ l. step w i Forward ∷ l) r.is }
+ends_forward w i (suc n) j e = let r =
+    ends_forward w (i + 1) n j (omega arith) in record {
+      front = step w i Forward ∷ r.front;
+      is = ap (λ l. step w i Forward ∷ l) r.is;
+    }
 
 ends_backward : (w : WayId) (i n : ℕ) → EndsWith (step w i Backward) (backward_steps w i (suc n))
 ends_backward w i zero = record { front = []; is = ap (λ s. s ∷ []) (at_index w Backward (i + 0) i (omega arith)) }
-ends_backward w i (suc n) = let r = ends_backward w i n in record { front = step w (i + suc n) Backward ∷ r.front; is = ap (λ l. step w (i + suc n) Backward ∷ l) r.is }
+ends_backward w i (suc n) = let r =
+    ends_backward w i n in record {
+      front = step w (i + suc n) Backward ∷ r.front;
+      is = ap (λ l. step w (i + suc n) Backward ∷ l) r.is;
+    }
 
-ends_by : (w : WayId) (i n j : ℕ) (d : Dir) → j ≡ i + suc n → EndsWith (step w (last_index d i j) d) (steps_from w i (suc n) d)
+ends_by : (w : WayId) (i n j : ℕ) (d : Dir) → j ≡ i + suc n
+    → EndsWith (step w (last_index d i j) d) (steps_from w i (suc n) d)
 ends_by w i n j Forward e = ends_forward w i n (j - 1) (omega arith)
 ends_by w i n j Backward e = ends_backward w i n
 
 pub spell_begins : (p : Piece) → p.index < p.end → BeginsWith (first_step p) (spell p)
 spell_begins p h =
     let e : suc (p.end - p.index - 1) ≡ p.end - p.index = omega arith in
-    subst (λ n. BeginsWith (first_step p) (steps_from p.way p.index n p.dir)) e (begins_by p.way p.index (p.end - p.index - 1) p.end p.dir (omega arith))
+    subst (λ n. BeginsWith (first_step p) (steps_from p.way p.index n p.dir)) e
+    (begins_by p.way p.index (p.end - p.index - 1) p.end p.dir (omega arith))
 
 pub spell_ends : (p : Piece) → p.index < p.end → EndsWith (last_step p) (spell p)
 spell_ends p h =
     let e : suc (p.end - p.index - 1) ≡ p.end - p.index = omega arith in
-    subst (λ n. EndsWith (last_step p) (steps_from p.way p.index n p.dir)) e (ends_by p.way p.index (p.end - p.index - 1) p.end p.dir (omega arith))
+    subst (λ n. EndsWith (last_step p) (steps_from p.way p.index n p.dir)) e
+    (ends_by p.way p.index (p.end - p.index - 1) p.end p.dir (omega arith))
 
 -- ---- the first step names the piece
 
@@ -87,12 +149,14 @@ module _ (M : Objects) (P : Rules) where
         ]
       ]
 
-  same_start : (d : Dir) (p q : Piece) → IsPiece M P p → IsPiece M P q → p.way ≡ q.way → first_index d p.index p.end ≡ first_index d q.index q.end → p.index ≡ q.index
+  same_start : (d : Dir) (p q : Piece) → IsPiece M P p → IsPiece M P q → p.way ≡ q.way
+      → first_index d p.index p.end ≡ first_index d q.index q.end → p.index ≡ q.index
   same_start Forward p q a b w e = e
   same_start Backward p q a b w e = let up = a.ascends in let up' = b.ascends in same_index p q a b w (omega arith)
 
   -- pieces that begin with one step have one name
-  pub one_first : (p q : Piece) (s : Step) (more rest : List Step) → IsPiece M P p → IsPiece M P q → spell p ≡ s ∷ more → spell q ≡ s ∷ rest → name_of p ≡ name_of q
+  pub one_first : (p q : Piece) (s : Step) (more rest : List Step) → IsPiece M P p → IsPiece M P q
+      → spell p ≡ s ∷ more → spell q ≡ s ∷ rest → name_of p ≡ name_of q
   one_first p q s more rest a b e f =
       let g = spell_begins p a.ascends in
       let h = spell_begins q b.ascends in
@@ -111,42 +175,52 @@ module _ (M : Objects) (P : Rules) where
   located_some None h = absurd (false≢true h)
   located_some (Some v) h = (v, refl)
 
-  pub both_located : (s : Step) → IsTrue (drivable M P s) → IsTrue (located M (node_at M s.way s.index)) × IsTrue (located M (node_at M s.way (s.index + 1)))
+  pub both_located : (s : Step) → IsTrue (drivable M P s) → IsTrue (located M (node_at M s.way s.index))
+      × IsTrue (located M (node_at M s.way (s.index + 1)))
   unfolding drivable
   both_located s h = let a = and_parts _ _ h in and_parts _ _ a.1
 
-  head_at : (w : WayId) (i : ℕ) (d : Dir) → IsTrue (located M (node_at M w i)) → IsTrue (located M (node_at M w (i + 1))) → (v : NodeId) × (head_of M (step w i d) ≡ Some v)
+  on_line : (w : WayId) (k : ℕ) → IsTrue (located M (node_at M w k)) → k < length (line_of M w)
+  unfolding node_at
+  on_line w k h = let n = located_some (slice_get (line_of M w) k) h in slice_get_within (line_of M w) k n.0 n.1
+
+  head_at : (w : WayId) (i : ℕ) (d : Dir) → IsTrue (located M (node_at M w i))
+      → IsTrue (located M (node_at M w (i + 1)))
+      → (v : NodeId) × (node_at M w (head_position d i) ≡ Some v)
   head_at w i Forward a b = located_some (node_at M w (i + 1)) b
   head_at w i Backward a b = located_some (node_at M w i) a
 
   -- a drivable step ends somewhere
   pub has_head : (s : Step) → IsTrue (drivable M P s) → (v : NodeId) × (head_of M s ≡ Some v)
-  has_head s h = let b = both_located s h in head_at s.way s.index s.dir b.0 b.1
+  has_head s h =
+      let b = both_located s h in
+      let at = head_at s.way s.index s.dir b.0 b.1 in
+      (at.0, named_end M s (head_position s.dir s.index) (on_line s.way (s.index + 1) b.1) ∙ at.1)
 
   first_within : (d : Dir) (i j : ℕ) → i < j → (i ≤ first_index d i j) × (first_index d i j < j)
   first_within Forward i j h = (omega arith, h)
   first_within Backward i j h = (omega arith, omega arith)
 
-  pub first_drives : (p : Piece) (s : Step) (more : List Step) → IsPiece M P p → spell p ≡ s ∷ more → IsTrue (drivable M P s)
+  pub first_drives : (p : Piece) (s : Step) (more : List Step) → IsPiece M P p → spell p ≡ s ∷ more
+      → IsTrue (drivable M P s)
   first_drives p s more a e =
       let g = spell_begins p a.ascends in
       let first : first_step p ≡ s = let k = g.is in cc in
       let within = first_within p.dir p.index p.end a.ascends in
       subst (λ t. IsTrue (drivable M P t)) first (a.drives (first_index p.dir p.index p.end) within.0 within.1)
 
-  on_line : (w : WayId) (k : ℕ) → IsTrue (located M (node_at M w k)) → k < length (line_of M w)
-  unfolding node_at
-  on_line w k h = let n = located_some (slice_get (line_of M w) k) h in slice_get_within (line_of M w) k n.0 n.1
-
   -- all nodes of a piece are visible with locations
-  pub piece_located : (p : Piece) → IsPiece M P p → (k : ℕ) → p.index ≤ k → k ≤ p.end → IsTrue (located M (node_at M p.way k))
+  pub piece_located : (p : Piece) → IsPiece M P p → (k : ℕ) → p.index ≤ k → k ≤ p.end
+      → IsTrue (located M (node_at M p.way k))
   piece_located p a k low high =
       let up = a.ascends in
       elim (order k p.end) [
         | inl l ↦ (both_located (step p.way k p.dir) (a.drives k low l)).0
         | inr o ↦
-            let same : p.end - 1 + 1 ≡ k = omega (arith, elim o as (λ _. k ≡ p.end) [ inl e ↦ e | inr l ↦ absurd (omega arith) ]) in
-            subst (λ j. IsTrue (located M (node_at M p.way j))) same (both_located (step p.way (p.end - 1) p.dir) (a.drives (p.end - 1) (omega arith) (omega arith))).1
+            let same : p.end - 1 + 1 ≡ k =
+            omega (arith, elim o as (λ _. k ≡ p.end) [ inl e ↦ e | inr l ↦ absurd (omega arith) ]) in
+            subst (λ j. IsTrue (located M (node_at M p.way j))) same
+            (both_located (step p.way (p.end - 1) p.dir) (a.drives (p.end - 1) (omega arith) (omega arith))).1
       ]
 
   pub piece_on_line : (p : Piece) → IsPiece M P p → p.end < length (line_of M p.way)

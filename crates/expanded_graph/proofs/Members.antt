@@ -1,5 +1,31 @@
 -- Members of lists, by recursion on the list.
-use Rattle.std.proofs.Common.{◌≡◌, ℕ, zero, suc, ◌<◌, List, [], ◌∷◌, ◌++◌, take, length, map, ◌⊎◌, inl, inr, refl, sym, ap, ◌∙◌, arith, Contains, slice_index_or, slice_get, get_or, Some}
+use Rattle.std.proofs.Common.{
+  ◌≡◌,
+  ℕ,
+  zero,
+  suc,
+  ◌<◌,
+  List,
+  [],
+  ◌∷◌,
+  ◌++◌,
+  take,
+  length,
+  map,
+  ◌⊎◌,
+  inl,
+  inr,
+  refl,
+  sym,
+  ap,
+  ◌∙◌,
+  arith,
+  Contains,
+  slice_index_or,
+  slice_get,
+  get_or,
+  Some,
+}
 
 -- a member of a list
 abbrev pub In : {A : Type 0} → A → List A → Type 0

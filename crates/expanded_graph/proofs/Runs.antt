@@ -1,5 +1,6 @@
 -- Where lists of steps end, and their turn steps.
-use Rattle.std.proofs.Common.{◌≡◌, ℕ, ◌+◌, ◌<◌, ◌≤◌, List, [], ◌∷◌, ◌++◌, length, ◌⊎◌, inl, inr, refl, sym, ap, ◌∙◌, subst, arith, append_assoc, append-nil, length-append, zero, suc, slice_get, get_or, Some}
+use Rattle.std.proofs.Common.{◌≡◌, ℕ, ◌+◌, ◌<◌, ◌≤◌, List, [], ◌∷◌, ◌++◌, length, ◌⊎◌, inl, inr, refl, sym, ap, ◌∙◌}
+use Rattle.std.proofs.Common.{subst, arith, append_assoc, append-nil, length-append, zero, suc, slice_get, get_or, Some}
 use Rattle.std.proofs.lemmas.Option.{same_Some, slice_get-get_or}
 use Rattle.std.proofs.lemmas.List.{same_from_push}
 use Rattle.road_base.specs.declared.ids.Step.{Step}
@@ -31,7 +32,11 @@ cut_last [] (y ∷ a) u x e = inl (nil_right a u (cc))
 cut_last (z ∷ d) [] u x e = inr (record { rest = z ∷ d; is = sym e; front = refl })
 cut_last (z ∷ d) (y ∷ a) u x e =
     let head : z ≡ y = cc in
-    elim (cut_last d a u x (cc)) [ inl n ↦ inl n | inr r ↦ inr (record { rest = r.rest; is = r.is; front = let f = r.front in cc }) ]
+    elim (cut_last d a u x (cc)) [
+      | inl n ↦ inl n
+      | inr r
+          ↦ inr (record { rest = r.rest; is = r.is; front = let f = r.front in cc })
+    ]
 
 pub nil_or_cons : {A : Type 0} (xs : List A) → (xs ≡ []) ⊎ ((x : A) × (ys : List A) × (xs ≡ x ∷ ys))
 nil_or_cons [] = inl refl
@@ -75,13 +80,22 @@ spell_push [] p = append-nil (spell p)
 spell_push (x ∷ a) p = ap (λ l. spell x ++ l) (spell_push a p) ∙ sym (append_assoc (spell x) (spell_pieces a) (spell p))
 
 -- turn steps end with the last step of the last piece, and are two or more where there are other pieces before
-pub turn_ends_long : (before : List Piece) (p : Piece) (q front : List Step) (last : Step) → (before ≡ [] → ⊥) → HasTurnSteps (before ++ p ∷ []) q → spell p ≡ front ++ last ∷ [] → (s : Step) × (middle : List Step) × (q ≡ s ∷ (middle ++ last ∷ []))
+pub turn_ends_long : (before : List Piece) (p : Piece) (q front : List Step) (last : Step) → (before ≡ [] → ⊥)
+    → HasTurnSteps (before ++ p ∷ []) q → spell p ≡ front ++ last ∷ []
+    → (s : Step) × (middle : List Step) × (q ≡ s ∷ (middle ++ last ∷ []))
 turn_ends_long [] p q front last some h e = absurd (some refl)
 turn_ends_long (x ∷ before) p q front last some h e =
-    let others : h.others ≡ before ++ p ∷ [] = let k = h.is in cc in
-    (h.last, spell_pieces before ++ front, h.steps ∙ ap (λ l. h.last ∷ l) (ap spell_pieces others ∙ (spell_push before p ∙ (ap (λ l. spell_pieces before ++ l) e ∙ sym (append_assoc (spell_pieces before) front (last ∷ []))))))
+    let others : h.others ≡ before ++ p ∷ [] = let k = h.is in cc in (
+      h.last,
+      spell_pieces before ++ front,
+      h.steps
+          ∙ ap (λ l. h.last ∷ l) (ap spell_pieces others
+          ∙ (spell_push before p ∙ (ap (λ l. spell_pieces before ++ l) e
+          ∙ sym (append_assoc (spell_pieces before) front (last ∷ []))))),
+    )
 
-pub turn_ends : (before : List Piece) (p : Piece) (q front : List Step) (last : Step) → HasTurnSteps (before ++ p ∷ []) q → spell p ≡ front ++ last ∷ [] → (a : List Step) × (q ≡ a ++ last ∷ [])
+pub turn_ends : (before : List Piece) (p : Piece) (q front : List Step) (last : Step)
+    → HasTurnSteps (before ++ p ∷ []) q → spell p ≡ front ++ last ∷ [] → (a : List Step) × (q ≡ a ++ last ∷ [])
 turn_ends [] p q front last h e =
     let first : h.first ≡ p = let k = h.is in cc in
     let none : h.others ≡ [] = let k = h.is in cc in

@@ -1,5 +1,7 @@
 -- What is known of a state follows from what is known of the state before.
-use Rattle.std.proofs.Common.{◌≡◌, ℕ, zero, suc, ◌+◌, ◌<◌, ◌≤◌, ◌↔◌, List, [], ◌∷◌, ◌++◌, length, map, ◌⊎◌, inl, inr, refl, sym, ap, ◌∙◌, subst, arith, Bool, false, Option, Some, None, Contains, slice_get, length-append}
+use Rattle.std.proofs.Common.{◌≡◌, ℕ, zero, suc, ◌+◌, ◌<◌, ◌≤◌, ◌↔◌, List, [], ◌∷◌, ◌++◌, length, map, ◌⊎◌, inl, inr}
+use Rattle.std.proofs.Common.{refl, sym, ap, ◌∙◌, subst, arith, Bool, false, Option, Some, None, Contains, slice_get}
+use Rattle.std.proofs.Common.{length-append}
 use Rattle.std.specs.List.{cons_option, filter_map}
 use Rattle.std.specs.Option.{option_to_list}
 use Rattle.std.proofs.lemmas.Bool.{false≢true}
@@ -27,10 +29,11 @@ use Rattle.expanded_graph.specs.Known.{NamesEnd, IsDriven, IsKnown, AreKnown, Ar
 use Rattle.expanded_graph.specs.States.{AreFacts}
 use Rattle.expanded_graph.proofs.Members.{In, in_from_contains, contains_from_in}
 use Rattle.expanded_graph.proofs.Runs.{cons_not_nil}
-use Rattle.expanded_graph.proofs.Stopping.{same_or_not}
+use Rattle.expanded_graph.proofs.StopsNear.{same_or_not}
 
 module _ {X : Type 0} where
-  pub there_cases : (xs : List X) (y : X) (i : ℕ) (x : X) → slice_get (xs ++ y ∷ []) i ≡ Some x → (slice_get xs i ≡ Some x) ⊎ ((i ≡ length xs) × (y ≡ x))
+  pub there_cases : (xs : List X) (y : X) (i : ℕ) (x : X) → slice_get (xs ++ y ∷ []) i ≡ Some x
+      → (slice_get xs i ≡ Some x) ⊎ ((i ≡ length xs) × (y ≡ x))
   there_cases [] y zero x h = inr (refl, cc)
   there_cases [] y (suc i) x h = cc
   there_cases (z ∷ xs) y zero x h = inl h
@@ -78,7 +81,8 @@ module _ (M : Objects) (P : Rules) where
     name : Step → Option PieceName
     names : (s : Step) → In s q → NamesEnd M P s (name s)
 
-  picked : (x s : Step) (d : (s ≡ x) ⊎ (s ≡ x → ⊥)) (a b : Option PieceName) → NamesEnd M P x a → (s ≡ x) ⊎ NamesEnd M P s b → NamesEnd M P s (pick d a b)
+  picked : (x s : Step) (d : (s ≡ x) ⊎ (s ≡ x → ⊥)) (a b : Option PieceName) → NamesEnd M P x a
+      → (s ≡ x) ⊎ NamesEnd M P s b → NamesEnd M P s (pick d a b)
   picked x s (inl e) a b h k = subst (λ y. NamesEnd M P y a) (sym e) h
   picked x s (inr n) a b h (inl e) = absurd (n e)
   picked x s (inr n) a b h (inr k) = k
@@ -90,7 +94,8 @@ module _ (M : Objects) (P : Rules) where
       let o = h x (inl refl) in
       record {
         name = λ s. pick (same_or_not s x) o.0 (r.name s);
-        names = λ s i. picked x s (same_or_not s x) o.0 (r.name s) o.1 (elim i [ inl e ↦ inl e | inr j ↦ inr (r.names s j) ]);
+        names = λ s i. picked x s (same_or_not s x) o.0 (r.name s) o.1
+            (elim i [ inl e ↦ inl e | inr j ↦ inr (r.names s j) ]);
       }
 
   module _ (W : List Word) (q : List Step) (f : StateFacts) (known : IsKnown M P W q f) where
@@ -104,7 +109,9 @@ module _ (M : Objects) (P : Rules) where
     few = let e = known.counted choice.name exact in let l = named_within choice.name q in omega arith
 
     -- one state more
-    pub grown : (x : Step) (drives : Bool) (ends : Option PieceName) (n : ℕ) → IsDriven M P W (q ++ x ∷ []) drives → NamesEnd M P x ends → n ≡ length (option_to_list ends) → IsKnown M P W (q ++ x ∷ []) (record { is_legal = drives; ends = ends; pieces = f.pieces + n })
+    pub grown : (x : Step) (drives : Bool) (ends : Option PieceName) (n : ℕ) → IsDriven M P W (q ++ x ∷ []) drives
+        → NamesEnd M P x ends → n ≡ length (option_to_list ends)
+        → IsKnown M P W (q ++ x ∷ []) (record { is_legal = drives; ends = ends; pieces = f.pieces + n })
     grown x drives ends n driven named counts = record {
       driven = driven;
       ends = λ b y e. subst (λ z. NamesEnd M P z ends) (same_from_push q b x y e).1 named;
@@ -117,12 +124,15 @@ module _ (M : Objects) (P : Rules) where
           let same : name x ≡ ends = same_names x (name x) ends (is x (Contains-push q x)) named in
           let more = ap length (filter_map-append name q (x ∷ [])) in
           let sum = length-append (filter_map name q) (filter_map name (x ∷ [])) in
-          let one : length (filter_map name (x ∷ [])) ≡ length (option_to_list ends) = as_list (name x) ∙ ap (λ o. length (option_to_list o)) same in
+          let one : length (filter_map name (x ∷ [])) ≡ length (option_to_list ends) =
+          as_list (name x) ∙ ap (λ o. length (option_to_list o)) same in
           omega arith;
     }
 
     module _ (w : WayId) (near : AreWordsNear M P w W)
-        (names : (c : List Piece) (f : Step → Option PieceName) → Every (IsPiece M P) c → HasTurnSteps c q → ((s : Step) (n : PieceName) → Contains q s → (f s ≡ Some n) ↔ EndsPiece M P s n) → filter_map f q ≡ map name_of c) where
+        (names : (c : List Piece) (f : Step → Option PieceName) → Every (IsPiece M P) c → HasTurnSteps c q
+        → ((s : Step) (n : PieceName) → Contains q s → (f s ≡ Some n) ↔ EndsPiece M P s n)
+        → filter_map f q ≡ map name_of c) where
       pub facts : AreFacts M P w q f
       facts = record {
         legal = λ some all. known.driven w near all;
@@ -143,7 +153,10 @@ module _ (M : Objects) (P : Rules) where
   }
 
   -- of the first states one more
-  pub known_more : (m : Machine) (facts more : List StateFacts) (f : StateFacts) (n before : ℕ) (x : Step) → length facts ≡ n → more ≡ facts ++ f ∷ [] → AreKnown M P m facts → before < length m.states → ((p : List Step) → StandsFor m before p → StandsFor m n (p ++ x ∷ [])) → ((p : List Step) → StandsFor m before p → IsKnown M P m.words (p ++ x ∷ []) f) → AreKnown M P m more
+  pub known_more : (m : Machine) (facts more : List StateFacts) (f : StateFacts) (n before : ℕ) (x : Step)
+      → length facts ≡ n → more ≡ facts ++ f ∷ [] → AreKnown M P m facts → before < length m.states
+      → ((p : List Step) → StandsFor m before p → StandsFor m n (p ++ x ∷ []))
+      → ((p : List Step) → StandsFor m before p → IsKnown M P m.words (p ++ x ∷ []) f) → AreKnown M P m more
   known_more m facts more f n before x count grown known within edge is k q g st at =
       elim (there_cases facts f k g (subst (λ l. slice_get l k ≡ Some g) grown at)) [
         | inl old ↦ known k q g st old
@@ -154,7 +167,8 @@ module _ (M : Objects) (P : Rules) where
             subst (λ l. IsKnown M P m.words l g) same (subst (IsKnown M P m.words (p.0 ++ x ∷ [])) new.1 (is p.0 p.1))
       ]
 
-  pub known_first : (m : Machine) (facts : List StateFacts) (f : StateFacts) → IsClosed m.states → facts ≡ f ∷ [] → IsKnown M P m.words [] f → AreKnown M P m facts
+  pub known_first : (m : Machine) (facts : List StateFacts) (f : StateFacts) → IsClosed m.states → facts ≡ f ∷ []
+      → IsKnown M P m.words [] f → AreKnown M P m facts
   known_first m facts f closed is known k q g st at =
       elim (there_cases [] f k g (subst (λ l. slice_get l k ≡ Some g) is at)) [
         | inl old ↦ absurd (cc)
@@ -165,10 +179,14 @@ module _ (M : Objects) (P : Rules) where
       ]
 
   -- proper prefixes of words are as short as they are
-  pub all_short : (w : WayId) (W : List Word) (lists : List (List Step)) → AreWordsNear M P w W → ((q : List Step) → Contains lists q ↔ IsWatchable W q) → ((r : RelationId) (only : Bool) (binding : ℕ) (u : List Step) → IsWord M P r only binding u → length u ≤ 1026) → AreAllShort lists
-  all_short w W lists near watch short q c = elim ((watch q).0 c) [
+  pub all_short : (W : List Word) (lists : List (List Step))
+      → ((u : Word) → Contains W u → IsWord M P u.relation u.only u.binding u.steps)
+      → ((q : List Step) → Contains lists q ↔ IsWatchable W q)
+      → ((r : RelationId) (only : Bool) (binding : ℕ) (u : List Step) → IsWord M P r only binding u → length u ≤ 1026)
+      → AreAllShort lists
+  all_short W lists words watch short q c = elim ((watch q).0 c) [
     | inl v ↦
-        let l = short v.word.relation v.word.only v.word.binding v.word.steps (near.sound v.word v.among) in
+        let l = short v.word.relation v.word.only v.word.binding v.word.steps (words v.word v.among) in
         let e = ap length v.is in
         let k = length-append q (v.next ∷ v.rest) in
         omega arith

@@ -23,7 +23,8 @@ use Rattle.expanded_graph.specs.Travel.{Arrives}
 
 -- Context c ends at node v, to which its last piece comes from node u. The automaton watches for the words near this
 -- piece's way, and its state with number n is the one in which the context's turn steps leave it.
-pub record IsReached (M : Objects) (P : Rules) (m : Machine) (facts : List StateFacts) (n : ℕ) (u v : NodeId) (c : List Piece) : Type 0 where
+pub record IsReached (M : Objects) (P : Rules) (m : Machine) (facts : List StateFacts) (n : ℕ) (u v : NodeId)
+    (c : List Piece) : Type 0 where
   pub way : WayId
   pub states : AreStates M P way m.words m.states facts
   pub context : IsContext M P c
@@ -62,15 +63,17 @@ abbrev pub same_name : PieceName → PieceName → Bool
 same_name a b = is_eq (name_cmp a b)
 
 -- the states in which contexts may end on the way with the piece of that name, ascending
-pub record AreEndingsWith (m : Machine) (facts : List StateFacts) (w : WayId) (name : PieceName) (ns : List ℕ) : Type 0 where
+pub record AreEndingsWith (m : Machine) (facts : List StateFacts) (w : WayId) (name : PieceName)
+    (ns : List ℕ) : Type 0 where
   pub ascending : IsTrue (rises nat_cmp ns)
   pub each : (n : ℕ) → Contains ns n ↔ (IsEnding m facts w n × EndsWithName facts n name)
 
--- the endings are sorted by their pieces, and those with any one piece have exactly the states in which contexts may end
--- on the way with it, ascending
-pub record AreEndings (m : Machine) (facts : List StateFacts) (w : WayId) (es : List Ending) : Type 0 where
+-- the endings are sorted by their pieces, and those with any one piece have exactly the states in which contexts may
+-- end with it, ascending
+pub record AreEndings (m : Machine) (facts : List StateFacts) (es : List Ending) : Type 0 where
   pub sorted : IsSortedByKey (λ e. e.piece) name_cmp es
-  pub each : (name : PieceName) → AreEndingsWith m facts w name (map (λ e. e.state) (filter (λ e. same_name e.piece name) es))
+  pub each : (name : PieceName)
+      → AreEndingsWith m facts name.way name (map (λ e. e.state) (filter (λ e. same_name e.piece name) es))
 
 -- the context of the piece that ends in the state with number n, as it is written
 pub record IsContextIn (M : Objects) (P : Rules) (m : Machine) (p : Piece) (n : ℕ) (e : Context) : Type 0 where
@@ -83,5 +86,6 @@ pub record IsContextIn (M : Objects) (P : Rules) (m : Machine) (p : Piece) (n : 
 -- each context of the piece is written once
 pub record HasContexts (M : Objects) (P : Rules) (p : Piece) (es : List Context) : Type 0 where
   pub sound : (e : Context) → Contains es e → IsContextEntry M P p e
-  pub all : (before : List Piece) → IsContext M P (before ++ p ∷ []) → (e : Context) × Contains es e × (e.before ≡ map name_of before)
+  pub all : (before : List Piece) → IsContext M P (before ++ p ∷ []) → (e : Context) × Contains es e
+      × (e.before ≡ map name_of before)
   pub distinct : IsDistinct (eq_by_cmp names_cmp) (map (λ e. e.before) es)

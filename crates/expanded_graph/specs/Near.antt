@@ -1,5 +1,5 @@
 -- The steps and words that matter to what may follow on a way.
-use Rattle.std.specs.Prelude.{◌≡◌, ◌⊎◌, List, [], ◌∷◌, ◌++◌, Contains}
+use Rattle.std.specs.Prelude.{◌≡◌, List, [], ◌∷◌, ◌++◌, Contains}
 use Rattle.road_base.specs.declared.ids.WayId.{WayId}
 use Rattle.road_base.specs.declared.ids.Step.{Step}
 use Rattle.road_base.specs.Objects.{Objects}
@@ -22,13 +22,6 @@ pub record HasStepBetween (w : WayId) (u : List Step) : Type 0 where
   pub is : u ≡ first ∷ (middle ++ last ∷ [])
   pub on : HasStepOn w middle
 
--- the first of the steps lies on the way
-pub record BeginsOn (v : WayId) (u : List Step) : Type 0 where
-  pub first : Step
-  pub rest : List Step
-  pub is : u ≡ first ∷ rest
-  pub on : first.way ≡ v
-
 -- The step is near way w: it lies on w, or it is one of a word that has a step on w between its first and its last. The
 -- steps of a context that ends on w are near w from the last one of its first piece on, since the context of several
 -- pieces begins a word and the word goes on.
@@ -36,10 +29,9 @@ pub data IsNear (M : Objects) (P : Rules) (w : WayId) (s : Step) : Type 0 where
   OnIt : s.way ≡ w → IsNear M P w s
   Shares : (u : List Step) → AnyWord M P u → HasStepBetween w u → Contains u s → IsNear M P w s
 
--- Words of the map, and among them all that have a step on w, and all whose first step is near w and which have no more
--- than one step behind it, or a second one that is near w, too. For a longer word decides nothing behind its first step
--- alone: a No word forbids its last step, and an Only word that goes over via ways binds from its second step on.
+-- words of the map, and among them all that have a step on w, and all that begin near w
 pub record AreWordsNear (M : Objects) (P : Rules) (w : WayId) (words : List Word) : Type 0 where
   pub sound : (u : Word) → Contains words u → IsWord M P u.relation u.only u.binding u.steps
   pub on : (u : Word) → IsWord M P u.relation u.only u.binding u.steps → HasStepOn w u.steps → Contains words u
-  pub from : (u : Word) → IsWord M P u.relation u.only u.binding u.steps → (first second : Step) (rest : List Step) → u.steps ≡ first ∷ second ∷ rest → IsNear M P w first → (rest ≡ []) ⊎ IsNear M P w second → Contains words u
+  pub from : (u : Word) → IsWord M P u.relation u.only u.binding u.steps
+      → (first : Step) (rest : List Step) → u.steps ≡ first ∷ rest → IsNear M P w first → Contains words u

@@ -23,8 +23,10 @@ pub record AreFacts (M : Objects) (P : Rules) (w : WayId) (q : List Step) (f : S
   pub pieces : (c : List Piece) → Every (IsPiece M P) c → HasTurnSteps c q → f.pieces ≡ length c
   pub none : q ≡ [] → f.pieces ≡ 0
 
--- the automaton of the words near w, and the facts of its states
-pub record AreStates (M : Objects) (P : Rules) (w : WayId) (W : List Word) (lists : List (List Step)) (facts : List StateFacts) : Type 0 where
+-- an automaton of words, among them those near w, and the facts of its states
+pub record AreStates (M : Objects) (P : Rules) (w : WayId) (W : List Word) (lists : List (List Step))
+    (facts : List StateFacts) : Type 0 where
   pub words : AreWordsNear M P w W
   pub count : length facts ≡ length lists
-  pub each : (n : ℕ) (q : List Step) (f : StateFacts) → slice_get lists n ≡ Some q → slice_get facts n ≡ Some f → AreFacts M P w q f
+  pub each : (n : ℕ) (q : List Step) (f : StateFacts) → slice_get lists n ≡ Some q → slice_get facts n ≡ Some f
+      → AreFacts M P w q f

@@ -1,32 +1,19 @@
 -- The nodes of a line with where they lie, those that a piece passes, and where it ends.
-use Rattle.std.specs.Prelude.{◌≡◌, ◌+◌, ◌-◌, List, [], ◌∷◌, ◌++◌, take, drop, reverse, Option, Some, None}
+use Rattle.std.specs.Prelude.{◌≡◌, ◌+◌, ◌-◌, List, [], ◌∷◌, ◌++◌, take, drop, reverse, Option, Some}
 use Rattle.std.specs.Option.{option_map}
 use Rattle.road_base.specs.declared.ids.NodeId.{NodeId}
 use Rattle.road_base.specs.declared.ids.Step.{Step}
 use Rattle.road_base.specs.declared.ids.Dir.{Dir}
 use Rattle.road_base.specs.declared.ids.Dir.TheVariants.{Forward, Backward}
-use Rattle.road_base.specs.declared.location.Location.{Location}
-use Rattle.road_base.specs.declared.objects.Node.{Node}
-use Rattle.road_base.specs.Objects.{Objects, node_of}
+use Rattle.road_base.specs.Objects.{Objects}
 use Rattle.road_model.specs.declared.lists.Place.{Place}
 use Rattle.road_model.specs.Lines.{tail_of, head_of}
 use Rattle.road_model.specs.Pieces.{Piece, spell}
 use Rattle.way_pieces.specs.declared.spans.PieceSpan.{PieceSpan}
-use Rattle.expanded_graph.specs.declared.places.WayNode.{WayNode}
-
-abbrev pub location_in : Option Node → Option Location
-location_in None = None
-location_in (Some body) = body.location
-
--- where the node lies, if it is visible with a location
-abbrev pub location_of : Objects → NodeId → Option Location
-location_of M v = location_in (node_of M v)
-
-abbrev pub way_node : Objects → NodeId → WayNode
-way_node M v = record { node = v; location = location_of M v }
+use Rattle.way_lines.specs.declared.road_line.LineNode.{LineNode}
 
 -- the node and where it lies, if it lies somewhere
-abbrev pub place_of : WayNode → Option Place
+abbrev pub place_of : LineNode → Option Place
 place_of s = option_map (λ l. record { node = s.node; location = l }) s.location
 
 -- what stands along a way, in order of travel
@@ -35,7 +22,7 @@ travelled Forward xs = xs
 travelled Backward xs = reverse xs
 
 -- those of a way's nodes that the piece passes, in order of travel
-abbrev pub nodes_on : PieceSpan → List WayNode → List WayNode
+abbrev pub nodes_on : PieceSpan → List LineNode → List LineNode
 nodes_on s nodes = travelled s.name.dir (take (s.end - s.name.index + 1) (drop s.name.index nodes))
 
 -- the piece's last step leads from node u to node v

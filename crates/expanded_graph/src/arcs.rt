@@ -1,5 +1,6 @@
 //! What may follow a context at the intersection where it ends.
-ghost use Rattle.std.specs.Prelude.{◌≡◌, ◌+◌, ◌<◌, ◌^◌, ℕ, List, [], ◌∷◌, ◌++◌, length, Some, slice_get, IfOk, IfSome, IfNone, Contains};
+ghost use Rattle.std.specs.Prelude.{◌≡◌, ◌+◌, ◌<◌, ◌^◌, ℕ, List, [], ◌∷◌, ◌++◌, length, slice_get, Contains};
+ghost use Rattle.std.specs.Prelude.{Some, IfOk, IfSome, IfNone};
 ghost use Rattle.road_base.specs.declared.ids.Step.{Step};
 ghost use Rattle.road_model.specs.declared.lists.TurnArc.{TurnArc};
 ghost use Rattle.road_model.specs.Pieces.{Piece};
@@ -9,6 +10,7 @@ ghost use Rattle.turn_automata.specs.Machines.{StandsFor};
 ghost use Rattle.expanded_graph.specs.declared.states.StateFacts.{StateFacts};
 ghost use Rattle.expanded_graph.specs.Contexts.{IsReached};
 ghost use Rattle.expanded_graph.specs.Turning.{IsIntersection, may_follow};
+ghost use Rattle.road_model.specs.Networks.{on};
 
 use crate::intersections::Intersection;
 use crate::states::States;
@@ -16,7 +18,7 @@ use road_base::{NoMemory, NodeId};
 use road_model::laws::{
     context_goes_on, context_target, contexts, name_order, one_name, steps_depart, words_on_ways,
 };
-use road_model::{Profile, TurnArc, World};
+use road_model::{Network, Profile, TurnArc, World};
 use std::alloc::Global;
 use turn_automata::State;
 use turn_automata::laws::{watched_decides, watched_grows};
@@ -25,37 +27,28 @@ use way_pieces::Departure;
 /// The arcs of the contexts that come to the intersection from the node `from` in the state, ascending by name.
 pub fn arcs_at<M: World, P: Profile>(
     alloc: Global,
-    world: &M,
-    profile: &P,
+    network: &Network<'_, M, P>,
     states: &States,
     state: State,
-    intersection: &Intersection,
+    intersection: &Intersection<'_>,
     from: NodeId,
 ) -> Result<Vec<TurnArc>, NoMemory>
     requires count { length states.now.facts.items ≡ length states.now.automaton.states }
     requires state { state.0 < length states.now.automaton.states }
-    requires intersection { IsIntersection (M.objects world.now) (P.rules profile.now) intersection.now }
+    requires intersection { on network.now IsIntersection intersection.now }
     ensures { IfOk result (λ v. (c : List Piece)
-        → IsReached (M.objects world.now) (P.rules profile.now) states.now.automaton states.now.facts.items state.0 from intersection.now.node c
-        → Lists (λ a. a.piece) name_cmp (IsArcEntry (M.objects world.now) (P.rules profile.now) c) v.items) }
+        → on network.now IsReached states.now.automaton states.now.facts.items state.0 from intersection.now.node c
+        → Lists (λ a. a.piece) name_cmp (on network.now IsArcEntry c) v.items) }
 {
     name_order();
-    one_name(profile);
-    contexts(profile);
-    steps_depart(profile);
-    context_goes_on(profile);
-    let departures = intersection.departures.as_slice();
+    one_name(&network.profile);
+    contexts(&network.profile);
+    steps_depart(&network.profile);
+    context_goes_on(&network.profile);
+    let departures = intersection.departures;
     let mut arcs = Vec::with_capacity(alloc, departures.len())?;
     for departure in departures {
-        if let Some(arc) = arc_by(
-            world,
-            profile,
-            states,
-            state,
-            intersection,
-            from,
-            *departure,
-        ) {
+        if let Some(arc) = arc_by(network, states, state, intersection, from, *departure) {
             arcs.push(arc)?;
         }
     }
@@ -64,34 +57,33 @@ pub fn arcs_at<M: World, P: Profile>(
 
 /// The arc by the departure: none where it may not follow at the intersection, or a restriction forbids it.
 fn arc_by<M: World, P: Profile>(
-    world: &M,
-    profile: &P,
+    network: &Network<'_, M, P>,
     states: &States,
     state: State,
-    intersection: &Intersection,
+    intersection: &Intersection<'_>,
     from: NodeId,
     departure: Departure,
 ) -> Option<TurnArc>
     requires count { length states.now.facts.items ≡ length states.now.automaton.states }
     requires state { state.0 < length states.now.automaton.states }
-    requires intersection { IsIntersection (M.objects world.now) (P.rules profile.now) intersection.now }
-    requires departure { Contains intersection.now.departures.items departure }
+    requires intersection { on network.now IsIntersection intersection.now }
+    requires departure { Contains intersection.now.departures.now departure }
     ensures named { IfSome result (λ a. a.piece ≡ departure.piece) }
     ensures arc { IfSome result (λ a. (c : List Piece)
-        → IsReached (M.objects world.now) (P.rules profile.now) states.now.automaton states.now.facts.items state.0 from intersection.now.node c
-        → IsArcEntry (M.objects world.now) (P.rules profile.now) c a) }
+        → on network.now IsReached states.now.automaton states.now.facts.items state.0 from intersection.now.node c
+        → on network.now IsArcEntry c a) }
     ensures none { IfNone result ((c : List Piece) (a : TurnArc)
-        → IsReached (M.objects world.now) (P.rules profile.now) states.now.automaton states.now.facts.items state.0 from intersection.now.node c
-        → IsArcEntry (M.objects world.now) (P.rules profile.now) c a
+        → on network.now IsReached states.now.automaton states.now.facts.items state.0 from intersection.now.node c
+        → on network.now IsArcEntry c a
         → a.piece ≡ departure.piece
         → ⊥) }
 {
     name_order();
-    one_name(profile);
-    steps_depart(profile);
-    words_on_ways(profile);
-    context_goes_on(profile);
-    context_target(profile);
+    one_name(&network.profile);
+    steps_depart(&network.profile);
+    words_on_ways(&network.profile);
+    context_goes_on(&network.profile);
+    context_target(&network.profile);
     watched_decides();
     watched_grows();
     states.automaton.closed();
@@ -108,9 +100,9 @@ fn arc_by<M: World, P: Profile>(
     })
 }
 
-/// Whether who comes from the node `from` may go on by the departure: back there where one may turn round, which is at a
-/// place to turn, where nothing goes through and at a dead end, and elsewhere where the node isn't shut.
-fn may_follow(intersection: &Intersection, from: NodeId, departure: Departure) -> bool
+/// Whether who comes from the node `from` may go on by the departure: back there where one may turn round, which is
+/// at a place to turn, where nothing goes through and at a dead end, and elsewhere where the node isn't shut.
+fn may_follow(intersection: &Intersection<'_>, from: NodeId, departure: Departure) -> bool
     ensures { result ≡ may_follow intersection.now from departure }
 {
     if departure.toward == from {

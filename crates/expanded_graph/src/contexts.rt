@@ -12,6 +12,7 @@ ghost use Rattle.expanded_graph.specs.Contexts.{IsEnding, AreEndings, EndsWithNa
 ghost use Rattle.expanded_graph.specs.States.{AreStates};
 ghost use Rattle.expanded_graph.specs.Travel.{Arrives};
 ghost use Rattle.expanded_graph.specs.Turning.{IsIntersection};
+ghost use Rattle.road_model.specs.Networks.{on, map_of};
 
 use crate::arcs::arcs_at;
 use crate::endings::{Ending, endings_with};
@@ -21,7 +22,7 @@ use crate::names::names_before;
 use crate::states::States;
 use road_base::{NoMemory, NodeId};
 use road_model::laws::{context_steps, drive_grows, name_order, one_name};
-use road_model::{Arcs, Context, Names, Profile, World};
+use road_model::{Arcs, Context, Names, Network, Profile, World};
 use std::alloc::Global;
 use std::cmp::Ordering;
 use turn_automata::State;
@@ -31,72 +32,63 @@ use way_pieces::PieceSpan;
 /// those of its way, and the endings those in which contexts may end there.
 pub fn contexts_of<M: World, P: Profile>(
     alloc: Global,
-    world: &M,
-    profile: &P,
+    network: &Network<'_, M, P>,
     states: &States,
     endings: &[Ending],
-    intersection: &Intersection,
+    intersection: &Intersection<'_>,
     span: PieceSpan,
     from: NodeId,
 ) -> Result<Vec<Context>, NoMemory>
-    requires states { AreStates (M.objects world.now) (P.rules profile.now) span.name.way states.now.automaton.words states.now.automaton.states states.now.facts.items }
-    requires endings { AreEndings states.now.automaton states.now.facts.items span.name.way endings.now }
-    requires intersection { IsIntersection (M.objects world.now) (P.rules profile.now) intersection.now }
-    requires piece { IsPiece (M.objects world.now) (P.rules profile.now) (piece_of span) }
-    requires arrives { Arrives (M.objects world.now) (piece_of span) from intersection.now.node }
-    ensures listed { IfOk result (λ v. Lists (λ c. c.before) names_cmp (IsContextEntry (M.objects world.now) (P.rules profile.now) (piece_of span)) v.items) }
+    requires states { on network.now AreStates span.name.way states.now.automaton.words states.now.automaton.states
+        states.now.facts.items }
+    requires endings { AreEndings states.now.automaton states.now.facts.items endings.now }
+    requires intersection { on network.now IsIntersection intersection.now }
+    requires piece { on network.now IsPiece (piece_of span) }
+    requires arrives { Arrives (map_of network.now) (piece_of span) from intersection.now.node }
+    ensures listed { IfOk result (λ v. Lists (λ c. c.before) names_cmp (on network.now IsContextEntry (piece_of span))
+        v.items) }
     ensures alone { IfOk result (λ v. begins_alone v.items) }
     ensures forms { IfOk result (λ v. AllByRecursion IsContextForm v.items) }
 {
     name_order();
-    one_name(profile);
-    context_steps(profile);
-    let mut contexts = all_contexts(
-        alloc,
-        world,
-        profile,
-        states,
-        endings,
-        intersection,
-        span,
-        from,
-    )?;
+    one_name(&network.profile);
+    context_steps(&network.profile);
+    let mut contexts = all_contexts(alloc, network, states, endings, intersection, span, from)?;
     put_in_order(&mut contexts)?;
     Ok(contexts)
 }
 
-/// The contexts of the piece in any order: the piece alone, and one in each of the states in which it ends one. Only the
-/// endings with the piece are looked at.
+/// The contexts of the piece in any order: the piece alone, and one in each of the states in which it ends one. Only
+/// the endings with the piece are looked at.
 fn all_contexts<M: World, P: Profile>(
     alloc: Global,
-    world: &M,
-    profile: &P,
+    network: &Network<'_, M, P>,
     states: &States,
     endings: &[Ending],
-    intersection: &Intersection,
+    intersection: &Intersection<'_>,
     span: PieceSpan,
     from: NodeId,
 ) -> Result<Vec<Context>, NoMemory>
-    requires states { AreStates (M.objects world.now) (P.rules profile.now) span.name.way states.now.automaton.words states.now.automaton.states states.now.facts.items }
-    requires endings { AreEndings states.now.automaton states.now.facts.items span.name.way endings.now }
-    requires intersection { IsIntersection (M.objects world.now) (P.rules profile.now) intersection.now }
-    requires piece { IsPiece (M.objects world.now) (P.rules profile.now) (piece_of span) }
-    requires arrives { Arrives (M.objects world.now) (piece_of span) from intersection.now.node }
-    ensures { IfOk result (λ v. HasContexts (M.objects world.now) (P.rules profile.now) (piece_of span) v.items) }
+    requires states { on network.now AreStates span.name.way states.now.automaton.words states.now.automaton.states
+        states.now.facts.items }
+    requires endings { AreEndings states.now.automaton states.now.facts.items endings.now }
+    requires intersection { on network.now IsIntersection intersection.now }
+    requires piece { on network.now IsPiece (piece_of span) }
+    requires arrives { Arrives (map_of network.now) (piece_of span) from intersection.now.node }
+    ensures { IfOk result (λ v. on network.now HasContexts (piece_of span) v.items) }
 {
     name_order();
-    one_name(profile);
-    context_steps(profile);
+    one_name(&network.profile);
+    context_steps(&network.profile);
     states.automaton.closed();
     let here = endings_with(endings, span.name);
     let mut contexts = Vec::with_capacity(alloc, here.len() + 1)?;
-    let alone = context_alone(alloc, world, profile, states, intersection, span, from)?;
+    let alone = context_alone(alloc, network, states, intersection, span, from)?;
     contexts.push(alone)?;
     for ending in here {
         let context = context_in(
             alloc,
-            world,
-            profile,
+            network,
             states,
             State(ending.state),
             intersection,
@@ -111,23 +103,23 @@ fn all_contexts<M: World, P: Profile>(
 /// The context of the piece alone.
 fn context_alone<M: World, P: Profile>(
     alloc: Global,
-    world: &M,
-    profile: &P,
+    network: &Network<'_, M, P>,
     states: &States,
-    intersection: &Intersection,
+    intersection: &Intersection<'_>,
     span: PieceSpan,
     from: NodeId,
 ) -> Result<Context, NoMemory>
-    requires states { AreStates (M.objects world.now) (P.rules profile.now) span.name.way states.now.automaton.words states.now.automaton.states states.now.facts.items }
-    requires intersection { IsIntersection (M.objects world.now) (P.rules profile.now) intersection.now }
-    requires piece { IsPiece (M.objects world.now) (P.rules profile.now) (piece_of span) }
-    requires arrives { Arrives (M.objects world.now) (piece_of span) from intersection.now.node }
-    ensures entry { IfOk result (IsContextEntry (M.objects world.now) (P.rules profile.now) (piece_of span)) }
+    requires states { on network.now AreStates span.name.way states.now.automaton.words states.now.automaton.states
+        states.now.facts.items }
+    requires intersection { on network.now IsIntersection intersection.now }
+    requires piece { on network.now IsPiece (piece_of span) }
+    requires arrives { Arrives (map_of network.now) (piece_of span) from intersection.now.node }
+    ensures entry { IfOk result (on network.now IsContextEntry (piece_of span)) }
     ensures alone { IfOk result (λ e. e.before ≡ []) }
 {
-    drive_grows(profile);
+    drive_grows(&network.profile);
     let state = states.automaton.start(last_step(span));
-    let arcs = arcs_at(alloc, world, profile, states, state, intersection, from)?;
+    let arcs = arcs_at(alloc, network, states, state, intersection, from)?;
     Ok(Context {
         before: Names::from_list(Vec::new(alloc)),
         arcs: Arcs::from_list(arcs),
@@ -137,27 +129,27 @@ fn context_alone<M: World, P: Profile>(
 /// The context of the piece that ends in the state.
 fn context_in<M: World, P: Profile>(
     alloc: Global,
-    world: &M,
-    profile: &P,
+    network: &Network<'_, M, P>,
     states: &States,
     state: State,
-    intersection: &Intersection,
+    intersection: &Intersection<'_>,
     span: PieceSpan,
     from: NodeId,
 ) -> Result<Context, NoMemory>
-    requires states { AreStates (M.objects world.now) (P.rules profile.now) span.name.way states.now.automaton.words states.now.automaton.states states.now.facts.items }
+    requires states { on network.now AreStates span.name.way states.now.automaton.words states.now.automaton.states
+        states.now.facts.items }
     requires ending { IsEnding states.now.automaton states.now.facts.items span.name.way state.0 }
     requires named { EndsWithName states.now.facts.items state.0 span.name }
-    requires intersection { IsIntersection (M.objects world.now) (P.rules profile.now) intersection.now }
-    requires piece { IsPiece (M.objects world.now) (P.rules profile.now) (piece_of span) }
-    requires arrives { Arrives (M.objects world.now) (piece_of span) from intersection.now.node }
-    ensures { IfOk result (IsContextIn (M.objects world.now) (P.rules profile.now) states.now.automaton (piece_of span) state.0) }
+    requires intersection { on network.now IsIntersection intersection.now }
+    requires piece { on network.now IsPiece (piece_of span) }
+    requires arrives { Arrives (map_of network.now) (piece_of span) from intersection.now.node }
+    ensures { IfOk result (on network.now IsContextIn states.now.automaton (piece_of span) state.0) }
 {
-    one_name(profile);
-    context_steps(profile);
+    one_name(&network.profile);
+    context_steps(&network.profile);
     states.automaton.closed();
-    let names = names_before(alloc, world, profile, states, state)?;
-    let arcs = arcs_at(alloc, world, profile, states, state, intersection, from)?;
+    let names = names_before(alloc, network, states, state)?;
+    let arcs = arcs_at(alloc, network, states, state, intersection, from)?;
     Ok(Context {
         before: Names::from_list(names),
         arcs: Arcs::from_list(arcs),

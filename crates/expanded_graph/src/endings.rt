@@ -1,4 +1,4 @@
-//! The states in which contexts of two pieces or more end on a way, found by the pieces with which they end.
+//! The states in which contexts of two pieces or more end, found by the pieces with which they end.
 ghost use Rattle.std.specs.Prelude.{◌≡◌, ◌<◌, ◌≤◌, ◌-◌, ◌↔◌, length, filter, take, drop, Some, IfOk, OnOk};
 ghost use Rattle.std.specs.List.Sorted.{IsSortedByKey, IsStableByKey};
 ghost use Rattle.road_model.specs.declared.lists.PieceName.{PieceName};
@@ -6,7 +6,7 @@ ghost use Rattle.road_model.specs.Orders.{name_cmp};
 ghost use Rattle.expanded_graph.specs.Contexts.{IsEnding, AreEndings, EndsWithName, same_name};
 
 use crate::states::States;
-use road_base::{NoMemory, WayId};
+use road_base::NoMemory;
 use road_model::PieceName;
 use road_model::laws::name_order;
 use std::alloc::Global;
@@ -18,16 +18,17 @@ pub struct Ending {
     pub state: usize,
 }
 
-/// The states in which contexts may end on the way, by the piece with which they end, and those of a piece by their numbers.
-pub fn endings_on(alloc: Global, states: &States, way: WayId) -> Result<Vec<Ending>, NoMemory>
+/// The states in which contexts may end, by the piece with which they end, and those of a piece by their numbers. Takes
+/// the time to look at each state, and to sort those.
+pub fn endings_of(alloc: Global, states: &States) -> Result<Vec<Ending>, NoMemory>
     requires { length states.now.facts.items ≡ length states.now.automaton.states }
-    ensures { IfOk result (λ v. AreEndings states.now.automaton states.now.facts.items way v.items) }
+    ensures { IfOk result (λ v. AreEndings states.now.automaton states.now.facts.items v.items) }
 {
     name_order();
     states.automaton.closed();
     let mut endings = Vec::new(alloc);
     for number in 1..states.facts.len() {
-        if let Some(piece) = piece_ended(states, number, way) {
+        if let Some(piece) = piece_ended(states, number) {
             endings.push(Ending {
                 piece,
                 state: number,
@@ -38,12 +39,13 @@ pub fn endings_on(alloc: Global, states: &States, way: WayId) -> Result<Vec<Endi
     Ok(endings)
 }
 
-/// The piece of the way that a context may end with in the state with this number.
-fn piece_ended(states: &States, number: usize, way: WayId) -> Option<PieceName>
+/// The piece that a context may end with in the state with this number.
+fn piece_ended(states: &States, number: usize) -> Option<PieceName>
     requires count { length states.now.facts.items ≡ length states.now.automaton.states }
     requires grown { 0 < number }
     requires within { number < length states.now.facts.items }
-    ensures { (n : PieceName) → (result ≡ Some n) ↔ (IsEnding states.now.automaton states.now.facts.items way number × EndsWithName states.now.facts.items number n) }
+    ensures { (n : PieceName) → (result ≡ Some n) ↔ (IsEnding states.now.automaton states.now.facts.items n.way number
+        × EndsWithName states.now.facts.items number n) }
 {
     states.automaton.closed();
     let facts = states.facts[number];
@@ -54,17 +56,7 @@ fn piece_ended(states: &States, number: usize, way: WayId) -> Option<PieceName>
     if !facts.is_legal {
         return None;
     }
-    on_way(facts.ends, way)
-}
-
-/// The name, if it is of a piece of the way.
-fn on_way(name: Option<PieceName>, way: WayId) -> Option<PieceName>
-    ensures { (n : PieceName) → (result ≡ Some n) ↔ ((name ≡ Some n) × (n.way ≡ way)) }
-{
-    match name {
-        Some(name) if name.way == way => Some(name),
-        _ => None,
-    }
+    facts.ends
 }
 
 /// By piece. Those of one piece keep their order.

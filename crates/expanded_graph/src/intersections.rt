@@ -1,105 +1,129 @@
 //! Nodes where pieces end, with what is to be known of them.
-ghost use Rattle.std.specs.Prelude.{◌≡◌, IfOk, OnOk, Some, option_copied};
-ghost use Rattle.std.specs.BTreeMap.{get};
-ghost use Rattle.road_base.specs.Objects.{Objects};
-ghost use Rattle.road_model.specs.Rules.{Rules};
+ghost use Rattle.std.specs.Prelude.{◌≡◌, IfOk, IfSome};
 ghost use Rattle.road_model.specs.Driving.{shut, turning_place};
-ghost use Rattle.road_model.specs.Orders.{node_cmp};
-ghost use Rattle.way_pieces.specs.Starts.{ArePiecesByWay};
-ghost use Rattle.expanded_graph.specs.Turning.{IsIntersection, AreIntersections};
+ghost use Rattle.road_model.specs.Networks.{on, made_on};
+ghost use Rattle.road_base.specs.Objects.{Objects};
+ghost use Rattle.road_model.specs.Orders.{Lists, name_cmp};
+ghost use Rattle.road_model.specs.Rules.{Rules};
+ghost use Rattle.way_pieces.specs.Names.{IsDeparture};
+ghost use Rattle.way_pieces.specs.RoadPieces.{AreRoadPieces};
+ghost use Rattle.expanded_graph.specs.Turning.{IsIntersection, AreIntersections, HasRules};
 
-use road_base::{NoMemory, NodeId};
-use road_model::{Profile, World};
+use road_base::{Groups, NoMemory, NodeId, Numbered, Ranges};
+use road_model::{Network, Profile, World};
 use std::alloc::Global;
-use std::collections::BTreeMap;
-use way_pieces::{Departure, PiecesByWay};
+use way_pieces::{Departure, RoadPieces};
 
 /// A node where pieces end: whether it is shut, whether it is a place to turn round, and what leaves it.
-#[derive(Drop)]
-pub struct Intersection {
+#[derive(Clone, Copy)]
+pub struct Intersection<'a> {
     pub node: NodeId,
     pub is_shut: bool,
     pub is_turning_place: bool,
-    pub departures: Vec<Departure>,
+    pub departures: &'a [Departure],
 }
 
-/// What is known of the nodes asked for so far, in one world and for one profile. A look-up takes the logarithm of their
-/// number.
-#[derive(Drop)]
-pub struct Intersections {
-    by_node: BTreeMap<NodeId, Intersection>,
+/// A node, and what its tags say to one who comes there.
+#[derive(Clone, Copy, Debug)]
+pub struct NodeRules {
+    pub node: NodeId,
+    pub is_shut: bool,
+    pub is_turning_place: bool,
 }
 
-impl Intersections {
-    /// Of no nodes. Takes no memory.
-    pub fn new(alloc: Global) -> Intersections
-        ensures { (M : Objects) (P : Rules) → AreIntersections M P result }
+impl Numbered for NodeRules {
+    fn number(&self) -> i64 {
+        self.node.0
+    }
+}
+
+impl NodeRules {
+    /// Whether the node is shut, as at a bollard, and whether it is a place to turn round. One that isn't visible is
+    /// neither.
+    pub fn of<M: World, P: Profile>(network: &Network<'_, M, P>, node: NodeId) -> NodeRules
+        ensures node { result.node ≡ node }
+        ensures rules { on network.now HasRules result }
     {
-        Intersections {
-            by_node: BTreeMap::new(alloc),
+        match network.world.node(node) {
+            Some(body) => NodeRules {
+                node,
+                is_shut: !network.profile.node_open(&body.tags),
+                is_turning_place: network.profile.turns(&body.tags),
+            },
+            None => NodeRules {
+                node,
+                is_shut: false,
+                is_turning_place: false,
+            },
         }
     }
 
-    /// What is known of the node, if anything is.
-    pub fn find(&self, node: NodeId) -> Option<&Intersection>
-        ensures { option_copied result ≡ get node_cmp self.now.by_node node }
+    /// The node with what leaves it.
+    pub fn with(self, departures: &[Departure]) -> Intersection<'_>
+        ensures node { result.node ≡ self.node }
+        ensures is_shut { result.is_shut ≡ self.is_shut }
+        ensures is_turning_place { result.is_turning_place ≡ self.is_turning_place }
+        ensures departures { result.departures.now ≡ departures.now }
     {
-        self.by_node.get(&node)
+        Intersection {
+            node: self.node,
+            is_shut: self.is_shut,
+            is_turning_place: self.is_turning_place,
+            departures,
+        }
+    }
+}
+
+/// Nodes where pieces end, each asked once: what their tags say, and what leaves them. One of them is found in the time
+/// of a short search.
+#[derive(Drop)]
+pub struct Intersections {
+    rules: Vec<NodeRules>,
+    ranges: Ranges,
+    departures: Groups<Departure>,
+}
+
+impl Intersections {
+    /// These nodes, in any order. The ways there are looked for among the pieces.
+    pub fn of<M: World, P: Profile>(
+        alloc: Global,
+        network: &Network<'_, M, P>,
+        pieces: &RoadPieces,
+        nodes: &[NodeId],
+    ) -> Result<Intersections, NoMemory>
+        requires { on network.now AreRoadPieces pieces.now }
+        ensures { IfOk result (on network.now AreIntersections) }
+    {
+        let mut nodes = nodes.to_vec(alloc)?;
+        nodes.sort_unstable();
+        nodes.dedup();
+        let mut rules = Vec::with_capacity(alloc, nodes.len())?;
+        let mut departures = Groups::new(alloc);
+        for node in nodes.as_slice() {
+            rules.push(NodeRules::of(network, *node))?;
+            let leaving = pieces.departures(alloc, network, *node)?;
+            departures.push(leaving.as_slice())?;
+        }
+        let ranges = Ranges::of(alloc, rules.as_slice());
+        Ok(Intersections {
+            rules,
+            ranges,
+            departures,
+        })
     }
 
-    /// Keeps what is known of a node. Where no memory is found it is dropped.
-    pub fn keep(&mut self, intersection: Intersection) -> Result<(), NoMemory>
-        ensures known { (M : Objects) (P : Rules) → IsIntersection M P intersection → AreIntersections M P self.old → AreIntersections M P self.new }
-        ensures there { OnOk result (get node_cmp self.new.by_node intersection.node ≡ Some intersection) }
+    /// What is known of the node, if it is found among them.
+    pub fn find(&self, node: NodeId) -> Option<Intersection<'_>>
+        ensures node { IfSome result (λ i. i.node ≡ node) }
+        ensures is { IfSome result (λ i. (M : Objects) (P : Rules)
+            → AreIntersections M P self.now
+            → IsIntersection M P i) }
     {
-        self.by_node.insert(intersection.node, intersection)?;
-        Ok(())
-    }
-}
-
-/// What a node's tags say to one who comes there.
-#[derive(Clone, Copy, Debug)]
-struct NodeRules {
-    is_shut: bool,
-    is_turning_place: bool,
-}
-
-/// What is to be known of the node. The ways there are learnt.
-pub fn intersection_of<M: World, P: Profile>(
-    alloc: Global,
-    world: &M,
-    profile: &P,
-    pieces: &mut PiecesByWay,
-    node: NodeId,
-) -> Result<Intersection, NoMemory>
-    requires { ArePiecesByWay (M.objects world.now) (P.rules profile.now) pieces.old }
-    ensures pieces { ArePiecesByWay (M.objects world.now) (P.rules profile.now) pieces.new }
-    ensures node { IfOk result (λ i. i.node ≡ node) }
-    ensures is { IfOk result (IsIntersection (M.objects world.now) (P.rules profile.now)) }
-{
-    let rules = rules_of(world, profile, node);
-    let departures = pieces.departures(alloc, world, profile, node)?;
-    Ok(Intersection {
-        node,
-        is_shut: rules.is_shut,
-        is_turning_place: rules.is_turning_place,
-        departures,
-    })
-}
-
-/// Whether the node is shut, as at a bollard, and whether it is a place to turn round. One that isn't visible is neither.
-fn rules_of<M: World, P: Profile>(world: &M, profile: &P, node: NodeId) -> NodeRules
-    ensures shut { result.is_shut ≡ shut (M.objects world.now) (P.rules profile.now) node }
-    ensures turning_place { result.is_turning_place ≡ turning_place (M.objects world.now) (P.rules profile.now) node }
-{
-    match world.node(node) {
-        Some(body) => NodeRules {
-            is_shut: !profile.node_open(&body.tags),
-            is_turning_place: profile.turns(&body.tags),
-        },
-        None => NodeRules {
-            is_shut: false,
-            is_turning_place: false,
-        },
+        let at = self.ranges.find(self.rules.as_slice(), node.0)?;
+        let rules = self.rules[at];
+        if rules.node != node || at >= self.departures.len() {
+            return None;
+        }
+        Some(rules.with(self.departures.at(at)))
     }
 }

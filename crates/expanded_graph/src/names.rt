@@ -2,6 +2,7 @@
 ghost use Rattle.std.specs.Prelude.{◌≡◌, ◌<◌, List, [], ◌∷◌, ◌++◌, length, map, IfOk};
 ghost use Rattle.road_base.specs.declared.ids.WayId.{WayId};
 ghost use Rattle.road_base.specs.declared.ids.Step.{Step};
+ghost use Rattle.road_model.specs.Networks.{on};
 ghost use Rattle.road_model.specs.Pieces.{Piece, IsPiece};
 ghost use Rattle.road_model.specs.Contexts.{Every};
 ghost use Rattle.road_model.specs.Turning.{HasTurnSteps};
@@ -12,15 +13,14 @@ ghost use Rattle.expanded_graph.specs.States.{AreStates};
 use crate::states::States;
 use road_base::NoMemory;
 use road_model::laws::context_steps;
-use road_model::{PieceName, Profile, World};
+use road_model::{Network, PieceName, Profile, World};
 use std::alloc::Global;
 use turn_automata::State;
 
 /// The names of the pieces whose last steps stand in the state's list before its last step, in order of travel.
 pub fn names_before<M: World, P: Profile>(
     alloc: Global,
-    world: &M,
-    profile: &P,
+    network: &Network<'_, M, P>,
     states: &States,
     state: State,
 ) -> Result<Vec<PieceName>, NoMemory>
@@ -28,13 +28,13 @@ pub fn names_before<M: World, P: Profile>(
     requires grown { 0 < state.0 }
     requires state { state.0 < length states.now.automaton.states }
     ensures { IfOk result (λ v. (w : WayId) (before : List Piece) (p : Piece) (q : List Step)
-        → AreStates (M.objects world.now) (P.rules profile.now) w states.now.automaton.words states.now.automaton.states states.now.facts.items
-        → Every (IsPiece (M.objects world.now) (P.rules profile.now)) (before ++ p ∷ [])
+        → on network.now AreStates w states.now.automaton.words states.now.automaton.states states.now.facts.items
+        → Every (on network.now IsPiece) (before ++ p ∷ [])
         → HasTurnSteps (before ++ p ∷ []) q
         → StandsFor states.now.automaton state.0 q
         → v.items ≡ map name_of before) }
 {
-    context_steps(profile);
+    context_steps(&network.profile);
     states.automaton.closed();
     let mut names = Vec::new(alloc);
     let (before, _) = states.automaton.edge(state.0);

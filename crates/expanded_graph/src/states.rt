@@ -1,26 +1,26 @@
-//! The states in which one may be on a way, and what is known of each.
-ghost use Rattle.std.specs.Prelude.{◌≡◌, ◌<◌, ◌∷◌, ◌++◌, [], List, length, false, None, IfOk};
+//! The states in which one may be on ways, and what is known of each.
+ghost use Rattle.std.specs.Prelude.{◌≡◌, ◌<◌, ◌∷◌, ◌++◌, [], List, length, false, None, Contains, IfOk};
 ghost use Rattle.std.specs.Option.{option_to_list};
 ghost use Rattle.road_base.specs.declared.ids.Step.{Step};
 ghost use Rattle.turn_automata.specs.Machines.{StandsFor};
-ghost use Rattle.way_pieces.specs.Starts.{ArePiecesByWay};
+ghost use Rattle.road_base.specs.declared.ids.WayId.{WayId};
+ghost use Rattle.road_model.specs.Networks.{on};
+ghost use Rattle.way_pieces.specs.RoadPieces.{AreRoadPieces};
 ghost use Rattle.expanded_graph.specs.Known.{NamesEnd, IsKnown, AreKnown, AreAllShort, IsDriven};
 ghost use Rattle.expanded_graph.specs.States.{AreStates};
-ghost use Rattle.expanded_graph.specs.Turning.{IsCache};
 
-use crate::cache::Cache;
 use crate::last_steps::piece_ended_by;
 use crate::words::words_near;
 use road_base::{NoMemory, Step, WayId};
 use road_model::laws::{context_steps, drive_grows, drive_parts, words_on_ways};
-use road_model::{PieceName, Profile, World};
+use road_model::{Network, PieceName, Profile, World};
 use std::alloc::Global;
 use turn_automata::{Automaton, State};
 use way_lines::{drivable, pass};
-use way_pieces::PiecesByWay;
+use way_pieces::{RoadPieces, WayPieces};
 
-/// What is known of a state: whether its steps may be driven, the piece that its last step ends, and how many pieces its
-/// steps spell.
+/// What is known of a state: whether its steps may be driven, the piece that its last step ends, and how many pieces
+/// its steps spell.
 #[derive(Clone, Copy, Debug)]
 pub struct StateFacts {
     pub is_legal: bool,
@@ -28,7 +28,7 @@ pub struct StateFacts {
     pub pieces: u32,
 }
 
-/// The automaton of the words that matter on a way, and what is known of its states.
+/// The automaton of the words that matter on ways, and what is known of its states.
 #[derive(Drop)]
 pub struct States {
     pub automaton: Automaton,
@@ -36,62 +36,97 @@ pub struct States {
 }
 
 impl States {
-    /// The states on the way. The words that begin on the ways near it are learnt, and the pieces of each way on which a
-    /// state's last step lies, which stays so where no memory is found; all else takes a few look-ups for each state.
+    /// The states on these ways. Takes the time of the words near them and of their automaton, a few look-ups for each
+    /// state, and the time to cut the ways on which states' last steps lie that aren't found among the pieces.
     pub fn of<M: World, P: Profile>(
         alloc: Global,
-        world: &M,
-        profile: &P,
-        cache: &mut Cache,
-        way: WayId,
+        network: &Network<'_, M, P>,
+        pieces: &RoadPieces,
+        ways: &[WayId],
     ) -> Result<States, NoMemory>
-        requires { IsCache (M.objects world.now) (P.rules profile.now) cache.old }
-        ensures cache { IsCache (M.objects world.now) (P.rules profile.now) cache.new }
-        ensures states { IfOk result (λ s. AreStates (M.objects world.now) (P.rules profile.now) way s.automaton.words s.automaton.states s.facts.items) }
+        requires { on network.now AreRoadPieces pieces.now }
+        ensures count { IfOk result (λ s. length s.facts.items ≡ length s.automaton.states) }
+        ensures states { IfOk result (λ s. (w : WayId) → Contains ways.now w
+            → on network.now AreStates w s.automaton.words s.automaton.states s.facts.items) }
     {
-        words_on_ways(profile);
-        context_steps(profile);
-        let words = words_near(alloc, world, profile, &mut cache.beginnings, way)?;
+        words_on_ways(&network.profile);
+        context_steps(&network.profile);
+        let words = words_near(alloc, network, ways)?;
         let automaton = Automaton::of(alloc, &words)?;
         automaton.closed();
-        let facts = facts_of(alloc, world, profile, &mut cache.pieces, &automaton)?;
+        let others = ways_apart(alloc, pieces, &automaton)?;
+        let further = RoadPieces::of(alloc, network, others.as_slice())?;
+        let facts = facts_of(alloc, network, pieces, &further, &automaton)?;
         Ok(States { automaton, facts })
     }
 }
 
-/// What is known of each state.
+/// The ways of states' last steps that aren't found among the pieces, each once, ascending.
+fn ways_apart(
+    alloc: Global,
+    pieces: &RoadPieces,
+    automaton: &Automaton,
+) -> Result<Vec<WayId>, NoMemory> {
+    let mut ways = Vec::new(alloc);
+    for state in 1..automaton.len() {
+        let (_, step) = automaton.edge(state);
+        if pieces.spans_of(step.way).is_none() {
+            ways.push(step.way)?;
+        }
+    }
+    ways.sort_unstable();
+    ways.dedup();
+    Ok(ways)
+}
+
+/// What is known of each state. The pieces that their steps end are looked for among those of both.
 fn facts_of<M: World, P: Profile>(
     alloc: Global,
-    world: &M,
-    profile: &P,
-    pieces: &mut PiecesByWay,
+    network: &Network<'_, M, P>,
+    pieces: &RoadPieces,
+    further: &RoadPieces,
     automaton: &Automaton,
 ) -> Result<Vec<StateFacts>, NoMemory>
     requires short { AreAllShort automaton.now.states }
-    requires pieces { ArePiecesByWay (M.objects world.now) (P.rules profile.now) pieces.old }
-    ensures pieces { ArePiecesByWay (M.objects world.now) (P.rules profile.now) pieces.new }
+    requires pieces { on network.now AreRoadPieces pieces.now }
+    requires further { on network.now AreRoadPieces further.now }
     ensures count { IfOk result (λ v. length v.items ≡ length automaton.now.states) }
-    ensures known { IfOk result (λ v. AreKnown (M.objects world.now) (P.rules profile.now) automaton.now v.items) }
+    ensures known { IfOk result (λ v. on network.now AreKnown automaton.now v.items) }
 {
     automaton.closed();
     let mut facts = Vec::with_capacity(alloc, automaton.len())?;
     facts.push(at_rest())?;
     for state in 1..automaton.len() {
         let (before, step) = automaton.edge(state);
-        pieces.learn(alloc, world, profile, step.way)?;
-        let ends = piece_ended_by(pieces.at(step.way).spans.as_slice(), step);
-        let fact = fact_of(
-            world,
-            profile,
-            automaton,
-            facts.as_slice(),
-            before,
-            step,
-            ends,
-        );
+        let ends = ended_piece(alloc, network, pieces, further, step)?;
+        let fact = fact_of(network, automaton, facts.as_slice(), before, step, ends);
         facts.push(fact)?;
     }
     Ok(facts)
+}
+
+/// The name of the piece that the step ends, None exactly where it ends none. Where its way isn't found among the
+/// pieces of either it is cut for this call alone.
+fn ended_piece<M: World, P: Profile>(
+    alloc: Global,
+    network: &Network<'_, M, P>,
+    pieces: &RoadPieces,
+    further: &RoadPieces,
+    step: Step,
+) -> Result<Option<PieceName>, NoMemory>
+    requires pieces { on network.now AreRoadPieces pieces.now }
+    requires further { on network.now AreRoadPieces further.now }
+    ensures { IfOk result (on network.now NamesEnd step) }
+{
+    if let Some(spans) = pieces.spans_of(step.way) {
+        return Ok(piece_ended_by(spans, step));
+    }
+    if let Some(spans) = further.spans_of(step.way) {
+        return Ok(piece_ended_by(spans, step));
+    }
+    let roads = pieces.roads();
+    let own = WayPieces::of(alloc, network, roads, roads.road(network, step.way))?;
+    Ok(piece_ended_by(own.spans.as_slice(), step))
 }
 
 /// What is known of the state of no steps.
@@ -109,8 +144,7 @@ fn at_rest() -> StateFacts
 
 /// What is known of the state that grew from the state before by the step.
 fn fact_of<M: World, P: Profile>(
-    world: &M,
-    profile: &P,
+    network: &Network<'_, M, P>,
     automaton: &Automaton,
     facts: &[StateFacts],
     before: usize,
@@ -120,12 +154,13 @@ fn fact_of<M: World, P: Profile>(
     requires short { AreAllShort automaton.now.states }
     requires within { before < length facts.now }
     requires state { before < length automaton.now.states }
-    requires known { AreKnown (M.objects world.now) (P.rules profile.now) automaton.now facts.now }
-    requires ends { NamesEnd (M.objects world.now) (P.rules profile.now) step ends }
-    ensures { (p : List Step) → StandsFor automaton.now before p → IsKnown (M.objects world.now) (P.rules profile.now) automaton.now.words (p ++ step ∷ []) result }
+    requires known { on network.now AreKnown automaton.now facts.now }
+    requires ends { on network.now NamesEnd step ends }
+    ensures { (p : List Step) → StandsFor automaton.now before p
+        → on network.now IsKnown automaton.now.words (p ++ step ∷ []) result }
 {
     StateFacts {
-        is_legal: is_legal(world, profile, automaton, facts, before, step),
+        is_legal: is_legal(network, automaton, facts, before, step),
         ends,
         pieces: facts[before].pieces + count(ends),
     }
@@ -143,8 +178,7 @@ fn count(ends: Option<PieceName>) -> u32
 
 /// Whether the steps of the state before and this one behind them may be driven.
 fn is_legal<M: World, P: Profile>(
-    world: &M,
-    profile: &P,
+    network: &Network<'_, M, P>,
     automaton: &Automaton,
     facts: &[StateFacts],
     before: usize,
@@ -152,14 +186,15 @@ fn is_legal<M: World, P: Profile>(
 ) -> bool
     requires within { before < length facts.now }
     requires state { before < length automaton.now.states }
-    requires known { AreKnown (M.objects world.now) (P.rules profile.now) automaton.now facts.now }
-    ensures { (p : List Step) → StandsFor automaton.now before p → IsDriven (M.objects world.now) (P.rules profile.now) automaton.now.words (p ++ step ∷ []) result }
+    requires known { on network.now AreKnown automaton.now facts.now }
+    ensures { (p : List Step) → StandsFor automaton.now before p
+        → on network.now IsDriven automaton.now.words (p ++ step ∷ []) result }
 {
     automaton.closed();
-    words_on_ways(profile);
-    drive_grows(profile);
-    drive_parts(profile);
-    if !drivable(world, profile, step) {
+    words_on_ways(&network.profile);
+    drive_grows(&network.profile);
+    drive_parts(&network.profile);
+    if !drivable(network.world, &network.profile, step) {
         return false;
     }
     if before == 0 {
@@ -169,7 +204,7 @@ fn is_legal<M: World, P: Profile>(
     if !facts[before].is_legal {
         return false;
     }
-    if !pass(world, profile, last, step) {
+    if !pass(network.world, &network.profile, last, step) {
         return false;
     }
     automaton.go(State(before), step).is_some()

@@ -1,132 +1,78 @@
-//! The words that matter on a way.
-ghost use Rattle.std.specs.Prelude.{◌≡◌, ◌++◌, ◌↔◌, Contains, IfOk, IsTrue, OnOk};
+//! The words that matter on ways.
+ghost use Rattle.std.specs.Prelude.{◌≡◌, ◌<◌, ◌↔◌, ◌⊎◌, length, take, Contains, IfOk, IsTrue, OnOk, Some, slice_get};
 ghost use Rattle.std.specs.List.{All};
 ghost use Rattle.std.specs.List.Sorted.{IsStrictlySortedBy};
 ghost use Rattle.std.specs.FinMap.{IsAntisymmetric};
 ghost use Rattle.road_base.specs.declared.ids.WayId.{WayId};
-ghost use Rattle.road_base.specs.declared.ids.RelationId.{RelationId};
-ghost use Rattle.road_model.specs.Orders.{way_cmp};
+ghost use Rattle.road_base.specs.declared.ids.Step.{Step};
+ghost use Rattle.road_model.specs.Networks.{on, map_of};
+ghost use Rattle.road_model.specs.Words.{IsWord};
 ghost use Rattle.restrictions.specs.declared.word_list.Word.{Word};
 ghost use Rattle.restrictions.specs.Words.{IsRestriction};
-ghost use Rattle.expanded_graph.specs.Near.{AreWordsNear, HasStepBetween, HasStepOn};
-ghost use Rattle.expanded_graph.specs.Known.{AreWordsOf, GainsApart, GainsWords, GoesOnOver};
-ghost use Rattle.expanded_graph.specs.Beginnings.{AreWordsByWay, IsWordFrom};
+ghost use Rattle.expanded_graph.specs.Near.{AreWordsNear, HasStepOn};
+ghost use Rattle.expanded_graph.specs.Known.{AreRelationsOn, AreWordsOf, GainsApart, GainsWords};
 
-use crate::words_by_way::WordsByWay;
 use restrictions::{Word, WordList, WordsError, words};
 use road_base::{NoMemory, RelationId, Step, WayId};
-use road_model::laws::{name_order, words_on_ways};
-use road_model::{Profile, World};
+use road_model::laws::{name_order, number_order, words_on_ways};
+use road_model::{Network, Profile, World};
 use std::alloc::Global;
 
-/// Words of the map: those of the way's own restrictions, among them all that have a step on it, and of those that begin
-/// on a way near it, on which a word that has a step on this way between its first and its last has a step, the ones that
-/// have no more than two steps or of which the second lies on such a way, too. Where the words that begin on a way near it
-/// aren't known they are found, which stays so where no memory is found. Takes the time of the words that it lists, of a
-/// search among the ways near it for each word that begins on one of them, and of the words of the restrictions of each way
-/// that it learns.
+/// Words of the map, among them all that are near one of the ways: the words of the ways' relations, which are all
+/// that have a step on one of them, and those of the relations of the other ways on which these words have steps.
+/// Each relation is judged once. Takes the time of the words, and of a search among the ways for each of their steps.
+/// The ways ascend; where they don't, some relations may be judged twice.
 pub fn words_near<M: World, P: Profile>(
     alloc: Global,
-    world: &M,
-    profile: &P,
-    beginnings: &mut WordsByWay,
-    way: WayId,
+    network: &Network<'_, M, P>,
+    ways: &[WayId],
 ) -> Result<WordList, NoMemory>
-    requires { AreWordsByWay (M.objects world.now) (P.rules profile.now) beginnings.old }
-    ensures beginnings { AreWordsByWay (M.objects world.now) (P.rules profile.now) beginnings.new }
-    ensures near { IfOk result (AreWordsNear (M.objects world.now) (P.rules profile.now) way) }
+    ensures words { IfOk result (λ words. (u : Word) → Contains words u
+        → on network.now IsWord u.relation u.only u.binding u.steps) }
+    ensures near { IfOk result (λ words. (w : WayId) → Contains ways.now w
+        → on network.now AreWordsNear w words) }
 {
-    words_on_ways(profile);
-    let own = world.rules_of_way(way);
-    let mut words = words_of(alloc, world, profile, own)?;
-    let found = ways_near(alloc, words.as_slice(), way)?;
-    let ways = found.as_slice();
-    for near in ways {
-        add_words_from(
-            alloc, &mut words, world, profile, beginnings, *near, ways, way,
-        )?;
-    }
+    words_on_ways(&network.profile);
+    let own = relations_of(alloc, network, ways, &[])?;
+    let mut words = words_of(alloc, network, own.as_slice())?;
+    let others = ways_of(alloc, words.as_slice(), ways)?;
+    let further = relations_of(alloc, network, others.as_slice(), own.as_slice())?;
+    let mut more = words_of(alloc, network, further.as_slice())?;
+    words.append(&mut more)?;
     Ok(WordList::from_list(words))
 }
 
-/// Adds the words that begin on the way near this one and go on over the ways near it, but for those that have a step on
-/// this one.
-fn add_words_from<M: World, P: Profile>(
+/// The relations of these ways but the known ones, each once, ascending. The known ones ascend; where they don't,
+/// some of them may be listed as well.
+fn relations_of<M: World, P: Profile>(
     alloc: Global,
-    list: &mut Vec<Word>,
-    world: &M,
-    profile: &P,
-    beginnings: &mut WordsByWay,
-    near: WayId,
+    network: &Network<'_, M, P>,
     ways: &[WayId],
-    way: WayId,
-) -> Result<(), NoMemory>
-    requires beginnings { AreWordsByWay (M.objects world.now) (P.rules profile.now) beginnings.old }
-    requires sorted { IsStrictlySortedBy way_cmp ways.now }
-    ensures beginnings { AreWordsByWay (M.objects world.now) (P.rules profile.now) beginnings.new }
-    ensures gained { OnOk result (GainsApart ways.now way (IsWordFrom (M.objects world.now) (P.rules profile.now) near) list.old.items list.new.items) }
+    known: &[RelationId],
+) -> Result<Vec<RelationId>, NoMemory>
+    ensures { IfOk result (λ v. AreRelationsOn (map_of network.now) ways.now known.now v.items) }
 {
-    if near == way {
-        return Ok(());
+    number_order();
+    let mut list = Vec::new(alloc);
+    for way in ways {
+        add_apart(&mut list, network.world.rules_of_way(*way), known)?;
     }
-    beginnings.learn(alloc, world, profile, near)?;
-    append_apart(list, beginnings.at(near).as_slice(), ways, way)
-}
-
-/// Adds equal words of those that go on over the ways, but for those that have a step on the way.
-fn append_apart(
-    list: &mut Vec<Word>,
-    more: &[Word],
-    ways: &[WayId],
-    way: WayId,
-) -> Result<(), NoMemory>
-    requires { IsStrictlySortedBy way_cmp ways.now }
-    ensures { OnOk result (GainsApart ways.now way (Contains more.now) list.old.items list.new.items) }
-{
-    for word in more {
-        add_apart(list, word, ways, way)?;
-    }
-    Ok(())
-}
-
-/// Adds an equal word if it goes on over the ways, unless it has a step on the way.
-fn add_apart(list: &mut Vec<Word>, word: &Word, ways: &[WayId], way: WayId) -> Result<(), NoMemory>
-    requires { IsStrictlySortedBy way_cmp ways.now }
-    ensures { OnOk result (GainsApart ways.now way (λ u. u ≡ word.now) list.old.items list.new.items) }
-{
-    let steps = word.steps.items();
-    if !goes_on_near(steps, ways) || has_step_on(steps, way) {
-        return Ok(());
-    }
-    list.push(word.copy()?)?;
-    Ok(())
-}
-
-/// Whether there are no more than two steps, or the second lies on one of the ways. Takes the time of a search among them.
-fn goes_on_near(steps: &[Step], ways: &[WayId]) -> bool
-    requires { IsStrictlySortedBy way_cmp ways.now }
-    ensures { IsTrue result ↔ GoesOnOver ways.now steps.now }
-{
-    name_order();
-    match steps {
-        [_, second, _, ..] => ways.binary_search(&second.way).is_ok(),
-        _ => true,
-    }
+    leave_once(&mut list);
+    Ok(list)
 }
 
 /// The words of these restrictions. One that is of no use gives none.
-pub fn words_of<M: World, P: Profile>(
+fn words_of<M: World, P: Profile>(
     alloc: Global,
-    world: &M,
-    profile: &P,
+    network: &Network<'_, M, P>,
     relations: &[RelationId],
 ) -> Result<Vec<Word>, NoMemory>
-    requires { All (IsRestriction (M.objects world.now)) relations.now }
-    ensures { IfOk result (λ v. AreWordsOf (M.objects world.now) (P.rules profile.now) relations.now v.items) }
+    requires { All (IsRestriction (map_of network.now)) relations.now }
+    ensures { IfOk result (λ v. on network.now AreWordsOf relations.now v.items) }
 {
     let mut list = Vec::new(alloc);
     for relation in relations {
-        add_words(alloc, &mut list, world, profile, *relation)?;
+        add_words(alloc, &mut list, network, *relation)?;
     }
     Ok(list)
 }
@@ -135,84 +81,78 @@ pub fn words_of<M: World, P: Profile>(
 fn add_words<M: World, P: Profile>(
     alloc: Global,
     list: &mut Vec<Word>,
-    world: &M,
-    profile: &P,
+    network: &Network<'_, M, P>,
     relation: RelationId,
 ) -> Result<(), NoMemory>
-    requires { IsRestriction (M.objects world.now) relation }
-    ensures { OnOk result (GainsWords (M.objects world.now) (P.rules profile.now) relation list.old.items list.new.items) }
+    requires { IsRestriction (map_of network.now) relation }
+    ensures { OnOk result (on network.now GainsWords relation list.old.items list.new.items) }
 {
-    match words(alloc, world, profile, relation) {
-        Ok(more) => append(list, more.items()),
+    match words(alloc, network.world, &network.profile, relation) {
+        Ok(more) => {
+            let mut more = more.into_list();
+            list.append(&mut more)?;
+            Ok(())
+        }
         Err(WordsError::Unusable(_)) => Ok(()),
         Err(WordsError::NoMemory) => Err(NoMemory),
     }
 }
 
-/// Adds equal words.
-fn append(list: &mut Vec<Word>, more: &[Word]) -> Result<(), NoMemory>
-    ensures { OnOk result (list.new.items ≡ list.old.items ++ more.now) }
+/// The ways on which the words have steps but the known ones, each once, ascending. The known ones ascend; where they
+/// don't, some of them may be listed as well.
+fn ways_of(alloc: Global, words: &[Word], known: &[WayId]) -> Result<Vec<WayId>, NoMemory>
+    ensures { IfOk result (λ v. (u : Word) (w : WayId) → Contains words.now u → HasStepOn w u.steps
+        → Contains known.now w ⊎ Contains v.items w) }
 {
-    for word in more {
-        list.push(word.copy()?)?;
+    name_order();
+    let mut list = Vec::new(alloc);
+    for word in words {
+        add_ways(&mut list, word.steps.items(), known)?;
     }
-    Ok(())
+    leave_once(&mut list);
+    Ok(list)
 }
 
-/// The ways on which a word has a step that has a step on the way between its first and its last, each once, ascending.
-fn ways_near(alloc: Global, words: &[Word], way: WayId) -> Result<Vec<WayId>, NoMemory>
-    ensures sorted { IfOk result (λ v. IsStrictlySortedBy way_cmp v.items) }
-    ensures there { IfOk result (λ v. (u : Word) (w : WayId) → Contains words.now u → HasStepBetween way u.steps → HasStepOn w u.steps → Contains v.items w) }
+/// Adds the ways of the steps but the known ones.
+fn add_ways(list: &mut Vec<WayId>, steps: &[Step], known: &[WayId]) -> Result<(), NoMemory>
+    ensures { OnOk result (GainsApart known.now (λ w. HasStepOn w steps.now) list.old.items list.new.items) }
 {
-    let mut ways = Vec::new(alloc);
-    for word in words {
-        let steps = word.steps.items();
-        if has_step_between(steps, way) {
-            add_ways(&mut ways, steps)?;
+    name_order();
+    for at in 0..steps.len() {
+        if !goes_along(steps, at) {
+            add_one_apart(list, steps[at].way, known)?;
         }
     }
-    name_order();
-    leave_once(&mut ways);
-    Ok(ways)
+    Ok(())
 }
 
-/// Whether a step between the first and the last lies on the way.
-fn has_step_between(steps: &[Step], way: WayId) -> bool
-    ensures { IsTrue result ↔ HasStepBetween way steps.now }
+/// Whether the step at the place lies on the way of the step before it.
+fn goes_along(steps: &[Step], at: usize) -> bool
+    requires { at < length steps.now }
+    ensures { IsTrue result → (s : Step) → slice_get steps.now at ≡ Some s → HasStepOn s.way (take at steps.now) }
 {
-    match steps {
-        [_, middle @ .., _] => has_step_on(middle, way),
-        _ => false,
-    }
+    at > 0 && steps[at - 1].way == steps[at].way
 }
 
-/// Whether a step lies on the way.
-fn has_step_on(steps: &[Step], way: WayId) -> bool
-    ensures { IsTrue result ↔ HasStepOn way steps.now }
+/// Adds the items but the known ones.
+fn add_apart<T: Ord + Copy>(list: &mut Vec<T>, items: &[T], known: &[T]) -> Result<(), NoMemory>
+    requires { IsAntisymmetric T.cmp }
+    ensures { OnOk result (GainsApart known.now (Contains items.now) list.old.items list.new.items) }
 {
-    steps.iter().any(|step| step.way == way)
-}
-
-/// Adds the ways of the steps, each once for the steps on it that follow each other.
-fn add_ways(ways: &mut Vec<WayId>, steps: &[Step]) -> Result<(), NoMemory>
-    ensures kept { OnOk result ((w : WayId) → Contains ways.old.items w → Contains ways.new.items w) }
-    ensures there { OnOk result ((w : WayId) → HasStepOn w steps.now → Contains ways.new.items w) }
-{
-    for step in steps {
-        add_way(ways, step.way)?;
+    for item in items {
+        add_one_apart(list, *item, known)?;
     }
     Ok(())
 }
 
-/// Adds the way, unless it stands last.
-fn add_way(ways: &mut Vec<WayId>, way: WayId) -> Result<(), NoMemory>
-    ensures kept { OnOk result ((w : WayId) → Contains ways.old.items w → Contains ways.new.items w) }
-    ensures there { OnOk result (Contains ways.new.items way) }
+/// Adds the item, unless a search finds it among the known ones.
+fn add_one_apart<T: Ord + Copy>(list: &mut Vec<T>, item: T, known: &[T]) -> Result<(), NoMemory>
+    requires { IsAntisymmetric T.cmp }
+    ensures { OnOk result (GainsApart known.now (λ x. x ≡ item) list.old.items list.new.items) }
 {
-    if ways.last() == Some(&way) {
-        return Ok(());
+    if known.binary_search(&item).is_err() {
+        list.push(item)?;
     }
-    ways.push(way)?;
     Ok(())
 }
 

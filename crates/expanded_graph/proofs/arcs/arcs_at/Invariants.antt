@@ -10,5 +10,8 @@ use Rattle.expanded_graph.proofs.arcs.arcs_at.Given as goal
 abbrev pub invariant-loop-departure : goal.invariant-loop-departure
 invariant-loop-departure g l =
     (c : List Piece)
-    → IsReached (g.M.World.objects l.world) (g.P.Profile.rules l.profile) l.states.automaton l.states.facts.items l.state.0 l.from l.intersection.node c
-    → Chosen (λ a. a.piece) (λ d. d.piece) name_cmp (IsArcEntry (g.M.World.objects l.world) (g.P.Profile.rules l.profile) c) (take l.departure-index l.departures) l.arcs.items
+    → IsReached (g.M.World.objects l.network.world.now) (g.P.Profile.rules l.network.profile) l.states.automaton
+    l.states.facts.items l.state.0 l.from l.intersection.node c
+    → Chosen (λ a. a.piece) (λ d. d.piece) name_cmp
+    (IsArcEntry (g.M.World.objects l.network.world.now) (g.P.Profile.rules l.network.profile) c)
+    (take l.departure-index l.departures) l.arcs.items

@@ -1,8 +1,10 @@
 use Rattle.std.proofs.Common.{map, take}
 use Rattle.way_pieces.specs.Names.{piece_of}
-use Rattle.expanded_graph.proofs.Gathering.{Gathered}
+use Rattle.expanded_graph.proofs.ContextLists.{Gathered}
 use Rattle.expanded_graph.proofs.contexts.all_contexts.Given as goal
 
 -- the contexts so far are the piece alone and those in the endings so far
 abbrev pub invariant-loop-ending : goal.invariant-loop-ending
-invariant-loop-ending g l = Gathered (g.M.World.objects l.world) (g.P.Profile.rules l.profile) l.states.automaton (piece_of l.span) (take l.ending-index (map (λ e. e.state) l.here)) l.contexts.items
+invariant-loop-ending g l =
+    Gathered (g.M.World.objects l.network.world.now) (g.P.Profile.rules l.network.profile) l.states.automaton
+    (piece_of l.span) (take l.ending-index (map (λ e. e.state) l.here)) l.contexts.items

@@ -9,13 +9,18 @@ use Rattle.expanded_graph.proofs.contexts.context_alone.Goals as goal
 
 pub returns-clause-entry : goal.returns-clause-entry
 returns-clause-entry g c =
-    let M = g.M.World.objects c.args.world.now in
-    let P = g.P.Profile.rules c.args.profile.now in
+    let M = g.M.World.objects c.args.network.now.world.now in
+    let P = g.P.Profile.rules c.args.network.now.profile in
     let m = c.args.states.now.automaton in
     let facts = c.args.states.now.facts.items in
     let p = piece_of c.args.span in
     let n = c.start-state.result.0 in
     let last = c.last_step.ensures in
-    let reached = reached_alone M P (c.drive_grows.ensures.alone M) m facts p c.requires.piece c.requires.states last.0 c.last_step.result last.1 n c.start-state.ensures.state c.args.from c.args.intersection.now.node c.requires.arrives in
-    let arcs = subst (λ l. Lists (λ (a : TurnArc). a.piece) name_cmp (IsArcEntry M P (p ∷ [])) l) (sym c.from_list-2.ensures) (c.in_ok-arcs.ensures (p ∷ []) reached) in
-    entry_alone M P (c.drive_grows.ensures.alone M) m facts p c.requires.piece c.requires.states last.0 c.last_step.result last.1 n c.start-state.ensures.state _ (c.from_list.ensures ∙ c.new.ensures.items) arcs
+    let reached =
+    reached_alone M P (c.drive_grows.ensures.alone M) m facts p c.requires.piece c.requires.states last.0
+    c.last_step.result last.1 n c.start-state.ensures.state c.args.from c.args.intersection.now.node
+    c.requires.arrives in
+    let arcs = subst (λ l. Lists (λ (a : TurnArc). a.piece) name_cmp (IsArcEntry M P (p ∷ [])) l)
+    (sym c.from_list-2.ensures) (c.in_ok-arcs.ensures (p ∷ []) reached) in
+    entry_alone M P (c.drive_grows.ensures.alone M) m facts p c.requires.piece c.requires.states last.0
+    c.last_step.result last.1 n c.start-state.ensures.state _ (c.from_list.ensures ∙ c.new.ensures.items) arcs

@@ -1,9 +1,9 @@
 -- The state before isn't the first one where the list has two steps or more.
-use Rattle.std.proofs.Common.{◌≡◌, None, Some, sym, ◌∙◌, arith}
+use Rattle.std.proofs.Common.{◌≡◌, None, Some, refl, sym, ◌∙◌, arith}
 use Rattle.std.proofs.lemmas.Bool.{false≢true, not_from_true, not-false}
 use Rattle.road_model.specs.declared.lists.PieceName.{PieceName}
 use Rattle.expanded_graph.proofs.Runs.{read_at}
-use Rattle.expanded_graph.proofs.Ending.{not_root, has_legal, ending_with, name_on}
+use Rattle.expanded_graph.proofs.EndingStates.{not_root, has_legal, ending_with, name_on}
 use Rattle.expanded_graph.proofs.endings.piece_ended.Goals as goal
 
 no_name : (n : PieceName) → None ≡ Some n → ⊥
@@ -15,7 +15,13 @@ returns-then-before-eq0 c =
     let facts = c.args.states.now.facts.items in
     let f = c.index-facts.result.now in
     let is = read_at facts c.args.number f c.requires.within c.index-facts.ensures in
-    λ n. (λ e. absurd (no_name n e), λ h. absurd (not_root m facts c.args.way c.closed.ensures.closed c.args.number c.edge-before.result.0 c.edge-before.result.1 c.edge-before.ensures.is c.edge-before.ensures.less (omega (arith, c.requires.count, c.requires.within)) f is h.0 c.if-before-eq0.true))
+    λ n. (
+      λ e. absurd (no_name n e),
+      λ h. absurd
+          (not_root m facts n.way c.closed.ensures.closed c.args.number
+          c.edge-before.result.0 c.edge-before.result.1 c.edge-before.ensures.is c.edge-before.ensures.less
+          (omega (arith, c.requires.count, c.requires.within)) f is h.0 c.if-before-eq0.true),
+    )
 
 pub returns-then-not-facts : goal.returns-then-not-facts
 returns-then-not-facts c =
@@ -23,7 +29,14 @@ returns-then-not-facts c =
     let facts = c.args.states.now.facts.items in
     let f = c.index-facts.result.now in
     let is = read_at facts c.args.number f c.requires.within c.index-facts.ensures in
-    λ n. (λ e. absurd (no_name n e), λ h. absurd (false≢true (sym (not_from_true f.is_legal (has_legal m facts c.args.way c.closed.ensures.closed c.args.number c.edge-before.result.0 c.edge-before.result.1 c.edge-before.ensures.is c.edge-before.ensures.less (omega (arith, c.requires.count, c.requires.within)) f is h.0)) ∙ c.if-not-facts.true)))
+    λ n. (
+      λ e. absurd (no_name n e),
+      λ h. absurd
+          (false≢true (sym (not_from_true f.is_legal (has_legal m facts n.way c.closed.ensures.closed c.args.number
+          c.edge-before.result.0
+          c.edge-before.result.1 c.edge-before.ensures.is c.edge-before.ensures.less
+          (omega (arith, c.requires.count, c.requires.within)) f is h.0)) ∙ c.if-not-facts.true)),
+    )
 
 pub returns : goal.returns
 returns c =
@@ -32,6 +45,10 @@ returns c =
     let f = c.index-facts.result.now in
     let is = read_at facts c.args.number f c.requires.within c.index-facts.ensures in
     λ n. (
-      λ e. ending_with m facts c.args.way c.closed.ensures.closed c.args.number c.edge-before.result.0 c.edge-before.result.1 c.edge-before.ensures.is c.edge-before.ensures.less (omega (arith, c.requires.count, c.requires.within)) f is c.if-before-eq0.false (not-false f.is_legal c.if-not-facts.false) n ((c.on_way.ensures n).0 e),
-      λ h. (c.on_way.ensures n).1 (name_on m facts c.args.way c.closed.ensures.closed c.args.number c.edge-before.result.0 c.edge-before.result.1 c.edge-before.ensures.is c.edge-before.ensures.less (omega (arith, c.requires.count, c.requires.within)) f is n h),
+      λ e. ending_with m facts n.way c.closed.ensures.closed c.args.number c.edge-before.result.0 c.edge-before.result.1
+          c.edge-before.ensures.is c.edge-before.ensures.less (omega (arith, c.requires.count, c.requires.within)) f is
+          c.if-before-eq0.false (not-false f.is_legal c.if-not-facts.false) n (e, refl),
+      λ h. (name_on m facts n.way c.closed.ensures.closed c.args.number c.edge-before.result.0 c.edge-before.result.1
+          c.edge-before.ensures.is c.edge-before.ensures.less (omega (arith, c.requires.count, c.requires.within)) f is
+          n h).0,
     )

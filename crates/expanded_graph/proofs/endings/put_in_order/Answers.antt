@@ -16,5 +16,6 @@ returns-clause-sorted c =
 
 pub returns-clause-stable : goal.returns-clause-stable
 returns-clause-stable c =
-    subst (λ R. IsStableByKey piece R c.args.endings.now.items c.sort_by_key.new.self.items) (λ i a b. c.name_order.ensures.by_cmp a b i)
+    subst (λ R. IsStableByKey piece R c.args.endings.now.items c.sort_by_key.new.self.items)
+    (λ i a b. c.name_order.ensures.by_cmp a b i)
     (c.in_ok-sort_by_key.ensures.stable piece (answers_always _ _ _ (λ f a r g called. search rules)))

@@ -9,15 +9,18 @@ pub loop-span-init : goal.loop-span-init
 loop-span-init c = λ k l. absurd (omega arith)
 
 pub loop-span-preserved : goal.loop-span-preserved
-loop-span-preserved c = none_more _ c.loop-span.span-index _ c.last_step.result c.args.step c.loop-span-test.true c.loop-span.invariant c.last_step.ensures (sym c.eq.ensures ∙ c.if-eq.false)
+loop-span-preserved c = none_more _ c.loop-span.span-index _ c.last_step.result c.args.step c.loop-span-test.true
+    c.loop-span.invariant c.last_step.ensures (sym c.eq.ensures ∙ c.if-eq.false)
 
 pub returns-then-eq : goal.returns-then-eq
 returns-then-eq c = λ M P lists.
     let x = c.args.step in
     let xs = c.args.spans.now in
     names_some M P x xs lists c.partition_point-count.result
-    (IsPartitionPoint-from_clause (λ s. leb s.name.index x.index) xs c.partition_point-count.result c.partition_point-count.ensures.partitioned (parted M P x xs lists) (λ a r q k. search rules))
-    c.partition_point-count.ensures.bound c.saturating_sub.result c.saturating_sub.ensures c.loop-span.span-index _ c.last_step.result c.loop-span-test.true
+    (IsPartitionPoint-from_clause (λ s. leb s.name.index x.index) xs c.partition_point-count.result
+    c.partition_point-count.ensures.partitioned (parted M P x xs lists) (λ a r q k. search rules))
+    c.partition_point-count.ensures.bound c.saturating_sub.result c.saturating_sub.ensures c.loop-span.span-index _
+    c.last_step.result c.loop-span-test.true
     c.last_step.ensures (sym c.eq.ensures ∙ c.if-eq.true)
 
 pub returns : goal.returns
@@ -25,6 +28,7 @@ returns c = λ M P lists.
     let x = c.args.step in
     let xs = c.args.spans.now in
     names_none M P x xs lists c.partition_point-count.result
-    (IsPartitionPoint-from_clause (λ s. leb s.name.index x.index) xs c.partition_point-count.result c.partition_point-count.ensures.partitioned (parted M P x xs lists) (λ a r q k. search rules))
+    (IsPartitionPoint-from_clause (λ s. leb s.name.index x.index) xs c.partition_point-count.result
+    c.partition_point-count.ensures.partitioned (parted M P x xs lists) (λ a r q k. search rules))
     c.partition_point-count.ensures.bound c.saturating_sub.result c.saturating_sub.ensures
     (λ k l. c.loop-span.invariant k (omega arith))

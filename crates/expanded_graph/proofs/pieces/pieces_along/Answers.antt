@@ -3,18 +3,21 @@ use Rattle.std.proofs.Common.{[], ◌∷◌, ◌++◌}
 use Rattle.std.proofs.lemmas.List.Elements.{All-push, All-same}
 use Rattle.road_model.specs.Blocks.{IsPieceEntry}
 use Rattle.road_model.specs.Format.{IsPieceForm}
-use Rattle.expanded_graph.proofs.Writing.{names_more}
+use Rattle.expanded_graph.proofs.WrittenPieces.{names_more}
 use Rattle.expanded_graph.proofs.pieces.pieces_along.Goals as goal
 
 pub loop-span-preserved : goal.loop-span-preserved
 loop-span-preserved g c =
-    let Is = IsPieceEntry (g.M.World.objects c.args.world.now) (g.P.Profile.rules c.args.profile.now) c.args.way in
+    let Is = IsPieceEntry (g.M.World.objects c.args.network.now.world.now)
+    (g.P.Profile.rules c.args.network.now.profile) c.args.line.now.road.way in
     let so_far = c.loop-span.pieces.items in
     let piece = c.in_ok-piece.piece in
     let grown = c.in_ok-push.ensures.items in
     record {
-      cache = c.in_ok-piece.ensures.cache;
-      names = names_more so_far c.push.new.self.items piece c.args.spans.now c.loop-span.span-index _ c.loop-span-test.true grown c.in_ok-piece.ensures.name c.loop-span.invariant.names;
-      entries = All-same Is c.push.new.self.items (so_far ++ piece ∷ []) grown (All-push Is so_far piece c.loop-span.invariant.entries c.in_ok-piece.ensures.entry);
-      forms = All-same IsPieceForm c.push.new.self.items (so_far ++ piece ∷ []) grown (All-push IsPieceForm so_far piece c.loop-span.invariant.forms c.in_ok-piece.ensures.form);
+      names = names_more so_far c.push.new.self.items piece c.args.spans.now c.loop-span.span-index _
+          c.loop-span-test.true grown c.in_ok-piece.ensures.name c.loop-span.invariant.names;
+      entries = All-same Is c.push.new.self.items (so_far ++ piece ∷ []) grown
+          (All-push Is so_far piece c.loop-span.invariant.entries c.in_ok-piece.ensures.entry);
+      forms = All-same IsPieceForm c.push.new.self.items (so_far ++ piece ∷ []) grown
+          (All-push IsPieceForm so_far piece c.loop-span.invariant.forms c.in_ok-piece.ensures.form);
     }

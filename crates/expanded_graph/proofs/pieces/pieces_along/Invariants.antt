@@ -2,14 +2,14 @@ use Rattle.std.proofs.Common.{◌≡◌, map, take}
 use Rattle.std.specs.List.{All}
 use Rattle.road_model.specs.Blocks.{IsPieceEntry}
 use Rattle.road_model.specs.Format.{IsPieceForm}
-use Rattle.expanded_graph.specs.Turning.{IsCache}
 use Rattle.expanded_graph.proofs.pieces.pieces_along.Given as goal
 
--- the pieces so far are those of the spans so far, and what is kept is so
+-- the pieces so far are those of the spans so far
 abbrev pub invariant-loop-span : goal.invariant-loop-span
 invariant-loop-span g l = record {
-  cache : IsCache (g.M.World.objects l.world) (g.P.Profile.rules l.profile) l.cache;
   names : map (λ p. p.name) l.pieces.items ≡ map (λ s. s.name) (take l.span-index l.spans);
-  entries : All (IsPieceEntry (g.M.World.objects l.world) (g.P.Profile.rules l.profile) l.way) l.pieces.items;
+  entries : All
+      (IsPieceEntry (g.M.World.objects l.network.world.now) (g.P.Profile.rules l.network.profile) l.line.road.way)
+      l.pieces.items;
   forms : All IsPieceForm l.pieces.items;
 }

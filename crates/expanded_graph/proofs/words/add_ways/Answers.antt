@@ -1,21 +1,39 @@
--- The way of one step more stands there.
-use Rattle.std.proofs.Common.{inl, inr, subst, Contains}
+-- One step more was looked at, and all were at the end.
+use Rattle.std.proofs.Common.{◌+◌, List, sym, ap, subst, arith, take}
+use Rattle.std.proofs.lemmas.List.{take_all}
+use Rattle.road_base.specs.declared.ids.WayId.{WayId}
 use Rattle.road_base.specs.declared.ids.Step.{Step}
-use Rattle.expanded_graph.proofs.WordsNear.{among_more, among_all}
+use Rattle.expanded_graph.specs.Near.{HasStepOn}
+use Rattle.expanded_graph.specs.Known.{GainsApart}
+use Rattle.expanded_graph.proofs.WordsNear.{ways_more, ways_again}
 use Rattle.expanded_graph.proofs.words.add_ways.Goals as goal
+use Rattle.expanded_graph.proofs.words.add_ways.Goals.{then-not-goes_along+in_ok-add_one_apart, else-not-goes_along}
 
-pub loop-step-preserved : goal.loop-step-preserved
-loop-step-preserved c =
-    let new = c.add_way.new.ways.items in
-    let old = c.loop-step.invariant in
-    record {
-      kept = λ w h. c.in_ok-add_way.ensures.kept w (old.kept w h);
-      so_far = λ s h. elim (among_more c.args.steps.now c.loop-step.step-index _ c.loop-step-test.true s h) [
-        | inl o ↦ c.in_ok-add_way.ensures.kept s.way (old.so_far s o)
-        | inr e ↦ subst (λ (x : Step). Contains new x.way) e c.in_ok-add_way.ensures.there
-      ];
-    }
+pub loop-at-preserved : goal.loop-at-preserved
+loop-at-preserved c =
+    let known = c.args.known.now in
+    let steps = c.args.steps.now in
+    let i = c.loop-at.at in
+    let first = c.args.list.now.items in
+    let old = c.loop-at.list.items in
+    let inside = c.loop-at-test.true in
+    let end = c.loop-at.auto.at-end in
+    elim c.if-not-goes_along.branch [
+      | then-not-goes_along+in_ok-add_one_apart w ↦
+          subst (λ (l : List WayId). GainsApart known (λ v. HasStepOn v (take (i + 1) steps)) first l)
+          (ap (λ v. v.items) (sym w.list-is))
+          (ways_more known steps i _ first old w.add_one_apart.new.list.items inside c.loop-at.invariant
+          w.in_ok-add_one_apart.ensures)
+      | else-not-goes_along w ↦
+          subst (λ (l : List WayId). GainsApart known (λ v. HasStepOn v (take (i + 1) steps)) first l)
+          (ap (λ v. v.items) (sym w.list-is))
+          (ways_again known steps i first old inside (c.goes_along.ensures w.if-not-goes_along.false)
+          c.loop-at.invariant)
+    ]
 
-pub returns-clause-there : goal.returns-clause-there
-returns-clause-there c w on =
-    subst (Contains c.loop-step.ways.items) on.on (c.loop-step.invariant.so_far on.step (among_all c.args.steps.now c.loop-step.step-index c.loop-step-test.false on.step on.among))
+pub returns : goal.returns
+returns c =
+    let past = c.loop-at-test.false in
+    subst (λ (l : List Step). GainsApart c.args.known.now (λ w. HasStepOn w l) c.args.list.now.items
+    c.loop-at.list.items)
+    (take_all c.loop-at.at c.args.steps.now (omega arith)) c.loop-at.invariant

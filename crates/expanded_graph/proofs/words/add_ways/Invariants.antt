@@ -1,11 +1,8 @@
-use Rattle.std.proofs.Common.{Contains, take}
-use Rattle.road_base.specs.declared.ids.WayId.{WayId}
-use Rattle.road_base.specs.declared.ids.Step.{Step}
+use Rattle.std.proofs.Common.{take}
+use Rattle.expanded_graph.specs.Near.{HasStepOn}
+use Rattle.expanded_graph.specs.Known.{GainsApart}
 use Rattle.expanded_graph.proofs.words.add_ways.Given as goal
 
--- the ways of before are there, and those of the steps so far
-abbrev pub invariant-loop-step : goal.invariant-loop-step
-invariant-loop-step l = record {
-  kept : (w : WayId) → Contains l.initial.ways.items w → Contains l.ways.items w;
-  so_far : (s : Step) → Contains (take l.step-index l.steps) s → Contains l.ways.items s.way;
-}
+-- the ways of the steps so far are added but some known ones
+abbrev pub invariant-loop-at : goal.invariant-loop-at
+invariant-loop-at l = GainsApart l.known (λ w. HasStepOn w (take l.at l.steps)) l.initial.list.items l.list.items

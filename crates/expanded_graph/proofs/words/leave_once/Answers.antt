@@ -13,7 +13,9 @@ use Rattle.expanded_graph.proofs.words.leave_once.Goals as goal
 pub returns-clause-sorted : goal.returns-clause-sorted
 returns-clause-sorted g c =
     let E = g.T.PartialEq.eq in
-    subst (IsStrictlySortedBy g.T.Ord.cmp) (sym (dedup_is E _ _ c.dedup.ensures.filtered)) (IsStrictlySortedBy-dedup g.met.T.Ord.total (λ x y. g.met.T.Ord.matches_eq x y) c.sort_unstable.new.self.items c.sort_unstable.ensures.sorted)
+    subst (IsStrictlySortedBy g.T.Ord.cmp) (sym (dedup_is E _ _ c.dedup.ensures.filtered))
+    (IsStrictlySortedBy-dedup g.met.T.Ord.total (λ x y. g.met.T.Ord.matches_eq x y) c.sort_unstable.new.self.items
+    c.sort_unstable.ensures.sorted)
 
 pub returns-clause-same : goal.returns-clause-same
 returns-clause-same g c x =
@@ -23,7 +25,10 @@ returns-clause-same g c x =
     let sorted = c.sort_unstable.new.self.items in
     let moved = c.sort_unstable.ensures.permutation in
     let left : c.dedup.new.self.items ≡ dedup (eq_by_cmp C) sorted =
-    dedup_is E _ _ c.dedup.ensures.filtered ∙ ap (λ (f : T → T → Bool). dedup f sorted) (λ i y z. g.met.T.Ord.matches_eq y z i) in (
-      λ h. Contains-permutation _ _ x (IsPermutation-sym _ _ moved) (Contains-from_dedup (eq_by_cmp C) _ x (subst (λ (l : List T). Contains l x) left h)),
-      λ h. subst (λ (l : List T). Contains l x) (sym left) (Contains-dedup (eq_by_cmp_equiv g.met.T.Ord.total) (λ y z e. c.requires y z ((Equal-is _).0 e)) _ x (Contains-permutation _ _ x moved h)),
+    dedup_is E _ _ c.dedup.ensures.filtered ∙ ap (λ (f : T → T → Bool). dedup f sorted)
+    (λ i y z. g.met.T.Ord.matches_eq y z i) in (
+      λ h. Contains-permutation _ _ x (IsPermutation-sym _ _ moved)
+          (Contains-from_dedup (eq_by_cmp C) _ x (subst (λ (l : List T). Contains l x) left h)),
+      λ h. subst (λ (l : List T). Contains l x) (sym left) (Contains-dedup (eq_by_cmp_equiv g.met.T.Ord.total)
+          (λ y z e. c.requires y z ((Equal-is _).0 e)) _ x (Contains-permutation _ _ x moved h)),
     )

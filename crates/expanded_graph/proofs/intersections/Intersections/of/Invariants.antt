@@ -1,0 +1,12 @@
+use Rattle.std.proofs.Common.{◌≡◌, length}
+use Rattle.expanded_graph.specs.Turning.{AreKnownAt}
+use Rattle.expanded_graph.proofs.Pairs.{AreSoTogether}
+use Rattle.expanded_graph.proofs.intersections.Intersections.of.Given as goal
+
+-- as many lists of departures as nodes so far, and each is told of its node
+abbrev pub invariant-loop-node : goal.invariant-loop-node
+invariant-loop-node g l = record {
+  count : length l.rules.items ≡ length l.departures;
+  known : AreSoTogether (AreKnownAt (g.M.World.objects l.network.world.now) (g.P.Profile.rules l.network.profile))
+      l.rules.items l.departures;
+}

@@ -1,0 +1,128 @@
+//! What is found once before blocks are built.
+ghost use Rattle.std.specs.Prelude.{◌≡◌, IfOk, IsTrue, Contains};
+ghost use Rattle.road_model.specs.Networks.{on};
+ghost use Rattle.way_pieces.specs.RoadPieces.{AreRoadPieces};
+ghost use Rattle.expanded_graph.specs.Tables.{AreTables};
+ghost use Rattle.expanded_graph.specs.Turning.{AreIntersections};
+
+use crate::endings::{Ending, endings_of};
+use crate::intersections::Intersections;
+use crate::states::States;
+use road_base::{NoMemory, Ranges, WayId};
+use road_model::{Network, Profile, World};
+use std::alloc::Global;
+use way_pieces::RoadPieces;
+
+/// What the blocks of ways are built from: ways cut into pieces, the nodes where these end, the automaton of the words
+/// near the ways, and the states in which contexts may end. Nothing is added while blocks are built: a way that isn't
+/// among those that were cut is cut whenever it is met.
+#[derive(Drop)]
+pub struct Tables {
+    pub ways: Vec<WayId>,
+    pub ranges: Ranges,
+    pub pieces: RoadPieces,
+    pub intersections: Intersections,
+    pub states: States,
+    pub endings: Vec<Ending>,
+}
+
+impl Tables {
+    /// For blocks of these ways. They and all ways that meet them are cut into pieces, and the nodes where their own
+    /// pieces end are asked what leaves them.
+    pub fn of<M: World, P: Profile>(
+        alloc: Global,
+        network: &Network<'_, M, P>,
+        ways: &[WayId],
+    ) -> Result<Tables, NoMemory>
+        ensures are { IfOk result (on network.now AreTables) }
+        ensures ways { IfOk result (λ t. t.ways.items ≡ ways.now) }
+    {
+        let own = RoadPieces::of(alloc, network, ways)?;
+        let met = ways_met(alloc, network, ways)?;
+        let pieces = RoadPieces::of(alloc, network, met.as_slice())?;
+        let intersections = Intersections::of(alloc, network, &pieces, own.ends())?;
+        Tables::over(alloc, network, ways, pieces, intersections)
+    }
+
+    /// For blocks of all roads, where these are they: none but them is cut into pieces, and each of them once.
+    pub fn of_all<M: World, P: Profile>(
+        alloc: Global,
+        network: &Network<'_, M, P>,
+        ways: &[WayId],
+    ) -> Result<Tables, NoMemory>
+        ensures are { IfOk result (on network.now AreTables) }
+        ensures ways { IfOk result (λ t. t.ways.items ≡ ways.now) }
+    {
+        let pieces = RoadPieces::of(alloc, network, ways)?;
+        let intersections = Intersections::of(alloc, network, &pieces, pieces.ends())?;
+        Tables::over(alloc, network, ways, pieces, intersections)
+    }
+
+    /// For blocks of these ways, over what is known of pieces and nodes.
+    fn over<M: World, P: Profile>(
+        alloc: Global,
+        network: &Network<'_, M, P>,
+        ways: &[WayId],
+        pieces: RoadPieces,
+        intersections: Intersections,
+    ) -> Result<Tables, NoMemory>
+        requires pieces { on network.now AreRoadPieces pieces }
+        requires intersections { on network.now AreIntersections intersections }
+        ensures are { IfOk result (on network.now AreTables) }
+        ensures ways { IfOk result (λ t. t.ways.items ≡ ways.now) }
+    {
+        let states = States::of(alloc, network, &pieces, ways)?;
+        let endings = endings_of(alloc, &states)?;
+        let ways = ways.to_vec(alloc)?;
+        let ranges = Ranges::of(alloc, ways.as_slice());
+        Ok(Tables {
+            ways,
+            ranges,
+            pieces,
+            intersections,
+            states,
+            endings,
+        })
+    }
+
+    /// Whether blocks of the way are built from these. Where it is false it may still stand among the ways.
+    pub fn serve(&self, way: WayId) -> bool
+        ensures { IsTrue result → Contains self.now.ways.items way }
+    {
+        match self.ranges.find(self.ways.as_slice(), way.0) {
+            Some(at) => self.ways[at] == way,
+            None => false,
+        }
+    }
+}
+
+/// The ways and those that meet them at some node, each once, ascending.
+fn ways_met<M: World, P: Profile>(
+    alloc: Global,
+    network: &Network<'_, M, P>,
+    ways: &[WayId],
+) -> Result<Vec<WayId>, NoMemory> {
+    let mut met = Vec::new(alloc);
+    for way in ways {
+        met.push(*way)?;
+        add_met(&mut met, network, *way)?;
+    }
+    met.sort_unstable();
+    met.dedup();
+    Ok(met)
+}
+
+/// Adds the ways that refer to a node of the way.
+fn add_met<M: World, P: Profile>(
+    met: &mut Vec<WayId>,
+    network: &Network<'_, M, P>,
+    way: WayId,
+) -> Result<(), NoMemory> {
+    let Some(body) = network.world.way(way) else {
+        return Ok(());
+    };
+    for node in body.refs.items() {
+        met.extend_from_slice(network.world.ways_at(*node))?;
+    }
+    Ok(())
+}
