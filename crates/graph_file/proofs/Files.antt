@@ -19,7 +19,9 @@ pub values_are : (m : FinMap way_cmp Block) (bs : List Block) → entries m ≡ 
 values_are m bs is = ap (map (λ e. e.1)) is ∙ blocks_of_entries bs
 
 -- what the map's blocks spell is a graph file, if each number fits
-pub is_graph_file : (profile : ℕ) (m : FinMap way_cmp Block) (bs : List Block) → profile ≡ 1 → entries m ≡ map entry_of bs → IsTrue (rises way_cmp (map (λ b. b.way) bs)) → AllByRecursion IsBlockForm (values m) → AllByRecursion BlockFits bs → length bs < 2 ^ 64 → IsGraphFile (graph_bytes profile (values m))
+pub is_graph_file : (profile : ℕ) (m : FinMap way_cmp Block) (bs : List Block) → profile ≡ 1
+    → entries m ≡ map entry_of bs → IsTrue (rises way_cmp (map (λ b. b.way) bs)) → AllByRecursion IsBlockForm (values m)
+    → AllByRecursion BlockFits bs → length bs < 2 ^ 64 → IsGraphFile (graph_bytes profile (values m))
 is_graph_file profile m bs first is up forms fit count =
     let same : values m ≡ bs = values_are m bs is in
     record {
@@ -46,7 +48,9 @@ pub forms_of_none : (m : FinMap way_cmp Block) → m ≡ empty → AllByRecursio
 forms_of_none m is = subst (λ es. AllByRecursion IsBlockForm (map (λ e. e.1) es)) (sym (ap entries is ∙ no_entries)) tt
 
 -- a single block's form
-pub forms_of_one : (m n : FinMap way_cmp Block) (b : Block) → n ≡ empty → m ≡ insert n b.way b → IsBlockForm b → AllByRecursion IsBlockForm (values m)
+pub forms_of_one : (m n : FinMap way_cmp Block) (b : Block) → n ≡ empty → m ≡ insert n b.way b → IsBlockForm b
+    → AllByRecursion IsBlockForm (values m)
 forms_of_one m n b none is form =
-    let one : entries m ≡ (b.way, b) ∷ [] = ap entries is ∙ entries-insert way_cmp_total n b.way b ∙ ap (put way_cmp b.way b) (ap entries none ∙ no_entries) in
+    let one : entries m ≡ (b.way, b) ∷ [] = ap entries is ∙ entries-insert way_cmp_total n b.way b
+    ∙ ap (put way_cmp b.way b) (ap entries none ∙ no_entries) in
     subst (λ es. AllByRecursion IsBlockForm (map (λ e. e.1) es)) (sym one) (form, tt)

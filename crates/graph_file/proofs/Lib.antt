@@ -1,3 +1,4 @@
 pub mod Appends
-pub mod Counting
+pub mod PieceCount
 pub mod Files
+pub mod WrittenBlocks

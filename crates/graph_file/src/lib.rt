@@ -1,7 +1,8 @@
 //! The bytes of a graph file.
 //!
-//! `write` goes once over the blocks and appends each number where it stands in the file, so its cost grows with the
-//! bytes that it writes, and it takes no memory beside them.
+//! `GraphWriter` is given one block after another, and `write` all at once. Both append each number where it stands
+//! in the file, so their cost grows with the bytes that they write, and they take no memory beside them. How many
+//! blocks there are stands before the blocks: the writer keeps the place and fills it at the end.
 #![tactic(auto)]
 
 ghost use Rattle.std.specs.Prelude.{◌≡◌, ◌++◌, ◌<◌, ◌^◌, length, OnOk, OnErr, codes};
@@ -11,10 +12,12 @@ ghost use Rattle.road_base.specs.Bytes.{u32_bytes, u64_bytes, Keeps};
 ghost use Rattle.road_model.specs.Format.{graph_bytes, BlockFits, IsBlockForm, IsGraphFile};
 
 mod pieces;
+mod writer;
 
 use pieces::GraphFile;
 use road_base::{LittleEndian, NoMemory, put_all};
 use road_model::{Block, Blocks};
+pub use writer::GraphWriter;
 
 /// Appends the bytes of a graph file: the magic, the profile's number, how many blocks there are, and the blocks in
 /// ascending order of their ways. Where no memory is found nothing is appended. Costs as many steps as it appends
@@ -46,7 +49,8 @@ fn put_graph(profile: u32, blocks: &[Block], out: &mut Vec<u8>) -> Result<(), No
 }
 
 fn put_header(profile: u32, count: u64, out: &mut Vec<u8>) -> Result<(), NoMemory>
-    ensures ok { OnOk result (out.new.items ≡ out.old.items ++ (codes "OSMROAD1" ++ (u32_bytes profile ++ u64_bytes count))) }
+    ensures ok { OnOk result (out.new.items ≡ out.old.items
+        ++ (codes "OSMROAD1" ++ (u32_bytes profile ++ u64_bytes count))) }
     ensures err { OnErr result (Keeps out.old.items out.new.items) }
 {
     out.extend_from_slice(b"OSMROAD1")?;

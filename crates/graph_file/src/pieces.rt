@@ -1,7 +1,9 @@
 //! Blocks, pieces, contexts and arcs, as the file spells them.
 ghost use Rattle.std.specs.Prelude.{◌≡◌, ◌++◌, ◌<◌, ◌^◌, FitsSigned, OnOk, OnErr};
 ghost use Rattle.std.specs.Int.{w64};
-ghost use Rattle.road_model.specs.Format.{dir_bytes, name_bytes, place_bytes, arc_bytes, context_bytes, piece_bytes, block_bytes, IsContextForm, IsPieceForm, IsBlockForm, NameFits, ContextFits, PieceFits, BlockFits};
+ghost use Rattle.road_model.specs.Format.{dir_bytes, name_bytes, place_bytes, arc_bytes, context_bytes, piece_bytes};
+ghost use Rattle.road_model.specs.Format.{block_bytes, IsContextForm, IsPieceForm, IsBlockForm, NameFits, ContextFits};
+ghost use Rattle.road_model.specs.Format.{PieceFits, BlockFits};
 
 use road_base::{Dir, Format, LittleEndian, NoMemory, put_all};
 use road_model::{Block, Context, Piece, PieceName, Place, TurnArc};

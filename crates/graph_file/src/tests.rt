@@ -188,3 +188,33 @@ fn writes_no_blocks(rt: HostRuntime) -> Result<(), Fail> {
     );
     Ok(())
 }
+
+#[test]
+fn writer_puts_blocks_in_turn(rt: HostRuntime) -> Result<(), Fail> {
+    let alloc = rt.alloc();
+    let mut writer = GraphWriter::new(alloc, 1)?;
+    writer.put(&one_way(alloc)?)?;
+    writer.put(&both_ways(alloc)?)?;
+    let mut expected = b"OSMROAD1\x01\0\0\0\x02\0\0\0\0\0\0\0".to_vec(alloc)?;
+    expected.extend_from_slice(&WITH_A_NAME[21..])?;
+    expected.extend_from_slice(&THERE_AND_BACK[20..])?;
+    assert_eq!(rt; writer.finish(), expected);
+    Ok(())
+}
+
+#[test]
+fn writes_more_blocks_than_two_bytes_count(rt: HostRuntime) -> Result<(), Fail> {
+    let alloc = rt.alloc();
+    let block = one_way(alloc)?;
+    let mut file = GraphWriter::new(alloc, 1)?;
+    for _ in 0..70_000u32 {
+        file.put(&block)?;
+    }
+    let bytes = file.finish();
+    let header = b"OSMROAD1\x01\0\0\0\x70\x11\x01\0\0\0\0\0";
+    let one = &WITH_A_NAME[21..];
+    assert_eq!(rt; bytes.len(), 20 + 70_000 * one.len());
+    assert_eq!(rt; bytes.get(..20), Some(header.as_slice()));
+    assert_eq!(rt; bytes.get(bytes.len() - one.len()..), Some(one));
+    Ok(())
+}

@@ -1,5 +1,6 @@
 -- How many pieces the block of a way has at most.
-use Rattle.std.proofs.Common.{◌≡◌, ℕ, ◌+◌, ◌*◌, ◌<◌, ◌≤◌, ◌⊎◌, inl, inr, true, IsTrue, List, [], ◌∷◌, length, map, refl, arith}
+use Rattle.std.proofs.Common.{◌≡◌, ℕ, ◌+◌, ◌*◌, ◌<◌, ◌≤◌, ◌⊎◌, inl, inr, true, IsTrue, List, [], ◌∷◌, length, map, refl}
+use Rattle.std.proofs.Common.{arith}
 use Rattle.std.specs.List.{AllByRecursion}
 use Rattle.std.specs.Ordering.{nat_cmp, is_lt, ordering_then}
 use Rattle.std.specs.declared.cmp.Ordering.{Ordering}
@@ -32,7 +33,8 @@ dir_rank_rises Forward Backward up = omega arith
 dir_rank_rises Backward Forward up = cc
 dir_rank_rises Backward Backward up = cc
 
-lower_or_level : (i j : ℕ) (r s : Ordering) → r ≡ nat_cmp i j → is_lt (ordering_then r s) ≡ true → (i < j) ⊎ ((i ≡ j) × (is_lt s ≡ true))
+lower_or_level : (i j : ℕ) (r s : Ordering) → r ≡ nat_cmp i j → is_lt (ordering_then r s) ≡ true
+    → (i < j) ⊎ ((i ≡ j) × (is_lt s ≡ true))
 lower_or_level i j Less s is up = inl (ranked i j Less is)
 lower_or_level i j Equal s is up = inr (ranked i j Equal is, up)
 lower_or_level i j Greater s is up = cc
@@ -43,7 +45,8 @@ rank_rises m n up =
     let first : dir_rank m.dir ≤ 1 = dir_rank_small m.dir in
     elim (lower_or_level m.index n.index (nat_cmp m.index n.index) (dir_cmp m.dir n.dir) refl up) [
       | inl lower ↦ omega arith
-      | inr level ↦ let above : dir_rank m.dir < dir_rank n.dir = dir_rank_rises m.dir n.dir level.1 in let same : m.index ≡ n.index = level.0 in omega arith
+      | inr level ↦ let above : dir_rank m.dir < dir_rank n.dir = dir_rank_rises m.dir n.dir level.1
+          in let same : m.index ≡ n.index = level.0 in omega arith
     ]
 
 -- a position of a piece lies below 65,534
@@ -55,15 +58,18 @@ rank_small p form =
     let one : dir_rank p.name.dir ≤ 1 = dir_rank_small p.name.dir in
     omega arith
 
-few_above : (n : PieceName) (ps : List Piece) → rank n ≤ 131067 → IsTrue (rises_from place_cmp n (map (λ p. p.name) ps)) → AllByRecursion IsPieceForm ps → rank n + length ps ≤ 131067
+few_above : (n : PieceName) (ps : List Piece) → rank n ≤ 131067 → IsTrue (rises_from place_cmp n (map (λ p. p.name) ps))
+    → AllByRecursion IsPieceForm ps → rank n + length ps ≤ 131067
 few_above n [] small up forms = omega arith
 few_above n (p ∷ ps) small up forms =
     let next : rank n < rank p.name = rank_rises n p.name (first_so _ _ up) in
-    let rest : rank p.name + length ps ≤ 131067 = few_above p.name ps (rank_small p forms.0) (second_so _ _ up) forms.1 in
+    let rest : rank p.name + length ps ≤ 131067 = few_above p.name ps (rank_small p forms.0) (second_so _ _ up) forms.1
+    in
     omega arith
 
 -- pieces that ascend by position and direction are at most twice as many as there are positions
-pub few_pieces : (ps : List Piece) → IsTrue (rises place_cmp (map (λ p. p.name) ps)) → AllByRecursion IsPieceForm ps → length ps ≤ 131068
+pub few_pieces : (ps : List Piece) → IsTrue (rises place_cmp (map (λ p. p.name) ps)) → AllByRecursion IsPieceForm ps
+    → length ps ≤ 131068
 few_pieces [] up forms = omega arith
 few_pieces (p ∷ ps) up forms =
     let rest : rank p.name + length ps ≤ 131067 = few_above p.name ps (rank_small p forms.0) up forms.1 in
