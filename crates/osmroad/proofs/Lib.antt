@@ -1,10 +1,11 @@
 pub mod Members
-pub mod Entries
+pub mod RisingWays
+pub mod RoadWays
 pub mod Built
-pub mod SourceReading
-pub mod Ending
+pub mod SourceParts
+pub mod RunEnds
 pub mod OneAnswer
 pub mod TwoWords
-pub mod Measuring
-pub mod InputReading
-pub mod Growing
+pub mod LineLengths
+pub mod InputEnds
+pub mod PassedLimits

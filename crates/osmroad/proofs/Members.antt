@@ -1,6 +1,6 @@
 -- What a list contains, by its first element and the rest, and by its parts.
-use Rattle.std.proofs.Common.{◌≡◌, ◌⊎◌, ℕ, zero, suc, ◌<◌, List, [], ◌∷◌, ◌++◌, length, map, slice_index_or, Contains, refl, inl, inr, sym, arith}
-use Rattle.std.specs.List.{AllByRecursion}
+use Rattle.std.proofs.Common.{◌≡◌, ◌⊎◌, ℕ, zero, suc, ◌<◌, List, [], ◌∷◌, ◌++◌, length, map, slice_index_or, Contains}
+use Rattle.std.proofs.Common.{refl, inl, inr, sym, arith}
 
 -- a member of a list
 abbrev pub In : {A : Type 0} → A → List A → Type 0
@@ -28,6 +28,15 @@ in_cases x [] ys i = inr i
 in_cases x (z ∷ xs) ys (inl e) = inl (inl e)
 in_cases x (z ∷ xs) ys (inr i) = elim (in_cases x xs ys i) [ inl a ↦ inl (inr a) | inr b ↦ inr b ]
 
+pub in_front : {A : Type 0} (x : A) (xs ys : List A) → In x xs → In x (xs ++ ys)
+in_front x [] ys i = absurd i
+in_front x (z ∷ xs) ys (inl e) = inl e
+in_front x (z ∷ xs) ys (inr i) = inr (in_front x xs ys i)
+
+pub in_last : {A : Type 0} (x : A) (xs : List A) → In x (xs ++ x ∷ [])
+in_last x [] = inl refl
+in_last x (z ∷ xs) = inr (in_last x xs)
+
 -- what stands in a list with one more stood in the list or is that one
 pub contains_more : {A : Type 0} (xs : List A) (y x : A) → Contains (xs ++ y ∷ []) x → Contains xs x ⊎ (x ≡ y)
 contains_more xs y x has =
@@ -44,17 +53,7 @@ in_index (x ∷ xs) (suc i) d l = inr (in_index xs i d (omega arith))
 pub contains_index : {A : Type 0} (xs : List A) (i : ℕ) (d : A) → i < length xs → Contains xs (slice_index_or xs i d)
 contains_index xs i d l = contains_from_in xs (slice_index_or xs i d) (in_index xs i d l)
 
--- what holds of each element that the list contains holds of all
-pub all_from_each : {A : Type 0} (P : A → Type 0) (xs : List A) → ((x : A) → Contains xs x → P x) → AllByRecursion P xs
-all_from_each P [] each = tt
-all_from_each P (x ∷ xs) each =
-    (each x (contains_from_in (x ∷ xs) x (inl refl)), all_from_each P xs (λ y has. each y (contains_from_in (x ∷ xs) y (inr (in_from_contains xs y has)))))
-
-from_map : {A B : Type 0} (f : A → B) (xs : List A) (z : B) → In z (map f xs) → (x : A) × In x xs × (z ≡ f x)
+pub from_map : {A B : Type 0} (f : A → B) (xs : List A) (z : B) → In z (map f xs) → (x : A) × In x xs × (z ≡ f x)
 from_map f [] z i = absurd i
 from_map f (y ∷ xs) z (inl e) = (y, inl refl, e)
 from_map f (y ∷ xs) z (inr i) = let r = from_map f xs z i in (r.0, inr r.1, r.2)
-
-pub origin_of : {A B : Type 0} (f : A → B) (xs : List A) (y : B) → Contains (map f xs) y → (x : A) × Contains xs x × (f x ≡ y)
-origin_of f xs y has =
-    let from = from_map f xs y (in_from_contains (map f xs) y has) in (from.0, contains_from_in xs from.0 from.1, sym from.2)

@@ -1,17 +1,26 @@
--- The blocks of the ways of a map, while they are built.
-use Rattle.std.specs.Prelude.{◌≡◌, List, Some, Contains}
-use Rattle.std.specs.FinMap.{FinMap, get}
+-- The graph of a map, while its blocks are built and written.
+use Rattle.std.specs.Prelude.{List, Contains, IsTrue}
 use Rattle.road_base.specs.declared.ids.WayId.{WayId}
-use Rattle.road_base.specs.declared.ids.Key.TheVariants.{Way as WayKey}
-use Rattle.road_base.specs.declared.event.Event.{Event}
 use Rattle.road_base.specs.Objects.{Objects}
 use Rattle.road_model.specs.declared.blocks.Block.{Block}
 use Rattle.road_model.specs.Rules.{Rules}
-use Rattle.road_model.specs.Orders.{way_cmp}
+use Rattle.road_model.specs.Orders.{Lists, rises, way_cmp}
 use Rattle.road_model.specs.Blocks.{IsRoadBlock}
-use Rattle.road_model.specs.Format.{IsBlockForm}
+use Rattle.graph_file.specs.declared.writer.GraphWriter.{GraphWriter}
+use Rattle.graph_file.specs.Writing.{HasWritten}
 
--- each block is that of its way, and each of these entries that is a way with pieces has its block
-pub record AreBlocksOf (M : Objects) (P : Rules) (entries : List Event) (blocks : FinMap way_cmp Block) : Type 0 where
-  pub own : (w : WayId) (b : Block) → get blocks w ≡ Some b → (b.way ≡ w) × IsRoadBlock M P b × IsBlockForm b
-  pub all : (e : Event) → Contains entries e → (b : Block) → e.key ≡ WayKey b.way → IsRoadBlock M P b → get blocks b.way ≡ Some b
+-- the block of one of the ways, which has pieces
+pub record IsBlockAmong (M : Objects) (P : Rules) (ways : List WayId) (block : Block) : Type 0 where
+  pub among : Contains ways block.way
+  pub road : IsRoadBlock M P block
+
+-- the blocks of those of the ways that have pieces are written
+pub record HasBlocksOf (M : Objects) (P : Rules) (ways : List WayId) (writer : GraphWriter) : Type 0 where
+  pub blocks : List Block
+  pub listed : Lists (λ b. b.way) way_cmp (IsBlockAmong M P ways) blocks
+  pub written : HasWritten P.number blocks writer
+
+-- the ways ascend, and each way with pieces is among them
+pub record AreRoadWays (M : Objects) (P : Rules) (ways : List WayId) : Type 0 where
+  pub ascending : IsTrue (rises way_cmp ways)
+  pub all : (block : Block) → IsRoadBlock M P block → Contains ways block.way

@@ -9,11 +9,11 @@ use Rattle.osmroad.specs.Limits.{PassesLimit}
 use Rattle.osmroad.specs.declared.input.InputError.{InputError}
 use Rattle.osmroad.specs.declared.input.InputError.TheVariants.{Failed, TooLong, Refused, NoMemory}
 
--- these bytes were read of those that were left, where they are told
+-- These bytes were read of those that were left, where they are told. A source that tells goes on telling.
 abbrev pub Took : List ℕ → Option (List ℕ) → Option (List ℕ) → Type 0
 Took read = Told (λ before now. before ≡ read ++ now)
 
--- nothing is left, where it is told
+-- nothing is left, where it is told (`Took` says that it is told still)
 abbrev pub Ended : Option (List ℕ) → Type 0
 Ended None = Unit {0}
 Ended (Some left) = left ≡ []
@@ -26,12 +26,13 @@ pub record ReadWhole (mode : Mode) (events : List Event) (before now : Option (L
   pub within : PassesLimit bytes → ⊥
   pub gives : ReadAll mode bytes events
 
--- Why an input isn't read: the source failed, and no limit is passed; a limit is passed; all was read, no limit is passed,
--- and this is the first fault; memory ended.
+-- Why an input isn't read: the source failed, and no limit is passed; a limit is passed; all was read, no limit is
+-- passed, and this is the first fault; memory ended.
 abbrev pub Cause : Mode → InputError → List ℕ → Option (List ℕ) → ℕ → ℕ → Type 0
 Cause mode Failed read now faults_before faults_now = Rose faults_before faults_now × (PassesLimit read → ⊥)
 Cause mode TooLong read now faults_before faults_now = PassesLimit read
-Cause mode (Refused fault) read now faults_before faults_now = Ended now × (PassesLimit read → ⊥) × (input_fault mode read ≡ Some (place_of fault))
+Cause mode (Refused fault) read now faults_before faults_now =
+    Ended now × (PassesLimit read → ⊥) × (input_fault mode read ≡ Some (place_of fault))
 Cause mode NoMemory read now faults_before faults_now = Unit {0}
 
 -- all was read, and this is its first fault; or memory ended
@@ -42,7 +43,8 @@ IsRefusal mode read (Refused fault) = input_fault mode read ≡ Some (place_of f
 IsRefusal mode read NoMemory = Unit {0}
 
 -- some bytes were read, and then the input wasn't read on for this cause
-pub record Stopped (mode : Mode) (error : InputError) (before now : Option (List ℕ)) (faults_before faults_now : ℕ) : Type 0 where
+pub record Stopped (mode : Mode) (error : InputError) (before now : Option (List ℕ))
+    (faults_before faults_now : ℕ) : Type 0 where
   pub read : List ℕ
   pub took : Took read before now
   pub cause : Cause mode error read now faults_before faults_now

@@ -1,7 +1,9 @@
 pub mod Compiled
+pub mod Highways
 pub mod Building
 pub mod Limits
 pub mod Texts
 pub mod Input
 pub mod Reading
+pub mod Status
 pub mod Run

@@ -3,7 +3,9 @@ use Rattle.std.specs.Prelude.{◌++◌, ℕ, List, [], ◌∷◌, codes}
 use Rattle.std.specs.Fmt.{decimal}
 use Rattle.opl_lexer.specs.Reading.{FaultAt}
 use Rattle.opl_lexer.specs.declared.fault.FaultKind.{FaultKind}
-use Rattle.opl_lexer.specs.declared.fault.FaultKind.TheVariants.{NotUtf8, UnknownLine, UnknownField, Repeated, BadNumber, BadEscape, BadTag, BadMember, BadRef, BadCoordinate, BadFlag, NoVersion, TooMany}
+use Rattle.opl_lexer.specs.declared.fault.FaultKind.TheVariants.{NotUtf8, UnknownLine, UnknownField, Repeated}
+use Rattle.opl_lexer.specs.declared.fault.FaultKind.TheVariants.{BadNumber, BadEscape, BadTag, BadMember, BadRef}
+use Rattle.opl_lexer.specs.declared.fault.FaultKind.TheVariants.{BadCoordinate, BadFlag, NoVersion, TooMany}
 
 abbrev pub kind_name : FaultKind → List ℕ
 kind_name NotUtf8 = codes "NotUtf8"
@@ -22,4 +24,6 @@ kind_name TooMany = codes "TooMany"
 
 -- `refused line L field F KIND`, with its newline
 abbrev pub refused_line : FaultAt → List ℕ
-refused_line fault = codes "refused line " ++ (decimal fault.line ++ (codes " field " ++ (decimal fault.field ++ (codes " " ++ (kind_name fault.kind ++ 10 ∷ [])))))
+refused_line fault = codes "refused line "
+    ++ (decimal fault.line ++ (codes " field "
+    ++ (decimal fault.field ++ (codes " " ++ (kind_name fault.kind ++ 10 ∷ [])))))

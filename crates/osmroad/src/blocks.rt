@@ -1,68 +1,57 @@
-//! The blocks of a world.
-ghost use Rattle.std.specs.Prelude.{◌≡◌, ◌++◌, ◌∷◌, [], List, IfOk, OnOk};
-ghost use Rattle.std.specs.List.{AllByRecursion};
-ghost use Rattle.std.specs.FinMap.{values};
-ghost use Rattle.road_base.specs.declared.event.Event.{Event};
-ghost use Rattle.road_model.specs.Orders.{Lists, way_cmp};
-ghost use Rattle.road_model.specs.Blocks.{IsRoadBlock};
-ghost use Rattle.road_model.specs.Format.{IsBlockForm};
+//! The bytes of a graph, from the blocks of its ways.
+ghost use Rattle.std.specs.Prelude.{◌≡◌, ◌+◌, ◌≤◌, ◌++◌, ◌∷◌, [], List, length, IfOk, OnOk, IsTrue};
+ghost use Rattle.road_base.specs.declared.ids.WayId.{WayId};
+ghost use Rattle.road_model.specs.Orders.{rises, way_cmp};
+ghost use Rattle.road_model.specs.Format.{IsGraph};
 ghost use Rattle.access_profile.specs.Motorcar.{motorcar_rules};
-ghost use Rattle.expanded_graph.specs.Turning.{IsCache};
-ghost use Rattle.osmroad.specs.Building.{AreBlocksOf};
+ghost use Rattle.osmroad.specs.Building.{AreRoadWays, HasBlocksOf};
 
 use access_profile::Motorcar;
 use back_references::Indexed;
-use expanded_graph::{Cache, build_block_with};
-use road_base::laws::key_order;
-use road_base::{Event, Key, NoMemory, Steps};
-use road_model::Blocks;
+use expanded_graph::GraphBuilder;
+use graph_file::GraphWriter;
+use road_base::{NoMemory, Steps, WayId};
+use road_model::Profile;
 use road_model::laws::{name_order, one_block};
 use std::alloc::Global;
 use std::sync::ledger::Ledger;
 
-/// The blocks of all ways with pieces. One block is built for each way; each way is cut into pieces once, and what leaves
-/// each node where pieces end is asked once.
-pub fn build_blocks<L: Ledger>(
+/// The graph's bytes: the block of each of the ways that has pieces is built, written and let go, one after another.
+pub fn write_blocks<L: Ledger>(
     alloc: Global,
-    world: &Indexed,
+    builder: &GraphBuilder<'_, Indexed, Motorcar>,
+    ways: &[WayId],
     steps: &mut Steps<L>,
-) -> Result<Blocks, NoMemory>
-    ensures listed { IfOk result (λ blocks. Lists (λ b. b.way) way_cmp (IsRoadBlock world.now motorcar_rules) (values blocks.map)) }
-    ensures forms { IfOk result (λ blocks. AllByRecursion IsBlockForm (values blocks.map)) }
+) -> Result<Vec<u8>, NoMemory>
+    requires { AreRoadWays builder.now.world motorcar_rules ways.now }
+    ensures graph { IfOk result (λ out. IsGraph builder.now.world motorcar_rules out.items) }
+    ensures built { steps.new ≤ steps.old + length ways.now }
 {
-    key_order();
-    let mut blocks = Blocks::new(alloc);
-    let mut cache = Cache::new(alloc);
-    for entry in world.objects().items() {
-        add_block(alloc, world, &mut cache, entry, &mut blocks, steps)?;
+    let mut writer = GraphWriter::new(alloc, Motorcar.number())?;
+    for way in ways {
+        write_block(builder, *way, &mut writer, steps)?;
     }
-    let _listed = blocks.items();
-    Ok(blocks)
+    Ok(writer.finish())
 }
 
-/// Adds the block of the entry, if it is a way with pieces, and keeps what is learnt of ways and nodes.
-fn add_block<L: Ledger>(
-    alloc: Global,
-    world: &Indexed,
-    cache: &mut Cache,
-    entry: &Event,
-    blocks: &mut Blocks,
+/// Builds the block of the way, and writes it behind those of the ways below it, if it has pieces.
+fn write_block<L: Ledger>(
+    builder: &GraphBuilder<'_, Indexed, Motorcar>,
+    way: WayId,
+    writer: &mut GraphWriter,
     steps: &mut Steps<L>,
 ) -> Result<(), NoMemory>
-    requires { IsCache world.now motorcar_rules cache.old }
-    ensures cache { IsCache world.now motorcar_rules cache.new }
-    ensures added { OnOk result ((entries : List Event)
-        → AreBlocksOf world.now motorcar_rules entries blocks.old.map
-        → AreBlocksOf world.now motorcar_rules (entries ++ entry.now ∷ []) blocks.new.map) }
+    ensures written { OnOk result ((ways : List WayId)
+        → IsTrue (rises way_cmp (ways ++ way ∷ []))
+        → HasBlocksOf builder.now.world motorcar_rules ways writer.old
+        → HasBlocksOf builder.now.world motorcar_rules (ways ++ way ∷ []) writer.new) }
+    ensures built { steps.new ≡ steps.old + 1 }
 {
-    let Key::Way(way) = entry.key else {
-        return Ok(());
-    };
     one_block(&Motorcar);
     name_order();
-    let block = build_block_with(alloc, world, &Motorcar, cache, way, steps)?;
+    let block = builder.block(way, steps)?;
     if block.pieces.items().is_empty() {
         return Ok(());
     }
-    blocks.insert(block)
+    writer.put(&block)
 }

@@ -1,29 +1,42 @@
 //! From events to the bytes of their graph.
-ghost use Rattle.std.specs.Prelude.{◌≡◌, IfOk};
+ghost use Rattle.std.specs.Prelude.{◌≡◌, ◌+◌, ◌≤◌, length, IfOk};
+ghost use Rattle.std.specs.FinMap.{empty};
+ghost use Rattle.road_base.specs.Objects.{Objects};
+ghost use Rattle.road_base.specs.Applying.{IsApplied};
+ghost use Rattle.osmroad.specs.Highways.{highways};
 ghost use Rattle.osmroad.specs.Compiled.{IsGraphOf};
 
-use crate::blocks::build_blocks;
+use crate::blocks::write_blocks;
+use crate::highways::highways;
 use access_profile::Motorcar;
 use back_references::Indexed;
-use graph_file::write;
+use expanded_graph::GraphBuilder;
+use road_base::laws::one_map;
 use road_base::{Event, NoMemory, Steps};
-use road_model::Profile;
 use road_model::laws::walk_law;
 use std::alloc::Global;
+use std::mem::forget;
 use std::sync::ledger::Ledger;
 
-/// The bytes of the graph of what the events leave, of each object the first one of the greatest version.
+/// The bytes of the graph of what the events leave, of each object the first one of the greatest version. What the
+/// graph was made from is not given back to the allocator, since the process ends soon.
 pub fn graph_of<L: Ledger>(
     alloc: Global,
     events: Vec<Event>,
     steps: &mut Steps<L>,
 ) -> Result<Vec<u8>, NoMemory>
-    ensures { IfOk result (λ out. IsGraphOf events.items out.items) }
+    ensures graph { IfOk result (λ out. IsGraphOf events.items out.items) }
+    ensures built { (objects : Objects)
+        → IsApplied empty events.items objects
+        → steps.new ≤ steps.old + length (highways objects) }
 {
     walk_law(&Motorcar);
+    one_map();
     let world = Indexed::of(alloc, events)?;
-    let blocks = build_blocks(alloc, &world, steps)?;
-    let mut graph = Vec::new(alloc);
-    write(Motorcar.number(), &blocks, &mut graph)?;
+    let ways = highways(alloc, &world)?;
+    let builder = GraphBuilder::of_all(alloc, &world, Motorcar, ways.as_slice())?;
+    let graph = write_blocks(alloc, &builder, ways.as_slice(), steps)?;
+    forget(builder);
+    forget(world);
     Ok(graph)
 }

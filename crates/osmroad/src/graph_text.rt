@@ -1,5 +1,5 @@
-//! A graph file as text, read by the written format alone. A line for each context: its pieces, each as `WAY.INDEX` with its
-//! direction, and behind `>` its arcs, each with how many pieces its target has where that is more than one.
+//! A graph file as text, read by the written format alone. A line for each context: its pieces, each as `WAY.INDEX`
+//! with its direction, and behind `>` its arcs, each with how many pieces its target has where that is more than one.
 use std::alloc::Global;
 use std::test::Fail;
 

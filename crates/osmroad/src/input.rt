@@ -1,5 +1,6 @@
 //! The events of an input.
-ghost use Rattle.std.specs.Prelude.{◌≡◌, ◌≤◌, ℕ, List, length, take, [], ◌++◌, ◌+◌, ◌^◌, IfOk, IfErr, OnOk};
+ghost use Rattle.std.specs.Prelude.{◌≡◌, ◌≤◌, ◌<◌, ℕ, List, length, take, [], ◌++◌, ◌+◌, ◌^◌};
+ghost use Rattle.std.specs.Prelude.{Err, IfOk, IfErr, OnOk};
 ghost use Rattle.opl_lexer.specs.declared.mode.Mode.{Mode as ReadMode};
 ghost use Rattle.opl_lexer.specs.Reading.{ReadAll};
 ghost use Rattle.opl_objects.specs.Feeding.{counted};
@@ -59,9 +60,11 @@ impl Input {
     /// Takes the next part. It is refused where a limit is passed, or where memory ends.
     fn take(&mut self, part: &[u8]) -> Result<(), InputError>
         requires { length part.now ≤ 2 ^ 24 }
-        ensures ok { OnOk result ((mode : ReadMode) (read : List ℕ) → Holds mode read self.old → Holds mode (read ++ part.now) self.new) }
+        ensures ok { OnOk result ((mode : ReadMode) (read : List ℕ) → Holds mode read self.old
+            → Holds mode (read ++ part.now) self.new) }
         ensures total { OnOk result (self.new.measure.total ≡ self.old.measure.total + length part.now) }
-        ensures err { IfErr result (λ e. (mode : ReadMode) (read : List ℕ) → Holds mode read self.old → Stops e (read ++ part.now)) }
+        ensures err { IfErr result (λ e. (mode : ReadMode) (read : List ℕ) → Holds mode read self.old
+            → Stops e (read ++ part.now)) }
     {
         let Some(measure) = self.measure.with(part) else {
             return Err(InputError::TooLong);
@@ -75,8 +78,10 @@ impl Input {
 
     /// The events of all that was read, or its first fault.
     fn finish(self) -> Result<Vec<Event>, InputError>
-        ensures ok { IfOk result (λ events. (mode : ReadMode) (read : List ℕ) → Holds mode read self → ReadAll mode read events.items) }
-        ensures err { IfErr result (λ e. (mode : ReadMode) (read : List ℕ) → Holds mode read self → IsRefusal mode read e) }
+        ensures ok { IfOk result (λ events. (mode : ReadMode) (read : List ℕ) → Holds mode read self
+            → ReadAll mode read events.items) }
+        ensures err { IfErr result (λ e. (mode : ReadMode) (read : List ℕ) → Holds mode read self
+            → IsRefusal mode read e) }
     {
         match self.reader.finish() {
             Ok(events) => Ok(events),
@@ -86,14 +91,18 @@ impl Input {
     }
 }
 
-/// The events of the input on the source, which is read to its end, or until it passes a limit.
+/// The events of the input on the source, which is read to its end, or until a read fails or it passes a limit. A read
+/// that failed is not tried again.
 pub fn read_events<S: Source>(
     alloc: Global,
     mode: Mode,
     source: &mut S,
 ) -> Result<Vec<Event>, InputError>
-    ensures ok { IfOk result (λ events. ReadWhole mode events.items (S.bytes_left source.old) (S.bytes_left source.new)) }
-    ensures err { IfErr result (λ e. Stopped mode e (S.bytes_left source.old) (S.bytes_left source.new) (S.faults source.old) (S.faults source.new)) }
+    ensures ok { IfOk result (λ events. ReadWhole mode events.items
+        (S.bytes_left source.old) (S.bytes_left source.new)) }
+    ensures err { IfErr result (λ e. Stopped mode e (S.bytes_left source.old) (S.bytes_left source.new)
+        (S.faults source.old) (S.faults source.new)) }
+    ensures each_fault { S.faults source.old < S.faults source.new → result ≡ Err InputError.Failed }
 {
     let Ok(mut piece) = vec![in alloc; 0u8; PIECE] else {
         return Err(InputError::NoMemory);

@@ -1,5 +1,6 @@
 //! The limits of an input.
-ghost use Rattle.std.specs.Prelude.{◌≡◌, ◌≢◌, ◌≤◌, ◌<◌, ◌+◌, ◌-◌, ◌^◌, ◌++◌, ◌⊎◌, [], ℕ, List, length, slice_index, IfSome, IfNone};
+ghost use Rattle.std.specs.Prelude.{◌≡◌, ◌≢◌, ◌≤◌, ◌<◌, ◌+◌, ◌-◌, ◌^◌, ◌++◌, ◌⊎◌, [], ℕ, List, length, slice_index};
+ghost use Rattle.std.specs.Prelude.{IfSome, IfNone};
 
 use memchr::{memchr, memrchr};
 
@@ -22,7 +23,8 @@ pub struct Measure {
 fn last_line(bytes: &[u8]) -> usize
     ensures bound { result ≤ length bytes.now }
     ensures open_line { (j : ℕ) → length bytes.now - result ≤ j → j < length bytes.now → slice_index bytes.now j ≢ 10 }
-    ensures start { (result ≡ length bytes.now) ⊎ ((result < length bytes.now) × (slice_index bytes.now (length bytes.now - result - 1) ≡ 10)) }
+    ensures start { (result ≡ length bytes.now)
+        ⊎ ((result < length bytes.now) × (slice_index bytes.now (length bytes.now - result - 1) ≡ 10)) }
 {
     match memrchr(b'\n', bytes) {
         Some(at) => bytes.len() - at - 1,
@@ -44,7 +46,8 @@ impl Measure {
     /// With one more piece, or None exactly where a limit is passed.
     pub fn with(self, piece: &[u8]) -> Option<Measure>
         requires { length piece.now ≤ 2 ^ 24 }
-        ensures some { IfSome result (λ after. (bytes : List ℕ) → Measures bytes self → Measures (bytes ++ piece.now) after) }
+        ensures some { IfSome result (λ after. (bytes : List ℕ) → Measures bytes self
+            → Measures (bytes ++ piece.now) after) }
         ensures total { IfSome result (λ after. after.total ≡ self.total + length piece.now) }
         ensures none { IfNone result ((bytes : List ℕ) → Measures bytes self → PassesLimit (bytes ++ piece.now)) }
     {

@@ -2,17 +2,18 @@
 //!
 //! `run` is the one call that does all that the program does, over any source and site; `main` hands it standard input
 //! and standard output. The words `- compile` build the graph of an extract: the input is read part by part into
-//! events (`input`), of each object the first event of the greatest version stands (`graph`), each way with pieces becomes
-//! its block (`blocks`), and the blocks become the graph's bytes. Time grows as n log n with the input, the graph, and the
-//! words that are looked at for each way (`expanded_graph`); memory stays a small multiple of the input, the graph and the
-//! words. The graph of a town is about as large as its extract; that of a node with very many ways grows with the square of
-//! their number.
+//! events (`input`), of each object the first event of the greatest version stands (`graph`), and for each visible way
+//! with the key `highway` (`highways`) its block is built, written if it has pieces, and let go (`blocks`). Time grows
+//! as n log n with the input, the graph, and the words that are looked at for each way (`expanded_graph`); memory stays
+//! a small multiple of the input and the words, and holds the graph's bytes once. The graph of a town is about as large
+//! as its extract; that of a node with very many ways grows with the square of their number.
 #![tactic(auto)]
 
 ghost use Rattle.std.specs.Prelude.{◌≡◌, ◌<◌};
 
 mod blocks;
 mod graph;
+mod highways;
 mod input;
 mod laws;
 mod limits;

@@ -87,23 +87,23 @@ fn block_counts<L: Ledger>(
 /// Way 1 from node 1 to 2, way 2 from 2 to 3, and so on, with ways 4 and 5 both from node 4:
 ///
 /// ```text
-///                       5
-///                      /
-/// 1 --- 2 --- 3 --- 4
-///                      \
-///                       6
+///                                        5
+///                                        |
+///                                       w4
+///                                        |
+/// 1 --- w1 --- 2 --- w2 --- 3 --- w3 --- 4 --- w5 --- 6
 /// ```
 const CHAIN: &[u8] = b"w1 Thighway=road Nn1,n2\nw2 Thighway=road Nn2,n3\nw3 Thighway=road Nn3,n4\n\
     w4 Thighway=road Nn4,n5\nw5 Thighway=road Nn4,n6\n";
 
-/// Ways 10 to 12 (and 13) that meet at node 2:
+/// Ways 10 to 12, which meet at node 2:
 ///
 /// ```text
-/// 1 --10-- 2 --11-- 3
-///         / \
-///       12   13
-///       /     \
-///      4       5
+/// 1 --- w10 --- 2 --- w11 --- 3
+///               |
+///              w12
+///               |
+///               4
 /// ```
 const FORK: &[u8] =
     b"w10 Thighway=road Nn1,n2\nw11 Thighway=road Nn2,n3\nw12 Thighway=road Nn2,n4\n";
@@ -112,7 +112,7 @@ const FORK: &[u8] =
 #[test]
 fn pieces_follow_where_one_may_pass(rt: HostRuntime) -> Result<(), Fail> {
     let cases: [(&[u8], &str); 10] = [
-        // 1 --- 2 --- 3: node 2 is plain, and one turns round at both ends.
+        // 1 --- w10 --- 2 --- w10 --- 3: node 2 is plain, and one turns round at both ends.
         (
             b"w10 Thighway=residential Nn1,n2,n3",
             "10.0+ > 10.0-\n10.0- > 10.0+\n",
@@ -144,7 +144,7 @@ fn pieces_follow_where_one_may_pass(rt: HostRuntime) -> Result<(), Fail> {
             b"n2 v1 x y0\nw10 Thighway=residential Nn1,n2,n3,n4",
             "10.2+ > 10.2-\n10.2- > 10.2+\n",
         ),
-        // A spike, 1 --- 2 and back: at each node two steps leave, and each is a way back.
+        // A spike, 1 --- w10 --- 2 and back: at each node two steps leave, and each is a way back.
         (
             b"w10 Thighway=residential Nn1,n1,n2,n1",
             "10.0+ >\n10.0- >\n10.1+ >\n10.1- >\n",
@@ -272,9 +272,11 @@ fn contexts_remember_where_one_came_from(rt: HostRuntime) -> Result<(), Fail> {
         ),
         // An Only rule over a via way binds once that way was entered, and not before:
         //
-        // 1 -1- 2 -2- 3 -3- 4
-        //       |4    |5
-        //       5     6
+        // 1 --- w1 --- 2 --- w2 --- 3 --- w3 --- 4
+        //              |            |
+        //             w4           w5
+        //              |            |
+        //              5            6
         (
             b"w1 Thighway=road Nn1,n2\nw2 Thighway=road Nn2,n3\nw3 Thighway=road Nn3,n4\nw4 Thighway=road Nn2,n5\nw5 Thighway=road Nn3,n6\n",
             b"r1 Ttype=restriction,restriction=only_straight_on Mw1@from,w2@via,w3@to",
@@ -283,9 +285,11 @@ fn contexts_remember_where_one_came_from(rt: HostRuntime) -> Result<(), Fail> {
         ),
         // A via way that is a dead end: who came by way 1 may not turn round at its end.
         //
-        // 1 -1- 2 -2- 3
-        //       |3
-        //       4
+        // 1 --- w1 --- 2 --- w2 --- 3
+        //              |
+        //             w3
+        //              |
+        //              4
         (
             b"w1 Thighway=road Nn1,n2\nw2 Thighway=road Nn2,n3\nw3 Thighway=road Nn2,n4\n",
             b"r1 Ttype=restriction,restriction=no_u_turn Mw1@from,w2@via,w2@to",

@@ -1,5 +1,5 @@
-//! Maps with a way 10 over some of the nodes 1, 2 and 3: which of its positions are plain and which are junctions, the pieces that leave
-//! node 1, and all pieces, each with the steps that it is driven in.
+//! Maps with a way 10 over some of the nodes 1, 2 and 3: which of its positions are plain and which are junctions,
+//! the pieces that leave node 1, and all pieces, each with the steps that it is driven in.
 use crate::map_tests::world_of;
 use access_profile::Motorcar;
 use back_references::Indexed;

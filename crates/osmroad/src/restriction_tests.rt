@@ -61,11 +61,12 @@ fn rules_text(alloc: Global, lines: &[u8], way: WayId) -> Result<String, Fail> {
 /// Ways 1 to 5 as in `map_tests`, and way 6 from node 3 to 2, which is driven in that direction alone.
 ///
 /// ```text
-///                            5
-///             2             /4
-/// 1 --1-- 2 ===== 3 --3-- 4
-///             6             \5
-///                            6
+///                                        5
+///                                        |
+///                                       w4
+///               .-- w2 ---.              |
+/// 1 --- w1 --- 2           3 --- w3 --- 4 --- w5 --- 6
+///               '<- w6 ---'
 /// ```
 const MAP: &[u8] = b"\
     w1 Thighway=road Nn1,n2\nw2 Thighway=road Nn2,n3\nw3 Thighway=road Nn3,n4\nw4 Thighway=road Nn4,n5\nw5 Thighway=road Nn4,n6\n\

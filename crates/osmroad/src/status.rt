@@ -1,6 +1,8 @@
 //! How a run ends.
+ghost use Rattle.std.specs.Prelude.{◌≡◌};
+ghost use Rattle.osmroad.specs.Status.{status_code};
 
-/// The status of a run. The process ends with its number, from 0 on in this order.
+/// The status of a run. The process ends with its number.
 #[derive(Clone, Copy, PartialEq, Eq, Debug)]
 pub enum Status {
     Done,
@@ -18,7 +20,9 @@ pub enum Status {
 
 impl Status {
     /// The number of the status.
-    pub fn code(self) -> u8 {
+    pub fn code(self) -> u8
+        ensures { result ≡ status_code self }
+    {
         self as u8
     }
 }

@@ -1,28 +1,46 @@
-use Rattle.std.proofs.Common.{◌++◌, List, ℕ, ap, ◌∙◌}
-use Rattle.std.specs.FinMap.{values}
-use Rattle.road_model.specs.Format.{graph_bytes}
+use Rattle.std.proofs.Common.{◌≡◌, ◌+◌, ◌≤◌, ℕ, List, length, ap, subst, ◌∙◌}
+use Rattle.std.specs.FinMap.{empty}
+use Rattle.road_base.specs.declared.ids.WayId.{WayId}
+use Rattle.road_base.specs.declared.event.Event.{Event}
+use Rattle.road_base.specs.Objects.{Objects}
+use Rattle.road_base.specs.Applying.{IsApplied}
+use Rattle.road_model.specs.Format.{IsGraph}
+use Rattle.access_profile.specs.Motorcar.{motorcar_rules}
+use Rattle.access_profile.specs.declared.motorcar.Motorcar.{Motorcar}
+use Rattle.expanded_graph.specs.Pair.{Pair}
+use Rattle.osmroad.specs.Highways.{highways}
+use Rattle.osmroad.proofs.RunEnds.{OneMap}
 use Rattle.osmroad.proofs.graph.graph_of.Goals as goal
 
-pub returns : goal.returns
-returns g c =
+-- no more blocks were built than there are such ways among any objects that the events leave
+few_built : OneMap → (events : List Event) (M N : Objects) (ways : List WayId) (before now : ℕ)
+    → IsApplied empty events M → IsApplied empty events N → ways ≡ highways M
+    → now ≤ before + length ways → now ≤ before + length (highways N)
+few_built one events M N ways before now applied other are few =
+    subst (λ (l : List WayId). now ≤ before + length l) (are ∙ ap highways (one empty M N events applied other)) few
+
+pub returns-in_err-graph-clause-built : goal.returns-in_err-graph-clause-built
+returns-in_err-graph-clause-built g c = λ objects applied.
+    few_built c.one_map.ensures c.args.events.items c.in_ok-world.world objects c.in_ok-ways.ways.items c.args.steps.now
+    c.write_blocks.new.steps c.in_ok-world.ensures applied c.in_ok-ways.ensures.exactly
+    (subst (λ (l : List WayId). c.write_blocks.new.steps ≤ c.args.steps.now + length l)
+    c.as_slice-2.ensures.value c.write_blocks.ensures.built)
+
+pub returns-clause-graph : goal.returns-clause-graph
+returns-clause-graph g c =
     let M = c.in_ok-world.world in
-    let blocks = values c.in_ok-blocks.blocks.map in
+    let world = ap (λ (b : Pair Objects Motorcar). b.world) c.in_ok-builder.ensures in
     record {
       objects = M;
       applied = c.in_ok-world.ensures;
-      graph = record {
-        blocks = blocks;
-        listed = c.in_ok-blocks.ensures.listed;
-        spelled =
-            c.in_ok-write.ensures.bytes
-            ∙ ap (λ (l : List ℕ). l ++ graph_bytes c.number.result blocks) c.new-graph.ensures.items
-            ∙ ap (λ (n : ℕ). graph_bytes n blocks) c.number.ensures;
-      };
-      walks = record {
-        legal = c.walk_law.ensures.legal M;
-        once = c.walk_law.ensures.one_to_one M;
-        contexts = c.walk_law.ensures.contexts M;
-        all = c.walk_law.ensures.onto M;
-        shortest = c.walk_law.ensures.shortest M;
-      };
+      graph =
+          subst (λ (N : Objects). IsGraph N motorcar_rules c.in_ok-graph.graph.items) world c.in_ok-graph.ensures.graph;
+      walks = c.walk_law.ensures M;
     }
+
+pub returns-clause-built : goal.returns-clause-built
+returns-clause-built g c = λ objects applied.
+    few_built c.one_map.ensures c.args.events.items c.in_ok-world.world objects c.in_ok-ways.ways.items c.args.steps.now
+    c.write_blocks.new.steps c.in_ok-world.ensures applied c.in_ok-ways.ensures.exactly
+    (subst (λ (l : List WayId). c.write_blocks.new.steps ≤ c.args.steps.now + length l)
+    c.as_slice-2.ensures.value c.write_blocks.ensures.built)

@@ -9,5 +9,6 @@ add_rule-requires c =
     let items = c.rules_of_way-rule-items.result.now in
     let i = c.loop-rule.rule-index in
     let d : RelationId = record { 0 = pos 0 } in
-    let link = c.rules_of_way-rule-items.ensures.sound (slice_index_or items i d) (contains_index items i d c.loop-rule-test.true) in
+    let link = c.rules_of_way-rule-items.ensures.sound (slice_index_or items i d)
+    (contains_index items i d c.loop-rule-test.true) in
     record { body = link.body; visible = link.is; restriction = link.restriction }

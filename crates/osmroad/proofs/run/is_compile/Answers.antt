@@ -10,6 +10,10 @@ was false r e f = cc
 pub returns : goal.returns
 returns c =
     let ws = c.args.words.now in
-    let two = two_words ws (45 ∷ []) (99 ∷ 111 ∷ 109 ∷ 112 ∷ 105 ∷ 108 ∷ 101 ∷ []) (record { ref_ptr = (0, 0); now = [] }) c.if-words-ne2.false in
-    let first = (bytes_decides _ _).0 (was _ _ c.ne.ensures c.if-ne.false) in
-    (λ t. two.1 (first, (bytes_decides _ _).0 (sym c.eq.ensures ∙ t)), λ e. c.eq.ensures ∙ (bytes_decides _ _).1 (two.0 e).1)
+    let two = two_words ws (45 ∷ []) (99 ∷ 111 ∷ 109 ∷ 112 ∷ 105 ∷ 108 ∷ 101 ∷ [])
+    (record { ref_ptr = (0, 0); now = [] }) c.if-words-ne2.false in
+    let first = (bytes_decides _ _).0 (was _ _ c.ne.ensures c.if-ne.false) in (
+      λ t. two.1 (first, (bytes_decides _ _).0 (sym c.eq.ensures ∙ t)),
+      λ e. c.eq.ensures
+          ∙ (bytes_decides _ _).1 (two.0 e).1,
+    )

@@ -2,7 +2,7 @@ use Rattle.std.proofs.Common.{arith, ◌≡◌, ℕ, List, inr, length, length-a
 use Rattle.std.proofs.lemmas.Bool.Decides.{Decides-eqb}
 use Rattle.memchr.specs.Find.{Nowhere, Passes, is_byte}
 use Rattle.osmroad.specs.Limits.{EndsLine}
-use Rattle.osmroad.proofs.Measuring.{IsPlainTo, long, grown, grown_short, begun, begun_short}
+use Rattle.osmroad.proofs.LineLengths.{IsPlainTo, long, grown, grown_short, begun, begun_short}
 use Rattle.osmroad.proofs.limits.Measure.with.Goals as goal
 
 plain_to : (ps : List ℕ) (n : ℕ) → Nowhere (Passes (is_byte 10) ps) 0 n → IsPlainTo ps n
@@ -11,7 +11,8 @@ plain_to ps n none j h = λ e. none j (omega arith) h ((Decides-eqb (slice_index
 pub returns-then-line-gt-MOST_LINE-clause-none : goal.returns-then-line-gt-MOST_LINE-clause-none
 returns-then-line-gt-MOST_LINE-clause-none c = λ bytes m.
     let none = rw c.in_default.is at c.memchr.ensures in
-    inr (long bytes c.args.piece.now c.args.self.line (length c.args.piece.now) m.line (omega arith) (plain_to c.args.piece.now (length c.args.piece.now) none) (omega arith))
+    inr (long bytes c.args.piece.now c.args.self.line (length c.args.piece.now) m.line (omega arith)
+    (plain_to c.args.piece.now (length c.args.piece.now) none) (omega arith))
 
 pub returns-in_default-clause-some : goal.returns-in_default-clause-some
 returns-in_default-clause-some c = λ bytes m.
@@ -28,17 +29,25 @@ pub returns-then-self-first-gt-MOST_LINE-clause-none : goal.returns-then-self-fi
 returns-then-self-first-gt-MOST_LINE-clause-none c = λ bytes m.
     let found = rw c.in-Some.is at c.memchr.ensures in
     let inside = found.0.high in
-    inr (long bytes c.args.piece.now c.args.self.line c.in-Some.first m.line (omega arith) (plain_to c.args.piece.now c.in-Some.first found.0.before) (omega arith))
+    inr (long bytes c.args.piece.now c.args.self.line c.in-Some.first m.line (omega arith)
+    (plain_to c.args.piece.now c.in-Some.first found.0.before) (omega arith))
 
 pub returns-clause-some : goal.returns-clause-some
 returns-clause-some c = λ bytes m.
     let found = rw c.in-Some.is at c.memchr.ensures in
     let inside = found.0.high in
-    let newline : slice_index c.args.piece.now c.in-Some.first ≡ 10 = (Decides-eqb (slice_index c.args.piece.now c.in-Some.first) 10).0 found.1 in
+    let newline : slice_index c.args.piece.now c.in-Some.first
+    ≡ 10 = (Decides-eqb (slice_index c.args.piece.now c.in-Some.first) 10).0 found.1 in
     let total = m.total in
-    let last : EndsLine c.args.piece.now c.last_line-line.result = record { bound = c.last_line-line.ensures.bound; open_line = c.last_line-line.ensures.open_line; start = c.last_line-line.ensures.start } in
+    let last : EndsLine c.args.piece.now c.last_line-line.result = record {
+      bound = c.last_line-line.ensures.bound;
+      open_line = c.last_line-line.ensures.open_line;
+      start
+          = c.last_line-line.ensures.start;
+    } in
     record {
       total = omega (arith, length-append bytes c.args.piece.now);
       line = begun bytes c.args.piece.now c.last_line-line.result c.in-Some.first last inside newline;
-      short = begun_short bytes c.args.piece.now c.args.self.line c.in-Some.first m.line m.short (omega arith) inside newline c.requires;
+      short = begun_short bytes c.args.piece.now c.args.self.line c.in-Some.first m.line m.short (omega arith) inside
+          newline c.requires;
     }

@@ -1,5 +1,6 @@
 -- Reading a source piece by piece.
-use Rattle.std.proofs.Common.{◌≡◌, ℕ, zero, suc, ◌≤◌, ◌<◌, List, [], ◌∷◌, ◌++◌, length, take, drop, Option, None, Some, Ok, Err, refl, sym, ap, ◌∙◌, append_assoc, arith, inl, inr}
+use Rattle.std.proofs.Common.{◌≡◌, ℕ, zero, suc, ◌≤◌, ◌<◌, List, [], ◌∷◌, ◌++◌, length, take, drop, Option, None, Some}
+use Rattle.std.proofs.Common.{Ok, Err, refl, sym, ap, ◌∙◌, append_assoc, arith, inl, inr}
 use Rattle.std.proofs.lemmas.List.{take-append-le, take-append-drop, length-take-le, take-take, append-nil}
 use Rattle.road_io.specs.Told.{Told, Rose}
 use Rattle.road_io.specs.Calls.{Takes, Gives}
@@ -21,19 +22,23 @@ given n left old new g =
 
 more : (read left old new : List ℕ) (n : ℕ) → Gives n left old new → read ++ left ≡ (read ++ take n new) ++ drop n left
 more read left old new n g =
-    rw (given n left old new g) (ap (λ (l : List ℕ). read ++ l) (sym (take-append-drop n left)) ∙ sym (append_assoc read (take n left) (drop n left)))
+    rw (given n left old new g) (ap (λ (l : List ℕ). read ++ l) (sym (take-append-drop n left))
+    ∙ sym (append_assoc read (take n left) (drop n left)))
 
 -- a read that gave n bytes
-pub took_more : (read old new : List ℕ) (n : ℕ) (x y z : Option (List ℕ)) → Took read x y → Told (Takes old new (Ok n)) y z → Took (read ++ take n new) x z
+pub took_more : (read old new : List ℕ) (n : ℕ) (x y z : Option (List ℕ)) → Took read x y
+    → Told (Takes old new (Ok n)) y z → Took (read ++ take n new) x z
 took_more read old new n None None None t g = tt
 took_more read old new n None None (Some z) t g = g
 took_more read old new n None (Some y) z t g = absurd t
 took_more read old new n (Some x) None z t g = absurd t
 took_more read old new n (Some x) (Some y) None t g = g
-took_more read old new n (Some x) (Some y) (Some z) t g = t ∙ more read y old new n g.0 ∙ ap (λ (l : List ℕ). (read ++ take n new) ++ l) (sym g.1)
+took_more read old new n (Some x) (Some y) (Some z) t g = t ∙ more read y old new n g.0
+    ∙ ap (λ (l : List ℕ). (read ++ take n new) ++ l) (sym g.1)
 
 -- a read that failed
-pub took_still : (read old new : List ℕ) (e : Failed) (x y z : Option (List ℕ)) → Took read x y → Told (Takes old new (Err e)) y z → Took read x z
+pub took_still : (read old new : List ℕ) (e : Failed) (x y z : Option (List ℕ)) → Took read x y
+    → Told (Takes old new (Err e)) y z → Took read x z
 took_still read old new e None None None t g = tt
 took_still read old new e None None (Some z) t g = g
 took_still read old new e None (Some y) z t g = absurd t
@@ -53,15 +58,19 @@ drop_nothing zero = refl
 drop_nothing (suc n) = refl
 
 -- a read that gave nothing, with room for something
-pub took_all : (read old new : List ℕ) (n : ℕ) (x y z : Option (List ℕ)) → 0 < length old → n ≡ 0 → Took read x y → Told (Takes old new (Ok n)) y z → Told (λ was left. (was ≡ read) × (left ≡ [])) x z
+pub took_all : (read old new : List ℕ) (n : ℕ) (x y z : Option (List ℕ)) → 0 < length old → n ≡ 0 → Took read x y
+    → Told (Takes old new (Ok n)) y z → Told (λ was left. (was ≡ read) × (left ≡ [])) x z
 took_all read old new n None None None room e t g = tt
 took_all read old new n None None (Some z) room e t g = g
 took_all read old new n None (Some y) z room e t g = absurd t
 took_all read old new n (Some x) None z room e t g = absurd t
 took_all read old new n (Some x) (Some y) None room e t g = g
 took_all read old new n (Some x) (Some y) (Some z) room e t g =
-    let none = ended n y old new room e g.0 in
-    (t ∙ ap (λ (l : List ℕ). read ++ l) none ∙ append-nil read, g.1 ∙ ap (λ (l : List ℕ). drop n l) none ∙ drop_nothing n)
+    let none = ended n y old new room e g.0 in (
+      t ∙ ap (λ (l : List ℕ). read ++ l) none ∙ append-nil read,
+      g.1 ∙ ap (λ (l : List ℕ). drop n l) none
+          ∙ drop_nothing n,
+    )
 
 -- a count that rose later has risen
 pub rose_since : (a b c : ℕ) → a ≤ b → Rose b c → Rose a c

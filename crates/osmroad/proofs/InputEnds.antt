@@ -20,13 +20,15 @@ pub within : (bytes : List ℕ) (measure : Measure) → Measures bytes measure �
 within bytes measure m (inl more) = let few = measure.few in let total = m.total in omega arith
 within bytes measure m (inr long) = m.short long
 
-pub took_whole : (bytes : List ℕ) (x z : Option (List ℕ)) → Told (λ was left. (was ≡ bytes) × (left ≡ [])) x z → Took bytes x z
+pub took_whole : (bytes : List ℕ) (x z : Option (List ℕ)) → Told (λ was left. (was ≡ bytes) × (left ≡ [])) x z
+    → Took bytes x z
 took_whole bytes None None t = tt
 took_whole bytes None (Some z) t = t
 took_whole bytes (Some x) None t = t
 took_whole bytes (Some x) (Some z) t = t.0 ∙ (sym (append-nil bytes) ∙ ap (λ (l : List ℕ). bytes ++ l) (sym t.1))
 
-pub ended_whole : (bytes : List ℕ) (x z : Option (List ℕ)) → Told (λ was left. (was ≡ bytes) × (left ≡ [])) x z → Ended z
+pub ended_whole : (bytes : List ℕ) (x z : Option (List ℕ)) → Told (λ was left. (was ≡ bytes) × (left ≡ [])) x z
+    → Ended z
 ended_whole bytes None None t = tt
 ended_whole bytes None (Some z) t = absurd t
 ended_whole bytes (Some x) None t = tt
@@ -48,11 +50,17 @@ module _ (mode : Mode) (input : Input) (before now : Option (List ℕ)) (faults_
       → (e : InputError) → IsRefusal mode read e → Stopped mode e before now faults_before faults_now
   whole_refusal read holds t Failed r = absurd r
   whole_refusal read holds t TooLong r = absurd r
-  whole_refusal read holds t (Refused fault) r = record { read = read; took = took_whole read before now t; cause = (ended_whole read before now t, within read input.measure holds.measures, r) }
+  whole_refusal read holds t (Refused fault) r = record {
+    read = read;
+    took = took_whole read before now t;
+    cause
+        = (ended_whole read before now t, within read input.measure holds.measures, r);
+  }
   whole_refusal read holds t NoMemory r = record { read = read; took = took_whole read before now t; cause = tt }
 
 -- what stops an input before its end
-pub stopped : (mode : Mode) (read : List ℕ) (before now : Option (List ℕ)) (faults_before faults_now : ℕ) → Took read before now
+pub stopped : (mode : Mode) (read : List ℕ) (before now : Option (List ℕ)) (faults_before faults_now : ℕ)
+    → Took read before now
     → (e : InputError) → Stops e read → Stopped mode e before now faults_before faults_now
 stopped mode read before now fb fn took Failed s = absurd s
 stopped mode read before now fb fn took TooLong s = record { read = read; took = took; cause = s }

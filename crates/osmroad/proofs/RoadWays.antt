@@ -1,0 +1,213 @@
+-- The visible ways with the key `highway` among the entries of a map, and the roads among them.
+use Rattle.std.proofs.Common.{◌≡◌, ◌≤◌, ℕ, Bool, true, false, cond, ◌||◌, IsTrue, List, [], ◌∷◌, map, filter}
+use Rattle.std.proofs.Common.{Contains, Option, Some, None, refl, inl, inr, sym, ap, subst, ◌∙◌, arith}
+use Rattle.std.specs.Prelude.{filter_map}
+use Rattle.std.specs.List.{cons_option}
+use Rattle.std.specs.Cmp.{IsTotalOrder}
+use Rattle.std.specs.Cmp.Derive.{both_true}
+use Rattle.std.specs.FinMap.{get, entries}
+use Rattle.std.proofs.lemmas.Bool.{and_parts}
+use Rattle.road_base.specs.declared.ids.Dir.{Dir}
+use Rattle.road_base.specs.declared.ids.Dir.TheVariants.{Forward, Backward}
+use Rattle.road_base.specs.declared.ids.NodeId.{NodeId}
+use Rattle.road_base.specs.declared.ids.Step.{Step}
+use Rattle.road_base.specs.declared.ids.WayId.{WayId}
+use Rattle.road_base.specs.declared.ids.Key.{Key}
+use Rattle.road_base.specs.declared.ids.Key.TheVariants.{Node as NodeKey, Way as WayKey, Relation as RelationKey}
+use Rattle.road_base.specs.declared.objects.Way.{Way}
+use Rattle.road_base.specs.declared.objects.Body.{Body}
+use Rattle.road_base.specs.declared.objects.Body.TheVariants.{Node as NodeBody, Way as WayBody}
+use Rattle.road_base.specs.declared.objects.Body.TheVariants.{Relation as RelationBody, Deleted}
+use Rattle.road_base.specs.declared.event.Event.{Event}
+use Rattle.road_base.specs.Objects.{Objects, Entry, key_cmp, body_in, way_in, visible, way_of}
+use Rattle.road_model.specs.declared.blocks.Block.{Block}
+use Rattle.road_model.specs.declared.lists.Piece.{Piece as PieceEntry}
+use Rattle.road_model.specs.Rules.{Rules, has_highway}
+use Rattle.road_model.specs.Orders.{rises, rises_from, way_cmp}
+use Rattle.road_model.specs.Lines.{node_at}
+use Rattle.road_model.specs.Driving.{is_open, is_road, located, drivable}
+use Rattle.road_model.specs.Links.{RefersTo}
+use Rattle.road_model.specs.Blocks.{IsRoadBlock}
+use Rattle.object_store.specs.Listed.{AreEntriesOf, IsInOrder, is_way, key_of, pair_of}
+use Rattle.osmroad.specs.Highways.{highway_of, highways, visible_highway}
+use Rattle.osmroad.specs.Building.{AreRoadWays}
+use Rattle.osmroad.proofs.Members.{In, contains_from_in, in_from_contains}
+use Rattle.osmroad.proofs.RisingWays.{less, from_below}
+
+-- ---- they are told from the entries of ways alone
+
+abbrev in_event : Event → Option WayId
+in_event e = highway_of e.key e.body
+
+abbrev in_entry : Key × Entry → Option WayId
+in_entry e = highway_of e.0 e.1.body
+
+no_way : (k : Key) (b : Body) → is_way k ≡ false → highway_of k b ≡ None
+no_way (NodeKey n) b e = refl
+no_way (WayKey w) b e = cc
+no_way (RelationKey r) b e = refl
+
+way_or_not : (e : Key × Entry) (t : Bool) (es rest : List (Key × Entry)) → is_way e.0 ≡ t
+    → filter_map in_entry rest ≡ filter_map in_entry es
+    → filter_map in_entry (cond t (e ∷ rest) rest) ≡ cons_option (in_entry e) (filter_map in_entry es)
+way_or_not e true es rest is same = ap (cons_option (in_entry e)) same
+way_or_not e false es rest is same =
+    same ∙ ap (λ o. cons_option o (filter_map in_entry es)) (sym (no_way e.0 e.1.body is))
+
+of_ways : (es : List (Key × Entry)) → filter_map in_entry (filter (λ e. is_way e.0) es) ≡ filter_map in_entry es
+of_ways [] = refl
+of_ways (e ∷ es) = way_or_not e (is_way e.0) es (filter (λ x. is_way x.0) es) refl (of_ways es)
+
+of_pairs : (events : List Event) → filter_map in_entry (map pair_of events) ≡ filter_map in_event events
+of_pairs [] = refl
+of_pairs (e ∷ events) = ap (cons_option (in_event e)) (of_pairs events)
+
+-- those among the entries of ways are all
+pub highways_are : (M : Objects) (events : List Event) → map pair_of events ≡ filter (λ e. is_way e.0) (entries M)
+    → filter_map (λ e. highway_of e.key e.body) events ≡ highways M
+highways_are M events is = sym (of_pairs events) ∙ ap (filter_map in_entry) is ∙ of_ways (entries M)
+
+-- ---- they ascend
+
+visible_key : (v w : WayId) (b : Body) → visible_highway v b ≡ Some w → v ≡ w
+visible_key v w (NodeBody n) e = cc
+visible_key v w (WayBody body) e = tagged (has_highway body.tags) e
+  where
+    tagged : (t : Bool) → cond t (Some v) None ≡ Some w → v ≡ w
+    tagged true e = cc
+    tagged false e = cc
+visible_key v w (RelationBody r) e = cc
+visible_key v w Deleted e = cc
+
+key_is : (k : Key) (b : Body) (w : WayId) → highway_of k b ≡ Some w → k ≡ WayKey w
+key_is (NodeKey n) b w e = cc
+key_is (WayKey v) b w e = ap (λ x. WayKey x) (visible_key v w b e)
+key_is (RelationKey r) b w e = cc
+
+rise_next : (w : WayId) (e : Event) (es : List Event)
+    → IsTrue (rises_from key_cmp (WayKey w) (key_of e ∷ map key_of es))
+    → IsTrue (rises_from way_cmp w (filter_map in_event es))
+    → ((v : WayId) → IsTrue (rises_from key_cmp (WayKey v) (map key_of es))
+    → IsTrue (rises_from way_cmp v (filter_map in_event es)))
+    → (o : Option WayId) → in_event e ≡ o → IsTrue (rises_from way_cmp w (cons_option o (filter_map in_event es)))
+rise_next w e es up rest from None is = rest
+rise_next w e es up rest from (Some v) is =
+    let key = key_is e.key e.body v is in
+    let at_way = subst (λ k. IsTrue (rises_from key_cmp (WayKey w) (k ∷ map key_of es))) key up in
+    let parts = and_parts _ _ at_way in
+    both_true parts.0 (from v parts.1)
+
+behind : (k : Key) (ks : List Key) → IsTrue (rises_from key_cmp k ks) → IsTrue (rises key_cmp ks)
+behind k [] h = refl
+behind k (x ∷ ks) h = (and_parts _ _ h).1
+
+module _ (total : IsTotalOrder key_cmp) where
+  rise_from : (w : WayId) (es : List Event) → IsTrue (rises_from key_cmp (WayKey w) (map key_of es))
+      → IsTrue (rises_from way_cmp w (filter_map in_event es))
+  rise_from w [] up = refl
+  rise_from w (e ∷ es) up =
+      let parts = and_parts _ _ up in
+      let from = from_below key_cmp total (WayKey w) e.key (map key_of es) (less _ parts.0) parts.1 in
+      rise_next w e es up (rise_from w es from) (λ v. rise_from v es) (in_event e) refl
+
+  pub highways_rise : (es : List Event) → IsInOrder es → IsTrue (rises way_cmp (filter_map in_event es))
+  highways_rise [] up = refl
+  highways_rise (e ∷ es) up = next (in_event e) refl (highways_rise es (behind e.key (map key_of es) up))
+    where
+      next : (o : Option WayId) → in_event e ≡ o → IsTrue (rises way_cmp (filter_map in_event es))
+          → IsTrue (rises way_cmp (cons_option o (filter_map in_event es)))
+      next None is rest = rest
+      next (Some v) is rest =
+          rise_from v es (subst (λ k. IsTrue (rises_from key_cmp k (map key_of es))) (key_is e.key e.body v is) up)
+
+-- ---- roads are among them
+
+first_of : (o : Option WayId) (w : WayId) (ws : List WayId) → o ≡ Some w → In w (cons_option o ws)
+first_of None w ws e = cc
+first_of (Some v) w ws e = inl (cc)
+
+later_of : (o : Option WayId) (w : WayId) (ws : List WayId) → In w ws → In w (cons_option o ws)
+later_of None w ws i = i
+later_of (Some v) w ws i = inr i
+
+in_highways : (es : List Event) (e : Event) (w : WayId) → In e es → in_event e ≡ Some w → In w (filter_map in_event es)
+in_highways [] e w i is = absurd i
+in_highways (x ∷ es) e w (inl here) is = first_of (in_event x) w (filter_map in_event es) (ap in_event (sym here) ∙ is)
+in_highways (x ∷ es) e w (inr i) is = later_of (in_event x) w (filter_map in_event es) (in_highways es e w i is)
+
+body_is : (b : Body) (body : Way)
+    → way_in (body_in (Some (record { version = 0; body = b }))) ≡ Some body → b ≡ WayBody body
+body_is (NodeBody n) body e = cc
+body_is (WayBody w) body e = cc
+body_is (RelationBody r) body e = cc
+body_is Deleted body e = cc
+
+entry_is : (o : Option Entry) (body : Way)
+    → way_in (body_in o) ≡ Some body → (x : Entry) × (o ≡ Some x) × (x.body ≡ WayBody body)
+entry_is None body e = cc
+entry_is (Some x) body e = (x, refl, body_is x.body body e)
+
+module _ (M : Objects) (es : List Event) (all : AreEntriesOf is_way M es) where
+  visible_listed : (w : WayId) (body : Way)
+      → way_of M w ≡ Some body → IsTrue (has_highway body.tags) → In w (filter_map in_event es)
+  unfolding way_of visible
+  visible_listed w body seen tagged =
+      let entry = entry_is (get M (WayKey w)) body seen in
+      let event = all.all (WayKey w) entry.0 refl entry.1 in
+      let body_of : event.0.body ≡ WayBody body = ap (λ x. x.body) event.3 ∙ entry.2 in
+      let is : in_event event.0 ≡ Some w =
+      ap (λ k. highway_of k event.0.body) event.2
+      ∙ ap (visible_highway w) body_of
+      ∙ ap (λ t. cond t (Some w) None) tagged
+      in
+      in_highways es event.0 w (in_from_contains es event.0 event.1) is
+
+  module _ (P : Rules)
+      (refers : (w : WayId) (i : ℕ) (v : NodeId)
+      → IsTrue (is_road M P w) → node_at M w i ≡ Some v → RefersTo M w v) where
+    either_way : (w : WayId) (d : Dir) → IsTrue (is_open M P w d) → IsTrue (is_road M P w)
+    either_way w Forward open_on = first (is_open M P w Forward) (is_open M P w Backward) open_on
+      where
+        first : (a b : Bool) → a ≡ true → (a || b) ≡ true
+        first true b e = refl
+        first false b e = cc
+    either_way w Backward open_on = second (is_open M P w Forward) (is_open M P w Backward) open_on
+      where
+        second : (a b : Bool) → b ≡ true → (a || b) ≡ true
+        second true b e = refl
+        second false b e = e
+
+    some_node : (o : Option NodeId) → IsTrue (located M o) → (v : NodeId) × (o ≡ Some v)
+    some_node None h = cc
+    some_node (Some v) h = (v, refl)
+
+    driven_listed : (s : Step) → IsTrue (drivable M P s) → In s.way (filter_map in_event es)
+    unfolding drivable
+    driven_listed s drives =
+        let open_on = and_parts _ _ drives in
+        let node = some_node (node_at M s.way s.index) (and_parts _ _ open_on.1).0 in
+        let reference = refers s.way s.index node.0 (either_way s.way s.dir open_on.0) node.1 in
+        visible_listed s.way reference.body reference.is reference.highway
+
+    road_listed : (ps : List PieceEntry) (b : Block)
+        → b.pieces ≡ ps → IsRoadBlock M P b → In b.way (filter_map in_event es)
+    road_listed [] b none road = absurd (road.some none)
+    road_listed (e ∷ rest) b is road =
+        let first = contains_from_in (e ∷ rest) e (inl refl) in
+        let has : Contains b.pieces e = subst (λ ps. Contains ps e) (sym is) first in
+        let entry = road.block.pieces.sound e has in
+        let piece = entry.piece in
+        let step : Step = record { way = piece.way; index = piece.index; dir = piece.dir } in
+        let low : piece.index ≤ piece.index = omega arith in
+        subst (λ w. In w (filter_map in_event es)) entry.of
+        (driven_listed step (entry.is.drives piece.index low entry.is.ascends))
+
+    -- the ways with the key are those of roads, and maybe more
+    pub are_road_ways : (ways : List WayId) → ways ≡ filter_map (λ e. highway_of e.key e.body) es
+        → IsTotalOrder key_cmp → IsInOrder es → AreRoadWays M P ways
+    are_road_ways ways are total order = record {
+      ascending = subst (λ l. IsTrue (rises way_cmp l)) (sym are) (highways_rise total es order);
+      all = λ b road.
+          subst (λ l. Contains l b.way) (sym are)
+          (contains_from_in (filter_map in_event es) b.way (road_listed b.pieces b refl road));
+    }

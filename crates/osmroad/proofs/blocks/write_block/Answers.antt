@@ -1,0 +1,42 @@
+use Rattle.std.proofs.Common.{◌≡◌, ◌++◌, ◌∷◌, [], Result, Ok, Err, OnOk, IsTrue, sym, subst, ◌∙◌}
+use Rattle.road_base.specs.declared.ids.WayId.{WayId}
+use Rattle.road_model.specs.Orders.{rises, way_cmp}
+use Rattle.road_model.specs.Blocks.{IsBlock, IsRoadBlock}
+use Rattle.access_profile.specs.Motorcar.{motorcar_rules}
+use Rattle.osmroad.specs.Building.{HasBlocksOf}
+use Rattle.osmroad.proofs.Built.{empty_by_test, some_by_test, same_blocks, no_pieces, one_more, block_form}
+use Rattle.osmroad.proofs.blocks.write_block.Goals as goal
+
+on_ok : {T E : Type 0} {A B : Type 0} (r : Result T E) → OnOk r A → (A → B) → OnOk r B
+on_ok (Ok x) a f = f a
+on_ok (Err e) a f = tt
+
+-- the way has no pieces
+pub returns-then-is_empty-clause-written : goal.returns-then-is_empty-clause-written
+returns-then-is_empty-clause-written g c = λ ways up has.
+    let M = c.args.builder.now.world in
+    let test = empty_by_test c.items.result.now c.is_empty.result c.is_empty.ensures c.if-is_empty.true in
+    let none = sym c.items.ensures ∙ test in
+    same_blocks M motorcar_rules ways c.args.way c.args.writer.now has
+    (no_pieces M motorcar_rules (c.one_block.ensures M) c.args.way c.in_ok-block.block c.in_ok-block.ensures.block none)
+
+pub put-requires : goal.put-requires
+put-requires g c =
+    let block = c.in_ok-block.block in
+    let test = some_by_test c.items.result.now c.is_empty.result c.is_empty.ensures c.if-is_empty.false in
+    let some : block.pieces ≡ [] → ⊥ = λ none. test (c.items.ensures ∙ none) in
+    block_form block some c.in_ok-block.ensures.form.0 c.in_ok-block.ensures.form.1
+
+pub returns-clause-written : goal.returns-clause-written
+returns-clause-written g c = on_ok c.put.result c.put.ensures.put (λ put ways up has.
+    let M = c.args.builder.now.world in
+    let block = c.in_ok-block.block in
+    let is = c.in_ok-block.ensures.block in
+    let test = some_by_test c.items.result.now c.is_empty.result c.is_empty.ensures c.if-is_empty.false in
+    let some : block.pieces ≡ [] → ⊥ = λ none. test (c.items.ensures ∙ none) in
+    let own = subst (λ w. IsBlock M motorcar_rules w block) (sym is.way) is in
+    let road : IsRoadBlock M motorcar_rules block = record { block = own; some = some } in
+    let above = subst (λ (w : WayId). IsTrue (rises way_cmp (ways ++ w ∷ []))) (sym is.way) up in
+    subst (λ (w : WayId). HasBlocksOf M motorcar_rules (ways ++ w ∷ []) c.put.new.self) is.way
+    (one_more M motorcar_rules c.name_order.ensures.ways (c.one_block.ensures M) ways block
+    c.args.writer.now c.put.new.self above has road (put motorcar_rules.number)))
