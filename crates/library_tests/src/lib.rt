@@ -1,9 +1,9 @@
-//! Tests of the libraries: tables and vectors from outside, and each public call that takes memory once on its happy path,
-//! with ample memory.
+//! Tests of the libraries: tables and vectors from outside, and each public call that takes memory once on its happy
+//! path, with ample memory.
 //!
-//! A crate is proved once more with its tests, so those of most libraries stand together here. Where a test looks into a
-//! crate, or a call of it asks what is proved there alone, it stands there (`road_io`, `graph_file`); whole runs are tried
-//! in `osmroad`. `makers` makes texts, tags, events and worlds for them, in the time of what is made.
+//! A crate is proved once more with its tests, so those of most libraries stand together here. Where a test looks
+//! into a crate, or a call of it asks what is proved there alone, it stands there (`road_io`, `graph_file`); whole
+//! runs are tried in `osmroad`. `makers` makes texts, tags, events and worlds for them, in the time of what is made.
 #![tactic(auto)]
 
 #[cfg(test)]

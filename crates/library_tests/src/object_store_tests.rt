@@ -3,8 +3,8 @@ ghost use Rattle.std.specs.Prelude.{pos, IsTrue, ◌≤◌, length};
 ghost use Rattle.road_base.specs.Ranges.{is_in_range};
 
 use crate::makers::{deletion, no_tags};
-use object_store::{Objects, Ranges};
-use road_base::{Body, Event, Key, Location, NoMemory, Node, NodeId, Refs, Way, WayId};
+use object_store::Objects;
+use road_base::{Body, Event, Key, Location, NoMemory, Node, NodeId, Ranges, Refs, Way, WayId};
 use std::alloc::Global;
 use std::test::Fail;
 

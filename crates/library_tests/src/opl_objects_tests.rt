@@ -2,7 +2,7 @@
 use opl_lexer::{FaultKind, Mode};
 use opl_objects::{Fault, ReadError, Reader};
 use road_base::{Body, Event, Key, NodeId, RelationId, WayId};
-use std::alloc::Global;
+use std::alloc::{AllocError, Global};
 use std::test::Fail;
 
 /// What is read of a text that is cut before this byte.
@@ -99,5 +99,32 @@ fn nodes_are_read_whole(rt: HostRuntime) -> Result<(), Fail> {
             "at {at}"
         );
     }
+    Ok(())
+}
+
+/// A node with so many tags, each with a key of its own.
+fn many_tags(alloc: Global, count: usize) -> Result<String, AllocError> {
+    let mut line = String::from_str(alloc, "n1 v1 Tlast=")?;
+    for number in 1..count {
+        line.push_str(&format!(in alloc; ",{number}=")?)?;
+    }
+    Ok(line)
+}
+
+/// How many tags a node has.
+fn tag_count(event: &Event) -> usize {
+    match &event.body {
+        Body::Node(node) => node.tags.items().len(),
+        _ => 0,
+    }
+}
+
+#[test]
+fn lists_hold_65535_tags(rt: HostRuntime) -> Result<(), Fail> {
+    let alloc = rt.alloc();
+    let line = many_tags(alloc, 65_535)?;
+    let events = read_cut(alloc, Mode::Change, line.as_bytes(), 0)?;
+    assert_eq!(rt; events.len(), 1);
+    assert_eq!(rt; tag_count(&events[0]), 65_535);
     Ok(())
 }

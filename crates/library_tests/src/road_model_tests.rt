@@ -113,7 +113,13 @@ impl Profile for Nobody {
     ghost use Rattle.road_model.specs.declared.answers.RuleKind.TheVariants.{Absent};
     ghost use Rattle.std.proofs.lemmas.Bool.{false≢true};
 
-    ghost rules = { λ _. record { number = 0; direction = λ t d. WrongWay; node_open = λ t. false; turns = λ t. false; rule = λ t. Absent } };
+    ghost rules = { λ _. record {
+      number = 0;
+      direction = λ t d. WrongWay;
+      node_open = λ t. false;
+      turns = λ t. false;
+      rule = λ t. Absent;
+    } };
 
     ghost free_needs_highway = { λ p tags dir free. absurd (false≢true free) };
 
@@ -143,6 +149,8 @@ fn laws_hold_of_any_profile() {
     laws::one_name(&Nobody);
     laws::one_block(&Nobody);
     laws::one_graph(&Nobody);
+    laws::has_block(&Nobody);
+    laws::has_graph(&Nobody);
     laws::one_piece(&Nobody);
     laws::whole_pieces(&Nobody);
     laws::context_decides(&Nobody);

@@ -2,9 +2,12 @@
 use crate::makers::{no_tags, world_of};
 use access_profile::Motorcar;
 use road_base::{Dir, NodeId, Refs, Step, Way, WayId};
+use road_model::Network;
 use std::alloc::Global;
 use std::test::Fail;
-use way_lines::{add_steps, drivable, head, line, line_at, line_len, pass, tail};
+use way_lines::{
+    Road, RoadLine, Roads, add_steps, drivable, head, line, line_at, line_len, pass, tail,
+};
 
 fn way(alloc: Global, refs: &[i64]) -> Result<Way, Fail> {
     let mut list = Vec::new(alloc);
@@ -44,8 +47,8 @@ fn lines_drop_consecutive_repeats(rt: HostRuntime) -> Result<(), Fail> {
     Ok(())
 }
 
-/// Way 10 over the nodes 1, 2 and 3, with a repeat; way 11 from node 3 on to 4, which may be driven in that direction alone;
-/// and way 12 from node 4 to one that isn't there.
+/// Way 10 over the nodes 1, 2 and 3, with a repeat; way 11 from node 3 on to 4, which may be driven in that direction
+/// alone; and way 12 from node 4 to one that isn't there.
 const ROADS: &[u8] = b"n1 x0 y0\nn2 x1 y0\nn3 x2 y0\nn4 x3 y0\n\
     w10 Thighway=road Nn1,n1,n2,n3\nw11 Thighway=road,oneway=yes Nn3,n4\nw12 Thighway=road Nn4,n9\n";
 
@@ -123,6 +126,45 @@ fn steps_follow_where_one_may_pass(rt: HostRuntime) -> Result<(), Fail> {
             may,
             "{first:?} {second:?}"
         );
+    }
+    Ok(())
+}
+
+#[test]
+fn directions_of_ways_are_asked_once(rt: HostRuntime) -> Result<(), Fail> {
+    let world = world_of(rt.alloc(), ROADS)?;
+    let network = Network::new(&world, Motorcar);
+    let ways = [WayId(10), WayId(11), WayId(13)];
+    let roads = Roads::of(rt.alloc(), &network, ways.as_slice())?;
+    let open = roads
+        .items()
+        .iter()
+        .map(|road| (road.way.0, road.forward, road.backward))
+        .collect::<Vec<(i64, bool, bool)>>(rt.alloc())?;
+    let wanted = [(10, true, true), (11, true, false), (13, false, false)];
+    assert_eq!(rt; open.as_slice(), wanted.as_slice());
+    assert_eq!(rt; roads.place_of(WayId(12)), None);
+    assert!(rt; roads.road(&network, WayId(12)).is_open());
+    Ok(())
+}
+
+/// Way 12 leads to a node that isn't there, and there is no way 13.
+#[test]
+fn lines_of_roads_have_their_nodes(rt: HostRuntime) -> Result<(), Fail> {
+    let world = world_of(rt.alloc(), ROADS)?;
+    let network = Network::new(&world, Motorcar);
+    for (way, wanted) in [
+        (11, [(3, true, true), (4, true, true)].as_slice()),
+        (12, [(4, true, true), (9, false, false)].as_slice()),
+        (13, [].as_slice()),
+    ] {
+        let line = RoadLine::of(rt.alloc(), &network, Road::of(&network, WayId(way)))?;
+        let nodes = line
+            .nodes
+            .iter()
+            .map(|at| (at.node.0, at.location.is_some(), at.goes_through))
+            .collect::<Vec<(i64, bool, bool)>>(rt.alloc())?;
+        assert_eq!(rt; nodes.as_slice(), wanted, "at way {way}");
     }
     Ok(())
 }
