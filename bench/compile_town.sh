@@ -1,9 +1,9 @@
 #!/usr/bin/env bash
-# Measures `osmroad - compile` on a town as osmium would write it, without its relations and whole, and on a quarter of it, each beside
-# `osmium cat` on the same file in the same run: on one core, the best of five by processor time, with the peak memory in kilobytes, and
-# what the graph has. Then what reading alone takes: the town with a line in fault at its end. Wants python3, GNU time, osmium-tool, taskset, a
-# second core, and the program as `rt run` builds it. Its arguments are the first two of gen_town.py, 400 and 4 where left out; the first one is
-# even and at least 12.
+# Measures `osmroad - compile` on a town as osmium would write it, without its relations and whole, and on a quarter of
+# it, each beside `osmium cat` on the same file in the same run: on one core, the best of five by processor time, with
+# the peak memory in kilobytes, and what the graph has. Then what reading alone takes: the town with a line in fault at
+# its end. Wants python3, GNU time, osmium-tool, taskset, a second core, and the program as `rt run` builds it. Its
+# arguments are the first two of gen_town.py, 400 and 4 where left out; the first one is even and at least 12.
 set -eu
 . "$(dirname "$0")/program.sh"
 
@@ -16,7 +16,11 @@ best() {
     done
     awk -v name="$name" -v cat="${cat:-0}" '
         { s = $1 + $2; if (NR == 1 || s < best) { best = s; memory = $3 } }
-        END { printf "  %-20s %6.2f s %8d KB", name, best, memory; if (cat > 0) printf "  %.2f times osmium cat", best / cat; printf "\n" }' "$room/times"
+        END {
+            printf "  %-20s %6.2f s %8d KB", name, best, memory
+            if (cat > 0) printf "  %.2f times osmium cat", best / cat
+            printf "\n"
+        }' "$room/times"
 }
 
 # what compiling this file takes, and what its graph has
@@ -28,7 +32,7 @@ measure() {
     echo "$line"
     cat=$(echo "$line" | awk '{ print $3 }')
     best "compile" bash -c "exec '$program' - compile <'$2'"
-    python3 "$here/graph_counts.py" <"$room/out" | sed 's/^/  /'
+    python3 "$here/../tools/graph.py" counts <"$room/out" | sed 's/^/  /'
 }
 
 size=${1:-400}
