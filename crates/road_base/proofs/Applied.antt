@@ -88,7 +88,8 @@ applied_one : (M : Objects) (e : Event) → IsApplied M (e ∷ []) (with_event M
 applied_one M e k = get-with_event M e k ∙ elim (is_of k e) as
     (λ t. is_of k e ≡ t → cond (is_newer (entry_of e) (get M e.key)) (cond t (Some (entry_of e)) (get M k)) (get M k)
     ≡ first_greatest (option_to_list (get M k) ++ map entry_of (cond t (e ∷ []) []))) [
-      | true ↦ λ own. rw (get_tied key_cmp_total M k e.key ((Equal-is _).0 own)) (first_greatest-own (entry_of e) (get M k))
+      | true ↦ λ own.
+          rw (get_tied key_cmp_total M k e.key ((Equal-is _).0 own)) (first_greatest-own (entry_of e) (get M k))
       | false ↦ λ other. first_greatest-other _ (get M k)
     ] refl
 

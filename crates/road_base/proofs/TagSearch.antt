@@ -10,6 +10,7 @@ use Rattle.std.specs.List.Sorted.{IsBinarySearchResult, IsNonDecreasingBy}
 use Rattle.std.proofs.lemmas.List.Sorted.{searchable_from_sorted}
 use Rattle.std.proofs.lemmas.Bool.{cases_lt}
 use Rattle.road_base.specs.Tags.{TagList, is_above, IsAscending, value_of}
+use Rattle.road_base.proofs.Comparisons.{less}
 
 abbrev pub text_cmp : List ℕ → List ℕ → Ordering
 text_cmp = slice_cmp nat_cmp
@@ -19,18 +20,13 @@ ascending_of_above : (k : List ℕ) (ts : TagList) → IsTrue (is_above k ts) �
 ascending_of_above k [] up = refl
 ascending_of_above k (t ∷ ts) up = second_so _ _ up
 
-less_of_lt : (r : Ordering) → is_lt r ≡ true → r ≡ Less
-less_of_lt Less e = refl
-less_of_lt Equal e = cc
-less_of_lt Greater e = cc
-
 -- a text below the first key is below each key
 below_each : (k : List ℕ) (ts : TagList) → IsTrue (is_above k ts) → (i : ℕ) (d : List ℕ × List ℕ) → i < length ts
     → text_cmp k (get_or ts i d).0 ≡ Less
 below_each k [] up i d within = absurd (omega arith)
-below_each k (t ∷ ts) up zero d within = less_of_lt _ (first_so _ _ up)
+below_each k (t ∷ ts) up zero d within = less _ (first_so _ _ up)
 below_each k (t ∷ ts) up (suc i) d within =
-    nat_list_cmp_total.trans k t.0 (get_or ts i d).0 (less_of_lt _ (first_so _ _ up))
+    nat_list_cmp_total.trans k t.0 (get_or ts i d).0 (less _ (first_so _ _ up))
     (below_each t.0 ts (second_so _ _ up) i d (omega arith))
 
 -- each key is below the next

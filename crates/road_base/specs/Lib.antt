@@ -1,3 +1,4 @@
+pub mod Texts
 pub mod Tags
 pub mod Ranges
 pub mod Kinds

@@ -2,28 +2,53 @@
 ghost use Rattle.std.specs.Prelude.{◌≡◌, ◌↔◌, IfOk, IsTrue, string_bytes, IsUtf8};
 
 use crate::NoMemory;
+use arrayvec::ArrayString;
+use std::alloc::Global;
 use std::marker::Model;
 
-/// A text of UTF-8. Contracts see its bytes.
+/// A text of UTF-8. Contracts see its bytes. Up to 16 of them stand in the value itself and take no memory beside it,
+/// as most keys and values of tags do.
 #[derive(Drop)]
 pub struct Text {
-    text: String,
+    held: Held,
+}
+
+#[derive(Drop)]
+enum Held {
+    Short(ArrayString<16>),
+    Long(String),
 }
 
 impl Model for Text {
-    ghost use Rattle.std.specs.Prelude.{List, ℕ, string_bytes};
+    ghost use Rattle.std.specs.Prelude.{List, ℕ};
+    ghost use Rattle.road_base.specs.Texts.{held_bytes};
 
     ghost Value = { List ℕ };
 
-    ghost view = { λ t. string_bytes t.text };
+    ghost view = { λ t. held_bytes t.held };
 }
 
 impl Text {
+    /// A copy of the text.
+    pub fn of(alloc: Global, text: &str) -> Result<Text, NoMemory>
+        ensures { IfOk result (λ t. t ≡ text.now) }
+    {
+        let held = match ArrayString::from(text) {
+            Ok(short) => Held::Short(short),
+            Err(_) => Held::Long(String::from_str(alloc, text)?),
+        };
+        Ok(Text { held })
+    }
+
     /// Takes no memory.
     pub fn from_string(text: String) -> Text
         ensures { result ≡ string_bytes text }
     {
-        Text { text }
+        let held = match ArrayString::from(text.as_str()) {
+            Ok(short) => Held::Short(short),
+            Err(_) => Held::Long(text),
+        };
+        Text { held }
     }
 
     /// Lends the text.
@@ -31,21 +56,27 @@ impl Text {
         ensures bytes { result.now ≡ self.now }
         ensures utf8 { IsUtf8 self.now }
     {
-        self.text.as_str()
+        match &self.held {
+            Held::Short(text) => text.as_str(),
+            Held::Long(text) => text.as_str(),
+        }
     }
 
     /// Whether the two are equal.
     pub fn same(&self, other: &Text) -> bool
         ensures { IsTrue result ↔ (self.now ≡ other.now) }
     {
-        self.text.as_str() == other.text.as_str()
+        self.as_str() == other.as_str()
     }
 
     /// An equal value.
     pub fn copy(&self) -> Result<Text, NoMemory>
         ensures { IfOk result (λ t. t ≡ self.now) }
     {
-        let text = self.text.clone()?;
-        Ok(Text { text })
+        let held = match &self.held {
+            Held::Short(text) => Held::Short(*text),
+            Held::Long(text) => Held::Long(text.clone()?),
+        };
+        Ok(Text { held })
     }
 }
