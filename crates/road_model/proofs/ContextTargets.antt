@@ -4,11 +4,11 @@ use Rattle.std.proofs.Common.{append-nil, length-append}
 use Rattle.road_base.specs.declared.ids.Step.{Step}
 use Rattle.road_base.specs.Objects.{Objects}
 use Rattle.road_model.specs.Rules.{Rules}
-use Rattle.road_model.specs.Pieces.{Piece, IsPiece, spell}
+use Rattle.road_model.specs.Pieces.{Span, IsPiece, spell}
 use Rattle.road_model.specs.Contexts.{Every, One, Many}
 use Rattle.road_model.specs.Network.{AnyWord, Legal, IsContext, IsContextOf, spell_pieces}
 use Rattle.road_model.specs.Turning.{HasTurnSteps, BeginsWord}
-use Rattle.road_model.proofs.Splits.{Cut, Behind, Before, cut, cons_not_nil, same_last, Ends, Nil, Last, ends}
+use Rattle.road_base.proofs.Splits.{Cut, Behind, Before, cut, cons_not_nil, same_last, Ends, Nil, Last, ends}
 use Rattle.road_model.proofs.LongestContext.{Every-tail, Every-append, Located, locate, many}
 use Rattle.road_model.proofs.Shapes.{Mid, Inner, one_next, stretch, piece_shape, word_shape}
 use Rattle.road_model.proofs.WalkLists.{Continues, inner_legal, context_pieces, spell_pieces-append, spell_pieces-push}
@@ -16,7 +16,7 @@ use Rattle.road_model.proofs.TurnSteps.{whole_spelling}
 
 module _ (M : Objects) (P : Rules) where
   -- a word that goes on behind a step of a piece goes on behind the piece's end
-  beyond : (t : Piece) → IsPiece M P t → (w a : List Step) (z : Step) (b : List Step) (n : Step) (m : List Step)
+  beyond : (t : Span) → IsPiece M P t → (w a : List Step) (z : Step) (b : List Step) (n : Step) (m : List Step)
       → spell t ≡ a ++ z ∷ b → AnyWord M P ((w ++ z ∷ []) ++ n ∷ m) → Continues M P (w ++ z ∷ b)
   beyond t i w a z [] n m e k = record { next = n; rest = m; word = k }
   beyond t i w a z (y ∷ b) n [] e k =
@@ -53,7 +53,7 @@ module _ (M : Objects) (P : Rules) where
   }
 
   -- the steps of pieces that end c end the steps of c
-  ends_steps : (c : List Piece) (q : List Step) (h : HasTurnSteps c q) (d e : List Piece) (b : List Step) → c ≡ d ++ e
+  ends_steps : (c : List Span) (q : List Step) (h : HasTurnSteps c q) (d e : List Span) (b : List Step) → c ≡ d ++ e
       → (k : HasTurnSteps e b) → (a : List Step) × (q ≡ a ++ b)
   ends_steps c q h [] e b g k =
       let u = h.is in let v = k.is in
@@ -71,13 +71,13 @@ module _ (M : Objects) (P : Rules) where
       )
 
   -- the last piece's first step begins a word with the steps of the pieces before it
-  record Begun (e : List Piece) (x : Step) : Type 0 where
+  record Begun (e : List Span) (x : Step) : Type 0 where
     steps : List Step
     turn : HasTurnSteps e steps
     some : steps ≡ [] → ⊥
     begins : BeginsWord M P (steps ++ x ∷ [])
 
-  begun : (e : List Piece) (t : Piece) (x : Step) (more : List Step) → spell t ≡ x ∷ more → (e ≡ [] → ⊥)
+  begun : (e : List Span) (t : Span) (x : Step) (more : List Step) → spell t ≡ x ∷ more → (e ≡ [] → ⊥)
       → IsContext M P (e ++ t ∷ []) → Begun e x
   begun [] t x more g some k = absurd (some refl)
   begun (h ∷ e) t x more g some (One p f i) = absurd (cons_not_nil e t [] (cc))
@@ -107,21 +107,21 @@ module _ (M : Objects) (P : Rules) where
       }
 
   -- a context b that ends c and t is t alone, or begins with steps of c
-  record Longer (c : List Piece) (q : List Step) (t : Piece) (x : Step) (b : List Piece) : Type 0 where
-    pieces : List Piece
+  record Longer (c : List Span) (q : List Step) (t : Span) (x : Step) (b : List Span) : Type 0 where
+    pieces : List Span
     is : b ≡ pieces ++ t ∷ []
-    front : List Piece
+    front : List Span
     within : c ≡ front ++ pieces
     begun : Begun pieces x
     before : List Step
     ends : q ≡ before ++ begun.steps
 
-  data Ending (c : List Piece) (q : List Step) (t : Piece) (x : Step) (b : List Piece) : Type 0 where
+  data Ending (c : List Span) (q : List Step) (t : Span) (x : Step) (b : List Span) : Type 0 where
     Short : length b ≤ 1 → Ending c q t x b
     Long : Longer c q t x b → Ending c q t x b
 
-  ending : (c : List Piece) (q : List Step) (h : HasTurnSteps c q) (t : Piece) (x : Step) (more : List Step)
-      → spell t ≡ x ∷ more → (a b : List Piece) → c ++ t ∷ [] ≡ a ++ b → IsContext M P b → Ends b → Ending c q t x b
+  ending : (c : List Span) (q : List Step) (h : HasTurnSteps c q) (t : Span) (x : Step) (more : List Step)
+      → spell t ≡ x ∷ more → (a b : List Span) → c ++ t ∷ [] ≡ a ++ b → IsContext M P b → Ends b → Ending c q t x b
   ending c q h t x more e a b f k (Nil n) = Short (let g = ap length n in omega arith)
   ending c q h t x more e a b f k (Last [] u n) = Short (let g = ap length n in omega arith)
   ending c q h t x more e a b f k (Last (p ∷ o) u n) =
@@ -134,13 +134,13 @@ module _ (M : Objects) (P : Rules) where
   NoneBegins : List Step → Step → Type 0
   NoneBegins q x = (a b : List Step) → q ≡ a ++ b → (b ≡ [] → ⊥) → BeginsWord M P (b ++ x ∷ []) → ⊥
 
-  only_short : (c : List Piece) (q : List Step) (t : Piece) (x : Step) → NoneBegins q x → (b : List Piece)
+  only_short : (c : List Span) (q : List Step) (t : Span) (x : Step) → NoneBegins q x → (b : List Span)
       → Ending c q t x b → length b ≤ 1
   unfolding NoneBegins
   only_short c q t x none b (Short l) = l
   only_short c q t x none b (Long r) = absurd (none r.before r.begun.steps r.ends r.begun.some r.begun.begins)
 
-  pub target_alone : (c : List Piece) (q : List Step) (t : Piece) (x : Step) (more : List Step) → HasTurnSteps c q
+  pub target_alone : (c : List Span) (q : List Step) (t : Span) (x : Step) (more : List Step) → HasTurnSteps c q
       → IsPiece M P t → spell t ≡ x ∷ more → ((a b : List Step) → q ≡ a ++ b → (b ≡ [] → ⊥)
       → BeginsWord M P (b ++ x ∷ []) → ⊥) → IsContextOf M P (c ++ t ∷ []) (t ∷ [])
   unfolding NoneBegins
@@ -152,13 +152,13 @@ module _ (M : Objects) (P : Rules) where
   }
 
   -- the pieces that have an end of the steps
-  record EndOf (c : List Piece) (b : List Step) : Type 0 where
-    pieces : List Piece
+  record EndOf (c : List Span) (b : List Step) : Type 0 where
+    pieces : List Span
     turn : HasTurnSteps pieces b
-    front : List Piece
+    front : List Span
     is : c ≡ front ++ pieces
 
-  end_at : (c : List Piece) (q : List Step) (h : HasTurnSteps c q) (a : List Step) (y : Step) (b : List Step)
+  end_at : (c : List Span) (q : List Step) (h : HasTurnSteps c q) (a : List Step) (y : Step) (b : List Step)
       → Located spell h.others a y b → EndOf c (y ∷ b)
   end_at c q h a y b l = record {
     pieces = l.piece ∷ l.behind;
@@ -176,7 +176,7 @@ module _ (M : Objects) (P : Rules) where
     is = h.is ∙ ap (λ v. h.first ∷ v) l.is;
   }
 
-  end_of : (c : List Piece) (q : List Step) → HasTurnSteps c q → Every (IsPiece M P) c
+  end_of : (c : List Span) (q : List Step) → HasTurnSteps c q → Every (IsPiece M P) c
       → (a : List Step) (y : Step) (b : List Step) → q ≡ a ++ y ∷ b → (Mid M P y → ⊥) → EndOf c (y ∷ b)
   end_of c q h i [] y b g n = record { pieces = c; turn = subst (HasTurnSteps c) g h; front = []; is = refl }
   end_of c q h i (z ∷ a) y b g n =
@@ -185,7 +185,7 @@ module _ (M : Objects) (P : Rules) where
       end_at c q h a y b (locate spell (IsPiece M P) (Mid M P) (piece_shape M P) h.others a y b
       ((subst (Every (IsPiece M P)) h.is i).1) n rest)
 
-  end_begins : (c : List Piece) (q : List Step) → HasTurnSteps c q → Every (IsPiece M P) c
+  end_begins : (c : List Span) (q : List Step) → HasTurnSteps c q → Every (IsPiece M P) c
       → (x : Step) (a b : List Step) → q ≡ a ++ b → (b ≡ [] → ⊥) → BeginsWord M P (b ++ x ∷ []) → EndOf c b
   end_begins c q h i x a [] g some w = absurd (some refl)
   end_begins c q h i x a (y ∷ b) g some w =
@@ -194,8 +194,8 @@ module _ (M : Objects) (P : Rules) where
       k.word).starts y ((b ++ x ∷ []) ++ w.next ∷ w.more) refl)
 
   -- fewer steps are those of fewer pieces
-  shorter : (e f : List Piece) (b v : List Step) → HasTurnSteps e b → HasTurnSteps f v → length v ≤ length b
-      → (c : List Piece) → f ≡ c ++ e → length f ≤ length e
+  shorter : (e f : List Span) (b v : List Step) → HasTurnSteps e b → HasTurnSteps f v → length v ≤ length b
+      → (c : List Span) → f ≡ c ++ e → length f ≤ length e
   shorter e f b v h k l [] g = let n = ap length g in omega arith
   shorter e f b v h k l (p ∷ c) g =
       let u = k.is in
@@ -207,13 +207,13 @@ module _ (M : Objects) (P : Rules) where
       b in
       absurd (omega arith)
 
-  within_length : (c d e f g : List Piece) (b v : List Step) → HasTurnSteps e b → HasTurnSteps g v → length v ≤ length b
+  within_length : (c d e f g : List Span) (b v : List Step) → HasTurnSteps e b → HasTurnSteps g v → length v ≤ length b
       → Cut d e f g → length g ≤ length e
   within_length c d e f g b v h k l (Behind a p r) = let n = ap length r in let m = length-append a g in omega arith
   within_length c d e f g b v h k l (Before z a p r) = shorter e g b v h k l (z ∷ a) r
 
-  longest_end : (c : List Piece) (q : List Step) (t : Piece) (x : Step) (b : List Step) (e : EndOf c b)
-      → ((k l : List Step) → q ≡ k ++ l → BeginsWord M P (l ++ x ∷ []) → length l ≤ length b) → (f : List Piece)
+  longest_end : (c : List Span) (q : List Step) (t : Span) (x : Step) (b : List Step) (e : EndOf c b)
+      → ((k l : List Step) → q ≡ k ++ l → BeginsWord M P (l ++ x ∷ []) → length l ≤ length b) → (f : List Span)
       → Ending c q t x f → length f ≤ length (e.pieces ++ t ∷ [])
   longest_end c q t x b e most f (Short l) = let n = length-append e.pieces (t ∷ []) in omega arith
   longest_end c q t x b e most f (Long r) =
@@ -224,7 +224,7 @@ module _ (M : Objects) (P : Rules) where
       omega arith
 
   -- the pieces of such steps are a context with the piece behind them
-  end_context : (c : List Piece) (t : Piece) (x : Step) (more b : List Step) → Every (IsPiece M P) c → IsPiece M P t
+  end_context : (c : List Span) (t : Span) (x : Step) (more b : List Step) → Every (IsPiece M P) c → IsPiece M P t
       → spell t ≡ x ∷ more → Legal M P (spell_pieces c ++ spell t) → BeginsWord M P (b ++ x ∷ []) → (e : EndOf c b)
       → IsContext M P (e.pieces ++ t ∷ [])
   end_context c t x more b j i g l w e =
@@ -252,12 +252,12 @@ module _ (M : Objects) (P : Rules) where
       k.last k.ends on.next on.rest
       (subst (λ v. AnyWord M P (v ++ on.next ∷ on.rest)) steps on.word))
 
-  pub target_longer : (c : List Piece) (q : List Step) (t : Piece) (x : Step) (more a b : List Step) → IsContext M P c
+  pub target_longer : (c : List Span) (q : List Step) (t : Span) (x : Step) (more a b : List Step) → IsContext M P c
       → HasTurnSteps c q → IsPiece M P t → spell t ≡ x ∷ more → Legal M P (spell_pieces c ++ spell t) → q ≡ a ++ b
       → (b ≡ [] → ⊥) → BeginsWord M P (b ++ x ∷ [])
       → ((k l : List Step) → q ≡ k ++ l → BeginsWord M P (l ++ x ∷ []) → length l ≤ length b)
-      → (e : List Piece) × HasTurnSteps e b × IsContextOf M P (c ++ t ∷ []) (e ++ t ∷ [])
-      × ((d : List Piece) × (c ≡ d ++ e))
+      → (e : List Span) × HasTurnSteps e b × IsContextOf M P (c ++ t ∷ []) (e ++ t ∷ [])
+      × ((d : List Span) × (c ≡ d ++ e))
   target_longer c q t x more a b k h i g l s some w most =
       let j = context_pieces M P c k in
       let e = end_begins c q h j x a b s some w in

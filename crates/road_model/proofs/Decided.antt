@@ -4,7 +4,7 @@ use Rattle.std.proofs.Common.{false, ℤ}
 use Rattle.std.specs.Ordering.{int_eq}
 use Rattle.std.proofs.lemmas.Bool.Decides.{Decides-int_eq}
 use Rattle.std.proofs.lemmas.Bool.{false≢true}
-use Rattle.road_model.proofs.Members.{In}
+use Rattle.road_base.proofs.ListMembers.{In}
 
 abbrev pub Decided : Type 0 → Type 0
 Decided A = A ⊎ (A → ⊥)

@@ -1,26 +1,12 @@
 -- Facts that hold of the members of a list and of nothing else.
 use Rattle.std.proofs.Common.{◌≡◌, List, [], ◌∷◌, ◌++◌, ◌⊎◌, inl, inr, refl, sym, ap, subst, Option, Some, None}
-use Rattle.road_model.proofs.Members.{In}
+use Rattle.road_base.proofs.ListMembers.{In, in_left, in_right, in_cases}
 use Rattle.road_model.proofs.Decided.{Decided, some_in}
 
 pub record Finite {X : Type 0} (Q : X → Type 0) : Type 0 where
   pub list : List X
   pub sound : (x : X) → In x list → Q x
   pub complete : (x : X) → Q x → In x list
-
-pub in_left : {X : Type 0} (x : X) (xs ys : List X) → In x xs → In x (xs ++ ys)
-in_left x [] ys i = absurd i
-in_left x (z ∷ xs) ys (inl e) = inl e
-in_left x (z ∷ xs) ys (inr i) = inr (in_left x xs ys i)
-
-pub in_right : {X : Type 0} (x : X) (xs ys : List X) → In x ys → In x (xs ++ ys)
-in_right x [] ys i = i
-in_right x (z ∷ xs) ys i = inr (in_right x xs ys i)
-
-pub in_cases : {X : Type 0} (x : X) (xs ys : List X) → In x (xs ++ ys) → In x xs ⊎ In x ys
-in_cases x [] ys i = inr i
-in_cases x (z ∷ xs) ys (inl e) = inl (inl e)
-in_cases x (z ∷ xs) ys (inr i) = elim (in_cases x xs ys i) [ inl a ↦ inl (inr a) | inr b ↦ inr b ]
 
 pub fin_none : {X : Type 0} {Q : X → Type 0} → ((x : X) → Q x → ⊥) → Finite Q
 fin_none n = record { list = []; sound = λ x i. absurd i; complete = λ x q. n x q }
@@ -31,11 +17,11 @@ fin_one a = record { list = a ∷ []; sound = λ x i. elim i [ inl e ↦ e | inr
 pub fin_or : {X : Type 0} {Q R : X → Type 0} → Finite Q → Finite R → Finite (λ x. Q x ⊎ R x)
 fin_or f g = record {
   list = f.list ++ g.list;
-  sound = λ x i. elim (in_cases x f.list g.list i) [ inl a ↦ inl (f.sound x a) | inr b ↦ inr (g.sound x b) ];
+  sound = λ x i. elim (in_cases f.list g.list x i) [ inl a ↦ inl (f.sound x a) | inr b ↦ inr (g.sound x b) ];
   complete = λ x q. elim q [
-    | inl a ↦ in_left x f.list g.list (f.complete x a)
+    | inl a ↦ in_left f.list g.list x (f.complete x a)
     | inr b
-        ↦ in_right x f.list g.list (g.complete x b)
+        ↦ in_right f.list g.list x (g.complete x b)
   ];
 }
 
@@ -63,7 +49,7 @@ bound_sound : {A X : Type 0} {R : A → X → Type 0} (f : (a : A) → Finite (R
     → (a : A) × In a l × R a x
 unfolding bound
 bound_sound f [] x i = absurd i
-bound_sound f (a ∷ l) x i = elim (in_cases x (f a).list (bound f l) i) [
+bound_sound f (a ∷ l) x i = elim (in_cases (f a).list (bound f l) x i) [
   | inl h ↦ (a, inl refl, (f a).sound x h)
   | inr h ↦ let r = bound_sound f l x h in (r.0, inr r.1, r.2)
 ]
@@ -72,9 +58,9 @@ bound_complete : {A X : Type 0} {R : A → X → Type 0} (f : (a : A) → Finite
     → R a x → In x (bound f l)
 unfolding bound
 bound_complete f [] a x i r = absurd i
-bound_complete {R = R} f (b ∷ l) a x (inl e) r = in_left x (f b).list (bound f l)
+bound_complete {R = R} f (b ∷ l) a x (inl e) r = in_left (f b).list (bound f l) x
     ((f b).complete x (subst (λ v. R v x) e r))
-bound_complete f (b ∷ l) a x (inr i) r = in_right x (f b).list (bound f l) (bound_complete f l a x i r)
+bound_complete f (b ∷ l) a x (inr i) r = in_right (f b).list (bound f l) x (bound_complete f l a x i r)
 
 pub fin_bind : {A X : Type 0} {Q : A → Type 0} {R : A → X → Type 0} → Finite Q → ((a : A) → Finite (R a))
     → Finite (λ x. (a : A) × Q a × R a x)

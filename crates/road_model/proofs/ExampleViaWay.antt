@@ -27,10 +27,10 @@ use Rattle.road_model.specs.Driving.{is_open, drivable}
 use Rattle.road_model.specs.Restrictions.{vias, wrong_members, lacks_member, misses_end, is_too_long, any_way}
 use Rattle.road_model.specs.Restrictions.{whole_way, tos, Connects, IsRun, IsUsable}
 use Rattle.road_model.specs.Words.{IsWord, IsVia, kind_of, binding_of}
-use Rattle.road_model.specs.Pieces.{Piece}
+use Rattle.road_model.specs.Pieces.{Span}
 use Rattle.road_model.specs.Contexts.{One, Many}
 use Rattle.road_model.specs.Network.{Drives, Legal, HasNoWords, IsContext}
-use Rattle.road_model.proofs.Members.{in_from_contains}
+use Rattle.road_base.proofs.ListMembers.{in_from_contains}
 use Rattle.road_model.proofs.ExampleMaps.{node, way, relation, along, against, residential, node_entry, way_entry}
 use Rattle.road_model.proofs.ExampleMaps.{relation_entry, turn, same_way_number, relation_shown}
 use Rattle.road_model.proofs.SmallDrives.{short_piece, goes_straight, two_legal}
@@ -283,10 +283,10 @@ not_over l = l.no [] (along 10 ∷ along 11 ∷ against 12 ∷ []) [] refl (reco
 
 -- ---- the context of ways 10 and 11
 
-abbrev along_piece : ℕ → Piece
+abbrev along_piece : ℕ → Span
 along_piece w = record { way = way w; index = 0; end = 1; dir = Forward }
 
-abbrev both : List Piece
+abbrev both : List Span
 both = along_piece 10 ∷ along_piece 11 ∷ []
 
 is_context : (only : Bool) → IsContext rule_map (rules only) both

@@ -4,13 +4,13 @@ use Rattle.std.proofs.Common.{subst, arith, append-nil, length-append}
 use Rattle.road_base.specs.Objects.{Objects}
 use Rattle.road_model.specs.declared.lists.TurnArc.{TurnArc}
 use Rattle.road_model.specs.Rules.{Rules}
-use Rattle.road_model.specs.Pieces.{Piece, IsPiece, spell}
+use Rattle.road_model.specs.Pieces.{Span, IsPiece, spell}
 use Rattle.road_model.specs.Contexts.{Every, One, Many}
 use Rattle.road_model.specs.Network.{Legal, IsContext, IsContextOf, spell_pieces}
 use Rattle.road_model.specs.Orders.{Lists, name_cmp}
 use Rattle.road_model.specs.Blocks.{IsArcEntry, name_of}
 use Rattle.road_model.proofs.Decided.{Decided, decided_both, decided_like}
-use Rattle.road_model.proofs.Splits.{cons_not_nil, ends}
+use Rattle.road_base.proofs.Splits.{cons_not_nil, ends}
 use Rattle.road_model.proofs.LongestContext.{Every-append, Every-front}
 use Rattle.road_model.proofs.WalkLists.{piece_legal, spell_pieces-push, context_pieces, some_context, one_longest}
 use Rattle.road_model.proofs.WalkLists.{context_decided, longest_of_any}
@@ -63,33 +63,33 @@ every_decided Q each (x ∷ l) = decided_like (λ h. (h.0, h.1)) (λ h. (h.0, h.
 module _ (M : Objects) (P : Rules) where
   -- ---- contexts
 
-  pub context_legal : (c : List Piece) → IsContext M P c → Legal M P (spell_pieces c)
+  pub context_legal : (c : List Span) → IsContext M P c → Legal M P (spell_pieces c)
   context_legal c (One p e i) = rw e (rw (append-nil) (piece_legal M P p i))
   context_legal c (Many m) = m.legal
 
-  context_of_pieces : (p : Piece) (o : List Piece) → Decided (Every (IsPiece M P) (p ∷ o)) →
+  context_of_pieces : (p : Span) (o : List Span) → Decided (Every (IsPiece M P) (p ∷ o)) →
       Decided (Legal M P (spell_pieces (p ∷ o))) → Decided (IsContext M P (p ∷ o))
   context_of_pieces p o (inl i) (inl l) = context_decided M P (continues M P) p o i l (ends (spell p))
   context_of_pieces p o (inl i) (inr n) = inr (λ c. n (context_legal (p ∷ o) c))
   context_of_pieces p o (inr n) l = inr (λ c. n (context_pieces M P (p ∷ o) c))
 
   -- whether a list of pieces is a context
-  pub is_context_decided : (c : List Piece) → Decided (IsContext M P c)
+  pub is_context_decided : (c : List Span) → Decided (IsContext M P c)
   is_context_decided [] = inr (λ c. let l = some_context M P [] c in omega arith)
   is_context_decided (p ∷ o) = context_of_pieces p o (every_decided (IsPiece M P) (piece_decided M P) (p ∷ o))
       (legal_decided M P (spell_pieces (p ∷ o)))
 
   -- the pieces before p make it a context
-  abbrev pub Before : Piece → List Piece → Type 0
+  abbrev pub Before : Span → List Span → Type 0
   Before p b = IsContext M P (b ++ p ∷ [])
 
-  few_before : (p : Piece) (b : List Piece) → IsContext M P (b ++ p ∷ []) → Every (IsPiece M P) b × (length b ≤ 1026)
+  few_before : (p : Span) (b : List Span) → IsContext M P (b ++ p ∷ []) → Every (IsPiece M P) b × (length b ≤ 1026)
   few_before p b c =
       let l = short_context M P (b ++ p ∷ []) c in
       let k = length-append b (p ∷ []) in
       (Every-front (IsPiece M P) b (p ∷ []) (context_pieces M P (b ++ p ∷ []) c), omega arith)
 
-  pub fin_before : (p : Piece) → Finite (Before p)
+  pub fin_before : (p : Span) → Finite (Before p)
   unfolding NoMore
   fin_before p = fin_by
       (fin_pass (λ b. IsContext M P (b ++ p ∷ [])) (λ b. is_context_decided (b ++ p ∷ []))
@@ -99,14 +99,14 @@ module _ (M : Objects) (P : Rules) where
 
   -- ---- arcs
 
-  module _ (c : List Piece) where
+  module _ (c : List Span) where
     -- the context goes on with the piece
-    record GoesBy (t : Piece) : Type 0 where
+    record GoesBy (t : Span) : Type 0 where
       from : IsContext M P c
       by : IsPiece M P t
       legal : Legal M P (spell_pieces c ++ spell t)
 
-    by_decided : (t : Piece) → Decided (GoesBy t)
+    by_decided : (t : Span) → Decided (GoesBy t)
     by_decided t = decided_like (λ h. record { from = h.0; by = h.1.0; legal = h.1.1 }) (λ h. (h.from, (h.by, h.legal)))
         (decided_both (is_context_decided c)
         (decided_both (piece_decided M P t) (legal_decided M P (spell_pieces c ++ spell t))))
@@ -114,16 +114,16 @@ module _ (M : Objects) (P : Rules) where
     fin_goes : Finite GoesBy
     fin_goes = fin_by (fin_pass GoesBy by_decided (fin_pieces M P)) (λ t h. h.0) (λ t h. (h, h.by))
 
-    target : (t : Piece) → GoesBy t → (e : List Piece) × IsContextOf M P (c ++ t ∷ []) e
+    target : (t : Span) → GoesBy t → (e : List Span) × IsContextOf M P (c ++ t ∷ []) e
     target t g =
         longest_of_any M P (continues M P) (c ++ t ∷ []) (cons_not_nil c t [])
         (Every-append (IsPiece M P) c (t ∷ []) (context_pieces M P c g.from) (g.by, tt))
         (subst (Legal M P) (sym (spell_pieces-push M P c t)) g.legal)
 
-    arc_entry : Piece → List Piece → TurnArc
+    arc_entry : Span → List Span → TurnArc
     arc_entry t e = record { piece = name_of t; length = length e }
 
-    arc_of : (t : Piece) → GoesBy t → (a : TurnArc) × IsArcEntry M P c a
+    arc_of : (t : Span) → GoesBy t → (a : TurnArc) × IsArcEntry M P c a
     unfolding arc_entry
     arc_of t g = let e = target t g in (
       arc_entry t e.0,

@@ -9,7 +9,7 @@ use Rattle.road_base.specs.Objects.{Objects}
 use Rattle.road_model.specs.Rules.{Rules}
 use Rattle.road_model.specs.Lines.{line_of, node_at}
 use Rattle.road_model.specs.Driving.{located, drivable}
-use Rattle.road_model.specs.Pieces.{IsPlain, Piece, IsPiece}
+use Rattle.road_model.specs.Pieces.{IsPlain, Span, IsPiece}
 use Rattle.road_model.proofs.Decided.{Decided, decided_both, decided_not, decided_like, decided_true, some_below}
 use Rattle.road_model.proofs.Positions.{plain_decided, decided_less, open_in, at_within, ways_in}
 use Rattle.road_model.proofs.StepPlaces.{step}
@@ -30,7 +30,7 @@ module _ (Q : ℕ → Type 0) (each : (k : ℕ) → Decided (Q k)) where
   ]
 
 module _ (M : Objects) (P : Rules) where
-  pub piece_decided : (p : Piece) → Decided (IsPiece M P p)
+  pub piece_decided : (p : Span) → Decided (IsPiece M P p)
   piece_decided p = decided_like
       (λ h. record { ascends = h.0; first = h.1.0; last = h.1.1.0; inner = h.1.1.1.0; drives = h.1.1.1.1 })
       (λ h. (h.ascends, (h.first, (h.last, (h.inner, h.drives)))))
@@ -41,7 +41,7 @@ module _ (M : Objects) (P : Rules) where
       (all_between (λ k. IsTrue (drivable M P (step p.way p.dir k))) (λ k. decided_true _) p.index p.end)))))
 
   -- the nodes of a piece have locations
-  pub piece_located : (p : Piece) → IsPiece M P p → (k : ℕ) → p.index ≤ k → k ≤ p.end →
+  pub piece_located : (p : Span) → IsPiece M P p → (k : ℕ) → p.index ≤ k → k ≤ p.end →
       IsTrue (located M (node_at M p.way k))
   piece_located p i k a b = elim (decided_less k p.end) [
     | inl l ↦ (parts M P p.way p.dir k (i.drives k a l)).here
@@ -52,30 +52,30 @@ module _ (M : Objects) (P : Rules) where
         (parts M P p.way p.dir (p.end - 1) (i.drives (p.end - 1) (omega arith) (omega arith))).next
   ]
 
-  piece_within : (p : Piece) → IsPiece M P p → p.end < length (line_of M p.way)
+  piece_within : (p : Span) → IsPiece M P p → p.end < length (line_of M p.way)
   piece_within p i =
       let l = i.ascends in
       let n = some_located M _ (piece_located p i p.end (omega arith) (omega arith)) in
       at_within M p.way p.end n.0 n.1
 
-  piece_from : WayId → ℕ → ℕ → Dir → Piece
+  piece_from : WayId → ℕ → ℕ → Dir → Span
   piece_from w i j d = record { way = w; index = i; end = j; dir = d }
 
-  piece_is : (w : WayId) (p : Piece) → p.way ≡ w → p ≡ piece_from w p.index p.end p.dir
+  piece_is : (w : WayId) (p : Span) → p.way ≡ w → p ≡ piece_from w p.index p.end p.dir
   unfolding piece_from
   piece_is w p e = λ x. record { way = e x; index = p.index; end = p.end; dir = p.dir }
 
   -- a piece of the way
-  pub record IsOf (w : WayId) (p : Piece) : Type 0 where
+  pub record IsOf (w : WayId) (p : Span) : Type 0 where
     pub is : IsPiece M P p
     pub way : p.way ≡ w
 
-  of_from : (w : WayId) (p : Piece) (i j : ℕ) (d : Dir) → IsPiece M P (piece_from w i j d) → p ≡ piece_from w i j d →
+  of_from : (w : WayId) (p : Span) (i j : ℕ) (d : Dir) → IsPiece M P (piece_from w i j d) → p ≡ piece_from w i j d →
       IsOf w p
   unfolding piece_from
   of_from w p i j d h e = record { is = subst (IsPiece M P) (sym e) h; way = ap (λ q. q.way) e }
 
-  within_of : (w : WayId) (p : Piece) → IsOf w p → p.end < length (line_of M w)
+  within_of : (w : WayId) (p : Span) → IsOf w p → p.end < length (line_of M w)
   within_of w p h = subst (λ v. p.end < length (line_of M v)) h.way (piece_within p h.is)
 
   pub fin_pieces_of : (w : WayId) → Finite (IsOf w)
@@ -88,7 +88,7 @@ module _ (M : Objects) (P : Rules) where
       (λ p h. let l = h.is.ascends in let k = within_of w p h in let e = piece_is w p h.way in
       (p.index, omega arith, (p.end, k, (p.dir, in_dirs p.dir, (subst (IsPiece M P) e h.is, e)))))
 
-  piece_in : (p : Piece) → IsPiece M P p → IsOf p.way p
+  piece_in : (p : Span) → IsPiece M P p → IsOf p.way p
   piece_in p i = record { is = i; way = refl }
 
   pub fin_pieces : Finite (IsPiece M P)

@@ -21,7 +21,7 @@ use Rattle.road_model.specs.Driving.{is_open}
 use Rattle.road_model.specs.Restrictions.{froms, vias, tos, IsUsable}
 use Rattle.road_model.specs.Words.{IsWord, IsEndInto, IsEndFrom, IsVia, kind_of, binding_of}
 use Rattle.road_model.specs.Network.{AnyWord}
-use Rattle.road_model.proofs.Members.{In, in_from_contains, contains_from_in}
+use Rattle.road_base.proofs.ListMembers.{In, in_from_contains, contains_from_in}
 use Rattle.road_model.proofs.Decided.{Decided, decided_both, decided_like, decided_true}
 use Rattle.road_model.proofs.Positions.{decided_option, decided_number, decided_way, decided_less, decided_node}
 use Rattle.road_model.proofs.StepPlaces.{step}

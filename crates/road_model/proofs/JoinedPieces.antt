@@ -4,9 +4,9 @@ use Rattle.road_base.specs.declared.ids.Step.{Step}
 use Rattle.road_base.specs.Objects.{Objects}
 use Rattle.road_model.specs.Rules.{Rules}
 use Rattle.road_model.specs.Driving.{Passes}
-use Rattle.road_model.specs.Pieces.{Piece, IsPiece, spell}
+use Rattle.road_model.specs.Pieces.{Span, IsPiece, spell}
 use Rattle.road_model.specs.Network.{Drives, NoWord, Legal, Must, GoesOn}
-use Rattle.road_model.proofs.Splits.{Behind, Before, cut, cons_not_nil, same_last, Ends, Nil, Last, ends}
+use Rattle.road_base.proofs.Splits.{Behind, Before, cut, cons_not_nil, same_last, Ends, Nil, Last, ends}
 use Rattle.road_model.proofs.Shapes.{stretch}
 use Rattle.road_model.proofs.PieceLaws.{behind_whole}
 
@@ -71,7 +71,7 @@ module _ (M : Objects) (P : Rules) where
       only = λ a p y b e x m. only_last a p y b e (ends b) x m;
     }
 
-  pub one_junction : (d : List Step) (t : Piece) (first : Step) (more : List Step) → (d ≡ [] → ⊥) → Legal M P d
+  pub one_junction : (d : List Step) (t : Span) (first : Step) (more : List Step) → (d ≡ [] → ⊥) → Legal M P d
       → IsPiece M P t → spell t ≡ first ∷ more → Legal M P (d ++ spell t) ↔ GoesOn M P d first
   one_junction d t first more some l i e = (
     (λ h. goes_on d more first some (subst (λ v. Legal M P (d ++ v)) e h)),

@@ -1,10 +1,9 @@
 pub mod TotalOrders
-pub mod Members
-pub mod Unique
+pub mod AscendingLists
+pub mod JoinedLists
 pub mod UniqueEntries
 pub mod SortedMaps
 pub mod WorkedExamples
-pub mod Splits
 pub mod LegalLists
 pub mod Decided
 pub mod Positions

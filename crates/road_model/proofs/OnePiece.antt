@@ -9,7 +9,7 @@ use Rattle.road_base.specs.Objects.{Objects}
 use Rattle.road_model.specs.Rules.{Rules}
 use Rattle.road_model.specs.Lines.{line_of, node_at}
 use Rattle.road_model.specs.Driving.{is_open, located, drivable}
-use Rattle.road_model.specs.Pieces.{IsPlain, Piece, IsPiece, IsInOnePiece}
+use Rattle.road_model.specs.Pieces.{IsPlain, Span, IsPiece, IsInOnePiece}
 use Rattle.road_model.proofs.Decided.{order}
 use Rattle.road_model.proofs.Positions.{plain_decided}
 use Rattle.road_model.proofs.StepPlaces.{Inside, step, place, stands, stands_inside}
@@ -94,7 +94,7 @@ plain_before M P w k p = let e : k + 1 - 1
 module _ (M : Objects) (P : Rules) (w : WayId) (d : Dir) (k : ℕ)
     (h : IsTrue (drivable M P (record { way = w; index = k; dir = d }))) (l : Left M P w k) (r : Right M P w (k + 1))
   where
-    the_piece : Piece
+    the_piece : Span
     the_piece = record { way = w; index = l.at; end = r.at; dir = d }
 
     drives_at : (m : ℕ) → l.at ≤ m → m < r.at → IsTrue (drivable M P (record { way = w; index = m; dir = d }))
@@ -139,7 +139,7 @@ module _ (M : Objects) (P : Rules) (w : WayId) (d : Dir) (k : ℕ)
           ],
         )
 
-    same_piece : (q : Piece) → IsPiece M P q → Inside q (record { way = w; index = k; dir = d }) → q ≡ the_piece
+    same_piece : (q : Span) → IsPiece M P q → Inside q (record { way = w; index = k; dir = d }) → q ≡ the_piece
     unfolding the_piece
     same_piece q i h' =
         let e = same_ends q.index q.end h'.low h'.high (rw h'.way i.first) (rw h'.way i.last) (rw h'.way i.inner) in

@@ -25,8 +25,8 @@ use Rattle.road_model.specs.Network.{Must}
 use Rattle.road_model.specs.Orders.{relation_cmp}
 use Rattle.road_model.specs.Broken.{LacksNode, AtTail, AtHead, IsAnswered, IsBehind, Meets, IsApart, PassesBarrier}
 use Rattle.road_model.specs.Broken.{TurnsBack, EndsNoWord, LeavesOnlyWord, IsLeast}
-use Rattle.road_model.proofs.Members.{In}
-use Rattle.road_model.proofs.Splits.{Ends, Nil, Last, ends, cons_not_nil}
+use Rattle.road_base.proofs.ListMembers.{In}
+use Rattle.road_base.proofs.Splits.{Ends, Nil, Last, ends, cons_not_nil}
 use Rattle.road_model.proofs.Decided.{Decided, decided_both, decided_not, decided_like, decided_true, decided_false}
 use Rattle.road_model.proofs.Decided.{some_in}
 use Rattle.road_model.proofs.Positions.{decided_option, open_in, at_within, ways_in}

@@ -15,12 +15,12 @@ use Rattle.road_model.specs.Rules.{Rules}
 use Rattle.road_model.specs.Lines.{line_of, node_at, head_position, tail_position, forward_steps, backward_steps}
 use Rattle.road_model.specs.Lines.{steps_from}
 use Rattle.road_model.specs.Driving.{is_open, Passes}
-use Rattle.road_model.specs.Pieces.{IsPlain, Piece, IsPiece, spell}
+use Rattle.road_model.specs.Pieces.{IsPlain, Span, IsPiece, spell}
 use Rattle.road_model.specs.Restrictions.{IsRun, whole_way}
 use Rattle.road_model.specs.Words.{IsWord, IsEndInto, IsEndFrom, IsVia, binding_of}
 use Rattle.road_model.specs.Network.{Drives, OnlyWord}
 use Rattle.road_model.proofs.StepEnds.{pair_named, named_end}
-use Rattle.road_model.proofs.Splits.{Behind, Before, cut, cons_not_nil, same_last}
+use Rattle.road_base.proofs.Splits.{Behind, Before, cut, cons_not_nil, same_last}
 use Rattle.road_model.proofs.LegalLists.{Link, Stretch, WordShape}
 use Rattle.road_model.proofs.LongestContext.{PieceShape}
 use Rattle.road_model.proofs.StepPlaces.{step, forward_at, backward_at, length-forward, length-backward}
@@ -184,7 +184,7 @@ module _ (M : Objects) (P : Rules) where
     follows = straight_on M P w d p.index p.after plain p.meets;
   }))
 
-  at_low : (p : Piece) (d : Dir) (k : ℕ) (x : Step) → At p.way p.index (p.end - p.index) d k x → p.index < p.end
+  at_low : (p : Span) (d : Dir) (k : ℕ) (x : Step) → At p.way p.index (p.end - p.index) d k x → p.index < p.end
       → d ≡ p.dir → (p.index ≤ x.index) × (x.index < p.end) × (x ≡ step p.way p.dir x.index)
   at_low p Forward k x h l e = let f = h.place.0 refl in let g = h.within in let i : x.index
       ≡ h.index = ap (λ s. s.index) h.is in (
@@ -201,7 +201,7 @@ module _ (M : Objects) (P : Rules) where
             ∙ (λ j. record { way = p.way; index = (sym i) j; dir = e j }),
       )
 
-  pub stretch : (p : Piece) → IsPiece M P p → Stretch (Drives M P) (Passes M P) (Mid M P) (Inner M P) Next (spell p)
+  pub stretch : (p : Span) → IsPiece M P p → Stretch (Drives M P) (Passes M P) (Mid M P) (Inner M P) Next (spell p)
   stretch p h = let l = h.ascends in record {
     drives = λ a s b e. let r = at_low p p.dir (length a) s (at_cut p.way p.index (p.end - p.index) p.dir a s b e) l
         refl in rw r.2 (h.drives s.index r.0 r.1);
@@ -219,7 +219,7 @@ module _ (M : Objects) (P : Rules) where
   length_steps w i n Forward = length-forward w i n
   length_steps w i n Backward = length-backward w i n
 
-  pub piece_shape : (p : Piece) → IsPiece M P p → PieceShape (Mid M P) (spell p)
+  pub piece_shape : (p : Span) → IsPiece M P p → PieceShape (Mid M P) (spell p)
   piece_shape p h =
       let l = h.ascends in
       let n = length_steps p.way p.index (p.end - p.index) p.dir in

@@ -15,7 +15,7 @@ use Rattle.road_base.specs.Objects.{Objects}
 use Rattle.road_model.specs.declared.answers.Unusable.TheVariants.{TooLong}
 use Rattle.road_model.specs.Rules.{Rules}
 use Rattle.road_model.specs.Lines.{line_of}
-use Rattle.road_model.specs.Pieces.{Piece, IsPiece, spell}
+use Rattle.road_model.specs.Pieces.{Span, IsPiece, spell}
 use Rattle.road_model.specs.Restrictions.{froms, vias, tos, IsRun, steps_on, whole_way}
 use Rattle.road_model.specs.Words.{IsWord, IsVia}
 use Rattle.road_model.specs.Contexts.{Every, One, Many}
@@ -62,16 +62,16 @@ module _ (M : Objects) (P : Rules) where
       let k = length-append w.via (w.last ∷ []) in
       omega arith
 
-  some_spelled : (p : Piece) → IsPiece M P p → 1 ≤ length (spell p)
+  some_spelled : (p : Span) → IsPiece M P p → 1 ≤ length (spell p)
   some_spelled p i = let n = length_steps M P p.way p.index (p.end - p.index) p.dir in let a = i.ascends in omega arith
 
-  as_many : (ps : List Piece) → Every (IsPiece M P) ps → length ps ≤ length (spell_pieces ps)
+  as_many : (ps : List Span) → Every (IsPiece M P) ps → length ps ≤ length (spell_pieces ps)
   as_many [] h = omega arith
   as_many (p ∷ ps) h =
       let a = some_spelled p h.0 in let b = as_many ps h.1 in let e = length-append (spell p) (spell_pieces ps) in omega
       arith
 
-  pub short_context : (c : List Piece) → IsContext M P c → length c ≤ 1026
+  pub short_context : (c : List Span) → IsContext M P c → length c ≤ 1026
   short_context c (One p e i) = let k = ap length e in omega arith
   short_context c (Many m) =
       let w = m.word in

@@ -13,12 +13,12 @@ use Rattle.road_base.specs.Objects.{Objects, node_of}
 use Rattle.road_model.specs.declared.lists.Place.{Place}
 use Rattle.road_model.specs.declared.lists.TurnArc.{TurnArc}
 use Rattle.road_model.specs.declared.lists.Context.{Context}
-use Rattle.road_model.specs.declared.lists.Piece.{Piece as PieceEntry}
+use Rattle.road_model.specs.declared.lists.Piece.{Piece}
 use Rattle.road_model.specs.declared.blocks.Block.{Block}
 use Rattle.road_model.specs.Rules.{Rules}
 use Rattle.road_model.specs.Lines.{node_at}
 use Rattle.road_model.specs.Driving.{located, node_located}
-use Rattle.road_model.specs.Pieces.{Piece, IsPiece}
+use Rattle.road_model.specs.Pieces.{Span, IsPiece}
 use Rattle.road_model.specs.Contexts.{Every}
 use Rattle.road_model.specs.Network.{IsContext}
 use Rattle.road_model.specs.Orders.{Lists, name_cmp, names_cmp, way_cmp}
@@ -26,8 +26,8 @@ use Rattle.road_model.specs.Blocks.{IsPlaceOf, IsArcEntry, IsContextEntry, IsPie
 use Rattle.road_model.specs.Blocks.{place_position}
 use Rattle.road_model.specs.Format.{graph_bytes}
 use Rattle.road_model.specs.Naming.{HasBlock, HasGraph}
-use Rattle.road_model.proofs.Members.{In, in_from_contains, contains_from_in}
-use Rattle.road_model.proofs.Unique.{lists_unique}
+use Rattle.road_base.proofs.ListMembers.{In, in_from_contains, contains_from_in}
+use Rattle.road_model.proofs.AscendingLists.{lists_unique}
 use Rattle.road_model.proofs.TotalOrders.{way_cmp_total, way_cmp_exact, name_cmp_total, name_cmp_exact, names_cmp_total}
 use Rattle.road_model.proofs.TotalOrders.{names_cmp_exact}
 use Rattle.road_model.proofs.UniqueEntries.{one_piece, one_entry, one_block}
@@ -65,7 +65,7 @@ tabulated Q (suc n) some =
 module _ (M : Objects) (P : Rules) where
   -- ---- places
 
-  place_by : (p : Piece) (k : ℕ) (v : NodeId) → node_at M p.way (place_position p k) ≡ Some v → (n : Node) →
+  place_by : (p : Span) (k : ℕ) (v : NodeId) → node_at M p.way (place_position p k) ≡ Some v → (n : Node) →
       node_of M v ≡ Some n → (o : Option Location) → n.location ≡ o → IsTrue (is_some o) →
       (x : Place) × IsPlaceOf M p k x
   place_by p k v e n f None g h = absurd (false≢true h)
@@ -74,7 +74,7 @@ module _ (M : Objects) (P : Rules) where
     record { node = e; body = n; visible = f; location = g },
   )
 
-  body_by : (p : Piece) (k : ℕ) (v : NodeId) → node_at M p.way (place_position p k) ≡ Some v → (o : Option Node) →
+  body_by : (p : Span) (k : ℕ) (v : NodeId) → node_at M p.way (place_position p k) ≡ Some v → (o : Option Node) →
       node_of M v ≡ o → IsTrue (node_located o) → (x : Place) × IsPlaceOf M p k x
   body_by p k v e None f h = absurd (false≢true h)
   body_by p k v e (Some n) f h = place_by p k v e n f n.location refl h
@@ -86,19 +86,19 @@ module _ (M : Objects) (P : Rules) where
   between w i j Forward k l h = (omega arith, omega arith)
   between w i j Backward k l h = (omega arith, omega arith)
 
-  place_at : (p : Piece) → IsPiece M P p → (k : ℕ) → k < p.end - p.index + 1 → (x : Place) × IsPlaceOf M p k x
+  place_at : (p : Span) → IsPiece M P p → (k : ℕ) → k < p.end - p.index + 1 → (x : Place) × IsPlaceOf M p k x
   place_at p i k h =
       let b = between p.way p.index p.end p.dir k i.ascends h in
       let l = piece_located M P p i (place_position p k) b.0 b.1 in
       let v = some_located M (node_at M p.way (place_position p k)) l in
       body_by p k v.0 v.1 (node_of M v.0) refl (subst (λ o. IsTrue (located M o)) v.1 l)
 
-  places_of : (p : Piece) → IsPiece M P p → Tabulated (IsPlaceOf M p) (p.end - p.index + 1)
+  places_of : (p : Span) → IsPiece M P p → Tabulated (IsPlaceOf M p) (p.end - p.index + 1)
   places_of p i = tabulated (IsPlaceOf M p) (p.end - p.index + 1) (place_at p i)
 
   -- ---- contexts
 
-  names_tell : (a b : List Piece) → Every (IsPiece M P) a → Every (IsPiece M P) b → map name_of a ≡ map name_of b →
+  names_tell : (a b : List Span) → Every (IsPiece M P) a → Every (IsPiece M P) b → map name_of a ≡ map name_of b →
       a ≡ b
   names_tell [] [] i j e = refl
   names_tell [] (q ∷ b) i j e = cc
@@ -110,11 +110,11 @@ module _ (M : Objects) (P : Rules) where
       let h = names_tell a b i.1 j.1 f in
       cc (g, h)
 
-  module _ (p : Piece) where
-    context_entry : List Piece → Context
+  module _ (p : Span) where
+    context_entry : List Span → Context
     context_entry b = record { before = map name_of b; arcs = (arcs_of M P (b ++ p ∷ [])).0 }
 
-    context_of : (b : List Piece) → IsContext M P (b ++ p ∷ []) → (e : Context) × IsContextEntry M P p e
+    context_of : (b : List Span) → IsContext M P (b ++ p ∷ []) → (e : Context) × IsContextEntry M P p e
     unfolding context_entry
     context_of b c = (
       context_entry b,
@@ -122,10 +122,10 @@ module _ (M : Objects) (P : Rules) where
     )
 
     -- the arcs of the context of the pieces b and p
-    abbrev AreArcs : List Piece → List TurnArc → Type 0
+    abbrev AreArcs : List Span → List TurnArc → Type 0
     AreArcs b xs = Lists (λ (a : TurnArc). a.piece) name_cmp (IsArcEntry M P (b ++ p ∷ [])) xs
 
-    same_arcs : (b : List Piece) (xs ys : List TurnArc) → AreArcs b xs → AreArcs b ys → xs ≡ ys
+    same_arcs : (b : List Span) (xs ys : List TurnArc) → AreArcs b xs → AreArcs b ys → xs ≡ ys
     same_arcs b xs ys l m = lists_unique (λ (a : TurnArc). a.piece) name_cmp name_cmp_total
         (IsArcEntry M P (b ++ p ∷ [])) xs ys l m
 
@@ -141,7 +141,7 @@ module _ (M : Objects) (P : Rules) where
     unfolding context_of
     fin_contexts = fin_made (fin_before M P p) context_of (λ e k. (k.before, k.context, λ c. context_is e k))
 
-    before_pieces : (b : List Piece) → IsContext M P (b ++ p ∷ []) → Every (IsPiece M P) b
+    before_pieces : (b : List Span) → IsContext M P (b ++ p ∷ []) → Every (IsPiece M P) b
     before_pieces b c = Every-front (IsPiece M P) b (p ∷ []) (context_pieces M P (b ++ p ∷ []) c)
 
     one_context_entry : (a b : Context) → IsContextEntry M P p a → IsContextEntry M P p b → a.before ≡ b.before → a ≡ b
@@ -159,7 +159,7 @@ module _ (M : Objects) (P : Rules) where
   -- ---- blocks
 
   module _ (w : WayId) where
-    piece_entry : (p : Piece) → IsOf M P w p → (e : PieceEntry) × IsPieceEntry M P w e
+    piece_entry : (p : Span) → IsOf M P w p → (e : Piece) × IsPieceEntry M P w e
     piece_entry p h =
         let t = places_of p h.is in
         let c = contexts_of p in (
@@ -176,7 +176,7 @@ module _ (M : Objects) (P : Rules) where
           },
         )
 
-    named : (p : Piece) (h : IsOf M P w p) → (piece_entry p h).0.name ≡ name_of p
+    named : (p : Span) (h : IsOf M P w p) → (piece_entry p h).0.name ≡ name_of p
     unfolding piece_entry
     named p h = refl
 
@@ -191,7 +191,7 @@ module _ (M : Objects) (P : Rules) where
 
     block_of : (b : Block) × IsBlock M P w b
     block_of =
-        let l = listed (λ (e : PieceEntry). e.name) name_cmp name_cmp_total name_cmp_exact fin_entries
+        let l = listed (λ (e : Piece). e.name) name_cmp name_cmp_total name_cmp_exact fin_entries
         (one_entry M P w) in
         (record { way = w; pieces = l.0 }, record { way = refl; pieces = l.1 })
 
@@ -200,7 +200,7 @@ module _ (M : Objects) (P : Rules) where
 
   -- the way has a piece
   record HasPiece (w : WayId) : Type 0 where
-    piece : Piece
+    piece : Span
     of : IsOf M P w piece
 
   fin_roads : Finite HasPiece
@@ -218,8 +218,8 @@ module _ (M : Objects) (P : Rules) where
       let b = block_of w in
       (b.0, record { block = subst (λ v. IsBlock M P v b.0) (sym b.1.way) b.1; some = entry_in w b.0 b.1 h })
 
-  first_piece : (w : WayId) (l : List PieceEntry) → (l ≡ [] → ⊥) →
-      ((e : PieceEntry) → In e l → IsPieceEntry M P w e) → HasPiece w
+  first_piece : (w : WayId) (l : List Piece) → (l ≡ [] → ⊥) →
+      ((e : Piece) → In e l → IsPieceEntry M P w e) → HasPiece w
   first_piece w [] some sound = absurd (some refl)
   first_piece w (e ∷ l) some sound = let k = sound e (inl refl) in
       record { piece = k.piece; of = record { is = k.is; way = k.of } }

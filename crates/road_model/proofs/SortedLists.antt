@@ -6,9 +6,9 @@ use Rattle.std.specs.Cmp.{IsTotalOrder}
 use Rattle.std.specs.FinMap.{IsAntisymmetric}
 use Rattle.std.proofs.lemmas.Bool.{and_parts, and_from}
 use Rattle.road_model.specs.Orders.{rises, rises_from, Lists}
-use Rattle.road_model.proofs.Members.{In, in_from_contains, contains_from_in}
+use Rattle.road_base.proofs.ListMembers.{In, in_from_contains, contains_from_in}
 use Rattle.road_model.proofs.Enumerated.{Finite}
-use Rattle.road_model.proofs.Unique.{rest}
+use Rattle.road_model.proofs.AscendingLists.{rest_rises}
 
 module _ {A N : Type 0} (name : A → N) (R : N → N → Ordering) (total : IsTotalOrder R) (exact : IsAntisymmetric R) where
   -- x in its place among the ascending ys
@@ -62,7 +62,7 @@ module _ {A N : Type 0} (name : A → N) (R : N → N → Ordering) (total : IsT
     complete = λ z i. i;
   }
   put_in x (y ∷ ys) h same = put_by x y ys h (same y (inl refl)) (R (name x) (name y)) refl
-      (put_in x ys (rest name R total (name y) (map name ys) h) (λ z i. same z (inr i)))
+      (put_in x ys (rest_rises R (name y) (map name ys) h) (λ z i. same z (inr i)))
 
   -- the members of xs, ascending
   record Sorted (xs : List A) : Type 0 where

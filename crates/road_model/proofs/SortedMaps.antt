@@ -5,8 +5,8 @@ use Rattle.std.proofs.Common.{slice_get, Result, Ok, Err, IfOk, IfErr, IsTrue, O
 use Rattle.std.specs.declared.cmp.Ordering.TheVariants.{Less, Equal, Greater}
 use Rattle.std.specs.List.{AllWithin, HoldsAt, insert, remove}
 use Rattle.std.specs.List.Sorted.{IsSortedBy, IsBinarySearchResult}
-use Rattle.std.specs.Ordering.{is_lt, is_eq, eq_by_cmp, ordering_reverse}
-use Rattle.std.specs.Cmp.{IsTotalOrder}
+use Rattle.std.specs.Ordering.{is_lt, eq_by_cmp}
+use Rattle.std.specs.Cmp.{IsTotalOrder, Equal-is}
 use Rattle.std.specs.FinMap.{FinMap, IsAntisymmetric, empty, get, entries, from_entries, find, put, len-empty}
 use Rattle.std.specs.FinMap.{len-entries, entries-insert, get-from_entries, same_entries_map}
 use Rattle.std.specs.FinMap.{insert as inserted}
@@ -16,13 +16,9 @@ use Rattle.std.proofs.lemmas.Cmp.{tied_itself}
 use Rattle.std.proofs.lemmas.List.{nil_from_length}
 use Rattle.std.proofs.lemmas.List.Sorted.{searchable_from_sorted}
 use Rattle.road_model.specs.Orders.{rises, rises_from}
-use Rattle.road_model.proofs.Members.{In, in_from_contains, contains_from_in}
-use Rattle.road_model.proofs.Unique.{less, above}
-
-equal : (r : Ordering) → is_eq r ≡ true → r ≡ Equal
-equal Less e = cc
-equal Equal e = refl
-equal Greater e = cc
+use Rattle.road_base.proofs.ListMembers.{In, in_get, in_from_contains, contains_from_in}
+use Rattle.road_base.proofs.Comparisons.{less, turned}
+use Rattle.road_model.proofs.AscendingLists.{rest_rises, above, behind_next}
 
 module _ {A N : Type 0} (name : A → N) (R : N → N → Ordering) (total : IsTotalOrder R) where
   abbrev entry : A → N × A
@@ -32,17 +28,10 @@ module _ {A N : Type 0} (name : A → N) (R : N → N → Ordering) (total : IsT
   abbrev pub map_of : List A → FinMap R A
   map_of xs = from_entries (map entry xs)
 
-  turned : (a b : N) (r : Ordering) → R a b ≡ r → R b a ≡ ordering_reverse r
-  turned a b r e = total.antisymm b a ∙ ap ordering_reverse e
-
   put_front : (x : A) (xs : List A) → IsTrue (rises_from R (name x) (map name xs))
       → put R (name x) x (map entry xs) ≡ (name x, x) ∷ map entry xs
   put_front x [] h = refl
   put_front x (y ∷ ys) h = let e : R (name x) (name y) ≡ Less = less _ (and_parts _ _ h).0 in rw e refl
-
-  rest_rises : (n : N) (l : List N) → IsTrue (rises_from R n l) → IsTrue (rises R l)
-  rest_rises n [] h = refl
-  rest_rises n (y ∷ l) h = (and_parts _ _ h).1
 
   no_entries : entries (empty {X = A} {R = R}) ≡ []
   no_entries = nil_from_length _ (sym (len-entries empty) ∙ len-empty R A)
@@ -52,7 +41,7 @@ module _ {A N : Type 0} (name : A → N) (R : N → N → Ordering) (total : IsT
   entries_of [] h = no_entries
   entries_of (x ∷ xs) h =
       entries-insert total (map_of xs) (name x) x
-      ∙ ap (put R (name x) x) (entries_of xs (rest_rises (name x) (map name xs) h)) ∙ put_front x xs h
+      ∙ ap (put R (name x) x) (entries_of xs (rest_rises R (name x) (map name xs) h)) ∙ put_front x xs h
 
   neighbours : (xs : List A) → IsTrue (rises R (map name xs)) → (k : ℕ) (d : A) → suc k < length xs
       → R (name (slice_index_or xs k d)) (name (slice_index_or xs (suc k) d)) ≡ Less
@@ -63,7 +52,7 @@ module _ {A N : Type 0} (name : A → N) (R : N → N → Ordering) (total : IsT
 
   is_sorted : (xs : List A) → IsTrue (rises R (map name xs)) → IsSortedBy (λ a b. is_lt (R (name a) (name b))) xs
   is_sorted xs h k d z l = let e : k + 1 ≡ suc k = omega arith in rw e
-      (ap is_lt (turned _ _ _ (neighbours xs h k d (omega arith))))
+      (ap is_lt (turned R total _ _ _ (neighbours xs h k d (omega arith))))
 
   -- ---- what a search for n finds
 
@@ -134,9 +123,9 @@ module _ {A N : Type 0} (name : A → N) (R : N → N → Ordering) (total : IsT
   put_gap x [] zero g = refl
   put_gap x [] (suc i) g = refl
   put_gap x (y ∷ ys) zero g = let e : R (name x) (name y)
-      ≡ Less = turned _ _ _ (g.behind 0 y (omega arith) (omega arith)) in rw e refl
+      ≡ Less = turned R total _ _ _ (g.behind 0 y (omega arith) (omega arith)) in rw e refl
   put_gap x (y ∷ ys) (suc i) g =
-      let e : R (name x) (name y) ≡ Greater = turned _ _ _ (g.below 0 y (omega arith) (omega arith)) in
+      let e : R (name x) (name y) ≡ Greater = turned R total _ _ _ (g.below 0 y (omega arith) (omega arith)) in
       rw e (ap (λ es. entry y ∷ es) (put_gap x ys i (tail_gap (name x) y ys i g)))
 
   rises_gap : (m : N) (x : A) (xs : List A) (i : ℕ) → R m (name x) ≡ Less → IsTrue (rises_from R m (map name xs))
@@ -144,7 +133,7 @@ module _ {A N : Type 0} (name : A → N) (R : N → N → Ordering) (total : IsT
   rises_gap m x [] zero e h g = and_from _ _ (ap is_lt e) refl
   rises_gap m x [] (suc i) e h g = and_from _ _ (ap is_lt e) refl
   rises_gap m x (y ∷ ys) zero e h g = and_from _ _ (ap is_lt e)
-      (and_from _ _ (ap is_lt (turned _ _ _ (g.behind 0 y (omega arith) (omega arith)))) (and_parts _ _ h).1)
+      (and_from _ _ (ap is_lt (turned R total _ _ _ (g.behind 0 y (omega arith) (omega arith)))) (and_parts _ _ h).1)
   rises_gap m x (y ∷ ys) (suc i) e h g =
       let p = and_parts _ _ h in and_from _ _ p.0
       (rises_gap (name y) x ys i (g.below 0 y (omega arith) (omega arith)) p.1 (tail_gap (name x) y ys i g))
@@ -154,7 +143,8 @@ module _ {A N : Type 0} (name : A → N) (R : N → N → Ordering) (total : IsT
       → IsTrue (rises R (map name (insert xs i x)))
   rises_insert x [] zero h g = refl
   rises_insert x [] (suc i) h g = refl
-  rises_insert x (y ∷ ys) zero h g = and_from _ _ (ap is_lt (turned _ _ _ (g.behind 0 y (omega arith) (omega arith)))) h
+  rises_insert x (y ∷ ys) zero h g = and_from _ _
+      (ap is_lt (turned R total _ _ _ (g.behind 0 y (omega arith) (omega arith)))) h
   rises_insert x (y ∷ ys) (suc i) h g = rises_gap (name y) x ys i (g.below 0 y (omega arith) (omega arith)) h
       (tail_gap (name x) y ys i g)
 
@@ -168,9 +158,11 @@ module _ {A N : Type 0} (name : A → N) (R : N → N → Ordering) (total : IsT
   find_gap : (n : N) (xs : List A) (i : ℕ) → IsGap n xs i → find R n (map entry xs) ≡ None
   find_gap n [] i g = refl
   find_gap n (y ∷ ys) zero g = let e : R n (name y)
-      ≡ Less = turned _ _ _ (g.behind 0 y (omega arith) (omega arith)) in rw e (find_gap n ys zero (rest_gap n y ys g))
+      ≡ Less = turned R total _ _ _ (g.behind 0 y (omega arith) (omega arith)) in
+      rw e (find_gap n ys zero (rest_gap n y ys g))
   find_gap n (y ∷ ys) (suc i) g = let e : R n (name y)
-      ≡ Greater = turned _ _ _ (g.below 0 y (omega arith) (omega arith)) in rw e (find_gap n ys i (tail_gap n y ys i g))
+      ≡ Greater = turned R total _ _ _ (g.below 0 y (omega arith) (omega arith)) in
+      rw e (find_gap n ys i (tail_gap n y ys i g))
 
   -- nothing of that name is in the map
   pub get_gap : (n : N) (xs : List A) (i : ℕ) → IsGap n xs i → get (map_of xs) n ≡ None
@@ -187,8 +179,8 @@ module _ {A N : Type 0} (name : A → N) (R : N → N → Ordering) (total : IsT
       rw tied (ap (λ z. Some z) (sym e))
   find_member x (y ∷ ys) h (inr i) =
       let l : R (name y) (name x) ≡ Less = less _ (above name R total (name y) ys h x i) in
-      let g : R (name x) (name y) ≡ Greater = turned _ _ _ l in
-      rw g (find_member x ys (rest_rises (name y) (map name ys) h) i)
+      let g : R (name x) (name y) ≡ Greater = turned R total _ _ _ l in
+      rw g (find_member x ys (rest_rises R (name y) (map name ys) h) i)
 
   -- a member stands under its name
   pub get_member : (x : A) (xs : List A) → IsTrue (rises R (map name xs)) → Contains xs x
@@ -211,43 +203,31 @@ module _ {A N : Type 0} (name : A → N) (R : N → N → Ordering) (total : IsT
   member_of_get n x xs e = contains_from_in xs x
       (found_member n x xs (sym (get-from_entries total (map entry xs) n) ∙ e))
 
-  at_index : (xs : List A) (k : ℕ) (d : A) → k < length xs → In (slice_index_or xs k d) xs
-  at_index [] k d v = absurd (omega arith)
-  at_index (x ∷ xs) zero d v = inl refl
-  at_index (x ∷ xs) (suc k) d v = inr (at_index xs k d (omega arith))
-
   -- what stands under a name that was found
   pub get_at : (n : N) (xs : List A) (i : ℕ) (d : A) → IsTrue (rises R (map name xs)) → i < length xs
       → HoldsAt (λ y. name y ≡ n) xs i → get (map_of xs) n ≡ Some (slice_index_or xs i d)
   get_at n xs i d h w e = subst (λ m. get (map_of xs) m ≡ Some (slice_index_or xs i d)) (e d)
-      (get_member (slice_index_or xs i d) xs h (contains_from_in xs _ (at_index xs i d w)))
+      (get_member (slice_index_or xs i d) xs h (contains_from_in xs _ (in_get xs i d w)))
 
   -- ---- one taken out
-
-  behind_next : (m y : N) (l : List N) → IsTrue (rises_from R m (y ∷ l)) → IsTrue (rises_from R m l)
-  behind_next m y [] h = refl
-  behind_next m y (z ∷ l) h =
-      let p = and_parts _ _ h in
-      let q = and_parts _ _ p.1 in
-      and_from _ _ (ap is_lt (total.trans m y z (less _ p.0) (less _ q.0))) q.1
 
   rises_less : (m : N) (xs : List A) (i : ℕ) → IsTrue (rises_from R m (map name xs))
       → IsTrue (rises_from R m (map name (remove xs i)))
   rises_less m [] zero h = refl
   rises_less m [] (suc i) h = refl
-  rises_less m (y ∷ ys) zero h = behind_next m (name y) (map name ys) h
+  rises_less m (y ∷ ys) zero h = behind_next R total m (name y) (map name ys) h
   rises_less m (y ∷ ys) (suc i) h = let p = and_parts _ _ h in and_from _ _ p.0 (rises_less (name y) ys i p.1)
 
   pub rises_remove : (xs : List A) (i : ℕ) → IsTrue (rises R (map name xs)) → IsTrue (rises R (map name (remove xs i)))
   rises_remove [] zero h = refl
   rises_remove [] (suc i) h = refl
-  rises_remove (y ∷ ys) zero h = rest_rises (name y) (map name ys) h
+  rises_remove (y ∷ ys) zero h = rest_rises R (name y) (map name ys) h
   rises_remove (y ∷ ys) (suc i) h = rises_less (name y) ys i h
 
   none_above : (n : N) (xs : List A) → IsTrue (rises_from R n (map name xs)) → find R n (map entry xs) ≡ None
   none_above n [] h = refl
   none_above n (y ∷ ys) h = let e : R n (name y)
-      ≡ Less = less _ (and_parts _ _ h).0 in rw e (none_above n ys (behind_next n (name y) (map name ys) h))
+      ≡ Less = less _ (and_parts _ _ h).0 in rw e (none_above n ys (behind_next R total n (name y) (map name ys) h))
 
   -- its name isn't found any more
   find_removed : (n : N) (xs : List A) (i : ℕ) → IsTrue (rises R (map name xs)) → i < length xs
@@ -256,9 +236,9 @@ module _ {A N : Type 0} (name : A → N) (R : N → N → Ordering) (total : IsT
   find_removed n (y ∷ ys) zero h w e = subst (λ m. find R m (map entry ys) ≡ None) (e y) (none_above (name y) ys h)
   find_removed n (y ∷ ys) (suc i) h w e =
       let l : R (name y) n ≡ Less = less _ (subst (λ m. IsTrue (is_lt (R (name y) m))) (e y)
-      (above name R total (name y) ys h (slice_index_or ys i y) (at_index ys i y (omega arith)))) in
-      let g : R n (name y) ≡ Greater = turned _ _ _ l in
-      rw g (find_removed n ys i (rest_rises (name y) (map name ys) h) (omega arith) e)
+      (above name R total (name y) ys h (slice_index_or ys i y) (in_get ys i y (omega arith)))) in
+      let g : R n (name y) ≡ Greater = turned R total _ _ _ l in
+      rw g (find_removed n ys i (rest_rises R (name y) (map name ys) h) (omega arith) e)
 
   -- and any other name as before
   find_other : (q n : N) (xs : List A) (i : ℕ) → eq_by_cmp R q n ≡ false → i < length xs
@@ -273,7 +253,7 @@ module _ {A N : Type 0} (name : A → N) (R : N → N → Ordering) (total : IsT
       → HoldsAt (λ y. name y ≡ n) xs i → (b : Bool) → eq_by_cmp R q n ≡ b
       → find R q (map entry (remove xs i)) ≡ cond b None (find R q (map entry xs))
   find_without same q n xs i h w e true t =
-      let one : q ≡ n = same q n (equal _ t) in
+      let one : q ≡ n = same q n ((Equal-is _).0 t) in
       subst (λ m. find R m (map entry (remove xs i)) ≡ None) (sym one) (find_removed n xs i h w e)
   find_without same q n xs i h w e false t = find_other q n xs i t w e
 
@@ -287,7 +267,8 @@ module _ {A N : Type 0} (name : A → N) (R : N → N → Ordering) (total : IsT
 
   without_none : IsAntisymmetric R → (m : FinMap R A) (n q : N) → get m n ≡ None → (b : Bool) → eq_by_cmp R q n ≡ b
       → get m q ≡ cond b None (get m q)
-  without_none same m n q e true t = let one : q ≡ n = same q n (equal _ t) in subst (λ k. get m k ≡ None) (sym one) e
+  without_none same m n q e true t =
+      let one : q ≡ n = same q n ((Equal-is _).0 t) in subst (λ k. get m k ≡ None) (sym one) e
   without_none same m n q e false t = refl
 
   -- a map without a name loses nothing by its removal
@@ -317,9 +298,9 @@ module _ {A N : Type 0} (name : A → N) (R : N → N → Ordering) (total : IsT
   put_set x (y ∷ ys) (suc i) h w e =
       let l : R (name y) (name x) ≡ Less = less _
       (subst (λ n. IsTrue (is_lt (R (name y) n))) (e y)
-      (above name R total (name y) ys h (slice_index_or ys i y) (at_index ys i y (omega arith)))) in
-      let g : R (name x) (name y) ≡ Greater = turned _ _ _ l in
-      rw g (ap (λ es. entry y ∷ es) (put_set x ys i (rest_rises (name y) (map name ys) h) (omega arith) e))
+      (above name R total (name y) ys h (slice_index_or ys i y) (in_get ys i y (omega arith)))) in
+      let g : R (name x) (name y) ≡ Greater = turned R total _ _ _ l in
+      rw g (ap (λ es. entry y ∷ es) (put_set x ys i (rest_rises R (name y) (map name ys) h) (omega arith) e))
 
   pub map_set : (x : A) (xs : List A) (i : ℕ) → IsTrue (rises R (map name xs)) → i < length xs
       → HoldsAt (λ y. name y ≡ name x) xs i → map_of (slice_set xs i x) ≡ inserted (map_of xs) (name x) x

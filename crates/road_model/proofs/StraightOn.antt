@@ -12,10 +12,10 @@ use Rattle.road_base.specs.Objects.{Objects}
 use Rattle.road_model.specs.Rules.{Rules}
 use Rattle.road_model.specs.Lines.{node_at, head_of, tail_of, head_position, tail_position}
 use Rattle.road_model.specs.Driving.{is_open, is_road, located, Leaves, MayTurn, AtPlace, AtShut, AtDeadEnd, Passes}
-use Rattle.road_model.specs.Pieces.{IsPlain, Piece, IsPiece, BeginsPiece, spell}
+use Rattle.road_model.specs.Pieces.{IsPlain, Span, IsPiece, BeginsPiece, spell}
 use Rattle.road_model.specs.Contexts.{Every}
 use Rattle.road_model.specs.Network.{Drives, Legal, spell_pieces}
-use Rattle.road_model.proofs.Splits.{Behind, Before, cut, cons_not_nil, same_last, Ends, Nil, Last, ends}
+use Rattle.road_base.proofs.Splits.{Behind, Before, cut, cons_not_nil, same_last, Ends, Nil, Last, ends}
 use Rattle.road_model.proofs.OnePiece.{one_piece, parts, from_parts, plain_here}
 use Rattle.road_model.proofs.StepEnds.{named_end, end_named, drives_named}
 use Rattle.road_model.proofs.StepPlaces.{step}
@@ -100,7 +100,7 @@ module _ (M : Objects) (P : Rules) where
       rw (here.0, here.1) p
 
   -- the last step of a piece ends at a junction
-  last_place : (p : Piece) (d : Dir) (k : ℕ) (x : Step) → At p.way p.index (p.end - p.index) d k x
+  last_place : (p : Span) (d : Dir) (k : ℕ) (x : Step) → At p.way p.index (p.end - p.index) d k x
       → k + 1 ≡ p.end - p.index → p.index < p.end
       → (head_position d x.index ≡ p.index) ⊎ (head_position d x.index ≡ p.end)
   last_place p Forward k x h l a = let f = h.place.0 refl in let i : x.index
@@ -108,7 +108,7 @@ module _ (M : Objects) (P : Rules) where
   last_place p Backward k x h l a = let f = h.place.1 refl in let i : x.index
       ≡ h.index = ap (λ s. s.index) h.is in inl (omega arith)
 
-  pub last_not_mid : (p : Piece) → IsPiece M P p → (a : List Step) (x : Step) → spell p ≡ a ++ x ∷ [] → Mid M P x → ⊥
+  pub last_not_mid : (p : Span) → IsPiece M P p → (a : List Step) (x : Step) → spell p ≡ a ++ x ∷ [] → Mid M P x → ⊥
   last_not_mid p h a x e m =
       let t = at_cut p.way p.index (p.end - p.index) p.dir a x [] e in
       let w : x.way ≡ p.way = ap (λ s. s.way) t.is in
@@ -122,7 +122,7 @@ module _ (M : Objects) (P : Rules) where
   Stops s = (c : List Step) (y : Step) → s ≡ c ++ y ∷ [] → Mid M P y → ⊥
 
   -- a legal drive that has begun a piece goes on to the piece's end
-  follow : (p : Piece) → IsPiece M P p → (s : List Step) → Legal M P s → Stops s
+  follow : (p : Span) → IsPiece M P p → (s : List Step) → Legal M P s → Stops s
       → (a : List Step) (x : Step) (b r : List Step) → spell p ≡ a ++ x ∷ b → s ≡ a ++ x ∷ r
       → (t : List Step) × (s ≡ spell p ++ t)
   unfolding Stops
@@ -144,15 +144,15 @@ module _ (M : Objects) (P : Rules) where
   get_split (x ∷ l) (suc k) y e = let r = get_split l k y e in (x ∷ r.0, r.1, ap (λ v. x ∷ v) r.2)
 
   -- where a piece ends, a step that leaves is the first of its piece
-  first_of_piece : (p : Piece) → IsPiece M P p → (k : List Step) (x : Step) → spell p ≡ k ++ x ∷ []
-      → (y : Step) (v : NodeId) → head_of M x ≡ Some v → tail_of M y ≡ Some v → (q : Piece) → IsPiece M P q
+  first_of_piece : (p : Span) → IsPiece M P p → (k : List Step) (x : Step) → spell p ≡ k ++ x ∷ []
+      → (y : Step) (v : NodeId) → head_of M x ≡ Some v → tail_of M y ≡ Some v → (q : Span) → IsPiece M P q
       → (a b : List Step) → spell q ≡ a ++ y ∷ b → Ends a → spell q ≡ y ∷ b
   first_of_piece p h k x e y v to from q i a b g (Nil n) = g ∙ ap (λ l. l ++ y ∷ b) n
   first_of_piece p h k x e y v to from q i a b g (Last a' z n) =
       let link = (stretch M P q i).links a' z y b (g ∙ ap (λ l. l ++ y ∷ b) n ∙ append_assoc a' _ _) in
       absurd (last_not_mid p h k x e (ends_there x y v ((stretch M P p h).drives k x [] e) to from link.inner))
 
-  pub begins_piece : (p : Piece) → IsPiece M P p → (k : List Step) (x : Step) → spell p ≡ k ++ x ∷ []
+  pub begins_piece : (p : Span) → IsPiece M P p → (k : List Step) (x : Step) → spell p ≡ k ++ x ∷ []
       → (y : Step) (v : NodeId) → head_of M x ≡ Some v → Leaves M P v y → BeginsPiece M P y
   begins_piece p h k x e y v to leaves =
       let o = one_piece M P y leaves.drives in
@@ -166,12 +166,12 @@ module _ (M : Objects) (P : Rules) where
       }
 
   pub record Pieces (s : List Step) : Type 0 where
-    pub list : List Piece
+    pub list : List Span
     pub some : list ≡ [] → ⊥
     pub pieces : Every (IsPiece M P) list
     pub spelled : spell_pieces list ≡ s
 
-  one_more : (p : Piece) → IsPiece M P p → (s t : List Step) → s ≡ spell p ++ t → Pieces t → Pieces s
+  one_more : (p : Span) → IsPiece M P p → (s t : List Step) → s ≡ spell p ++ t → Pieces t → Pieces s
   one_more p h s t e r = record {
     list = p ∷ r.list;
     some = λ g. cc;
@@ -185,10 +185,10 @@ module _ (M : Objects) (P : Rules) where
   stop_rest s v t g stop c y e m = stop (v ++ c) y (g ∙ ap (λ u. v ++ u) e ∙ sym (append_assoc v c _)) m
 
   Again : ℕ → Type 0
-  Again n = (s : List Step) → length s ≤ n → (p : Piece) → IsPiece M P p → (f : Step) (more rest : List Step)
+  Again n = (s : List Step) → length s ≤ n → (p : Span) → IsPiece M P p → (f : Step) (more rest : List Step)
       → spell p ≡ f ∷ more → s ≡ f ∷ rest → Legal M P s → Stops s → Pieces s
 
-  cut_rest : (n : ℕ) → Again n → (s : List Step) → length s ≤ suc n → (p : Piece) → IsPiece M P p
+  cut_rest : (n : ℕ) → Again n → (s : List Step) → length s ≤ suc n → (p : Span) → IsPiece M P p
       → (f : Step) (more : List Step) → spell p ≡ f ∷ more → Legal M P s → Stops s → (t : List Step) → s ≡ spell p ++ t
       → Ends (spell p) → Pieces s
   unfolding Again
@@ -214,8 +214,8 @@ module _ (M : Objects) (P : Rules) where
       (cut_pieces n) s b p h f more e l stop t.0 t.1 (ends (spell p))
 
   -- a drive from junction to junction is the spelling of pieces
-  pub pieces_of : (s : List Step) (p : Piece) → IsPiece M P p → (f : Step) (more rest : List Step) → spell p ≡ f ∷ more
-      → s ≡ f ∷ rest → Legal M P s → (q : Piece) → IsPiece M P q → (front : List Step) (x : Step)
+  pub pieces_of : (s : List Step) (p : Span) → IsPiece M P p → (f : Step) (more rest : List Step) → spell p ≡ f ∷ more
+      → s ≡ f ∷ rest → Legal M P s → (q : Span) → IsPiece M P q → (front : List Step) (x : Step)
       → spell q ≡ front ++ x ∷ [] → (before : List Step) → s ≡ before ++ x ∷ [] → Pieces s
   unfolding Again Stops
   pieces_of s p h f more rest e g l q i front x k before stop =
@@ -231,7 +231,7 @@ module _ (M : Objects) (P : Rules) where
   same_split (x ∷ a) [] f b d l e = absurd (omega arith)
   same_split (x ∷ a) (y ∷ c) f b d l e = let r = same_split a c f b d (omega arith) (cc) in (cc (r.0), r.1)
 
-  pub same_stand : (p q : Piece) → IsPiece M P p → IsPiece M P q → (a : List Step) (f : Step) (b c d : List Step)
+  pub same_stand : (p q : Span) → IsPiece M P p → IsPiece M P q → (a : List Step) (f : Step) (b c d : List Step)
       → spell p ≡ a ++ f ∷ b → spell q ≡ c ++ f ∷ d → (p ≡ q) × (a ≡ c) × (b ≡ d)
   same_stand p q h i a f b c d e g =
       let o = one_piece M P f ((stretch M P p h).drives a f b e) in
@@ -246,7 +246,7 @@ module _ (M : Objects) (P : Rules) where
   cancel (x ∷ a) b c e = cancel a b c (cc)
 
   -- lists of pieces with the same spelling are the same
-  pub same_pieces : (d e : List Piece) → Every (IsPiece M P) d → Every (IsPiece M P) e → spell_pieces d ≡ spell_pieces e
+  pub same_pieces : (d e : List Span) → Every (IsPiece M P) d → Every (IsPiece M P) e → spell_pieces d ≡ spell_pieces e
       → d ≡ e
   same_pieces [] [] i j e = refl
   same_pieces [] (q ∷ d) i j e = absurd (some_steps M P q d j.0 (sym e))
@@ -259,10 +259,10 @@ module _ (M : Objects) (P : Rules) where
       cc (r.0, t)
 
   -- where a step stands in a list of pieces
-  pub record Standing (e : List Piece) (x : List Step) (f : Step) (y : List Step) : Type 0 where
-    pub before : List Piece
-    pub piece : Piece
-    pub behind : List Piece
+  pub record Standing (e : List Span) (x : List Step) (f : Step) (y : List Step) : Type 0 where
+    pub before : List Span
+    pub piece : Span
+    pub behind : List Span
     pub is : e ≡ before ++ piece ∷ behind
     pub front : List Step
     pub back : List Step
@@ -270,7 +270,7 @@ module _ (M : Objects) (P : Rules) where
     pub left : x ≡ spell_pieces before ++ front
     pub right : y ≡ back ++ spell_pieces behind
 
-  standing_more : (p : Piece) (e : List Piece) (c x : List Step) (f : Step) (y : List Step) → x ≡ spell p ++ c
+  standing_more : (p : Span) (e : List Span) (c x : List Step) (f : Step) (y : List Step) → x ≡ spell p ++ c
       → Standing e c f y → Standing (p ∷ e) x f y
   standing_more p e c x f y g r = record {
     before = p
@@ -286,7 +286,7 @@ module _ (M : Objects) (P : Rules) where
     right = r.right;
   }
 
-  pub standing : (e : List Piece) (x : List Step) (f : Step) (y : List Step) → spell_pieces e ≡ x ++ f ∷ y
+  pub standing : (e : List Span) (x : List Step) (f : Step) (y : List Step) → spell_pieces e ≡ x ++ f ∷ y
       → Standing e x f y
   standing [] x f y g = absurd (cons_not_nil x f y (sym g))
   standing (p ∷ e) x f y g = elim (cut (spell p) (spell_pieces e) x (f ∷ y) g) [

@@ -8,14 +8,13 @@ use Rattle.road_base.specs.declared.ids.Step.{Step}
 use Rattle.road_base.specs.Objects.{Objects}
 use Rattle.road_model.specs.declared.lists.PieceName.{PieceName}
 use Rattle.road_model.specs.Rules.{Rules}
-use Rattle.road_model.specs.Pieces.{Piece, IsPiece, spell}
+use Rattle.road_model.specs.Pieces.{Span, IsPiece, spell}
 use Rattle.road_model.specs.Contexts.{Every, IsMany, One, Many}
 use Rattle.road_model.specs.Network.{Drives, AnyWord, Legal, GoesOn, IsContext, spell_pieces}
 use Rattle.road_model.specs.Blocks.{name_of}
 use Rattle.road_model.specs.Turning.{HasTurnSteps, BeginsWord, EndsPiece}
-use Rattle.road_model.proofs.Splits.{cons_not_nil, same_last, Ends, Nil, Last, ends}
-use Rattle.road_model.proofs.Members.{In, contains_from_in}
-use Rattle.road_model.proofs.Enumerated.{in_left, in_right}
+use Rattle.road_base.proofs.Splits.{cons_not_nil, same_last, Ends, Nil, Last, ends}
+use Rattle.road_base.proofs.ListMembers.{In, contains_from_in, in_left, in_right}
 use Rattle.road_model.proofs.LongestContext.{Every-tail, many}
 use Rattle.road_model.proofs.Shapes.{Mid, stretch, piece_shape, word_shape}
 use Rattle.road_model.proofs.OnePiece.{one_piece}
@@ -26,29 +25,29 @@ use Rattle.road_model.proofs.StraightOn.{pieces_of, get_split, last_not_mid, sam
 use Rattle.road_model.proofs.WalkLaw.{ends_of}
 
 -- what the steps and the first piece's steps before them spell
-pub whole_spelling : (c : List Piece) (q : List Step) (h : HasTurnSteps c q) → spell_pieces c ≡ h.front ++ q
+pub whole_spelling : (c : List Span) (q : List Step) (h : HasTurnSteps c q) → spell_pieces c ≡ h.front ++ q
 whole_spelling c q h =
     ap spell_pieces h.is ∙ ap (λ v. v ++ spell_pieces h.others) h.ends
     ∙ append_assoc h.front (h.last ∷ []) (spell_pieces h.others)
     ∙ ap (λ v. h.front ++ v) (sym h.steps)
 
-pub some_turn_steps : (c : List Piece) (q : List Step) → HasTurnSteps c q → q ≡ [] → ⊥
+pub some_turn_steps : (c : List Span) (q : List Step) → HasTurnSteps c q → q ≡ [] → ⊥
 some_turn_steps c q h e = let s = h.steps in cc (s, e)
 
 module _ (M : Objects) (P : Rules) where
-  pub single : (p : Piece) → IsPiece M P p → (last : Step) × HasTurnSteps (p ∷ []) (last ∷ [])
+  pub single : (p : Span) → IsPiece M P p → (last : Step) × HasTurnSteps (p ∷ []) (last ∷ [])
   single p i = let r = ends_of M P p i (ends (spell p))
       in (r.1, record { first = p; others = []; is = refl; front = r.0; last = r.1; ends = r.2; steps = refl })
 
   -- they are legal with what is legal behind the pieces
-  pub turn_legal : (c : List Piece) (q v : List Step) → HasTurnSteps c q → Legal M P (spell_pieces c ++ v)
+  pub turn_legal : (c : List Span) (q v : List Step) → HasTurnSteps c q → Legal M P (spell_pieces c ++ v)
       → Legal M P (q ++ v)
   turn_legal c q v h l =
       inner_legal M P h.front (q ++ v) [] (λ e. let s = h.steps in cc (s, e))
       (subst (Legal M P) (ap (λ w. w ++ v) (whole_spelling c q h) ∙ append_assoc h.front q v
       ∙ ap (λ w. h.front ++ w) (sym (append-nil (q ++ v)))) l)
 
-  of_many : (c : List Piece) → IsMany spell (IsPiece M P) (Legal M P) (AnyWord M P) c
+  of_many : (c : List Span) → IsMany spell (IsPiece M P) (Legal M P) (AnyWord M P) c
       → (q : List Step) × HasTurnSteps c q × BeginsWord M P q × Legal M P q
   of_many c m =
       let q : List Step = m.last ∷ spell_pieces (m.second ∷ m.others) in
@@ -69,14 +68,14 @@ module _ (M : Objects) (P : Rules) where
             (subst (Legal M P) (sym (append-nil (spell_pieces c))) m.legal)),
       )
 
-  pub to_steps : (c : List Piece) (a b : Piece) (rest : List Piece) → IsContext M P c → c ≡ a ∷ b ∷ rest
+  pub to_steps : (c : List Span) (a b : Span) (rest : List Span) → IsContext M P c → c ≡ a ∷ b ∷ rest
       → (q : List Step) × HasTurnSteps c q × BeginsWord M P q × Legal M P q
   to_steps c a b rest (One p e i) g = absurd (cc)
   to_steps c a b rest (Many m) g = of_many c m
 
   -- from steps to a context
 
-  last_by : (p : Piece) → IsPiece M P p → (a : List Step) (s : Step) (b rest : List Step) → spell p ≡ a ++ s ∷ b
+  last_by : (p : Span) → IsPiece M P p → (a : List Step) (s : Step) (b rest : List Step) → spell p ≡ a ++ s ∷ b
       → AnyWord M P (s ∷ rest) → spell p ≡ a ++ s ∷ []
   last_by p i a s [] rest e w = e
   last_by p i a s (y ∷ b) rest e w =
@@ -85,15 +84,15 @@ module _ (M : Objects) (P : Rules) where
 
   -- a drivable step that begins a word is the last one of its piece
   last_of_piece : (s : Step) (rest : List Step) → AnyWord M P (s ∷ rest) → Drives M P s
-      → (p : Piece) × IsPiece M P p × (a : List Step) × (spell p ≡ a ++ s ∷ [])
+      → (p : Span) × IsPiece M P p × (a : List Step) × (spell p ≡ a ++ s ∷ [])
   last_of_piece s rest w h =
       let o = one_piece M P s h in
       let r = get_split M P (spell o.piece) o.place s o.stands.at in
       (o.piece, o.stands.piece, r.0, last_by o.piece o.stands.piece r.0 s r.1 rest r.2 w)
 
   -- of pieces that spell a piece and steps behind it, the first is that piece
-  headed : (o : Piece) → IsPiece M P o → (v : List Step) (d : List Piece) → Every (IsPiece M P) d
-      → spell_pieces d ≡ spell o ++ v → (rest : List Piece) × (d ≡ o ∷ rest) × (spell_pieces rest ≡ v)
+  headed : (o : Span) → IsPiece M P o → (v : List Step) (d : List Span) → Every (IsPiece M P) d
+      → spell_pieces d ≡ spell o ++ v → (rest : List Span) × (d ≡ o ∷ rest) × (spell_pieces rest ≡ v)
   headed o i v [] j e = let f = (piece_shape M P o i).is in absurd (cc (f, e))
   headed o i v (p ∷ d) j e =
       let f = piece_shape M P p j.0 in let g = piece_shape M P o i in
@@ -106,9 +105,9 @@ module _ (M : Objects) (P : Rules) where
       )
 
   -- pieces that stop with the last step of a piece have this piece last
-  lasting : (p : Piece) → IsPiece M P p → (front : List Step) (t : Step) → spell p ≡ front ++ t ∷ [] → (d : List Piece)
+  lasting : (p : Span) → IsPiece M P p → (front : List Step) (t : Step) → spell p ≡ front ++ t ∷ [] → (d : List Span)
       → Every (IsPiece M P) d → (u : List Step) → spell_pieces d ≡ u ++ t ∷ [] → Ends d
-      → (b : List Piece) × (d ≡ b ++ p ∷ [])
+      → (b : List Span) × (d ≡ b ++ p ∷ [])
   lasting p i front t f d j u e (Nil n) = absurd (cons_not_nil u t [] (sym e ∙ ap spell_pieces n))
   lasting p i front t f d j u e (Last b z n) =
       let iz = (Every-tail (IsPiece M P) b (z ∷ []) (subst (Every (IsPiece M P)) n j)).0 in
@@ -120,18 +119,18 @@ module _ (M : Objects) (P : Rules) where
       let r = same_stand M P z p iz i y.0 t [] front [] (y.2 ∙ ap (λ v. y.0 ++ v ∷ []) s.last) f in
       (b, n ∙ ap (λ v. b ++ v ∷ []) r.0)
 
-  onward : (o : Piece) → IsPiece M P o → (a : List Step) (s : Step) (v : List Step) → spell o ≡ a ++ s ∷ []
+  onward : (o : Span) → IsPiece M P o → (a : List Step) (s : Step) (v : List Step) → spell o ≡ a ++ s ∷ []
       → Legal M P (s ∷ v) → Legal M P (spell o ++ v)
   onward o i a s v f l = subst (Legal M P) (sym (append_assoc a (s ∷ []) v) ∙ ap (λ x. x ++ v) (sym f))
       (before_whole M P o a s [] v i f l)
 
   -- the pieces from one to another
-  record Between (o : Piece) (v : List Step) (p : Piece) : Type 0 where
-    list : List Piece
+  record Between (o : Span) (v : List Step) (p : Span) : Type 0 where
+    list : List Span
     pieces : Every (IsPiece M P) (o ∷ (list ++ p ∷ []))
     spelled : spell_pieces (list ++ p ∷ []) ≡ v
 
-  between_of : (o : Piece) (v : List Step) (p : Piece) (d rest b : List Piece) → Every (IsPiece M P) d → d ≡ o ∷ rest
+  between_of : (o : Span) (v : List Step) (p : Span) (d rest b : List Span) → Every (IsPiece M P) d → d ≡ o ∷ rest
       → spell_pieces rest ≡ v → rest ≡ b ++ p ∷ [] → Between o v p
   between_of o v p d rest b i e f g = record {
     list = b;
@@ -140,7 +139,7 @@ module _ (M : Objects) (P : Rules) where
         ∙ f;
   }
 
-  between : (o : Piece) → IsPiece M P o → (v : List Step) → Legal M P (spell o ++ v) → (p : Piece) → IsPiece M P p
+  between : (o : Span) → IsPiece M P o → (v : List Step) → Legal M P (spell o ++ v) → (p : Span) → IsPiece M P p
       → (front : List Step) (t : Step) → spell p ≡ front ++ t ∷ [] → (u : List Step) → v ≡ u ++ t ∷ [] → Between o v p
   between o i v l p j front t f u e =
       let g = piece_shape M P o i in
@@ -153,7 +152,7 @@ module _ (M : Objects) (P : Rules) where
       between_of o v p r.list h.0 k.0 r.pieces h.1 h.2 k.1
 
   -- the steps from s on, with the piece that s ends
-  context_from : (q : List Step) (s : Step) (v : List Step) (o : Piece) (a : List Step) (p : Piece) → BeginsWord M P q
+  context_from : (q : List Step) (s : Step) (v : List Step) (o : Span) (a : List Step) (p : Span) → BeginsWord M P q
       → q ≡ s ∷ v → spell o ≡ a ++ s ∷ [] → Legal M P (spell o ++ v) → (b : Between o v p)
       → HasTurnSteps (o ∷ (b.list ++ p ∷ [])) q × IsContext M P (o ∷ (b.list ++ p ∷ []))
   context_from q s v o a p w e f l b =
@@ -164,9 +163,9 @@ module _ (M : Objects) (P : Rules) where
             (subst (λ x. AnyWord M P (x ++ w.next ∷ w.more)) steps w.word),
       )
 
-  pub from_steps : (q : List Step) (s : Step) (u : List Step) (t : Step) (p : Piece) (front : List Step) → Legal M P q
+  pub from_steps : (q : List Step) (s : Step) (u : List Step) (t : Step) (p : Span) (front : List Step) → Legal M P q
       → BeginsWord M P q → q ≡ s ∷ (u ++ t ∷ []) → IsPiece M P p → spell p ≡ front ++ t ∷ []
-      → (before : List Piece) × (before ≡ [] → ⊥) × HasTurnSteps (before ++ p ∷ []) q × IsContext M P (before ++ p ∷ [])
+      → (before : List Span) × (before ≡ [] → ⊥) × HasTurnSteps (before ++ p ∷ []) q × IsContext M P (before ++ p ∷ [])
   from_steps q s u t p front l w e i f =
       let o = last_of_piece s ((u ++ t ∷ []) ++ w.next ∷ w.more)
       (subst (λ x. AnyWord M P (x ++ w.next ∷ w.more)) e w.word) (l.drives [] s (u ++ t ∷ []) e) in
@@ -175,7 +174,7 @@ module _ (M : Objects) (P : Rules) where
       let c = context_from q s (u ++ t ∷ []) o.0 o.2 p w e o.3 legal b in
       (o.0 ∷ b.list, cons_not_nil [] o.0 b.list, c.0, c.1)
 
-  pub one_list : (c d : List Piece) (q : List Step) → Every (IsPiece M P) c → Every (IsPiece M P) d → HasTurnSteps c q
+  pub one_list : (c d : List Span) (q : List Step) → Every (IsPiece M P) c → Every (IsPiece M P) d → HasTurnSteps c q
       → HasTurnSteps d q → c ≡ d
   one_list c d q i j h k =
       let u = h.steps in let w = k.steps in
@@ -193,7 +192,7 @@ module _ (M : Objects) (P : Rules) where
   no_name None h = refl
   no_name (Some n) h = absurd (h n refl)
 
-  before_last : (p : Piece) → IsPiece M P p → (a : List Step) (x : Step) (b : List Step) (t : Step)
+  before_last : (p : Span) → IsPiece M P p → (a : List Step) (x : Step) (b : List Step) (t : Step)
       → spell p ≡ a ++ x ∷ (b ++ t ∷ []) → Mid M P x
   before_last p i a x [] t e = ((stretch M P p i).links a x t [] e).mid
   before_last p i a x (y ∷ b) t e = ((stretch M P p i).links a x y (b ++ t ∷ []) e).mid
@@ -203,11 +202,11 @@ module _ (M : Objects) (P : Rules) where
     abbrev Named : Step → Type 0
     Named s = (n : PieceName) → (f s ≡ Some n) ↔ EndsPiece M P s n
 
-    last_name : (p : Piece) → IsPiece M P p → (a : List Step) (t : Step) → spell p ≡ a ++ t ∷ [] → Named t
+    last_name : (p : Span) → IsPiece M P p → (a : List Step) (t : Step) → spell p ≡ a ++ t ∷ [] → Named t
         → f t ≡ Some (name_of p)
     last_name p i a t e h = (h (name_of p)).1 (record { piece = p; is = i; named = refl; front = a; ends = e })
 
-    inner_names : (p : Piece) → IsPiece M P p → (a b : List Step) (t : Step) → spell p ≡ a ++ (b ++ t ∷ [])
+    inner_names : (p : Span) → IsPiece M P p → (a b : List Step) (t : Step) → spell p ≡ a ++ (b ++ t ∷ [])
         → ((s : Step) → In s (b ++ t ∷ []) → Named s) → filter_map f (b ++ t ∷ []) ≡ name_of p ∷ []
     inner_names p i a [] t e h = ap (λ o. cons_option o []) (last_name p i a t e (h t (inl refl)))
     inner_names p i a (x ∷ b) t e h =
@@ -216,21 +215,21 @@ module _ (M : Objects) (P : Rules) where
         ap (λ o. cons_option o (filter_map f (b ++ t ∷ []))) none
         ∙ inner_names p i (a ++ x ∷ []) b t (e ∙ sym (append_assoc a (x ∷ []) (b ++ t ∷ []))) (λ s j. h s (inr j))
 
-    piece_names : (p : Piece) → IsPiece M P p → ((s : Step) → In s (spell p) → Named s)
+    piece_names : (p : Span) → IsPiece M P p → ((s : Step) → In s (spell p) → Named s)
         → filter_map f (spell p) ≡ name_of p ∷ []
     piece_names p i h =
         let r = ends_of M P p i (ends (spell p)) in
         ap (filter_map f) r.2 ∙ inner_names p i [] r.0 r.1 r.2 (λ s j. h s (subst (In s) (sym r.2) j))
 
-    list_names : (d : List Piece) → Every (IsPiece M P) d → ((s : Step) → In s (spell_pieces d) → Named s)
+    list_names : (d : List Span) → Every (IsPiece M P) d → ((s : Step) → In s (spell_pieces d) → Named s)
         → filter_map f (spell_pieces d) ≡ map name_of d
     list_names [] i h = refl
     list_names (p ∷ d) i h =
-        let x = piece_names p i.0 (λ s j. h s (in_left s (spell p) (spell_pieces d) j)) in
-        let y = list_names d i.1 (λ s j. h s (in_right s (spell p) (spell_pieces d) j)) in
+        let x = piece_names p i.0 (λ s j. h s (in_left (spell p) (spell_pieces d) s j)) in
+        let y = list_names d i.1 (λ s j. h s (in_right (spell p) (spell_pieces d) s j)) in
         filter_map-append f (spell p) (spell_pieces d) ∙ (λ z. x z ++ y z)
 
-    pub names : (c : List Piece) (q : List Step) → Every (IsPiece M P) c → HasTurnSteps c q
+    pub names : (c : List Span) (q : List Step) → Every (IsPiece M P) c → HasTurnSteps c q
         → ((s : Step) (n : PieceName) → Contains q s → (f s ≡ Some n) ↔ EndsPiece M P s n)
         → filter_map f q ≡ map name_of c
     names c q i h k =
@@ -243,7 +242,7 @@ module _ (M : Objects) (P : Rules) where
 
   -- what may follow
 
-  pub goes_on_behind : (c : List Piece) (q : List Step) (t : Piece) (x : Step) (more : List Step) → IsContext M P c
+  pub goes_on_behind : (c : List Span) (q : List Step) (t : Span) (x : Step) (more : List Step) → IsContext M P c
       → HasTurnSteps c q → Legal M P q → IsPiece M P t → spell t ≡ x ∷ more
       → Legal M P (spell_pieces c ++ spell t) ↔ GoesOn M P q x
   goes_on_behind c q t x more k h l i e =

@@ -4,19 +4,20 @@ use Rattle.road_base.specs.declared.ids.WayId.{WayId}
 use Rattle.road_base.specs.Objects.{Objects}
 use Rattle.road_model.specs.declared.lists.Place.{Place}
 use Rattle.road_model.specs.declared.lists.Context.{Context}
-use Rattle.road_model.specs.declared.lists.Piece.{Piece as PieceEntry}
+use Rattle.road_model.specs.declared.lists.Piece.{Piece}
 use Rattle.road_model.specs.declared.blocks.Block.{Block}
 use Rattle.road_model.specs.Rules.{Rules}
-use Rattle.road_model.specs.Pieces.{IsPlain, Piece, IsPiece}
+use Rattle.road_model.specs.Pieces.{IsPlain, Span, IsPiece}
 use Rattle.road_model.specs.Orders.{Lists, name_cmp, names_cmp, way_cmp}
 use Rattle.road_model.specs.Blocks.{IsPlaceOf, IsContextEntry, IsPieceEntry, IsRoadBlock}
 use Rattle.road_model.specs.Naming.{OnePiece, OneEntry, OneBlock, OneGraph}
 use Rattle.road_model.proofs.Decided.{order}
 use Rattle.road_model.proofs.TotalOrders.{way_cmp_total, name_cmp_total, names_cmp_total}
-use Rattle.road_model.proofs.Unique.{lists_unique, same_by_place}
+use Rattle.road_base.proofs.ListPlaces.{same_by_place}
+use Rattle.road_model.proofs.AscendingLists.{lists_unique}
 
 -- a junction inside a piece would be plain
-same_end : (M : Objects) (P : Rules) (p q : Piece) → IsPiece M P p → IsPiece M P q → p.way ≡ q.way → p.index ≡ q.index
+same_end : (M : Objects) (P : Rules) (p q : Span) → IsPiece M P p → IsPiece M P q → p.way ≡ q.way → p.index ≡ q.index
     → p.end ≡ q.end
 same_end M P p q a b w i =
     let ascends = a.ascends in let ascends' = b.ascends in
@@ -36,20 +37,20 @@ one_piece M P p q a b e =
     let j : p.end ≡ q.end = same_end M P p q a b w i in
     λ x. record { way = w x; index = i x; end = j x; dir = d x }
 
-one_place : (M : Objects) (p : Piece) (k : ℕ) (x y : Place) → IsPlaceOf M p k x → IsPlaceOf M p k y → x ≡ y
+one_place : (M : Objects) (p : Span) (k : ℕ) (x y : Place) → IsPlaceOf M p k x → IsPlaceOf M p k y → x ≡ y
 one_place M p k x y a b =
     let f : x.node ≡ y.node = cc (a.node, b.node) in
     let g : a.body ≡ b.body = let h = a.visible in let l = b.visible in cc (f, h, l) in
     let l : x.location ≡ y.location = cc (g, a.location, b.location) in
     λ i. record { node = f i; location = l i }
 
-places_same : (M : Objects) (p : Piece) (xs ys : List Place) → length xs ≡ length ys
+places_same : (M : Objects) (p : Span) (xs ys : List Place) → length xs ≡ length ys
     → ((k : ℕ) (x : Place) → slice_get xs k ≡ Some x → IsPlaceOf M p k x)
     → ((k : ℕ) (x : Place) → slice_get ys k ≡ Some x → IsPlaceOf M p k x) → xs ≡ ys
 places_same M p xs ys l a b = same_by_place xs ys l (λ k x y g h. one_place M p k x y (a k x g) (b k y h))
 
 -- two writings of one piece
-same_entry : (M : Objects) (P : Rules) (w : WayId) (e f : PieceEntry) (a : IsPieceEntry M P w e)
+same_entry : (M : Objects) (P : Rules) (w : WayId) (e f : Piece) (a : IsPieceEntry M P w e)
     (b : IsPieceEntry M P w f) → e.name ≡ f.name → a.piece ≡ b.piece → e ≡ f
 same_entry M P w e f a b n p =
     let end : e.end ≡ f.end = cc (a.end_is, b.end_is, p) in
@@ -68,7 +69,7 @@ one_entry M P w e f a b n = same_entry M P w e f a b n
 pub one_block : (M : Objects) (P : Rules) → OneBlock M P
 one_block M P w a b g h =
     let way : a.way ≡ b.way = g.way ∙ sym h.way in
-    let pieces = lists_unique (λ (p : PieceEntry). p.name) name_cmp name_cmp_total (IsPieceEntry M P w) a.pieces
+    let pieces = lists_unique (λ (p : Piece). p.name) name_cmp name_cmp_total (IsPieceEntry M P w) a.pieces
     b.pieces g.pieces h.pieces in
     λ i. record { way = way i; pieces = pieces i }
 

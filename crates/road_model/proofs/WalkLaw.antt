@@ -5,11 +5,11 @@ use Rattle.std.proofs.lemmas.List.{nil_from_length}
 use Rattle.road_base.specs.declared.ids.Step.{Step}
 use Rattle.road_base.specs.Objects.{Objects}
 use Rattle.road_model.specs.Rules.{Rules}
-use Rattle.road_model.specs.Pieces.{Piece, IsPiece, spell}
+use Rattle.road_model.specs.Pieces.{Span, IsPiece, spell}
 use Rattle.road_model.specs.Contexts.{Every}
 use Rattle.road_model.specs.Network.{Legal, spell_pieces}
 use Rattle.road_model.specs.Walks.{WalksTo, IsWalk, IsJunctionDrive, IsSpelled, Carries, HasShortest}
-use Rattle.road_model.proofs.Splits.{Ends, Nil, Last, ends}
+use Rattle.road_base.proofs.Splits.{Ends, Nil, Last, ends}
 use Rattle.road_model.proofs.LongestContext.{Every-tail, Every-front, Every-append}
 use Rattle.road_model.proofs.Decided.{Decided}
 use Rattle.road_model.proofs.Shapes.{piece_shape}
@@ -19,13 +19,13 @@ use Rattle.road_model.proofs.WalkLists.{Continues, reached, one_longest, walk_of
 use Rattle.road_model.proofs.WalkLists.{spell_pieces-push}
 use Rattle.road_model.proofs.StraightOn.{Pieces, pieces_of, same_pieces, Standing, standing, same_stand, get_split}
 
-pub ends_of : (M : Objects) (P : Rules) (q : Piece) → IsPiece M P q → Ends (spell q)
+pub ends_of : (M : Objects) (P : Rules) (q : Span) → IsPiece M P q → Ends (spell q)
     → (a : List Step) × (x : Step) × (spell q ≡ a ++ x ∷ [])
 ends_of M P q i (Nil e) = let f = (piece_shape M P q i).is in cc (f, e)
 ends_of M P q i (Last a x e) = (a, x, e)
 
-last_piece : (M : Objects) (P : Rules) (d : List Piece) → Ends d → (d ≡ [] → ⊥) → Every (IsPiece M P) d
-    → Legal M P (spell_pieces d) → (p : Piece) (o : List Piece) → d ≡ p ∷ o → IsJunctionDrive M P (spell_pieces d)
+last_piece : (M : Objects) (P : Rules) (d : List Span) → Ends d → (d ≡ [] → ⊥) → Every (IsPiece M P) d
+    → Legal M P (spell_pieces d) → (p : Span) (o : List Span) → d ≡ p ∷ o → IsJunctionDrive M P (spell_pieces d)
 last_piece M P d (Nil e) some i l p o g = absurd (some e)
 last_piece M P d (Last a q e) some i l p o g =
     let first = piece_shape M P p ((rw g at i).0) in
@@ -50,14 +50,14 @@ last_piece M P d (Last a q e) some i l p o g =
           ∙ sym (append_assoc (spell_pieces a) t.0 (t.1 ∷ []));
     }
 
-junction_drive : (M : Objects) (P : Rules) (d : List Piece) → (d ≡ [] → ⊥) → Every (IsPiece M P) d
+junction_drive : (M : Objects) (P : Rules) (d : List Span) → (d ≡ [] → ⊥) → Every (IsPiece M P) d
     → Legal M P (spell_pieces d) → IsJunctionDrive M P (spell_pieces d)
 junction_drive M P [] some i l = absurd (some refl)
 junction_drive M P (p ∷ o) some i l = last_piece M P (p ∷ o) (ends (p ∷ o)) some i l p o refl
 
 -- the walk that a drive makes when its first and last piece are made whole
 record Whole (M : Objects) (P : Rules) (s : List Step) : Type 0 where
-  p : Piece
+  p : Span
   ip : IsPiece M P p
   front : List Step
   f : Step
@@ -65,7 +65,7 @@ record Whole (M : Objects) (P : Rules) (s : List Step) : Type 0 where
   p_spelled : spell p ≡ front ++ f ∷ back
   rest : List Step
   begins : s ≡ f ∷ rest
-  q : Piece
+  q : Span
   iq : IsPiece M P q
   before : List Step
   x : Step
@@ -151,7 +151,7 @@ module _ (M : Objects) (P : Rules) (s : List Step) (l : Legal M P s) (w : Whole 
       completed_legal w.q w.iq c.1 c.0 c.3 c.2 (stops_long ∙ c.4)
 
   -- pieces that begin with the drive's first piece and have its last step in their last piece are these
-  up_to_last : (d : List Piece) (c : List Step) → Every (IsPiece M P) d → (b : Standing M P d (w.front ++ w.most) w.x c)
+  up_to_last : (d : List Span) (c : List Step) → Every (IsPiece M P) d → (b : Standing M P d (w.front ++ w.most) w.x c)
       → b.before ++ b.piece ∷ [] ≡ pieces_around.list
   unfolding completed
   up_to_last d c i b =
@@ -168,13 +168,13 @@ module _ (M : Objects) (P : Rules) (s : List Step) (l : Legal M P s) (w : Whole 
       (spelled ∙ sym pieces_around.spelled)
 
   -- a list of pieces that carries the drive has these pieces among its own
-  record Among (e : List Piece) : Type 0 where
-    left : List Piece
-    right : List Piece
+  record Among (e : List Span) : Type 0 where
+    left : List Span
+    right : List Span
     is : e ≡ left ++ (pieces_around.list ++ right)
 
   -- what the pieces from the drive's first one on spell
-  from_first : (before behind : List Step) (e : List Piece) (a : Standing M P e before w.f (w.rest ++ behind))
+  from_first : (before behind : List Step) (e : List Span) (a : Standing M P e before w.f (w.rest ++ behind))
       → IsPiece M P a.piece → spell_pieces (a.piece ∷ a.behind) ≡ (w.front ++ w.most) ++ w.x ∷ behind
   from_first before behind e a i =
       let same = same_stand M P a.piece w.p i w.ip a.front w.f a.back w.front w.back a.spelled w.p_spelled in
@@ -184,7 +184,7 @@ module _ (M : Objects) (P : Rules) (s : List Step) (l : Legal M P s) (w : Whole 
       ∙ ap (λ v. w.front ++ v) (append_assoc w.most (w.x ∷ []) behind)
       ∙ sym (append_assoc w.front w.most (w.x ∷ behind))
 
-  among_by : (before behind : List Step) (e : List Piece) (a : Standing M P e before w.f (w.rest ++ behind))
+  among_by : (before behind : List Step) (e : List Span) (a : Standing M P e before w.f (w.rest ++ behind))
       → Every (IsPiece M P) (a.piece ∷ a.behind) → Standing M P (a.piece ∷ a.behind) (w.front ++ w.most) w.x behind
       → Among e
   among_by before behind e a i b = record {
@@ -194,23 +194,23 @@ module _ (M : Objects) (P : Rules) (s : List Step) (l : Legal M P s) (w : Whole 
         ∙ ap (λ v. v ++ b.behind) (up_to_last (a.piece ∷ a.behind) behind i b));
   }
 
-  among_from : (before behind : List Step) (e : List Piece) → Every (IsPiece M P) e
+  among_from : (before behind : List Step) (e : List Span) → Every (IsPiece M P) e
       → Standing M P e before w.f (w.rest ++ behind) → Among e
   among_from before behind e i a =
       let j = Every-tail (IsPiece M P) a.before (a.piece ∷ a.behind) (subst (Every (IsPiece M P)) a.is i) in
       among_by before behind e a j (standing M P (a.piece ∷ a.behind) (w.front ++ w.most) w.x behind
       (from_first before behind e a j.0))
 
-  among : (e : List Piece) → Every (IsPiece M P) e → Carries e s → Among e
+  among : (e : List Span) → Every (IsPiece M P) e → Carries e s → Among e
   among e i c = among_from c.before c.behind e i
       (standing M P e c.before w.f (w.rest ++ c.behind) (c.is ∙ ap (λ v. c.before ++ (v ++ c.behind)) w.begins))
 
-  among_pieces : (e : List Piece) (a : Among e)
+  among_pieces : (e : List Span) (a : Among e)
       → length e ≡ length a.left + (length pieces_around.list + length a.right)
   among_pieces e a = let f = length-append a.left (pieces_around.list ++ a.right) in let g = length-append
       pieces_around.list a.right in ap length a.is ∙ f ∙ ap (λ v. length a.left + v) g
 
-  among_steps : (e : List Piece) (a : Among e)
+  among_steps : (e : List Span) (a : Among e)
       → length (spell_pieces e) ≡ length (spell_pieces a.left) +
       (length (spell_pieces pieces_around.list) + length (spell_pieces a.right))
   among_steps e a =
@@ -220,19 +220,19 @@ module _ (M : Objects) (P : Rules) (s : List Step) (l : Legal M P s) (w : Whole 
       let h = length-append (spell_pieces pieces_around.list) (spell_pieces a.right) in
       ap (λ v. length (spell_pieces v)) a.is ∙ ap length f ∙ g ∙ ap (λ v. length (spell_pieces a.left) + v) h
 
-  no_steps : (d : List Piece) → Every (IsPiece M P) d → length (spell_pieces d) ≡ 0 → d ≡ []
+  no_steps : (d : List Span) → Every (IsPiece M P) d → length (spell_pieces d) ≡ 0 → d ≡ []
   no_steps [] i e = refl
   no_steps (p ∷ d) i e = absurd (some_steps M P p d i.0 (nil_from_length _ e))
 
-  among_alone : (e : List Piece) (a : Among e) → a.left ≡ [] → a.right ≡ [] → e ≡ pieces_around.list
+  among_alone : (e : List Span) (a : Among e) → a.left ≡ [] → a.right ≡ [] → e ≡ pieces_around.list
   among_alone e a x y = a.is ∙ ap (λ v. v ++ (pieces_around.list ++ a.right)) x ∙ ap (λ v. pieces_around.list ++ v) y
       ∙ append-nil _
 
-  only_pieces : (e : List Piece) → Among e → length e ≤ length pieces_around.list → e ≡ pieces_around.list
+  only_pieces : (e : List Span) → Among e → length e ≤ length pieces_around.list → e ≡ pieces_around.list
   only_pieces e a h = let k = among_pieces e a in among_alone e a (nil_from_length a.left (omega arith))
       (nil_from_length a.right (omega arith))
 
-  only_steps : (e : List Piece) → Every (IsPiece M P) e → Among e
+  only_steps : (e : List Span) → Every (IsPiece M P) e → Among e
       → length (spell_pieces e) ≤ length (spell_pieces pieces_around.list) → e ≡ pieces_around.list
   only_steps e i a h =
       let k = among_steps e a in
@@ -242,26 +242,26 @@ module _ (M : Objects) (P : Rules) (s : List Step) (l : Legal M P s) (w : Whole 
       (Every-tail (IsPiece M P) a.left (pieces_around.list ++ a.right) j) in
       among_alone e a (no_steps a.left left (omega arith)) (no_steps a.right right (omega arith))
 
-walk_pieces : (M : Objects) (P : Rules) (d : List Piece) → IsWalk M P d → Every (IsPiece M P) d
+walk_pieces : (M : Objects) (P : Rules) (d : List Span) → IsWalk M P d → Every (IsPiece M P) d
 walk_pieces M P d w = (reached M P d w.context w.walks).pieces
 
-walk_some : (M : Objects) (P : Rules) (d c : List Piece) → WalksTo M P d c → d ≡ [] → ⊥
+walk_some : (M : Objects) (P : Rules) (d c : List Span) → WalksTo M P d c → d ≡ [] → ⊥
 walk_some M P d c w e = let r = reached M P d c w in r.legal.not_empty (ap spell_pieces e)
 
-pub spelled : (M : Objects) (P : Rules) (d : List Piece) → IsWalk M P d → IsJunctionDrive M P (spell_pieces d)
+pub spelled : (M : Objects) (P : Rules) (d : List Span) → IsWalk M P d → IsJunctionDrive M P (spell_pieces d)
 spelled M P d w = let r = reached M P d w.context w.walks in junction_drive M P d (walk_some M P d w.context w.walks)
     r.pieces r.legal
 
-pub one_to_one : (M : Objects) (P : Rules) (d e : List Piece) → IsWalk M P d → IsWalk M P e
+pub one_to_one : (M : Objects) (P : Rules) (d e : List Span) → IsWalk M P d → IsWalk M P e
     → spell_pieces d ≡ spell_pieces e → d ≡ e
 one_to_one M P d e v w h = same_pieces M P d e (walk_pieces M P d v) (walk_pieces M P e w) h
 
 -- the pieces of a walk determine its context
-pub one_walk : (M : Objects) (P : Rules) (d b c : List Piece) → WalksTo M P d b → WalksTo M P d c → b ≡ c
+pub one_walk : (M : Objects) (P : Rules) (d b c : List Span) → WalksTo M P d b → WalksTo M P d c → b ≡ c
 one_walk M P d b c v w = one_longest M P d b c (reached M P d b v).longest (reached M P d c w).longest
 
 module _ (M : Objects) (P : Rules) (continues : (v : List Step) → Decided (Continues M P v)) where
-  as_walk : (d : List Piece) → (d ≡ [] → ⊥) → Every (IsPiece M P) d → Legal M P (spell_pieces d) → IsWalk M P d
+  as_walk : (d : List Span) → (d ≡ [] → ⊥) → Every (IsPiece M P) d → Legal M P (spell_pieces d) → IsWalk M P d
   as_walk d some i l = let r = walk_of M P continues d some i l in record { context = r.0; walks = r.1 }
 
   pub onto : (s : List Step) → IsJunctionDrive M P s → IsSpelled M P s

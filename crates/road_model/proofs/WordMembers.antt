@@ -18,8 +18,7 @@ use Rattle.road_model.specs.Lines.{forward_steps, backward_steps, steps_from}
 use Rattle.road_model.specs.Restrictions.{in_role, vias, IsRun, whole_way}
 use Rattle.road_model.specs.Words.{IsWord, IsVia}
 use Rattle.road_model.specs.Links.{HasMember}
-use Rattle.road_model.proofs.Members.{In, in_from_contains, contains_from_in}
-use Rattle.road_model.proofs.Enumerated.{in_cases}
+use Rattle.road_base.proofs.ListMembers.{In, in_from_contains, contains_from_in, in_cases}
 
 -- the objects that the members refer to
 abbrev items : List Member → List Key
@@ -57,7 +56,7 @@ on_run : (M : Objects) (allowed : WayId → Dir → Bool) (ks : List Key) (v : N
     (s : Step) → IsRun M allowed ks v via out → In s via → In (WayKey s.way) ks
 on_run M allowed [] v via out s h i = subst (In s) h.0 i
 on_run M allowed (NodeKey n ∷ ks) v via out s h i = absurd h
-on_run M allowed (WayKey w ∷ ks) v via out s h i = elim (in_cases s (whole_way M w h.0) h.2 (subst (In s) h.6 i)) [
+on_run M allowed (WayKey w ∷ ks) v via out s h i = elim (in_cases (whole_way M w h.0) h.2 s (subst (In s) h.6 i)) [
   | inl j ↦ inl (ap WayKey (on_way w _ _ h.0 s j))
   | inr j ↦ inr (on_run M allowed ks h.1 h.2 out s h.7 j)
 ]
@@ -78,7 +77,7 @@ module _ (M : Objects) (P : Rules) (r : RelationId) (only : Bool) (binding : ℕ
   on_parts s (inl e) = role_member (codes "from") (WayKey s.way) w.body.members
       (subst (λ k. In (WayKey k) (in_role (codes "from") w.body.members)) (sym (ap (λ t. t.way) e ∙ w.first_ends.of))
       (in_from_contains _ _ w.from_member))
-  on_parts s (inr i) = elim (in_cases s w.via (w.last ∷ []) i) [
+  on_parts s (inr i) = elim (in_cases w.via (w.last ∷ []) s i) [
     | inl j ↦ role_member (codes "via") (WayKey s.way) w.body.members
         (on_via M P (vias w.body) w.enter w.via w.leave s w.via_is j)
     | inr j ↦ elim j [

@@ -8,46 +8,46 @@ use Rattle.road_model.specs.declared.lists.PieceName.{PieceName}
 use Rattle.road_model.specs.declared.lists.Place.{Place}
 use Rattle.road_model.specs.declared.lists.TurnArc.{TurnArc}
 use Rattle.road_model.specs.declared.lists.Context.{Context}
-use Rattle.road_model.specs.declared.lists.Piece.{Piece as PieceEntry}
+use Rattle.road_model.specs.declared.lists.Piece.{Piece}
 use Rattle.road_model.specs.declared.blocks.Block.{Block}
 use Rattle.road_model.specs.Rules.{Rules}
 use Rattle.road_model.specs.Lines.{node_at}
-use Rattle.road_model.specs.Pieces.{Piece, IsPiece}
+use Rattle.road_model.specs.Pieces.{Span, IsPiece}
 use Rattle.road_model.specs.Network.{IsContext, IsArc}
 use Rattle.road_model.specs.Orders.{Lists, name_cmp, names_cmp}
 
-abbrev pub name_of : Piece → PieceName
+abbrev pub name_of : Span → PieceName
 name_of p = record { way = p.way; index = p.index; dir = p.dir }
 
 -- an arc as it is written: its piece's name, and how many pieces its target has
-pub record IsArcEntry (M : Objects) (P : Rules) (c : List Piece) (a : TurnArc) : Type 0 where
-  pub piece : Piece
-  pub target : List Piece
+pub record IsArcEntry (M : Objects) (P : Rules) (c : List Span) (a : TurnArc) : Type 0 where
+  pub piece : Span
+  pub target : List Span
   pub arc : IsArc M P c piece target
   pub named : a.piece ≡ name_of piece
   pub length_is : a.length ≡ length target
 
 -- a context of the piece as it is written: the names of the pieces before it, and its arcs
-pub record IsContextEntry (M : Objects) (P : Rules) (p : Piece) (e : Context) : Type 0 where
-  pub before : List Piece
+pub record IsContextEntry (M : Objects) (P : Rules) (p : Span) (e : Context) : Type 0 where
+  pub before : List Span
   pub context : IsContext M P (before ++ p ∷ [])
   pub named : e.before ≡ map name_of before
   pub arcs : Lists (λ a. a.piece) name_cmp (IsArcEntry M P (before ++ p ∷ [])) e.arcs
 
 -- the position on the way's line at which a piece is after k steps
-abbrev pub place_position : Piece → ℕ → ℕ
+abbrev pub place_position : Span → ℕ → ℕ
 place_position p k = elim p.dir [ Forward ↦ p.index + k | Backward ↦ p.end - k ]
 
 -- the k-th node of a piece in order of travel, with its location
-pub record IsPlaceOf (M : Objects) (p : Piece) (k : ℕ) (e : Place) : Type 0 where
+pub record IsPlaceOf (M : Objects) (p : Span) (k : ℕ) (e : Place) : Type 0 where
   pub node : node_at M p.way (place_position p k) ≡ Some e.node
   pub body : Node
   pub visible : node_of M e.node ≡ Some body
   pub location : body.location ≡ Some e.location
 
 -- a piece of the way as it is written: its name and end, all its nodes in order of travel, and its contexts
-pub record IsPieceEntry (M : Objects) (P : Rules) (w : WayId) (e : PieceEntry) : Type 0 where
-  pub piece : Piece
+pub record IsPieceEntry (M : Objects) (P : Rules) (w : WayId) (e : Piece) : Type 0 where
+  pub piece : Span
   pub is : IsPiece M P piece
   pub of : piece.way ≡ w
   pub named : e.name ≡ name_of piece

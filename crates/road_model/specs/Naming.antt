@@ -2,20 +2,20 @@
 use Rattle.std.specs.Prelude.{◌≡◌, ℕ, List}
 use Rattle.road_base.specs.declared.ids.WayId.{WayId}
 use Rattle.road_base.specs.Objects.{Objects}
-use Rattle.road_model.specs.declared.lists.Piece.{Piece as PieceEntry}
+use Rattle.road_model.specs.declared.lists.Piece.{Piece}
 use Rattle.road_model.specs.declared.blocks.Block.{Block}
 use Rattle.road_model.specs.Rules.{Rules}
-use Rattle.road_model.specs.Pieces.{Piece, IsPiece}
+use Rattle.road_model.specs.Pieces.{Span, IsPiece}
 use Rattle.road_model.specs.Blocks.{IsPieceEntry, IsBlock, name_of}
 use Rattle.road_model.specs.Format.{IsGraph}
 
 -- pieces are told apart by their names
 abbrev pub OnePiece : Objects → Rules → Type 0
-OnePiece M P = (p q : Piece) → IsPiece M P p → IsPiece M P q → name_of p ≡ name_of q → p ≡ q
+OnePiece M P = (p q : Span) → IsPiece M P p → IsPiece M P q → name_of p ≡ name_of q → p ≡ q
 
 -- a piece is written in one way
 abbrev pub OneEntry : Objects → Rules → Type 0
-OneEntry M P = (w : WayId) (e f : PieceEntry) → IsPieceEntry M P w e → IsPieceEntry M P w f → e.name ≡ f.name → e ≡ f
+OneEntry M P = (w : WayId) (e f : Piece) → IsPieceEntry M P w e → IsPieceEntry M P w f → e.name ≡ f.name → e ≡ f
 
 -- a way has one block
 abbrev pub OneBlock : Objects → Rules → Type 0

@@ -7,7 +7,7 @@ use Rattle.road_model.specs.Rules.{Rules}
 use Rattle.road_model.specs.Driving.{drivable, Passes}
 use Rattle.road_model.specs.Words.{IsWord}
 use Rattle.road_model.specs.Legal.{IsLegalBy, MustBy}
-use Rattle.road_model.specs.Pieces.{Piece, IsPiece, spell}
+use Rattle.road_model.specs.Pieces.{Span, IsPiece, spell}
 use Rattle.road_model.specs.Contexts.{IsContextBy, IsLongestEnd, spell_all}
 
 abbrev pub Drives : Objects → Rules → Step → Type 0
@@ -47,18 +47,18 @@ pub record GoesOn (M : Objects) (P : Rules) (d : List Step) (t : Step) : Type 0 
   pub no : (a u : List Step) → d ++ t ∷ [] ≡ a ++ u → NoWord M P u → ⊥
   pub only : (a p : List Step) → d ≡ a ++ p → (x : Step) → Must M P p x → Must M P p t
 
-abbrev pub IsContext : Objects → Rules → List Piece → Type 0
+abbrev pub IsContext : Objects → Rules → List Span → Type 0
 IsContext M P = IsContextBy spell (IsPiece M P) (Legal M P) (AnyWord M P)
 
 -- the longest context that ends the list of pieces
-abbrev pub IsContextOf : Objects → Rules → List Piece → List Piece → Type 0
+abbrev pub IsContextOf : Objects → Rules → List Span → List Span → Type 0
 IsContextOf M P = IsLongestEnd (IsContext M P)
 
-abbrev pub spell_pieces : List Piece → List Step
+abbrev pub spell_pieces : List Span → List Step
 spell_pieces = spell_all spell
 
 -- from context c there is an arc by piece t, which leads to context e
-pub record IsArc (M : Objects) (P : Rules) (c : List Piece) (t : Piece) (e : List Piece) : Type 0 where
+pub record IsArc (M : Objects) (P : Rules) (c : List Span) (t : Span) (e : List Span) : Type 0 where
   pub from : IsContext M P c
   pub by : IsPiece M P t
   pub legal : Legal M P (spell_pieces c ++ spell t)

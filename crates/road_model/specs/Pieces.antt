@@ -24,14 +24,15 @@ pub record IsPlain (M : Objects) (P : Rules) (w : WayId) (i : ℕ) : Type 0 wher
   pub not_shut : IsFalse (shut M P node)
   pub no_turning : IsFalse (turning_place M P node)
 
-pub record Piece : Type 0 where
+-- a way, two positions of its line, and a direction: what may be a piece
+pub record Span : Type 0 where
   pub way : WayId
   pub index : ℕ
   pub end : ℕ
   pub dir : Dir
 
 -- two junction positions with only plain ones between, and a direction in which all steps are drivable
-pub record IsPiece (M : Objects) (P : Rules) (p : Piece) : Type 0 where
+pub record IsPiece (M : Objects) (P : Rules) (p : Span) : Type 0 where
   pub ascends : p.index < p.end
   pub first : IsPlain M P p.way p.index → ⊥
   pub last : IsPlain M P p.way p.end → ⊥
@@ -39,24 +40,24 @@ pub record IsPiece (M : Objects) (P : Rules) (p : Piece) : Type 0 where
   pub drives : (k : ℕ) → p.index ≤ k → k < p.end
       → IsTrue (drivable M P (record { way = p.way; index = k; dir = p.dir }))
 
-abbrev pub spell : Piece → List Step
+abbrev pub spell : Span → List Step
 spell p = steps_from p.way p.index (p.end - p.index) p.dir
 
 -- the step stands at place k of the piece's spelling
-pub record StandsAt (M : Objects) (P : Rules) (s : Step) (p : Piece) (k : ℕ) : Type 0 where
+pub record StandsAt (M : Objects) (P : Rules) (s : Step) (p : Span) (k : ℕ) : Type 0 where
   pub piece : IsPiece M P p
   pub at : slice_get (spell p) k ≡ Some s
 
 -- the step stands in the spelling of exactly one piece, once
 pub record IsInOnePiece (M : Objects) (P : Rules) (s : Step) : Type 0 where
-  pub piece : Piece
+  pub piece : Span
   pub place : ℕ
   pub stands : StandsAt M P s piece place
-  pub only : (q : Piece) (k : ℕ) → StandsAt M P s q k → (q ≡ piece) × (k ≡ place)
+  pub only : (q : Span) (k : ℕ) → StandsAt M P s q k → (q ≡ piece) × (k ≡ place)
 
 -- the step is the first one of a piece
 pub record BeginsPiece (M : Objects) (P : Rules) (s : Step) : Type 0 where
-  pub piece : Piece
+  pub piece : Span
   pub is : IsPiece M P piece
   pub more : List Step
   pub begins : spell piece ≡ s ∷ more

@@ -206,18 +206,18 @@ abbrev pub IsUsable : Objects → Rules → Relation → Type 0
 IsUsable M P r = (cause : Unusable) → Holds M P r cause → ⊥
 
 -- the order in which the causes are looked at
-abbrev pub place_of : Unusable → ℕ
-place_of NotThisVehicle = 1
-place_of NoValue = 2
-place_of Members = 3
-place_of Missing = 4
-place_of NotAnEnd = 5
-place_of NotConnected = 6
-place_of ClosedVia = 7
-place_of TooLong = 8
+abbrev pub cause_number : Unusable → ℕ
+cause_number NotThisVehicle = 1
+cause_number NoValue = 2
+cause_number Members = 3
+cause_number Missing = 4
+cause_number NotAnEnd = 5
+cause_number NotConnected = 6
+cause_number ClosedVia = 7
+cause_number TooLong = 8
 
 abbrev pub IsBefore : Unusable → Unusable → Type 0
-IsBefore a b = IsTrue (nat_lt (place_of a) (place_of b))
+IsBefore a b = IsTrue (nat_lt (cause_number a) (cause_number b))
 
 -- the cause that is named: it holds, and none before it does
 pub record IsFirstCause (M : Objects) (P : Rules) (r : Relation) (cause : Unusable) : Type 0 where

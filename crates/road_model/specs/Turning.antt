@@ -4,14 +4,14 @@ use Rattle.road_base.specs.declared.ids.Step.{Step}
 use Rattle.road_base.specs.Objects.{Objects}
 use Rattle.road_model.specs.declared.lists.PieceName.{PieceName}
 use Rattle.road_model.specs.Rules.{Rules}
-use Rattle.road_model.specs.Pieces.{Piece, IsPiece, spell}
+use Rattle.road_model.specs.Pieces.{Span, IsPiece, spell}
 use Rattle.road_model.specs.Network.{AnyWord, spell_pieces}
 use Rattle.road_model.specs.Blocks.{name_of}
 
 -- the steps q of the pieces c, from the last step of the first piece on
-pub record HasTurnSteps (c : List Piece) (q : List Step) : Type 0 where
-  pub first : Piece
-  pub others : List Piece
+pub record HasTurnSteps (c : List Span) (q : List Step) : Type 0 where
+  pub first : Span
+  pub others : List Span
   pub is : c ≡ first ∷ others
   pub front : List Step
   pub last : Step
@@ -27,7 +27,7 @@ pub record BeginsWord (M : Objects) (P : Rules) (q : List Step) : Type 0 where
 
 -- s is the last step of a piece of that name
 pub record EndsPiece (M : Objects) (P : Rules) (s : Step) (n : PieceName) : Type 0 where
-  pub piece : Piece
+  pub piece : Span
   pub is : IsPiece M P piece
   pub named : n ≡ name_of piece
   pub front : List Step

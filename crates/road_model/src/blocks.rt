@@ -72,7 +72,7 @@ impl Blocks {
         ensures { option_copied result ≡ get self.now.map way }
     {
         let list = self.list.as_slice();
-        match place_of(list, way) {
+        match find_way(list, way) {
             Ok(at) => Some(&list[at]),
             Err(_) => None,
         }
@@ -96,7 +96,7 @@ impl Blocks {
         ensures no_room { OnErr result (self.old.spare ≡ 0) }
         ensures spare { self.old.spare ≤ self.new.spare + 1 }
     {
-        match place_of(self.list.as_slice(), block.way) {
+        match find_way(self.list.as_slice(), block.way) {
             Ok(at) => {
                 self.list[at] = block;
                 Ok(())
@@ -115,7 +115,7 @@ impl Blocks {
         ensures map { self.new.map ≡ removed self.old.map way }
         ensures spare { self.old.spare ≤ self.new.spare }
     {
-        match place_of(self.list.as_slice(), way) {
+        match find_way(self.list.as_slice(), way) {
             Ok(at) => Some(self.list.remove(at)),
             Err(_) => None,
         }
@@ -145,7 +145,7 @@ impl Blocks {
 
 /// Where the way's block stands in the list, or else where it would stand: behind all blocks of lower ways. Behind all
 /// others is looked at first.
-fn place_of(list: &[Block], way: WayId) -> Result<usize, usize>
+fn find_way(list: &[Block], way: WayId) -> Result<usize, usize>
     requires { IsTrue (rises way_cmp (map (λ b. b.way) list.now)) }
     ensures within { IsSearchInRange result (length list.now) }
     ensures found { IfOk result (HoldsAt (λ b. b.way ≡ way) list.now) }

@@ -13,7 +13,7 @@ ghost use Rattle.road_model.specs.declared.lists.PieceName.{PieceName};
 ghost use Rattle.road_model.specs.Orders.{node_cmp, way_cmp, relation_cmp, name_cmp, names_cmp};
 ghost use Rattle.road_model.specs.Lines.{head_of, node_at};
 ghost use Rattle.road_model.specs.Driving.{drivable, is_road, Leaves};
-ghost use Rattle.road_model.specs.Pieces.{Piece, IsPiece, IsInOnePiece, BeginsPiece, spell};
+ghost use Rattle.road_model.specs.Pieces.{Span, IsPiece, IsInOnePiece, BeginsPiece, spell};
 ghost use Rattle.road_model.specs.Words.{IsWord};
 ghost use Rattle.road_model.specs.Contexts.{Every};
 ghost use Rattle.road_model.specs.Network.{AnyWord, Legal, GoesOn, IsContext, IsContextOf, HasNoWords, spell_pieces};
@@ -80,7 +80,7 @@ pub fn one_piece<P: Profile>(profile: &P)
 
 /// Where a piece ends, each drivable step that leaves is the first one of a piece.
 pub fn steps_depart<P: Profile>(profile: &P)
-    ensures { (M : Objects) (p : Piece) (front : List Step) (last u : Step) (v : NodeId)
+    ensures { (M : Objects) (p : Span) (front : List Step) (last u : Step) (v : NodeId)
         → IsPiece M (P.rules profile.now) p
         → spell p ≡ front ++ last ∷ []
         → head_of M last ≡ Some v
@@ -91,12 +91,12 @@ pub fn steps_depart<P: Profile>(profile: &P)
 /// A legal drive stays legal when the steps that stand before its first step in that step's piece are put before it,
 /// and when those that stand behind its last step in that step's piece are put behind it.
 pub fn whole_pieces<P: Profile>(profile: &P)
-    ensures before { (M : Objects) (p : Piece) (front : List Step) (s : Step) (back rest : List Step)
+    ensures before { (M : Objects) (p : Span) (front : List Step) (s : Step) (back rest : List Step)
         → IsPiece M (P.rules profile.now) p
         → spell p ≡ front ++ s ∷ back
         → Legal M (P.rules profile.now) (s ∷ rest)
         → Legal M (P.rules profile.now) (front ++ s ∷ rest) }
-    ensures behind { (M : Objects) (p : Piece) (front : List Step) (s : Step) (back rest : List Step)
+    ensures behind { (M : Objects) (p : Span) (front : List Step) (s : Step) (back rest : List Step)
         → IsPiece M (P.rules profile.now) p
         → spell p ≡ front ++ s ∷ back
         → Legal M (P.rules profile.now) (rest ++ s ∷ [])
@@ -106,9 +106,9 @@ pub fn whole_pieces<P: Profile>(profile: &P)
 /// A piece alone spells a legal drive, and behind legal pieces it is legal exactly where its first step may go on
 /// there.
 pub fn one_junction<P: Profile>(profile: &P)
-    ensures alone { (M : Objects) (p : Piece) → IsPiece M (P.rules profile.now) p
+    ensures alone { (M : Objects) (p : Span) → IsPiece M (P.rules profile.now) p
         → Legal M (P.rules profile.now) (spell p) }
-    ensures joined { (M : Objects) (d : List Piece) (t : Piece) (first : Step) (more : List Step)
+    ensures joined { (M : Objects) (d : List Span) (t : Span) (first : Step) (more : List Step)
         → Every (IsPiece M (P.rules profile.now)) d
         → (d ≡ [] → ⊥)
         → Legal M (P.rules profile.now) (spell_pieces d)
@@ -128,17 +128,17 @@ pub fn drive_parts<P: Profile>(profile: &P)
 
 /// Inside a piece, between two of its steps, no word begins or ends, and one that comes there goes straight on.
 pub fn words_at_junctions<P: Profile>(profile: &P)
-    ensures begins { (M : Objects) (p : Piece) (front : List Step) (s t : Step) (back rest : List Step)
+    ensures begins { (M : Objects) (p : Span) (front : List Step) (s t : Step) (back rest : List Step)
         → IsPiece M (P.rules profile.now) p
         → spell p ≡ front ++ s ∷ t ∷ back
         → AnyWord M (P.rules profile.now) (s ∷ rest)
         → ⊥ }
-    ensures ends { (M : Objects) (p : Piece) (front : List Step) (s t : Step) (back before : List Step)
+    ensures ends { (M : Objects) (p : Span) (front : List Step) (s t : Step) (back before : List Step)
         → IsPiece M (P.rules profile.now) p
         → spell p ≡ front ++ s ∷ t ∷ back
         → AnyWord M (P.rules profile.now) (before ++ t ∷ [])
         → ⊥ }
-    ensures goes_straight { (M : Objects) (p : Piece) (front : List Step) (s t next : Step)
+    ensures goes_straight { (M : Objects) (p : Span) (front : List Step) (s t next : Step)
         (back before rest : List Step)
         → IsPiece M (P.rules profile.now) p
         → spell p ≡ front ++ s ∷ t ∷ back
@@ -150,28 +150,28 @@ pub fn words_at_junctions<P: Profile>(profile: &P)
 /// context, which is found piece by piece: with one more piece it is the longest one that ends the last one and this
 /// piece. Where no restriction gives a word, a context is one piece.
 pub fn contexts<P: Profile>(profile: &P)
-    ensures shorter { (M : Objects) (e : List Piece) (t : Piece) → (e ≡ [] → ⊥)
+    ensures shorter { (M : Objects) (e : List Span) (t : Span) → (e ≡ [] → ⊥)
         → IsContext M (P.rules profile.now) (e ++ t ∷ []) → IsContext M (P.rules profile.now) e }
-    ensures some { (M : Objects) (d : List Piece)
+    ensures some { (M : Objects) (d : List Span)
         → (d ≡ [] → ⊥)
         → Every (IsPiece M (P.rules profile.now)) d
         → Legal M (P.rules profile.now) (spell_pieces d)
-        → (c : List Piece) × IsContextOf M (P.rules profile.now) d c }
-    ensures one { (M : Objects) (d b c : List Piece) → IsContextOf M (P.rules profile.now) d b
+        → (c : List Span) × IsContextOf M (P.rules profile.now) d c }
+    ensures one { (M : Objects) (d b c : List Span) → IsContextOf M (P.rules profile.now) d b
         → IsContextOf M (P.rules profile.now) d c → b ≡ c }
-    ensures next { (M : Objects) (d b c : List Piece) (t : Piece)
+    ensures next { (M : Objects) (d b c : List Span) (t : Span)
         → Every (IsPiece M (P.rules profile.now)) d
         → IsPiece M (P.rules profile.now) t
         → IsContextOf M (P.rules profile.now) d b
         → IsContextOf M (P.rules profile.now) (b ++ t ∷ []) c
         → IsContextOf M (P.rules profile.now) (d ++ t ∷ []) c }
-    ensures alone { (M : Objects) (c : List Piece) → HasNoWords M (P.rules profile.now)
-        → IsContext M (P.rules profile.now) c → (p : Piece) × (c ≡ p ∷ []) }
+    ensures alone { (M : Objects) (c : List Span) → HasNoWords M (P.rules profile.now)
+        → IsContext M (P.rules profile.now) c → (p : Span) × (c ≡ p ∷ []) }
 {}
 
 /// What may follow a legal list of pieces is decided by the longest context that ends it.
 pub fn context_decides<P: Profile>(profile: &P)
-    ensures { (M : Objects) (d c : List Piece) (t : Piece)
+    ensures { (M : Objects) (d c : List Span) (t : Span)
         → Every (IsPiece M (P.rules profile.now)) d
         → Legal M (P.rules profile.now) (spell_pieces d)
         → IsContextOf M (P.rules profile.now) d c
@@ -231,38 +231,38 @@ pub fn words_on_ways<P: Profile>(profile: &P)
 /// begin a word, and each such list of steps up to the last one of a piece is that of one context that ends with this
 /// piece. Where such steps end pieces they name the pieces. A context has at most 1,026 pieces.
 pub fn context_steps<P: Profile>(profile: &P)
-    ensures single { (M : Objects) (p : Piece) → IsPiece M (P.rules profile.now) p
+    ensures single { (M : Objects) (p : Span) → IsPiece M (P.rules profile.now) p
         → (last : Step) × HasTurnSteps (p ∷ []) (last ∷ []) }
-    ensures to { (M : Objects) (c : List Piece) (a b : Piece) (rest : List Piece)
+    ensures to { (M : Objects) (c : List Span) (a b : Span) (rest : List Span)
         → IsContext M (P.rules profile.now) c
         → c ≡ a ∷ b ∷ rest
         → (q : List Step) × HasTurnSteps c q × BeginsWord M (P.rules profile.now) q × Legal M (P.rules profile.now) q }
-    ensures from { (M : Objects) (q : List Step) (s : Step) (u : List Step) (t : Step) (p : Piece) (front : List Step)
+    ensures from { (M : Objects) (q : List Step) (s : Step) (u : List Step) (t : Step) (p : Span) (front : List Step)
         → Legal M (P.rules profile.now) q
         → BeginsWord M (P.rules profile.now) q
         → q ≡ s ∷ (u ++ t ∷ [])
         → IsPiece M (P.rules profile.now) p
         → spell p ≡ front ++ t ∷ []
-        → (before : List Piece) × (before ≡ [] → ⊥) × HasTurnSteps (before ++ p ∷ []) q
+        → (before : List Span) × (before ≡ [] → ⊥) × HasTurnSteps (before ++ p ∷ []) q
         × IsContext M (P.rules profile.now) (before ++ p ∷ []) }
-    ensures one { (M : Objects) (c d : List Piece) (q : List Step)
+    ensures one { (M : Objects) (c d : List Span) (q : List Step)
         → Every (IsPiece M (P.rules profile.now)) c
         → Every (IsPiece M (P.rules profile.now)) d
         → HasTurnSteps c q
         → HasTurnSteps d q
         → c ≡ d }
-    ensures names { (M : Objects) (c : List Piece) (q : List Step) (f : Step → Option PieceName)
+    ensures names { (M : Objects) (c : List Span) (q : List Step) (f : Step → Option PieceName)
         → Every (IsPiece M (P.rules profile.now)) c
         → HasTurnSteps c q
         → ((s : Step) (n : PieceName) → Contains q s → (f s ≡ Some n) ↔ EndsPiece M (P.rules profile.now) s n)
         → filter_map f q ≡ map name_of c }
-    ensures short { (M : Objects) (c : List Piece) → IsContext M (P.rules profile.now) c → length c ≤ 1026 }
+    ensures short { (M : Objects) (c : List Span) → IsContext M (P.rules profile.now) c → length c ≤ 1026 }
 {}
 
 /// A piece may follow a context exactly where the piece's first step may go on behind the context's last steps, from
 /// the last one of its first piece on.
 pub fn context_goes_on<P: Profile>(profile: &P)
-    ensures { (M : Objects) (c : List Piece) (q : List Step) (t : Piece) (x : Step) (more : List Step)
+    ensures { (M : Objects) (c : List Span) (q : List Step) (t : Span) (x : Step) (more : List Step)
         → IsContext M (P.rules profile.now) c
         → HasTurnSteps c q
         → Legal M (P.rules profile.now) q
@@ -275,7 +275,7 @@ pub fn context_goes_on<P: Profile>(profile: &P)
 /// without being the whole of it, is that of the pieces that stay before the piece; where there is none, the piece
 /// stands alone.
 pub fn context_target<P: Profile>(profile: &P)
-    ensures alone { (M : Objects) (c : List Piece) (q : List Step) (t : Piece) (x : Step) (more : List Step)
+    ensures alone { (M : Objects) (c : List Span) (q : List Step) (t : Span) (x : Step) (more : List Step)
         → IsContext M (P.rules profile.now) c
         → HasTurnSteps c q
         → IsPiece M (P.rules profile.now) t
@@ -283,7 +283,7 @@ pub fn context_target<P: Profile>(profile: &P)
         → Legal M (P.rules profile.now) (spell_pieces c ++ spell t)
         → ((a b : List Step) → q ≡ a ++ b → (b ≡ [] → ⊥) → BeginsWord M (P.rules profile.now) (b ++ x ∷ []) → ⊥)
         → IsContextOf M (P.rules profile.now) (c ++ t ∷ []) (t ∷ []) }
-    ensures longer { (M : Objects) (c : List Piece) (q : List Step) (t : Piece) (x : Step) (more : List Step)
+    ensures longer { (M : Objects) (c : List Span) (q : List Step) (t : Span) (x : Step) (more : List Step)
         (a b : List Step)
         → IsContext M (P.rules profile.now) c
         → HasTurnSteps c q
@@ -294,8 +294,8 @@ pub fn context_target<P: Profile>(profile: &P)
         → (b ≡ [] → ⊥)
         → BeginsWord M (P.rules profile.now) (b ++ x ∷ [])
         → ((k l : List Step) → q ≡ k ++ l → BeginsWord M (P.rules profile.now) (l ++ x ∷ []) → length l ≤ length b)
-        → (e : List Piece) × HasTurnSteps e b × IsContextOf M (P.rules profile.now) (c ++ t ∷ []) (e ++ t ∷ [])
-        × ((d : List Piece) × (c ≡ d ++ e)) }
+        → (e : List Span) × HasTurnSteps e b × IsContextOf M (P.rules profile.now) (c ++ t ∷ []) (e ++ t ∷ [])
+        × ((d : List Span) × (c ≡ d ++ e)) }
 {}
 
 /// A road is linked to each node that its line passes, and so is the way of a drivable step to the node where it
