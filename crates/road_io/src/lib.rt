@@ -1,21 +1,35 @@
-//! The outside of the program: the bytes that it reads, and the output that it puts.
+//! The outside of the program: the bytes that it reads, the output that it puts, and two files.
 //!
-//! The traits say what a call does to the bytes of an object that tells them, that a call fails only where a count of
-//! faults rises, and that the count stays where a call is Ok. `MemorySource` and `MemorySite` tell all they hold, and
-//! fail where they are asked to. `RealSource` and `RealSite` stand over readers and writers of the system, and tell
-//! nothing.
+//! The traits say what a call does to what an object tells: a source its bytes left, a site its output and its files.
+//! A call fails only where a count of faults rises, and the count stays where a call is Ok. What a site tells answers
+//! what a stop may leave at any moment, in a call or between two: the images of both files and a front of the output,
+//! under one clock. `MemorySource` and `MemorySite` tell all they hold, and fail where they are asked to; the site
+//! keeps a record of its calls, and tells what the record leads to. `RealSource` and `RealSite` stand over readers,
+//! writers and files of the system, and tell nothing.
 //!
-//! In memory a read costs the bytes that it gives and a put, taken over all puts, the bytes of its piece; each also
-//! looks through the list of calls that are to fail. Nothing is buffered: a real read is one read of the reader
-//! beneath, and a real put writes its whole piece and flushes, so read into large buffers and put large pieces.
+//! In memory a read costs the bytes that it gives and a put or a write, taken over all of them, the bytes of its piece,
+//! which the record keeps as well; the first write or cut on a file also copies the file. `file_len`, `cut` and `sync`
+//! cost an entry of the record. Each call also looks through the list of calls that are to fail. Nothing is buffered:
+//! a real call is one call of the system (a write goes on until its piece is written, a put also flushes, and the first
+//! sync of a file also syncs its folder), so read into large buffers, and put and write large pieces.
 #![tactic(auto)]
 
+mod call_log;
+mod copies;
+mod entries;
+pub mod laws;
+mod memory_files;
 mod memory_site;
 mod memory_source;
 mod outside;
 mod real;
+mod real_file;
 
+pub use entries::{Bytes, Call, Entry};
 pub use memory_site::MemorySite;
 pub use memory_source::MemorySource;
-pub use outside::{Failed, Site, Source};
+pub use outside::{Failed, Site, Source, Which};
 pub use real::{RealSite, RealSource};
+
+#[cfg(test)]
+mod steps;

@@ -1,7 +1,7 @@
 //! A source in memory.
 ghost use Rattle.std.specs.Prelude.{◌≡◌, ◌≤◌, ◌↔◌, IfOk, OnErr, IsErr, length, min};
-ghost use Rattle.road_io.specs.Calls.{Gives};
 
+use crate::copies::copy_front;
 use crate::{Failed, Source};
 use std::marker::Model;
 
@@ -46,16 +46,6 @@ impl MemorySource {
             faults: 0,
         }
     }
-}
-
-// Copies as many bytes as there are and as there is room for.
-fn copy_front(buf: &mut [u8], from: &[u8]) -> usize
-    ensures most { result ≡ min (length buf.old) (length from.now) }
-    ensures gives { Gives result from.now buf.old buf.new }
-{
-    let n = buf.len().min(from.len());
-    buf[..n].copy_from_slice(&from[..n]);
-    n
 }
 
 impl Source for MemorySource {

@@ -3,10 +3,13 @@ ghost use Rattle.std.specs.Prelude.{◌≡◌, ◌≤◌, Ok, IfOk, OnOk, IsErr,
 ghost use Rattle.std.specs.Io.KnownBytes.{ReadConsumes, Appends};
 ghost use Rattle.road_io.specs.Told.{Counts, faults_after};
 
-use crate::{Failed, Site, Source};
+use crate::real_file::RealFile;
+use crate::{Failed, Site, Source, Which};
+use std::fs::File;
 use std::io;
 use std::io::{Read, Write};
 use std::marker::Model;
+use std::rt::Files;
 
 /// A reader of the system, as standard input.
 #[derive(Drop)]
@@ -53,14 +56,18 @@ impl<R: Read> Source for RealSource<R> {
     }
 }
 
-/// A writer of the system, as standard output.
+/// A writer of the system, as standard output, and two files of the system. A file is opened at the first call on it.
+/// A new file's name stands on the disk once its folder does, so the first sync of a file also syncs the folder.
 #[derive(Drop)]
-pub struct RealSite<W: Write> {
+pub struct RealSite<R: Files<File = File>, W: Write> {
+    files: R,
     output: W,
+    a: RealFile,
+    b: RealFile,
     faults: u64,
 }
 
-impl<W: Write> Model for RealSite<W> {
+impl<R: Files<File = File>, W: Write> Model for RealSite<R, W> {
     ghost use Rattle.road_io.specs.Real.{Real};
 
     ghost Value = { Real W };
@@ -68,21 +75,29 @@ impl<W: Write> Model for RealSite<W> {
     ghost view = { λ s. record { beneath = s.output; faults = s.faults } };
 }
 
-impl<W: Write> RealSite<W> {
-    /// Over this writer. No call has failed yet.
-    pub fn new(output: W) -> RealSite<W>
+impl<R: Files<File = File>, W: Write> RealSite<R, W> {
+    /// Over this writer and the files of these names. It touches no file, and no call has failed yet.
+    pub fn new(files: R, output: W, name_a: String, name_b: String) -> RealSite<R, W>
         ensures { result ≡ record { beneath = output; faults = 0 } }
     {
-        RealSite { output, faults: 0 }
+        RealSite {
+            files,
+            output,
+            a: RealFile::new(name_a),
+            b: RealFile::new(name_b),
+            faults: 0,
+        }
     }
 }
 
-impl<W: Write> Site for RealSite<W> {
+impl<R: Files<File = File>, W: Write> Site for RealSite<R, W> {
     ghost use Rattle.std.specs.Prelude.{None};
 
     ghost outside = { λ _. None };
 
     ghost faults = { λ s. s.faults };
+
+    ghost sound = { λ _. tt };
 
     /// Writes the whole piece to the writer beneath, and flushes.
     fn put(&mut self, piece: &[u8]) -> Result<(), Failed>
@@ -93,6 +108,69 @@ impl<W: Write> Site for RealSite<W> {
             (Appends (W.contents self.old.beneath) (W.contents self.new.beneath) piece.now) }
     {
         let answer = write_whole(&mut self.output, piece);
+        counted(answer, &mut self.faults)
+    }
+
+    fn file_len(&mut self, file: Which) -> Result<u64, Failed>
+        ensures counts { Counts self.old.faults self.new.faults result }
+
+        ensures faults { self.new ≡ record self.old { faults = faults_after result self.old.faults } }
+    {
+        let answer = match file {
+            Which::A => self.a.len(&self.files),
+            Which::B => self.b.len(&self.files),
+        };
+        counted(answer, &mut self.faults)
+    }
+
+    /// One read of the system. Every error is a fault, also where a signal came in between.
+    fn read_at(&mut self, file: Which, at: u64, buf: &mut [u8]) -> Result<usize, Failed>
+        ensures fits { IfOk result (λ n. n ≤ length buf.old) }
+        ensures counts { Counts self.old.faults self.new.faults result }
+
+        ensures faults { self.new ≡ record self.old { faults = faults_after result self.old.faults } }
+    {
+        let answer = match file {
+            Which::A => self.a.read_at(&self.files, at, buf),
+            Which::B => self.b.read_at(&self.files, at, buf),
+        };
+        counted(answer, &mut self.faults)
+    }
+
+    fn write_at(&mut self, file: Which, at: u64, piece: &[u8]) -> Result<(), Failed>
+        ensures counts { Counts self.old.faults self.new.faults result }
+
+        ensures faults { self.new ≡ record self.old { faults = faults_after result self.old.faults } }
+    {
+        let answer = match file {
+            Which::A => self.a.write_at(&self.files, at, piece),
+            Which::B => self.b.write_at(&self.files, at, piece),
+        };
+        counted(answer, &mut self.faults)
+    }
+
+    fn cut(&mut self, file: Which, len: u64) -> Result<(), Failed>
+        ensures counts { Counts self.old.faults self.new.faults result }
+
+        ensures faults { self.new ≡ record self.old { faults = faults_after result self.old.faults } }
+    {
+        let answer = match file {
+            Which::A => self.a.cut(&self.files, len),
+            Which::B => self.b.cut(&self.files, len),
+        };
+        counted(answer, &mut self.faults)
+    }
+
+    /// Waits for the file, and at its first sync for the folder that its name stands in.
+    fn sync(&mut self, file: Which) -> Result<(), Failed>
+        ensures counts { Counts self.old.faults self.new.faults result }
+
+        ensures faults { self.new ≡ record self.old { faults = faults_after result self.old.faults } }
+    {
+        let answer = match file {
+            Which::A => self.a.sync(&self.files),
+            Which::B => self.b.sync(&self.files),
+        };
         counted(answer, &mut self.faults)
     }
 }
@@ -122,8 +200,11 @@ fn counted<T: Drop>(answer: io::Result<T>, faults: &mut u64) -> Result<T, Failed
 #[cfg(test)]
 mod tests {
     use super::*;
+    use crate::steps::Step;
     use std::io::ErrorKind;
+    use std::process::Abort;
     use std::test::Fail;
+    use std::{env, fs, process};
 
     // Bytes whose second read a signal interrupts.
     #[derive(Drop)]
@@ -183,23 +264,124 @@ mod tests {
 
     #[test]
     fn puts(rt: HostRuntime) -> Result<(), Fail> {
-        let mut site = RealSite::new(Narrow {
-            taken: Vec::new(rt.alloc()),
+        let alloc = rt.alloc();
+        let output = Narrow {
+            taken: Vec::new(alloc),
             flushes: 0,
-        });
+        };
+        let mut site = RealSite::new(rt, output, String::new(alloc), String::new(alloc));
         assert_eq!(rt; site.put(b"abc"), Ok(()));
         assert_eq!(rt; site.put(b"de"), Err(Failed));
         assert_eq!(rt; site.put(b"f"), Ok(()));
         assert_eq!(rt; site.output.taken.as_slice(), b"abcdef".as_slice());
         assert_eq!(rt; site.output.flushes, 3);
         assert_eq!(rt; site.faults, 1);
+        Ok(())
+    }
 
+    #[test]
+    fn full(rt: HostRuntime) {
+        let alloc = rt.alloc();
         let mut room = *b"....";
-        let mut full = RealSite::new(room.as_mut_slice());
-        assert_eq!(rt; full.put(b"abc"), Ok(()));
-        assert_eq!(rt; full.put(b"de"), Err(Failed));
-        assert_eq!(rt; full.faults, 1);
+        let output = room.as_mut_slice();
+        let mut site = RealSite::new(rt, output, String::new(alloc), String::new(alloc));
+        assert_eq!(rt; site.put(b"abc"), Ok(()));
+        assert_eq!(rt; site.put(b"de"), Err(Failed));
+        assert_eq!(rt; site.faults, 1);
+        drop(site);
         assert_eq!(rt; room, *b"abcd");
+    }
+
+    // A folder of this process's own, without what an earlier one may have left there.
+    fn empty_folder(rt: &HostRuntime) -> Result<String, Fail> {
+        let parent = env::temp_dir(rt)?;
+        let id = process::id(rt.process());
+        let folder = format!(in rt.alloc(); "{}/road_io_{id}", parent.as_str())?;
+        let _ = fs::remove_dir_all(rt, folder.as_str());
+        fs::create_dir(rt, folder.as_str())?;
+        Ok(folder)
+    }
+
+    fn site_in<'a>(
+        rt: &'a HostRuntime,
+        folder: &str,
+    ) -> Result<RealSite<&'a HostRuntime, io::Stdout>, Fail> {
+        let a = format!(in rt.alloc(); "{folder}/map.a")?;
+        let b = format!(in rt.alloc(); "{folder}/map.b")?;
+        Ok(RealSite::new(rt, rt.stdout(), a, b))
+    }
+
+    // Calls and what they answer. Each file is missing until the first write or cut.
+    const STEPS: [(Step, Result<u64, Failed>); 17] = [
+        (Step::Len(Which::A), Ok(0)),
+        (Step::Read(Which::A, 0, "...."), Ok(0)),
+        (Step::Sync(Which::A), Ok(0)),
+        (Step::Len(Which::A), Ok(0)),
+        (Step::Write(Which::A, 0, "hello world"), Ok(0)),
+        (Step::Sync(Which::A), Ok(0)),
+        (Step::Len(Which::A), Ok(11)),
+        (Step::Cut(Which::A, 5), Ok(0)),
+        (Step::Write(Which::A, 1, "ipp"), Ok(0)),
+        (Step::Sync(Which::A), Ok(0)),
+        (Step::Len(Which::A), Ok(5)),
+        (Step::Read(Which::A, 1, "ippo.."), Ok(4)),
+        (Step::Read(Which::A, 5, ".."), Ok(0)),
+        (Step::Len(Which::B), Ok(0)),
+        (Step::Cut(Which::B, 0), Ok(0)),
+        (Step::Sync(Which::B), Ok(0)),
+        (Step::Read(Which::B, 0, "."), Ok(0)),
+    ];
+
+    // The same, in a folder that isn't there.
+    const STEPS_NOWHERE: [(Step, Result<u64, Failed>); 6] = [
+        (Step::Len(Which::B), Ok(0)),
+        (Step::Read(Which::B, 0, "."), Ok(0)),
+        (Step::Sync(Which::B), Ok(0)),
+        (Step::Write(Which::B, 0, "x"), Err(Failed)),
+        (Step::Cut(Which::B, 0), Err(Failed)),
+        (Step::Sync(Which::B), Ok(0)),
+    ];
+
+    fn answer(
+        rt: &impl Abort,
+        site: &mut RealSite<&HostRuntime, io::Stdout>,
+        step: Step,
+    ) -> Result<u64, Failed> {
+        match step {
+            Step::Put(piece) => site.put(piece.as_bytes()).map(|()| 0),
+            Step::Len(file) => site.file_len(file),
+            Step::Read(file, at, text) => {
+                let mut buf = *b"........";
+                assert!(rt; text.len() <= buf.len());
+                let answer = site.read_at(file, at, &mut buf[..text.len()]);
+                assert_eq!(rt; buf[..text.len()], *text.as_bytes(), "{text}");
+                answer.map(|n| n as u64)
+            }
+            Step::Write(file, at, piece) => site.write_at(file, at, piece.as_bytes()).map(|()| 0),
+            Step::Cut(file, len) => site.cut(file, len).map(|()| 0),
+            Step::Sync(file) => site.sync(file).map(|()| 0),
+        }
+    }
+
+    #[test]
+    fn files(rt: HostRuntime) -> Result<(), Fail> {
+        let folder = empty_folder(&rt)?;
+        let mut site = site_in(&rt, &folder)?;
+        for (at, (step, wanted)) in STEPS.iter().enumerate() {
+            assert_eq!(rt; answer(&rt, &mut site, *step), *wanted, "call {at}");
+        }
+        assert_eq!(rt; fs::read_dir(&rt, folder.as_str())?.count(), 2);
+        fs::remove_dir_all(&rt, folder.as_str())?;
+        Ok(())
+    }
+
+    #[test]
+    fn no_folder(rt: HostRuntime) -> Result<(), Fail> {
+        let mut site = site_in(&rt, "/road_io/no/folder")?;
+        for (at, (step, wanted)) in STEPS_NOWHERE.iter().enumerate() {
+            assert_eq!(rt; answer(&rt, &mut site, *step), *wanted, "call {at}");
+        }
+        assert_eq!(rt; site.faults, 2);
         Ok(())
     }
 }

@@ -1,0 +1,7 @@
+pub mod ToldCalls
+pub mod CallRuns
+pub mod PendingImages
+pub mod FileRuns
+pub mod QuietRuns
+pub mod OnlyImages
+pub mod RecordedCalls
