@@ -1,0 +1,10 @@
+pub mod Layout
+pub mod Standing
+pub mod Fields
+pub mod Ends
+pub mod Journal
+pub mod Windows
+pub mod Reading
+pub mod Loading
+pub mod Adding
+pub mod Basing

@@ -1,0 +1,74 @@
+//! The bytes of a record and of a base, each as one piece behind its gate.
+ghost use Rattle.std.specs.Prelude.{◌≡◌, ◌+◌, ◌<◌, ◌≤◌, ◌^◌, ◌++◌, ◌∷◌, [], IfOk, OnOk, length, take, drop};
+ghost use Rattle.road_base.specs.Bytes.{u64_bytes};
+ghost use Rattle.object_codec.specs.Spelling.{events_bytes};
+ghost use Rattle.sequence_journal.specs.Layout.{fields, base_bytes};
+ghost use Rattle.sequence_journal.specs.Standing.{EventsFit, record_of, base_of};
+
+use crate::ends::CLOSED;
+use object_codec::encode;
+use road_base::{Event, LittleEndian, NoMemory, Sequence};
+use std::alloc::Global;
+
+/// What stands behind the gate of a change's record: its fields and bytes, and the next gate, closed.
+pub(crate) fn record_piece(
+    alloc: Global,
+    seq: Sequence,
+    events: &[Event],
+) -> Result<Vec<u8>, NoMemory>
+    ensures bytes { IfOk result (λ piece. piece.items ≡ fields (record_of seq.0 events.now) ++ 0 ∷ []) }
+    ensures fit { IfOk result (λ piece. EventsFit events.now) }
+    ensures number_fits { IfOk result (λ piece. seq.0 < 2 ^ 64) }
+{
+    let mut piece = Vec::new(alloc);
+    seq.0.put(&mut piece)?;
+    put_events(events, &mut piece)?;
+    Ok(piece)
+}
+
+/// What stands behind the gate of a base: the magic, its fields and bytes, and the next gate, closed.
+pub(crate) fn base_piece(
+    alloc: Global,
+    generation: u64,
+    number: Sequence,
+    events: &[Event],
+) -> Result<Vec<u8>, NoMemory>
+    ensures bytes { IfOk result
+        (λ piece. 1 ∷ piece.items ≡ base_bytes (base_of generation number.0 events.now) ++ 0 ∷ []) }
+    ensures fit { IfOk result (λ piece. EventsFit events.now) }
+    ensures generation_fits { IfOk result (λ piece. generation < 2 ^ 64) }
+    ensures number_fits { IfOk result (λ piece. number.0 < 2 ^ 64) }
+{
+    let mut piece = Vec::new(alloc);
+    piece.extend_from_slice(b"OSMJRNL1".as_slice())?;
+    1u32.put(&mut piece)?;
+    generation.put(&mut piece)?;
+    number.0.put(&mut piece)?;
+    put_events(events, &mut piece)?;
+    Ok(piece)
+}
+
+/// Appends how many bytes spell the events, these bytes and a closed gate. Where no memory is found, a part of it may
+/// stand there.
+fn put_events(events: &[Event], piece: &mut Vec<u8>) -> Result<(), NoMemory>
+    ensures ok { OnOk result (piece.new.items
+        ≡ piece.old.items ++ u64_bytes (length (events_bytes events.now)) ++ events_bytes events.now ++ 0 ∷ []) }
+    ensures fit { OnOk result (EventsFit events.now) }
+{
+    let place = piece.len();
+    0u64.put(piece)?;
+    let from = piece.len();
+    encode(events, piece)?;
+    let size = (piece.len() - from) as u64;
+    set_number(piece, place, size);
+    piece.push(CLOSED)?;
+    Ok(())
+}
+
+/// Puts a number in the place of eight bytes.
+fn set_number(bytes: &mut [u8], place: usize, number: u64)
+    requires { place + 8 ≤ length bytes.old }
+    ensures { bytes.new ≡ take place bytes.old ++ u64_bytes number ++ drop (place + 8) bytes.old }
+{
+    bytes[place..place + 8].copy_from_slice(&number.to_le_bytes());
+}
