@@ -1,0 +1,88 @@
+-- Calls after which all reads as before, one behind another.
+use Rattle.std.proofs.Common.{◌≡◌, ℕ, List, Option, None, Some, false, Result, Ok, Err, sym, ◌∙◌, subst}
+use Rattle.std.specs.Io.{StartsWith}
+use Rattle.std.specs.Option.{is_some}
+use Rattle.road_io.specs.declared.outside.Failed.{Failed}
+use Rattle.road_io.specs.declared.outside.Which.{Which}
+use Rattle.road_io.specs.declared.outside.Which.TheVariants.{A, B}
+use Rattle.road_io.specs.Disk.{IsDurable}
+use Rattle.road_io.specs.Outside.{Outside, Left, IsLeft, disk, other, present}
+use Rattle.road_io.specs.Told.{Told}
+use Rattle.road_io.proofs.ToldCalls.{told_then, told_weaker}
+use Rattle.road_io.proofs.CallRuns.{then_runs}
+use Rattle.sequence_journal.specs.Layout.{BaseIsOpen, NoBase}
+use Rattle.sequence_journal.specs.Loading.{Calm, Settles}
+use Rattle.sequence_journal.proofs.SettledFile.{calm_quiet}
+use Rattle.store_switch.specs.LiveFile.{LiveAnswer, FindsLive, BothDurable, SettlesBoth, reads_of}
+
+pub calm_left : (w u : Outside) → Calm w u → (left : Left) → IsLeft (present u) left → IsLeft (present w) left
+calm_left w u calm left l = record {
+  a = calm.images A left.a l.a;
+  b = calm.images B left.b l.b;
+  no_less = subst (λ (out : List ℕ). StartsWith left.out out) calm.output l.no_less;
+  no_more = subst (λ (out : List ℕ). StartsWith out left.out) calm.output l.no_more;
+}
+
+pub calm_then : (w u v : Outside) → Calm w u → Calm u v → Calm w v
+calm_then w u v p q = record {
+  reads = λ f. q.reads f ∙ p.reads f;
+  durable = λ f d. q.durable f (p.durable f d);
+  output = q.output ∙ p.output;
+  images = λ f c i. p.images f c (q.images f c i);
+  only = then_runs w u v (IsLeft (present w)) (IsLeft (present u)) p.only q.only (calm_left w u p);
+}
+
+-- ---- both files synced
+
+pub settled_both : (result : Result (Unit {0}) Failed) (x : Unit {0}) (w u v : Outside) → Settles A (Ok x) w u
+    → Settles B result u v → SettlesBoth result w v
+settled_both (Err y) x w u v a b = record { calm = calm_then w u v a.calm b.calm; done = tt }
+settled_both (Ok y) x w u v a b = record { calm = calm_then w u v a.calm b.calm; done = both }
+  where
+    both : (file : Which) → IsDurable (disk v file)
+    both A = b.calm.durable A a.done
+    both B = b.done
+
+pub settled_one : (x : Failed) (w u : Outside) → Settles A (Err x) w u → SettlesBoth (Err x) w u
+settled_one x w u a = record { calm = a.calm; done = tt }
+
+-- ---- synced, and the live file found
+
+pub record Found (found : Option Which) (w u : Outside) : Type 0 where
+  pub calm : Calm w u
+  pub durable : BothDurable u
+  pub answer : LiveAnswer (reads_of w) (Ok found)
+
+live_same : (found : Option Which) (w u : Outside) → Calm w u → LiveAnswer (reads_of u) (Ok found)
+    → LiveAnswer (reads_of w) (Ok found)
+live_same None w u calm none = λ file. subst NoBase (calm.reads file) (none file)
+live_same (Some f) w u calm l = record {
+  base = l.base;
+  rest = l.rest;
+  is_open = subst (λ (x : List ℕ). BaseIsOpen x l.base l.rest) (calm.reads f) l.is_open;
+  over = λ b rest o. l.over b rest (subst (λ (x : List ℕ). BaseIsOpen x b rest) (sym (calm.reads (other f))) o);
+}
+
+pub found_both : (found : Option Which) (x : Unit {0}) (w u v : Outside) → SettlesBoth (Ok x) w u
+    → FindsLive (Ok found) u v → Found found w v
+found_both found x w u v s f =
+    let calm : Calm u v = calm_quiet u v f.quiet in
+    record {
+      calm = calm_then w u v s.calm calm;
+      durable = λ file. calm.durable file (s.done file);
+      answer = live_same found w u s.calm f.answer;
+    }
+
+pub found_none : (found : Option Which) (w u : Outside) → is_some found ≡ false → Found found w u → Found None w u
+found_none None w u none f = f
+found_none (Some live) w u none f = absurd (cc)
+
+-- the same as far as it is told
+module _ (found : Option Which) (x : Unit {0}) (a b c : Option Outside) (settles : Told (SettlesBoth (Ok x)) a b)
+    (finds : Told (FindsLive (Ok found)) b c) where
+  pub told_found : Told (Found found) a c
+  told_found = told_then a b c (SettlesBoth (Ok x)) (FindsLive (Ok found)) (Found found) settles finds
+      (found_both found x)
+
+  pub told_none : is_some found ≡ false → Told (Found None) a c
+  told_none none = told_weaker a c (Found found) (Found None) told_found (λ w u. found_none found w u none)

@@ -1,0 +1,6 @@
+mod LiveFiles
+mod CalmRuns
+mod StoreLoads
+mod StoreCreations
+mod IntactStores
+mod ChangedStores

@@ -1,0 +1,4 @@
+pub mod LiveFile
+pub mod TwoFiles
+pub mod StoreLoading
+pub mod StoreCreating

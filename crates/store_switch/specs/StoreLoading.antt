@@ -1,0 +1,56 @@
+-- What loading a store leaves.
+use Rattle.std.specs.Prelude.{◌≡◌, ◌⊎◌, ◌≤◌, ◌^◌, length, false, Result, Ok, Err}
+use Rattle.road_base.specs.History.{History, all_events}
+use Rattle.road_io.specs.declared.outside.Which.{Which}
+use Rattle.road_io.specs.Outside.{Outside, Left, IsLeft, LeavesOnly, present}
+use Rattle.sequence_journal.specs.declared.error.JournalError.{JournalError}
+use Rattle.sequence_journal.specs.declared.error.JournalError.TheVariants.{OutOfSequence, SiteFault, NoStore}
+use Rattle.sequence_journal.specs.declared.error.JournalError.TheVariants.{StoreExists}
+use Rattle.sequence_journal.specs.declared.load.Loaded.{Loaded}
+use Rattle.sequence_journal.specs.Reading.{IsRefused}
+use Rattle.store_switch.specs.LiveFile.{IsLive, NoBases, reads_of}
+use Rattle.store_switch.specs.TwoFiles.{StandOn, CanBeLoaded, IsOnStore, LeavesStore}
+
+-- The files stood for a history, the live one within its limit, and these are all its events, in order. The journal
+-- stands on them for that history, has the live file's generation, and isn't closed.
+pub record StoreLoaded (l : Loaded) (w v : Outside) : Type 0 where
+  pub history : History
+  pub stood : StandOn l.journal.file l.journal.generation (reads_of w) history
+  pub small : length (reads_of w l.journal.file) ≤ 2 ^ 40
+  pub events : l.events.items ≡ all_events history
+  pub ready : IsOnStore l.journal history v
+  pub not_closed : l.journal.closed ≡ false
+
+-- both files read as before
+abbrev pub StillRead : Outside → Outside → Type 0
+StillRead w v = (file : Which) → reads_of v file ≡ reads_of w file
+
+-- There is a live file, which is refused for what it says or for want of memory.
+pub record StoreRefused (e : JournalError) (w v : Outside) : Type 0 where
+  pub live : Which
+  pub is_live : IsLive live (reads_of w)
+  pub refused : IsRefused live (reads_of w live) e
+  pub still : StillRead w v
+
+-- NoStore comes exactly where neither file has an open base. A fault of the site may have left the live file repaired.
+abbrev pub StoreAnswer : Result Loaded JournalError → Outside → Outside → Type 0
+StoreAnswer (Ok l) w v = StoreLoaded l w v
+StoreAnswer (Err NoStore) w v = NoBases (reads_of w) × StillRead w v
+StoreAnswer (Err SiteFault) w v = Unit {0}
+StoreAnswer (Err e) w v = StoreRefused e w v
+
+-- what `load_store` may refuse
+abbrev pub IsLoadError : JournalError → Type 0
+IsLoadError (OutOfSequence kept got) = ⊥
+IsLoadError StoreExists = ⊥
+IsLoadError e = Unit {0}
+
+-- files that stand for the history for which the files stood, within the limit, when the call began
+abbrev pub LeavesAlike : Outside → Left → Type 0
+LeavesAlike w left = (h : History) × CanBeLoaded (reads_of w) h × LeavesStore h w.output left
+
+-- A stop leaves what it could leave when the call began, or files that stand for the same history.
+pub record LoadsStore (result : Result Loaded JournalError) (w v : Outside) : Type 0 where
+  pub any_moment : LeavesOnly w v (λ left. IsLeft (present w) left ⊎ LeavesAlike w left)
+  pub answer : StoreAnswer result w v
+  pub output : v.output ≡ w.output

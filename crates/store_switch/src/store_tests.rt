@@ -1,0 +1,274 @@
+//! Stores in memory: made, loaded, with a fault at each call, and stopped at each call.
+use crate::{create_store, load_store};
+use road_base::Sequence;
+use road_io::{Call, Entry, MemorySite, Which};
+use sequence_journal::{Journal, JournalError, Loaded};
+use std::alloc::{AllocError, Global};
+use std::process::Abort;
+use std::test::Fail;
+
+/// A base of generation 1 with the number 5 and no events, and the gate behind it.
+const BASE: [u8; 46] = *b"\x01OSMJRNL1\x01\0\0\0\x01\0\0\0\0\0\0\0\x05\0\0\0\0\0\0\0\
+    \x08\0\0\0\0\0\0\0\0\0\0\0\0\0\0\0\0";
+
+/// The file, the generation and the kept number of a journal.
+type Told = (Which, u64, u64);
+
+type Answer = Result<Told, JournalError>;
+
+/// The store that is made.
+const MADE: Answer = Ok((Which::A, 1, 5));
+
+/// Gate, profile, generation and number of a file's base.
+type Head = [u8; 4];
+
+/// What is loaded of two files with these heads.
+const LOADS: [(&str, Head, Head, Answer); 9] = [
+    ("A alone", [1, 1, 1, 5], [0, 1, 9, 9], Ok((Which::A, 1, 5))),
+    ("B alone", [0, 1, 9, 9], [1, 1, 1, 5], Ok((Which::B, 1, 5))),
+    (
+        "B is newer",
+        [1, 1, 1, 5],
+        [1, 1, 2, 7],
+        Ok((Which::B, 2, 7)),
+    ),
+    (
+        "A is newer",
+        [1, 1, 3, 8],
+        [1, 1, 2, 7],
+        Ok((Which::A, 3, 8)),
+    ),
+    ("a tie", [1, 1, 2, 5], [1, 1, 2, 7], Ok((Which::A, 2, 5))),
+    (
+        "neither is open",
+        [0, 1, 1, 5],
+        [2, 1, 2, 7],
+        Err(JournalError::NoStore),
+    ),
+    (
+        "A is older, and of another profile",
+        [1, 2, 1, 5],
+        [1, 1, 2, 7],
+        Ok((Which::B, 2, 7)),
+    ),
+    (
+        "B is newer, and of another profile",
+        [1, 1, 1, 5],
+        [1, 2, 2, 7],
+        Err(JournalError::Damaged {
+            file: Which::B,
+            offset: 0,
+        }),
+    ),
+    (
+        "A has the same generation, and another profile",
+        [1, 2, 2, 5],
+        [1, 1, 2, 7],
+        Err(JournalError::Damaged {
+            file: Which::A,
+            offset: 0,
+        }),
+    ),
+];
+
+fn file([gate, profile, generation, number]: Head) -> [u8; 46] {
+    let mut bytes = BASE;
+    bytes[0] = gate;
+    bytes[9] = profile;
+    bytes[13] = generation;
+    bytes[21] = number;
+    bytes
+}
+
+/// A site of these two files, on which the calls with these numbers fail.
+fn site_of(alloc: Global, a: &[u8], b: &[u8], fails: &[u64]) -> Result<MemorySite, AllocError> {
+    let a = a.to_vec(alloc)?;
+    let b = b.to_vec(alloc)?;
+    let fails = fails.to_vec(alloc)?;
+    Ok(MemorySite::new(alloc, a, b, fails))
+}
+
+fn told(journal: &Journal) -> Told {
+    (journal.file(), journal.generation(), journal.kept().0)
+}
+
+fn create(alloc: Global, site: &mut MemorySite) -> Answer {
+    let journal = create_store(alloc, site, Sequence(5), &[])?;
+    Ok(told(&journal))
+}
+
+fn load(alloc: Global, site: &mut MemorySite) -> Answer {
+    let loaded = load_store(alloc, site)?;
+    Ok(told(&loaded.journal))
+}
+
+fn load_of(alloc: Global, a: &[u8], b: &[u8]) -> Result<Answer, AllocError> {
+    let mut site = site_of(alloc, a, b, &[])?;
+    Ok(load(alloc, &mut site))
+}
+
+#[test]
+fn creates(rt: HostRuntime) -> Result<(), Fail> {
+    let mut site = site_of(rt.alloc(), &[], &[], &[])?;
+    assert_eq!(rt; create(rt.alloc(), &mut site), MADE);
+    assert_eq!(rt; site.file(Which::A), BASE.as_slice());
+    assert_eq!(rt; site.file(Which::B).len(), 0);
+    assert_eq!(rt;
+        create(rt.alloc(), &mut site),
+        Err(JournalError::StoreExists)
+    );
+    assert_eq!(rt; load(rt.alloc(), &mut site), MADE);
+    Ok(())
+}
+
+#[test]
+fn creates_beside_b(rt: HostRuntime) -> Result<(), Fail> {
+    let mut site = site_of(rt.alloc(), b"no base", &BASE, &[])?;
+    assert_eq!(rt;
+        create(rt.alloc(), &mut site),
+        Err(JournalError::StoreExists)
+    );
+    assert_eq!(rt; site.file(Which::A), b"no base".as_slice());
+    Ok(())
+}
+
+#[test]
+fn loads(rt: HostRuntime) -> Result<(), Fail> {
+    for (name, a, b, wanted) in LOADS.iter() {
+        let answer = load_of(rt.alloc(), &file(*a), &file(*b))?;
+        assert_eq!(rt; answer, *wanted, "{name}");
+    }
+    Ok(())
+}
+
+/// A store made with a fault at one call, made again, and loaded.
+fn create_with_fault(alloc: Global, n: u64) -> Result<[Answer; 3], AllocError> {
+    let mut site = site_of(alloc, &[], &[], &[n])?;
+    let first = create(alloc, &mut site);
+    let second = create(alloc, &mut site);
+    Ok([first, second, load(alloc, &mut site)])
+}
+
+/// Two syncs, two heads of two calls each, and eight calls for the base. Behind a fault of the last one the store is
+/// there.
+#[test]
+fn creates_after_each_fault(rt: HostRuntime) -> Result<(), Fail> {
+    let exists = Err(JournalError::StoreExists);
+    for n in 0..14 {
+        let second = if n < 13 { MADE } else { exists };
+        let answers = create_with_fault(rt.alloc(), n)?;
+        assert_eq!(rt; answers, [Err(JournalError::SiteFault), second, MADE]);
+    }
+    Ok(())
+}
+
+/// A store whose last gate is missing, loaded with a fault at one call, and again.
+fn load_with_fault(alloc: Global, n: u64) -> Result<[Answer; 2], AllocError> {
+    let mut site = site_of(alloc, &BASE[..45], &file([1, 1, 0, 5]), &[n])?;
+    let first = load(alloc, &mut site);
+    Ok([first, load(alloc, &mut site)])
+}
+
+/// Two syncs, two heads of two calls each, the head again, the base's bytes, the fields of no record, and four calls
+/// for the end.
+#[test]
+fn loads_after_each_fault(rt: HostRuntime) -> Result<(), Fail> {
+    for n in 0..14 {
+        let answers = load_with_fault(rt.alloc(), n)?;
+        assert_eq!(rt; answers, [Err(JournalError::SiteFault), MADE]);
+    }
+    Ok(())
+}
+
+/// Bytes with a piece in its place.
+fn overwritten(alloc: Global, bytes: &[u8], at: u64, piece: &[u8]) -> Result<Vec<u8>, AllocError> {
+    let at = bytes.len().min(at as usize);
+    let end = bytes.len().min(at + piece.len());
+    let mut new = bytes[..at].to_vec(alloc)?;
+    new.extend_from_slice(piece)?;
+    new.extend_from_slice(&bytes[end..])?;
+    Ok(new)
+}
+
+/// A piece of which a stop leaves all, the first half, or other bytes.
+fn torn(alloc: Global, piece: &[u8], way: u8) -> Result<Vec<u8>, AllocError> {
+    let mut new = piece.to_vec(alloc)?;
+    match way {
+        0 => {}
+        1 => new.truncate(piece.len() / 2),
+        2 => new.fill(0),
+        3 => new.fill(1),
+        _ => new.fill(255),
+    }
+    Ok(new)
+}
+
+/// What a stop in a call leaves of file A, of which these bytes were on the disk, and for 0 what the call leads to.
+fn left_by(alloc: Global, bytes: &[u8], call: &Call, way: u8) -> Result<Vec<u8>, AllocError> {
+    match call {
+        Call::WriteAt {
+            file: Which::A,
+            at,
+            piece,
+        } => {
+            let written = torn(alloc, piece.items(), way)?;
+            overwritten(alloc, bytes, *at, &written)
+        }
+        Call::Cut {
+            file: Which::A,
+            len,
+        } => bytes[..bytes.len().min(*len as usize)].to_vec(alloc),
+        _ => bytes.to_vec(alloc),
+    }
+}
+
+/// How often a stop in a call leaves the store. Else it leaves none.
+fn stores_left_by(
+    rt: &impl Abort,
+    alloc: Global,
+    bytes: &[u8],
+    call: &Call,
+) -> Result<u8, AllocError> {
+    let mut stores: u8 = 0;
+    for way in 0..5 {
+        let image = left_by(alloc, bytes, call, way)?;
+        let answer = load_of(alloc, &image, &[])?;
+        if answer == MADE {
+            stores = stores.saturating_add(1);
+        } else {
+            assert_eq!(rt; answer, Err(JournalError::NoStore));
+        }
+    }
+    Ok(stores)
+}
+
+/// A stop in each of these calls, on file A with these bytes: it leaves no store before the call with this number, and
+/// none but the store behind it.
+fn stops_in(
+    rt: &impl Abort,
+    alloc: Global,
+    opening: &[u8],
+    calls: &[Entry],
+    opens: usize,
+) -> Result<(), AllocError> {
+    let mut bytes = opening.to_vec(alloc)?;
+    for (n, entry) in calls.iter().enumerate() {
+        let stores = stores_left_by(rt, alloc, &bytes, &entry.call)?;
+        assert!(rt; n == opens || stores == if n < opens { 0 } else { 5 });
+        bytes = left_by(alloc, &bytes, &entry.call, 0)?;
+    }
+    Ok(())
+}
+
+/// The call that opens a new store is the last write, behind which comes one sync. A store that is loaded stands all
+/// the time.
+#[test]
+fn stops(rt: HostRuntime) -> Result<(), Fail> {
+    let mut made = site_of(rt.alloc(), &[], &[], &[])?;
+    assert_eq!(rt; create(rt.alloc(), &mut made), MADE);
+    stops_in(&rt, rt.alloc(), &[], made.calls(), 12)?;
+    let mut old = site_of(rt.alloc(), &BASE[..45], &[], &[])?;
+    assert_eq!(rt; load(rt.alloc(), &mut old), MADE);
+    stops_in(&rt, rt.alloc(), &BASE[..45], old.calls(), 0)?;
+    Ok(())
+}
