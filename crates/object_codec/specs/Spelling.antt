@@ -88,8 +88,8 @@ event_bytes e = key_bytes e.key ++ u32_bytes e.version ++ body_bytes e.body
 unfoldable pub events_bytes : List Event → List ℕ
 events_bytes events = u64_bytes (length events) ++ joined event_bytes events
 
--- ---- values that the program's types can hold. That a body has its key's kind and a location is in range, the types of a
--- specification say too.
+-- ---- values that the program's types can hold. That a body has its key's kind and a location is in range, the types
+-- of a specification say too.
 
 abbrev pub PairFits : {A B : Type 0} → (A → Type 0) → (B → Type 0) → A × B → Type 0
 PairFits First Second p = First p.0 × Second p.1

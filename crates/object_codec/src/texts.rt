@@ -33,7 +33,7 @@ impl Spell for Text {
         let Ok(text) = str::from_utf8(front) else {
             return Err(Unread::Malformed);
         };
-        Ok((Text::from_string(String::from_str(alloc, text)?), rest))
+        Ok((Text::of(alloc, text)?, rest))
     }
 }
 

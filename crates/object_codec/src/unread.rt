@@ -2,6 +2,7 @@
 ghost use Rattle.std.specs.Prelude.{◌≡◌};
 ghost use Rattle.object_codec.specs.declared.unread.Unread.TheVariants.{Memory};
 
+use road_base::NoMemory;
 use std::alloc::{AllocError, AllocFailed};
 
 /// Why nothing was read.
@@ -10,6 +11,14 @@ pub(crate) enum Unread {
     /// The bytes begin with no spelling.
     Malformed,
     Memory,
+}
+
+impl From<NoMemory> for Unread {
+    ghost from_gives = { λ _ e. e ≡ Memory };
+
+    fn from(_error: NoMemory) -> Unread {
+        Unread::Memory
+    }
 }
 
 impl From<AllocError> for Unread {

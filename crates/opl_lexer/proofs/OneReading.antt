@@ -20,7 +20,8 @@ use Rattle.opl_lexer.specs.Spelling.{AreTags, HasPlace, IsNode, IsWay, IsRelatio
 use Rattle.opl_lexer.specs.Spelling.{version_in}
 use Rattle.opl_lexer.specs.Reading.{ReadAll, object_lines}
 use Rattle.opl_lexer.proofs.OneReadingTags.{same_tags}
-use Rattle.opl_lexer.proofs.OneReadingEvents.{same_location, same_event}
+use Rattle.road_base.proofs.EqualPlaces.{equal_places}
+use Rattle.opl_lexer.proofs.OneReadingEvents.{same_event}
 
 -- what a text holds is one value
 one_good : {A : Type 0} (held : Parsed A) (x y : A) → held ≡ Good x → held ≡ Good y → x ≡ y
@@ -40,7 +41,7 @@ one_tags list ts us p q =
 
 one_place : (lon lat : Option ℤ) (a b : Option Location) → HasPlace lon lat a → HasPlace lon lat b → a ≡ b
 one_place (Some lon) (Some lat) a b p q = p.1
-    ∙ (ap Some (same_location p.0 q.0 (p.2 ∙ sym q.2) (p.3 ∙ sym q.3)) ∙ sym q.1)
+    ∙ (ap Some (equal_places p.0 q.0 (p.2 ∙ sym q.2) (p.3 ∙ sym q.3)) ∙ sym q.1)
 one_place (Some lon) None a b p q = p ∙ sym q
 one_place None lat a b p q = p ∙ sym q
 

@@ -1,6 +1,6 @@
 -- Ascending tags are determined by the values of all keys.
 use Rattle.std.proofs.Common.{◌≡◌, ℕ, true, false, cond, IsTrue, List, [], ◌∷◌, Some, None, refl, sym, ap, subst, ◌∙◌}
-use Rattle.std.specs.Ordering.{nat_cmp, is_lt, is_eq, ordering_reverse}
+use Rattle.std.specs.Ordering.{nat_cmp, is_eq, ordering_reverse}
 use Rattle.std.specs.declared.cmp.Ordering.{Ordering}
 use Rattle.std.specs.declared.cmp.Ordering.TheVariants.{Less, Equal, Greater}
 use Rattle.std.specs.Cmp.{first_so, second_so}
@@ -8,20 +8,16 @@ use Rattle.std.specs.Cmp.Lexicographic.{slice_cmp, nat_list_cmp_total, texts_tie
 use Rattle.std.specs.Str.{bytes_eq}
 use Rattle.std.proofs.lemmas.Slice.Eq.{bytes_eq-Decides}
 use Rattle.road_base.specs.Tags.{TagList, is_above, IsAscending, value_of}
+use Rattle.road_base.proofs.Comparisons.{less}
 
 abbrev text_cmp : List ℕ → List ℕ → Ordering
 text_cmp = slice_cmp nat_cmp
 
-less_of_lt : (r : Ordering) → is_lt r ≡ true → r ≡ Less
-less_of_lt Less e = refl
-less_of_lt Equal e = cc
-less_of_lt Greater e = cc
-
 -- a text below all keys is below those above one of them
 above_more : (k j : List ℕ) (ts : TagList) → text_cmp k j ≡ Less → IsTrue (is_above j ts) → IsTrue (is_above k ts)
-above_more k j [] less up = refl
-above_more k j (t ∷ ts) less up =
-    let first : text_cmp k t.0 ≡ Less = nat_list_cmp_total.trans k j t.0 less (less_of_lt _ (first_so _ _ up)) in
+above_more k j [] low up = refl
+above_more k j (t ∷ ts) low up =
+    let first : text_cmp k t.0 ≡ Less = nat_list_cmp_total.trans k j t.0 low (less _ (first_so _ _ up)) in
     rw first (second_so _ _ up)
 
 above_greater : (k j : List ℕ) → text_cmp k j ≡ Less → bytes_eq j k ≡ false
@@ -38,8 +34,8 @@ value_here k t ts same = ap (λ b. cond b (Some t.1) (value_of k ts)) ((bytes_eq
 no_value : (k : List ℕ) (ts : TagList) → IsTrue (is_above k ts) → value_of k ts ≡ None
 no_value k [] up = refl
 no_value k (t ∷ ts) up =
-    let less : text_cmp k t.0 ≡ Less = less_of_lt _ (first_so _ _ up) in
-    value_behind k t ts (above_greater k t.0 less) ∙ no_value k ts (above_more k t.0 ts less (second_so _ _ up))
+    let low : text_cmp k t.0 ≡ Less = less _ (first_so _ _ up) in
+    value_behind k t ts (above_greater k t.0 low) ∙ no_value k ts (above_more k t.0 ts low (second_so _ _ up))
 
 -- a first key that is below the others' keys stands only here
 not_below : (t : List ℕ × List ℕ) (ts us : TagList) → IsTrue (is_above t.0 us)

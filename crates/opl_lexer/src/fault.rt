@@ -44,6 +44,14 @@ pub enum LexError {
     NoMemory,
 }
 
+impl From<road_base::NoMemory> for LexError {
+    ghost from_gives = { λ _ e. e ≡ NoMemory };
+
+    fn from(_error: road_base::NoMemory) -> LexError {
+        LexError::NoMemory
+    }
+}
+
 impl From<AllocError> for LexError {
     ghost from_gives = { λ _ e. e ≡ NoMemory };
 

@@ -3,10 +3,9 @@ use Rattle.std.specs.Prelude.{◌≡◌, ◌==◌, ◌≤◌, ◌<◌, ◌+◌, 
 use Rattle.std.specs.Prelude.{option_copied, true, false, take, drop, length, slice_index, refl}
 use Rattle.std.proofs.Common.{arith, sym, ◌∙◌, ap, add-one, Bor}
 use Rattle.std.proofs.Math.Seq.{drop-cons}
-use Rattle.std.proofs.lemmas.Bool.Decides.{Decides-eqb}
 use Rattle.std.proofs.lemmas.List.{take-append-drop, get_or-take, length-take-le}
 use Rattle.std.proofs.lemmas.List.Elements.{All-from_get_or}
-use Rattle.std.proofs.lemmas.List.Splits.{slice_split_at, slice_split_none, length-slice_split}
+use Rattle.std.proofs.lemmas.List.Splits.{length-slice_split}
 use Rattle.opl_lexer.specs.Parts.{parts, Lacks, IsCutAt}
 use Rattle.opl_objects.specs.Cutting.{other_parts}
 
@@ -36,15 +35,6 @@ cut_here stop bs at inside behind here =
       written = sym (take-append-drop at bs) ∙ ap (λ l. take at bs ++ l) rest;
       first = lacks_front stop bs at (omega arith) behind;
     }
-
--- the parts of what is cut, and of what has nothing to cut at
-pub parts_first : (stop : ℕ) (bs front rest : List ℕ) → IsCutAt stop bs front rest
-    → parts stop bs ≡ front ∷ parts stop rest
-parts_first stop bs front rest k =
-    rw k.written (slice_split_at (λ b. b == stop) front stop rest k.first ((Decides-eqb stop stop).1 refl))
-
-pub parts_alone : (stop : ℕ) (bs : List ℕ) → Lacks stop bs → parts stop bs ≡ bs ∷ []
-parts_alone stop bs lacks = slice_split_none (λ b. b == stop) bs lacks
 
 -- there is always a first part
 by_first : {A : Type 0} (f : List (List ℕ) → A) (v : A) → ((p : List ℕ) (ps : List (List ℕ)) → f (p ∷ ps) ≡ v)

@@ -11,7 +11,7 @@ use Rattle.std.proofs.lemmas.List.Elements.{All-nil, All-cons}
 use Rattle.opl_lexer.specs.Parts.{parts, Lacks}
 use Rattle.opl_lexer.specs.Numbers.{magnitude, is_digit, is_numeral, is_i64, whole_value, whole_of}
 use Rattle.opl_lexer.specs.Contents.{number_in}
-use Rattle.opl_objects.proofs.ContentsCuts.{parts_alone}
+use Rattle.opl_lexer.proofs.Cuts.{parts_alone}
 
 test_of_some : {A : Type 0} (t : Bool) (v : A) → is_some (cond t (Some v) None) ≡ true → t ≡ true
 test_of_some true v e = refl

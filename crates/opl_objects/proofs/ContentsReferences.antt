@@ -13,7 +13,8 @@ use Rattle.opl_lexer.specs.Parts.{parts, Lacks, IsCutAt}
 use Rattle.opl_lexer.specs.Numbers.{is_digit, is_numeral, whole_of}
 use Rattle.opl_lexer.specs.Contents.{Good, or_fault, number_in, ref_of}
 use Rattle.opl_objects.specs.References.{BeginsWithRef}
-use Rattle.opl_objects.proofs.ContentsCuts.{drop_here, parts_first, parts_alone}
+use Rattle.opl_lexer.proofs.Cuts.{parts_first, parts_alone}
+use Rattle.opl_objects.proofs.ContentsCuts.{drop_here}
 use Rattle.opl_objects.proofs.ContentsNumbers.{digits_lack, number_alone}
 
 -- the letter, and behind it digits that spell the number

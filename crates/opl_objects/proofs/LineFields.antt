@@ -15,7 +15,7 @@ use Rattle.opl_objects.specs.declared.line.LineError.TheVariants.{Fault, NoMemor
 use Rattle.opl_objects.specs.declared.letters.Letter.{Letter}
 use Rattle.opl_objects.specs.declared.letters.Seen.{Seen}
 use Rattle.opl_objects.specs.declared.parts.Parts.{Parts}
-use Rattle.opl_objects.specs.LineLetters.{byte_of, place_of, AreMarked}
+use Rattle.opl_objects.specs.LineLetters.{byte_of, letter_number, AreMarked}
 use Rattle.opl_objects.specs.LineParts.{IsFault, IsFaultAt, Holds, AreRead, Puts}
 use Rattle.opl_objects.proofs.LineMarks.{marked_more}
 use Rattle.opl_objects.proofs.LineHolds.{with_text, held_more, holds_same, put_holds, put_seen}
@@ -61,7 +61,7 @@ known_letter key field byte found same known = subst (λ x. list_any (λ b. b ==
 -- a good field is read
 pub read_more : (l : Letter) (fields : List (List ℕ)) (field text : List ℕ) (old new : Parts) (seen : Seen)
     → AreRead fields old → letter field ≡ byte_of l → stands (byte_of l) fields ≡ false
-    → seen.marks ≡ set old.seen.marks (place_of l) true
+    → seen.marks ≡ set old.seen.marks (letter_number l) true
     → text ≡ drop 1 field → Puts l text (record old { seen = seen }) new → AreRead (fields ++ field ∷ []) new
 read_more l fields field text old new seen read here fresh mark behind put =
     let found : ℕ → Option (List ℕ) = λ b. text_behind b fields in
@@ -82,7 +82,7 @@ read_more l fields field text old new seen read here fresh mark behind put =
     ≡ text_behind c (fields ++ field ∷ []) = subst
     (λ t. (c : ℕ) → with_text found (byte_of l) t c ≡ text_behind c (fields ++ field ∷ [])) (sym behind)
     (held_more fields field (byte_of l) here fresh) in
-    let marks : new.seen.marks ≡ set old.seen.marks (place_of l) true = ap (λ s. s.marks)
+    let marks : new.seen.marks ≡ set old.seen.marks (letter_number l) true = ap (λ s. s.marks)
     (put_seen l text marked new put) ∙ mark in
     record {
       holds = holds_same (with_text found (byte_of l) text) (λ b. text_behind b (fields ++ field ∷ [])) new held_now

@@ -8,14 +8,17 @@ use Rattle.std.proofs.lemmas.Bool.{cases_eq}
 use Rattle.std.proofs.lemmas.Bool.Decides.{nat_tests, Decides-eqb}
 use Rattle.std.proofs.lemmas.List.Folds.{find-append}
 use Rattle.opl_lexer.specs.Numbers.{version_of}
-use Rattle.opl_lexer.specs.Faults.{letter, stands, contents_fault}
-use Rattle.opl_lexer.specs.Spelling.{text_behind}
+use Rattle.opl_lexer.specs.Faults.{letter, stands, contents_fault, version_letter, deletion_letter, tags_letter}
+use Rattle.opl_lexer.specs.Faults.{lon_letter, lat_letter, refs_letter, members_letter, most_lon, most_lat}
+use Rattle.opl_lexer.specs.Contents.{Good, list_of, ref_of, member_of}
+use Rattle.opl_lexer.specs.Spelling.{text_behind, AreTags}
 use Rattle.opl_objects.specs.declared.letters.Letter.{Letter}
 use Rattle.opl_objects.specs.declared.letters.Letter.TheVariants.{Version, Deletion, Changeset, Timestamp, UserId, User}
 use Rattle.opl_objects.specs.declared.letters.Letter.TheVariants.{Tags, Lon, Lat, Refs, Members}
 use Rattle.opl_objects.specs.declared.parts.Parts.{Parts}
 use Rattle.opl_objects.specs.LineLetters.{byte_of}
-use Rattle.opl_objects.specs.LineParts.{Holds, Puts, flag_in, good_axis}
+use Rattle.opl_objects.specs.LineParts.{Holds, Puts, flag_in, good_axis, version_held, deletion_held, text_held}
+use Rattle.opl_objects.specs.LineParts.{axis_held}
 
 -- what stands behind each letter, with one text more
 abbrev pub with_text : (ℕ → Option (List ℕ)) → ℕ → List ℕ → ℕ → Option (List ℕ)
@@ -82,123 +85,46 @@ some_is false v n e = cc
 version_value : (text : List ℕ) (n : ℕ) → version_of text ≡ Some n → n ≡ digits_value 10 text
 version_value text n e = some_is _ (digits_value 10 text) n e
 
+-- the seven facts, in the order of the fields
+held : {g : ℕ → Option (List ℕ)} {parts : Parts} → parts.version ≡ version_held (g version_letter)
+    → parts.deleted ≡ deletion_held (g deletion_letter) → AreTags (text_held (g tags_letter)) parts.tags
+    → parts.lon ≡ axis_held most_lon (g lon_letter) → parts.lat ≡ axis_held most_lat (g lat_letter)
+    → list_of ref_of (text_held (g refs_letter)) ≡ Good parts.refs
+    → list_of member_of (text_held (g members_letter)) ≡ Good parts.members → Holds g parts
+held version deleted tags lon lat refs members = record {
+  version = version;
+  deleted = deleted;
+  tags = tags;
+  lon = lon;
+  lat = lat;
+  refs = refs;
+  members = members;
+}
+
 pub put_holds : (l : Letter) (found : ℕ → Option (List ℕ)) (text : List ℕ) (old new : Parts) → Puts l text old new
     → Holds found old → Holds (with_text found (byte_of l) text) new
 put_holds Version found text old new put holds = subst (Holds (with_text found 118 text)) (sym put.1)
-    (record {
-      version = version_value text new.version put.0;
-      deleted = holds.deleted;
-      tags = holds.tags;
-      lon
-          = holds.lon;
-      lat = holds.lat;
-      refs = holds.refs;
-      members = holds.members;
-    })
+    (held (version_value text new.version put.0) holds.deleted holds.tags holds.lon holds.lat holds.refs holds.members)
 put_holds Deletion found text old new put holds = subst (Holds (with_text found 100 text)) (sym put.1)
-    (record {
-      version = holds.version;
-      deleted = sym (ap flag_in put.0);
-      tags = holds.tags;
-      lon = holds.lon;
-      lat
-          = holds.lat;
-      refs = holds.refs;
-      members = holds.members;
-    })
+    (held holds.version (sym (ap flag_in put.0)) holds.tags holds.lon holds.lat holds.refs holds.members)
 put_holds Tags found text old new put holds = subst (Holds (with_text found 84 text)) (sym put.1)
-    (record {
-      version = holds.version;
-      deleted = holds.deleted;
-      tags = put.0;
-      lon = holds.lon;
-      lat = holds.lat;
-      refs
-          = holds.refs;
-      members = holds.members;
-    })
+    (held holds.version holds.deleted put.0 holds.lon holds.lat holds.refs holds.members)
 put_holds Lon found text old new put holds = subst (Holds (with_text found 120 text)) (sym put.1)
-    (record {
-      version = holds.version;
-      deleted = holds.deleted;
-      tags = holds.tags;
-      lon = sym (ap good_axis put.0);
-      lat
-          = holds.lat;
-      refs = holds.refs;
-      members = holds.members;
-    })
+    (held holds.version holds.deleted holds.tags (sym (ap good_axis put.0)) holds.lat holds.refs holds.members)
 put_holds Lat found text old new put holds = subst (Holds (with_text found 121 text)) (sym put.1)
-    (record {
-      version = holds.version;
-      deleted = holds.deleted;
-      tags = holds.tags;
-      lon = holds.lon;
-      lat = sym
-          (ap good_axis put.0);
-      refs = holds.refs;
-      members = holds.members;
-    })
+    (held holds.version holds.deleted holds.tags holds.lon (sym (ap good_axis put.0)) holds.refs holds.members)
 put_holds Refs found text old new put holds = subst (Holds (with_text found 78 text)) (sym put.1)
-    (record {
-      version = holds.version;
-      deleted = holds.deleted;
-      tags = holds.tags;
-      lon = holds.lon;
-      lat = holds.lat;
-      refs = put.0;
-      members = holds.members;
-    })
+    (held holds.version holds.deleted holds.tags holds.lon holds.lat put.0 holds.members)
 put_holds Members found text old new put holds = subst (Holds (with_text found 77 text)) (sym put.1)
-    (record {
-      version = holds.version;
-      deleted = holds.deleted;
-      tags = holds.tags;
-      lon = holds.lon;
-      lat = holds.lat;
-      refs = holds.refs;
-      members = put.0;
-    })
+    (held holds.version holds.deleted holds.tags holds.lon holds.lat holds.refs put.0)
 put_holds Changeset found text old new put holds = subst (Holds (with_text found 99 text)) (sym put)
-    (record {
-      version = holds.version;
-      deleted = holds.deleted;
-      tags = holds.tags;
-      lon = holds.lon;
-      lat = holds.lat;
-      refs = holds.refs;
-      members = holds.members;
-    })
+    (held holds.version holds.deleted holds.tags holds.lon holds.lat holds.refs holds.members)
 put_holds Timestamp found text old new put holds = subst (Holds (with_text found 116 text)) (sym put)
-    (record {
-      version = holds.version;
-      deleted = holds.deleted;
-      tags = holds.tags;
-      lon = holds.lon;
-      lat = holds.lat;
-      refs = holds.refs;
-      members = holds.members;
-    })
+    (held holds.version holds.deleted holds.tags holds.lon holds.lat holds.refs holds.members)
 put_holds UserId found text old new put holds = subst (Holds (with_text found 105 text)) (sym put)
-    (record {
-      version = holds.version;
-      deleted = holds.deleted;
-      tags = holds.tags;
-      lon = holds.lon;
-      lat = holds.lat;
-      refs = holds.refs;
-      members = holds.members;
-    })
+    (held holds.version holds.deleted holds.tags holds.lon holds.lat holds.refs holds.members)
 put_holds User found text old new put holds = subst (Holds (with_text found 117 text)) (sym put)
-    (record {
-      version = holds.version;
-      deleted = holds.deleted;
-      tags = holds.tags;
-      lon = holds.lon;
-      lat = holds.lat;
-      refs = holds.refs;
-      members = holds.members;
-    })
+    (held holds.version holds.deleted holds.tags holds.lon holds.lat holds.refs holds.members)
 
 -- no letter changes what stood
 pub put_seen : (l : Letter) (text : List ℕ) (old new : Parts) → Puts l text old new → new.seen ≡ old.seen

@@ -15,7 +15,7 @@ use Rattle.opl_lexer.specs.Reading.{FaultAt, ReadAll, at_line, first_fault, ende
 use Rattle.opl_objects.specs.declared.fault.ReadError.{ReadError}
 use Rattle.opl_objects.specs.declared.fault.ReadError.TheVariants.{Fault, NoMemory}
 use Rattle.opl_objects.specs.declared.reader.Reader.{Reader}
-use Rattle.opl_objects.specs.StreamLines.{Adds, IsFaultOf, place_of}
+use Rattle.opl_objects.specs.StreamLines.{Adds, IsFaultOf, fault_at}
 use Rattle.opl_objects.specs.Feeding.{IsOpen, HasRead, Stands, EndedBy, RefusedBy, answered, counted}
 use Rattle.opl_objects.proofs.StreamParts.{parts_append, parts_alone, parts_ended, whole_lines_are}
 use Rattle.opl_objects.proofs.StreamFaults.{first_fault-next, lines_last, ended_none, ended_some, ended_fault-stays}
@@ -126,12 +126,12 @@ pub ended_by : (mode : Mode) (fed held line : List ℕ) (old : List Event) (numb
     → IsOpen mode fed held old number → Lacks 10 line → IsFaultOf e mode (number + 1) (held ++ line)
     → EndedBy e mode (fed ++ (line ++ (10 ∷ [])))
 ended_by mode fed held line old number (Fault fault) known lacks bad = bad_end mode fed held line old number
-    (place_of fault) known lacks bad
+    (fault_at fault) known lacks bad
 ended_by mode fed held line old number NoMemory known lacks bad = tt
 
 pub ended_by-stays : (mode : Mode) (fed more : List ℕ) (e : ReadError) → EndedBy e mode fed
     → EndedBy e mode (fed ++ more)
-ended_by-stays mode fed more (Fault fault) ended = ended_fault-stays mode fed more (place_of fault) ended
+ended_by-stays mode fed more (Fault fault) ended = ended_fault-stays mode fed more (fault_at fault) ended
 ended_by-stays mode fed more NoMemory ended = tt
 
 -- ---- the end of the input
@@ -166,11 +166,11 @@ pub refused_last : (mode : Mode) (fed held : List ℕ) (old : List Event) (numbe
     → IsOpen mode fed held old number → 0 < length held → IsFaultOf e mode (number + 1) held → RefusedBy e mode fed
 refused_last mode fed held old number (Fault fault) known some bad =
     ap (first_fault mode 1) (lines_more mode fed held old number known some)
-    ∙ bad_more mode (whole_lines fed) held number (place_of fault) known.count known.good bad
+    ∙ bad_more mode (whole_lines fed) held number (fault_at fault) known.count known.good bad
 refused_last mode fed held old number NoMemory known some bad = tt
 
 pub refused_by : (mode : Mode) (fed : List ℕ) (e : ReadError) → EndedBy e mode fed → RefusedBy e mode fed
-refused_by mode fed (Fault fault) ended = ended_fault-is_first mode fed (place_of fault) ended
+refused_by mode fed (Fault fault) ended = ended_fault-is_first mode fed (fault_at fault) ended
 refused_by mode fed NoMemory ended = tt
 
 -- ---- a reader

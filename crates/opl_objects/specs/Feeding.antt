@@ -8,7 +8,7 @@ use Rattle.opl_lexer.specs.Parts.{Lacks, parts}
 use Rattle.opl_lexer.specs.Lines.{whole_lines}
 use Rattle.opl_lexer.specs.Spelling.{Spells}
 use Rattle.opl_lexer.specs.Reading.{ended_fault, input_fault, object_lines}
-use Rattle.opl_objects.specs.StreamLines.{place_of}
+use Rattle.opl_objects.specs.StreamLines.{fault_at}
 use Rattle.opl_objects.specs.declared.fault.ReadError.{ReadError}
 use Rattle.opl_objects.specs.declared.fault.ReadError.TheVariants.{Fault, NoMemory}
 use Rattle.opl_objects.specs.declared.reader.Reader.{Reader}
@@ -23,12 +23,12 @@ counted reader = reader.lines + vec_len reader.held
 
 -- the first fault among the lines that have ended, or want of memory
 abbrev pub EndedBy : ReadError → Mode → List ℕ → Type 0
-EndedBy (Fault fault) mode fed = ended_fault mode fed ≡ Some (place_of fault)
+EndedBy (Fault fault) mode fed = ended_fault mode fed ≡ Some (fault_at fault)
 EndedBy NoMemory mode fed = Unit {0}
 
 -- the first fault of all that was fed, or want of memory
 abbrev pub RefusedBy : ReadError → Mode → List ℕ → Type 0
-RefusedBy (Fault fault) mode fed = input_fault mode fed ≡ Some (place_of fault)
+RefusedBy (Fault fault) mode fed = input_fault mode fed ≡ Some (fault_at fault)
 RefusedBy NoMemory mode fed = Unit {0}
 
 -- The bytes are so many whole lines without a fault, which gave these events, and then what is held.

@@ -21,21 +21,21 @@ byte_of Refs = refs_letter
 byte_of Members = members_letter
 
 -- where the letter is marked
-abbrev pub place_of : Letter → ℕ
-place_of Version = 0
-place_of Deletion = 1
-place_of Changeset = 2
-place_of Timestamp = 3
-place_of UserId = 4
-place_of User = 5
-place_of Tags = 6
-place_of Lon = 7
-place_of Lat = 8
-place_of Refs = 9
-place_of Members = 10
+abbrev pub letter_number : Letter → ℕ
+letter_number Version = 0
+letter_number Deletion = 1
+letter_number Changeset = 2
+letter_number Timestamp = 3
+letter_number UserId = 4
+letter_number User = 5
+letter_number Tags = 6
+letter_number Lon = 7
+letter_number Lat = 8
+letter_number Refs = 9
+letter_number Members = 10
 
 -- the letters of these fields are marked and no others, each once
 pub record AreMarked (fields : List (List ℕ)) (marks : List Bool) : Type 0 where
   pub size : length marks ≡ 11
-  pub each : (letter : Letter) → slice_index_or marks (place_of letter) false ≡ stands (byte_of letter) fields
+  pub each : (letter : Letter) → slice_index_or marks (letter_number letter) false ≡ stands (byte_of letter) fields
   pub count : count_by (λ mark. mark) marks ≡ length fields

@@ -12,8 +12,8 @@ use Rattle.opl_objects.specs.declared.fault.ReadError.{ReadError}
 use Rattle.opl_objects.specs.declared.fault.ReadError.TheVariants.{Fault, NoMemory}
 
 -- where the fault stands
-abbrev pub place_of : FaultValue → FaultAt
-place_of fault = record { line = fault.line; field = fault.field; kind = fault.kind }
+abbrev pub fault_at : FaultValue → FaultAt
+fault_at fault = record { line = fault.line; field = fault.field; kind = fault.kind }
 
 -- The line is good, and the event that it says, if it says one, was added behind the others.
 pub record Adds (mode : Mode) (line : List ℕ) (old new : List Event) : Type 0 where
@@ -25,5 +25,5 @@ pub record Adds (mode : Mode) (line : List ℕ) (old new : List Event) : Type 0 
 -- the line with this number is in fault so, or memory ended
 abbrev pub IsFaultOf : ReadError → Mode → ℕ → List ℕ → Type 0
 IsFaultOf (Fault fault) mode number line = at_line number (line_fault mode (without_return line))
-    ≡ Some (place_of fault)
+    ≡ Some (fault_at fault)
 IsFaultOf NoMemory mode number line = Unit {0}

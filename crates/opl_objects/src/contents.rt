@@ -74,7 +74,7 @@ pub fn text(alloc: Global, raw: &str) -> Result<Text, LexError>
 {
     let (plain, escape) = at_first(raw, b'%');
     if escape.is_none() {
-        return Ok(Text::from_string(String::from_str(alloc, plain)?));
+        return Ok(Text::of(alloc, plain)?);
     }
     let mut out = String::with_capacity(alloc, raw.len())?;
     unescape(raw, &mut out)?;

@@ -3,7 +3,7 @@ ghost use Rattle.std.specs.Prelude.{◌≡◌, ◌==◌, codes, false, true, is_
 ghost use Rattle.std.specs.Prelude.{IfSome};
 ghost use Rattle.std.specs.List.{list_any};
 ghost use Rattle.opl_lexer.specs.Faults.{letters_of};
-ghost use Rattle.opl_objects.specs.LineLetters.{byte_of, place_of};
+ghost use Rattle.opl_objects.specs.LineLetters.{byte_of, letter_number};
 
 use road_base::Key;
 
@@ -98,7 +98,7 @@ impl Letter {
     /// Where the letter is marked.
     #[inline]
     fn place(self) -> usize
-        ensures { result ≡ place_of self }
+        ensures { result ≡ letter_number self }
     {
         match self {
             Letter::Version => 0,
@@ -136,7 +136,7 @@ impl Seen {
     /// Whether the letter stood.
     #[inline]
     pub fn has(&self, letter: Letter) -> bool
-        ensures { result ≡ slice_index_or self.now.marks (place_of letter) false }
+        ensures { result ≡ slice_index_or self.now.marks (letter_number letter) false }
     {
         self.marks[letter.place()]
     }
@@ -144,7 +144,7 @@ impl Seen {
     /// The letter stands.
     #[inline]
     pub fn add(&mut self, letter: Letter)
-        ensures { self.new.marks ≡ slice_set self.old.marks (place_of letter) true }
+        ensures { self.new.marks ≡ slice_set self.old.marks (letter_number letter) true }
     {
         self.marks[letter.place()] = true;
     }

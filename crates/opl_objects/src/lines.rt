@@ -62,7 +62,7 @@ pub fn take_line(
 }
 
 /// Reads the line with this number, of which a part may be held already. A line of which nothing is held isn't copied.
-pub fn end_line(
+pub fn finish_line(
     mode: Mode,
     number: u64,
     held: &mut Vec<u8>,

@@ -6,7 +6,7 @@ ghost use Rattle.opl_lexer.specs.Parts.{Lacks};
 ghost use Rattle.opl_lexer.specs.Reading.{ReadAll, ended_fault};
 
 use crate::fault::ReadError;
-use crate::lines::{end_line, first_line, take_line};
+use crate::lines::{finish_line, first_line, take_line};
 use opl_lexer::Mode;
 use road_base::Event;
 use std::alloc::Global;
@@ -109,7 +109,7 @@ impl Reader {
         ensures counted { counted self.new ≤ counted self.old + length line.now + 1 }
     {
         let number = self.lines + 1;
-        if let Err(error) = end_line(self.mode, number, &mut self.held, line, &mut self.events) {
+        if let Err(error) = finish_line(self.mode, number, &mut self.held, line, &mut self.events) {
             self.error = Some(error);
             return Err(error);
         }

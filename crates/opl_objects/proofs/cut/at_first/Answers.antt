@@ -1,6 +1,7 @@
 use Rattle.std.proofs.Common.{arith, ◌≡◌, ◌<◌, ◌+◌, length, slice_index, drop, take}
 use Rattle.std.proofs.lemmas.Str.{IsCharBoundary-after_ascii}
-use Rattle.opl_objects.proofs.ContentsCuts.{IsBehind, cut_here, lacks_all, parts_first, parts_alone}
+use Rattle.opl_lexer.proofs.Cuts.{parts_first, parts_alone}
+use Rattle.opl_objects.proofs.ContentsCuts.{IsBehind, cut_here, lacks_all}
 use Rattle.opl_objects.proofs.cut.at_first.Goals as goal
 
 -- behind a byte of ASCII a text may be cut

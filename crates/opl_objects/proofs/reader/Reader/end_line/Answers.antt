@@ -19,7 +19,7 @@ returns-clause-read c = λ mode fed read lacks.
     let self = c.args.self.now in
     let line = c.args.line.now in
     let adds = rw read.mode_is at c.in_default.ensures.ok in
-    let end = open_end mode fed self.held.items line self.events.items c.end_line.new.events.items self.lines
+    let end = open_end mode fed self.held.items line self.events.items c.finish_line.new.events.items self.lines
     (open_of mode fed self read c.requires.going) lacks adds in
     has_open mode (fed ++ (line ++ (10 ∷ []))) _ read.mode_is c.requires.going
     (fits_more fed (line ++ (10 ∷ [])) (counted self) _ read.fits
