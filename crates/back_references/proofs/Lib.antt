@@ -1,4 +1,3 @@
-pub mod Members
 pub mod Lookups
 pub mod Parts
 pub mod SortedPairs

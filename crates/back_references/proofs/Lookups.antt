@@ -4,7 +4,7 @@ use Rattle.std.proofs.Common.{map, take, drop, inl, inr, refl, sym, ap, ◌∙�
 use Rattle.std.proofs.Common.{Contains}
 use Rattle.std.specs.declared.cmp.Ordering.TheVariants.{Less, Equal, Greater}
 use Rattle.std.specs.Ordering.{is_lt, is_le, is_gt, ordering_then}
-use Rattle.std.specs.Cmp.{IsTotalOrder}
+use Rattle.std.specs.Cmp.{IsTotalOrder, Equal-is}
 use Rattle.std.specs.FinMap.{IsAntisymmetric}
 use Rattle.std.specs.List.{zip, AllWithin}
 use Rattle.std.specs.List.Sorted.{IsPartitionedBy, IsPartitionPoint}
@@ -13,12 +13,9 @@ use Rattle.std.proofs.lemmas.Cmp.{tied_itself, on_total, then_total, upto}
 use Rattle.std.proofs.lemmas.List.{length-take, length-drop, get_or-take, get_or-drop}
 use Rattle.std.proofs.lemmas.Slice.Zip.{length-zip, get_or-zip}
 use Rattle.road_model.specs.Orders.{rises, rises_from, Lists}
+use Rattle.road_model.proofs.AscendingLists.{rest_rises}
+use Rattle.road_base.proofs.Comparisons.{less, below_upto, not_above, from_not_above, between}
 use Rattle.back_references.specs.Pairs.{pair_cmp}
-
-pub less : (r : Ordering) → IsTrue (is_lt r) → r ≡ Less
-less Less h = refl
-less Equal h = cc
-less Greater h = cc
 
 -- ---- ascending lists by places
 
@@ -38,16 +35,12 @@ module _ {N : Type 0} (C : N → N → Ordering) where
     above n (y ∷ xs) h (suc i) d l = let p = and_parts _ _ h in total.trans n y (slice_index_or xs i d) (less _ p.0)
         (above y xs p.1 i d (omega arith))
 
-    rest : (n : N) (xs : List N) → IsTrue (rises_from C n xs) → IsTrue (rises C xs)
-    rest n [] h = refl
-    rest n (y ∷ xs) h = (and_parts _ _ h).1
-
     pub far : (xs : List N) → IsTrue (rises C xs) → (i j : ℕ) (d : N) → i < j → j < length xs
         → C (slice_index_or xs i d) (slice_index_or xs j d) ≡ Less
     far [] h i j d l m = absurd (omega arith)
     far (x ∷ xs) h i zero d l m = absurd (omega arith)
     far (x ∷ xs) h zero (suc j) d l m = above x xs h j d (omega arith)
-    far (x ∷ xs) h (suc i) (suc j) d l m = far xs (rest x xs h) i j d (omega arith) (omega arith)
+    far (x ∷ xs) h (suc i) (suc j) d l m = far xs (rest_rises C x xs h) i j d (omega arith) (omega arith)
 
 -- ---- pairs, of which the first parts and the second parts stand in two lists
 
@@ -60,26 +53,6 @@ then_tied : (r s : Ordering) → r ≡ Equal → ordering_then r s ≡ s
 then_tied Less s e = cc
 then_tied Equal s e = refl
 then_tied Greater s e = cc
-
-pub lt_le : (r : Ordering) → is_lt r ≡ true → is_le r ≡ true
-lt_le Less h = refl
-lt_le Equal h = cc
-lt_le Greater h = cc
-
-le_gt : (r : Ordering) → is_le r ≡ true → is_gt r ≡ false
-le_gt Less h = refl
-le_gt Equal h = refl
-le_gt Greater h = cc
-
-gt_le : (r : Ordering) → is_gt r ≡ false → is_le r ≡ true
-gt_le Less h = refl
-gt_le Equal h = refl
-gt_le Greater h = cc
-
-between : (r : Ordering) → is_lt r ≡ false → is_le r ≡ true → r ≡ Equal
-between Less h g = cc
-between Equal h g = refl
-between Greater h g = cc
 
 pub not_both : (b : Bool) → b ≡ true → b ≡ false → ⊥
 not_both b h g = cc
@@ -134,8 +107,8 @@ module _ {A B : Type 0} (R : A → A → Ordering) (S : B → B → Ordering) (t
 
   pub upto_parted : (k : A) → IsPartitionedBy (λ a. is_le (R a k)) keys
   upto_parted k i j a le m h = elim (cases_lt i j) [
-    | inl l ↦ gt_le _ (upto totalR (slice_index_or keys i a) (slice_index_or keys j a) k
-        (keys_rise i j a (any_value j values refl m) l m) (le_gt _ h))
+    | inl l ↦ from_not_above _ (upto totalR (slice_index_or keys i a) (slice_index_or keys j a) k
+        (keys_rise i j a (any_value j values refl m) l m) (not_above _ h))
     | inr ge ↦ let e : j ≡ i = omega arith in subst (λ n. is_le (R (slice_index_or keys n a) k) ≡ true) e h
   ]
 
@@ -147,7 +120,7 @@ module _ {A B : Type 0} (R : A → A → Ordering) (S : B → B → Ordering) (t
   upto_point k low high parts upto next = (
     λ i d from within.
         elim (cases_lt i low) [
-          | inl below ↦ lt_le (R (slice_index_or keys i d) k) (parts.0 i d (omega arith) below)
+          | inl below ↦ below_upto (R (slice_index_or keys i d) k) (parts.0 i d (omega arith) below)
           | inr ge ↦ upto i d (omega arith) within
         ],
     λ i d from within.
@@ -162,15 +135,9 @@ module _ {A B : Type 0} (R : A → A → Ordering) (S : B → B → Ordering) (t
       (below : IsPartitionPoint (λ a. is_lt (R a k) ≡ true) (λ a. is_lt (R a k) ≡ false) keys low)
       (within : IsPartitionPoint (λ a. is_le (R a k) ≡ true) (λ a. is_le (R a k) ≡ false) keys high)
       (low_fits : low ≤ length keys) (high_fits : high ≤ length keys) where
-    pub low_first : low ≤ high
-    low_first = elim (cases_lt high low) [
-      | inl l ↦ absurd (not_both _ (lt_le _ (below.0 high k (omega arith) l))
-          (within.1 high k (omega arith) (omega arith)))
-      | inr le ↦ le
-    ]
-
     tied_at : (j : ℕ) → low ≤ j → j < high → (a : A) → slice_index_or keys j a ≡ k
-    tied_at j le l a = exact _ _ (between _ (below.1 j a le (omega arith)) (within.0 j a (omega arith) l))
+    tied_at j le l a = exact _ _
+        ((Equal-is _).0 (between _ (below.1 j a le (omega arith)) (within.0 j a (omega arith) l)))
 
     long_found : length (take (high - low) (drop low values)) ≡ high - low
     long_found = length-take (high - low) (drop low values)

@@ -1,6 +1,6 @@
 -- The pairs of a map's entries of one kind name exactly what the map's links name.
-use Rattle.std.proofs.Common.{◌≡◌, ◌↔◌, true, false, Bool, cond, IsTrue, List, [], ◌∷◌, ◌++◌, map, Option, Some, None}
-use Rattle.std.proofs.Common.{inl, inr, ◌⊎◌, refl, sym, ap, ◌∙◌, subst, Contains, Ordering}
+use Rattle.std.proofs.Common.{◌≡◌, ◌↔◌, true, false, Bool, cond, IsTrue, List, [], map, Option, Some, None}
+use Rattle.std.proofs.Common.{inl, inr, refl, sym, ap, ◌∙◌, subst, Contains}
 use Rattle.std.specs.FinMap.{get, empty, get-empty}
 use Rattle.std.specs.List.{flat_map}
 use Rattle.road_base.specs.declared.ids.NodeId.{NodeId}
@@ -17,7 +17,6 @@ use Rattle.road_base.specs.declared.objects.Body.TheVariants.{Relation as Relati
 use Rattle.road_base.specs.declared.event.Event.{Event}
 use Rattle.road_base.specs.Objects.{Objects, Entry, key_cmp, body_in, way_in, relation_in, visible, way_of, relation_of}
 use Rattle.road_base.specs.Applying.{entry_of}
-use Rattle.road_model.specs.Orders.{Lists}
 use Rattle.road_model.specs.Rules.{has_highway, is_restriction}
 use Rattle.road_model.specs.Links.{RefersTo, HasMember}
 use Rattle.object_store.specs.Listed.{is_way, is_relation, AreEntriesOf}
@@ -25,46 +24,7 @@ use Rattle.back_references.specs.declared.references.References.{References}
 use Rattle.back_references.specs.Indexing.{IsIndexed}
 use Rattle.back_references.specs.References.{highway_nodes, rule_members, with_way, way_references, node_pair, way_pair}
 use Rattle.back_references.specs.References.{nodes_with_rule, ways_with_rule, node_rules, way_rules}
-use Rattle.back_references.proofs.Members.{In, in_from_contains, contains_from_in}
-
--- ---- members of lists that are put together
-
-in_front : {A : Type 0} (xs ys : List A) (x : A) → In x xs → In x (xs ++ ys)
-in_front [] ys x i = absurd i
-in_front (y ∷ xs) ys x (inl h) = inl h
-in_front (y ∷ xs) ys x (inr i) = inr (in_front xs ys x i)
-
-in_behind : {A : Type 0} (xs ys : List A) (x : A) → In x ys → In x (xs ++ ys)
-in_behind [] ys x i = i
-in_behind (y ∷ xs) ys x i = inr (in_behind xs ys x i)
-
-in_either : {A : Type 0} (xs ys : List A) (x : A) → In x (xs ++ ys) → In x xs ⊎ In x ys
-in_either [] ys x i = inr i
-in_either (y ∷ xs) ys x (inl h) = inl (inl h)
-in_either (y ∷ xs) ys x (inr i) = elim (in_either xs ys x i) [ inl j ↦ inl (inr j) | inr j ↦ inr j ]
-
-in_flat : {X A : Type 0} (f : X → List A) (xs : List X) (x : X) (a : A) → In x xs → In a (f x) → In a (flat_map f xs)
-in_flat f [] x a i j = absurd i
-in_flat f (y ∷ xs) x a (inl e) j = in_front (f y) (flat_map f xs) a (subst (λ z. In a (f z)) e j)
-in_flat f (y ∷ xs) x a (inr i) j = in_behind (f y) (flat_map f xs) a (in_flat f xs x a i j)
-
-from_flat : {X A : Type 0} (f : X → List A) (xs : List X) (a : A) → In a (flat_map f xs)
-    → (x : X) × In x xs × In a (f x)
-from_flat f [] a i = absurd i
-from_flat f (y ∷ xs) a i = elim (in_either (f y) (flat_map f xs) a i) [
-  | inl j ↦ (y, inl refl, j)
-  | inr j ↦ let r = from_flat f xs a j in (r.0, inr r.1, r.2)
-]
-
-in_map : {X A : Type 0} (f : X → A) (xs : List X) (x : X) → In x xs → In (f x) (map f xs)
-in_map f [] x i = absurd i
-in_map f (y ∷ xs) x (inl e) = inl (ap f e)
-in_map f (y ∷ xs) x (inr i) = inr (in_map f xs x i)
-
-from_map : {X A : Type 0} (f : X → A) (xs : List X) (a : A) → In a (map f xs) → (x : X) × In x xs × (a ≡ f x)
-from_map f [] a i = absurd i
-from_map f (y ∷ xs) a (inl e) = (y, inl refl, e)
-from_map f (y ∷ xs) a (inr i) = let r = from_map f xs a i in (r.0, inr r.1, r.2)
+use Rattle.road_base.proofs.ListMembers.{In, in_from_contains, contains_from_in, in_flat, from_flat, in_map, from_map}
 
 -- ---- the pairs of one event
 
@@ -100,37 +60,43 @@ from_way_pair r q (WayKey v) w (inl e) = (
 from_way_pair r q (WayKey v) w (inr i) = absurd i
 from_way_pair r q (RelationKey s) w i = absurd i
 
+-- the pairs of a relation's members of one kind
+module _ {X : Type 0} (key : X → Key) (pair : RelationId → Key → List (X × RelationId))
+    (from_pair : (r q : RelationId) (k : Key) (x : X) → In (x, q) (pair r k) → (k ≡ key x) × (r ≡ q)) where
+  in_pairs : (ms : List Member) (x : X) (r : RelationId) → In (x, r) (pair r (key x))
+      → In (key x) (map (λ m. m.item) ms) → In (x, r) (flat_map (λ m. pair r m.item) ms)
+  in_pairs ms x r one i =
+      let f = from_map (λ (m : Member). m.item) ms (key x) i in
+      in_flat (λ m. pair r m.item) ms f.0 (x, r) f.1 (subst (λ j. In (x, r) (pair r j)) f.2 one)
+
+  from_pairs : (ms : List Member) (x : X) (q r : RelationId) → In (x, r) (flat_map (λ m. pair q m.item) ms)
+      → (RelationKey q ≡ RelationKey r) × In (key x) (map (λ m. m.item) ms)
+  from_pairs ms x q r i =
+      let f = from_flat (λ (m : Member). pair q m.item) ms (x, r) i in
+      let p = from_pair q r (f.0).item x f.2 in
+      (ap RelationKey p.1, subst (λ j. In j (map (λ m. m.item) ms)) p.0 (in_map (λ (m : Member). m.item) ms f.0 f.1))
+
 in_node_rules : (k : Key) (ms : List Member) (n : NodeId) (r : RelationId) → k ≡ RelationKey r
     → In (NodeKey n) (map (λ m. m.item) ms) → In (n, r) (nodes_with_rule k ms)
-in_node_rules k ms n r e i =
-    let f = from_map (λ (m : Member). m.item) ms (NodeKey n) i in
-    subst (λ j. In (n, r) (nodes_with_rule j ms)) (sym e)
-    (in_flat (λ m. node_pair r m.item) ms f.0 (n, r) f.1 (subst (λ j. In (n, r) (node_pair r j)) f.2 (inl refl)))
+in_node_rules k ms n r e i = subst (λ j. In (n, r) (nodes_with_rule j ms)) (sym e)
+    (in_pairs NodeKey node_pair from_node_pair ms n r (inl refl) i)
 
 from_node_rules : (k : Key) (ms : List Member) (n : NodeId) (r : RelationId) → In (n, r) (nodes_with_rule k ms)
     → (k ≡ RelationKey r) × In (NodeKey n) (map (λ m. m.item) ms)
 from_node_rules (NodeKey a) ms n r i = absurd i
 from_node_rules (WayKey a) ms n r i = absurd i
-from_node_rules (RelationKey q) ms n r i =
-    let f = from_flat (λ (m : Member). node_pair q m.item) ms (n, r) i in
-    let p = from_node_pair q r (f.0).item n f.2 in
-    (ap RelationKey p.1, subst (λ j. In j (map (λ m. m.item) ms)) p.0 (in_map (λ (m : Member). m.item) ms f.0 f.1))
+from_node_rules (RelationKey q) ms n r i = from_pairs NodeKey node_pair from_node_pair ms n q r i
 
 in_way_rules : (k : Key) (ms : List Member) (w : WayId) (r : RelationId) → k ≡ RelationKey r
     → In (WayKey w) (map (λ m. m.item) ms) → In (w, r) (ways_with_rule k ms)
-in_way_rules k ms w r e i =
-    let f = from_map (λ (m : Member). m.item) ms (WayKey w) i in
-    subst (λ j. In (w, r) (ways_with_rule j ms)) (sym e)
-    (in_flat (λ m. way_pair r m.item) ms f.0 (w, r) f.1 (subst (λ j. In (w, r) (way_pair r j)) f.2 (inl refl)))
+in_way_rules k ms w r e i = subst (λ j. In (w, r) (ways_with_rule j ms)) (sym e)
+    (in_pairs WayKey way_pair from_way_pair ms w r (inl refl) i)
 
 from_way_rules : (k : Key) (ms : List Member) (w : WayId) (r : RelationId) → In (w, r) (ways_with_rule k ms)
     → (k ≡ RelationKey r) × In (WayKey w) (map (λ m. m.item) ms)
 from_way_rules (NodeKey a) ms w r i = absurd i
 from_way_rules (WayKey a) ms w r i = absurd i
-from_way_rules (RelationKey q) ms w r i =
-    let f = from_flat (λ (m : Member). way_pair q m.item) ms (w, r) i in
-    let p = from_way_pair q r (f.0).item w f.2 in
-    (ap RelationKey p.1, subst (λ j. In j (map (λ m. m.item) ms)) p.0 (in_map (λ (m : Member). m.item) ms f.0 f.1))
+from_way_rules (RelationKey q) ms w r i = from_pairs WayKey way_pair from_way_pair ms w q r i
 
 -- ---- visible bodies
 
@@ -227,15 +193,6 @@ empty_indexed held ways nodes rules = record {
   way_rules = λ w r. (λ c. absurd (nothing_in held.way_rules (w, r) rules c), λ h. absurd (no_relation r (WayKey w) h));
 }
 
--- a list of what is asked for lists what is asked for in other words
-pub lists_alike : {A N : Type 0} (name : A → N) (R : N → N → Ordering) (Is As : A → Type 0) (xs : List A)
-    → ((x : A) → Is x ↔ As x) → Lists name R Is xs → Lists name R As xs
-lists_alike name R Is As xs alike l = record {
-  ascending = l.ascending;
-  sound = λ x c. (alike x).0 (l.sound x c);
-  complete = λ x h. l.complete x ((alike x).1 h);
-}
-
 -- ---- entries of one kind
 
 module _ (M : Objects) where
@@ -323,56 +280,44 @@ module _ (M : Objects) where
           (in_references (f.0).key (highway_nodes (f.0).body) n w f.2
           (in_highway (f.0).body r.body n b r.highway (in_from_contains _ _ r.member))))
 
+  -- the same of relations, whose pairs are of one kind of members
+  module _ {X : Type 0} (key : X → Key) (rules : Event → List (X × RelationId))
+      (into : (e : Event) (x : X) (r : RelationId) → e.key ≡ RelationKey r
+      → In (key x) (map (λ m. m.item) (rule_members e.body)) → In (x, r) (rules e))
+      (from : (e : Event) (x : X) (r : RelationId) → In (x, r) (rules e)
+      → (e.key ≡ RelationKey r) × In (key x) (map (λ m. m.item) (rule_members e.body))) where
+    member_links : (items : List Event) → AreEntriesOf is_relation M items → (x : X) (r : RelationId)
+        → Contains (flat_map rules items) (x, r) ↔ HasMember M r (key x)
+    member_links items are x r = (to, back)
+      where
+        to : Contains (flat_map rules items) (x, r) → HasMember M r (key x)
+        to c =
+            let f = from_flat rules items (x, r) (in_from_contains _ _ c) in
+            let p = from f.0 x r f.2 in
+            let q = from_rule (f.0).body (key x) p.1 in
+            record {
+              body = q.0;
+              is = relation_shown f.0 r q.0
+                  (item_found is_relation items are f.0 (RelationKey r) f.1 p.0) q.1;
+              restriction = q.2;
+              member
+                  = contains_from_in _ _ q.3;
+            }
+
+        back : HasMember M r (key x) → Contains (flat_map rules items) (x, r)
+        back h =
+            let e = entry_relation r h.body h.is in
+            let f = found_item is_relation items are (RelationKey r) e.0 refl e.1 in
+            let b : (f.0).body ≡ RelationBody h.body = ap body_of f.3 ∙ e.2 in
+            contains_from_in _ _ (in_flat rules items f.0 (x, r) f.1
+            (into f.0 x r f.2 (in_rule (f.0).body h.body (key x) b h.restriction (in_from_contains _ _ h.member))))
+
   pub node_links : (items : List Event) → AreEntriesOf is_relation M items → (n : NodeId) (r : RelationId)
       → Contains (flat_map node_rules items) (n, r) ↔ HasMember M r (NodeKey n)
-  node_links items are n r = (to, back)
-    where
-      to : Contains (flat_map node_rules items) (n, r) → HasMember M r (NodeKey n)
-      to c =
-          let f = from_flat node_rules items (n, r) (in_from_contains _ _ c) in
-          let p = from_node_rules (f.0).key (rule_members (f.0).body) n r f.2 in
-          let q = from_rule (f.0).body (NodeKey n) p.1 in
-          record {
-            body = q.0;
-            is = relation_shown f.0 r q.0
-                (item_found is_relation items are f.0 (RelationKey r) f.1 p.0) q.1;
-            restriction = q.2;
-            member
-                = contains_from_in _ _ q.3;
-          }
-
-      back : HasMember M r (NodeKey n) → Contains (flat_map node_rules items) (n, r)
-      back h =
-          let e = entry_relation r h.body h.is in
-          let f = found_item is_relation items are (RelationKey r) e.0 refl e.1 in
-          let b : (f.0).body ≡ RelationBody h.body = ap body_of f.3 ∙ e.2 in
-          contains_from_in _ _ (in_flat node_rules items f.0 (n, r) f.1
-          (in_node_rules (f.0).key (rule_members (f.0).body) n r f.2
-          (in_rule (f.0).body h.body (NodeKey n) b h.restriction (in_from_contains _ _ h.member))))
+  node_links = member_links NodeKey node_rules (λ e. in_node_rules e.key (rule_members e.body))
+      (λ e. from_node_rules e.key (rule_members e.body))
 
   pub rule_links : (items : List Event) → AreEntriesOf is_relation M items → (w : WayId) (r : RelationId)
       → Contains (flat_map way_rules items) (w, r) ↔ HasMember M r (WayKey w)
-  rule_links items are w r = (to, back)
-    where
-      to : Contains (flat_map way_rules items) (w, r) → HasMember M r (WayKey w)
-      to c =
-          let f = from_flat way_rules items (w, r) (in_from_contains _ _ c) in
-          let p = from_way_rules (f.0).key (rule_members (f.0).body) w r f.2 in
-          let q = from_rule (f.0).body (WayKey w) p.1 in
-          record {
-            body = q.0;
-            is = relation_shown f.0 r q.0
-                (item_found is_relation items are f.0 (RelationKey r) f.1 p.0) q.1;
-            restriction = q.2;
-            member
-                = contains_from_in _ _ q.3;
-          }
-
-      back : HasMember M r (WayKey w) → Contains (flat_map way_rules items) (w, r)
-      back h =
-          let e = entry_relation r h.body h.is in
-          let f = found_item is_relation items are (RelationKey r) e.0 refl e.1 in
-          let b : (f.0).body ≡ RelationBody h.body = ap body_of f.3 ∙ e.2 in
-          contains_from_in _ _ (in_flat way_rules items f.0 (w, r) f.1
-          (in_way_rules (f.0).key (rule_members (f.0).body) w r f.2
-          (in_rule (f.0).body h.body (WayKey w) b h.restriction (in_from_contains _ _ h.member))))
+  rule_links = member_links WayKey way_rules (λ e. in_way_rules e.key (rule_members e.body))
+      (λ e. from_way_rules e.key (rule_members e.body))

@@ -1,6 +1,6 @@
 -- Which keys events change: each one whose event in key order changes its visible body.
 use Rattle.std.proofs.Common.{◌≡◌, ℕ, zero, suc, true, false, IsTrue, List, [], ◌∷◌, ◌++◌, map, filter, take, Option}
-use Rattle.std.proofs.Common.{Some, None, inl, inr, ◌⊎◌, refl, sym, ap, ◌∙◌, subst}
+use Rattle.std.proofs.Common.{Some, None, inl, inr, refl, sym, ap, ◌∙◌, subst}
 use Rattle.std.specs.declared.cmp.Ordering.TheVariants.{Less}
 use Rattle.std.specs.Ordering.{is_lt, is_eq}
 use Rattle.std.specs.Option.{option_to_list}
@@ -16,23 +16,10 @@ use Rattle.road_model.specs.Orders.{rises, rises_from}
 use Rattle.road_model.specs.Links.{Differs, AreChanged}
 use Rattle.object_store.specs.Listed.{key_of, IsInOrder}
 use Rattle.object_store.specs.Changes.{Alters}
-use Rattle.object_store.proofs.Members.{In, in_from_contains, contains_from_in}
-use Rattle.object_store.proofs.InOrder.{rest, turned, above, other_above, none_kept, one_or_none}
-
-in_push : {A : Type 0} (xs : List A) (e x : A) → In x (xs ++ e ∷ []) → In x xs ⊎ (x ≡ e)
-in_push [] e x (inl h) = inr h
-in_push [] e x (inr i) = absurd i
-in_push (y ∷ xs) e x (inl h) = inl (inl h)
-in_push (y ∷ xs) e x (inr i) = elim (in_push xs e x i) [ inl j ↦ inl (inr j) | inr h ↦ inr h ]
-
-in_front : {A : Type 0} (xs ys : List A) (x : A) → In x xs → In x (xs ++ ys)
-in_front [] ys x i = absurd i
-in_front (y ∷ xs) ys x (inl h) = inl h
-in_front (y ∷ xs) ys x (inr i) = inr (in_front xs ys x i)
-
-in_last : {A : Type 0} (xs : List A) (e : A) → In e (xs ++ e ∷ [])
-in_last [] e = inl refl
-in_last (y ∷ xs) e = inr (in_last xs e)
+use Rattle.road_base.proofs.ListMembers.{In, in_from_contains, contains_from_in, in_end, in_left, push_cases}
+use Rattle.road_model.proofs.AscendingLists.{rest_rises}
+use Rattle.road_base.proofs.Comparisons.{turned}
+use Rattle.object_store.proofs.InOrder.{above, other_above, none_kept, one_or_none}
 
 same_list : (keys : List Key) → map (λ k. k) keys ≡ keys
 same_list [] = refl
@@ -76,8 +63,8 @@ pub picked_not : (P : Event → Type 0) (xs : List Event) (e : Event) (keys : Li
     → IsPicked P (xs ++ e ∷ []) keys
 picked_not P xs e keys picked not_here = record {
   ascending = picked.ascending;
-  sound = λ k i. let s = picked.sound k i in (s.0, in_front xs (e ∷ []) s.0 s.1, s.2, s.3);
-  complete = λ x i p. elim (in_push xs e x i)
+  sound = λ k i. let s = picked.sound k i in (s.0, in_left xs (e ∷ []) s.0 s.1, s.2, s.3);
+  complete = λ x i p. elim (push_cases xs e x i)
       [ inl j ↦ picked.complete x j p | inr h ↦ absurd (not_here (subst P h p)) ];
 }
 
@@ -89,21 +76,21 @@ module _ (total : IsTotalOrder key_cmp) where
   below_last : (xs : List Event) (e x : Event) → IsInOrder (xs ++ e ∷ []) → In x xs → key_cmp x.key e.key ≡ Less
   below_last [] e x h i = absurd i
   below_last (y ∷ xs) e x h (inl g) = subst (λ z. key_cmp (key_of z) e.key ≡ Less) (sym g)
-      (above total y.key (xs ++ e ∷ []) h e (in_last xs e))
-  below_last (y ∷ xs) e x h (inr i) = below_last xs e x (rest y.key (map key_of (xs ++ e ∷ [])) h) i
+      (above total y.key (xs ++ e ∷ []) h e (in_end xs e []))
+  below_last (y ∷ xs) e x h (inr i) = below_last xs e x (rest_rises key_cmp y.key (map key_of (xs ++ e ∷ [])) h) i
 
   pub picked_one : (P : Event → Type 0) (xs : List Event) (e : Event) (keys : List Key) → IsInOrder (xs ++ e ∷ [])
       → IsPicked P xs keys → P e → IsPicked P (xs ++ e ∷ []) (keys ++ e.key ∷ [])
   picked_one P xs e keys up picked here = record {
     ascending = push_rises keys e.key picked.ascending
         (λ j i. let s = picked.sound j i in subst (λ k. key_cmp k e.key ≡ Less) s.2 (below_last xs e s.0 up s.1));
-    sound = λ k i. elim (in_push keys e.key k i) [
-      | inl j ↦ let s = picked.sound k j in (s.0, in_front xs (e ∷ []) s.0 s.1, s.2, s.3)
-      | inr h ↦ (e, in_last xs e, sym h, here)
+    sound = λ k i. elim (push_cases keys e.key k i) [
+      | inl j ↦ let s = picked.sound k j in (s.0, in_left xs (e ∷ []) s.0 s.1, s.2, s.3)
+      | inr h ↦ (e, in_end xs e [], sym h, here)
     ];
-    complete = λ x i p. elim (in_push xs e x i) [
-      | inl j ↦ in_front keys (e.key ∷ []) x.key (picked.complete x j p)
-      | inr h ↦ subst (λ k. In k (keys ++ e.key ∷ [])) (ap key_of (sym h)) (in_last keys e.key)
+    complete = λ x i p. elim (push_cases xs e x i) [
+      | inl j ↦ in_left keys (e.key ∷ []) x.key (picked.complete x j p)
+      | inr h ↦ subst (λ k. In k (keys ++ e.key ∷ [])) (ap key_of (sym h)) (in_end keys e.key [])
     ];
   }
 
@@ -115,8 +102,8 @@ module _ (total : IsTotalOrder key_cmp) where
       (let t : is_of x.key x ≡ true = ap is_eq (tied_itself total x.key) in rw
       (t, none_kept x.key xs (other_above total x.key xs h)) refl)
   alone (x ∷ xs) h e (inr i) =
-      let t : is_of e.key x ≡ false = ap is_eq (turned total x.key e.key Less (above total x.key xs h e i)) in
-      rw t (alone xs (rest x.key (map key_of xs) h) e i)
+      let t : is_of e.key x ≡ false = ap is_eq (turned key_cmp total x.key e.key Less (above total x.key xs h e i)) in
+      rw t (alone xs (rest_rises key_cmp x.key (map key_of xs) h) e i)
 
   -- what one event of a key leaves there
   left_at : (M N : Objects) (events : List Event) → IsInOrder events → IsApplied M events N → (e : Event) → In e events

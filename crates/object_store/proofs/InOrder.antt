@@ -16,23 +16,11 @@ use Rattle.road_base.specs.declared.ids.Key.{Key}
 use Rattle.road_base.specs.declared.event.Event.{Event}
 use Rattle.road_base.specs.Objects.{Entry, key_cmp}
 use Rattle.road_base.specs.Applying.{entry_of, is_of}
-use Rattle.road_model.specs.Orders.{rises, rises_from}
+use Rattle.road_model.specs.Orders.{rises_from}
 use Rattle.object_store.specs.Listed.{key_of, pair_of, objects_of, IsInOrder}
-use Rattle.object_store.proofs.Members.{In, contains_from_in}
-
-pub less : (r : Ordering) → IsTrue (is_lt r) → r ≡ Less
-less Less h = refl
-less Equal h = cc
-less Greater h = cc
-
-pub at_index : (xs : List Event) (i : ℕ) (d : Event) → i < length xs → In (slice_index_or xs i d) xs
-at_index [] i d l = absurd (omega arith)
-at_index (x ∷ xs) zero d l = inl refl
-at_index (x ∷ xs) (suc i) d l = inr (at_index xs i d (omega arith))
-
-pub rest : (n : Key) (l : List Key) → IsTrue (rises_from key_cmp n l) → IsTrue (rises key_cmp l)
-rest n [] h = refl
-rest n (y ∷ l) h = (and_parts _ _ h).1
+use Rattle.road_base.proofs.ListMembers.{In, in_get, contains_from_in}
+use Rattle.road_base.proofs.Comparisons.{less, turned}
+use Rattle.road_model.proofs.AscendingLists.{rest_rises, above as stands_above}
 
 -- an event with a key among those of which the key is another's
 pub none_found : (k : Key) (xs : List Event) → ((x : Event) → In x xs → is_of k x ≡ false)
@@ -59,15 +47,9 @@ one_or_none k (x ∷ xs) =
     ] refl
 
 module _ (total : IsTotalOrder key_cmp) where
-  pub turned : (a b : Key) (r : Ordering) → key_cmp a b ≡ r → key_cmp b a ≡ ordering_reverse r
-  turned a b r e = total.antisymm b a ∙ ap ordering_reverse e
-
   pub above : (n : Key) (xs : List Event) → IsTrue (rises_from key_cmp n (map key_of xs)) → (x : Event) → In x xs
       → key_cmp n x.key ≡ Less
-  above n [] h x i = absurd i
-  above n (y ∷ xs) h x (inl e) = subst (λ z. key_cmp n (key_of z) ≡ Less) (sym e) (less _ (and_parts _ _ h).0)
-  above n (y ∷ xs) h x (inr i) = let p = and_parts _ _ h in total.trans n y.key x.key (less _ p.0)
-      (above y.key xs p.1 x i)
+  above n xs h x i = less _ (stands_above key_of key_cmp total n xs h x i)
 
   -- nothing above a key is that key's
   pub other_above : (n : Key) (xs : List Event) → IsTrue (rises_from key_cmp n (map key_of xs)) → (x : Event) → In x xs
@@ -84,7 +66,8 @@ module _ (total : IsTotalOrder key_cmp) where
   entries_of [] h = nil_from_length _ (sym (len-entries empty) ∙ len-empty key_cmp Entry)
   entries_of (x ∷ xs) h =
       entries-insert total (objects_of xs) x.key (entry_of x)
-      ∙ ap (put key_cmp x.key (entry_of x)) (entries_of xs (rest x.key (map key_of xs) h)) ∙ put_front x xs h
+      ∙ ap (put key_cmp x.key (entry_of x)) (entries_of xs (rest_rises key_cmp x.key (map key_of xs) h))
+      ∙ put_front x xs h
 
   module _ (exact : IsAntisymmetric key_cmp) where
     -- a key that the search meets at a place has the entry there
@@ -95,9 +78,9 @@ module _ (total : IsTotalOrder key_cmp) where
         ≡ Equal = subst (λ n. key_cmp k n ≡ Equal) (sym e) (tied_itself total k) in rw t refl
     found_at k (x ∷ xs) h (suc i) d l e =
         let below : key_cmp x.key k ≡ Less = subst (λ n. key_cmp x.key n ≡ Less) e
-        (above x.key xs h (slice_index_or xs i d) (at_index xs i d (omega arith))) in
-        let g : key_cmp k x.key ≡ Greater = turned x.key k Less below in
-        rw g (found_at k xs (rest x.key (map key_of xs) h) i d (omega arith) e)
+        (above x.key xs h (slice_index_or xs i d) (in_get xs i d (omega arith))) in
+        let g : key_cmp k x.key ≡ Greater = turned key_cmp total x.key k Less below in
+        rw g (found_at k xs (rest_rises key_cmp x.key (map key_of xs) h) i d (omega arith) e)
 
     -- a key's events in a list in order are its entry in the list's map
     pub own : (k : Key) (xs : List Event) → IsInOrder xs
@@ -111,7 +94,7 @@ module _ (total : IsTotalOrder key_cmp) where
               let e : k ≡ x.key = exact k x.key ((Equal-is _).0 t) in
               let up = subst (λ n. IsTrue (rises_from key_cmp n (map key_of xs))) (sym e) h in
               ap (λ l. entry_of x ∷ map entry_of l) (sym (none_kept k xs (other_above k xs up)))
-          | false ↦ λ t. own k xs (rest x.key (map key_of xs) h)
+          | false ↦ λ t. own k xs (rest_rises key_cmp x.key (map key_of xs) h)
         ] refl
 
 -- ---- what a search by an order that compares as keys are compared answers
@@ -133,7 +116,7 @@ module _ (cmp : Key → Key → Ordering) (by_cmp : (a b : Key) → cmp a b ≡ 
   sorted : IsTotalOrder key_cmp → (xs : List Event) → IsInOrder xs
       → IsSortedBy (λ a b. is_lt (key_cmp (key_of a) (key_of b))) xs
   sorted total xs h j d z l = let e : j + 1 ≡ suc j = omega arith in rw e
-      (ap is_lt (turned total (slice_index_or xs j d).key (slice_index_or xs (suc j) d).key Less
+      (ap is_lt (turned key_cmp total (slice_index_or xs j d).key (slice_index_or xs (suc j) d).key Less
       (neighbours xs h j d (omega arith))))
 
   searchable : IsTotalOrder key_cmp → (k : Key) (xs : List Event) → IsInOrder xs
@@ -144,7 +127,7 @@ module _ (cmp : Key → Key → Ordering) (by_cmp : (a b : Key) → cmp a b ≡ 
 
   other_there : (k : Key) (x : Event) (r : Ordering) → IsTotalOrder key_cmp → cmp x.key k ≡ r → is_eq r ≡ false
       → is_of k x ≡ false
-  other_there k x r total e h = ap is_eq (turned total x.key k r (sym (by_cmp _ _) ∙ e)) ∙ turned_other r h
+  other_there k x r total e h = ap is_eq (turned key_cmp total x.key k r (sym (by_cmp _ _) ∙ e)) ∙ turned_other r h
     where
       turned_other : (r : Ordering) → is_eq r ≡ false → is_eq (ordering_reverse r) ≡ false
       turned_other Less h = refl

@@ -9,26 +9,9 @@ use Rattle.road_base.specs.declared.event.Event.{Event}
 use Rattle.road_base.specs.Objects.{Objects, Entry, key_cmp}
 use Rattle.road_base.specs.Applying.{entry_of}
 use Rattle.object_store.specs.Listed.{key_of, pair_of, objects_of, IsInOrder, AreEntriesOf}
-use Rattle.object_store.proofs.Members.{In, in_from_contains, contains_from_in}
+use Rattle.road_base.proofs.ListMembers.{In, in_from_contains, contains_from_in}
+use Rattle.road_base.proofs.FilteredLists.{in_filter, from_filter}
 use Rattle.object_store.proofs.InOrder.{found_at, entries_of}
-
-module _ {X : Type 0} (p : X → Bool) where
-  in_filter : (xs : List X) (x : X) → In x xs → p x ≡ true → In x (filter p xs)
-  in_filter [] x i h = absurd i
-  in_filter (y ∷ xs) x (inl e) h = let t : p y ≡ true = ap p (sym e) ∙ h in rw t (inl e)
-  in_filter (y ∷ xs) x (inr i) h =
-      elim (p y) as (λ t. p y ≡ t → In x (cond t (y ∷ filter p xs) (filter p xs))) [
-        | true ↦ λ t. inr (in_filter xs x i h)
-        | false ↦ λ t. in_filter xs x i h
-      ] refl
-
-  from_filter : (xs : List X) (x : X) → In x (filter p xs) → (p x ≡ true) × In x xs
-  from_filter [] x i = absurd i
-  from_filter (y ∷ xs) x i =
-      elim (p y) as (λ t. p y ≡ t → In x (cond t (y ∷ filter p xs) (filter p xs)) → (p x ≡ true) × In x (y ∷ xs)) [
-        | true ↦ λ t. elim [ inl e ↦ (ap p e ∙ t, inl e) | inr j ↦ let r = from_filter xs x j in (r.0, inr r.1) ]
-        | false ↦ λ t j. let r = from_filter xs x j in (r.0, inr r.1)
-      ] refl i
 
 same_inner : (a b : Entry) → Some a ≡ Some b → a ≡ b
 same_inner a b f = cc
@@ -50,9 +33,9 @@ module _ (total : IsTotalOrder key_cmp) (exact : IsAntisymmetric key_cmp) where
   entries_of_kind is_one xs ones h are = record {
     own = λ e c.
         let f = from_filter (λ (x : Event). is_one x.key) xs e (subst (In e) are (in_from_contains ones e c)) in
-        let at = contains_from_in xs e f.1 in
+        let at = contains_from_in xs e f.0 in
         let found = found_at total exact e.key xs h at.0 e at.1 (ap key_of at.2) in
-        (f.0, get-from_entries total (map pair_of xs) e.key ∙ found ∙ ap (λ (x : Event). Some (entry_of x)) at.2);
+        (f.1, get-from_entries total (map pair_of xs) e.key ∙ found ∙ ap (λ (x : Event). Some (entry_of x)) at.2);
     all = λ k x passes is.
         let f = found_own k xs x (sym (get-from_entries total (map pair_of xs) k) ∙ is) in
         let one : In f.0 (filter (λ e. is_one e.key) xs) = in_filter (λ (x : Event). is_one x.key) xs f.0 f.1

@@ -11,12 +11,14 @@ use Rattle.road_base.specs.declared.ids.Key.TheVariants.{Node, Way, Relation}
 use Rattle.road_base.specs.declared.event.Event.{Event}
 use Rattle.road_base.specs.Objects.{key_cmp}
 use Rattle.object_store.specs.Listed.{key_of, is_node, is_way, is_relation, IsInOrder}
-use Rattle.object_store.proofs.InOrder.{rest, at_index, above}
+use Rattle.road_base.proofs.ListMembers.{in_get}
+use Rattle.road_model.proofs.AscendingLists.{rest_rises}
+use Rattle.object_store.proofs.InOrder.{above}
 
 pub drop_in_order : (m : ℕ) (xs : List Event) → IsInOrder xs → IsInOrder (drop m xs)
 drop_in_order zero xs h = h
 drop_in_order (suc m) [] h = refl
-drop_in_order (suc m) (x ∷ xs) h = drop_in_order m xs (rest x.key (map key_of xs) h)
+drop_in_order (suc m) (x ∷ xs) h = drop_in_order m xs (rest_rises key_cmp x.key (map key_of xs) h)
 
 -- a test that holds of each key below one of which it holds
 abbrev pub HoldsBelow : (Key → Bool) → Type 0
@@ -45,10 +47,10 @@ parted total q below [] h i j d le l is = absurd (omega arith)
 parted total q below (x ∷ xs) h zero zero d le l is = is
 parted total q below (x ∷ xs) h zero (suc j) d le l is =
     below x.key (slice_index_or xs j d).key (above total x.key xs h (slice_index_or xs j d)
-    (at_index xs j d (omega arith))) is
+    (in_get xs j d (omega arith))) is
 parted total q below (x ∷ xs) h (suc i) zero d le l is = absurd (omega arith)
-parted total q below (x ∷ xs) h (suc i) (suc j) d le l is = parted total q below xs (rest x.key (map key_of xs) h) i j d
-    (omega arith) (omega arith) is
+parted total q below (x ∷ xs) h (suc i) (suc j) d le l is = parted total q below xs
+    (rest_rises key_cmp x.key (map key_of xs) h) i j d (omega arith) (omega arith) is
 
 -- ---- the two parts of a list
 

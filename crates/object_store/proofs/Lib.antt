@@ -1,4 +1,3 @@
-pub mod Members
 pub mod InOrder
 pub mod StableSort
 pub mod StandingEvents

@@ -19,8 +19,9 @@ use Rattle.road_base.specs.Objects.{Entry, key_cmp}
 use Rattle.road_base.specs.Applying.{entry_of, is_of, newer, first_greatest, IsApplied}
 use Rattle.road_model.specs.Orders.{rises_from}
 use Rattle.object_store.specs.Listed.{key_of, pair_of, objects_of, IsInOrder}
-use Rattle.object_store.proofs.Members.{In, in_from_contains, contains_from_in}
-use Rattle.object_store.proofs.InOrder.{turned, none_found, none_kept}
+use Rattle.road_base.proofs.ListMembers.{In, in_from_contains, contains_from_in}
+use Rattle.road_base.proofs.Comparisons.{turned}
+use Rattle.object_store.proofs.InOrder.{none_found, none_kept}
 
 -- by key, and of one key the greater version first
 abbrev pub before : Event → Event → Bool
@@ -62,9 +63,6 @@ level v w h = grind (arith, nat_tests)
 
 lower : (v w : ℕ) → v < w → is_lt (nat_cmp v w) ≡ true
 lower v w h = grind (arith, nat_tests)
-
-equal_of : (r : Ordering) → is_eq r ≡ true → r ≡ Equal
-equal_of r h = (Equal-is r).0 h
 
 -- an entry at or above the version of what comes behind stands
 newer_top : (e : Entry) (o : Option Entry) → IfSome o (λ l. l.version ≤ e.version) → newer e o ≡ Some e
@@ -112,7 +110,7 @@ module _ (total : IsTotalOrder key_cmp) where
       → find key_cmp k (map pair_of (cond t (dedup_from same_key y xs) (y ∷ dedup_from same_key x xs)))
       ≡ find key_cmp k (map pair_of (y ∷ x ∷ xs))) [
         | true ↦ λ t.
-            let alike : is_of k x ≡ is_of k y = ap is_eq (alike_right total x.key y.key k (equal_of _ t)) in
+            let alike : is_of k x ≡ is_of k y = ap is_eq (alike_right total x.key y.key k ((Equal-is _).0 t)) in
             find_dedup_from k y xs ∙ shadowed (is_of k y) (Some (entry_of y)) (Some (entry_of x))
             (find key_cmp k (map pair_of xs)) ∙ ap
             (λ b. cond (is_of k y) (Some (entry_of y))
@@ -126,7 +124,7 @@ module _ (total : IsTotalOrder key_cmp) where
   find_dedup k (x ∷ xs) = find_dedup_from k x xs
 
   next_above : (y x : Event) (xs : List Event) → IsLaid (y ∷ x ∷ xs) → same_key x y ≡ false → key_cmp y.key x.key ≡ Less
-  next_above y x xs far other = turned total x.key y.key Greater
+  next_above y x xs far other = turned key_cmp total x.key y.key Greater
       (sooner_less _ _ (far 0 1 y (omega arith) (omega arith)) other)
 
   dedup_above : (n : Key) (y : Event) (xs : List Event) → IsLaid (y ∷ xs) → key_cmp n y.key ≡ Less
@@ -157,10 +155,10 @@ module _ (total : IsTotalOrder key_cmp) where
   -- ---- which event of a key stands first
 
   one_key : (k : Key) (x y : Event) → is_of k x ≡ true → is_of k y ≡ true → key_cmp x.key y.key ≡ Equal
-  one_key k x y h g = sym (total.congr k x.key y.key (equal_of _ h)) ∙ equal_of _ g
+  one_key k x y h g = sym (total.congr k x.key y.key ((Equal-is _).0 h)) ∙ (Equal-is _).0 g
 
   two_keys : (k : Key) (x y : Event) → is_of k x ≡ true → is_of k y ≡ false → is_eq (key_cmp x.key y.key) ≡ false
-  two_keys k x y h g = ap is_eq (sym (total.congr k x.key y.key (equal_of _ h))) ∙ g
+  two_keys k x y h g = ap is_eq (sym (total.congr k x.key y.key ((Equal-is _).0 h))) ∙ g
 
   -- of one key, what doesn't come before has no greater version
   no_later : (k : Key) (x y : Event) → is_of k x ≡ true → is_of k y ≡ true → before y x ≡ false → y.version ≤ x.version

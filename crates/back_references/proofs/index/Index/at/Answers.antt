@@ -4,7 +4,8 @@ use Rattle.std.specs.Ordering.{is_lt, is_le}
 use Rattle.std.specs.List.{zip, AllWithin}
 use Rattle.std.specs.List.Sorted.{IsPartitionedBy, IsPartitionPoint}
 use Rattle.road_model.specs.Orders.{Lists}
-use Rattle.back_references.proofs.Lookups.{below_parted, upto_point, low_first, found_lists}
+use Rattle.road_base.proofs.SortedParts.{low_first}
+use Rattle.back_references.proofs.Lookups.{below_parted, upto_point, found_lists}
 use Rattle.back_references.proofs.index.Index.at.Goals as goal
 
 pub first_near-low-requires-clause-parted : goal.first_near-low-requires-clause-parted
@@ -28,8 +29,7 @@ part-requires-clause-rising g c =
     c.end_from-high.ensures.upto)
     (subst (λ l. (d : _) → c.end_from-high.result < length l
     → is_le (R (slice_index_or l c.end_from-high.result d) c.args.key) ≡ false) e c.end_from-high.ensures.next) in
-    low_first R S g.met.K.Ord.total g.met.V.Ord.total keys values c.self.invariant.0 c.self.invariant.1 c.requires
-    c.args.key _ _ below within
+    low_first (λ a. a) R c.args.key c.args.key keys c.first_near-low.result c.end_from-high.result below within
     (subst (λ l. c.first_near-low.result ≤ length l) e c.first_near-low.ensures.bound)
     (subst (λ l. c.end_from-high.result ≤ length l) e c.end_from-high.ensures.bound)
 
