@@ -1,4 +1,3 @@
 pub mod NodeCounts
 pub mod RoadNodes
 pub mod Positions
-pub mod LongerLists

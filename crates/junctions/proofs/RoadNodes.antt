@@ -1,6 +1,6 @@
 -- A way passes the nodes that it refers to, and one that isn't visible is no road.
-use Rattle.std.proofs.Common.{◌≡◌, ℕ, zero, suc, cond, List, [], ◌∷◌, slice_get, Option, Some, None, Bool, true, false}
-use Rattle.std.proofs.Common.{IsTrue, Contains, ◌⊎◌, inl, inr, refl, ap, ◌∙◌, arith}
+use Rattle.std.proofs.Common.{◌≡◌, ℕ, suc, cond, List, [], ◌∷◌, slice_get, Option, Some, None, Bool, true, false}
+use Rattle.std.proofs.Common.{IsTrue, Contains, ◌⊎◌, inl, inr, refl, sym, ap, ◌∙◌, arith}
 use Rattle.std.proofs.lemmas.Bool.{or_cases, false≢true}
 use Rattle.road_base.specs.declared.ids.NodeId.{NodeId}
 use Rattle.road_base.specs.declared.ids.WayId.{WayId}
@@ -8,6 +8,7 @@ use Rattle.road_base.specs.declared.ids.Dir.{Dir}
 use Rattle.road_base.specs.declared.ids.Dir.TheVariants.{Forward, Backward}
 use Rattle.road_base.specs.declared.objects.Way.{Way}
 use Rattle.road_base.specs.Objects.{Objects, way_of}
+use Rattle.road_base.proofs.ListMembers.{contains_cases}
 use Rattle.road_model.specs.Rules.{Rules}
 use Rattle.road_model.specs.Lines.{same_node, changes, changes_from, refs_of, line_of, node_at}
 use Rattle.road_model.specs.Driving.{open_way, is_open, is_road}
@@ -15,10 +16,6 @@ use Rattle.road_model.specs.Links.{RefersTo}
 use Rattle.junctions.proofs.NodeCounts.{node_from_same}
 
 -- ---- references and lines
-
-contains_cases : (x v : NodeId) (xs : List NodeId) → Contains (x ∷ xs) v → (x ≡ v) ⊎ Contains xs v
-contains_cases x v xs (zero, within, is) = inl is
-contains_cases x v xs (suc k, within, is) = inr (k, omega arith, is)
 
 -- x is the node, or it stands on the line behind x
 abbrev IsBehind : NodeId → NodeId → List NodeId → Type 0
@@ -30,10 +27,10 @@ one_on y v line (inr (k, is)) = (suc k, is)
 
 behind_either : (x y v : NodeId) (ys : List NodeId) (same : Bool) → same_node x y ≡ same
     → (Contains ys v → IsBehind x v (changes_from x ys)) → (Contains ys v → IsBehind y v (changes_from y ys))
-    → (y ≡ v) ⊎ Contains ys v → IsBehind x v (cond same (changes_from x ys) (y ∷ changes_from y ys))
-behind_either x y v ys true e dropped kept (inl is) = inl (node_from_same x y e ∙ is)
+    → (v ≡ y) ⊎ Contains ys v → IsBehind x v (cond same (changes_from x ys) (y ∷ changes_from y ys))
+behind_either x y v ys true e dropped kept (inl is) = inl (node_from_same x y e ∙ sym is)
 behind_either x y v ys true e dropped kept (inr rest) = dropped rest
-behind_either x y v ys false e dropped kept (inl is) = inr (one_on y v (changes_from y ys) (inl is))
+behind_either x y v ys false e dropped kept (inl is) = inr (one_on y v (changes_from y ys) (inl (sym is)))
 behind_either x y v ys false e dropped kept (inr rest) = inr (one_on y v (changes_from y ys) (kept rest))
 
 behind_from_refs : (x v : NodeId) (ys : List NodeId) → Contains ys v → IsBehind x v (changes_from x ys)
@@ -41,9 +38,9 @@ behind_from_refs x v [] (k, within, is) = absurd (omega arith)
 behind_from_refs x v (y ∷ ys) has = behind_either x y v ys (same_node x y) refl (behind_from_refs x v ys)
     (behind_from_refs y v ys) (contains_cases y v ys has)
 
-on_cases : (x v : NodeId) (xs : List NodeId) → (x ≡ v) ⊎ Contains xs v
+on_cases : (x v : NodeId) (xs : List NodeId) → (v ≡ x) ⊎ Contains xs v
     → (k : ℕ) × (slice_get (changes (x ∷ xs)) k ≡ Some v)
-on_cases x v xs (inl is) = (0, ap Some is)
+on_cases x v xs (inl is) = (0, ap Some (sym is))
 on_cases x v xs (inr rest) = one_on x v (changes_from x xs) (behind_from_refs x v xs rest)
 
 -- what stands among the references stands on the line that they make

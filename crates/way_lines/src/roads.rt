@@ -96,7 +96,7 @@ impl Roads {
     }
 
     /// Where the way stands among them, if it is found there.
-    pub fn place_of(&self, way: WayId) -> Option<usize>
+    pub fn position_of(&self, way: WayId) -> Option<usize>
         ensures { IfSome result (λ at. (road : Road)
             × (slice_get self.now.roads.items at ≡ Some road)
             × (road.way ≡ way)) }
@@ -115,7 +115,7 @@ impl Roads {
         ensures way { result.way ≡ way }
         ensures directions { on network.now IsRoad result }
     {
-        match self.place_of(way) {
+        match self.position_of(way) {
             Some(at) => self.roads[at],
             None => Road::of(network, way),
         }

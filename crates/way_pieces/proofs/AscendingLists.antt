@@ -19,7 +19,6 @@ use Rattle.std.proofs.Common.{
   take,
   get_or,
   refl,
-  ap,
   subst,
   arith,
   IsTrue,
@@ -31,6 +30,8 @@ use Rattle.std.specs.Ordering.{nat_cmp, is_lt}
 use Rattle.std.specs.Cmp.{IsTotalOrder}
 use Rattle.std.proofs.lemmas.Bool.{and_parts, ltb-true, false≢true}
 use Rattle.road_model.specs.Orders.{rises, rises_from}
+use Rattle.road_base.proofs.Comparisons.{over}
+use Rattle.road_model.proofs.AscendingLists.{rest_rises}
 
 less_case : (p q : Bool) → is_lt (cond p Less (cond q Equal Greater)) ≡ true → p ≡ true
 less_case true q h = refl
@@ -50,11 +51,6 @@ above_all x (y ∷ ys) up (suc j) h =
     let b : y < get_or ys j 0 = above_all y ys p.1 j (omega arith) in
     omega arith
 
-pub rest_rises : {N : Type 0} (R : N → N → Ordering) (x : N) (xs : List N) → IsTrue (rises_from R x xs)
-    → IsTrue (rises R xs)
-rest_rises R x [] up = refl
-rest_rises R x (y ∷ ys) up = (and_parts _ _ up).1
-
 -- what stands before is less
 pub climbs : (xs : List ℕ) → IsTrue (rises nat_cmp (map (λ a. a) xs)) → (i j : ℕ) → i < j → j < length xs
     → get_or xs i 0 < get_or xs j 0
@@ -66,19 +62,11 @@ climbs (x ∷ xs) up (suc i) (suc j) less h = climbs xs (rest_rises nat_cmp x (m
     (omega arith)
 
 module _ {N : Type 0} (R : N → N → Ordering) (total : IsTotalOrder R) where
-  is_less : (r : Ordering) → IsTrue (is_lt r) → r ≡ Less
-  is_less Less h = refl
-  is_less Equal h = absurd (false≢true h)
-  is_less Greater h = absurd (false≢true h)
-
-  pub over : (a b c : N) → IsTrue (is_lt (R a b)) → IsTrue (is_lt (R b c)) → IsTrue (is_lt (R a c))
-  over a b c h k = ap is_lt (total.trans a b c (is_less _ h) (is_less _ k))
-
   first_below : (x : N) (xs : List N) → IsTrue (rises_from R x (map (λ a. a) xs)) → (j : ℕ) (d : N) → j < length xs
       → IsTrue (is_lt (R x (get_or xs j d)))
   first_below x [] up j d h = absurd (omega arith)
   first_below x (y ∷ ys) up zero d h = (and_parts _ _ up).0
-  first_below x (y ∷ ys) up (suc j) d h = let p = and_parts _ _ up in over x y (get_or ys j d) p.0
+  first_below x (y ∷ ys) up (suc j) d h = let p = and_parts _ _ up in over R total x y (get_or ys j d) p.0
       (first_below y ys p.1 j d (omega arith))
 
   -- what was looked at is below what comes

@@ -35,7 +35,7 @@ use Rattle.road_model.specs.Orders.{Lists, rises, way_cmp, name_cmp}
 use Rattle.way_pieces.specs.declared.departures.Departure.{Departure}
 use Rattle.way_pieces.specs.Names.{IsNameFrom, IsDeparture}
 use Rattle.way_pieces.specs.Departures.{IsOver, Gains}
-use Rattle.way_pieces.proofs.JoinedLists.{lists_extended, has_before, has_last, one_more}
+use Rattle.road_model.proofs.JoinedLists.{lists_extended, has_before, has_last, one_more}
 use Rattle.way_pieces.proofs.FirstSteps.{stands, step_drives, head_there, front}
 use Rattle.way_pieces.proofs.AscendingLists.{taken_below}
 use Rattle.way_pieces.proofs.DrivenSteps.{drivable_parts, end_node, open_road}

@@ -45,7 +45,7 @@ use Rattle.road_base.specs.Objects.{Objects, node_of}
 use Rattle.road_model.specs.Rules.{Rules}
 use Rattle.road_model.specs.Lines.{line_of, node_at, names_pair, end_at}
 use Rattle.road_model.specs.Driving.{is_open, is_road, located, node_located, drivable}
-use Rattle.road_model.specs.Pieces.{Piece, IsPiece}
+use Rattle.road_model.specs.Pieces.{Span, IsPiece}
 use Rattle.junctions.specs.Junctions.{IsJunction}
 use Rattle.way_lines.specs.declared.road_line.LineNode.{LineNode}
 use Rattle.way_lines.specs.RoadLines.{line_node, location_in}
@@ -132,7 +132,7 @@ end_node M s i v is = if_named (names_pair M s) (node_at M s.way i) v is
 
 -- ---- pieces
 
-module _ (M : Objects) (P : Rules) (p : Piece) (is : IsPiece M P p) where
+module _ (M : Objects) (P : Rules) (p : Span) (is : IsPiece M P p) where
   begin_parts : IsTrue
       (is_open M P p.way p.dir) × (IsTrue (located M (node_at M p.way p.index)) × IsTrue
       (located M (node_at M p.way (p.index + 1))))

@@ -38,7 +38,7 @@ use Rattle.road_model.specs.Lines.{
   steps_from,
 }
 use Rattle.road_model.specs.Driving.{located, drivable}
-use Rattle.road_model.specs.Pieces.{Piece, IsPiece, spell}
+use Rattle.road_model.specs.Pieces.{Span, IsPiece, spell}
 use Rattle.way_pieces.proofs.DrivenSteps.{drivable_parts, drivable_within, located_some, named_end}
 
 some_step : (a b : Step) → Some a ≡ Some b → a ≡ b
@@ -101,7 +101,7 @@ within Backward i j k m up below e = (omega arith, omega arith)
 -- ---- pieces
 
 module _ (M : Objects) (P : Rules) where
-  module _ (p : Piece) (is : IsPiece M P p) (s : Step) (k : ℕ) (at : slice_get (spell p) k ≡ Some s) where
+  module _ (p : Span) (is : IsPiece M P p) (s : Step) (k : ℕ) (at : slice_get (spell p) k ≡ Some s) where
     pub stands : IsAt p.way p.index (p.end - p.index) p.dir k s
     stands = steps_at p.way p.index (p.end - p.index) p.dir k s at
 

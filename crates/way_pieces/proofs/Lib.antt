@@ -1,4 +1,3 @@
-pub mod JoinedLists
 pub mod AscendingLists
 pub mod DrivenSteps
 pub mod NeighbourJunctions
@@ -6,6 +5,5 @@ pub mod NameOrder
 pub mod SpanOrder
 pub mod FirstSteps
 pub mod DepartureLists
-pub mod FilteredLists
 pub mod StartOrder
 pub mod CutRoads

@@ -1,15 +1,16 @@
 -- The order of names: by way, then by position, forward before backward.
 use Rattle.std.proofs.Common.{◌≡◌, ℕ, ◌<◌, true, nat_lt, IsTrue, refl, subst, Ordering}
-use Rattle.std.specs.declared.cmp.Ordering.TheVariants.{Less, Equal, Greater}
+use Rattle.std.specs.declared.cmp.Ordering.TheVariants.{Less, Equal}
 use Rattle.std.specs.Ordering.{nat_cmp, is_lt, ordering_then}
 use Rattle.std.specs.Cmp.{IsTotalOrder}
-use Rattle.std.proofs.lemmas.Bool.{lt-ltb, false≢true}
+use Rattle.std.proofs.lemmas.Bool.{lt-ltb}
 use Rattle.std.proofs.lemmas.Cmp.{nat_cmp_total, int_cmp_total, on_total, tied_itself}
 use Rattle.road_base.specs.declared.ids.NodeId.{NodeId}
 use Rattle.road_base.specs.declared.ids.WayId.{WayId}
 use Rattle.road_base.specs.declared.ids.Dir.TheVariants.{Forward, Backward}
 use Rattle.road_model.specs.declared.lists.PieceName.{PieceName}
 use Rattle.road_model.specs.Orders.{node_cmp, way_cmp, dir_cmp, name_cmp}
+use Rattle.road_base.proofs.Comparisons.{less}
 
 pub node_cmp_total : IsTotalOrder node_cmp
 node_cmp_total = on_total (λ (n : NodeId). n.0) int_cmp_total
@@ -26,13 +27,8 @@ less_first r s e = rw e refl
 less_second : (r s : Ordering) → r ≡ Equal → IsTrue (is_lt s) → IsTrue (is_lt (ordering_then r s))
 less_second r s e h = rw e h
 
-is_less : (r : Ordering) → IsTrue (is_lt r) → r ≡ Less
-is_less Less h = refl
-is_less Equal h = absurd (false≢true h)
-is_less Greater h = absurd (false≢true h)
-
 pub way_first : (a b : PieceName) → IsTrue (is_lt (way_cmp a.way b.way)) → IsTrue (is_lt (name_cmp a b))
-way_first a b h = less_first (way_cmp a.way b.way) _ (is_less _ h)
+way_first a b h = less_first (way_cmp a.way b.way) _ (less _ h)
 
 tied_ways : (v w : WayId) → v ≡ w → way_cmp v w ≡ Equal
 tied_ways v w same = subst (λ u. way_cmp v u ≡ Equal) same (tied_itself way_cmp_total v)

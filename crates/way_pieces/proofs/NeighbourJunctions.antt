@@ -24,7 +24,7 @@ use Rattle.std.proofs.lemmas.List.Elements.{Contains-get_or}
 use Rattle.road_base.specs.declared.ids.WayId.{WayId}
 use Rattle.road_base.specs.Objects.{Objects}
 use Rattle.road_model.specs.Rules.{Rules}
-use Rattle.road_model.specs.Pieces.{Piece, IsPlain, IsPiece}
+use Rattle.road_model.specs.Pieces.{Span, IsPlain, IsPiece}
 use Rattle.junctions.specs.Junctions.{IsJunction, AreJunctions}
 use Rattle.way_pieces.specs.declared.stretches.Stretch.{Stretch}
 use Rattle.way_pieces.specs.Stretches.{IsStretch, piece_on}
@@ -102,14 +102,14 @@ module _ (M : Objects) (P : Rules) (w : WayId) (xs : List ℕ) (are : AreJunctio
         ]
       ]
 
-  module _ (p : Piece) (is : IsPiece M P p) (of : p.way ≡ w) where
+  module _ (p : Span) (is : IsPiece M P p) (of : p.way ≡ w) where
     pub first_listed : Contains xs p.index
     first_listed = are.listed.complete p.index (subst (λ v. IsJunction M P v p.index) of (piece_first M P p is))
 
     pub last_listed : Contains xs p.end
     last_listed = are.listed.complete p.end (subst (λ v. IsJunction M P v p.end) of (piece_last M P p is))
 
-module _ (M : Objects) (P : Rules) (s : Stretch) (stretch : IsStretch M P s) (p : Piece) (is : IsPiece M P p)
+module _ (M : Objects) (P : Rules) (s : Stretch) (stretch : IsStretch M P s) (p : Span) (is : IsPiece M P p)
     (of : p.way ≡ s.way) where
   -- no piece begins between two neighbouring junctions
   pub none_inside : s.index < p.index → p.index < s.end → ⊥

@@ -29,7 +29,7 @@ use Rattle.road_base.specs.Objects.{Objects}
 use Rattle.road_model.specs.Rules.{Rules}
 use Rattle.road_model.specs.Lines.{node_at}
 use Rattle.road_model.specs.Driving.{is_open, located}
-use Rattle.road_model.specs.Pieces.{Piece, IsPiece}
+use Rattle.road_model.specs.Pieces.{Span, IsPiece}
 use Rattle.road_model.specs.Orders.{Lists, name_cmp}
 use Rattle.junctions.specs.Junctions.{AreJunctions}
 use Rattle.way_lines.specs.declared.roads.Road.{Road}
@@ -38,7 +38,7 @@ use Rattle.way_pieces.specs.declared.spans.PieceSpan.{PieceSpan}
 use Rattle.way_pieces.specs.declared.stretches.Stretch.{Stretch}
 use Rattle.way_pieces.specs.Names.{piece_of, IsSpanOn}
 use Rattle.way_pieces.specs.Stretches.{IsStretch, IsSpanBelow, added, piece_on, span_on}
-use Rattle.way_pieces.proofs.JoinedLists.{lists_added}
+use Rattle.road_model.proofs.JoinedLists.{lists_added}
 use Rattle.way_pieces.proofs.DrivenSteps.{piece_from, piece_parts}
 use Rattle.way_pieces.proofs.NameOrder.{index_next, dir_last}
 use Rattle.way_pieces.proofs.NeighbourJunctions.{
@@ -51,7 +51,7 @@ use Rattle.way_pieces.proofs.NeighbourJunctions.{
   last_listed,
 }
 
-abbrev pub span_of : Piece → PieceSpan
+abbrev pub span_of : Span → PieceSpan
 span_of p = record { name = record { way = p.way; index = p.index; dir = p.dir }; end = p.end }
 
 module _ (M : Objects) (P : Rules) (s : Stretch) (stretch : IsStretch M P s) (f b : Bool)

@@ -6,27 +6,18 @@ use Rattle.std.proofs.Common.{
   ◌+◌,
   ◌-◌,
   ◌<◌,
-  ◌≤◌,
-  ◌&&◌,
-  inl,
-  inr,
-  not,
   Bool,
   true,
-  false,
   List,
   [],
   ◌∷◌,
   length,
   map,
-  take,
-  drop,
   get_or,
   pos,
   Some,
   IsTrue,
   Contains,
-  Ordering,
   refl,
   sym,
   ap,
@@ -34,17 +25,13 @@ use Rattle.std.proofs.Common.{
   ◌∙◌,
   arith,
 }
-use Rattle.std.specs.declared.cmp.Ordering.TheVariants.{Less, Equal, Greater}
-use Rattle.std.specs.Ordering.{is_lt, is_le, is_eq, ordering_reverse, ordering_index}
-use Rattle.std.specs.Cmp.{IsTotalOrder}
+use Rattle.std.specs.Ordering.{is_eq}
+use Rattle.std.specs.Cmp.{IsTotalOrder, Equal-is}
 use Rattle.std.specs.FinMap.{IsAntisymmetric}
 use Rattle.std.specs.List.{All, filter}
-use Rattle.std.specs.List.Sorted.{IsPartitionPoint, IsPartitionedBy, IsSortedByKey, IsStableByKey, ties}
-use Rattle.std.proofs.Math.Dec.{ltb, leb}
-use Rattle.std.proofs.lemmas.Bool.{cases_lt}
+use Rattle.std.specs.List.Sorted.{IsSortedByKey, IsStableByKey}
 use Rattle.std.proofs.lemmas.Cmp.{tied_itself}
-use Rattle.std.proofs.lemmas.List.Elements.{filter_agree, Contains-get_or}
-use Rattle.std.proofs.lemmas.List.Sorted.{searchable_from_sorted, IsPartitionedBy-ltb, IsPartitionedBy-leb}
+use Rattle.std.proofs.lemmas.List.Elements.{Contains-get_or}
 use Rattle.road_base.specs.declared.ids.NodeId.{NodeId}
 use Rattle.road_base.specs.declared.ids.WayId.{WayId}
 use Rattle.road_base.specs.declared.ids.Step.{Step}
@@ -74,10 +61,12 @@ use Rattle.way_pieces.specs.Departures.{IsOver}
 use Rattle.way_pieces.specs.RoadPieces.{AreStarts}
 use Rattle.way_pieces.specs.Starts.{IsWithin, no_node, node_in, start_toward, start_on, leaving}
 use Rattle.way_pieces.proofs.SpanOrder.{span_of}
-use Rattle.way_pieces.proofs.JoinedLists.{map_has, map_from}
+use Rattle.road_base.proofs.ListMembers.{contains_map, contains_from_map}
+use Rattle.road_base.proofs.FilteredLists.{contains_filter, contains_from_filter}
+use Rattle.road_base.proofs.SortedParts.{kept_by_sort}
 use Rattle.way_pieces.proofs.DepartureLists.{some_node, name_way}
 use Rattle.way_pieces.proofs.DrivenSteps.{as_long, named_end, node_there, piece_last, piece_road}
-use Rattle.way_pieces.proofs.FilteredLists.{filter_has, filter_from, filter_part, rises_kept}
+use Rattle.road_model.proofs.AscendingLists.{rises_kept}
 
 -- ---- what a start has of its piece
 
@@ -220,11 +209,6 @@ names_through : (ts : List Start) → map (λ t. t.departure.piece) ts ≡ map (
 names_through [] = refl
 names_through (t ∷ ts) = ap (λ l. t.departure.piece ∷ l) (names_through ts)
 
-is_tied : (r : Ordering) → is_eq r ≡ true → r ≡ Equal
-is_tied Less h = cc
-is_tied Equal h = refl
-is_tied Greater h = cc
-
 module _ (M : Objects) (P : Rules) (w : WayId) (nodes : List LineNode)
     (line : IsTrue (is_road M P w) → nodes ≡ map (line_node M P) (line_of M w)) (names : IsTotalOrder name_cmp)
     (total : IsTotalOrder node_cmp) (exact : IsAntisymmetric node_cmp) (spans : List PieceSpan)
@@ -237,30 +221,30 @@ module _ (M : Objects) (P : Rules) (w : WayId) (nodes : List LineNode)
 
   sound : (z : Departure) → Contains (leaving v starts) z → IsOver M P v w z
   sound z has =
-      let t = map_from (λ t. t.departure) (filter here starts) z has in
-      let passes = filter_from here starts t.0 (t.1).0 in
-      let s = map_from (start_on nodes) spans t.0 passes.0 in
-      let over = start_over M P w nodes line s.0 (lists.sound s.0 (s.1).0) in
-      let same : (start_on nodes s.0).node ≡ v = ap (λ (u : Start). u.node) (sym (s.1).1)
-      ∙ exact (t.0).node v (is_tied _ passes.1) in
-      let departure : (start_on nodes s.0).departure ≡ z = ap (λ (u : Start). u.departure) (sym (s.1).1)
-      ∙ sym (t.1).1 in
+      let t = contains_from_map (λ t. t.departure) (filter here starts) z has in
+      let passes = contains_from_filter here starts t.0 t.1 in
+      let s = contains_from_map (start_on nodes) spans t.0 passes.0 in
+      let over = start_over M P w nodes line s.0 (lists.sound s.0 s.1) in
+      let same : (start_on nodes s.0).node ≡ v = ap (λ (u : Start). u.node) (sym s.2)
+      ∙ exact (t.0).node v ((Equal-is _).0 passes.1) in
+      let departure : (start_on nodes s.0).departure ≡ z = ap (λ (u : Start). u.departure) (sym s.2)
+      ∙ sym t.2 in
       subst (λ u. IsOver M P u w z) same (subst (IsOver M P (start_on nodes s.0).node w) departure over)
 
   complete : (z : Departure) → IsOver M P v w z → Contains (leaving v starts) z
   complete z is_over =
       let s = own M P w nodes line v z is_over in
-      let has = map_has (start_on nodes) spans s (lists.complete s (own_span M P w nodes line v z is_over)) in
+      let has = contains_map (start_on nodes) spans s (lists.complete s (own_span M P w nodes line v z is_over)) in
       let node = same_start_node M P w nodes line v z is_over in
       let passes : here (start_on nodes s) ≡ true = ap (λ u. same_node u v) node ∙ ap is_eq (tied_itself total v) in
       subst (Contains (leaving v starts)) (same_departure M P w nodes line v z is_over)
-      (map_has (λ t. t.departure) (filter here starts) (start_on nodes s)
-      (filter_has here starts (start_on nodes s) has passes))
+      (contains_map (λ t. t.departure) (filter here starts) (start_on nodes s)
+      (contains_filter here starts (start_on nodes s) has passes))
 
   pub starts_listed : Lists (λ d. d.piece) name_cmp (IsOver M P v w) (leaving v starts)
   starts_listed = record {
     ascending = subst (λ l. IsTrue (rises name_cmp l)) (names_through (filter here starts))
-        (rises_kept name_cmp names (λ t. t.departure.piece) here starts
+        (rises_kept (λ t. t.departure.piece) name_cmp names here starts
         (subst (λ l. IsTrue (rises name_cmp l)) (sym (names_are nodes spans)) lists.ascending));
     sound = sound;
     complete = complete;
@@ -268,13 +252,8 @@ module _ (M : Objects) (P : Rules) (w : WayId) (nodes : List LineNode)
 
 -- ---- sorted by node
 
-tied_by : (r : Ordering) → (not (is_lt (ordering_reverse r)) && not (is_lt r)) ≡ is_eq r
-tied_by Less = refl
-tied_by Equal = refl
-tied_by Greater = refl
-
 -- some start at the node
-abbrev start_at : NodeId → Start
+abbrev pub start_at : NodeId → Start
 start_at v = record {
   node = v;
   departure = record {
@@ -287,86 +266,8 @@ start_at v = record {
 -- a stable sort leaves the starts of each node as they were
 pub leaving_kept : IsTotalOrder node_cmp → (v : NodeId) (xs ys : List Start)
     → IsStableByKey (λ s. s.node) node_cmp xs ys → leaving v xs ≡ leaving v ys
-leaving_kept total v xs ys stable =
-    let lt = λ (a b : Start). is_lt (node_cmp a.node b.node) in
-    let same : (t : Start) → ties lt (start_at v) t ≡ same_node t.node v =
-    λ t. ap (λ r. not (is_lt r) && not (is_lt (node_cmp t.node v))) (total.antisymm v t.node)
-    ∙ tied_by (node_cmp t.node v) in
-    ap (λ (l : List Start). map (λ s. s.departure) l)
-    (sym (filter_agree (ties lt (start_at v)) (λ t. same_node t.node v) same xs)
-    ∙ (sym (stable (start_at v)) ∙ filter_agree (ties lt (start_at v)) (λ t. same_node t.node v) same ys))
-
-lt_index : (r : Ordering) → ltb (ordering_index r) 1 ≡ is_lt r
-lt_index Less = refl
-lt_index Equal = refl
-lt_index Greater = refl
-
-le_index : (r : Ordering) → leb (ordering_index r) 1 ≡ is_le r
-le_index Less = refl
-le_index Equal = refl
-le_index Greater = refl
-
-less_apart : (r : Ordering) → is_lt r ≡ true → is_eq r ≡ false
-less_apart Less h = refl
-less_apart Equal h = cc
-less_apart Greater h = cc
-
-more_apart : (r : Ordering) → is_le r ≡ false → is_eq r ≡ false
-more_apart Less h = cc
-more_apart Equal h = cc
-more_apart Greater h = refl
-
-between : (r : Ordering) → is_lt r ≡ false → is_le r ≡ true → is_eq r ≡ true
-between Less h g = cc
-between Equal h g = refl
-between Greater h g = cc
-
-upto : (r : Ordering) → is_lt r ≡ true → is_le r ≡ true
-upto Less h = refl
-upto Equal h = cc
-upto Greater h = cc
-
-not_both : (b : Bool) → b ≡ true → b ≡ false → ⊥
-not_both b h g = cc
-
-module _ (total : IsTotalOrder node_cmp) (v : NodeId) (xs : List Start)
-    (sorted : IsSortedByKey (λ s. s.node) node_cmp xs) where
-  pub below_parted : IsPartitionedBy (λ s. is_lt (node_cmp s.node v)) xs
-  below_parted =
-      let same : (λ (s : Start). ltb (ordering_index (node_cmp s.node v)) 1)
-      ≡ (λ (s : Start). is_lt (node_cmp s.node v)) = λ i s. lt_index (node_cmp s.node v) i in
-      subst (λ (q : Start → Bool). IsPartitionedBy q xs) same
-      (IsPartitionedBy-ltb (λ s. ordering_index (node_cmp s.node v)) xs 1
-      (searchable_from_sorted total (λ s. s.node) xs v sorted))
-
-  pub upto_parted : IsPartitionedBy (λ s. is_le (node_cmp s.node v)) xs
-  upto_parted =
-      let same : (λ (s : Start). leb (ordering_index (node_cmp s.node v)) 1)
-      ≡ (λ (s : Start). is_le (node_cmp s.node v)) = λ i s. le_index (node_cmp s.node v) i in
-      subst (λ (q : Start → Bool). IsPartitionedBy q xs) same
-      (IsPartitionedBy-leb (λ s. ordering_index (node_cmp s.node v)) xs 1
-      (searchable_from_sorted total (λ s. s.node) xs v sorted))
-
-module _ (v : NodeId) (xs : List Start) (low high : ℕ)
-    (below : IsPartitionPoint (λ s. is_lt (node_cmp s.node v) ≡ true) (λ s. is_lt (node_cmp s.node v) ≡ false) xs low)
-    (within : IsPartitionPoint (λ s. is_le (node_cmp s.node v) ≡ true) (λ s. is_le (node_cmp s.node v) ≡ false) xs high)
-    (low_fits : low ≤ length xs) (high_fits : high ≤ length xs) where
-  pub low_first : low ≤ high
-  low_first = elim (cases_lt high low) [
-    | inl l ↦ absurd (not_both _ (upto _ (below.0 high (start_at v) (omega arith) l))
-        (within.1 high (start_at v) (omega arith) (omega arith)))
-    | inr le ↦ le
-  ]
-
-  -- the starts of a node stand between the two places
-  pub part_leaves : take (high - low) (drop low xs) ≡ filter (λ s. same_node s.node v) xs
-  part_leaves =
-      let up = low_first in
-      let sum : low + (high - low) ≡ high = omega arith in
-      sym (filter_part (λ s. same_node s.node v) xs low (high - low) (omega arith)
-      (λ k d l. less_apart _ (below.0 k d (omega arith) l))
-      (λ k d m l. between _ (below.1 k d m (omega arith)) (within.0 k d (omega arith) (omega arith)))
-      (λ k d m l. more_apart _ (within.1 k d (omega arith) l)))
+leaving_kept total v xs ys stable = ap (λ (l : List Start). map (λ s. s.departure) l)
+    (kept_by_sort (λ (s : Start). s.node) node_cmp total (start_at v) xs ys stable)
 
 -- ---- the starts of a way
 

@@ -7,21 +7,21 @@ use Rattle.road_base.specs.Objects.{Objects}
 use Rattle.road_model.specs.declared.lists.PieceName.{PieceName}
 use Rattle.road_model.specs.Rules.{Rules}
 use Rattle.road_model.specs.Lines.{tail_of, head_of}
-use Rattle.road_model.specs.Pieces.{Piece, IsPiece, spell}
+use Rattle.road_model.specs.Pieces.{Span, IsPiece, spell}
 use Rattle.road_model.specs.Blocks.{name_of}
 use Rattle.way_pieces.specs.declared.spans.PieceSpan.{PieceSpan}
 use Rattle.way_pieces.specs.declared.departures.Departure.{Departure}
 
 -- the name is that of a piece of the way
 pub record IsNameOn (M : Objects) (P : Rules) (w : WayId) (n : PieceName) : Type 0 where
-  pub piece : Piece
+  pub piece : Span
   pub is : IsPiece M P piece
   pub named : n ≡ name_of piece
   pub of : piece.way ≡ w
 
 -- the name is that of a piece whose first step leaves the node
 pub record IsNameFrom (M : Objects) (P : Rules) (v : NodeId) (n : PieceName) : Type 0 where
-  pub piece : Piece
+  pub piece : Span
   pub is : IsPiece M P piece
   pub named : n ≡ name_of piece
   pub first : Step
@@ -30,17 +30,17 @@ pub record IsNameFrom (M : Objects) (P : Rules) (v : NodeId) (n : PieceName) : T
 
 -- the steps are those of the piece of that name, in order of travel
 pub record IsSpelling (M : Objects) (P : Rules) (n : PieceName) (steps : List Step) : Type 0 where
-  pub piece : Piece
+  pub piece : Span
   pub is : IsPiece M P piece
   pub named : n ≡ name_of piece
   pub spelled : steps ≡ spell piece
 
 -- no piece has the name
 abbrev pub NamesNone : Objects → Rules → PieceName → Type 0
-NamesNone M P n = (p : Piece) → IsPiece M P p → n ≡ name_of p → ⊥
+NamesNone M P n = (p : Span) → IsPiece M P p → n ≡ name_of p → ⊥
 
 -- what would be the piece of that name with that upper position
-abbrev pub piece_of : PieceSpan → Piece
+abbrev pub piece_of : PieceSpan → Span
 piece_of s = record { way = s.name.way; index = s.name.index; end = s.end; dir = s.name.dir }
 
 -- a piece of the way, with both its positions
@@ -50,7 +50,7 @@ pub record IsSpanOn (M : Objects) (P : Rules) (w : WayId) (s : PieceSpan) : Type
 
 -- a piece whose first step leaves the node, with that step and the node where it ends
 pub record IsDeparture (M : Objects) (P : Rules) (v : NodeId) (d : Departure) : Type 0 where
-  pub piece : Piece
+  pub piece : Span
   pub is : IsPiece M P piece
   pub named : d.piece ≡ name_of piece
   pub more : List Step

@@ -30,11 +30,10 @@ pub record AreWayPieces (M : Objects) (P : Rules) (w : WayId) (t : WayPieces) : 
   pub spans : AreSpans M P w t.spans.items
   pub starts : AreStarts M P w t.starts.items
 
--- the pieces of each road, and where they start
+-- the pieces of each road, and where they start as far as that is kept
 pub record AreRoadPieces (M : Objects) (P : Rules) (p : RoadPieces) : Type 0 where
   pub roads : AreRoads M P p.roads
   pub span_count : length p.spans ≡ length p.roads.roads.items
-  pub start_count : length p.starts ≡ length p.roads.roads.items
   pub spans : (k : ℕ) (road : Road) (spans : List PieceSpan)
       → slice_get p.roads.roads.items k ≡ Some road
       → slice_get p.spans k ≡ Some spans

@@ -21,7 +21,7 @@ use Rattle.road_base.specs.declared.ids.Dir.{Dir}
 use Rattle.road_base.specs.declared.ids.Dir.TheVariants.{Forward, Backward}
 use Rattle.road_base.specs.Objects.{Objects}
 use Rattle.road_model.specs.Rules.{Rules}
-use Rattle.road_model.specs.Pieces.{Piece, IsPlain}
+use Rattle.road_model.specs.Pieces.{Span, IsPlain}
 use Rattle.junctions.specs.Junctions.{IsJunction}
 use Rattle.way_lines.specs.declared.roads.Road.{Road}
 use Rattle.way_lines.specs.declared.road_line.LineNode.{LineNode}
@@ -37,7 +37,7 @@ pub record IsStretch (M : Objects) (P : Rules) (s : Stretch) : Type 0 where
   pub inner : (k : ℕ) → s.index < k → k < s.end → IsPlain M P s.way k
 
 -- what would be the piece there
-abbrev pub piece_on : Stretch → Dir → Piece
+abbrev pub piece_on : Stretch → Dir → Span
 piece_on s d = record { way = s.way; index = s.index; end = s.end; dir = d }
 
 -- the same as a span

@@ -140,13 +140,27 @@ impl RoadPieces {
         self.ends.as_slice()
     }
 
+    /// The same roads and pieces, where these start and end let go: what leaves a node is then cut for each call.
+    pub fn without_starts(self, alloc: Global) -> RoadPieces
+        ensures are { (M : Objects) (P : Rules) → AreRoadPieces M P self → AreRoadPieces M P result }
+        ensures roads { result.roads ≡ self.roads }
+    {
+        let RoadPieces { roads, spans, .. } = self;
+        RoadPieces {
+            roads,
+            spans,
+            starts: Groups::new(alloc),
+            ends: Vec::new(alloc),
+        }
+    }
+
     /// The pieces of the way, if it is found among those that were cut.
     pub fn spans_of(&self, way: WayId) -> Option<&[PieceSpan]>
         ensures { IfSome result (λ spans. (M : Objects) (P : Rules)
             → AreRoadPieces M P self.now
             → AreSpans M P way spans.now) }
     {
-        let at = self.roads.place_of(way)?;
+        let at = self.roads.position_of(way)?;
         if at >= self.spans.len() {
             return None;
         }
@@ -159,7 +173,7 @@ impl RoadPieces {
             → AreRoadPieces M P self.now
             → AreStarts M P way starts.now) }
     {
-        let at = self.roads.place_of(way)?;
+        let at = self.roads.position_of(way)?;
         if at >= self.starts.len() {
             return None;
         }

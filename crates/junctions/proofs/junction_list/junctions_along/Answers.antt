@@ -3,14 +3,14 @@ use Rattle.std.proofs.Common.{◌≡◌, ℕ, ◌+◌, ◌<◌, ◌⊎◌, inl, 
 use Rattle.std.proofs.Common.{refl, sym, subst, arith}
 use Rattle.std.specs.Ordering.{nat_cmp, is_lt}
 use Rattle.std.proofs.lemmas.Bool.{lt-ltb, false≢true}
-use Rattle.std.proofs.lemmas.List.Elements.{Contains-push}
+use Rattle.std.proofs.lemmas.List.Elements.{Contains-push, Contains-append_left}
 use Rattle.road_base.specs.declared.ids.WayId.{WayId}
 use Rattle.road_base.specs.Objects.{Objects}
 use Rattle.road_model.specs.Rules.{Rules}
 use Rattle.road_model.specs.Orders.{Lists}
 use Rattle.road_model.specs.Pieces.{IsPlain}
 use Rattle.junctions.specs.Junctions.{IsJunction}
-use Rattle.junctions.proofs.LongerLists.{still_in, lists_none, lists_pushed, lists_same}
+use Rattle.road_model.proofs.JoinedLists.{lists_none, lists_pushed, lists_same}
 use Rattle.junctions.proofs.Positions.{some_road, as_long}
 use Rattle.junctions.proofs.junction_list.junctions_along.Goals as goal
 
@@ -40,7 +40,7 @@ listed_more M P w n xs ys is others i h = elim (upto i n h) [
       let there = subst (λ k. Contains (xs ++ n ∷ []) k) (sym same) (Contains-push xs n) in
       inl (subst (λ (l : List ℕ). Contains l i) (sym is) there)
   | inr less ↦ elim (others i less) [
-    | inl has ↦ inl (subst (λ (l : List ℕ). Contains l i) (sym is) (still_in xs n i has))
+    | inl has ↦ inl (subst (λ (l : List ℕ). Contains l i) (sym is) (Contains-append_left xs (n ∷ []) i has))
     | inr plain ↦ inr plain
   ]
 ]
@@ -49,7 +49,7 @@ listed_more M P w n xs ys is others i h = elim (upto i n h) [
 below_plain : (M : Objects) (P : Rules) (w : WayId) (n : ℕ) (xs : List ℕ) → IsPlain M P w n
     → Lists (λ i. i) nat_cmp (Below M P w n) xs → Lists (λ i. i) nat_cmp (Below M P w (n + 1)) xs
 below_plain M P w n xs plain listed =
-    lists_same nat_cmp (Below M P w n) (Below M P w (n + 1)) xs listed
+    lists_same (λ i. i) nat_cmp (Below M P w n) (Below M P w (n + 1)) xs listed
     (λ i h. let below = h.0 in (omega arith, h.1))
     (λ i h. elim (upto i n h.0) [
       | inl here ↦ absurd ((h.1).not_plain (subst (λ k. IsPlain M P w k) (sym here) plain))
@@ -60,7 +60,7 @@ below_plain M P w n xs plain listed =
 below_listed : (M : Objects) (P : Rules) (w : WayId) (n : ℕ) (xs ys : List ℕ) → ys ≡ xs ++ n ∷ [] → IsJunction M P w n
     → Lists (λ i. i) nat_cmp (Below M P w n) xs → Lists (λ i. i) nat_cmp (Below M P w (n + 1)) ys
 below_listed M P w n xs ys is junction listed =
-    lists_pushed nat_cmp (Below M P w n) (Below M P w (n + 1)) xs ys n is listed
+    lists_pushed (λ i. i) nat_cmp (Below M P w n) (Below M P w (n + 1)) xs ys n is listed
     (λ i h. below_is_less i n h.0)
     (λ i h. let below = h.0 in (omega arith, h.1))
     (omega arith, junction)
@@ -71,7 +71,7 @@ loop-at-init g c =
     let M = g.M.World.objects c.args.network.now.world.now in
     let P = g.P.Profile.rules c.args.network.now.profile in
     let w = c.args.line.now.road.way in
-    let none = lists_none nat_cmp (Below M P w 0) (λ i h. let below = h.0 in omega arith) in
+    let none = lists_none (λ i. i) nat_cmp (Below M P w 0) (λ i h. let below = h.0 in omega arith) in
     record {
       listed = subst (Lists (λ i. i) nat_cmp (Below M P w 0)) (sym c.new-junctions.ensures.items) none;
       others = λ i below. absurd (omega arith);
@@ -120,8 +120,8 @@ returns g c =
     let past = c.loop-at-test.false in
     let old = c.loop-at.junctions.items in
     record {
-      listed = lists_same nat_cmp (Below M P l.road.way n) (IsJunction M P l.road.way) old c.loop-at.invariant.listed
-          (λ i h. h.1)
+      listed = lists_same (λ i. i) nat_cmp (Below M P l.road.way n) (IsJunction M P l.road.way) old
+          c.loop-at.invariant.listed (λ i h. h.1)
           (λ i h. let on = h.on_line in let count = as_long M P l c.requires.line h.road in (omega arith, h));
       others = λ i road on.
           let count = as_long M P l c.requires.line road in

@@ -33,7 +33,7 @@ use Rattle.way_pieces.specs.declared.stretches.Stretch.{Stretch}
 use Rattle.way_pieces.specs.Names.{piece_of, IsSpanOn}
 use Rattle.way_pieces.specs.Stretches.{IsStretch, IsSpanBelow, is_located, has_located_ends, both_added}
 use Rattle.way_pieces.proofs.SpanOrder.{none_below, below_last, stretch_listed}
-use Rattle.way_pieces.proofs.JoinedLists.{lists_none, lists_same}
+use Rattle.road_model.proofs.JoinedLists.{lists_none, lists_same}
 use Rattle.way_pieces.proofs.DrivenSteps.{seen_located}
 use Rattle.way_pieces.proofs.NeighbourJunctions.{first_listed, stretch_at}
 use Rattle.way_pieces.proofs.spans.spans_along.Goals as goal

@@ -4,19 +4,22 @@ use Rattle.std.specs.Ordering.{is_lt, is_le}
 use Rattle.std.proofs.lemmas.List.Sorted.{IsPartitionPoint-from_clause}
 use Rattle.road_model.specs.Orders.{node_cmp}
 use Rattle.way_pieces.proofs.NameOrder.{node_cmp_total}
-use Rattle.way_pieces.proofs.StartOrder.{below_parted, upto_parted, low_first, part_leaves}
+use Rattle.way_pieces.specs.declared.starts.Start.{Start}
+use Rattle.road_base.proofs.SortedParts.{below_parted, upto_parted, low_first, part_together}
+use Rattle.way_pieces.proofs.StartOrder.{start_at}
 use Rattle.way_pieces.proofs.starts.leaving.Goals as goal
 
 pub part-requires-clause-rising : goal.part-requires-clause-rising
 part-requires-clause-rising c =
     let v = c.args.node in
     let xs = c.args.starts.now in
-    low_first v xs c.partition_point-low.result c.partition_point-high.result
+    low_first (λ (s : Start). s.node) node_cmp (start_at v) v xs c.partition_point-low.result
+    c.partition_point-high.result
     (IsPartitionPoint-from_clause (λ s. is_lt (node_cmp s.node v)) xs c.partition_point-low.result
-    c.partition_point-low.ensures.partitioned (below_parted node_cmp_total v xs c.requires)
+    c.partition_point-low.ensures.partitioned (below_parted (λ s. s.node) node_cmp node_cmp_total v xs c.requires)
     (λ a r q k. search rules))
     (IsPartitionPoint-from_clause (λ s. is_le (node_cmp s.node v)) xs c.partition_point-high.result
-    c.partition_point-high.ensures.partitioned (upto_parted node_cmp_total v xs c.requires)
+    c.partition_point-high.ensures.partitioned (upto_parted (λ s. s.node) node_cmp node_cmp_total v xs c.requires)
     (λ a r q k. search rules))
     c.partition_point-low.ensures.bound c.partition_point-high.ensures.bound
 
@@ -25,11 +28,12 @@ returns c =
     let v = c.args.node in
     let xs = c.args.starts.now in
     c.part.ensures
-    ∙ part_leaves v xs c.partition_point-low.result c.partition_point-high.result
+    ∙ part_together (λ (s : Start). s.node) node_cmp (start_at v) v xs c.partition_point-low.result
+    c.partition_point-high.result
     (IsPartitionPoint-from_clause (λ s. is_lt (node_cmp s.node v)) xs c.partition_point-low.result
-    c.partition_point-low.ensures.partitioned (below_parted node_cmp_total v xs c.requires)
+    c.partition_point-low.ensures.partitioned (below_parted (λ s. s.node) node_cmp node_cmp_total v xs c.requires)
     (λ a r q k. search rules))
     (IsPartitionPoint-from_clause (λ s. is_le (node_cmp s.node v)) xs c.partition_point-high.result
-    c.partition_point-high.ensures.partitioned (upto_parted node_cmp_total v xs c.requires)
+    c.partition_point-high.ensures.partitioned (upto_parted (λ s. s.node) node_cmp node_cmp_total v xs c.requires)
     (λ a r q k. search rules))
     c.partition_point-low.ensures.bound c.partition_point-high.ensures.bound

@@ -5,7 +5,8 @@ use Rattle.road_base.specs.declared.ids.WayId.{WayId}
 use Rattle.road_model.specs.Orders.{Lists, name_cmp}
 use Rattle.way_pieces.specs.declared.departures.Departure.{Departure}
 use Rattle.way_pieces.specs.Names.{IsDeparture}
-use Rattle.way_pieces.proofs.JoinedLists.{contains_none, lists_none, lists_same}
+use Rattle.road_base.proofs.ListMembers.{contains_none}
+use Rattle.road_model.proofs.JoinedLists.{lists_none, lists_same}
 use Rattle.way_pieces.proofs.DepartureLists.{SoFar, way_gained, passes}
 use Rattle.way_pieces.proofs.road_pieces.RoadPieces.departures.Goals as goal
 

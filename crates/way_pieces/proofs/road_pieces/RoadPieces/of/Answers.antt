@@ -52,11 +52,9 @@ returns-clause-are g c =
     let upto = c.loop-road.auto.road-index-end in
     let all : length c.items-road-items.result.now ≡ length roads = ap length c.items-road-items.ensures in
     let span_count = c.loop-road.invariant.span_count in
-    let start_count = c.loop-road.invariant.start_count in
     record {
       roads = c.in_ok-roads.ensures.are;
       span_count = omega arith;
-      start_count = omega arith;
       spans = known_of (AreSpans M P) c.items-road-items.result.now roads c.loop-road.spans c.items-road-items.ensures
           c.loop-road.invariant.spans;
       starts = known_of (AreStarts M P) c.items-road-items.result.now roads c.loop-road.starts
