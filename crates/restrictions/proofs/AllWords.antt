@@ -30,8 +30,9 @@ use Rattle.restrictions.specs.Ends.{ends_of}
 use Rattle.restrictions.specs.Spelling.{words_at, words_by, words_from, words_of, word_of, words_over, words_over_if}
 use Rattle.restrictions.specs.Spelling.{words_to, words_with}
 use Rattle.restrictions.specs.Words.{AreDistinct, AreWords, IsOfUse, IsRestriction, IsWordOf}
-use Rattle.restrictions.proofs.DistinctLists.{in_none, in_map, of_map, in_joined, of_joined, distinct_append}
-use Rattle.restrictions.proofs.DistinctLists.{distinct_map, distinct_joined}
+use Rattle.road_base.proofs.ListMembers.{contains_none, contains_map, contains_from_map}
+use Rattle.road_base.proofs.ListMembers.{contains_flat, contains_from_flat}
+use Rattle.restrictions.proofs.DistinctLists.{distinct_append, distinct_map, distinct_joined}
 use Rattle.restrictions.proofs.EndLists.{ends_distinct, ends_sound, ends_there}
 use Rattle.restrictions.proofs.OneRun.{end_there, is_run, one_run, run_begins}
 
@@ -75,7 +76,7 @@ module _ (rule : Rule) (via : List Step) where
   begins_with : (first : Step) (lasts : List Step) (w : Word) → Contains (words_from rule first via lasts) w
       → (rest : List Step) × (w.steps ≡ first ∷ rest)
   begins_with first lasts w has =
-      let found = of_map (λ last. word_of rule first via last) lasts w has in
+      let found = contains_from_map (λ last. word_of rule first via last) lasts w has in
       (via ++ found.0 ∷ [], ap (λ (v : Word). v.steps) found.2)
 
   by_distinct : (firsts lasts : List Step) → AreDistinct firsts → AreDistinct lasts
@@ -94,7 +95,8 @@ module _ (M : Objects) (P : Rules) (rule : Rule) (body : Relation) where
       → (first : Step) × (rest : List Step) × (w.steps ≡ first ∷ rest) × (head_of M first ≡ Some enter)
   at_begins enter via leave w has =
       let lasts = ends_of M OutOf leave (tos body) [] in
-      let found = of_joined (λ first. words_from rule first via lasts) (ends_of M Into enter (froms body) []) w has in
+      let found = contains_from_flat (λ first. words_from rule first via lasts)
+      (ends_of M Into enter (froms body) []) w has in
       let begins = begins_with rule via found.0 lasts w found.2 in
       let ending = ends_sound M Into enter (froms body) found.0 found.1 in
       (found.0, begins.0, begins.1, ending.2.head)
@@ -112,7 +114,7 @@ module _ (M : Objects) (P : Rules) (rule : Rule) (body : Relation) where
   to_begins : (enter : NodeId) (via : List Step) (out : Option NodeId) (w : Word)
       → Contains (words_to M rule body enter via out) w
       → (first : Step) × (rest : List Step) × (w.steps ≡ first ∷ rest) × (head_of M first ≡ Some enter)
-  to_begins enter via None w has = absurd (in_none w has)
+  to_begins enter via None w has = absurd (contains_none w has)
   to_begins enter via (Some leave) w has = at_begins enter via leave w has
 
   -- the words of two passages differ where these are entered at different nodes
@@ -134,8 +136,8 @@ module _ (M : Objects) (P : Rules) (rule : Rule) (body : Relation) where
 
   over_apart : (a b : Option NodeId) (w : Word) → same_end a b ≡ false → Contains (words_over_if M P rule body a) w
       → Contains (words_over_if M P rule body b) w → ⊥
-  over_apart None b w line in_a in_b = in_none w in_a
-  over_apart (Some a) None w line in_a in_b = in_none w in_b
+  over_apart None b w line in_a in_b = contains_none w in_a
+  over_apart (Some a) None w line in_a in_b = contains_none w in_b
   over_apart (Some a) (Some b) w line in_a in_b =
       apart a b w (λ same. false≢true (sym line ∙ end_there (Some a) b (ap Some same))) in_a in_b
 
@@ -202,7 +204,7 @@ module _ (M : Objects) (P : Rules) (rule : Rule) (body : Relation) where
       → leave_of M (is_open M P) (vias body) (Some enter) ≡ out
       → Contains (words_to M rule body enter (steps_of M (is_open M P) (vias body) (Some enter)) out) z
       → IsOver (WayKey w ∷ ks) z
-  to_known w ks are enter None z leaves has = absurd (in_none z has)
+  to_known w ks are enter None z leaves has = absurd (contains_none z has)
   to_known w ks are enter (Some leave) z leaves has =
       let steps = steps_of M (is_open M P) (vias body) (Some enter) in
       let run : IsRun M (is_open M P) (vias body) enter steps leave = is_run M (is_open M P) (vias body) enter leave
@@ -211,21 +213,21 @@ module _ (M : Objects) (P : Rules) (rule : Rule) (body : Relation) where
 
   over_known : (w : WayId) (ks : List Key) → vias body ≡ WayKey w ∷ ks → (o : Option NodeId) (z : Word)
       → Contains (words_over_if M P rule body o) z → IsOver (WayKey w ∷ ks) z
-  over_known w ks are None z has = absurd (in_none z has)
+  over_known w ks are None z has = absurd (contains_none z has)
   over_known w ks are (Some enter) z has = to_known w ks are enter (leave_of M (is_open M P) (vias body) (Some enter)) z
       refl has
 
   with_known : (ks : List Key) → vias body ≡ ks → (z : Word) → Contains (words_with M P rule body ks) z → IsOver ks z
-  with_known [] are z has = absurd (in_none z has)
+  with_known [] are z has = absurd (contains_none z has)
   with_known (NodeKey n ∷ []) are z has = (n, [], n, (refl, refl, refl), has)
-  with_known (NodeKey n ∷ k ∷ ks) are z has = absurd (in_none z has)
+  with_known (NodeKey n ∷ k ∷ ks) are z has = absurd (contains_none z has)
   with_known (WayKey w ∷ ks) are z has = elim
       (Contains-append_cases (words_over_if M P rule body (first_node M w))
       (words_over_if M P rule body (last_node M w)) z has) [
         | inl here ↦ over_known w ks are (first_node M w) z here
         | inr here ↦ over_known w ks are (last_node M w) z here
       ]
-  with_known (RelationKey q ∷ ks) are z has = absurd (in_none z has)
+  with_known (RelationKey q ∷ ks) are z has = absurd (contains_none z has)
 
   module _ (r : RelationId) (visible : relation_of M r ≡ Some body) (restriction : IsTrue (is_restriction body.tags))
       (usable : IsUsable M P body) (of : rule.relation ≡ r) (only : rule.only ≡ is_only (P.rule body.tags))
@@ -244,8 +246,9 @@ module _ (M : Objects) (P : Rules) (rule : Rule) (body : Relation) where
         → IsVia M P (vias body) enter via leave → Contains (words_at M rule body enter via leave) z → IsWordOf M P r z
     spelled_word enter via leave z is has =
         let lasts = ends_of M OutOf leave (tos body) [] in
-        let found = of_joined (λ first. words_from rule first via lasts) (ends_of M Into enter (froms body) []) z has in
-        let spelled = of_map (λ last. word_of rule found.0 via last) lasts z found.2 in
+        let found = contains_from_flat (λ first. words_from rule first via lasts)
+        (ends_of M Into enter (froms body) []) z has in
+        let spelled = contains_from_map (λ last. word_of rule found.0 via last) lasts z found.2 in
         let begins = ends_sound M Into enter (froms body) found.0 found.1 in
         let ends = ends_sound M OutOf leave (tos body) spelled.0 spelled.1 in
         let word : IsWordOf M P r (word_of rule found.0 via spelled.0) = record {
@@ -298,9 +301,9 @@ module _ (M : Objects) (P : Rules) (rule : Rule) (body : Relation) where
         let last_there : Contains lasts is.last = ends_there M OutOf is.leave (tos body) [] is.last
         (is.to_way, to_member, is.last_begins) in
         let there : Contains (words_at M rule body is.enter is.via is.leave) (word_of rule is.first is.via is.last)
-        = in_joined (λ first. words_from rule first is.via lasts) firsts is.first
+        = contains_flat (λ first. words_from rule first is.via lasts) firsts is.first
         (word_of rule is.first is.via is.last) first_there
-        (in_map (λ last. word_of rule is.first is.via last) lasts is.last last_there) in
+        (contains_map (λ last. word_of rule is.first is.via last) lasts is.last last_there) in
         subst (Contains (words_of M P rule body)) (sym word)
         (with_there (vias body) refl lines is.enter is.via is.leave (word_of rule is.first is.via is.last) via_is
         there)

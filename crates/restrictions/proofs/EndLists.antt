@@ -26,7 +26,8 @@ use Rattle.restrictions.specs.Runs.{first_node, last_node}
 use Rattle.restrictions.specs.Ends.{IsEnd, added, ends_of, first_dir, first_end, last_dir, last_end, same_dir}
 use Rattle.restrictions.specs.Ends.{same_step, with_ends}
 use Rattle.restrictions.specs.Words.{AreDistinct}
-use Rattle.restrictions.proofs.DistinctLists.{in_head, in_tail, in_either, in_none, in_one, distinct_push}
+use Rattle.road_base.proofs.ListMembers.{contains_head, contains_later, contains_cases, contains_none, contains_one}
+use Rattle.restrictions.proofs.DistinctLists.{distinct_push}
 use Rattle.restrictions.proofs.OneRun.{end_there, there_end}
 
 -- ---- equal steps
@@ -64,18 +65,18 @@ step_self a = and_from (int_eq a.way.0 a.way.0) (nat_eq a.index a.index && same_
 
 listed_by : (s x : Step) (xs : List Step) (b : Bool) → same_step s x ≡ b → (b || list_any (same_step s) xs) ≡ true
     → (list_any (same_step s) xs ≡ true → Contains xs s) → Contains (x ∷ xs) s
-listed_by s x xs true same found behind = subst (λ y. Contains (y ∷ xs) s) (step_is s x same) (in_head s xs)
-listed_by s x xs false same found behind = in_tail x s xs (behind found)
+listed_by s x xs true same found behind = subst (λ y. Contains (y ∷ xs) s) (step_is s x same) (contains_head s xs)
+listed_by s x xs false same found behind = contains_later x s xs (behind found)
 
 listed : (s : Step) (xs : List Step) → list_any (same_step s) xs ≡ true → Contains xs s
 listed s [] found = absurd (false≢true found)
 listed s (x ∷ xs) found = listed_by s x xs (same_step s x) refl found (listed s xs)
 
 unlisted : (s : Step) (xs : List Step) → list_any (same_step s) xs ≡ false → Contains xs s → ⊥
-unlisted s [] none has = in_none s has
+unlisted s [] none has = contains_none s has
 unlisted s (x ∷ xs) none has =
     let parts = or_parts (same_step s x) (list_any (same_step s) xs) none in
-    elim (in_either x s xs has) [
+    elim (contains_cases x s xs has) [
       | inl is ↦ false≢true (sym parts.0 ∙ (ap (λ y. same_step s y) (sym is) ∙ step_self s))
       | inr more ↦ unlisted s xs parts.1 more
     ]
@@ -102,7 +103,7 @@ kept_there xs s x false has = Contains-append_left xs (s ∷ []) x has
 was_or_new : (xs : List Step) (s x : Step) (b : Bool) → Contains (cond b xs (xs ++ s ∷ [])) x → Contains xs x ⊎ (s ≡ x)
 was_or_new xs s x true has = inl has
 was_or_new xs s x false has = elim (Contains-append_cases xs (s ∷ []) x has)
-    [ inl old ↦ inl old | inr new ↦ inr (sym (in_one s x new)) ]
+    [ inl old ↦ inl old | inr new ↦ inr (sym (contains_one s x new)) ]
 
 still_distinct : (xs : List Step) (s : Step) (b : Bool) → list_any (same_step s) xs ≡ b → AreDistinct xs
     → AreDistinct (cond b xs (xs ++ s ∷ []))
@@ -291,9 +292,9 @@ module _ (M : Objects) where
       (has_added (added xs (first_end M side w v)) (last_end M side w v) s has) [
         | inl before ↦ elim (has_added xs (first_end M side w v) s before) [
           | inl old ↦ inl old
-          | inr first ↦ inr (w, in_head (WayKey w) ks, end_of_first side w v s first)
+          | inr first ↦ inr (w, contains_head (WayKey w) ks, end_of_first side w v s first)
         ]
-        | inr last ↦ inr (w, in_head (WayKey w) ks, end_of_last side w v s last)
+        | inr last ↦ inr (w, contains_head (WayKey w) ks, end_of_last side w v s last)
       ]
   has_with side v xs (RelationKey r) ks s has = inl has
 
@@ -312,8 +313,8 @@ module _ (M : Objects) where
   -- each end step is there
   pub ends_there : (side : Side) (v : NodeId) (ks : List Key) (xs : List Step) (s : Step) → IsEndOf side v ks s
       → Contains (ends_of M side v ks xs) s
-  ends_there side v [] xs s (w, has, is) = absurd (in_none (WayKey w) has)
-  ends_there side v (k ∷ ks) xs s (w, has, is) = elim (in_either k (WayKey w) ks has) [
+  ends_there side v [] xs s (w, has, is) = absurd (contains_none (WayKey w) has)
+  ends_there side v (k ∷ ks) xs s (w, has, is) = elim (contains_cases k (WayKey w) ks has) [
     | inl this ↦ kept side v ks (with_ends M side v xs k) s
         (subst (λ l. Contains (with_ends M side v xs l) s) this (with_end side v xs w s is))
     | inr more ↦ ends_there side v ks (with_ends M side v xs k) s (w, more, is)
@@ -321,7 +322,7 @@ module _ (M : Objects) where
 
   later : (side : Side) (v : NodeId) (k : Key) (ks : List Key) (s : Step) → IsEndOf side v ks s
       → IsEndOf side v (k ∷ ks) s
-  later side v k ks s (w, has, is) = (w, in_tail k (WayKey w) ks has, is)
+  later side v k ks s (w, has, is) = (w, contains_later k (WayKey w) ks has, is)
 
   ends_known : (side : Side) (v : NodeId) (ks : List Key) (xs : List Step) (s : Step)
       → Contains (ends_of M side v ks xs) s → Contains xs s ⊎ IsEndOf side v ks s
@@ -334,7 +335,8 @@ module _ (M : Objects) where
   -- and no other step
   pub ends_sound : (side : Side) (v : NodeId) (ks : List Key) (s : Step) → Contains (ends_of M side v ks []) s
       → IsEndOf side v ks s
-  ends_sound side v ks s has = elim (ends_known side v ks [] s has) [ inl none ↦ absurd (in_none s none) | inr is ↦ is ]
+  ends_sound side v ks s has = elim (ends_known side v ks [] s has)
+      [ inl none ↦ absurd (contains_none s none) | inr is ↦ is ]
 
   -- and none twice
   pub ends_distinct : (side : Side) (v : NodeId) (ks : List Key) (xs : List Step) → AreDistinct xs

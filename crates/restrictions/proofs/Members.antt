@@ -4,19 +4,20 @@ use Rattle.std.proofs.Common.{refl, sym, ap, ◌∙◌}
 use Rattle.std.specs.List.{list_all}
 use Rattle.std.proofs.lemmas.Bool.{and_parts, and_from}
 use Rattle.std.proofs.lemmas.List.Folds.{list_all-append}
-use Rattle.restrictions.proofs.DistinctLists.{in_head, in_tail, in_either, in_none}
+use Rattle.road_base.proofs.ListMembers.{contains_head, contains_later, contains_cases, contains_none}
 
 module _ {A : Type 0} (test : A → Bool) where
   all_hold : (xs : List A) → ((x : A) → Contains xs x → test x ≡ true) → list_all test xs ≡ true
   all_hold [] each = refl
   all_hold (x ∷ xs) each =
-      and_from (test x) (list_all test xs) (each x (in_head x xs)) (all_hold xs (λ y has. each y (in_tail x y xs has)))
+      and_from (test x) (list_all test xs) (each x (contains_head x xs))
+      (all_hold xs (λ y has. each y (contains_later x y xs has)))
 
   holds_at : (xs : List A) (x : A) → list_all test xs ≡ true → Contains xs x → test x ≡ true
-  holds_at [] x all has = absurd (in_none x has)
+  holds_at [] x all has = absurd (contains_none x has)
   holds_at (y ∷ xs) x all has =
       let parts = and_parts (test y) (list_all test xs) all in
-      elim (in_either y x xs has) [
+      elim (contains_cases y x xs has) [
         | inl is ↦ ap test is ∙ parts.0
         | inr more ↦ holds_at xs x parts.1 more
       ]

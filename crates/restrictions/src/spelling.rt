@@ -105,7 +105,8 @@ fn add_words_at<M: World>(
 ) -> Result<(), NoMemory>
     ensures { OnOk result (words.new.items
         ≡ words.old.items
-        ++ words_at (M.objects world.now) rule roles.now.body.now passage.now.enter passage.now.steps.items passage.now.leave) }
+        ++ words_at (M.objects world.now) rule roles.now.body.now
+        passage.now.enter passage.now.steps.items passage.now.leave) }
 {
     let firsts = ends_of(
         alloc,

@@ -10,7 +10,7 @@ use Rattle.road_base.specs.declared.ids.Dir.TheVariants.{Forward, Backward}
 use Rattle.road_base.specs.declared.ids.Step.{Step}
 use Rattle.restrictions.specs.declared.word_list.Word.{Word}
 use Rattle.turn_automata.specs.Watched.{Must, Stops}
-use Rattle.turn_automata.proofs.Ends.{cons_not_nil}
+use Rattle.road_base.proofs.Splits.{cons_not_nil}
 
 abbrev Decided : Type 0 → Type 0
 Decided A = A ⊎ (A → ⊥)

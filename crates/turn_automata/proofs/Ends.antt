@@ -2,36 +2,9 @@
 use Rattle.std.proofs.Common.{◌≡◌, ◌+◌, ◌≤◌, List, [], ◌∷◌, ◌++◌, length, refl, sym, ap, subst, ◌∙◌, arith}
 use Rattle.std.proofs.Common.{append_assoc, append-nil, length-append}
 use Rattle.road_model.specs.Contexts.{IsLongestEnd}
+use Rattle.road_base.proofs.Splits.{Ends, Nil, Last, ends, same_last}
 
 module _ {S : Type 0} where
-  pub cons_not_nil : (a : List S) (x : S) (b : List S) → a ++ x ∷ b ≡ [] → ⊥
-  cons_not_nil [] x b e = cc
-  cons_not_nil (y ∷ a) x b e = cc
-
-  -- a list is empty, or has a last element
-  pub data Ends (xs : List S) : Type 0 where
-    Nil : xs ≡ [] → Ends xs
-    Last : (front : List S) (x : S) → xs ≡ front ++ x ∷ [] → Ends xs
-
-  ends_more : (x : S) (xs : List S) → Ends xs → Ends (x ∷ xs)
-  ends_more x xs (Nil e) = Last [] x (cc)
-  ends_more x xs (Last front y e) = Last (x ∷ front) y (cc)
-
-  pub ends : (xs : List S) → Ends xs
-  ends [] = Nil refl
-  ends (x ∷ xs) = ends_more x xs (ends xs)
-
-  -- two lists with a last element are equal only if these are
-  pub record SameLast (a : List S) (x : S) (b : List S) (y : S) : Type 0 where
-    pub front : a ≡ b
-    pub last : x ≡ y
-
-  pub same_last : (a : List S) (x : S) (b : List S) (y : S) → a ++ x ∷ [] ≡ b ++ y ∷ [] → SameLast a x b y
-  same_last [] x [] y e = record { front = refl; last = cc }
-  same_last [] x (z ∷ b) y e = absurd (cons_not_nil b y [] (cc))
-  same_last (z ∷ a) x [] y e = absurd (cons_not_nil a x [] (cc))
-  same_last (z ∷ a) x (w ∷ b) y e = let r = same_last a x b y (cc) in record { front = cc (r.front); last = r.last }
-
   -- of two ends of a list the shorter one ends the longer one
   pub shorter_end : (a b p q : List S) → a ++ p ≡ b ++ q → length q ≤ length p → (c : List S) × (p ≡ c ++ q)
   shorter_end [] b p q e h = (b, e)

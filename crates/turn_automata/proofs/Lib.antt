@@ -6,7 +6,6 @@ pub mod GrownTrees
 pub mod Keys
 pub mod AutomatonStates
 pub mod SameEdges
-pub mod ListPlaces
 pub mod TurnsOfVisits
 pub mod WordVisits
 pub mod WatchedSteps

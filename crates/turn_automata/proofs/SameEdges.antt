@@ -1,35 +1,16 @@
 -- Equality of edges is that of values, so a look-up in a list of edges finds the edge itself, or it isn't there.
-use Rattle.std.proofs.Common.{◌≡◌, ℕ, ◌<◌, true, false, ◌&&◌, List, length, get_or, slice_get, position, Some, nat_eq}
+use Rattle.std.proofs.Common.{◌≡◌, ℕ, ◌<◌, true, false, List, length, get_or, slice_get, position, Some, nat_eq}
 use Rattle.std.proofs.Common.{refl, sym, ap, ◌∙◌}
 use Rattle.std.specs.List.{list_any}
-use Rattle.std.specs.Ordering.{int_eq}
 use Rattle.std.proofs.lemmas.Bool.{false≢true, and_parts, and_from}
-use Rattle.std.proofs.lemmas.Bool.Decides.{Decides-eqb, Decides-int_eq}
+use Rattle.std.proofs.lemmas.Bool.Decides.{Decides-eqb}
 use Rattle.std.proofs.lemmas.Option.{slice_get_within, slice_get-get_or, get_or_from_slice_get}
 use Rattle.std.proofs.lemmas.List.Folds.{list_any_at}
 use Rattle.std.proofs.lemmas.List.Quantifiers.{position-Some}
-use Rattle.road_base.specs.declared.ids.Dir.{Dir}
-use Rattle.road_base.specs.declared.ids.Dir.TheVariants.{Forward, Backward}
-use Rattle.road_base.specs.declared.ids.Step.{Step}
-use Rattle.road_base.specs.contracts.ids.DirPartialEq.TheImpl.{ghosts as dir_equality}
 use Rattle.road_base.specs.contracts.ids.StepPartialEq.TheImpl.{ghosts as step_equality}
+use Rattle.road_base.proofs.EqualSteps.{step_same, step_itself}
 use Rattle.turn_automata.specs.declared.edges.Edge.{Edge}
 use Rattle.turn_automata.specs.contracts.edges.EdgePartialEq.TheImpl.{ghosts as edge_equality}
-
-dir_same : (a b : Dir) → dir_equality.eq a b ≡ true → a ≡ b
-dir_same Forward Forward h = refl
-dir_same Forward Backward h = absurd (false≢true h)
-dir_same Backward Forward h = absurd (false≢true h)
-dir_same Backward Backward h = refl
-
-step_same : (a b : Step) → step_equality.eq a b ≡ true → a ≡ b
-step_same a b h =
-    let p = and_parts (int_eq a.way.0 b.way.0) (nat_eq a.index b.index && dir_equality.eq a.dir b.dir) h in
-    let q = and_parts (nat_eq a.index b.index) (dir_equality.eq a.dir b.dir) p.1 in
-    let w = (Decides-int_eq a.way.0 b.way.0).0 p.0 in
-    let i = (Decides-eqb a.index b.index).0 q.0 in
-    let d = dir_same a.dir b.dir q.1 in
-    λ j. record { way = record { 0 = w j }; index = i j; dir = d j }
 
 pub edge_same : (a b : Edge) → edge_equality.eq a b ≡ true → a ≡ b
 edge_same a b h =
@@ -38,15 +19,8 @@ edge_same a b h =
     let s = step_same a.step b.step p.1 in
     λ j. record { from = n j; step = s j }
 
-dir_itself : (a : Dir) → dir_equality.eq a a ≡ true
-dir_itself Forward = refl
-dir_itself Backward = refl
-
 edge_itself : (a : Edge) → edge_equality.eq a a ≡ true
-edge_itself a =
-    and_from _ _ ((Decides-eqb a.from a.from).1 refl)
-    (and_from _ _ ((Decides-int_eq a.step.way.0 a.step.way.0).1 refl)
-    (and_from _ _ ((Decides-eqb a.step.index a.step.index).1 refl) (dir_itself a.step.dir)))
+edge_itself a = and_from _ _ ((Decides-eqb a.from a.from).1 refl) (step_itself a.step)
 
 -- an edge that a look-up doesn't find stands nowhere
 pub not_among : (es : List Edge) (e : Edge) → list_any (edge_equality.eq e) es ≡ false → (k : ℕ)

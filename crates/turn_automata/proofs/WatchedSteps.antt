@@ -4,7 +4,8 @@ use Rattle.std.proofs.Common.{append-nil}
 use Rattle.road_base.specs.declared.ids.Step.{Step}
 use Rattle.restrictions.specs.declared.word_list.Word.{Word}
 use Rattle.turn_automata.specs.Watched.{IsWatchable, Watched, NoIn, Must, Forbids, Refuses, Stops}
-use Rattle.turn_automata.proofs.Ends.{Ends, Nil, Last, ends, same_last, shorter_end, cons_not_nil, longest_grows}
+use Rattle.road_base.proofs.Splits.{Ends, Nil, Last, ends, same_last, cons_not_nil}
+use Rattle.turn_automata.proofs.Ends.{shorter_end, longest_grows}
 use Rattle.turn_automata.proofs.Ends.{longest_before}
 
 pub watchable_closed : (W : List Word) (p : List Step) (s : Step) → IsWatchable W (p ++ s ∷ []) → IsWatchable W p
