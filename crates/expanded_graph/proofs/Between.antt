@@ -3,8 +3,9 @@ use Rattle.std.proofs.Common.{◌≡◌, List, [], ◌∷◌, ◌++◌, inl, inr
 use Rattle.road_base.specs.declared.ids.WayId.{WayId}
 use Rattle.road_base.specs.declared.ids.Step.{Step}
 use Rattle.expanded_graph.specs.Near.{HasStepOn, HasStepBetween}
-use Rattle.expanded_graph.proofs.Members.{in_from_contains, contains_from_in, in_left, in_end}
-use Rattle.expanded_graph.proofs.Runs.{cons_not_nil, nil_or_last}
+use Rattle.road_base.proofs.ListMembers.{in_from_contains, contains_from_in, in_left, in_end}
+use Rattle.road_base.proofs.Splits.{cons_not_nil}
+use Rattle.expanded_graph.proofs.Runs.{nil_or_last}
 
 module _ (w : WayId) where
   pub on_from_between : (u : List Step) → HasStepBetween w u → HasStepOn w u

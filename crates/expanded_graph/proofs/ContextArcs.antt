@@ -37,7 +37,7 @@ use Rattle.road_base.specs.declared.ids.Step.{Step}
 use Rattle.road_base.specs.Objects.{Objects}
 use Rattle.road_model.specs.declared.lists.TurnArc.{TurnArc}
 use Rattle.road_model.specs.Rules.{Rules}
-use Rattle.road_model.specs.Pieces.{Piece, IsPiece, spell}
+use Rattle.road_model.specs.Pieces.{Span, IsPiece, spell}
 use Rattle.road_model.specs.Words.{IsWord}
 use Rattle.road_model.specs.Contexts.{Every}
 use Rattle.road_model.specs.Network.{Legal, GoesOn, IsContext, IsContextOf, spell_pieces}
@@ -52,14 +52,14 @@ use Rattle.way_pieces.specs.Names.{IsDeparture}
 use Rattle.expanded_graph.specs.declared.intersections.Intersection.{Intersection}
 use Rattle.expanded_graph.specs.declared.states.StateFacts.{StateFacts}
 use Rattle.expanded_graph.specs.Contexts.{IsReached}
-use Rattle.expanded_graph.specs.Turning.{IsIntersection, may_follow}
-use Rattle.expanded_graph.proofs.Members.{In, in_end, in_left}
+use Rattle.expanded_graph.specs.Intersections.{IsIntersection, may_follow}
+use Rattle.road_base.proofs.ListMembers.{In, in_end, in_left}
 use Rattle.expanded_graph.proofs.Ends.{spell_begins, spell_ends, first_step, last_step}
+use Rattle.road_base.proofs.Splits.{cons_not_nil}
+use Rattle.road_base.proofs.ListPlaces.{some_at}
 use Rattle.expanded_graph.proofs.Runs.{
-  cons_not_nil,
   cut_last,
   nil_or_last,
-  some_at,
   every_left,
   every_right,
   turn_ends,
@@ -72,7 +72,7 @@ use Rattle.expanded_graph.proofs.NextDepartures.{Laws, departure_by, is_departur
 -- a piece may follow a context where its first step may go on behind the turn steps
 abbrev pub GoesByTurn : Objects → Rules → Type 0
 GoesByTurn M P =
-    (c : List Piece) (q : List Step) (t : Piece) (x : Step) (more : List Step) → IsContext M P c → HasTurnSteps c q
+    (c : List Span) (q : List Step) (t : Span) (x : Step) (more : List Step) → IsContext M P c → HasTurnSteps c q
     → Legal M P q → IsPiece M P t → spell t ≡ x ∷ more → Legal M P (spell_pieces c ++ spell t) ↔ GoesOn M P q x
 
 -- the laws of words and automata on which it stands where arcs lead
@@ -83,15 +83,15 @@ pub record TargetLaws (M : Objects) (P : Rules) : Type 0 where
   pub decides : (W : List Word) (d p : List Step) (s : Step) → Watched W d p → Stops W d s ↔ Stops W p s
   pub grows : (W : List Word) (d p r : List Step) (s : Step) → Watched W d p
       → Watched W (d ++ s ∷ []) r ↔ Watched W (p ++ s ∷ []) r
-  pub alone : (c : List Piece) (q : List Step) (t : Piece) (x : Step) (more : List Step) → IsContext M P c
+  pub alone : (c : List Span) (q : List Step) (t : Span) (x : Step) (more : List Step) → IsContext M P c
       → HasTurnSteps c q → IsPiece M P t → spell t ≡ x ∷ more → Legal M P (spell_pieces c ++ spell t)
       → ((a b : List Step) → q ≡ a ++ b → (b ≡ [] → ⊥) → BeginsWord M P (b ++ x ∷ []) → ⊥)
       → IsContextOf M P (c ++ t ∷ []) (t ∷ [])
-  pub longer : (c : List Piece) (q : List Step) (t : Piece) (x : Step) (more : List Step) (a b : List Step)
+  pub longer : (c : List Span) (q : List Step) (t : Span) (x : Step) (more : List Step) (a b : List Step)
       → IsContext M P c → HasTurnSteps c q → IsPiece M P t → spell t ≡ x ∷ more
       → Legal M P (spell_pieces c ++ spell t) → q ≡ a ++ b → (b ≡ [] → ⊥) → BeginsWord M P (b ++ x ∷ [])
-      → ((k l : List Step) → q ≡ k ++ l → BeginsWord M P (l ++ x ∷ []) → length l ≤ length b) → (e : List Piece)
-      × HasTurnSteps e b × IsContextOf M P (c ++ t ∷ []) (e ++ t ∷ []) × ((d : List Piece) × (c ≡ d ++ e))
+      → ((k l : List Step) → q ≡ k ++ l → BeginsWord M P (l ++ x ∷ []) → length l ≤ length b) → (e : List Span)
+      × HasTurnSteps e b × IsContextOf M P (c ++ t ∷ []) (e ++ t ∷ []) × ((d : List Span) × (c ≡ d ++ e))
 
 -- how long the target is of an arc that leaves the automaton in the state with number j
 pub record IsTargetLen (m : Machine) (facts : List StateFacts) (j n : ℕ) : Type 0 where
@@ -100,7 +100,7 @@ pub record IsTargetLen (m : Machine) (facts : List StateFacts) (j n : ℕ) : Typ
       → slice_get facts k ≡ Some f → f.pieces + 1 < 2 ^ 32 → n ≡ f.pieces + 1
 
 module _ (M : Objects) (P : Rules) (laws : Laws M P) (by_turn : GoesByTurn M P) (m : Machine)
-    (facts : List StateFacts) (n : ℕ) (i : Intersection) (known : IsIntersection M P i) (u : NodeId) (c : List Piece)
+    (facts : List StateFacts) (n : ℕ) (i : Intersection) (known : IsIntersection M P i) (u : NodeId) (c : List Span)
     (r : IsReached M P m facts n u i.node c) where
   pub last_piece : IsPiece M P r.piece
   last_piece =
@@ -144,7 +144,7 @@ module _ (M : Objects) (P : Rules) (laws : Laws M P) (by_turn : GoesByTurn M P) 
       (d.departure, listed M P laws r.piece last_piece i known u r.arrives d.departure d.is, e.named ∙ sym d.named)
 
   -- arcs by one piece are equal
-  pub one_arc : ((d b e : List Piece) → IsContextOf M P d b → IsContextOf M P d e → b ≡ e) → (a b : TurnArc)
+  pub one_arc : ((d b e : List Span) → IsContextOf M P d b → IsContextOf M P d e → b ≡ e) → (a b : TurnArc)
       → IsArcEntry M P c a → IsArcEntry M P c b → a.piece ≡ b.piece → a ≡ b
   one_arc one a b e f same =
       let piece : e.piece ≡ f.piece = laws.one e.piece f.piece e.arc.by f.arc.by (sym e.named ∙ (same ∙ f.named)) in
@@ -185,7 +185,7 @@ module _ (M : Objects) (P : Rules) (laws : Laws M P) (by_turn : GoesByTurn M P) 
           abbrev x : Step
           x = d.first
 
-          abbrev t : Piece
+          abbrev t : Span
           t = departure.piece
 
           watched : Watched m.words (r.steps ++ x ∷ []) to.list
@@ -202,7 +202,7 @@ module _ (M : Objects) (P : Rules) (laws : Laws M P) (by_turn : GoesByTurn M P) 
               ) in
               (by_turn c r.steps t x departure.more r.context r.turn r.legal departure.is departure.begins).1 going
 
-          arc_to : (e : List Piece) → IsContextOf M P (c ++ t ∷ []) e → len ≡ length e
+          arc_to : (e : List Span) → IsContextOf M P (c ++ t ∷ []) e → len ≡ length e
               → IsArcEntry M P c (record { piece = d.piece; length = len })
           arc_to e context count = record {
             piece = t;

@@ -35,7 +35,7 @@ use Rattle.road_model.specs.declared.lists.PieceName.{PieceName}
 use Rattle.road_model.specs.declared.lists.TurnArc.{TurnArc}
 use Rattle.road_model.specs.declared.lists.Context.{Context}
 use Rattle.road_model.specs.Rules.{Rules}
-use Rattle.road_model.specs.Pieces.{Piece, IsPiece}
+use Rattle.road_model.specs.Pieces.{Span, IsPiece}
 use Rattle.road_model.specs.Contexts.{One, Many}
 use Rattle.road_model.specs.Network.{IsContext}
 use Rattle.road_model.specs.Orders.{Lists, rises, name_cmp, names_cmp}
@@ -43,8 +43,8 @@ use Rattle.road_model.specs.Blocks.{name_of, IsContextEntry}
 use Rattle.road_model.specs.Format.{IsContextForm, begins_alone}
 use Rattle.road_model.specs.Naming.{OnePiece}
 use Rattle.expanded_graph.specs.Contexts.{HasContexts}
-use Rattle.expanded_graph.proofs.Members.{In, in_from_contains, contains_from_in}
-use Rattle.expanded_graph.proofs.AscendingLists.{climbs}
+use Rattle.road_base.proofs.ListMembers.{In, in_from_contains, contains_from_in}
+use Rattle.road_model.proofs.AscendingLists.{climbs}
 use Rattle.expanded_graph.proofs.DistinctNames.{each_member}
 use Rattle.expanded_graph.proofs.ContextStates.{one_context}
 
@@ -55,7 +55,7 @@ no_less (x ∷ l) h =
     absurd (false≢true (ap (λ o. is_lt (ordering_then o (slice_cmp name_cmp (x ∷ l) []))) above ∙ h))
 
 module _ (M : Objects) (P : Rules) (one : OnePiece M P) (names : IsTotalOrder name_cmp)
-    (lists : IsTotalOrder names_cmp) (short : (c : List Piece) → IsContext M P c → length c ≤ 1026) (p : Piece)
+    (lists : IsTotalOrder names_cmp) (short : (c : List Span) → IsContext M P c → length c ≤ 1026) (p : Span)
     (piece : IsPiece M P p) (es fs : List Context) (has : HasContexts M P p es) (moved : IsPermutation es fs)
     (up : IsTrue (rises names_cmp (map (λ c. c.before) fs))) where
   pub listed : Lists (λ c. c.before) names_cmp (IsContextEntry M P p) fs
@@ -82,7 +82,7 @@ module _ (M : Objects) (P : Rules) (one : OnePiece M P) (names : IsTotalOrder na
   pub first_alone : begins_alone fs
   first_alone = first_is fs up alone.0 (in_from_contains fs alone.0 alone.1) alone.2
 
-  some_pieces : (c : List Piece) → IsContext M P c → 1 ≤ length c
+  some_pieces : (c : List Span) → IsContext M P c → 1 ≤ length c
   some_pieces c (One q e h) = let l : length c ≡ 1 = ap length e in omega arith
   some_pieces c (Many m) = let l : length c ≡ length m.others + 2 = ap length m.is ∙ omega arith in omega arith
 

@@ -36,7 +36,7 @@ use Rattle.road_base.specs.Objects.{Objects}
 use Rattle.road_model.specs.declared.lists.PieceName.{PieceName}
 use Rattle.road_model.specs.declared.lists.Context.{Context}
 use Rattle.road_model.specs.Rules.{Rules}
-use Rattle.road_model.specs.Pieces.{Piece, IsPiece}
+use Rattle.road_model.specs.Pieces.{Span, IsPiece}
 use Rattle.road_model.specs.Contexts.{Every}
 use Rattle.road_model.specs.Network.{IsContext}
 use Rattle.road_model.specs.Turning.{HasTurnSteps}
@@ -48,9 +48,11 @@ use Rattle.turn_automata.specs.Machines.{Machine}
 use Rattle.expanded_graph.specs.declared.states.StateFacts.{StateFacts}
 use Rattle.expanded_graph.specs.States.{AreStates}
 use Rattle.expanded_graph.specs.Contexts.{AreEndingsWith, IsContextIn, HasContexts}
-use Rattle.expanded_graph.proofs.Members.{In, push_cases, from_map, in_from_contains, contains_from_in, in_end, in_left}
-use Rattle.expanded_graph.proofs.AscendingLists.{Climbs, climbs_take, below_end, not_itself}
-use Rattle.expanded_graph.proofs.Runs.{one_at, nil_or_cons, context_pieces}
+use Rattle.road_base.proofs.ListMembers.{In, push_cases, from_map, in_from_contains, contains_from_in, in_end, in_left}
+use Rattle.road_model.proofs.AscendingLists.{Climbs, climbs_take, below_end}
+use Rattle.road_base.proofs.Comparisons.{not_itself}
+use Rattle.road_base.proofs.ListPlaces.{one_stands}
+use Rattle.expanded_graph.proofs.Runs.{nil_or_cons, context_pieces}
 use Rattle.expanded_graph.proofs.EndingStates.{ascends as numbers_climb}
 use Rattle.expanded_graph.proofs.DistinctNames.{apart, none_of, nothing_distinct}
 use Rattle.expanded_graph.proofs.ContextStates.{StepLaws, ends_in, one_state}
@@ -63,7 +65,7 @@ abbrev pub before_of : Context → List PieceName
 before_of e = e.before
 
 -- the contexts written so far: the piece alone, and one in each of the states so far
-pub record Gathered (M : Objects) (P : Rules) (m : Machine) (p : Piece) (ns : List ℕ) (es : List Context) : Type 0 where
+pub record Gathered (M : Objects) (P : Rules) (m : Machine) (p : Span) (ns : List ℕ) (es : List Context) : Type 0 where
   pub sound : (e : Context) → In e es → IsContextEntry M P p e
   pub alone : (e : Context) × In e es × (e.before ≡ [])
   pub from : (e : Context) → In e es → (e.before ≡ []) ⊎ ((n : ℕ) × In n ns × IsContextIn M P m p n e)
@@ -71,7 +73,7 @@ pub record Gathered (M : Objects) (P : Rules) (m : Machine) (p : Piece) (ns : Li
   pub distinct : IsDistinct (eq_by_cmp names_cmp) (map before_of es)
 
 module _ (M : Objects) (P : Rules) (laws : StepLaws M P) (total : IsTotalOrder names_cmp)
-    (ties : IsAntisymmetric names_cmp) (m : Machine) (closed : IsClosed m.states) (p : Piece) where
+    (ties : IsAntisymmetric names_cmp) (m : Machine) (closed : IsClosed m.states) (p : Span) where
   pub gathered_alone : (e : Context) → IsContextEntry M P p e → e.before ≡ [] → Gathered M P m p [] (e ∷ [])
   gathered_alone e h none = record {
     sound = λ x i. elim i [ inl same ↦ subst (IsContextEntry M P p) (sym same) h | inr j ↦ absurd j ];
@@ -128,7 +130,7 @@ module _ (M : Objects) (P : Rules) (laws : StepLaws M P) (total : IsTotalOrder n
         let climb = subst (Climbs (λ n. n) nat_cmp nat_cmp_total) grown
         (climbs_take (λ n. n) nat_cmp nat_cmp_total (i + 1) ns (numbers_climb ns rising)) in
         let below = below_end (λ n. n) nat_cmp nat_cmp_total (take i ns) at climb k j in
-        not_itself (λ n. n) nat_cmp nat_cmp_total at (subst (λ v. IsTrue (is_lt (nat_cmp v at))) same below)
+        not_itself nat_cmp nat_cmp_total at (subst (λ v. IsTrue (is_lt (nat_cmp v at))) same below)
 
     pub more_at : (n : ℕ) → at ≡ n → (x : Context) → IsContextIn M P m p n x
         → Gathered M P m p (take (i + 1) ns) (es ++ x ∷ [])
@@ -140,11 +142,11 @@ module _ (M : Objects) (P : Rules) (laws : StepLaws M P) (total : IsTotalOrder n
 
   module _ (facts : List StateFacts) (lists : (q : List Step) → Contains m.states q ↔ IsWatchable m.words q)
       (piece : IsPiece M P p) (known : AreStates M P p.way m.words m.states facts)
-      (one_steps : (c d : List Piece) (q : List Step) → Every (IsPiece M P) c → Every (IsPiece M P) d
+      (one_steps : (c d : List Span) (q : List Step) → Every (IsPiece M P) c → Every (IsPiece M P) d
       → HasTurnSteps c q → HasTurnSteps d q → c ≡ d) (ns : List ℕ)
       (endings : AreEndingsWith m facts p.way (name_of p) ns) (es : List Context) (gathered : Gathered M P m p ns es)
     where
-      there : (before : List Piece) → IsContext M P (before ++ p ∷ []) → (e : Context) × Contains es e
+      there : (before : List Span) → IsContext M P (before ++ p ∷ []) → (e : Context) × Contains es e
           × (e.before ≡ map name_of before)
       there before context = elim (nil_or_cons before) [
         | inl none ↦ let a = gathered.alone in (a.0, contains_from_in es a.0 a.1, a.2 ∙ ap (map name_of) (sym none))
@@ -154,7 +156,7 @@ module _ (M : Objects) (P : Rules) (laws : StepLaws M P) (total : IsTotalOrder n
             let found = gathered.all state.number
             (in_from_contains ns state.number ((endings.each state.number).1 (state.ending, state.named))) in
             let h = found.2 in
-            let steps = one_at m.states state.number h.steps state.steps h.at state.at in
+            let steps = one_stands m.states state.number h.steps state.steps h.at state.at in
             let same = one_steps (h.entry.before ++ p ∷ []) (before ++ p ∷ []) state.steps
             (context_pieces M P (h.entry.before ++ p ∷ []) h.entry.context)
             (context_pieces M P (before ++ p ∷ []) context)

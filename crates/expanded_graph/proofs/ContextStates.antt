@@ -34,7 +34,7 @@ use Rattle.road_model.specs.declared.lists.TurnArc.{TurnArc}
 use Rattle.road_model.specs.declared.lists.Context.{Context}
 use Rattle.road_model.specs.Rules.{Rules}
 use Rattle.road_model.specs.Driving.{drivable}
-use Rattle.road_model.specs.Pieces.{Piece, IsPiece, spell}
+use Rattle.road_model.specs.Pieces.{Span, IsPiece, spell}
 use Rattle.road_model.specs.Contexts.{Every, One}
 use Rattle.road_model.specs.Network.{Legal, IsContext}
 use Rattle.road_model.specs.Turning.{HasTurnSteps, BeginsWord, EndsPiece}
@@ -45,37 +45,31 @@ use Rattle.turn_automata.specs.Trees.{IsClosed}
 use Rattle.turn_automata.specs.Watched.{IsWatchable, IsProperPrefix}
 use Rattle.turn_automata.specs.Machines.{Machine, StandsFor, Watches}
 use Rattle.expanded_graph.specs.declared.states.StateFacts.{StateFacts}
-use Rattle.expanded_graph.specs.Near.{IsNear, Shares}
+use Rattle.expanded_graph.specs.Near.{IsStepNear, Shares}
 use Rattle.expanded_graph.specs.States.{AreFacts, AreStates}
 use Rattle.expanded_graph.specs.Contexts.{IsReached, IsEnding, EndsWithName, IsContextIn}
 use Rattle.expanded_graph.specs.Travel.{Arrives}
-use Rattle.expanded_graph.proofs.Members.{In, in_from_contains, contains_from_in, at_in, in_at, in_end, in_left}
+use Rattle.road_base.proofs.ListMembers.{In, in_from_contains, contains_from_in, at_in, in_at, in_end, in_left}
 use Rattle.expanded_graph.proofs.Ends.{spell_ends, last_step}
 use Rattle.expanded_graph.proofs.LastSteps.{last_drives}
-use Rattle.expanded_graph.proofs.Runs.{
-  cons_not_nil,
-  some_at,
-  one_at,
-  turn_ends_long,
-  every_left,
-  context_pieces,
-  one_turn,
-}
+use Rattle.road_base.proofs.Splits.{cons_not_nil}
+use Rattle.road_base.proofs.ListPlaces.{some_at, one_stands}
+use Rattle.expanded_graph.proofs.Runs.{turn_ends_long, every_left, context_pieces, one_turn}
 use Rattle.expanded_graph.proofs.Between.{between_longer}
-use Rattle.expanded_graph.proofs.AscendingLists.{lists_unique}
+use Rattle.road_model.proofs.AscendingLists.{lists_unique}
 use Rattle.expanded_graph.proofs.StopsNear.{begins_from, begins_to}
 
 -- the laws of contexts and their steps
 pub record StepLaws (M : Objects) (P : Rules) : Type 0 where
   pub one : OnePiece M P
-  pub to : (c : List Piece) (a b : Piece) (rest : List Piece) → IsContext M P c → c ≡ a ∷ b ∷ rest → (q : List Step)
+  pub to : (c : List Span) (a b : Span) (rest : List Span) → IsContext M P c → c ≡ a ∷ b ∷ rest → (q : List Step)
       × HasTurnSteps c q × BeginsWord M P q × Legal M P q
-  pub from : (q : List Step) (s : Step) (u : List Step) (t : Step) (p : Piece) (front : List Step) → Legal M P q
-      → BeginsWord M P q → q ≡ s ∷ (u ++ t ∷ []) → IsPiece M P p → spell p ≡ front ++ t ∷ [] → (before : List Piece)
+  pub from : (q : List Step) (s : Step) (u : List Step) (t : Step) (p : Span) (front : List Step) → Legal M P q
+      → BeginsWord M P q → q ≡ s ∷ (u ++ t ∷ []) → IsPiece M P p → spell p ≡ front ++ t ∷ [] → (before : List Span)
       × (before ≡ [] → ⊥) × HasTurnSteps (before ++ p ∷ []) q × IsContext M P (before ++ p ∷ [])
 
 module _ (M : Objects) (P : Rules) (laws : StepLaws M P) (m : Machine) (facts : List StateFacts)
-    (closed : IsClosed m.states) (lists : (q : List Step) → Contains m.states q ↔ IsWatchable m.words q) (p : Piece)
+    (closed : IsClosed m.states) (lists : (q : List Step) → Contains m.states q ↔ IsWatchable m.words q) (p : Span)
     (piece : IsPiece M P p) (known : AreStates M P p.way m.words m.states facts) where
   fact_of : (k : ℕ) (q : List Step) → StandsFor m k q → (f : StateFacts) × (slice_get facts k ≡ Some f)
   fact_of k q at =
@@ -90,7 +84,7 @@ module _ (M : Objects) (P : Rules) (laws : StepLaws M P) (m : Machine) (facts : 
 
   -- the steps of a list of two steps or more that begins a word and ends on the piece are near its way
   all_near : (q : List Step) (first : Step) (middle : List Step) (last : Step) → q ≡ first ∷ (middle ++ last ∷ [])
-      → last.way ≡ p.way → BeginsWord M P q → (s : Step) → Contains q s → IsNear M P p.way s
+      → last.way ≡ p.way → BeginsWord M P q → (s : Step) → Contains q s → IsStepNear M P p.way s
   all_near q first middle last e on b s has =
       let u = q ++ b.next ∷ b.more in
       Shares u b.word
@@ -109,7 +103,7 @@ module _ (M : Objects) (P : Rules) (laws : StepLaws M P) (m : Machine) (facts : 
     ends_piece : EndsPiece M P e.last (name_of p)
     ends_piece =
         (facts_are.ends (e.first ∷ e.middle) e.last refl (name_of p)).0
-        (subst (λ f. f.ends ≡ Some (name_of p)) (one_at facts n named.known e.known named.fact e.fact) named.ends)
+        (subst (λ f. f.ends ≡ Some (name_of p)) (one_stands facts n named.known e.known named.fact e.fact) named.ends)
 
     spelled : spell p ≡ ends_piece.front ++ e.last ∷ []
     spelled = ap spell (laws.one p ends_piece.piece piece ends_piece.is ends_piece.named) ∙ ends_piece.ends
@@ -126,7 +120,7 @@ module _ (M : Objects) (P : Rules) (laws : StepLaws M P) (m : Machine) (facts : 
         (all_near list e.first e.middle e.last refl (last_way ends_piece.front e.last spelled) begins)).0 e.legal
 
     -- the context that ends in the state
-    pub context_there : (before : List Piece) × (before ≡ [] → ⊥) × HasTurnSteps (before ++ p ∷ []) list
+    pub context_there : (before : List Span) × (before ≡ [] → ⊥) × HasTurnSteps (before ++ p ∷ []) list
         × IsContext M P (before ++ p ∷ [])
     context_there = laws.from list e.first e.middle e.last p ends_piece.front legal begins refl piece spelled
 
@@ -166,14 +160,14 @@ module _ (M : Objects) (P : Rules) (laws : StepLaws M P) (m : Machine) (facts : 
 
   -- ---- from a context to its state
 
-  two_pieces : (before : List Piece) → (before ≡ [] → ⊥) → (a : Piece) × (b : Piece) × (rest : List Piece)
+  two_pieces : (before : List Span) → (before ≡ [] → ⊥) → (a : Span) × (b : Span) × (rest : List Span)
       × (before ++ p ∷ [] ≡ a ∷ b ∷ rest)
   two_pieces [] some = absurd (some refl)
   two_pieces (a ∷ []) some = (a, p, [], refl)
   two_pieces (a ∷ b ∷ rest) some = (a, b, rest ++ p ∷ [], refl)
 
   -- the state in which a context ends
-  pub record EndsIn (before : List Piece) : Type 0 where
+  pub record EndsIn (before : List Span) : Type 0 where
     pub number : ℕ
     pub ending : IsEnding m facts p.way number
     pub named : EndsWithName facts number (name_of p)
@@ -181,7 +175,7 @@ module _ (M : Objects) (P : Rules) (laws : StepLaws M P) (m : Machine) (facts : 
     pub at : StandsFor m number steps
     pub turn : HasTurnSteps (before ++ p ∷ []) steps
 
-  pub ends_in : (before : List Piece) → (before ≡ [] → ⊥) → IsContext M P (before ++ p ∷ []) → EndsIn before
+  pub ends_in : (before : List Span) → (before ≡ [] → ⊥) → IsContext M P (before ++ p ∷ []) → EndsIn before
   ends_in before some context =
       let pair = two_pieces before some in
       let steps = laws.to (before ++ p ∷ []) pair.0 pair.1 pair.2 context pair.3 in
@@ -219,7 +213,7 @@ module _ (M : Objects) (P : Rules) (laws : StepLaws M P) (m : Machine) (facts : 
 
 -- ---- names tell contexts apart
 
-pub same_pieces : (M : Objects) (P : Rules) → OnePiece M P → (a b : List Piece) → Every (IsPiece M P) a
+pub same_pieces : (M : Objects) (P : Rules) → OnePiece M P → (a b : List Span) → Every (IsPiece M P) a
     → Every (IsPiece M P) b → map name_of a ≡ map name_of b → a ≡ b
 same_pieces M P one [] [] f g e = refl
 same_pieces M P one [] (y ∷ b) f g e = cc
@@ -231,7 +225,7 @@ same_pieces M P one (x ∷ a) (y ∷ b) f g e =
     let there = same_pieces M P one a b f.1 g.1 tail in
     cc
 
-module _ (M : Objects) (P : Rules) (one : OnePiece M P) (p : Piece) where
+module _ (M : Objects) (P : Rules) (one : OnePiece M P) (p : Span) where
   same_before : (e f : Context) (h : IsContextEntry M P p e) (k : IsContextEntry M P p f) → e.before ≡ f.before
       → h.before ≡ k.before
   same_before e f h k same =
@@ -262,7 +256,7 @@ module _ (M : Objects) (P : Rules) (one : OnePiece M P) (p : Piece) where
 -- ---- a piece alone
 
 module _ (M : Objects) (P : Rules) (alone : (s : Step) → IsTrue (drivable M P s) → Legal M P (s ∷ [])) (m : Machine)
-    (facts : List StateFacts) (p : Piece) (piece : IsPiece M P p) (known : AreStates M P p.way m.words m.states facts)
+    (facts : List StateFacts) (p : Span) (piece : IsPiece M P p) (known : AreStates M P p.way m.words m.states facts)
     (front : List Step) (last : Step) (ends : spell p ≡ front ++ last ∷ []) (n : ℕ) (to : Watches m n (last ∷ []))
   where
     pub reached_alone : (u v : NodeId) → Arrives M p u v → IsReached M P m facts n u v (p ∷ [])

@@ -25,14 +25,14 @@ use Rattle.std.proofs.Common.{
 }
 use Rattle.std.specs.declared.cmp.Ordering.TheVariants.{Less, Equal, Greater}
 use Rattle.std.specs.Ordering.{is_lt, is_eq, eq_by_cmp, ordering_reverse}
-use Rattle.std.specs.Cmp.{IsTotalOrder}
+use Rattle.std.specs.Cmp.{IsTotalOrder, Equal-is}
 use Rattle.std.specs.FinMap.{IsAntisymmetric}
 use Rattle.std.specs.List.{IsDistinct, list_any, AllByRecursion}
 use Rattle.std.specs.List.Sorted.{IsSortedBy}
 use Rattle.std.proofs.lemmas.Bool.{false≢true, cases_Bool, and_from}
 use Rattle.std.proofs.lemmas.Map.Keys.{IsDistinct-head, IsDistinct-tail}
 use Rattle.road_model.specs.Orders.{rises, rises_from}
-use Rattle.expanded_graph.proofs.Members.{In}
+use Rattle.road_base.proofs.ListMembers.{In}
 
 module _ {A N : Type 0} (name : A → N) (R : N → N → Ordering) (total : IsTotalOrder R) where
   abbrev Lt : A → A → Bool
@@ -74,14 +74,9 @@ module _ {A N : Type 0} (name : A → N) (R : N → N → Ordering) (total : IsT
 -- ---- names that differ
 
 module _ {N : Type 0} (R : N → N → Ordering) (total : IsTotalOrder R) (ties : IsAntisymmetric R) where
-  equal_from : (r : Ordering) → is_eq r ≡ true → r ≡ Equal
-  equal_from Less e = absurd (false≢true e)
-  equal_from Equal e = refl
-  equal_from Greater e = absurd (false≢true e)
-
   pub apart : (x y : N) → (x ≡ y → ⊥) → eq_by_cmp R x y ≡ false
   apart x y other = elim (cases_Bool (is_eq (R x y))) [
-    | inl e ↦ absurd (other (ties x y (equal_from (R x y) e)))
+    | inl e ↦ absurd (other (ties x y ((Equal-is (R x y)).0 e)))
     | inr n ↦ n
   ]
 

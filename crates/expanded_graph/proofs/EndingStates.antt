@@ -1,13 +1,13 @@
 -- Which states contexts of two pieces or more end in, and the list of them by the pieces with which they end.
-use Rattle.std.proofs.Common.{◌≡◌, ℕ, ◌+◌, ◌<◌, List, [], ◌∷◌, ◌++◌, length, map, ◌⊎◌, inl, inr, Bool, true, refl, sym}
-use Rattle.std.proofs.Common.{ap, ◌∙◌, subst, arith, Some, IsTrue, slice_get, get_or, cond, ◌==◌, Ordering}
+use Rattle.std.proofs.Common.{◌≡◌, ℕ, ◌+◌, ◌<◌, List, [], ◌∷◌, ◌++◌, length, map, ◌⊎◌, inl, inr, Bool, refl, sym}
+use Rattle.std.proofs.Common.{ap, ◌∙◌, subst, arith, Some, IsTrue, slice_get, get_or, cond, ◌==◌}
 use Rattle.std.specs.Ordering.{nat_cmp, is_lt, is_eq}
-use Rattle.std.specs.Cmp.{IsTotalOrder}
+use Rattle.std.specs.Cmp.{IsTotalOrder, Equal-is}
 use Rattle.std.specs.FinMap.{IsAntisymmetric}
 use Rattle.std.specs.List.{filter}
 use Rattle.std.specs.List.Sorted.{IsSortedByKey, IsStableByKey}
 use Rattle.std.specs.declared.cmp.Ordering.TheVariants.{Less, Equal, Greater}
-use Rattle.std.proofs.lemmas.Bool.{lt-ltb, false≢true}
+use Rattle.std.proofs.lemmas.Bool.{lt-ltb}
 use Rattle.std.proofs.lemmas.Cmp.{nat_cmp_total, tied_itself}
 use Rattle.std.proofs.lemmas.List.{same_from_push}
 use Rattle.road_base.specs.declared.ids.WayId.{WayId}
@@ -19,11 +19,13 @@ use Rattle.turn_automata.specs.Machines.{Machine, StandsFor}
 use Rattle.expanded_graph.specs.declared.states.StateFacts.{StateFacts}
 use Rattle.expanded_graph.specs.declared.endings.Ending.{Ending}
 use Rattle.expanded_graph.specs.Contexts.{IsEnding, AreEndings, AreEndingsWith, EndsWithName, same_name}
-use Rattle.expanded_graph.proofs.Members.{In, in_get, push_cases, in_from_contains, contains_from_in, in_end, in_left}
-use Rattle.expanded_graph.proofs.Members.{in_map, from_map}
-use Rattle.expanded_graph.proofs.AscendingLists.{Climbs, climbs, climbs_push, rises_again}
-use Rattle.expanded_graph.proofs.EqualKeys.{in_filter, from_filter, climbs_filter, kept_by_sort}
-use Rattle.expanded_graph.proofs.Runs.{nil_or_cons, some_at, one_at}
+use Rattle.road_base.proofs.ListMembers.{In, in_get, push_cases, in_from_contains, contains_from_in, in_end, in_left}
+use Rattle.road_base.proofs.ListMembers.{in_map, from_map}
+use Rattle.road_model.proofs.AscendingLists.{Climbs, climbs, climbs_push, climbs_filter, rises_again}
+use Rattle.road_base.proofs.FilteredLists.{in_filter, from_filter}
+use Rattle.road_base.proofs.SortedParts.{kept_by_sort}
+use Rattle.road_base.proofs.ListPlaces.{some_at, one_stands}
+use Rattle.expanded_graph.proofs.Runs.{nil_or_cons}
 
 some_name : (a b : PieceName) → Some a ≡ Some b → a ≡ b
 some_name a b e = cc
@@ -62,14 +64,14 @@ module _ (m : Machine) (facts : List StateFacts) (w : WayId) (closed : IsClosed 
   pub not_root : IsEnding m facts w n → before ≡ 0 → ⊥
   not_root e root =
       let same = same_from_push shorter.0 (e.first ∷ e.middle) x e.last
-      (one_at m.states n _ _ (edge shorter.0 shorter.1) e.at) in
-      let none : shorter.0 ≡ [] = one_at m.states 0 shorter.0 [] (subst (λ k. StandsFor m k shorter.0) root shorter.1)
-      closed.empty in
+      (one_stands m.states n _ _ (edge shorter.0 shorter.1) e.at) in
+      let none : shorter.0 ≡ [] = one_stands m.states 0 shorter.0 []
+      (subst (λ k. StandsFor m k shorter.0) root shorter.1) closed.empty in
       let k = same.0 in
       cc
 
   pub has_legal : IsEnding m facts w n → IsTrue known.is_legal
-  has_legal e = subst (λ f. IsTrue f.is_legal) (one_at facts n e.known known e.fact fact) e.legal
+  has_legal e = subst (λ f. IsTrue f.is_legal) (one_stands facts n e.known known e.fact fact) e.legal
 
   -- a context may end in the state with the piece that the state's last step ends
   pub ending_with : (before ≡ 0 → ⊥) → IsTrue known.is_legal → (name : PieceName)
@@ -81,14 +83,14 @@ module _ (m : Machine) (facts : List StateFacts) (w : WayId) (closed : IsClosed 
       → (known.ends ≡ Some name) × (name.way ≡ w)
   name_on name h =
       let e = h.0 in
-      let its = subst (λ f. f.ends ≡ Some e.name) (one_at facts n e.known known e.fact fact) e.ends in
-      let this = subst (λ f. f.ends ≡ Some name) (one_at facts n (h.1).known known (h.1).fact fact) (h.1).ends in
+      let its = subst (λ f. f.ends ≡ Some e.name) (one_stands facts n e.known known e.fact fact) e.ends in
+      let this = subst (λ f. f.ends ≡ Some name) (one_stands facts n (h.1).known known (h.1).fact fact) (h.1).ends in
       let same : e.name ≡ name = some_name e.name name (sym its ∙ this) in
       (this, ap (λ k. k.way) (sym same) ∙ e.on)
 
 -- the first state stands for no steps
 pub root_ends_none : (m : Machine) (facts : List StateFacts) (w : WayId) → IsClosed m.states → IsEnding m facts w 0 → ⊥
-root_ends_none m facts w closed e = let k = one_at m.states 0 _ _ e.at closed.empty in cc
+root_ends_none m facts w closed e = let k = one_stands m.states 0 _ _ e.at closed.empty in cc
 
 -- the endings below a number
 pub record AreEndingsBelow (m : Machine) (facts : List StateFacts) (i : ℕ) (es : List Ending) : Type 0 where
@@ -111,17 +113,12 @@ ascends ns h = climbs (λ n. n) nat_cmp nat_cmp_total ns (ap (rises nat_cmp) (ma
 number_below : (a b : ℕ) → a < b → IsTrue (is_lt (nat_cmp a b))
 number_below a b h = ap (λ t. is_lt (cond t Less (cond (a == b) Equal Greater))) (lt-ltb a b h)
 
-is_tied : (r : Ordering) → is_eq r ≡ true → r ≡ Equal
-is_tied Less h = absurd (false≢true h)
-is_tied Equal h = refl
-is_tied Greater h = absurd (false≢true h)
-
 module _ (m : Machine) (facts : List StateFacts) (i : ℕ) (es : List Ending) (so_far : AreEndingsBelow m facts i es)
   where
     -- the state ends a piece by one name
     one_piece : (a b : PieceName) → EndsWithName facts i a → EndsWithName facts i b → a ≡ b
     one_piece a b h k = some_name a b (sym h.ends ∙
-        (ap (λ f. f.ends) (one_at facts i h.known k.known h.fact k.fact) ∙ k.ends))
+        (ap (λ f. f.ends) (one_stands facts i h.known k.known h.fact k.fact) ∙ k.ends))
 
     pub one_more : (name : PieceName) → IsEnding m facts name.way i × EndsWithName facts i name
         → AreEndingsBelow m facts (i + 1) (es ++ record { piece = name; state = i } ∷ [])
@@ -175,7 +172,7 @@ module _ (m : Machine) (facts : List StateFacts) (i : ℕ) (es : List Ending) (s
           sound n j =
               let e = from_map (λ (e : Ending). e.state) (filter here fs) n j in
               let passes = from_filter here es e.0 (subst (In e.0) (sym kept) e.1) in
-              let piece : (e.0).piece ≡ name = exact (e.0).piece name (is_tied _ passes.1) in
+              let piece : (e.0).piece ≡ name = exact (e.0).piece name ((Equal-is _).0 passes.1) in
               subst (λ (k : PieceName). IsEnding m facts k.way n × EndsWithName facts n k) piece
               (subst (λ k. IsEnding m facts (e.0).piece.way k × EndsWithName facts k (e.0).piece) (sym e.2)
               (so_far.sound e.0 passes.0).1)

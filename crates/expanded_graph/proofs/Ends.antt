@@ -50,7 +50,7 @@ use Rattle.road_model.specs.Lines.{
   steps_from,
 }
 use Rattle.road_model.specs.Driving.{located, drivable}
-use Rattle.road_model.specs.Pieces.{IsPlain, Piece, IsPiece, spell}
+use Rattle.road_model.specs.Pieces.{IsPlain, Span, IsPiece, spell}
 use Rattle.road_model.specs.Blocks.{name_of}
 
 abbrev pub step : WayId → ℕ → Dir → Step
@@ -65,10 +65,10 @@ abbrev pub last_index : Dir → ℕ → ℕ → ℕ
 last_index Forward i j = j - 1
 last_index Backward i j = i
 
-abbrev pub first_step : Piece → Step
+abbrev pub first_step : Span → Step
 first_step p = step p.way (first_index p.dir p.index p.end) p.dir
 
-abbrev pub last_step : Piece → Step
+abbrev pub last_step : Span → Step
 last_step p = step p.way (last_index p.dir p.index p.end) p.dir
 
 -- where a step that names a pair begins and ends
@@ -119,13 +119,13 @@ ends_by : (w : WayId) (i n j : ℕ) (d : Dir) → j ≡ i + suc n
 ends_by w i n j Forward e = ends_forward w i n (j - 1) (omega arith)
 ends_by w i n j Backward e = ends_backward w i n
 
-pub spell_begins : (p : Piece) → p.index < p.end → BeginsWith (first_step p) (spell p)
+pub spell_begins : (p : Span) → p.index < p.end → BeginsWith (first_step p) (spell p)
 spell_begins p h =
     let e : suc (p.end - p.index - 1) ≡ p.end - p.index = omega arith in
     subst (λ n. BeginsWith (first_step p) (steps_from p.way p.index n p.dir)) e
     (begins_by p.way p.index (p.end - p.index - 1) p.end p.dir (omega arith))
 
-pub spell_ends : (p : Piece) → p.index < p.end → EndsWith (last_step p) (spell p)
+pub spell_ends : (p : Span) → p.index < p.end → EndsWith (last_step p) (spell p)
 spell_ends p h =
     let e : suc (p.end - p.index - 1) ≡ p.end - p.index = omega arith in
     subst (λ n. EndsWith (last_step p) (steps_from p.way p.index n p.dir)) e
@@ -137,7 +137,7 @@ order : (i j : ℕ) → (i < j) ⊎ ((i ≡ j) ⊎ (j < i))
 order i j = grind arith
 
 module _ (M : Objects) (P : Rules) where
-  same_index : (p q : Piece) → IsPiece M P p → IsPiece M P q → p.way ≡ q.way → p.end ≡ q.end → p.index ≡ q.index
+  same_index : (p q : Span) → IsPiece M P p → IsPiece M P q → p.way ≡ q.way → p.end ≡ q.end → p.index ≡ q.index
   same_index p q a b w e =
       let up = a.ascends in
       let up' = b.ascends in
@@ -149,13 +149,13 @@ module _ (M : Objects) (P : Rules) where
         ]
       ]
 
-  same_start : (d : Dir) (p q : Piece) → IsPiece M P p → IsPiece M P q → p.way ≡ q.way
+  same_start : (d : Dir) (p q : Span) → IsPiece M P p → IsPiece M P q → p.way ≡ q.way
       → first_index d p.index p.end ≡ first_index d q.index q.end → p.index ≡ q.index
   same_start Forward p q a b w e = e
   same_start Backward p q a b w e = let up = a.ascends in let up' = b.ascends in same_index p q a b w (omega arith)
 
   -- pieces that begin with one step have one name
-  pub one_first : (p q : Piece) (s : Step) (more rest : List Step) → IsPiece M P p → IsPiece M P q
+  pub one_first : (p q : Span) (s : Step) (more rest : List Step) → IsPiece M P p → IsPiece M P q
       → spell p ≡ s ∷ more → spell q ≡ s ∷ rest → name_of p ≡ name_of q
   one_first p q s more rest a b e f =
       let g = spell_begins p a.ascends in
@@ -201,7 +201,7 @@ module _ (M : Objects) (P : Rules) where
   first_within Forward i j h = (omega arith, h)
   first_within Backward i j h = (omega arith, omega arith)
 
-  pub first_drives : (p : Piece) (s : Step) (more : List Step) → IsPiece M P p → spell p ≡ s ∷ more
+  pub first_drives : (p : Span) (s : Step) (more : List Step) → IsPiece M P p → spell p ≡ s ∷ more
       → IsTrue (drivable M P s)
   first_drives p s more a e =
       let g = spell_begins p a.ascends in
@@ -210,7 +210,7 @@ module _ (M : Objects) (P : Rules) where
       subst (λ t. IsTrue (drivable M P t)) first (a.drives (first_index p.dir p.index p.end) within.0 within.1)
 
   -- all nodes of a piece are visible with locations
-  pub piece_located : (p : Piece) → IsPiece M P p → (k : ℕ) → p.index ≤ k → k ≤ p.end
+  pub piece_located : (p : Span) → IsPiece M P p → (k : ℕ) → p.index ≤ k → k ≤ p.end
       → IsTrue (located M (node_at M p.way k))
   piece_located p a k low high =
       let up = a.ascends in
@@ -223,5 +223,5 @@ module _ (M : Objects) (P : Rules) where
             (both_located (step p.way (p.end - 1) p.dir) (a.drives (p.end - 1) (omega arith) (omega arith))).1
       ]
 
-  pub piece_on_line : (p : Piece) → IsPiece M P p → p.end < length (line_of M p.way)
+  pub piece_on_line : (p : Span) → IsPiece M P p → p.end < length (line_of M p.way)
   piece_on_line p a = let up = a.ascends in on_line p.way p.end (piece_located p a p.end (omega arith) (omega arith))

@@ -1,14 +1,13 @@
 -- The last step of a piece names it, and where a way's pieces that end with a step stand in their list.
 use Rattle.std.proofs.Common.{◌≡◌, ℕ, zero, suc, ◌+◌, ◌-◌, ◌<◌, ◌≤◌, ◌⊎◌, inl, inr, List, [], ◌∷◌, ◌++◌, length, map}
-use Rattle.std.proofs.Common.{take, drop, get_or, refl, sym, ap, ◌∙◌, subst, arith, true, false, ◌&&◌, None, Some}
-use Rattle.std.proofs.Common.{IsTrue, Contains, Ordering, nat_eq, int_eq, add-one, below_more}
+use Rattle.std.proofs.Common.{take, drop, get_or, refl, sym, ap, ◌∙◌, subst, arith, true, false, None, Some}
+use Rattle.std.proofs.Common.{IsTrue, Contains, Ordering, add-one, below_more}
 use Rattle.std.specs.declared.cmp.Ordering.TheVariants.{Equal, Greater}
 use Rattle.std.specs.Ordering.{nat_cmp, is_lt, ordering_then}
 use Rattle.std.specs.Cmp.{nat_cmp_is}
 use Rattle.std.specs.List.Sorted.{IsPartitionPoint, IsPartitionedBy}
 use Rattle.std.proofs.Math.Dec.{leb}
-use Rattle.std.proofs.lemmas.Bool.{and_parts, and_from, false≢true, leb-true, leb-false, cases_lt}
-use Rattle.std.proofs.lemmas.Bool.Decides.{Decides-eqb, Decides-int_eq}
+use Rattle.std.proofs.lemmas.Bool.{and_parts, false≢true, leb-true, leb-false, cases_lt}
 use Rattle.std.proofs.lemmas.Cmp.{int_cmp_total, tied_itself}
 use Rattle.std.proofs.lemmas.List.{length-take-le, length-drop, get_or-take, get_or-drop, get_or_default}
 use Rattle.std.proofs.lemmas.List.{same_from_push}
@@ -20,13 +19,13 @@ use Rattle.road_base.specs.declared.ids.WayId.{WayId}
 use Rattle.road_base.specs.declared.ids.Step.{Step}
 use Rattle.road_base.specs.declared.ids.Dir.{Dir}
 use Rattle.road_base.specs.declared.ids.Dir.TheVariants.{Forward, Backward}
-use Rattle.road_base.specs.contracts.ids.DirPartialEq.TheImpl.{ghosts as dir_equality}
 use Rattle.road_base.specs.contracts.ids.StepPartialEq.TheImpl.{ghosts as step_equality}
 use Rattle.road_base.specs.Objects.{Objects}
+use Rattle.road_base.proofs.EqualSteps.{step_same, step_itself}
 use Rattle.road_model.specs.declared.lists.PieceName.{PieceName}
 use Rattle.road_model.specs.Rules.{Rules}
 use Rattle.road_model.specs.Driving.{drivable}
-use Rattle.road_model.specs.Pieces.{IsPlain, Piece, IsPiece, spell}
+use Rattle.road_model.specs.Pieces.{IsPlain, Span, IsPiece, spell}
 use Rattle.road_model.specs.Orders.{Lists, rises, rises_from, way_cmp, dir_cmp, name_cmp}
 use Rattle.road_model.specs.Blocks.{name_of}
 use Rattle.road_model.specs.Turning.{EndsPiece}
@@ -36,35 +35,10 @@ use Rattle.way_pieces.specs.RoadPieces.{AreSpans}
 use Rattle.expanded_graph.specs.Known.{NamesEnd, IsLastOf}
 use Rattle.expanded_graph.proofs.Ends.{step, last_index, last_step, spell_ends}
 
--- ---- equal steps
-
-dir_same : (a b : Dir) → dir_equality.eq a b ≡ true → a ≡ b
-dir_same Forward Forward h = refl
-dir_same Forward Backward h = absurd (false≢true h)
-dir_same Backward Forward h = absurd (false≢true h)
-dir_same Backward Backward h = refl
-
-dir_itself : (a : Dir) → dir_equality.eq a a ≡ true
-dir_itself Forward = refl
-dir_itself Backward = refl
-
-step_same : (a b : Step) → step_equality.eq a b ≡ true → a ≡ b
-step_same a b h =
-    let p = and_parts (int_eq a.way.0 b.way.0) (nat_eq a.index b.index && dir_equality.eq a.dir b.dir) h in
-    let q = and_parts (nat_eq a.index b.index) (dir_equality.eq a.dir b.dir) p.1 in
-    let w = (Decides-int_eq a.way.0 b.way.0).0 p.0 in
-    let i = (Decides-eqb a.index b.index).0 q.0 in
-    let d = dir_same a.dir b.dir q.1 in
-    λ j. record { way = record { 0 = w j }; index = i j; dir = d j }
-
-step_itself : (a : Step) → step_equality.eq a a ≡ true
-step_itself a = and_from _ _ ((Decides-int_eq a.way.0 a.way.0).1 refl)
-    (and_from _ _ ((Decides-eqb a.index a.index).1 refl) (dir_itself a.dir))
-
 -- ---- last steps
 
 -- the last step in each direction
-pub last_in : (d : Dir) (p : Piece) → p.index < p.end → p.dir ≡ d
+pub last_in : (d : Dir) (p : Span) → p.index < p.end → p.dir ≡ d
     → (front : List Step) × (spell p ≡ front ++ step p.way (last_index d p.index p.end) d ∷ [])
 last_in d p h e = let r = spell_ends p h in (
   r.front,
@@ -98,18 +72,18 @@ at_or_below : (i j : ℕ) → i ≤ j → (i ≡ j) ⊎ (i < j)
 at_or_below i j h = grind arith
 
 module _ (M : Objects) (P : Rules) where
-  last_is : (p : Piece) (front : List Step) (x : Step) → IsPiece M P p → spell p ≡ front ++ x ∷ [] → last_step p ≡ x
+  last_is : (p : Span) (front : List Step) (x : Step) → IsPiece M P p → spell p ≡ front ++ x ∷ [] → last_step p ≡ x
   last_is p front x i e = let r = spell_ends p i.ascends
       in (same_from_push r.front front (last_step p) x (sym r.is ∙ e)).1
 
-  pub last_drives : (p : Piece) (front : List Step) (x : Step) → IsPiece M P p → spell p ≡ front ++ x ∷ []
+  pub last_drives : (p : Span) (front : List Step) (x : Step) → IsPiece M P p → spell p ≡ front ++ x ∷ []
       → IsTrue (drivable M P x)
   last_drives p front x i e =
       let k = last_within p.dir p.index p.end i.ascends in
       subst (λ s. IsTrue (drivable M P s)) (last_is p front x i e) (i.drives (last_index p.dir p.index p.end) k.0 k.1)
 
   -- a piece begins at no position within another of its way
-  begins_alike : (p q : Piece) → IsPiece M P p → IsPiece M P q → p.way ≡ q.way → p.index ≤ q.index → q.index < p.end
+  begins_alike : (p q : Span) → IsPiece M P p → IsPiece M P q → p.way ≡ q.way → p.index ≤ q.index → q.index < p.end
       → p.index ≡ q.index
   begins_alike p q a b w low high = elim (at_or_below p.index q.index low) [
     | inl same ↦ same
@@ -117,7 +91,7 @@ module _ (M : Objects) (P : Rules) where
   ]
 
   -- pieces of one way over one position begin at one position
-  one_start : (k : ℕ) (p q : Piece) → IsPiece M P p → IsPiece M P q → p.way ≡ q.way → p.index ≤ k → k < p.end
+  one_start : (k : ℕ) (p q : Span) → IsPiece M P p → IsPiece M P q → p.way ≡ q.way → p.index ≤ k → k < p.end
       → q.index ≤ k → k < q.end → p.index ≡ q.index
   one_start k p q a b w pl ph ql qh = elim (cases_lt p.index q.index) [
     | inl l ↦ begins_alike p q a b w (omega arith) (omega arith)
@@ -125,7 +99,7 @@ module _ (M : Objects) (P : Rules) where
   ]
 
   -- pieces that end with one step have one name
-  one_ending : (p q : Piece) (f g : List Step) (x : Step) → IsPiece M P p → IsPiece M P q → spell p ≡ f ++ x ∷ []
+  one_ending : (p q : Span) (f g : List Step) (x : Step) → IsPiece M P p → IsPiece M P q → spell p ≡ f ++ x ∷ []
       → spell q ≡ g ++ x ∷ [] → name_of p ≡ name_of q
   one_ending p q f g x a b d e =
       let same : last_step p ≡ last_step q = last_is p f x a d ∙ sym (last_is q g x b e) in

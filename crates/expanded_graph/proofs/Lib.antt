@@ -1,5 +1,4 @@
-pub mod Members
-pub mod AscendingLists
+pub mod PlaceOrder
 pub mod Ends
 pub mod Runs
 pub mod Between
@@ -11,7 +10,6 @@ pub mod StatesKnown
 pub mod NextDepartures
 pub mod Chosen
 pub mod ContextArcs
-pub mod EqualKeys
 pub mod EndingStates
 pub mod NamesBefore
 pub mod ContextStates

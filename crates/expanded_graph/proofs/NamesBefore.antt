@@ -11,7 +11,7 @@ use Rattle.road_base.specs.declared.ids.Step.{Step}
 use Rattle.road_base.specs.Objects.{Objects}
 use Rattle.road_model.specs.declared.lists.PieceName.{PieceName}
 use Rattle.road_model.specs.Rules.{Rules}
-use Rattle.road_model.specs.Pieces.{Piece, IsPiece}
+use Rattle.road_model.specs.Pieces.{Span, IsPiece}
 use Rattle.road_model.specs.Contexts.{Every}
 use Rattle.road_model.specs.Turning.{HasTurnSteps, EndsPiece}
 use Rattle.road_model.specs.Blocks.{name_of}
@@ -19,9 +19,11 @@ use Rattle.turn_automata.specs.Trees.{IsClosed}
 use Rattle.turn_automata.specs.Machines.{Machine, StandsFor}
 use Rattle.expanded_graph.specs.declared.states.StateFacts.{StateFacts}
 use Rattle.expanded_graph.specs.States.{AreStates}
-use Rattle.expanded_graph.proofs.Members.{In, in_from_contains}
+use Rattle.road_base.proofs.ListMembers.{In, in_from_contains}
 use Rattle.expanded_graph.proofs.Ends.{spell_ends, last_step}
-use Rattle.expanded_graph.proofs.Runs.{cons_not_nil, nil_or_last, some_at, one_at, every_right, turn_ends}
+use Rattle.road_base.proofs.Splits.{cons_not_nil}
+use Rattle.road_base.proofs.ListPlaces.{some_at, one_stands}
+use Rattle.expanded_graph.proofs.Runs.{nil_or_last, every_right, turn_ends}
 use Rattle.expanded_graph.proofs.StopsNear.{same_or_not}
 
 abbrev pub Ends : List Step → Step → Type 0
@@ -143,7 +145,7 @@ module _ (M : Objects) (P : Rules) where
           some_at m.states before (omega arith)
 
       grown : so_far.list ≡ shorter.0 ++ x ∷ []
-      grown = one_at m.states k so_far.list (shorter.0 ++ x ∷ []) so_far.at (edge shorter.0 shorter.1)
+      grown = one_stands m.states k so_far.list (shorter.0 ++ x ∷ []) so_far.at (edge shorter.0 shorter.1)
 
       is : name x ≡ f.ends
       is = state_ends k shorter.0 x f (edge shorter.0 shorter.1) fact
@@ -164,14 +166,14 @@ module _ (M : Objects) (P : Rules) where
 
     pub path_end : (q : List Step) (names : List PieceName) → Path q 0 names → reverse names ≡ filter_map name q
     path_end q names h =
-        let none : h.list ≡ [] = one_at m.states 0 h.list [] h.at closed.empty in
+        let none : h.list ≡ [] = one_stands m.states 0 h.list [] h.at closed.empty in
         h.named ∙ ap (filter_map name) (sym (h.split ∙ ap (λ l. l ++ h.rest) none))
 
     -- the names of the pieces that end before a list's last step
-    pub names_along : ((c : List Piece) (q : List Step) (f : Step → Option PieceName) → Every (IsPiece M P) c
+    pub names_along : ((c : List Span) (q : List Step) (f : Step → Option PieceName) → Every (IsPiece M P) c
         → HasTurnSteps c q → ((s : Step) (n : PieceName) → Contains q s → (f s ≡ Some n) ↔ EndsPiece M P s n)
         → filter_map f q ≡ map name_of c)
-        → (before : List Piece) (p : Piece) (q b : List Step) (x : Step) (k : ℕ) (names : List PieceName)
+        → (before : List Span) (p : Span) (q b : List Step) (x : Step) (k : ℕ) (names : List PieceName)
         → Every (IsPiece M P) (before ++ p ∷ []) → HasTurnSteps (before ++ p ∷ []) q → StandsFor m k q → q ≡ b ++ x ∷ []
         → Path b 0 names → reverse names ≡ map name_of before
     names_along law before p q b x k names pieces turn at e path =

@@ -41,7 +41,7 @@ use Rattle.road_base.specs.Objects.{Objects}
 use Rattle.road_model.specs.Rules.{Rules}
 use Rattle.road_model.specs.Lines.{same_node, tail_of, head_of}
 use Rattle.road_model.specs.Driving.{shut, Leaves, MayTurn, AtPlace, AtShut, AtDeadEnd, Passes}
-use Rattle.road_model.specs.Pieces.{Piece, IsPiece, BeginsPiece, spell}
+use Rattle.road_model.specs.Pieces.{Span, IsPiece, BeginsPiece, spell}
 use Rattle.road_model.specs.Orders.{name_cmp}
 use Rattle.road_model.specs.Blocks.{name_of}
 use Rattle.road_model.specs.Naming.{OnePiece}
@@ -49,16 +49,16 @@ use Rattle.way_pieces.specs.declared.departures.Departure.{Departure}
 use Rattle.way_pieces.specs.Names.{IsDeparture}
 use Rattle.expanded_graph.specs.declared.intersections.Intersection.{Intersection}
 use Rattle.expanded_graph.specs.Travel.{Arrives}
-use Rattle.expanded_graph.specs.Turning.{IsIntersection, may_follow}
-use Rattle.expanded_graph.proofs.Members.{In, in_from_contains, contains_from_in, all_one}
-use Rattle.expanded_graph.proofs.AscendingLists.{one_name_alone}
+use Rattle.expanded_graph.specs.Intersections.{IsIntersection, may_follow}
+use Rattle.road_base.proofs.ListMembers.{In, in_from_contains, contains_from_in, all_one}
+use Rattle.road_model.proofs.AscendingLists.{one_name_alone}
 use Rattle.expanded_graph.proofs.Ends.{one_first, first_drives, has_head}
 
 -- the laws of the model on which it stands which departures may follow
 pub record Laws (M : Objects) (P : Rules) : Type 0 where
   pub names : IsTotalOrder name_cmp
   pub one : OnePiece M P
-  pub depart : (p : Piece) (front : List Step) (last u : Step) (v : NodeId) → IsPiece M P p
+  pub depart : (p : Span) (front : List Step) (last u : Step) (v : NodeId) → IsPiece M P p
       → spell p ≡ front ++ last ∷ [] → head_of M last ≡ Some v → Leaves M P v u → BeginsPiece M P u
 
 same_from_test : (a b : NodeId) → same_node a b ≡ true → a ≡ b
@@ -68,13 +68,13 @@ test_from_same : (a b : NodeId) → a ≡ b → same_node a b ≡ true
 test_from_same a b e = (Decides-int_eq a.0 b.0).1 (ap (λ n. n.0) e)
 
 -- a departure that begins with the step
-pub record Departs (M : Objects) (P : Rules) (v : NodeId) (q : Piece) (s : Step) : Type 0 where
+pub record Departs (M : Objects) (P : Rules) (v : NodeId) (q : Span) (s : Step) : Type 0 where
   pub departure : Departure
   pub is : IsDeparture M P v departure
   pub first : departure.first ≡ s
   pub named : departure.piece ≡ name_of q
 
-pub departure_by : (M : Objects) (P : Rules) (v : NodeId) (q : Piece) (s : Step) (more : List Step) → IsPiece M P q
+pub departure_by : (M : Objects) (P : Rules) (v : NodeId) (q : Span) (s : Step) (more : List Step) → IsPiece M P q
     → spell q ≡ s ∷ more → tail_of M s ≡ Some v → Departs M P v q s
 departure_by M P v q s more is begins leaves =
     let to = has_head M P s (first_drives M P q s more is begins) in
@@ -85,7 +85,7 @@ departure_by M P v q s more is begins leaves =
       named = refl;
     }
 
-module _ (M : Objects) (P : Rules) (laws : Laws M P) (p : Piece) (is : IsPiece M P p) (i : Intersection)
+module _ (M : Objects) (P : Rules) (laws : Laws M P) (p : Span) (is : IsPiece M P p) (i : Intersection)
     (known : IsIntersection M P i) (u : NodeId) (ends : Arrives M p u i.node) where
   abbrev out : List Departure
   out = i.departures.now

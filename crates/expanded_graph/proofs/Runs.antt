@@ -1,20 +1,15 @@
 -- Where lists of steps end, and their turn steps.
-use Rattle.std.proofs.Common.{◌≡◌, ℕ, ◌+◌, ◌<◌, ◌≤◌, List, [], ◌∷◌, ◌++◌, length, ◌⊎◌, inl, inr, refl, sym, ap, ◌∙◌}
-use Rattle.std.proofs.Common.{subst, arith, append_assoc, append-nil, length-append, zero, suc, slice_get, get_or, Some}
-use Rattle.std.proofs.lemmas.Option.{same_Some, slice_get-get_or}
+use Rattle.std.proofs.Common.{◌≡◌, ◌+◌, ◌≤◌, List, [], ◌∷◌, ◌++◌, length, ◌⊎◌, inl, inr, refl, sym, ap, ◌∙◌}
+use Rattle.std.proofs.Common.{subst, arith, append_assoc, append-nil, length-append}
 use Rattle.std.proofs.lemmas.List.{same_from_push}
 use Rattle.road_base.specs.declared.ids.Step.{Step}
 use Rattle.road_base.specs.Objects.{Objects}
 use Rattle.road_model.specs.Rules.{Rules}
-use Rattle.road_model.specs.Pieces.{Piece, IsPiece, spell}
+use Rattle.road_model.specs.Pieces.{Span, IsPiece, spell}
 use Rattle.road_model.specs.Contexts.{Every, One, Many}
 use Rattle.road_model.specs.Network.{IsContext, spell_pieces}
 use Rattle.road_model.specs.Turning.{HasTurnSteps}
 use Rattle.expanded_graph.proofs.Ends.{spell_begins}
-
-pub cons_not_nil : {A : Type 0} (a : List A) (x : A) (b : List A) → a ++ x ∷ b ≡ [] → ⊥
-cons_not_nil [] x b e = cc
-cons_not_nil (y ∷ a) x b e = cc
 
 pub nil_right : {A : Type 0} (a u : List A) → [] ≡ a ++ u → u ≡ []
 nil_right [] u e = sym e
@@ -50,19 +45,6 @@ nil_or_last (x ∷ xs) = inr (elim (nil_or_last xs) [
   | inr r ↦ (x ∷ r.0, r.1, ap (λ l. x ∷ l) r.2)
 ])
 
--- ---- what stands at a place
-
-pub some_at : {A : Type 0} (xs : List A) (i : ℕ) → i < length xs → (x : A) × (slice_get xs i ≡ Some x)
-some_at [] i h = absurd (omega arith)
-some_at (z ∷ xs) zero h = (z, refl)
-some_at (z ∷ xs) (suc i) h = some_at xs i (omega arith)
-
-pub one_at : {A : Type 0} (xs : List A) (i : ℕ) (x y : A) → slice_get xs i ≡ Some x → slice_get xs i ≡ Some y → x ≡ y
-one_at xs i x y h k = same_Some x y (sym h ∙ k)
-
-pub read_at : {A : Type 0} (xs : List A) (i : ℕ) (x : A) → i < length xs → x ≡ get_or xs i x → slice_get xs i ≡ Some x
-read_at xs i x h e = slice_get-get_or xs i x h ∙ ap Some (sym e)
-
 -- ---- members with a property
 
 pub every_left : {A : Type 0} (Q : A → Type 0) (a b : List A) → Every Q (a ++ b) → Every Q a
@@ -75,12 +57,12 @@ every_right Q (x ∷ a) b e = every_right Q a b e.1
 
 -- ---- turn steps
 
-pub spell_push : (a : List Piece) (p : Piece) → spell_pieces (a ++ p ∷ []) ≡ spell_pieces a ++ spell p
+pub spell_push : (a : List Span) (p : Span) → spell_pieces (a ++ p ∷ []) ≡ spell_pieces a ++ spell p
 spell_push [] p = append-nil (spell p)
 spell_push (x ∷ a) p = ap (λ l. spell x ++ l) (spell_push a p) ∙ sym (append_assoc (spell x) (spell_pieces a) (spell p))
 
 -- turn steps end with the last step of the last piece, and are two or more where there are other pieces before
-pub turn_ends_long : (before : List Piece) (p : Piece) (q front : List Step) (last : Step) → (before ≡ [] → ⊥)
+pub turn_ends_long : (before : List Span) (p : Span) (q front : List Step) (last : Step) → (before ≡ [] → ⊥)
     → HasTurnSteps (before ++ p ∷ []) q → spell p ≡ front ++ last ∷ []
     → (s : Step) × (middle : List Step) × (q ≡ s ∷ (middle ++ last ∷ []))
 turn_ends_long [] p q front last some h e = absurd (some refl)
@@ -94,7 +76,7 @@ turn_ends_long (x ∷ before) p q front last some h e =
           ∙ sym (append_assoc (spell_pieces before) front (last ∷ []))))),
     )
 
-pub turn_ends : (before : List Piece) (p : Piece) (q front : List Step) (last : Step)
+pub turn_ends : (before : List Span) (p : Span) (q front : List Step) (last : Step)
     → HasTurnSteps (before ++ p ∷ []) q → spell p ≡ front ++ last ∷ [] → (a : List Step) × (q ≡ a ++ last ∷ [])
 turn_ends [] p q front last h e =
     let first : h.first ≡ p = let k = h.is in cc in
@@ -106,7 +88,7 @@ turn_ends (x ∷ before) p q front last h e =
     (r.0 ∷ r.1, r.2)
 
 -- turn steps are those of one list
-pub one_turn : (c : List Piece) (q r : List Step) → HasTurnSteps c q → HasTurnSteps c r → q ≡ r
+pub one_turn : (c : List Span) (q r : List Step) → HasTurnSteps c q → HasTurnSteps c r → q ≡ r
 one_turn c q r h k =
     let first : h.first ≡ k.first = let e = h.is in let f = k.is in cc in
     let others : h.others ≡ k.others = let e = h.is in let f = k.is in cc in
@@ -114,11 +96,11 @@ one_turn c q r h k =
     h.steps ∙ (ap (λ l. h.last ∷ spell_pieces l) others ∙ (ap (λ s. s ∷ spell_pieces k.others) same.1 ∙ sym k.steps))
 
 module _ (M : Objects) (P : Rules) where
-  pub context_pieces : (c : List Piece) → IsContext M P c → Every (IsPiece M P) c
+  pub context_pieces : (c : List Span) → IsContext M P c → Every (IsPiece M P) c
   context_pieces c (One p e h) = subst (Every (IsPiece M P)) (sym e) (h, tt)
   context_pieces c (Many m) = m.pieces
 
-  spelled_count : (c : List Piece) → Every (IsPiece M P) c → length c ≤ length (spell_pieces c)
+  spelled_count : (c : List Span) → Every (IsPiece M P) c → length c ≤ length (spell_pieces c)
   spelled_count [] e = omega arith
   spelled_count (p ∷ c) e =
       let b = spell_begins p e.0.ascends in
@@ -128,7 +110,7 @@ module _ (M : Objects) (P : Rules) where
       omega arith
 
   -- there are no more pieces than turn steps
-  pub turn_count : (c : List Piece) (q : List Step) → Every (IsPiece M P) c → HasTurnSteps c q → length c ≤ length q
+  pub turn_count : (c : List Span) (q : List Step) → Every (IsPiece M P) c → HasTurnSteps c q → length c ≤ length q
   turn_count c q e h =
       let others = every_right (IsPiece M P) (h.first ∷ []) h.others (subst (Every (IsPiece M P)) h.is e) in
       let k = spelled_count h.others others in

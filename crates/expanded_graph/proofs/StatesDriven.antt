@@ -13,9 +13,9 @@ use Rattle.road_model.specs.Network.{Legal, GoesOn}
 use Rattle.restrictions.specs.declared.word_list.Word.{Word}
 use Rattle.turn_automata.specs.declared.automaton.State.{State}
 use Rattle.turn_automata.specs.Watched.{Stops}
-use Rattle.expanded_graph.specs.Near.{IsNear}
+use Rattle.expanded_graph.specs.Near.{IsStepNear}
 use Rattle.expanded_graph.specs.Known.{IsDriven}
-use Rattle.expanded_graph.proofs.Runs.{cons_not_nil}
+use Rattle.road_base.proofs.Splits.{cons_not_nil}
 use Rattle.expanded_graph.proofs.StopsNear.{LongWords, tells_near, goes_on_near}
 
 is_some_from : (o : Option State) → (o ≡ None → ⊥) → IsTrue (is_some o)
@@ -51,8 +51,8 @@ module _ (M : Objects) (P : Rules) where
         before_legal : Legal M P (p ++ x ∷ []) → Legal M P p
         before_legal l = laws.parts [] p (x ∷ []) some_before l
 
-        all_before : (w : WayId) → ((s : Step) → Contains (p ++ x ∷ []) s → IsNear M P w s) → (s : Step) → Contains p s
-            → IsNear M P w s
+        all_before : (w : WayId) → ((s : Step) → Contains (p ++ x ∷ []) s → IsStepNear M P w s) → (s : Step)
+            → Contains p s → IsStepNear M P w s
         all_before w all s c = all s (Contains-append_left p (x ∷ []) s c)
 
         -- behind steps that may not be driven

@@ -1,12 +1,11 @@
 -- What is known of a state follows from what is known of the state before.
-use Rattle.std.proofs.Common.{◌≡◌, ℕ, zero, suc, ◌+◌, ◌<◌, ◌≤◌, ◌↔◌, List, [], ◌∷◌, ◌++◌, length, map, ◌⊎◌, inl, inr}
+use Rattle.std.proofs.Common.{◌≡◌, ℕ, suc, ◌+◌, ◌<◌, ◌≤◌, ◌↔◌, List, [], ◌∷◌, ◌++◌, length, map, ◌⊎◌, inl, inr}
 use Rattle.std.proofs.Common.{refl, sym, ap, ◌∙◌, subst, arith, Bool, false, Option, Some, None, Contains, slice_get}
 use Rattle.std.proofs.Common.{length-append}
 use Rattle.std.specs.List.{cons_option, filter_map}
 use Rattle.std.specs.Option.{option_to_list}
 use Rattle.std.proofs.lemmas.Bool.{false≢true}
 use Rattle.std.proofs.lemmas.List.{length-map, same_from_push}
-use Rattle.std.proofs.lemmas.Option.{slice_get_within, get_or_from_slice_get}
 use Rattle.std.proofs.lemmas.List.Elements.{filter_map-append, Contains-append_left, Contains-push, Contains-push_cases}
 use Rattle.road_base.specs.declared.ids.WayId.{WayId}
 use Rattle.road_base.specs.declared.ids.RelationId.{RelationId}
@@ -14,7 +13,7 @@ use Rattle.road_base.specs.declared.ids.Step.{Step}
 use Rattle.road_base.specs.Objects.{Objects}
 use Rattle.road_model.specs.declared.lists.PieceName.{PieceName}
 use Rattle.road_model.specs.Rules.{Rules}
-use Rattle.road_model.specs.Pieces.{Piece, IsPiece}
+use Rattle.road_model.specs.Pieces.{Span, IsPiece}
 use Rattle.road_model.specs.Words.{IsWord}
 use Rattle.road_model.specs.Contexts.{Every}
 use Rattle.road_model.specs.Blocks.{name_of}
@@ -27,28 +26,17 @@ use Rattle.expanded_graph.specs.declared.states.StateFacts.{StateFacts}
 use Rattle.expanded_graph.specs.Near.{AreWordsNear}
 use Rattle.expanded_graph.specs.Known.{NamesEnd, IsDriven, IsKnown, AreKnown, AreAllShort}
 use Rattle.expanded_graph.specs.States.{AreFacts}
-use Rattle.expanded_graph.proofs.Members.{In, in_from_contains, contains_from_in}
-use Rattle.expanded_graph.proofs.Runs.{cons_not_nil}
+use Rattle.road_base.proofs.ListMembers.{In, in_from_contains, contains_from_in}
+use Rattle.road_base.proofs.ListPlaces.{stands_cases, one_stands, some_at}
+use Rattle.road_base.proofs.Splits.{cons_not_nil}
 use Rattle.expanded_graph.proofs.StopsNear.{same_or_not}
 
-module _ {X : Type 0} where
-  pub there_cases : (xs : List X) (y : X) (i : ℕ) (x : X) → slice_get (xs ++ y ∷ []) i ≡ Some x
-      → (slice_get xs i ≡ Some x) ⊎ ((i ≡ length xs) × (y ≡ x))
-  there_cases [] y zero x h = inr (refl, cc)
-  there_cases [] y (suc i) x h = cc
-  there_cases (z ∷ xs) y zero x h = inl h
-  there_cases (z ∷ xs) y (suc i) x h = elim (there_cases xs y i x h) [ inl k ↦ inl k | inr k ↦ inr (ap suc k.0, k.1) ]
-
-  pub one_there : (xs : List X) (i : ℕ) (x y : X) → slice_get xs i ≡ Some x → slice_get xs i ≡ Some y → x ≡ y
-  one_there xs i x y h k = let e : Some x ≡ Some y = sym h ∙ k in cc
-
-  pub some_there : (xs : List X) (i : ℕ) → i < length xs → (x : X) × (slice_get xs i ≡ Some x)
-  some_there [] i h = absurd (omega arith)
-  some_there (z ∷ xs) zero h = (z, refl)
-  some_there (z ∷ xs) (suc i) h = some_there xs i (omega arith)
-
-  pub is_there : (xs : List X) (i : ℕ) (x : X) → slice_get xs i ≡ Some x → Contains xs x
-  is_there xs i x h = (i, slice_get_within xs i x h, get_or_from_slice_get xs i x x h)
+-- the list that a state stands for goes on from that of the state before
+pub goes_on : (m : Machine) (before state : ℕ) (x : Step) (p : List Step) → before < length m.states
+    → StandsFor m state p → ((q : List Step) → StandsFor m before q → StandsFor m state (q ++ x ∷ []))
+    → (q : List Step) × (p ≡ q ++ x ∷ [])
+goes_on m before state x p within st edge =
+    let q = some_at m.states before within in (q.0, one_stands m.states state p _ st (edge q.0 q.1))
 
 as_list : {Y : Type 0} (o : Option Y) → length (cons_option o []) ≡ length (option_to_list o)
 as_list None = refl
@@ -130,7 +118,7 @@ module _ (M : Objects) (P : Rules) where
     }
 
     module _ (w : WayId) (near : AreWordsNear M P w W)
-        (names : (c : List Piece) (f : Step → Option PieceName) → Every (IsPiece M P) c → HasTurnSteps c q
+        (names : (c : List Span) (f : Step → Option PieceName) → Every (IsPiece M P) c → HasTurnSteps c q
         → ((s : Step) (n : PieceName) → Contains q s → (f s ≡ Some n) ↔ EndsPiece M P s n)
         → filter_map f q ≡ map name_of c) where
       pub facts : AreFacts M P w q f
@@ -158,24 +146,25 @@ module _ (M : Objects) (P : Rules) where
       → ((p : List Step) → StandsFor m before p → StandsFor m n (p ++ x ∷ []))
       → ((p : List Step) → StandsFor m before p → IsKnown M P m.words (p ++ x ∷ []) f) → AreKnown M P m more
   known_more m facts more f n before x count grown known within edge is k q g st at =
-      elim (there_cases facts f k g (subst (λ l. slice_get l k ≡ Some g) grown at)) [
+      elim (stands_cases facts f k g (subst (λ l. slice_get l k ≡ Some g) grown at)) [
         | inl old ↦ known k q g st old
         | inr new ↦
-            let p = some_there m.states before within in
+            let p = some_at m.states before within in
             let here : StandsFor m n q = subst (λ i. StandsFor m i q) (new.0 ∙ count) st in
-            let same : p.0 ++ x ∷ [] ≡ q = one_there m.states n _ _ (edge p.0 p.1) here in
-            subst (λ l. IsKnown M P m.words l g) same (subst (IsKnown M P m.words (p.0 ++ x ∷ [])) new.1 (is p.0 p.1))
+            let same : p.0 ++ x ∷ [] ≡ q = one_stands m.states n _ _ (edge p.0 p.1) here in
+            subst (λ l. IsKnown M P m.words l g) same
+            (subst (IsKnown M P m.words (p.0 ++ x ∷ [])) (sym new.1) (is p.0 p.1))
       ]
 
   pub known_first : (m : Machine) (facts : List StateFacts) (f : StateFacts) → IsClosed m.states → facts ≡ f ∷ []
       → IsKnown M P m.words [] f → AreKnown M P m facts
   known_first m facts f closed is known k q g st at =
-      elim (there_cases [] f k g (subst (λ l. slice_get l k ≡ Some g) is at)) [
+      elim (stands_cases [] f k g (subst (λ l. slice_get l k ≡ Some g) is at)) [
         | inl old ↦ absurd (cc)
         | inr new ↦
             let here : StandsFor m 0 q = subst (λ i. StandsFor m i q) new.0 st in
-            let none : [] ≡ q = one_there m.states 0 _ _ closed.empty here in
-            subst (λ l. IsKnown M P m.words l g) none (subst (IsKnown M P m.words []) new.1 known)
+            let none : [] ≡ q = one_stands m.states 0 _ _ closed.empty here in
+            subst (λ l. IsKnown M P m.words l g) none (subst (IsKnown M P m.words []) (sym new.1) known)
       ]
 
   -- proper prefixes of words are as short as they are

@@ -21,9 +21,10 @@ use Rattle.road_model.specs.Network.{NoWord, Must, GoesOn}
 use Rattle.road_model.specs.Turning.{BeginsWord}
 use Rattle.restrictions.specs.declared.word_list.Word.{Word}
 use Rattle.turn_automata.specs.Watched.{IsProperPrefix, NoIn, Must as MustIn, Stops}
-use Rattle.expanded_graph.specs.Near.{IsNear, AreWordsNear}
-use Rattle.expanded_graph.proofs.Members.{In, in_from_contains, contains_from_in, in_end, in_left}
-use Rattle.expanded_graph.proofs.Runs.{cons_not_nil, cut_last}
+use Rattle.expanded_graph.specs.Near.{IsStepNear, AreWordsNear}
+use Rattle.road_base.proofs.ListMembers.{In, in_from_contains, contains_from_in, in_end, in_left, in_right}
+use Rattle.road_base.proofs.Splits.{cons_not_nil}
+use Rattle.expanded_graph.proofs.Runs.{cut_last}
 
 -- ---- steps and words can be told apart
 
@@ -145,10 +146,6 @@ pub record Tells (M : Objects) (P : Rules) (W : List Word) (q : List Step) : Typ
   pub must : (a p : List Step) (y : Step) (rest : List Step) → q ≡ a ++ p → (p ≡ [] → ⊥) → (r : RelationId) (b : ℕ)
       → IsWord M P r true b (p ++ y ∷ rest) → b ≤ length p → Contains W (as_word r true b (p ++ y ∷ rest))
 
-in_right : (a p : List Step) (s : Step) → In s p → In s (a ++ p)
-in_right [] p s i = i
-in_right (x ∷ a) p s i = inr (in_right a p s i)
-
 module _ (M : Objects) (P : Rules) (w : WayId) (W : List Word) (near : AreWordsNear M P w W) where
   word_is : (v : Word) → Contains W v → (o : Bool) (b : ℕ) (u : List Step) → v.only ≡ o → v.binding ≡ b → v.steps ≡ u
       → IsWord M P v.relation o b u
@@ -179,8 +176,8 @@ module _ (M : Objects) (P : Rules) (w : WayId) (W : List Word) (near : AreWordsN
             here;
       }
 
-  module _ (q : List Step) (all : (s : Step) → Contains q s → IsNear M P w s) where
-    near_in : (a p : List Step) (s : Step) → q ≡ a ++ p → In s p → IsNear M P w s
+  module _ (q : List Step) (all : (s : Step) → Contains q s → IsStepNear M P w s) where
+    near_in : (a p : List Step) (s : Step) → q ≡ a ++ p → In s p → IsStepNear M P w s
     near_in a p s e i = all s (contains_from_in q s (subst (In s) (sym e) (in_right a p s i)))
 
     -- a word that begins with some of the steps

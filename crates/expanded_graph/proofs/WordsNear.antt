@@ -28,7 +28,7 @@ use Rattle.restrictions.specs.declared.relation_words.WordsError.TheVariants.{Un
 use Rattle.restrictions.specs.Words.{IsRestriction, IsWordOf, SaysCause}
 use Rattle.expanded_graph.specs.Near.{OnIt, Shares, HasStepOn, AreWordsNear}
 use Rattle.expanded_graph.specs.Known.{AreRelationsOn, AreWordsOf, GainsApart, GainsWords, IsOn, IsOnSome}
-use Rattle.expanded_graph.proofs.Runs.{some_at}
+use Rattle.road_base.proofs.ListPlaces.{some_at}
 use Rattle.expanded_graph.proofs.Between.{on_from_between}
 
 module _ {X : Type 0} (xs : List X) where

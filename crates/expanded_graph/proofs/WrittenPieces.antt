@@ -37,12 +37,12 @@ use Rattle.road_base.specs.declared.ids.Dir.{Dir}
 use Rattle.road_base.specs.declared.ids.Dir.TheVariants.{Forward, Backward}
 use Rattle.road_base.specs.Objects.{Objects}
 use Rattle.road_model.specs.declared.lists.PieceName.{PieceName}
-use Rattle.road_model.specs.declared.lists.Piece.{Piece as PieceEntry}
+use Rattle.road_model.specs.declared.lists.Piece.{Piece}
 use Rattle.road_model.specs.Rules.{Rules}
 use Rattle.road_model.specs.declared.blocks.Block.{Block}
 use Rattle.road_model.specs.Lines.{line_of}
 use Rattle.road_model.specs.Driving.{is_open, is_road, drivable}
-use Rattle.road_model.specs.Pieces.{Piece, IsPiece}
+use Rattle.road_model.specs.Pieces.{Span, IsPiece}
 use Rattle.road_model.specs.Orders.{Lists, rises, way_cmp, name_cmp, names_cmp}
 use Rattle.road_model.specs.Blocks.{IsContextEntry, IsPieceEntry, IsBlock}
 use Rattle.road_model.specs.Format.{IsContextForm, IsPieceForm, begins_alone, place_cmp}
@@ -52,18 +52,18 @@ use Rattle.way_pieces.specs.Names.{piece_of, IsSpanOn}
 use Rattle.way_lines.specs.declared.road_line.LineNode.{LineNode}
 use Rattle.way_lines.specs.RoadLines.{line_node}
 use Rattle.expanded_graph.specs.Travel.{place_of, nodes_on}
-use Rattle.expanded_graph.proofs.Members.{In, in_map, from_map, in_from_contains, contains_from_in}
-use Rattle.expanded_graph.proofs.AscendingLists.{places_rise}
+use Rattle.road_base.proofs.ListMembers.{In, in_map, from_map, in_from_contains, contains_from_in}
+use Rattle.expanded_graph.proofs.PlaceOrder.{places_rise}
 use Rattle.expanded_graph.proofs.PiecePlaces.{within, places_count, places_at}
 
 -- the names of the pieces, one more
-pub names_more : (pieces more : List PieceEntry) (p : PieceEntry) (spans : List PieceSpan) (i : ℕ) (d : PieceSpan)
+pub names_more : (pieces more : List Piece) (p : Piece) (spans : List PieceSpan) (i : ℕ) (d : PieceSpan)
     → i < length spans → more ≡ pieces ++ p ∷ [] → p.name ≡ (get_or spans i d).name
-    → map (λ (e : PieceEntry). e.name) pieces ≡ map (λ (x : PieceSpan). x.name) (take i spans)
-    → map (λ (e : PieceEntry). e.name) more ≡ map (λ (x : PieceSpan). x.name) (take (i + 1) spans)
+    → map (λ (e : Piece). e.name) pieces ≡ map (λ (x : PieceSpan). x.name) (take i spans)
+    → map (λ (e : Piece). e.name) more ≡ map (λ (x : PieceSpan). x.name) (take (i + 1) spans)
 names_more pieces more p spans i d h grown named so_far =
-    ap (map (λ (e : PieceEntry). e.name)) grown
-    ∙ map-append (λ (e : PieceEntry). e.name) pieces (p ∷ [])
+    ap (map (λ (e : Piece). e.name)) grown
+    ∙ map-append (λ (e : Piece). e.name) pieces (p ∷ [])
     ∙ ap (λ (l : List PieceName). l ++ p.name ∷ []) so_far
     ∙ ap (λ (n : PieceName). map (λ (x : PieceSpan). x.name) (take i spans) ++ n ∷ []) named
     ∙ sym (map-append (λ (x : PieceSpan). x.name) (take i spans) (get_or spans i d ∷ []))
@@ -75,7 +75,7 @@ module _ (M : Objects) (P : Rules) (w : WayId) where
   own_line nodes s on line = line ∙ ap (λ v. map (line_node M P) (line_of M v)) (sym on.of)
 
   module _ (s : PieceSpan) (on : IsSpanOn M P w s) (nodes : List LineNode)
-      (line : nodes ≡ map (line_node M P) (line_of M w)) (e : PieceEntry) (named : e.name ≡ s.name)
+      (line : nodes ≡ map (line_node M P) (line_of M w)) (e : Piece) (named : e.name ≡ s.name)
       (ended : e.end ≡ s.end) (placed : e.places ≡ filter_map place_of (nodes_on s nodes)) where
     count : length e.places ≡ s.end - s.name.index + 1
     count = ap length placed ∙ places_count M P s on.is nodes (own_line nodes s on line)
@@ -111,16 +111,16 @@ module _ (M : Objects) (P : Rules) (w : WayId) where
   -- ---- all pieces of the way
 
   module _ (spans : List PieceSpan) (on : Lists (λ s. s.name) name_cmp (IsSpanOn M P w) spans)
-      (pieces : List PieceEntry) (names : map (λ p. p.name) pieces ≡ map (λ s. s.name) spans)
+      (pieces : List Piece) (names : map (λ p. p.name) pieces ≡ map (λ s. s.name) spans)
       (entries : All (IsPieceEntry M P w) pieces) where
     names_ascend : IsTrue (rises name_cmp (map (λ p. p.name) pieces))
     names_ascend = ap (rises name_cmp) names ∙ on.ascending
 
-    is_entry : (e : PieceEntry) → Contains pieces e → IsPieceEntry M P w e
+    is_entry : (e : Piece) → Contains pieces e → IsPieceEntry M P w e
     is_entry e has = All-contains (IsPieceEntry M P w) pieces e entries has
 
     -- what is to be written of a piece was written
-    written : OneEntry M P → (e : PieceEntry) → IsPieceEntry M P w e → In e pieces
+    written : OneEntry M P → (e : Piece) → IsPieceEntry M P w e → In e pieces
     written one e h =
         let s : PieceSpan = record { name = e.name; end = e.end } in
         let same : piece_of s ≡ h.piece =
@@ -133,7 +133,7 @@ module _ (M : Objects) (P : Rules) (w : WayId) where
         let there : IsSpanOn M P w s =
         record { of = ap (λ n. n.way) h.named ∙ h.of; is = subst (λ p. IsPiece M P p) (sym same) h.is } in
         let listed = in_map (λ (x : PieceSpan). x.name) spans s (in_from_contains spans s (on.complete s there)) in
-        let r = from_map (λ (p : PieceEntry). p.name) pieces e.name (subst (In e.name) (sym names) listed) in
+        let r = from_map (λ (p : Piece). p.name) pieces e.name (subst (In e.name) (sym names) listed) in
         subst (λ x. In x pieces) (sym (one w e r.0 h (is_entry r.0 (contains_from_in pieces r.0 r.1)) r.2)) r.1
 
     pub pieces_listed : OneEntry M P → Lists (λ p. p.name) name_cmp (IsPieceEntry M P w) pieces
@@ -143,27 +143,27 @@ module _ (M : Objects) (P : Rules) (w : WayId) where
       complete = λ e h. contains_from_in pieces e (written one e h);
     }
 
-    way_of_entry : (e : PieceEntry) → In e pieces → e.name.way ≡ w
+    way_of_entry : (e : Piece) → In e pieces → e.name.way ≡ w
     way_of_entry e j = let h = is_entry e (contains_from_in pieces e j) in ap (λ n. n.way) h.named ∙ h.of
 
     pub pieces_rise : IsTotalOrder way_cmp → IsTrue (rises place_cmp (map (λ p. p.name) pieces))
-    pieces_rise total = places_rise (λ (p : PieceEntry). p.name) total w pieces way_of_entry names_ascend
+    pieces_rise total = places_rise (λ (p : Piece). p.name) total w pieces way_of_entry names_ascend
 
     -- the block with these pieces
     pub is_block : OneEntry M P → (b : Block) → b.way ≡ w → b.pieces ≡ pieces → IsBlock M P w b
     is_block one b of has =
         record {
           way = of;
-          pieces = subst (λ (l : List PieceEntry). Lists (λ p. p.name) name_cmp (IsPieceEntry M P w) l) (sym has)
+          pieces = subst (λ (l : List Piece). Lists (λ p. p.name) name_cmp (IsPieceEntry M P w) l) (sym has)
               (pieces_listed one);
         }
 
-    pub has_form : IsTotalOrder way_cmp → All IsPieceForm pieces → (l : List PieceEntry) → l ≡ pieces
-        → AllByRecursion IsPieceForm l × IsTrue (rises place_cmp (map (λ (p : PieceEntry). p.name) l))
+    pub has_form : IsTotalOrder way_cmp → All IsPieceForm pieces → (l : List Piece) → l ≡ pieces
+        → AllByRecursion IsPieceForm l × IsTrue (rises place_cmp (map (λ (p : Piece). p.name) l))
     has_form total forms l same = (
       subst (AllByRecursion IsPieceForm) (sym same) (recursion_from_All IsPieceForm pieces forms),
       ap
-          (λ (x : List PieceEntry). rises place_cmp (map (λ (p : PieceEntry). p.name) x)) same ∙ pieces_rise total,
+          (λ (x : List Piece). rises place_cmp (map (λ (p : Piece). p.name) x)) same ∙ pieces_rise total,
     )
 
   -- ---- a way with pieces is a road
@@ -173,7 +173,7 @@ module _ (M : Objects) (P : Rules) (w : WayId) where
   open_road Backward is = or_right _ _ is
 
   -- one may drive a piece's first step, so its way is open
-  piece_open : (p : Piece) → IsPiece M P p → is_open M P p.way p.dir ≡ true
+  piece_open : (p : Span) → IsPiece M P p → is_open M P p.way p.dir ≡ true
   unfolding drivable
   piece_open p is = let up = is.ascends in (and_parts _ _ (is.drives p.index (omega arith) up)).0
 

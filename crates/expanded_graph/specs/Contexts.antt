@@ -10,7 +10,7 @@ use Rattle.road_base.specs.Objects.{Objects}
 use Rattle.road_model.specs.declared.lists.PieceName.{PieceName}
 use Rattle.road_model.specs.declared.lists.Context.{Context}
 use Rattle.road_model.specs.Rules.{Rules}
-use Rattle.road_model.specs.Pieces.{Piece}
+use Rattle.road_model.specs.Pieces.{Span}
 use Rattle.road_model.specs.Network.{Legal, IsContext}
 use Rattle.road_model.specs.Orders.{rises, name_cmp, names_cmp}
 use Rattle.road_model.specs.Turning.{HasTurnSteps}
@@ -24,7 +24,7 @@ use Rattle.expanded_graph.specs.Travel.{Arrives}
 -- Context c ends at node v, to which its last piece comes from node u. The automaton watches for the words near this
 -- piece's way, and its state with number n is the one in which the context's turn steps leave it.
 pub record IsReached (M : Objects) (P : Rules) (m : Machine) (facts : List StateFacts) (n : ℕ) (u v : NodeId)
-    (c : List Piece) : Type 0 where
+    (c : List Span) : Type 0 where
   pub way : WayId
   pub states : AreStates M P way m.words m.states facts
   pub context : IsContext M P c
@@ -32,8 +32,8 @@ pub record IsReached (M : Objects) (P : Rules) (m : Machine) (facts : List State
   pub turn : HasTurnSteps c steps
   pub legal : Legal M P steps
   pub watches : Watches m n steps
-  pub before : List Piece
-  pub piece : Piece
+  pub before : List Span
+  pub piece : Span
   pub is : c ≡ before ++ piece ∷ []
   pub on : piece.way ≡ way
   pub arrives : Arrives M piece u v
@@ -76,7 +76,7 @@ pub record AreEndings (m : Machine) (facts : List StateFacts) (es : List Ending)
       → AreEndingsWith m facts name.way name (map (λ e. e.state) (filter (λ e. same_name e.piece name) es))
 
 -- the context of the piece that ends in the state with number n, as it is written
-pub record IsContextIn (M : Objects) (P : Rules) (m : Machine) (p : Piece) (n : ℕ) (e : Context) : Type 0 where
+pub record IsContextIn (M : Objects) (P : Rules) (m : Machine) (p : Span) (n : ℕ) (e : Context) : Type 0 where
   pub entry : IsContextEntry M P p e
   pub longer : entry.before ≡ [] → ⊥
   pub steps : List Step
@@ -84,8 +84,8 @@ pub record IsContextIn (M : Objects) (P : Rules) (m : Machine) (p : Piece) (n : 
   pub turn : HasTurnSteps (entry.before ++ p ∷ []) steps
 
 -- each context of the piece is written once
-pub record HasContexts (M : Objects) (P : Rules) (p : Piece) (es : List Context) : Type 0 where
+pub record HasContexts (M : Objects) (P : Rules) (p : Span) (es : List Context) : Type 0 where
   pub sound : (e : Context) → Contains es e → IsContextEntry M P p e
-  pub all : (before : List Piece) → IsContext M P (before ++ p ∷ []) → (e : Context) × Contains es e
+  pub all : (before : List Span) → IsContext M P (before ++ p ∷ []) → (e : Context) × Contains es e
       × (e.before ≡ map name_of before)
   pub distinct : IsDistinct (eq_by_cmp names_cmp) (map (λ e. e.before) es)

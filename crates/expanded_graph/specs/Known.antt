@@ -36,7 +36,7 @@ use Rattle.turn_automata.specs.Machines.{Machine, StandsFor}
 use Rattle.way_pieces.specs.declared.spans.PieceSpan.{PieceSpan}
 use Rattle.way_pieces.specs.Names.{piece_of}
 use Rattle.expanded_graph.specs.declared.states.StateFacts.{StateFacts}
-use Rattle.expanded_graph.specs.Near.{IsNear, AreWordsNear}
+use Rattle.expanded_graph.specs.Near.{IsStepNear, AreWordsNear}
 
 -- ---- words
 
@@ -83,7 +83,8 @@ IsLastOf s x = (front : List Step) × (spell (piece_of s) ≡ front ++ x ∷ [])
 -- whether the steps may be driven, told by the words near a way where the steps are near it
 abbrev pub IsDriven : Objects → Rules → List Word → List Step → Bool → Type 0
 IsDriven M P words q drives =
-    (w : WayId) → AreWordsNear M P w words → ((s : Step) → Contains q s → IsNear M P w s) → IsTrue drives ↔ Legal M P q
+    (w : WayId) → AreWordsNear M P w words → ((s : Step) → Contains q s → IsStepNear M P w s)
+    → IsTrue drives ↔ Legal M P q
 
 -- What is known of the state with the list q: each of its steps ends a piece or doesn't, and the pieces are as many as
 -- the steps that do.

@@ -3,6 +3,6 @@ pub mod Known
 pub mod Near
 pub mod States
 pub mod Travel
-pub mod Turning
+pub mod Intersections
 pub mod Pair
 pub mod Tables

@@ -25,13 +25,13 @@ pub record HasStepBetween (w : WayId) (u : List Step) : Type 0 where
 -- The step is near way w: it lies on w, or it is one of a word that has a step on w between its first and its last. The
 -- steps of a context that ends on w are near w from the last one of its first piece on, since the context of several
 -- pieces begins a word and the word goes on.
-pub data IsNear (M : Objects) (P : Rules) (w : WayId) (s : Step) : Type 0 where
-  OnIt : s.way ≡ w → IsNear M P w s
-  Shares : (u : List Step) → AnyWord M P u → HasStepBetween w u → Contains u s → IsNear M P w s
+pub data IsStepNear (M : Objects) (P : Rules) (w : WayId) (s : Step) : Type 0 where
+  OnIt : s.way ≡ w → IsStepNear M P w s
+  Shares : (u : List Step) → AnyWord M P u → HasStepBetween w u → Contains u s → IsStepNear M P w s
 
 -- words of the map, and among them all that have a step on w, and all that begin near w
 pub record AreWordsNear (M : Objects) (P : Rules) (w : WayId) (words : List Word) : Type 0 where
   pub sound : (u : Word) → Contains words u → IsWord M P u.relation u.only u.binding u.steps
   pub on : (u : Word) → IsWord M P u.relation u.only u.binding u.steps → HasStepOn w u.steps → Contains words u
   pub from : (u : Word) → IsWord M P u.relation u.only u.binding u.steps
-      → (first : Step) (rest : List Step) → u.steps ≡ first ∷ rest → IsNear M P w first → Contains words u
+      → (first : Step) (rest : List Step) → u.steps ≡ first ∷ rest → IsStepNear M P w first → Contains words u

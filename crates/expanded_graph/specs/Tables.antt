@@ -7,7 +7,7 @@ use Rattle.way_pieces.specs.RoadPieces.{AreRoadPieces}
 use Rattle.expanded_graph.specs.declared.tables.Tables.{Tables}
 use Rattle.expanded_graph.specs.Contexts.{AreEndings}
 use Rattle.expanded_graph.specs.States.{AreStates}
-use Rattle.expanded_graph.specs.Turning.{AreIntersections}
+use Rattle.expanded_graph.specs.Intersections.{AreIntersections}
 
 -- what is known of ways, nodes and states is so; the automaton has the words near each of the ways
 pub record AreTables (M : Objects) (P : Rules) (t : Tables) : Type 0 where

@@ -8,7 +8,7 @@ use Rattle.road_base.specs.declared.ids.Dir.TheVariants.{Forward, Backward}
 use Rattle.road_base.specs.Objects.{Objects}
 use Rattle.road_model.specs.declared.lists.Place.{Place}
 use Rattle.road_model.specs.Lines.{tail_of, head_of}
-use Rattle.road_model.specs.Pieces.{Piece, spell}
+use Rattle.road_model.specs.Pieces.{Span, spell}
 use Rattle.way_pieces.specs.declared.spans.PieceSpan.{PieceSpan}
 use Rattle.way_lines.specs.declared.road_line.LineNode.{LineNode}
 
@@ -26,7 +26,7 @@ abbrev pub nodes_on : PieceSpan → List LineNode → List LineNode
 nodes_on s nodes = travelled s.name.dir (take (s.end - s.name.index + 1) (drop s.name.index nodes))
 
 -- the piece's last step leads from node u to node v
-pub record Arrives (M : Objects) (p : Piece) (u v : NodeId) : Type 0 where
+pub record Arrives (M : Objects) (p : Span) (u v : NodeId) : Type 0 where
   pub front : List Step
   pub last : Step
   pub ends : spell p ≡ front ++ last ∷ []

@@ -3,13 +3,13 @@ ghost use Rattle.std.specs.Prelude.{◌≡◌, ◌+◌, ◌<◌, ◌^◌, ℕ, L
 ghost use Rattle.std.specs.Prelude.{Some, IfOk, IfSome, IfNone};
 ghost use Rattle.road_base.specs.declared.ids.Step.{Step};
 ghost use Rattle.road_model.specs.declared.lists.TurnArc.{TurnArc};
-ghost use Rattle.road_model.specs.Pieces.{Piece};
+ghost use Rattle.road_model.specs.Pieces.{Span};
 ghost use Rattle.road_model.specs.Orders.{Lists, name_cmp};
 ghost use Rattle.road_model.specs.Blocks.{IsArcEntry};
 ghost use Rattle.turn_automata.specs.Machines.{StandsFor};
 ghost use Rattle.expanded_graph.specs.declared.states.StateFacts.{StateFacts};
 ghost use Rattle.expanded_graph.specs.Contexts.{IsReached};
-ghost use Rattle.expanded_graph.specs.Turning.{IsIntersection, may_follow};
+ghost use Rattle.expanded_graph.specs.Intersections.{IsIntersection, may_follow};
 ghost use Rattle.road_model.specs.Networks.{on};
 
 use crate::intersections::Intersection;
@@ -36,7 +36,7 @@ pub fn arcs_at<M: World, P: Profile>(
     requires count { length states.now.facts.items ≡ length states.now.automaton.states }
     requires state { state.0 < length states.now.automaton.states }
     requires intersection { on network.now IsIntersection intersection.now }
-    ensures { IfOk result (λ v. (c : List Piece)
+    ensures { IfOk result (λ v. (c : List Span)
         → on network.now IsReached states.now.automaton states.now.facts.items state.0 from intersection.now.node c
         → Lists (λ a. a.piece) name_cmp (on network.now IsArcEntry c) v.items) }
 {
@@ -69,10 +69,10 @@ fn arc_by<M: World, P: Profile>(
     requires intersection { on network.now IsIntersection intersection.now }
     requires departure { Contains intersection.now.departures.now departure }
     ensures named { IfSome result (λ a. a.piece ≡ departure.piece) }
-    ensures arc { IfSome result (λ a. (c : List Piece)
+    ensures arc { IfSome result (λ a. (c : List Span)
         → on network.now IsReached states.now.automaton states.now.facts.items state.0 from intersection.now.node c
         → on network.now IsArcEntry c a) }
-    ensures none { IfNone result ((c : List Piece) (a : TurnArc)
+    ensures none { IfNone result ((c : List Span) (a : TurnArc)
         → on network.now IsReached states.now.automaton states.now.facts.items state.0 from intersection.now.node c
         → on network.now IsArcEntry c a
         → a.piece ≡ departure.piece

@@ -11,7 +11,7 @@ ghost use Rattle.way_pieces.specs.Names.{piece_of};
 ghost use Rattle.expanded_graph.specs.Contexts.{IsEnding, AreEndings, EndsWithName, IsContextIn, HasContexts};
 ghost use Rattle.expanded_graph.specs.States.{AreStates};
 ghost use Rattle.expanded_graph.specs.Travel.{Arrives};
-ghost use Rattle.expanded_graph.specs.Turning.{IsIntersection};
+ghost use Rattle.expanded_graph.specs.Intersections.{IsIntersection};
 ghost use Rattle.road_model.specs.Networks.{on, map_of};
 
 use crate::arcs::arcs_at;

@@ -7,7 +7,7 @@ ghost use Rattle.road_model.specs.Orders.{Lists, name_cmp};
 ghost use Rattle.road_model.specs.Rules.{Rules};
 ghost use Rattle.way_pieces.specs.Names.{IsDeparture};
 ghost use Rattle.way_pieces.specs.RoadPieces.{AreRoadPieces};
-ghost use Rattle.expanded_graph.specs.Turning.{IsIntersection, AreIntersections, HasRules};
+ghost use Rattle.expanded_graph.specs.Intersections.{IsIntersection, AreIntersections, HasRules};
 
 use road_base::{Groups, NoMemory, NodeId, Numbered, Ranges};
 use road_model::{Network, Profile, World};

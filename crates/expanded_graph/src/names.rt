@@ -3,7 +3,7 @@ ghost use Rattle.std.specs.Prelude.{◌≡◌, ◌<◌, List, [], ◌∷◌, ◌
 ghost use Rattle.road_base.specs.declared.ids.WayId.{WayId};
 ghost use Rattle.road_base.specs.declared.ids.Step.{Step};
 ghost use Rattle.road_model.specs.Networks.{on};
-ghost use Rattle.road_model.specs.Pieces.{Piece, IsPiece};
+ghost use Rattle.road_model.specs.Pieces.{Span, IsPiece};
 ghost use Rattle.road_model.specs.Contexts.{Every};
 ghost use Rattle.road_model.specs.Turning.{HasTurnSteps};
 ghost use Rattle.road_model.specs.Blocks.{name_of};
@@ -27,7 +27,7 @@ pub fn names_before<M: World, P: Profile>(
     requires count { length states.now.facts.items ≡ length states.now.automaton.states }
     requires grown { 0 < state.0 }
     requires state { state.0 < length states.now.automaton.states }
-    ensures { IfOk result (λ v. (w : WayId) (before : List Piece) (p : Piece) (q : List Step)
+    ensures { IfOk result (λ v. (w : WayId) (before : List Span) (p : Span) (q : List Step)
         → on network.now AreStates w states.now.automaton.words states.now.automaton.states states.now.facts.items
         → Every (on network.now IsPiece) (before ++ p ∷ [])
         → HasTurnSteps (before ++ p ∷ []) q

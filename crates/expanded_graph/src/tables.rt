@@ -3,7 +3,7 @@ ghost use Rattle.std.specs.Prelude.{◌≡◌, IfOk, IsTrue, Contains};
 ghost use Rattle.road_model.specs.Networks.{on};
 ghost use Rattle.way_pieces.specs.RoadPieces.{AreRoadPieces};
 ghost use Rattle.expanded_graph.specs.Tables.{AreTables};
-ghost use Rattle.expanded_graph.specs.Turning.{AreIntersections};
+ghost use Rattle.expanded_graph.specs.Intersections.{AreIntersections};
 
 use crate::endings::{Ending, endings_of};
 use crate::intersections::Intersections;
@@ -55,6 +55,7 @@ impl Tables {
     {
         let pieces = RoadPieces::of(alloc, network, ways)?;
         let intersections = Intersections::of(alloc, network, &pieces, pieces.ends())?;
+        let pieces = pieces.without_starts(alloc);
         Tables::over(alloc, network, ways, pieces, intersections)
     }
 

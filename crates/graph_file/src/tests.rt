@@ -192,7 +192,7 @@ fn writes_no_blocks(rt: HostRuntime) -> Result<(), Fail> {
 #[test]
 fn writer_puts_blocks_in_turn(rt: HostRuntime) -> Result<(), Fail> {
     let alloc = rt.alloc();
-    let mut writer = GraphWriter::new(alloc, 1)?;
+    let mut writer = GraphWriter::new(alloc, 1, 0)?;
     writer.put(&one_way(alloc)?)?;
     writer.put(&both_ways(alloc)?)?;
     let mut expected = b"OSMROAD1\x01\0\0\0\x02\0\0\0\0\0\0\0".to_vec(alloc)?;
@@ -206,7 +206,7 @@ fn writer_puts_blocks_in_turn(rt: HostRuntime) -> Result<(), Fail> {
 fn writes_more_blocks_than_two_bytes_count(rt: HostRuntime) -> Result<(), Fail> {
     let alloc = rt.alloc();
     let block = one_way(alloc)?;
-    let mut file = GraphWriter::new(alloc, 1)?;
+    let mut file = GraphWriter::new(alloc, 1, 64)?;
     for _ in 0..70_000u32 {
         file.put(&block)?;
     }

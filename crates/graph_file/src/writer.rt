@@ -25,11 +25,11 @@ pub struct GraphWriter {
 impl GraphWriter {
     ghost use Rattle.graph_file.specs.Writing.{HasWritten};
 
-    /// A file for the profile, with no blocks.
-    pub fn new(alloc: Global, profile: u32) -> Result<GraphWriter, NoMemory>
+    /// A file for the profile, with no blocks. Room for so many bytes is taken at once, and more as they come.
+    pub fn new(alloc: Global, profile: u32, room: usize) -> Result<GraphWriter, NoMemory>
         ensures { IfOk result (HasWritten profile []) }
     {
-        let mut bytes = Vec::new(alloc);
+        let mut bytes = Vec::with_capacity(alloc, room)?;
         put_header(profile, 0, &mut bytes)?;
         Ok(GraphWriter { bytes, count: 0 })
     }

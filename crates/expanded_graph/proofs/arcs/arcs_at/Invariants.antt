@@ -1,5 +1,5 @@
 use Rattle.std.proofs.Common.{List, take}
-use Rattle.road_model.specs.Pieces.{Piece}
+use Rattle.road_model.specs.Pieces.{Span}
 use Rattle.road_model.specs.Orders.{name_cmp}
 use Rattle.road_model.specs.Blocks.{IsArcEntry}
 use Rattle.expanded_graph.specs.Contexts.{IsReached}
@@ -9,7 +9,7 @@ use Rattle.expanded_graph.proofs.arcs.arcs_at.Given as goal
 -- the arcs so far are those by the departures so far
 abbrev pub invariant-loop-departure : goal.invariant-loop-departure
 invariant-loop-departure g l =
-    (c : List Piece)
+    (c : List Span)
     → IsReached (g.M.World.objects l.network.world.now) (g.P.Profile.rules l.network.profile) l.states.automaton
     l.states.facts.items l.state.0 l.from l.intersection.node c
     → Chosen (λ a. a.piece) (λ d. d.piece) name_cmp

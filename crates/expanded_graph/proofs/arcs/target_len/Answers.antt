@@ -3,7 +3,7 @@ use Rattle.std.proofs.Common.{◌≡◌, Some, slice_get, ap, ◌∙◌, subst, 
 use Rattle.std.proofs.lemmas.Option.{get_or_from_slice_get}
 use Rattle.std.proofs.lemmas.List.{same_from_push}
 use Rattle.turn_automata.specs.Machines.{StandsFor}
-use Rattle.expanded_graph.proofs.Runs.{some_at, one_at}
+use Rattle.road_base.proofs.ListPlaces.{some_at, one_stands}
 use Rattle.expanded_graph.proofs.arcs.target_len.Goals as goal
 
 pub returns-clause-longer : goal.returns-clause-longer
@@ -13,7 +13,7 @@ returns-clause-longer c = λ b x k f at before fact small.
     let less = c.edge-before.ensures.less in
     let p = some_at m.states e (omega (arith, c.requires.state)) in
     let same = same_from_push p.0 b c.edge-before.result.1 x
-    (one_at m.states c.args.state.0 _ _ (c.edge-before.ensures.is p.0 p.1) at) in
+    (one_stands m.states c.args.state.0 _ _ (c.edge-before.ensures.is p.0 p.1) at) in
     let here : k ≡ e = c.closed.ensures.closed.once k e b before (subst (StandsFor m e) same.0 p.1) in
     let value : c.index.result.now ≡ f =
     c.index.ensures

@@ -1,7 +1,7 @@
 -- One state more was passed on the way to the first one.
 use Rattle.std.proofs.Common.{◌≡◌, [], ◌∷◌, ◌++◌, reverse, Some, None, sym, ap, ◌∙◌, subst, arith}
 use Rattle.std.proofs.lemmas.List.{reverse-append}
-use Rattle.expanded_graph.proofs.Runs.{read_at, some_at, one_at}
+use Rattle.road_base.proofs.ListPlaces.{read_at, some_at, one_stands}
 use Rattle.expanded_graph.proofs.NamesBefore.{Path, path_start, path_more, names_along}
 use Rattle.expanded_graph.proofs.names.names_before.Goals as goal
 use Rattle.expanded_graph.proofs.names.names_before.Goals.{in-Some+in_ok-push, in_default}
@@ -57,7 +57,7 @@ returns g c = λ w before p q known pieces turn at.
     let closed = c.closed.ensures.closed in
     let e = c.edge-before.result in
     let b = some_at m.states e.0 (omega (arith, c.edge-before.ensures.less, c.requires.state)) in
-    let split = one_at m.states c.args.state.0 q (b.0 ++ e.1 ∷ []) at (c.edge-before.ensures.is b.0 b.1) in
+    let split = one_stands m.states c.args.state.0 q (b.0 ++ e.1 ∷ []) at (c.edge-before.ensures.is b.0 b.1) in
     let root : c.loop-at.at ≡ 0 = omega (arith, c.loop-at-test.false) in
     let path = subst (λ k. Path M P m facts closed w known b.0 k c.loop-at.names.items) root
     (c.loop-at.invariant.path closed w known b.0 b.1) in

@@ -1,6 +1,6 @@
 -- Tables for the way alone serve it.
 use Rattle.std.proofs.Common.{[], ◌∷◌, inl, refl, sym, subst, Contains}
-use Rattle.expanded_graph.proofs.Members.{contains_from_in}
+use Rattle.road_base.proofs.ListMembers.{contains_from_in}
 use Rattle.expanded_graph.proofs.builder.GraphBuilder.block.Goals as goal
 
 pub block_of-requires-2-clause-serve : goal.block_of-requires-2-clause-serve

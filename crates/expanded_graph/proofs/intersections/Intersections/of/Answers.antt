@@ -3,7 +3,7 @@ use Rattle.std.proofs.Common.{◌≡◌, List, length, sym, ap, ◌∙◌, subst
 use Rattle.road_model.specs.Orders.{Lists, name_cmp}
 use Rattle.way_pieces.specs.declared.departures.Departure.{Departure}
 use Rattle.way_pieces.specs.Names.{IsDeparture}
-use Rattle.expanded_graph.specs.Turning.{AreKnownAt}
+use Rattle.expanded_graph.specs.Intersections.{AreKnownAt}
 use Rattle.expanded_graph.proofs.Pairs.{none_together, as_many_more, one_more_together}
 use Rattle.expanded_graph.proofs.intersections.Intersections.of.Goals as goal
 

@@ -1,5 +1,5 @@
 use Rattle.std.proofs.Common.{◌≡◌, length}
-use Rattle.expanded_graph.specs.Turning.{AreKnownAt}
+use Rattle.expanded_graph.specs.Intersections.{AreKnownAt}
 use Rattle.expanded_graph.proofs.Pairs.{AreSoTogether}
 use Rattle.expanded_graph.proofs.intersections.Intersections.of.Given as goal
 
