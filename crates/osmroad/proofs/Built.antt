@@ -18,7 +18,8 @@ use Rattle.road_model.specs.Naming.{OneBlock}
 use Rattle.graph_file.specs.declared.writer.GraphWriter.{GraphWriter}
 use Rattle.graph_file.specs.Writing.{HasWritten}
 use Rattle.osmroad.specs.Building.{AreRoadWays, HasBlocksOf, IsBlockAmong}
-use Rattle.osmroad.proofs.Members.{In, contains_from_in, in_from_contains, contains_more, in_front, in_last, from_map}
+use Rattle.road_base.proofs.ListMembers.{In, contains_from_in, in_from_contains, contains_more, in_left, in_end}
+use Rattle.road_base.proofs.ListMembers.{from_map}
 use Rattle.osmroad.proofs.RisingWays.{one_more_rises, below_last}
 
 module _ (M : Objects) (P : Rules) where
@@ -34,7 +35,7 @@ module _ (M : Objects) (P : Rules) where
       → IsBlockAmong M P ways b → IsBlockAmong M P (ways ++ w ∷ []) b
   among_more ways w b is = record {
     among =
-        contains_from_in (ways ++ w ∷ []) b.way (in_front b.way ways (w ∷ []) (in_from_contains ways b.way is.among));
+        contains_from_in (ways ++ w ∷ []) b.way (in_left ways (w ∷ []) b.way (in_from_contains ways b.way is.among));
     road = is.road;
   }
 
@@ -69,19 +70,19 @@ module _ (M : Objects) (P : Rules) where
           elim (contains_more has.blocks block b i) [
             | inl before ↦ among_more ways block.way b (has.listed.sound b before)
             | inr same ↦ subst (λ x. IsBlockAmong M P (ways ++ block.way ∷ []) x) (sym same) (record {
-              among = contains_from_in (ways ++ block.way ∷ []) block.way (in_last block.way ways);
+              among = contains_from_in (ways ++ block.way ∷ []) block.way (in_end ways block.way []);
               road = road;
             })
           ];
       complete = λ b is. contains_from_in (has.blocks ++ block ∷ []) b (
           elim (contains_more ways block.way b.way is.among) [
             | inl before ↦
-                in_front b has.blocks (block ∷ [])
+                in_left has.blocks (block ∷ []) b
                 (in_from_contains has.blocks b (has.listed.complete b (record { among = before; road = is.road })))
             | inr last ↦
                 let own = subst (λ v. IsBlock M P v b) last is.road.block in
                 let same : b ≡ block = one block.way b block own road.block in
-                subst (λ x. In x (has.blocks ++ block ∷ [])) (sym same) (in_last block has.blocks)
+                subst (λ x. In x (has.blocks ++ block ∷ [])) (sym same) (in_end has.blocks block [])
           ]);
     };
     written = put has.blocks has.written;

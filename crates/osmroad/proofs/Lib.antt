@@ -1,4 +1,3 @@
-pub mod Members
 pub mod RisingWays
 pub mod RoadWays
 pub mod Built

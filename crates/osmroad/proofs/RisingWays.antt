@@ -1,18 +1,14 @@
 -- Lists in which each element is below the next.
 use Rattle.std.proofs.Common.{◌≡◌, ℕ, IsTrue, take, drop, List, [], ◌∷◌, ◌++◌, Ordering, inl, inr, refl, sym, ap, subst}
-use Rattle.std.specs.declared.cmp.Ordering.TheVariants.{Less, Equal, Greater}
+use Rattle.std.specs.declared.cmp.Ordering.TheVariants.{Less}
 use Rattle.std.specs.Ordering.{is_lt}
 use Rattle.std.specs.Cmp.{IsTotalOrder}
 use Rattle.std.specs.Cmp.Derive.{both_true}
 use Rattle.std.proofs.lemmas.Bool.{and_parts}
 use Rattle.std.proofs.lemmas.List.{take-append-drop}
 use Rattle.road_model.specs.Orders.{rises, rises_from}
-use Rattle.osmroad.proofs.Members.{In}
-
-pub less : (r : Ordering) → IsTrue (is_lt r) → r ≡ Less
-less Less h = refl
-less Equal h = cc
-less Greater h = cc
+use Rattle.road_base.proofs.ListMembers.{In}
+use Rattle.road_base.proofs.Comparisons.{less}
 
 module _ {N : Type 0} (R : N → N → Ordering) where
   -- a front of a list that rises
@@ -54,9 +50,3 @@ module _ {N : Type 0} (R : N → N → Ordering) where
     below_last (z ∷ xs) y up x (inl e) = subst (λ v. R v y ≡ Less) (sym e) (last_from z xs y up)
     below_last (z ∷ []) y up x (inr i) = absurd i
     below_last (z ∷ u ∷ xs) y up x (inr i) = below_last (u ∷ xs) y (and_parts _ _ up).1 x i
-
-    -- what rises from one rises from all below it
-    pub from_below : (n m : N) (xs : List N) → R n m ≡ Less → IsTrue (rises_from R m xs) → IsTrue (rises_from R n xs)
-    from_below n m [] lower up = refl
-    from_below n m (x ∷ xs) lower up =
-        let parts = and_parts _ _ up in both_true (ap is_lt (total.trans n m x lower (less (R m x) parts.0))) parts.1

@@ -21,7 +21,7 @@ use Rattle.road_base.specs.declared.objects.Body.TheVariants.{Relation as Relati
 use Rattle.road_base.specs.declared.event.Event.{Event}
 use Rattle.road_base.specs.Objects.{Objects, Entry, key_cmp, body_in, way_in, visible, way_of}
 use Rattle.road_model.specs.declared.blocks.Block.{Block}
-use Rattle.road_model.specs.declared.lists.Piece.{Piece as PieceEntry}
+use Rattle.road_model.specs.declared.lists.Piece.{Piece}
 use Rattle.road_model.specs.Rules.{Rules, has_highway}
 use Rattle.road_model.specs.Orders.{rises, rises_from, way_cmp}
 use Rattle.road_model.specs.Lines.{node_at}
@@ -31,8 +31,8 @@ use Rattle.road_model.specs.Blocks.{IsRoadBlock}
 use Rattle.object_store.specs.Listed.{AreEntriesOf, IsInOrder, is_way, key_of, pair_of}
 use Rattle.osmroad.specs.Highways.{highway_of, highways, visible_highway}
 use Rattle.osmroad.specs.Building.{AreRoadWays}
-use Rattle.osmroad.proofs.Members.{In, contains_from_in, in_from_contains}
-use Rattle.osmroad.proofs.RisingWays.{less, from_below}
+use Rattle.road_base.proofs.ListMembers.{In, contains_from_in, in_from_contains}
+use Rattle.road_model.proofs.AscendingLists.{rest_rises, behind_next}
 
 -- ---- they are told from the entries of ways alone
 
@@ -97,22 +97,17 @@ rise_next w e es up rest from (Some v) is =
     let parts = and_parts _ _ at_way in
     both_true parts.0 (from v parts.1)
 
-behind : (k : Key) (ks : List Key) → IsTrue (rises_from key_cmp k ks) → IsTrue (rises key_cmp ks)
-behind k [] h = refl
-behind k (x ∷ ks) h = (and_parts _ _ h).1
-
 module _ (total : IsTotalOrder key_cmp) where
   rise_from : (w : WayId) (es : List Event) → IsTrue (rises_from key_cmp (WayKey w) (map key_of es))
       → IsTrue (rises_from way_cmp w (filter_map in_event es))
   rise_from w [] up = refl
   rise_from w (e ∷ es) up =
-      let parts = and_parts _ _ up in
-      let from = from_below key_cmp total (WayKey w) e.key (map key_of es) (less _ parts.0) parts.1 in
+      let from = behind_next key_cmp total (WayKey w) e.key (map key_of es) up in
       rise_next w e es up (rise_from w es from) (λ v. rise_from v es) (in_event e) refl
 
   pub highways_rise : (es : List Event) → IsInOrder es → IsTrue (rises way_cmp (filter_map in_event es))
   highways_rise [] up = refl
-  highways_rise (e ∷ es) up = next (in_event e) refl (highways_rise es (behind e.key (map key_of es) up))
+  highways_rise (e ∷ es) up = next (in_event e) refl (highways_rise es (rest_rises key_cmp e.key (map key_of es) up))
     where
       next : (o : Option WayId) → in_event e ≡ o → IsTrue (rises way_cmp (filter_map in_event es))
           → IsTrue (rises way_cmp (cons_option o (filter_map in_event es)))
@@ -189,7 +184,7 @@ module _ (M : Objects) (es : List Event) (all : AreEntriesOf is_way M es) where
         let reference = refers s.way s.index node.0 (either_way s.way s.dir open_on.0) node.1 in
         visible_listed s.way reference.body reference.is reference.highway
 
-    road_listed : (ps : List PieceEntry) (b : Block)
+    road_listed : (ps : List Piece) (b : Block)
         → b.pieces ≡ ps → IsRoadBlock M P b → In b.way (filter_map in_event es)
     road_listed [] b none road = absurd (road.some none)
     road_listed (e ∷ rest) b is road =

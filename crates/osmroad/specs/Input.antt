@@ -4,7 +4,7 @@ use Rattle.road_base.specs.declared.event.Event.{Event}
 use Rattle.road_io.specs.Told.{Told, Rose}
 use Rattle.opl_lexer.specs.declared.mode.Mode.{Mode}
 use Rattle.opl_lexer.specs.Reading.{ReadAll, input_fault}
-use Rattle.opl_objects.specs.StreamLines.{place_of}
+use Rattle.opl_objects.specs.StreamLines.{fault_at}
 use Rattle.osmroad.specs.Limits.{PassesLimit}
 use Rattle.osmroad.specs.declared.input.InputError.{InputError}
 use Rattle.osmroad.specs.declared.input.InputError.TheVariants.{Failed, TooLong, Refused, NoMemory}
@@ -32,14 +32,14 @@ abbrev pub Cause : Mode → InputError → List ℕ → Option (List ℕ) → �
 Cause mode Failed read now faults_before faults_now = Rose faults_before faults_now × (PassesLimit read → ⊥)
 Cause mode TooLong read now faults_before faults_now = PassesLimit read
 Cause mode (Refused fault) read now faults_before faults_now =
-    Ended now × (PassesLimit read → ⊥) × (input_fault mode read ≡ Some (place_of fault))
+    Ended now × (PassesLimit read → ⊥) × (input_fault mode read ≡ Some (fault_at fault))
 Cause mode NoMemory read now faults_before faults_now = Unit {0}
 
 -- all was read, and this is its first fault; or memory ended
 abbrev pub IsRefusal : Mode → List ℕ → InputError → Type 0
 IsRefusal mode read Failed = ⊥
 IsRefusal mode read TooLong = ⊥
-IsRefusal mode read (Refused fault) = input_fault mode read ≡ Some (place_of fault)
+IsRefusal mode read (Refused fault) = input_fault mode read ≡ Some (fault_at fault)
 IsRefusal mode read NoMemory = Unit {0}
 
 -- some bytes were read, and then the input wasn't read on for this cause

@@ -16,6 +16,9 @@ use road_model::laws::{name_order, one_block};
 use std::alloc::Global;
 use std::sync::ledger::Ledger;
 
+/// About what the block of a way with one piece in each direction takes.
+const ROOM_A_WAY: usize = 192;
+
 /// The graph's bytes: the block of each of the ways that has pieces is built, written and let go, one after another.
 pub fn write_blocks<L: Ledger>(
     alloc: Global,
@@ -27,7 +30,8 @@ pub fn write_blocks<L: Ledger>(
     ensures graph { IfOk result (λ out. IsGraph builder.now.world motorcar_rules out.items) }
     ensures built { steps.new ≤ steps.old + length ways.now }
 {
-    let mut writer = GraphWriter::new(alloc, Motorcar.number())?;
+    let room = ways.len().saturating_mul(ROOM_A_WAY);
+    let mut writer = GraphWriter::new(alloc, Motorcar.number(), room)?;
     for way in ways {
         write_block(builder, *way, &mut writer, steps)?;
     }

@@ -25,6 +25,7 @@ use crate::run::run;
 use crate::status::Status;
 use road_base::{NoMemory, Steps};
 use road_io::{RealSite, RealSource};
+use std::alloc::Global;
 use std::env;
 use std::io::ErrorKind;
 use std::marker::Brand;
@@ -41,6 +42,16 @@ fn words_of(rt: &(impl Env + AllocGlobal)) -> Result<Vec<String>, NoMemory> {
     }
 }
 
+/// The name of a file of the store: the first word, and this ending.
+fn file_name(alloc: Global, words: &[String], ending: &str) -> Result<String, NoMemory> {
+    let mut name = String::new(alloc);
+    if let Some(store) = words.first() {
+        name.push_str(store.as_str())?;
+    }
+    name.push_str(ending)?;
+    Ok(name)
+}
+
 fn start<L: Ledger>(rt: &HostRuntime, words: &[String], blank: Blank) -> Result<Status, NoMemory>
     requires name { blank.name ≡ L.name }
     requires parts { blank.parts ≡ L.parts }
@@ -52,7 +63,9 @@ fn start<L: Ledger>(rt: &HostRuntime, words: &[String], blank: Blank) -> Result<
         texts.push(word.as_str())?;
     }
     let mut source = RealSource::new(rt.stdin());
-    let mut site = RealSite::new(rt.stdout());
+    let name_a = file_name(alloc, words, ".a")?;
+    let name_b = file_name(alloc, words, ".b")?;
+    let mut site = RealSite::new(rt, rt.stdout(), name_a, name_b);
     let mut steps = Steps::<L>::new(blank);
     Ok(run(alloc, &texts, &mut source, &mut site, &mut steps))
 }

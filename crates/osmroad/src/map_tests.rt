@@ -223,7 +223,8 @@ fn restrictions_take_turns_away(rt: HostRuntime) -> Result<(), Fail> {
         (
             FORK,
             b"w14 Thighway=road Nn2,n5,n6,n2\nr5 Ttype=restriction,restriction=no_straight_on Mw14@from,n2@via,w14@to",
-            "10.0+ > 11.0+ 12.0+ 14.0+ 14.0-\n10.0- > 10.0+\n11.0+ > 11.0-\n11.0- > 10.0- 12.0+ 14.0+ 14.0-\n12.0+ > 12.0-\n\
+            "10.0+ > 11.0+ 12.0+ 14.0+ 14.0-\n10.0- > 10.0+\n11.0+ > 11.0-\n11.0- > 10.0- 12.0+ 14.0+ 14.0-\n\
+             12.0+ > 12.0-\n\
              12.0- > 10.0- 11.0+ 14.0+ 14.0-\n14.0+ > 10.0- 11.0+ 12.0+\n14.0- > 10.0- 11.0+ 12.0+\n",
         ),
         // Two Only rules from the same way: either is kept.
@@ -231,7 +232,8 @@ fn restrictions_take_turns_away(rt: HostRuntime) -> Result<(), Fail> {
             FORK,
             b"w13 Thighway=road Nn2,n5\nr5 Ttype=restriction,restriction=only_straight_on Mw10@from,n2@via,w12@to\n\
               r6 Ttype=restriction,restriction=only_left_turn Mw10@from,n2@via,w11@to",
-            "10.0+ > 11.0+ 12.0+\n10.0- > 10.0+\n11.0+ > 11.0-\n11.0- > 10.0- 12.0+ 13.0+\n12.0+ > 12.0-\n12.0- > 10.0- 11.0+ 13.0+\n\
+            "10.0+ > 11.0+ 12.0+\n10.0- > 10.0+\n11.0+ > 11.0-\n11.0- > 10.0- 12.0+ 13.0+\n12.0+ > 12.0-\n\
+             12.0- > 10.0- 11.0+ 13.0+\n\
              13.0+ > 13.0-\n13.0- > 10.0- 11.0+ 12.0+\n",
         ),
     ];
@@ -251,7 +253,8 @@ fn contexts_remember_where_one_came_from(rt: HostRuntime) -> Result<(), Fail> {
             CHAIN,
             b"r20 Ttype=restriction,restriction=no_u_turn Mw1@from,w2@via,w3@via,w4@to\n\
               r21 Ttype=restriction,restriction=only_right_turn Mw2@from,w3@via,w5@to",
-            "1.0+ > 2.0+/2\n1.0- > 1.0+\n2.0+ > 3.0+/2\n1.0+ 2.0+ > 3.0+/3\n2.0- > 1.0-\n3.0+ > 4.0+ 5.0+\n2.0+ 3.0+ > 5.0+\n1.0+ 2.0+ 3.0+ > 5.0+\n\
+            "1.0+ > 2.0+/2\n1.0- > 1.0+\n2.0+ > 3.0+/2\n1.0+ 2.0+ > 3.0+/3\n2.0- > 1.0-\n3.0+ > 4.0+ 5.0+\n\
+             2.0+ 3.0+ > 5.0+\n1.0+ 2.0+ 3.0+ > 5.0+\n\
              3.0- > 2.0-\n4.0+ > 4.0-\n4.0- > 3.0- 5.0+\n5.0+ > 5.0-\n5.0- > 3.0- 4.0+\n",
         ),
         // The first of these alone.
@@ -259,7 +262,8 @@ fn contexts_remember_where_one_came_from(rt: HostRuntime) -> Result<(), Fail> {
             CHAIN,
             b"r20 Ttype=restriction,restriction=no_u_turn Mw1@from,w2@via,w3@via,w4@to\n\
               r21 Ttype=restriction,restriction=only_right_turn Mw2@from,w3@via,w5@to\nr21 v2 dD",
-            "1.0+ > 2.0+/2\n1.0- > 1.0+\n2.0+ > 3.0+\n1.0+ 2.0+ > 3.0+/3\n2.0- > 1.0-\n3.0+ > 4.0+ 5.0+\n1.0+ 2.0+ 3.0+ > 5.0+\n\
+            "1.0+ > 2.0+/2\n1.0- > 1.0+\n2.0+ > 3.0+\n1.0+ 2.0+ > 3.0+/3\n2.0- > 1.0-\n3.0+ > 4.0+ 5.0+\n\
+             1.0+ 2.0+ 3.0+ > 5.0+\n\
              3.0- > 2.0-\n4.0+ > 4.0-\n4.0- > 3.0- 5.0+\n5.0+ > 5.0-\n5.0- > 3.0- 4.0+\n",
         ),
         // What a shorter rule forbids is forbidden behind a longer one's beginning too.
@@ -267,7 +271,8 @@ fn contexts_remember_where_one_came_from(rt: HostRuntime) -> Result<(), Fail> {
             CHAIN,
             b"r20 Ttype=restriction,restriction=no_u_turn Mw1@from,w2@via,w3@via,w4@to\n\
               r21 Ttype=restriction,restriction=no_right_turn Mw2@from,w3@via,w5@to",
-            "1.0+ > 2.0+/2\n1.0- > 1.0+\n2.0+ > 3.0+/2\n1.0+ 2.0+ > 3.0+/3\n2.0- > 1.0-\n3.0+ > 4.0+ 5.0+\n2.0+ 3.0+ > 4.0+\n1.0+ 2.0+ 3.0+ >\n\
+            "1.0+ > 2.0+/2\n1.0- > 1.0+\n2.0+ > 3.0+/2\n1.0+ 2.0+ > 3.0+/3\n2.0- > 1.0-\n3.0+ > 4.0+ 5.0+\n\
+             2.0+ 3.0+ > 4.0+\n1.0+ 2.0+ 3.0+ >\n\
              3.0- > 2.0-\n4.0+ > 4.0-\n4.0- > 3.0- 5.0+\n5.0+ > 5.0-\n5.0- > 3.0- 4.0+\n",
         ),
         // An Only rule over a via way binds once that way was entered, and not before:
@@ -278,9 +283,11 @@ fn contexts_remember_where_one_came_from(rt: HostRuntime) -> Result<(), Fail> {
         //              |            |
         //              5            6
         (
-            b"w1 Thighway=road Nn1,n2\nw2 Thighway=road Nn2,n3\nw3 Thighway=road Nn3,n4\nw4 Thighway=road Nn2,n5\nw5 Thighway=road Nn3,n6\n",
+            b"w1 Thighway=road Nn1,n2\nw2 Thighway=road Nn2,n3\nw3 Thighway=road Nn3,n4\nw4 Thighway=road Nn2,n5\n\
+              w5 Thighway=road Nn3,n6\n",
             b"r1 Ttype=restriction,restriction=only_straight_on Mw1@from,w2@via,w3@to",
-            "1.0+ > 2.0+/2 4.0+\n1.0- > 1.0+\n2.0+ > 3.0+ 5.0+\n1.0+ 2.0+ > 3.0+\n2.0- > 1.0- 4.0+\n3.0+ > 3.0-\n3.0- > 2.0- 5.0+\n4.0+ > 4.0-\n\
+            "1.0+ > 2.0+/2 4.0+\n1.0- > 1.0+\n2.0+ > 3.0+ 5.0+\n1.0+ 2.0+ > 3.0+\n2.0- > 1.0- 4.0+\n3.0+ > 3.0-\n\
+             3.0- > 2.0- 5.0+\n4.0+ > 4.0-\n\
              4.0- > 1.0- 2.0+\n5.0+ > 5.0-\n5.0- > 2.0- 3.0+\n",
         ),
         // A via way that is a dead end: who came by way 1 may not turn round at its end.
@@ -293,7 +300,8 @@ fn contexts_remember_where_one_came_from(rt: HostRuntime) -> Result<(), Fail> {
         (
             b"w1 Thighway=road Nn1,n2\nw2 Thighway=road Nn2,n3\nw3 Thighway=road Nn2,n4\n",
             b"r1 Ttype=restriction,restriction=no_u_turn Mw1@from,w2@via,w2@to",
-            "1.0+ > 2.0+/2 3.0+\n1.0- > 1.0+\n2.0+ > 2.0-\n1.0+ 2.0+ >\n2.0- > 1.0- 3.0+\n3.0+ > 3.0-\n3.0- > 1.0- 2.0+\n",
+            "1.0+ > 2.0+/2 3.0+\n1.0- > 1.0+\n2.0+ > 2.0-\n1.0+ 2.0+ >\n2.0- > 1.0- 3.0+\n3.0+ > 3.0-\n\
+             3.0- > 1.0- 2.0+\n",
         ),
     ];
     for (map, rules, want) in cases {

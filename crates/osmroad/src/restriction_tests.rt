@@ -69,7 +69,8 @@ fn rules_text(alloc: Global, lines: &[u8], way: WayId) -> Result<String, Fail> {
 ///               '<- w6 ---'
 /// ```
 const MAP: &[u8] = b"\
-    w1 Thighway=road Nn1,n2\nw2 Thighway=road Nn2,n3\nw3 Thighway=road Nn3,n4\nw4 Thighway=road Nn4,n5\nw5 Thighway=road Nn4,n6\n\
+    w1 Thighway=road Nn1,n2\nw2 Thighway=road Nn2,n3\nw3 Thighway=road Nn3,n4\nw4 Thighway=road Nn4,n5\n\
+    w5 Thighway=road Nn4,n6\n\
     w6 Thighway=road,oneway=yes Nn3,n2\n\
     r20 Ttype=restriction,restriction=no_u_turn Mw1@from,w2@via,w3@via,w4@to\n\
     r21 Ttype=restriction,restriction=only_right_turn Mw2@from,w3@via,w5@to\n\
@@ -80,7 +81,8 @@ const MAP: &[u8] = b"\
     r33 Ttype=restriction,restriction=no_left_turn Mw1@from,n4@via,w4@to\n\
     r34 Ttype=restriction,restriction=no_u_turn Mw1@from,w2@via,w5@via,w4@to\n\
     r35 Ttype=restriction,restriction=no_u_turn Mw1@from,w6@via,w3@to\n\
-    r36 Ttype=restriction,restriction=no_entry Mw1@from,w1@from,w1@from,w1@from,w1@from,w1@from,w1@from,w1@from,w1@from,\
+    r36 Ttype=restriction,restriction=no_entry Mw1@from,w1@from,w1@from,w1@from,w1@from,w1@from,w1@from,w1@from,\
+    w1@from,\
     w1@from,w1@from,w1@from,w1@from,w1@from,w1@from,w1@from,w1@from,n2@via,w2@to\n\
     r37 Ttype=restriction,restriction=no_entry Mw1@from,w1@from,n2@via,w2@to,w6@to\n\
     r38 Ttype=restriction,restriction=only_straight_on Mw1@from,n2@via,w2@to,w6@to\n\

@@ -7,7 +7,7 @@ ghost use Rattle.road_base.specs.Applying.{IsApplied};
 ghost use Rattle.road_io.specs.Told.{Rose};
 ghost use Rattle.opl_lexer.specs.declared.mode.Mode.TheVariants.{Extract};
 ghost use Rattle.opl_lexer.specs.Reading.{ReadAll};
-ghost use Rattle.opl_objects.specs.StreamLines.{place_of};
+ghost use Rattle.opl_objects.specs.StreamLines.{fault_at};
 ghost use Rattle.osmroad.specs.Highways.{highways};
 ghost use Rattle.osmroad.specs.Texts.{refused_line};
 ghost use Rattle.osmroad.specs.Run.{IsCompile, IsWithinLimits, Ends, EndsPut, EndsRefusal};
@@ -50,7 +50,7 @@ fn put_last<W: Site>(site: &mut W, piece: &[u8], status: Status) -> Status
 
 // Puts where the input is in fault.
 fn put_refusal<W: Site>(alloc: Global, site: &mut W, fault: &Fault) -> Status
-    ensures { EndsRefusal (refused_line (place_of fault.now)) result (W.outside site.old) (W.outside site.new)
+    ensures { EndsRefusal (refused_line (fault_at fault.now)) result (W.outside site.old) (W.outside site.new)
         (W.faults site.old) (W.faults site.new) }
 {
     match refused_text(alloc, fault) {

@@ -1,7 +1,7 @@
 //! What is last put where an input is in fault.
 ghost use Rattle.std.specs.Prelude.{◌≡◌, ◌++◌, ◌∷◌, [], codes, IfOk, string_bytes, ℕ};
 ghost use Rattle.std.specs.Fmt.{decimal};
-ghost use Rattle.opl_objects.specs.StreamLines.{place_of};
+ghost use Rattle.opl_objects.specs.StreamLines.{fault_at};
 ghost use Rattle.osmroad.specs.Texts.{kind_name, refused_line};
 
 use opl_lexer::FaultKind;
@@ -31,7 +31,7 @@ fn kind_text(kind: FaultKind) -> &'static str
 
 /// The last line where an input is in fault.
 pub fn refused_text(alloc: Global, fault: &Fault) -> Result<String, AllocError>
-    ensures { IfOk result (λ text. string_bytes text ≡ refused_line (place_of fault.now)) }
+    ensures { IfOk result (λ text. string_bytes text ≡ refused_line (fault_at fault.now)) }
 {
     let Fault { line, field, kind } = *fault;
     let name = kind_text(kind);

@@ -2,7 +2,7 @@ use Rattle.std.proofs.Common.{◌++◌, List, ℕ, refl, sym, subst}
 use Rattle.std.specs.FinMap.{empty}
 use Rattle.road_base.specs.declared.event.Event.{Event}
 use Rattle.road_base.specs.Applying.{IsApplied}
-use Rattle.opl_objects.specs.StreamLines.{place_of}
+use Rattle.opl_objects.specs.StreamLines.{fault_at}
 use Rattle.osmroad.specs.declared.status.Status.TheVariants.{Done, Limit}
 use Rattle.osmroad.specs.Compiled.{IsGraphOf}
 use Rattle.osmroad.specs.Texts.{refused_line}
@@ -47,7 +47,7 @@ returns-in-Err-TooLong-clause-ends g c = λ words is.
 pub returns-in-Err-Refused-clause-ends : goal.returns-in-Err-Refused-clause-ends
 returns-in-Err-Refused-clause-ends g c = λ words is.
     let e = rw c.in-Err-Refused.field-0-is at c.in-Err-Refused.ensures.err in
-    let fault = place_of c.in-Err-Refused.fault in
+    let fault = fault_at c.in-Err-Refused.fault in
     let held = g.S.Source.bytes_left c.args.source.now in
     let left = g.S.Source.bytes_left c.read_events.new.source in
     let site = c.args.site.now in
@@ -63,7 +63,7 @@ pub returns-in-Err-Refused-clause-site_fault : goal.returns-in-Err-Refused-claus
 returns-in-Err-Refused-clause-site_fault g c =
     let site = c.args.site.now in
     let after = c.put_refusal.new.site in
-    refusal_fault (refused_line (place_of c.in-Err-Refused.fault)) c.put_refusal.result
+    refusal_fault (refused_line (fault_at c.in-Err-Refused.fault)) c.put_refusal.result
     (g.W.Site.outside site) (g.W.Site.outside after) (g.W.Site.faults site) (g.W.Site.faults after)
     c.put_refusal.ensures
 
@@ -71,7 +71,7 @@ pub returns-in-Err-Refused-clause-each_site_fault : goal.returns-in-Err-Refused-
 returns-in-Err-Refused-clause-each_site_fault g c =
     let site = c.args.site.now in
     let after = c.put_refusal.new.site in
-    refusal_each_fault (refused_line (place_of c.in-Err-Refused.fault)) c.put_refusal.result
+    refusal_each_fault (refused_line (fault_at c.in-Err-Refused.fault)) c.put_refusal.result
     (g.W.Site.outside site) (g.W.Site.outside after) (g.W.Site.faults site) (g.W.Site.faults after)
     c.put_refusal.ensures
 
@@ -79,7 +79,7 @@ pub returns-in-Err-Refused-clause-read_fault : goal.returns-in-Err-Refused-claus
 returns-in-Err-Refused-clause-read_fault g c = λ e.
     let site = c.args.site.now in
     let after = c.put_refusal.new.site in
-    absurd (refusal_no_read_fault (refused_line (place_of c.in-Err-Refused.fault)) c.put_refusal.result
+    absurd (refusal_no_read_fault (refused_line (fault_at c.in-Err-Refused.fault)) c.put_refusal.result
     (g.W.Site.outside site) (g.W.Site.outside after) (g.W.Site.faults site) (g.W.Site.faults after)
     c.put_refusal.ensures e)
 
