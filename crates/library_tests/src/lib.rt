@@ -30,6 +30,8 @@ mod road_base_tests;
 #[cfg(test)]
 mod road_model_tests;
 #[cfg(test)]
+mod sequence_journal_tests;
+#[cfg(test)]
 mod turn_automata_tests;
 #[cfg(test)]
 mod way_lines_tests;

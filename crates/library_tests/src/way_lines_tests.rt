@@ -143,7 +143,7 @@ fn directions_of_ways_are_asked_once(rt: HostRuntime) -> Result<(), Fail> {
         .collect::<Vec<(i64, bool, bool)>>(rt.alloc())?;
     let wanted = [(10, true, true), (11, true, false), (13, false, false)];
     assert_eq!(rt; open.as_slice(), wanted.as_slice());
-    assert_eq!(rt; roads.place_of(WayId(12)), None);
+    assert_eq!(rt; roads.position_of(WayId(12)), None);
     assert!(rt; roads.road(&network, WayId(12)).is_open());
     Ok(())
 }
