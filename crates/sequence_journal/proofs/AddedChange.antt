@@ -1,6 +1,6 @@
 -- What a stop leaves while a change is added.
 use Rattle.std.proofs.Common.{◌≡◌, ◌≢◌, inl, inr, ⊎_elim, ℕ, ◌+◌, ◌<◌, ◌^◌, List, [], ◌∷◌, ◌++◌, ◌⊎◌, length}
-use Rattle.std.proofs.Common.{Result, Ok, Err, refl, sym, ◌∙◌, ap, subst, arith, length-append}
+use Rattle.std.proofs.Common.{false, Result, Ok, Err, refl, sym, ◌∙◌, ap, subst, arith, length-append}
 use Rattle.std.proofs.lemmas.Bool.{cases_eq}
 use Rattle.road_base.specs.declared.event.Event.{Event}
 use Rattle.road_base.specs.declared.ids.Sequence.{Sequence}
@@ -147,9 +147,10 @@ module _ (old new : Journal) (seq : Sequence) (change : List Event) (piece given
       → Opens old.file old.gate piece r w v
   opens_of r o = subst (λ (l : List ℕ). Opens old.file old.gate l r w v) same o
 
-  pub adding_failed : (x : Failed) → Opens old.file old.gate given (Err x) w v
+  pub adding_failed : (x : Failed) → old.closed ≡ false → Opens old.file old.gate given (Err x) w v
       → Adds old new change (Err SiteFault) w v
-  adding_failed x o = inr (λ h at. added_failed old seq change piece n h w at new x v (opens_of (Err x) o))
+  adding_failed x not_closed o =
+      inr (not_closed, λ h at. added_failed old seq change piece n h w at new x v (opens_of (Err x) o))
 
   pub adding_done : (x y : Unit {0}) → new.file ≡ old.file → new.generation ≡ old.generation → new.kept.0 ≡ seq.0
       → new.gate ≡ old.gate + length piece → Opens old.file old.gate given (Ok x) w v → Adds old new change (Ok y) w v

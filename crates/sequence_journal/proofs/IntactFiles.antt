@@ -1,6 +1,6 @@
--- A front of a file that stands for a history stands for one too, or has no open base.
-use Rattle.std.proofs.Common.{◌≡◌, inl, inr, ⊎_elim, ℕ, ◌+◌, ◌-◌, ◌<◌, ◌≤◌, ◌^◌, List, [], ◌∷◌, ◌++◌, length, take}
-use Rattle.std.proofs.Common.{drop, refl}
+-- A front of a file that stands for a history stands for one too, or has no open base. So does what a stop leaves.
+use Rattle.std.proofs.Common.{◌≡◌, ◌⊎◌, inl, inr, ⊎_elim, ℕ, ◌+◌, ◌-◌, ◌<◌, ◌≤◌, ◌^◌, List, [], ◌∷◌, ◌++◌, length, take}
+use Rattle.std.proofs.Common.{drop, Result, Err, refl}
 use Rattle.std.proofs.Common.{sym, ◌∙◌, ap, subst, arith, append_assoc, length-append, take-append-drop}
 use Rattle.std.proofs.lemmas.Bool.{cases_lt}
 use Rattle.std.proofs.lemmas.List.{length-take}
@@ -8,9 +8,19 @@ use Rattle.std.proofs.Math.Seq.{take-append-add}
 use Rattle.std.specs.List.{AllByRecursion}
 use Rattle.road_base.specs.declared.event.Event.{Event}
 use Rattle.road_base.specs.History.{History}
+use Rattle.road_io.specs.declared.outside.Which.{Which}
+use Rattle.road_io.specs.Disk.{IsImage, IsDurable}
+use Rattle.road_io.specs.Outside.{Outside, LeavesOnly, LeavesFile, disk, image_of}
+use Rattle.road_io.proofs.PendingImages.{only_image}
+use Rattle.road_io.proofs.CallRuns.{only_weaker}
+use Rattle.sequence_journal.specs.declared.error.JournalError.{JournalError}
+use Rattle.sequence_journal.specs.declared.error.JournalError.TheVariants.{Damaged}
+use Rattle.sequence_journal.specs.declared.load.Loaded.{Loaded}
 use Rattle.sequence_journal.specs.Layout.{Base, NoBase, Numbered, IsClosed, base_bytes, record_bytes}
-use Rattle.sequence_journal.specs.Standing.{EventsFit, Stands, IsIntact, base_of, record_of, changes_bytes}
+use Rattle.sequence_journal.specs.Standing.{EventsFit, Stands, IsIntact, DamagedAt, base_of, record_of}
+use Rattle.sequence_journal.specs.Standing.{changes_bytes}
 use Rattle.sequence_journal.specs.Basing.{IsBaseImage}
+use Rattle.sequence_journal.specs.Loading.{StandAlike, Loads}
 use Rattle.sequence_journal.proofs.SameParts.{SameRecord, same_record, base_once}
 use Rattle.sequence_journal.proofs.OneHistory.{record_fits, begins_base}
 use Rattle.sequence_journal.proofs.MendedFile.{closed_front}
@@ -157,3 +167,18 @@ pub intact_base : (was image : List ℕ) (g : ℕ) (h : History) → IsIntact wa
 intact_base was image g h intact (inl front) = subst IsIntact (sym front.1) (intact_front was front.0 intact)
 intact_base was image g h intact (inr (inl none)) = inl none
 intact_base was image g h intact (inr (inr stands)) = inr (g, h, stands)
+
+-- and while the file is loaded
+pub loads_intact : (file : Which) (result : Result Loaded JournalError) (w v : Outside) → IsDurable (disk w file)
+    → IsIntact (disk w file).reads → Loads file result w v → LeavesOnly w v (λ left. IsIntact (image_of left file))
+loads_intact file result w v durable intact l = only_weaker w v
+    (LeavesFile file (λ image. IsImage (disk w file) image ⊎ StandAlike (disk w file).reads image) w)
+    (λ left. IsIntact (image_of left file)) l.any_moment
+    (λ left at. ⊎_elim
+    (λ there. subst IsIntact (sym (only_image (disk w file) durable (image_of left file) there)) intact)
+    (λ alike. inr (alike.0, alike.1, alike.3)) at.image)
+
+pub loads_undamaged : ((file : List ℕ) (offset : ℕ) → IsIntact file → DamagedAt file offset → ⊥)
+    → (file place : Which) (offset : ℕ) (w v : Outside) → IsIntact (disk w file).reads
+    → Loads file (Err (Damaged place offset)) w v → ⊥
+loads_undamaged never file place offset w v intact l = never (disk w file).reads offset intact l.answer.0.1

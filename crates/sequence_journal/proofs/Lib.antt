@@ -12,6 +12,7 @@ mod FoundParts
 mod PartAnswers
 mod ReadSoFar
 pub mod SettledFile
+mod SoundEnds
 pub mod MendedFile
 mod AddedChange
 mod WrittenBase

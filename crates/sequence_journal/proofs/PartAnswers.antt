@@ -1,7 +1,7 @@
 -- What the calls that read parts of a file tell.
-use Rattle.std.proofs.Common.{◌≡◌, ℕ, ◌+◌, ◌-◌, ◌<◌, ◌≤◌, ◌^◌, List, ◌++◌, length, take, drop, Option}
+use Rattle.std.proofs.Common.{◌≡◌, ◌≢◌, ℕ, ◌+◌, ◌-◌, ◌<◌, ◌≤◌, ◌^◌, List, [], ◌∷◌, ◌++◌, length, take, drop, Option}
 use Rattle.std.proofs.Common.{Some, None}
-use Rattle.std.proofs.Common.{Result, Ok, Err, IsErr, false, refl, sym, ◌∙◌, ap, subst, arith}
+use Rattle.std.proofs.Common.{Bool, true, false, Result, Ok, Err, IsErr, refl, sym, ◌∙◌, ap, subst, arith}
 use Rattle.road_io.specs.declared.outside.Failed.{Failed}
 use Rattle.road_io.specs.declared.outside.Which.{Which}
 use Rattle.road_io.specs.Disk.{Disk}
@@ -10,7 +10,7 @@ use Rattle.road_io.specs.Calls.{TellsLen}
 use Rattle.road_io.proofs.QuietRuns.{quiet_start, quiet_stay, quiet_idle, quiet_then, quiet_disk}
 use Rattle.sequence_journal.specs.declared.window.Window.{Window}
 use Rattle.sequence_journal.specs.Windows.{Shows, seen}
-use Rattle.std.proofs.lemmas.List.{drop-take, length-take-le, drop-drop, length-drop}
+use Rattle.std.proofs.lemmas.List.{drop-take, length-take-le, drop-drop, length-drop, take_all}
 use Rattle.sequence_journal.specs.declared.error.JournalError.{JournalError}
 use Rattle.sequence_journal.specs.declared.heads.FoundBase.{FoundBase}
 use Rattle.sequence_journal.specs.Layout.{IsClosed, RecordIsOpen}
@@ -136,5 +136,27 @@ module _ (file : Which) (len gate : ℕ) (before window : Window) (front rest : 
               ));
         }
 
-pub end_elsewhere : (file : Which) (len gate : ℕ) (w : Outside) → TestsEnd file len gate (Ok false) w w
-end_elsewhere file len gate w = record { quiet = quiet_start w; answer = λ is. tt }
+-- ---- the end
+
+pub end_elsewhere : (file : Which) (len gate : ℕ) (w : Outside) → len - gate ≢ 1
+    → TestsEnd file len gate (Ok false) w w
+end_elsewhere file len gate w long = record {
+  quiet = quiet_start w;
+  answer = λ is one. long (omega (
+    arith,
+    is,
+    ap (λ (l : List ℕ). length l) one,
+    length-drop gate (disk w file).reads,
+  ));
+}
+
+module _ (file : Which) (len gate n : ℕ) (buf bytes : List ℕ) (w v : Outside) (room : length buf ≡ 1)
+    (front : bytes ≡ take n buf) (last : len - gate ≡ 1) (fills : Fills file gate buf (Ok n) w v) where
+  behind : len ≡ length (disk w file).reads → bytes ≡ drop gate (disk w file).reads
+  behind is = front ∙ fills.answer ∙ take_all (length buf) (drop gate (disk w file).reads)
+      (omega (arith, is, room, last, length-drop gate (disk w file).reads))
+
+  pub end_tested : (closed : Bool) → (closed ≡ true → bytes ≡ 0 ∷ []) → (closed ≡ false → bytes ≡ 0 ∷ [] → ⊥)
+      → TestsEnd file len gate (Ok closed) w v
+  end_tested true holds fails = record { quiet = fills.quiet; answer = λ is. sym (behind is) ∙ holds refl }
+  end_tested false holds fails = record { quiet = fills.quiet; answer = λ is one. fails refl (behind is ∙ one) }

@@ -1,5 +1,6 @@
 -- A sync of a file, and calls after which a stop leaves nothing new.
-use Rattle.std.proofs.Common.{◌≡◌, inl, ℕ, List, Result, Ok, Err, refl, sym, ap, subst, arith}
+use Rattle.std.proofs.Common.{◌≡◌, inl, ℕ, List, Result, Ok, Err, refl, sym, ◌∙◌, ap, subst, arith}
+use Rattle.std.specs.Io.{StartsWith}
 use Rattle.road_io.specs.declared.outside.Failed.{Failed}
 use Rattle.road_io.specs.declared.outside.Which.{Which}
 use Rattle.road_io.specs.declared.outside.Which.TheVariants.{A, B}
@@ -7,7 +8,7 @@ use Rattle.road_io.specs.Disk.{Disk, IsImage, IsDurable, IsSoundDisk, settled}
 use Rattle.road_io.specs.Outside.{Outside, Left, IsLeft, IsSound, Quiet, LeavesFile, disk, other, present, changed}
 use Rattle.road_io.specs.Calls.{Syncs}
 use Rattle.road_io.proofs.PendingImages.{settled_durable, only_image}
-use Rattle.road_io.proofs.CallRuns.{started, goes_on, reached_start}
+use Rattle.road_io.proofs.CallRuns.{started, goes_on, then_runs, reached_start}
 use Rattle.road_io.proofs.QuietRuns.{quiet_start, quiet_idle, quiet_disk}
 use Rattle.sequence_journal.specs.Loading.{Calm, Settles}
 
@@ -18,6 +19,23 @@ calm_quiet w v q = record {
   output = q.output;
   images = λ f c i. subst (λ (d : Disk). IsImage d c) (quiet_disk f w v q) i;
   only = q.only;
+}
+
+pub calm_left : (w u : Outside) → Calm w u → (left : Left) → IsLeft (present u) left → IsLeft (present w) left
+calm_left w u calm left l = record {
+  a = calm.images A left.a l.a;
+  b = calm.images B left.b l.b;
+  no_less = subst (λ (out : List ℕ). StartsWith left.out out) calm.output l.no_less;
+  no_more = subst (λ (out : List ℕ). StartsWith out left.out) calm.output l.no_more;
+}
+
+pub calm_then : (w u v : Outside) → Calm w u → Calm u v → Calm w v
+calm_then w u v p q = record {
+  reads = λ f. q.reads f ∙ p.reads f;
+  durable = λ f d. q.durable f (p.durable f d);
+  output = q.output ∙ p.output;
+  images = λ f c i. p.images f c (q.images f c i);
+  only = then_runs w u v (IsLeft (present w)) (IsLeft (present u)) p.only q.only (calm_left w u p);
 }
 
 -- a file as it reads is one of its images

@@ -67,5 +67,5 @@ pub record Added (old new : Journal) (h : History) (change : List Event) (result
 abbrev pub Adds : Journal → Journal → List Event → Result (Unit {0}) JournalError → Outside → Outside → Type 0
 Adds old new change (Ok x) w v = (h : History) → IsAt old h w → Added old new h change (Ok x) w v
 Adds old new change (Err SiteFault) w v = ((old.closed ≡ true) × (v ≡ w))
-    ⊎ ((h : History) → IsAt old h w → Added old new h change (Err SiteFault) w v)
+    ⊎ ((old.closed ≡ false) × ((h : History) → IsAt old h w → Added old new h change (Err SiteFault) w v))
 Adds old new change (Err e) w v = v ≡ w

@@ -1,5 +1,5 @@
 -- What writing a base does.
-use Rattle.std.specs.Prelude.{◌≡◌, ◌⊎◌, ℕ, List, [], ◌∷◌, ◌++◌, take, false, Result, Ok, Err}
+use Rattle.std.specs.Prelude.{◌≡◌, ◌⊎◌, ℕ, List, [], take, false, Result, Ok, Err}
 use Rattle.road_base.specs.declared.event.Event.{Event}
 use Rattle.road_base.specs.History.{History}
 use Rattle.road_io.specs.declared.outside.Which.{Which}
@@ -7,20 +7,14 @@ use Rattle.road_io.specs.Disk.{IsDurable}
 use Rattle.road_io.specs.Outside.{Outside, LeavesOnly, LeavesFile, disk, other}
 use Rattle.sequence_journal.specs.declared.error.JournalError.{JournalError}
 use Rattle.sequence_journal.specs.declared.error.JournalError.TheVariants.{SiteFault, NoMemory}
-use Rattle.sequence_journal.specs.declared.base.BasePiece.{BasePiece}
 use Rattle.sequence_journal.specs.declared.journal.Journal.{Journal}
-use Rattle.sequence_journal.specs.Layout.{NoBase, base_bytes}
-use Rattle.sequence_journal.specs.Standing.{HistoryFits, Stands, base_of}
+use Rattle.sequence_journal.specs.Layout.{NoBase}
+use Rattle.sequence_journal.specs.Standing.{Stands}
 use Rattle.sequence_journal.specs.Journal.{IsAt}
 
 -- a base without changes
 abbrev pub base_alone : ℕ → List Event → History
 base_alone number events = record { base_number = number; base_events = events; changes = [] }
-
--- a base of these events and the closed gate behind it, all but the first gate
-pub record IsPieceOf (p : BasePiece) (events : List Event) : Type 0 where
-  pub bytes : 1 ∷ p.bytes.items ≡ base_bytes (base_of p.generation p.number.0 events) ++ 0 ∷ []
-  pub fits : HistoryFits p.generation (base_alone p.number.0 events)
 
 -- a front of what the file read as, or no open base, or the given base and nothing else
 abbrev pub IsBaseImage : List ℕ → ℕ → History → List ℕ → Type 0
@@ -45,8 +39,3 @@ WritesBase file generation h (Ok j) w v = IsDurable (disk w file) → Based file
 WritesBase file generation h (Err SiteFault) w v = IsDurable (disk w file) → Based file generation h (Err SiteFault) w v
 WritesBase file generation h (Err NoMemory) w v = v ≡ w
 WritesBase file generation h (Err e) w v = ⊥
-
--- the same of a base that was spelled before
-abbrev pub WritesPiece : Which → BasePiece → Result Journal JournalError → Outside → Outside → Type 0
-WritesPiece file p result w v = (events : List Event) → IsPieceOf p events → IsDurable (disk w file)
-    → Based file p.generation (base_alone p.number.0 events) result w v

@@ -1,6 +1,6 @@
 -- A journal and the file that it stands on.
 use Rattle.std.specs.Prelude.{◌≡◌, ◌⊎◌, ℕ, ◌≤◌, ◌^◌, List, [], ◌∷◌, ◌++◌, length}
-use Rattle.std.specs.Prelude.{Result, IsOk, IsErrOf}
+use Rattle.std.specs.Prelude.{Result, IsErrOf}
 use Rattle.road_base.specs.History.{History, kept}
 use Rattle.road_io.specs.Told.{Rose}
 use Rattle.road_io.specs.Disk.{IsDurable}
@@ -25,9 +25,9 @@ pub record IsAt (j : Journal) (h : History) (w : Outside) : Type 0 where
 abbrev pub IsReady : Journal → Outside → Type 0
 IsReady j w = (h : History) × IsAt j h w
 
--- The count of the site's faults doesn't fall. A fault of the site is answered only where it rose, and it stays where
--- the call is Ok.
+-- The count of the site's faults doesn't fall. A fault of the site is answered only where it rose, and at every other
+-- answer it stays.
 pub record CountsFaults {T : Type 0} (before now : ℕ) (result : Result T JournalError) : Type 0 where
   pub never_falls : before ≤ now
   pub cause : IsErrOf result SiteFault → Rose before now
-  pub stays : IsOk result → now ≡ before
+  pub stays : (IsErrOf result SiteFault → ⊥) → now ≡ before

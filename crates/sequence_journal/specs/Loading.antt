@@ -1,5 +1,5 @@
 -- What loading a file leaves.
-use Rattle.std.specs.Prelude.{◌≡◌, ◌⊎◌, ℕ, ◌≤◌, ◌^◌, List, length, false, Result, Ok, Err, OnOk}
+use Rattle.std.specs.Prelude.{◌≡◌, ◌⊎◌, ℕ, ◌≤◌, ◌^◌, List, [], ◌∷◌, length, false, Result, Ok, Err, OnOk}
 use Rattle.road_base.specs.History.{History, all_events}
 use Rattle.road_io.specs.declared.outside.Failed.{Failed}
 use Rattle.road_io.specs.declared.outside.Which.{Which}
@@ -8,7 +8,7 @@ use Rattle.road_io.specs.Outside.{Outside, IsLeft, LeavesOnly, LeavesFile, disk,
 use Rattle.sequence_journal.specs.declared.error.JournalError.{JournalError}
 use Rattle.sequence_journal.specs.declared.error.JournalError.TheVariants.{SiteFault}
 use Rattle.sequence_journal.specs.declared.load.Loaded.{Loaded}
-use Rattle.sequence_journal.specs.Standing.{Stands}
+use Rattle.sequence_journal.specs.Standing.{BeginsWith, Stands}
 use Rattle.sequence_journal.specs.Journal.{IsAt}
 use Rattle.sequence_journal.specs.Reading.{IsRefused}
 
@@ -29,6 +29,15 @@ pub record Settles (file : Which) (result : Result (Unit {0}) Failed) (w v : Out
   pub others : disk v (other file) ≡ disk w (other file)
 
 -- ---- loading
+
+-- There is nothing to repair: behind a history stands the next gate, closed, and nothing else; or the history ends at
+-- 2^40 bytes, where no gate is written.
+pub record IsEnded (file : List ℕ) : Type 0 where
+  pub generation : ℕ
+  pub history : History
+  pub end : List ℕ
+  pub begins : BeginsWith file generation history end
+  pub ends : (end ≡ 0 ∷ []) ⊎ ((end ≡ []) × (length file ≡ 2 ^ 40))
 
 -- The file stood for a history, whose events these are, in order. The journal stands on the file for it, and isn't
 -- closed. The file had and has at most 2^40 bytes.
@@ -53,10 +62,17 @@ abbrev pub StandAlike : List ℕ → List ℕ → Type 0
 StandAlike reads image = (generation : ℕ) × (h : History) × Stands reads generation h × Stands image generation h
     × (length reads ≤ 2 ^ 40)
 
--- Of a file on which nothing is pending a stop leaves what it reads as, or a file that stands for the same history.
+-- the same bytes, or both stand for one history
+abbrev pub IsAlike : List ℕ → List ℕ → Type 0
+IsAlike reads image = (image ≡ reads) ⊎ StandAlike reads image
+
+-- Of a file on which nothing is pending a stop leaves what it reads as, or a file that stands for the same history. At
+-- every answer, a fault of the site too, it then reads so. Where there is nothing to repair, all reads as before and a
+-- stop leaves nothing new.
 pub record Mended (file : Which) (result : Result Loaded JournalError) (w v : Outside) : Type 0 where
-  pub any_moment : LeavesOnly w v
-      (LeavesFile file (λ image. (image ≡ (disk w file).reads) ⊎ StandAlike (disk w file).reads image) w)
+  pub any_moment : LeavesOnly w v (LeavesFile file (IsAlike (disk w file).reads) w)
+  pub alike : IsAlike (disk w file).reads (disk v file).reads
+  pub calm : IsEnded (disk w file).reads → Calm w v
   pub answer : LoadAnswer file result w v
   pub others : disk v (other file) ≡ disk w (other file)
   pub output : v.output ≡ w.output
@@ -65,10 +81,13 @@ abbrev pub Mends : Which → Result Loaded JournalError → Outside → Outside 
 Mends file result w v = IsDurable (disk w file) → Mended file result w v
 
 -- A stop leaves what it could leave when the call began, or a file that stands for the history for which the file
--- stood. The other file is left as it is.
+-- stood. At every answer, a fault of the site too, the file then reads as before, or stands for that history. Where
+-- there is nothing to repair, all reads as before and a stop leaves nothing new. The other file is left as it is.
 pub record Loads (file : Which) (result : Result Loaded JournalError) (w v : Outside) : Type 0 where
   pub any_moment : LeavesOnly w v
       (LeavesFile file (λ image. IsImage (disk w file) image ⊎ StandAlike (disk w file).reads image) w)
+  pub alike : IsAlike (disk w file).reads (disk v file).reads
+  pub calm : IsEnded (disk w file).reads → Calm w v
   pub answer : LoadAnswer file result w v
   pub others : disk v (other file) ≡ disk w (other file)
   pub output : v.output ≡ w.output

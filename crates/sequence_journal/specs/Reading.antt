@@ -148,10 +148,10 @@ pub record Judges (file : Which) (result : Result ReadHistory JournalError) (w v
   pub quiet : Quiet w v
   pub answer : IsJudged file (disk w file).reads result
 
--- behind a place stands one closed gate and nothing else
+-- whether behind a place stands one closed gate and nothing else
 abbrev pub IsEndTest : ℕ → List ℕ → Result Bool Failed → Type 0
 IsEndTest at reads (Ok true) = drop at reads ≡ 0 ∷ []
-IsEndTest at reads (Ok false) = Unit {0}
+IsEndTest at reads (Ok false) = drop at reads ≡ 0 ∷ [] → ⊥
 IsEndTest at reads (Err e) = Unit {0}
 
 pub record TestsEnd (file : Which) (len at : ℕ) (result : Result Bool Failed) (w v : Outside) : Type 0 where

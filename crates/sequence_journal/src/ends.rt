@@ -26,7 +26,7 @@ pub(crate) fn open_behind<W: Site>(
     ensures counts { Counts (W.faults site.old) (W.faults site.new) result }
 {
     site.write_at(file, gate + 1, piece)?;
-    site.sync(file)?;
+    site.sync(file)?; // Now the piece is on the disk.
     site.write_at(file, gate, &[OPEN])?;
     site.sync(file)
 }

@@ -7,8 +7,8 @@ use crate::error::JournalError;
 use road_base::Sequence;
 use road_io::Which;
 
-/// A journal on one file of a site. After a fault of the site it is closed, and refuses whatever it is asked: load the
-/// store again then.
+/// A journal on one file of a site. After a fault of the site the journal is closed, and refuses every addition: load
+/// the store again then. Whether a gate of its file is closed is another matter.
 #[derive(Drop)]
 pub struct Journal {
     pub(crate) file: Which,
@@ -16,6 +16,7 @@ pub struct Journal {
     /// Where the next gate stands, or would stand.
     pub(crate) gate: u64,
     pub(crate) kept: Sequence,
+    /// Whether the journal is closed.
     pub(crate) closed: bool,
 }
 
@@ -41,14 +42,14 @@ impl Journal {
         self.kept
     }
 
-    /// Whether the journal is closed.
+    /// Whether the journal is closed. Of gates it says nothing.
     pub fn closed(&self) -> bool
         ensures { result ≡ self.now.closed }
     {
         self.closed
     }
 
-    /// Closes the journal, and changes nothing else.
+    /// Closes the journal, not a gate of its file, and changes nothing else.
     pub fn close(&mut self)
         ensures { self.new ≡ record self.old { closed = true } }
     {

@@ -21,7 +21,7 @@ mod records;
 mod whole_file;
 mod window;
 
-pub use base::{BasePiece, write_base};
+pub use base::write_base;
 pub use error::JournalError;
 pub use heads::{BaseHead, head};
 pub use journal::Journal;

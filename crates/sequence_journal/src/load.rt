@@ -1,5 +1,5 @@
 //! A file synced, read, and its end repaired.
-ghost use Rattle.std.specs.Prelude.{◌≡◌, IfSome, IfErr};
+ghost use Rattle.std.specs.Prelude.{◌≡◌, false, IfOk, IfSome, IfErr};
 ghost use Rattle.road_io.specs.Told.{Told, Counts};
 ghost use Rattle.road_io.specs.Disk.{IsDurable};
 ghost use Rattle.road_io.specs.Outside.{disk};
@@ -10,6 +10,7 @@ ghost use Rattle.sequence_journal.specs.Loading.{Settles, Mends, Loads};
 use crate::ends::repair_end;
 use crate::error::JournalError;
 use crate::journal::Journal;
+use crate::laws::one_history;
 use crate::parts::ends_there;
 use crate::whole_file::{LARGEST, ReadHistory, judge};
 use road_base::{Event, Sequence};
@@ -26,9 +27,11 @@ pub struct Loaded {
 impl Journal {
     /// Syncs a file, reads it and repairs its end. NoStore exactly where the file has no open base; TooLarge exactly
     /// where it has one and more than 2^40 bytes; then Damaged exactly where an open part is at fault, with the offset
-    /// of its gate. A SiteFault may have repaired.
+    /// of its gate. Nothing is repaired where the next gate stands there, closed, as the file's last byte, nor where it
+    /// would stand at 2^40. A SiteFault may have repaired.
     pub fn load<W: Site>(alloc: Global, site: &mut W, file: Which) -> Result<Loaded, JournalError>
         ensures told { Told (Loads file result) (W.outside site.old) (W.outside site.new) }
+        ensures not_closed { IfOk result (λ loaded. loaded.journal.closed ≡ false) }
         ensures named { IfErr result (IsReadError file) }
         ensures counts { CountsFaults (W.faults site.old) (W.faults site.new) result }
     {
@@ -49,9 +52,11 @@ pub fn settle<W: Site>(site: &mut W, file: Which) -> Result<(), Failed>
 pub fn mend<W: Site>(alloc: Global, site: &mut W, file: Which) -> Result<Loaded, JournalError>
     requires { IfSome (W.outside site.old) (λ w. IsDurable (disk w file)) }
     ensures told { Told (Mends file result) (W.outside site.old) (W.outside site.new) }
+    ensures not_closed { IfOk result (λ loaded. loaded.journal.closed ≡ false) }
     ensures named { IfErr result (IsReadError file) }
     ensures counts { CountsFaults (W.faults site.old) (W.faults site.new) result }
 {
+    one_history();
     let history = judge(alloc, site, file)?;
     let whole = ends_there(site, file, history.len, history.gate)?;
     let ReadHistory {

@@ -1,5 +1,5 @@
 //! Parts of a file, read.
-ghost use Rattle.std.specs.Prelude.{◌≡◌, ◌∷◌, [], ◌≤◌, ◌^◌, true, IfOk, length};
+ghost use Rattle.std.specs.Prelude.{◌≡◌, ◌∷◌, [], ◌≤◌, ◌^◌, true, false, IfOk, length};
 ghost use Rattle.road_io.specs.Told.{Told, Counts};
 ghost use Rattle.sequence_journal.specs.Reading.{Fills, TestsEnd};
 
@@ -51,7 +51,8 @@ pub(crate) fn ends_there<W: Site>(
 
 /// Whether the bytes are one closed gate.
 fn is_closed_gate(bytes: &[u8]) -> bool
-    ensures { result ≡ true → bytes.now ≡ 0 ∷ [] }
+    ensures yes { result ≡ true → bytes.now ≡ 0 ∷ [] }
+    ensures no { result ≡ false → bytes.now ≡ 0 ∷ [] → ⊥ }
 {
     bytes == [CLOSED].as_slice()
 }

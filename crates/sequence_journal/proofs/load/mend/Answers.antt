@@ -1,9 +1,12 @@
-use Rattle.std.proofs.Common.{arith}
+use Rattle.std.proofs.Common.{Err, arith}
 use Rattle.std.proofs.lemmas.Result.{err_from_is_err_and}
 use Rattle.road_io.specs.Told.{Told}
+use Rattle.road_io.specs.Outside.{IsSound}
 use Rattle.road_io.proofs.ToldCalls.{told_then, told_weaker}
 use Rattle.sequence_journal.proofs.MendedFile.{Looked, look, mend_refused, mend_untested, mend_whole, mend_limit}
 use Rattle.sequence_journal.proofs.MendedFile.{mend_done, mend_failed}
+use Rattle.sequence_journal.specs.Ends.{Repairs}
+use Rattle.sequence_journal.proofs.SoundEnds.{told_behind}
 use Rattle.sequence_journal.proofs.load.mend.Goals as goal
 
 pub returns-in_err-history-clause-told : goal.returns-in_err-history-clause-told
@@ -45,8 +48,14 @@ returns-in_err-repair_end-clause-told g c =
     let looked : Told (Looked c.args.file r whole) (g.W.Site.outside c.args.site.now)
     (g.W.Site.outside c.ends_there.new.site) =
     told_then _ _ _ _ _ _ c.in_ok-history.ensures.told c.in_ok-whole.ensures.told (look c.args.file r whole) in
-    rw p.1 (told_then _ _ _ _ _ _ looked c.in_err-repair_end.ensures.told
-    (λ w u v k repairs. mend_failed c.args.file r whole w u k p.0 c.in_err-repair_end.field-0.0 v p.2 repairs))
+    let end = g.W.Site.outside c.repair_end.new.site in
+    let failed : Told (λ w v. IsSound v × Repairs c.args.file r.gate (Err c.in_err-repair_end.field-0.0) w v)
+    (g.W.Site.outside c.ends_there.new.site) end =
+    told_behind _ _ IsSound _ _ (g.met.W.Site.sound c.repair_end.new.site) c.in_err-repair_end.ensures.told
+    (λ u v sound repairs. (sound, repairs)) in
+    rw p.1 (told_then _ _ _ _ _ _ looked failed
+    (λ w u v k both. mend_failed c.args.file r whole w u k c.one_history.ensures c.if-whole.false
+    (λ limit. omega (arith, limit, c.if-gate-eq-LARGEST.false)) p.0 c.in_err-repair_end.field-0.0 v p.2 both.0 both.1))
 
 pub returns-clause-told : goal.returns-clause-told
 returns-clause-told g c =
@@ -56,7 +65,8 @@ returns-clause-told g c =
     (g.W.Site.outside c.ends_there.new.site) =
     told_then _ _ _ _ _ _ c.in_ok-history.ensures.told c.in_ok-whole.ensures.told (look c.args.file r whole) in
     told_then _ _ _ _ _ _ looked c.in_ok-repair_end.ensures.told
-    (λ w u v k repairs. mend_done c.args.file r whole w u k c.in_ok-repair_end.field-0 v
+    (λ w u v k repairs. mend_done c.args.file r whole w u k c.one_history.ensures c.if-whole.false
+    c.in_ok-repair_end.field-0 v
     (λ limit. omega (arith, limit, c.if-gate-eq-LARGEST.false)) repairs)
 
 pub returns-in_err-history-clause-named : goal.returns-in_err-history-clause-named

@@ -26,7 +26,7 @@ loop-history-init g c = record {
   holds = c.in_ok-history.ensures.holds;
   within = c.in_ok-history.ensures.within.0;
   small = c.in_ok-history.ensures.within.1;
-  counted = c.in_ok-history.ensures.counts.stays refl ∙ c.in_ok-found.ensures.counts.stays refl;
+  counted = c.in_ok-history.ensures.counts.stays (λ e. (cc)) ∙ c.in_ok-found.ensures.counts.stays refl;
 }
 
 pub returns-in_err-read_next-clause-told : goal.returns-in_err-read_next-clause-told
@@ -54,7 +54,7 @@ loop-history-preserved g c =
       holds = c.in_ok-read_next.ensures.holds;
       within = c.in_ok-read_next.ensures.within;
       small = omega (arith, c.read_next.ensures.len, c.loop-history.invariant.small);
-      counted = c.in_ok-read_next.ensures.counts.stays refl ∙ c.loop-history.invariant.counted;
+      counted = c.in_ok-read_next.ensures.counts.stays (λ e. (cc)) ∙ c.loop-history.invariant.counted;
     }
 
 pub returns-clause-told : goal.returns-clause-told

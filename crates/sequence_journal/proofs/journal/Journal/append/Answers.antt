@@ -44,4 +44,4 @@ returns-clause-told g c =
     } in
     told_weaker _ _ _ _ c.in-Err.ensures.told
     (λ w v o. adding_failed old new c.args.seq c.args.events.now c.in_ok-piece.piece.items c.deref.result.now n
-    c.deref.ensures.value w v c.in-Err.field-0 o)
+    c.deref.ensures.value w v c.in-Err.field-0 c.if-self.false o)
