@@ -1,36 +1,17 @@
 -- Calls after which all reads as before, one behind another.
-use Rattle.std.proofs.Common.{◌≡◌, ℕ, List, Option, None, Some, false, Result, Ok, Err, sym, ◌∙◌, subst}
-use Rattle.std.specs.Io.{StartsWith}
+use Rattle.std.proofs.Common.{◌≡◌, ℕ, List, Option, None, Some, false, Result, Ok, Err, sym, subst}
 use Rattle.std.specs.Option.{is_some}
 use Rattle.road_io.specs.declared.outside.Failed.{Failed}
 use Rattle.road_io.specs.declared.outside.Which.{Which}
 use Rattle.road_io.specs.declared.outside.Which.TheVariants.{A, B}
 use Rattle.road_io.specs.Disk.{IsDurable}
-use Rattle.road_io.specs.Outside.{Outside, Left, IsLeft, disk, other, present}
+use Rattle.road_io.specs.Outside.{Outside, disk, other}
 use Rattle.road_io.specs.Told.{Told}
 use Rattle.road_io.proofs.ToldCalls.{told_then, told_weaker}
-use Rattle.road_io.proofs.CallRuns.{then_runs}
 use Rattle.sequence_journal.specs.Layout.{BaseIsOpen, NoBase}
 use Rattle.sequence_journal.specs.Loading.{Calm, Settles}
-use Rattle.sequence_journal.proofs.SettledFile.{calm_quiet}
+use Rattle.sequence_journal.proofs.SettledFile.{calm_quiet, calm_then}
 use Rattle.store_switch.specs.LiveFile.{LiveAnswer, FindsLive, BothDurable, SettlesBoth, reads_of}
-
-pub calm_left : (w u : Outside) → Calm w u → (left : Left) → IsLeft (present u) left → IsLeft (present w) left
-calm_left w u calm left l = record {
-  a = calm.images A left.a l.a;
-  b = calm.images B left.b l.b;
-  no_less = subst (λ (out : List ℕ). StartsWith left.out out) calm.output l.no_less;
-  no_more = subst (λ (out : List ℕ). StartsWith out left.out) calm.output l.no_more;
-}
-
-pub calm_then : (w u v : Outside) → Calm w u → Calm u v → Calm w v
-calm_then w u v p q = record {
-  reads = λ f. q.reads f ∙ p.reads f;
-  durable = λ f d. q.durable f (p.durable f d);
-  output = q.output ∙ p.output;
-  images = λ f c i. p.images f c (q.images f c i);
-  only = then_runs w u v (IsLeft (present w)) (IsLeft (present u)) p.only q.only (calm_left w u p);
-}
 
 -- ---- both files synced
 

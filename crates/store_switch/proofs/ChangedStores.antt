@@ -1,5 +1,5 @@
 -- A journal that stands on a store, and a change added to it.
-use Rattle.std.proofs.Common.{◌≡◌, ◌⊎◌, inl, inr, ⊎_elim, ℕ, ◌≤◌, ◌^◌, List, [], ◌∷◌, length}
+use Rattle.std.proofs.Common.{◌≡◌, ◌⊎◌, inl, inr, ⊎_elim, ℕ, ◌≤◌, ◌^◌, List, length}
 use Rattle.std.proofs.Common.{Result, Ok, Err, sym, ◌∙◌, ap, subst, arith, length-append}
 use Rattle.road_base.specs.declared.event.Event.{Event}
 use Rattle.road_base.specs.declared.ids.Sequence.{Sequence}
@@ -14,21 +14,18 @@ use Rattle.sequence_journal.specs.declared.error.JournalError.{JournalError}
 use Rattle.sequence_journal.specs.declared.error.JournalError.TheVariants.{OutOfSequence, SiteFault, Damaged, NoStore}
 use Rattle.sequence_journal.specs.declared.error.JournalError.TheVariants.{StoreExists, TooLarge, NoMemory}
 use Rattle.sequence_journal.specs.declared.journal.Journal.{Journal}
-use Rattle.sequence_journal.specs.Layout.{BaseIsOpen, IsClosed}
+use Rattle.sequence_journal.specs.Layout.{BaseIsOpen}
 use Rattle.sequence_journal.specs.Standing.{Stands, history_bytes}
 use Rattle.sequence_journal.specs.Journal.{IsAt}
 use Rattle.sequence_journal.specs.Adding.{Adds, Added, AddAnswer}
 use Rattle.sequence_journal.proofs.SettledFile.{leaves_now}
-use Rattle.sequence_journal.proofs.MendedFile.{closed_front, closed_one}
-use Rattle.store_switch.specs.LiveFile.{IsOver, reads_of}
+use Rattle.sequence_journal.proofs.MendedFile.{end_closed}
+use Rattle.store_switch.specs.LiveFile.{IsOver, BothDurable, reads_of}
 use Rattle.store_switch.specs.TwoFiles.{StandOn, IsOnStore, LeavesStore, LeavesEither}
 use Rattle.store_switch.proofs.StoreLoads.{each_file}
 use Rattle.store_switch.proofs.IntactStores.{same_store, left_there}
 
 -- ---- a journal on a store
-
-nothing_closed : IsClosed []
-nothing_closed = closed_front (0 ∷ []) 0 (closed_one 0)
 
 pub journal_stands : (j : Journal) (h : History) (w : Outside) → IsOnStore j h w
     → StandOn j.file j.generation (reads_of w) h
@@ -36,8 +33,7 @@ journal_stands j h w on = record {
   stands = record {
     rest = on.at.end;
     begins = record { split = on.at.reads; fits = on.at.fits };
-    closed = ⊎_elim (λ one. subst IsClosed (sym one) (closed_one 0))
-        (λ none. subst IsClosed (sym none.0) nothing_closed) on.at.ends;
+    closed = end_closed on.at.end (j.gate ≡ 2 ^ 40) on.at.ends;
   };
   over = on.over;
 }
@@ -55,20 +51,19 @@ journal_left j h w left on l = record {
 }
 
 pub journal_stays : (j : Journal) (h : History) (w v : Outside) → IsOnStore j h w
-    → ((file : Which) → disk v file ≡ disk w file) → IsOnStore j h v
-journal_stays j h w v on same = record {
+    → ((file : Which) → reads_of v file ≡ reads_of w file) → BothDurable v → IsOnStore j h v
+journal_stays j h w v on same durable = record {
   at = record {
     end = on.at.end;
-    reads = ap (λ (d : Disk). d.reads) (same j.file) ∙ on.at.reads;
+    reads = same j.file ∙ on.at.reads;
     ends = on.at.ends;
     gate = on.at.gate;
     last = on.at.last;
     fits = on.at.fits;
-    durable = subst IsDurable (sym (same j.file)) on.at.durable;
+    durable = durable j.file;
   };
-  over = subst (λ (d : Disk). IsOver j.file j.generation d.reads) (sym (same (other j.file))) on.over;
-  small = subst (λ (d : Disk). length d.reads ≤ 2 ^ 40) (sym (same j.file)) on.small;
-  durable = λ f. subst IsDurable (sym (same f)) (on.durable f);
+  over = subst (λ (l : List ℕ). IsOver j.file j.generation l) (sym (same (other j.file))) on.over;
+  durable = durable;
 }
 
 -- ---- a change added
@@ -105,7 +100,7 @@ module _ (old new : Journal) (h : History) (change : List Event) (w v : Outside)
       → LeavesOnly w v (LeavesEither h change w.output)
   change_left (Ok x) adds = added (Ok x) (adds h on.at)
   change_left (Err SiteFault) (inl closed) = untouched closed.1
-  change_left (Err SiteFault) (inr adds) = added (Err SiteFault) (adds h on.at)
+  change_left (Err SiteFault) (inr adds) = added (Err SiteFault) (adds.1 h on.at)
   change_left (Err (OutOfSequence a b)) same = untouched same
   change_left (Err (Damaged f o)) same = untouched same
   change_left (Err NoStore) same = untouched same
@@ -118,24 +113,28 @@ module _ (old new : Journal) (h : History) (change : List Event) (w v : Outside)
   change_done seq x before now answer adds =
       let a : Added old new h change (Ok x) w v = adds h on.at in
       let file : new.file ≡ old.file = ap (λ (j : Journal). j.file) answer.1 in
-      let history = history_bytes new.generation (with_change h change) in
       record {
         at = a.ok;
         over = subst (λ (j : Journal). IsOver j.file j.generation (reads_of v (other j.file))) (sym answer.1)
             (over_still (disk v (other old.file)) (ap (λ (d : Disk). d.reads) a.others));
-        small = omega (
-          arith,
-          answer.0.room,
-          ap (λ (j : Journal). j.gate) answer.1,
-          a.ok.gate,
-          ap (λ (l : List ℕ). length l) a.ok.reads,
-          length-append history a.ok.end,
-          end_small a.ok,
-        );
         durable = each_file old.file (λ f. IsDurable (disk v f))
             (subst (λ (f : Which). IsDurable (disk v f)) file a.ok.durable)
             (subst IsDurable (sym a.others) (on.durable (other old.file)));
       }
+
+  pub change_small : (seq : Sequence) (x : Unit {0}) (before now : ℕ) → AddAnswer old new seq change (Ok x) before now
+      → Adds old new change (Ok x) w v → length (reads_of v new.file) ≤ 2 ^ 40
+  change_small seq x before now answer adds =
+      let a : Added old new h change (Ok x) w v = adds h on.at in
+      omega (
+        arith,
+        answer.0.room,
+        ap (λ (j : Journal). j.gate) answer.1,
+        a.ok.gate,
+        ap (λ (l : List ℕ). length l) a.ok.reads,
+        length-append (history_bytes new.generation (with_change h change)) a.ok.end,
+        end_small a.ok,
+      )
     where
       end_small : (k : IsAt new (with_change h change) v) → length k.end ≤ 1
       end_small k = ⊎_elim

@@ -14,6 +14,7 @@ use Rattle.sequence_journal.specs.Standing.{Stands, base_of, changes_bytes}
 use Rattle.sequence_journal.specs.Reading.{IsHead, Heads}
 use Rattle.sequence_journal.proofs.SameParts.{base_once}
 use Rattle.sequence_journal.proofs.OneHistory.{begins_base}
+use Rattle.store_switch.specs.TwoFiles.{StandOn}
 use Rattle.store_switch.specs.LiveFile.{Beats, IsOver, IsLive, IsChosen, LiveAnswer, FindsLive, reads_of}
 
 one_generation : (file : List ℕ) (b c : Base) (xs ys : List ℕ) → BaseIsOpen file b xs → BaseIsOpen file c ys
@@ -38,6 +39,16 @@ stands_over files live l g h s x same b rest o =
     (changes_bytes h.base_number h.changes ++ s.rest) l.is_open (begins_base (files live) g h s.rest s.begins) in
     subst (λ (k : ℕ). Beats live k b.generation) once
     (l.over b rest (subst (λ (y : List ℕ). BaseIsOpen y b rest) same o))
+
+-- a file on which a history stands is live
+pub stands_live : (files : Which → List ℕ) (live : Which) (g : ℕ) (h : History) → StandOn live g files h
+    → IsLive live files
+stands_live files live g h s = record {
+  base = base_of g h.base_number h.base_events;
+  rest = changes_bytes h.base_number h.changes ++ s.stands.rest;
+  is_open = begins_base (files live) g h s.stands.rest s.stands.begins;
+  over = s.over;
+}
 
 -- ---- finding it
 

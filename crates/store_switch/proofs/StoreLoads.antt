@@ -18,14 +18,16 @@ use Rattle.sequence_journal.specs.declared.load.Loaded.{Loaded}
 use Rattle.sequence_journal.specs.Layout.{BaseIsOpen}
 use Rattle.sequence_journal.specs.Standing.{Stands}
 use Rattle.sequence_journal.specs.Reading.{IsRefused}
-use Rattle.sequence_journal.specs.Loading.{Calm, StandAlike, Mended, Mends, LoadAnswer, IsLoaded}
-use Rattle.sequence_journal.proofs.SettledFile.{calm_quiet}
+use Rattle.sequence_journal.specs.Loading.{Calm, StandAlike, IsAlike, IsEnded, Mended, Mends, LoadAnswer}
+use Rattle.sequence_journal.specs.Loading.{IsLoaded}
+use Rattle.sequence_journal.proofs.SettledFile.{calm_quiet, calm_left, calm_then}
 use Rattle.sequence_journal.proofs.MendedFile.{durable_image}
 use Rattle.store_switch.specs.LiveFile.{IsOver, IsLive, LiveAnswer, FindsLive, SettlesBoth, BothDurable, reads_of}
 use Rattle.store_switch.specs.TwoFiles.{StandOn}
-use Rattle.store_switch.specs.StoreLoading.{StoreLoaded, StoreRefused, StoreAnswer, LeavesAlike, LoadsStore}
-use Rattle.store_switch.proofs.CalmRuns.{Found, calm_left, calm_then}
-use Rattle.store_switch.proofs.LiveFiles.{stands_over}
+use Rattle.store_switch.specs.StoreLoading.{StoreLoaded, StoreRefused, StoreAnswer, StillRead, StillStands}
+use Rattle.store_switch.specs.StoreLoading.{LeavesAlike, LoadsStore}
+use Rattle.store_switch.proofs.CalmRuns.{Found}
+use Rattle.store_switch.proofs.LiveFiles.{stands_over, live_once}
 
 pub each_file : (live : Which) (P : Which → Type 0) → P live → P (other live) → (f : Which) → P f
 each_file A P x y A = x
@@ -126,13 +128,22 @@ module _ (live : Which) (w u v : Outside) (calm : Calm w u) (l : IsLive live (re
           at = k.at;
           over = subst (λ (f : Which). IsOver f g (reads_of v (other f))) (sym k.on)
               (stands_over (reads_of w) live l g k.history k.stood (reads_of v (other live)) same_other);
-          small = subst (λ (f : Which). length (reads_of v f) ≤ 2 ^ 40) (sym k.on) k.still_small;
           durable = each_file live (λ f. IsDurable (disk v f))
               (subst (λ (f : Which). IsDurable (disk v f)) k.on k.at.durable)
               (subst IsDurable (sym others) (durable (other live)));
         };
         not_closed = k.not_closed;
+        kept_small = subst (λ (f : Which). length (reads_of v f) ≤ 2 ^ 40) (sym k.on) k.still_small;
       }
+
+  still_there : IsAlike (disk u live).reads (disk v live).reads → StillRead w v ⊎ StillStands w v
+  still_there (inl same) = inl (each_file live (λ f. reads_of v f ≡ reads_of w f) (same ∙ calm.reads live) same_other)
+  still_there (inr alike) = inr (record {
+    live = live;
+    was_live = l;
+    alike = subst (λ (x : List ℕ). StandAlike x (reads_of v live)) (calm.reads live) alike;
+    others = same_other;
+  })
 
   store_answer : (result : Result Loaded JournalError) → LoadAnswer live result u v → StoreAnswer result w v
   store_answer (Ok x) is = loaded x (subst (λ (reads : List ℕ). IsLoaded live reads x v) (calm.reads live) is)
@@ -155,6 +166,10 @@ loaded_store found live result w u v e f mends =
           (LeavesFile live (λ image. (image ≡ (disk u live).reads) ⊎ StandAlike (disk u live).reads image) u)
           (calm_moments w u f.calm) m.any_moment (moments live w u f.calm f.durable l);
       answer = store_answer live w u v f.calm l m.others f.durable result m.answer;
+      files = still_there live w u v f.calm l m.others f.durable m.alike;
+      calm = λ file is_live ended. calm_then w u v f.calm (m.calm (subst IsEnded
+          (ap (λ (k : Which). reads_of w k) (live_once (reads_of w) file live is_live l) ∙ sym (f.calm.reads live))
+          ended));
       output = m.output ∙ f.calm.output;
     }
 
@@ -162,11 +177,19 @@ pub no_store : (found : Option Which) (w u : Outside) → found ≡ None → Fou
 no_store found w u e f = record {
   any_moment = calm_moments w u f.calm;
   answer = (subst (λ (x : Option Which). LiveAnswer (reads_of w) (Ok x)) e f.answer, f.calm.reads);
+  files = inl f.calm.reads;
+  calm = λ file is_live ended. f.calm;
   output = f.calm.output;
 }
 
 pub store_not_settled : (x : Failed) (w u : Outside) → SettlesBoth (Err x) w u → LoadsStore (Err SiteFault) w u
-store_not_settled x w u s = record { any_moment = calm_moments w u s.calm; answer = tt; output = s.calm.output }
+store_not_settled x w u s = record {
+  any_moment = calm_moments w u s.calm;
+  answer = tt;
+  files = inl s.calm.reads;
+  calm = λ file is_live ended. s.calm;
+  output = s.calm.output;
+}
 
 pub store_not_found : (e : JournalError) (x : Unit {0}) (w u v : Outside) → SettlesBoth (Ok x) w u
     → FindsLive (Err e) u v → LoadsStore (Err e) w v
@@ -175,5 +198,7 @@ store_not_found e x w u v s f =
     record {
       any_moment = calm_moments w v calm;
       answer = subst (λ (y : JournalError). StoreAnswer (Err y) w v) (sym f.answer) tt;
+      files = inl calm.reads;
+      calm = λ file is_live ended. calm;
       output = calm.output;
     }

@@ -31,11 +31,10 @@ AreIntact files = NoBases files ⊎ ((h : History) × StandFor files h)
 
 -- ---- a journal on them
 
--- The journal stands on the live file for this history, within the file's limit, and nothing is pending on either file.
+-- The journal stands on the live file for this history, and nothing is pending on either file.
 pub record IsOnStore (j : Journal) (h : History) (w : Outside) : Type 0 where
   pub at : IsAt j h w
   pub over : IsOver j.file j.generation (reads_of w (other j.file))
-  pub small : length (reads_of w j.file) ≤ 2 ^ 40
   pub durable : BothDurable w
 
 -- ---- what a stop leaves

@@ -7,16 +7,12 @@ ghost use Rattle.store_switch.specs.StoreCreating.{CreatesStore, IsCreateError};
 use crate::live::{find_live, settle_both};
 use road_base::{Event, Sequence};
 use road_io::{Site, Which};
-use sequence_journal::{BasePiece, Journal, JournalError};
+use sequence_journal::{Journal, JournalError, write_base};
 use std::alloc::Global;
 
-/// The greatest length of a file of a store, in bytes.
-const LARGEST: u64 = 1 << 40;
-
 /// Makes a store of a base: its number, that before the first change's, and the events that come before all changes.
-/// It syncs both files, and writes file A, of generation 1. StoreExists exactly where some file has an open base; then
-/// TooLarge exactly where the file would pass 2^40 bytes. All memory is taken before it writes; after a SiteFault
-/// create the store again, or load it.
+/// It syncs both files, and writes file A, of generation 1. StoreExists exactly where some file has an open base. All
+/// memory is taken before it writes; file B is never written. After a SiteFault create the store again, or load it.
 pub fn create_store<W: Site>(
     alloc: Global,
     site: &mut W,
@@ -31,9 +27,5 @@ pub fn create_store<W: Site>(
     if find_live(site)?.is_some() {
         return Err(JournalError::StoreExists);
     }
-    let piece = BasePiece::new(alloc, 1, base, events)?;
-    if piece.file_len() > LARGEST {
-        return Err(JournalError::TooLarge);
-    }
-    piece.write(site, Which::A)
+    write_base(alloc, site, Which::A, 1, base, events)
 }

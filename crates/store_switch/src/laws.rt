@@ -1,10 +1,10 @@
 //! What two files stand for, and what a stop leaves of them, as the contracts of functions that do nothing.
-ghost use Rattle.std.specs.Prelude.{◌≡◌, ◌⊎◌, ℕ, List, Result, Ok, Err};
+ghost use Rattle.std.specs.Prelude.{◌≡◌, ◌⊎◌, ℕ, ◌≤◌, ◌^◌, List, length, Result, Ok, Err};
 ghost use Rattle.road_base.specs.declared.event.Event.{Event};
 ghost use Rattle.road_base.specs.declared.ids.Sequence.{Sequence};
 ghost use Rattle.road_base.specs.History.{History, with_change};
 ghost use Rattle.road_io.specs.declared.outside.Which.{Which};
-ghost use Rattle.road_io.specs.Outside.{Outside, Left, IsLeft, LeavesOnly, disk, present, image_of};
+ghost use Rattle.road_io.specs.Outside.{Outside, Left, IsLeft, LeavesOnly, present, image_of};
 ghost use Rattle.sequence_journal.specs.declared.error.JournalError.{JournalError};
 ghost use Rattle.sequence_journal.specs.declared.error.JournalError.TheVariants.{Damaged};
 ghost use Rattle.sequence_journal.specs.declared.journal.Journal.{Journal};
@@ -21,9 +21,10 @@ use sequence_journal::laws::{no_damage, one_history};
 
 // ---- two files
 
-/// One file at most is live.
+/// One file at most is live, and files that stand for a history have a live one.
 pub fn one_live()
-    ensures { (files : Which → List ℕ) (f k : Which) → IsLive f files → IsLive k files → f ≡ k }
+    ensures once { (files : Which → List ℕ) (f k : Which) → IsLive f files → IsLive k files → f ≡ k }
+    ensures stands { (files : Which → List ℕ) (f : Which) (g : ℕ) (h : History) → StandOn f g files h → IsLive f files }
 {}
 
 /// Two files stand for one history alone, which one file holds, under one generation.
@@ -85,19 +86,19 @@ pub fn stopped_creation()
 
 // ---- a journal on a store
 
-/// Files on which a journal stands for a history stand for it, and a stop leaves such files. It stands on them until a
-/// call changes a file: a put doesn't, nor what is asked of the site.
+/// Files on which a journal stands for a history stand for it, and a stop leaves such files. It stands on them as long
+/// as they read so and nothing is pending on either: a put changes neither, nor does a call that asks the site.
 pub fn journal_on_store()
     ensures stand { (j : Journal) (h : History) (w : Outside)
         → IsOnStore j h w → StandOn j.file j.generation (reads_of w) h }
     ensures stopped { (j : Journal) (h : History) (w : Outside) (left : Left)
         → IsOnStore j h w → IsLeft (present w) left → LeavesStore h w.output left }
     ensures stays { (j : Journal) (h : History) (w v : Outside)
-        → IsOnStore j h w → ((file : Which) → disk v file ≡ disk w file) → IsOnStore j h v }
+        → IsOnStore j h w → ((file : Which) → reads_of v file ≡ reads_of w file) → BothDurable v → IsOnStore j h v }
 {}
 
 /// Adding a change to a journal that stands on a store, a stop leaves the store with the change or without it. After
-/// an Ok the journal stands on the store with the change.
+/// an Ok the journal stands on the store with the change, and its file has at most 2^40 bytes.
 pub fn change_on_store()
     ensures stopped { (old new : Journal) (h : History) (change : List Event) (result : Result (Unit {0}) JournalError)
         (w v : Outside) → IsOnStore old h w → Adds old new change result w v
@@ -105,4 +106,7 @@ pub fn change_on_store()
     ensures ok { (old new : Journal) (h : History) (seq : Sequence) (change : List Event) (x : Unit {0})
         (w v : Outside) (before now : ℕ) → IsOnStore old h w → AddAnswer old new seq change (Ok x) before now
         → Adds old new change (Ok x) w v → IsOnStore new (with_change h change) v }
+    ensures small { (old new : Journal) (h : History) (seq : Sequence) (change : List Event) (x : Unit {0})
+        (w v : Outside) (before now : ℕ) → IsOnStore old h w → AddAnswer old new seq change (Ok x) before now
+        → Adds old new change (Ok x) w v → length (reads_of v new.file) ≤ 2 ^ 40 }
 {}

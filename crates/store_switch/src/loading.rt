@@ -1,5 +1,5 @@
 //! A store loaded.
-ghost use Rattle.std.specs.Prelude.{IfErr};
+ghost use Rattle.std.specs.Prelude.{◌≡◌, false, IfOk, IfErr};
 ghost use Rattle.road_io.specs.Told.{Told};
 ghost use Rattle.sequence_journal.specs.Journal.{CountsFaults};
 ghost use Rattle.store_switch.specs.StoreLoading.{LoadsStore, IsLoadError};
@@ -11,10 +11,11 @@ use std::alloc::Global;
 
 /// Syncs both files, finds the live one, reads it and repairs its end. NoStore exactly where no file has an open base;
 /// TooLarge exactly where the live file has more than 2^40 bytes; then Damaged exactly where an open part of the live
-/// file is at fault, with the offset of its gate. A SiteFault may have repaired; every other refusal changes nothing
-/// that is read.
+/// file is at fault, with the offset of its gate. The other file isn't written, nor is the live one where there is
+/// nothing to repair. A SiteFault may have repaired; every other refusal changes nothing that is read.
 pub fn load_store<W: Site>(alloc: Global, site: &mut W) -> Result<Loaded, JournalError>
     ensures told { Told (LoadsStore result) (W.outside site.old) (W.outside site.new) }
+    ensures not_closed { IfOk result (λ loaded. loaded.journal.closed ≡ false) }
     ensures named { IfErr result IsLoadError }
     ensures counts { CountsFaults (W.faults site.old) (W.faults site.new) result }
 {

@@ -180,6 +180,21 @@ fn loads_after_each_fault(rt: HostRuntime) -> Result<(), Fail> {
     Ok(())
 }
 
+fn changes_a_file(call: &Call) -> bool {
+    matches!(call, Call::WriteAt { .. } | Call::Cut { .. })
+}
+
+/// A store whose last gate is there and closed: nothing is written while it is loaded.
+#[test]
+fn loads_without_a_write(rt: HostRuntime) -> Result<(), Fail> {
+    let mut site = site_of(rt.alloc(), &file([1, 1, 1, 7]), &file([1, 1, 2, 5]), &[])?;
+    assert_eq!(rt; load(rt.alloc(), &mut site), Ok((Which::B, 2, 5)));
+    for entry in site.calls() {
+        assert!(rt; !changes_a_file(&entry.call));
+    }
+    Ok(())
+}
+
 /// Bytes with a piece in its place.
 fn overwritten(alloc: Global, bytes: &[u8], at: u64, piece: &[u8]) -> Result<Vec<u8>, AllocError> {
     let at = bytes.len().min(at as usize);
