@@ -1,66 +1,251 @@
--- What a run gives is determined by its words and its bytes.
-use Rattle.std.proofs.Common.{◌≡◌, ℕ, List, Some, sym, ap, ◌∙◌, subst}
+-- What a run gives is determined by its command, the bytes of both files and those of its source.
+use Rattle.std.proofs.Common.{◌≡◌, ◌+◌, ◌<◌, ◌≤◌, ◌^◌, ℕ, List, Option, None, Some, sym, ap, ◌∙◌, subst, arith}
 use Rattle.std.specs.FinMap.{empty}
+use Rattle.std.specs.Cmp.{IsTotalOrder}
 use Rattle.road_base.specs.declared.event.Event.{Event}
 use Rattle.road_base.specs.Objects.{Objects}
-use Rattle.road_base.specs.Applying.{IsApplied}
+use Rattle.road_base.specs.History.{History, all_events, kept, with_change}
+use Rattle.road_model.specs.Orders.{relation_cmp}
 use Rattle.road_model.specs.Naming.{OneGraph}
 use Rattle.road_model.specs.Format.{IsGraph}
-use Rattle.opl_lexer.specs.declared.mode.Mode.TheVariants.{Extract}
-use Rattle.opl_lexer.specs.Reading.{FaultAt}
-use Rattle.osmroad.specs.declared.status.Status.{Status}
 use Rattle.access_profile.specs.Motorcar.{motorcar_rules}
-use Rattle.osmroad.specs.Texts.{refused_line}
-use Rattle.osmroad.specs.Run.{IsCompiled, Gives, OfOtherWords, OfTooMuch, OfFault, OfExtract}
-use Rattle.osmroad.proofs.RunEnds.{OneReading, OneMap}
+use Rattle.opl_lexer.specs.declared.mode.Mode.TheVariants.{Extract, Change}
+use Rattle.opl_lexer.specs.Reading.{input_fault}
+use Rattle.sequence_journal.specs.Basing.{base_alone}
+use Rattle.osmroad.specs.declared.command.Command.{Command}
+use Rattle.osmroad.specs.declared.command.Command.TheVariants.{Compile, Create, Apply, Graph, Audit}
+use Rattle.osmroad.specs.declared.status.Status.{Status}
+use Rattle.osmroad.specs.Texts.{sequence_line}
+use Rattle.osmroad.specs.Compiled.{IsGraphOf}
+use Rattle.osmroad.specs.Audited.{IsAuditOf}
+use Rattle.osmroad.specs.Opening.{Files, IsStore, StoreRefusal, size_with_change}
+use Rattle.osmroad.specs.Outcomes.{AreInput, IsCompiled, CompileGives, CreateGives, ApplyGives, ShowGives, Gives}
+use Rattle.osmroad.specs.Run.{IsStored}
+use Rattle.osmroad.proofs.CitedLaws.{OneMap, OneReading, OneLive, HasLive, NoDamage, OneDamage, OneStore}
+use Rattle.osmroad.proofs.OneAudit.{one_audit}
+use Rattle.osmroad.proofs.Refusals.{Same, both, no_fault, one_fault}
+use Rattle.osmroad.proofs.Refusals.{not_refused, one_refusal, store_not_refused, one_store_refusal}
 
-one_output : OneReading → OneMap → ((M : Objects) → OneGraph M motorcar_rules) → (bytes out other : List ℕ)
-    → IsCompiled bytes out → IsCompiled bytes other → out ≡ other
-one_output reading map graph bytes out other a b =
-    let events = reading Extract bytes b.events a.events b.read a.read in
-    let applied = subst (λ (l : List Event). IsApplied empty l b.graph.objects) events b.graph.applied in
-    let objects = map empty b.graph.objects a.graph.objects a.events applied a.graph.applied in
-    graph a.graph.objects out other a.graph.graph
-    (subst (λ (M : Objects). IsGraph M motorcar_rules other) objects b.graph.graph)
+-- the same status and output, and one history afterwards
+abbrev pub Alike : Status → List ℕ → Option History → Status → List ℕ → Option History → Type 0
+Alike status out after another other later = (status ≡ another) × (out ≡ other) × (after ≡ later)
 
-same : {A : Type 0} (x y z : A) → x ≡ z → y ≡ z → x ≡ y
-same x y z e f = e ∙ sym f
+with_after : (status another : Status) (out other : List ℕ) (after later : Option History)
+    → Same status out another other → after ≡ later → Alike status out after another other later
+with_after status another out other after later same e = (same.0, same.1, e)
 
-one_fault : (f g : FaultAt) → Some f ≡ Some g → refused_line f ≡ refused_line g
-one_fault f g e = let same : f ≡ g = cc in ap refused_line same
+-- ---- what is shown of events
 
-pub one_answer : OneReading → OneMap → ((M : Objects) → OneGraph M motorcar_rules)
-    → (words : List (List ℕ)) (bytes out other : List ℕ) (status another : Status)
-    → Gives words bytes status out → Gives words bytes another other → (status ≡ another) × (out ≡ other)
-one_answer reading map graph words bytes out other status another (OfOtherWords n e o) (OfOtherWords m f p)
-    = (same _ _ _ e f, same _ _ _ o p)
-one_answer reading map graph words bytes out other status another (OfOtherWords n e o) (OfTooMuch js k f p) = absurd
-    (n js)
-one_answer reading map graph words bytes out other status another (OfOtherWords n e o) (OfFault js k y h f p) = absurd
-    (n js)
-one_answer reading map graph words bytes out other status another (OfOtherWords n e o) (OfExtract js k d f) = absurd
-    (n js)
-one_answer reading map graph words bytes out other status another (OfTooMuch is l e o) (OfOtherWords m f p) = absurd
-    (m is)
-one_answer reading map graph words bytes out other status another (OfTooMuch is l e o) (OfTooMuch js k f p)
-    = (same _ _ _ e f, same _ _ _ o p)
-one_answer reading map graph words bytes out other status another (OfTooMuch is l e o) (OfFault js k y h f p) = absurd
-    (k l)
-one_answer reading map graph words bytes out other status another (OfTooMuch is l e o) (OfExtract js k d f) = absurd
-    (k l)
-one_answer reading map graph words bytes out other status another (OfFault is l x g e o) (OfOtherWords m f p) = absurd
-    (m is)
-one_answer reading map graph words bytes out other status another (OfFault is l x g e o) (OfTooMuch js k f p) = absurd
-    (l k)
-one_answer reading map graph words bytes out other status another (OfFault is l x g e o) (OfFault js k y h f p)
-    = (same _ _ _ e f, o ∙ (one_fault x y (sym g ∙ h) ∙ sym p))
-one_answer reading map graph words bytes out other status another (OfFault is l x g e o) (OfExtract js k d f) = let good
-    = d.read.good in cc
-one_answer reading map graph words bytes out other status another (OfExtract is l c e) (OfOtherWords m f p) = absurd
-    (m is)
-one_answer reading map graph words bytes out other status another (OfExtract is l c e) (OfTooMuch js k f p) = absurd
-    (l k)
-one_answer reading map graph words bytes out other status another (OfExtract is l c e) (OfFault js k y h f p) = let good
-    = c.read.good in cc
-one_answer reading map graph words bytes out other status another (OfExtract is l c e) (OfExtract js k d f)
-    = (same _ _ _ e f, one_output reading map graph bytes out other c d)
+pub one_graph_of : OneMap → ((M : Objects) → OneGraph M motorcar_rules) → (events : List Event) (out other : List ℕ)
+    → IsGraphOf events out → IsGraphOf events other → out ≡ other
+one_graph_of map graph events out other a b =
+    let objects = map empty b.objects a.objects events b.applied a.applied in
+    graph a.objects out other a.graph (subst (λ (M : Objects). IsGraph M motorcar_rules other) objects b.graph)
+
+-- ---- without a store
+
+module _ (reading : OneReading) (map : OneMap) (graph : (M : Objects) → OneGraph M motorcar_rules) where
+  one_compiled : (bytes out other : List ℕ) → IsCompiled bytes out → IsCompiled bytes other → out ≡ other
+  one_compiled bytes out other a b =
+      let events = reading Extract bytes b.events a.events b.read a.read in
+      one_graph_of map graph a.events out other a.graph
+      (subst (λ (l : List Event). IsGraphOf l other) events b.graph)
+
+  one_compile : (bytes : List ℕ) (status another : Status) (out other : List ℕ)
+      → CompileGives bytes status out → CompileGives bytes another other → Same status out another other
+  one_compile bytes status another out other (CompileGives.OfInput r) (CompileGives.OfInput s) =
+      one_refusal Extract bytes status another out other r s
+  one_compile bytes status another out other (CompileGives.OfInput r) (CompileGives.OfExtract w c f) = absurd
+      (not_refused Extract bytes status out c.events (record { within = w; read = c.read }) r)
+  one_compile bytes status another out other (CompileGives.OfExtract w c e) (CompileGives.OfInput s) = absurd
+      (not_refused Extract bytes another other c.events (record { within = w; read = c.read }) s)
+  one_compile bytes status another out other (CompileGives.OfExtract w c e) (CompileGives.OfExtract v d f) =
+      (both _ _ _ e f, one_compiled bytes out other c d)
+
+-- ---- a new store
+
+module _ (reading : OneReading) (number : ℕ) (files : Files) (bytes : List ℕ) (status another : Status)
+    (out other : List ℕ) (after later : Option History) where
+  one_create : CreateGives number files bytes status out after → CreateGives number files bytes another other later
+      → Alike status out after another other later
+  one_create (CreateGives.OfOldStore i h e o a) (CreateGives.OfOldStore k g f p b) =
+      (both _ _ _ e f, both _ _ _ o p, both _ _ _ a b)
+  one_create (CreateGives.OfOldStore i h e o a) (CreateGives.OfInput n r b) = absurd (n i h.0 h.1 h.2)
+  one_create (CreateGives.OfOldStore i h e o a) (CreateGives.OfExtract n l x f p b) = absurd (n i h.0 h.1 h.2)
+  one_create (CreateGives.OfInput n r a) (CreateGives.OfOldStore k g f p b) = absurd (n k g.0 g.1 g.2)
+  one_create (CreateGives.OfInput n r a) (CreateGives.OfInput m s b) =
+      with_after _ _ _ _ _ _ (one_refusal Extract bytes status another out other r s) (both _ _ _ a b)
+  one_create (CreateGives.OfInput n r a) (CreateGives.OfExtract m l x f p b) = absurd
+      (not_refused Extract bytes status out l x r)
+  one_create (CreateGives.OfExtract n l x e o a) (CreateGives.OfOldStore k g f p b) = absurd (n k g.0 g.1 g.2)
+  one_create (CreateGives.OfExtract n l x e o a) (CreateGives.OfInput m s b) = absurd
+      (not_refused Extract bytes another other l x s)
+  one_create (CreateGives.OfExtract n l x e o a) (CreateGives.OfExtract m k y f p b) =
+      let same = reading Extract bytes l k x.read y.read in
+      (both _ _ _ e f, both _ _ _ o p, a ∙ (ap (λ (v : List Event). Some (base_alone number v)) same ∙ sym b))
+
+-- ---- a store
+
+module _ (live : OneLive) (has : HasLive) (sound : NoDamage) (alone : OneDamage) (store : OneStore)
+    (files : Files) where
+  one_history : (s t : IsStore files) → s.history ≡ t.history
+  one_history s t =
+      (store files s.live t.live s.generation t.generation s.history t.history s.stands t.stands).2
+
+  one_generation : (s t : IsStore files) → s.generation ≡ t.generation
+  one_generation s t =
+      (store files s.live t.live s.generation t.generation s.history t.history s.stands t.stands).1
+
+  module _ (status another : Status) (out other : List ℕ) (after later : Option History) where
+    as_before : (s t : IsStore files) → after ≡ Some s.history → later ≡ Some t.history → after ≡ later
+    as_before s t a b = a ∙ (ap Some (one_history s t) ∙ sym b)
+
+    module _ (Shows : List Event → List ℕ → Type 0)
+        (one : (events : List Event) (x y : List ℕ) → Shows events x → Shows events y → x ≡ y) where
+      one_show : ShowGives Shows files status out after → ShowGives Shows files another other later
+          → Alike status out after another other later
+      one_show (ShowGives.OfStore r a) (ShowGives.OfStore s b) =
+          with_after _ _ _ _ _ _ (one_store_refusal files status another out other live alone r s) (both _ _ _ a b)
+      one_show (ShowGives.OfStore r a) (ShowGives.OfHistory t y f b) = absurd
+          (store_not_refused files status out live has sound t r)
+      one_show (ShowGives.OfHistory s x e a) (ShowGives.OfStore r b) = absurd
+          (store_not_refused files another other live has sound s r)
+      one_show (ShowGives.OfHistory s x e a) (ShowGives.OfHistory t y f b) =
+          let same = sym (one_history s t) in
+          let shown = subst (λ (h : History). Shows (all_events h) other) same y in
+          (both _ _ _ e f, one (all_events s.history) out other x shown, as_before s t a b)
+
+    module _ (reading : OneReading) (number : ℕ) (bytes : List ℕ) where
+      not_next : (s t : IsStore files) → (number ≡ kept s.history + 1 → ⊥) → number ≡ kept t.history + 1 → ⊥
+      not_next s t wrong next = wrong (next ∙ ap (λ (h : History). kept h + 1) (sym (one_history s t)))
+
+      one_change : (x y : List Event) → AreInput Change bytes x → AreInput Change bytes y → x ≡ y
+      one_change x y r q = reading Change bytes x y r.read q.read
+
+      one_size : (s t : IsStore files) (x y : List Event) → x ≡ y
+          → size_with_change s.generation s.history x ≡ size_with_change t.generation t.history y
+      one_size s t x y same =
+          ap (λ (g : ℕ). size_with_change g s.history x) (one_generation s t)
+          ∙ (ap (λ (h : History). size_with_change t.generation h x) (one_history s t)
+          ∙ ap (λ (l : List Event). size_with_change t.generation t.history l) same)
+
+      -- the change fits into the file or doesn't
+      not_full : (s t : IsStore files) (x y : List Event) → AreInput Change bytes x → AreInput Change bytes y
+          → 2 ^ 40 < size_with_change s.generation s.history x
+          → size_with_change t.generation t.history y ≤ 2 ^ 40 → ⊥
+      not_full s t x y r q large fits =
+          let same = one_size s t x y (one_change x y r q) in
+          let more = subst (λ (n : ℕ). 2 ^ 40 < n) same large in
+          omega arith
+
+      one_after : (s t : IsStore files) (x y : List Event) → AreInput Change bytes x → AreInput Change bytes y
+          → Some (with_change s.history x) ≡ Some (with_change t.history y)
+      one_after s t x y r q =
+          ap (λ (h : History). Some (with_change h x)) (one_history s t)
+          ∙ ap (λ (l : List Event). Some (with_change t.history l)) (one_change x y r q)
+
+      -- a store that is refused, and one that isn't
+      refused_store : (t : IsStore files) → StoreRefusal files status out → ⊥
+      refused_store t r = store_not_refused files status out live has sound t r
+
+      other_refused : (s : IsStore files) → StoreRefusal files another other → ⊥
+      other_refused s r = store_not_refused files another other live has sound s r
+
+      one_apply : ApplyGives number files bytes status out after → ApplyGives number files bytes another other later
+          → Alike status out after another other later
+      one_apply (ApplyGives.OfStore r a) (ApplyGives.OfStore q b) =
+          with_after _ _ _ _ _ _ (one_store_refusal files status another out other live alone r q) (both _ _ _ a b)
+      one_apply (ApplyGives.OfStore r a) (ApplyGives.OfTooMuch t m f p b) = absurd (refused_store t r)
+      one_apply (ApplyGives.OfStore r a) (ApplyGives.OfSequence t w n f p b) = absurd (refused_store t r)
+      one_apply (ApplyGives.OfStore r a) (ApplyGives.OfFault t w n y is f p b) = absurd (refused_store t r)
+      one_apply (ApplyGives.OfStore r a) (ApplyGives.OfFullFile t n y q l f p b) = absurd (refused_store t r)
+      one_apply (ApplyGives.OfStore r a) (ApplyGives.OfChange t n y q l f p b) = absurd (refused_store t r)
+      one_apply (ApplyGives.OfTooMuch s m e o a) (ApplyGives.OfStore r b) = absurd (other_refused s r)
+      one_apply (ApplyGives.OfTooMuch s m e o a) (ApplyGives.OfTooMuch t k f p b) =
+          (both _ _ _ e f, both _ _ _ o p, as_before s t a b)
+      one_apply (ApplyGives.OfTooMuch s m e o a) (ApplyGives.OfSequence t w n f p b) = absurd (w m)
+      one_apply (ApplyGives.OfTooMuch s m e o a) (ApplyGives.OfFault t w n y is f p b) = absurd (w m)
+      one_apply (ApplyGives.OfTooMuch s m e o a) (ApplyGives.OfFullFile t n y q l f p b) = absurd (q.within m)
+      one_apply (ApplyGives.OfTooMuch s m e o a) (ApplyGives.OfChange t n y q l f p b) = absurd (q.within m)
+      one_apply (ApplyGives.OfSequence s v c e o a) (ApplyGives.OfStore r b) = absurd (other_refused s r)
+      one_apply (ApplyGives.OfSequence s v c e o a) (ApplyGives.OfTooMuch t k f p b) = absurd (v k)
+      one_apply (ApplyGives.OfSequence s v c e o a) (ApplyGives.OfSequence t w n f p b) = (
+        both _ _ _ e f,
+        o ∙ (ap (λ (h : History). sequence_line number (kept h)) (one_history s t)
+            ∙ sym p),
+        as_before s t a b,
+      )
+      one_apply (ApplyGives.OfSequence s v c e o a) (ApplyGives.OfFault t w n y is f p b) = absurd (not_next s t c n)
+      one_apply (ApplyGives.OfSequence s v c e o a) (ApplyGives.OfFullFile t n y q l f p b) = absurd (not_next s t c n)
+      one_apply (ApplyGives.OfSequence s v c e o a) (ApplyGives.OfChange t n y q l f p b) = absurd (not_next s t c n)
+      one_apply (ApplyGives.OfFault s v c x js e o a) (ApplyGives.OfStore r b) = absurd (other_refused s r)
+      one_apply (ApplyGives.OfFault s v c x js e o a) (ApplyGives.OfTooMuch t k f p b) = absurd (v k)
+      one_apply (ApplyGives.OfFault s v c x js e o a) (ApplyGives.OfSequence t w n f p b) = absurd (not_next t s n c)
+      one_apply (ApplyGives.OfFault s v c x js e o a) (ApplyGives.OfFault t w n y is f p b) = (
+        both _ _ _ e f,
+        o ∙ (one_fault x y (input_fault Change bytes) js is
+            ∙ sym p),
+        as_before s t a b,
+      )
+      one_apply (ApplyGives.OfFault s v c x js e o a) (ApplyGives.OfFullFile t n y q l f p b) = absurd
+          (no_fault Change bytes y x q.read js)
+      one_apply (ApplyGives.OfFault s v c x js e o a) (ApplyGives.OfChange t n y q l f p b) = absurd
+          (no_fault Change bytes y x q.read js)
+      one_apply (ApplyGives.OfFullFile s c x r k e o a) (ApplyGives.OfStore q b) = absurd (other_refused s q)
+      one_apply (ApplyGives.OfFullFile s c x r k e o a) (ApplyGives.OfTooMuch t m f p b) = absurd (r.within m)
+      one_apply (ApplyGives.OfFullFile s c x r k e o a) (ApplyGives.OfSequence t w n f p b) = absurd (not_next t s n c)
+      one_apply (ApplyGives.OfFullFile s c x r k e o a) (ApplyGives.OfFault t w n y is f p b) = absurd
+          (no_fault Change bytes x y r.read is)
+      one_apply (ApplyGives.OfFullFile s c x r k e o a) (ApplyGives.OfFullFile t n y q l f p b) =
+          (both _ _ _ e f, both _ _ _ o p, as_before s t a b)
+      one_apply (ApplyGives.OfFullFile s c x r k e o a) (ApplyGives.OfChange t n y q l f p b) = absurd
+          (not_full s t x y r q k l)
+      one_apply (ApplyGives.OfChange s c x r k e o a) (ApplyGives.OfStore q b) = absurd (other_refused s q)
+      one_apply (ApplyGives.OfChange s c x r k e o a) (ApplyGives.OfTooMuch t m f p b) = absurd (r.within m)
+      one_apply (ApplyGives.OfChange s c x r k e o a) (ApplyGives.OfSequence t w n f p b) = absurd (not_next t s n c)
+      one_apply (ApplyGives.OfChange s c x r k e o a) (ApplyGives.OfFault t w n y is f p b) = absurd
+          (no_fault Change bytes x y r.read is)
+      one_apply (ApplyGives.OfChange s c x r k e o a) (ApplyGives.OfFullFile t n y q l f p b) = absurd
+          (not_full t s y x q r l k)
+      one_apply (ApplyGives.OfChange s c x r k e o a) (ApplyGives.OfChange t n y q l f p b) =
+          (both _ _ _ e f, both _ _ _ o p, a ∙ (one_after s t x y r q ∙ sym b))
+
+-- ---- all commands
+
+module _ (reading : OneReading) (map : OneMap) (graph : (M : Objects) → OneGraph M motorcar_rules)
+    (total : IsTotalOrder relation_cmp) (bytes : List ℕ) (status another : Status) (out other : List ℕ)
+    (after later : Option History) where
+  one_usage : (files : Option Files) → Gives None files bytes status out after
+      → Gives None files bytes another other later → Alike status out after another other later
+  one_usage files a b = (both _ _ _ a.0 b.0, both _ _ _ a.1 b.1, both _ _ _ a.2 b.2)
+
+  one_alone : (files : Option Files) → Gives (Some Compile) files bytes status out after
+      → Gives (Some Compile) files bytes another other later → Alike status out after another other later
+  one_alone files a b = with_after _ _ _ _ _ _ (one_compile reading map graph bytes status another out other a.0 b.0)
+      (both _ _ _ a.1 b.1)
+
+  -- without a store no file is looked at
+  pub one_without : (command : Option Command) → (IsStored command → ⊥) → Gives command None bytes status out after
+      → Gives command None bytes another other later → Alike status out after another other later
+  one_without None n a b = one_usage None a b
+  one_without (Some Compile) n a b = one_alone None a b
+  one_without (Some (Create number)) n a b = absurd (n tt)
+  one_without (Some (Apply number)) n a b = absurd (n tt)
+  one_without (Some Graph) n a b = absurd (n tt)
+  one_without (Some Audit) n a b = absurd (n tt)
+
+  pub one_answer : OneLive → HasLive → NoDamage → OneDamage → OneStore → (command : Option Command) (files : Files)
+      → Gives command (Some files) bytes status out after → Gives command (Some files) bytes another other later
+      → Alike status out after another other later
+  one_answer live has sound alone store None files a b = one_usage (Some files) a b
+  one_answer live has sound alone store (Some Compile) files a b = one_alone (Some files) a b
+  one_answer live has sound alone store (Some (Create n)) files a b =
+      one_create reading n.0 files bytes status another out other after later a b
+  one_answer live has sound alone store (Some (Apply n)) files a b =
+      one_apply live has sound alone store files status another out other after later reading n.0 bytes a b
+  one_answer live has sound alone store (Some Graph) files a b =
+      one_show live has sound alone store files status another out other after later IsGraphOf (one_graph_of map graph)
+      a b
+  one_answer live has sound alone store (Some Audit) files a b =
+      one_show live has sound alone store files status another out other after later IsAuditOf (one_audit total map)
+      a b

@@ -1,195 +1,297 @@
--- How a run ends, from how it read and put.
-use Rattle.std.proofs.Common.{◌≡◌, ◌⊎◌, ◌<◌, ℕ, List, [], ◌++◌, Option, None, Some}
-use Rattle.std.proofs.Common.{inl, inr, refl, sym, ap, ◌∙◌, subst, arith}
+-- How a run ends, from what was prepared and how it was put.
+use Rattle.std.proofs.Common.{◌≡◌, ℕ, List, [], ◌++◌, take, drop, Option, None, Some, Ok, Err}
+use Rattle.std.proofs.Common.{inl, inr, refl, sym, ap, ◌∙◌, subst, append_assoc, take-append-drop}
 use Rattle.std.proofs.lemmas.List.{append-nil}
-use Rattle.std.specs.Prelude.{unwrap_or}
-use Rattle.road_base.specs.declared.event.Event.{Event}
-use Rattle.road_base.specs.Objects.{Objects}
-use Rattle.road_base.specs.Applying.{IsApplied}
-use Rattle.road_io.specs.Told.{Rose}
-use Rattle.road_io.specs.Outside.{Outside}
+use Rattle.std.proofs.Transfers.{starts_with_trans, starts_with_of_append}
+use Rattle.std.specs.Io.{StartsWith}
+use Rattle.road_base.specs.History.{History}
+use Rattle.road_io.specs.Told.{Told}
+use Rattle.road_io.specs.Disk.{IsImage}
+use Rattle.road_io.specs.Outside.{Outside, Left, LeavesOnly, extended}
+use Rattle.road_io.proofs.CallRuns.{put_goes_on}
+use Rattle.road_io.proofs.ToldCalls.{told_then, told_weaker}
+use Rattle.osmroad.specs.declared.command.Command.{Command}
+use Rattle.osmroad.specs.declared.command.Command.TheVariants.{Compile, Create, Apply, Graph, Audit}
+use Rattle.osmroad.specs.declared.reply.Reply.{Reply}
+use Rattle.osmroad.specs.declared.reply.Failure.{Failure}
+use Rattle.osmroad.specs.declared.reply.Failure.TheVariants.{ReadFault as ReadFailure, SiteFault as SiteFailure}
+use Rattle.osmroad.specs.declared.reply.Failure.TheVariants.{NoMemory as MemoryFailure}
 use Rattle.osmroad.specs.declared.status.Status.{Status}
 use Rattle.osmroad.specs.declared.status.Status.TheVariants.{Done, Usage, ReadFault, SiteFault, Refused, Limit}
 use Rattle.osmroad.specs.declared.status.Status.TheVariants.{NoMemory, OutOfSequence, NoStore, StoreExists, Damaged}
-use Rattle.opl_lexer.specs.declared.mode.Mode.{Mode}
-use Rattle.opl_lexer.specs.declared.mode.Mode.TheVariants.{Extract}
-use Rattle.opl_lexer.specs.Reading.{ReadAll}
-use Rattle.osmroad.specs.Input.{Took, Ended, ReadWhole}
-use Rattle.osmroad.specs.Run.{IsCompile, IsWithinLimits, Gives, OfOtherWords, OfTooMuch, OfFault, OfExtract}
-use Rattle.osmroad.specs.Run.{Grows, EndsPut, EndsRefusal, PutsAll, EndsWith, Leaves, Reads, Ends}
+use Rattle.osmroad.specs.Stops.{LeftBy}
+use Rattle.osmroad.specs.Run.{IsReading, IsReply, Grows, GrowsInto, EndsPut, PutsSome, files_of}
+use Rattle.osmroad.specs.Run.{StandAfter, HeldBytes, Reads, PutsAll, EndsWith, Ends}
+use Rattle.osmroad.specs.Replies.{WillPut, WillFail, Prepares, failure_status}
+use Rattle.osmroad.proofs.HeldSource.{behind_of, held_still}
 
--- ---- what was read
+-- ---- statuses with which something is put
 
-abbrev pub behind_of : Option (List ℕ) → List ℕ
-behind_of left = unwrap_or left []
+-- it isn't one by which a fault or want of memory ends a run
+abbrev pub IsPlain : Status → Type 0
+IsPlain ReadFault = ⊥
+IsPlain SiteFault = ⊥
+IsPlain NoMemory = ⊥
+IsPlain status = Unit {0}
 
-pub behind_nothing : (left : Option (List ℕ)) → Ended left → behind_of left ≡ []
-behind_nothing None e = refl
-behind_nothing (Some y) e = e
+plain : (wanted status : Status) → IsPlain wanted → status ≡ wanted → IsPlain status
+plain wanted status p is = subst IsPlain (sym is) p
 
-pub all_read : (read : List ℕ) (left : Option (List ℕ)) → Ended left → read ++ behind_of left ≡ read
-all_read read left e = ap (λ (l : List ℕ). read ++ l) (behind_nothing left e) ∙ append-nil read
+pub reply_is_plain : (command : Option Command) (status : Status) → IsReply command status → IsPlain status
+reply_is_plain None status is = plain Usage status tt is
+reply_is_plain (Some Compile) status (inl is) = plain Done status tt is
+reply_is_plain (Some Compile) status (inr (inl is)) = plain Refused status tt is
+reply_is_plain (Some Compile) status (inr (inr is)) = plain Limit status tt is
+reply_is_plain (Some (Create n)) status (inl is) = plain Done status tt is
+reply_is_plain (Some (Create n)) status (inr (inl is)) = plain Refused status tt is
+reply_is_plain (Some (Create n)) status (inr (inr (inl is))) = plain Limit status tt is
+reply_is_plain (Some (Create n)) status (inr (inr (inr is))) = plain StoreExists status tt is
+reply_is_plain (Some (Apply n)) status (inl is) = plain Done status tt is
+reply_is_plain (Some (Apply n)) status (inr (inl is)) = plain Refused status tt is
+reply_is_plain (Some (Apply n)) status (inr (inr (inl is))) = plain OutOfSequence status tt is
+reply_is_plain (Some (Apply n)) status (inr (inr (inr (inl is)))) = plain NoStore status tt is
+reply_is_plain (Some (Apply n)) status (inr (inr (inr (inr (inl is))))) = plain Damaged status tt is
+reply_is_plain (Some (Apply n)) status (inr (inr (inr (inr (inr is))))) = plain Limit status tt is
+reply_is_plain (Some Graph) status (inl is) = plain Done status tt is
+reply_is_plain (Some Graph) status (inr (inl is)) = plain NoStore status tt is
+reply_is_plain (Some Graph) status (inr (inr (inl is))) = plain Damaged status tt is
+reply_is_plain (Some Graph) status (inr (inr (inr is))) = plain Limit status tt is
+reply_is_plain (Some Audit) status (inl is) = plain Done status tt is
+reply_is_plain (Some Audit) status (inr (inl is)) = plain NoStore status tt is
+reply_is_plain (Some Audit) status (inr (inr (inl is))) = plain Damaged status tt is
+reply_is_plain (Some Audit) status (inr (inr (inr is))) = plain Limit status tt is
 
--- what was read stood before what is left
-pub leaves : (read : List ℕ) (held left : Option (List ℕ)) → Took read held left
-    → Leaves (read ++ behind_of left) (behind_of left) held left
-leaves read None None t = tt
-leaves read None (Some y) t = absurd t
-leaves read (Some x) None t = absurd t
-leaves read (Some x) (Some y) t = (t, refl)
+-- ---- a put, and what was prepared before it
 
--- ---- what was put
+grows_then : (out : List ℕ) (before mid now : Option Outside)
+    → Told (λ w v. v.output ≡ w.output) before mid → Grows out mid now → Grows out before now
+grows_then out before mid now silent grows =
+    told_then before mid now (λ w v. v.output ≡ w.output) (λ w v. v.output ≡ w.output ++ out)
+    (λ w v. v.output ≡ w.output ++ out) silent grows (λ w u v e f. f ∙ ap (λ (l : List ℕ). l ++ out) e)
 
--- nothing was put
-pub grows_nothing : (x : Option Outside) → Grows [] x x
-grows_nothing None = tt
-grows_nothing (Some w) = sym (append-nil w.output)
+grows_into_then : (out : List ℕ) (before mid now : Option Outside)
+    → Told (λ w v. v.output ≡ w.output) before mid → GrowsInto out mid now → GrowsInto out before now
+grows_into_then out before mid now silent grows =
+    told_then before mid now (λ w v. v.output ≡ w.output) (λ w v. (n : ℕ) × (v.output ≡ w.output ++ take n out))
+    (λ w v. (n : ℕ) × (v.output ≡ w.output ++ take n out)) silent grows
+    (λ w u v e f. (f.0, f.1 ∙ ap (λ (l : List ℕ). l ++ take f.0 out) e))
 
--- a put ends with the status that was wanted, or with a fault that came
-module _ (out : List ℕ) (wanted result : Status) (before now : Option Outside) (faults_before faults_now : ℕ) where
-  pub put_fault : (wanted ≡ SiteFault → ⊥) → EndsPut out wanted result before now faults_before faults_now
-      → result ≡ SiteFault → Rose faults_before faults_now
-  put_fault n (inl p) e = absurd (n (sym p.0 ∙ e))
-  put_fault n (inr p) e = p.2
+pub grows_nothing : (before now : Option Outside) → Told (λ w v. v.output ≡ w.output) before now → Grows [] before now
+grows_nothing before now silent = told_weaker before now (λ w v. v.output ≡ w.output) (λ w v. v.output ≡ w.output ++ [])
+    silent (λ w v e. e ∙ sym (append-nil w.output))
 
-  pub put_each_fault : EndsPut out wanted result before now faults_before faults_now
-      → faults_before < faults_now → result ≡ SiteFault
-  put_each_fault (inl p) rises = absurd (omega (arith, p.2))
-  put_each_fault (inr p) rises = p.0
+-- a put changes no file
+extended_stands : (command : Option Command) (after : Option History) (w u : Outside) (piece : List ℕ)
+    → StandAfter command after w u → StandAfter command after w (extended piece u)
+extended_stands None None w u piece s = s
+extended_stands None (Some h) w u piece s = s
+extended_stands (Some Compile) None w u piece s = s
+extended_stands (Some Compile) (Some h) w u piece s = s
+extended_stands (Some (Create n)) None w u piece s = s
+extended_stands (Some (Create n)) (Some h) w u piece s = s
+extended_stands (Some (Apply n)) None w u piece s = s
+extended_stands (Some (Apply n)) (Some h) w u piece s = s
+extended_stands (Some Graph) None w u piece s = s
+extended_stands (Some Graph) (Some h) w u piece s = s
+extended_stands (Some Audit) None w u piece s = s
+extended_stands (Some Audit) (Some h) w u piece s = s
 
-  pub put_no_read_fault : (wanted ≡ ReadFault → ⊥) → EndsPut out wanted result before now faults_before faults_now
-      → result ≡ ReadFault → ⊥
-  put_no_read_fault n (inl p) e = n (sym p.0 ∙ e)
-  put_no_read_fault n (inr p) e = let q : SiteFault ≡ ReadFault = sym p.0 ∙ e in cc
+module _ (command : Option Command) (out : List ℕ) where
+  still_stands : (after : Option History) (w u v : Outside) → StandAfter command after w u → PutsSome out u v
+      → StandAfter command after w v
+  still_stands after w u v s (inl same) = subst (λ (x : Outside). StandAfter command after w x) (sym same) s
+  still_stands after w u v s (inr put) = subst (λ (x : Outside). StandAfter command after w x) (sym put.1)
+      (extended_stands command after w u (take put.0 out) s)
 
--- a put for which memory is taken first
-module _ (out : List ℕ) (result : Status) (before now : Option Outside) (faults_before faults_now : ℕ) where
-  pub refusal_fault : EndsRefusal out result before now faults_before faults_now
-      → result ≡ SiteFault → Rose faults_before faults_now
-  refusal_fault (inl p) e =
-      put_fault out Refused result before now faults_before faults_now (λ same. cc) p e
-  refusal_fault (inr p) e = let q : NoMemory ≡ SiteFault = sym p.0 ∙ e in cc
+  -- what a stop leaves while a front of the output is put
+  abbrev pub IsLastLeft : List ℕ → Outside → Outside → Type 0
+  IsLastLeft read w u = (left : Left) → IsImage u.a left.a → IsImage u.b left.b → StartsWith (u.output ++ out) left.out
+      → LeftBy command read w left
 
-  pub refusal_each_fault : EndsRefusal out result before now faults_before faults_now
-      → faults_before < faults_now → result ≡ SiteFault
-  refusal_each_fault (inl p) rises = put_each_fault out Refused result before now faults_before faults_now p rises
-  refusal_each_fault (inr p) rises = absurd (omega (arith, p.2))
+  front_begins : (u : Outside) (n : ℕ) → StartsWith (u.output ++ out) (u.output ++ take n out)
+  front_begins u n = starts_with_of_append (u.output ++ out) (u.output ++ take n out) (drop n out)
+      (ap (λ (l : List ℕ). u.output ++ l) (sym (take-append-drop n out))
+      ∙ sym (append_assoc u.output (take n out) (drop n out)))
 
-  pub refusal_no_read_fault : EndsRefusal out result before now faults_before faults_now → result ≡ ReadFault → ⊥
-  refusal_no_read_fault (inl p) e =
-      put_no_read_fault out Refused result before now faults_before faults_now (λ same. cc) p e
-  refusal_no_read_fault (inr p) e = let q : NoMemory ≡ ReadFault = sym p.0 ∙ e in cc
+  put_leaves : (read : List ℕ) (w u v : Outside) → LeavesOnly w u (LeftBy command read w)
+      → IsLastLeft read w u → PutsSome out u v → LeavesOnly w v (LeftBy command read w)
+  put_leaves read w u v only last (inl same) =
+      subst (λ (x : Outside). LeavesOnly w x (LeftBy command read w)) (sym same) only
+  put_leaves read w u v only last (inr put) =
+      put_goes_on w u v (LeftBy command read w) (take put.0 out) only put.1 (λ left a b s. last left a b
+      (starts_with_trans (u.output ++ out) (u.output ++ take put.0 out) left.out (front_begins u put.0) s))
 
--- ---- how it ends
+  told_leaves : (read : List ℕ) (before mid now : Option Outside)
+      → Told (λ w v. LeavesOnly w v (LeftBy command read w)) before mid → Told (IsLastLeft read) before mid
+      → Told (PutsSome out) mid now → Told (λ w v. LeavesOnly w v (LeftBy command read w)) before now
+  told_leaves read None None None only last put = tt
+  told_leaves read None None (Some v) only last put = absurd put
+  told_leaves read None (Some u) now only last put = absurd only
+  told_leaves read (Some w) None now only last put = absurd only
+  told_leaves read (Some w) (Some u) None only last put = absurd put
+  told_leaves read (Some w) (Some u) (Some v) only last put = put_leaves read w u v only last put
 
-module _ (words : List (List ℕ)) (bytes read behind : List ℕ) (held left : Option (List ℕ))
-    (all : bytes ≡ read ++ behind) (told : Leaves bytes behind held left)
-    (before now : Option Outside) (faults_before faults_now : ℕ) where
-  -- the last put ended
-  pub ends_put : (out : List ℕ) (wanted result : Status) → Reads wanted bytes read → Gives words bytes wanted out
-      → (PutsAll words bytes wanted before now → EndsWith words bytes wanted before now)
-      → EndsPut out wanted result before now faults_before faults_now
-      → Ends words result held left before now
-  ends_put out wanted result reads gives to (inl p) =
-      subst (λ (s : Status). Ends words s held left before now) (sym p.0) (record {
+-- ---- something was put
+
+reads_at_fault : (command : Option Command) (before : Option Outside) (status : Status) (bytes read : List ℕ)
+    → Reads command (files_of before) status bytes read → Reads command (files_of before) SiteFault bytes read
+reads_at_fault None before status bytes read reads = reads
+reads_at_fault (Some Compile) before status bytes read reads = tt
+reads_at_fault (Some (Create n)) before status bytes read reads = tt
+reads_at_fault (Some (Apply n)) before status bytes read reads = tt
+reads_at_fault (Some Graph) before status bytes read reads = reads
+reads_at_fault (Some Audit) before status bytes read reads = reads
+
+all_is_put : (command : Option Command) (bytes read : List ℕ) (status : Status) (before now : Option Outside)
+    → IsPlain status → PutsAll command bytes status before now → EndsWith command bytes read status before now
+all_is_put command bytes read Done before now p puts = puts
+all_is_put command bytes read Usage before now p puts = puts
+all_is_put command bytes read ReadFault before now p puts = absurd p
+all_is_put command bytes read SiteFault before now p puts = absurd p
+all_is_put command bytes read Refused before now p puts = puts
+all_is_put command bytes read OutOfSequence before now p puts = puts
+all_is_put command bytes read NoStore before now p puts = puts
+all_is_put command bytes read StoreExists before now p puts = puts
+all_is_put command bytes read Damaged before now p puts = puts
+all_is_put command bytes read Limit before now p puts = puts
+all_is_put command bytes read NoMemory before now p puts = absurd p
+
+module _ (command : Option Command) (before mid now : Option Outside) (faults_mid faults_now : ℕ)
+    (held left : Option (List ℕ)) where
+  pub ends_put : (wanted : Status) (out bytes read behind : List ℕ) → bytes ≡ read ++ behind
+      → HeldBytes bytes behind held left
+      → WillPut command bytes read wanted out before mid
+      → Told (λ w v. v.output ≡ w.output) before mid
+      → Told (λ w v. LeavesOnly w v (LeftBy command read w)) before mid
+      → Told (PutsSome out) mid now
+      → (status : Status) → EndsPut out wanted status mid now faults_mid faults_now
+      → Ends command status held left before now
+  ends_put wanted out bytes read behind all holds will silent only put status ends = go ends
+    where
+      stand : Told (StandAfter command will.after) before now
+      stand = told_then before mid now (StandAfter command will.after) (PutsSome out)
+          (StandAfter command will.after) will.stand put (λ w u v. still_stands command out will.after w u v)
+
+      stops : Told (λ w v. LeavesOnly w v (LeftBy command read w)) before now
+      stops = told_leaves command out read before mid now only will.last put
+
+      go : EndsPut out wanted status mid now faults_mid faults_now → Ends command status held left before now
+      go (inl p) = subst (λ (s : Status). Ends command s held left before now) (sym p.0) (record {
         bytes = bytes;
         read = read;
         behind = behind;
         all = all;
-        leaves = told;
-        reads = reads;
-        puts = to (record { out = out; gives = gives; grows = p.1 });
+        holds = holds;
+        reads = will.reads;
+        puts = all_is_put command bytes read wanted before now (reply_is_plain command wanted will.replies) (record {
+          out = out;
+          after = will.after;
+          gives = will.gives;
+          grows = grows_then out before mid now silent p.1;
+          stand = stand;
+        });
+        stops = stops;
       })
-  ends_put out wanted result reads gives to (inr p) =
-      subst (λ (s : Status). Ends words s held left before now) (sym p.0) (record {
+      go (inr p) = subst (λ (s : Status). Ends command s held left before now) (sym p.0) (record {
         bytes = bytes;
         read = read;
         behind = behind;
         all = all;
-        leaves = told;
-        reads = tt;
-        puts = record { status = wanted; out = out; gives = gives; grows = p.1 };
+        holds = holds;
+        reads = reads_at_fault command before wanted bytes read will.reads;
+        puts = inl (record {
+          status = wanted;
+          out = out;
+          after = will.after;
+          reads = will.reads;
+          gives = will.gives;
+          grows = grows_into_then out before mid now silent p.1;
+          stand = stand;
+        });
+        stops = stops;
       })
 
-  pub ends_refusal : (out : List ℕ) (result : Status) → read ≡ bytes → IsCompile words → Gives words bytes Refused out
-      → EndsRefusal out result before now faults_before faults_now
-      → Ends words result held left before now
-  ends_refusal out result whole is gives (inl p) = ends_put out Refused result whole gives (λ q. q) p
-  ends_refusal out result whole is gives (inr p) =
-      subst (λ (s : Status). Ends words s held left before now) (sym p.0) (record {
-        bytes = bytes;
-        read = read;
-        behind = behind;
-        all = all;
-        leaves = told;
-        reads = tt;
-        puts = (is, p.1);
-      })
+  -- what was prepared is put
+  pub ends_prepared : (reply : Reply) → Prepares command (Ok reply) held left before mid
+      → Told (PutsSome reply.out.items) mid now
+      → (status : Status) → EndsPut reply.out.items reply.status status mid now faults_mid faults_now
+      → Ends command status held left before now
+  ends_prepared reply p put status ends =
+      ends_put reply.status reply.out.items p.bytes p.read p.behind p.all p.holds p.answer p.silent p.only put status
+      ends
 
--- ---- what must be done is done
+-- ---- nothing was put
 
-abbrev pub OneMap : Type 0
-OneMap = (M N O : Objects) (events : List Event) → IsApplied M events N → IsApplied M events O → N ≡ O
+fails_alike : (command : Option Command) (read other : List ℕ) (failure : Failure) (before now : Option Outside)
+    → (IsReading command → ⊥) → WillFail command read failure before now → WillFail command other failure before now
+fails_alike command read other ReadFailure before now none fails = absurd (none fails.0)
+fails_alike command read other SiteFailure before now none fails = fails
+fails_alike command read other MemoryFailure before now none fails = fails
 
-abbrev pub OneReading : Type 0
-OneReading = (mode : Mode) (bytes : List ℕ) (events others : List Event)
-    → ReadAll mode bytes events → ReadAll mode bytes others → events ≡ others
+reads_as_failed : (command : Command) (bytes read : List ℕ) (failure : Failure) (before now : Option Outside)
+    → IsReading (Some command) → WillFail (Some command) read failure before now
+    → Reads (Some command) (files_of before) (failure_status failure) bytes read
+reads_as_failed Compile bytes read ReadFailure before now is fails = fails.1
+reads_as_failed Compile bytes read SiteFailure before now is fails = tt
+reads_as_failed Compile bytes read MemoryFailure before now is fails = tt
+reads_as_failed (Create n) bytes read ReadFailure before now is fails = fails.1
+reads_as_failed (Create n) bytes read SiteFailure before now is fails = tt
+reads_as_failed (Create n) bytes read MemoryFailure before now is fails = tt
+reads_as_failed (Apply n) bytes read ReadFailure before now is fails = fails.1
+reads_as_failed (Apply n) bytes read SiteFailure before now is fails = tt
+reads_as_failed (Apply n) bytes read MemoryFailure before now is fails = tt
+reads_as_failed Graph bytes read failure before now is fails = absurd is
+reads_as_failed Audit bytes read failure before now is fails = absurd is
 
-same_held : (bytes other behind : List ℕ) (held left : Option (List ℕ)) → held ≡ Some bytes
-    → Leaves other behind held left → bytes ≡ other
-same_held bytes other behind None left e l = cc
-same_held bytes other behind (Some x) None e l = absurd l
-same_held bytes other behind (Some x) (Some y) e l =
-    let k : Some x ≡ Some bytes = e in let m : x ≡ other = l.0 in cc
+module _ (command : Option Command) (held left : Option (List ℕ)) (before now : Option Outside)
+    (silent : Told (λ w v. v.output ≡ w.output) before now) where
+  fails_with : (bytes read : List ℕ) (failure : Failure) → WillFail command read failure before now
+      → EndsWith command bytes read (failure_status failure) before now
+  fails_with bytes read ReadFailure fails = (grows_nothing before now silent, fails.2)
+  fails_with bytes read SiteFailure fails = inr (fails, grows_nothing before now silent)
+  fails_with bytes read MemoryFailure fails = (grows_nothing before now silent, fails)
 
--- an input that was read whole leaves the events of what the source held
-pub held_events : OneReading → (bytes : List ℕ) (events others : List Event) (held left : Option (List ℕ))
-    → ReadWhole Extract events held left → held ≡ Some bytes → ReadAll Extract bytes others → others ≡ events
-held_events one bytes events others held left whole is reads =
-    let told = leaves whole.bytes held left whole.took in
-    let all = all_read whole.bytes left whole.ended in
-    let same = same_held bytes (whole.bytes ++ behind_of left) (behind_of left) held left is told ∙ all in
-    one Extract bytes others events reads (subst (λ (l : List ℕ). ReadAll Extract l events) (sym same) whole.gives)
+  ends_failing : (bytes read behind : List ℕ) (failure : Failure) → bytes ≡ read ++ behind
+      → HeldBytes bytes behind held left → WillFail command read failure before now
+      → Reads command (files_of before) (failure_status failure) bytes read
+      → Told (λ w v. LeavesOnly w v (LeftBy command read w)) before now
+      → Ends command (failure_status failure) held left before now
+  ends_failing bytes read behind failure all holds fails reads only = record {
+    bytes = bytes;
+    read = read;
+    behind = behind;
+    all = all;
+    holds = holds;
+    reads = reads;
+    puts = fails_with bytes read failure fails;
+    stops = only;
+  }
 
-not_usage : (words : List (List ℕ)) (bytes out : List ℕ) → IsCompile words → Gives words bytes Usage out → ⊥
-not_usage words bytes out is (OfOtherWords other e o) = other is
-not_usage words bytes out is (OfTooMuch i n e o) = cc
-not_usage words bytes out is (OfFault i n f g e o) = cc
-not_usage words bytes out is (OfExtract i n c e) = cc
+module _ (failure : Failure) (held left : Option (List ℕ)) (before now : Option Outside) where
+  -- what was prepared by a command that reads its source
+  ends_reading : (command : Command) → IsReading (Some command)
+      → Prepares (Some command) (Err failure) held left before now
+      → Ends (Some command) (failure_status failure) held left before now
+  ends_reading command is p =
+      ends_failing (Some command) held left before now p.silent p.bytes p.read p.behind failure p.all p.holds p.answer
+      (reads_as_failed command p.bytes p.read failure before now is p.answer) p.only
 
-not_limit : (words : List (List ℕ)) (bytes out : List ℕ) → IsWithinLimits bytes → Gives words bytes Limit out → ⊥
-not_limit words bytes out within (OfOtherWords other e o) = cc
-not_limit words bytes out within (OfTooMuch i n e o) = within n
-not_limit words bytes out within (OfFault i n f g e o) = cc
-not_limit words bytes out within (OfExtract i n c e) = cc
+  nothing_held : left ≡ held → HeldBytes (behind_of held) (behind_of held) held left
+  nothing_held same =
+      subst (λ (l : Option (List ℕ)). HeldBytes (behind_of held) (behind_of held) held l) (sym same) (held_still held)
 
-not_refused : (words : List (List ℕ)) (bytes out : List ℕ) (events : List Event) → ReadAll Extract bytes events
-    → Gives words bytes Refused out → ⊥
-not_refused words bytes out events r (OfOtherWords other e o) = cc
-not_refused words bytes out events r (OfTooMuch i n e o) = cc
-not_refused words bytes out events r (OfFault i n f g e o) = let good = r.good in cc
-not_refused words bytes out events r (OfExtract i n c e) = cc
-
--- where words and bytes are good and nothing failed, a run is done, or memory ended
-module _ (words : List (List ℕ)) (bytes : List ℕ) (events : List Event) (held left : Option (List ℕ))
-    (before now : Option Outside) where
-  pub completes : (status : Status) → Ends words status held left before now
-      → IsCompile words → held ≡ Some bytes → IsWithinLimits bytes → ReadAll Extract bytes events
-      → (status ≡ ReadFault → ⊥) → (status ≡ SiteFault → ⊥)
-      → (status ≡ Done) ⊎ (status ≡ NoMemory)
-  completes Done e is h within r nr ns = inl refl
-  completes Usage e is h within r nr ns = absurd (not_usage words e.bytes e.puts.out is e.puts.gives)
-  completes ReadFault e is h within r nr ns = absurd (nr refl)
-  completes SiteFault e is h within r nr ns = absurd (ns refl)
-  completes Refused e is h within r nr ns =
-      let same = same_held bytes e.bytes e.behind held left h e.leaves in
-      let good = subst (λ (l : List ℕ). ReadAll Extract l events) same r in
-      absurd (not_refused words e.bytes e.puts.out events good e.puts.gives)
-  completes OutOfSequence e is h within r nr ns = absurd e.puts
-  completes NoStore e is h within r nr ns = absurd e.puts
-  completes StoreExists e is h within r nr ns = absurd e.puts
-  completes Damaged e is h within r nr ns = absurd e.puts
-  completes Limit e is h within r nr ns =
-      let same = same_held bytes e.bytes e.behind held left h e.leaves in
-      absurd (not_limit words e.bytes e.puts.out (subst IsWithinLimits same within) e.puts.gives)
-  completes NoMemory e is h within r nr ns = inr refl
+  -- a command that doesn't read its source leaves it as it was
+  pub ends_failed : (command : Command) → ((IsReading (Some command) → ⊥) → left ≡ held)
+      → Prepares (Some command) (Err failure) held left before now
+      → Ends (Some command) (failure_status failure) held left before now
+  ends_failed Compile unread p = ends_reading Compile tt p
+  ends_failed (Create n) unread p = ends_reading (Create n) tt p
+  ends_failed (Apply n) unread p = ends_reading (Apply n) tt p
+  ends_failed Graph unread p =
+      ends_failing (Some Graph) held left before now p.silent (behind_of held) [] (behind_of held) failure refl
+      (nothing_held (unread (λ is. is)))
+      (fails_alike (Some Graph) p.read [] failure before now (λ is. is) p.answer) refl p.only
+  ends_failed Audit unread p =
+      ends_failing (Some Audit) held left before now p.silent (behind_of held) [] (behind_of held) failure refl
+      (nothing_held (unread (λ is. is)))
+      (fails_alike (Some Audit) p.read [] failure before now (λ is. is) p.answer) refl p.only

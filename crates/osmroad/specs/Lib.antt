@@ -1,4 +1,6 @@
 pub mod Compiled
+pub mod Audit
+pub mod Audited
 pub mod Highways
 pub mod Building
 pub mod Limits
@@ -6,4 +8,9 @@ pub mod Texts
 pub mod Input
 pub mod Reading
 pub mod Status
+pub mod Commands
+pub mod Opening
+pub mod Outcomes
+pub mod Stops
 pub mod Run
+pub mod Replies

@@ -1,55 +1,76 @@
--- What a run gives, and how it may end.
-use Rattle.std.specs.Prelude.{◌≡◌, ℕ, ◌⊎◌, List, [], ◌∷◌, ◌++◌, take, Option, Some, codes}
+-- How a run ends: what was read and put, for what the files then stand, and what a stop leaves.
+use Rattle.std.specs.Prelude.{◌≡◌, ◌⊎◌, ℕ, ◌+◌, ◌≤◌, ◌^◌, List, [], ◌++◌, length, take, Option, None, Some}
+use Rattle.std.specs.Prelude.{IfSome}
+use Rattle.std.specs.FinMap.{empty}
 use Rattle.road_base.specs.declared.event.Event.{Event}
-use Rattle.opl_lexer.specs.declared.mode.Mode.TheVariants.{Extract}
-use Rattle.opl_lexer.specs.Reading.{FaultAt, input_fault, ReadAll}
+use Rattle.road_base.specs.History.{History, HasObjects, kept}
+use Rattle.road_base.specs.Objects.{Objects}
+use Rattle.road_base.specs.Applying.{IsApplied}
+use Rattle.opl_lexer.specs.declared.mode.Mode.TheVariants.{Extract, Change}
+use Rattle.opl_lexer.specs.Reading.{ReadAll}
 use Rattle.road_io.specs.Told.{Told, Rose}
-use Rattle.road_io.specs.Outside.{Outside}
+use Rattle.road_io.specs.declared.outside.Which.{Which}
+use Rattle.road_io.specs.Outside.{Outside, LeavesOnly, extended}
+use Rattle.sequence_journal.specs.Standing.{DamagedAt}
+use Rattle.store_switch.specs.LiveFile.{IsLive, NoBases, reads_of}
+use Rattle.store_switch.specs.TwoFiles.{StandFor, CanBeLoaded}
+use Rattle.store_switch.specs.StoreLoading.{StillRead}
+use Rattle.osmroad.specs.declared.command.Command.{Command}
+use Rattle.osmroad.specs.declared.command.Command.TheVariants.{Compile, Create, Apply, Graph, Audit}
 use Rattle.osmroad.specs.declared.status.Status.{Status}
 use Rattle.osmroad.specs.declared.status.Status.TheVariants.{Done, Usage, ReadFault, SiteFault, Refused, Limit}
 use Rattle.osmroad.specs.declared.status.Status.TheVariants.{NoMemory, OutOfSequence, NoStore, StoreExists, Damaged}
 use Rattle.osmroad.specs.Limits.{PassesLimit}
-use Rattle.osmroad.specs.Texts.{refused_line}
-use Rattle.osmroad.specs.Compiled.{IsGraphOf}
+use Rattle.osmroad.specs.Highways.{highways}
+use Rattle.osmroad.specs.Opening.{Files, IsStore, size_with_change}
+use Rattle.osmroad.specs.Outcomes.{Gives, AreInput, IsWithinLimits}
+use Rattle.osmroad.specs.Stops.{LeftBy}
 
--- ---- what is asked
+-- ---- kinds of commands
 
--- the words `- compile`
-abbrev pub IsCompile : List (List ℕ) → Type 0
-IsCompile words = words ≡ codes "-" ∷ codes "compile" ∷ []
+-- the words ask something
+abbrev pub IsAsked : Option Command → Type 0
+IsAsked None = ⊥
+IsAsked (Some c) = Unit {0}
 
-abbrev pub usage_line : List ℕ
-usage_line =
-    codes "usage: osmroad STORE create N|apply N|session|graph|audit|checkpoint, or osmroad - compile|inspect|sample N"
-    ++ 10 ∷ []
+-- the command reads its source
+abbrev pub IsReading : Option Command → Type 0
+IsReading None = ⊥
+IsReading (Some Compile) = Unit {0}
+IsReading (Some (Create n)) = Unit {0}
+IsReading (Some (Apply n)) = Unit {0}
+IsReading (Some Graph) = ⊥
+IsReading (Some Audit) = ⊥
 
-abbrev pub limit_line : List ℕ
-limit_line = codes "limit" ++ 10 ∷ []
+-- the command works on a store; any other one touches no file
+abbrev pub IsStored : Option Command → Type 0
+IsStored None = ⊥
+IsStored (Some Compile) = ⊥
+IsStored (Some (Create n)) = Unit {0}
+IsStored (Some (Apply n)) = Unit {0}
+IsStored (Some Graph) = Unit {0}
+IsStored (Some Audit) = Unit {0}
 
--- ---- what is given
+-- the statuses with which a command puts something
+abbrev pub IsReply : Option Command → Status → Type 0
+IsReply None status = status ≡ Usage
+IsReply (Some Compile) status = (status ≡ Done) ⊎ (status ≡ Refused) ⊎ (status ≡ Limit)
+IsReply (Some (Create n)) status =
+    (status ≡ Done) ⊎ (status ≡ Refused) ⊎ (status ≡ Limit) ⊎ (status ≡ StoreExists)
+IsReply (Some (Apply n)) status = (status ≡ Done) ⊎ (status ≡ Refused) ⊎ (status ≡ OutOfSequence)
+    ⊎ (status ≡ NoStore) ⊎ (status ≡ Damaged) ⊎ (status ≡ Limit)
+IsReply (Some Graph) status = (status ≡ Done) ⊎ (status ≡ NoStore) ⊎ (status ≡ Damaged) ⊎ (status ≡ Limit)
+IsReply (Some Audit) status = (status ≡ Done) ⊎ (status ≡ NoStore) ⊎ (status ≡ Damaged) ⊎ (status ≡ Limit)
 
--- no line is in fault, and `out` is the graph of the objects that the events leave
-pub record IsCompiled (bytes out : List ℕ) : Type 0 where
-  pub events : List Event
-  pub read : ReadAll Extract bytes events
-  pub graph : IsGraphOf events out
+-- Each status that a command may have, whatever source and site: one with which it puts something, or one by which a
+-- fault of them or want of memory ends it.
+abbrev pub MayEnd : Option Command → Status → Type 0
+MayEnd command ReadFault = IsReading command
+MayEnd command SiteFault = Unit {0}
+MayEnd command NoMemory = IsAsked command
+MayEnd command status = IsReply command status
 
-abbrev pub IsWithinLimits : List ℕ → Type 0
-IsWithinLimits bytes = PassesLimit bytes → ⊥
-
--- The status and the output for these words, where the source holds these bytes and nothing fails. Words and bytes
--- determine both: the law `one_answer`.
-pub data Gives (words : List (List ℕ)) (bytes : List ℕ) (status : Status) (out : List ℕ) : Type 0 where
-  OfOtherWords : (IsCompile words → ⊥)
-      → status ≡ Usage → out ≡ usage_line → Gives words bytes status out
-  OfTooMuch : IsCompile words → PassesLimit bytes
-      → status ≡ Limit → out ≡ limit_line → Gives words bytes status out
-  OfFault : IsCompile words → IsWithinLimits bytes → (fault : FaultAt) → input_fault Extract bytes ≡ Some fault
-      → status ≡ Refused → out ≡ refused_line fault → Gives words bytes status out
-  OfExtract : IsCompile words → IsWithinLimits bytes → IsCompiled bytes out
-      → status ≡ Done → Gives words bytes status out
-
--- ---- how a run ends
+-- ---- what was put
 
 -- the output grew by these bytes
 abbrev pub Grows : List ℕ → Option Outside → Option Outside → Type 0
@@ -66,67 +87,143 @@ EndsPut piece wanted status before now faults_before faults_now =
     ((status ≡ wanted) × Grows piece before now × (faults_now ≡ faults_before))
     ⊎ ((status ≡ SiteFault) × GrowsInto piece before now × Rose faults_before faults_now)
 
--- how a put of a text ended for which memory is taken first
-abbrev pub EndsRefusal : List ℕ → Status → Option Outside → Option Outside → ℕ → ℕ → Type 0
-EndsRefusal piece status before now faults_before faults_now =
-    EndsPut piece Refused status before now faults_before faults_now
-    ⊎ ((status ≡ NoMemory) × Grows [] before now × (faults_now ≡ faults_before))
+-- nothing was done, or a front of the piece was put
+abbrev pub PutsSome : List ℕ → Outside → Outside → Type 0
+PutsSome piece before now = (now ≡ before) ⊎ ((n : ℕ) × (now ≡ extended (take n piece) before))
 
--- what is given was put whole
-pub record PutsAll (words : List (List ℕ)) (bytes : List ℕ) (status : Status)
+-- ---- what the files say
+
+-- the bytes of the files, where they are told
+abbrev pub files_of : Option Outside → Option Files
+files_of None = None
+files_of (Some w) = Some (reads_of w)
+
+-- The files stand for this history, or, where none is said, read as before. The next run can load them; of a new store
+-- no limit is said.
+abbrev pub StandAfter : Option Command → Option History → Outside → Outside → Type 0
+StandAfter command None w v = StillRead w v
+StandAfter (Some (Create n)) (Some h) w v = StandFor (reads_of v) h
+StandAfter command (Some h) w v = CanBeLoaded (reads_of v) h
+
+-- the files read as before, or they stand for the history for which they stood
+abbrev pub StandAsBefore : Outside → Outside → Type 0
+StandAsBefore w v = StillRead w v ⊎ ((h : History) × CanBeLoaded (reads_of w) h × CanBeLoaded (reads_of v) h)
+
+-- ---- what was read
+
+-- The source held these bytes, and these remain of them, where it tells them. One that tells goes on telling.
+abbrev pub HeldBytes : List ℕ → List ℕ → Option (List ℕ) → Option (List ℕ) → Type 0
+HeldBytes bytes behind = Told (λ before now. (before ≡ bytes) × (now ≡ behind))
+
+-- What was read at a limit: more than is allowed; with a change also all of it, where the store has no room for it, or
+-- nothing, where the live file is too large already.
+abbrev pub ReadsToLimit : Option Command → List ℕ → List ℕ → Type 0
+ReadsToLimit (Some (Apply n)) bytes read = PassesLimit read ⊎ (read ≡ bytes) ⊎ (read ≡ [])
+ReadsToLimit command bytes read = PassesLimit read
+
+-- What was read by a command that reads its source: all of the bytes, no more than the limits allow, or nothing, where
+-- the files are looked at first. Where they aren't told, a store may appear while the source is read.
+abbrev pub ReadsSource : Option Command → Option Files → Status → List ℕ → List ℕ → Type 0
+ReadsSource command files Done bytes read = read ≡ bytes
+ReadsSource command files Usage bytes read = read ≡ []
+ReadsSource command files ReadFault bytes read = IsWithinLimits read
+ReadsSource command files SiteFault bytes read = Unit {0}
+ReadsSource command files Refused bytes read = read ≡ bytes
+ReadsSource command files OutOfSequence bytes read = read ≡ bytes
+ReadsSource command files NoStore bytes read = read ≡ []
+ReadsSource command files StoreExists bytes read = IfSome files (λ f. read ≡ [])
+ReadsSource command files Damaged bytes read = read ≡ []
+ReadsSource command files Limit bytes read = ReadsToLimit command bytes read
+ReadsSource command files NoMemory bytes read = Unit {0}
+
+-- any other command reads nothing
+abbrev pub Reads : Option Command → Option Files → Status → List ℕ → List ℕ → Type 0
+Reads None files status bytes read = read ≡ []
+Reads (Some Compile) files status bytes read = ReadsSource (Some Compile) files status bytes read
+Reads (Some (Create n)) files status bytes read = ReadsSource (Some (Create n)) files status bytes read
+Reads (Some (Apply n)) files status bytes read = ReadsSource (Some (Apply n)) files status bytes read
+Reads (Some Graph) files status bytes read = read ≡ []
+Reads (Some Audit) files status bytes read = read ≡ []
+
+-- ---- how a run ends
+
+-- what is given was put whole, and the files are left as is said
+pub record PutsAll (command : Option Command) (bytes : List ℕ) (status : Status)
     (before now : Option Outside) : Type 0 where
   pub out : List ℕ
-  pub gives : Gives words bytes status out
+  pub after : Option History
+  pub gives : Gives command (files_of before) bytes status out after
   pub grows : Grows out before now
+  pub stand : Told (StandAfter command after) before now
 
--- a front of what is given was put
-pub record PutsFront (words : List (List ℕ)) (bytes : List ℕ) (before now : Option Outside) : Type 0 where
+-- a front of what is given was put, all of which rests on what was read
+pub record PutsFront (command : Option Command) (bytes read : List ℕ) (before now : Option Outside) : Type 0 where
   pub status : Status
   pub out : List ℕ
-  pub gives : Gives words bytes status out
+  pub after : Option History
+  pub reads : Reads command (files_of before) status bytes read
+  pub gives : Gives command (files_of before) bytes status out after
   pub grows : GrowsInto out before now
+  pub stand : Told (StandAfter command after) before now
 
--- What was put, by the status. Nothing is put where the source fails or memory ends. The other statuses don't come
--- yet.
-abbrev pub EndsWith : List (List ℕ) → List ℕ → Status → Option Outside → Option Outside → Type 0
-EndsWith words bytes Done before now = PutsAll words bytes Done before now
-EndsWith words bytes Usage before now = PutsAll words bytes Usage before now
-EndsWith words bytes ReadFault before now = IsCompile words × Grows [] before now
-EndsWith words bytes SiteFault before now = PutsFront words bytes before now
-EndsWith words bytes Refused before now = PutsAll words bytes Refused before now
-EndsWith words bytes OutOfSequence before now = ⊥
-EndsWith words bytes NoStore before now = ⊥
-EndsWith words bytes StoreExists before now = ⊥
-EndsWith words bytes Damaged before now = ⊥
-EndsWith words bytes Limit before now = PutsAll words bytes Limit before now
-EndsWith words bytes NoMemory before now = IsCompile words × Grows [] before now
+-- What was put, by the status. Nothing is put where the source fails or memory ends, nor where the site fails before
+-- the last put.
+abbrev pub EndsWith : Option Command → List ℕ → List ℕ → Status → Option Outside → Option Outside → Type 0
+EndsWith command bytes read ReadFault before now = Grows [] before now × Told StandAsBefore before now
+EndsWith command bytes read SiteFault before now =
+    PutsFront command bytes read before now ⊎ (IsStored command × Grows [] before now)
+EndsWith command bytes read NoMemory before now = Grows [] before now × Told StandAsBefore before now
+EndsWith command bytes read status before now = PutsAll command bytes status before now
 
--- The source held these bytes, and these are left of them, where it tells them. One that tells goes on telling.
-abbrev pub Leaves : List ℕ → List ℕ → Option (List ℕ) → Option (List ℕ) → Type 0
-Leaves bytes behind = Told (λ before now. (before ≡ bytes) × (now ≡ behind))
-
--- What was read, by the status: all of the bytes; none; no more than the limits allow; or more.
-abbrev pub Reads : Status → List ℕ → List ℕ → Type 0
-Reads Done bytes read = read ≡ bytes
-Reads Usage bytes read = read ≡ []
-Reads ReadFault bytes read = IsWithinLimits read
-Reads SiteFault bytes read = Unit {0}
-Reads Refused bytes read = read ≡ bytes
-Reads OutOfSequence bytes read = Unit {0}
-Reads NoStore bytes read = Unit {0}
-Reads StoreExists bytes read = Unit {0}
-Reads Damaged bytes read = Unit {0}
-Reads Limit bytes read = PassesLimit read
-Reads NoMemory bytes read = Unit {0}
-
--- How a run ends: the bytes that the source held, those of them that were read, and what was put. Where the source
--- tells nothing, these are some bytes that begin with those that were read.
-pub record Ends (words : List (List ℕ)) (status : Status) (held left : Option (List ℕ))
+-- How a run ends: the bytes that the source held, those of them that were read, what was put, and what a stop at any
+-- moment of the run leaves. Where the source tells nothing, these are some bytes that begin with those that were read.
+pub record Ends (command : Option Command) (status : Status) (held remaining : Option (List ℕ))
     (before now : Option Outside) : Type 0 where
   pub bytes : List ℕ
   pub read : List ℕ
   pub behind : List ℕ
   pub all : bytes ≡ read ++ behind
-  pub leaves : Leaves bytes behind held left
-  pub reads : Reads status bytes read
-  pub puts : EndsWith words bytes status before now
+  pub holds : HeldBytes bytes behind held remaining
+  pub reads : Reads command (files_of before) status bytes read
+  pub puts : EndsWith command bytes read status before now
+  pub stops : Told (λ w v. LeavesOnly w v (LeftBy command read w)) before now
+
+-- ---- what must be done
+
+-- one file is live, has at most 2^40 bytes and isn't damaged
+pub record IsReadable (files : Files) : Type 0 where
+  pub live : Which
+  pub is_live : IsLive live files
+  pub small : length (files live) ≤ 2 ^ 40
+  pub whole : (offset : ℕ) → DamagedAt (files live) offset → ⊥
+
+-- the change has the number behind the kept one, and there is room for it, for whatever history the files stand
+abbrev pub CanBeAdded : ℕ → List Event → Files → Type 0
+CanBeAdded number events files = (s : IsStore files)
+    → (number ≡ kept s.history + 1) × (size_with_change s.generation s.history events ≤ 2 ^ 40)
+
+-- The words ask something, the bytes pass no limit and none of their lines is in fault, the files are as the command
+-- needs them, and a file to be written keeps within its limit.
+abbrev pub CanBeDone : Option Command → Option Files → List ℕ → Type 0
+CanBeDone None files bytes = ⊥
+CanBeDone (Some Compile) files bytes = (events : List Event) × AreInput Extract bytes events
+CanBeDone (Some (Create n)) (Some files) bytes = NoBases files
+    × (events : List Event) × AreInput Extract bytes events
+CanBeDone (Some (Apply n)) (Some files) bytes = IsReadable files
+    × (events : List Event) × AreInput Change bytes events × CanBeAdded n.0 events files
+CanBeDone (Some Graph) (Some files) bytes = IsReadable files
+CanBeDone (Some Audit) (Some files) bytes = IsReadable files
+CanBeDone command None bytes = ⊥
+
+-- ---- how many blocks are built
+
+-- No more blocks are built than there are visible ways with the key `highway` among the objects of which the graph is.
+-- Other commands build none.
+abbrev pub Builds : Option Command → Option (List ℕ) → Option Outside → ℕ → ℕ → Type 0
+Builds (Some Compile) held before old new = (bytes : List ℕ) (events : List Event) (objects : Objects)
+    → held ≡ Some bytes → ReadAll Extract bytes events → IsApplied empty events objects
+    → new ≤ old + length (highways objects)
+Builds (Some Graph) held before old new = (w : Outside) (h : History) (objects : Objects)
+    → before ≡ Some w → CanBeLoaded (reads_of w) h → HasObjects h objects
+    → new ≤ old + length (highways objects)
+Builds command held before old new = new ≡ old

@@ -1,4 +1,4 @@
--- The texts of refusals.
+-- The lines that are put, each with its newline.
 use Rattle.std.specs.Prelude.{◌++◌, ℕ, List, [], ◌∷◌, codes}
 use Rattle.std.specs.Fmt.{decimal}
 use Rattle.opl_lexer.specs.Reading.{FaultAt}
@@ -6,6 +6,40 @@ use Rattle.opl_lexer.specs.declared.fault.FaultKind.{FaultKind}
 use Rattle.opl_lexer.specs.declared.fault.FaultKind.TheVariants.{NotUtf8, UnknownLine, UnknownField, Repeated}
 use Rattle.opl_lexer.specs.declared.fault.FaultKind.TheVariants.{BadNumber, BadEscape, BadTag, BadMember, BadRef}
 use Rattle.opl_lexer.specs.declared.fault.FaultKind.TheVariants.{BadCoordinate, BadFlag, NoVersion, TooMany}
+use Rattle.road_io.specs.declared.outside.Which.{Which}
+use Rattle.road_io.specs.declared.outside.Which.TheVariants.{A, B}
+
+abbrev pub usage_line : List ℕ
+usage_line =
+    codes "usage: osmroad STORE create N|apply N|session|graph|audit|checkpoint, or osmroad - compile|inspect|sample N"
+    ++ 10 ∷ []
+
+abbrev pub limit_line : List ℕ
+limit_line = codes "limit" ++ 10 ∷ []
+
+abbrev pub no_store_line : List ℕ
+no_store_line = codes "no store" ++ 10 ∷ []
+
+abbrev pub store_exists_line : List ℕ
+store_exists_line = codes "store exists" ++ 10 ∷ []
+
+abbrev pub created_line : ℕ → List ℕ
+created_line n = codes "created " ++ (decimal n ++ 10 ∷ [])
+
+abbrev pub applied_line : ℕ → List ℕ
+applied_line n = codes "applied " ++ (decimal n ++ 10 ∷ [])
+
+-- the number that came, and the kept one
+abbrev pub sequence_line : ℕ → ℕ → List ℕ
+sequence_line n kept = codes "sequence " ++ (decimal n ++ (codes " kept " ++ (decimal kept ++ 10 ∷ [])))
+
+abbrev pub file_letter : Which → List ℕ
+file_letter A = codes "a"
+file_letter B = codes "b"
+
+-- the file, and the place of the gate of its first part in fault
+abbrev pub damaged_line : Which → ℕ → List ℕ
+damaged_line file offset = codes "damaged " ++ (file_letter file ++ (codes " " ++ (decimal offset ++ 10 ∷ [])))
 
 abbrev pub kind_name : FaultKind → List ℕ
 kind_name NotUtf8 = codes "NotUtf8"

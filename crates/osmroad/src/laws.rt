@@ -1,21 +1,40 @@
 //! A law of what a run gives, the contract of a function that does nothing.
-ghost use Rattle.std.specs.Prelude.{◌≡◌, List, ℕ};
+ghost use Rattle.std.specs.Prelude.{◌≡◌, List, Option, None, Some, ℕ};
+ghost use Rattle.road_base.specs.History.{History};
+ghost use Rattle.osmroad.specs.declared.command.Command.{Command};
 ghost use Rattle.osmroad.specs.declared.status.Status.{Status};
-ghost use Rattle.osmroad.specs.Run.{Gives};
+ghost use Rattle.osmroad.specs.Opening.{Files};
+ghost use Rattle.osmroad.specs.Outcomes.{Gives};
+ghost use Rattle.osmroad.specs.Run.{IsStored};
 
 use access_profile::Motorcar;
 use opl_lexer::laws::one_reading;
 use road_base::laws::one_map;
-use road_model::laws::one_graph;
+use road_model::laws::{number_order, one_graph};
+use sequence_journal::laws::one_damage;
+use store_switch::laws::{no_damage_in_store, one_live, one_store};
 
-/// Words and bytes determine the status and the output of a run in which nothing fails.
+/// A command, the bytes of both files and those of the source determine the status, the output, and the history for
+/// which the files then stand, of a run in which nothing fails. Without a store no file is looked at.
 pub fn one_answer()
-    ensures { (words : List (List ℕ)) (bytes out other : List ℕ) (status another : Status)
-        → Gives words bytes status out
-        → Gives words bytes another other
-        → (status ≡ another) × (out ≡ other) }
+    ensures stored { (command : Option Command) (files : Files) (bytes out other : List ℕ) (status another : Status)
+        (after next : Option History)
+        → Gives command (Some files) bytes status out after
+        → Gives command (Some files) bytes another other next
+        → (status ≡ another) × (out ≡ other) × (after ≡ next) }
+    ensures alone { (command : Option Command) (bytes out other : List ℕ) (status another : Status)
+        (after next : Option History)
+        → (IsStored command → ⊥)
+        → Gives command None bytes status out after
+        → Gives command None bytes another other next
+        → (status ≡ another) × (out ≡ other) × (after ≡ next) }
 {
     one_reading();
     one_map();
     one_graph(&Motorcar);
+    number_order();
+    one_live();
+    one_store();
+    one_damage();
+    no_damage_in_store();
 }

@@ -1,24 +1,37 @@
-//! osmroad compiles what a car may drive in OpenStreetMap data to a turn-expanded graph.
+//! osmroad compiles what a car may drive in OpenStreetMap data to a turn-expanded graph, and keeps a map and its
+//! changes in a store.
 //!
-//! `run` is the one call that does all that the program does, over any source and site; `main` hands it standard input
-//! and standard output. The words `- compile` build the graph of an extract: the input is read part by part into
-//! events (`input`), of each object the first event of the greatest version stands (`graph`), and for each visible way
-//! with the key `highway` (`highways`) its block is built, written if it has pieces, and let go (`blocks`). Time grows
-//! as n log n with the input, the graph, and the words that are looked at for each way (`expanded_graph`); memory stays
-//! a small multiple of the input and the words, and holds the graph's bytes once. The graph of a town is about as large
-//! as its extract; that of a node with very many ways grows with the square of their number.
+//! `run` is the one call that does all that the program does, over any source and site; `main` hands it standard input,
+//! standard output and the two files of the store. `command` says what the words ask; `compile`, `create`, `apply` and
+//! `stored` each prepare a reply (`reply`), which is then put once.
+//!
+//! A graph is built so: the input is read part by part into events (`input`), of each object the first event of the
+//! greatest version stands (`graph`), and for each visible way with the key `highway` (`highways`) its block is built,
+//! written if it has pieces, and let go (`blocks`). Time grows as n log n with the input, the graph, and the words that
+//! are looked at for each way (`expanded_graph`); memory stays a small multiple of the input and the words, and holds
+//! the graph's bytes once. The graph of a town is about as large as its extract; that of a node with very many ways
+//! grows with the square of their number. `create` costs its input, and holds what it writes once; `apply` costs the
+//! live file and its input, and so do `graph` and `audit`, with the graph, or the words of each restriction.
 #![tactic(auto)]
 
 ghost use Rattle.std.specs.Prelude.{◌≡◌, ◌<◌};
 
+mod apply;
+mod audit;
 mod blocks;
+mod command;
+mod compile;
+mod create;
+mod findings;
 mod graph;
 mod highways;
 mod input;
 mod laws;
 mod limits;
+mod reply;
 mod run;
 mod status;
+mod stored;
 mod texts;
 
 use crate::run::run;
@@ -85,6 +98,6 @@ mod map_tests;
 #[cfg(test)]
 mod piece_tests;
 #[cfg(test)]
-mod restriction_tests;
+mod store_tests;
 #[cfg(test)]
 mod tests;

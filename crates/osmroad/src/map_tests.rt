@@ -27,9 +27,14 @@ fn with_lines(alloc: Global, map: &[u8], more: &[u8]) -> Result<Vec<u8>, Fail> {
     Ok(lines)
 }
 
+/// The nodes, and these lines.
+pub fn with_nodes(alloc: Global, lines: &[u8]) -> Result<Vec<u8>, Fail> {
+    with_lines(alloc, NODES, lines)
+}
+
 /// The world of these nodes and lines.
 pub fn world_of(alloc: Global, lines: &[u8]) -> Result<Indexed, Fail> {
-    let input = with_lines(alloc, NODES, lines)?;
+    let input = with_nodes(alloc, lines)?;
     let mut source = MemorySource::new(input, Vec::new(alloc));
     match read_events(alloc, Mode::Extract, &mut source) {
         Ok(events) => Ok(Indexed::of(alloc, events)?),
@@ -43,7 +48,7 @@ fn compiled_text<L: Ledger>(alloc: Global, lines: &[u8], blank: Blank) -> Result
     requires parts { blank.parts ≡ L.parts }
     requires some { 0 < L.parts }
 {
-    let input = with_lines(alloc, NODES, lines)?;
+    let input = with_nodes(alloc, lines)?;
     let graph = compiled::<L>(alloc, &input, blank)?;
     graph_text(alloc, graph)
 }

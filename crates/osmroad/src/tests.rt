@@ -11,7 +11,8 @@ use std::sync::ledger::{Blank, Ledger};
 use std::test::Fail;
 
 /// Way 10 over three nodes. Node 2 is plain, and one turns round at both ends.
-const STREET: &[u8] = b"n1 x0 y0\nn2 x0.001 y0\nn3 x0.002 y0\nw10 Thighway=residential Nn1,n2,n3\n";
+pub const STREET: &[u8] =
+    b"n1 x0 y0\nn2 x0.001 y0\nn3 x0.002 y0\nw10 Thighway=residential Nn1,n2,n3\n";
 
 /// The same with carriage returns, without a last newline, and in another order.
 const STREET_RETURNS: &[u8] =
@@ -54,7 +55,7 @@ const STREET_SURROUNDINGS: &[u8] = b"\
 
 /// The graph of `STREET`, as the format spells it: a header; way 10 with two pieces; each with its positions and
 /// direction, its nodes, and one context with one arc to the other piece.
-const STREET_GRAPH: &[u8] = b"\
+pub const STREET_GRAPH: &[u8] = b"\
     \x4f\x53\x4d\x52\x4f\x41\x44\x31\x01\x00\x00\x00\x01\x00\x00\x00\x00\x00\x00\x00\
     \x0a\x00\x00\x00\x00\x00\x00\x00\x02\x00\x00\x00\
     \x00\x00\x00\x00\x02\x00\x00\x00\x00\
@@ -87,15 +88,16 @@ const RING_GRAPH: &[u8] = b"\
     \x0a\x00\x00\x00\x00\x00\x00\x00\x00\x00\x00\x00\x01\x01\x00\x00\x00";
 
 /// `STREET` without its middle node, and then with it, each line with a version.
-const STREET_CUT: &[u8] = b"n1 v1 x0 y0\nn3 v1 x0.002 y0\nw10 v1 Thighway=residential Nn1,n2,n3\n";
+pub const STREET_CUT: &[u8] =
+    b"n1 v1 x0 y0\nn3 v1 x0.002 y0\nw10 v1 Thighway=residential Nn1,n2,n3\n";
 
 const STREET_MENDED: &[u8] =
     b"n1 v1 x0 y0\nn3 v1 x0.002 y0\nw10 v1 Thighway=residential Nn1,n2,n3\nn2 v1 x0.001 y0\n";
 
 /// The graph of nothing: the header alone.
-const NO_GRAPH: &[u8] = b"OSMROAD1\x01\x00\x00\x00\x00\x00\x00\x00\x00\x00\x00\x00";
+pub const NO_GRAPH: &[u8] = b"OSMROAD1\x01\x00\x00\x00\x00\x00\x00\x00\x00\x00\x00\x00";
 
-const USAGE: &[u8] =
+pub const USAGE: &[u8] =
     b"usage: osmroad STORE create N|apply N|session|graph|audit|checkpoint, or osmroad - compile|inspect|sample N\n";
 
 const COMPILE: &[&str] = &["-", "compile"];

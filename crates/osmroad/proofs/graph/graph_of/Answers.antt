@@ -9,7 +9,7 @@ use Rattle.access_profile.specs.Motorcar.{motorcar_rules}
 use Rattle.access_profile.specs.declared.motorcar.Motorcar.{Motorcar}
 use Rattle.expanded_graph.specs.Pair.{Pair}
 use Rattle.osmroad.specs.Highways.{highways}
-use Rattle.osmroad.proofs.RunEnds.{OneMap}
+use Rattle.osmroad.proofs.CitedLaws.{OneMap}
 use Rattle.osmroad.proofs.graph.graph_of.Goals as goal
 
 -- no more blocks were built than there are such ways among any objects that the events leave

@@ -1,0 +1,41 @@
+use Rattle.std.proofs.Common.{Some, sym, subst}
+use Rattle.osmroad.specs.declared.command.Command.{Command}
+use Rattle.osmroad.specs.declared.command.Command.TheVariants.{Compile, Graph, Audit}
+use Rattle.osmroad.specs.Run.{Builds}
+use Rattle.osmroad.proofs.UnusedSides.{no_read, no_call}
+use Rattle.osmroad.proofs.run.prepare.Goals as goal
+
+pub returns-in-Compile-clause-calls : goal.returns-in-Compile-clause-calls
+returns-in-Compile-clause-calls g c =
+    let outside = g.W.Site.outside c.args.site.now in
+    no_call (Some Compile) c.compile.result (g.S.Source.bytes_left c.args.source.now)
+    (g.S.Source.bytes_left c.compile.new.source) outside outside (c.compile.ensures.prepares outside)
+    (λ stored. stored) (g.W.Site.faults c.args.site.now)
+
+pub returns-in-Compile-clause-built : goal.returns-in-Compile-clause-built
+returns-in-Compile-clause-built g c =
+    let held = g.S.Source.bytes_left c.args.source.now in
+    let outside = g.W.Site.outside c.args.site.now in
+    subst (λ (command : Command). Builds (Some command) held outside c.args.steps.now c.compile.new.steps)
+    (sym c.in-Compile.is) (c.compile.ensures.built outside)
+
+pub returns-in-Graph-clause-reads : goal.returns-in-Graph-clause-reads
+returns-in-Graph-clause-reads g c =
+    let held = g.S.Source.bytes_left c.args.source.now in
+    no_read (Some Graph) c.stored_graph.result held held (g.W.Site.outside c.args.site.now)
+    (g.W.Site.outside c.stored_graph.new.site) (c.stored_graph.ensures.prepares held)
+    (λ reading. reading) (g.S.Source.faults c.args.source.now)
+
+pub returns-in-Graph-clause-built : goal.returns-in-Graph-clause-built
+returns-in-Graph-clause-built g c =
+    let held = g.S.Source.bytes_left c.args.source.now in
+    let outside = g.W.Site.outside c.args.site.now in
+    subst (λ (command : Command). Builds (Some command) held outside c.args.steps.now c.stored_graph.new.steps)
+    (sym c.in-Graph.is) (c.stored_graph.ensures.built held)
+
+pub returns-in-Audit-clause-reads : goal.returns-in-Audit-clause-reads
+returns-in-Audit-clause-reads g c =
+    let held = g.S.Source.bytes_left c.args.source.now in
+    no_read (Some Audit) c.stored_audit.result held held (g.W.Site.outside c.args.site.now)
+    (g.W.Site.outside c.stored_audit.new.site) (c.stored_audit.ensures.prepares held)
+    (λ reading. reading) (g.S.Source.faults c.args.source.now)

@@ -1,0 +1,20 @@
+use Rattle.std.proofs.Common.{◌≡◌, List, ℕ, length, inr, sym, ap, ◌∙◌, le_refl}
+use Rattle.std.proofs.lemmas.List.{take_all}
+use Rattle.road_io.specs.Outside.{Outside, extended}
+use Rattle.road_io.proofs.ToldCalls.{told_weaker}
+use Rattle.osmroad.specs.Run.{PutsSome}
+use Rattle.osmroad.proofs.run.put_last.Goals as goal
+
+-- all of a piece is a front of it
+puts_all : (piece : List ℕ) (w v : Outside) → v ≡ extended piece w → PutsSome piece w v
+puts_all piece w v is = inr (
+  length piece,
+  is ∙ ap (λ (l : List ℕ). extended l w)
+      (sym (take_all (length piece) piece (le_refl (length piece)))),
+)
+
+pub returns-in-Ok-clause-files : goal.returns-in-Ok-clause-files
+returns-in-Ok-clause-files g c =
+    let piece = c.args.piece.now in
+    told_weaker (g.W.Site.outside c.args.site.now) (g.W.Site.outside c.put.new.self) (λ w v. v ≡ extended piece w)
+    (PutsSome piece) c.in-Ok.ensures.told (puts_all piece)

@@ -1,0 +1,51 @@
+-- What the words of a run ask.
+use Rattle.std.specs.Prelude.{ℕ, List, [], ◌∷◌, Option, Some, None, Bool, false, cond, ◌&&◌, not, ◌==◌, nat_lt}
+use Rattle.std.specs.Prelude.{bytes_eq, codes, if◌then◌else◌}
+use Rattle.std.specs.Option.{option_and_then}
+use Rattle.std.specs.Str.Parse.{digits_value}
+use Rattle.opl_lexer.specs.Numbers.{is_numeral}
+use Rattle.osmroad.specs.declared.command.Command.{Command}
+use Rattle.osmroad.specs.declared.command.Command.TheVariants.{Compile, Create, Apply, Graph, Audit}
+
+-- a store's name isn't empty, and doesn't begin with `-`
+abbrev pub is_store : List ℕ → Bool
+is_store [] = false
+is_store (c ∷ cs) = not (c == 45)
+
+-- a number is one digit or more, a value of 64 bits
+abbrev pub number_of : List ℕ → Option ℕ
+number_of word = cond (is_numeral word && nat_lt (digits_value 10 word) 18446744073709551616)
+    (Some (digits_value 10 word)) None
+
+-- a base isn't numbered by the last number of 64 bits, which no change could follow
+abbrev pub asked_base : ℕ → Option Command
+asked_base n = cond (nat_lt n 18446744073709551615) (Some (Create (record { 0 = n }))) None
+
+abbrev pub asked_numbered : List ℕ → ℕ → Option Command
+asked_numbered name n =
+    if bytes_eq name (codes "create") then asked_base n
+    else (if bytes_eq name (codes "apply") then Some (Apply (record { 0 = n })) else None)
+
+abbrev pub asked_alone : List ℕ → Option Command
+asked_alone name =
+    if bytes_eq name (codes "graph") then Some Graph
+    else (if bytes_eq name (codes "audit") then Some Audit else None)
+
+-- `- compile`, or the store's name and the command's
+abbrev pub asked_by_two : List ℕ → List ℕ → Option Command
+asked_by_two store name =
+    if bytes_eq store (codes "-") then (if bytes_eq name (codes "compile") then Some Compile else None)
+    else (if is_store store then asked_alone name else None)
+
+-- the store's name, the command's, and a number
+abbrev pub asked_by_three : List ℕ → List ℕ → List ℕ → Option Command
+asked_by_three store name number =
+    if is_store store then option_and_then (asked_numbered name) (number_of number) else None
+
+-- `- compile`, `STORE create N`, `STORE apply N`, `STORE graph` and `STORE audit`; other words ask nothing
+abbrev pub asked : List (List ℕ) → Option Command
+asked [] = None
+asked (one ∷ []) = None
+asked (store ∷ name ∷ []) = asked_by_two store name
+asked (store ∷ name ∷ number ∷ []) = asked_by_three store name number
+asked (one ∷ two ∷ three ∷ four ∷ more) = None

@@ -1,0 +1,108 @@
+-- What a command gives for the files of a store and the bytes of an input: the status, the output, and for what the
+-- files then stand.
+use Rattle.std.specs.Prelude.{◌≡◌, ◌≢◌, ℕ, ◌+◌, ◌<◌, ◌≤◌, ◌^◌, List, Option, None, Some, IfSome}
+use Rattle.road_base.specs.declared.event.Event.{Event}
+use Rattle.road_base.specs.History.{History, all_events, kept, with_change}
+use Rattle.opl_lexer.specs.declared.mode.Mode.{Mode}
+use Rattle.opl_lexer.specs.declared.mode.Mode.TheVariants.{Extract, Change}
+use Rattle.opl_lexer.specs.Reading.{FaultAt, input_fault, ReadAll}
+use Rattle.road_io.specs.declared.outside.Which.{Which}
+use Rattle.sequence_journal.specs.Layout.{HasBase}
+use Rattle.sequence_journal.specs.Basing.{base_alone}
+use Rattle.store_switch.specs.LiveFile.{NoBases}
+use Rattle.osmroad.specs.declared.command.Command.{Command}
+use Rattle.osmroad.specs.declared.command.Command.TheVariants.{Compile, Create, Apply, Graph, Audit}
+use Rattle.osmroad.specs.declared.status.Status.{Status}
+use Rattle.osmroad.specs.declared.status.Status.TheVariants.{Done, Usage, Refused, OutOfSequence, StoreExists, Limit}
+use Rattle.osmroad.specs.Limits.{PassesLimit}
+use Rattle.osmroad.specs.Texts.{usage_line, limit_line, store_exists_line, created_line, applied_line}
+use Rattle.osmroad.specs.Texts.{sequence_line, refused_line}
+use Rattle.osmroad.specs.Compiled.{IsGraphOf}
+use Rattle.osmroad.specs.Audited.{IsAuditOf}
+use Rattle.osmroad.specs.Opening.{Files, IsStore, StoreRefusal, size_with_change}
+
+-- ---- an input
+
+abbrev pub IsWithinLimits : List ℕ → Type 0
+IsWithinLimits bytes = PassesLimit bytes → ⊥
+
+-- the bytes pass no limit, no line is in fault, and these are their events
+pub record AreInput (mode : Mode) (bytes : List ℕ) (events : List Event) : Type 0 where
+  pub within : IsWithinLimits bytes
+  pub read : ReadAll mode bytes events
+
+-- why an input isn't taken, with the status and the line that say so
+pub data InputRefusal (mode : Mode) (bytes : List ℕ) (status : Status) (out : List ℕ) : Type 0 where
+  OfTooMuch : PassesLimit bytes → status ≡ Limit → out ≡ limit_line → InputRefusal mode bytes status out
+  OfFault : IsWithinLimits bytes → (fault : FaultAt) → input_fault mode bytes ≡ Some fault
+      → status ≡ Refused → out ≡ refused_line fault → InputRefusal mode bytes status out
+
+-- ---- the commands
+
+-- no line is in fault, and `out` is the graph of the objects that the events leave
+pub record IsCompiled (bytes out : List ℕ) : Type 0 where
+  pub events : List Event
+  pub read : ReadAll Extract bytes events
+  pub graph : IsGraphOf events out
+
+-- `- compile`
+pub data CompileGives (bytes : List ℕ) (status : Status) (out : List ℕ) : Type 0 where
+  OfInput : InputRefusal Extract bytes status out → CompileGives bytes status out
+  OfExtract : IsWithinLimits bytes → IsCompiled bytes out → status ≡ Done → CompileGives bytes status out
+
+-- `STORE create N`: where no file has an open base, the files then stand for base N with the events of the extract
+pub data CreateGives (number : ℕ) (files : Files) (bytes : List ℕ) (status : Status) (out : List ℕ)
+    (after : Option History) : Type 0 where
+  OfOldStore : (file : Which) → HasBase (files file)
+      → status ≡ StoreExists → out ≡ store_exists_line → after ≡ None
+      → CreateGives number files bytes status out after
+  OfInput : NoBases files → InputRefusal Extract bytes status out → after ≡ None
+      → CreateGives number files bytes status out after
+  OfExtract : NoBases files → (events : List Event) → AreInput Extract bytes events
+      → status ≡ Done → out ≡ created_line number → after ≡ Some (base_alone number events)
+      → CreateGives number files bytes status out after
+
+-- `STORE apply N`: the files then stand for their history with the change, or as before, in the order of the refusals
+pub data ApplyGives (number : ℕ) (files : Files) (bytes : List ℕ) (status : Status) (out : List ℕ)
+    (after : Option History) : Type 0 where
+  OfStore : StoreRefusal files status out → after ≡ None → ApplyGives number files bytes status out after
+  OfTooMuch : (s : IsStore files) → PassesLimit bytes
+      → status ≡ Limit → out ≡ limit_line → after ≡ Some s.history
+      → ApplyGives number files bytes status out after
+  OfSequence : (s : IsStore files) → IsWithinLimits bytes → number ≢ kept s.history + 1
+      → status ≡ OutOfSequence → out ≡ sequence_line number (kept s.history) → after ≡ Some s.history
+      → ApplyGives number files bytes status out after
+  OfFault : (s : IsStore files) → IsWithinLimits bytes → number ≡ kept s.history + 1
+      → (fault : FaultAt) → input_fault Change bytes ≡ Some fault
+      → status ≡ Refused → out ≡ refused_line fault → after ≡ Some s.history
+      → ApplyGives number files bytes status out after
+  OfFullFile : (s : IsStore files) → number ≡ kept s.history + 1
+      → (events : List Event) → AreInput Change bytes events
+      → 2 ^ 40 < size_with_change s.generation s.history events
+      → status ≡ Limit → out ≡ limit_line → after ≡ Some s.history
+      → ApplyGives number files bytes status out after
+  OfChange : (s : IsStore files) → number ≡ kept s.history + 1
+      → (events : List Event) → AreInput Change bytes events
+      → size_with_change s.generation s.history events ≤ 2 ^ 40
+      → status ≡ Done → out ≡ applied_line number → after ≡ Some (with_change s.history events)
+      → ApplyGives number files bytes status out after
+
+-- `STORE graph` and `STORE audit`: what is shown of all events of the store's history
+pub data ShowGives (Shows : List Event → List ℕ → Type 0) (files : Files) (status : Status) (out : List ℕ)
+    (after : Option History) : Type 0 where
+  OfStore : StoreRefusal files status out → after ≡ None → ShowGives Shows files status out after
+  OfHistory : (s : IsStore files) → Shows (all_events s.history) out → status ≡ Done → after ≡ Some s.history
+      → ShowGives Shows files status out after
+
+-- ---- all of them
+
+-- The status and the output of a command, where the files and the source's bytes are these and nothing fails; and for
+-- which history the files then stand, where that is said, else they read as before. Of a store whose files aren't told
+-- nothing is said here. Command, files and bytes determine all three: the law `one_answer`.
+abbrev pub Gives : Option Command → Option Files → List ℕ → Status → List ℕ → Option History → Type 0
+Gives None files bytes status out after = (status ≡ Usage) × (out ≡ usage_line) × (after ≡ None)
+Gives (Some Compile) files bytes status out after = CompileGives bytes status out × (after ≡ None)
+Gives (Some (Create n)) files bytes status out after = IfSome files (λ f. CreateGives n.0 f bytes status out after)
+Gives (Some (Apply n)) files bytes status out after = IfSome files (λ f. ApplyGives n.0 f bytes status out after)
+Gives (Some Graph) files bytes status out after = IfSome files (λ f. ShowGives IsGraphOf f status out after)
+Gives (Some Audit) files bytes status out after = IfSome files (λ f. ShowGives IsAuditOf f status out after)

@@ -1,0 +1,115 @@
+//! The audit: what becomes of each restriction, and how many objects carry conditional keys. It takes the time of one
+//! run over the objects and their tags, and that of `words` for each restriction.
+ghost use Rattle.std.specs.Prelude.{◌≡◌, All, IfOk, filter, filter_map, length, string_bytes};
+ghost use Rattle.access_profile.specs.Motorcar.{motorcar_rules};
+ghost use Rattle.restrictions.specs.Words.{IsRestriction};
+ghost use Rattle.road_model.specs.Rules.{is_restriction};
+ghost use Rattle.osmroad.specs.Audit.{IsAudit, IsLineOf, AreRuleLines, restriction_of, carries_conditional};
+ghost use Rattle.osmroad.specs.Audit.{has_conditional, is_conditional, conditional_line};
+
+use crate::findings::{finding_of, rule_text};
+use back_references::Indexed;
+use road_base::laws::key_order;
+use road_base::{Body, Event, Key, NoMemory, RelationId, Tags};
+use std::alloc::{AllocError, Global};
+
+/// The audit of the objects, for a car: for each visible restriction by number its line, `rN no K` or `rN only K` where
+/// it gives K different words, `rN unused CAUSE` where it is of no use; then `conditional K`, where K visible objects
+/// carry a key that ends in `:conditional` (OSM wiki, Conditional restrictions).
+pub fn audit_text(alloc: Global, world: &Indexed) -> Result<String, NoMemory>
+    ensures { IfOk result (λ text. IsAudit world.now motorcar_rules (string_bytes text)) }
+{
+    key_order();
+    let rules = restrictions_among(alloc, world.objects().relations())?;
+    let mut text = rule_lines(alloc, world, &rules)?;
+    let count = conditional_count(world.objects().items());
+    text.push_str(&conditional_text(alloc, count)?)?;
+    Ok(text)
+}
+
+/// The lines of the restrictions, in their order.
+fn rule_lines(alloc: Global, world: &Indexed, rules: &[RelationId]) -> Result<String, NoMemory>
+    requires { All (IsRestriction world.now) rules.now }
+    ensures { IfOk result (λ text. AreRuleLines world.now motorcar_rules rules.now (string_bytes text)) }
+{
+    let mut text = String::new(alloc);
+    for relation in rules {
+        let line = line_of(alloc, world, *relation)?;
+        text.push_str(&line)?;
+    }
+    Ok(text)
+}
+
+/// The line of the restriction.
+fn line_of(alloc: Global, world: &Indexed, relation: RelationId) -> Result<String, NoMemory>
+    requires { IsRestriction world.now relation }
+    ensures { IfOk result (λ text. IsLineOf world.now motorcar_rules relation (string_bytes text)) }
+{
+    let finding = finding_of(alloc, world, relation)?;
+    Ok(rule_text(alloc, relation, finding)?)
+}
+
+/// The line that counts the objects with conditional keys.
+fn conditional_text(alloc: Global, count: usize) -> Result<String, AllocError>
+    ensures { IfOk result (λ text. string_bytes text ≡ conditional_line count) }
+{
+    format!(in alloc; "conditional {count}\n")
+}
+
+/// The visible restrictions among the entries, in their order.
+fn restrictions_among(alloc: Global, entries: &[Event]) -> Result<Vec<RelationId>, AllocError>
+    ensures { IfOk result (λ rules. rules.items ≡ filter_map (λ e. restriction_of e.key e.body) entries.now) }
+{
+    entries.iter().filter_map(restriction_of).collect(alloc)
+}
+
+/// The relation of the entry, if it is a visible restriction.
+fn restriction_of(entry: &Event) -> Option<RelationId>
+    ensures { result ≡ restriction_of entry.now.key entry.now.body }
+{
+    match (entry.key, &entry.body) {
+        (Key::Relation(id), Body::Relation(body)) if is_restriction(&body.tags) => Some(id),
+        _ => None,
+    }
+}
+
+fn is_restriction(tags: &Tags) -> bool
+    ensures { result ≡ is_restriction tags.now }
+{
+    tags.get("type") == Some("restriction")
+}
+
+/// How many of the entries are visible and carry a key that ends in `:conditional`.
+fn conditional_count(entries: &[Event]) -> usize
+    ensures { result ≡ length (filter (λ e. carries_conditional e.body) entries.now) }
+{
+    entries
+        .iter()
+        .filter(|entry| carries_conditional(&entry.body))
+        .count()
+}
+
+fn carries_conditional(body: &Body) -> bool
+    ensures { result ≡ carries_conditional body.now }
+{
+    match body {
+        Body::Node(node) => has_conditional(&node.tags),
+        Body::Way(way) => has_conditional(&way.tags),
+        Body::Relation(relation) => has_conditional(&relation.tags),
+        Body::Deleted => false,
+    }
+}
+
+fn has_conditional(tags: &Tags) -> bool
+    ensures { result ≡ has_conditional tags.now }
+{
+    tags.items()
+        .iter()
+        .any(|tag| is_conditional(tag.0.as_str()))
+}
+
+fn is_conditional(key: &str) -> bool
+    ensures { result ≡ is_conditional key.now }
+{
+    key.ends_with(":conditional")
+}

@@ -1,0 +1,115 @@
+//! What the words of a run ask.
+ghost use Rattle.std.specs.Prelude.{◌≡◌, map};
+ghost use Rattle.osmroad.specs.Commands.{asked, asked_by_two, asked_by_three, asked_alone, asked_numbered};
+ghost use Rattle.osmroad.specs.Commands.{asked_base, is_store, number_of};
+
+use road_base::Sequence;
+
+/// What a run is asked for.
+#[derive(Clone, Copy, PartialEq, Eq, Debug)]
+pub enum Command {
+    /// The graph of the extract on the source.
+    Compile,
+    /// A store where there is none: its base is the extract on the source, under this number.
+    Create(Sequence),
+    /// One more change of the store, on the source and under this number.
+    Apply(Sequence),
+    /// The graph of what the store holds.
+    Graph,
+    /// What becomes of each restriction that the store holds.
+    Audit,
+}
+
+/// What the words ask: `- compile`, `STORE create N`, `STORE apply N`, `STORE graph` or `STORE audit`. STORE isn't
+/// empty and doesn't begin with `-`; N is digits, a value of 64 bits, and for `create` not the last one.
+pub fn command_of(words: &[&str]) -> Option<Command>
+    ensures { result ≡ asked (map (λ w. w.now) words.now) }
+{
+    match words {
+        [store, name] => asked_by_two(store, name),
+        [store, name, number] => asked_by_three(store, name, number),
+        _ => None,
+    }
+}
+
+fn asked_by_two(store: &str, name: &str) -> Option<Command>
+    ensures { result ≡ asked_by_two store.now name.now }
+{
+    if store == "-" {
+        return if name == "compile" {
+            Some(Command::Compile)
+        } else {
+            None
+        };
+    }
+    if is_store(store) {
+        asked_alone(name)
+    } else {
+        None
+    }
+}
+
+fn asked_by_three(store: &str, name: &str, number: &str) -> Option<Command>
+    ensures { result ≡ asked_by_three store.now name.now number.now }
+{
+    if !is_store(store) {
+        return None;
+    }
+    asked_numbered(name, number_of(number)?)
+}
+
+fn asked_alone(name: &str) -> Option<Command>
+    ensures { result ≡ asked_alone name.now }
+{
+    if name == "graph" {
+        return Some(Command::Graph);
+    }
+    if name == "audit" {
+        Some(Command::Audit)
+    } else {
+        None
+    }
+}
+
+fn asked_numbered(name: &str, number: u64) -> Option<Command>
+    ensures { result ≡ asked_numbered name.now number }
+{
+    if name == "create" {
+        return asked_base(number);
+    }
+    if name == "apply" {
+        Some(Command::Apply(Sequence(number)))
+    } else {
+        None
+    }
+}
+
+/// No change could follow the last number.
+fn asked_base(number: u64) -> Option<Command>
+    ensures { result ≡ asked_base number }
+{
+    if number < u64::MAX {
+        Some(Command::Create(Sequence(number)))
+    } else {
+        None
+    }
+}
+
+fn is_store(word: &str) -> bool
+    ensures { result ≡ is_store word.now }
+{
+    match word.as_bytes() {
+        [] | [b'-', ..] => false,
+        _ => true,
+    }
+}
+
+/// The number that digits alone spell.
+fn number_of(word: &str) -> Option<u64>
+    ensures { result ≡ number_of word.now }
+{
+    if word.starts_with('+') {
+        return None;
+    }
+    word.parse::<u64>().ok()
+}

@@ -1,0 +1,137 @@
+//! What a command prepares, before anything is put.
+ghost use Rattle.std.specs.Prelude.{◌≡◌, IfOk, string_bytes};
+ghost use Rattle.opl_objects.specs.StreamLines.{fault_at};
+ghost use Rattle.sequence_journal.specs.declared.journal.Journal.{Journal};
+ghost use Rattle.osmroad.specs.declared.reply.Failure.TheVariants.{NoMemory as NoMemoryFailure};
+ghost use Rattle.osmroad.specs.Texts.{refused_line};
+ghost use Rattle.osmroad.specs.Replies.{Says, RefusesInput, RefusesStore, RefusesChange, failure_status};
+
+use crate::input::InputError;
+use crate::status::Status;
+use crate::texts::{damaged_text, refused_text, sequence_text};
+use opl_objects::Fault;
+use road_base::{NoMemory, Sequence};
+use sequence_journal::{Journal, JournalError};
+use std::alloc::{AllocError, Global};
+
+/// What is last put, and the status that it stands for.
+#[derive(Drop)]
+pub struct Reply {
+    pub status: Status,
+    pub out: Vec<u8>,
+}
+
+/// Why nothing is put.
+#[derive(Clone, Copy, PartialEq, Eq, Debug)]
+pub enum Failure {
+    ReadFault,
+    SiteFault,
+    NoMemory,
+}
+
+impl From<NoMemory> for Failure {
+    ghost from_gives = { λ _ e. e ≡ NoMemoryFailure };
+
+    fn from(_error: NoMemory) -> Failure {
+        Failure::NoMemory
+    }
+}
+
+impl From<AllocError> for Failure {
+    ghost from_gives = { λ _ e. e ≡ NoMemoryFailure };
+
+    fn from(_error: AllocError) -> Failure {
+        Failure::NoMemory
+    }
+}
+
+impl Failure {
+    pub fn status(self) -> Status
+        ensures { result ≡ failure_status self }
+    {
+        match self {
+            Failure::ReadFault => Status::ReadFault,
+            Failure::SiteFault => Status::SiteFault,
+            Failure::NoMemory => Status::NoMemory,
+        }
+    }
+}
+
+impl Reply {
+    /// A status and its line.
+    pub fn new(status: Status, line: String) -> Reply
+        ensures { Says status (string_bytes line) result }
+    {
+        Reply {
+            status,
+            out: line.into_bytes(),
+        }
+    }
+
+    /// A status and a copy of its line.
+    pub fn fixed(alloc: Global, status: Status, line: &[u8]) -> Result<Reply, AllocError>
+        ensures { IfOk result (Says status line.now) }
+    {
+        Ok(Reply {
+            status,
+            out: line.to_vec(alloc)?,
+        })
+    }
+
+    /// The first fault of an input.
+    pub fn refused(alloc: Global, fault: &Fault) -> Result<Reply, AllocError>
+        ensures { IfOk result (Says Status.Refused (refused_line (fault_at fault.now))) }
+    {
+        Ok(Reply::new(Status::Refused, refused_text(alloc, fault)?))
+    }
+}
+
+/// What an input is refused with.
+pub fn refuse_input(alloc: Global, error: InputError) -> Result<Reply, Failure>
+    ensures { RefusesInput error result }
+{
+    match error {
+        InputError::Failed => Err(Failure::ReadFault),
+        InputError::TooLong => Ok(Reply::fixed(alloc, Status::Limit, b"limit\n")?),
+        InputError::Refused(fault) => Ok(Reply::refused(alloc, &fault)?),
+        InputError::NoMemory => Err(Failure::NoMemory),
+    }
+}
+
+/// What a store is refused with.
+pub fn refuse_store(alloc: Global, error: JournalError) -> Result<Reply, Failure>
+    ensures { RefusesStore error result }
+{
+    match error {
+        JournalError::OutOfSequence { kept, got } => {
+            let line = sequence_text(alloc, got, kept)?;
+            Ok(Reply::new(Status::OutOfSequence, line))
+        }
+        JournalError::SiteFault => Err(Failure::SiteFault),
+        JournalError::Damaged { file, offset } => {
+            let line = damaged_text(alloc, file, offset)?;
+            Ok(Reply::new(Status::Damaged, line))
+        }
+        JournalError::NoStore => Ok(Reply::fixed(alloc, Status::NoStore, b"no store\n")?),
+        JournalError::StoreExists => {
+            Ok(Reply::fixed(alloc, Status::StoreExists, b"store exists\n")?)
+        }
+        JournalError::TooLarge => Ok(Reply::fixed(alloc, Status::Limit, b"limit\n")?),
+        JournalError::NoMemory => Err(Failure::NoMemory),
+    }
+}
+
+/// What a change in fault is refused with: its number is looked at first.
+pub fn refuse_change(
+    alloc: Global,
+    journal: &Journal,
+    number: Sequence,
+    fault: &Fault,
+) -> Result<Reply, Failure>
+    ensures { RefusesChange journal.now number fault.now result }
+{
+    match journal.check(number) {
+        Ok(()) => Ok(Reply::refused(alloc, fault)?),
+        Err(error) => refuse_store(alloc, error),
+    }
+}

@@ -1,0 +1,419 @@
+//! Runs over stores in memory: what is put, how the run ends, and what the files then hold.
+ghost use Rattle.std.specs.Prelude.{◌≡◌, ◌<◌};
+
+use crate::run::run;
+use crate::status::Status;
+use crate::tests::{NO_GRAPH, USAGE};
+use road_base::{NoMemory, Steps};
+use road_io::{Call, Entry, MemorySite, MemorySource, Which};
+use std::alloc::Global;
+use std::marker::Brand;
+use std::process::Abort;
+use std::sync::ledger::{Blank, Ledger};
+use std::test::Fail;
+
+/// File A of a store that was made under the number 5 of an empty extract: gate, magic, profile, generation, number,
+/// length, no events, and the next gate.
+const MADE: &[u8] = b"\x01OSMJRNL1\x01\0\0\0\x01\0\0\0\0\0\0\0\x05\0\0\0\0\0\0\0\
+    \x08\0\0\0\0\0\0\0\0\0\0\0\0\0\0\0\0";
+
+/// What `apply 6` of an empty change writes behind the gate of `MADE`.
+const RECORD: &[u8] = b"\x06\0\0\0\0\0\0\0\x08\0\0\0\0\0\0\0\0\0\0\0\0\0\0\0\0";
+
+/// What a run on a store is given, and what is expected of it.
+#[derive(Clone, Copy)]
+struct Case<'a> {
+    words: &'a [&'a str],
+    input: &'a [u8],
+    /// File A and file B before the run, each in parts.
+    a: &'a [&'a [u8]],
+    b: &'a [&'a [u8]],
+    status: Status,
+    output: &'a [u8],
+    /// File A after the run, in parts.
+    after: &'a [&'a [u8]],
+}
+
+/// How a run ended, and its site.
+#[derive(Drop)]
+struct Outcome {
+    status: Status,
+    site: MemorySite,
+}
+
+fn joined(alloc: Global, parts: &[&[u8]]) -> Result<Vec<u8>, NoMemory> {
+    let mut all = Vec::new(alloc);
+    for part in parts {
+        all.extend_from_slice(part)?;
+    }
+    Ok(all)
+}
+
+/// The case run, on a site whose calls with these numbers fail.
+fn ended<L: Ledger>(
+    alloc: Global,
+    case: &Case,
+    fails: &[u64],
+    blank: Blank,
+) -> Result<Outcome, NoMemory>
+    requires name { blank.name ≡ L.name }
+    requires parts { blank.parts ≡ L.parts }
+    requires some { 0 < L.parts }
+{
+    let mut source = MemorySource::new(case.input.to_vec(alloc)?, Vec::new(alloc));
+    let a = joined(alloc, case.a)?;
+    let b = joined(alloc, case.b)?;
+    let mut site = MemorySite::new(alloc, a, b, fails.to_vec(alloc)?);
+    let mut steps = Steps::<L>::new(blank);
+    let status = run(alloc, case.words, &mut source, &mut site, &mut steps);
+    Ok(Outcome { status, site })
+}
+
+/// Runs the case, with faults at the calls with these numbers, and compares what is expected of it.
+fn check(rt: &impl Abort, alloc: Global, case: &Case, fails: &[u64]) -> Result<(), NoMemory> {
+    let ended = ended::<Brand>(alloc, case, fails, Blank::new(1))?;
+    assert_eq!(rt; ended.status, case.status);
+    assert_eq!(rt; ended.site.output(), case.output);
+    let after = joined(alloc, case.after)?;
+    assert_eq!(rt; ended.site.file(Which::A), after.as_slice());
+    Ok(())
+}
+
+/// `create 5` of nothing.
+const CREATES: Case = Case {
+    words: &["town", "create", "5"],
+    input: b"",
+    a: &[],
+    b: &[],
+    status: Status::Done,
+    output: b"created 5\n",
+    after: &[MADE],
+};
+
+/// `apply 6` of nothing, to that store.
+const APPLIES: Case = Case {
+    words: &["town", "apply", "6"],
+    input: b"",
+    a: &[MADE],
+    b: &[],
+    status: Status::Done,
+    output: b"applied 6\n",
+    after: &[SPELLED, b"\x01", RECORD],
+};
+
+/// `MADE` without its last gate.
+const SPELLED: &[u8] = b"\x01OSMJRNL1\x01\0\0\0\x01\0\0\0\0\0\0\0\x05\0\0\0\0\0\0\0\
+    \x08\0\0\0\0\0\0\0\0\0\0\0\0\0\0\0";
+
+/// `graph` of that store with the change.
+const SHOWS: Case = Case {
+    words: &["town", "graph"],
+    input: b"never read",
+    a: &[SPELLED, b"\x01", RECORD],
+    b: &[],
+    status: Status::Done,
+    output: NO_GRAPH,
+    after: &[SPELLED, b"\x01", RECORD],
+};
+
+#[test]
+fn stores_are_made_changed_and_shown(rt: HostRuntime) -> Result<(), Fail> {
+    let cases = [
+        CREATES,
+        APPLIES,
+        SHOWS,
+        // Any byte but 1 is a closed gate. Loading cuts the file there, and writes the gate again.
+        Case {
+            a: &[SPELLED, b"\x07", RECORD],
+            after: &[MADE],
+            ..SHOWS
+        },
+        Case {
+            a: &[SPELLED],
+            after: &[MADE],
+            ..SHOWS
+        },
+        // File B is the live one, and A is left as it is.
+        Case {
+            a: &[b"no base"],
+            b: &[MADE],
+            after: &[b"no base"],
+            ..SHOWS
+        },
+        Case {
+            words: &["town", "audit"],
+            output: b"conditional 0\n",
+            ..SHOWS
+        },
+        // Leading zeros are no part of a number.
+        Case {
+            words: &["town", "create", "005"],
+            ..CREATES
+        },
+    ];
+    for case in &cases {
+        check(&rt, rt.alloc(), case, &[])?;
+    }
+    Ok(())
+}
+
+/// A run that leaves file A as it is.
+const fn refuses<'a>(
+    words: &'a [&'a str],
+    input: &'a [u8],
+    a: &'a [&'a [u8]],
+    b: &'a [&'a [u8]],
+    status: Status,
+    output: &'a [u8],
+) -> Case<'a> {
+    Case {
+        words,
+        input,
+        a,
+        b,
+        status,
+        output,
+        after: a,
+    }
+}
+
+const CREATE: &[&str] = &["town", "create", "5"];
+
+const APPLY: &[&str] = &["town", "apply", "6"];
+
+const GRAPH: &[&str] = &["town", "graph"];
+
+/// `RECORD`, of one event of which no byte is there.
+const RECORD_OF_ONE: &[u8] = b"\x06\0\0\0\0\0\0\0\x08\0\0\0\0\0\0\0\x01\0\0\0\0\0\0\0\0";
+
+/// `RECORD` under the number 8.
+const RECORD_OF_EIGHT: &[u8] = b"\x08\0\0\0\0\0\0\0\x08\0\0\0\0\0\0\0\0\0\0\0\0\0\0\0\0";
+
+#[test]
+fn stores_refuse(rt: HostRuntime) -> Result<(), Fail> {
+    // The files are looked at before the source, and the number before the change.
+    let cases = [
+        refuses(
+            &["town", "create", "9"],
+            b"z",
+            &[MADE],
+            &[],
+            Status::StoreExists,
+            b"store exists\n",
+        ),
+        refuses(
+            CREATE,
+            b"",
+            &[],
+            &[MADE],
+            Status::StoreExists,
+            b"store exists\n",
+        ),
+        refuses(
+            CREATE,
+            b"n1 x0\nz",
+            &[],
+            &[],
+            Status::Refused,
+            b"refused line 2 field 1 UnknownLine\n",
+        ),
+        refuses(
+            &["town", "apply", "8"],
+            b"z",
+            &[MADE],
+            &[],
+            Status::OutOfSequence,
+            b"sequence 8 kept 5\n",
+        ),
+        refuses(
+            &["town", "apply", "5"],
+            b"",
+            &[MADE],
+            &[],
+            Status::OutOfSequence,
+            b"sequence 5 kept 5\n",
+        ),
+        refuses(
+            APPLY,
+            b"n1 v1 Ta=b Tc=d x0 y0",
+            &[MADE],
+            &[],
+            Status::Refused,
+            b"refused line 1 field 4 Repeated\n",
+        ),
+        refuses(
+            APPLY,
+            b"n1 x0 y0",
+            &[MADE],
+            &[],
+            Status::Refused,
+            b"refused line 1 field 0 NoVersion\n",
+        ),
+        refuses(
+            APPLY,
+            b"n1 v1 Ta=%d800%",
+            &[MADE],
+            &[],
+            Status::Refused,
+            b"refused line 1 field 3 BadEscape\n",
+        ),
+        refuses(
+            GRAPH,
+            b"",
+            &[b"\x07OSMJRNL1"],
+            &[],
+            Status::NoStore,
+            b"no store\n",
+        ),
+        refuses(APPLY, b"", &[], &[], Status::NoStore, b"no store\n"),
+        refuses(
+            GRAPH,
+            b"",
+            &[SPELLED, b"\x01", RECORD_OF_ONE],
+            &[],
+            Status::Damaged,
+            b"damaged a 45\n",
+        ),
+        refuses(
+            GRAPH,
+            b"",
+            &[],
+            &[SPELLED, b"\x01", RECORD_OF_EIGHT],
+            Status::Damaged,
+            b"damaged b 45\n",
+        ),
+    ];
+    for case in &cases {
+        check(&rt, rt.alloc(), case, &[])?;
+    }
+    Ok(())
+}
+
+#[test]
+fn words_ask_for_commands(rt: HostRuntime) -> Result<(), Fail> {
+    let none: [&[&str]; 12] = [
+        &["town", "apply"],
+        &["town", "create", "18446744073709551615"],
+        &["town", "create", "18446744073709551616"],
+        &["town", "create", ""],
+        &["town", "create", "+5"],
+        &["town", "apply", "-1"],
+        &["town", "graph", "5"],
+        &["town"],
+        &["", "graph"],
+        &["-town", "graph"],
+        &["-", "create", "5"],
+        &["town", "compile"],
+    ];
+    for words in none {
+        let case = Case {
+            words,
+            status: Status::Usage,
+            output: USAGE,
+            after: &[],
+            ..CREATES
+        };
+        check(&rt, rt.alloc(), &case, &[])?;
+    }
+    Ok(())
+}
+
+/// A fault at any call of `graph`, the last of which is the put, ends the run there, and nothing is put.
+#[test]
+fn each_fault_of_the_site_ends_a_run(rt: HostRuntime) -> Result<(), Fail> {
+    let store: [&[u8]; 3] = [SPELLED, b"\x01", RECORD];
+    let case = refuses(GRAPH, b"", &store, &[], Status::SiteFault, b"");
+    for n in 0..11 {
+        check(&rt, rt.alloc(), &case, &[n])?;
+    }
+    Ok(())
+}
+
+/// What a call is, with its piece.
+fn is_write(entry: &Entry, place: u64, bytes: &[u8]) -> bool {
+    match &entry.call {
+        Call::WriteAt { file, at, piece } => {
+            *file == Which::A && *at == place && piece.items() == bytes
+        }
+        _ => false,
+    }
+}
+
+fn is_sync(entry: &Entry) -> bool {
+    matches!(&entry.call, Call::Sync(Which::A))
+}
+
+fn is_put(entry: &Entry, bytes: &[u8]) -> bool {
+    match &entry.call {
+        Call::Put(piece) => piece.items() == bytes,
+        _ => false,
+    }
+}
+
+/// Whether these calls add the record of `APPLIES`: the record, a sync, the gate, a sync, and the line.
+fn adds_the_record(calls: &[Entry]) -> bool {
+    match calls {
+        [.., record, first, gate, second, line] => {
+            is_write(record, 46, RECORD)
+                && is_sync(first)
+                && is_write(gate, 45, b"\x01")
+                && is_sync(second)
+                && is_put(line, b"applied 6\n")
+        }
+        _ => false,
+    }
+}
+
+#[test]
+fn a_change_is_written_behind_its_gate(rt: HostRuntime) -> Result<(), Fail> {
+    let applied = ended::<Brand>(rt.alloc(), &APPLIES, &[], Blank::new(1))?;
+    assert!(rt; adds_the_record(applied.site.calls()));
+    Ok(())
+}
+
+/// What stops in `apply 6` leave behind `SPELLED`, the number that the store then keeps, and the file once it is loaded.
+type Stop = (
+    &'static [&'static [u8]],
+    &'static [u8],
+    &'static [&'static [u8]],
+);
+
+const STOPS: [Stop; 9] = [
+    // Nothing was written, or the write of the record has begun: any bytes, also further ones than were written.
+    (&[SPELLED, b"\0"], KEPT_5, &[MADE]),
+    (&[SPELLED, b"\0", b"\x06\0\0"], KEPT_5, &[MADE]),
+    (&[SPELLED, b"\0", b"\xff\xff\xff\xff\xff"], KEPT_5, &[MADE]),
+    (&[SPELLED, b"\0", RECORD], KEPT_5, &[MADE]),
+    // The gate was written.
+    (&[SPELLED, b"\x07", RECORD], KEPT_5, &[MADE]),
+    (
+        &[SPELLED, b"\x01", RECORD],
+        KEPT_6,
+        &[SPELLED, b"\x01", RECORD],
+    ),
+    // A stop while the store is loaded: it is cut at the gate, or the gate isn't there yet.
+    (&[SPELLED], KEPT_5, &[MADE]),
+    (&[SPELLED, b"\x01"], KEPT_5, &[MADE]),
+    (&[SPELLED, b"\x07"], KEPT_5, &[MADE]),
+];
+
+const KEPT_5: &[u8] = b"sequence 0 kept 5\n";
+
+const KEPT_6: &[u8] = b"sequence 0 kept 6\n";
+
+#[test]
+fn stops_leave_a_change_or_none(rt: HostRuntime) -> Result<(), Fail> {
+    for (a, output, after) in STOPS.iter() {
+        let case = Case {
+            words: &["town", "apply", "0"],
+            input: b"",
+            a,
+            b: &[],
+            status: Status::OutOfSequence,
+            output,
+            after,
+        };
+        check(&rt, rt.alloc(), &case, &[])?;
+    }
+    Ok(())
+}

@@ -1,0 +1,67 @@
+//! What a store holds, shown.
+ghost use Rattle.std.specs.Prelude.{◌≡◌, ℕ, List, Option, Some};
+ghost use Rattle.osmroad.specs.declared.command.Command.TheVariants.{Graph as GraphCommand, Audit as AuditCommand};
+ghost use Rattle.osmroad.specs.Run.{Builds};
+ghost use Rattle.osmroad.specs.Replies.{Prepares, CountsCalls};
+
+use crate::audit::audit_text;
+use crate::graph::graph_of;
+use crate::reply::{Failure, Reply, refuse_store};
+use crate::status::Status;
+use back_references::Indexed;
+use road_base::Steps;
+use road_io::Site;
+use std::alloc::Global;
+use std::mem::forget;
+use std::sync::ledger::Ledger;
+use store_switch::laws::{journal_on_store, no_damage_in_store, one_live, one_store, still_there};
+use store_switch::load_store;
+
+/// The graph of what the store holds.
+pub fn stored_graph<W: Site, L: Ledger>(
+    alloc: Global,
+    site: &mut W,
+    steps: &mut Steps<L>,
+) -> Result<Reply, Failure>
+    ensures prepares { (held : Option (List ℕ)) → Prepares (Some GraphCommand) result held held
+        (W.outside site.old) (W.outside site.new) }
+    ensures calls { CountsCalls (W.faults site.old) (W.faults site.new) result }
+    ensures built { (held : Option (List ℕ))
+        → Builds (Some GraphCommand) held (W.outside site.old) steps.old steps.new }
+{
+    one_store();
+    one_live();
+    no_damage_in_store();
+    still_there();
+    journal_on_store();
+    let loaded = match load_store(alloc, site) {
+        Ok(loaded) => loaded,
+        Err(error) => return refuse_store(alloc, error),
+    };
+    let out = graph_of(alloc, loaded.events, steps)?;
+    Ok(Reply {
+        status: Status::Done,
+        out,
+    })
+}
+
+/// The audit of what the store holds.
+pub fn stored_audit<W: Site>(alloc: Global, site: &mut W) -> Result<Reply, Failure>
+    ensures prepares { (held : Option (List ℕ)) → Prepares (Some AuditCommand) result held held
+        (W.outside site.old) (W.outside site.new) }
+    ensures calls { CountsCalls (W.faults site.old) (W.faults site.new) result }
+{
+    one_store();
+    one_live();
+    no_damage_in_store();
+    still_there();
+    journal_on_store();
+    let loaded = match load_store(alloc, site) {
+        Ok(loaded) => loaded,
+        Err(error) => return refuse_store(alloc, error),
+    };
+    let world = Indexed::of(alloc, loaded.events)?;
+    let text = audit_text(alloc, &world)?;
+    forget(world);
+    Ok(Reply::new(Status::Done, text))
+}
