@@ -40,6 +40,7 @@ use road_base::{NoMemory, Steps};
 use road_io::{RealSite, RealSource};
 use std::alloc::Global;
 use std::env;
+use std::fs::{File, OpenOptions};
 use std::io::ErrorKind;
 use std::marker::Brand;
 use std::process::ExitCode;
@@ -65,6 +66,11 @@ fn file_name(alloc: Global, words: &[String], ending: &str) -> Result<String, No
     Ok(name)
 }
 
+/// A folder, opened.
+fn folder(rt: &HostRuntime) -> Option<File> {
+    OpenOptions::new().read(true).open(rt, "/").ok()
+}
+
 fn start<L: Ledger>(rt: &HostRuntime, words: &[String], blank: Blank) -> Result<Status, NoMemory>
     requires name { blank.name ≡ L.name }
     requires parts { blank.parts ≡ L.parts }
@@ -75,12 +81,17 @@ fn start<L: Ledger>(rt: &HostRuntime, words: &[String], blank: Blank) -> Result<
     for word in words {
         texts.push(word.as_str())?;
     }
+    // Where a standard stream is closed, the next file that is opened takes its number. It is to be none of the store's:
+    // a folder can be neither read nor written, so that reading and putting fail as they have to.
+    let taken = [folder(rt), folder(rt), folder(rt)];
     let mut source = RealSource::new(rt.stdin());
     let name_a = file_name(alloc, words, ".a")?;
     let name_b = file_name(alloc, words, ".b")?;
     let mut site = RealSite::new(rt, rt.stdout(), name_a, name_b);
     let mut steps = Steps::<L>::new(blank);
-    Ok(run(alloc, &texts, &mut source, &mut site, &mut steps))
+    let status = run(alloc, &texts, &mut source, &mut site, &mut steps);
+    drop(taken);
+    Ok(status)
 }
 
 fn main(rt: HostRuntime) -> ExitCode {
