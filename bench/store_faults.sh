@@ -58,8 +58,7 @@ wants 3 "create past a limit on files" sh -c "ulimit -f 1; trap '' XFSZ; '$progr
 store="$room/town"
 make "$store"
 "$program" "$store" graph >"$room/before"
-head -c 2048 /dev/zero | tr '\0' '#' >"$room/long"
-for n in $(seq 100); do echo "n$((100 + n)) v1 T x9 y9"; done >>"$room/long"
+for n in $(seq 1000); do echo "n$((100 + n)) v1 T x9 y9"; done >"$room/long"
 wants 3 "apply past a limit on files" sh -c "ulimit -f 1; trap '' XFSZ; '$program' '$store' apply 8 <'$room/long'"
 keeps "$store" 7
 for output in '>&-' '>/dev/full'; do
@@ -77,7 +76,7 @@ for output in '>&-' '>/dev/full'; do
 done
 
 mkdir "$room/disk"
-if mount -t tmpfs -o size=16k tmpfs "$room/disk" 2>/dev/null; then
+if mount -t tmpfs -o size=64k tmpfs "$room/disk" 2>/dev/null; then
     trap 'umount "$room/disk"; rm -rf "$room"' EXIT
     make "$room/disk/town"
     head -c 1M /dev/zero >"$room/disk/filler" 2>/dev/null

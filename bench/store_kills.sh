@@ -1,11 +1,11 @@
 #!/usr/bin/env bash
-# Ends `create` and `apply` by SIGKILL at random moments, so many times (300 where left out), and looks at the store
-# after each: it loads, or there is none yet; it keeps the last number whose `applied` was put, or the next one; and its
+# Ends `create` and `apply` by SIGKILL at random moments, until so many were (300 where left out), and looks at the store
+# after each run: it loads, or there is none yet; it keeps the last number whose `applied` was put, or the next one; and its
 # graph is that which `- compile` makes of the changes up to that number. Wants the program as `rt run` builds it.
 set -u
 . "$(dirname "$0")/program.sh"
 times=${1:-300}
-python3 "$here/gen_town.py" 12 4 "$room/town.opl" "$room/change.opl" >/dev/null
+python3 "$here/gen_town.py" 60 4 "$room/town.opl" "$room/change.opl" >/dev/null
 store="$room/store"
 kept=
 failed=0
@@ -20,7 +20,7 @@ fail() {
 stopped() {
     "$@" &
     local process=$!
-    sleep "0.$(printf '%03d' $((RANDOM % 60)))"
+    sleep "0.$(printf '%03d' $((RANDOM % 25)))"
     kill -9 "$process" 2>/dev/null && ended=$((ended + 1))
     wait "$process" 2>/dev/null
 }
@@ -36,7 +36,7 @@ number() {
     esac
 }
 
-for ((n = 1; n <= times; n++)); do
+for ((n = 1; ended < times; n++)); do
     : >"$room/said"
     if [ -z "$kept" ]; then
         cp "$room/town.opl" "$room/all.opl"
@@ -68,5 +68,5 @@ for ((n = 1; n <= times; n++)); do
         kept=
     fi
 done
-echo "$times runs, $ended of them ended by SIGKILL: $([ "$failed" -eq 0 ] && echo 'each store stands' || echo 'FAILED')"
+echo "$((n - 1)) runs, $ended of them ended by SIGKILL: $([ "$failed" -eq 0 ] && echo 'each store stands' || echo 'FAILED')"
 exit "$failed"
