@@ -1,7 +1,8 @@
 #!/usr/bin/env bash
-# Ends `create` and `apply` by SIGKILL at random moments, until so many were (300 where left out), and looks at the store
-# after each run: it loads, or there is none yet; it keeps the last number whose `applied` was put, or the next one; and its
-# graph is that which `- compile` makes of the changes up to that number. Wants the program as `rt run` builds it.
+# Ends `create` and `apply` by SIGKILL at random moments, until so many were (300 where left out), and looks at the
+# store after each run: it loads, or there is none yet; it keeps the last number whose `applied` was put, or the next
+# one; and its graph is that which `- compile` makes of the changes up to that number. Wants the program as `rt run`
+# builds it.
 set -u
 . "$(dirname "$0")/program.sh"
 times=${1:-300}
@@ -68,5 +69,6 @@ for ((n = 1; ended < times; n++)); do
         kept=
     fi
 done
-echo "$((n - 1)) runs, $ended of them ended by SIGKILL: $([ "$failed" -eq 0 ] && echo 'each store stands' || echo 'FAILED')"
+[ "$failed" -eq 0 ] && stands='each store stands' || stands='FAILED'
+echo "$((n - 1)) runs, $ended of them ended by SIGKILL: $stands"
 exit "$failed"
