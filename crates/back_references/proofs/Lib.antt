@@ -2,3 +2,4 @@ pub mod Lookups
 pub mod Parts
 pub mod SortedPairs
 pub mod NamedObjects
+pub mod HighwayLists

@@ -1,13 +1,18 @@
 //! Objects with the references to each of them.
-ghost use Rattle.std.specs.Prelude.{◌≡◌, IfOk, OnOk, OnErr, map, option_copied};
+ghost use Rattle.std.specs.Prelude.{◌≡◌, IfOk, OnOk, OnErr, map, option_copied, Contains, IsTrue};
 ghost use Rattle.std.specs.Option.{option_map};
 ghost use Rattle.std.specs.FinMap.{empty, entries};
 ghost use Rattle.road_base.specs.Applying.{IsApplied, entry_of};
 ghost use Rattle.road_base.specs.Objects.{Objects as ObjectMap, body_in, node_in, way_in, relation_in};
+ghost use Rattle.road_base.specs.declared.ids.WayId.{WayId};
 ghost use Rattle.road_model.specs.Links.{AreChanged};
+ghost use Rattle.road_model.specs.Highways.{IsHighway, highways};
+ghost use Rattle.road_model.specs.Orders.{rises, way_cmp};
 
+use crate::highways::highways_among;
 use crate::references::References;
 use object_store::Objects;
+use road_base::laws::key_order;
 use road_base::{Body, Event, Key, Keys, NoMemory, Node, NodeId, Relation, RelationId, Way, WayId};
 use road_model::World;
 use std::alloc::Global;
@@ -92,6 +97,31 @@ impl Indexed {
         self.objects = objects;
         self.references = references;
         Ok(keys)
+    }
+
+    /// What the events leave of these objects, beside them: of each key the first one of the greatest version stands,
+    /// its entry here before all of them.
+    pub fn with(&self, events: &[Event]) -> Result<Indexed, NoMemory>
+        ensures { IfOk result (λ i. IsApplied self.now events.now i) }
+    {
+        let mut objects = self.objects.copy()?;
+        objects.apply(events)?;
+        let references = References::of(self.alloc, &objects)?;
+        Ok(Indexed {
+            alloc: self.alloc,
+            objects,
+            references,
+        })
+    }
+
+    /// The visible ways with the key `highway`, ascending.
+    pub fn highways(&self) -> Result<Vec<WayId>, NoMemory>
+        ensures exactly { IfOk result (λ ways. ways.items ≡ highways self.now) }
+        ensures ascending { IfOk result (λ ways. IsTrue (rises way_cmp ways.items)) }
+        ensures each { IfOk result (λ ways. (w : WayId) → IsHighway self.now w → Contains ways.items w) }
+    {
+        key_order();
+        Ok(highways_among(self.alloc, self.objects.ways())?)
     }
 
     /// Copies of all entries as events, in key order.

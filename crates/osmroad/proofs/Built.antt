@@ -17,7 +17,8 @@ use Rattle.road_model.specs.Format.{IsPieceForm, IsBlockForm, IsGraph, graph_byt
 use Rattle.road_model.specs.Naming.{OneBlock}
 use Rattle.graph_file.specs.declared.writer.GraphWriter.{GraphWriter}
 use Rattle.graph_file.specs.Writing.{HasWritten}
-use Rattle.osmroad.specs.Building.{AreRoadWays, HasBlocksOf, IsBlockAmong}
+use Rattle.road_model.specs.Highways.{AreRoadWays}
+use Rattle.osmroad.specs.Building.{HasBlocksOf, IsBlockAmong}
 use Rattle.road_base.proofs.ListMembers.{In, contains_from_in, in_from_contains, contains_more, in_left, in_end}
 use Rattle.road_base.proofs.ListMembers.{from_map}
 use Rattle.osmroad.proofs.RisingWays.{one_more_rises, below_last}

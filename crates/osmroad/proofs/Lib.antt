@@ -1,6 +1,5 @@
 pub mod RisingWays
 pub mod ToldNames
-pub mod RoadWays
 pub mod VisibleRestrictions
 pub mod DistinctLists
 pub mod OneFinding

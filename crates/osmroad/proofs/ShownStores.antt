@@ -23,7 +23,7 @@ use Rattle.osmroad.specs.declared.reply.Failure.{Failure}
 use Rattle.osmroad.specs.declared.reply.Failure.TheVariants.{NoMemory as NoMemoryFailure}
 use Rattle.osmroad.specs.declared.status.Status.{Status}
 use Rattle.osmroad.specs.declared.status.Status.TheVariants.{Done, NoStore, Damaged, Limit}
-use Rattle.osmroad.specs.Highways.{highways}
+use Rattle.road_model.specs.Highways.{highways}
 use Rattle.osmroad.specs.Opening.{Files}
 use Rattle.osmroad.specs.Outcomes.{Gives, ShowGives}
 use Rattle.osmroad.specs.Outcomes.{OfStore, OfHistory}

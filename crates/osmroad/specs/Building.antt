@@ -1,10 +1,10 @@
 -- The graph of a map, while its blocks are built and written.
-use Rattle.std.specs.Prelude.{List, Contains, IsTrue}
+use Rattle.std.specs.Prelude.{List, Contains}
 use Rattle.road_base.specs.declared.ids.WayId.{WayId}
 use Rattle.road_base.specs.Objects.{Objects}
 use Rattle.road_model.specs.declared.blocks.Block.{Block}
 use Rattle.road_model.specs.Rules.{Rules}
-use Rattle.road_model.specs.Orders.{Lists, rises, way_cmp}
+use Rattle.road_model.specs.Orders.{Lists, way_cmp}
 use Rattle.road_model.specs.Blocks.{IsRoadBlock}
 use Rattle.graph_file.specs.declared.writer.GraphWriter.{GraphWriter}
 use Rattle.graph_file.specs.Writing.{HasWritten}
@@ -19,8 +19,3 @@ pub record HasBlocksOf (M : Objects) (P : Rules) (ways : List WayId) (writer : G
   pub blocks : List Block
   pub listed : Lists (λ b. b.way) way_cmp (IsBlockAmong M P ways) blocks
   pub written : HasWritten P.number blocks writer
-
--- the ways ascend, and each way with pieces is among them
-pub record AreRoadWays (M : Objects) (P : Rules) (ways : List WayId) : Type 0 where
-  pub ascending : IsTrue (rises way_cmp ways)
-  pub all : (block : Block) → IsRoadBlock M P block → Contains ways block.way

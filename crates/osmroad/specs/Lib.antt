@@ -1,7 +1,6 @@
 pub mod Compiled
 pub mod Audit
 pub mod Audited
-pub mod Highways
 pub mod Building
 pub mod Limits
 pub mod Texts

@@ -8,6 +8,7 @@ use Rattle.road_base.specs.Objects.{Objects}
 use Rattle.road_base.specs.Applying.{IsApplied}
 use Rattle.opl_lexer.specs.declared.mode.Mode.TheVariants.{Extract, Change}
 use Rattle.opl_lexer.specs.Reading.{ReadAll}
+use Rattle.road_model.specs.Highways.{highways}
 use Rattle.road_io.specs.Told.{Told, Rose}
 use Rattle.road_io.specs.declared.outside.Which.{Which}
 use Rattle.road_io.specs.Outside.{Outside, LeavesOnly, extended}
@@ -21,7 +22,6 @@ use Rattle.osmroad.specs.declared.status.Status.{Status}
 use Rattle.osmroad.specs.declared.status.Status.TheVariants.{Done, Usage, ReadFault, SiteFault, Refused, Limit}
 use Rattle.osmroad.specs.declared.status.Status.TheVariants.{NoMemory, OutOfSequence, NoStore, StoreExists, Damaged}
 use Rattle.osmroad.specs.Limits.{PassesLimit}
-use Rattle.osmroad.specs.Highways.{highways}
 use Rattle.osmroad.specs.Opening.{Files, IsStore, size_with_change}
 use Rattle.osmroad.specs.Outcomes.{Gives, AreInput, IsWithinLimits}
 use Rattle.osmroad.specs.Stops.{LeftBy}

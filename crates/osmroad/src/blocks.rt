@@ -4,7 +4,8 @@ ghost use Rattle.road_base.specs.declared.ids.WayId.{WayId};
 ghost use Rattle.road_model.specs.Orders.{rises, way_cmp};
 ghost use Rattle.road_model.specs.Format.{IsGraph};
 ghost use Rattle.access_profile.specs.Motorcar.{motorcar_rules};
-ghost use Rattle.osmroad.specs.Building.{AreRoadWays, HasBlocksOf};
+ghost use Rattle.road_model.specs.Highways.{AreRoadWays};
+ghost use Rattle.osmroad.specs.Building.{HasBlocksOf};
 
 use access_profile::Motorcar;
 use back_references::Indexed;

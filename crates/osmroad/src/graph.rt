@@ -3,17 +3,16 @@ ghost use Rattle.std.specs.Prelude.{◌≡◌, ◌+◌, ◌≤◌, length, IfOk}
 ghost use Rattle.std.specs.FinMap.{empty};
 ghost use Rattle.road_base.specs.Objects.{Objects};
 ghost use Rattle.road_base.specs.Applying.{IsApplied};
-ghost use Rattle.osmroad.specs.Highways.{highways};
+ghost use Rattle.road_model.specs.Highways.{highways};
 ghost use Rattle.osmroad.specs.Compiled.{IsGraphOf};
 
 use crate::blocks::write_blocks;
-use crate::highways::highways;
 use access_profile::Motorcar;
 use back_references::Indexed;
 use expanded_graph::GraphBuilder;
 use road_base::laws::one_map;
 use road_base::{Event, NoMemory, Steps};
-use road_model::laws::walk_law;
+use road_model::laws::{roads_refer, walk_law};
 use std::alloc::Global;
 use std::mem::forget;
 use std::sync::ledger::Ledger;
@@ -31,9 +30,10 @@ pub fn graph_of<L: Ledger>(
         → steps.new ≤ steps.old + length (highways objects) }
 {
     walk_law(&Motorcar);
+    roads_refer(&Motorcar);
     one_map();
     let world = Indexed::of(alloc, events)?;
-    let ways = highways(alloc, &world)?;
+    let ways = world.highways()?;
     let builder = GraphBuilder::of_all(alloc, &world, Motorcar, ways.as_slice())?;
     let graph = write_blocks(alloc, &builder, ways.as_slice(), steps)?;
     forget(builder);

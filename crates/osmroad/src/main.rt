@@ -6,7 +6,7 @@
 //! `stored` each prepare a reply (`reply`), which is then put once.
 //!
 //! A graph is built so: the input is read part by part into events (`input`), of each object the first event of the
-//! greatest version stands (`graph`), and for each visible way with the key `highway` (`highways`) its block is built,
+//! greatest version stands (`graph`), and for each visible way with the key `highway` its block is built,
 //! written if it has pieces, and let go (`blocks`). Time grows as n log n with the input, the graph, and the words that
 //! are looked at for each way (`expanded_graph`); memory stays a small multiple of the input and the words, and holds
 //! the graph's bytes once. The graph of a town is about as large as its extract; that of a node with very many ways
@@ -24,7 +24,6 @@ mod compile;
 mod create;
 mod findings;
 mod graph;
-mod highways;
 mod input;
 mod laws;
 mod limits;

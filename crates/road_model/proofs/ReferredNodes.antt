@@ -1,6 +1,6 @@
 -- A road refers to the nodes that its line passes.
 use Rattle.std.proofs.Common.{◌≡◌, ℕ, zero, suc, cond, List, [], ◌∷◌, slice_get, Option, Some, None, Bool, true, false}
-use Rattle.std.proofs.Common.{IsTrue, Contains, inl, inr, refl, sym, ap, ◌∙◌, arith}
+use Rattle.std.proofs.Common.{IsTrue, Contains, inl, inr, refl, sym, ap, subst, ◌∙◌, ◌≤◌, arith}
 use Rattle.std.proofs.lemmas.Bool.{and_parts, or_cases, false≢true}
 use Rattle.road_base.specs.declared.ids.NodeId.{NodeId}
 use Rattle.road_base.specs.declared.ids.WayId.{WayId}
@@ -14,6 +14,11 @@ use Rattle.road_model.specs.Rules.{Rules, is_free, has_highway}
 use Rattle.road_model.specs.Lines.{same_node, changes, changes_from, refs_of, line_of, node_at, tail_position}
 use Rattle.road_model.specs.Driving.{open_way, is_open, is_road, drivable, Leaves}
 use Rattle.road_model.specs.Links.{RefersTo}
+use Rattle.road_model.specs.declared.blocks.Block.{Block}
+use Rattle.road_model.specs.declared.lists.Piece.{Piece}
+use Rattle.road_model.specs.Blocks.{IsRoadBlock}
+use Rattle.road_model.specs.Highways.{IsHighway}
+use Rattle.road_base.proofs.ListMembers.{contains_from_in}
 use Rattle.road_model.proofs.StepEnds.{end_named}
 
 later : (x y : NodeId) (xs : List NodeId) → Contains xs y → Contains (x ∷ xs) y
@@ -75,3 +80,27 @@ module _ (M : Objects) (P : Rules) (needs : (tags : TagList) (d : Dir) → IsTru
   step_refers v u goes = let parts = and_parts _ _ goes.drives in
       open_refers u.way u.dir (tail_position u.dir u.index) v parts.0
       (end_named M u (tail_position u.dir u.index) v goes.tail).1
+
+  open_highway : (w : WayId) (d : Dir) → is_open M P w d ≡ true → IsHighway M w
+  unfolding is_open
+  open_highway w d is =
+      let way = opened P (way_of M w) d is in
+      record { body = way.0; visible = way.1.0; tagged = needs (way.0).tags d way.1.1 }
+
+  drivable_highway : (s : Step) → IsTrue (drivable M P s) → IsHighway M s.way
+  unfolding drivable
+  drivable_highway s drives = open_highway s.way s.dir (and_parts _ _ drives).0
+
+  among_pieces : (b : Block) (ps : List Piece) → b.pieces ≡ ps → IsRoadBlock M P b → IsHighway M b.way
+  among_pieces b [] none road = absurd (road.some none)
+  among_pieces b (e ∷ rest) is road =
+      let first = contains_from_in (e ∷ rest) e (inl refl) in
+      let entry = road.block.pieces.sound e (subst (λ ps. Contains ps e) (sym is) first) in
+      let piece = entry.piece in
+      let low : piece.index ≤ piece.index = omega arith in
+      let step : Step = record { way = piece.way; index = piece.index; dir = piece.dir } in
+      subst (λ w. IsHighway M w) entry.of
+      (drivable_highway step (entry.is.drives piece.index low entry.is.ascends))
+
+  pub block_highway : (b : Block) → IsRoadBlock M P b → IsHighway M b.way
+  block_highway b road = among_pieces b b.pieces refl road

@@ -18,7 +18,9 @@ ghost use Rattle.road_model.specs.Words.{IsWord};
 ghost use Rattle.road_model.specs.Contexts.{Every};
 ghost use Rattle.road_model.specs.Network.{AnyWord, Legal, GoesOn, IsContext, IsContextOf, HasNoWords, spell_pieces};
 ghost use Rattle.road_model.specs.Links.{HasMember, RefersTo};
-ghost use Rattle.road_model.specs.Blocks.{name_of};
+ghost use Rattle.road_model.specs.Blocks.{name_of, IsRoadBlock};
+ghost use Rattle.road_model.specs.Highways.{IsHighway};
+ghost use Rattle.road_model.specs.declared.blocks.Block.{Block};
 ghost use Rattle.road_model.specs.Turning.{HasTurnSteps, BeginsWord, EndsPiece};
 ghost use Rattle.road_model.specs.Walks.{AreWalked};
 ghost use Rattle.road_model.specs.Naming.{OnePiece, OneEntry, OneBlock, OneGraph, HasBlock, HasGraph};
@@ -299,9 +301,10 @@ pub fn context_target<P: Profile>(profile: &P)
 {}
 
 /// A road is linked to each node that its line passes, and so is the way of a drivable step to the node where it
-/// begins.
+/// begins. A way with pieces is visible and has the key `highway`.
 pub fn roads_refer<P: Profile>(profile: &P)
     ensures passed { (M : Objects) (w : WayId) (i : ℕ) (v : NodeId) → IsTrue (is_road M (P.rules profile.now) w)
         → node_at M w i ≡ Some v → RefersTo M w v }
     ensures left { (M : Objects) (v : NodeId) (u : Step) → Leaves M (P.rules profile.now) v u → RefersTo M u.way v }
+    ensures blocks { (M : Objects) (b : Block) → IsRoadBlock M (P.rules profile.now) b → IsHighway M b.way }
 {}

@@ -8,7 +8,7 @@ use Rattle.road_model.specs.Format.{IsGraph}
 use Rattle.access_profile.specs.Motorcar.{motorcar_rules}
 use Rattle.access_profile.specs.declared.motorcar.Motorcar.{Motorcar}
 use Rattle.expanded_graph.specs.Pair.{Pair}
-use Rattle.osmroad.specs.Highways.{highways}
+use Rattle.road_model.specs.Highways.{highways}
 use Rattle.osmroad.proofs.CitedLaws.{OneMap}
 use Rattle.osmroad.proofs.graph.graph_of.Goals as goal
 

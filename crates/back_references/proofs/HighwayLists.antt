@@ -1,16 +1,12 @@
--- The visible ways with the key `highway` among the entries of a map, and the roads among them.
-use Rattle.std.proofs.Common.{◌≡◌, ◌≤◌, ℕ, Bool, true, false, cond, ◌||◌, IsTrue, List, [], ◌∷◌, map, filter}
-use Rattle.std.proofs.Common.{Contains, Option, Some, None, refl, inl, inr, sym, ap, subst, ◌∙◌, arith}
+-- The visible ways with the key `highway` among the entries of a map.
+use Rattle.std.proofs.Common.{◌≡◌, Bool, true, false, cond, IsTrue, List, [], ◌∷◌, map, filter}
+use Rattle.std.proofs.Common.{Contains, Option, Some, None, refl, inl, inr, sym, ap, subst, ◌∙◌}
 use Rattle.std.specs.Prelude.{filter_map}
 use Rattle.std.specs.List.{cons_option}
 use Rattle.std.specs.Cmp.{IsTotalOrder}
 use Rattle.std.specs.Cmp.Derive.{both_true}
 use Rattle.std.specs.FinMap.{get, entries}
 use Rattle.std.proofs.lemmas.Bool.{and_parts}
-use Rattle.road_base.specs.declared.ids.Dir.{Dir}
-use Rattle.road_base.specs.declared.ids.Dir.TheVariants.{Forward, Backward}
-use Rattle.road_base.specs.declared.ids.NodeId.{NodeId}
-use Rattle.road_base.specs.declared.ids.Step.{Step}
 use Rattle.road_base.specs.declared.ids.WayId.{WayId}
 use Rattle.road_base.specs.declared.ids.Key.{Key}
 use Rattle.road_base.specs.declared.ids.Key.TheVariants.{Node as NodeKey, Way as WayKey, Relation as RelationKey}
@@ -20,17 +16,10 @@ use Rattle.road_base.specs.declared.objects.Body.TheVariants.{Node as NodeBody, 
 use Rattle.road_base.specs.declared.objects.Body.TheVariants.{Relation as RelationBody, Deleted}
 use Rattle.road_base.specs.declared.event.Event.{Event}
 use Rattle.road_base.specs.Objects.{Objects, Entry, key_cmp, body_in, way_in, visible, way_of}
-use Rattle.road_model.specs.declared.blocks.Block.{Block}
-use Rattle.road_model.specs.declared.lists.Piece.{Piece}
-use Rattle.road_model.specs.Rules.{Rules, has_highway}
+use Rattle.road_model.specs.Rules.{has_highway}
+use Rattle.road_model.specs.Highways.{IsHighway, highway_of, highways, visible_highway}
 use Rattle.road_model.specs.Orders.{rises, rises_from, way_cmp}
-use Rattle.road_model.specs.Lines.{node_at}
-use Rattle.road_model.specs.Driving.{is_open, is_road, located, drivable}
-use Rattle.road_model.specs.Links.{RefersTo}
-use Rattle.road_model.specs.Blocks.{IsRoadBlock}
 use Rattle.object_store.specs.Listed.{AreEntriesOf, IsInOrder, is_way, key_of, pair_of}
-use Rattle.osmroad.specs.Highways.{highway_of, highways, visible_highway}
-use Rattle.osmroad.specs.Building.{AreRoadWays}
 use Rattle.road_base.proofs.ListMembers.{In, contains_from_in, in_from_contains}
 use Rattle.road_model.proofs.AscendingLists.{rest_rises, behind_next}
 
@@ -115,7 +104,7 @@ module _ (total : IsTotalOrder key_cmp) where
       next (Some v) is rest =
           rise_from v es (subst (λ k. IsTrue (rises_from key_cmp k (map key_of es))) (key_is e.key e.body v is) up)
 
--- ---- roads are among them
+-- ---- each is among them
 
 first_of : (o : Option WayId) (w : WayId) (ws : List WayId) → o ≡ Some w → In w (cons_option o ws)
 first_of None w ws e = cc
@@ -157,52 +146,6 @@ module _ (M : Objects) (es : List Event) (all : AreEntriesOf is_way M es) where
       in
       in_highways es event.0 w (in_from_contains es event.0 event.1) is
 
-  module _ (P : Rules)
-      (refers : (w : WayId) (i : ℕ) (v : NodeId)
-      → IsTrue (is_road M P w) → node_at M w i ≡ Some v → RefersTo M w v) where
-    either_way : (w : WayId) (d : Dir) → IsTrue (is_open M P w d) → IsTrue (is_road M P w)
-    either_way w Forward open_on = first (is_open M P w Forward) (is_open M P w Backward) open_on
-      where
-        first : (a b : Bool) → a ≡ true → (a || b) ≡ true
-        first true b e = refl
-        first false b e = cc
-    either_way w Backward open_on = second (is_open M P w Forward) (is_open M P w Backward) open_on
-      where
-        second : (a b : Bool) → b ≡ true → (a || b) ≡ true
-        second true b e = refl
-        second false b e = e
-
-    some_node : (o : Option NodeId) → IsTrue (located M o) → (v : NodeId) × (o ≡ Some v)
-    some_node None h = cc
-    some_node (Some v) h = (v, refl)
-
-    driven_listed : (s : Step) → IsTrue (drivable M P s) → In s.way (filter_map in_event es)
-    unfolding drivable
-    driven_listed s drives =
-        let open_on = and_parts _ _ drives in
-        let node = some_node (node_at M s.way s.index) (and_parts _ _ open_on.1).0 in
-        let reference = refers s.way s.index node.0 (either_way s.way s.dir open_on.0) node.1 in
-        visible_listed s.way reference.body reference.is reference.highway
-
-    road_listed : (ps : List Piece) (b : Block)
-        → b.pieces ≡ ps → IsRoadBlock M P b → In b.way (filter_map in_event es)
-    road_listed [] b none road = absurd (road.some none)
-    road_listed (e ∷ rest) b is road =
-        let first = contains_from_in (e ∷ rest) e (inl refl) in
-        let has : Contains b.pieces e = subst (λ ps. Contains ps e) (sym is) first in
-        let entry = road.block.pieces.sound e has in
-        let piece = entry.piece in
-        let step : Step = record { way = piece.way; index = piece.index; dir = piece.dir } in
-        let low : piece.index ≤ piece.index = omega arith in
-        subst (λ w. In w (filter_map in_event es)) entry.of
-        (driven_listed step (entry.is.drives piece.index low entry.is.ascends))
-
-    -- the ways with the key are those of roads, and maybe more
-    pub are_road_ways : (ways : List WayId) → ways ≡ filter_map (λ e. highway_of e.key e.body) es
-        → IsTotalOrder key_cmp → IsInOrder es → AreRoadWays M P ways
-    are_road_ways ways are total order = record {
-      ascending = subst (λ l. IsTrue (rises way_cmp l)) (sym are) (highways_rise total es order);
-      all = λ b road.
-          subst (λ l. Contains l b.way) (sym are)
-          (contains_from_in (filter_map in_event es) b.way (road_listed b.pieces b refl road));
-    }
+  pub highway_listed : (w : WayId) → IsHighway M w → Contains (filter_map in_event es) w
+  highway_listed w is =
+      contains_from_in (filter_map in_event es) w (visible_listed w is.body is.visible is.tagged)

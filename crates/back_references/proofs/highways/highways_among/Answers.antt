@@ -1,7 +1,7 @@
 use Rattle.std.proofs.Common.{rules, tests}
 use Rattle.std.proofs.lemmas.Iterator.{items_from_collect, YieldsList-from_slice}
 use Rattle.std.proofs.lemmas.Iterator.Consumers.{YieldsList-from_filter_map}
-use Rattle.osmroad.proofs.highways.highways_among.Goals as goal
+use Rattle.back_references.proofs.highways.highways_among.Goals as goal
 
 pub returns : goal.returns
 returns c =
