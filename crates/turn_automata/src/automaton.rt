@@ -59,6 +59,13 @@ impl Automaton {
         })
     }
 
+    /// The words that it watches for.
+    pub fn words(&self) -> &WordList
+        ensures { result.now ≡ self.now.words }
+    {
+        &self.words
+    }
+
     /// How many states there are. The first one, with the number 0, stands for no steps.
     pub fn len(&self) -> usize
         ensures { result ≡ length self.now.states }
