@@ -1,0 +1,108 @@
+//! What follows changes.
+ghost use Rattle.std.specs.Prelude.{◌≡◌, ◌+◌, ◌≤◌, length, IfOk, OnOk, OnErr};
+ghost use Rattle.std.specs.FinMap.{empty};
+ghost use Rattle.road_base.specs.Objects.{Objects};
+ghost use Rattle.road_base.specs.Applying.{IsApplied};
+ghost use Rattle.road_model.specs.Highways.{highways};
+ghost use Rattle.road_model.specs.BlockMap.{AreBlocksOf};
+
+use crate::building::blocks_of;
+use back_references::Indexed;
+use road_base::laws::one_map;
+use road_base::{Event, NoMemory, Steps};
+use road_model::{Blocks, Profile};
+use std::alloc::Global;
+use std::marker::Model;
+use std::sync::ledger::Ledger;
+
+/// What a change cost.
+#[derive(Clone, Copy, PartialEq, Eq, Debug)]
+pub struct Report {
+    /// How many blocks were built.
+    pub rebuilt: u64,
+}
+
+/// A world with the blocks of all its ways with pieces.
+#[derive(Drop)]
+pub struct Engine<P: Profile> {
+    alloc: Global,
+    profile: P,
+    world: Indexed,
+    blocks: Blocks,
+}
+
+impl<P: Profile> Model for Engine<P> {
+    ghost use Rattle.road_model.specs.BlockMap.{AreBlocksOf};
+    ghost use Rattle.change_apply.specs.Engines.{Followed};
+
+    ghost Value = { Followed P };
+
+    ghost view = { λ e. record { profile = e.profile; world = e.world } };
+
+    ghost invariant = { λ e. AreBlocksOf e.world (P.rules e.profile) e.blocks.map };
+}
+
+impl<P: Profile> Engine<P> {
+    /// What the events leave of no objects, of each object the first one of the greatest version, with its blocks. The
+    /// events are moved, not copied. No more blocks are built than there are visible ways with the key `highway`.
+    pub fn load<L: Ledger>(
+        alloc: Global,
+        profile: P,
+        events: Vec<Event>,
+        steps: &mut Steps<L>,
+    ) -> Result<Engine<P>, NoMemory>
+        ensures loaded { IfOk result (λ e. IsApplied empty events.items e.world) }
+        ensures profile { IfOk result (λ e. e.profile ≡ profile) }
+        ensures built { (objects : Objects)
+            → IsApplied empty events.items objects
+            → steps.new ≤ steps.old + length (highways objects) }
+    {
+        one_map();
+        let world = Indexed::of(alloc, events)?;
+        let blocks = blocks_of(alloc, profile, &world, steps)?;
+        Ok(Engine {
+            alloc,
+            profile,
+            world,
+            blocks,
+        })
+    }
+
+    /// Applies the events: of each key the first one of the greatest version stands, its entry here before all of
+    /// them. The blocks are then those of what the events left. Where no memory is found nothing changes.
+    pub fn apply<L: Ledger>(
+        &mut self,
+        events: &[Event],
+        steps: &mut Steps<L>,
+    ) -> Result<Report, NoMemory>
+        ensures applied { OnOk result (IsApplied self.old.world events.now self.new.world) }
+        ensures profile { self.new.profile ≡ self.old.profile }
+        ensures err { OnErr result (self.new ≡ self.old) }
+        ensures report { IfOk result (λ r. steps.new ≡ steps.old + r.rebuilt) }
+        ensures built { (objects : Objects)
+            → IsApplied self.old.world events.now objects
+            → steps.new ≤ steps.old + length (highways objects) }
+    {
+        one_map();
+        let world = self.world.with(events)?;
+        let blocks = blocks_of(self.alloc, self.profile, &world, steps)?;
+        let rebuilt = 0;
+        self.world = world;
+        self.blocks = blocks;
+        Ok(Report { rebuilt })
+    }
+
+    /// The objects, for the profile's queries.
+    pub fn world(&self) -> &Indexed
+        ensures { result.now ≡ self.now.world }
+    {
+        &self.world
+    }
+
+    /// The blocks of all ways with pieces.
+    pub fn blocks(&self) -> &Blocks
+        ensures { AreBlocksOf self.now.world (P.rules self.now.profile) result.now.map }
+    {
+        &self.blocks
+    }
+}

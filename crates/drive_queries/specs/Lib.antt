@@ -1,0 +1,6 @@
+pub mod Messages
+pub mod Verdicts
+pub mod Tables
+pub mod Reaching
+pub mod Searching
+pub mod Counting

@@ -1,0 +1,28 @@
+//! What a session is asked beside its changes: what a line means, whether a drive is legal and which rule it breaks
+//! first, whether one node can be reached from another, and how large a graph is.
+//!
+//! `message` takes time linear in its line. `WordTable::of` judges each restriction that names a way of the drive once
+//! and keeps the words that begin on the drive's steps, in an automaton (`turn_automata`) and sorted; `judge` then
+//! takes for each step the time of a few look-ups and, where it goes back to where the step before began, of the ways
+//! at the node, with one step of the automaton; the step that breaks a word is compared with the words once. `reach`
+//! marks each context that it finds once, the one that is nearest to the goal first: at most all contexts and arcs,
+//! with memory in proportion to the contexts and a logarithm of their number for each. `counts` goes over all contexts
+//! once.
+#![tactic(auto)]
+
+mod found;
+mod judging;
+pub mod laws;
+mod messages;
+mod reaching;
+mod totals;
+mod verdict;
+mod word_table;
+
+pub use found::Found;
+pub use judging::judge;
+pub use messages::{Asked, message};
+pub use reaching::reach;
+pub use totals::{Totals, counts};
+pub use verdict::{Rule, Verdict};
+pub use word_table::WordTable;
