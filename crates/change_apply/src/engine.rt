@@ -6,7 +6,7 @@ ghost use Rattle.road_base.specs.Applying.{IsApplied};
 ghost use Rattle.road_model.specs.Highways.{highways};
 ghost use Rattle.road_model.specs.BlockMap.{AreBlocksOf};
 
-use crate::building::blocks_of;
+use crate::building::build;
 use back_references::Indexed;
 use road_base::laws::one_map;
 use road_base::{Event, NoMemory, Steps};
@@ -33,9 +33,11 @@ pub struct Engine<P: Profile> {
 
 impl<P: Profile> Model for Engine<P> {
     ghost use Rattle.road_model.specs.BlockMap.{AreBlocksOf};
-    ghost use Rattle.change_apply.specs.Engines.{Followed};
+    ghost use Rattle.change_apply.specs.Engines.{Followed, coded_followed};
 
     ghost Value = { Followed P };
+
+    ghost coded = { coded_followed P.code };
 
     ghost view = { λ e. record { profile = e.profile; world = e.world } };
 
@@ -59,12 +61,12 @@ impl<P: Profile> Engine<P> {
     {
         one_map();
         let world = Indexed::of(alloc, events)?;
-        let blocks = blocks_of(alloc, profile, &world, steps)?;
+        let built = build(alloc, &world, profile, steps)?;
         Ok(Engine {
             alloc,
             profile,
             world,
-            blocks,
+            blocks: built.blocks,
         })
     }
 
@@ -85,11 +87,12 @@ impl<P: Profile> Engine<P> {
     {
         one_map();
         let world = self.world.with(events)?;
-        let blocks = blocks_of(self.alloc, self.profile, &world, steps)?;
-        let rebuilt = 0;
+        let built = build(self.alloc, &world, self.profile, steps)?;
         self.world = world;
-        self.blocks = blocks;
-        Ok(Report { rebuilt })
+        self.blocks = built.blocks;
+        Ok(Report {
+            rebuilt: built.count,
+        })
     }
 
     /// The objects, for the profile's queries.

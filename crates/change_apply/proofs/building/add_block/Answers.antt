@@ -1,0 +1,34 @@
+use Rattle.std.proofs.Common.{◌≡◌, [], Result, Ok, Err, OnOk, ◌++◌, ◌∷◌, sym, subst, ◌∙◌}
+use Rattle.road_base.specs.declared.ids.WayId.{WayId}
+use Rattle.road_model.specs.Blocks.{IsBlock, IsRoadBlock}
+use Rattle.change_apply.specs.Engines.{AreBlocksAmong}
+use Rattle.change_apply.proofs.BuiltBlocks.{skipped, added, empty_by_test, some_by_test}
+use Rattle.change_apply.proofs.building.add_block.Goals as goal
+
+on_ok : {T E : Type 0} {A B : Type 0} (r : Result T E) → OnOk r A → (A → B) → OnOk r B
+on_ok (Ok x) a f = f a
+on_ok (Err e) a f = tt
+
+-- the way has no pieces
+pub returns-then-is_empty-clause-added : goal.returns-then-is_empty-clause-added
+returns-then-is_empty-clause-added g c = λ ways one has.
+    let M = c.args.builder.now.world in
+    let P = g.P.Profile.rules c.args.builder.now.profile in
+    let test = empty_by_test c.items.result.now c.is_empty.result c.is_empty.ensures c.if-is_empty.true in
+    skipped M P one ways c.args.way c.in_ok-block.block c.args.blocks.now.map c.in_ok-block.ensures.block
+    (sym c.items.ensures ∙ test) has
+
+pub returns-clause-added : goal.returns-clause-added
+returns-clause-added g c = on_ok c.insert.result c.insert.ensures.ok (λ put ways one has.
+    let M = c.args.builder.now.world in
+    let P = g.P.Profile.rules c.args.builder.now.profile in
+    let block = c.in_ok-block.block in
+    let is = c.in_ok-block.ensures.block in
+    let test = some_by_test c.items.result.now c.is_empty.result c.is_empty.ensures c.if-is_empty.false in
+    let some : block.pieces ≡ [] → ⊥ = λ none. test (c.items.ensures ∙ none) in
+    let own = subst (λ w. IsBlock M P w block) (sym is.way) is in
+    let road : IsRoadBlock M P block = record { block = own; some = some } in
+    let all = added M P c.name_order.ensures.ways c.name_order.ensures.way_ties one ways block c.args.blocks.now.map
+    own road has in
+    subst (λ (w : WayId). AreBlocksAmong M P (ways ++ w ∷ []) c.insert.new.self.map) is.way
+    (subst (λ m. AreBlocksAmong M P (ways ++ block.way ∷ []) m) (sym put) all))

@@ -1,0 +1,14 @@
+use Rattle.std.proofs.Common.{List, IsTrue, Contains, subst, sym}
+use Rattle.road_base.specs.declared.ids.WayId.{WayId}
+use Rattle.road_model.specs.Orders.{rises, way_cmp}
+use Rattle.change_apply.proofs.building.build.Goals as goal
+
+pub blocks_of-requires : goal.blocks_of-requires
+blocks_of-requires g c =
+    let ways = c.in_ok-ways.ways.items in
+    record {
+      ascending = subst (λ (l : List WayId). IsTrue (rises way_cmp l)) (sym c.as_slice.ensures.value) c.in_ok-ways.ensures.ascending;
+      all = λ b road.
+          subst (λ (l : List WayId). Contains l b.way) (sym c.as_slice.ensures.value)
+          (c.in_ok-ways.ensures.each b.way (c.roads_refer.ensures.blocks c.args.world.now b road));
+    }
