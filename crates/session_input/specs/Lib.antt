@@ -1,0 +1,4 @@
+pub mod Messages
+pub mod Limits
+pub mod Reading
+pub mod Holding
