@@ -1,6 +1,5 @@
 -- The limits of a session's input.
-use Rattle.std.specs.Prelude.{◌≡◌, ℕ, ◌+◌, ◌<◌, ◌^◌, List, [], ◌++◌, length}
-use Rattle.opl_lexer.specs.Letters.{newline}
+use Rattle.std.specs.Prelude.{◌≡◌, ℕ, ◌+◌, ◌<◌, ◌^◌, List, [], ◌∷◌, ◌++◌, length}
 use Rattle.opl_lexer.specs.Parts.{Lacks}
 use Rattle.session_input.specs.Messages.{Message, IsMessage, IsOpen, BeginsFrame}
 
@@ -27,9 +26,12 @@ pub record IsPending (before : ℕ) (bytes : List ℕ) : Type 0 where
   pub open_bytes : IsOpen bytes
   pub within : IsWithin before bytes
 
--- a front of the bytes is the first that passes a limit
+-- The bytes come to one byte too many: those before it are no whole message yet, within the limits, and with it a limit
+-- is passed.
 pub record IsStopped (before : ℕ) (bytes : List ℕ) : Type 0 where
-  pub front : List ℕ
+  pub pending : List ℕ
+  pub byte : ℕ
   pub rest : List ℕ
-  pub is : bytes ≡ front ++ rest
-  pub passes : PassesLimit before front
+  pub is : bytes ≡ (pending ++ byte ∷ []) ++ rest
+  pub open_bytes : IsPending before pending
+  pub passes : PassesLimit before (pending ++ byte ∷ [])

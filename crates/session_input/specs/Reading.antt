@@ -1,6 +1,8 @@
 -- What is known of a session's input as far as it was read, and what its parts give.
 use Rattle.std.specs.Prelude.{◌≡◌, ◌≢◌, ◌⊎◌, ℕ, ◌+◌, List, [], ◌∷◌, ◌++◌, length, take, Option, Some, None, Result, Ok, Err}
 use Rattle.road_base.specs.declared.event.Event.{Event}
+use Rattle.road_base.specs.declared.ids.Sequence.{Sequence}
+use Rattle.drive_queries.specs.declared.messages.Asked.{Asked}
 use Rattle.opl_lexer.specs.Letters.{newline}
 use Rattle.opl_lexer.specs.Parts.{Lacks}
 use Rattle.opl_lexer.specs.declared.mode.Mode.TheVariants.{Change as ChangeMode}
@@ -25,8 +27,8 @@ IsChange body (Faulty fault) = input_fault ChangeMode body ≡ Some (fault_at fa
 
 -- what was received is the message
 pub data Means : Message → Received → Type 0 where
-  OfLine : (message : _) → Means (Line message) (LineReceived message)
-  OfFrame : (number : _) (body : List ℕ) (change : Change) → IsChange body change
+  OfLine : (message : Asked) → Means (Line message) (LineReceived message)
+  OfFrame : (number : Sequence) (body : List ℕ) (change : Change) → IsChange body change
       → Means (Frame number.0 body) (FrameReceived number change)
 
 -- some message was received, which these bytes are
@@ -40,11 +42,11 @@ abbrev pub StopsAt : InputStop → ℕ → List ℕ → Type 0
 StopsAt TooLong before bytes = IsStopped before bytes
 StopsAt NoMemory before bytes = Unit {0}
 
--- Where the input ends behind these bytes: there are none; or they are one message more, a last line that has a byte
--- being ended there; or a frame isn't ended.
-abbrev pub IsEnding : ℕ → List ℕ → Ending → Type 0
-IsEnding before open_bytes Done = open_bytes ≡ []
-IsEnding before open_bytes (Last received) = (message : Message) × IsMessage message (open_bytes ++ newline ∷ [])
-    × Means message received
-IsEnding before open_bytes (Unfinished number) = (body front : List ℕ) × BeginsFrame number.0 body front
+-- Where the input ends behind these bytes: there are none; or, since a last line that has a byte ends there, they are
+-- one message more; or a frame isn't ended.
+abbrev pub IsEnding : List ℕ → Ending → Type 0
+IsEnding open_bytes Done = open_bytes ≡ []
+IsEnding open_bytes (Last received) = (open_bytes ≢ []) × ((message : Message)
+    × IsMessage message (open_bytes ++ newline ∷ []) × Means message received)
+IsEnding open_bytes (Unfinished number) = (body front : List ℕ) × BeginsFrame number.0 body front
     × ((front ≡ open_bytes) ⊎ (front ≡ open_bytes ++ newline ∷ []))

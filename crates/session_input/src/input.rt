@@ -54,7 +54,7 @@ impl Input {
     pub fn finish(self) -> Result<Ending, InputStop>
         ensures ended { IfOk result (λ ending. (before : ℕ) (bytes : List ℕ)
             → Holds before bytes self
-            → IsEnding before bytes ending) }
+            → IsEnding bytes ending) }
         ensures stopped { IfErr result (λ e. e ≡ InputStop.NoMemory) }
     {
         Err(InputStop::NoMemory)
