@@ -1,5 +1,6 @@
 -- The limits of a session's input.
 use Rattle.std.specs.Prelude.{◌≡◌, ℕ, ◌+◌, ◌<◌, ◌^◌, List, [], ◌∷◌, ◌++◌, length}
+use Rattle.opl_lexer.specs.Letters.{newline}
 use Rattle.opl_lexer.specs.Parts.{Lacks}
 use Rattle.session_input.specs.Messages.{Message, IsMessage, IsOpen, BeginsFrame}
 
