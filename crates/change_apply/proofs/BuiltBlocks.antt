@@ -1,10 +1,11 @@
 -- The blocks of ways, one way after another.
-use Rattle.std.proofs.Common.{◌≡◌, ◌≢◌, ℕ, ◌+◌, ◌≤◌, Bool, true, false, cond, List, [], ◌∷◌, ◌++◌, length, Option, Some, None, Contains}
+use Rattle.std.proofs.Common.{◌≡◌, ◌≢◌, ℕ, ◌+◌, ◌≤◌, Bool, true, false, cond, List, [], ◌∷◌, ◌++◌, map, length, Option, Some, None, Contains}
 use Rattle.std.proofs.Common.{inl, inr, refl, sym, ap, subst, ◌∙◌, arith}
 use Rattle.std.specs.Prelude.{◌↔◌}
+use Rattle.std.specs.List.{AllByRecursion}
 use Rattle.std.specs.Bool.{◌==◌}
 use Rattle.std.specs.Cmp.{IsTotalOrder, Equal-is}
-use Rattle.std.specs.FinMap.{FinMap, IsAntisymmetric, empty, get, insert, get-insert, get-empty}
+use Rattle.std.specs.FinMap.{FinMap, IsAntisymmetric, empty, get, insert, get-insert, get-empty, entries, values}
 use Rattle.std.specs.Ordering.{is_eq, eq_by_cmp}
 use Rattle.std.specs.declared.cmp.Ordering.TheVariants.{Equal}
 use Rattle.std.proofs.lemmas.Bool.{false≢true}
@@ -22,7 +23,9 @@ use Rattle.road_model.specs.Blocks.{IsBlock, IsRoadBlock}
 use Rattle.road_model.specs.BlockMap.{AreBlocksOf}
 use Rattle.road_model.specs.Highways.{AreRoadWays, highways}
 use Rattle.road_model.specs.Naming.{OneBlock}
-use Rattle.change_apply.specs.Engines.{AreBlocksAmong}
+use Rattle.road_model.specs.BlockMap.{entry_of}
+use Rattle.road_model.specs.Format.{IsBlockForm}
+use Rattle.change_apply.specs.Engines.{AreBlocksAmong, AreInForm}
 use Rattle.road_base.proofs.ListMembers.{In, contains_from_in, in_from_contains, contains_more, in_left, in_end}
 
 module _ (M : Objects) (P : Rules) where
@@ -99,6 +102,36 @@ module _ (M : Objects) (P : Rules) where
     pub added : AreBlocksAmong M P (ways ++ block.way ∷ []) (insert m block.way block)
     added v b = subst (λ got. Put v b got) (sym (get-insert total m block.way block v))
         (by_test v b (eq_by_cmp way_cmp v block.way) refl)
+
+-- the block that is put has the form
+pub in_form : IsTotalOrder way_cmp → (block : Block) (m : FinMap way_cmp Block) → IsBlockForm block → AreInForm m
+    → AreInForm (insert m block.way block)
+in_form total block m form all w b got =
+    at (eq_by_cmp way_cmp w block.way) (sym (get-insert total m block.way block w) ∙ got)
+  where
+    at : (t : Bool) → cond t (Some block) (get m w) ≡ Some b → IsBlockForm b
+    at true e = let same : block ≡ b = cc in subst (λ x. IsBlockForm x) same form
+    at false e = all w b e
+
+pub none_in_form : (m : FinMap way_cmp Block) → m ≡ empty → AreInForm m
+none_in_form m bare w b got =
+    let gone : None ≡ Some b = sym (ap (λ n. get n w) bare ∙ get-empty way_cmp w) ∙ got in cc
+
+-- the blocks of a list, which are all of the map
+all_in_form : (m : FinMap way_cmp Block) (bs : List Block)
+    → ((b : Block) → In b bs → get m b.way ≡ Some b) → AreInForm m → AllByRecursion IsBlockForm bs
+all_in_form m [] each all = tt
+all_in_form m (b ∷ bs) each all = (all b.way b (each b (inl refl)), all_in_form m bs (λ x i. each x (inr i)) all)
+
+values_of : (bs : List Block) → map (λ e. e.1) (map entry_of bs) ≡ bs
+values_of [] = refl
+values_of (b ∷ bs) = ap (λ l. b ∷ l) (values_of bs)
+
+pub listed_forms : (m : FinMap way_cmp Block) (bs : List Block) → entries m ≡ map entry_of bs
+    → ((b : Block) → Contains bs b ↔ (get m b.way ≡ Some b)) → AreInForm m → AllByRecursion IsBlockForm (values m)
+listed_forms m bs are each all =
+    subst (λ l. AllByRecursion IsBlockForm l) (sym (ap (λ l. map (λ e. e.1) l) are ∙ values_of bs))
+    (all_in_form m bs (λ b i. (each b).0 (contains_from_in bs b i)) all)
 
 -- ---- lists that are empty or not
 

@@ -2,9 +2,8 @@
 ghost use Rattle.std.specs.Prelude.{◌≡◌, ◌+◌, ◌≤◌, ◌++◌, ◌∷◌, [], List, length, IfOk, OnOk};
 ghost use Rattle.road_base.specs.declared.ids.WayId.{WayId};
 ghost use Rattle.road_model.specs.Highways.{AreRoadWays, highways};
-ghost use Rattle.road_model.specs.BlockMap.{AreBlocksOf};
 ghost use Rattle.road_model.specs.Naming.{OneBlock};
-ghost use Rattle.change_apply.specs.Engines.{AreBlocksAmong};
+ghost use Rattle.change_apply.specs.Engines.{AreBlocksAmong, AreInForm, AreKept};
 
 use back_references::Indexed;
 use expanded_graph::GraphBuilder;
@@ -28,7 +27,7 @@ pub fn build<P: Profile, L: Ledger>(
     profile: P,
     steps: &mut Steps<L>,
 ) -> Result<Built, NoMemory>
-    ensures blocks { IfOk result (λ b. AreBlocksOf world.now (P.rules profile) b.blocks.map) }
+    ensures blocks { IfOk result (λ b. AreKept world.now (P.rules profile) b.blocks.map) }
     ensures count { IfOk result (λ b. steps.new ≡ steps.old + b.count) }
     ensures few { steps.new ≤ steps.old + length (highways world.now) }
 {
@@ -50,7 +49,7 @@ fn blocks_of<P: Profile, L: Ledger>(
     steps: &mut Steps<L>,
 ) -> Result<Blocks, NoMemory>
     requires { AreRoadWays world.now (P.rules profile) ways.now }
-    ensures blocks { IfOk result (λ blocks. AreBlocksOf world.now (P.rules profile) blocks.map) }
+    ensures blocks { IfOk result (λ blocks. AreKept world.now (P.rules profile) blocks.map) }
     ensures each { OnOk result (steps.new ≡ steps.old + length ways.now) }
     ensures few { steps.new ≤ steps.old + length ways.now }
 {
@@ -75,6 +74,7 @@ fn add_block<P: Profile, L: Ledger>(
         → OneBlock builder.now.world (P.rules builder.now.profile)
         → AreBlocksAmong builder.now.world (P.rules builder.now.profile) ways blocks.old.map
         → AreBlocksAmong builder.now.world (P.rules builder.now.profile) (ways ++ way ∷ []) blocks.new.map) }
+    ensures forms { OnOk result (AreInForm blocks.old.map → AreInForm blocks.new.map) }
     ensures built { steps.new ≡ steps.old + 1 }
 {
     name_order();

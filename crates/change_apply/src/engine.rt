@@ -1,10 +1,12 @@
 //! What follows changes.
 ghost use Rattle.std.specs.Prelude.{◌≡◌, ◌+◌, ◌≤◌, length, IfOk, OnOk, OnErr};
-ghost use Rattle.std.specs.FinMap.{empty};
+ghost use Rattle.std.specs.List.{AllByRecursion};
+ghost use Rattle.std.specs.FinMap.{empty, values};
 ghost use Rattle.road_base.specs.Objects.{Objects};
 ghost use Rattle.road_base.specs.Applying.{IsApplied};
 ghost use Rattle.road_model.specs.Highways.{highways};
 ghost use Rattle.road_model.specs.BlockMap.{AreBlocksOf};
+ghost use Rattle.road_model.specs.Format.{IsBlockForm};
 
 use crate::building::build;
 use back_references::Indexed;
@@ -32,8 +34,7 @@ pub struct Engine<P: Profile> {
 }
 
 impl<P: Profile> Model for Engine<P> {
-    ghost use Rattle.road_model.specs.BlockMap.{AreBlocksOf};
-    ghost use Rattle.change_apply.specs.Engines.{Followed, coded_followed};
+    ghost use Rattle.change_apply.specs.Engines.{AreKept, Followed, coded_followed};
 
     ghost Value = { Followed P };
 
@@ -41,7 +42,7 @@ impl<P: Profile> Model for Engine<P> {
 
     ghost view = { λ e. record { profile = e.profile; world = e.world } };
 
-    ghost invariant = { λ e. AreBlocksOf e.world (P.rules e.profile) e.blocks.map };
+    ghost invariant = { λ e. AreKept e.world (P.rules e.profile) e.blocks.map };
 }
 
 impl<P: Profile> Engine<P> {
@@ -102,10 +103,12 @@ impl<P: Profile> Engine<P> {
         &self.world
     }
 
-    /// The blocks of all ways with pieces.
+    /// The blocks of all ways with pieces, in the form in which a graph file holds them.
     pub fn blocks(&self) -> &Blocks
-        ensures { AreBlocksOf self.now.world (P.rules self.now.profile) result.now.map }
+        ensures blocks { AreBlocksOf self.now.world (P.rules self.now.profile) result.now.map }
+        ensures forms { AllByRecursion IsBlockForm (values result.now.map) }
     {
+        let _items = self.blocks.items();
         &self.blocks
     }
 }

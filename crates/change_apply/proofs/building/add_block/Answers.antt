@@ -1,8 +1,9 @@
 use Rattle.std.proofs.Common.{◌≡◌, [], Result, Ok, Err, OnOk, ◌++◌, ◌∷◌, sym, subst, ◌∙◌}
 use Rattle.road_base.specs.declared.ids.WayId.{WayId}
 use Rattle.road_model.specs.Blocks.{IsBlock, IsRoadBlock}
-use Rattle.change_apply.specs.Engines.{AreBlocksAmong}
-use Rattle.change_apply.proofs.BuiltBlocks.{skipped, added, empty_by_test, some_by_test}
+use Rattle.road_model.specs.Format.{IsBlockForm}
+use Rattle.change_apply.specs.Engines.{AreBlocksAmong, AreInForm}
+use Rattle.change_apply.proofs.BuiltBlocks.{skipped, added, in_form, empty_by_test, some_by_test}
 use Rattle.change_apply.proofs.building.add_block.Goals as goal
 
 on_ok : {T E : Type 0} {A B : Type 0} (r : Result T E) → OnOk r A → (A → B) → OnOk r B
@@ -32,3 +33,16 @@ returns-clause-added g c = on_ok c.insert.result c.insert.ensures.ok (λ put way
     own road has in
     subst (λ (w : WayId). AreBlocksAmong M P (ways ++ w ∷ []) c.insert.new.self.map) is.way
     (subst (λ m. AreBlocksAmong M P (ways ++ block.way ∷ []) m) (sym put) all))
+
+pub returns-clause-forms : goal.returns-clause-forms
+returns-clause-forms g c = on_ok c.insert.result c.insert.ensures.ok (λ put all.
+    let block = c.in_ok-block.block in
+    let test = some_by_test c.items.result.now c.is_empty.result c.is_empty.ensures c.if-is_empty.false in
+    let some : block.pieces ≡ [] → ⊥ = λ none. test (c.items.ensures ∙ none) in
+    let form : IsBlockForm block = record {
+      some = some;
+      ascend = c.in_ok-block.ensures.form.1;
+      pieces = c.in_ok-block.ensures.form.0;
+    } in
+    subst (λ m. AreInForm m) (sym put)
+    (in_form c.name_order.ensures.ways block c.args.blocks.now.map form all))

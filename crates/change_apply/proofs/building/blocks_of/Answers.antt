@@ -3,7 +3,7 @@ use Rattle.std.proofs.lemmas.List.{take_all, take_more}
 use Rattle.road_base.specs.declared.ids.WayId.{WayId}
 use Rattle.road_model.specs.Naming.{OneBlock}
 use Rattle.change_apply.specs.Engines.{AreBlocksAmong}
-use Rattle.change_apply.proofs.BuiltBlocks.{none_among, all_among}
+use Rattle.change_apply.proofs.BuiltBlocks.{none_among, none_in_form, all_among}
 use Rattle.change_apply.proofs.building.blocks_of.Goals as goal
 
 pub loop-way-init : goal.loop-way-init
@@ -11,6 +11,7 @@ loop-way-init g c = record {
   among =
       none_among c.args.world.now (g.P.Profile.rules c.args.profile) c.reserve.new.self.map
       (c.in_ok-reserve.ensures.map ∙ c.new-blocks.ensures);
+  forms = none_in_form c.reserve.new.self.map (c.in_ok-reserve.ensures.map ∙ c.new-blocks.ensures);
   built = omega arith;
 }
 
@@ -35,6 +36,7 @@ loop-way-preserved g c =
       among =
           subst (λ (l : List WayId). AreBlocksAmong M (R c.args.profile) l new) (sym more)
           (here (c.one_block.ensures M) c.loop-way.invariant.among);
+      forms = c.in_ok-add_block.ensures.forms c.loop-way.invariant.forms;
       built = omega arith;
     }
 
@@ -43,6 +45,10 @@ returns-clause-blocks g c =
     let ways = c.args.ways.now in
     let P = g.P.Profile.rules c.args.profile in
     let whole = take_all c.loop-way.way-index ways (omega (arith, c.loop-way-test.false)) in
-    all_among c.args.world.now P ways c.loop-way.blocks.map c.requires
-    (subst (λ (l : List WayId). AreBlocksAmong c.args.world.now P l c.loop-way.blocks.map) whole
-    c.loop-way.invariant.among)
+    record {
+      blocks =
+          all_among c.args.world.now P ways c.loop-way.blocks.map c.requires
+          (subst (λ (l : List WayId). AreBlocksAmong c.args.world.now P l c.loop-way.blocks.map) whole
+          c.loop-way.invariant.among);
+      forms = c.loop-way.invariant.forms;
+    }
