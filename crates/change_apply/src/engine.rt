@@ -96,7 +96,14 @@ impl<P: Profile> Engine<P> {
         })
     }
 
-    /// The objects, for the profile's queries.
+    /// The profile.
+    pub fn profile(&self) -> P
+        ensures { result ≡ self.now.profile }
+    {
+        self.profile
+    }
+
+    /// The objects.
     pub fn world(&self) -> &Indexed
         ensures { result.now ≡ self.now.world }
     {

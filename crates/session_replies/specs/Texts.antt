@@ -1,0 +1,60 @@
+-- The replies of a session as bytes, each with its newline.
+use Rattle.std.specs.Prelude.{◌++◌, ℕ, List, [], ◌∷◌, codes, length}
+use Rattle.std.specs.List.{flat_map}
+use Rattle.std.specs.Fmt.{decimal, signed_decimal}
+use Rattle.road_base.specs.declared.ids.Step.{Step}
+use Rattle.opl_lexer.specs.Reading.{FaultAt}
+use Rattle.drive_queries.specs.declared.verdict.Verdict.{Verdict}
+use Rattle.drive_queries.specs.declared.totals.Totals.{Totals}
+use Rattle.drive_queries.specs.declared.found.Found.{Found}
+use Rattle.drive_queries.specs.declared.found.Found.TheVariants.{Drive, NoNode, Nowhere}
+use Rattle.reply_lines.specs.Texts.{step_bytes, verdict_bytes, fault_bytes, counts_bytes}
+
+-- ---- lines
+
+-- `unknown`
+abbrev pub unknown_line : List ℕ
+unknown_line = codes "unknown" ++ 10 ∷ []
+
+-- `state sequence N ways W pieces P contexts C arcs A`, with the kept number
+abbrev pub state_line : ℕ → Totals → List ℕ
+state_line kept totals = codes "state sequence " ++ (decimal kept ++ (codes " " ++ (counts_bytes totals ++ 10 ∷ [])))
+
+-- `legal`, or `broken K RULE`
+abbrev pub verdict_line : Verdict → List ℕ
+verdict_line verdict = verdict_bytes verdict ++ 10 ∷ []
+
+-- each step behind a space
+abbrev pub steps_bytes : List Step → List ℕ
+steps_bytes steps = flat_map (λ s. codes " " ++ step_bytes s) steps
+
+-- `drive STEP ..`, `no-node N` or `none`
+abbrev pub found_bytes : Found → List ℕ
+found_bytes (Drive steps) = codes "drive" ++ steps_bytes steps
+found_bytes (NoNode v) = codes "no-node " ++ signed_decimal v.0
+found_bytes Nowhere = codes "none"
+
+abbrev pub found_line : Found → List ℕ
+found_line found = found_bytes found ++ 10 ∷ []
+
+-- `graph LEN`, and behind the newline so many bytes, which are the graph's
+abbrev pub graph_line : List ℕ → List ℕ
+graph_line graph = codes "graph " ++ (decimal (length graph) ++ 10 ∷ [])
+
+-- ---- frames
+
+-- `applied N`
+abbrev pub applied_line : ℕ → List ℕ
+applied_line n = codes "applied " ++ (decimal n ++ 10 ∷ [])
+
+-- `refused N sequence KEPT`
+abbrev pub refused_sequence_line : ℕ → ℕ → List ℕ
+refused_sequence_line n kept = codes "refused " ++ (decimal n ++ (codes " sequence " ++ (decimal kept ++ 10 ∷ [])))
+
+-- `refused N line L field F KIND`
+abbrev pub refused_fault_line : ℕ → FaultAt → List ℕ
+refused_fault_line n fault = codes "refused " ++ (decimal n ++ (codes " " ++ (fault_bytes fault ++ 10 ∷ [])))
+
+-- `refused unfinished N`
+abbrev pub unfinished_line : ℕ → List ℕ
+unfinished_line n = codes "refused unfinished " ++ (decimal n ++ 10 ∷ [])
