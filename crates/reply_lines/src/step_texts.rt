@@ -20,7 +20,7 @@ fn dir_sign(dir: Dir) -> u8
 
 /// Writes the step at the end of the room, and tells where it begins.
 fn put_step(step: Step, room: &mut [u8; ROOM]) -> usize
-    ensures within { result ≤ 48 }
+    ensures within { result ≤ ROOM }
     ensures written { drop result room.new ≡ step_bytes step }
 {
     let start = put_byte(dir_sign(step.dir), room, ROOM);
@@ -37,7 +37,6 @@ pub fn step_text(step: Step, out: &mut Vec<u8>) -> Result<(), NoMemory>
 {
     let mut room = [0u8; ROOM];
     let start = put_step(step, &mut room);
-    let (_, text) = room.split_at(start);
-    out.extend_from_slice(text)?;
+    out.extend_from_slice(&room[start..])?;
     Ok(())
 }

@@ -17,7 +17,7 @@ loop-left-preserved c =
     let left = c.loop-left.left in
     let less = one_less left c.loop-left-test.true c.loop-left.auto.left-fits.fits in
     let moved = last_digit left (drop c.loop-left.start c.loop-left.room) c.loop-left-test.true
-      c.loop-left.auto.left-fits.fits in
+    c.loop-left.auto.left-fits.fits in
     record {
       space = omega arith;
       before = omega arith;
