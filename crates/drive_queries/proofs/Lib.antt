@@ -1,0 +1,2 @@
+pub mod MessageNumbers
+pub mod MessageSteps

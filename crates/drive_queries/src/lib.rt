@@ -15,6 +15,7 @@ mod judging;
 pub mod laws;
 mod messages;
 mod reaching;
+mod step_words;
 mod totals;
 mod verdict;
 mod word_table;

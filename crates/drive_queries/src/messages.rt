@@ -1,7 +1,10 @@
 //! What a line of a session asks.
 ghost use Rattle.std.specs.Prelude.{◌≡◌, IfOk};
-ghost use Rattle.drive_queries.specs.Messages.{asked};
+ghost use Rattle.opl_lexer.specs.Left.{fields_left};
+ghost use Rattle.drive_queries.specs.Messages.{asked, asked_frame, asked_alone, asked_drive, asked_reach};
 
+use crate::step_words::{long_number, step_of};
+use opl_lexer::{FieldIter, fields, whole};
 use road_base::{Drive, NoMemory, NodeId, Sequence};
 use std::alloc::Global;
 
@@ -24,11 +27,76 @@ pub enum Asked {
     Unknown,
 }
 
+/// The number of a frame, alone.
+fn asked_frame(mut words: FieldIter<'_>) -> Asked
+    ensures { result ≡ asked_frame (fields_left words.entry) }
+{
+    let Some(word) = words.next() else {
+        return Asked::Unknown;
+    };
+    if words.next().is_some() {
+        return Asked::Unknown;
+    }
+    match long_number(word) {
+        Some(number) => Asked::Seq(Sequence(number)),
+        None => Asked::Unknown,
+    }
+}
+
+/// The message, where no other word follows.
+fn asked_alone(message: Asked, mut words: FieldIter<'_>) -> Asked
+    ensures { result ≡ asked_alone message (fields_left words.entry) }
+{
+    if words.next().is_some() {
+        return Asked::Unknown;
+    }
+    message
+}
+
+/// Steps, at least one.
+fn asked_drive(alloc: Global, words: FieldIter<'_>) -> Result<Asked, NoMemory>
+    ensures { IfOk result (λ message. message ≡ asked_drive (fields_left words.entry)) }
+{
+    let mut steps = Vec::new(alloc);
+    for word in words {
+        let Some(step) = step_of(word) else {
+            return Ok(Asked::Unknown);
+        };
+        steps.push(step)?;
+    }
+    if steps.is_empty() {
+        return Ok(Asked::Unknown);
+    }
+    Ok(Asked::Drive(Drive::from_list(steps)))
+}
+
+/// The numbers of two nodes.
+fn asked_reach(mut words: FieldIter<'_>) -> Asked
+    ensures { result ≡ asked_reach (fields_left words.entry) }
+{
+    let (Some(from), Some(to), None) = (words.next(), words.next(), words.next()) else {
+        return Asked::Unknown;
+    };
+    match (whole(from), whole(to)) {
+        (Some(from), Some(to)) => Asked::Reach(NodeId(from), NodeId(to)),
+        _ => Asked::Unknown,
+    }
+}
+
 /// What the line asks. Its words stand between spaces and tabs. Takes time linear in the line.
 pub fn message(alloc: Global, line: &str) -> Result<Asked, NoMemory>
     ensures { IfOk result (λ message. message ≡ asked line.now) }
 {
-    let _line = line;
-    let _alloc = alloc;
-    Err(NoMemory)
+    let mut words = fields(line);
+    let Some(name) = words.next() else {
+        return Ok(Asked::Empty);
+    };
+    match name {
+        "#seq" => Ok(asked_frame(words)),
+        "graph" => Ok(asked_alone(Asked::Graph, words)),
+        "state" => Ok(asked_alone(Asked::State, words)),
+        "drive" => asked_drive(alloc, words),
+        "reach" => Ok(asked_reach(words)),
+        _ => Ok(Asked::Unknown),
+    }
 }

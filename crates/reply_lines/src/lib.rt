@@ -4,6 +4,14 @@
 //! appended.
 #![tactic(auto)]
 
+mod digits;
+mod step_texts;
 mod texts;
+mod verdict_texts;
 
-pub use texts::{counts_text, fault_text, step_text, verdict_text};
+pub use step_texts::step_text;
+pub use texts::{counts_text, fault_text};
+pub use verdict_texts::verdict_text;
+
+#[cfg(test)]
+mod tests;

@@ -1,28 +1,42 @@
-//! The texts of replies.
-ghost use Rattle.std.specs.Prelude.{◌≡◌, ◌++◌, OnOk, OnErr};
+//! The texts of faults and sizes.
+ghost use Rattle.std.specs.Prelude.{◌≡◌, ◌++◌, IfOk, OnOk, OnErr, string_bytes};
 ghost use Rattle.opl_objects.specs.StreamLines.{fault_at};
-ghost use Rattle.reply_lines.specs.Texts.{step_bytes, verdict_bytes, fault_bytes, counts_bytes};
+ghost use Rattle.reply_lines.specs.Texts.{kind_name, fault_bytes, counts_bytes};
 
-use drive_queries::{Totals, Verdict};
+use drive_queries::Totals;
+use opl_lexer::FaultKind;
 use opl_objects::Fault;
-use road_base::{NoMemory, Step};
+use road_base::NoMemory;
+use std::alloc::{AllocError, Global};
 
-/// Appends the step: `w12.3+` along way 12 from position 3, `w12.3-` against it.
-pub fn step_text(step: Step, out: &mut Vec<u8>) -> Result<(), NoMemory>
-    ensures ok { OnOk result (out.new.items ≡ out.old.items ++ step_bytes step) }
-    ensures err { OnErr result (out.new.items ≡ out.old.items) }
+/// The name of a kind of fault.
+fn kind_name(kind: FaultKind) -> &'static str
+    ensures { result.now ≡ kind_name kind }
 {
-    let _step = step;
-    Err(NoMemory)
+    match kind {
+        FaultKind::NotUtf8 => "NotUtf8",
+        FaultKind::UnknownLine => "UnknownLine",
+        FaultKind::UnknownField => "UnknownField",
+        FaultKind::Repeated => "Repeated",
+        FaultKind::BadNumber => "BadNumber",
+        FaultKind::BadEscape => "BadEscape",
+        FaultKind::BadTag => "BadTag",
+        FaultKind::BadMember => "BadMember",
+        FaultKind::BadRef => "BadRef",
+        FaultKind::BadCoordinate => "BadCoordinate",
+        FaultKind::BadFlag => "BadFlag",
+        FaultKind::NoVersion => "NoVersion",
+        FaultKind::TooMany => "TooMany",
+    }
 }
 
-/// Appends the verdict: `legal`, or `broken K RULE` with the number of the step and the rule.
-pub fn verdict_text(verdict: &Verdict, out: &mut Vec<u8>) -> Result<(), NoMemory>
-    ensures ok { OnOk result (out.new.items ≡ out.old.items ++ verdict_bytes verdict.now) }
-    ensures err { OnErr result (out.new.items ≡ out.old.items) }
+/// Where the fault stands, and its kind.
+fn placed(alloc: Global, fault: Fault) -> Result<String, AllocError>
+    ensures { IfOk result (λ text. string_bytes text ≡ fault_bytes (fault_at fault)) }
 {
-    let _verdict = verdict;
-    Err(NoMemory)
+    let Fault { line, field, kind } = fault;
+    let kind = kind_name(kind);
+    format!(in alloc; "line {line} field {field} {kind}")
 }
 
 /// Appends where a fault stands and its kind: `line L field F KIND`.
@@ -30,8 +44,22 @@ pub fn fault_text(fault: &Fault, out: &mut Vec<u8>) -> Result<(), NoMemory>
     ensures ok { OnOk result (out.new.items ≡ out.old.items ++ fault_bytes (fault_at fault.now)) }
     ensures err { OnErr result (out.new.items ≡ out.old.items) }
 {
-    let _fault = fault;
-    Err(NoMemory)
+    let text = placed(*out.allocator(), *fault)?;
+    out.extend_from_slice(text.as_bytes())?;
+    Ok(())
+}
+
+/// The four numbers, each behind its name.
+fn counted(alloc: Global, totals: Totals) -> Result<String, AllocError>
+    ensures { IfOk result (λ text. string_bytes text ≡ counts_bytes totals) }
+{
+    let Totals {
+        ways,
+        pieces,
+        contexts,
+        arcs,
+    } = totals;
+    format!(in alloc; "ways {ways} pieces {pieces} contexts {contexts} arcs {arcs}")
 }
 
 /// Appends how large a graph is: `ways W pieces P contexts C arcs A`.
@@ -39,6 +67,7 @@ pub fn counts_text(totals: &Totals, out: &mut Vec<u8>) -> Result<(), NoMemory>
     ensures ok { OnOk result (out.new.items ≡ out.old.items ++ counts_bytes totals.now) }
     ensures err { OnErr result (out.new.items ≡ out.old.items) }
 {
-    let _totals = totals;
-    Err(NoMemory)
+    let text = counted(*out.allocator(), *totals)?;
+    out.extend_from_slice(text.as_bytes())?;
+    Ok(())
 }
