@@ -1,5 +1,5 @@
 -- What is prepared to apply a change to a store.
-use Rattle.std.proofs.Common.{◌≡◌, ◌⊎◌, inl, inr, ⊎_elim, ℕ, ◌+◌, ◌<◌, ◌≤◌, ◌^◌, List, [], ◌∷◌, ◌++◌, length, get_or}
+use Rattle.std.proofs.Common.{◌≡◌, inl, inr, ⊎_elim, ℕ, ◌+◌, ◌<◌, ◌≤◌, ◌^◌, List, [], ◌∷◌, ◌++◌, length, get_or}
 use Rattle.std.proofs.Common.{Option, None, Some, Result, Ok, Err, true, false, refl, sym, ◌∙◌, ap, subst, arith}
 use Rattle.std.proofs.Common.{codes, length-append}
 use Rattle.std.specs.Io.{StartsWith}
@@ -51,23 +51,11 @@ use Rattle.osmroad.proofs.Replied.{replied}
 use Rattle.osmroad.proofs.PassedLimits.{still_passes}
 use Rattle.osmroad.proofs.SourceParts.{took_nothing}
 use Rattle.osmroad.proofs.OutputFronts.{starts_whole, nothing_put, other_put}
-use Rattle.osmroad.proofs.StoreLaws.{StoreLaws}
+use Rattle.osmroad.specs.StoreLaws.{StoreLaws, ChangeLaws}
 use Rattle.osmroad.proofs.Prepared.{told_cases, by_failure, prepares, prepares_whole}
 use Rattle.osmroad.proofs.LoadedStores.{LeavesKept, stored_weaker, same_history, load_moments, loaded_before}
 use Rattle.osmroad.proofs.LoadedStores.{loaded_now, loaded_store, loaded_as_before, left_unput, stand_unput, unput}
 use Rattle.osmroad.proofs.LoadedStores.{NotLoaded, could_leave, IsRefusal, load_refused}
-
--- the laws on a change that is added to a store
-pub record ChangeLaws : Type 0 where
-  pub stopped : (old new : Journal) (h : History) (change : List Event) (result : Result (Unit {0}) JournalError)
-      (w v : Outside) → IsOnStore old h w → Adds old new change result w v
-      → LeavesOnly w v (LeavesEither h change w.output)
-  pub ok : (old new : Journal) (h : History) (seq : Sequence) (change : List Event) (x : Unit {0})
-      (w v : Outside) (before now : ℕ) → IsOnStore old h w → AddAnswer old new seq change (Ok x) before now
-      → Adds old new change (Ok x) w v → IsOnStore new (with_change h change) v
-  pub small : (old new : Journal) (h : History) (seq : Sequence) (change : List Event) (x : Unit {0})
-      (w v : Outside) (before now : ℕ) → IsOnStore old h w → AddAnswer old new seq change (Ok x) before now
-      → Adds old new change (Ok x) w v → length (reads_of v new.file) ≤ 2 ^ 40
 
 line_some : (n : ℕ) → 0 < length (applied_line n)
 line_some n = omega (arith, length-append (codes "applied ") (decimal n ++ 10 ∷ []))

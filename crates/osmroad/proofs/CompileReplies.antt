@@ -10,45 +10,30 @@ use Rattle.osmroad.specs.declared.input.InputError.{InputError}
 use Rattle.osmroad.specs.declared.input.InputError.TheVariants.{Failed, TooLong, Refused, NoMemory}
 use Rattle.osmroad.specs.declared.reply.Reply.{Reply}
 use Rattle.osmroad.specs.declared.reply.Failure.{Failure}
-use Rattle.osmroad.specs.declared.reply.Failure.TheVariants.{NoMemory as MemoryFailure}
+use Rattle.osmroad.specs.declared.reply.Failure.TheVariants.{ReadFault, NoMemory as MemoryFailure}
 use Rattle.osmroad.specs.declared.status.Status.TheVariants.{Done, Limit}
 use Rattle.osmroad.specs.declared.status.Status.TheVariants.{Refused as RefusedStatus}
 use Rattle.osmroad.specs.Input.{ReadWhole, Stopped, Cause}
 use Rattle.osmroad.specs.Compiled.{IsGraphOf}
 use Rattle.osmroad.specs.Texts.{limit_line, refused_line}
 use Rattle.osmroad.specs.Outcomes.{InputRefusal, CompileGives}
-use Rattle.osmroad.specs.Run.{HeldBytes}
 use Rattle.osmroad.specs.Replies.{RefusesInput, WillPut, IsPrepared, Prepares}
-use Rattle.osmroad.proofs.HeldSource.{behind_of, all_read, held_by}
+use Rattle.osmroad.proofs.HeldSource.{behind_of, all_read}
 use Rattle.osmroad.proofs.PassedLimits.{still_passes}
 use Rattle.osmroad.proofs.Replied.{replied}
+use Rattle.osmroad.proofs.Prepared.{by_failure, prepares, prepares_whole}
 use Rattle.osmroad.proofs.WithoutStore.{silent_still, stands_still, leaves_still, will_put_alone}
 
 abbrev compile : Option Command
 compile = Some Compile
 
 module _ (held left : Option (List ℕ)) (x : Option Outside) where
-  pub prepared : (result : Result Reply Failure) (bytes read behind : List ℕ) → bytes ≡ read ++ behind
-      → HeldBytes bytes behind held left → IsPrepared compile bytes read result x x
-      → Prepares compile result held left x x
-  prepared result bytes read behind all holds answer = record {
-    bytes = bytes;
-    read = read;
-    behind = behind;
-    all = all;
-    holds = holds;
-    answer = answer;
-    silent = silent_still x;
-    only = leaves_still compile read (λ stored. stored) x;
-  }
-
   -- why the input isn't taken, and what will be put then
   refused_answer : (faults_before faults_now : ℕ) (error : InputError) (result : Result Reply Failure) (read : List ℕ)
       → Cause Extract error read left faults_before faults_now → RefusesInput error result
       → IsPrepared compile (read ++ behind_of left) read result x x
   refused_answer fb fn Failed result read cause is =
-      subst (λ (r : Result Reply Failure). IsPrepared compile (read ++ behind_of left) read r x x) (sym is)
-      (tt, cause.1, stands_still x)
+      by_failure compile (read ++ behind_of left) read x x ReadFault result is (tt, cause.1, stands_still x)
   refused_answer fb fn TooLong result read cause is =
       let bytes = read ++ behind_of left in
       replied compile bytes read Limit limit_line result x x is
@@ -64,32 +49,29 @@ module _ (held left : Option (List ℕ)) (x : Option Outside) where
       (CompileGives.OfInput (InputRefusal.OfFault cause.1 (fault_at fault) cause.2 refl refl), refl))
       (stands_still x))
   refused_answer fb fn NoMemory result read cause is =
-      subst (λ (r : Result Reply Failure). IsPrepared compile (read ++ behind_of left) read r x x) (sym is)
-      (stands_still x)
+      by_failure compile (read ++ behind_of left) read x x MemoryFailure result is (stands_still x)
 
   pub refused_extract : (faults_before faults_now : ℕ) (error : InputError) (result : Result Reply Failure)
       → Stopped Extract error held left faults_before faults_now → RefusesInput error result
       → Prepares compile result held left x x
   refused_extract fb fn error result stopped is =
-      prepared result (stopped.read ++ behind_of left) stopped.read (behind_of left) refl
-      (held_by stopped.read held left stopped.took) (refused_answer fb fn error result stopped.read stopped.cause is)
+      prepares compile result stopped.read held left x x stopped.took
+      (refused_answer fb fn error result stopped.read stopped.cause is) (silent_still x)
+      (leaves_still compile stopped.read (λ stored. stored) x)
 
   module _ (events : List Event) (whole : ReadWhole Extract events held left) where
     -- all was read
     pub read_extract : (result : Result Reply Failure) → IsPrepared compile whole.bytes whole.bytes result x x
         → Prepares compile result held left x x
     read_extract result answer =
-        let all = all_read whole.bytes left whole.ended in
-        prepared result whole.bytes whole.bytes (behind_of left) (sym all)
-        (subst (λ (l : List ℕ). HeldBytes l (behind_of left) held left) all (held_by whole.bytes held left whole.took))
-        answer
+        prepares_whole compile result whole.bytes held left x x whole.took whole.ended answer (silent_still x)
+        (leaves_still compile whole.bytes (λ stored. stored) x)
 
     -- and memory ended
     pub failed_extract : (result : Result Reply Failure) → result ≡ Err MemoryFailure
         → Prepares compile result held left x x
     failed_extract result is = read_extract result
-        (subst (λ (r : Result Reply Failure). IsPrepared compile whole.bytes whole.bytes r x x) (sym is)
-        (stands_still x))
+        (by_failure compile whole.bytes whole.bytes x x MemoryFailure result is (stands_still x))
 
     pub will_put_graph : (out : List ℕ) → IsGraphOf events out
         → WillPut compile whole.bytes whole.bytes Done out x x

@@ -15,7 +15,8 @@ use Rattle.osmroad.specs.Outcomes.{AreInput, CompileGives, CreateGives, ApplyGiv
 use Rattle.osmroad.specs.Run.{IsReadable, CanBeAdded, CanBeDone, files_of}
 use Rattle.osmroad.specs.Replies.{WillPut, Prepares}
 use Rattle.osmroad.proofs.HeldSource.{same_held}
-use Rattle.osmroad.proofs.CitedLaws.{OneLive, OneReading}
+use Rattle.osmroad.specs.StoreLaws.{OneLive}
+use Rattle.osmroad.proofs.CitedLaws.{OneReading}
 use Rattle.osmroad.proofs.Refusals.{not_refused, no_fault, readable_not_refused}
 
 -- ---- each command gives Done where it can be done

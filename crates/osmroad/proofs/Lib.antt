@@ -22,7 +22,6 @@ pub mod CompleteRuns
 pub mod OneAudit
 pub mod OneAnswer
 pub mod OutputFronts
-pub mod StoreLaws
 pub mod Prepared
 pub mod AnsweredFaults
 pub mod LoadedStores

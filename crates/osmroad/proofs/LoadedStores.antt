@@ -31,7 +31,7 @@ use Rattle.osmroad.specs.Stops.{CouldLeave, LeavesFirst, LeavesStored}
 use Rattle.osmroad.specs.Run.{IsStored, StandAsBefore}
 use Rattle.osmroad.specs.Replies.{RefusesStore, IsPrepared, WillPut}
 use Rattle.osmroad.proofs.OutputFronts.{starts_whole}
-use Rattle.osmroad.proofs.StoreLaws.{StoreLaws}
+use Rattle.osmroad.specs.StoreLaws.{StoreLaws}
 use Rattle.osmroad.proofs.Replied.{replied}
 use Rattle.osmroad.proofs.Prepared.{by_failure}
 

@@ -21,7 +21,8 @@ use Rattle.osmroad.specs.Audited.{IsAuditOf}
 use Rattle.osmroad.specs.Opening.{Files, IsStore, StoreRefusal, size_with_change}
 use Rattle.osmroad.specs.Outcomes.{AreInput, IsCompiled, CompileGives, CreateGives, ApplyGives, ShowGives, Gives}
 use Rattle.osmroad.specs.Run.{IsStored}
-use Rattle.osmroad.proofs.CitedLaws.{OneMap, OneReading, OneLive, HasLive, NoDamage, OneDamage, OneStore}
+use Rattle.osmroad.specs.StoreLaws.{OneLive, HasLive, NoDamage, OneStore}
+use Rattle.osmroad.proofs.CitedLaws.{OneMap, OneReading, OneDamage}
 use Rattle.osmroad.proofs.OneAudit.{one_audit}
 use Rattle.osmroad.proofs.Refusals.{Same, both, no_fault, one_fault}
 use Rattle.osmroad.proofs.Refusals.{not_refused, one_refusal, store_not_refused, one_store_refusal}

@@ -1,5 +1,5 @@
 -- A restriction has one finding.
-use Rattle.std.proofs.Common.{◌≡◌, ℕ, zero, suc, ◌≤◌, ◌<◌, Bool, true, false, List, length, Option, Some, refl, sym, ap}
+use Rattle.std.proofs.Common.{◌≡◌, ℕ, zero, suc, ◌≤◌, ◌<◌, Bool, true, false, List, length, Some, refl, sym, ap}
 use Rattle.std.proofs.Common.{subst, ◌∙◌, arith}
 use Rattle.std.proofs.lemmas.Bool.Decides.{Decides-ltb}
 use Rattle.road_base.specs.declared.ids.RelationId.{RelationId}
@@ -9,7 +9,7 @@ use Rattle.road_model.specs.declared.answers.Unusable.{Unusable}
 use Rattle.road_model.specs.declared.answers.Unusable.TheVariants.{NotThisVehicle, NoValue, Members, Missing, NotAnEnd}
 use Rattle.road_model.specs.declared.answers.Unusable.TheVariants.{NotConnected, ClosedVia, TooLong}
 use Rattle.road_model.specs.Rules.{Rules}
-use Rattle.road_model.specs.Restrictions.{IsUsable, IsFirstCause, cause_number}
+use Rattle.road_model.specs.Restrictions.{IsFirstCause, cause_number}
 use Rattle.road_model.specs.Words.{kind_of}
 use Rattle.restrictions.specs.declared.word_list.Word.{Word}
 use Rattle.restrictions.specs.Words.{AreWords}

@@ -11,7 +11,8 @@ use Rattle.osmroad.specs.Texts.{refused_line, damaged_line}
 use Rattle.osmroad.specs.Opening.{Files, IsStore, IsTooLarge, IsDamaged, StoreRefusal, OfNoStore, OfTooLarge, OfDamage}
 use Rattle.osmroad.specs.Outcomes.{AreInput, InputRefusal}
 use Rattle.osmroad.specs.Run.{IsReadable}
-use Rattle.osmroad.proofs.CitedLaws.{OneLive, HasLive, NoDamage, OneDamage}
+use Rattle.osmroad.specs.StoreLaws.{OneLive, HasLive, NoDamage}
+use Rattle.osmroad.proofs.CitedLaws.{OneDamage}
 
 -- two of one kind
 abbrev pub Same : Status → List ℕ → Status → List ℕ → Type 0

@@ -35,7 +35,7 @@ use Rattle.osmroad.specs.Replies.{Says, RefusesStore, IsPrepared, WillPut, Prepa
 use Rattle.osmroad.proofs.HeldSource.{behind_of}
 use Rattle.osmroad.proofs.Replied.{replied}
 use Rattle.osmroad.proofs.SourceParts.{took_nothing}
-use Rattle.osmroad.proofs.StoreLaws.{StoreLaws}
+use Rattle.osmroad.specs.StoreLaws.{StoreLaws}
 use Rattle.osmroad.proofs.Prepared.{told_cases, by_failure, prepares}
 use Rattle.osmroad.proofs.LoadedStores.{LeavesKept, stored_weaker, same_history, load_moments, loaded_before}
 use Rattle.osmroad.proofs.LoadedStores.{loaded_now, loaded_store, loaded_as_before, left_unput, stand_unput, unput}

@@ -1,11 +1,9 @@
 -- The visible restrictions among the entries of a map.
-use Rattle.std.proofs.Common.{◌≡◌, Bool, true, false, cond, IsTrue, List, Contains, Option, Some, None, refl, sym, ap}
+use Rattle.std.proofs.Common.{◌≡◌, Bool, true, false, cond, IsTrue, List, Contains, Option, Some, None, refl, ap}
 use Rattle.std.proofs.Common.{subst, ◌∙◌, All, get_or}
 use Rattle.std.specs.Prelude.{filter_map}
 use Rattle.std.specs.Cmp.{IsTotalOrder}
 use Rattle.std.specs.FinMap.{get}
-use Rattle.road_base.specs.declared.ids.NodeId.{NodeId}
-use Rattle.road_base.specs.declared.ids.WayId.{WayId}
 use Rattle.road_base.specs.declared.ids.RelationId.{RelationId}
 use Rattle.road_base.specs.declared.ids.Key.{Key}
 use Rattle.road_base.specs.declared.ids.Key.TheVariants.{Node as NodeKey, Way as WayKey, Relation as RelationKey}

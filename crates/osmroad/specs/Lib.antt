@@ -9,6 +9,7 @@ pub mod Reading
 pub mod Status
 pub mod Commands
 pub mod Opening
+pub mod StoreLaws
 pub mod Outcomes
 pub mod Stops
 pub mod Run

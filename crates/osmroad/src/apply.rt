@@ -6,6 +6,7 @@ ghost use Rattle.osmroad.specs.declared.input.InputError.{InputError};
 ghost use Rattle.osmroad.specs.Replies.{Prepares, RefusesInput, RefusesChange, CountsReads, CountsCalls};
 
 use crate::input::{InputError, read_events};
+use crate::laws::store_laws;
 use crate::reply::{Failure, Reply, refuse_change, refuse_input, refuse_store};
 use crate::status::Status;
 use crate::texts::applied_text;
@@ -15,9 +16,6 @@ use road_io::{Site, Source};
 use sequence_journal::{Journal, Loaded};
 use std::alloc::Global;
 use std::mem::forget;
-use store_switch::laws::{
-    change_on_store, journal_on_store, no_damage_in_store, one_live, one_store, still_there,
-};
 use store_switch::load_store;
 
 /// Adds the change on the source to the store, under its number. It builds no graph.
@@ -32,12 +30,7 @@ pub fn apply<S: Source, W: Site>(
     ensures reads { CountsReads (S.faults source.old) (S.faults source.new) result }
     ensures calls { CountsCalls (W.faults site.old) (W.faults site.new) result }
 {
-    one_store();
-    one_live();
-    no_damage_in_store();
-    still_there();
-    journal_on_store();
-    change_on_store();
+    store_laws();
     let Loaded {
         mut journal,
         events,

@@ -1,4 +1,4 @@
-//! A law of what a run gives, the contract of a function that does nothing.
+//! Laws, the contracts of functions that do nothing: what a run gives, and what commands go by that load a store.
 ghost use Rattle.std.specs.Prelude.{◌≡◌, List, Option, None, Some, ℕ};
 ghost use Rattle.road_base.specs.History.{History};
 ghost use Rattle.osmroad.specs.declared.command.Command.{Command};
@@ -6,13 +6,16 @@ ghost use Rattle.osmroad.specs.declared.status.Status.{Status};
 ghost use Rattle.osmroad.specs.Opening.{Files};
 ghost use Rattle.osmroad.specs.Outcomes.{Gives};
 ghost use Rattle.osmroad.specs.Run.{IsStored};
+ghost use Rattle.osmroad.specs.StoreLaws.{StoreLaws, ChangeLaws};
 
 use access_profile::Motorcar;
 use opl_lexer::laws::one_reading;
 use road_base::laws::one_map;
 use road_model::laws::{number_order, one_graph};
 use sequence_journal::laws::one_damage;
-use store_switch::laws::{no_damage_in_store, one_live, one_store};
+use store_switch::laws::{
+    change_on_store, journal_on_store, no_damage_in_store, one_live, one_store, still_there,
+};
 
 /// A command, the bytes of both files and those of the source determine the status, the output, and the history for
 /// which the files then stand, of a run in which nothing fails. Without a store no file is looked at.
@@ -33,8 +36,19 @@ pub fn one_answer()
     one_map();
     one_graph(&Motorcar);
     number_order();
-    one_live();
-    one_store();
     one_damage();
+    store_laws();
+}
+
+/// What two files stand for, what a stop leaves of them, a journal that stands on them, and a change that is added.
+pub fn store_laws()
+    ensures store { StoreLaws }
+    ensures change { ChangeLaws }
+{
+    one_store();
+    one_live();
     no_damage_in_store();
+    still_there();
+    journal_on_store();
+    change_on_store();
 }

@@ -3,7 +3,7 @@ ghost use Rattle.std.specs.Prelude.{◌≡◌, ◌<◌};
 
 use crate::run::run;
 use crate::status::Status;
-use crate::tests::{NO_GRAPH, USAGE};
+use crate::tests::{NO_GRAPH, STREET_CUT, USAGE, compiled};
 use road_base::{NoMemory, Steps};
 use road_io::{Call, Entry, MemorySite, MemorySource, Which};
 use std::alloc::Global;
@@ -141,7 +141,7 @@ fn stores_are_made_changed_and_shown(rt: HostRuntime) -> Result<(), Fail> {
             ..SHOWS
         },
         Case {
-            words: &["town", "audit"],
+            words: AUDIT,
             output: b"conditional 0\n",
             ..SHOWS
         },
@@ -182,6 +182,8 @@ const CREATE: &[&str] = &["town", "create", "5"];
 const APPLY: &[&str] = &["town", "apply", "6"];
 
 const GRAPH: &[&str] = &["town", "graph"];
+
+const AUDIT: &[&str] = &["town", "audit"];
 
 /// `RECORD`, of one event of which no byte is there.
 const RECORD_OF_ONE: &[u8] = b"\x06\0\0\0\0\0\0\0\x08\0\0\0\0\0\0\0\x01\0\0\0\0\0\0\0\0";
@@ -323,7 +325,8 @@ fn words_ask_for_commands(rt: HostRuntime) -> Result<(), Fail> {
 fn each_fault_of_the_site_ends_a_run(rt: HostRuntime) -> Result<(), Fail> {
     let store: [&[u8]; 3] = [SPELLED, b"\x01", RECORD];
     let case = refuses(GRAPH, b"", &store, &[], Status::SiteFault, b"");
-    for n in 0..11 {
+    let calls = calls_to_put(&rt, rt.alloc(), &SHOWS)?;
+    for n in 0..calls {
         check(&rt, rt.alloc(), &case, &[n])?;
     }
     Ok(())
@@ -348,6 +351,22 @@ fn is_put(entry: &Entry, bytes: &[u8]) -> bool {
         Call::Put(piece) => piece.items() == bytes,
         _ => false,
     }
+}
+
+/// Whether the last of these calls puts the bytes.
+fn ends_with_put(calls: &[Entry], bytes: &[u8]) -> bool {
+    match calls {
+        [.., last] => is_put(last, bytes),
+        _ => false,
+    }
+}
+
+/// How many calls the case makes of its site, the last of which puts its output.
+fn calls_to_put(rt: &impl Abort, alloc: Global, case: &Case) -> Result<u64, NoMemory> {
+    let ended = ended::<Brand>(alloc, case, &[], Blank::new(1))?;
+    let calls = ended.site.calls();
+    assert!(rt; ends_with_put(calls, case.output));
+    Ok(calls.len() as u64)
 }
 
 /// Whether these calls add the record of `APPLIES`: the record, a sync, the gate, a sync, and the line.
@@ -414,6 +433,121 @@ fn stops_leave_a_change_or_none(rt: HostRuntime) -> Result<(), Fail> {
             after,
         };
         check(&rt, rt.alloc(), &case, &[])?;
+    }
+    Ok(())
+}
+
+/// Six ways, two restrictions that have words, and seven that have none, for another cause each.
+const JUDGED: &[u8] = b"\
+    n1 v1 x0.001 y0\n\
+    n2 v1 x0.002 y0\n\
+    n3 v1 x0.003 y0\n\
+    n4 v1 x0.004 y0\n\
+    n5 v1 x0.005 y0\n\
+    n6 v1 x0.006 y0\n\
+    w1 v1 Thighway=residential Nn1,n2\n\
+    w2 v1 Thighway=residential Nn2,n3\n\
+    w3 v1 Thighway=residential Nn3,n4\n\
+    w4 v1 Thighway=residential Nn4,n5\n\
+    w5 v1 Thighway=residential Nn4,n6\n\
+    w6 v1 Thighway=residential,oneway=yes Nn3,n2\n\
+    r20 v1 Ttype=restriction,restriction=no_u_turn Mw1@from,w2@via,w3@via,w4@to\n\
+    r21 v1 Ttype=restriction,restriction=only_right_turn Mw2@from,w3@via,w5@to\n\
+    r30 v1 Ttype=restriction,restriction=give_way Mw1@from,n2@via,w2@to\n\
+    r31 v1 Ttype=restriction,restriction=no_entry Mw1@from,n2@via\n\
+    r32 v1 Ttype=restriction,restriction=no_left_turn Mw1@from,n2@via,w99@to\n\
+    r33 v1 Ttype=restriction,restriction=no_left_turn Mw1@from,n4@via,w4@to\n\
+    r34 v1 Ttype=restriction,restriction=no_u_turn Mw1@from,w2@via,w5@via,w4@to\n\
+    r35 v1 Ttype=restriction,restriction=no_u_turn Mw1@from,w6@via,w3@to\n\
+    r36 v1 Ttype=restriction,restriction=no_entry Mw1@from,w1@from,w1@from,w1@from,w1@from,w1@from,w1@from,w1@from,\
+    w1@from,w1@from,w1@from,w1@from,w1@from,w1@from,w1@from,w1@from,w1@from,n2@via,w2@to\n";
+
+/// A change of it: restrictions that come, go and get another value, and two conditional keys.
+const REJUDGED: &[u8] = b"\
+    r-29 v1 Ttype=restriction,restriction=no_u_turn,except=motorcar Mw1@from,w2@via,w3@via,w4@to\n\
+    r37 v1 Ttype=restriction,restriction=no_entry Mw1@from,w1@from,n2@via,w2@to,w6@to\n\
+    r38 v1 Ttype=restriction,restriction=only_straight_on Mw1@from,n2@via,w2@to,w6@to\n\
+    r39 v1 Ttype=route,restriction=no_entry Mw1@from,n2@via,w2@to\n\
+    r40 v1 Ttype=restriction,restriction=no_entry Mw1@from,n2@via,w2@to\n\
+    r40 v2 dD\n\
+    r30 v2 Ttype=restriction,restriction=only_right_turn Mw1@from,n2@via,w2@to\n\
+    w6 v2 Thighway=residential,oneway=yes,access:conditional=a,maxspeed:conditional=b Nn3,n2\n\
+    n6 v2 x0.006 y0 Tconditional=a\n";
+
+/// The audit of `JUDGED`.
+const JUDGED_AUDIT: &[u8] = b"\
+    r20 no 1\n\
+    r21 only 1\n\
+    r30 unused NoValue\n\
+    r31 unused Members\n\
+    r32 unused Missing\n\
+    r33 unused NotAnEnd\n\
+    r34 unused NotConnected\n\
+    r35 unused ClosedVia\n\
+    r36 unused TooLong\n\
+    conditional 0\n";
+
+/// The audit of `JUDGED` after `REJUDGED`.
+const REJUDGED_AUDIT: &[u8] = b"\
+    r-29 unused NotThisVehicle\n\
+    r20 no 1\n\
+    r21 only 1\n\
+    r30 only 1\n\
+    r31 unused Members\n\
+    r32 unused Missing\n\
+    r33 unused NotAnEnd\n\
+    r34 unused NotConnected\n\
+    r35 unused ClosedVia\n\
+    r36 unused TooLong\n\
+    r37 no 2\n\
+    r38 unused Members\n\
+    conditional 1\n";
+
+/// File A after a run on this one.
+fn file_after(
+    alloc: Global,
+    words: &[&str],
+    input: &[u8],
+    file: &[u8],
+) -> Result<Vec<u8>, NoMemory> {
+    let parts: [&[u8]; 1] = [file];
+    let case = refuses(words, input, &parts, &[], Status::Done, b"");
+    let ended = ended::<Brand>(alloc, &case, &[], Blank::new(1))?;
+    Ok(ended.site.file(Which::A).to_vec(alloc)?)
+}
+
+/// Runs the words on a store of the extract and the change, and compares what is put.
+fn check_stored(
+    rt: &impl Abort,
+    alloc: Global,
+    extract: &[u8],
+    change: &[u8],
+    words: &[&str],
+    output: &[u8],
+) -> Result<(), NoMemory> {
+    let base = file_after(alloc, CREATE, extract, b"")?;
+    let file = file_after(alloc, APPLY, change, &base)?;
+    let store: [&[u8]; 1] = [&file];
+    let case = refuses(words, b"", &store, &[], Status::Done, output);
+    check(rt, alloc, &case, &[])
+}
+
+#[test]
+fn stores_show_what_compiles(rt: HostRuntime) -> Result<(), Fail> {
+    let cases: [(&[u8], &[u8]); 2] = [(STREET_CUT, b"n2 v1 x0.001 y0\n"), (JUDGED, REJUDGED)];
+    for (extract, change) in cases {
+        let all = joined(rt.alloc(), &[extract, change])?;
+        let graph = compiled::<Brand>(rt.alloc(), &all, Blank::new(1))?;
+        check_stored(&rt, rt.alloc(), extract, change, GRAPH, &graph)?;
+    }
+    Ok(())
+}
+
+#[test]
+fn restrictions_are_audited(rt: HostRuntime) -> Result<(), Fail> {
+    let cases: [(&[u8], &[u8]); 2] = [(b"", JUDGED_AUDIT), (REJUDGED, REJUDGED_AUDIT)];
+    for (change, audit) in cases {
+        check_stored(&rt, rt.alloc(), JUDGED, change, AUDIT, audit)?;
     }
     Ok(())
 }

@@ -6,6 +6,7 @@ ghost use Rattle.osmroad.specs.Replies.{Prepares, CountsCalls};
 
 use crate::audit::audit_text;
 use crate::graph::graph_of;
+use crate::laws::store_laws;
 use crate::reply::{Failure, Reply, refuse_store};
 use crate::status::Status;
 use back_references::Indexed;
@@ -14,7 +15,6 @@ use road_io::Site;
 use std::alloc::Global;
 use std::mem::forget;
 use std::sync::ledger::Ledger;
-use store_switch::laws::{journal_on_store, no_damage_in_store, one_live, one_store, still_there};
 use store_switch::load_store;
 
 /// The graph of what the store holds.
@@ -29,11 +29,7 @@ pub fn stored_graph<W: Site, L: Ledger>(
     ensures built { (held : Option (List ℕ))
         → Builds (Some GraphCommand) held (W.outside site.old) steps.old steps.new }
 {
-    one_store();
-    one_live();
-    no_damage_in_store();
-    still_there();
-    journal_on_store();
+    store_laws();
     let loaded = match load_store(alloc, site) {
         Ok(loaded) => loaded,
         Err(error) => return refuse_store(alloc, error),
@@ -51,11 +47,7 @@ pub fn stored_audit<W: Site>(alloc: Global, site: &mut W) -> Result<Reply, Failu
         (W.outside site.old) (W.outside site.new) }
     ensures calls { CountsCalls (W.faults site.old) (W.faults site.new) result }
 {
-    one_store();
-    one_live();
-    no_damage_in_store();
-    still_there();
-    journal_on_store();
+    store_laws();
     let loaded = match load_store(alloc, site) {
         Ok(loaded) => loaded,
         Err(error) => return refuse_store(alloc, error),

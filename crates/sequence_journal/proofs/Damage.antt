@@ -10,7 +10,7 @@ use Rattle.sequence_journal.specs.Standing.{EventsFit, BeginsWith, Stands, IsInt
 use Rattle.sequence_journal.specs.Standing.{IsDamagedRecord}
 use Rattle.sequence_journal.specs.Standing.{SpellsNothing, base_of, record_of, changes_bytes, history_bytes}
 use Rattle.sequence_journal.proofs.SameParts.{SameRecord, same_record, base_once}
-use Rattle.sequence_journal.proofs.OneHistory.{OneList, record_fits, begins_base}
+use Rattle.sequence_journal.proofs.OneHistory.{OneList, record_fits, begins_base, same_first}
 
 -- these changes go on behind those, and the next one is this record
 record GoesOn (n : ℕ) (longer shorter : List (List Event)) (r : Numbered) : Type 0 where
@@ -52,14 +52,9 @@ module _ (one : OneList) where
         spells = ap (λ (k : ℕ). record_of k c) (omega arith) ∙ s.one;
       }
   goes_on n (c ∷ cs) (d ∷ ds) xs rest after r fc fd sc sd shut o e =
-      let s : SameRecord (record_of (n + 1) c) (record_of (n + 1) d) (changes_bytes (n + 1) cs ++ xs)
-      (changes_bytes (n + 1) ds ++ rest) = same_record (record_of (n + 1) c) (record_of (n + 1) d)
-      (changes_bytes (n + 1) cs ++ xs) (changes_bytes (n + 1) ds ++ rest)
-      (record_fits (n + 1) c (omega (arith, sc)) fc.0) (record_fits (n + 1) d (omega (arith, sd)) fd.0)
-      (sym (append_assoc (record_bytes (record_of (n + 1) c)) (changes_bytes (n + 1) cs) xs) ∙ e
-      ∙ append_assoc (record_bytes (record_of (n + 1) d)) (changes_bytes (n + 1) ds) rest) in
-      one_further n c d cs ds r (one c d fc.0.are fd.0.are (ap (λ (x : Numbered). x.bytes) s.one))
-      (goes_on (n + 1) cs ds xs rest after r fc.1 fd.1 (omega (arith, sc)) (omega (arith, sd)) shut o s.rest)
+      let s = same_first one n c d cs ds xs rest fc fd sc sd e in
+      one_further n c d cs ds r s.0
+      (goes_on (n + 1) cs ds xs rest after r fc.1 fd.1 (omega (arith, sc)) (omega (arith, sd)) shut o s.1)
 
   -- two lists with an open record behind each: they end at one place, or one goes on where the other ends
   meet : (n : ℕ) (cs ds : List (List Event)) (xs ys after behind : List ℕ) (r q : Numbered)
@@ -90,17 +85,11 @@ module _ (one : OneList) where
         spells = ap (λ (k : ℕ). record_of k c) (omega arith) ∙ s.one;
       }))
   meet n (c ∷ cs) (d ∷ ds) xs ys after behind r q fc fd sc sd o p e =
-      let s : SameRecord (record_of (n + 1) c) (record_of (n + 1) d) (changes_bytes (n + 1) cs ++ xs)
-      (changes_bytes (n + 1) ds ++ ys) = same_record (record_of (n + 1) c) (record_of (n + 1) d)
-      (changes_bytes (n + 1) cs ++ xs) (changes_bytes (n + 1) ds ++ ys)
-      (record_fits (n + 1) c (omega (arith, sc)) fc.0) (record_fits (n + 1) d (omega (arith, sd)) fd.0)
-      (sym (append_assoc (record_bytes (record_of (n + 1) c)) (changes_bytes (n + 1) cs) xs) ∙ e
-      ∙ append_assoc (record_bytes (record_of (n + 1) d)) (changes_bytes (n + 1) ds) ys) in
-      let same : c ≡ d = one c d fc.0.are fd.0.are (ap (λ (x : Numbered). x.bytes) s.one) in
+      let s = same_first one n c d cs ds xs ys fc fd sc sd e in
       ⊎_elim (λ ends. inl ends)
-      (λ apart. inr (⊎_elim (λ b. inl (one_further n c d cs ds q same b))
-      (λ b. inr (one_further n d c ds cs r (sym same) b)) apart))
-      (meet (n + 1) cs ds xs ys after behind r q fc.1 fd.1 (omega (arith, sc)) (omega (arith, sd)) o p s.rest)
+      (λ apart. inr (⊎_elim (λ b. inl (one_further n c d cs ds q s.0 b))
+      (λ b. inr (one_further n d c ds cs r (sym s.0) b)) apart))
+      (meet (n + 1) cs ds xs ys after behind r q fc.1 fd.1 (omega (arith, sc)) (omega (arith, sd)) o p s.1)
 
 next_fits : (cs : List (List Event)) (c : List Event) (more : List (List Event))
     → AllByRecursion EventsFit (cs ++ c ∷ more) → EventsFit c

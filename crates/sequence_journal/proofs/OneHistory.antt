@@ -36,6 +36,21 @@ pub record SameHistory (g k : ℕ) (h i : History) : Type 0 where
   pub history : h ≡ i
 
 module _ (one : OneList) where
+  -- two lists of changes with something behind each begin with one change, and go on alike
+  pub same_first : (n : ℕ) (c d : List Event) (cs ds : List (List Event)) (xs ys : List ℕ)
+      → AllByRecursion EventsFit (c ∷ cs) → AllByRecursion EventsFit (d ∷ ds)
+      → n + length (c ∷ cs) < 2 ^ 64 → n + length (d ∷ ds) < 2 ^ 64
+      → changes_bytes n (c ∷ cs) ++ xs ≡ changes_bytes n (d ∷ ds) ++ ys
+      → (c ≡ d) × (changes_bytes (n + 1) cs ++ xs ≡ changes_bytes (n + 1) ds ++ ys)
+  same_first n c d cs ds xs ys fc fd sc sd e =
+      let s : SameRecord (record_of (n + 1) c) (record_of (n + 1) d) (changes_bytes (n + 1) cs ++ xs)
+      (changes_bytes (n + 1) ds ++ ys) = same_record (record_of (n + 1) c) (record_of (n + 1) d)
+      (changes_bytes (n + 1) cs ++ xs) (changes_bytes (n + 1) ds ++ ys)
+      (record_fits (n + 1) c (omega (arith, sc)) fc.0) (record_fits (n + 1) d (omega (arith, sd)) fd.0)
+      (sym (append_assoc (record_bytes (record_of (n + 1) c)) (changes_bytes (n + 1) cs) xs) ∙ e
+      ∙ append_assoc (record_bytes (record_of (n + 1) d)) (changes_bytes (n + 1) ds) ys) in
+      (one c d fc.0.are fd.0.are (ap (λ (r : Numbered). r.bytes) s.one), s.rest)
+
   changes_once : (n : ℕ) (cs ds : List (List Event)) (xs ys : List ℕ) → AllByRecursion EventsFit cs
       → AllByRecursion EventsFit ds → n + length cs < 2 ^ 64 → n + length ds < 2 ^ 64 → IsClosed xs → IsClosed ys
       → changes_bytes n cs ++ xs ≡ changes_bytes n ds ++ ys → cs ≡ ds
@@ -51,16 +66,10 @@ module _ (one : OneList) where
         split = sym e ∙ append_assoc (record_bytes (record_of (n + 1) c)) (changes_bytes (n + 1) cs) xs;
       }))
   changes_once n (c ∷ cs) (d ∷ ds) xs ys fc fd sc sd shut_x shut_y e =
-      let s : SameRecord (record_of (n + 1) c) (record_of (n + 1) d) (changes_bytes (n + 1) cs ++ xs)
-      (changes_bytes (n + 1) ds ++ ys) = same_record (record_of (n + 1) c) (record_of (n + 1) d)
-      (changes_bytes (n + 1) cs ++ xs) (changes_bytes (n + 1) ds ++ ys)
-      (record_fits (n + 1) c (omega (arith, sc)) fc.0) (record_fits (n + 1) d (omega (arith, sd)) fd.0)
-      (sym (append_assoc (record_bytes (record_of (n + 1) c)) (changes_bytes (n + 1) cs) xs) ∙ e
-      ∙ append_assoc (record_bytes (record_of (n + 1) d)) (changes_bytes (n + 1) ds) ys) in
-      let first : c ≡ d = one c d fc.0.are fd.0.are (ap (λ (r : Numbered). r.bytes) s.one) in
-      ap (λ (x : List Event). x ∷ cs) first
+      let s = same_first n c d cs ds xs ys fc fd sc sd e in
+      ap (λ (x : List Event). x ∷ cs) s.0
       ∙ ap (λ (l : List (List Event)). d ∷ l)
-      (changes_once (n + 1) cs ds xs ys fc.1 fd.1 (omega (arith, sc)) (omega (arith, sd)) shut_x shut_y s.rest)
+      (changes_once (n + 1) cs ds xs ys fc.1 fd.1 (omega (arith, sc)) (omega (arith, sd)) shut_x shut_y s.1)
 
   pub stands_once : (file : List ℕ) (g k : ℕ) (h i : History) → Stands file g h → Stands file k i
       → SameHistory g k h i

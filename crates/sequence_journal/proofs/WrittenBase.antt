@@ -1,5 +1,5 @@
 -- What a stop leaves while a base is written.
-use Rattle.std.proofs.Common.{◌≡◌, ◌≢◌, inl, inr, ⊎_elim, ℕ, ◌<◌, List, [], ◌∷◌, ◌++◌, length}
+use Rattle.std.proofs.Common.{◌≡◌, ◌≢◌, inl, inr, ⊎_elim, ℕ, ◌<◌, ◌^◌, List, [], ◌∷◌, ◌++◌, length}
 use Rattle.std.proofs.Common.{false}
 use Rattle.std.proofs.Common.{Result, Ok, Err, refl, sym, ◌∙◌, ap, subst, arith, append-nil, length-append}
 use Rattle.std.proofs.lemmas.Bool.{cases_eq}
@@ -15,7 +15,7 @@ use Rattle.road_io.proofs.CallRuns.{only_weaker}
 use Rattle.sequence_journal.specs.declared.error.JournalError.{JournalError}
 use Rattle.sequence_journal.specs.declared.error.JournalError.TheVariants.{SiteFault, NoMemory}
 use Rattle.sequence_journal.specs.Layout.{NoBase, base_bytes, head_bytes}
-use Rattle.sequence_journal.specs.Standing.{HistoryFits, Stands, base_of, history_bytes}
+use Rattle.sequence_journal.specs.Standing.{EventsFit, HistoryFits, Stands, base_of, history_bytes}
 use Rattle.sequence_journal.specs.Ends.{IsReplaced, Replaced, Replaces}
 use Rattle.sequence_journal.specs.Basing.{IsBaseImage, Based, WritesBase, base_alone}
 use Rattle.sequence_journal.proofs.AddedChange.{closed_gate}
@@ -36,6 +36,19 @@ no_base_short file short b rest o = omega (
 pub record IsBasePiece (generation number : ℕ) (events : List Event) (piece : List ℕ) : Type 0 where
   pub bytes : 1 ∷ piece ≡ base_bytes (base_of generation number events) ++ 0 ∷ []
   pub fits : HistoryFits generation (base_alone number events)
+
+pub base_piece : (generation number : ℕ) (events : List Event) (piece : List ℕ)
+    → 1 ∷ piece ≡ base_bytes (base_of generation number events) ++ 0 ∷ []
+    → generation < 2 ^ 64 → number < 2 ^ 64 → EventsFit events → IsBasePiece generation number events piece
+base_piece generation number events piece bytes generation_fits number_fits fit = record {
+  bytes = bytes;
+  fits = record {
+    generation_fits = generation_fits;
+    kept_fits = omega (arith, number_fits);
+    base = fit;
+    changes = tt;
+  };
+}
 
 module _ (generation number : ℕ) (events : List Event) (piece : List ℕ)
     (is : IsBasePiece generation number events piece) where

@@ -7,11 +7,10 @@ use Rattle.sequence_journal.specs.declared.load.Loaded.{Loaded}
 use Rattle.sequence_journal.specs.Journal.{IsReady}
 use Rattle.sequence_journal.specs.Adding.{Adds, AddAnswer}
 use Rattle.store_switch.specs.StoreLoading.{LoadsStore}
-use Rattle.osmroad.proofs.StoreLaws.{StoreLaws}
 use Rattle.osmroad.proofs.Prepared.{no_memory}
 use Rattle.osmroad.proofs.AnsweredFaults.{reads_calm, failed_reads, refused_reads, unread_reads, calls_calm}
 use Rattle.osmroad.proofs.AnsweredFaults.{failed_calls, fault_calls, unread_calls, added_calls, later_calls}
-use Rattle.osmroad.proofs.AppliedChanges.{ChangeLaws, apply_refused, unread_refused, change_failed, told_applies}
+use Rattle.osmroad.proofs.AppliedChanges.{apply_refused, unread_refused, change_failed, told_applies}
 use Rattle.osmroad.proofs.AppliedChanges.{change_added, change_not_added}
 use Rattle.osmroad.proofs.apply.apply.Goals as goal
 
@@ -19,18 +18,10 @@ use Rattle.osmroad.proofs.apply.apply.Goals as goal
 
 pub returns-in-Err-clause-prepares : goal.returns-in-Err-clause-prepares
 returns-in-Err-clause-prepares g c =
-    let laws : StoreLaws = record {
-      one_store = c.one_store.ensures;
-      one_live = c.one_live.ensures.once;
-      live = c.one_live.ensures.stands;
-      no_damage = c.no_damage_in_store.ensures.live;
-      still = c.still_there.ensures.store;
-      stand = c.journal_on_store.ensures.stand;
-      stopped = c.journal_on_store.ensures.stopped;
-    } in
-    apply_refused laws c.args.number (g.S.Source.bytes_left c.args.source.now) (g.W.Site.outside c.args.site.now)
-    (g.W.Site.outside c.load_store.new.site) c.in-Err.error c.refuse_store.result c.in-Err.ensures.named
-    c.refuse_store.ensures c.in-Err.ensures.told
+    let laws = c.store_laws.ensures in
+    apply_refused laws.store c.args.number (g.S.Source.bytes_left c.args.source.now)
+    (g.W.Site.outside c.args.site.now) (g.W.Site.outside c.load_store.new.site) c.in-Err.error c.refuse_store.result
+    c.in-Err.ensures.named c.refuse_store.ensures c.in-Err.ensures.told
 
 pub returns-in-Err-clause-reads : goal.returns-in-Err-clause-reads
 returns-in-Err-clause-reads g c =
@@ -44,21 +35,13 @@ returns-in-Err-clause-calls g c =
 
 pub returns-in-Err-read_events-clause-prepares : goal.returns-in-Err-read_events-clause-prepares
 returns-in-Err-read_events-clause-prepares g c =
-    let laws : StoreLaws = record {
-      one_store = c.one_store.ensures;
-      one_live = c.one_live.ensures.once;
-      live = c.one_live.ensures.stands;
-      no_damage = c.no_damage_in_store.ensures.live;
-      still = c.still_there.ensures.store;
-      stand = c.journal_on_store.ensures.stand;
-      stopped = c.journal_on_store.ensures.stopped;
-    } in
+    let laws = c.store_laws.ensures in
     let held = g.S.Source.bytes_left c.args.source.now in
     let left = g.S.Source.bytes_left c.read_events.new.source in
     let before = g.W.Site.outside c.args.site.now in
     let loaded = g.W.Site.outside c.load_store.new.site in
     let failed = c.in-Err-read_events in
-    unread_refused laws c.args.number c.in-Ok.loaded before loaded c.in-Ok.ensures.told held left _ _ failed.error
+    unread_refused laws.store c.args.number c.in-Ok.loaded before loaded c.in-Ok.ensures.told held left _ _ failed.error
     c.refuse_unread.result failed.ensures.err c.refuse_unread.ensures.fault c.refuse_unread.ensures.other
 
 pub returns-in-Err-read_events-clause-reads : goal.returns-in-Err-read_events-clause-reads
@@ -77,20 +60,12 @@ returns-in-Err-read_events-clause-calls g c =
 
 pub returns-in_err-line-clause-prepares : goal.returns-in_err-line-clause-prepares
 returns-in_err-line-clause-prepares g c =
-    let laws : StoreLaws = record {
-      one_store = c.one_store.ensures;
-      one_live = c.one_live.ensures.once;
-      live = c.one_live.ensures.stands;
-      no_damage = c.no_damage_in_store.ensures.live;
-      still = c.still_there.ensures.store;
-      stand = c.journal_on_store.ensures.stand;
-      stopped = c.journal_on_store.ensures.stopped;
-    } in
+    let laws = c.store_laws.ensures in
     let held = g.S.Source.bytes_left c.args.source.now in
     let left = g.S.Source.bytes_left c.read_events.new.source in
     let before = g.W.Site.outside c.args.site.now in
     let loaded = g.W.Site.outside c.load_store.new.site in
-    change_failed laws c.args.number c.in-Ok.loaded before loaded c.in-Ok.ensures.told held left
+    change_failed laws.store c.args.number c.in-Ok.loaded before loaded c.in-Ok.ensures.told held left
     c.in-Ok-read_events.change.items c.from_residual.result
     (no_memory c.from_residual.result c.from_residual.ensures.1) c.in-Ok-read_events.ensures.ok
 
@@ -112,20 +87,7 @@ append-requires g c = λ alive. told_gives (g.W.Site.outside c.args.site.now) (g
 
 pub returns-in-Ok-append-clause-prepares : goal.returns-in-Ok-append-clause-prepares
 returns-in-Ok-append-clause-prepares g c =
-    let laws : StoreLaws = record {
-      one_store = c.one_store.ensures;
-      one_live = c.one_live.ensures.once;
-      live = c.one_live.ensures.stands;
-      no_damage = c.no_damage_in_store.ensures.live;
-      still = c.still_there.ensures.store;
-      stand = c.journal_on_store.ensures.stand;
-      stopped = c.journal_on_store.ensures.stopped;
-    } in
-    let change_laws : ChangeLaws = record {
-      stopped = c.change_on_store.ensures.stopped;
-      ok = c.change_on_store.ensures.ok;
-      small = c.change_on_store.ensures.small;
-    } in
+    let laws = c.store_laws.ensures in
     let held = g.S.Source.bytes_left c.args.source.now in
     let left = g.S.Source.bytes_left c.read_events.new.source in
     let before = g.W.Site.outside c.args.site.now in
@@ -134,7 +96,7 @@ returns-in-Ok-append-clause-prepares g c =
     let r = c.in-Ok-read_events.ensures.ok in
     let change = c.in-Ok-read_events.change.items in
     let u = c.in-Ok-append.field-0 in
-    change_added laws c.args.number change_laws c.in-Ok.loaded c.append.new.self change r.bytes
+    change_added laws.store c.args.number laws.change c.in-Ok.loaded c.append.new.self change r.bytes
     (record { within = r.within; read = r.gives }) _ _ before now held left r.took r.ended u c.new.result
     (c.new.ensures.0, c.new.ensures.1 ∙ c.in_ok-line.ensures)
     (rw c.deref.ensures.value at c.in-Ok-append.ensures.answer)
@@ -153,20 +115,7 @@ returns-in-Ok-append-clause-calls g c = calls_calm _ _ _
 
 pub returns-clause-prepares : goal.returns-clause-prepares
 returns-clause-prepares g c =
-    let laws : StoreLaws = record {
-      one_store = c.one_store.ensures;
-      one_live = c.one_live.ensures.once;
-      live = c.one_live.ensures.stands;
-      no_damage = c.no_damage_in_store.ensures.live;
-      still = c.still_there.ensures.store;
-      stand = c.journal_on_store.ensures.stand;
-      stopped = c.journal_on_store.ensures.stopped;
-    } in
-    let change_laws : ChangeLaws = record {
-      stopped = c.change_on_store.ensures.stopped;
-      ok = c.change_on_store.ensures.ok;
-      small = c.change_on_store.ensures.small;
-    } in
+    let laws = c.store_laws.ensures in
     let held = g.S.Source.bytes_left c.args.source.now in
     let left = g.S.Source.bytes_left c.read_events.new.source in
     let before = g.W.Site.outside c.args.site.now in
@@ -181,7 +130,7 @@ returns-clause-prepares g c =
     c.deref.ensures.value failed.ensures.answer in
     let adds = subst (λ (events : List Event). Told (Adds c.in-Ok.loaded.journal c.append.new.self events
     (Err failed.error)) loaded now) c.deref.ensures.value failed.ensures.told in
-    change_not_added laws c.args.number change_laws c.in-Ok.loaded c.append.new.self change r.bytes
+    change_not_added laws.store c.args.number laws.change c.in-Ok.loaded c.append.new.self change r.bytes
     (record { within = r.within; read = r.gives }) _ _ before now held left r.took r.ended failed.error refused.result
     c.in-Ok.ensures.not_closed answer refused.ensures
     (told_applies c.in-Ok.loaded c.append.new.self change (Err failed.error) before loaded now c.in-Ok.ensures.told

@@ -1,4 +1,4 @@
-use Rattle.std.proofs.Common.{List, take, get_or, pos, subst, sym, ap, ◌≡◌, ◌++◌, ℕ, ◌∙◌, rules, ◌+◌}
+use Rattle.std.proofs.Common.{List, take, get_or, pos, subst, sym, ◌≡◌, ◌++◌, ℕ, rules, ◌+◌}
 use Rattle.std.specs.String.{string_bytes}
 use Rattle.std.proofs.lemmas.List.{take_more}
 use Rattle.road_base.specs.declared.ids.RelationId.{RelationId}

@@ -2,7 +2,6 @@ use Rattle.std.proofs.Common.{Some}
 use Rattle.sequence_journal.specs.declared.load.Loaded.{Loaded}
 use Rattle.osmroad.specs.declared.command.Command.TheVariants.{Audit}
 use Rattle.osmroad.specs.Audited.{IsAuditOf}
-use Rattle.osmroad.proofs.StoreLaws.{StoreLaws}
 use Rattle.osmroad.proofs.Prepared.{no_memory}
 use Rattle.osmroad.proofs.AnsweredFaults.{fault_calls, failed_calls, calls_calm}
 use Rattle.osmroad.proofs.ShownStores.{audit_shows, show_refused, show_failed, show_done}
@@ -10,16 +9,8 @@ use Rattle.osmroad.proofs.stored.stored_audit.Goals as goal
 
 pub returns-in-Err-clause-prepares : goal.returns-in-Err-clause-prepares
 returns-in-Err-clause-prepares g c = λ held.
-    let laws : StoreLaws = record {
-      one_store = c.one_store.ensures;
-      one_live = c.one_live.ensures.once;
-      live = c.one_live.ensures.stands;
-      no_damage = c.no_damage_in_store.ensures.live;
-      still = c.still_there.ensures.store;
-      stand = c.journal_on_store.ensures.stand;
-      stopped = c.journal_on_store.ensures.stopped;
-    } in
-    show_refused laws (Some Audit) IsAuditOf audit_shows held _ _ c.in-Err.error c.refuse_store.result
+    let laws = c.store_laws.ensures in
+    show_refused laws.store (Some Audit) IsAuditOf audit_shows held _ _ c.in-Err.error c.refuse_store.result
     c.in-Err.ensures.named c.refuse_store.ensures c.in-Err.ensures.told
 
 pub returns-in-Err-clause-calls : goal.returns-in-Err-clause-calls
@@ -28,16 +19,8 @@ returns-in-Err-clause-calls g c =
 
 pub returns-in_err-world-clause-prepares : goal.returns-in_err-world-clause-prepares
 returns-in_err-world-clause-prepares g c = λ held.
-    let laws : StoreLaws = record {
-      one_store = c.one_store.ensures;
-      one_live = c.one_live.ensures.once;
-      live = c.one_live.ensures.stands;
-      no_damage = c.no_damage_in_store.ensures.live;
-      still = c.still_there.ensures.store;
-      stand = c.journal_on_store.ensures.stand;
-      stopped = c.journal_on_store.ensures.stopped;
-    } in
-    show_failed laws (Some Audit) IsAuditOf audit_shows held _ _ c.in-Ok.loaded c.from_residual.result
+    let laws = c.store_laws.ensures in
+    show_failed laws.store (Some Audit) IsAuditOf audit_shows held _ _ c.in-Ok.loaded c.from_residual.result
     (no_memory c.from_residual.result c.from_residual.ensures.1) c.in-Ok.ensures.told
 
 pub returns-in_err-world-clause-calls : goal.returns-in_err-world-clause-calls
@@ -46,17 +29,9 @@ returns-in_err-world-clause-calls g c = failed_calls c.from_residual.result _ _
 
 pub returns-in_err-text-clause-prepares : goal.returns-in_err-text-clause-prepares
 returns-in_err-text-clause-prepares g c = λ held.
-    let laws : StoreLaws = record {
-      one_store = c.one_store.ensures;
-      one_live = c.one_live.ensures.once;
-      live = c.one_live.ensures.stands;
-      no_damage = c.no_damage_in_store.ensures.live;
-      still = c.still_there.ensures.store;
-      stand = c.journal_on_store.ensures.stand;
-      stopped = c.journal_on_store.ensures.stopped;
-    } in
+    let laws = c.store_laws.ensures in
     let failed = c.from_residual-in_err-text in
-    show_failed laws (Some Audit) IsAuditOf audit_shows held _ _ c.in-Ok.loaded failed.result
+    show_failed laws.store (Some Audit) IsAuditOf audit_shows held _ _ c.in-Ok.loaded failed.result
     (no_memory failed.result failed.ensures.1) c.in-Ok.ensures.told
 
 pub returns-in_err-text-clause-calls : goal.returns-in_err-text-clause-calls
@@ -67,16 +42,8 @@ returns-in_err-text-clause-calls g c =
 
 pub returns-clause-prepares : goal.returns-clause-prepares
 returns-clause-prepares g c = λ held.
-    let laws : StoreLaws = record {
-      one_store = c.one_store.ensures;
-      one_live = c.one_live.ensures.once;
-      live = c.one_live.ensures.stands;
-      no_damage = c.no_damage_in_store.ensures.live;
-      still = c.still_there.ensures.store;
-      stand = c.journal_on_store.ensures.stand;
-      stopped = c.journal_on_store.ensures.stopped;
-    } in
-    show_done laws (Some Audit) IsAuditOf audit_shows held _ _ c.in-Ok.loaded _ c.new.result c.new.ensures
+    let laws = c.store_laws.ensures in
+    show_done laws.store (Some Audit) IsAuditOf audit_shows held _ _ c.in-Ok.loaded _ c.new.result c.new.ensures
     c.in-Ok.ensures.told
     (record { objects = c.in_ok-world.world; applied = c.in_ok-world.ensures; audit = c.in_ok-text.ensures })
 

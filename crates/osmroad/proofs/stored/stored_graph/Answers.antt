@@ -2,7 +2,6 @@ use Rattle.std.proofs.Common.{Some, refl, arith}
 use Rattle.sequence_journal.specs.declared.load.Loaded.{Loaded}
 use Rattle.osmroad.specs.declared.command.Command.TheVariants.{Graph}
 use Rattle.osmroad.specs.Compiled.{IsGraphOf}
-use Rattle.osmroad.proofs.StoreLaws.{StoreLaws}
 use Rattle.osmroad.proofs.Prepared.{no_memory}
 use Rattle.osmroad.proofs.AnsweredFaults.{fault_calls, failed_calls, calls_calm}
 use Rattle.osmroad.proofs.ShownStores.{graph_shows, show_refused, show_failed, show_done, graph_built}
@@ -12,16 +11,8 @@ use Rattle.osmroad.proofs.stored.stored_graph.Goals as goal
 
 pub returns-in-Err-clause-prepares : goal.returns-in-Err-clause-prepares
 returns-in-Err-clause-prepares g c = λ held.
-    let laws : StoreLaws = record {
-      one_store = c.one_store.ensures;
-      one_live = c.one_live.ensures.once;
-      live = c.one_live.ensures.stands;
-      no_damage = c.no_damage_in_store.ensures.live;
-      still = c.still_there.ensures.store;
-      stand = c.journal_on_store.ensures.stand;
-      stopped = c.journal_on_store.ensures.stopped;
-    } in
-    show_refused laws (Some Graph) IsGraphOf graph_shows held _ _ c.in-Err.error c.refuse_store.result
+    let laws = c.store_laws.ensures in
+    show_refused laws.store (Some Graph) IsGraphOf graph_shows held _ _ c.in-Err.error c.refuse_store.result
     c.in-Err.ensures.named c.refuse_store.ensures c.in-Err.ensures.told
 
 pub returns-in-Err-clause-calls : goal.returns-in-Err-clause-calls
@@ -35,16 +26,8 @@ returns-in-Err-clause-built g c = λ held w h objects told loads has. omega arit
 
 pub returns-in_err-out-clause-prepares : goal.returns-in_err-out-clause-prepares
 returns-in_err-out-clause-prepares g c = λ held.
-    let laws : StoreLaws = record {
-      one_store = c.one_store.ensures;
-      one_live = c.one_live.ensures.once;
-      live = c.one_live.ensures.stands;
-      no_damage = c.no_damage_in_store.ensures.live;
-      still = c.still_there.ensures.store;
-      stand = c.journal_on_store.ensures.stand;
-      stopped = c.journal_on_store.ensures.stopped;
-    } in
-    show_failed laws (Some Graph) IsGraphOf graph_shows held _ _ c.in-Ok.loaded c.from_residual.result
+    let laws = c.store_laws.ensures in
+    show_failed laws.store (Some Graph) IsGraphOf graph_shows held _ _ c.in-Ok.loaded c.from_residual.result
     (no_memory c.from_residual.result c.from_residual.ensures.1) c.in-Ok.ensures.told
 
 pub returns-in_err-out-clause-calls : goal.returns-in_err-out-clause-calls
@@ -53,31 +36,15 @@ returns-in_err-out-clause-calls g c = failed_calls c.from_residual.result _ _
 
 pub returns-in_err-out-clause-built : goal.returns-in_err-out-clause-built
 returns-in_err-out-clause-built g c = λ held.
-    let laws : StoreLaws = record {
-      one_store = c.one_store.ensures;
-      one_live = c.one_live.ensures.once;
-      live = c.one_live.ensures.stands;
-      no_damage = c.no_damage_in_store.ensures.live;
-      still = c.still_there.ensures.store;
-      stand = c.journal_on_store.ensures.stand;
-      stopped = c.journal_on_store.ensures.stopped;
-    } in
-    graph_built laws held _ _ c.in-Ok.loaded _ _ c.in-Ok.ensures.told c.in_err-out.ensures.built
+    let laws = c.store_laws.ensures in
+    graph_built laws.store held _ _ c.in-Ok.loaded _ _ c.in-Ok.ensures.told c.in_err-out.ensures.built
 
 -- ---- the graph is made
 
 pub returns-clause-prepares : goal.returns-clause-prepares
 returns-clause-prepares g c = λ held.
-    let laws : StoreLaws = record {
-      one_store = c.one_store.ensures;
-      one_live = c.one_live.ensures.once;
-      live = c.one_live.ensures.stands;
-      no_damage = c.no_damage_in_store.ensures.live;
-      still = c.still_there.ensures.store;
-      stand = c.journal_on_store.ensures.stand;
-      stopped = c.journal_on_store.ensures.stopped;
-    } in
-    show_done laws (Some Graph) IsGraphOf graph_shows held _ _ c.in-Ok.loaded c.in_ok-out.out.items _ (refl, refl)
+    let laws = c.store_laws.ensures in
+    show_done laws.store (Some Graph) IsGraphOf graph_shows held _ _ c.in-Ok.loaded c.in_ok-out.out.items _ (refl, refl)
     c.in-Ok.ensures.told c.in_ok-out.ensures.graph
 
 pub returns-clause-calls : goal.returns-clause-calls
@@ -85,13 +52,5 @@ returns-clause-calls g c = calls_calm _ _ _ (c.in-Ok.ensures.counts.stays (λ e.
 
 pub returns-clause-built : goal.returns-clause-built
 returns-clause-built g c = λ held.
-    let laws : StoreLaws = record {
-      one_store = c.one_store.ensures;
-      one_live = c.one_live.ensures.once;
-      live = c.one_live.ensures.stands;
-      no_damage = c.no_damage_in_store.ensures.live;
-      still = c.still_there.ensures.store;
-      stand = c.journal_on_store.ensures.stand;
-      stopped = c.journal_on_store.ensures.stopped;
-    } in
-    graph_built laws held _ _ c.in-Ok.loaded _ _ c.in-Ok.ensures.told c.in_ok-out.ensures.built
+    let laws = c.store_laws.ensures in
+    graph_built laws.store held _ _ c.in-Ok.loaded _ _ c.in-Ok.ensures.told c.in_ok-out.ensures.built
