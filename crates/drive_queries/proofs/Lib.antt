@@ -1,0 +1,3 @@
+pub mod DrivePlaces
+pub mod DriveParts
+pub mod DriveSearch
