@@ -14,7 +14,8 @@ use Rattle.road_base.proofs.Splits.{cons_not_nil, ends}
 use Rattle.road_model.proofs.WalkLists.{spell_pieces-push}
 use Rattle.drive_queries.specs.Reaching.{LeadsTo}
 use Rattle.drive_queries.specs.Searching.{BeginsAt, StopsAt, IsSearched}
-use Rattle.drive_queries.proofs.DrivePlaces.{split_place, places_ascend, share_first, share_last, begins_with, ends_with}
+use Rattle.drive_queries.proofs.DrivePlaces.{split_place, places_ascend, share_first, share_last}
+use Rattle.drive_queries.proofs.DrivePlaces.{begins_with, ends_with}
 use Rattle.drive_queries.proofs.DriveParts.{DriveLaws}
 
 -- the steps begin as piece p does and end as piece t does
