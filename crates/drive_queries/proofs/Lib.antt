@@ -1,2 +1,5 @@
 pub mod MessageNumbers
 pub mod MessageSteps
+pub mod DrivePlaces
+pub mod DriveParts
+pub mod DriveSearch

@@ -8,7 +8,7 @@ ghost use Rattle.drive_queries.specs.Reaching.{LeadsTo};
 ghost use Rattle.drive_queries.specs.Searching.{LeadsWithin, LeadsAlong, IsSearched};
 
 use road_model::Profile;
-use road_model::laws::{drive_parts, one_piece, walk_law, whole_pieces};
+use road_model::laws::{drive_parts, one_junction, one_piece, walk_law, whole_pieces};
 
 /// What a search over contexts and arcs finds is a legal drive between the nodes; and where all contexts that can be
 /// come to are seen and nothing leads on to the goal, there is no legal drive between them.
@@ -25,4 +25,5 @@ pub fn searched_drives<P: Profile>(profile: &P)
     whole_pieces(profile);
     one_piece(profile);
     drive_parts(profile);
+    one_junction(profile);
 }
