@@ -1,0 +1,2 @@
+pub mod WordOrder
+pub mod WordsGathered

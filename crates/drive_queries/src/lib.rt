@@ -15,8 +15,10 @@ mod judging;
 pub mod laws;
 mod messages;
 mod reaching;
+mod step_rules;
 mod totals;
 mod verdict;
+mod word_rules;
 mod word_table;
 
 pub use found::Found;

@@ -1,0 +1,155 @@
+//! The rules that speak of words.
+ghost use Rattle.std.specs.Prelude.{◌≡◌, ◌↔◌, ◌<◌, ◌∷◌, ◌++◌, [], List, length, IfSome, IfNone, IsTrue};
+ghost use Rattle.road_base.specs.declared.ids.Step.{Step};
+ghost use Rattle.turn_automata.specs.Machines.{Watches};
+ghost use Rattle.turn_automata.specs.Watched.{Must, Stops};
+ghost use Rattle.drive_queries.specs.Judging.{Demands, DemandsNext, EndsDriven, IsLeastIf, IsWordRule, LeavesIn, LeavesBehind};
+ghost use Rattle.drive_queries.specs.Judging.{WordWith, lesser};
+
+use crate::verdict::Rule;
+use restrictions::Word;
+use road_base::{RelationId, Step};
+use turn_automata::{Automaton, State};
+
+/// The first rule on words that the step breaks, where the words stop it. The state is that of the steps before.
+pub fn word_rule(automaton: &Automaton, state: State, before: &[Step], step: Step) -> Rule
+    requires known { state.0 < length automaton.now.states }
+    requires watches { Watches automaton.now state.0 before.now }
+    requires stops { Stops automaton.now.words before.now step }
+    ensures { IsWordRule automaton.now.words before.now step result }
+{
+    if let Some(relation) = least_no(automaton.words().items(), before, step) {
+        return Rule::No(relation);
+    }
+    let Some(relation) = least_only(automaton, state, before, step) else {
+        unreachable!()
+    };
+    Rule::Only(relation)
+}
+
+/// The least relation with a No word that ends the steps before and this one.
+fn least_no(words: &[Word], before: &[Step], step: Step) -> Option<RelationId>
+    ensures { IsLeastIf (WordWith words.now (EndsDriven before.now step)) result }
+{
+    let mut least = None;
+    for word in words {
+        least = lesser(least, no_of(word, before, step));
+    }
+    least
+}
+
+/// The word's relation, if it is a No word that ends the steps before and this one.
+fn no_of(word: &Word, before: &[Step], step: Step) -> Option<RelationId>
+    ensures some { IfSome result (λ r. (r ≡ word.now.relation) × EndsDriven before.now step word.now) }
+    ensures none { IfNone result (EndsDriven before.now step word.now → ⊥) }
+{
+    if !word.only && ends_driven(word.steps.items(), before, step) {
+        Some(word.relation)
+    } else {
+        None
+    }
+}
+
+/// Whether the steps before and this one end with the word.
+fn ends_driven(word: &[Step], before: &[Step], step: Step) -> bool
+    ensures { IsTrue result ↔ ((front : List Step) × (before.now ++ step ∷ [] ≡ front ++ word.now)) }
+{
+    match word {
+        [start @ .., last] => *last == step && before.ends_with(start),
+        [] => true,
+    }
+}
+
+/// The least relation with an Only word that binds the end of the steps before, while none demands the step there.
+fn least_only(
+    automaton: &Automaton,
+    state: State,
+    before: &[Step],
+    step: Step,
+) -> Option<RelationId>
+    requires known { state.0 < length automaton.now.states }
+    requires watches { Watches automaton.now state.0 before.now }
+    ensures { IsLeastIf (LeavesIn automaton.now.words before.now step) result }
+{
+    let words = automaton.words().items();
+    let longest = automaton.watched_len(state);
+    let mut least = None;
+    for count in 0..longest + 1 {
+        let driven = &before[before.len() - count..];
+        least = lesser(least, least_left(words, driven, step));
+    }
+    least
+}
+
+/// The least relation with an Only word that binds behind these steps, if none demands the step there.
+fn least_left(words: &[Word], driven: &[Step], step: Step) -> Option<RelationId>
+    ensures { IsLeastIf (LeavesBehind words.now driven.now step) result }
+{
+    if demands(words, driven, step) {
+        None
+    } else {
+        least_bound(words, driven)
+    }
+}
+
+/// Whether an Only word demands the step behind these.
+fn demands(words: &[Word], driven: &[Step], step: Step) -> bool
+    ensures { IsTrue result ↔ Must words.now driven.now step }
+{
+    for word in words {
+        if demanded(word, driven) == Some(step) {
+            return true;
+        }
+    }
+    false
+}
+
+/// The least relation with an Only word that demands a step behind these.
+fn least_bound(words: &[Word], driven: &[Step]) -> Option<RelationId>
+    ensures { IsLeastIf (WordWith words.now (Demands driven.now)) result }
+{
+    let mut least = None;
+    for word in words {
+        if demanded(word, driven).is_some() {
+            least = lesser(least, Some(word.relation));
+        }
+    }
+    least
+}
+
+/// The step that the word demands behind these, if it is an Only word that does.
+fn demanded(word: &Word, driven: &[Step]) -> Option<Step>
+    ensures some { IfSome result (DemandsNext driven.now word.now) }
+    ensures none { IfNone result (Demands driven.now word.now → ⊥) }
+{
+    if word.only && word.binding as usize <= driven.len() {
+        next_behind(word.steps.items(), driven)
+    } else {
+        None
+    }
+}
+
+/// The step behind these, if they begin the word and it goes on.
+fn next_behind(word: &[Step], driven: &[Step]) -> Option<Step>
+    ensures some { IfSome result (λ next. (rest : List Step) × (word.now ≡ driven.now ++ next ∷ rest)) }
+    ensures none { IfNone result ((next : Step) (rest : List Step) → word.now ≡ driven.now ++ next ∷ rest → ⊥) }
+{
+    if !word.starts_with(driven) {
+        return None;
+    }
+    match word.get(driven.len()) {
+        Some(next) => Some(*next),
+        None => None,
+    }
+}
+
+/// The lesser of the relations, if there is any.
+fn lesser(one: Option<RelationId>, other: Option<RelationId>) -> Option<RelationId>
+    ensures { result ≡ lesser one other }
+{
+    match (one, other) {
+        (Some(a), Some(b)) => { if a <= b { Some(a) } else { Some(b) } }
+        (Some(a), None) => Some(a),
+        (None, b) => b,
+    }
+}
