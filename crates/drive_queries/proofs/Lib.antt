@@ -1,2 +1,3 @@
+pub mod JudgedSteps
 pub mod WordOrder
 pub mod WordsGathered

@@ -9,7 +9,6 @@ use Rattle.road_model.specs.declared.answers.Access.TheVariants.{Free, Closed as
 use Rattle.road_model.specs.Rules.{Rules}
 use Rattle.road_model.specs.Orders.{relation_cmp}
 use Rattle.road_model.specs.Driving.{drivable, Passes}
-use Rattle.road_model.specs.Words.{IsWord}
 use Rattle.road_model.specs.Network.{Legal, GoesOn}
 use Rattle.road_model.specs.Broken.{BrokenRule, IsBehind, IsLeast, Applies, place}
 use Rattle.restrictions.specs.declared.word_list.Word.{Word}
