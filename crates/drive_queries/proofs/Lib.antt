@@ -1,3 +1,4 @@
 pub mod JudgedSteps
 pub mod WordOrder
 pub mod WordsGathered
+pub mod WordsCompared

@@ -49,6 +49,9 @@ module _ {X : Type 0} (xs : List X) where
   among_last i d l = subst (λ v. Contains v (get_or xs i d)) (sym (take_more xs i d l))
       (Contains-append_right (take i xs) (get_or xs i d ∷ []) (get_or xs i d) (0, omega arith, refl))
 
+  pub among_item : (i : ℕ) (x : X) → i < length xs → x ≡ get_or xs i x → Contains xs x
+  among_item i x l e = (i, l, sym e)
+
 pub among_none : {X : Type 0} (x : X) → Contains [] x → ⊥
 among_none x c = let l = c.1 in omega arith
 

@@ -54,9 +54,9 @@ fn no_of(word: &Word, before: &[Step], step: Step) -> Option<RelationId>
 fn ends_driven(word: &[Step], before: &[Step], step: Step) -> bool
     ensures { IsTrue result ↔ ((front : List Step) × (before.now ++ step ∷ [] ≡ front ++ word.now)) }
 {
-    match word {
-        [start @ .., last] => *last == step && before.ends_with(start),
-        [] => true,
+    match word.split_last() {
+        Some((last, start)) => *last == step && before.ends_with(start),
+        None => true,
     }
 }
 
@@ -97,11 +97,21 @@ fn demands(words: &[Word], driven: &[Step], step: Step) -> bool
     ensures { IsTrue result ↔ Must words.now driven.now step }
 {
     for word in words {
-        if demanded(word, driven) == Some(step) {
+        if demands_step(word, driven, step) {
             return true;
         }
     }
     false
+}
+
+/// Whether it is an Only word that demands the step behind these.
+fn demands_step(word: &Word, driven: &[Step], step: Step) -> bool
+    ensures { IsTrue result ↔ DemandsNext driven.now word.now step }
+{
+    match demanded(word, driven) {
+        Some(next) => next == step,
+        None => false,
+    }
 }
 
 /// The least relation with an Only word that demands a step behind these.
@@ -110,11 +120,20 @@ fn least_bound(words: &[Word], driven: &[Step]) -> Option<RelationId>
 {
     let mut least = None;
     for word in words {
-        if demanded(word, driven).is_some() {
-            least = lesser(least, Some(word.relation));
-        }
+        least = lesser(least, bound_of(word, driven));
     }
     least
+}
+
+/// The word's relation, if it is an Only word that demands a step behind these.
+fn bound_of(word: &Word, driven: &[Step]) -> Option<RelationId>
+    ensures some { IfSome result (λ r. (r ≡ word.now.relation) × Demands driven.now word.now) }
+    ensures none { IfNone result (Demands driven.now word.now → ⊥) }
+{
+    match demanded(word, driven) {
+        Some(_) => Some(word.relation),
+        None => None,
+    }
 }
 
 /// The step that the word demands behind these, if it is an Only word that does.
