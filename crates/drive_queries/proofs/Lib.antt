@@ -1,3 +1,4 @@
+pub mod JudgedDrives
 pub mod JudgedSteps
 pub mod WordOrder
 pub mod WordsGathered

@@ -2,9 +2,11 @@
 //! first, whether one node can be reached from another, and how large a graph is.
 //!
 //! `message` takes time linear in its line. `WordTable::of` judges each restriction that names a way of the drive once
-//! and keeps the words that begin on the drive's steps, in an automaton (`turn_automata`) and sorted; `judge` then
-//! takes for each step the time of a few look-ups and, where it goes back to where the step before began, of the ways
-//! at the node, with one step of the automaton; the step that breaks a word is compared with the words once. `reach`
+//! and keeps the words that begin on the drive's steps, in an automaton (`turn_automata`); `judge` then takes for each
+//! step the time of a few look-ups and, where it goes back to where the step before began, of the ways at the node,
+//! with one step of the automaton. The end of a drive whose last step ends a No word is compared with the words once,
+//! and where an Only word demands another step, once for each length up to that of the longest end that goes on in a
+//! word. `reach`
 //! marks each context that it finds once, the one that is nearest to the goal first: at most all contexts and arcs,
 //! with memory in proportion to the contexts and a logarithm of their number for each. `counts` goes over all contexts
 //! once.
