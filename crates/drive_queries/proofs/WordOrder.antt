@@ -4,12 +4,13 @@ use Rattle.std.specs.declared.cmp.Ordering.TheVariants.{Less, Equal, Greater}
 use Rattle.std.specs.Ordering.{nat_cmp, int_cmp, ordering_reverse, ordering_then}
 use Rattle.std.specs.Cmp.{IsTotalOrder}
 use Rattle.std.specs.FinMap.{IsAntisymmetric, int_cmp-IsAntisymmetric, nat_cmp-IsAntisymmetric}
-use Rattle.std.proofs.lemmas.Cmp.{nat_cmp_total, int_cmp_total, on_total, then_total}
+use Rattle.std.proofs.lemmas.Cmp.{nat_cmp_total, int_cmp_total, on_total, then_total, lists_total}
 use Rattle.road_base.specs.declared.ids.Dir.{Dir}
 use Rattle.road_base.specs.declared.ids.Dir.TheVariants.{Forward, Backward}
 use Rattle.road_base.specs.declared.ids.Step.{Step}
 use Rattle.road_base.specs.contracts.ids.StepOrd.TheImpl.{ghosts as step_order}
 use Rattle.road_base.specs.contracts.ids.DirOrd.TheImpl.{ghosts as dir_order}
+use Rattle.drive_queries.specs.Gathering.{steps_cmp}
 
 dir_antisymm : (a b : Dir) → dir_order.cmp a b ≡ ordering_reverse (dir_order.cmp b a)
 dir_antisymm Forward Forward = refl
@@ -57,3 +58,6 @@ step_ties a b h =
     let i = nat_cmp-IsAntisymmetric a.index b.index q.0 in
     let d = dir_ties a.dir b.dir q.1 in
     λ j. record { way = record { 0 = w j }; index = i j; dir = d j }
+
+pub steps_total : IsTotalOrder steps_cmp
+steps_total = lists_total step_total

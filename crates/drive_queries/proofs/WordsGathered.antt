@@ -205,6 +205,14 @@ module _ (M : Objects) (P : Rules) where
           (w, record { first = b.first; rest = b.rest; is = b.is; driven = (same b.first).1 b.driven });
     }
 
+  -- the same words in another order
+  pub table_again : (drive : List Step) (words other : List Word)
+      → ((w : Word) → Contains other w ↔ Contains words w) → IsTableOf M P drive words → IsTableOf M P drive other
+  table_again drive words other same t = record {
+    each = λ w c. t.each w ((same w).0 c);
+    all = λ w is b. (same w).1 (t.all w is b);
+  }
+
 -- ---- the first step of a word
 
 below : (r : Ordering) → r ≡ Less → r ≡ Equal → ⊥

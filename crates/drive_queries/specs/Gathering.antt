@@ -1,6 +1,8 @@
 -- What is gathered on the way to the words that may bind a drive.
 use Rattle.std.specs.Prelude.{◌≡◌, ◌↔◌, List, ◌++◌, Contains}
-use Rattle.std.specs.List.Sorted.{IsSorted}
+use Rattle.std.specs.List.Sorted.{IsSorted, IsSortedByKey}
+use Rattle.std.specs.Cmp.Lexicographic.{slice_cmp}
+use Rattle.std.specs.declared.cmp.Ordering.{Ordering}
 use Rattle.road_base.specs.declared.ids.WayId.{WayId}
 use Rattle.road_base.specs.declared.ids.RelationId.{RelationId}
 use Rattle.road_base.specs.declared.ids.Key.TheVariants.{Way as WayKey}
@@ -16,6 +18,14 @@ use Rattle.drive_queries.specs.Tables.{BeginsOn}
 -- by way, then position, then direction
 abbrev pub AreInOrder : List Step → Type 0
 AreInOrder = IsSorted step_order.cmp
+
+-- step by step
+abbrev pub steps_cmp : List Step → List Step → Ordering
+steps_cmp = slice_cmp step_order.cmp
+
+-- the words stand in the order of their steps
+abbrev pub AreInWordOrder : List Word → Type 0
+AreInWordOrder = IsSortedByKey (λ w. w.steps) steps_cmp
 
 -- one of the steps lies on the way
 pub record LiesOn (steps : List Step) (w : WayId) : Type 0 where

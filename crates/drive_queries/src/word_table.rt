@@ -5,15 +5,18 @@ ghost use Rattle.std.specs.FinMap.{IsAntisymmetric};
 ghost use Rattle.road_base.specs.declared.ids.WayId.{WayId};
 ghost use Rattle.road_base.specs.declared.ids.RelationId.{RelationId};
 ghost use Rattle.road_base.specs.declared.ids.Step.{Step};
+ghost use Rattle.restrictions.specs.declared.word_list.Word.{Word};
 ghost use Rattle.restrictions.specs.Words.{IsRestriction};
 ghost use Rattle.drive_queries.specs.Tables.{BeginsOn, IsTableOf};
-ghost use Rattle.drive_queries.specs.Gathering.{AreInOrder, GainsWords, AreWordsOn, IsMemberOf, LiesOn};
+ghost use Rattle.drive_queries.specs.Gathering.{AreInOrder, AreInWordOrder, GainsWords, AreWordsOn, IsMemberOf};
+ghost use Rattle.drive_queries.specs.Gathering.{LiesOn, steps_cmp};
 
 use restrictions::{Word, WordList, WordsError, words};
 use road_base::{NoMemory, RelationId, Step, WayId};
 use road_model::laws::{name_order, number_order, words_on_ways};
 use road_model::{Profile, World};
 use std::alloc::Global;
+use std::cmp::Ordering;
 use std::marker::Model;
 use turn_automata::Automaton;
 
@@ -26,10 +29,13 @@ pub struct WordTable {
 impl Model for WordTable {
     ghost use Rattle.std.specs.Prelude.{List};
     ghost use Rattle.restrictions.specs.declared.word_list.Word.{Word};
+    ghost use Rattle.drive_queries.specs.Gathering.{AreInWordOrder};
 
     ghost Value = { List Word };
 
     ghost view = { λ t. t.automaton.words };
+
+    ghost invariant = { λ t. AreInWordOrder t.automaton.words };
 }
 
 impl WordTable {
@@ -46,20 +52,22 @@ impl WordTable {
         let ways = ways_of(alloc, drive)?;
         let relations = relations_of(alloc, world, ways.as_slice())?;
         let steps = in_order(alloc, drive)?;
-        let words = words_of(
+        let mut words = words_of(
             alloc,
             world,
             profile,
             relations.as_slice(),
             steps.as_slice(),
         )?;
+        put_in_order(&mut words);
         let automaton = Automaton::of(alloc, &WordList::from_list(words))?;
         Ok(WordTable { automaton })
     }
 
-    /// What watches for the words.
+    /// What watches for the words, which it lends sorted by their steps.
     pub fn automaton(&self) -> &Automaton
-        ensures { result.now.words ≡ self.now }
+        ensures words { result.now.words ≡ self.now }
+        ensures sorted { AreInWordOrder self.now }
     {
         &self.automaton
     }
@@ -177,4 +185,19 @@ fn is_among(steps: &[Step], step: Step) -> bool
     ensures { IsTrue result ↔ Contains steps.now step }
 {
     steps.binary_search(&step).is_ok()
+}
+
+/// Sorts the words by their steps.
+fn put_in_order(words: &mut Vec<Word>)
+    ensures sorted { AreInWordOrder words.new.items }
+    ensures same { (w : Word) → Contains words.new.items w ↔ Contains words.old.items w }
+{
+    words.sort_unstable_by(|a, b| by_steps(a, b));
+}
+
+/// Compares the steps of words one by one.
+fn by_steps(a: &Word, b: &Word) -> Ordering
+    ensures { result ≡ steps_cmp a.now.steps b.now.steps }
+{
+    a.steps.items().cmp(b.steps.items())
 }

@@ -6,7 +6,7 @@ use Rattle.road_base.specs.declared.ids.RelationId.{RelationId}
 use Rattle.road_base.specs.declared.ids.Step.{Step}
 use Rattle.drive_queries.specs.Tables.{IsTableOf}
 use Rattle.drive_queries.specs.Gathering.{AreWordsOn, IsMemberOf}
-use Rattle.drive_queries.proofs.WordsGathered.{restrict, table}
+use Rattle.drive_queries.proofs.WordsGathered.{restrict, table, table_again}
 use Rattle.drive_queries.proofs.word_table.WordTable.of.Goals as goal
 
 pub words_of-requires-clause-restrictions : goal.words_of-requires-clause-restrictions
@@ -31,5 +31,6 @@ returns g c =
     c.as_slice-2.ensures.value c.in_ok-words.ensures in
     let are = subst (λ (l : List Step). AreWordsOn M P l relations words) c.as_slice-3.ensures.value of in
     subst (IsTableOf M P c.args.drive.now) (sym (c.in_ok-automaton.ensures ∙ c.from_list.ensures))
+    (table_again M P c.args.drive.now words c.put_in_order.new.words.items c.put_in_order.ensures.same
     (table M P (c.words_on_ways.ensures.members M) c.args.drive.now steps ways relations words c.in_ok-ways.ensures on
-    c.in_ok-steps.ensures.same are)
+    c.in_ok-steps.ensures.same are))
