@@ -1,7 +1,7 @@
 -- The first rule that a step alone, or behind the one before it, breaks.
-use Rattle.std.proofs.Common.{◌≡◌, ℕ, suc, inl, inr, ◌+◌, ◌-◌, ◌<◌, ◌≤◌, List, [], ◌∷◌, ◌++◌, length, refl, sym, ap}
+use Rattle.std.proofs.Common.{◌≡◌, ℕ, inl, inr, ◌+◌, ◌<◌, ◌≤◌, List, [], ◌∷◌, ◌++◌, length, refl, sym, ap}
 use Rattle.std.proofs.Common.{◌∙◌, subst, arith, Option, Some, None, IfSome, IfNone, Bool, true, false, IsTrue, IsFalse}
-use Rattle.std.proofs.Common.{cond, not, int_eq, slice_get, append_assoc}
+use Rattle.std.proofs.Common.{cond, not, int_eq, append_assoc}
 use Rattle.std.proofs.lemmas.Bool.{false≢true, true_from_ne_false, and_parts, and_from, ltb-true, lt-ltb}
 use Rattle.std.proofs.lemmas.Bool.Decides.{Decides-int_eq}
 use Rattle.std.proofs.lemmas.Option.{slice_get_within, slice_get_cases}
@@ -12,7 +12,7 @@ use Rattle.road_base.specs.declared.ids.Dir.{Dir}
 use Rattle.road_base.specs.declared.ids.Dir.TheVariants.{Forward, Backward}
 use Rattle.road_base.specs.declared.objects.Way.{Way}
 use Rattle.road_base.specs.Objects.{Objects, way_of}
-use Rattle.road_base.proofs.Splits.{same_last, cons_not_nil}
+use Rattle.road_base.proofs.Splits.{same_last}
 use Rattle.road_model.specs.declared.answers.Access.{Access}
 use Rattle.road_model.specs.declared.answers.Access.TheVariants.{Free, Closed as ClosedAccess}
 use Rattle.road_model.specs.declared.answers.Access.TheVariants.{WrongWay as WrongWayAccess}
@@ -53,6 +53,10 @@ other_node a b h e = not_false _ h ((Decides-int_eq a.0 b.0).1 (ap (λ (n : Node
 pub both_some : (o p : Option NodeId) (a b v : NodeId) → o ≡ Some a → p ≡ Some b → o ≡ Some v → p ≡ Some v → a ≡ b
 both_some o p a b v e f h k = cc
 
+false_by : (b : Bool) → (b ≡ true → ⊥) → b ≡ false
+false_by true n = absurd (n refl)
+false_by false n = refl
+
 one_or_more : (o : BrokenRule) → 1 ≤ place o
 one_or_more NoStep = omega arith
 one_or_more o = omega arith
@@ -71,10 +75,6 @@ module _ (M : Objects) (s : Step) where
   end_named : (i : ℕ) (v : NodeId) → end_at M s i ≡ Some v → IsTrue (names_pair M s)
   unfolding end_at
   end_named i v e = if_named (names_pair M s) (node_at M s.way i) v e
-
-  unnamed_end : (i : ℕ) → IsFalse (names_pair M s) → end_at M s i ≡ None
-  unfolding end_at
-  unnamed_end i h = ap (λ b. cond b (node_at M s.way i) None) h
 
   named_by_next : (v : NodeId) → node_at M s.way (s.index + 1) ≡ Some v → IsTrue (names_pair M s)
   unfolding names_pair node_at
@@ -98,19 +98,11 @@ module _ (M : Objects) (s : Step) where
   unfolding names_pair
   no_tail e = false_by (names_pair M s) (λ h. node_within (tail_position s.dir s.index)
       (tail_within s.dir s.index _ (ltb-true _ _ h)) (sym (at_named (tail_position s.dir s.index) h) ∙ e))
-    where
-      false_by : (b : Bool) → (b ≡ true → ⊥) → b ≡ false
-      false_by true n = absurd (n refl)
-      false_by false n = refl
 
   pub no_head : head_of M s ≡ None → IsFalse (names_pair M s)
   unfolding names_pair
   no_head e = false_by (names_pair M s) (λ h. node_within (head_position s.dir s.index)
       (head_within s.dir s.index _ (ltb-true _ _ h)) (sym (at_named (head_position s.dir s.index) h) ∙ e))
-    where
-      false_by : (b : Bool) → (b ≡ true → ⊥) → b ≡ false
-      false_by true n = absurd (n refl)
-      false_by false n = refl
 
 both_located : (M : Objects) (w : WayId) (d : Dir) (k : ℕ) → IsTrue (located M (node_at M w k))
     → IsTrue (located M (node_at M w (k + 1)))
@@ -349,28 +341,3 @@ module _ (M : Objects) (P : Rules) where
       let p = f.passes h.last h.behind in
       absurd (h.may_not (subst (λ v. MayTurn M P v s) (met h.last h.last s p w h.meets) (p.back h.back)))
   from_eight before s f o h = let l = from_five before s f.drives o h in omega arith
-
--- ---- the step before
-
-last_at : (y : Step) (before : List Step) (x : Step) → slice_get (y ∷ before) (length before) ≡ Some x
-    → IsBehind (y ∷ before) x
-last_at y [] x e = let f : y ≡ x = cc in ([], ap (λ v. v ∷ []) f)
-last_at y (z ∷ before) x e = let r = last_at z before x e in (y ∷ r.0, ap (λ v. y ∷ v) r.1)
-
-one_less : (n : ℕ) → suc n - 1 ≡ n
-one_less n = omega arith
-
-pub last_behind : (before : List Step) (x : Step) → slice_get before (length before - 1) ≡ Some x → IsBehind before x
-last_behind [] x e = cc
-last_behind (y ∷ before) x e =
-    last_at y before x (subst (λ n. slice_get (y ∷ before) n ≡ Some x) (one_less (length before)) e)
-
-no_last : (y : Step) (before : List Step) → slice_get (y ∷ before) (length before) ≡ None → ⊥
-no_last y [] e = cc
-no_last y (z ∷ before) e = no_last z before e
-
-pub none_behind : (before : List Step) → slice_get before (length before - 1) ≡ None → (x : Step) → IsBehind before x
-    → ⊥
-none_behind [] e x b = cons_not_nil b.0 x [] (sym b.1)
-none_behind (y ∷ before) e x b =
-    no_last y before (subst (λ n. slice_get (y ∷ before) n ≡ None) (one_less (length before)) e)

@@ -3,3 +3,4 @@ pub mod JudgedSteps
 pub mod WordOrder
 pub mod WordsGathered
 pub mod WordsCompared
+pub mod WordsBegun

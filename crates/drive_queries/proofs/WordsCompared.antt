@@ -58,7 +58,7 @@ other_way a b h = turned _ _ (relation_total.antisymm a b) h
 
 -- ---- the least relation of which a fact holds
 
-least_same : (Q R : RelationId → Type 0) → ((r : RelationId) → Q r → R r) → ((r : RelationId) → R r → Q r)
+pub least_same : (Q R : RelationId → Type 0) → ((r : RelationId) → Q r → R r) → ((r : RelationId) → R r → Q r)
     → (o : Option RelationId) → IsLeastIf Q o → IsLeastIf R o
 least_same Q R to back None h = λ r k. h r (back r k)
 least_same Q R to back (Some a) h = record { holds = to a h.holds; least = λ q k. h.least q (back q k) }

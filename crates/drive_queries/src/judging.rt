@@ -2,6 +2,7 @@
 ghost use Rattle.std.specs.Prelude.{◌≢◌, ◌<◌, ◌∷◌, ◌++◌, [], length, IfOk, IfErr};
 ghost use Rattle.turn_automata.specs.Machines.{Watches};
 ghost use Rattle.drive_queries.specs.Tables.{IsTableOf};
+ghost use Rattle.drive_queries.specs.Gathering.{AreInWordOrder};
 ghost use Rattle.drive_queries.specs.Judging.{Breaks, HasWords, KeepsOn};
 ghost use Rattle.drive_queries.specs.Verdicts.{IsVerdict, broken_rule};
 
@@ -17,6 +18,10 @@ use turn_automata::{Automaton, State};
 
 /// Whether the drive, which isn't empty, is legal, and else the first step with which it isn't and the first rule that
 /// it breaks there. The table is the drive's own. Takes no memory.
+///
+/// Takes a few look-ups and one step of the table's automaton for each step of the drive, and for one that goes back to
+/// where the step before began the time of the ways at the node. The words are compared with the last step alone, and
+/// only where they stop it.
 pub fn judge<M: World, P: Profile>(
     world: &M,
     profile: &P,
@@ -57,6 +62,7 @@ fn judge_step<M: World, P: Profile>(
 ) -> Result<State, Rule>
     requires known { state.0 < length automaton.now.states }
     requires watches { Watches automaton.now state.0 before.now }
+    requires sorted { AreInWordOrder automaton.now.words }
     requires words { HasWords (M.objects world.now) (P.rules profile.now) (before.now ++ step ∷ [])
         automaton.now.words }
     ensures known { IfOk result (λ next. next.0 < length automaton.now.states) }

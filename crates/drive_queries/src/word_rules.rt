@@ -1,21 +1,30 @@
 //! The rules that speak of words.
-ghost use Rattle.std.specs.Prelude.{◌≡◌, ◌↔◌, ◌<◌, ◌∷◌, ◌++◌, [], List, length, IfSome, IfNone, IsTrue};
+ghost use Rattle.std.specs.Prelude.{◌≡◌, ◌↔◌, ◌<◌, ◌≤◌, ◌-◌, ◌∷◌, ◌++◌, [], List, length, take, drop, Contains};
+ghost use Rattle.std.specs.Prelude.{IfSome, IfNone, IsTrue};
 ghost use Rattle.road_base.specs.declared.ids.Step.{Step};
+ghost use Rattle.restrictions.specs.declared.word_list.Word.{Word};
 ghost use Rattle.turn_automata.specs.Machines.{Watches};
 ghost use Rattle.turn_automata.specs.Watched.{Must, Stops};
+ghost use Rattle.drive_queries.specs.Gathering.{AreInWordOrder, steps_cmp};
 ghost use Rattle.drive_queries.specs.Judging.{Demands, DemandsNext, EndsDriven, IsLeastIf, IsWordRule, LeavesIn, LeavesBehind};
 ghost use Rattle.drive_queries.specs.Judging.{WordWith, lesser};
 
 use crate::verdict::Rule;
 use restrictions::Word;
 use road_base::{RelationId, Step};
+use std::cmp::Ordering;
 use turn_automata::{Automaton, State};
 
-/// The first rule on words that the step breaks, where the words stop it. The state is that of the steps before.
+/// The first rule on words that the step breaks, where the words stop it. The state is that of the steps before, and
+/// the words are sorted by their steps.
+///
+/// Compares each No word once with the end of the steps. Where none ends there, a search finds for each length up to
+/// that of the state the words that begin with so many of the last steps, and these are looked at twice.
 pub fn word_rule(automaton: &Automaton, state: State, before: &[Step], step: Step) -> Rule
     requires known { state.0 < length automaton.now.states }
     requires watches { Watches automaton.now state.0 before.now }
     requires stops { Stops automaton.now.words before.now step }
+    requires sorted { AreInWordOrder automaton.now.words }
     ensures { IsWordRule automaton.now.words before.now step result }
 {
     if let Some(relation) = least_no(automaton.words().items(), before, step) {
@@ -69,6 +78,7 @@ fn least_only(
 ) -> Option<RelationId>
     requires known { state.0 < length automaton.now.states }
     requires watches { Watches automaton.now state.0 before.now }
+    requires sorted { AreInWordOrder automaton.now.words }
     ensures { IsLeastIf (LeavesIn automaton.now.words before.now step) result }
 {
     let words = automaton.words().items();
@@ -76,9 +86,41 @@ fn least_only(
     let mut least = None;
     for count in 0..longest + 1 {
         let driven = &before[before.len() - count..];
-        least = lesser(least, least_left(words, driven, step));
+        least = lesser(
+            least,
+            least_left(beginning_with(words, driven), driven, step),
+        );
     }
     least
+}
+
+/// Those of the words, which are sorted by their steps, that begin with these.
+fn beginning_with<'a>(words: &'a [Word], driven: &[Step]) -> &'a [Word]
+    requires { AreInWordOrder words.now }
+    ensures { (w : Word) → Contains result.now w
+        ↔ (Contains words.now w × ((rest : List Step) × (w.steps ≡ driven.now ++ rest))) }
+{
+    let low = words.partition_point(|word| compare_front(word, driven).is_lt());
+    let high = words.partition_point(|word| compare_front(word, driven).is_le());
+    part(words, low, high)
+}
+
+/// Those from the one place up to the other.
+fn part(words: &[Word], low: usize, high: usize) -> &[Word]
+    requires rising { low ≤ high }
+    requires within { high ≤ length words.now }
+    ensures { result.now ≡ take (high - low) (drop low words.now) }
+{
+    &words[low..high]
+}
+
+/// How the word's first steps, as many as are driven or all, compare with the driven ones.
+fn compare_front(word: &Word, driven: &[Step]) -> Ordering
+    ensures { result ≡ steps_cmp (take (length driven.now) word.now.steps) driven.now }
+{
+    let steps = word.steps.items();
+    let count = driven.len().min(steps.len());
+    steps[..count].cmp(driven)
 }
 
 /// The least relation with an Only word that binds behind these steps, if none demands the step there.

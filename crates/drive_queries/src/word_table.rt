@@ -40,6 +40,8 @@ impl Model for WordTable {
 
 impl WordTable {
     /// All words whose first step is in the drive.
+    ///
+    /// Each restriction that names a way of the drive is judged once. Of n words two are compared n log n times.
     pub fn of<M: World, P: Profile>(
         alloc: Global,
         world: &M,

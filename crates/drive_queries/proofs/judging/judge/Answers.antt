@@ -16,7 +16,7 @@ judge_step-requires-clause-words g c =
     let M = g.M.World.objects c.args.world.now in
     let P = g.P.Profile.rules c.args.profile.now in
     let drive = c.args.drive.now in
-    let own = subst (IsTableOf M P drive) (sym c.automaton-automaton.ensures) c.requires.own in
+    let own = subst (IsTableOf M P drive) (sym c.automaton-automaton.ensures.words) c.requires.own in
     table_has M P drive _ (drop (c.loop-at.at + 1) drive) (cut_behind drive c.loop-at.at _ c.loop-at-test.true)
     c.automaton-automaton.result.now.words own
 

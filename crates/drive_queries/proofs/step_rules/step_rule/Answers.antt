@@ -1,3 +1,4 @@
+-- What the step alone breaks, it breaks behind any steps.
 use Rattle.drive_queries.proofs.step_rules.step_rule.Goals as goal
 
 pub returns-in-Some-clause-some : goal.returns-in-Some-clause-some

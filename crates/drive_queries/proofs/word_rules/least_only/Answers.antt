@@ -4,6 +4,7 @@ use Rattle.road_base.specs.declared.ids.RelationId.{RelationId}
 use Rattle.restrictions.specs.declared.word_list.Word.{Word}
 use Rattle.drive_queries.specs.Judging.{IsLeastIf, LeavesIn}
 use Rattle.drive_queries.proofs.WordsCompared.{LeavesShort, short_more, short_all, watched_short, whole_end}
+use Rattle.drive_queries.proofs.WordsBegun.{near_least}
 use Rattle.drive_queries.proofs.word_rules.least_only.Goals as goal
 
 pub loop-count-preserved : goal.loop-count-preserved
@@ -16,7 +17,9 @@ loop-count-preserved c =
     subst (λ (o : Option RelationId). IsLeastIf (LeavesShort words before c.args.step (c.loop-count.count + 1)) o)
     (sym c.lesser-least.ensures)
     (short_more words before c.args.step c.loop-count.count _ (omega arith) (whole_end _ before) c.loop-count.least
-    c.least_left.result c.loop-count.invariant c.least_left.ensures)
+    c.least_left.result c.loop-count.invariant
+    (near_least words c.beginning_with.result.now _ c.args.step c.beginning_with.ensures c.least_left.result
+    c.least_left.ensures))
 
 pub returns : goal.returns
 returns c =
