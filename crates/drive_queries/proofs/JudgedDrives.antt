@@ -1,6 +1,7 @@
 -- What the words of a table say of a step is what the words of the map say, and a drive is judged step by step.
-use Rattle.std.proofs.Common.{◌≡◌, ◌↔◌, ℕ, ◌+◌, ◌<◌, ◌≤◌, ◌⊎◌, inl, inr, List, [], ◌∷◌, ◌++◌, length, take, drop, get_or}
-use Rattle.std.proofs.Common.{Contains, Bool, true, false, IsTrue, refl, sym, ap, ◌∙◌, subst, arith, append_assoc, append-nil}
+use Rattle.std.proofs.Common.{◌≡◌, ◌↔◌, ℕ, ◌+◌, ◌<◌, ◌≤◌, ◌⊎◌, inl, inr, List, [], ◌∷◌, ◌++◌, length, take, drop}
+use Rattle.std.proofs.Common.{get_or, Contains, Bool, true, false, IsTrue, refl, sym, ap, ◌∙◌, subst, arith}
+use Rattle.std.proofs.Common.{append_assoc, append-nil}
 use Rattle.std.proofs.lemmas.Option.{slice_get_within}
 use Rattle.std.proofs.lemmas.List.{take_more, take-append-drop, length-take-le}
 use Rattle.std.proofs.lemmas.List.Elements.{Contains-append_left, Contains-append_right}
@@ -13,8 +14,7 @@ use Rattle.road_model.specs.Rules.{Rules}
 use Rattle.road_model.specs.Driving.{drivable}
 use Rattle.road_model.specs.Words.{IsWord, binding_of}
 use Rattle.road_model.specs.Network.{Legal, GoesOn, Must as MustOnMap}
-use Rattle.road_model.specs.Broken.{BrokenRule, No as NoRule, Broken, IsLeast}
-use Rattle.road_model.specs.Broken.{EndsNoWord, LeavesOnlyWord}
+use Rattle.road_model.specs.Broken.{BrokenRule, No as NoRule, Broken, IsLeast, EndsNoWord, LeavesOnlyWord}
 use Rattle.restrictions.specs.declared.word_list.Word.{Word}
 use Rattle.turn_automata.specs.Trees.{IsClosed}
 use Rattle.turn_automata.specs.Machines.{Machine, Watches}

@@ -216,7 +216,8 @@ module _ (M : Objects) (P : Rules) where
       illegal = λ l. false≢true (sym h ∙ (parts_of s (last_drives l)).named);
     }
 
-    pub breaks_tail : (v : NodeId) → tail_of M s ≡ Some v → IsFalse (located M (Some v)) → Breaks M P before s (NoNode v)
+    pub breaks_tail : (v : NodeId) → tail_of M s ≡ Some v → IsFalse (located M (Some v))
+        → Breaks M P before s (NoNode v)
     breaks_tail v e f = record {
       applies = AtTail e f;
       first = from_two before s (end_named M s (tail_position s.dir s.index) v e);

@@ -1,7 +1,7 @@
 -- Words beside the steps that were driven, and the least relation with a word of a kind.
 use Rattle.std.proofs.Common.{◌≡◌, ℕ, ◌+◌, ◌-◌, ◌<◌, ◌≤◌, ◌⊎◌, inl, inr, List, [], ◌∷◌, ◌++◌, length, take, drop}
-use Rattle.std.proofs.Common.{get_or, slice_get, Contains, cond, Option, Some, None, IfSome, IfNone, Bool, true, false, IsTrue}
-use Rattle.std.proofs.Common.{refl, sym, ap, ◌∙◌, subst, arith, append_assoc, append-nil, Ordering}
+use Rattle.std.proofs.Common.{get_or, slice_get, Contains, cond, Option, Some, None, IfSome, IfNone, Bool, true, false}
+use Rattle.std.proofs.Common.{IsTrue, refl, sym, ap, ◌∙◌, subst, arith, append_assoc, append-nil, Ordering}
 use Rattle.std.specs.Bool.{Decides}
 use Rattle.std.specs.Ordering.{is_le, ordering_reverse}
 use Rattle.std.specs.declared.cmp.Ordering.TheVariants.{Less, Equal, Greater}
@@ -114,7 +114,9 @@ module _ (Q : Word → Type 0) where
       (λ r. WordWith (take i W) Q r ⊎ ((r ≡ (get_or W i d).relation) × Q (get_or W i d)))
       (WordWith (take (i + 1) W) Q)
       (λ r k. elim k [
-        | inl old ↦ record { word = old.word; among = among_before W i d l old.word old.among; of = old.of; is = old.is }
+        | inl old ↦
+            let has = among_before W i d l old.word old.among in
+            record { word = old.word; among = has; of = old.of; is = old.is }
         | inr new ↦ record { word = get_or W i d; among = among_last W i d l; of = new.0; is = new.1 }
       ])
       (λ r k. elim (among_more W i d l k.word k.among) [
@@ -174,7 +176,8 @@ same_next : (driven : List Step) (x y : Step) (a b : List Step) → driven ++ x 
 same_next [] x y a b e = cc
 same_next (z ∷ driven) x y a b e = same_next driven x y a b (cc)
 
-pub one_demanded : (driven : List Step) (w : Word) (x y : Step) → DemandsNext driven w x → DemandsNext driven w y → x ≡ y
+pub one_demanded : (driven : List Step) (w : Word) (x y : Step) → DemandsNext driven w x → DemandsNext driven w y
+    → x ≡ y
 one_demanded driven w x y a b = same_next driven x y a.rest b.rest (sym a.is ∙ b.is)
 
 module _ (W : List Word) (driven : List Step) (s : Step) where
@@ -204,7 +207,8 @@ module _ (W : List Word) (driven : List Step) (s : Step) where
 
   pub left_least : (Must W driven s → ⊥) → (o : Option RelationId) → IsLeastIf (WordWith W (Demands driven)) o
       → IsLeastIf (LeavesBehind W driven s) o
-  left_least n o h = least_same (WordWith W (Demands driven)) (LeavesBehind W driven s) (λ r k. record { lacks = n; word = k }) (λ r k. k.word) o h
+  left_least n o h = least_same (WordWith W (Demands driven)) (LeavesBehind W driven s)
+      (λ r k. record { lacks = n; word = k }) (λ r k. k.word) o h
 
 -- ---- the ends of the steps before, one after the other
 

@@ -1,11 +1,13 @@
 -- What is found of one step after the other where a drive is judged.
-use Rattle.std.specs.Prelude.{◌≡◌, ℕ, ◌≤◌, List, [], ◌∷◌, ◌++◌, length, cond, Option, Some, None, true, false, IsTrue, Contains}
+use Rattle.std.specs.Prelude.{◌≡◌, ℕ, ◌≤◌, List, [], ◌∷◌, ◌++◌, length, cond, Option, Some, None, true, false, IsTrue}
+use Rattle.std.specs.Prelude.{Contains}
 use Rattle.std.specs.Ordering.{is_le}
 use Rattle.road_base.specs.declared.ids.RelationId.{RelationId}
 use Rattle.road_base.specs.declared.ids.Step.{Step}
 use Rattle.road_base.specs.Objects.{Objects}
 use Rattle.road_model.specs.declared.answers.Access.{Access}
-use Rattle.road_model.specs.declared.answers.Access.TheVariants.{Free, Closed as ClosedAccess, WrongWay as WrongWayAccess}
+use Rattle.road_model.specs.declared.answers.Access.TheVariants.{Free, Closed as ClosedAccess}
+use Rattle.road_model.specs.declared.answers.Access.TheVariants.{WrongWay as WrongWayAccess}
 use Rattle.road_model.specs.Rules.{Rules}
 use Rattle.road_model.specs.Orders.{relation_cmp}
 use Rattle.road_model.specs.Driving.{drivable, Passes}

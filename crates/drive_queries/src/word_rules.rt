@@ -6,8 +6,8 @@ ghost use Rattle.restrictions.specs.declared.word_list.Word.{Word};
 ghost use Rattle.turn_automata.specs.Machines.{Watches};
 ghost use Rattle.turn_automata.specs.Watched.{Must, Stops};
 ghost use Rattle.drive_queries.specs.Gathering.{AreInWordOrder, steps_cmp};
-ghost use Rattle.drive_queries.specs.Judging.{Demands, DemandsNext, EndsDriven, IsLeastIf, IsWordRule, LeavesIn, LeavesBehind};
-ghost use Rattle.drive_queries.specs.Judging.{WordWith, lesser};
+ghost use Rattle.drive_queries.specs.Judging.{Demands, DemandsNext, EndsDriven, IsLeastIf, IsWordRule, LeavesIn};
+ghost use Rattle.drive_queries.specs.Judging.{LeavesBehind, WordWith, lesser};
 
 use crate::verdict::Rule;
 use restrictions::Word;

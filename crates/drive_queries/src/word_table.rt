@@ -136,7 +136,8 @@ fn words_of<M: World, P: Profile>(
 ) -> Result<Vec<Word>, NoMemory>
     requires restrictions { All (IsRestriction (M.objects world.now)) relations.now }
     requires sorted { AreInOrder steps.now }
-    ensures { IfOk result (λ v. AreWordsOn (M.objects world.now) (P.rules profile.now) steps.now relations.now v.items) }
+    ensures { IfOk result (λ v. AreWordsOn (M.objects world.now) (P.rules profile.now) steps.now relations.now
+        v.items) }
 {
     let mut list = Vec::new(alloc);
     for relation in relations {

@@ -9,8 +9,8 @@ use Rattle.drive_queries.proofs.word_rules.least_bound.Goals as goal
 pub loop-word-preserved : goal.loop-word-preserved
 loop-word-preserved c =
     word_next (Demands c.args.driven.now) c.args.words.now c.loop-word.word-index c.word-item.result
-    c.loop-word.least c.bound_of.result c.lesser-least.result c.loop-word-test.true c.word-item.is c.lesser-least.ensures
-    c.loop-word.invariant c.bound_of.ensures.some c.bound_of.ensures.none
+    c.loop-word.least c.bound_of.result c.lesser-least.result c.loop-word-test.true c.word-item.is
+    c.lesser-least.ensures c.loop-word.invariant c.bound_of.ensures.some c.bound_of.ensures.none
 
 pub returns : goal.returns
 returns c =

@@ -11,8 +11,8 @@ pub loop-count-preserved : goal.loop-count-preserved
 loop-count-preserved c =
     let words = c.items-words.result.now in
     let before = c.args.before.now in
-    let longest = watched_short words before c.args.step c.args.automaton.now c.args.state.0 c.watched_len-longest.result
-    c.requires.watches c.watched_len-longest.ensures in
+    let longest = watched_short words before c.args.step c.args.automaton.now c.args.state.0
+    c.watched_len-longest.result c.requires.watches c.watched_len-longest.ensures in
     let within = c.loop-count-test.true in
     subst (λ (o : Option RelationId). IsLeastIf (LeavesShort words before c.args.step (c.loop-count.count + 1)) o)
     (sym c.lesser-least.ensures)

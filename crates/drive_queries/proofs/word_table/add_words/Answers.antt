@@ -14,7 +14,8 @@ returns-in_ok-append-in-Ok g c =
     let words : AreWords M P c.args.relation all =
     subst (AreWords M P c.args.relation) (sym c.into_list-more.ensures) c.in-Ok.ensures.words in
     let more = c.retain.new.self.items in
-    let left = λ (u : Word). kept _ (λ (w : Word). BeginsOn c.args.steps.now w.steps) _ (λ x b f k. search rules) all more
+    let left = λ (u : Word). kept _ (λ (w : Word). BeginsOn c.args.steps.now w.steps) _ (λ x b f k. search rules)
+    all more
     c.retain.ensures.filtered u in
     record {
       more = more;

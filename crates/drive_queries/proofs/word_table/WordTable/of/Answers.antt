@@ -13,7 +13,8 @@ pub words_of-requires-clause-restrictions : goal.words_of-requires-clause-restri
 words_of-requires-clause-restrictions g c k d within =
     let M = g.M.World.objects c.args.world.now in
     let has = Contains-get_or c.as_slice-2.result.now k d within in
-    let listed = subst (λ (l : List RelationId). Contains l (slice_index_or c.as_slice-2.result.now k d)) c.as_slice-2.ensures.value has in
+    let listed = subst (λ (l : List RelationId). Contains l (slice_index_or c.as_slice-2.result.now k d))
+    c.as_slice-2.ensures.value has in
     let P = g.P.Profile.rules c.args.profile.now in
     restrict M P c.as_slice.result.now _ ((c.in_ok-relations.ensures _).0 listed)
 
