@@ -3,3 +3,9 @@ pub mod MessageSteps
 pub mod DrivePlaces
 pub mod DriveParts
 pub mod DriveSearch
+pub mod JudgedDrives
+pub mod JudgedSteps
+pub mod WordOrder
+pub mod WordsGathered
+pub mod WordsCompared
+pub mod WordsBegun

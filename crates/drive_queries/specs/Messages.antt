@@ -17,7 +17,8 @@ use Rattle.drive_queries.specs.declared.messages.Asked.TheVariants.{Empty, Seq, 
 
 -- digits alone, at least one, of a value below the limit
 abbrev pub number_below : ℕ → List ℕ → Option ℕ
-number_below limit word = cond (is_numeral word && nat_lt (digits_value 10 word) limit) (Some (digits_value 10 word)) None
+number_below limit word =
+    cond (is_numeral word && nat_lt (digits_value 10 word) limit) (Some (digits_value 10 word)) None
 
 -- the sign behind a step
 abbrev pub dir_of : ℕ → Option Dir

@@ -1,25 +1,82 @@
 //! Whether a drive is legal.
-ghost use Rattle.std.specs.Prelude.{◌≢◌, []};
+ghost use Rattle.std.specs.Prelude.{◌≢◌, ◌<◌, ◌∷◌, ◌++◌, [], length, IfOk, IfErr};
+ghost use Rattle.turn_automata.specs.Machines.{Watches};
 ghost use Rattle.drive_queries.specs.Tables.{IsTableOf};
-ghost use Rattle.drive_queries.specs.Verdicts.{IsVerdict};
+ghost use Rattle.drive_queries.specs.Gathering.{AreInWordOrder};
+ghost use Rattle.drive_queries.specs.Judging.{Breaks, HasWords, KeepsOn};
+ghost use Rattle.drive_queries.specs.Verdicts.{IsVerdict, broken_rule};
 
-use crate::verdict::Verdict;
+use crate::step_rules::step_rule;
+use crate::verdict::{Rule, Verdict};
+use crate::word_rules::word_rule;
 use crate::word_table::WordTable;
 use road_base::Step;
+use road_model::laws::{drive_grows, drive_parts};
 use road_model::{Profile, World};
+use turn_automata::laws::unstopped_is_demanded;
+use turn_automata::{Automaton, State};
 
 /// Whether the drive, which isn't empty, is legal, and else the first step with which it isn't and the first rule that
 /// it breaks there. The table is the drive's own. Takes no memory.
+///
+/// Takes a few look-ups and one step of the table's automaton for each step of the drive, and for one that goes back to
+/// where the step before began the time of the ways at the node. The words are compared with the last step alone, and
+/// only where they stop it.
 pub fn judge<M: World, P: Profile>(
     world: &M,
     profile: &P,
     table: &WordTable,
     drive: &[Step],
 ) -> Verdict
-    requires stub { ⊥ }
     requires some { drive.now ≢ [] }
     requires own { IsTableOf (M.objects world.now) (P.rules profile.now) drive.now table.now }
     ensures { IsVerdict (M.objects world.now) (P.rules profile.now) drive.now result }
 {
-    unreachable!()
+    drive_grows(profile);
+    drive_parts(profile);
+    let automaton = table.automaton();
+    automaton.closed();
+    let mut state = State(0);
+    for at in 0..drive.len() {
+        match judge_step(world, profile, automaton, state, &drive[..at], drive[at]) {
+            Ok(next) => state = next,
+            Err(rule) => {
+                return Verdict::Broken {
+                    step: at as u64 + 1,
+                    rule,
+                };
+            }
+        }
+    }
+    Verdict::Legal
+}
+
+/// The state behind the step, or the first rule that it breaks behind the steps before.
+fn judge_step<M: World, P: Profile>(
+    world: &M,
+    profile: &P,
+    automaton: &Automaton,
+    state: State,
+    before: &[Step],
+    step: Step,
+) -> Result<State, Rule>
+    requires known { state.0 < length automaton.now.states }
+    requires watches { Watches automaton.now state.0 before.now }
+    requires sorted { AreInWordOrder automaton.now.words }
+    requires words { HasWords (M.objects world.now) (P.rules profile.now) (before.now ++ step ∷ [])
+        automaton.now.words }
+    ensures known { IfOk result (λ next. next.0 < length automaton.now.states) }
+    ensures watches { IfOk result (λ next. Watches automaton.now next.0 (before.now ++ step ∷ [])) }
+    ensures goes { IfOk result (λ next. KeepsOn (M.objects world.now) (P.rules profile.now) before.now step) }
+    ensures breaks { IfErr result (λ rule. Breaks (M.objects world.now) (P.rules profile.now) before.now step
+        (broken_rule rule)) }
+{
+    unstopped_is_demanded();
+    if let Some(rule) = step_rule(world, profile, before, step) {
+        return Err(rule);
+    }
+    match automaton.go(state, step) {
+        Some(next) => Ok(next),
+        None => Err(word_rule(automaton, state, before, step)),
+    }
 }

@@ -1,0 +1,37 @@
+-- The words that begin on the drive's steps, from the restrictions of its ways, are all.
+use Rattle.std.proofs.Common.{◌↔◌, List, sym, subst, ◌∙◌, slice_index_or, Contains}
+use Rattle.std.proofs.lemmas.List.Elements.{Contains-get_or}
+use Rattle.road_base.specs.declared.ids.WayId.{WayId}
+use Rattle.road_base.specs.declared.ids.RelationId.{RelationId}
+use Rattle.road_base.specs.declared.ids.Step.{Step}
+use Rattle.drive_queries.specs.Tables.{IsTableOf}
+use Rattle.drive_queries.specs.Gathering.{AreWordsOn, IsMemberOf}
+use Rattle.drive_queries.proofs.WordsGathered.{restrict, table, table_again}
+use Rattle.drive_queries.proofs.word_table.WordTable.of.Goals as goal
+
+pub words_of-requires-clause-restrictions : goal.words_of-requires-clause-restrictions
+words_of-requires-clause-restrictions g c k d within =
+    let M = g.M.World.objects c.args.world.now in
+    let has = Contains-get_or c.as_slice-2.result.now k d within in
+    let listed = subst (λ (l : List RelationId). Contains l (slice_index_or c.as_slice-2.result.now k d))
+    c.as_slice-2.ensures.value has in
+    let P = g.P.Profile.rules c.args.profile.now in
+    restrict M P c.as_slice.result.now _ ((c.in_ok-relations.ensures _).0 listed)
+
+pub returns : goal.returns
+returns g c =
+    let M = g.M.World.objects c.args.world.now in
+    let P = g.P.Profile.rules c.args.profile.now in
+    let ways = c.in_ok-ways.ways.items in
+    let relations = c.in_ok-relations.relations.items in
+    let steps = c.in_ok-steps.steps.items in
+    let words = c.in_ok-words.words.items in
+    let on = subst (λ (l : List WayId). (r : RelationId) → Contains relations r ↔ IsMemberOf M l r)
+    c.as_slice.ensures.value c.in_ok-relations.ensures in
+    let of = subst (λ (l : List RelationId). AreWordsOn M P c.as_slice-3.result.now l words)
+    c.as_slice-2.ensures.value c.in_ok-words.ensures in
+    let are = subst (λ (l : List Step). AreWordsOn M P l relations words) c.as_slice-3.ensures.value of in
+    subst (IsTableOf M P c.args.drive.now) (sym (c.in_ok-automaton.ensures ∙ c.from_list.ensures))
+    (table_again M P c.args.drive.now words c.put_in_order.new.words.items c.put_in_order.ensures.same
+    (table M P (c.words_on_ways.ensures.members M) c.args.drive.now steps ways relations words c.in_ok-ways.ensures on
+    c.in_ok-steps.ensures.same are))
