@@ -6,3 +6,4 @@ pub mod Judging
 pub mod Reaching
 pub mod Searching
 pub mod Counting
+pub mod Summing
