@@ -52,7 +52,7 @@ use Rattle.osmroad.proofs.PassedLimits.{still_passes}
 use Rattle.osmroad.proofs.SourceParts.{took_nothing}
 use Rattle.osmroad.proofs.OutputFronts.{starts_whole, nothing_put, other_put}
 use Rattle.osmroad.specs.StoreLaws.{StoreLaws, ChangeLaws}
-use Rattle.osmroad.proofs.Prepared.{told_cases, by_failure, prepares, prepares_whole}
+use Rattle.osmroad.proofs.Prepared.{will_put, by_failure, prepares, prepares_whole}
 use Rattle.osmroad.proofs.LoadedStores.{LeavesKept, stored_weaker, same_history, load_moments, loaded_before}
 use Rattle.osmroad.proofs.LoadedStores.{loaded_now, loaded_store, loaded_as_before, left_unput, stand_unput, unput}
 use Rattle.osmroad.proofs.LoadedStores.{NotLoaded, could_leave, IsRefusal, load_refused}
@@ -117,15 +117,8 @@ module _ (laws : StoreLaws) (n : Sequence) where
   not_loaded : (bytes : List ℕ) (status : Status) (out : List ℕ) (x y : Option Outside) → IsRefusal status
       → Told (λ w v. NotLoaded w v status out) x y → WillPut command bytes [] status out x y
   not_loaded bytes status out x y is told =
-      told_cases x y (λ w v. NotLoaded w v status out) (λ x y. WillPut command bytes [] status out x y) told
-      (record {
-        replies = inr (inr (inr is));
-        reads = refused_reads None status bytes is;
-        after = None;
-        gives = tt;
-        stand = tt;
-        last = tt;
-      })
+      will_put command bytes [] status out x y (λ w v. NotLoaded w v status out) told
+      (inr (inr (inr is))) (refused_reads None status bytes is) tt
       (λ w v n. record {
         replies = inr (inr (inr is));
         reads = refused_reads (files_of (Some w)) status bytes is;
@@ -161,8 +154,7 @@ module _ (laws : StoreLaws) (n : Sequence) where
         → ((w v : Outside) → (k : StoreLoaded l w v) → ApplyGives n.0 (reads_of w) bytes status out (Some k.history))
         → WillPut command bytes read status out x y
     not_applied bytes read status out replies reads other gives =
-        told_cases x y (LoadsStore (Ok l)) (λ x y. WillPut command bytes read status out x y) told
-        (record { replies = replies; reads = reads None; after = None; gives = tt; stand = tt; last = tt })
+        will_put command bytes read status out x y (LoadsStore (Ok l)) told replies (reads None) tt
         (λ w v loads. let k = loads.answer in record {
           replies = replies;
           reads = reads (files_of (Some w));
@@ -339,10 +331,8 @@ module _ (laws : StoreLaws) (n : Sequence) where
 
       put_line : (u : Unit {0}) → AddAnswer l.journal new n change (Ok u) faults_before faults_now
           → Told (Applies l new change (Ok u)) x y → WillPut command read read Done (applied_line n.0) x y
-      put_line u answer told = told_cases x y (Applies l new change (Ok u))
-          (λ x y. WillPut command read read Done (applied_line n.0) x y) told
-          (record { replies = inl refl; reads = refl; after = None; gives = tt; stand = tt; last = tt })
-          (changed u answer)
+      put_line u answer told = will_put command read read Done (applied_line n.0) x y (Applies l new change (Ok u))
+          told (inl refl) refl tt (changed u answer)
 
       pub change_added : (u : Unit {0}) (r : Reply) → Says Done (applied_line n.0) r
           → AddAnswer l.journal new n change (Ok u) faults_before faults_now

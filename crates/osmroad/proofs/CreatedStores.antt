@@ -51,7 +51,7 @@ use Rattle.osmroad.proofs.Replied.{replied}
 use Rattle.osmroad.proofs.PassedLimits.{still_passes}
 use Rattle.osmroad.proofs.SourceParts.{took_nothing}
 use Rattle.osmroad.proofs.OutputFronts.{starts_whole, nothing_put, other_put}
-use Rattle.osmroad.proofs.Prepared.{told_cases, by_failure, prepares, prepares_whole}
+use Rattle.osmroad.proofs.Prepared.{will_put, by_failure, prepares, prepares_whole}
 use Rattle.osmroad.proofs.LoadedStores.{left_unput, stand_unput, unput}
 
 line_some : (n : ℕ) → 0 < length (created_line n)
@@ -119,16 +119,8 @@ module _ (n : Sequence) where
       let bytes = behind_of held in
       prepares command result [] held held x y (took_nothing held)
       (replied command bytes [] StoreExistsStatus store_exists_line result x y says
-      (told_cases x y (FindsLive (Ok (Some live)))
-      (λ x y. WillPut command bytes [] StoreExistsStatus store_exists_line x y) told
-      (record {
-        replies = inr (inr (inr refl));
-        reads = tt;
-        after = None;
-        gives = tt;
-        stand = tt;
-        last = tt;
-      })
+      (will_put command bytes [] StoreExistsStatus store_exists_line x y (FindsLive (Ok (Some live))) told
+      (inr (inr (inr refl))) tt tt
       (λ w v f. record {
         replies = inr (inr (inr refl));
         reads = refl;
@@ -163,8 +155,7 @@ module _ (n : Sequence) where
         → (get_or out 0 0 ≡ 99 → ⊥) → InputRefusal Extract bytes status out
         → WillPut command bytes read status out x y
     not_taken bytes read status out replies reads other refusal =
-        told_cases x y (FindsLive (Ok None)) (λ x y. WillPut command bytes read status out x y) told
-        (record { replies = replies; reads = reads None; after = None; gives = tt; stand = tt; last = tt })
+        will_put command bytes read status out x y (FindsLive (Ok None)) told replies (reads None) tt
         (λ w v f. record {
           replies = replies;
           reads = reads (files_of (Some w));
@@ -286,16 +277,8 @@ module _ (n : Sequence) (events : List Event) (read : List ℕ) (input : AreInpu
             (λ w v c. inl (λ file. c.creates.answer.1.reads file ∙ still_read w c.between c.finds.quiet file)))
         answer StoreExists named says told =
             replied (command n) read read StoreExistsStatus store_exists_line result x z says
-            (told_cases x z (Creates n.0 events (Err StoreExists))
-            (λ x z. WillPut (command n) read read StoreExistsStatus store_exists_line x z) told
-            (record {
-              replies = inr (inr (inr refl));
-              reads = tt;
-              after = None;
-              gives = tt;
-              stand = tt;
-              last = tt;
-            })
+            (will_put (command n) read read StoreExistsStatus store_exists_line x z
+            (Creates n.0 events (Err StoreExists)) told (inr (inr (inr refl))) tt tt
             (λ w v c. absurd (not_live (reads_of c.between) (none_between w c.between c.finds)
             c.creates.answer.0.0 c.creates.answer.0.1)))
             (told_weaker x z (Creates n.0 events (Err StoreExists)) StandAsBefore told
@@ -315,9 +298,8 @@ module _ (n : Sequence) (events : List Event) (read : List ℕ) (input : AreInpu
         (create_silent (Ok j) x z told) (create_only (Ok j) x z told)
       where
         put : WillPut (command n) read read Done (created_line n.0) x z
-        put = told_cases x z (Creates n.0 events (Ok j))
-            (λ x z. WillPut (command n) read read Done (created_line n.0) x z) told
-            (record { replies = inl refl; reads = refl; after = None; gives = tt; stand = tt; last = tt })
+        put = will_put (command n) read read Done (created_line n.0) x z (Creates n.0 events (Ok j)) told
+            (inl refl) refl tt
             (λ w v c. let h = base_alone n.0 events in let on = c.creates.answer.ready in record {
               replies = inl refl;
               reads = refl;

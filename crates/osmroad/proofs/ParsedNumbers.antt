@@ -1,16 +1,14 @@
 -- The number that a word of digits alone is parsed to.
-use Rattle.std.proofs.Common.{◌≡◌, ◌≢◌, ◌<◌, ◌^◌, ◌&&◌, ℕ, List, [], ◌∷◌, length, get_or, Bool, true, false}
+use Rattle.std.proofs.Common.{◌≡◌, ◌≢◌, ◌<◌, ◌^◌, ◌&&◌, ℕ, List, length, get_or, Bool, true, false}
 use Rattle.std.proofs.Common.{cond, refl, sym}
 use Rattle.std.proofs.Common.{ap, ◌∙◌, Some, None, true≢false}
 use Rattle.std.specs.Prelude.{nat_lt, Result, Ok, Err}
 use Rattle.std.specs.Bool.{Decides}
 use Rattle.std.specs.Result.{result_ok}
-use Rattle.std.specs.List.{list_all}
-use Rattle.std.specs.Char.{digit_value}
 use Rattle.std.specs.Str.Parse.{AllDigits, digits_value, ParsesUnsigned}
 use Rattle.std.proofs.lemmas.Bool.Decides.{Decides-and, Decides-ltb, Decides-like}
 use Rattle.std.proofs.lemmas.Str.Parse.{IsNumeralModel, numerals_by_value, tells_digits, parse_plain}
-use Rattle.opl_lexer.specs.Numbers.{is_digit, is_numeral}
+use Rattle.opl_lexer.specs.Numbers.{is_numeral}
 use Rattle.opl_lexer.proofs.Numerals.{decides_numeral}
 use Rattle.osmroad.specs.Commands.{number_of}
 

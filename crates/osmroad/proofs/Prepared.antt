@@ -10,17 +10,11 @@ use Rattle.osmroad.specs.declared.reply.Failure.{Failure}
 use Rattle.osmroad.specs.declared.reply.Failure.TheVariants.{NoMemory as NoMemoryFailure}
 use Rattle.osmroad.specs.Input.{Took, Ended}
 use Rattle.osmroad.specs.Stops.{LeftBy}
-use Rattle.osmroad.specs.Run.{HeldBytes}
-use Rattle.osmroad.specs.Replies.{IsPrepared, WillFail, Prepares}
+use Rattle.osmroad.specs.declared.status.Status.{Status}
+use Rattle.osmroad.specs.Outcomes.{Gives}
+use Rattle.osmroad.specs.Run.{HeldBytes, IsReply, Reads}
+use Rattle.osmroad.specs.Replies.{IsPrepared, WillPut, WillFail, Prepares}
 use Rattle.osmroad.proofs.HeldSource.{behind_of, held_by, all_read}
-
--- what holds where nothing is told, and where both sides tell
-pub told_cases : {W : Type 0} (x y : Option W) (R : W → W → Type 0) (P : Option W → Option W → Type 0) → Told R x y
-    → P None None → ((w v : W) → R w v → P (Some w) (Some v)) → P x y
-told_cases None None R P told none some = none
-told_cases None (Some v) R P told none some = absurd told
-told_cases (Some w) None R P told none some = absurd told
-told_cases (Some w) (Some v) R P told none some = some w v told
 
 -- ---- an answer
 
@@ -30,6 +24,18 @@ pub by_failure : (command : Option Command) (bytes read : List ℕ) (x y : Optio
     → IsPrepared command bytes read result x y
 by_failure command bytes read x y failure result is fails =
     subst (λ (r : Result Reply Failure). IsPrepared command bytes read r x y) (sym is) fails
+
+-- what will be put where the site doesn't tell, and where it does
+pub will_put : (command : Option Command) (bytes read : List ℕ) (status : Status) (out : List ℕ)
+    (x y : Option Outside) (R : Outside → Outside → Type 0) → Told R x y
+    → IsReply command status → Reads command None status bytes read → Gives command None bytes status out None
+    → ((w v : Outside) → R w v → WillPut command bytes read status out (Some w) (Some v))
+    → WillPut command bytes read status out x y
+will_put command bytes read status out None None R told replies reads gives put =
+    record { replies = replies; reads = reads; after = None; gives = gives; stand = tt; last = tt }
+will_put command bytes read status out None (Some v) R told replies reads gives put = absurd told
+will_put command bytes read status out (Some w) None R told replies reads gives put = absurd told
+will_put command bytes read status out (Some w) (Some v) R told replies reads gives put = put w v told
 
 -- what a `?` hands on where memory ended
 pub no_memory : (result : Result Reply Failure) → IsErrAnd result (λ e. e ≡ NoMemoryFailure)

@@ -175,41 +175,38 @@ module _ (command : Option Command) (before mid now : Option Outside) (faults_mi
       stops : Told (λ w v. LeavesOnly w v (LeftBy command read w)) before now
       stops = told_leaves command out read before mid now only will.last put
 
+      ended : (s : Status) → Reads command (files_of before) s bytes read → EndsWith command bytes read s before now
+          → Ends command s held left before now
+      ended s reads puts = record {
+        bytes = bytes;
+        read = read;
+        behind = behind;
+        all = all;
+        holds = holds;
+        reads = reads;
+        puts = puts;
+        stops = stops;
+      }
+
       go : EndsPut out wanted status mid now faults_mid faults_now → Ends command status held left before now
-      go (inl p) = subst (λ (s : Status). Ends command s held left before now) (sym p.0) (record {
-        bytes = bytes;
-        read = read;
-        behind = behind;
-        all = all;
-        holds = holds;
-        reads = will.reads;
-        puts = all_is_put command bytes read wanted before now (reply_is_plain command wanted will.replies) (record {
-          out = out;
-          after = will.after;
-          gives = will.gives;
-          grows = grows_then out before mid now silent p.1;
-          stand = stand;
-        });
-        stops = stops;
-      })
-      go (inr p) = subst (λ (s : Status). Ends command s held left before now) (sym p.0) (record {
-        bytes = bytes;
-        read = read;
-        behind = behind;
-        all = all;
-        holds = holds;
-        reads = reads_at_fault command before wanted bytes read will.reads;
-        puts = inl (record {
-          status = wanted;
-          out = out;
-          after = will.after;
-          reads = will.reads;
-          gives = will.gives;
-          grows = grows_into_then out before mid now silent p.1;
-          stand = stand;
-        });
-        stops = stops;
-      })
+      go (inl p) = subst (λ (s : Status). Ends command s held left before now) (sym p.0) (ended wanted will.reads
+          (all_is_put command bytes read wanted before now (reply_is_plain command wanted will.replies) (record {
+            out = out;
+            after = will.after;
+            gives = will.gives;
+            grows = grows_then out before mid now silent p.1;
+            stand = stand;
+          })))
+      go (inr p) = subst (λ (s : Status). Ends command s held left before now) (sym p.0) (ended SiteFault
+          (reads_at_fault command before wanted bytes read will.reads) (inl (record {
+            status = wanted;
+            out = out;
+            after = will.after;
+            reads = will.reads;
+            gives = will.gives;
+            grows = grows_into_then out before mid now silent p.1;
+            stand = stand;
+          })))
 
   -- what was prepared is put
   pub ends_prepared : (reply : Reply) → Prepares command (Ok reply) held left before mid

@@ -36,7 +36,7 @@ use Rattle.osmroad.proofs.HeldSource.{behind_of}
 use Rattle.osmroad.proofs.Replied.{replied}
 use Rattle.osmroad.proofs.SourceParts.{took_nothing}
 use Rattle.osmroad.specs.StoreLaws.{StoreLaws}
-use Rattle.osmroad.proofs.Prepared.{told_cases, by_failure, prepares}
+use Rattle.osmroad.proofs.Prepared.{will_put, by_failure, prepares}
 use Rattle.osmroad.proofs.LoadedStores.{LeavesKept, stored_weaker, same_history, load_moments, loaded_before}
 use Rattle.osmroad.proofs.LoadedStores.{loaded_now, loaded_store, loaded_as_before, left_unput, stand_unput, unput}
 use Rattle.osmroad.proofs.LoadedStores.{NotLoaded, could_leave, IsRefusal, load_refused}
@@ -96,15 +96,8 @@ module _ (laws : StoreLaws) (command : Option Command) (Shows : List Event → L
   not_loaded : (bytes : List ℕ) (status : Status) (out : List ℕ) (x y : Option Outside) → IsRefusal status
       → Told (λ w v. NotLoaded w v status out) x y → WillPut command bytes [] status out x y
   not_loaded bytes status out x y is told =
-      told_cases x y (λ w v. NotLoaded w v status out) (λ x y. WillPut command bytes [] status out x y) told
-      (record {
-        replies = shows.replies status (inr is);
-        reads = shows.reads None status bytes;
-        after = None;
-        gives = shows.gives None bytes status out None tt;
-        stand = tt;
-        last = tt;
-      })
+      will_put command bytes [] status out x y (λ w v. NotLoaded w v status out) told
+      (shows.replies status (inr is)) (shows.reads None status bytes) (shows.gives None bytes status out None tt)
       (λ w v n. record {
         replies = shows.replies status (inr is);
         reads = shows.reads (files_of (Some w)) status bytes;
@@ -160,15 +153,8 @@ module _ (laws : StoreLaws) (command : Option Command) (Shows : List Event → L
       let bytes = behind_of held in
       show_prepares held x y (Ok l) (Ok r) told
       (replied command bytes [] Done out (Ok r) x y says
-      (told_cases x y (LoadsStore (Ok l)) (λ x y. WillPut command bytes [] Done out x y) told
-      (record {
-        replies = shows.replies Done (inl refl);
-        reads = shows.reads None Done bytes;
-        after = None;
-        gives = shows.gives None bytes Done out None tt;
-        stand = tt;
-        last = tt;
-      })
+      (will_put command bytes [] Done out x y (LoadsStore (Ok l)) told
+      (shows.replies Done (inl refl)) (shows.reads None Done bytes) (shows.gives None bytes Done out None tt)
       (λ w v k. shown bytes out l w v k.answer is))
       (told_weaker x y (LoadsStore (Ok l)) StandAsBefore told (λ w v k. loaded_as_before laws l w v k.answer)))
 

@@ -1,4 +1,4 @@
--- What commands go by that load a store: laws on two files, and on a journal that stands on them.
+-- What commands go by that load a store.
 use Rattle.std.specs.Prelude.{◌≡◌, ◌≤◌, ◌^◌, ℕ, List, length, Result, Ok}
 use Rattle.road_base.specs.declared.event.Event.{Event}
 use Rattle.road_base.specs.declared.ids.Sequence.{Sequence}
@@ -31,6 +31,7 @@ abbrev pub OneStore : Type 0
 OneStore = (files : Files) (f k : Which) (g n : ℕ) (h i : History)
     → StandOn f g files h → StandOn k n files i → (f ≡ k) × (g ≡ n) × (h ≡ i)
 
+-- the laws on two files, and on a journal that stands on them
 pub record StoreLaws : Type 0 where
   pub one_store : OneStore
   pub one_live : OneLive
