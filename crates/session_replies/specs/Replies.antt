@@ -1,5 +1,5 @@
 -- What a session replies to a line, over the objects and the kept number that it has come to.
-use Rattle.std.specs.Prelude.{◌≡◌, ℕ, List, [], ◌++◌}
+use Rattle.std.specs.Prelude.{◌≡◌, ◌≢◌, ℕ, List, [], ◌++◌}
 use Rattle.std.specs.FinMap.{FinMap}
 use Rattle.road_base.specs.Objects.{Objects}
 use Rattle.road_model.specs.declared.blocks.Block.{Block}
@@ -34,6 +34,16 @@ pub record IsStateReply (M : Objects) (P : Rules) (kept : ℕ) (out : List ℕ) 
   pub blocks : FinMap way_cmp Block
   pub are : AreBlocksOf M P blocks
   pub spelled : out ≡ state_line kept (totals_of (blocks_in blocks))
+
+-- a message that a line can be: it begins no frame, and a drive that is asked about has a step
+abbrev pub IsQuery : Asked → Type 0
+IsQuery Empty = Unit {0}
+IsQuery (Seq n) = ⊥
+IsQuery Graph = Unit {0}
+IsQuery State = Unit {0}
+IsQuery (Drive d) = d ≢ []
+IsQuery (Reach a b) = Unit {0}
+IsQuery Unknown = Unit {0}
 
 -- What a line is answered with. A line without a word gets nothing. A line that begins a frame is answered with its
 -- frame, and so isn't meant here.

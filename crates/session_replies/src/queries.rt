@@ -1,9 +1,8 @@
 //! The replies to lines.
-ghost use Rattle.std.specs.Prelude.{◌≡◌, ◌≢◌, ◌++◌, [], None, IfOk};
-ghost use Rattle.session_input.specs.Messages.{frame_number};
+ghost use Rattle.std.specs.Prelude.{◌≡◌, ◌≢◌, ◌×◌, [], IfOk};
 ghost use Rattle.drive_queries.specs.Verdicts.{IsVerdict};
 ghost use Rattle.drive_queries.specs.Reaching.{IsFound};
-ghost use Rattle.session_replies.specs.Replies.{IsReply, IsGraphReply, IsStateReply, said};
+ghost use Rattle.session_replies.specs.Replies.{IsQuery, IsReply, IsGraphReply, IsStateReply, said};
 ghost use Rattle.session_replies.specs.Texts.{unknown_line, verdict_line, found_line};
 
 use crate::reply::Reply;
@@ -16,7 +15,7 @@ use road_model::laws::walk_law;
 use road_model::Profile;
 use std::alloc::Global;
 
-/// The reply to a line that begins no frame. The kept number is that of the last change.
+/// The reply to a line, as a message that it can be. The kept number is that of the last change.
 pub fn reply_to<P: Profile>(
     alloc: Global,
     engine: &Engine<P>,
@@ -24,7 +23,7 @@ pub fn reply_to<P: Profile>(
     asked: &Asked,
 ) -> Result<Reply, NoMemory>
     requires number { (P.rules engine.now.profile).number ≡ 1 }
-    requires line { frame_number asked.now ≡ None }
+    requires query { IsQuery asked.now }
     ensures { IfOk result (λ r. IsReply engine.now.world (P.rules engine.now.profile) kept.0 asked.now (said r)) }
 {
     match asked {

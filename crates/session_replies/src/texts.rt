@@ -1,5 +1,5 @@
 //! The lines of replies to queries.
-ghost use Rattle.std.specs.Prelude.{◌≡◌, ◌++◌, length, IfOk, OnOk};
+ghost use Rattle.std.specs.Prelude.{◌≡◌, ◌++◌, IfOk, codes};
 ghost use Rattle.session_replies.specs.Texts.{unknown_line, state_line, verdict_line, found_line, steps_bytes, graph_line};
 
 use drive_queries::{Found, Totals, Verdict};
