@@ -1,5 +1,5 @@
 //! The replies to lines.
-ghost use Rattle.std.specs.Prelude.{◌≡◌, ◌≢◌, ◌×◌, [], IfOk};
+ghost use Rattle.std.specs.Prelude.{◌≡◌, ◌≢◌, [], IfOk};
 ghost use Rattle.drive_queries.specs.Verdicts.{IsVerdict};
 ghost use Rattle.drive_queries.specs.Reaching.{IsFound};
 ghost use Rattle.session_replies.specs.Replies.{IsQuery, IsReply, IsGraphReply, IsStateReply, said};
