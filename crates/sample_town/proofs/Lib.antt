@@ -1,1 +1,3 @@
 pub mod SameEvents
+pub mod Listed
+pub mod BaseLists

@@ -1,5 +1,5 @@
 -- The lists of events that a town gives: its base, then ten changes, and then nothing.
-use Rattle.std.specs.Prelude.{ℕ, zero, suc, ◌+◌, ◌*◌, ◌-◌, ◌/◌, ◌%◌, ◌==◌, nat_lt, List, [], ◌++◌, cond}
+use Rattle.std.specs.Prelude.{Bool, ℕ, zero, suc, ◌+◌, ◌*◌, ◌-◌, ◌/◌, ◌%◌, ◌==◌, nat_lt, List, [], ◌++◌, cond}
 use Rattle.road_base.specs.declared.event.Event.{Event}
 use Rattle.sample_town.specs.Draws.{after_draw, after_draws, drawn_below, iterate, listed}
 use Rattle.sample_town.specs.Streets.{node, east_way, north_way, restriction, deletion}
@@ -10,13 +10,17 @@ use Rattle.sample_town.specs.Streets.{node, east_way, north_way, restriction, de
 abbrev pub base_node : ℕ → Event
 base_node i = node 0 (i / 60) (i % 60)
 
+-- whether the way for which this state draws is oneway
+abbrev pub drawn_oneway : ℕ → Bool
+drawn_oneway s = drawn_below 8 s == 0
+
 -- the i-th way to the east, row by row, with the i-th draw
 abbrev pub base_east_way : ℕ → ℕ → Event
-base_east_way n i = east_way 0 (i / 59) (i % 59) (drawn_below 8 (after_draws i n) == 0)
+base_east_way n i = east_way 0 (i / 59) (i % 59) (drawn_oneway (after_draws i n))
 
--- the i-th way to the north, row by row, with the draw that comes so many behind those of the ways to the east
+-- the i-th way to the north, row by row, with the i-th draw behind those of the ways to the east
 abbrev pub base_north_way : ℕ → ℕ → Event
-base_north_way n i = north_way 0 (i / 60) (i % 60) (drawn_below 8 (after_draws (3540 + i) n) == 0)
+base_north_way n i = north_way 0 (i / 60) (i % 60) (drawn_oneway (after_draws (3540 + i) n))
 
 -- the restriction that is drawn from the state s: its column, its row and its kind
 unfoldable pub drawn_restriction : ℕ → ℕ → Event

@@ -1,5 +1,5 @@
 //! The objects of a town.
-ghost use Rattle.std.specs.Prelude.{◌≡◌, ◌<◌, ◌≤◌, ◌+◌, ◌++◌, ◌∷◌, [], IfOk};
+ghost use Rattle.std.specs.Prelude.{◌≡◌, ◌<◌, ◌≤◌, ◌+◌, ◌/◌, ◌%◌, ◌++◌, ◌∷◌, [], IfOk};
 ghost use Rattle.sample_town.specs.Streets.{node_at, east_of, north_of, node, way_tags, way, east_way, north_way};
 ghost use Rattle.sample_town.specs.Streets.{restriction_tags, member, turn, restriction_members, restriction, deletion};
 
@@ -37,6 +37,30 @@ pub(crate) struct Crossing {
 }
 
 impl Crossing {
+    /// The crossing with this place among all of them, row by row.
+    pub(crate) fn nth(place: u32) -> Crossing
+        requires { place < 3600 }
+        ensures row { result.row ≡ place / 60 }
+        ensures column { result.column ≡ place % 60 }
+    {
+        Crossing {
+            row: place / COLUMNS,
+            column: place % COLUMNS,
+        }
+    }
+
+    /// The crossing from which the way with this place among those to the east begins, row by row.
+    pub(crate) fn nth_way_east(place: u32) -> Crossing
+        requires { place < 3540 }
+        ensures row { result.row ≡ place / 59 }
+        ensures column { result.column ≡ place % 59 }
+    {
+        Crossing {
+            row: place / EAST_WAYS,
+            column: place % EAST_WAYS,
+        }
+    }
+
     /// The crossing so many columns farther to the east.
     fn east(self, by: u32) -> Crossing
         requires { self.column + by < 60 }
