@@ -25,6 +25,10 @@ pub iterate_none : (f : ℕ → ℕ) (s : ℕ) → s ≡ iterate f 0 s
 unfolding iterate
 iterate_none f s = refl
 
+pub iterate_next : (f : ℕ → ℕ) (i s : ℕ) → f (iterate f i s) ≡ iterate f (i + 1) s
+unfolding iterate
+iterate_next f i s = ap (λ n. iterate f n s) (sym (add-one i))
+
 pub iterate_sum : (f : ℕ → ℕ) (i j s : ℕ) → iterate f (i + j) s ≡ iterate f j (iterate f i s)
 unfolding iterate
 iterate_sum f i zero s = ap (λ n. iterate f n s) (add-zero i)

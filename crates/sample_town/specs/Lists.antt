@@ -53,12 +53,16 @@ drawn_event q s =
 unfoldable pub after_event : ℕ → ℕ
 after_event s = after_draws (cond (drawn_below 3 s == 1) 3 2) s
 
--- the state before change q, counted from 1: behind all draws of the base, and of the events of the changes before it
+-- the twenty events of change q that are drawn from the state s on
+abbrev pub change_from : ℕ → ℕ → List Event
+change_from q s = listed (λ i. drawn_event q (iterate after_event i s)) 20
+
+-- the state before change q, counted from 1: behind the 8880 draws of the base, and those of the changes before it
 unfoldable pub before_change : ℕ → ℕ → ℕ
 before_change n q = iterate after_event (20 * (q - 1)) (after_draws 8880 n)
 
-unfoldable pub change : ℕ → ℕ → List Event
-change n q = listed (λ i. drawn_event q (iterate after_event i (before_change n q))) 20
+abbrev pub change : ℕ → ℕ → List Event
+change n q = change_from q (before_change n q)
 
 -- ---- all of them
 
@@ -74,3 +78,7 @@ next_list t = cond (t.given == 0) (base t.number) (cond (nat_lt t.given 11) (cha
 -- the town behind a call: one more list is given, up to eleven
 unfoldable pub after_list : Giving → Giving
 after_list t = record { number = t.number; given = cond (nat_lt t.given 11) (t.given + 1) t.given }
+
+-- the state before the list that a call gives
+unfoldable pub before_list : ℕ → ℕ → ℕ
+before_list n given = cond (given == 0) n (before_change n given)

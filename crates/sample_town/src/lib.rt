@@ -2,5 +2,9 @@
 #![tactic(auto)]
 
 mod base;
+mod changes;
 mod draws;
 mod streets;
+mod town;
+
+pub use town::Town;
