@@ -1,5 +1,5 @@
 -- The base is its four lists, each made from the state that the one before it left.
-use Rattle.std.proofs.Common.{◌≡◌, refl, ap, sym, ◌∙◌, ℕ, ◌+◌, ◌*◌, ◌/◌, ◌%◌, List, [], ◌++◌}
+use Rattle.std.proofs.Common.{◌≡◌, ap, sym, ◌∙◌, ℕ, ◌+◌, ◌*◌, ◌/◌, ◌%◌, List, [], ◌++◌}
 use Rattle.road_base.specs.declared.event.Event.{Event}
 use Rattle.sample_town.proofs.Listed.{listed_same, iterate_sum}
 use Rattle.sample_town.specs.Draws.{listed, after_draw, after_draws}
@@ -30,7 +30,8 @@ norths_are s t before = listed_same (λ i. north_way 0 (i / 60) (i % 60) (drawn_
 restrictions_are : (s u : ℕ) → u ≡ after_draws 7080 s → restrictions u ≡ listed (base_restriction s) 600
 restrictions_are s u before = listed_same (λ i. drawn_restriction (1 + i) (after_draws (3 * i) u))
     (base_restriction s) 600
-    (λ i. ap (drawn_restriction (1 + i)) (ap (after_draws (3 * i)) before ∙ sym (iterate_sum after_draw 7080 (3 * i) s)))
+    (λ i. ap (drawn_restriction (1 + i))
+    (ap (after_draws (3 * i)) before ∙ sym (iterate_sum after_draw 7080 (3 * i) s)))
 
 pub base_is : (s t u : ℕ) (none nodes easts all whole : List Event) → t ≡ after_draws 3540 s → u ≡ after_draws 7080 s
     → none ≡ [] → nodes ≡ none ++ listed base_node 3600 → easts ≡ nodes ++ listed (base_east_way s) 3540

@@ -1,17 +1,17 @@
 -- One number more: what it adds to a list of what a function gives, and to the times that a function is applied.
-use Rattle.std.proofs.Common.{◌≡◌, refl, ap, sym, ◌∙◌, ℕ, zero, suc, ◌+◌, List, [], ◌∷◌, ◌++◌, add-one, add-zero, add-suc}
-use Rattle.std.proofs.Common.{append_assoc, append-nil}
+use Rattle.std.proofs.Common.{◌≡◌, refl, ap, sym, ◌∙◌, ℕ, zero, suc, ◌+◌, List, [], ◌∷◌, ◌++◌}
+use Rattle.std.proofs.Common.{add-one, add-zero, add-suc, append_assoc, append-nil}
 use Rattle.sample_town.specs.Draws.{listed, iterate}
 
 pub listed_none : {A : Type 0} (f : ℕ → A) (xs : List A) → xs ≡ xs ++ listed f 0
 unfolding listed
 listed_none f xs = sym (append-nil xs)
 
-pub listed_more : {A : Type 0} (f : ℕ → A) (i : ℕ) (xs ys : List A) (x : A) → ys ≡ xs ++ listed f i → x ≡ f i
-    → ys ++ x ∷ [] ≡ xs ++ listed f (i + 1)
+pub listed_more : {A : Type 0} (f : ℕ → A) (i : ℕ) (xs ys zs : List A) (x : A) → ys ≡ xs ++ listed f i → x ≡ f i
+    → zs ≡ ys ++ x ∷ [] → zs ≡ xs ++ listed f (i + 1)
 unfolding listed
-listed_more f i xs ys x before is =
-    ap (λ zs. zs ++ x ∷ []) before ∙ ap (λ y. (xs ++ listed f i) ++ y ∷ []) is
+listed_more f i xs ys zs x before is pushed =
+    pushed ∙ ap (λ us. us ++ x ∷ []) before ∙ ap (λ y. (xs ++ listed f i) ++ y ∷ []) is
     ∙ append_assoc xs (listed f i) (f i ∷ [])
     ∙ ap (λ n. xs ++ listed f n) (sym (add-one i))
 

@@ -1,22 +1,22 @@
 -- The list that a call gives, and what it leaves, from the state that the town has come to.
-use Rattle.std.proofs.Common.{◌≡◌, refl, ap, sym, ◌∙◌, subst, ℕ, ◌+◌, ◌-◌, ◌*◌, ◌<◌, ◌≤◌, Bool, true, false, cond, List, []}
-use Rattle.std.proofs.Common.{nat_eq, nat_lt, eqb-true, lt-ltb, arith, ne_eqb}
+use Rattle.std.proofs.Common.{◌≡◌, refl, ap, sym, ◌∙◌, subst, ℕ, ◌+◌, ◌-◌, ◌*◌, ◌<◌, ◌≤◌}
+use Rattle.std.proofs.Common.{Bool, true, false, cond, List, [], nat_eq, nat_lt, eqb-true, lt-ltb, arith, ne_eqb}
 use Rattle.std.proofs.lemmas.Bool.{eqb-false}
 use Rattle.road_base.specs.declared.event.Event.{Event}
 use Rattle.sample_town.proofs.Listed.{iterate_none, iterate_sum}
 use Rattle.sample_town.specs.Draws.{iterate, after_draws}
-use Rattle.sample_town.specs.Lists.{Giving, base, change, change_from, before_change, before_list, after_event}
+use Rattle.sample_town.specs.Lists.{Progress, base, change, change_from, before_change, before_list, after_event}
 use Rattle.sample_town.specs.Lists.{next_list, after_list}
 
 -- ---- behind the last list
 
-pub none_next : (t : Giving) → t.given ≡ 11 → [] ≡ next_list t
+pub none_next : (t : Progress) → t.given ≡ 11 → [] ≡ next_list t
 unfolding next_list
 none_next t is =
-    let P : ℕ → Type 0 = λ g. ◌≡◌ {A = List Event} [] (cond (nat_eq g 0) (base t.number) (cond (nat_lt g 11) (change t.number g) [])) in
-    subst P (sym is) refl
+    let list : ℕ → List Event = λ g. cond (nat_eq g 0) (base t.number) (cond (nat_lt g 11) (change t.number g) []) in
+    ap list (sym is)
 
-pub none_after : (t : Giving) → t.given ≡ 11 → t ≡ after_list t
+pub none_after : (t : Progress) → t.given ≡ 11 → t ≡ after_list t
 unfolding after_list
 none_after t is =
     let P : ℕ → Type 0 = λ g. g ≡ cond (nat_lt g 11) (g + 1) g in
@@ -30,7 +30,7 @@ by_state : (first : Bool) (n m g s : ℕ) (list : List Event) → s ≡ cond fir
 by_state true n m g s list there is = is ∙ ap base there
 by_state false n m g s list there is = is ∙ ap (change_from g) there
 
-pub next_is : (t : Giving) (s : ℕ) (list : List Event) → t.given < 11 → s ≡ before_list t.number t.given
+pub next_is : (t : Progress) (s : ℕ) (list : List Event) → t.given < 11 → s ≡ before_list t.number t.given
     → list ≡ cond (nat_eq t.given 0) (base s) (change_from t.given s) → list ≡ next_list t
 unfolding next_list before_list
 next_is t s list few there is =
@@ -39,7 +39,7 @@ next_is t s list few there is =
     ∙ ap (λ b. cond (nat_eq t.given 0) (base t.number) (cond b (change t.number t.given) [])) (sym more)
 
 pub after_is : (n given : ℕ) → given < 11
-    → ◌≡◌ {A = Giving} (record { number = n; given = given + 1 }) (after_list (record { number = n; given = given }))
+    → ◌≡◌ {A = Progress} (record { number = n; given = given + 1 }) (after_list (record { number = n; given = given }))
 unfolding after_list
 after_is n given few =
     let more : nat_lt given 11 ≡ true = lt-ltb given 11 few in

@@ -1,8 +1,8 @@
 -- Events with equal parts are equal, whichever way their ghost facts were proved.
 use mathlib.Core.HLevel.{is_prop→PathP}
 use mathlib.Core.Bool.{Bool-set}
-use Rattle.std.proofs.Common.{◌≡◌, refl, ap, sym, ◌∙◌, subst, ℕ, ◌+◌, ◌*◌, ℤ, pos, Bool, true, false, IsTrue, List, []}
-use Rattle.std.proofs.Common.{Some, None, Option}
+use Rattle.std.proofs.Common.{◌≡◌, refl, ap, sym, ◌∙◌, subst, ℕ, ◌+◌, ◌*◌, ℤ, pos, Bool, true, false, IsTrue, []}
+use Rattle.std.proofs.Common.{Some}
 use Rattle.std.proofs.lemmas.Bool.{false≢true}
 use Rattle.road_base.proofs.EqualPlaces.{equal_places}
 use Rattle.road_base.specs.Kinds.{has_kind}
@@ -10,7 +10,6 @@ use Rattle.road_base.specs.Ranges.{is_in_range}
 use Rattle.road_base.specs.Tags.{TagList}
 use Rattle.road_base.specs.declared.event.Event.{Event}
 use Rattle.road_base.specs.declared.ids.NodeId.{NodeId}
-use Rattle.road_base.specs.declared.ids.Key.{Key}
 use Rattle.road_base.specs.declared.ids.Key.TheVariants.{Node as NodeKey}
 use Rattle.road_base.specs.declared.location.Location.{Location}
 use Rattle.road_base.specs.declared.objects.Node.{Node}

@@ -1,7 +1,8 @@
--- The lists of events that a town gives: its base, then ten changes, and then nothing.
-use Rattle.std.specs.Prelude.{Bool, ℕ, zero, suc, ◌+◌, ◌*◌, ◌-◌, ◌/◌, ◌%◌, ◌==◌, nat_lt, List, [], ◌++◌, cond}
+-- The lists of events that a town gives: its base, then ten changes, and then nothing. The number i of a thing among
+-- its kind counts from 0.
+use Rattle.std.specs.Prelude.{Bool, ℕ, ◌+◌, ◌*◌, ◌-◌, ◌/◌, ◌%◌, ◌==◌, nat_lt, List, [], ◌++◌, cond}
 use Rattle.road_base.specs.declared.event.Event.{Event}
-use Rattle.sample_town.specs.Draws.{after_draw, after_draws, drawn_below, iterate, listed}
+use Rattle.sample_town.specs.Draws.{after_draws, drawn_below, iterate, listed}
 use Rattle.sample_town.specs.Streets.{node, east_way, north_way, restriction, deletion}
 
 -- ---- the base
@@ -66,17 +67,17 @@ change n q = change_from q (before_change n q)
 
 -- ---- all of them
 
--- A town: the number that it is made from, and how many lists it gave, the empty ones not counted.
-pub record Giving : Type 0 where
+-- How far a town has come: the number that it is made from, and how many lists it gave, the empty ones not counted.
+pub record Progress : Type 0 where
   pub number : ℕ
   pub given : ℕ
 
 -- the list that a call gives
-unfoldable pub next_list : Giving → List Event
+unfoldable pub next_list : Progress → List Event
 next_list t = cond (t.given == 0) (base t.number) (cond (nat_lt t.given 11) (change t.number t.given) [])
 
 -- the town behind a call: one more list is given, up to eleven
-unfoldable pub after_list : Giving → Giving
+unfoldable pub after_list : Progress → Progress
 after_list t = record { number = t.number; given = cond (nat_lt t.given 11) (t.given + 1) t.given }
 
 -- the state before the list that a call gives

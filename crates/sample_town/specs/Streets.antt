@@ -1,22 +1,19 @@
--- The objects of a town: a grid of 60 rows and 60 columns, with a node at each crossing, a way from each crossing to the
--- next one east of it and to the next one north of it, and restrictions along rows. A version counts from 1: that of the
--- base is 1, that of change q is 1 + q. Numbers i count from 0.
-use Rattle.std.specs.Prelude.{◌≡◌, refl, ℕ, zero, suc, ◌+◌, ◌*◌, ◌/◌, ◌%◌, ◌==◌, ℤ, pos, List, [], ◌∷◌, codes}
+-- The objects of a town: a grid of 60 rows and 60 columns, with a node at each crossing, a way from each crossing to
+-- the next one east of it and to the next one north of it, and restrictions along rows. Rows and columns count from 0.
+-- The version of an object is 1 in the base, and 1 + q in change q; the base is change 0 here.
+use Rattle.std.specs.Prelude.{◌≡◌, refl, ℕ, ◌+◌, ◌*◌, ◌%◌, ◌==◌, ℤ, pos, List, [], ◌∷◌, codes}
 use Rattle.std.specs.Prelude.{Bool, true, false, Option, Some, None, cond, nat_lt}
 use Rattle.road_base.specs.Ranges.{is_in_range}
 use Rattle.road_base.specs.Tags.{TagList}
 use Rattle.road_base.specs.declared.event.Event.{Event}
 use Rattle.road_base.specs.declared.ids.NodeId.{NodeId}
 use Rattle.road_base.specs.declared.ids.WayId.{WayId}
-use Rattle.road_base.specs.declared.ids.RelationId.{RelationId}
 use Rattle.road_base.specs.declared.ids.Key.{Key}
 use Rattle.road_base.specs.declared.ids.Key.TheVariants.{Node as NodeKey, Way as WayKey, Relation as RelationKey}
 use Rattle.road_base.specs.declared.location.Location.{Location}
 use Rattle.road_base.specs.declared.objects.Member.{Member}
-use Rattle.road_base.specs.declared.objects.Body.{Body}
 use Rattle.road_base.specs.declared.objects.Body.TheVariants.{Node as NodeBody, Way as WayBody}
 use Rattle.road_base.specs.declared.objects.Body.TheVariants.{Relation as RelationBody, Deleted}
-use Rattle.sample_town.specs.Draws.{after_draw, after_draws, drawn_below, iterate}
 
 -- the node in this row and column
 abbrev pub node_at : ℕ → ℕ → NodeId
@@ -38,7 +35,7 @@ place_if lon lat false is = None
 unfoldable pub place : ℤ → ℤ → Option Location
 place lon lat = place_if lon lat (is_in_range lon lat) refl
 
--- the node in this row and column, in the version of change q, which moves it by q to the east; q is 0 in the base
+-- the node in this row and column, in the version of change q, which moves it by q to the east
 unfoldable pub node : ℕ → ℕ → ℕ → Event
 node q r c = record {
   key = NodeKey (node_at r c);

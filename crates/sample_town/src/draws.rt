@@ -20,7 +20,7 @@ pub(crate) struct Draws {
 impl Draws {
     /// The next number.
     #[tactic(auto, unfolding(crate::specs::Draws::after_draw, crate::specs::Draws::drawn))]
-    fn draw(&mut self) -> u32
+    pub(crate) fn draw(&mut self) -> u32
         ensures value { result ≡ drawn self.old.state }
         ensures state { self.new.state ≡ after_draw self.old.state }
     {

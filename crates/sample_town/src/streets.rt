@@ -115,7 +115,8 @@ fn tag(alloc: Global, key: &str, value: &str) -> Result<(Text, Text), NoMemory>
     Ok((key, value))
 }
 
-/// The node of a crossing in the version of a change, which moves it to the east. The base is change 0. Takes no memory.
+/// The node of a crossing in the version of a change, which moves it to the east. The base is change 0. Takes no
+/// memory.
 pub(crate) fn node(alloc: Global, change: u32, at: Crossing) -> Event
     requires { change ≤ 10 }
     ensures { result ≡ node change at.row at.column }

@@ -1,7 +1,7 @@
 //! A town, and the lists of events that it gives.
 ghost use Rattle.std.specs.Prelude.{◌≡◌, ◌<◌, ◌==◌, cond, IfOk, OnOk, OnErr};
 ghost use Rattle.sample_town.specs.Draws.{iterate, after_draws};
-ghost use Rattle.sample_town.specs.Lists.{Giving, base, change_from, after_event, next_list, after_list};
+ghost use Rattle.sample_town.specs.Lists.{Progress, base, change_from, after_event, next_list, after_list};
 
 use crate::base::base_events;
 use crate::changes::change_events;
@@ -13,7 +13,7 @@ use std::marker::Model;
 /// How many lists have events: the base and ten changes.
 const LISTS: u32 = 11;
 
-/// A town made from a number. Contracts see the number, and how many lists it gave.
+/// A town made from a number. Contracts see that number, and how many lists it gave, the empty ones not counted.
 #[derive(Drop)]
 pub struct Town {
     alloc: Global,
@@ -24,9 +24,9 @@ pub struct Town {
 
 impl Model for Town {
     ghost use Rattle.std.specs.Prelude.{◌≡◌, ◌≤◌};
-    ghost use Rattle.sample_town.specs.Lists.{Giving, before_list};
+    ghost use Rattle.sample_town.specs.Lists.{Progress, before_list};
 
-    ghost Value = { Giving };
+    ghost Value = { Progress };
 
     ghost view = { λ t. record { number = t.number; given = t.given } };
 
@@ -34,7 +34,7 @@ impl Model for Town {
 }
 
 impl Town {
-    /// Takes no memory.
+    /// The town made from this number, before its first list. Takes no memory.
     #[tactic(auto, unfolding(crate::specs::Lists::before_list))]
     pub fn new(alloc: Global, n: u64) -> Town
         ensures { result ≡ record { number = n; given = 0 } }

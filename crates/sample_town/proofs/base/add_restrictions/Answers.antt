@@ -1,4 +1,4 @@
-use Rattle.std.proofs.Common.{◌≡◌, ◌∙◌, ℕ, ◌+◌, ◌*◌, ap, sym, refl, arith}
+use Rattle.std.proofs.Common.{◌≡◌, ◌∙◌, ℕ, ◌+◌, ◌*◌, ap, sym, arith}
 use Rattle.road_base.specs.declared.event.Event.{Event}
 use Rattle.sample_town.proofs.Listed.{listed_none, listed_more, iterate_none, iterate_sum}
 use Rattle.sample_town.specs.Draws.{after_draw, after_draws}
@@ -22,8 +22,8 @@ loop-place-preserved c =
     ∙ ap (drawn_restriction (1 + c.loop-place.place)) c.loop-place.invariant.state in
     let times : 3 * c.loop-place.place + 3 ≡ 3 * (c.loop-place.place + 1) = omega arith in
     record {
-      items = c.in_ok-push.ensures.items
-          ∙ listed_more (from_state s) c.loop-place.place c.args.list.now.items _ _ c.loop-place.invariant.items is;
+      items = listed_more (from_state s) c.loop-place.place c.args.list.now.items _ _ _
+          c.loop-place.invariant.items is c.in_ok-push.ensures.items;
       state = c.draw_restriction.ensures.state
           ∙ ap (after_draws 3) c.loop-place.invariant.state
           ∙ sym (iterate_sum after_draw (3 * c.loop-place.place) 3 s)

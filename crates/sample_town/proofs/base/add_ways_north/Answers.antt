@@ -1,4 +1,4 @@
-use Rattle.std.proofs.Common.{◌≡◌, ◌∙◌, ℕ, ◌/◌, ◌%◌, ap, sym, refl}
+use Rattle.std.proofs.Common.{◌≡◌, ◌∙◌, ℕ, ◌/◌, ◌%◌, ap, sym}
 use Rattle.road_base.specs.declared.event.Event.{Event}
 use Rattle.sample_town.proofs.Listed.{listed_none, listed_more, iterate_none, iterate_sum}
 use Rattle.sample_town.specs.Draws.{after_draw, after_draws}
@@ -22,8 +22,8 @@ loop-place-preserved c =
     c.draw_oneway-oneway.ensures.value ∙ ap drawn_oneway c.loop-place.invariant.state in
     let is : c.in_ok-north_way.field-0 ≡ from_state s c.loop-place.place = cc c.in_ok-north_way.ensures in
     record {
-      items = c.in_ok-push.ensures.items
-          ∙ listed_more (from_state s) c.loop-place.place c.args.list.now.items _ _ c.loop-place.invariant.items is;
+      items = listed_more (from_state s) c.loop-place.place c.args.list.now.items _ _ _
+          c.loop-place.invariant.items is c.in_ok-push.ensures.items;
       state = c.draw_oneway-oneway.ensures.state
           ∙ ap (after_draws 1) c.loop-place.invariant.state
           ∙ sym (iterate_sum after_draw c.loop-place.place 1 s);

@@ -1,4 +1,4 @@
-use Rattle.std.proofs.Common.{◌≡◌, ◌∙◌, ℕ, List, [], ap, sym, refl}
+use Rattle.std.proofs.Common.{◌≡◌, ◌∙◌, ℕ, [], ap}
 use Rattle.road_base.specs.declared.event.Event.{Event}
 use Rattle.sample_town.proofs.Listed.{listed_none, listed_more, iterate_none, iterate_next}
 use Rattle.sample_town.specs.Draws.{iterate}
@@ -21,7 +21,7 @@ loop-preserved c =
     let is : c.in_ok-draw_event.field-0 ≡ from_state c.args.change s i =
     c.in_ok-draw_event.ensures.event ∙ ap (drawn_event c.args.change) c.loop.invariant.state in
     record {
-      items = c.in_ok-push.ensures.items
-          ∙ listed_more (from_state c.args.change s) i [] _ _ c.loop.invariant.items is;
+      items = listed_more (from_state c.args.change s) i [] _ _ _
+          c.loop.invariant.items is c.in_ok-push.ensures.items;
       state = c.draw_event.ensures.state ∙ ap after_event c.loop.invariant.state ∙ iterate_next after_event i s;
     }

@@ -1,4 +1,4 @@
-use Rattle.std.proofs.Common.{◌≡◌, ◌++◌}
+use Rattle.std.proofs.Common.{◌≡◌}
 use Rattle.sample_town.specs.Draws.{iterate, listed}
 use Rattle.sample_town.specs.Lists.{drawn_event, after_event}
 use Rattle.sample_town.proofs.changes.change_events.Given as goal

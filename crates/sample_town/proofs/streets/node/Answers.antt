@@ -1,4 +1,4 @@
-use Rattle.std.proofs.Common.{◌≡◌, refl, ◌+◌, ◌*◌, [], pos, to_z, w32, arith}
+use Rattle.std.proofs.Common.{◌≡◌, refl, ◌+◌, ◌*◌, pos, to_z, w32, arith}
 use Rattle.std.proofs.lemmas.Int.{ints}
 use Rattle.sample_town.proofs.SameEvents.{is_node}
 use Rattle.sample_town.proofs.streets.node.Goals as goal
