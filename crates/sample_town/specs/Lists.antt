@@ -40,15 +40,15 @@ base n =
 
 -- ---- the changes
 
--- the event of change q that is drawn from the state s: its kind, which object it names, and for a way whether it is
--- oneway
+-- the event of change q that is drawn from the state s: a node moves, a way is oneway or not, or a restriction is
+-- deleted; the next draw says which object, and for a way the one behind it whether it is oneway
 unfoldable pub drawn_event : ℕ → ℕ → Event
 drawn_event q s =
-    let m = after_draws 1 s in
-    cond (drawn_below 3 s == 0) (node q (drawn_below 3600 m / 60) (drawn_below 3600 m % 60))
+    let next = after_draws 1 s in
+    cond (drawn_below 3 s == 0) (node q (drawn_below 3600 next / 60) (drawn_below 3600 next % 60))
     (cond (drawn_below 3 s == 1)
-    (east_way q (drawn_below 3540 m / 59) (drawn_below 3540 m % 59) (drawn_below 2 (after_draws 2 s) == 1))
-    (deletion q (1 + drawn_below 600 m)))
+    (east_way q (drawn_below 3540 next / 59) (drawn_below 3540 next % 59) (drawn_below 2 (after_draws 2 s) == 1))
+    (deletion q (1 + drawn_below 600 next)))
 
 -- the state that the draws of one such event leave: three for a way, else two
 unfoldable pub after_event : ℕ → ℕ
