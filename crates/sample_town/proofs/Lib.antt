@@ -1,0 +1,4 @@
+pub mod SameEvents
+pub mod Listed
+pub mod BaseLists
+pub mod NextLists

@@ -1,0 +1,206 @@
+//! Towns against values that were computed elsewhere, from the rules alone.
+use super::*;
+use crate::draws::Draws;
+use road_base::{Body, Event, Key, NoMemory, Node, Relation, Tags, Way};
+use std::alloc::Global;
+use std::test::Fail;
+
+fn key_text(alloc: Global, key: Key) -> Result<String, NoMemory> {
+    let text = match key {
+        Key::Node(id) => format!(in alloc; "n{}", id.0)?,
+        Key::Way(id) => format!(in alloc; "w{}", id.0)?,
+        Key::Relation(id) => format!(in alloc; "r{}", id.0)?,
+    };
+    Ok(text)
+}
+
+fn add_tags(text: &mut String, tags: &Tags) -> Result<(), NoMemory> {
+    for (key, value) in tags.items() {
+        text.push_str(" ")?;
+        text.push_str(key.as_str())?;
+        text.push_str("=")?;
+        text.push_str(value.as_str())?;
+    }
+    Ok(())
+}
+
+fn add_node(alloc: Global, text: &mut String, node: &Node) -> Result<(), NoMemory> {
+    add_tags(text, &node.tags)?;
+    if let Some(at) = node.location {
+        let place = format!(in alloc; " {} {}", at.lon, at.lat)?;
+        text.push_str(place.as_str())?;
+    }
+    Ok(())
+}
+
+fn add_way(alloc: Global, text: &mut String, way: &Way) -> Result<(), NoMemory> {
+    add_tags(text, &way.tags)?;
+    for id in way.refs.items() {
+        text.push_str(" ")?;
+        let name = key_text(alloc, Key::Node(*id))?;
+        text.push_str(name.as_str())?;
+    }
+    Ok(())
+}
+
+fn add_relation(alloc: Global, text: &mut String, relation: &Relation) -> Result<(), NoMemory> {
+    add_tags(text, &relation.tags)?;
+    for member in relation.members.items() {
+        text.push_str(" ")?;
+        let name = key_text(alloc, member.item)?;
+        text.push_str(name.as_str())?;
+        text.push_str(" ")?;
+        text.push_str(member.role.as_str())?;
+    }
+    Ok(())
+}
+
+/// The event's key and version, and what its body has, parted by spaces.
+fn event_text(alloc: Global, event: &Event) -> Result<String, NoMemory> {
+    let mut text = key_text(alloc, event.key)?;
+    let version = format!(in alloc; " v{}", event.version)?;
+    text.push_str(version.as_str())?;
+    match &event.body {
+        Body::Node(node) => add_node(alloc, &mut text, node)?,
+        Body::Way(way) => add_way(alloc, &mut text, way)?,
+        Body::Relation(relation) => add_relation(alloc, &mut text, relation)?,
+        Body::Deleted => text.push_str(" deleted")?,
+    }
+    Ok(text)
+}
+
+/// The lists of the first twelve calls.
+fn twelve_lists(alloc: Global, number: u64) -> Result<Vec<Vec<Event>>, NoMemory> {
+    let mut town = Town::new(alloc, number);
+    let mut lists = Vec::new(alloc);
+    for _ in 0..12 {
+        lists.push(town.events()?)?;
+    }
+    Ok(lists)
+}
+
+/// The text of the event at this place of this list, or an empty one.
+fn text_at(
+    alloc: Global,
+    lists: &[Vec<Event>],
+    list: usize,
+    place: usize,
+) -> Result<String, NoMemory> {
+    match lists.get(list).and_then(|events| events.get(place)) {
+        Some(event) => event_text(alloc, event),
+        None => Ok(String::new(alloc)),
+    }
+}
+
+fn have_version(events: &[Event], version: u32) -> bool {
+    events.iter().all(|event| event.version == version)
+}
+
+fn are_same(these: &[Event], those: &[Event]) -> bool {
+    if these.len() != those.len() {
+        return false;
+    }
+    for (this, that) in these.iter().zip(those) {
+        if this.key != that.key || this.version != that.version || !this.body.same(&that.body) {
+            return false;
+        }
+    }
+    true
+}
+
+#[test]
+fn the_first_draw(rt: HostRuntime) {
+    let mut draws = Draws { state: 0 };
+    assert_eq!(rt; draws.draw(), 167_951_807);
+    let mut draws = Draws { state: 0 };
+    assert_eq!(rt; draws.below(8), 7);
+}
+
+#[test]
+fn the_lists_and_their_versions(rt: HostRuntime) -> Result<(), Fail> {
+    let lists = twelve_lists(rt.alloc(), 0)?;
+    assert_eq!(rt; lists.len(), 12);
+    for (events, version) in lists.iter().zip(1..13) {
+        let wanted = match version {
+            1 => 3600 + 3540 + 3540 + 600,
+            12 => 0,
+            _ => 20,
+        };
+        assert_eq!(rt; events.len(), wanted, "in version {version}");
+        assert!(rt; have_version(events, version), "in version {version}");
+    }
+    Ok(())
+}
+
+#[test]
+fn equal_numbers_give_equal_lists(rt: HostRuntime) -> Result<(), Fail> {
+    let these = twelve_lists(rt.alloc(), 20_261_128)?;
+    let those = twelve_lists(rt.alloc(), 20_261_128)?;
+    for (this, that) in these.iter().zip(&those) {
+        assert!(rt; are_same(this, that));
+    }
+    Ok(())
+}
+
+/// Each case is a list, a place in it, and the event that stands there.
+const OF_TOWN_0: [(usize, usize, &str); 12] = [
+    (0, 0, "n1 v1 0 0"),
+    (0, 61, "n62 v1 10000 10000"),
+    (0, 3600, "w1 v1 highway=residential n1 n2"),
+    (0, 3601, "w2 v1 highway=residential oneway=yes n2 n3"),
+    (0, 7140, "w100001 v1 highway=residential n1 n61"),
+    (
+        0,
+        10_679,
+        "w103540 v1 highway=residential oneway=yes n3540 n3600",
+    ),
+    (
+        0,
+        10_680,
+        "r1 v1 restriction=no_straight_on type=restriction w2330 from w2331 via w2332 to",
+    ),
+    (
+        0,
+        10_682,
+        "r3 v1 restriction=no_straight_on type=restriction w407 from n414 via w408 to",
+    ),
+    (
+        0,
+        10_684,
+        "r5 v1 restriction=only_straight_on type=restriction w3062 from n3114 via w3063 to",
+    ),
+    (1, 0, "n183 v2 20001 30000"),
+    (1, 1, "w1154 v2 highway=residential n1173 n1174"),
+    (1, 3, "r508 v2 deleted"),
+];
+
+const OF_TOWN_7: [(usize, usize, &str); 5] = [
+    (0, 3606, "w7 v1 highway=residential oneway=yes n7 n8"),
+    (
+        0,
+        11_279,
+        "r600 v1 restriction=only_straight_on type=restriction w2366 from w2367 via w2368 to",
+    ),
+    (2, 19, "n1719 v3 380002 280000"),
+    (
+        10,
+        0,
+        "w1754 v11 highway=residential oneway=yes n1783 n1784",
+    ),
+    (10, 19, "n875 v11 340010 140000"),
+];
+
+#[test]
+fn the_events_of_two_towns(rt: HostRuntime) -> Result<(), Fail> {
+    let lists = twelve_lists(rt.alloc(), 0)?;
+    for (list, place, wanted) in OF_TOWN_0 {
+        let text = text_at(rt.alloc(), &lists, list, place)?;
+        assert_eq!(rt; text.as_str(), wanted, "at {place} of {list}");
+    }
+    let lists = twelve_lists(rt.alloc(), 7)?;
+    for (list, place, wanted) in OF_TOWN_7 {
+        let text = text_at(rt.alloc(), &lists, list, place)?;
+        assert_eq!(rt; text.as_str(), wanted, "at {place} of {list}");
+    }
+    Ok(())
+}
