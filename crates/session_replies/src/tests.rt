@@ -11,6 +11,7 @@ use opl_objects::{ReadError, Reader};
 use road_base::{Event, NoMemory, Sequence, Steps};
 use std::alloc::Global;
 use std::marker::Brand;
+use std::process::Abort;
 use std::sync::ledger::{Blank, Ledger};
 
 const VILLAGE: &str = "\
