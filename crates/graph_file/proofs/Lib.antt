@@ -2,3 +2,4 @@ pub mod Appends
 pub mod PieceCount
 pub mod Files
 pub mod WrittenBlocks
+pub mod Fronts

@@ -11,7 +11,10 @@ ghost use Rattle.std.specs.FinMap.{values};
 ghost use Rattle.road_base.specs.Bytes.{u32_bytes, u64_bytes, Keeps};
 ghost use Rattle.road_model.specs.Format.{graph_bytes, BlockFits, IsBlockForm, IsGraphFile};
 
+mod numbers;
 mod pieces;
+mod spelling;
+mod unread;
 mod writer;
 
 use pieces::GraphFile;
