@@ -97,3 +97,9 @@ pub value_refused : {A : Type 0} (f : A → List ℕ) (F : A → Type 0) → IsO
 value_refused f F one test bytes x rest found refused y r whole holds =
     let same : (x ≡ y) × (rest ≡ r) = one x y bytes rest r found whole in
     false≢true (sym refused ∙ ap test same.0 ∙ holds)
+
+-- a value that isn't as it has to be was read, and no other one stands there
+pub unfit_missing : {A : Type 0} (f : A → List ℕ) (F G : A → Type 0) → IsOneSpelling f F → (bytes : List ℕ) (x : A)
+    (rest : List ℕ) → Begins f F bytes x rest → (G x → ⊥) → (y : A) (r : List ℕ) → Begins f F bytes y r → G y → ⊥
+unfit_missing f F G one bytes x rest found unfit y r whole is =
+    unfit (subst G (sym (one x y bytes rest r found whole).0) is)

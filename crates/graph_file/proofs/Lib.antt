@@ -3,3 +3,4 @@ pub mod PieceCount
 pub mod Files
 pub mod WrittenBlocks
 pub mod Fronts
+pub mod Ascents

@@ -1,5 +1,5 @@
 -- Reading a spelling from the front of bytes, and what the parts of a graph file have to be.
-use Rattle.std.specs.Prelude.{◌≡◌, ℕ, ℤ, ◌+◌, ◌-◌, ◌<◌, ◌≤◌, ◌^◌, List, ◌++◌, length, FitsSigned}
+use Rattle.std.specs.Prelude.{◌≡◌, ℕ, ℤ, ◌+◌, ◌-◌, ◌<◌, ◌≤◌, ◌^◌, List, [], ◌++◌, length, map, IsTrue, FitsSigned}
 use Rattle.std.specs.List.{AllByRecursion}
 use Rattle.std.specs.Int.{w64}
 use Rattle.road_base.specs.declared.ids.Dir.{Dir}
@@ -13,7 +13,9 @@ use Rattle.road_model.specs.declared.lists.Context.{Context}
 use Rattle.road_model.specs.declared.lists.Piece.{Piece}
 use Rattle.road_model.specs.declared.blocks.Block.{Block}
 use Rattle.road_model.specs.Format.{dir_bytes, name_bytes, arc_bytes, context_bytes, piece_bytes, place_bytes, NameFits}
-use Rattle.road_model.specs.Format.{ContextFits, PieceFits, BlockFits, IsContextForm, IsPieceForm, IsBlockForm}
+use Rattle.road_model.specs.Format.{ContextFits, PieceFits, IsContextForm, IsPieceForm, begins_alone, place_cmp}
+use Rattle.road_model.specs.Orders.{rises, names_cmp}
+use Rattle.graph_file.specs.declared.extent.Extent.{Extent}
 use Rattle.graph_file.specs.declared.unread.Unread.{Unread}
 use Rattle.graph_file.specs.declared.unread.Unread.TheVariants.{Malformed, Memory}
 
@@ -78,6 +80,20 @@ pub record IsContext (c : Context) : Type 0 where
   pub form : IsContextForm c
   pub fits : ContextFits c
 
+-- contexts of a piece, and so many that eight bytes count them
+pub record AreContexts (cs : List Context) : Type 0 where
+  pub some : ListFits IsContext cs
+  pub alone : begins_alone cs
+  pub ascend : IsTrue (rises names_cmp (map (λ c. c.before) cs))
+
+-- the positions of a piece, and then its direction
+abbrev pub extent_bytes : Extent → List ℕ
+extent_bytes e = u32_bytes e.index ++ (u32_bytes e.end ++ dir_bytes e.dir)
+
+pub record IsExtent (e : Extent) : Type 0 where
+  pub ascends : e.index < e.end
+  pub bounded : e.end ≤ 65534
+
 -- a piece of the way
 pub record IsPieceAt (way : WayId) (p : Piece) : Type 0 where
   pub way_is : p.name.way ≡ way
@@ -86,6 +102,8 @@ pub record IsPieceAt (way : WayId) (p : Piece) : Type 0 where
 
 -- a block whose pieces are those of its way
 pub record IsWayBlock (b : Block) : Type 0 where
-  pub pieces : AllByRecursion (λ p. p.name.way ≡ b.way) b.pieces
-  pub form : IsBlockForm b
-  pub fits : BlockFits b
+  pub way : FitsSigned w64 b.way.0
+  pub count : length b.pieces < 2 ^ 32
+  pub some : b.pieces ≡ [] → ⊥
+  pub ascend : IsTrue (rises place_cmp (map (λ p. p.name) b.pieces))
+  pub pieces : AllByRecursion (IsPieceAt b.way) b.pieces

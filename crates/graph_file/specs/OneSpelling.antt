@@ -2,7 +2,7 @@
 -- proofs stand here.
 use mathlib.Core.HLevel.{is_prop→PathP}
 use mathlib.Core.Bool.{Bool-set}
-use Rattle.std.proofs.Common.{◌≡◌, ℕ, ℤ, ◌+◌, ◌<◌, ◌^◌, true, false, eqb, IsTrue, List, [], ◌∷◌, ◌++◌, length, get_or}
+use Rattle.std.proofs.Common.{◌≡◌, ℕ, ℤ, ◌+◌, ◌-◌, ◌<◌, ◌^◌, true, false, eqb, IsTrue, List, [], ◌∷◌, ◌++◌, length, get_or}
 use Rattle.std.proofs.Common.{eq-eqb, take, drop, Fits, FitsSigned, refl, sym, ap, subst, ◌∙◌, arith}
 use Rattle.std.proofs.Common.{append_assoc}
 use Rattle.std.proofs.Math.Facts.{Fits-of_z}
@@ -23,7 +23,13 @@ use Rattle.road_model.specs.declared.lists.TurnArc.{TurnArc}
 use Rattle.road_model.specs.declared.lists.Context.{Context}
 use Rattle.road_model.specs.Format.{dir_bytes, name_bytes, arc_bytes, context_bytes, place_bytes, NameFits}
 use Rattle.graph_file.specs.GraphReading.{Begins, IsOneSpelling, pair_bytes, PairFits, Any, location_bytes, PlaceFits}
-use Rattle.graph_file.specs.GraphReading.{ArcFits, list_bytes, ListFits, names_bytes, NamesFit, IsContext}
+use Rattle.graph_file.specs.GraphReading.{ArcFits, list_bytes, ListFits, names_bytes, NamesFit, IsContext, AreContexts}
+use Rattle.graph_file.specs.GraphReading.{extent_bytes, IsExtent, AreSoMany, IsPieceAt, IsWayBlock}
+use Rattle.graph_file.specs.declared.extent.Extent.{Extent}
+use Rattle.road_base.specs.declared.ids.WayId.{WayId}
+use Rattle.road_model.specs.declared.lists.Piece.{Piece}
+use Rattle.road_model.specs.declared.blocks.Block.{Block}
+use Rattle.road_model.specs.Format.{piece_bytes, block_bytes, ContextFits, IsContextForm}
 
 -- spellings of one length
 same_front : (a b r s : List ℕ) → length a ≡ length b → a ++ r ≡ b ++ s → (a ≡ b) × (r ≡ s)
@@ -207,5 +213,117 @@ context_one x y bytes r s first second =
     (let p = context_parts x bytes r first in record { fits = p.fits; parts = p.parts })
     (let p = context_parts y bytes s second in record { fits = p.fits; parts = p.parts })
 
-pub contexts_one : IsOneSpelling (list_bytes context_bytes) (ListFits IsContext)
-contexts_one = list_one context_bytes IsContext context_one
+pub contexts_one : IsOneSpelling (list_bytes context_bytes) AreContexts
+contexts_one x y bytes r s first second =
+    list_one context_bytes IsContext context_one x y bytes r s
+    (record { fits = first.fits.some; parts = first.parts })
+    (record { fits = second.fits.some; parts = second.parts })
+
+-- ---- pieces
+
+extent_fits : (e : Extent) → IsExtent e → PairFits (λ n. n < 2 ^ 32) (PairFits (λ n. n < 2 ^ 32) Any) (e.index, (e.end, e.dir))
+extent_fits e is = let low = is.ascends in let high = is.bounded in (omega arith, (omega arith, tt))
+
+three : (a b c r : List ℕ) → (a ++ (b ++ c)) ++ r ≡ a ++ (b ++ (c ++ r))
+three a b c r = append_assoc a (b ++ c) r ∙ ap (λ l. a ++ l) (append_assoc b c r)
+
+-- the first three of five parts
+piece_split : (a b c d e r : List ℕ) → (a ++ (b ++ (c ++ (d ++ e)))) ++ r ≡ (a ++ (b ++ c)) ++ (d ++ (e ++ r))
+piece_split a b c d e r =
+    append_assoc a (b ++ (c ++ (d ++ e))) r
+    ∙ ap (λ l. a ++ l) (three b c (d ++ e) r ∙ ap (λ l. b ++ (c ++ l)) (append_assoc d e r))
+    ∙ sym (three a b c (d ++ (e ++ r)))
+
+pub extent_one : IsOneSpelling extent_bytes IsExtent
+extent_one x y bytes r s first second =
+    by_one (λ (e : Extent). (e.index, (e.end, e.dir))) (pair_bytes u32_bytes (pair_bytes u32_bytes dir_bytes))
+    (PairFits (λ n. n < 2 ^ 32) (PairFits (λ n. n < 2 ^ 32) Any))
+    (λ a b e i. record { index = (e i).0; end = (e i).1.0; dir = (e i).1.1 })
+    (pair_one u32_bytes (λ n. n < 2 ^ 32) (pair_bytes u32_bytes dir_bytes) (PairFits (λ n. n < 2 ^ 32) Any) u32_one
+    (pair_one u32_bytes (λ n. n < 2 ^ 32) dir_bytes Any u32_one dir_one)) x y bytes r s
+    (record { fits = extent_fits x first.fits; parts = first.parts })
+    (record { fits = extent_fits y second.fits; parts = second.parts })
+
+pub extent_of : Piece → Extent
+extent_of p = record { index = p.name.index; end = p.end; dir = p.name.dir }
+
+-- what stands in a piece's bytes, one part behind the other
+pub record PieceParts (p : Piece) (bytes r : List ℕ) : Type 0 where
+  pub extent : Begins extent_bytes IsExtent bytes (extent_of p)
+      (joined place_bytes p.places ++ (list_bytes context_bytes p.contexts ++ r))
+  pub places : AreSoMany PlaceFits (p.end - p.name.index + 1) p.places
+  pub contexts : AreContexts p.contexts
+
+are_contexts : (cs : List Context) → AllByRecursion IsContextForm cs → AllByRecursion ContextFits cs
+    → AllByRecursion IsContext cs
+are_contexts [] f g = tt
+are_contexts (c ∷ cs) f g = (record { form = f.0; fits = g.0 }, are_contexts cs f.1 g.1)
+
+pub piece_parts : (way : WayId) (p : Piece) (bytes r : List ℕ) → Begins piece_bytes (IsPieceAt way) bytes p r
+    → PieceParts p bytes r
+unfolding extent_of
+piece_parts way p bytes r whole = record {
+  extent = record {
+    fits = record { ascends = whole.fits.form.ascends; bounded = whole.fits.form.bounded };
+    parts = whole.parts ∙ piece_split (u32_bytes p.name.index) (u32_bytes p.end) (dir_bytes p.name.dir)
+        (joined place_bytes p.places) (list_bytes context_bytes p.contexts) r;
+  };
+  places = (whole.fits.form.place_count, whole.fits.fits.places);
+  contexts = record {
+    some = (whole.fits.fits.context_count, are_contexts p.contexts whole.fits.form.contexts whole.fits.fits.contexts);
+    alone = whole.fits.form.first_alone;
+    ascend = whole.fits.form.contexts_ascend;
+  };
+}
+
+-- where the extents are one, so are the places and what stands behind them
+pub piece_one : (way : WayId) → IsOneSpelling piece_bytes (IsPieceAt way)
+unfolding extent_of
+piece_one way x y bytes r s first second =
+    let a = piece_parts way x bytes r first in
+    let b = piece_parts way y bytes s second in
+    let extent = extent_one (extent_of x) (extent_of y) bytes
+    (joined place_bytes x.places ++ (list_bytes context_bytes x.contexts ++ r))
+    (joined place_bytes y.places ++ (list_bytes context_bytes y.contexts ++ s)) a.extent b.extent in
+    let count : x.end - x.name.index + 1 ≡ y.end - y.name.index + 1 = ap (λ (e : Extent). e.end - e.index + 1) extent.0
+    in
+    let places = joined_one place_bytes PlaceFits place_one x.places y.places
+    (list_bytes context_bytes x.contexts ++ r) (list_bytes context_bytes y.contexts ++ s)
+    (a.places.0 ∙ count ∙ sym b.places.0) a.places.1 b.places.1 extent.1 in
+    let contexts = contexts_one x.contexts y.contexts (list_bytes context_bytes x.contexts ++ r) r s
+    (record { fits = a.contexts; parts = refl }) (record { fits = b.contexts; parts = places.1 }) in
+    let ways : x.name.way ≡ y.name.way = first.fits.way_is ∙ sym second.fits.way_is in (
+      λ i. record {
+        name = record { way = ways i; index = (extent.0 i).index; dir = (extent.0 i).dir };
+        end = (extent.0 i).end;
+        places = places.0 i;
+        contexts = contexts.0 i;
+      },
+      contexts.1,
+    )
+
+-- ---- blocks
+
+pub block_one : IsOneSpelling block_bytes IsWayBlock
+block_one x y bytes r s first second =
+    let way = i64_one x.way.0 y.way.0 bytes
+    (u32_bytes (length x.pieces) ++ (joined piece_bytes x.pieces ++ r))
+    (u32_bytes (length y.pieces) ++ (joined piece_bytes y.pieces ++ s))
+    (record {
+      fits = first.fits.way;
+      parts = first.parts ∙ three (i64_bytes x.way.0) (u32_bytes (length x.pieces))
+          (joined piece_bytes x.pieces) r;
+    })
+    (record {
+      fits = second.fits.way;
+      parts = second.parts ∙ three (i64_bytes y.way.0) (u32_bytes (length y.pieces))
+          (joined piece_bytes y.pieces) s;
+    }) in
+    let count = u32_one (length x.pieces) (length y.pieces)
+    (u32_bytes (length x.pieces) ++ (joined piece_bytes x.pieces ++ r)) (joined piece_bytes x.pieces ++ r)
+    (joined piece_bytes y.pieces ++ s)
+    (record { fits = first.fits.count; parts = refl }) (record { fits = second.fits.count; parts = way.1 }) in
+    let ways : x.way ≡ y.way = λ i. record { 0 = way.0 i } in
+    let pieces = joined_one piece_bytes (IsPieceAt x.way) (piece_one x.way) x.pieces y.pieces r s count.0
+    first.fits.pieces (subst (λ w. AllByRecursion (IsPieceAt w) y.pieces) (sym ways) second.fits.pieces) count.1 in
+    (λ i. record { way = ways i; pieces = pieces.0 i }, pieces.1)

@@ -11,8 +11,12 @@ ghost use Rattle.std.specs.FinMap.{values};
 ghost use Rattle.road_base.specs.Bytes.{u32_bytes, u64_bytes, Keeps};
 ghost use Rattle.road_model.specs.Format.{graph_bytes, BlockFits, IsBlockForm, IsGraphFile};
 
+mod ascending;
+mod extent;
 mod numbers;
+mod parts;
 mod pieces;
+mod road_blocks;
 mod spelling;
 mod unread;
 mod writer;

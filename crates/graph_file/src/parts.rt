@@ -1,15 +1,17 @@
 //! Names, places, arcs and contexts, read from the front of bytes.
-ghost use Rattle.std.specs.Prelude.{◌≡◌, ◌≤◌, ◌×◌, length, map, IsTrue};
+ghost use Rattle.std.specs.Prelude.{◌≡◌, ◌+◌, ◌≤◌, ◌↔◌, length, map, IsTrue};
 ghost use Rattle.std.specs.List.{AllByRecursion};
 ghost use Rattle.road_base.specs.Ranges.{is_in_range};
-ghost use Rattle.road_model.specs.Orders.{name_cmp, rises};
-ghost use Rattle.road_model.specs.Format.{name_bytes, place_bytes, arc_bytes, context_bytes, NameFits, IsContextForm};
+ghost use Rattle.road_model.specs.Orders.{name_cmp, names_cmp, rises};
+ghost use Rattle.road_model.specs.Format.{name_bytes, place_bytes, arc_bytes, context_bytes, NameFits};
+ghost use Rattle.road_model.specs.Format.{begins_alone};
 ghost use Rattle.graph_file.specs.GraphReading.{Any, location_bytes, PlaceFits, ArcFits, list_bytes, ListFits};
-ghost use Rattle.graph_file.specs.GraphReading.{names_bytes, NamesFit, IsContext};
+ghost use Rattle.graph_file.specs.GraphReading.{names_bytes, NamesFit, IsContext, AreContexts};
 ghost use Rattle.graph_file.specs.OneSpelling.{name_one, location_one, place_one, arc_one, arcs_one, names_one};
 ghost use Rattle.graph_file.specs.OneSpelling.{context_one, contexts_one};
 
-use crate::spelling::{Spell, read_all};
+use crate::ascending::do_ascend;
+use crate::spelling::{Spell, read_all, read_list};
 use crate::unread::Unread;
 use road_base::{Dir, Location, NodeId, WayId};
 use road_model::{Arcs, Context, Contexts, Names, PieceName, Place, TurnArc};
@@ -128,19 +130,21 @@ impl Spell for Context {
 
     fn read(alloc: Global, bytes: &[u8]) -> Result<(Context, &[u8]), Unread> {
         let ((before, arcs), rest) = <(Names, Arcs)>::read(alloc, bytes)?;
-        let most = before.items().len() as u64 + 2;
-        if !do_arcs_ascend(arcs.items()) || !have_targets(arcs.items(), most) {
+        if !lead_on(&before, &arcs) {
             return Err(Unread::Malformed);
         }
         Ok((Context { before, arcs }, rest))
     }
 }
 
-/// Each arc's piece comes behind that of the arc before it.
-fn do_arcs_ascend(arcs: &[TurnArc]) -> bool
-    ensures { result ≡ rises name_cmp (map (λ a. a.piece) arcs.now) }
+/// The arcs of a context ascend by their pieces, and each has a target that it may have: the names before the
+/// context's last piece, that piece and the arc's are the most of which it is made.
+fn lead_on(before: &Names, arcs: &Arcs) -> bool
+    ensures { IsTrue result ↔ (IsTrue (rises name_cmp (map (λ a. a.piece) arcs.now))
+        × AllByRecursion (λ a. (1 ≤ a.length) × (a.length ≤ length before.now + 2)) arcs.now) }
 {
-    arcs.windows(2).all(|pair| pair[0].piece < pair[1].piece)
+    let most = before.items().len() as u64 + 2;
+    do_ascend::<TurnArc>(arcs.items()) && have_targets(arcs.items(), most)
 }
 
 /// Each arc's target has a piece at least, and so many at most.
@@ -151,16 +155,35 @@ fn have_targets(arcs: &[TurnArc], most: u64) -> bool
         .all(|arc| 1 <= arc.length && u64::from(arc.length) <= most)
 }
 
-/// Contexts, behind how many there are.
+/// Contexts of a piece, of which the first has no names and each comes before the next, behind how many there are.
 impl Spell for Contexts {
     ghost spelling = { list_bytes context_bytes };
 
-    ghost fits = { ListFits IsContext };
+    ghost fits = { AreContexts };
 
     ghost one = { contexts_one };
 
     fn read(alloc: Global, bytes: &[u8]) -> Result<(Contexts, &[u8]), Unread> {
         let (list, rest) = read_list::<Context>(alloc, bytes)?;
+        if !are_of_a_piece(&list) {
+            return Err(Unread::Malformed);
+        }
         Ok((Contexts::from_list(list), rest))
+    }
+}
+
+/// The first context has no names, and each comes before the next.
+fn are_of_a_piece(contexts: &[Context]) -> bool
+    ensures { IsTrue result ↔ (begins_alone contexts.now × IsTrue (rises names_cmp (map (λ c. c.before) contexts.now))) }
+{
+    begin_alone(contexts) && do_ascend::<Context>(contexts)
+}
+
+fn begin_alone(contexts: &[Context]) -> bool
+    ensures { IsTrue result ↔ begins_alone contexts.now }
+{
+    match contexts {
+        [first, ..] => first.before.items().is_empty(),
+        [] => false,
     }
 }

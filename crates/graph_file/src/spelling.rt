@@ -2,7 +2,7 @@
 ghost use Rattle.std.specs.Prelude.{◌≡◌, ℕ, List, ◌++◌, IfOk, IfErr};
 ghost use Rattle.road_base.specs.Bytes.{joined};
 ghost use Rattle.graph_file.specs.GraphReading.{Begins, NoneBegins, IfMalformed, IsOneSpelling, pair_bytes, PairFits};
-ghost use Rattle.graph_file.specs.GraphReading.{AreSoMany};
+ghost use Rattle.graph_file.specs.GraphReading.{AreSoMany, list_bytes, ListFits};
 ghost use Rattle.graph_file.specs.OneSpelling.{pair_one};
 
 use crate::unread::Unread;
@@ -57,4 +57,17 @@ pub(crate) fn read_all<T: Spell + Drop>(
         rest = after;
     }
     Ok((items, rest))
+}
+
+/// Reads how many there are, and these.
+pub(crate) fn read_list<T: Spell + Drop>(
+    alloc: Global,
+    bytes: &[u8],
+) -> Result<(Vec<T>, &[u8]), Unread>
+    ensures found { IfOk result (λ x. Begins (list_bytes T.spelling) (ListFits T.fits) bytes.now x.0.items x.1.now) }
+    ensures malformed { IfErr result (λ e. IfMalformed e
+        (NoneBegins (list_bytes T.spelling) (ListFits T.fits) bytes.now)) }
+{
+    let (count, rest) = u64::read(alloc, bytes)?;
+    read_all(alloc, count, rest)
 }
