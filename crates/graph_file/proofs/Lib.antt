@@ -4,3 +4,4 @@ pub mod Files
 pub mod WrittenBlocks
 pub mod Fronts
 pub mod Ascents
+pub mod PieceParts

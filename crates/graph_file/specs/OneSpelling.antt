@@ -221,14 +221,14 @@ contexts_one x y bytes r s first second =
 
 -- ---- pieces
 
-extent_fits : (e : Extent) → IsExtent e → PairFits (λ n. n < 2 ^ 32) (PairFits (λ n. n < 2 ^ 32) Any) (e.index, (e.end, e.dir))
+pub extent_fits : (e : Extent) → IsExtent e → PairFits (λ n. n < 2 ^ 32) (PairFits (λ n. n < 2 ^ 32) Any) (e.index, (e.end, e.dir))
 extent_fits e is = let low = is.ascends in let high = is.bounded in (omega arith, (omega arith, tt))
 
-three : (a b c r : List ℕ) → (a ++ (b ++ c)) ++ r ≡ a ++ (b ++ (c ++ r))
+pub three : (a b c r : List ℕ) → (a ++ (b ++ c)) ++ r ≡ a ++ (b ++ (c ++ r))
 three a b c r = append_assoc a (b ++ c) r ∙ ap (λ l. a ++ l) (append_assoc b c r)
 
 -- the first three of five parts
-piece_split : (a b c d e r : List ℕ) → (a ++ (b ++ (c ++ (d ++ e)))) ++ r ≡ (a ++ (b ++ c)) ++ (d ++ (e ++ r))
+pub piece_split : (a b c d e r : List ℕ) → (a ++ (b ++ (c ++ (d ++ e)))) ++ r ≡ (a ++ (b ++ c)) ++ (d ++ (e ++ r))
 piece_split a b c d e r =
     append_assoc a (b ++ (c ++ (d ++ e))) r
     ∙ ap (λ l. a ++ l) (three b c (d ++ e) r ∙ ap (λ l. b ++ (c ++ l)) (append_assoc d e r))
@@ -244,7 +244,7 @@ extent_one x y bytes r s first second =
     (record { fits = extent_fits x first.fits; parts = first.parts })
     (record { fits = extent_fits y second.fits; parts = second.parts })
 
-pub extent_of : Piece → Extent
+abbrev pub extent_of : Piece → Extent
 extent_of p = record { index = p.name.index; end = p.end; dir = p.name.dir }
 
 -- what stands in a piece's bytes, one part behind the other
@@ -261,7 +261,6 @@ are_contexts (c ∷ cs) f g = (record { form = f.0; fits = g.0 }, are_contexts c
 
 pub piece_parts : (way : WayId) (p : Piece) (bytes r : List ℕ) → Begins piece_bytes (IsPieceAt way) bytes p r
     → PieceParts p bytes r
-unfolding extent_of
 piece_parts way p bytes r whole = record {
   extent = record {
     fits = record { ascends = whole.fits.form.ascends; bounded = whole.fits.form.bounded };
@@ -278,7 +277,6 @@ piece_parts way p bytes r whole = record {
 
 -- where the extents are one, so are the places and what stands behind them
 pub piece_one : (way : WayId) → IsOneSpelling piece_bytes (IsPieceAt way)
-unfolding extent_of
 piece_one way x y bytes r s first second =
     let a = piece_parts way x bytes r first in
     let b = piece_parts way y bytes s second in

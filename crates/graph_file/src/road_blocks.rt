@@ -1,7 +1,8 @@
 //! Pieces and blocks, read from the front of bytes.
-ghost use Rattle.std.specs.Prelude.{◌≡◌, IfOk, IfErr};
+ghost use Rattle.std.specs.Prelude.{◌≡◌, ◌↔◌, [], map, IsTrue, IfOk, IfErr};
+ghost use Rattle.road_model.specs.Orders.{rises};
 ghost use Rattle.road_base.specs.Bytes.{joined};
-ghost use Rattle.road_model.specs.Format.{piece_bytes, block_bytes};
+ghost use Rattle.road_model.specs.Format.{piece_bytes, block_bytes, place_cmp};
 ghost use Rattle.graph_file.specs.GraphReading.{Begins, NoneBegins, IfMalformed, AreSoMany, IsPieceAt, IsWayBlock};
 ghost use Rattle.graph_file.specs.OneSpelling.{block_one};
 
@@ -19,7 +20,7 @@ fn read_piece(alloc: Global, way: WayId, bytes: &[u8]) -> Result<(Piece, &[u8]),
     ensures malformed { IfErr result (λ e. IfMalformed e (NoneBegins piece_bytes (IsPieceAt way) bytes.now)) }
 {
     let (extent, rest) = Extent::read(alloc, bytes)?;
-    let count = u64::from(extent.end - extent.index + 1);
+    let count = (extent.end - extent.index + 1) as u64;
     let (places, rest) = read_all::<Place>(alloc, count, rest)?;
     let (contexts, rest) = Contexts::read(alloc, rest)?;
     let piece = Piece {
@@ -69,10 +70,26 @@ impl Spell for Block {
         let ((number, count), rest) = <(i64, u32)>::read(alloc, bytes)?;
         let way = WayId(number);
         let (list, rest) = read_pieces(alloc, way, count, rest)?;
-        if list.is_empty() || !do_ascend::<Piece>(&list) {
+        if !are_of_a_way(&list) {
             return Err(Unread::Malformed);
         }
         let pieces = Pieces::from_list(list);
         Ok((Block { way, pieces }, rest))
+    }
+}
+
+/// There is a piece, and each comes before the next.
+fn are_of_a_way(pieces: &[Piece]) -> bool
+    ensures { IsTrue result ↔ ((pieces.now ≡ [] → ⊥) × IsTrue (rises place_cmp (map (λ p. p.name) pieces.now))) }
+{
+    are_some(pieces) && do_ascend::<Piece>(pieces)
+}
+
+fn are_some(pieces: &[Piece]) -> bool
+    ensures { IsTrue result ↔ (pieces.now ≡ [] → ⊥) }
+{
+    match pieces {
+        [_, ..] => true,
+        [] => false,
     }
 }
