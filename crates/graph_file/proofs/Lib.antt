@@ -5,3 +5,4 @@ pub mod WrittenBlocks
 pub mod Fronts
 pub mod Ascents
 pub mod PieceParts
+pub mod GraphFiles

@@ -12,9 +12,10 @@ use Rattle.road_model.specs.declared.lists.TurnArc.{TurnArc}
 use Rattle.road_model.specs.declared.lists.Context.{Context}
 use Rattle.road_model.specs.declared.lists.Piece.{Piece}
 use Rattle.road_model.specs.declared.blocks.Block.{Block}
+use Rattle.road_model.specs.Format.{graph_bytes}
 use Rattle.road_model.specs.Format.{dir_bytes, name_bytes, arc_bytes, context_bytes, piece_bytes, place_bytes, NameFits}
 use Rattle.road_model.specs.Format.{ContextFits, PieceFits, IsContextForm, IsPieceForm, begins_alone, place_cmp}
-use Rattle.road_model.specs.Orders.{rises, names_cmp}
+use Rattle.road_model.specs.Orders.{rises, names_cmp, way_cmp}
 use Rattle.graph_file.specs.declared.extent.Extent.{Extent}
 use Rattle.graph_file.specs.declared.unread.Unread.{Unread}
 use Rattle.graph_file.specs.declared.unread.Unread.TheVariants.{Malformed, Memory}
@@ -107,3 +108,12 @@ pub record IsWayBlock (b : Block) : Type 0 where
   pub some : b.pieces ≡ [] → ⊥
   pub ascend : IsTrue (rises place_cmp (map (λ p. p.name) b.pieces))
   pub pieces : AllByRecursion (IsPieceAt b.way) b.pieces
+
+abbrev pub IsOfItsWay : Block → Type 0
+IsOfItsWay b = AllByRecursion (λ p. p.name.way ≡ b.way) b.pieces
+
+-- the bytes are a graph file with these blocks, whose pieces are those of their way
+pub record IsFile (bytes : List ℕ) (blocks : List Block) : Type 0 where
+  pub spelled : bytes ≡ graph_bytes 1 blocks
+  pub some : ListFits IsWayBlock blocks
+  pub ascend : IsTrue (rises way_cmp (map (λ b. b.way) blocks))

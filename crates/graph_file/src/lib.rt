@@ -3,6 +3,9 @@
 //! `GraphWriter` is given one block after another, and `write` all at once. Both append each number where it stands
 //! in the file, so their cost grows with the bytes that they write, and they take no memory beside them. How many
 //! blocks there are stands before the blocks: the writer keeps the place and fills it at the end.
+//!
+//! `Graph::read` goes once over the bytes and reads a graph back. A count that the bytes announce takes no memory: what
+//! is taken grows with the parts that were read, and so with the bytes.
 #![tactic(auto)]
 
 ghost use Rattle.std.specs.Prelude.{◌≡◌, ◌++◌, ◌<◌, ◌^◌, length, OnOk, OnErr, codes};
@@ -13,6 +16,7 @@ ghost use Rattle.road_model.specs.Format.{graph_bytes, BlockFits, IsBlockForm, I
 
 mod ascending;
 mod extent;
+mod graph;
 mod numbers;
 mod parts;
 mod pieces;
@@ -21,6 +25,7 @@ mod spelling;
 mod unread;
 mod writer;
 
+pub use graph::Graph;
 use pieces::GraphFile;
 use road_base::{LittleEndian, NoMemory, put_all};
 use road_model::{Block, Blocks};
