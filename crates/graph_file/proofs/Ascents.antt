@@ -1,6 +1,6 @@
 -- Whether a list ascends, told from neighbours.
 use Rattle.std.proofs.Common.{◌≡◌, ℕ, zero, suc, ◌-◌, ◌+◌, ◌<◌, ◌≤◌, Bool, true, false, List, [], ◌∷◌, length, get_or}
-use Rattle.std.proofs.Common.{drop, refl, sym, ap, ◌∙◌, arith, map}
+use Rattle.std.proofs.Common.{drop, refl, ap, ◌∙◌, arith, map}
 use Rattle.std.specs.Ordering.{is_lt}
 use Rattle.std.specs.declared.cmp.Ordering.{Ordering}
 use Rattle.road_model.specs.Orders.{rises, rises_from}

@@ -3,7 +3,7 @@ use Rattle.std.proofs.Common.{◌≡◌, ℕ, ℤ, ◌+◌, ◌-◌, ◌<◌, �
 use Rattle.std.proofs.Common.{sym, ap, subst, ◌∙◌, append_assoc}
 use Rattle.std.specs.Int.{w64}
 use Rattle.std.specs.List.{AllByRecursion}
-use Rattle.road_base.specs.Bytes.{u32_bytes, u64_bytes, i64_bytes, joined}
+use Rattle.road_base.specs.Bytes.{u32_bytes, i64_bytes, joined}
 use Rattle.road_base.specs.declared.ids.WayId.{WayId}
 use Rattle.road_model.specs.declared.lists.Place.{Place}
 use Rattle.road_model.specs.declared.lists.Context.{Context}

@@ -1,8 +1,7 @@
 -- Reading a spelling from the front of bytes, and what the parts of a graph file have to be.
-use Rattle.std.specs.Prelude.{◌≡◌, ℕ, ℤ, ◌+◌, ◌-◌, ◌<◌, ◌≤◌, ◌^◌, List, [], ◌++◌, length, map, IsTrue, FitsSigned}
+use Rattle.std.specs.Prelude.{◌≡◌, ℕ, ◌+◌, ◌-◌, ◌<◌, ◌≤◌, ◌^◌, List, [], ◌++◌, length, map, IsTrue, FitsSigned}
 use Rattle.std.specs.List.{AllByRecursion}
 use Rattle.std.specs.Int.{w64}
-use Rattle.road_base.specs.declared.ids.Dir.{Dir}
 use Rattle.road_base.specs.declared.ids.WayId.{WayId}
 use Rattle.road_base.specs.declared.location.Location.{Location}
 use Rattle.road_base.specs.Bytes.{u32_bytes, u64_bytes, i32_bytes, joined}
@@ -13,7 +12,7 @@ use Rattle.road_model.specs.declared.lists.Context.{Context}
 use Rattle.road_model.specs.declared.lists.Piece.{Piece}
 use Rattle.road_model.specs.declared.blocks.Block.{Block}
 use Rattle.road_model.specs.Format.{graph_bytes}
-use Rattle.road_model.specs.Format.{dir_bytes, name_bytes, arc_bytes, context_bytes, piece_bytes, place_bytes, NameFits}
+use Rattle.road_model.specs.Format.{dir_bytes, name_bytes, NameFits}
 use Rattle.road_model.specs.Format.{ContextFits, PieceFits, IsContextForm, IsPieceForm, begins_alone, place_cmp}
 use Rattle.road_model.specs.Orders.{rises, names_cmp, way_cmp}
 use Rattle.graph_file.specs.declared.extent.Extent.{Extent}

@@ -14,7 +14,6 @@ use Rattle.std.specs.Int.{w32, w64, from_le_bytes, cast_unsigned, cast_signed}
 use Rattle.std.specs.List.{AllByRecursion}
 use Rattle.road_base.specs.Bytes.{u32_bytes, u64_bytes, i32_bytes, i64_bytes, joined}
 use Rattle.road_base.specs.Ranges.{is_in_range}
-use Rattle.road_base.specs.declared.ids.Dir.{Dir}
 use Rattle.road_base.specs.declared.ids.Dir.TheVariants.{Forward, Backward}
 use Rattle.road_base.specs.declared.location.Location.{Location}
 use Rattle.road_model.specs.declared.lists.PieceName.{PieceName}
@@ -28,7 +27,6 @@ use Rattle.graph_file.specs.GraphReading.{extent_bytes, IsExtent, AreSoMany, IsP
 use Rattle.graph_file.specs.declared.extent.Extent.{Extent}
 use Rattle.road_base.specs.declared.ids.WayId.{WayId}
 use Rattle.road_model.specs.declared.lists.Piece.{Piece}
-use Rattle.road_model.specs.declared.blocks.Block.{Block}
 use Rattle.road_model.specs.Format.{piece_bytes, block_bytes, ContextFits, IsContextForm}
 
 -- spellings of one length

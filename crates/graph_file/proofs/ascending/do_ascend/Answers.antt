@@ -1,6 +1,6 @@
 -- Each one that is looked at comes behind the one before it, or ends the loop.
 use Rattle.std.proofs.Common.{◌-◌, arith, sym, ◌∙◌}
-use Rattle.graph_file.proofs.Ascents.{goes_on_at, stops_at, ends}
+use Rattle.graph_file.proofs.Ascents.{goes_on_at, ends}
 use Rattle.graph_file.proofs.ascending.do_ascend.Goals as goal
 
 pub loop-at-preserved : goal.loop-at-preserved

@@ -1,10 +1,10 @@
 -- A context stands where its two lists stand.
-use Rattle.std.proofs.Common.{◌+◌, ◌++◌, length, ap, ◌∙◌, append_assoc, false, true, sym}
+use Rattle.std.proofs.Common.{◌+◌, ◌++◌, length, ap, ◌∙◌, append_assoc, sym}
 use Rattle.std.proofs.lemmas.Bool.{false≢true}
 use Rattle.std.proofs.lemmas.Result.{err_from_is_err_and}
 use Rattle.road_base.specs.Bytes.{u32_bytes, joined}
 use Rattle.road_model.specs.declared.lists.Context.{Context}
-use Rattle.road_model.specs.Format.{name_bytes, arc_bytes, IsContextForm, context_bytes}
+use Rattle.road_model.specs.Format.{name_bytes, arc_bytes, IsContextForm}
 use Rattle.graph_file.specs.GraphReading.{pair_bytes, PairFits, names_bytes, NamesFit, list_bytes, ListFits, ArcFits}
 use Rattle.graph_file.specs.OneSpelling.{pair_one, names_one, arcs_one, context_parts}
 use Rattle.graph_file.proofs.Fronts.{malformed_weaker, unfit_missing}

@@ -1,5 +1,5 @@
 -- Contexts that are not a piece's were read, so no others stand there.
-use Rattle.std.proofs.Common.{map, IsTrue, sym, subst, ◌∙◌}
+use Rattle.std.proofs.Common.{map, IsTrue, sym, ◌∙◌}
 use Rattle.std.proofs.lemmas.Bool.{false≢true}
 use Rattle.road_model.specs.Orders.{rises, names_cmp}
 use Rattle.road_model.specs.Format.{context_bytes, begins_alone}
