@@ -286,3 +286,38 @@ fn refuses_what_is_not_a_graph_file(rt: HostRuntime) -> Result<(), Fail> {
     assert!(rt; is_refused(alloc, b"")?);
     Ok(())
 }
+
+/// The second part before the first, behind the front.
+fn exchanged(
+    alloc: Global,
+    front: &[u8],
+    first: &[u8],
+    second: &[u8],
+) -> Result<Vec<u8>, NoMemory> {
+    let mut bytes = front.to_vec(alloc)?;
+    bytes.extend_from_slice(second)?;
+    bytes.extend_from_slice(first)?;
+    Ok(bytes)
+}
+
+#[test]
+fn refuses_pieces_and_contexts_out_of_order(rt: HostRuntime) -> Result<(), Fail> {
+    let alloc = rt.alloc();
+    let pieces = exchanged(
+        alloc,
+        &THERE_AND_BACK[..32],
+        &THERE_AND_BACK[32..126],
+        &THERE_AND_BACK[126..],
+    )?;
+    assert_eq!(rt; pieces.len(), 220);
+    assert!(rt; is_refused(alloc, &pieces)?);
+    let contexts = exchanged(
+        alloc,
+        &WITH_A_NAME[1..82],
+        &WITH_A_NAME[82..111],
+        &WITH_A_NAME[111..],
+    )?;
+    assert_eq!(rt; contexts.len(), 152);
+    assert!(rt; is_refused(alloc, &contexts)?);
+    Ok(())
+}
