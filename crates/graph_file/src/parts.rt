@@ -174,7 +174,8 @@ impl Spell for Contexts {
 
 /// The first context has no names, and each comes before the next.
 fn are_of_a_piece(contexts: &[Context]) -> bool
-    ensures { IsTrue result ↔ (begins_alone contexts.now × IsTrue (rises names_cmp (map (λ c. c.before) contexts.now))) }
+    ensures { IsTrue result ↔ (begins_alone contexts.now
+        × IsTrue (rises names_cmp (map (λ c. c.before) contexts.now))) }
 {
     begin_alone(contexts) && do_ascend::<Context>(contexts)
 }
