@@ -1,5 +1,5 @@
 //! What a session is asked beside its changes: what a line means, whether a drive is legal and which rule it breaks
-//! first, whether one node can be reached from another, and how large a graph is.
+//! first, and how large a graph is; and, as a law, what a search over contexts and arcs finds and misses.
 //!
 //! `message` takes time linear in its line. `WordTable::of` judges each restriction that names a way of the drive once,
 //! keeps the words that begin on the drive's steps, sorts them, and makes an automaton of them (`turn_automata`): with
@@ -7,16 +7,13 @@
 //! where it goes back to where the step before began, of the ways at the node, with one step of the automaton. Only the
 //! step that words stop is compared with them, once: each No word with the end of the steps, and where none ends there,
 //! for each number of last steps up to that of the longest end that begins a word, at most 1,025, a binary search finds
-//! the words that begin with them, and these are looked at twice. `reach` marks each context that it finds once, the
-//! one that is nearest to the goal first: at most all contexts and arcs, with memory in proportion to the contexts and
-//! a logarithm of their number for each. `counts` goes over all contexts once.
+//! the words that begin with them, and these are looked at twice. `counts` goes over all contexts once.
 #![tactic(auto)]
 
 mod found;
 mod judging;
 pub mod laws;
 mod messages;
-mod reaching;
 mod step_rules;
 mod step_words;
 mod totals;
@@ -27,7 +24,6 @@ mod word_table;
 pub use found::Found;
 pub use judging::judge;
 pub use messages::{Asked, message};
-pub use reaching::reach;
 pub use totals::{Totals, counts};
 pub use verdict::{Rule, Verdict};
 pub use word_table::WordTable;

@@ -8,12 +8,14 @@ use reply_lines::{counts_text, step_text, verdict_text};
 use road_base::{NoMemory, Sequence, Step};
 use std::alloc::Global;
 
+/// `unknown`, for a line that asks nothing that is known.
 pub fn unknown(alloc: Global) -> Result<Vec<u8>, NoMemory>
     ensures { IfOk result (λ line. line.items ≡ unknown_line) }
 {
     Ok(b"unknown\n".to_vec(alloc)?)
 }
 
+/// The kept number and the four numbers.
 pub fn state(alloc: Global, kept: Sequence, totals: &Totals) -> Result<Vec<u8>, NoMemory>
     ensures { IfOk result (λ line. line.items ≡ state_line kept.0 totals.now) }
 {
@@ -24,6 +26,7 @@ pub fn state(alloc: Global, kept: Sequence, totals: &Totals) -> Result<Vec<u8>, 
     Ok(line)
 }
 
+/// `legal`, or `broken K RULE`.
 pub fn verdict_reply(alloc: Global, verdict: &Verdict) -> Result<Vec<u8>, NoMemory>
     ensures { IfOk result (λ line. line.items ≡ verdict_line verdict.now) }
 {
@@ -33,6 +36,7 @@ pub fn verdict_reply(alloc: Global, verdict: &Verdict) -> Result<Vec<u8>, NoMemo
     Ok(line)
 }
 
+/// `drive STEP ..`, `no-node N` or `none`, for what is found between two nodes.
 pub fn found_reply(alloc: Global, found: &Found) -> Result<Vec<u8>, NoMemory>
     ensures { IfOk result (λ line. line.items ≡ found_line found.now) }
 {
@@ -60,6 +64,7 @@ fn drive_text(alloc: Global, steps: &[Step]) -> Result<Vec<u8>, NoMemory>
     Ok(text)
 }
 
+/// How many bytes the graph has.
 pub fn graph_head(alloc: Global, graph: &[u8]) -> Result<Vec<u8>, NoMemory>
     ensures { IfOk result (λ line. line.items ≡ graph_line graph.now) }
 {
