@@ -1,0 +1,3 @@
+pub mod SearchKeys
+pub mod SearchOrder
+pub mod SearchFrontier

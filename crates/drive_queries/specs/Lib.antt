@@ -4,3 +4,4 @@ pub mod Tables
 pub mod Reaching
 pub mod Searching
 pub mod Counting
+pub mod Marks

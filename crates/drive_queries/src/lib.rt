@@ -10,11 +10,16 @@
 //! once.
 #![tactic(auto)]
 
+mod ends;
 mod found;
+mod frontier;
 mod judging;
 pub mod laws;
+mod marks;
 mod messages;
 mod reaching;
+mod routes;
+mod spots;
 mod totals;
 mod verdict;
 mod word_table;
