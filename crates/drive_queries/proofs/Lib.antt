@@ -1,3 +1,5 @@
 pub mod SearchKeys
 pub mod SearchOrder
 pub mod SearchFrontier
+pub mod SearchSpots
+pub mod SearchMarks

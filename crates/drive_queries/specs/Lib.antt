@@ -5,3 +5,4 @@ pub mod Reaching
 pub mod Searching
 pub mod Counting
 pub mod Marks
+pub mod Visits

@@ -11,6 +11,7 @@
 #![tactic(auto)]
 
 mod ends;
+mod following;
 mod found;
 mod frontier;
 mod judging;

@@ -4,6 +4,7 @@ ghost use Rattle.road_model.specs.BlockMap.{AreBlocksOf};
 ghost use Rattle.drive_queries.specs.Reaching.{IsFound};
 
 use crate::ends::{Goal, Start, goals_of, starts_of};
+use crate::following::{begin, run};
 use crate::found::Found;
 use crate::marks::Search;
 use crate::routes::{along, within};
@@ -74,8 +75,8 @@ fn search(
 ) -> Result<Found, NoMemory> {
     let spots = spots_of(alloc, blocks.items())?;
     let mut search = Search::new(alloc, spots.len(), to)?;
-    search.begin(&spots, starts)?;
-    match search.run(&spots, goals)? {
+    begin(&mut search, &spots, starts)?;
+    match run(alloc, &mut search, &spots, goals)? {
         Some(meeting) => Ok(Found::Drive(along(alloc, &spots, search.visits(), &meeting)?)),
         None => Ok(Found::Nowhere),
     }

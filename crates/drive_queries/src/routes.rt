@@ -1,6 +1,7 @@
 //! The steps of what was found.
 use crate::ends::{Goal, Start};
-use crate::marks::{Meeting, Origin, Visit};
+use crate::following::Meeting;
+use crate::marks::{Origin, Visit};
 use crate::spots::Spot;
 use road_base::{Drive, NoMemory, Step};
 use road_model::Piece;
@@ -40,11 +41,11 @@ fn way_back(
     loop {
         places.push(at)?;
         match visits[at].origin {
-            Origin::Start(first) => {
+            Origin::Begins(first) => {
                 places.reverse();
                 return Ok((first, places));
             }
-            Origin::Visit(before) => at = before,
+            Origin::Follows(before) => at = before,
         }
     }
 }

@@ -1,5 +1,5 @@
 //! All contexts of a graph in their order, found by their names.
-ghost use Rattle.std.specs.Prelude.{◌≡◌, ◌++◌, List, length, map, IfOk, OnOk, IfSome, IfNone, IsTrue, Contains};
+ghost use Rattle.std.specs.Prelude.{◌≡◌, ◌<◌, ◌++◌, length, map, IfOk, OnOk, IfSome, IfNone, IsTrue, Contains};
 ghost use Rattle.std.specs.List.{HoldsAt};
 ghost use Rattle.road_model.specs.Orders.{rises, names_cmp};
 ghost use Rattle.drive_queries.specs.Marks.{At, at_of, key_of, key_cmp, contexts_at, contexts_over, all_contexts};
@@ -53,6 +53,7 @@ fn add_contexts<'a>(spots: &mut Vec<Spot<'a>>, piece: &'a Piece) -> Result<(), N
 /// where the list has no such context.
 pub fn find_spot(spots: &[Spot<'_>], piece: PieceName, before: &[PieceName]) -> Option<usize>
     requires { IsTrue (rises key_cmp (map key_of (map at_of spots.now))) }
+    ensures within { IfSome result (λ i. i < length spots.now) }
     ensures some { IfSome result (HoldsAt (λ s. key_of (at_of s) ≡ (piece, before.now)) spots.now) }
     ensures none { IfNone result ((x : At) → Contains (map at_of spots.now) x → key_of x ≡ (piece, before.now) → ⊥) }
 {
