@@ -1,12 +1,13 @@
 -- What stays when one context more is marked.
 use Rattle.std.proofs.Common.{◌≡◌, ◌⊎◌, inl, inr, ℕ, zero, suc, ◌+◌, ◌*◌, ◌-◌, ◌<◌, ◌≤◌, List, [], ◌∷◌, ◌++◌, length, map}
 use Rattle.std.proofs.Common.{Option, Some, None, Bool, true, false, cond, slice_get, slice_set, Contains, refl, sym, ◌∙◌}
-use Rattle.std.proofs.Common.{ap, subst, arith}
+use Rattle.std.proofs.Common.{ap, subst, arith, take, get_or, MatchOption}
+use Rattle.std.specs.Prelude.{is_some}
 use Rattle.std.specs.BTreeMap.{BTreeMap}
 use Rattle.std.specs.List.Sorted.{IsPermutation}
-use Rattle.std.proofs.lemmas.List.{length_push}
+use Rattle.std.proofs.lemmas.List.{length_push, take_more, take_all}
 use Rattle.std.proofs.lemmas.List.Sorted.{Contains-permutation, IsPermutation-sym, length_permutation}
-use Rattle.road_base.proofs.ListMembers.{contains_head, contains_later, contains_cases}
+use Rattle.road_base.proofs.ListMembers.{contains_head, contains_later, contains_cases, contains_more, contains_none}
 use Rattle.road_base.proofs.ListPlaces.{stands_left, stands_last, stands_cases, some_at, one_stands}
 use Rattle.road_model.specs.declared.lists.PieceName.{PieceName}
 use Rattle.road_model.specs.declared.lists.TurnArc.{TurnArc}
@@ -16,7 +17,7 @@ use Rattle.drive_queries.specs.declared.marks.Origin.TheVariants.{Begins, Follow
 use Rattle.drive_queries.specs.declared.marks.Visit.{Visit}
 use Rattle.drive_queries.specs.Marks.{At}
 use Rattle.drive_queries.specs.Visits.{Marks, IsSearch, IsVisited, Comes, IsNew, IsMarked, Grows, NoneBegun, unmarked, left}
-use Rattle.drive_queries.specs.Visits.{AreFollowed, IsClosed, LeadsBy}
+use Rattle.drive_queries.specs.Visits.{AreFollowed, IsClosed, AreClosed, LeadsBy, goal_in}
 
 -- ---- marks in a list
 
@@ -260,3 +261,127 @@ pub follow_visits : (L : List At) (m : Marks) (visits : List Visit) (place n : �
 follow_visits L m visits place n v arc at leads visited w x also from =
     let same = one_stands m.visits place v w at also in
     (n, leads x (subst (λ u. slice_get L u.number ≡ Some x) (sym same) from), visited)
+
+-- ---- all arcs of a context
+
+pub same_context : (L : List At) (visits : List Visit) (place : ℕ) (v w : Visit) (x y : At)
+    → slice_get visits place ≡ Some v → slice_get visits place ≡ Some w → slice_get L v.number ≡ Some x
+    → slice_get L w.number ≡ Some y → x ≡ y
+same_context L visits place v w x y at also from too =
+    let same = one_stands visits place v w at also in
+    one_stands L w.number x y (subst (λ u. slice_get L u.number ≡ Some x) same from) too
+
+pub more_followed : (L : List At) (goals : BTreeMap PieceName Goal) (visits : List Visit) (x : At)
+    (items : List TurnArc) (i : ℕ) (d : TurnArc)
+    → i < length items → goal_in goals (get_or items i d).piece ≡ None
+    → ((n : ℕ) × LeadsBy L x (get_or items i d) n × IsVisited visits n)
+    → AreFollowed L goals visits x (take i items) → AreFollowed L goals visits x (take (i + 1) items)
+more_followed L goals visits x items i d h none leads f a has =
+    let arc = get_or items i d in
+    elim (contains_more (take i items) arc a (subst (λ l. Contains l a) (take_more items i d h) has)) [
+      | inl old ↦ f a old
+      | inr same ↦ subst
+        (λ b. (goal_in goals b.piece ≡ None) × ((n : ℕ) × LeadsBy L x b n × IsVisited visits n)) (sym same)
+        (none, leads)
+    ]
+
+pub all_followed : (L : List At) (goals : BTreeMap PieceName Goal) (visits : List Visit) (x y : At)
+    (items : List TurnArc) (i : ℕ) → length items ≤ i → items ≡ y.context.arcs → x ≡ y
+    → AreFollowed L goals visits x (take i items) → AreFollowed L goals visits x x.context.arcs
+all_followed L goals visits x y items i h e same f a has =
+    let all : items ≡ x.context.arcs = e ∙ ap (λ z. z.context.arcs) (sym same) in
+    f a (subst (λ l. Contains l a) (sym (take_all i items h)) (subst (λ l. Contains l a) (sym all) has))
+
+-- ---- a place that is taken out
+
+pub record IsPopped (m p : Marks) (place : ℕ) : Type 0 where
+  pub marked : p.marked ≡ m.marked
+  pub visits : p.visits ≡ m.visits
+  pub waiting : IsPermutation m.waiting (place ∷ p.waiting)
+
+module _ (L : List At) (m p : Marks) (place : ℕ) (popped : IsPopped m p place) where
+  back_waits : (k : ℕ) → Contains (place ∷ p.waiting) k → Contains m.waiting k
+  back_waits k h = Contains-permutation (place ∷ p.waiting) m.waiting k
+      (IsPermutation-sym m.waiting (place ∷ p.waiting) popped.waiting) h
+
+  same_visit : (k : ℕ) (v : Visit) → slice_get p.visits k ≡ Some v → slice_get m.visits k ≡ Some v
+  same_visit k v e = subst (λ vs. slice_get vs k ≡ Some v) popped.visits e
+
+  pub popped_keeps : IsSearch L m → IsSearch L p
+  popped_keeps s = record {
+    count = ap length popped.marked ∙ s.count;
+    numbers = λ k v e. s.numbers k v (same_visit k v e);
+    comes = λ k j v e o. subst (λ vs. (j < k) × Comes L vs j v.number) (sym popped.visits)
+        (s.comes k j v (same_visit k v e) o);
+    known = λ k e. subst (λ vs. IsVisited vs k) (sym popped.visits)
+        (s.known k (subst (λ bs. slice_get bs k ≡ Some true) popped.marked e));
+    within = λ k h. subst (λ vs. k < length vs) (sym popped.visits)
+        (s.within k (back_waits k (contains_later place k p.waiting h)));
+  }
+
+  pub popped_place : IsSearch L m → place < length p.visits
+  popped_place s = subst (λ vs. place < length vs) (sym popped.visits)
+      (s.within place (back_waits place (contains_head place p.waiting)))
+
+  pub popped_begun : (n : Marks) → NoneBegun p n → NoneBegun m n
+  popped_begun n h k first v e o = same_visit k v (h k first v e o)
+
+  pub popped_stays : (n : Marks) → Grows p n → (k : ℕ) → IsVisited m.visits k → IsVisited n.visits k
+  popped_stays n g k h = visited_stays p n g.stays k (subst (λ vs. IsVisited vs k) (sym popped.visits) h)
+
+  pub less_left : (n : Marks) → Grows p n → left n < left m
+  less_left n g =
+      let a = g.less in
+      let u : unmarked p.marked ≡ unmarked m.marked = ap unmarked popped.marked in
+      let w : length (place ∷ p.waiting) ≡ length m.waiting
+          = length_permutation m.waiting (place ∷ p.waiting) popped.waiting in
+      omega arith
+
+  module _ (goals : BTreeMap PieceName Goal) (n : Marks) (g : Grows p n)
+      (here : (v : Visit) → slice_get p.visits place ≡ Some v → IsClosed L goals n.visits v) where
+    closed_old : (k : ℕ) (v : Visit) → slice_get p.visits k ≡ Some v
+        → Contains m.waiting k ⊎ IsClosed L goals m.visits v → Contains n.waiting k ⊎ IsClosed L goals n.visits v
+    closed_old k v e (inl h) =
+        let c = Contains-permutation m.waiting (place ∷ p.waiting) k popped.waiting h in
+        elim (contains_cases place k p.waiting c) [
+          | inl same ↦ inr (here v (subst (λ i. slice_get p.visits i ≡ Some v) same e))
+          | inr later ↦ inl (g.waits k later)
+        ]
+    closed_old k v e (inr h) = inr (closed_stays p n g.stays L goals v
+        (subst (λ vs. IsClosed L goals vs v) (sym popped.visits) h))
+
+    pub gone_on : AreClosed L goals m → AreClosed L goals n
+    gone_on closed k v e = elim (g.new k v e) [
+      | inl old ↦ closed_old k v old (closed k v (same_visit k v old))
+      | inr i ↦ inl i
+    ]
+
+-- where nothing waits, all are closed
+pub all_closed : (L : List At) (goals : BTreeMap PieceName Goal) (m : Marks) → m.waiting ≡ [] → AreClosed L goals m
+    → (k : ℕ) (v : Visit) → slice_get m.visits k ≡ Some v → IsClosed L goals m.visits v
+all_closed L goals m none closed k v e = elim (closed k v e) [
+  | inl h ↦ absurd (contains_none k (subst (λ l. Contains l k) none h))
+  | inr c ↦ c
+]
+
+pub emptied : (L : List At) (m p : Marks) → p.marked ≡ m.marked → p.visits ≡ m.visits → p.waiting ≡ [] → IsSearch L m
+    → IsSearch L p
+emptied L m p marked visits none s = record {
+  count = ap length marked ∙ s.count;
+  numbers = λ k v e. s.numbers k v (subst (λ vs. slice_get vs k ≡ Some v) visits e);
+  comes = λ k j v e o. subst (λ vs. (j < k) × Comes L vs j v.number) (sym visits)
+      (s.comes k j v (subst (λ vs. slice_get vs k ≡ Some v) visits e) o);
+  known = λ k e. subst (λ vs. IsVisited vs k) (sym visits)
+      (s.known k (subst (λ bs. slice_get bs k ≡ Some true) marked e));
+  within = λ k h. absurd (contains_none k (subst (λ l. Contains l k) none h));
+}
+
+pub closed_same : (L : List At) (goals : BTreeMap PieceName Goal) (m p : Marks) → p.visits ≡ m.visits
+    → m.waiting ≡ [] → AreClosed L goals m → (k : ℕ) (v : Visit) → slice_get p.visits k ≡ Some v
+    → IsClosed L goals p.visits v
+closed_same L goals m p visits none closed k v e = subst (λ vs. IsClosed L goals vs v) (sym visits)
+    (all_closed L goals m none closed k v (subst (λ vs. slice_get vs k ≡ Some v) visits e))
+
+pub met_none : {A : Type 0} (o : Option A) (P : Type 0) (Q : A → Type 0) → is_some o ≡ false → MatchOption o P Q → P
+met_none None P Q e h = h
+met_none (Some x) P Q e h = cc

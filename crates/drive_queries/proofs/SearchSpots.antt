@@ -24,6 +24,11 @@ module _ {A B : Type 0} (f : A → B) where
   map_within (y ∷ ys) zero h = omega arith
   map_within (y ∷ ys) (suc i) h = let g = map_within ys i (omega arith) in omega arith
 
+  pub within_map : (xs : List A) (i : ℕ) → i < length (map f xs) → i < length xs
+  within_map [] i h = absurd (omega arith)
+  within_map (y ∷ ys) zero h = omega arith
+  within_map (y ∷ ys) (suc i) h = let g = within_map ys i (omega arith) in omega arith
+
 -- the context that was read
 pub spot_read : (spots : List Spot) (i : ℕ) (s : Spot) → i < length spots → s ≡ get_or spots i s
     → slice_get (map at_of spots) i ≡ Some (at_of s)

@@ -54,6 +54,34 @@ pub record Begun (L : List At) (starts : List Start) (n first : ℕ) : Type 0 wh
   pub at : slice_get L n ≡ Some from
   pub named : key_of from ≡ (start.piece.now.name, [])
 
+-- the context with the number is visited anew
+pub record IsNew (number : ℕ) (origin : Origin) (m n : Marks) : Type 0 where
+  pub fresh : slice_get m.marked number ≡ Some false
+  pub marked : n.marked ≡ slice_set m.marked number true
+  pub driven : ℕ
+  pub visits : n.visits ≡ m.visits ++ (record { number = number; origin = origin; driven = driven }) ∷ []
+  pub waiting : IsPermutation (length m.visits ∷ m.waiting) n.waiting
+
+-- the context with the number is marked now: it was before, or is visited anew
+abbrev pub IsMarked : ℕ → Origin → Marks → Marks → Type 0
+IsMarked number origin m n = ((slice_get m.marked number ≡ Some true) × (n ≡ m)) ⊎ IsNew number origin m n
+
+-- the context of the piece alone, on which a drive may begin, is visited
+pub record IsStarted (L : List At) (visits : List Visit) (start : Start) : Type 0 where
+  pub number : ℕ
+  pub from : At
+  pub at : slice_get L number ≡ Some from
+  pub named : key_of from ≡ (start.piece.now.name, [])
+  pub visited : IsVisited visits number
+
+-- the same, where it is marked now
+pub record IsStartMarked (L : List At) (start : Start) (m n : Marks) : Type 0 where
+  pub number : ℕ
+  pub from : At
+  pub at : slice_get L number ≡ Some from
+  pub named : key_of from ≡ (start.piece.now.name, [])
+  pub marked : IsMarked number (Begins start.first) m n
+
 -- the visits are of contexts, each come to from one before or else begun, and all that is marked is visited
 pub record IsSearch (L : List At) (m : Marks) : Type 0 where
   pub count : length m.marked ≡ length L
@@ -88,18 +116,6 @@ pub record Grows (m n : Marks) : Type 0 where
 abbrev pub NoneBegun : Marks → Marks → Type 0
 NoneBegun m n = (k first : ℕ) (v : Visit) → slice_get n.visits k ≡ Some v → v.origin ≡ Begins first
     → slice_get m.visits k ≡ Some v
-
--- the context with the number is visited anew
-pub record IsNew (number : ℕ) (origin : Origin) (m n : Marks) : Type 0 where
-  pub fresh : slice_get m.marked number ≡ Some false
-  pub marked : n.marked ≡ slice_set m.marked number true
-  pub driven : ℕ
-  pub visits : n.visits ≡ m.visits ++ (record { number = number; origin = origin; driven = driven }) ∷ []
-  pub waiting : IsPermutation (length m.visits ∷ m.waiting) n.waiting
-
--- the context with the number is marked now: it was before, or is visited anew
-abbrev pub IsMarked : ℕ → Origin → Marks → Marks → Type 0
-IsMarked number origin m n = ((slice_get m.marked number ≡ Some true) × (n ≡ m)) ⊎ IsNew number origin m n
 
 -- all contexts to which arcs lead are listed
 abbrev pub HasTargets : List At → Type 0

@@ -1,5 +1,9 @@
 //! The pieces on which a drive may begin or end.
+ghost use Rattle.std.specs.Prelude.{◌≡◌};
+ghost use Rattle.drive_queries.specs.Visits.{goal_in};
+
 use road_base::{NoMemory, NodeId};
+use road_model::laws::name_order;
 use road_model::{Blocks, Piece, PieceName, Place, World};
 use std::alloc::Global;
 use std::collections::BTreeMap;
@@ -74,6 +78,14 @@ fn add_goals<'a>(
         }
     }
     Ok(())
+}
+
+/// The goal on the piece of that name.
+pub fn goal_at<'a>(goals: &BTreeMap<PieceName, Goal<'a>>, name: PieceName) -> Option<Goal<'a>>
+    ensures { result ≡ goal_in goals.now name }
+{
+    name_order();
+    goals.get(&name).copied()
 }
 
 /// The first step that begins at the node.

@@ -6,13 +6,12 @@ ghost use Rattle.drive_queries.specs.declared.ends.Start.{Start};
 ghost use Rattle.drive_queries.specs.declared.marks.Visit.{Visit};
 ghost use Rattle.drive_queries.specs.Marks.{At, at_of, key_of, key_cmp, names_behind};
 ghost use Rattle.drive_queries.specs.Visits.{IsSearch, IsVisited, AreBegun, NoneBegun, Grows, HasTargets, LeadsBy};
-ghost use Rattle.drive_queries.specs.Visits.{IsClosed, AreClosed, Meets};
+ghost use Rattle.drive_queries.specs.Visits.{IsClosed, AreClosed, Meets, IsStarted, IsStartMarked};
 
-use crate::ends::{Goal, Start};
+use crate::ends::{Goal, Start, goal_at};
 use crate::marks::{Origin, Search};
 use crate::spots::{Spot, find_spot, put_names};
 use road_base::NoMemory;
-use road_model::laws::name_order;
 use road_model::{PieceName, TurnArc};
 use std::alloc::Global;
 use std::collections::BTreeMap;
@@ -39,15 +38,25 @@ pub fn begin(
     ensures grows { OnOk result (Grows search.old search.new) }
     ensures begun { OnOk result (AreBegun (map at_of spots.now) starts.now search.new) }
     ensures all { OnOk result ((s : Start) → Contains starts.now s
-        → (n : ℕ) × (x : At) × (slice_get (map at_of spots.now) n ≡ Some x) × (key_of x ≡ (s.piece.now.name, []))
-        × IsVisited search.new.visits n) }
+        → IsStarted (map at_of spots.now) search.new.visits s) }
 {
     for start in starts {
-        if let Some(number) = find_spot(spots, start.piece.name, &[]) {
-            search.mark(spots, number, Origin::Begins(start.first), 0)?;
-        }
+        begin_on(search, spots, *start)?;
     }
     Ok(())
+}
+
+/// Visits the context of the piece alone.
+fn begin_on(search: &mut Search, spots: &[Spot<'_>], start: Start<'_>) -> Result<(), NoMemory>
+    requires up { IsTrue (rises key_cmp (map key_of (map at_of spots.now))) }
+    requires listed { (x : At) × Contains (map at_of spots.now) x × (key_of x ≡ (start.piece.now.name, [])) }
+    requires count { length search.old.marked ≡ length spots.now }
+    ensures { OnOk result (IsStartMarked (map at_of spots.now) start search.old search.new) }
+{
+    match find_spot(spots, start.piece.name, &[]) {
+        Some(number) => search.mark(spots, number, Origin::Begins(start.first), 0),
+        None => unreachable!(),
+    }
 }
 
 /// Goes on until a goal is come to, or nothing is left to go on from.
@@ -99,11 +108,10 @@ fn go_on<'a>(
         → IsClosed (map at_of spots.now) goals.now search.new.visits v)
         (λ m. Meets (map at_of spots.now) goals.now search.new.visits m.place m.goal)) }
 {
-    name_order();
     let spot = spots[search.at(place).number];
     for arc in spot.context.arcs.items() {
-        if let Some(goal) = goals.get(&arc.piece) {
-            return Ok(Some(Meeting { place, goal: *goal }));
+        if let Some(goal) = goal_at(goals, arc.piece) {
+            return Ok(Some(Meeting { place, goal }));
         }
         follow(search, names, spots, place, *arc)?;
     }

@@ -47,6 +47,7 @@ impl Frontier {
     pub fn pop(&mut self) -> Option<usize>
         ensures some { IfSome result (λ place. IsPermutation self.old (place ∷ self.new)) }
         ensures none { IfNone result (self.old ≡ []) }
+        ensures empty { IfNone result (self.new ≡ []) }
     {
         match self.heap.pop() {
             Some(Reverse((_, place))) => Some(place),

@@ -80,6 +80,7 @@ impl Search {
         ensures visits { self.new.visits ≡ self.old.visits }
         ensures some { IfSome result (λ place. IsPermutation self.old.waiting (place ∷ self.new.waiting)) }
         ensures none { IfNone result (self.old.waiting ≡ []) }
+        ensures empty { IfNone result (self.new.waiting ≡ []) }
     {
         self.frontier.pop()
     }
