@@ -3,3 +3,4 @@ pub mod SearchOrder
 pub mod SearchFrontier
 pub mod SearchSpots
 pub mod SearchMarks
+pub mod SearchStarts

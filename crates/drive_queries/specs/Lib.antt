@@ -4,5 +4,6 @@ pub mod Tables
 pub mod Reaching
 pub mod Searching
 pub mod Counting
+pub mod Summing
 pub mod Marks
 pub mod Visits

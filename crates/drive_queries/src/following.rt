@@ -41,17 +41,17 @@ pub fn begin(
         → IsStarted (map at_of spots.now) search.new.visits s) }
 {
     for start in starts {
-        begin_on(search, spots, *start)?;
+        begin_on(search, spots, start)?;
     }
     Ok(())
 }
 
 /// Visits the context of the piece alone.
-fn begin_on(search: &mut Search, spots: &[Spot<'_>], start: Start<'_>) -> Result<(), NoMemory>
+fn begin_on(search: &mut Search, spots: &[Spot<'_>], start: &Start<'_>) -> Result<(), NoMemory>
     requires up { IsTrue (rises key_cmp (map key_of (map at_of spots.now))) }
-    requires listed { (x : At) × Contains (map at_of spots.now) x × (key_of x ≡ (start.piece.now.name, [])) }
+    requires listed { (x : At) × Contains (map at_of spots.now) x × (key_of x ≡ (start.now.piece.now.name, [])) }
     requires count { length search.old.marked ≡ length spots.now }
-    ensures { OnOk result (IsStartMarked (map at_of spots.now) start search.old search.new) }
+    ensures { OnOk result (IsStartMarked (map at_of spots.now) start.now search.old search.new) }
 {
     match find_spot(spots, start.piece.name, &[]) {
         Some(number) => search.mark(spots, number, Origin::Begins(start.first), 0),
