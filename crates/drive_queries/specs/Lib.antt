@@ -7,3 +7,4 @@ pub mod Counting
 pub mod Summing
 pub mod Marks
 pub mod Visits
+pub mod Routes
