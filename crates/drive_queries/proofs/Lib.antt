@@ -4,3 +4,4 @@ pub mod SearchFrontier
 pub mod SearchSpots
 pub mod SearchMarks
 pub mod SearchStarts
+pub mod SearchRoutes

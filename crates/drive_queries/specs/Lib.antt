@@ -8,3 +8,5 @@ pub mod Summing
 pub mod Marks
 pub mod Visits
 pub mod Routes
+pub mod Sought
+pub mod Ends

@@ -1,10 +1,20 @@
 //! The pieces on which a drive may begin or end.
-ghost use Rattle.std.specs.Prelude.{◌≡◌};
+ghost use Rattle.std.specs.Prelude.{◌≡◌, ◌≤◌, ◌⊎◌, ℕ, map, IfOk, OnOk, IfSome, IfNone, Some, IsTrue, Contains};
+ghost use Rattle.std.specs.FinMap.{get};
+ghost use Rattle.road_model.specs.declared.lists.Piece.{Piece};
+ghost use Rattle.road_model.specs.declared.lists.PieceName.{PieceName};
+ghost use Rattle.road_model.specs.BlockMap.{AreBlocksOf};
+ghost use Rattle.road_model.specs.Networks.{on};
+ghost use Rattle.road_model.specs.Orders.{name_cmp, rises};
+ghost use Rattle.drive_queries.specs.declared.ends.Start.{Start};
+ghost use Rattle.drive_queries.specs.declared.ends.Goal.{Goal};
+ghost use Rattle.drive_queries.specs.Ends.{pieces_in, BeginsBy, StopsBy, Leaves, Arrives};
 ghost use Rattle.drive_queries.specs.Visits.{goal_in};
+ghost use Rattle.drive_queries.specs.Sought.{AreStarts, AreGoals};
 
-use road_base::{NoMemory, NodeId};
-use road_model::laws::name_order;
-use road_model::{Blocks, Piece, PieceName, Place, World};
+use road_base::{NoMemory, NodeId, WayId};
+use road_model::laws::{name_order, one_name, roads_refer};
+use road_model::{Blocks, Network, Piece, PieceName, Place, Profile, World};
 use std::alloc::Global;
 use std::collections::BTreeMap;
 
@@ -22,27 +32,46 @@ pub struct Goal<'a> {
     pub last: usize,
 }
 
-/// The pieces that begin with the node or pass it.
-pub fn starts_of<'a, M: World>(
+/// The pieces with a step that begins at the node, each with the first such step.
+pub fn starts_of<'a, M: World, P: Profile>(
     alloc: Global,
-    world: &M,
+    network: &Network<'_, M, P>,
     blocks: &'a Blocks,
     node: NodeId,
-) -> Result<Vec<Start<'a>>, NoMemory> {
+) -> Result<Vec<Start<'a>>, NoMemory>
+    requires { on network.now AreBlocksOf blocks.now.map }
+    ensures { IfOk result (λ v. on network.now AreStarts node v.items) }
+{
+    roads_refer(&network.profile);
     let mut starts = Vec::new(alloc);
-    for way in world.ways_at(node) {
-        if let Some(block) = blocks.get(*way) {
-            add_starts(&mut starts, block.pieces.items(), node)?;
-        }
+    for way in network.world.ways_at(node) {
+        add_starts(&mut starts, pieces_of(blocks, *way), node)?;
     }
     Ok(starts)
 }
 
+/// The pieces of the way.
+fn pieces_of(blocks: &Blocks, way: WayId) -> &[Piece]
+    ensures { result.now ≡ pieces_in (get blocks.now.map way) }
+{
+    match blocks.get(way) {
+        Some(block) => block.pieces.items(),
+        None => &[],
+    }
+}
+
+/// Adds those of the pieces.
 fn add_starts<'a>(
     starts: &mut Vec<Start<'a>>,
     pieces: &'a [Piece],
     node: NodeId,
-) -> Result<(), NoMemory> {
+) -> Result<(), NoMemory>
+    ensures stays { OnOk result ((s : Start) → Contains starts.old.items s → Contains starts.new.items s) }
+    ensures new { OnOk result ((s : Start) → Contains starts.new.items s
+        → Contains starts.old.items s ⊎ (Contains pieces.now s.piece.now × Leaves s.piece.now s.first node)) }
+    ensures all { OnOk result ((e : Piece) (i : ℕ) → Contains pieces.now e → Leaves e i node
+        → (s : Start) × Contains starts.new.items s × (s.piece.now ≡ e) × (s.first ≤ i)) }
+{
     for piece in pieces {
         if let Some(first) = first_from(piece.places.items(), node) {
             starts.push(Start { piece, first })?;
@@ -51,27 +80,40 @@ fn add_starts<'a>(
     Ok(())
 }
 
-/// The pieces that pass the node or end with it, by their names.
-pub fn goals_of<'a, M: World>(
+/// The pieces with a step that ends at the node, each with the last such step, by their names.
+pub fn goals_of<'a, M: World, P: Profile>(
     alloc: Global,
-    world: &M,
+    network: &Network<'_, M, P>,
     blocks: &'a Blocks,
     node: NodeId,
-) -> Result<BTreeMap<PieceName, Goal<'a>>, NoMemory> {
+) -> Result<BTreeMap<PieceName, Goal<'a>>, NoMemory>
+    requires { on network.now AreBlocksOf blocks.now.map }
+    ensures { IfOk result (λ m. on network.now AreGoals node m) }
+{
+    roads_refer(&network.profile);
+    one_name(&network.profile);
     let mut goals = BTreeMap::new(alloc);
-    for way in world.ways_at(node) {
-        if let Some(block) = blocks.get(*way) {
-            add_goals(&mut goals, block.pieces.items(), node)?;
-        }
+    for way in network.world.ways_at(node) {
+        add_goals(&mut goals, pieces_of(blocks, *way), node)?;
     }
     Ok(goals)
 }
 
+/// Puts those of the pieces, whose names are all different from those of the goals so far.
 fn add_goals<'a>(
     goals: &mut BTreeMap<PieceName, Goal<'a>>,
     pieces: &'a [Piece],
     node: NodeId,
-) -> Result<(), NoMemory> {
+) -> Result<(), NoMemory>
+    requires { IsTrue (rises name_cmp (map (λ e. e.name) pieces.now)) }
+    ensures others { OnOk result ((n : PieceName) → ((e : Piece) → Contains pieces.now e → e.name ≡ n → ⊥)
+        → goal_in goals.new n ≡ goal_in goals.old n) }
+    ensures new { OnOk result ((e : Piece) (g : Goal) → Contains pieces.now e → goal_in goals.new e.name ≡ Some g
+        → (goal_in goals.old e.name ≡ Some g) ⊎ ((g.piece.now ≡ e) × Arrives e g.last node)) }
+    ensures all { OnOk result ((e : Piece) (j : ℕ) → Contains pieces.now e → Arrives e j node
+        → (g : Goal) × (goal_in goals.new e.name ≡ Some g) × (j ≤ g.last)) }
+{
+    name_order();
     for piece in pieces {
         if let Some(last) = last_to(piece.places.items(), node) {
             goals.insert(piece.name, Goal { piece, last })?;
@@ -89,9 +131,13 @@ pub fn goal_at<'a>(goals: &BTreeMap<PieceName, Goal<'a>>, name: PieceName) -> Op
 }
 
 /// The first step that begins at the node.
-fn first_from(places: &[Place], node: NodeId) -> Option<usize> {
-    for at in 0..places.len() {
-        if at + 1 < places.len() && places[at].node == node {
+fn first_from(places: &[Place], node: NodeId) -> Option<usize>
+    ensures some { IfSome result (λ i. BeginsBy places.now i node) }
+    ensures first { IfSome result (λ i. (k : ℕ) → BeginsBy places.now k node → i ≤ k) }
+    ensures none { IfNone result ((k : ℕ) → BeginsBy places.now k node → ⊥) }
+{
+    for (at, place) in places.iter().enumerate() {
+        if at + 1 < places.len() && place.node == node {
             return Some(at);
         }
     }
@@ -99,7 +145,11 @@ fn first_from(places: &[Place], node: NodeId) -> Option<usize> {
 }
 
 /// The last step that ends at the node.
-fn last_to(places: &[Place], node: NodeId) -> Option<usize> {
+fn last_to(places: &[Place], node: NodeId) -> Option<usize>
+    ensures some { IfSome result (λ i. StopsBy places.now i node) }
+    ensures last { IfSome result (λ i. (k : ℕ) → StopsBy places.now k node → k ≤ i) }
+    ensures none { IfNone result ((k : ℕ) → StopsBy places.now k node → ⊥) }
+{
     let mut last = None;
     for at in 1..places.len() {
         if places[at].node == node {
