@@ -1,7 +1,7 @@
 -- The places of visits that lead to one, and their steps.
 use Rattle.std.proofs.Common.{◌≡◌, ◌⊎◌, inl, inr, ℕ, zero, suc, ◌+◌, ◌-◌, ◌<◌, ◌≤◌, min, List, [], ◌∷◌, ◌++◌, length, map}
 use Rattle.std.proofs.Common.{Option, Some, None, slice_get, Contains, refl, sym, ◌∙◌, ap, subst, arith, take, drop, reverse}
-use Rattle.std.proofs.Common.{append_assoc}
+use Rattle.std.proofs.Common.{append_assoc, Result, OnOk}
 use Rattle.std.proofs.lemmas.List.{reverse-append}
 use Rattle.std.proofs.lemmas.Option.{slice_get_within}
 use Rattle.road_base.proofs.ListMembers.{contains_more, contains_one}
@@ -50,3 +50,7 @@ pub steps_known : (L : List At) (visits : List Visit) (place : ℕ) (v : Visit) 
     → slice_get L v.number ≡ Some x → steps_at L visits place ≡ spelled x.piece
 steps_known L visits place v x e f = ap (steps_by L) e ∙ ap steps_in f
 
+
+pub added : {T E : Type 0} (r : Result T E) (new old a b : List Step) → a ≡ b → OnOk r (new ≡ old ++ a)
+    → OnOk r (new ≡ old ++ b)
+added r new old a b e h = subst (λ l. OnOk r (new ≡ old ++ l)) e h

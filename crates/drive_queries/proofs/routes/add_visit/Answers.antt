@@ -1,11 +1,11 @@
-use Rattle.std.proofs.Common.{◌≡◌, ◌++◌, ◌∙◌, map, Some, slice_get, slice_index_or, sym, ap}
+use Rattle.std.proofs.Common.{◌≡◌, map, Some, slice_get, slice_index_or, sym}
 use Rattle.std.proofs.lemmas.Option.{slice_get-get_or}
-use Rattle.std.proofs.lemmas.Result.{on_ok_weaker}
 use Rattle.drive_queries.specs.declared.marks.Origin.TheVariants.{Begins}
 use Rattle.drive_queries.specs.declared.marks.Visit.{Visit}
 use Rattle.drive_queries.specs.Marks.{at_of}
+use Rattle.drive_queries.specs.Routes.{spelled, steps_at}
 use Rattle.drive_queries.proofs.SearchSpots.{spot_read, within_map}
-use Rattle.drive_queries.proofs.SearchRoutes.{steps_known}
+use Rattle.drive_queries.proofs.SearchRoutes.{steps_known, added}
 use Rattle.drive_queries.proofs.routes.add_visit.Goals as goal
 
 abbrev no_visit : Visit
@@ -29,5 +29,6 @@ returns c =
     let x = at_of c.index-spots-visit.result in
     let within = within_map at_of c.args.spots.now v.number (c.requires.spelled.numbers c.args.place v e) in
     let from = spot_read c.args.spots.now v.number c.index-spots-visit.result within c.index-spots-visit.is in
-    on_ok_weaker _ (λ is. is ∙ ap (λ l. c.args.steps.now.items ++ l)
-    (sym (steps_known (map at_of c.args.spots.now) visits c.args.place v x e from))) c.add_piece.ensures
+    let L = map at_of c.args.spots.now in
+    added c.add_piece.result c.add_piece.new.steps.items c.args.steps.now.items (spelled x.piece)
+    (steps_at L visits c.args.place) (sym (steps_known L visits c.args.place v x e from)) c.add_piece.ensures
