@@ -1,5 +1,7 @@
 //! The pieces on which a drive may begin or end.
-ghost use Rattle.std.specs.Prelude.{◌≡◌, ◌≤◌, ◌⊎◌, ℕ, map, IfOk, OnOk, IfSome, IfNone, Some, IsTrue, Contains};
+ghost use Rattle.std.specs.Prelude.{◌≡◌, ◌<◌, ◌≤◌, ◌⊎◌, ℕ, map, IfOk, OnOk, IfSome, IfNone, Some, IsTrue, IsFalse};
+ghost use Rattle.std.specs.Prelude.{Contains, length, slice_get};
+ghost use Rattle.road_model.specs.declared.lists.Place.{Place};
 ghost use Rattle.std.specs.FinMap.{get};
 ghost use Rattle.road_model.specs.declared.lists.Piece.{Piece};
 ghost use Rattle.road_model.specs.declared.lists.PieceName.{PieceName};
@@ -136,9 +138,9 @@ fn first_from(places: &[Place], node: NodeId) -> Option<usize>
     ensures first { IfSome result (λ i. (k : ℕ) → BeginsBy places.now k node → i ≤ k) }
     ensures none { IfNone result ((k : ℕ) → BeginsBy places.now k node → ⊥) }
 {
-    for (at, place) in places.iter().enumerate() {
-        if at + 1 < places.len() && place.node == node {
-            return Some(at);
+    for step in 0..places.len() {
+        if begins(places, step, node) {
+            return Some(step);
         }
     }
     None
@@ -150,11 +152,37 @@ fn last_to(places: &[Place], node: NodeId) -> Option<usize>
     ensures last { IfSome result (λ i. (k : ℕ) → StopsBy places.now k node → k ≤ i) }
     ensures none { IfNone result ((k : ℕ) → StopsBy places.now k node → ⊥) }
 {
-    let mut last = None;
-    for at in 1..places.len() {
-        if places[at].node == node {
-            last = Some(at - 1);
+    for step in (0..places.len()).rev() {
+        if stops(places, step, node) {
+            return Some(step);
         }
     }
-    last
+    None
+}
+
+/// Whether the step begins at the node.
+fn begins(places: &[Place], step: usize, node: NodeId) -> bool
+    requires { step < length places.now }
+    ensures yes { IsTrue result → BeginsBy places.now step node }
+    ensures no { IsFalse result → BeginsBy places.now step node → ⊥ }
+{
+    step + 1 < places.len() && is_at(places, step, node)
+}
+
+/// Whether the step ends at the node.
+fn stops(places: &[Place], step: usize, node: NodeId) -> bool
+    requires { step < length places.now }
+    ensures yes { IsTrue result → StopsBy places.now step node }
+    ensures no { IsFalse result → StopsBy places.now step node → ⊥ }
+{
+    step + 1 < places.len() && is_at(places, step + 1, node)
+}
+
+/// Whether the place is at the node.
+fn is_at(places: &[Place], at: usize, node: NodeId) -> bool
+    requires { at < length places.now }
+    ensures yes { IsTrue result → (place : Place) × (slice_get places.now at ≡ Some place) × (place.node ≡ node) }
+    ensures no { IsFalse result → (place : Place) → slice_get places.now at ≡ Some place → place.node ≡ node → ⊥ }
+{
+    places[at].node == node
 }
