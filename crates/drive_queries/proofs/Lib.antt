@@ -5,3 +5,4 @@ pub mod SearchSpots
 pub mod SearchMarks
 pub mod SearchStarts
 pub mod SearchRoutes
+pub mod SearchEntries

@@ -99,7 +99,7 @@ module _ (ways : IsTotalOrder way_cmp) (names : IsTotalOrder name_cmp) (lists : 
   pub record AreOrdered (bs : List Block) : Type 0 where
     pub up : IsTrue (rises way_cmp (map (λ b. b.way) bs))
     pub pieces : (b : Block) → In b bs → IsTrue (rises name_cmp (map (λ p. p.name) b.pieces))
-    pub ways : (b : Block) (p : Piece) → In b bs → In p b.pieces → p.name.way ≡ b.way
+    pub of_way : (b : Block) (p : Piece) → In b bs → In p b.pieces → p.name.way ≡ b.way
     pub contexts : (b : Block) (p : Piece) → In b bs → In p b.pieces
         → IsTrue (rises names_cmp (map (λ c. c.before) p.contexts))
 
@@ -119,7 +119,7 @@ module _ (ways : IsTotalOrder way_cmp) (names : IsTotalOrder name_cmp) (lists : 
       let p = piece_over b.pieces x h in
       let q = piece_over c.pieces y k in
       by_piece x y x.piece y.piece refl refl
-      (by_way b c x.piece y.piece (o.ways b x.piece i p) (o.ways c y.piece j q) l))
+      (by_way b c x.piece y.piece (o.of_way b x.piece i p) (o.of_way c y.piece j q) l))
 
   pub all_rise : (bs : List Block) → AreOrdered bs → IsTrue (rises key_cmp (map key_of (all_contexts bs)))
   all_rise bs o = rises_again key_of key_cmp (key_total names lists) (all_contexts bs) (all_climb bs o)

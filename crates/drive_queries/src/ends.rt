@@ -75,11 +75,27 @@ fn add_starts<'a>(
         → (s : Start) × Contains starts.new.items s × (s.piece.now ≡ e) × (s.first ≤ i)) }
 {
     for piece in pieces {
-        if let Some(first) = first_from(piece.places.items(), node) {
-            starts.push(Start { piece, first })?;
-        }
+        add_start(starts, piece, node)?;
     }
     Ok(())
+}
+
+/// Adds the piece, if one of its steps begins at the node.
+fn add_start<'a>(
+    starts: &mut Vec<Start<'a>>,
+    piece: &'a Piece,
+    node: NodeId,
+) -> Result<(), NoMemory>
+    ensures stays { OnOk result ((s : Start) → Contains starts.old.items s → Contains starts.new.items s) }
+    ensures new { OnOk result ((s : Start) → Contains starts.new.items s
+        → Contains starts.old.items s ⊎ ((s.piece.now ≡ piece.now) × Leaves piece.now s.first node)) }
+    ensures all { OnOk result ((i : ℕ) → Leaves piece.now i node
+        → (s : Start) × Contains starts.new.items s × (s.piece.now ≡ piece.now) × (s.first ≤ i)) }
+{
+    match first_from(piece.places.items(), node) {
+        Some(first) => Ok(starts.push(Start { piece, first })?),
+        None => Ok(()),
+    }
 }
 
 /// The pieces with a step that ends at the node, each with the last such step, by their names.
