@@ -203,7 +203,7 @@ module _ (M : Objects) (P : Rules) (names : IsTotalOrder name_cmp) (lists : IsTo
         let e = piece_entry p i in
         let c = h.1.pieces.complete e.0 e.1 in
         let r : IsRoadBlock M P b
-            = record { block = subst (λ v. IsBlock M P v b) (sym h.1.way) h.1; some = has_entry b e.0 c } in
+        = record { block = subst (λ v. IsBlock M P v b) (sym h.1.way) h.1; some = has_entry b e.0 c } in
         let g : get m b.way ≡ Some b = (are b.way b).1 (refl, r) in
         (b, (each b).1 g, c)
 
@@ -232,12 +232,12 @@ module _ (M : Objects) (P : Rules) (names : IsTotalOrder name_cmp) (lists : IsTo
         let x = at_by e.0 t.0 in
         let in_piece : Contains (contexts_at e.0) x = contains_map (at_by e.0) e.0.contexts t.0 has_context in
         let in_block : Contains (contexts_over w.0.pieces) x
-            = contains_flat contexts_at w.0.pieces e.0 x w.2 in_piece in
+        = contains_flat contexts_at w.0.pieces e.0 x w.2 in_piece in
         let in_all : Contains (all_contexts bs) x
-            = contains_flat (λ (b : Block). contexts_over b.pieces) bs w.0 x w.1 in_block in
+        = contains_flat (λ (b : Block). contexts_over b.pieces) bs w.0 x w.1 in_block in
         let bf : front ≡ t.1.before = sym (context_before e.1.piece front q) in
         let is : front ++ p ∷ [] ≡ t.1.before ++ e.1.piece ∷ []
-            = subst (λ f. front ++ p ∷ [] ≡ f ++ e.1.piece ∷ []) bf (ap (λ z. front ++ z ∷ []) same) in
+        = subst (λ f. front ++ p ∷ [] ≡ f ++ e.1.piece ∷ []) bf (ap (λ z. front ++ z ∷ []) same) in
         (x, in_all, record { way = p.way; listed = e.1; entry = t.1; is = is })
 
     sound_spot : (x : At) → Contains (all_contexts bs) x → (c : List Span) × IsSpot M P c x
@@ -249,7 +249,7 @@ module _ (M : Objects) (P : Rules) (names : IsTotalOrder name_cmp) (lists : IsTo
         let listed = r.block.pieces.sound p.0 p.1 in
         let entry = listed.contexts.sound c.0 c.1 in
         let s : IsSpot M P (entry.before ++ listed.piece ∷ []) (at_by p.0 c.0)
-            = record { way = b.0.way; listed = listed; entry = entry; is = refl } in
+        = record { way = b.0.way; listed = listed; entry = entry; is = refl } in
         (entry.before ++ listed.piece ∷ [], subst (λ z. IsSpot M P (entry.before ++ listed.piece ∷ []) z) (sym c.2) s)
 
     ordered : IsTrue (rises way_cmp (map (λ b. b.way) bs)) → AreOrdered ways names lists bs

@@ -63,28 +63,28 @@ pub begun_again : (l m n : Marks) → NoneBegun l m → NoneBegun m n → NoneBe
 begun_again l m n g h k first v e o = g k first v (h k first v e o) o
 
 module _ (m n : Marks) (stays : (k : ℕ) (v : Visit) → slice_get m.visits k ≡ Some v → slice_get n.visits k ≡ Some v)
-    where
-  pub visited_stays : (k : ℕ) → IsVisited m.visits k → IsVisited n.visits k
-  visited_stays k h = record { place = h.place; visit = h.visit; at = stays h.place h.visit h.at; of = h.of }
+  where
+    pub visited_stays : (k : ℕ) → IsVisited m.visits k → IsVisited n.visits k
+    visited_stays k h = record { place = h.place; visit = h.visit; at = stays h.place h.visit h.at; of = h.of }
 
-  pub followed_stays : (L : List At) (goals : BTreeMap PieceName Goal) (x : At) (arcs : List TurnArc)
-      → AreFollowed L goals m.visits x arcs → AreFollowed L goals n.visits x arcs
-  followed_stays L goals x arcs h a i = let f = h a i in (f.0, (f.1.0, f.1.1, visited_stays f.1.0 f.1.2))
+    pub followed_stays : (L : List At) (goals : BTreeMap PieceName Goal) (x : At) (arcs : List TurnArc)
+        → AreFollowed L goals m.visits x arcs → AreFollowed L goals n.visits x arcs
+    followed_stays L goals x arcs h a i = let f = h a i in (f.0, (f.1.0, f.1.1, visited_stays f.1.0 f.1.2))
 
-  pub closed_stays : (L : List At) (goals : BTreeMap PieceName Goal) (v : Visit) → IsClosed L goals m.visits v
-      → IsClosed L goals n.visits v
-  closed_stays L goals v h x e = followed_stays L goals x x.context.arcs (h x e)
+    pub closed_stays : (L : List At) (goals : BTreeMap PieceName Goal) (v : Visit) → IsClosed L goals m.visits v
+        → IsClosed L goals n.visits v
+    closed_stays L goals v h x e = followed_stays L goals x x.context.arcs (h x e)
 
-  pub comes_stays : (L : List At) (j number : ℕ) → Comes L m.visits j number → Comes L n.visits j number
-  comes_stays L j number h = record {
-    before = h.before;
-    at = stays j h.before h.at;
-    from = h.from;
-    from_at = h.from_at;
-    arc = h.arc;
-    has = h.has;
-    leads = h.leads;
-  }
+    pub comes_stays : (L : List At) (j number : ℕ) → Comes L m.visits j number → Comes L n.visits j number
+    comes_stays L j number h = record {
+      before = h.before;
+      at = stays j h.before h.at;
+      from = h.from;
+      from_at = h.from_at;
+      arc = h.arc;
+      has = h.has;
+      leads = h.leads;
+    }
 
 -- ---- a context that is marked anew
 
@@ -116,9 +116,9 @@ module _ (L : List At) (number : ℕ) (origin : Origin) (m n : Marks) (new : IsN
   new_less : left n ≤ left m
   new_less =
       let u : unmarked n.marked + 1 ≡ unmarked m.marked = subst (λ bs. unmarked bs + 1 ≡ unmarked m.marked)
-          (sym new.marked) (unmark m.marked number new.fresh) in
+      (sym new.marked) (unmark m.marked number new.fresh) in
       let w : length n.waiting ≡ length (length m.visits ∷ m.waiting)
-          = length_permutation (length m.visits ∷ m.waiting) n.waiting new.waiting in
+      = length_permutation (length m.visits ∷ m.waiting) n.waiting new.waiting in
       omega arith
 
   new_grows : Grows m n
@@ -141,7 +141,7 @@ module _ (L : List At) (number : ℕ) (origin : Origin) (m n : Marks) (new : IsN
   new_within s k h =
       let l = longer in
       let back = Contains-permutation n.waiting (length m.visits ∷ m.waiting) k
-          (IsPermutation-sym (length m.visits ∷ m.waiting) n.waiting new.waiting) h in
+      (IsPermutation-sym (length m.visits ∷ m.waiting) n.waiting new.waiting) h in
       elim (contains_cases (length m.visits) k m.waiting back) [
         | inl e ↦ omega (arith, e)
         | inr i ↦ let b = s.within k i in omega arith
@@ -166,11 +166,10 @@ module _ (L : List At) (number : ℕ) (origin : Origin) (m n : Marks) (new : IsN
     comes = λ k j v e o. elim (new_cases k v e) [
       | inl old ↦ let h = s.comes k j v old o in (h.0, comes_stays m n new_stays L j v.number h.1)
       | inr last ↦
-        let h = comes j (new_origin v (Follows j) last.1 o) in
-        (
-          subst (λ i. j < i) (sym last.0) h.0,
-          subst (λ i. Comes L n.visits j i) (sym (new_number v last.1)) (comes_stays m n new_stays L j number h.1),
-        )
+          let h = comes j (new_origin v (Follows j) last.1 o) in (
+            subst (λ i. j < i) (sym last.0) h.0,
+            subst (λ i. Comes L n.visits j i) (sym (new_number v last.1)) (comes_stays m n new_stays L j number h.1),
+          )
     ];
     known = λ k e. elim (set_cases m.marked number k (subst (λ bs. slice_get bs k ≡ Some true) new.marked e)) [
       | inl same ↦ subst (λ i. IsVisited n.visits i) (sym same) new_visited
@@ -183,7 +182,7 @@ module _ (L : List At) (number : ℕ) (origin : Origin) (m n : Marks) (new : IsN
   new_begun j f k first v e o = elim (new_cases k v e) [
     | inl old ↦ old
     | inr last ↦ let g : origin ≡ Begins first = new_origin v (Begins first) last.1 o in
-      let h : Follows j ≡ Begins first = sym f ∙ g in cc
+        let h : Follows j ≡ Begins first = sym f ∙ g in cc
   ]
 
 -- ---- a context that is marked
@@ -220,10 +219,10 @@ module _ (L : List At) (number : ℕ) (origin : Origin) (m n : Marks) (is : IsMa
   marked_cases k v e = elim is [
     | inl h ↦ inl (subst (λ l. slice_get l.visits k ≡ Some v) h.1 e)
     | inr new ↦ elim (stands_cases m.visits (record { number = number; origin = origin; driven = new.driven }) k v
-      (subst (λ vs. slice_get vs k ≡ Some v) new.visits e)) [
-      | inl old ↦ inl old
-      | inr last ↦ inr (ap (λ w. w.number) last.1, ap (λ w. w.origin) last.1)
-    ]
+        (subst (λ vs. slice_get vs k ≡ Some v) new.visits e)) [
+          | inl old ↦ inl old
+          | inr last ↦ inr (ap (λ w. w.number) last.1, ap (λ w. w.origin) last.1)
+        ]
   ]
 
 -- ---- by an arc
@@ -281,8 +280,8 @@ more_followed L goals visits x items i d h none leads f a has =
     elim (contains_more (take i items) arc a (subst (λ l. Contains l a) (take_more items i d h) has)) [
       | inl old ↦ f a old
       | inr same ↦ subst
-        (λ b. (goal_in goals b.piece ≡ None) × ((n : ℕ) × LeadsBy L x b n × IsVisited visits n)) (sym same)
-        (none, leads)
+          (λ b. (goal_in goals b.piece ≡ None) × ((n : ℕ) × LeadsBy L x b n × IsVisited visits n)) (sym same)
+          (none, leads)
     ]
 
 pub all_followed : (L : List At) (goals : BTreeMap PieceName Goal) (visits : List Visit) (x y : At)
@@ -334,7 +333,7 @@ module _ (L : List At) (m p : Marks) (place : ℕ) (popped : IsPopped m p place)
       let a = g.less in
       let u : unmarked p.marked ≡ unmarked m.marked = ap unmarked popped.marked in
       let w : length (place ∷ p.waiting) ≡ length m.waiting
-          = length_permutation m.waiting (place ∷ p.waiting) popped.waiting in
+      = length_permutation m.waiting (place ∷ p.waiting) popped.waiting in
       omega arith
 
   module _ (goals : BTreeMap PieceName Goal) (n : Marks) (g : Grows p n)

@@ -69,8 +69,8 @@ module _ (ways : IsTotalOrder way_cmp) (names : IsTotalOrder name_cmp) (lists : 
       → IsTrue (is_lt (key_cmp (key_of x) (key_of y)))
   by_piece x y p q e f l =
       let h : name_cmp x.piece.name y.piece.name ≡ Less
-          = subst (λ a. name_cmp a.name y.piece.name ≡ Less) (sym e)
-          (subst (λ b. name_cmp p.name b.name ≡ Less) (sym f) (less _ l)) in
+      = subst (λ a. name_cmp a.name y.piece.name ≡ Less) (sym e)
+      (subst (λ b. name_cmp p.name b.name ≡ Less) (sym f) (less _ l)) in
       first_less _ _ h
 
   piece_rises : (p : Piece) → IsTrue (rises names_cmp (map (λ c. c.before) p.contexts)) → Rising (contexts_at p)
@@ -107,8 +107,8 @@ module _ (ways : IsTotalOrder way_cmp) (names : IsTotalOrder name_cmp) (lists : 
       → IsTrue (is_lt (way_cmp b.way c.way)) → IsTrue (is_lt (name_cmp p.name q.name))
   by_way b c p q e f l =
       let h : way_cmp p.name.way q.name.way ≡ Less
-          = subst (λ a. way_cmp a q.name.way ≡ Less) (sym e)
-          (subst (λ a. way_cmp b.way a ≡ Less) (sym f) (less _ l)) in
+      = subst (λ a. way_cmp a q.name.way ≡ Less) (sym e)
+      (subst (λ a. way_cmp b.way a ≡ Less) (sym f) (less _ l)) in
       first_less _ _ h
 
   all_climb : (bs : List Block) → AreOrdered bs → Rising (all_contexts bs)

@@ -23,8 +23,8 @@ module _ (visits : List Visit) where
   chain_more first ks at before place v old new e o is inv chain =
       let h = inv first (ks ++ before ∷ []) (More (ks ++ before ∷ []) before at v chain e o refl) in
       let same : (ks ++ before ∷ []) ++ at ∷ reverse old ≡ ks ++ before ∷ reverse new
-          = append_assoc ks (before ∷ []) (at ∷ reverse old)
-          ∙ ap (λ l. ks ++ before ∷ l) (sym (reversed old new at is)) in
+      = append_assoc ks (before ∷ []) (at ∷ reverse old)
+      ∙ ap (λ l. ks ++ before ∷ l) (sym (reversed old new at is)) in
       subst (λ l. IsChain visits first l place) same h
 
   pub chain_ends : (first at place : ℕ) (v : Visit) (old new : List ℕ) → slice_get visits at ≡ Some v
@@ -49,7 +49,6 @@ module _ (visits : List Visit) where
 pub steps_known : (L : List At) (visits : List Visit) (place : ℕ) (v : Visit) (x : At) → slice_get visits place ≡ Some v
     → slice_get L v.number ≡ Some x → steps_at L visits place ≡ spelled x.piece
 steps_known L visits place v x e f = ap (steps_by L) e ∙ ap steps_in f
-
 
 pub added : {T E : Type 0} (r : Result T E) (new old a b : List Step) → a ≡ b → OnOk r (new ≡ old ++ a)
     → OnOk r (new ≡ old ++ b)

@@ -52,15 +52,15 @@ module _ (L : List At) (start : Start) (m n : Marks) (is : IsStartMarked L start
   start_begun starts has old k first v e o = elim (marked_cases L is.number (Begins start.first) m n is.marked k v e) [
     | inl before ↦ old k first v before o
     | inr now ↦
-      let step : start.first ≡ first = same_begin start.first first (sym now.1 ∙ o) in
-      record {
-        start = start;
-        is = has;
-        step = step;
-        from = is.from;
-        at = subst (λ i. slice_get L i ≡ Some is.from) (sym now.0) is.at;
-        named = is.named;
-      }
+        let step : start.first ≡ first = same_begin start.first first (sym now.1 ∙ o) in
+        record {
+          start = start;
+          is = has;
+          step = step;
+          from = is.from;
+          at = subst (λ i. slice_get L i ≡ Some is.from) (sym now.0) is.at;
+          named = is.named;
+        }
   ]
 
 pub started_stays : (L : List At) (m n : Marks) (start : Start) → Grows m n → IsStarted L m.visits start

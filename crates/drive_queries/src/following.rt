@@ -24,11 +24,7 @@ pub struct Meeting<'a> {
 }
 
 /// Visits the contexts of the pieces on which a drive may begin.
-pub fn begin(
-    search: &mut Search,
-    spots: &[Spot<'_>],
-    starts: &[Start<'_>],
-) -> Result<(), NoMemory>
+pub fn begin(search: &mut Search, spots: &[Spot<'_>], starts: &[Start<'_>]) -> Result<(), NoMemory>
     requires up { IsTrue (rises key_cmp (map key_of (map at_of spots.now))) }
     requires listed { (s : Start) → Contains starts.now s
         → (x : At) × Contains (map at_of spots.now) x × (key_of x ≡ (s.piece.now.name, [])) }

@@ -26,6 +26,9 @@ use way_lines::is_located;
 
 /// A legal drive from node a to node b, also where they are the same, or why there is none. The blocks are those of
 /// the world under the profile. The marks of all contexts are taken before the first step of the search.
+///
+/// Takes one pass over the contexts to list them, then for each context and arc that the search comes to the time of a
+/// short search by names, and memory in proportion to the contexts.
 pub fn reach<M: World, P: Profile>(
     alloc: Global,
     world: &M,

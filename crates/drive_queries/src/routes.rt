@@ -51,11 +51,7 @@ pub fn along(
 }
 
 /// With which step of the first piece the drive begins, and the places of the visits on the way, in order.
-fn way_back(
-    alloc: Global,
-    visits: &[Visit],
-    place: usize,
-) -> Result<(usize, Vec<usize>), NoMemory>
+fn way_back(alloc: Global, visits: &[Visit], place: usize) -> Result<(usize, Vec<usize>), NoMemory>
     requires descend { Descend visits.now }
     requires place { place < length visits.now }
     ensures chain { IfOk result (λ r. IsChain visits.now r.0 r.1.items place) }

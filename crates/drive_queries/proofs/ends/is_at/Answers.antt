@@ -11,6 +11,6 @@ pub returns-clause-no : goal.returns-clause-no
 returns-clause-no c f place e n =
     let p = c.index-places-at.result in
     let same = one_stands c.args.places.now c.args.at place p e
-        (read_at c.args.places.now c.args.at p c.requires c.index-places-at.is) in
+    (read_at c.args.places.now c.args.at p c.requires c.index-places-at.is) in
     let k : p.node ≡ c.args.node = sym (ap (λ z. z.node) same) ∙ n in
     search rules

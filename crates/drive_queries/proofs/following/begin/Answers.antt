@@ -18,7 +18,7 @@ loop-start-preserved c =
     let starts = c.args.starts.now in
     let i = c.loop-start.start-index in
     let has : Contains starts s = subst (λ (t : Start). Contains starts t) (sym c.start-item.is)
-        (Contains-get_or starts i s c.loop-start-test.true) in
+    (Contains-get_or starts i s c.loop-start-test.true) in
     record {
       search = start_keeps L s m n is old.search;
       grows = grows_again c.args.search.now m n old.grows (start_grows L s m n is);

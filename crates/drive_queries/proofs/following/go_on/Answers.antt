@@ -45,10 +45,10 @@ follow-requires-clause-has c v y at from =
     let items = c.items-arc-items.result.now in
     let arc = get_or items c.loop-arc.arc-index no_arc in
     let has : Contains x.context.arcs arc = subst (λ l. Contains l arc) c.items-arc-items.ensures
-        (Contains-get_or items c.loop-arc.arc-index no_arc c.loop-arc-test.true) in
+    (Contains-get_or items c.loop-arc.arc-index no_arc c.loop-arc-test.true) in
     let same = same_context L c.loop-arc.search.visits c.args.place c.at.result v x y
-        (c.loop-arc.invariant.grows.stays c.args.place c.at.result c.at.ensures) at
-        (spot_read c.args.spots.now number c.index-spots-at.result within c.index-spots-at.is) from in
+    (c.loop-arc.invariant.grows.stays c.args.place c.at.result c.at.ensures) at
+    (spot_read c.args.spots.now number c.index-spots-at.result within c.index-spots-at.is) from in
     subst (λ (z : At). Contains z.context.arcs arc) same has
 
 pub loop-arc-preserved : goal.loop-arc-preserved
@@ -77,6 +77,6 @@ returns-clause-met c v at y from =
     let x = at_of c.index-spots-at.result in
     let within = within_map at_of c.args.spots.now number (s.numbers c.args.place c.at.result c.at.ensures) in
     let same = same_context L c.args.search.now.visits c.args.place v c.at.result y x at c.at.ensures from
-        (spot_read c.args.spots.now number c.index-spots-at.result within c.index-spots-at.is) in
+    (spot_read c.args.spots.now number c.index-spots-at.result within c.index-spots-at.is) in
     all_followed L c.args.goals.now c.loop-arc.search.visits y x c.items-arc-items.result.now c.loop-arc.arc-index
     c.loop-arc-test.false c.items-arc-items.ensures same (c.loop-arc.invariant.followed v y at from)

@@ -9,7 +9,7 @@ pub go_on-requires-clause-search : goal.go_on-requires-clause-search
 go_on-requires-clause-search c =
     let e = c.in-Some.ensures in
     let popped : IsPopped c.loop-place.search c.next.new.self c.in-Some.place
-        = record { marked = e.marked; visits = e.visits; waiting = e.some } in
+    = record { marked = e.marked; visits = e.visits; waiting = e.some } in
     popped_keeps (map at_of c.args.spots.now) c.loop-place.search c.next.new.self c.in-Some.place popped
     c.loop-place.invariant.search
 
@@ -17,7 +17,7 @@ pub go_on-requires-clause-place : goal.go_on-requires-clause-place
 go_on-requires-clause-place c =
     let e = c.in-Some.ensures in
     let popped : IsPopped c.loop-place.search c.next.new.self c.in-Some.place
-        = record { marked = e.marked; visits = e.visits; waiting = e.some } in
+    = record { marked = e.marked; visits = e.visits; waiting = e.some } in
     popped_place (map at_of c.args.spots.now) c.loop-place.search c.next.new.self c.in-Some.place popped
     c.loop-place.invariant.search
 
@@ -25,7 +25,7 @@ pub loop-place-smaller : goal.loop-place-smaller
 loop-place-smaller c =
     let e = c.in-Some.ensures in
     let popped : IsPopped c.loop-place.search c.next.new.self c.in-Some.place
-        = record { marked = e.marked; visits = e.visits; waiting = e.some } in
+    = record { marked = e.marked; visits = e.visits; waiting = e.some } in
     less_left (map at_of c.args.spots.now) c.loop-place.search c.next.new.self c.in-Some.place popped
     c.go_on.new.search c.in_ok-met.ensures.grows
 
@@ -38,7 +38,7 @@ loop-place-preserved c =
     let n = c.go_on.new.search in
     let place = c.in-Some.place in
     let popped : IsPopped c.loop-place.search c.next.new.self c.in-Some.place
-        = record { marked = e.marked; visits = e.visits; waiting = e.some } in
+    = record { marked = e.marked; visits = e.visits; waiting = e.some } in
     let g = c.in_ok-met.ensures in
     let old = c.loop-place.invariant in
     record {

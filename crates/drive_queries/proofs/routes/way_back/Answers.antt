@@ -29,7 +29,7 @@ returns c =
     let v = slice_index_or visits at no_visit in
     let e : slice_get visits at ≡ Some v = slice_get-get_or visits at no_visit c.loop-at.invariant.within in
     let chain = chain_ends visits c.in_default.field-0 at c.args.place v c.loop-at.places.items c.push-2.new.self.items
-        e c.in_default.is c.in_ok-push-2.ensures.items c.loop-at.invariant.chain in
+    e c.in_default.is c.in_ok-push-2.ensures.items c.loop-at.invariant.chain in
     record {
       chain = subst (λ f. IsChain visits f c.reverse.new.self.items c.args.place)
           (sym (c.first_step.ensures c.in_default.field-0 c.in_default.is))
