@@ -6,3 +6,4 @@ pub mod SearchMarks
 pub mod SearchStarts
 pub mod SearchRoutes
 pub mod SearchEntries
+pub mod SearchEnds
