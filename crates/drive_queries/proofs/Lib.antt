@@ -7,3 +7,4 @@ pub mod SearchStarts
 pub mod SearchRoutes
 pub mod SearchEntries
 pub mod SearchEnds
+pub mod SearchStartsOf

@@ -186,6 +186,19 @@ module _ (M : Objects) (P : Rules) (names : IsTotalOrder name_cmp) (lists : IsTo
   unfolding piece_entry
   entry_of_piece p i = refl
 
+  some_piece : (b : Block) (e : Piece) → Contains b.pieces e → b.pieces ≡ [] → ⊥
+  some_piece b e i n = let h : In e [] = subst (λ l. In e l) n (in_from_contains b.pieces e i) in absurd h
+
+  pub entry_in : HasBlock M P → (m : FinMap way_cmp Block) → AreBlocksOf M P m → (p : Span) (i : IsPiece M P p)
+      → (b : Block) × (get m p.way ≡ Some b) × Contains b.pieces (piece_entry p i).0
+  entry_in has m are p i =
+      let h = has p.way in
+      let e = piece_entry p i in
+      let c = h.1.pieces.complete e.0 e.1 in
+      let r : IsRoadBlock M P h.0
+      = record { block = subst (λ v. IsBlock M P v h.0) (sym h.1.way) h.1; some = some_piece h.0 e.0 c } in
+      (h.0, (are p.way h.0).1 (h.1.way, r), c)
+
   -- ---- blocks
 
   module _ (ways : IsTotalOrder way_cmp) (has : HasBlock M P) (m : FinMap way_cmp Block) (are : AreBlocksOf M P m)

@@ -15,7 +15,7 @@ ghost use Rattle.drive_queries.specs.Visits.{goal_in};
 ghost use Rattle.drive_queries.specs.Sought.{AreStarts, AreGoals};
 
 use road_base::{NoMemory, NodeId, WayId};
-use road_model::laws::{name_order, one_name, roads_refer};
+use road_model::laws::{has_block, name_order, one_name, roads_refer};
 use road_model::{Blocks, Network, Piece, PieceName, Place, Profile, World};
 use std::alloc::Global;
 use std::collections::BTreeMap;
@@ -44,6 +44,9 @@ pub fn starts_of<'a, M: World, P: Profile>(
     requires { on network.now AreBlocksOf blocks.now.map }
     ensures { IfOk result (λ v. on network.now AreStarts node v.items) }
 {
+    name_order();
+    one_name(&network.profile);
+    has_block(&network.profile);
     roads_refer(&network.profile);
     let mut starts = Vec::new(alloc);
     for way in network.world.ways_at(node) {

@@ -1,10 +1,11 @@
 use Rattle.std.proofs.Common.{◌≡◌, inl, inr, sym, subst, List, Contains, take, get_or, pos}
 use Rattle.std.specs.FinMap.{get}
-use Rattle.std.proofs.lemmas.List.{take_more}
+use Rattle.std.proofs.lemmas.List.{take_more, take_all}
 use Rattle.road_base.proofs.ListMembers.{contains_more}
 use Rattle.road_base.specs.declared.ids.WayId.{WayId}
 use Rattle.road_model.specs.declared.lists.Piece.{Piece}
 use Rattle.drive_queries.specs.Ends.{pieces_in}
+use Rattle.drive_queries.proofs.SearchStartsOf.{are_starts}
 use Rattle.drive_queries.proofs.ends.starts_of.Goals as goal
 
 abbrev no_way : WayId
@@ -30,3 +31,16 @@ loop-way-preserved g c =
                 (subst (λ (z : WayId). Contains (pieces_in (get c.args.blocks.now.map z)) e) same there)) l
           ];
     }
+
+pub returns : goal.returns
+returns g c =
+    let M = g.M.World.objects c.args.network.now.world.now in
+    let P = g.P.Profile.rules c.args.network.now.profile in
+    let o = c.name_order.ensures in
+    let ways = c.ways_at-way-items.result.now in
+    let inv = c.loop-way.invariant in
+    are_starts M P o.names o.lists o.list_ties (c.one_name.ensures.pieces M) (c.has_block.ensures M)
+    c.args.blocks.now.map c.requires c.args.node ways c.loop-way.starts.items c.ways_at-way-items.ensures.complete
+    (c.roads_refer.ensures.left M) inv.sound
+    (λ w e i h. inv.complete w e i (subst (λ (xs : List WayId). Contains xs w)
+    (sym (take_all c.loop-way.way-index ways c.loop-way-test.false)) h))
