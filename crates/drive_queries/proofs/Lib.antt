@@ -8,3 +8,4 @@ pub mod SearchRoutes
 pub mod SearchEntries
 pub mod SearchEnds
 pub mod SearchStartsOf
+pub mod SearchGoals

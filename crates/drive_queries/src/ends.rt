@@ -136,10 +136,29 @@ fn add_goals<'a>(
 {
     name_order();
     for piece in pieces {
-        if let Some(last) = last_to(piece.places.items(), node) {
-            goals.insert(piece.name, Goal { piece, last })?;
-        }
+        add_goal(goals, piece, node)?;
     }
+    Ok(())
+}
+
+/// Puts the piece, if one of its steps ends at the node.
+fn add_goal<'a>(
+    goals: &mut BTreeMap<PieceName, Goal<'a>>,
+    piece: &'a Piece,
+    node: NodeId,
+) -> Result<(), NoMemory>
+    ensures others { OnOk result ((n : PieceName) → (n ≡ piece.now.name → ⊥)
+        → goal_in goals.new n ≡ goal_in goals.old n) }
+    ensures new { OnOk result ((g : Goal) → goal_in goals.new piece.now.name ≡ Some g
+        → (goal_in goals.old piece.now.name ≡ Some g) ⊎ ((g.piece.now ≡ piece.now) × Arrives piece.now g.last node)) }
+    ensures all { OnOk result ((j : ℕ) → Arrives piece.now j node
+        → (g : Goal) × (goal_in goals.new piece.now.name ≡ Some g) × (j ≤ g.last)) }
+{
+    name_order();
+    let Some(last) = last_to(piece.places.items(), node) else {
+        return Ok(());
+    };
+    goals.insert(piece.name, Goal { piece, last })?;
     Ok(())
 }
 
