@@ -1,7 +1,14 @@
 -- Goals by the names of their pieces, with one put among them.
 use Rattle.std.proofs.Common.{◌≡◌, ◌⊎◌, inl, inr, Some, cond, true, false, refl, sym, ◌∙◌, ap, subst, Ordering}
 use Rattle.std.specs.declared.cmp.Ordering.TheVariants.{Less, Equal, Greater}
-use Rattle.std.specs.Ordering.{is_eq}
+use Rattle.std.proofs.Common.{ℕ, ◌+◌, ◌<◌, List, length, map, take, get_or, IsTrue, Contains}
+use Rattle.std.specs.Ordering.{is_eq, is_lt}
+use Rattle.std.proofs.lemmas.List.{take_more}
+use Rattle.road_base.proofs.ListMembers.{in_from_contains}
+use Rattle.road_base.proofs.Comparisons.{not_itself}
+use Rattle.road_model.specs.declared.lists.Piece.{Piece}
+use Rattle.road_model.specs.Orders.{rises}
+use Rattle.road_model.proofs.AscendingLists.{Climbs, climbs, climbs_take, below_end}
 use Rattle.std.specs.Cmp.{IsTotalOrder}
 use Rattle.std.specs.FinMap.{IsAntisymmetric}
 use Rattle.std.specs.BTreeMap.{BTreeMap, Updates}
@@ -35,3 +42,15 @@ module _ (cmp : PieceName → PieceName → Ordering) (by : (a b : PieceName) �
 
 pub same_goal : (g h : Goal) → Some g ≡ Some h → g ≡ h
 same_goal g h e = cc
+
+-- a piece of an ascending list is named otherwise than those before it
+pub named_apart : IsTotalOrder name_cmp → (xs : List Piece) (i : ℕ) (d : Piece)
+    → IsTrue (rises name_cmp (map (λ e. e.name) xs)) → i < length xs → (e : Piece) → Contains (take i xs) e
+    → e.name ≡ (get_or xs i d).name → ⊥
+named_apart names xs i d up h e has same =
+    let name : Piece → PieceName = λ z. z.name in
+    let c = climbs_take name name_cmp names (i + 1) xs (climbs name name_cmp names xs up) in
+    let k = subst (λ l. Climbs name name_cmp names l) (take_more xs i d h) c in
+    let b = below_end name name_cmp names (take i xs) (get_or xs i d) k e (in_from_contains (take i xs) e has) in
+    not_itself name_cmp names (get_or xs i d).name
+    (subst (λ n. IsTrue (is_lt (name_cmp n (get_or xs i d).name))) same b)

@@ -19,10 +19,10 @@ pub returns-clause-new : goal.returns-clause-new
 returns-clause-new c h e =
     let g : Goal = record { piece = c.args.piece; last = c.in-Some.last } in
     let put = put_same _ c.name_order.ensures.by_cmp c.args.goals.now c.insert.new.self c.args.piece.now.name g
-        c.in_ok-insert.ensures.updates c.name_order.ensures.names in
+    c.in_ok-insert.ensures.updates c.name_order.ensures.names in
     let same : g ≡ h = same_goal g h (sym put ∙ e) in
     let stops = subst (λ (ps : List Place). StopsBy ps c.in-Some.last c.args.node) c.items.ensures
-        c.in-Some.ensures.some in
+    c.in-Some.ensures.some in
     inr (
       sym (ap (λ (z : Goal). z.piece.now) same),
       subst (λ (z : Goal). StopsBy c.args.piece.now.places z.last c.args.node) same stops,
@@ -30,10 +30,9 @@ returns-clause-new c h e =
 
 pub returns-clause-all : goal.returns-clause-all
 returns-clause-all c j h =
-    let g : Goal = record { piece = c.args.piece; last = c.in-Some.last } in
-    (
+    let g : Goal = record { piece = c.args.piece; last = c.in-Some.last } in (
       g,
       put_same _ c.name_order.ensures.by_cmp c.args.goals.now c.insert.new.self c.args.piece.now.name g
-        c.in_ok-insert.ensures.updates c.name_order.ensures.names,
+          c.in_ok-insert.ensures.updates c.name_order.ensures.names,
       c.in-Some.ensures.last j (subst (λ (ps : List Place). StopsBy ps j c.args.node) (sym c.items.ensures) h),
     )
