@@ -12,11 +12,17 @@
 //! a logarithm of their number for each. `counts` goes over all contexts once.
 #![tactic(auto)]
 
+mod ends;
+mod following;
 mod found;
+mod frontier;
 mod judging;
 pub mod laws;
+mod marks;
 mod messages;
 mod reaching;
+mod routes;
+mod spots;
 mod step_rules;
 mod step_words;
 mod totals;
