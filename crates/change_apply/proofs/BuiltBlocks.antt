@@ -1,7 +1,7 @@
 -- The blocks of ways, one way after another.
 use Rattle.std.proofs.Common.{◌≡◌, ◌≢◌, ℕ, ◌+◌, ◌≤◌, Bool, true, false, cond, List, [], ◌∷◌, ◌++◌, map, length, Option, Some, None, Contains}
 use Rattle.std.proofs.Common.{inl, inr, refl, sym, ap, subst, ◌∙◌, arith}
-use Rattle.std.specs.Prelude.{◌↔◌}
+use Rattle.std.specs.Prelude.{◌↔◌, IsTrue}
 use Rattle.std.specs.List.{AllByRecursion}
 use Rattle.std.specs.Bool.{◌==◌}
 use Rattle.std.specs.Cmp.{IsTotalOrder, Equal-is}
@@ -18,7 +18,7 @@ use Rattle.road_base.specs.Objects.{Objects}
 use Rattle.road_base.specs.Applying.{IsApplied}
 use Rattle.road_model.specs.declared.blocks.Block.{Block}
 use Rattle.road_model.specs.Rules.{Rules}
-use Rattle.road_model.specs.Orders.{way_cmp}
+use Rattle.road_model.specs.Orders.{Lists, rises, way_cmp}
 use Rattle.road_model.specs.Blocks.{IsBlock, IsRoadBlock}
 use Rattle.road_model.specs.BlockMap.{AreBlocksOf}
 use Rattle.road_model.specs.Highways.{AreRoadWays, highways}
@@ -132,6 +132,18 @@ pub listed_forms : (m : FinMap way_cmp Block) (bs : List Block) → entries m �
 listed_forms m bs are each all =
     subst (λ l. AllByRecursion IsBlockForm l) (sym (ap (λ l. map (λ e. e.1) l) are ∙ values_of bs))
     (all_in_form m bs (λ b i. (each b).0 (contains_from_in bs b i)) all)
+
+-- in the order of the list they are those of the graph
+pub listed_blocks : (M : Objects) (P : Rules) (m : FinMap way_cmp Block) (bs : List Block) → entries m ≡ map entry_of bs
+    → IsTrue (rises way_cmp (map (λ b. b.way) bs)) → ((b : Block) → Contains bs b ↔ (get m b.way ≡ Some b))
+    → AreBlocksOf M P m → Lists (λ b. b.way) way_cmp (IsRoadBlock M P) (values m)
+listed_blocks M P m bs are up each all =
+    subst (λ l. Lists (λ b. b.way) way_cmp (IsRoadBlock M P) l)
+    (sym (ap (λ l. map (λ e. e.1) l) are ∙ values_of bs)) (record {
+      ascending = up;
+      sound = λ b has. ((all b.way b).0 ((each b).0 has)).1;
+      complete = λ b road. (each b).1 ((all b.way b).1 (refl, road));
+    })
 
 -- ---- lists that are empty or not
 

@@ -6,7 +6,9 @@ ghost use Rattle.road_base.specs.Objects.{Objects};
 ghost use Rattle.road_base.specs.Applying.{IsApplied};
 ghost use Rattle.road_model.specs.Highways.{highways};
 ghost use Rattle.road_model.specs.BlockMap.{AreBlocksOf};
+ghost use Rattle.road_model.specs.Blocks.{IsRoadBlock};
 ghost use Rattle.road_model.specs.Format.{IsBlockForm};
+ghost use Rattle.road_model.specs.Orders.{Lists, way_cmp};
 
 use crate::building::build;
 use back_references::Indexed;
@@ -110,9 +112,12 @@ impl<P: Profile> Engine<P> {
         &self.world
     }
 
-    /// The blocks of all ways with pieces, in the form in which a graph file holds them.
+    /// The blocks of all ways with pieces, in the form in which a graph file holds them, and ascending by way as those
+    /// of the graph are listed.
     pub fn blocks(&self) -> &Blocks
         ensures blocks { AreBlocksOf self.now.world (P.rules self.now.profile) result.now.map }
+        ensures listed { Lists (λ b. b.way) way_cmp (IsRoadBlock self.now.world (P.rules self.now.profile))
+            (values result.now.map) }
         ensures forms { AllByRecursion IsBlockForm (values result.now.map) }
     {
         let _items = self.blocks.items();

@@ -30,11 +30,7 @@ pub fn refused_sequence(
 }
 
 /// `refused N line L field F KIND`: the first fault of the frame's lines.
-pub fn refused_fault(
-    alloc: Global,
-    number: Sequence,
-    fault: &Fault,
-) -> Result<Vec<u8>, NoMemory>
+pub fn refused_fault(alloc: Global, number: Sequence, fault: &Fault) -> Result<Vec<u8>, NoMemory>
     ensures { IfOk result (λ line. line.items ≡ refused_fault_line number.0 (fault_at fault.now)) }
 {
     let number = number.0;

@@ -12,3 +12,6 @@ mod texts;
 pub use frames::{applied, refused_fault, refused_sequence, unfinished};
 pub use queries::reply_to;
 pub use reply::Reply;
+
+#[cfg(test)]
+mod tests;

@@ -11,8 +11,8 @@ use change_apply::Engine;
 use drive_queries::{Asked, WordTable, counts, judge, reach};
 use graph_file::write;
 use road_base::{NoMemory, NodeId, Sequence, Step};
-use road_model::laws::walk_law;
 use road_model::Profile;
+use road_model::laws::walk_law;
 use std::alloc::Global;
 
 /// The reply to a line, as a message that it can be. The kept number is that of the last change.

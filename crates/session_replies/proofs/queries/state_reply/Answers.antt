@@ -1,0 +1,11 @@
+use Rattle.std.proofs.Common.{ap, ◌∙◌}
+use Rattle.session_replies.specs.Texts.{state_line}
+use Rattle.session_replies.proofs.queries.state_reply.Goals as goal
+
+pub returns : goal.returns
+returns g c = record {
+  blocks = c.blocks-2.result.now.map;
+  are = c.blocks-2.ensures.blocks;
+  spelled =
+      c.line_alone.ensures ∙ c.in_ok-state.ensures ∙ ap (λ t. state_line c.args.kept.0 t) c.counts-totals.ensures;
+}
