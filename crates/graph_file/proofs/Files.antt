@@ -33,14 +33,14 @@ is_graph_file profile m bs first is up forms fit count =
       spelled = ap (λ n. graph_bytes n (values m)) first;
     }
 
-way_cmp_total : IsTotalOrder way_cmp
+pub way_cmp_total : IsTotalOrder way_cmp
 way_cmp_total = record {
   antisymm = λ x y. int_cmp_total.antisymm x.0 y.0;
   trans = λ x y z. int_cmp_total.trans x.0 y.0 z.0;
   congr = λ x y z. int_cmp_total.congr x.0 y.0 z.0;
 }
 
-no_entries : entries (empty {X = Block} {R = way_cmp}) ≡ []
+pub no_entries : entries (empty {X = Block} {R = way_cmp}) ≡ []
 no_entries = nil_from_length _ (sym (len-entries empty) ∙ len-empty way_cmp Block)
 
 -- no blocks have a form

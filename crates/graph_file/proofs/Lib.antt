@@ -2,3 +2,7 @@ pub mod Appends
 pub mod PieceCount
 pub mod Files
 pub mod WrittenBlocks
+pub mod Fronts
+pub mod Ascents
+pub mod PieceParts
+pub mod GraphFiles

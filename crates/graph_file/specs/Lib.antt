@@ -1,1 +1,3 @@
 pub mod Writing
+pub mod GraphReading
+pub mod OneSpelling

@@ -3,6 +3,9 @@
 //! `GraphWriter` is given one block after another, and `write` all at once. Both append each number where it stands
 //! in the file, so their cost grows with the bytes that they write, and they take no memory beside them. How many
 //! blocks there are stands before the blocks: the writer keeps the place and fills it at the end.
+//!
+//! `Graph::read` goes once over the bytes and reads a graph back. A count that the bytes announce takes no memory: what
+//! is taken grows with the parts that were read, and so with the bytes.
 #![tactic(auto)]
 
 ghost use Rattle.std.specs.Prelude.{◌≡◌, ◌++◌, ◌<◌, ◌^◌, length, OnOk, OnErr, codes};
@@ -11,9 +14,18 @@ ghost use Rattle.std.specs.FinMap.{values};
 ghost use Rattle.road_base.specs.Bytes.{u32_bytes, u64_bytes, Keeps};
 ghost use Rattle.road_model.specs.Format.{graph_bytes, BlockFits, IsBlockForm, IsGraphFile};
 
+mod ascending;
+mod extent;
+mod graph;
+mod numbers;
+mod parts;
 mod pieces;
+mod road_blocks;
+mod spelling;
+mod unread;
 mod writer;
 
+pub use graph::Graph;
 use pieces::GraphFile;
 use road_base::{LittleEndian, NoMemory, put_all};
 use road_model::{Block, Blocks};

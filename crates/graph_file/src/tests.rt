@@ -218,3 +218,106 @@ fn writes_more_blocks_than_two_bytes_count(rt: HostRuntime) -> Result<(), Fail> 
     assert_eq!(rt; bytes.get(bytes.len() - one.len()..), Some(one));
     Ok(())
 }
+
+/// The bytes of the way that is driven both ways, with another byte at the place.
+fn with_byte(alloc: Global, at: usize, byte: u8) -> Result<Vec<u8>, NoMemory> {
+    let mut bytes = THERE_AND_BACK.to_vec(alloc)?;
+    if let Some(place) = bytes.get_mut(at) {
+        *place = byte;
+    }
+    Ok(bytes)
+}
+
+fn is_refused(alloc: Global, bytes: &[u8]) -> Result<bool, NoMemory> {
+    Ok(Graph::read(alloc, bytes)?.is_none())
+}
+
+#[test]
+fn reads_back_what_was_written(rt: HostRuntime) -> Result<(), Fail> {
+    let alloc = rt.alloc();
+    for bytes in [THERE_AND_BACK, &WITH_A_NAME[1..]] {
+        let read = Graph::read(alloc, bytes)?;
+        assert!(rt; read.is_some());
+        if let Some(graph) = read {
+            let mut out = Vec::new(alloc);
+            write(graph.profile, &graph.blocks, &mut out)?;
+            assert_eq!(rt; out.as_slice(), bytes);
+        }
+    }
+    Ok(())
+}
+
+/// A place, and a byte with which no graph file has it there.
+const REFUSED: &[(usize, u8)] = &[
+    // another magic, another profile, and 2 ^ 60 blocks
+    (7, b'2'),
+    (8, 2),
+    (19, 0x10),
+    // a block without pieces, one more piece, and two pieces of one name
+    (28, 0),
+    (28, 3),
+    (134, 0),
+    // a piece that ends where it begins, another number of places, a third direction, a latitude above the pole
+    (32, 2),
+    (36, 3),
+    (40, 2),
+    (56, 0x7f),
+    // no contexts, one more, one without pieces, and one behind another's piece
+    (89, 0),
+    (89, 2),
+    (97, 0),
+    (97, 2),
+    // a target without pieces, and one with more than there are
+    (122, 0),
+    (122, 3),
+];
+
+#[test]
+fn refuses_what_is_not_a_graph_file(rt: HostRuntime) -> Result<(), Fail> {
+    let alloc = rt.alloc();
+    for (at, byte) in REFUSED.iter() {
+        let bytes = with_byte(alloc, *at, *byte)?;
+        assert!(rt; is_refused(alloc, &bytes)?, "byte {at}");
+    }
+    let mut longer = THERE_AND_BACK.to_vec(alloc)?;
+    longer.push(0)?;
+    assert!(rt; is_refused(alloc, &longer)?);
+    assert!(rt; is_refused(alloc, &THERE_AND_BACK[..219])?);
+    assert!(rt; is_refused(alloc, b"")?);
+    Ok(())
+}
+
+/// The second part before the first, behind the front.
+fn exchanged(
+    alloc: Global,
+    front: &[u8],
+    first: &[u8],
+    second: &[u8],
+) -> Result<Vec<u8>, NoMemory> {
+    let mut bytes = front.to_vec(alloc)?;
+    bytes.extend_from_slice(second)?;
+    bytes.extend_from_slice(first)?;
+    Ok(bytes)
+}
+
+#[test]
+fn refuses_pieces_and_contexts_out_of_order(rt: HostRuntime) -> Result<(), Fail> {
+    let alloc = rt.alloc();
+    let pieces = exchanged(
+        alloc,
+        &THERE_AND_BACK[..32],
+        &THERE_AND_BACK[32..126],
+        &THERE_AND_BACK[126..],
+    )?;
+    assert_eq!(rt; pieces.len(), 220);
+    assert!(rt; is_refused(alloc, &pieces)?);
+    let contexts = exchanged(
+        alloc,
+        &WITH_A_NAME[1..82],
+        &WITH_A_NAME[82..111],
+        &WITH_A_NAME[111..],
+    )?;
+    assert_eq!(rt; contexts.len(), 152);
+    assert!(rt; is_refused(alloc, &contexts)?);
+    Ok(())
+}

@@ -11,7 +11,8 @@ at_most_twenty n small = length-decimal-le 20 n (omega arith) (omega arith) smal
 -- the last digit before what is written so far
 pub last_digit : (n : ℕ) (behind : List ℕ) → 10 ≤ n → n < 2 ^ 64
     → decimal n ++ behind ≡ decimal (n / 10) ++ ((48 + n % 10) ∷ behind)
-last_digit n behind many small = rw (decimal_step n many small) (append_assoc (decimal (n / 10)) ((48 + n % 10) ∷ []) behind)
+last_digit n behind many small =
+    rw (decimal_step n many small) (append_assoc (decimal (n / 10)) ((48 + n % 10) ∷ []) behind)
 
 pub one_less : (n : ℕ) → 10 ≤ n → n < 2 ^ 64 → length (decimal n) ≡ length (decimal (n / 10)) + 1
 one_less n many small = ap length (decimal_step n many small)

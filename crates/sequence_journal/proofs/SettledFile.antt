@@ -1,5 +1,5 @@
 -- A sync of a file, and calls after which a stop leaves nothing new.
-use Rattle.std.proofs.Common.{◌≡◌, inl, ℕ, List, ◌∷◌, Result, Ok, Err, refl, sym, ◌∙◌, ap, subst, arith}
+use Rattle.std.proofs.Common.{◌≡◌, inl, ℕ, List, Result, Ok, Err, refl, sym, ◌∙◌, ap, subst, arith}
 use Rattle.std.specs.Io.{StartsWith}
 use Rattle.road_io.specs.declared.outside.Failed.{Failed}
 use Rattle.road_io.specs.declared.outside.Which.{Which}
@@ -21,18 +21,13 @@ calm_quiet w v q = record {
   only = q.only;
 }
 
--- where the images and the output are those of before, so is what a stop leaves
-left_before : (w u : Outside) → ((f : Which) (c : List ℕ) → IsImage (disk u f) c → IsImage (disk w f) c)
-    → u.output ≡ w.output → (left : Left) → IsLeft (present u) left → IsLeft (present w) left
-left_before w u images output left l = record {
-  a = images A left.a l.a;
-  b = images B left.b l.b;
-  no_less = subst (λ (out : List ℕ). StartsWith left.out out) output l.no_less;
-  no_more = subst (λ (out : List ℕ). StartsWith out left.out) output l.no_more;
-}
-
 pub calm_left : (w u : Outside) → Calm w u → (left : Left) → IsLeft (present u) left → IsLeft (present w) left
-calm_left w u calm = left_before w u calm.images calm.output
+calm_left w u calm left l = record {
+  a = calm.images A left.a l.a;
+  b = calm.images B left.b l.b;
+  no_less = subst (λ (out : List ℕ). StartsWith left.out out) calm.output l.no_less;
+  no_more = subst (λ (out : List ℕ). StartsWith out left.out) calm.output l.no_more;
+}
 
 pub calm_then : (w u v : Outside) → Calm w u → Calm u v → Calm w v
 calm_then w u v p q = record {
@@ -48,60 +43,86 @@ settled_image : (d : Disk) → IsSoundDisk d → (c : List ℕ) → IsImage (set
 settled_image d sound c i =
     subst (λ (l : List ℕ). IsImage d l) (sym (only_image (settled d.reads) (settled_durable d.reads) c i)) sound.image
 
-module _ (w : Outside) where
-  -- what a sync of the file makes of the outside
-  abbrev synced : Which → Outside
-  synced file = changed file (disk w file) (settled (disk w file).reads) w
+calm_settled : (file : Which) (w : Outside) → IsSound w → Calm w
+    (changed file (disk w file) (settled (disk w file).reads) w)
+calm_settled A w sound =
+    let images : (left : Left) → IsLeft (present (changed A w.a (settled w.a.reads) w)) left
+    → IsLeft (present w) left =
+    λ left l. record {
+      a = settled_image w.a sound.disk_a left.a l.a;
+      b = l.b;
+      no_less = l.no_less;
+      no_more =
+          l.no_more;
+    } in
+    record {
+      reads = reads_a;
+      durable = durable_a;
+      output = refl;
+      images = images_a;
+      only = goes_on w w (changed A w.a (settled w.a.reads) w) (IsLeft (present w)) (present w)
+          (started w (IsLeft (present w)) (λ left l. l)) refl (λ left l. l) images;
+    }
+  where
+    reads_a : (f : Which) → (disk (changed A w.a (settled w.a.reads) w) f).reads ≡ (disk w f).reads
+    reads_a A = refl
+    reads_a B = refl
 
-  reads : (file f : Which) → (disk (synced file) f).reads ≡ (disk w f).reads
-  reads A A = refl
-  reads A B = refl
-  reads B A = refl
-  reads B B = refl
+    images_a : (f : Which) (c : List ℕ) → IsImage (disk (changed A w.a (settled w.a.reads) w) f) c
+        → IsImage (disk w f) c
+    images_a A c i = settled_image w.a sound.disk_a c i
+    images_a B c i = i
 
-  durable : (file f : Which) → IsDurable (disk w f) → IsDurable (disk (synced file) f)
-  durable A A d = settled_durable w.a.reads
-  durable A B d = d
-  durable B A d = d
-  durable B B d = settled_durable w.b.reads
+    durable_a : (f : Which) → IsDurable (disk w f) → IsDurable (disk (changed A w.a (settled w.a.reads) w) f)
+    durable_a A d = settled_durable w.a.reads
+    durable_a B d = d
+calm_settled B w sound =
+    let images : (left : Left) → IsLeft (present (changed B w.b (settled w.b.reads) w)) left
+    → IsLeft (present w) left =
+    λ left l. record {
+      a = l.a;
+      b = settled_image w.b sound.disk_b left.b l.b;
+      no_less = l.no_less;
+      no_more =
+          l.no_more;
+    } in
+    record {
+      reads = reads_b;
+      durable = durable_b;
+      output = refl;
+      images = images_b;
+      only = goes_on w w (changed B w.b (settled w.b.reads) w) (IsLeft (present w)) (present w)
+          (started w (IsLeft (present w)) (λ left l. l)) refl (λ left l. l) images;
+    }
+  where
+    reads_b : (f : Which) → (disk (changed B w.b (settled w.b.reads) w) f).reads ≡ (disk w f).reads
+    reads_b A = refl
+    reads_b B = refl
 
-  images : IsSound w → (file f : Which) (c : List ℕ) → IsImage (disk (synced file) f) c → IsImage (disk w f) c
-  images sound A A c i = settled_image w.a sound.disk_a c i
-  images sound A B c i = i
-  images sound B A c i = i
-  images sound B B c i = settled_image w.b sound.disk_b c i
+    images_b : (f : Which) (c : List ℕ) → IsImage (disk (changed B w.b (settled w.b.reads) w) f) c
+        → IsImage (disk w f) c
+    images_b A c i = i
+    images_b B c i = settled_image w.b sound.disk_b c i
 
-  output : (file : Which) → (synced file).output ≡ w.output
-  output A = refl
-  output B = refl
+    durable_b : (f : Which) → IsDurable (disk w f) → IsDurable (disk (changed B w.b (settled w.b.reads) w) f)
+    durable_b A d = d
+    durable_b B d = settled_durable w.b.reads
 
-  past : (file : Which) → (synced file).past ≡ present w ∷ w.past
-  past A = refl
-  past B = refl
+settled_there : (file : Which) (w : Outside) → IsDurable (disk (changed file (disk w file) (settled (disk w
+    file).reads) w) file)
+settled_there A w = settled_durable w.a.reads
+settled_there B w = settled_durable w.b.reads
 
-  calm_settled : (file : Which) → IsSound w → Calm w (synced file)
-  calm_settled file sound = record {
-    reads = reads file;
-    durable = durable file;
-    output = output file;
-    images = images sound file;
-    only = goes_on w w (synced file) (IsLeft (present w)) (present w)
-        (started w (IsLeft (present w)) (λ left l. l)) (past file) (λ left l. l)
-        (left_before w (synced file) (images sound file) (output file));
-  }
-
-  settled_there : (file : Which) → IsDurable (disk (synced file) file)
-  settled_there A = settled_durable w.a.reads
-  settled_there B = settled_durable w.b.reads
-
-  other_there : (file : Which) → disk (synced file) (other file) ≡ disk w (other file)
-  other_there A = refl
-  other_there B = refl
+other_there : (file : Which) (w : Outside) → disk (changed file (disk w file) (settled (disk w file).reads) w)
+    (other file)
+    ≡ disk w (other file)
+other_there A w = refl
+other_there B w = refl
 
 pub settles : (file : Which) (result : Result (Unit {0}) Failed) (w v : Outside) → IsSound w → Syncs file result w v
     → Settles file result w v
 settles file (Ok x) w v sound is = subst (λ (y : Outside). Settles file (Ok x) w y) (sym is)
-    (record { calm = calm_settled w file sound; done = settled_there w file; others = other_there w file })
+    (record { calm = calm_settled file w sound; done = settled_there file w; others = other_there file w })
 settles file (Err x) w v sound idle =
     let q : Quiet w v = quiet_idle w w v (quiet_start w) idle in
     record { calm = calm_quiet w v q; done = tt; others = quiet_disk (other file) w v q }

@@ -1,0 +1,7 @@
+mod TextBytes
+mod LineBytes
+mod AskedLines
+mod FrameSteps
+mod LimitSteps
+mod StopSteps
+mod HoldingSteps

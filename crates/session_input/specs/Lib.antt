@@ -1,4 +1,5 @@
 pub mod Messages
 pub mod Limits
 pub mod Reading
+pub mod Sizes
 pub mod Holding

@@ -1,14 +1,11 @@
 -- What is known of a session's input as far as it was read, and what its parts give.
-use Rattle.std.specs.Prelude.{◌≡◌, ◌≢◌, ◌⊎◌, ℕ, ◌+◌, List, [], ◌∷◌, ◌++◌, length, take, Option, Some, None, Result, Ok, Err}
-use Rattle.road_base.specs.declared.event.Event.{Event}
+use Rattle.std.specs.Prelude.{◌≡◌, ◌≢◌, ◌⊎◌, ℕ, List, [], ◌∷◌, ◌++◌, Some}
 use Rattle.road_base.specs.declared.ids.Sequence.{Sequence}
 use Rattle.drive_queries.specs.declared.messages.Asked.{Asked}
 use Rattle.opl_lexer.specs.Letters.{newline}
-use Rattle.opl_lexer.specs.Parts.{Lacks}
 use Rattle.opl_lexer.specs.declared.mode.Mode.TheVariants.{Change as ChangeMode}
 use Rattle.opl_lexer.specs.Reading.{ReadAll, input_fault}
 use Rattle.opl_objects.specs.StreamLines.{fault_at}
-use Rattle.opl_objects.specs.declared.fault.Fault.{Fault}
 use Rattle.session_input.specs.declared.received.Received.{Received}
 use Rattle.session_input.specs.declared.received.Received.TheVariants.{Line as LineReceived, Frame as FrameReceived}
 use Rattle.session_input.specs.declared.received.Ending.{Ending}

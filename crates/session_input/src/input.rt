@@ -1,17 +1,40 @@
 //! A session's bytes, taken line by line.
-ghost use Rattle.std.specs.Prelude.{◌≡◌, ◌≤◌, ◌<◌, ◌⊎◌, ◌+◌, ◌++◌, [], ℕ, List, length, take, IfOk, IfErr, IfSome, IfNone};
-ghost use Rattle.session_input.specs.Reading.{Receives, StopsAt, IsEnding};
-ghost use Rattle.session_input.specs.Holding.{Holds};
+ghost use Rattle.std.specs.Prelude.{◌≡◌, ◌≤◌, ◌<◌, ◌⊎◌, ◌+◌, ◌-◌, ◌++◌, ◌^◌, [], ◌∷◌, ℕ, List, length, take, vec_len};
+ghost use Rattle.std.specs.Prelude.{IfOk, IfErr, IfSome, IfNone, OnOk};
+ghost use Rattle.opl_lexer.specs.Letters.{newline};
+ghost use Rattle.opl_lexer.specs.Parts.{Lacks};
+ghost use Rattle.session_input.specs.Sizes.{frame_size};
 
+use crate::lines::first_line;
+use crate::next::{Next, take_line};
+use crate::open_frame::OpenFrame;
 use crate::received::{Ending, InputStop, Received};
 use std::alloc::Global;
+use std::mem::replace;
 
 /// The line and the frame of a session that haven't ended yet.
 #[derive(Drop)]
 pub struct Input {
     alloc: Global,
+    /// The line that hasn't ended.
     held: Vec<u8>,
+    /// The frame that hasn't ended.
+    frame: Option<OpenFrame>,
+    /// How many bytes were taken.
+    total: u64,
+    ghost line_fits: { vec_len held ≤ 2 ^ 24 },
+    ghost frame_fits: { frame_size frame + vec_len held ≤ 2 ^ 30 },
+    ghost session_fits: { total ≤ 2 ^ 40 },
 }
+
+/// The longest line, in bytes, without its newline.
+const LINE_LIMIT: usize = 16_777_216;
+
+/// The longest frame, in bytes behind its first line.
+const FRAME_LIMIT: usize = 1_073_741_824;
+
+/// The longest session, in bytes.
+const SESSION_LIMIT: u64 = 1_099_511_627_776;
 
 /// How much of a part was taken, and the message that it ended, if it ended one.
 #[derive(Drop)]
@@ -21,6 +44,9 @@ pub struct Taken {
 }
 
 impl Input {
+    ghost use Rattle.session_input.specs.Reading.{Receives, StopsAt, IsEnding};
+    ghost use Rattle.session_input.specs.Holding.{HasRoom, Holds, IsWholeLine, IsFront, LeadsTo, next_size};
+
     /// Nothing was taken. Takes no memory.
     pub fn new(alloc: Global) -> Input
         ensures { Holds 0 [] result }
@@ -28,6 +54,8 @@ impl Input {
         Input {
             alloc,
             held: Vec::new(alloc),
+            frame: None,
+            total: 0,
         }
     }
 
@@ -46,8 +74,19 @@ impl Input {
             → Holds before bytes self.old
             → StopsAt e before (bytes ++ part.now)) }
     {
-        let _part = part;
-        Err(InputStop::NoMemory)
+        let Some(line) = first_line(part) else {
+            self.check(part.len(), 0)?;
+            self.hold(part)?;
+            return Ok(Taken {
+                used: part.len(),
+                received: None,
+            });
+        };
+        self.check(line.len() - 1, 1)?;
+        Ok(Taken {
+            used: line.len(),
+            received: self.end_line(line)?,
+        })
     }
 
     /// The input ends here.
@@ -57,6 +96,129 @@ impl Input {
             → IsEnding bytes ending) }
         ensures stopped { IfErr result (λ e. e ≡ InputStop.NoMemory) }
     {
-        Err(InputStop::NoMemory)
+        let frame = self.frame;
+        let mut held = self.held;
+        if held.is_empty() {
+            return Ok(Input::without_line(frame));
+        }
+        held.extend_from_slice(b"\n")?;
+        let next = take_line(self.alloc, frame, held.as_slice())?;
+        Ok(Input::behind_line(next))
+    }
+
+    /// Where the input ends behind a line without a newline, by what it leads to with one.
+    fn behind_line(next: Next) -> Ending
+        ensures { (open_bytes : List ℕ)
+            → (open_bytes ≡ [] → ⊥)
+            → LeadsTo (open_bytes ++ (newline ∷ [])) next
+            → IsEnding open_bytes result }
+    {
+        match next {
+            Next::Open(frame) => Ending::Unfinished(frame.number()),
+            Next::Ended(received) => Ending::Last(received),
+        }
+    }
+
+    /// Where the input ends behind the whole lines of a frame, if one is open.
+    fn without_line(frame: Option<OpenFrame>) -> Ending
+        ensures { (front : List ℕ) → IsFront frame front → IsEnding front result }
+    {
+        match frame {
+            Some(frame) => Ending::Unfinished(frame.number()),
+            None => Ending::Done,
+        }
+    }
+
+    /// How many bytes of the frame that hasn't ended came behind its first line.
+    fn frame_size(&self) -> usize
+        ensures { result ≡ frame_size self.now.frame }
+    {
+        match &self.frame {
+            Some(frame) => frame.size(),
+            None => 0,
+        }
+    }
+
+    /// `TooLong` where so many bytes more of the line, and so many of its newline, pass a limit.
+    fn check(&self, more: usize, ending: usize) -> Result<(), InputStop>
+        requires { ending ≤ 1 }
+        ensures ok { OnOk result (HasRoom self.now more ending) }
+        ensures err { IfErr result (λ e. (e ≡ InputStop.TooLong) × (HasRoom self.now more ending → ⊥)) }
+    {
+        let held = self.held.len();
+        let in_line = more <= LINE_LIMIT - held;
+        if in_line
+            && self.frame_size() + held + more + ending <= FRAME_LIMIT
+            && self.total + (more + ending) as u64 <= SESSION_LIMIT
+        {
+            return Ok(());
+        }
+        Err(InputStop::TooLong)
+    }
+
+    /// Holds bytes of a line that hasn't ended.
+    fn hold(&mut self, part: &[u8]) -> Result<(), InputStop>
+        requires { HasRoom self.old (length part.now) 0 }
+        ensures ok { OnOk result ((before : ℕ) (bytes : List ℕ)
+            → Holds before bytes self.old
+            → Lacks newline part.now
+            → Holds before (bytes ++ part.now) self.new) }
+        ensures stopped { IfErr result (λ e. e ≡ InputStop.NoMemory) }
+    {
+        self.held.extend_from_slice(part)?;
+        self.total += part.len() as u64;
+        Ok(())
+    }
+
+    /// What the line leads to, where these bytes end it.
+    fn next(&mut self, line: &[u8]) -> Result<Next, InputStop>
+        requires some { 0 < length line.now }
+        requires room { HasRoom self.old (length line.now - 1) 1 }
+        ensures next { IfOk result (λ next. (front : List ℕ)
+            → IsFront self.old.frame front
+            → IsWholeLine (self.old.held.items ++ line.now)
+            → LeadsTo (front ++ (self.old.held.items ++ line.now)) next) }
+        ensures size { IfOk result (λ next.
+            next_size next ≤ frame_size self.old.frame + vec_len self.old.held + length line.now) }
+        ensures held { OnOk result (self.new.held.items ≡ []) }
+        ensures frame { self.new.frame ≡ None }
+        ensures total { self.new.total ≡ self.old.total }
+        ensures stopped { IfErr result (λ e. e ≡ InputStop.NoMemory) }
+    {
+        let frame = self.frame.take();
+        if self.held.is_empty() {
+            return take_line(self.alloc, frame, line);
+        }
+        let mut held = replace(&mut self.held, Vec::new(self.alloc));
+        held.extend_from_slice(line)?;
+        let next = take_line(self.alloc, frame, held.as_slice())?;
+        held.clear();
+        self.held = held;
+        Ok(next)
+    }
+
+    /// Ends the line with these bytes, the last of which is the newline.
+    fn end_line(&mut self, line: &[u8]) -> Result<Option<Received>, InputStop>
+        requires whole { IsWholeLine line.now }
+        requires some { 0 < length line.now }
+        requires room { HasRoom self.old (length line.now - 1) 1 }
+        ensures received { IfOk result (λ r. IfSome r (λ received. (before : ℕ) (bytes : List ℕ)
+            → Holds before bytes self.old
+            → Receives before received (bytes ++ line.now)
+            × Holds (before + length (bytes ++ line.now)) [] self.new)) }
+        ensures more { IfOk result (λ r. IfNone r ((before : ℕ) (bytes : List ℕ)
+            → Holds before bytes self.old
+            → Holds before (bytes ++ line.now) self.new)) }
+        ensures stopped { IfErr result (λ e. e ≡ InputStop.NoMemory) }
+    {
+        let next = self.next(line)?;
+        self.total += line.len() as u64;
+        match next {
+            Next::Open(frame) => {
+                self.frame = Some(frame);
+                Ok(None)
+            }
+            Next::Ended(received) => Ok(Some(received)),
+        }
     }
 }

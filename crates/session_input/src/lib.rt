@@ -8,7 +8,13 @@
 #![tactic(auto)]
 
 mod input;
+mod lines;
+mod next;
+mod open_frame;
 mod received;
 
-pub use input::Input;
+pub use input::{Input, Taken};
 pub use received::{Change, Ending, InputStop, Received};
+
+#[cfg(test)]
+mod tests;

@@ -11,6 +11,7 @@ use opl_objects::{ReadError, Reader};
 use road_base::{Event, NoMemory, Sequence, Steps};
 use std::alloc::Global;
 use std::marker::Brand;
+use std::process::Abort;
 use std::sync::ledger::{Blank, Ledger};
 
 const VILLAGE: &str = "\
@@ -34,7 +35,10 @@ const CHANGES: [&str; 2] = ["n105 v2 dD\nw203 v2 dD\n", "r303 v2 dD\n"];
 /// Lines and their replies on the village, and after each change.
 const ASKED: [&[(&str, &str)]; 3] = [
     &[
-        ("state", "state sequence 5000 ways 3 pieces 6 contexts 6 arcs 8\n"),
+        (
+            "state",
+            "state sequence 5000 ways 3 pieces 6 contexts 6 arcs 8\n",
+        ),
         ("drive w201.0+ w201.1+ w202.0+", "broken 3 no 303\n"),
         ("drive w201.5+", "broken 1 no-step\n"),
         ("drive w999.0+", "broken 1 no-step\n"),
@@ -44,7 +48,10 @@ const ASKED: [&[(&str, &str)]; 3] = [
         ("drive w203.0+ w203.0-", "legal\n"),
         ("drive w201.1+ w202.0+", "broken 2 no 303\n"),
         ("drive w202.0- w201.1- w201.0-", "legal\n"),
-        ("reach 101 104", "drive w201.0+ w201.1+ w203.0+ w203.0- w202.0+\n"),
+        (
+            "reach 101 104",
+            "drive w201.0+ w201.1+ w203.0+ w203.0- w202.0+\n",
+        ),
         ("reach 102 105", "drive w201.1+ w203.0+\n"),
         ("reach 9 101", "no-node 9\n"),
         ("reach 101 9", "no-node 9\n"),
@@ -52,11 +59,17 @@ const ASKED: [&[(&str, &str)]; 3] = [
         ("what", "unknown\n"),
     ],
     &[
-        ("state", "state sequence 5001 ways 2 pieces 4 contexts 4 arcs 3\n"),
+        (
+            "state",
+            "state sequence 5001 ways 2 pieces 4 contexts 4 arcs 3\n",
+        ),
         ("reach 101 104", "none\n"),
     ],
     &[
-        ("state", "state sequence 5002 ways 2 pieces 4 contexts 4 arcs 4\n"),
+        (
+            "state",
+            "state sequence 5002 ways 2 pieces 4 contexts 4 arcs 4\n",
+        ),
         ("reach 101 104", "drive w201.0+ w201.1+ w202.0+\n"),
     ],
 ];

@@ -1,6 +1,7 @@
 //! The lines of replies to queries.
 ghost use Rattle.std.specs.Prelude.{◌≡◌, ◌++◌, IfOk, codes};
-ghost use Rattle.session_replies.specs.Texts.{unknown_line, state_line, verdict_line, found_line, steps_bytes, graph_line};
+ghost use Rattle.session_replies.specs.Texts.{unknown_line, state_line, verdict_line, found_line, steps_bytes};
+ghost use Rattle.session_replies.specs.Texts.{graph_line};
 
 use drive_queries::{Found, Totals, Verdict};
 use reply_lines::{counts_text, step_text, verdict_text};

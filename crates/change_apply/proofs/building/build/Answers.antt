@@ -7,7 +7,9 @@ pub blocks_of-requires : goal.blocks_of-requires
 blocks_of-requires g c =
     let ways = c.in_ok-ways.ways.items in
     record {
-      ascending = subst (λ (l : List WayId). IsTrue (rises way_cmp l)) (sym c.as_slice.ensures.value) c.in_ok-ways.ensures.ascending;
+      ascending =
+          subst (λ (l : List WayId). IsTrue (rises way_cmp l)) (sym c.as_slice.ensures.value)
+          c.in_ok-ways.ensures.ascending;
       all = λ b road.
           subst (λ (l : List WayId). Contains l b.way) (sym c.as_slice.ensures.value)
           (c.in_ok-ways.ensures.each b.way (c.roads_refer.ensures.blocks c.args.world.now b road));

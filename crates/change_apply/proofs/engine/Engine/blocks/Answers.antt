@@ -10,7 +10,8 @@ returns-clause-blocks g c =
 
 pub returns-clause-forms : goal.returns-clause-forms
 returns-clause-forms g c =
-    listed_forms c.self.inside.blocks.map c.items-items.result.now c.items-items.ensures.entries c.items-items.ensures.each
+    listed_forms c.self.inside.blocks.map c.items-items.result.now c.items-items.ensures.entries
+    c.items-items.ensures.each
     c.self.invariant.forms
 
 pub returns-clause-listed : goal.returns-clause-listed

@@ -1,0 +1,23 @@
+use Rattle.std.proofs.Common.{sym, subst}
+use Rattle.std.specs.List.{AllByRecursion}
+use Rattle.road_model.specs.Format.{IsBlockForm}
+use Rattle.graph_file.specs.GraphReading.{IsOfItsWay}
+use Rattle.graph_file.proofs.GraphFiles.{forms, ways, grammar, none_in_grammar}
+use Rattle.graph_file.proofs.graph.Graph.read.Goals as goal
+
+pub returns-in_ok-blocks-in-Ok-clause-forms : goal.returns-in_ok-blocks-in-Ok-clause-forms
+returns-in_ok-blocks-in-Ok-clause-forms c =
+    subst (AllByRecursion IsBlockForm) (sym c.in_ok-blocks-in-Ok.ensures)
+    (forms c.in-Ok.list.items c.in-Ok.ensures.found.some.1)
+
+pub returns-in_ok-blocks-in-Ok-clause-ways : goal.returns-in_ok-blocks-in-Ok-clause-ways
+returns-in_ok-blocks-in-Ok-clause-ways c =
+    subst (AllByRecursion IsOfItsWay) (sym c.in_ok-blocks-in-Ok.ensures)
+    (ways c.in-Ok.list.items c.in-Ok.ensures.found.some.1)
+
+pub returns-in_ok-blocks-in-Ok-clause-grammar : goal.returns-in_ok-blocks-in-Ok-clause-grammar
+returns-in_ok-blocks-in-Ok-clause-grammar c = grammar c.args.bytes.now c.in-Ok.list.items c.in-Ok.ensures.found
+
+pub returns-in-Err-Malformed-clause-none : goal.returns-in-Err-Malformed-clause-none
+returns-in-Err-Malformed-clause-none c =
+    none_in_grammar c.args.bytes.now (rw c.in-Err-Malformed.field-0-is at c.in-Err-Malformed.ensures.malformed)

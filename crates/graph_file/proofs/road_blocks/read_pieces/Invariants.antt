@@ -1,0 +1,8 @@
+use Rattle.road_base.specs.Bytes.{joined}
+use Rattle.road_model.specs.Format.{piece_bytes}
+use Rattle.graph_file.specs.GraphReading.{Begins, AreSoMany, IsPieceAt}
+use Rattle.graph_file.proofs.road_blocks.read_pieces.Given as goal
+
+-- the bytes begin with what was read so far
+abbrev pub invariant-loop : goal.invariant-loop
+invariant-loop l = Begins (joined piece_bytes) (AreSoMany (IsPieceAt l.way) l.counter) l.bytes l.items.items l.rest

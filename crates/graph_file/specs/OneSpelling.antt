@@ -1,0 +1,325 @@
+-- No spelling begins another one, and each is that of one value. What has a spelling gives this as its law, so the
+-- proofs stand here.
+use mathlib.Core.HLevel.{is_prop→PathP}
+use mathlib.Core.Bool.{Bool-set}
+use Rattle.std.proofs.Common.{◌≡◌, ℕ, ℤ, ◌+◌, ◌-◌, ◌<◌, ◌^◌, true, false, eqb, IsTrue, List, [], ◌∷◌, ◌++◌, length, get_or}
+use Rattle.std.proofs.Common.{eq-eqb, take, drop, Fits, FitsSigned, refl, sym, ap, subst, ◌∙◌, arith}
+use Rattle.std.proofs.Common.{append_assoc}
+use Rattle.std.proofs.Math.Facts.{Fits-of_z}
+use Rattle.std.proofs.lemmas.Bool.{false≢true}
+use Rattle.std.proofs.lemmas.Int.{to_z-of_z}
+use Rattle.std.proofs.lemmas.List.{take_at, drop_at}
+use Rattle.std.proofs.lemmas.Nat.{from_le_bytes-to_le_bytes_4, from_le_bytes-to_le_bytes_8}
+use Rattle.std.specs.Int.{w32, w64, from_le_bytes, cast_unsigned, cast_signed}
+use Rattle.std.specs.List.{AllByRecursion}
+use Rattle.road_base.specs.Bytes.{u32_bytes, u64_bytes, i32_bytes, i64_bytes, joined}
+use Rattle.road_base.specs.Ranges.{is_in_range}
+use Rattle.road_base.specs.declared.ids.Dir.TheVariants.{Forward, Backward}
+use Rattle.road_base.specs.declared.location.Location.{Location}
+use Rattle.road_model.specs.declared.lists.PieceName.{PieceName}
+use Rattle.road_model.specs.declared.lists.Place.{Place}
+use Rattle.road_model.specs.declared.lists.TurnArc.{TurnArc}
+use Rattle.road_model.specs.declared.lists.Context.{Context}
+use Rattle.road_model.specs.Format.{dir_bytes, name_bytes, arc_bytes, context_bytes, place_bytes, NameFits}
+use Rattle.graph_file.specs.GraphReading.{Begins, IsOneSpelling, pair_bytes, PairFits, Any, location_bytes, PlaceFits}
+use Rattle.graph_file.specs.GraphReading.{ArcFits, list_bytes, ListFits, names_bytes, NamesFit, IsContext, AreContexts}
+use Rattle.graph_file.specs.GraphReading.{extent_bytes, IsExtent, AreSoMany, IsPieceAt, IsWayBlock}
+use Rattle.graph_file.specs.declared.extent.Extent.{Extent}
+use Rattle.road_base.specs.declared.ids.WayId.{WayId}
+use Rattle.road_model.specs.declared.lists.Piece.{Piece}
+use Rattle.road_model.specs.Format.{piece_bytes, block_bytes, ContextFits, IsContextForm}
+
+-- spellings of one length
+same_front : (a b r s : List ℕ) → length a ≡ length b → a ++ r ≡ b ++ s → (a ≡ b) × (r ≡ s)
+same_front a b r s len e = (
+  sym (take_at a r (length a) refl) ∙ ap (take (length a)) e
+      ∙ take_at b s (length a) (sym len),
+  sym (drop_at a r (length a) refl) ∙ ap (drop (length a)) e
+      ∙ drop_at b s (length a) (sym len),
+)
+
+pub u32_one : IsOneSpelling u32_bytes (λ n. n < 2 ^ 32)
+u32_one x y bytes r s first second =
+    let both = same_front (u32_bytes x) (u32_bytes y) r s refl (sym first.parts ∙ second.parts) in (
+      sym (from_le_bytes-to_le_bytes_4 x first.fits) ∙ ap (from_le_bytes w32) both.0
+          ∙ from_le_bytes-to_le_bytes_4 y second.fits,
+      both.1,
+    )
+
+pub u64_one : IsOneSpelling u64_bytes (λ n. n < 2 ^ 64)
+u64_one x y bytes r s first second =
+    let both = same_front (u64_bytes x) (u64_bytes y) r s refl (sym first.parts ∙ second.parts) in (
+      sym (from_le_bytes-to_le_bytes_8 x first.fits) ∙ ap (from_le_bytes w64) both.0
+          ∙ from_le_bytes-to_le_bytes_8 y second.fits,
+      both.1,
+    )
+
+pub i32_one : IsOneSpelling i32_bytes (FitsSigned w32)
+i32_one x y bytes r s first second =
+    let x_below : Fits w32 (cast_unsigned w32 x) = Fits-of_z first.fits in
+    let y_below : Fits w32 (cast_unsigned w32 y) = Fits-of_z second.fits in
+    let both = u32_one (cast_unsigned w32 x) (cast_unsigned w32 y) bytes r s
+    (record { fits = omega arith; parts = first.parts }) (record { fits = omega arith; parts = second.parts }) in
+    (sym (to_z-of_z w32 x first.fits) ∙ ap (cast_signed w32) both.0 ∙ to_z-of_z w32 y second.fits, both.1)
+
+pub i64_one : IsOneSpelling i64_bytes (FitsSigned w64)
+i64_one x y bytes r s first second =
+    let x_below : Fits w64 (cast_unsigned w64 x) = Fits-of_z first.fits in
+    let y_below : Fits w64 (cast_unsigned w64 y) = Fits-of_z second.fits in
+    let both = u64_one (cast_unsigned w64 x) (cast_unsigned w64 y) bytes r s
+    (record { fits = omega arith; parts = first.parts }) (record { fits = omega arith; parts = second.parts }) in
+    (sym (to_z-of_z w64 x first.fits) ∙ ap (cast_signed w64) both.0 ∙ to_z-of_z w64 y second.fits, both.1)
+
+-- ---- one thing behind another
+
+pub pair_one : {A B : Type 0} (f : A → List ℕ) (F : A → Type 0) (g : B → List ℕ) (G : B → Type 0) → IsOneSpelling f F
+    → IsOneSpelling g G → IsOneSpelling (pair_bytes f g) (PairFits F G)
+pair_one {A} {B} f F g G one_f one_g x y bytes r s first second =
+    let a : (x.0 ≡ y.0) × (g x.1 ++ r ≡ g y.1 ++ s) = one_f x.0 y.0 bytes (g x.1 ++ r) (g y.1 ++ s)
+    (record { fits = first.fits.0; parts = first.parts ∙ append_assoc (f x.0) (g x.1) r })
+    (record { fits = second.fits.0; parts = second.parts ∙ append_assoc (f y.0) (g y.1) s }) in
+    let b : (x.1 ≡ y.1) × (r ≡ s) = one_g x.1 y.1 (g x.1 ++ r) r s (record { fits = first.fits.1; parts = refl })
+    (record { fits = second.fits.1; parts = a.1 }) in
+    (λ i. (a.0 i, b.0 i), b.1)
+
+-- the same spelling under another form of the value
+pub by_one : {A B : Type 0} (form : B → A) (f : A → List ℕ) (F : A → Type 0) → ((x y : B) → form x ≡ form y → x ≡ y)
+    → IsOneSpelling f F → IsOneSpelling (λ b. f (form b)) (λ b. F (form b))
+by_one {A} {B} form f F same one_f x y bytes r s first second =
+    let a = one_f (form x) (form y) bytes r s (record { fits = first.fits; parts = first.parts })
+    (record { fits = second.fits; parts = second.parts }) in
+    (same x y a.0, a.1)
+
+-- ---- lists, as many of them
+pub joined_one : {A : Type 0} (f : A → List ℕ) (F : A → Type 0) → IsOneSpelling f F → (xs ys : List A) (r s : List ℕ)
+    → length xs ≡ length ys → AllByRecursion F xs → AllByRecursion F ys → joined f xs ++ r ≡ joined f ys ++ s
+    → (xs ≡ ys) × (r ≡ s)
+joined_one f F one [] [] r s len first second e = (refl, e)
+joined_one f F one [] (y ∷ ys) r s len first second e = absurd (omega arith)
+joined_one f F one (x ∷ xs) [] r s len first second e = absurd (omega arith)
+joined_one f F one (x ∷ xs) (y ∷ ys) r s len first second e =
+    let a = one x y (f x ++ (joined f xs ++ r)) (joined f xs ++ r) (joined f ys ++ s)
+    (record { fits = first.0; parts = refl })
+    (record {
+      fits = second.0;
+      parts = sym (append_assoc (f x) (joined f xs) r) ∙ e
+          ∙ append_assoc (f y) (joined f ys) s;
+    }) in
+    let b = joined_one f F one xs ys r s (omega arith) first.1 second.1 a.1 in
+    (λ i. a.0 i ∷ b.0 i, b.1)
+
+pub list_one : {A : Type 0} (f : A → List ℕ) (F : A → Type 0) → IsOneSpelling f F
+    → IsOneSpelling (list_bytes f) (ListFits F)
+list_one {A} f F one xs ys bytes r s first second =
+    let a = u64_one (length xs) (length ys) bytes (joined f xs ++ r) (joined f ys ++ s)
+    (record { fits = first.fits.0; parts = first.parts ∙ append_assoc (u64_bytes (length xs)) (joined f xs) r })
+    (record { fits = second.fits.0; parts = second.parts ∙ append_assoc (u64_bytes (length ys)) (joined f ys) s }) in
+    joined_one f F one xs ys r s a.0 first.fits.1 second.fits.1 a.1
+
+-- ---- names, places and arcs
+
+-- lists that begin differently
+differ : (a b : ℕ) (bytes r s : List ℕ) → (eqb a b ≡ false) → bytes ≡ a ∷ r → bytes ≡ b ∷ s → ⊥
+differ a b bytes r s other first second =
+    let same : a ≡ b = ap (λ (l : List ℕ). get_or l 0 0) (sym first ∙ second) in
+    false≢true (sym other ∙ eq-eqb a b same)
+
+pub dir_one : IsOneSpelling dir_bytes Any
+dir_one Forward Forward bytes r s first second = (refl, ap (drop 1) (sym first.parts ∙ second.parts))
+dir_one Backward Backward bytes r s first second = (refl, ap (drop 1) (sym first.parts ∙ second.parts))
+dir_one Forward Backward bytes r s first second = absurd (differ 0 1 bytes _ _ refl first.parts second.parts)
+dir_one Backward Forward bytes r s first second = absurd (differ 1 0 bytes _ _ refl first.parts second.parts)
+
+pub name_one : IsOneSpelling name_bytes NameFits
+name_one x y bytes r s first second =
+    by_one (λ (n : PieceName). (n.way.0, (n.index, n.dir))) (pair_bytes i64_bytes (pair_bytes u32_bytes dir_bytes))
+    (PairFits (FitsSigned w64) (PairFits (λ n. n < 2 ^ 32) Any))
+    (λ a b e i. record { way = record { 0 = (e i).0 }; index = (e i).1.0; dir = (e i).1.1 })
+    (pair_one i64_bytes (FitsSigned w64) (pair_bytes u32_bytes dir_bytes) (PairFits (λ n. n < 2 ^ 32) Any) i64_one
+    (pair_one u32_bytes (λ n. n < 2 ^ 32) dir_bytes Any u32_one dir_one)) x y bytes r s
+    (record { fits = (first.fits.0, (first.fits.1, tt)); parts = first.parts })
+    (record { fits = (second.fits.0, (second.fits.1, tt)); parts = second.parts })
+
+same_location : (x y : Location) → ◌≡◌ {A = ℤ × ℤ} (x.lon, x.lat) (y.lon, y.lat) → x ≡ y
+same_location x y e = λ i. record {
+  lon = (e i).0;
+  lat = (e i).1;
+  in_range = is_prop→PathP (λ j. IsTrue (is_in_range (e j).0 (e j).1))
+      (λ j. Bool-set (is_in_range (e j).0 (e j).1) true) x.in_range y.in_range i;
+}
+
+pub range_fits : (lon lat : ℤ) → IsTrue (is_in_range lon lat) → FitsSigned w32 lon × FitsSigned w32 lat
+range_fits lon lat within = (grind arith, grind arith)
+
+pub location_one : IsOneSpelling location_bytes Any
+location_one x y bytes r s first second =
+    by_one (λ (l : Location). (l.lon, l.lat)) (pair_bytes i32_bytes i32_bytes)
+    (PairFits (FitsSigned w32) (FitsSigned w32)) same_location
+    (pair_one i32_bytes (FitsSigned w32) i32_bytes (FitsSigned w32) i32_one i32_one) x y bytes r s
+    (record { fits = range_fits x.lon x.lat x.in_range; parts = first.parts })
+    (record { fits = range_fits y.lon y.lat y.in_range; parts = second.parts })
+
+pub place_one : IsOneSpelling place_bytes PlaceFits
+place_one x y bytes r s first second =
+    by_one (λ (p : Place). (p.node.0, p.location)) (pair_bytes i64_bytes location_bytes)
+    (PairFits (FitsSigned w64) Any)
+    (λ a b e i. record { node = record { 0 = (e i).0 }; location = (e i).1 })
+    (pair_one i64_bytes (FitsSigned w64) location_bytes Any i64_one location_one) x y bytes r s
+    (record { fits = (first.fits, tt); parts = first.parts })
+    (record { fits = (second.fits, tt); parts = second.parts })
+
+pub arc_one : IsOneSpelling arc_bytes ArcFits
+arc_one =
+    by_one (λ (a : TurnArc). (a.piece, a.length)) (pair_bytes name_bytes u32_bytes) (PairFits NameFits (λ n. n < 2 ^ 32))
+    (λ a b e i. record { piece = (e i).0; length = (e i).1 })
+    (pair_one name_bytes NameFits u32_bytes (λ n. n < 2 ^ 32) name_one u32_one)
+
+pub arcs_one : IsOneSpelling (list_bytes arc_bytes) (ListFits ArcFits)
+arcs_one = list_one arc_bytes ArcFits arc_one
+
+-- ---- contexts
+
+pub names_one : IsOneSpelling names_bytes NamesFit
+names_one xs ys bytes r s first second =
+    let a = u32_one (length xs + 1) (length ys + 1) bytes (joined name_bytes xs ++ r) (joined name_bytes ys ++ s)
+    (record {
+      fits = omega (arith, first.fits.0);
+      parts = first.parts ∙ append_assoc (u32_bytes (length xs + 1)) (joined name_bytes xs) r;
+    })
+    (record {
+      fits = omega (arith, second.fits.0);
+      parts = second.parts ∙ append_assoc (u32_bytes (length ys + 1)) (joined name_bytes ys) s;
+    }) in
+    joined_one name_bytes NameFits name_one xs ys r s (omega (arith, a.0)) first.fits.1 second.fits.1 a.1
+
+-- a context's two lists, one behind the other
+pub context_parts : (c : Context) (bytes r : List ℕ) → Begins context_bytes IsContext bytes c r
+    → Begins (pair_bytes names_bytes (list_bytes arc_bytes)) (PairFits NamesFit (ListFits ArcFits)) bytes
+    (c.before, c.arcs) r
+context_parts c bytes r whole = record {
+  fits = ((whole.fits.form.short, whole.fits.fits.names), (whole.fits.fits.arc_count, whole.fits.fits.arcs));
+  parts = whole.parts ∙ ap (λ l. l ++ r)
+      (sym (append_assoc (u32_bytes (length c.before + 1)) (joined name_bytes c.before) (list_bytes arc_bytes c.arcs)));
+}
+
+pub context_one : IsOneSpelling context_bytes IsContext
+context_one x y bytes r s first second =
+    by_one (λ (c : Context). (c.before, c.arcs)) (pair_bytes names_bytes (list_bytes arc_bytes))
+    (PairFits NamesFit (ListFits ArcFits))
+    (λ a b e i. record { before = (e i).0; arcs = (e i).1 })
+    (pair_one names_bytes NamesFit (list_bytes arc_bytes) (ListFits ArcFits) names_one arcs_one) x y bytes r s
+    (let p = context_parts x bytes r first in record { fits = p.fits; parts = p.parts })
+    (let p = context_parts y bytes s second in record { fits = p.fits; parts = p.parts })
+
+pub contexts_one : IsOneSpelling (list_bytes context_bytes) AreContexts
+contexts_one x y bytes r s first second =
+    list_one context_bytes IsContext context_one x y bytes r s
+    (record { fits = first.fits.some; parts = first.parts })
+    (record { fits = second.fits.some; parts = second.parts })
+
+-- ---- pieces
+
+pub extent_fits : (e : Extent) → IsExtent e → PairFits (λ n. n < 2 ^ 32) (PairFits (λ n. n < 2 ^ 32) Any) (e.index, (e.end, e.dir))
+extent_fits e is = let low = is.ascends in let high = is.bounded in (omega arith, (omega arith, tt))
+
+pub three : (a b c r : List ℕ) → (a ++ (b ++ c)) ++ r ≡ a ++ (b ++ (c ++ r))
+three a b c r = append_assoc a (b ++ c) r ∙ ap (λ l. a ++ l) (append_assoc b c r)
+
+-- the first three of five parts
+pub piece_split : (a b c d e r : List ℕ) → (a ++ (b ++ (c ++ (d ++ e)))) ++ r ≡ (a ++ (b ++ c)) ++ (d ++ (e ++ r))
+piece_split a b c d e r =
+    append_assoc a (b ++ (c ++ (d ++ e))) r
+    ∙ ap (λ l. a ++ l) (three b c (d ++ e) r ∙ ap (λ l. b ++ (c ++ l)) (append_assoc d e r))
+    ∙ sym (three a b c (d ++ (e ++ r)))
+
+pub extent_one : IsOneSpelling extent_bytes IsExtent
+extent_one x y bytes r s first second =
+    by_one (λ (e : Extent). (e.index, (e.end, e.dir))) (pair_bytes u32_bytes (pair_bytes u32_bytes dir_bytes))
+    (PairFits (λ n. n < 2 ^ 32) (PairFits (λ n. n < 2 ^ 32) Any))
+    (λ a b e i. record { index = (e i).0; end = (e i).1.0; dir = (e i).1.1 })
+    (pair_one u32_bytes (λ n. n < 2 ^ 32) (pair_bytes u32_bytes dir_bytes) (PairFits (λ n. n < 2 ^ 32) Any) u32_one
+    (pair_one u32_bytes (λ n. n < 2 ^ 32) dir_bytes Any u32_one dir_one)) x y bytes r s
+    (record { fits = extent_fits x first.fits; parts = first.parts })
+    (record { fits = extent_fits y second.fits; parts = second.parts })
+
+abbrev pub extent_of : Piece → Extent
+extent_of p = record { index = p.name.index; end = p.end; dir = p.name.dir }
+
+-- what stands in a piece's bytes, one part behind the other
+pub record PieceParts (p : Piece) (bytes r : List ℕ) : Type 0 where
+  pub extent : Begins extent_bytes IsExtent bytes (extent_of p)
+      (joined place_bytes p.places ++ (list_bytes context_bytes p.contexts ++ r))
+  pub places : AreSoMany PlaceFits (p.end - p.name.index + 1) p.places
+  pub contexts : AreContexts p.contexts
+
+are_contexts : (cs : List Context) → AllByRecursion IsContextForm cs → AllByRecursion ContextFits cs
+    → AllByRecursion IsContext cs
+are_contexts [] f g = tt
+are_contexts (c ∷ cs) f g = (record { form = f.0; fits = g.0 }, are_contexts cs f.1 g.1)
+
+pub piece_parts : (way : WayId) (p : Piece) (bytes r : List ℕ) → Begins piece_bytes (IsPieceAt way) bytes p r
+    → PieceParts p bytes r
+piece_parts way p bytes r whole = record {
+  extent = record {
+    fits = record { ascends = whole.fits.form.ascends; bounded = whole.fits.form.bounded };
+    parts = whole.parts ∙ piece_split (u32_bytes p.name.index) (u32_bytes p.end) (dir_bytes p.name.dir)
+        (joined place_bytes p.places) (list_bytes context_bytes p.contexts) r;
+  };
+  places = (whole.fits.form.place_count, whole.fits.fits.places);
+  contexts = record {
+    some = (whole.fits.fits.context_count, are_contexts p.contexts whole.fits.form.contexts whole.fits.fits.contexts);
+    alone = whole.fits.form.first_alone;
+    ascend = whole.fits.form.contexts_ascend;
+  };
+}
+
+-- where the extents are one, so are the places and what stands behind them
+pub piece_one : (way : WayId) → IsOneSpelling piece_bytes (IsPieceAt way)
+piece_one way x y bytes r s first second =
+    let a = piece_parts way x bytes r first in
+    let b = piece_parts way y bytes s second in
+    let extent = extent_one (extent_of x) (extent_of y) bytes
+    (joined place_bytes x.places ++ (list_bytes context_bytes x.contexts ++ r))
+    (joined place_bytes y.places ++ (list_bytes context_bytes y.contexts ++ s)) a.extent b.extent in
+    let count : x.end - x.name.index + 1 ≡ y.end - y.name.index + 1 = ap (λ (e : Extent). e.end - e.index + 1) extent.0
+    in
+    let places = joined_one place_bytes PlaceFits place_one x.places y.places
+    (list_bytes context_bytes x.contexts ++ r) (list_bytes context_bytes y.contexts ++ s)
+    (a.places.0 ∙ count ∙ sym b.places.0) a.places.1 b.places.1 extent.1 in
+    let contexts = contexts_one x.contexts y.contexts (list_bytes context_bytes x.contexts ++ r) r s
+    (record { fits = a.contexts; parts = refl }) (record { fits = b.contexts; parts = places.1 }) in
+    let ways : x.name.way ≡ y.name.way = first.fits.way_is ∙ sym second.fits.way_is in (
+      λ i. record {
+        name = record { way = ways i; index = (extent.0 i).index; dir = (extent.0 i).dir };
+        end = (extent.0 i).end;
+        places = places.0 i;
+        contexts = contexts.0 i;
+      },
+      contexts.1,
+    )
+
+-- ---- blocks
+
+pub block_one : IsOneSpelling block_bytes IsWayBlock
+block_one x y bytes r s first second =
+    let way = i64_one x.way.0 y.way.0 bytes
+    (u32_bytes (length x.pieces) ++ (joined piece_bytes x.pieces ++ r))
+    (u32_bytes (length y.pieces) ++ (joined piece_bytes y.pieces ++ s))
+    (record {
+      fits = first.fits.way;
+      parts = first.parts ∙ three (i64_bytes x.way.0) (u32_bytes (length x.pieces))
+          (joined piece_bytes x.pieces) r;
+    })
+    (record {
+      fits = second.fits.way;
+      parts = second.parts ∙ three (i64_bytes y.way.0) (u32_bytes (length y.pieces))
+          (joined piece_bytes y.pieces) s;
+    }) in
+    let count = u32_one (length x.pieces) (length y.pieces)
+    (u32_bytes (length x.pieces) ++ (joined piece_bytes x.pieces ++ r)) (joined piece_bytes x.pieces ++ r)
+    (joined piece_bytes y.pieces ++ s)
+    (record { fits = first.fits.count; parts = refl }) (record { fits = second.fits.count; parts = way.1 }) in
+    let ways : x.way ≡ y.way = λ i. record { 0 = way.0 i } in
+    let pieces = joined_one piece_bytes (IsPieceAt x.way) (piece_one x.way) x.pieces y.pieces r s count.0
+    first.fits.pieces (subst (λ w. AllByRecursion (IsPieceAt w) y.pieces) (sym ways) second.fits.pieces) count.1 in
+    (λ i. record { way = ways i; pieces = pieces.0 i }, pieces.1)

@@ -1,0 +1,85 @@
+//! A graph that is read from the bytes of a graph file.
+ghost use Rattle.std.specs.Prelude.{◌≡◌, ◌++◌, ℕ, List, map, codes, IsTrue, IfOk, IfErr, IfSome, IfNone};
+ghost use Rattle.std.specs.List.{AllByRecursion};
+ghost use Rattle.std.specs.FinMap.{values};
+ghost use Rattle.road_base.specs.Bytes.{u32_bytes};
+ghost use Rattle.road_model.specs.declared.blocks.Block.{Block};
+ghost use Rattle.road_model.specs.Orders.{rises, way_cmp};
+ghost use Rattle.road_model.specs.Format.{graph_bytes, IsBlockForm, IsGraphFile};
+ghost use Rattle.graph_file.specs.GraphReading.{IfMalformed, IsFile, IsOfItsWay};
+
+use crate::ascending::do_ascend;
+use crate::spelling::read_list;
+use crate::unread::Unread;
+use road_base::NoMemory;
+use road_model::{Block, Blocks};
+use std::alloc::Global;
+
+/// A graph as a graph file holds it.
+#[derive(Drop)]
+pub struct Graph {
+    pub profile: u32,
+    pub blocks: Blocks,
+}
+
+impl Graph {
+    /// The graph that the bytes spell; None exactly where they aren't in the grammar of a graph file. Written again it
+    /// has the same bytes.
+    pub fn read(alloc: Global, bytes: &[u8]) -> Result<Option<Graph>, NoMemory>
+        ensures profile { IfOk result (λ r. IfSome r (λ g. g.profile ≡ 1)) }
+        ensures bytes { IfOk result (λ r. IfSome r (λ g. bytes.now ≡ graph_bytes g.profile (values g.blocks.map))) }
+        ensures forms { IfOk result (λ r. IfSome r (λ g. AllByRecursion IsBlockForm (values g.blocks.map))) }
+        ensures ways { IfOk result (λ r. IfSome r (λ g. AllByRecursion IsOfItsWay (values g.blocks.map))) }
+        ensures grammar { IfOk result (λ r. IfSome r (λ _. IsGraphFile bytes.now)) }
+        ensures none { IfOk result (λ r. IfNone r (IsGraphFile bytes.now → ⊥)) }
+    {
+        match read_blocks(alloc, bytes) {
+            Ok(list) => {
+                let blocks = into_blocks(alloc, list)?;
+                Ok(Some(Graph { profile: 1, blocks }))
+            }
+            Err(Unread::Malformed) => Ok(None),
+            Err(Unread::Memory) => Err(NoMemory),
+        }
+    }
+}
+
+/// What stands behind the magic and the profile's number; None exactly where these don't stand in front.
+fn behind_magic(bytes: &[u8]) -> Option<&[u8]>
+    ensures some { IfSome result (λ rest. bytes.now ≡ codes "OSMROAD1" ++ (u32_bytes 1 ++ rest.now)) }
+    ensures none { IfNone result ((rest : List ℕ) → bytes.now ≡ codes "OSMROAD1" ++ (u32_bytes 1 ++ rest) → ⊥) }
+{
+    bytes.strip_prefix(b"OSMROAD1\x01\0\0\0")
+}
+
+/// Reads the blocks of a file, which ascend.
+fn read_blocks(alloc: Global, bytes: &[u8]) -> Result<Vec<Block>, Unread>
+    ensures found { IfOk result (λ list. IsFile bytes.now list.items) }
+    ensures malformed { IfErr result (λ e. IfMalformed e ((list : List Block) → IsFile bytes.now list → ⊥)) }
+{
+    let rest = match behind_magic(bytes) {
+        Some(rest) => rest,
+        None => return Err(Unread::Malformed),
+    };
+    let (list, rest) = read_list::<Block>(alloc, rest)?;
+    if rest.len() > 0 {
+        return Err(Unread::Malformed);
+    }
+    if !do_ascend::<Block>(&list) {
+        return Err(Unread::Malformed);
+    }
+    Ok(list)
+}
+
+/// The blocks of ascending ways, each at its way.
+fn into_blocks(alloc: Global, list: Vec<Block>) -> Result<Blocks, NoMemory>
+    requires { IsTrue (rises way_cmp (map (λ b. b.way) list.items)) }
+    ensures { IfOk result (λ blocks. values blocks.map ≡ list.items) }
+{
+    let mut blocks = Blocks::new(alloc);
+    blocks.reserve(list.len())?;
+    for block in list {
+        blocks.insert(block)?;
+    }
+    Ok(blocks)
+}

@@ -1,0 +1,48 @@
+-- Lines as they stand in the bytes, and what they ask.
+use Rattle.std.specs.Prelude.{◌≡◌, ◌<◌, ◌+◌, ◌-◌, ◌++◌, ℕ, List, [], ◌∷◌, true, false, cond, take, drop, length}
+use Rattle.std.specs.Prelude.{Some, slice_index, refl}
+use Rattle.std.specs.Str.{IsUtf8, is_utf8}
+use Rattle.std.proofs.Common.{arith, sym, ◌∙◌, ap, add-one, length-append}
+use Rattle.std.proofs.lemmas.Bool.Decides.{nat_tests}
+use Rattle.std.proofs.lemmas.Str.{IsUtf8-from_is_utf8, is_utf8-from_IsUtf8}
+use Rattle.std.proofs.lemmas.List.{take-append-drop}
+use Rattle.std.proofs.Math.Seq.{take-suc, take-append_seam}
+use Rattle.memchr.specs.Find.{IsFirstByte, is_byte}
+use Rattle.opl_lexer.specs.Lines.{without_return}
+use Rattle.opl_lexer.proofs.Cuts.{cut_at_first}
+use Rattle.drive_queries.specs.Messages.{asked}
+use Rattle.drive_queries.specs.declared.messages.Asked.TheVariants.{Unknown}
+use Rattle.session_input.specs.Messages.{asked_line}
+use Rattle.session_input.specs.Holding.{IsFirstLine, IsWholeLine}
+
+pub first_line_here : (bs : List ℕ) (at : ℕ) → IsFirstByte (is_byte 10) bs (Some at)
+    → IsFirstLine bs (take (at + 1) bs)
+first_line_here bs at found =
+    let inside : at < length bs = found.0.high in
+    let here : slice_index bs at ≡ 10 = grind (arith, nat_tests, found.1) in
+    let cut = cut_at_first 10 bs at found.0 here in
+    let front : take (at + 1) bs ≡ take at bs ++ (10 ∷ []) = rw (add-one, take-suc bs at 0 inside, here) refl in
+    record {
+      whole = record { line = take at bs; one = cut.first; spelled = front };
+      rest = drop (at + 1) bs;
+      spelled = sym (take-append-drop (at + 1) bs);
+    }
+
+pub asked_text : (line : List ℕ) → IsUtf8 (without_return line) → asked_line line ≡ asked (without_return line)
+asked_text line utf8 =
+    let is : is_utf8 (without_return line) ≡ true = is_utf8-from_IsUtf8 (without_return line) utf8 in
+    ap (λ b. cond b (asked (without_return line)) Unknown) is
+
+pub asked_unknown : (line : List ℕ) → (IsUtf8 (without_return line) → ⊥) → asked_line line ≡ Unknown
+asked_unknown line none =
+    elim (is_utf8 (without_return line)) as (λ r. is_utf8 (without_return line) ≡ r → asked_line line ≡ Unknown) [
+      | true ↦ λ e. absurd (none (IsUtf8-from_is_utf8 (without_return line) e))
+      | false ↦ λ e. ap (λ b. cond b (asked (without_return line)) Unknown) e
+    ] refl
+
+-- a whole line without its newline
+pub cut_line : (bytes : List ℕ) (whole : IsWholeLine bytes) → take (length bytes - 1) bytes ≡ whole.line
+cut_line bytes whole =
+    let size : length bytes - 1 ≡ length whole.line = omega
+    (arith, ap length whole.spelled, length-append whole.line (10 ∷ [])) in
+    ap (λ n. take n bytes) size ∙ (ap (take (length whole.line)) whole.spelled ∙ take-append_seam whole.line (10 ∷ []))
