@@ -18,7 +18,7 @@ use Rattle.road_model.specs.Orders.{name_cmp}
 use Rattle.drive_queries.specs.declared.ends.Goal.{Goal}
 use Rattle.drive_queries.specs.Visits.{goal_in}
 
-eq_cases : (r : Ordering) → (r ≡ Equal) ⊎ (is_eq r ≡ false)
+pub eq_cases : (r : Ordering) → (r ≡ Equal) ⊎ (is_eq r ≡ false)
 eq_cases Less = inr refl
 eq_cases Equal = inl refl
 eq_cases Greater = inr refl

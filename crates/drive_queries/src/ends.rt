@@ -111,8 +111,10 @@ pub fn goals_of<'a, M: World, P: Profile>(
     requires { on network.now AreBlocksOf blocks.now.map }
     ensures { IfOk result (λ m. on network.now AreGoals node m) }
 {
-    roads_refer(&network.profile);
+    name_order();
     one_name(&network.profile);
+    has_block(&network.profile);
+    roads_refer(&network.profile);
     let mut goals = BTreeMap::new(alloc);
     for way in network.world.ways_at(node) {
         add_goals(&mut goals, pieces_of(blocks, *way), node)?;
