@@ -9,3 +9,15 @@ pub mod WordOrder
 pub mod WordsGathered
 pub mod WordsCompared
 pub mod WordsBegun
+pub mod SearchKeys
+pub mod SearchOrder
+pub mod SearchFrontier
+pub mod SearchSpots
+pub mod SearchMarks
+pub mod SearchStarts
+pub mod SearchRoutes
+pub mod SearchEntries
+pub mod SearchEnds
+pub mod SearchStartsOf
+pub mod SearchGoals
+pub mod SearchGoalsOf

@@ -7,3 +7,8 @@ pub mod Reaching
 pub mod Searching
 pub mod Counting
 pub mod Summing
+pub mod Marks
+pub mod Visits
+pub mod Routes
+pub mod Sought
+pub mod Ends

@@ -1,0 +1,101 @@
+-- The visits with which drives begin.
+use Rattle.std.proofs.Common.{◌≡◌, ◌⊎◌, inl, inr, ℕ, zero, suc, ◌+◌, ◌<◌, ◌≤◌, List, [], ◌∷◌, ◌++◌, length, map, Some, slice_get, Contains}
+use Rattle.std.proofs.Common.{refl, sym, ◌∙◌, ap, subst, arith, take, get_or}
+use Rattle.std.proofs.lemmas.List.{take_more, take_all}
+use Rattle.road_base.proofs.ListMembers.{contains_more}
+use Rattle.road_base.proofs.ListPlaces.{contains_at, at_contains}
+use Rattle.drive_queries.specs.declared.ends.Start.{Start}
+use Rattle.drive_queries.specs.declared.marks.Origin.{Origin}
+use Rattle.drive_queries.specs.declared.marks.Origin.TheVariants.{Begins, Follows}
+use Rattle.drive_queries.specs.declared.marks.Visit.{Visit}
+use Rattle.std.specs.List.{HoldsAt}
+use Rattle.drive_queries.specs.declared.spots.Spot.{Spot}
+use Rattle.drive_queries.specs.Marks.{At, at_of, key_of}
+use Rattle.drive_queries.proofs.SearchSpots.{spot_there}
+use Rattle.drive_queries.specs.Visits.{Marks, IsSearch, IsStarted, IsStartMarked, IsMarked, AreBegun, Begun, Grows}
+use Rattle.drive_queries.proofs.SearchMarks.{marked_cases, marked_grows, marked_keeps, marked_visited, visited_stays}
+use Rattle.std.proofs.lemmas.Option.{slice_get_within}
+
+begin_from : Origin → ℕ
+begin_from (Begins first) = first
+begin_from (Follows j) = 0
+
+same_begin : (a b : ℕ) → Begins a ≡ Begins b → a ≡ b
+unfolding begin_from
+same_begin a b e = ap begin_from e
+
+begins_not : (P : Type 0) (first j : ℕ) → Begins first ≡ Follows j → P
+begins_not P first j e = cc
+
+none_there : {A : Type 0} (P : Type 0) (k : ℕ) (v : A) → slice_get [] k ≡ Some v → P
+none_there P zero v e = cc
+none_there P (suc k) v e = cc
+
+module _ (L : List At) (start : Start) (m n : Marks) (is : IsStartMarked L start m n) where
+  pub start_grows : Grows m n
+  start_grows = marked_grows L is.number (Begins start.first) m n is.marked
+
+  pub start_keeps : IsSearch L m → IsSearch L n
+  start_keeps s = marked_keeps L is.number (Begins start.first) m n is.marked s
+      (slice_get_within L is.number is.from is.at) (λ j e. begins_not _ start.first j e)
+
+  pub start_visited : IsSearch L m → IsStarted L n.visits start
+  start_visited s = record {
+    number = is.number;
+    from = is.from;
+    at = is.at;
+    named = is.named;
+    visited = marked_visited L is.number (Begins start.first) m n is.marked s;
+  }
+
+  pub start_begun : (starts : List Start) → Contains starts start → AreBegun L starts m → AreBegun L starts n
+  start_begun starts has old k first v e o = elim (marked_cases L is.number (Begins start.first) m n is.marked k v e) [
+    | inl before ↦ old k first v before o
+    | inr now ↦
+        let step : start.first ≡ first = same_begin start.first first (sym now.1 ∙ o) in
+        record {
+          start = start;
+          is = has;
+          step = step;
+          from = is.from;
+          at = subst (λ i. slice_get L i ≡ Some is.from) (sym now.0) is.at;
+          named = is.named;
+        }
+  ]
+
+pub started_stays : (L : List At) (m n : Marks) (start : Start) → Grows m n → IsStarted L m.visits start
+    → IsStarted L n.visits start
+started_stays L m n start g s = record {
+  number = s.number;
+  from = s.from;
+  at = s.at;
+  named = s.named;
+  visited = visited_stays m n g.stays s.number s.visited;
+}
+
+pub more_started : (L : List At) (starts : List Start) (i : ℕ) (d start : Start) (m n : Marks) → i < length starts
+    → start ≡ get_or starts i d → Grows m n → IsStarted L n.visits start
+    → ((s : Start) → Contains (take i starts) s → IsStarted L m.visits s)
+    → (s : Start) → Contains (take (i + 1) starts) s → IsStarted L n.visits s
+more_started L starts i d start m n h is g now old s has =
+    elim (contains_more (take i starts) (get_or starts i d) s
+    (subst (λ l. Contains l s) (take_more starts i d h) has)) [
+      | inl before ↦ started_stays L m n s g (old s before)
+      | inr same ↦ subst (λ t. IsStarted L n.visits t) (is ∙ sym same) now
+    ]
+
+pub all_started : (L : List At) (starts : List Start) (i : ℕ) (m : Marks) → length starts ≤ i
+    → ((s : Start) → Contains (take i starts) s → IsStarted L m.visits s)
+    → (s : Start) → Contains starts s → IsStarted L m.visits s
+all_started L starts i m h f s has = f s (subst (λ l. Contains l s) (sym (take_all i starts h)) has)
+
+pub none_begun : (L : List At) (starts : List Start) (m : Marks) → m.visits ≡ [] → AreBegun L starts m
+none_begun L starts m none k first v e o = let f : slice_get [] k ≡ Some v
+    = subst (λ vs. slice_get vs k ≡ Some v) none e in none_there _ k v f
+
+pub start_marked : (spots : List Spot) (start : Start) (n : ℕ) (m p : Marks) → n < length spots
+    → HoldsAt (λ s. key_of (at_of s) ≡ (start.piece.now.name, [])) spots n → IsMarked n (Begins start.first) m p
+    → IsStartMarked (map at_of spots) start m p
+start_marked spots start n m p within e is =
+    let t = spot_there spots n (start.piece.now.name, []) within e in
+    record { number = n; from = t.0; at = t.1; named = t.2; marked = is }

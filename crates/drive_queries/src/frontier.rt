@@ -1,0 +1,97 @@
+//! The visits from which a search hasn't gone on yet, the one that is nearest to the goal first.
+ghost use Rattle.std.specs.Prelude.{◌≡◌, [], ◌∷◌, IfOk, OnOk, IfSome, IfNone};
+ghost use Rattle.std.specs.List.Sorted.{IsPermutation};
+
+use road_base::{Location, NoMemory};
+use road_model::Piece;
+use std::alloc::Global;
+use std::cmp::Reverse;
+use std::collections::BinaryHeap;
+use std::marker::Model;
+
+/// Places in the list of visits. Contracts see them in some order.
+#[derive(Drop)]
+pub struct Frontier {
+    heap: BinaryHeap<Reverse<(u64, usize)>>,
+    to: Location,
+}
+
+impl Model for Frontier {
+    ghost use Rattle.std.specs.Prelude.{ℕ, List, map};
+    ghost use Rattle.std.specs.BinaryHeap.{heap_items};
+
+    ghost Value = { List ℕ };
+
+    ghost view = { λ f. map (λ r. r.0.1) (heap_items f.heap) };
+}
+
+impl Frontier {
+    /// No places, and room for as many. The search leads to the location.
+    pub fn new(alloc: Global, room: usize, to: Location) -> Result<Frontier, NoMemory>
+        ensures { IfOk result (λ f. f ≡ []) }
+    {
+        let heap = BinaryHeap::with_capacity(alloc, room)?;
+        Ok(Frontier { heap, to })
+    }
+
+    /// Adds the place, at which so much was driven up to the end of the piece.
+    pub fn push(&mut self, place: usize, driven: u64, piece: &Piece) -> Result<(), NoMemory>
+        ensures { OnOk result (IsPermutation (place ∷ self.old) self.new) }
+    {
+        let estimate = estimate(driven, piece, self.to);
+        self.heap.push(Reverse((estimate, place)))?;
+        Ok(())
+    }
+
+    /// Takes out the place at which least is to be expected of a drive over it.
+    pub fn pop(&mut self) -> Option<usize>
+        ensures some { IfSome result (λ place. IsPermutation self.old (place ∷ self.new)) }
+        ensures none { IfNone result (self.old ≡ []) }
+        ensures empty { IfNone result (self.new ≡ []) }
+    {
+        match self.heap.pop() {
+            Some(Reverse((_, place))) => Some(place),
+            None => None,
+        }
+    }
+}
+
+/// What was driven, and twice the straight line from the end of the piece.
+fn estimate(driven: u64, piece: &Piece, to: Location) -> u64 {
+    match piece.places.items().last() {
+        Some(place) => {
+            driven.saturating_add(straight_line(place.location, to).saturating_mul(2))
+        }
+        None => driven,
+    }
+}
+
+/// How long the piece is, by straight lines between its places.
+pub fn length_of(piece: &Piece) -> u64 {
+    let places = piece.places.items();
+    let mut sum: u64 = 0;
+    let mut rest = places;
+    while let [first, second, ..] = rest {
+        sum = sum.saturating_add(straight_line(first.location, second.location));
+        rest = &rest[1..];
+    }
+    sum
+}
+
+/// About how far the places are from each other, in units of 1e-7 degree of latitude.
+fn straight_line(from: Location, to: Location) -> u64 {
+    let up = u64::from(from.lat.abs_diff(to.lat));
+    let across = u64::from(from.lon.abs_diff(to.lon));
+    let across = across.min(3_600_000_000_u64.saturating_sub(across));
+    let across = across.saturating_mul(narrowed(to.lat)) / 65_536;
+    let longer = up.max(across);
+    let shorter = up.min(across);
+    longer.saturating_add(shorter.saturating_mul(3) / 8)
+}
+
+/// How much shorter than on the equator a degree of longitude is, in parts of 65,536.
+fn narrowed(lat: i32) -> u64 {
+    let lat = u64::from(lat.unsigned_abs());
+    let quarter: u64 = 810_000_000_000_000_000;
+    quarter.saturating_sub(lat.saturating_mul(lat)) / 12_359_619_140_625
+}
