@@ -13,6 +13,3 @@ pub use frames::{applied, refused_fault, refused_sequence, unfinished};
 pub use queries::{drive_reply, graph_reply, line_alone, state_reply};
 pub use reply::Reply;
 pub use texts::{found_reply, unknown};
-
-#[cfg(test)]
-mod tests;
