@@ -15,3 +15,6 @@ mod received;
 
 pub use input::{Input, Taken};
 pub use received::{Change, Ending, InputStop, Received};
+
+#[cfg(test)]
+mod tests;

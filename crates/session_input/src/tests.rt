@@ -1,0 +1,145 @@
+//! Sessions, cut into parts.
+use super::*;
+use drive_queries::Asked;
+use std::alloc::{AllocError, Global};
+use std::test::Fail;
+
+/// A message in a few words.
+fn describe(alloc: Global, received: &Received) -> Result<String, AllocError> {
+    match received {
+        Received::Line(Asked::Empty) => String::from_str(alloc, "empty"),
+        Received::Line(Asked::Seq(_)) => String::from_str(alloc, "seq"),
+        Received::Line(Asked::Graph) => String::from_str(alloc, "graph"),
+        Received::Line(Asked::State) => String::from_str(alloc, "state"),
+        Received::Line(Asked::Drive(_)) => String::from_str(alloc, "drive"),
+        Received::Line(Asked::Reach(_, _)) => String::from_str(alloc, "reach"),
+        Received::Line(Asked::Unknown) => String::from_str(alloc, "unknown"),
+        Received::Frame(number, Change::Events(events)) => {
+            format!(in alloc; "frame {} of {}", number.0, events.len())
+        }
+        Received::Frame(number, Change::Faulty(fault)) => format!(in alloc;
+            "frame {} line {} field {} {:?}",
+            number.0, fault.line, fault.field, fault.kind
+        ),
+    }
+}
+
+/// Takes the part, and adds what it ends to the messages.
+fn take_all(
+    alloc: Global,
+    input: &mut Input,
+    part: &[u8],
+    messages: &mut String,
+) -> Result<(), Fail> {
+    let mut rest = part;
+    while !rest.is_empty() {
+        let taken = input.take(rest)?;
+        if let Some(received) = &taken.received {
+            messages.push_str(describe(alloc, received)?.as_str())?;
+            messages.push_str(", ")?;
+        }
+        rest = &rest[taken.used..];
+    }
+    Ok(())
+}
+
+/// The messages of a session that comes in these parts, and how it ends.
+fn messages(alloc: Global, parts: &[&[u8]]) -> Result<String, Fail> {
+    let mut messages = String::new(alloc);
+    let mut input = Input::new(alloc);
+    for part in parts {
+        take_all(alloc, &mut input, part, &mut messages)?;
+    }
+    match input.finish()? {
+        Ending::Done => messages.push_str("done")?,
+        Ending::Last(received) => {
+            messages.push_str("last ")?;
+            messages.push_str(describe(alloc, &received)?.as_str())?;
+        }
+        Ending::Unfinished(number) => {
+            messages.push_str(format!(in alloc; "unfinished {}", number.0)?.as_str())?;
+        }
+    }
+    Ok(messages)
+}
+
+/// Sessions, and their messages.
+const SESSIONS: &[(&[u8], &str)] = &[
+    (b"", "done"),
+    (b"graph\nstate\n", "graph, state, done"),
+    (
+        b"graph\r\n\n \t\r\nstate\r",
+        "graph, empty, empty, last state",
+    ),
+    (b"graph\r\r\n", "unknown, done"),
+    (b"reach 1 2\nreach", "reach, last unknown"),
+    (
+        b"#seq 5\nn1 v1 x1 y2\n#end\ngraph\n",
+        "frame 5 of 1, graph, done",
+    ),
+    (
+        b"#seq 5\r\nn1 v1 x1 y2\r\nn2 v1 dD\r\n #end\t\r\n",
+        "frame 5 of 2, done",
+    ),
+    (b"#seq 5\n#end", "last frame 5 of 0"),
+    (b"#seq 6", "unfinished 6"),
+    (b"#seq 6\n", "unfinished 6"),
+    (b"#seq 6\nn1 v1 x1 y2", "unfinished 6"),
+    (b"#seq 6\nn1 v1 x1 y2\n", "unfinished 6"),
+    (
+        b"#seq 7\n#seq 9\n\n#end 1\n#end\n#end\n",
+        "frame 7 of 0, unknown, done",
+    ),
+    (b"\xff\ngr\xc3\xa4ph\n", "unknown, unknown, done"),
+    (
+        b"#seq 8\n\xff\n#end\n",
+        "frame 8 line 1 field 0 NotUtf8, done",
+    ),
+    (
+        b"#seq 8\nn1 v1\nq\nz\n#end\nstate\n",
+        "frame 8 line 2 field 1 UnknownLine, state, done",
+    ),
+];
+
+#[test]
+fn sessions_are_cut_anywhere(rt: HostRuntime) -> Result<(), Fail> {
+    let alloc = rt.alloc();
+    for (session, wanted) in SESSIONS {
+        for at in 0..session.len() + 1 {
+            let (front, back) = session.split_at(at);
+            let told = messages(alloc, &[front, back])?;
+            assert_eq!(rt; told.as_str(), *wanted, "at {at}");
+        }
+    }
+    Ok(())
+}
+
+#[test]
+fn sessions_come_in_short_parts(rt: HostRuntime) -> Result<(), Fail> {
+    let alloc = rt.alloc();
+    for (session, wanted) in SESSIONS {
+        for size in 1..4 {
+            let mut parts = Vec::new(alloc);
+            for part in session.chunks(size) {
+                parts.push(part)?;
+            }
+            let told = messages(alloc, parts.as_slice())?;
+            assert_eq!(rt; told.as_str(), *wanted, "by {size}");
+        }
+    }
+    Ok(())
+}
+
+#[test]
+fn lines_have_a_limit(rt: HostRuntime) -> Result<(), Fail> {
+    let alloc = rt.alloc();
+    let mut line = Vec::with_capacity(alloc, 16_777_218)?;
+    line.resize(16_777_216, b'a')?;
+    line.push(b'\n')?;
+    let told = messages(alloc, &[line.as_slice()])?;
+    assert_eq!(rt; told.as_str(), "unknown, done");
+    line.insert(0, b'a')?;
+    let mut input = Input::new(alloc);
+    assert!(rt; matches!(input.take(line.as_slice()), Err(InputStop::TooLong)));
+    Ok(())
+}
