@@ -21,3 +21,4 @@ pub mod SearchEnds
 pub mod SearchStartsOf
 pub mod SearchGoals
 pub mod SearchGoalsOf
+pub mod SearchTogether
