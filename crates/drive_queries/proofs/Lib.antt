@@ -20,3 +20,4 @@ pub mod SearchEntries
 pub mod SearchEnds
 pub mod SearchStartsOf
 pub mod SearchGoals
+pub mod SearchTargets
