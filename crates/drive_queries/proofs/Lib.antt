@@ -22,3 +22,4 @@ pub mod SearchStartsOf
 pub mod SearchGoals
 pub mod SearchGoalsOf
 pub mod SearchTogether
+pub mod SearchTargets
