@@ -12,6 +12,7 @@ use Rattle.drive_queries.specs.Visits.{HasTargets, AreClosed}
 use Rattle.drive_queries.specs.declared.following.Meeting.{Meeting}
 use Rattle.drive_queries.specs.Sought.{AreSpots, AreStarts}
 use Rattle.drive_queries.specs.Visits.{IsClosed, IsSearch, Meets}
+use Rattle.drive_queries.proofs.SearchTargets.{start_listed, has_targets}
 use Rattle.drive_queries.proofs.SearchTogether.{met_goal, first_closed, descends, entry_ascends, spots_spelled, goal_within, ends_within, leads_within}
 use Rattle.drive_queries.proofs.reaching.drive_to.Goals as goal
 
@@ -47,6 +48,27 @@ returns-in-Some g c =
     let leads = leads_within M P (c.one_name.ensures.pieces M) c.args.a c.args.b s h from to
     (c.searched_drives.ensures.within M c.args.a c.args.b) c.in-Some.ensures.rises in
     subst (λ (d : List Step). LeadsTo M P c.args.a c.args.b d) (sym c.in_ok-within.ensures) leads
+
+pub begin-requires-clause-listed : goal.begin-requires-clause-listed
+begin-requires-clause-listed g c =
+    let M = g.M.World.objects c.args.network.now.world.now in
+    let P = g.P.Profile.rules c.args.network.now.profile in
+    let are = subst (λ (l : List Spot). AreSpots M P (map at_of l)) (sym c.deref-2.ensures.value)
+    c.in_ok-spots.ensures in
+    let starts = subst (λ (l : List Start). AreStarts M P c.args.a l) (sym c.deref-3.ensures.value)
+    c.in_ok-starts.ensures in
+    start_listed M P (map at_of c.deref-2.result.now) c.args.a c.deref-3.result.now are starts
+
+pub begin-requires-clause-search : goal.begin-requires-clause-search
+begin-requires-clause-search g c = ?
+
+pub run-requires-clause-targets : goal.run-requires-clause-targets
+run-requires-clause-targets g c =
+    let M = g.M.World.objects c.args.network.now.world.now in
+    let P = g.P.Profile.rules c.args.network.now.profile in
+    let are = subst (λ (l : List Spot). AreSpots M P (map at_of l)) (sym c.deref-4.ensures.value)
+    c.in_ok-spots.ensures in
+    has_targets M P (map at_of c.deref-4.result.now) are
 
 pub run-requires-clause-closed : goal.run-requires-clause-closed
 run-requires-clause-closed g c =
@@ -108,3 +130,9 @@ along-requires-clause-last g c =
     (λ (m : Meeting). Meets L G vs m.place m.goal)) c.in-Some-2.is c.in_ok-meeting.ensures.met in
     let is = met_goal M P c.args.b L G vs at.place at.goal c.in_ok-goals.ensures met in
     goal_within M P c.args.b met.arc.piece at.goal is
+
+pub returns-in-Some-2 : goal.returns-in-Some-2
+returns-in-Some-2 g c = ?
+
+pub returns : goal.returns
+returns g c = ?
