@@ -40,3 +40,4 @@ pub mod ExampleViaWay
 pub mod ExampleCrossing
 pub mod BrokenSteps
 pub mod ExampleBroken
+pub mod LocalLinks
