@@ -41,3 +41,5 @@ pub mod ExampleCrossing
 pub mod BrokenSteps
 pub mod ExampleBroken
 pub mod LocalLinks
+pub mod LocalBodies
+pub mod LocalPieces
