@@ -43,3 +43,5 @@ pub mod ExampleBroken
 pub mod LocalLinks
 pub mod LocalBodies
 pub mod LocalPieces
+pub mod LocalRules
+pub mod LocalWords

@@ -30,7 +30,7 @@ kept true k m ms i = i
 kept false k m ms i = inr i
 
 -- a member of a role is a member
-role_member : (role : List ℕ) (k : Key) (ms : List Member) → In k (in_role role ms) → In k (items ms)
+pub role_member : (role : List ℕ) (k : Key) (ms : List Member) → In k (in_role role ms) → In k (items ms)
 role_member role k [] i = i
 role_member role k (m ∷ ms) i = elim (kept (bytes_eq m.role role) k m (filter (λ n. bytes_eq n.role role) ms) i) [
   | inl e ↦ inl e
