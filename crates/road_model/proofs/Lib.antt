@@ -45,3 +45,4 @@ pub mod LocalBodies
 pub mod LocalPieces
 pub mod LocalRules
 pub mod LocalWords
+pub mod LocalDrives
