@@ -46,3 +46,4 @@ pub mod LocalPieces
 pub mod LocalRules
 pub mod LocalWords
 pub mod LocalDrives
+pub mod LocalContexts

@@ -48,7 +48,7 @@ on_backward w i (suc n) s (inl e) = ap (λ t. t.way) e
 on_backward w i (suc n) s (inr j) = on_backward w i n s j
 
 -- the steps along a way lie on it
-on_way : (w : WayId) (i n : ℕ) (d : Dir) (s : Step) → In s (steps_from w i n d) → s.way ≡ w
+pub on_way : (w : WayId) (i n : ℕ) (d : Dir) (s : Step) → In s (steps_from w i n d) → s.way ≡ w
 on_way w i n Forward s j = on_forward w i n s j
 on_way w i n Backward s j = on_backward w i n s j
 
