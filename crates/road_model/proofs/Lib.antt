@@ -47,3 +47,4 @@ pub mod LocalRules
 pub mod LocalWords
 pub mod LocalDrives
 pub mod LocalContexts
+pub mod LocalBlocks
