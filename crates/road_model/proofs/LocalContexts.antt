@@ -67,11 +67,11 @@ module _ (M : Objects) (P : Rules) where
     unfolding the_word
     shared p i = elim (subst (In p) m.is i) [
       | inl e ↦ (
-          m.last,
-          spelled_way m.first m.last (subst (In m.last) (sym m.ends) (in_end m.front m.last []))
-              ∙ ap (λ q. q.way) (sym e),
-          inl refl,
-        )
+        m.last,
+        spelled_way m.first m.last (subst (In m.last) (sym m.ends) (in_end m.front m.last []))
+            ∙ ap (λ q. q.way) (sym e),
+        inl refl,
+      )
       | inr j ↦
           let f = first_step p (every_in (IsPiece M P) c p m.pieces i) in (
             f.0,

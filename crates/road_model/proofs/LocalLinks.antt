@@ -117,8 +117,12 @@ abbrev pub IsAlike : Objects → Objects → ℕ → Key → Type 0
 IsAlike M N n a = (b : Key) → IsWithin M n a b ⊎ IsWithin N n a b → visible M b ≡ visible N b
 
 pub alike_from : (M N : Objects) (n : ℕ) (w : WayId) → IsSameWithin n M N w → IsAlike M N n (WayKey w)
-alike_from M N n w same b near = same_visible M N b (λ d. same (b, d, elim near
-    [ inl h ↦ inl (within_turned M n (WayKey w) b h) | inr h ↦ inr (within_turned N n (WayKey w) b h) ]))
+alike_from M N n w same b near = same_visible M N b (λ d. same (
+  b,
+  d,
+  elim near
+      [ inl h ↦ inl (within_turned M n (WayKey w) b h) | inr h ↦ inr (within_turned N n (WayKey w) b h) ],
+))
 
 pub alike_turned : (M N : Objects) (n : ℕ) (a : Key) → IsAlike M N n a → IsAlike N M n a
 alike_turned M N n a al b h = sym (al b (elim h [ inl x ↦ inr x | inr y ↦ inl y ]))

@@ -124,8 +124,7 @@ pub local_words : (M N : Objects) (P : Rules) (w : WayId) (r : RelationId) (only
     ↔ IsWord N P r only binding u
 local_words M N P w r only binding u s same has on =
     let al = near_three M N w s.way same on in
-    let i = in_from_contains u s has in
-    (
+    let i = in_from_contains u s has in (
       λ h. word_kept M N P r only binding u h s i al,
       λ h. word_kept N M P r only binding u h s i (alike_turned M N 2 (WayKey s.way) al),
     )
