@@ -1,5 +1,5 @@
 -- What is looked up of a way or a node whose body is the same in two object maps.
-use Rattle.std.proofs.Common.{◌≡◌, ℕ, ◌+◌, refl, ap, length, Bool, cond, Option, Some, None, slice_get, ◌||◌}
+use Rattle.std.proofs.Common.{◌≡◌, ℕ, ◌+◌, refl, ap, length, cond, Option, Some, None, slice_get, ◌||◌}
 use Rattle.std.specs.Prelude.{nat_lt}
 use Rattle.road_base.specs.declared.ids.NodeId.{NodeId}
 use Rattle.road_base.specs.declared.ids.WayId.{WayId}

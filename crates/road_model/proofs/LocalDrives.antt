@@ -1,5 +1,5 @@
 -- Whether a list of steps is legal is the same where all within three links of its ways is.
-use Rattle.std.proofs.Common.{◌≡◌, ℕ, ◌+◌, List, [], ◌∷◌, ◌++◌, inl, inr, refl, sym, ap, ◌∙◌, subst, arith, true, false}
+use Rattle.std.proofs.Common.{◌≡◌, ℕ, ◌+◌, List, [], ◌∷◌, ◌++◌, inl, inr, refl, sym, ◌∙◌, subst, arith, true, false}
 use Rattle.std.proofs.Common.{Some, IsTrue}
 use Rattle.road_base.specs.declared.ids.NodeId.{NodeId}
 use Rattle.road_base.specs.declared.ids.WayId.{WayId}
@@ -7,7 +7,7 @@ use Rattle.road_base.specs.declared.ids.Step.{Step}
 use Rattle.road_base.specs.declared.ids.Key.TheVariants.{Node as NodeKey, Way as WayKey}
 use Rattle.road_base.specs.Objects.{Objects, node_of, way_of}
 use Rattle.road_model.specs.Rules.{Rules}
-use Rattle.road_model.specs.Lines.{node_at, head_of, tail_of, head_position, tail_position}
+use Rattle.road_model.specs.Lines.{node_at, head_of, tail_of, head_position}
 use Rattle.road_model.specs.Driving.{is_road, located, Leaves, MayTurn, AtPlace, AtShut, AtDeadEnd, Passes}
 use Rattle.road_model.specs.Legal.{MustBy}
 use Rattle.road_model.specs.Network.{Drives, NoWord, OnlyWord, Legal}

@@ -1,6 +1,6 @@
 -- Whether a restriction is of use, and how its via ways are driven, is the same where its members are the same.
-use Rattle.std.proofs.Common.{◌≡◌, ℕ, ◌+◌, ◌-◌, List, [], ◌∷◌, ◌++◌, length, ◌⊎◌, inl, inr, refl, sym, ap, ◌∙◌, Option}
-use Rattle.std.proofs.Common.{None, Some, Bool, true, false, ◌&&◌, ◌||◌, not, is_some, IsTrue, sum_by, fold, nat_le}
+use Rattle.std.proofs.Common.{◌≡◌, ℕ, ◌+◌, ◌-◌, List, [], ◌∷◌, ◌++◌, length, inl, inr, refl, sym, ap, ◌∙◌}
+use Rattle.std.proofs.Common.{Some, Bool, true, false, ◌&&◌, ◌||◌, not, is_some, IsTrue, sum_by, fold, nat_le}
 use Rattle.std.specs.Prelude.{nat_lt}
 use Rattle.std.specs.List.{list_all, list_any}
 use Rattle.std.proofs.lemmas.Bool.{false≢true, or_left, or_right}
@@ -16,10 +16,10 @@ use Rattle.road_base.specs.Objects.{Objects, visible, way_of}
 use Rattle.road_model.specs.declared.answers.Unusable.{Unusable}
 use Rattle.road_model.specs.declared.answers.Unusable.TheVariants.{NotThisVehicle, NoValue, Members, Missing, NotAnEnd}
 use Rattle.road_model.specs.declared.answers.Unusable.TheVariants.{NotConnected, ClosedVia, TooLong}
-use Rattle.road_model.specs.Rules.{Rules, is_only}
+use Rattle.road_model.specs.Rules.{Rules}
 use Rattle.road_model.specs.Lines.{line_of, node_at}
 use Rattle.road_model.specs.Driving.{is_open}
-use Rattle.road_model.specs.Restrictions.{froms, vias, tos, is_way_key, is_one_node, is_empty, are_ways, listed, line_ends}
+use Rattle.road_model.specs.Restrictions.{froms, vias, tos, is_way_key, is_one_node, listed, line_ends}
 use Rattle.road_model.specs.Restrictions.{way_ends, via_ends, first_of, last_of, meet, some_ends_at, IsRun, Connects}
 use Rattle.road_model.specs.Restrictions.{wrong_members, is_tagged_highway, is_present, lacks_member, same_end, is_ring}
 use Rattle.road_model.specs.Restrictions.{misses_end, steps_on, is_too_long, any_way, Holds, IsUsable}

@@ -1,5 +1,5 @@
 -- The words that have a step of a way are the same where all within two links of it is.
-use Rattle.std.proofs.Common.{◌≡◌, ◌↔◌, ℕ, List, [], ◌∷◌, ◌++◌, length, inl, inr, refl, sym, ap, ◌∙◌, subst, Bool, Some}
+use Rattle.std.proofs.Common.{◌≡◌, ◌↔◌, ℕ, List, [], ◌∷◌, inl, inr, refl, sym, ◌∙◌, subst, Bool, Some}
 use Rattle.std.proofs.Common.{IsTrue, Contains, map}
 use Rattle.std.specs.Prelude.{codes}
 use Rattle.road_base.specs.declared.ids.NodeId.{NodeId}
@@ -12,7 +12,7 @@ use Rattle.road_base.specs.declared.objects.Relation.{Relation}
 use Rattle.road_base.specs.Objects.{Objects, visible, way_of, relation_of}
 use Rattle.road_model.specs.declared.answers.Unusable.TheVariants.{Members}
 use Rattle.road_model.specs.Rules.{Rules, is_restriction, is_only}
-use Rattle.road_model.specs.Restrictions.{in_role, froms, vias, tos, IsUsable}
+use Rattle.road_model.specs.Restrictions.{in_role, vias}
 use Rattle.road_model.specs.Words.{IsWord, IsEndInto, IsEndFrom, IsVia}
 use Rattle.road_model.specs.Links.{HasMember, IsWithin}
 use Rattle.road_model.specs.Local.{IsSameWithin}
