@@ -12,12 +12,12 @@ use Rattle.road_model.specs.Pieces.{Span}
 use Rattle.road_model.specs.Orders.{Lists}
 use Rattle.road_model.specs.Blocks.{IsArcEntry, IsContextEntry, IsPieceEntry, IsBlock}
 use Rattle.road_model.specs.Local.{IsSameWithin}
-use Rattle.road_model.proofs.LocalLinks.{IsAlike, within_itself, alike_from, alike_turned, alike_near}
+use Rattle.road_model.proofs.LocalLinks.{IsAlike, alike_from, alike_turned, alike_less}
 use Rattle.road_model.proofs.LocalPieces.{NeedsHighway, piece_kept, place_kept}
 use Rattle.road_model.proofs.LocalContexts.{context_kept, arc_kept}
 
 two_of_six : (M N : Objects) (w : WayId) → IsAlike M N 6 (WayKey w) → IsAlike M N 2 (WayKey w)
-two_of_six M N w al = alike_near M N 4 2 (WayKey w) (WayKey w) al (within_itself M 4 (WayKey w))
+two_of_six M N w al = alike_less M N 2 4 (WayKey w) al
 
 -- a list of what is the same
 lists_kept : {A B : Type 0} {name : A → B} {R : B → B → Ordering} {Is Was : A → Type 0} (xs : List A)

@@ -21,7 +21,7 @@ use Rattle.road_model.proofs.WordMembers.{on_way}
 use Rattle.road_model.proofs.StepEnds.{end_named}
 use Rattle.road_model.proofs.StraightOn.{road_of}
 use Rattle.road_model.proofs.ReferredNodes.{road_refers, step_refers}
-use Rattle.road_model.proofs.LocalLinks.{IsAlike, within_itself, alike_from, alike_turned, alike_near}
+use Rattle.road_model.proofs.LocalLinks.{IsAlike, alike_from, alike_turned, alike_less, alike_near}
 use Rattle.road_model.proofs.LocalPieces.{NeedsHighway, piece_kept}
 use Rattle.road_model.proofs.LocalWords.{linked, word_kept}
 use Rattle.road_model.proofs.LocalDrives.{AllAlike, two_of_three, legal_kept}
@@ -92,12 +92,11 @@ module _ (M : Objects) (P : Rules) where
 -- ---- what is near a way that is within two links
 
 three_of_six : (M N : Objects) (w : WayId) → IsAlike M N 6 (WayKey w) → IsAlike M N 3 (WayKey w)
-three_of_six M N w al = alike_near M N 3 3 (WayKey w) (WayKey w) al (within_itself M 3 (WayKey w))
+three_of_six M N w al = alike_less M N 3 3 (WayKey w) al
 
 two_links_on : (M N : Objects) (w v : WayId) → IsAlike M N 6 (WayKey w) → IsWithin M 2 (WayKey w) (WayKey v)
     → IsAlike M N 3 (WayKey v)
-two_links_on M N w v al h = alike_near M N 1 3 (WayKey v) (WayKey v)
-    (alike_near M N 2 4 (WayKey w) (WayKey v) al h) (within_itself M 1 (WayKey v))
+two_links_on M N w v al h = alike_less M N 3 1 (WayKey v) (alike_near M N 2 4 (WayKey w) (WayKey v) al h)
 
 -- all within three links of each piece's way is the same
 abbrev pub PiecesAlike : Objects → Objects → List Span → Type 0

@@ -18,13 +18,14 @@ use Rattle.road_model.proofs.StepEnds.{end_named}
 use Rattle.road_model.proofs.StraightOn.{road_of}
 use Rattle.road_model.proofs.Shapes.{bound_positive}
 use Rattle.road_model.proofs.ReferredNodes.{road_refers, step_refers}
-use Rattle.road_model.proofs.LocalLinks.{IsAlike, node_same, way_same, within_itself, alike_turned, alike_near}
-use Rattle.road_model.proofs.LocalBodies.{at_same, end_same, located_same, open_same, road_same, shut_same, turning_same}
+use Rattle.road_model.proofs.LocalLinks.{IsAlike, node_same, way_same, within_itself, alike_turned, alike_less}
+use Rattle.road_model.proofs.LocalBodies.{at_same, end_same, located_same, open_same, road_same, shut_same}
+use Rattle.road_model.proofs.LocalBodies.{turning_same}
 use Rattle.road_model.proofs.LocalPieces.{NeedsHighway}
 use Rattle.road_model.proofs.LocalWords.{word_kept}
 
 pub two_of_three : (M N : Objects) (w : WayId) → IsAlike M N 3 (WayKey w) → IsAlike M N 2 (WayKey w)
-two_of_three M N w al = alike_near M N 1 2 (WayKey w) (WayKey w) al (within_itself M 1 (WayKey w))
+two_of_three M N w al = alike_less M N 2 1 (WayKey w) al
 
 pub body_of_three : (M N : Objects) (w : WayId) → IsAlike M N 3 (WayKey w) → way_of M w ≡ way_of N w
 body_of_three M N w al = way_same M N w (al (WayKey w) (inl (within_itself M 3 (WayKey w))))
@@ -74,8 +75,8 @@ module _ (M N : Objects) (P : Rules) (needs : NeedsHighway P) where
       let e = body_of_three M N s.way al in
       let road = road_of M P s d in
       let at = (end_named M s (head_position s.dir s.index) v to).1 in
-      let back = leaves_kept N M P needs s.way (alike_turned M N 3 (WayKey s.way) al) (sym (road_same M N P s.way e) ∙ road)
-      (head_position s.dir s.index) v (sym (at_same M N s.way _ e) ∙ at) in
+      let back = leaves_kept N M P needs s.way (alike_turned M N 3 (WayKey s.way) al)
+      (sym (road_same M N P s.way e) ∙ road) (head_position s.dir s.index) v (sym (at_same M N s.way _ e) ∙ at) in
       AtDeadEnd (leaves_kept M N P needs s.way al road (head_position s.dir s.index) v at t l) (λ u g. h u (back u g))
 
   pass_kept : (s t : Step) → IsAlike M N 3 (WayKey s.way) → IsAlike M N 3 (WayKey t.way) → Drives M P s → Passes M P s t

@@ -17,8 +17,10 @@ use Rattle.road_model.specs.Local.{IsSameWithin}
 use Rattle.road_model.proofs.OnePiece.{parts, from_parts}
 use Rattle.road_model.proofs.StraightOn.{road_of}
 use Rattle.road_model.proofs.ReferredNodes.{road_refers}
-use Rattle.road_model.proofs.LocalLinks.{IsAlike, node_same, way_same, within_itself, alike_from, alike_turned, alike_near}
-use Rattle.road_model.proofs.LocalBodies.{line_same, at_same, located_same, open_same, road_same, shut_same, turning_same}
+use Rattle.road_model.proofs.LocalLinks.{IsAlike, node_same, way_same, within_itself, alike_from, alike_turned}
+use Rattle.road_model.proofs.LocalLinks.{alike_less}
+use Rattle.road_model.proofs.LocalBodies.{line_same, at_same, located_same, open_same, road_same, shut_same}
+use Rattle.road_model.proofs.LocalBodies.{turning_same}
 
 -- a direction is free only for tags with the key `highway`
 abbrev pub NeedsHighway : Rules → Type 0
@@ -74,7 +76,7 @@ module _ (M N : Objects) (P : Rules) (needs : NeedsHighway P) where
         no_turning = sym (turning_same M N P p.node n) ∙ p.no_turning;
       }
 
--- the first step of a piece's steps by position is drivable
+-- the step at a piece's lower end is drivable
 low_drives : (M : Objects) (P : Rules) (p : Span) → IsPiece M P p
     → Drives M P (record { way = p.way; index = p.index; dir = p.dir })
 low_drives M P p h = h.drives p.index (omega arith) h.ascends
@@ -82,8 +84,8 @@ low_drives M P p h = h.drives p.index (omega arith) h.ascends
 pub piece_road : (M : Objects) (P : Rules) (p : Span) → IsPiece M P p → IsTrue (is_road M P p.way)
 piece_road M P p h = road_of M P (record { way = p.way; index = p.index; dir = p.dir }) (low_drives M P p h)
 
-pub piece_kept : (M N : Objects) (P : Rules) → NeedsHighway P → (p : Span) → IsAlike M N 2 (WayKey p.way) → IsPiece M P p
-    → IsPiece N P p
+pub piece_kept : (M N : Objects) (P : Rules) → NeedsHighway P → (p : Span) → IsAlike M N 2 (WayKey p.way)
+    → IsPiece M P p → IsPiece N P p
 piece_kept M N P needs p al h =
     let road = piece_road M P p h in
     let k = known M N P needs p.way road al in
@@ -101,8 +103,8 @@ piece_kept M N P needs p al h =
           (located_kept M N P needs p.way k (i + 1) d.next);
     }
 
-pub place_kept : (M N : Objects) (P : Rules) → NeedsHighway P → (p : Span) → IsAlike M N 2 (WayKey p.way) → IsPiece M P p
-    → (k : ℕ) (x : Place) → IsPlaceOf M p k x → IsPlaceOf N p k x
+pub place_kept : (M N : Objects) (P : Rules) → NeedsHighway P → (p : Span) → IsAlike M N 2 (WayKey p.way)
+    → IsPiece M P p → (k : ℕ) (x : Place) → IsPlaceOf M p k x → IsPlaceOf N p k x
 place_kept M N P needs p al h k x e =
     let known = known M N P needs p.way (piece_road M P p h) al in record {
       node = sym (at_same M N p.way (place_position p k) known.way) ∙ e.node;
@@ -115,7 +117,7 @@ place_kept M N P needs p al h k x e =
 
 pub near_three : (M N : Objects) (w v : WayId) → IsSameWithin 3 M N w → v ≡ w → IsAlike M N 2 (WayKey v)
 near_three M N w v same e = subst (λ x. IsAlike M N 2 (WayKey x)) (sym e)
-    (alike_near M N 1 2 (WayKey w) (WayKey w) (alike_from M N 3 w same) (within_itself M 1 (WayKey w)))
+    (alike_less M N 2 1 (WayKey w) (alike_from M N 3 w same))
 
 pub local_pieces : (M N : Objects) (P : Rules) → NeedsHighway P → (w : WayId) (p : Span) → IsSameWithin 3 M N w
     → p.way ≡ w → IsPiece M P p ↔ IsPiece N P p
