@@ -40,3 +40,11 @@ pub mod ExampleViaWay
 pub mod ExampleCrossing
 pub mod BrokenSteps
 pub mod ExampleBroken
+pub mod LocalLinks
+pub mod LocalBodies
+pub mod LocalPieces
+pub mod LocalRules
+pub mod LocalWords
+pub mod LocalDrives
+pub mod LocalContexts
+pub mod LocalBlocks

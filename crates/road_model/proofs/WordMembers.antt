@@ -30,7 +30,7 @@ kept true k m ms i = i
 kept false k m ms i = inr i
 
 -- a member of a role is a member
-role_member : (role : List ℕ) (k : Key) (ms : List Member) → In k (in_role role ms) → In k (items ms)
+pub role_member : (role : List ℕ) (k : Key) (ms : List Member) → In k (in_role role ms) → In k (items ms)
 role_member role k [] i = i
 role_member role k (m ∷ ms) i = elim (kept (bytes_eq m.role role) k m (filter (λ n. bytes_eq n.role role) ms) i) [
   | inl e ↦ inl e
@@ -48,7 +48,7 @@ on_backward w i (suc n) s (inl e) = ap (λ t. t.way) e
 on_backward w i (suc n) s (inr j) = on_backward w i n s j
 
 -- the steps along a way lie on it
-on_way : (w : WayId) (i n : ℕ) (d : Dir) (s : Step) → In s (steps_from w i n d) → s.way ≡ w
+pub on_way : (w : WayId) (i n : ℕ) (d : Dir) (s : Step) → In s (steps_from w i n d) → s.way ≡ w
 on_way w i n Forward s j = on_forward w i n s j
 on_way w i n Backward s j = on_backward w i n s j
 

@@ -17,8 +17,11 @@ ghost use Rattle.road_model.specs.Pieces.{Span, IsPiece, IsInOnePiece, BeginsPie
 ghost use Rattle.road_model.specs.Words.{IsWord};
 ghost use Rattle.road_model.specs.Contexts.{Every};
 ghost use Rattle.road_model.specs.Network.{AnyWord, Legal, GoesOn, IsContext, IsContextOf, HasNoWords, spell_pieces};
-ghost use Rattle.road_model.specs.Links.{HasMember, RefersTo};
-ghost use Rattle.road_model.specs.Blocks.{name_of, IsRoadBlock};
+ghost use Rattle.road_model.specs.Network.{IsArc};
+ghost use Rattle.road_model.specs.Links.{HasMember, RefersTo, IsTouched};
+ghost use Rattle.road_model.specs.Local.{IsSameWithin};
+ghost use Rattle.road_model.specs.Blocks.{name_of, IsRoadBlock, IsPlaceOf, IsBlock};
+ghost use Rattle.road_model.specs.declared.lists.Place.{Place};
 ghost use Rattle.road_model.specs.Highways.{IsHighway};
 ghost use Rattle.road_model.specs.declared.blocks.Block.{Block};
 ghost use Rattle.road_model.specs.Turning.{HasTurnSteps, BeginsWord, EndsPiece};
@@ -27,6 +30,7 @@ ghost use Rattle.road_model.specs.Naming.{OnePiece, OneEntry, OneBlock, OneGraph
 ghost use Rattle.road_model.specs.Broken.{BrokenRule, Broken};
 
 use crate::Profile;
+use road_base::WayId;
 
 /// Ways, names of pieces and lists of names stand in total orders, in which only equal ones tie. `cmp` compares names
 /// so.
@@ -307,4 +311,54 @@ pub fn roads_refer<P: Profile>(profile: &P)
         → node_at M w i ≡ Some v → RefersTo M w v }
     ensures left { (M : Objects) (v : NodeId) (u : Step) → Leaves M (P.rules profile.now) v u → RefersTo M u.way v }
     ensures blocks { (M : Objects) (b : Block) → IsRoadBlock M (P.rules profile.now) b → IsHighway M b.way }
+{}
+
+/// Where no key whose visible body differs between two object maps is within three links of the way, in the one or in
+/// the other, the way's pieces are the same in both, with their nodes and locations.
+pub fn local_pieces<P: Profile>(profile: &P, way: WayId)
+    ensures pieces { (M N : Objects) (p : Span)
+        → IsSameWithin 3 M N way
+        → p.way ≡ way
+        → IsPiece M (P.rules profile.now) p ↔ IsPiece N (P.rules profile.now) p }
+    ensures places { (M N : Objects) (p : Span) (k : ℕ) (x : Place)
+        → IsSameWithin 3 M N way
+        → p.way ≡ way
+        → IsPiece M (P.rules profile.now) p
+        → IsPlaceOf M p k x ↔ IsPlaceOf N p k x }
+{}
+
+/// In the same case the words that have a step of the way are the same in both, each with its relation, its kind and
+/// its binding length.
+pub fn local_words<P: Profile>(profile: &P, way: WayId)
+    ensures { (M N : Objects) (r : RelationId) (only : Bool) (binding : ℕ) (u : List Step) (s : Step)
+        → IsSameWithin 3 M N way
+        → Contains u s
+        → s.way ≡ way
+        → IsWord M (P.rules profile.now) r only binding u ↔ IsWord N (P.rules profile.now) r only binding u }
+{}
+
+/// Where no such key is within six links of the way, the contexts of the way's pieces are the same in both object
+/// maps.
+pub fn local_contexts<P: Profile>(profile: &P, way: WayId)
+    ensures { (M N : Objects) (before : List Span) (p : Span)
+        → IsSameWithin 6 M N way
+        → p.way ≡ way
+        → IsContext M (P.rules profile.now) (before ++ p ∷ []) ↔ IsContext N (P.rules profile.now) (before ++ p ∷ []) }
+{}
+
+/// In the same case the arcs of these contexts are the same in both, with the contexts to which they lead.
+pub fn local_arcs<P: Profile>(profile: &P, way: WayId)
+    ensures { (M N : Objects) (before : List Span) (p t : Span) (target : List Span)
+        → IsSameWithin 6 M N way
+        → p.way ≡ way
+        → IsArc M (P.rules profile.now) (before ++ p ∷ []) t target
+        ↔ IsArc N (P.rules profile.now) (before ++ p ∷ []) t target }
+{}
+
+/// A change alters no block of a way that it doesn't touch: where the way isn't within six links of a key whose visible
+/// body differs between two object maps, its block is the same in both.
+pub fn locality<P: Profile>(profile: &P, way: WayId)
+    ensures { (M N : Objects) (b : Block)
+        → (IsTouched M N way → ⊥)
+        → IsBlock M (P.rules profile.now) way b ↔ IsBlock N (P.rules profile.now) way b }
 {}

@@ -1,0 +1,11 @@
+-- When a change is far from a way.
+use Rattle.std.specs.Prelude.{ℕ, ◌⊎◌}
+use Rattle.road_base.specs.declared.ids.WayId.{WayId}
+use Rattle.road_base.specs.declared.ids.Key.{Key}
+use Rattle.road_base.specs.declared.ids.Key.TheVariants.{Way as WayKey}
+use Rattle.road_base.specs.Objects.{Objects}
+use Rattle.road_model.specs.Links.{IsWithin, Differs}
+
+-- no key whose visible body differs between M and N is within n links of the way, in M or in N
+abbrev pub IsSameWithin : ℕ → Objects → Objects → WayId → Type 0
+IsSameWithin n M N w = ((k : Key) × Differs M N k × (IsWithin M n k (WayKey w) ⊎ IsWithin N n k (WayKey w))) → ⊥
