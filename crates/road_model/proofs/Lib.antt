@@ -40,3 +40,5 @@ pub mod ExampleViaWay
 pub mod ExampleCrossing
 pub mod BrokenSteps
 pub mod ExampleBroken
+pub mod FilePlaces
+pub mod FileWalks

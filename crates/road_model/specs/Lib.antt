@@ -20,3 +20,4 @@ pub mod Naming
 pub mod Broken
 pub mod OnNetwork
 pub mod Networks
+pub mod FileWalks
