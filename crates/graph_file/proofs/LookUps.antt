@@ -15,7 +15,7 @@ use Rattle.road_base.specs.declared.ids.WayId.{WayId}
 use Rattle.road_model.specs.declared.lists.PieceName.{PieceName}
 use Rattle.road_model.specs.declared.lists.Piece.{Piece}
 use Rattle.road_model.specs.declared.blocks.Block.{Block}
-use Rattle.road_base.proofs.ListMembers.{In, in_from_contains}
+use Rattle.road_base.proofs.ListMembers.{all_at}
 use Rattle.road_model.specs.declared.lists.Context.{Context}
 use Rattle.road_model.specs.declared.lists.TurnArc.{TurnArc}
 use Rattle.road_model.specs.Orders.{rises, rises_from, way_cmp, name_cmp}
@@ -95,12 +95,6 @@ only_named bs up ordered n b has way ps is r among named none p h =
 
 -- ---- pieces of one way ascend by name where they ascend by position and direction
 
-module _ {A : Type 0} (F : A → Type 0) where
-  pub all_at : (xs : List A) → AllByRecursion F xs → (x : A) → In x xs → F x
-  all_at [] all x i = absurd i
-  all_at (y ∷ xs) all x (inl e) = subst F (sym e) all.0
-  all_at (y ∷ xs) all x (inr i) = all_at xs all.1 x i
-
 level : (m n : PieceName) → m.way ≡ n.way → name_cmp m n ≡ place_cmp m n
 level m n e =
     let t : way_cmp m.way n.way ≡ Equal = subst (λ w. way_cmp m.way w ≡ Equal) e (tied_itself way_cmp_total m.way) in
@@ -126,11 +120,11 @@ ways_at w (p ∷ ps) all = (all.0.way_is, ways_at w ps all.1)
 pub are_ordered : (bs : List Block) → AllByRecursion IsWayBlock bs → AreOrdered bs
 are_ordered bs all = record {
   ascend = λ b has.
-      let is = all_at IsWayBlock bs all b (in_from_contains bs b has) in
+      let is = all_at IsWayBlock bs b all has in
       levels b.way b.pieces (ways_at b.way b.pieces is.pieces) ∙ is.ascend;
   ways = λ b p has has_piece.
-      let is = all_at IsWayBlock bs all b (in_from_contains bs b has) in
-      (all_at (IsPieceAt b.way) b.pieces is.pieces p (in_from_contains b.pieces p has_piece)).way_is;
+      let is = all_at IsWayBlock bs b all has in
+      (all_at (IsPieceAt b.way) b.pieces p is.pieces has_piece).way_is;
 }
 
 -- what the one piece of a name has is the only thing that a piece of the name has
