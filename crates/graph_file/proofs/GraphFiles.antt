@@ -4,7 +4,7 @@ use Rattle.std.proofs.Common.{sym, ap, subst, ◌∙◌, arith, append-nil, appe
 use Rattle.std.specs.List.{AllByRecursion}
 use Rattle.std.specs.Ordering.{is_lt}
 use Rattle.std.specs.declared.cmp.Ordering.TheVariants.{Less, Greater}
-use Rattle.std.specs.FinMap.{FinMap, entries, insert, entries-insert, put, empty}
+use Rattle.std.specs.FinMap.{FinMap, entries, values, insert, entries-insert, put, empty}
 use Rattle.std.proofs.lemmas.Bool.{and_parts}
 use Rattle.std.proofs.lemmas.List.{drop_at}
 use Rattle.road_base.specs.Bytes.{u32_bytes, u64_bytes, i64_bytes, joined}
@@ -19,7 +19,8 @@ use Rattle.road_model.specs.Format.{piece_bytes, block_bytes, graph_bytes, place
 use Rattle.road_model.specs.Format.{PieceFits, BlockFits, IsGraphFile}
 use Rattle.road_model.proofs.AscendingLists.{rest_rises}
 use Rattle.graph_file.specs.GraphReading.{Begins, list_bytes, ListFits, IsPieceAt, IsWayBlock, IsOfItsWay, IsFile}
-use Rattle.graph_file.proofs.Files.{way_cmp_total, no_entries}
+use Rattle.graph_file.specs.OneSpelling.{list_one, block_one}
+use Rattle.graph_file.proofs.Files.{way_cmp_total, no_entries, values_are}
 use Rattle.graph_file.proofs.PieceCount.{few_pieces}
 
 -- ---- the bytes behind the magic
@@ -106,6 +107,51 @@ grammar bytes bs file = record {
   count = file.some.0;
   spelled = file.spelled;
 }
+
+own_pieces : (w : WayId) (ps : List Piece) → AllByRecursion IsPieceForm ps → AllByRecursion PieceFits ps
+    → AllByRecursion (λ p. p.name.way ≡ w) ps → AllByRecursion (IsPieceAt w) ps
+own_pieces w [] form fits own = tt
+own_pieces w (p ∷ ps) form fits own =
+    (record { way_is = own.0; form = form.0; fits = fits.0 }, own_pieces w ps form.1 fits.1 own.1)
+
+own_blocks : (bs : List Block) → AllByRecursion IsBlockForm bs → AllByRecursion BlockFits bs
+    → AllByRecursion IsOfItsWay bs → AllByRecursion IsWayBlock bs
+own_blocks [] form fits own = tt
+own_blocks (b ∷ bs) form fits own = (
+  record {
+    way = fits.0.way;
+    count = let few : length b.pieces ≤ 131068 = few_pieces b.pieces form.0.ascend form.0.pieces in omega arith;
+    some = form.0.some;
+    ascend = form.0.ascend;
+    pieces = own_pieces b.way b.pieces form.0.pieces fits.0.pieces own.0;
+  },
+  own_blocks bs form.1 fits.1 own.1,
+)
+
+-- blocks of their ways, in form, are the file that they spell
+pub file_of : (bytes : List ℕ) (bs : List Block) → bytes ≡ graph_bytes 1 bs → length bs < 2 ^ 64
+    → IsTrue (rises way_cmp (map (λ b. b.way) bs)) → AllByRecursion IsBlockForm bs → AllByRecursion BlockFits bs
+    → AllByRecursion IsOfItsWay bs → IsFile bytes bs
+file_of bytes bs spelled count up form fits own =
+    record { spelled = spelled; some = (count, own_blocks bs form fits own); ascend = up }
+
+-- what the map's blocks spell is their file
+pub map_file : (profile : ℕ) (m : FinMap way_cmp Block) (bs : List Block) → profile ≡ 1
+    → entries m ≡ map entry_of bs → IsTrue (rises way_cmp (map (λ b. b.way) bs)) → AllByRecursion IsBlockForm (values m)
+    → AllByRecursion BlockFits bs → length bs < 2 ^ 64 → AllByRecursion IsOfItsWay (values m)
+    → IsFile (graph_bytes profile (values m)) (values m)
+map_file profile m bs first is up forms fit count own =
+    let same : bs ≡ values m = sym (values_are m bs is) in
+    file_of (graph_bytes profile (values m)) (values m) (ap (λ n. graph_bytes n (values m)) first)
+    (subst (λ l. length l < 2 ^ 64) same count) (subst (λ l. IsTrue (rises way_cmp (map (λ b. b.way) l))) same up)
+    forms (subst (AllByRecursion BlockFits) same fit) own
+
+-- the bytes of a file have one list of blocks
+pub one_file : (bytes : List ℕ) (a b : List Block) → IsFile bytes a → IsFile bytes b → a ≡ b
+one_file bytes a b f g =
+    (list_one block_bytes IsWayBlock block_one a b (list_bytes block_bytes a) [] []
+    (behind bytes (list_bytes block_bytes a) f.spelled a f)
+    (behind bytes (list_bytes block_bytes a) f.spelled b g)).0
 
 -- a piece under the name that it has in the block of the way, which its bytes don't spell
 abbrev piece_at : WayId → Piece → Piece

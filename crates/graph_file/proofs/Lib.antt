@@ -6,3 +6,4 @@ pub mod Fronts
 pub mod Ascents
 pub mod PieceParts
 pub mod GraphFiles
+pub mod LookUps

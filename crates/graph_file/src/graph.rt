@@ -1,18 +1,23 @@
 //! A graph that is read from the bytes of a graph file.
-ghost use Rattle.std.specs.Prelude.{◌≡◌, ◌++◌, ℕ, List, map, codes, IsTrue, IfOk, IfErr, IfSome, IfNone};
+ghost use Rattle.std.specs.Prelude.{◌≡◌, ◌++◌, ℕ, List, map, codes, option_copied, Some, IsTrue, IfOk, IfErr, IfSome};
+ghost use Rattle.std.specs.Prelude.{IfNone};
 ghost use Rattle.std.specs.List.{AllByRecursion};
 ghost use Rattle.std.specs.FinMap.{values};
 ghost use Rattle.road_base.specs.Bytes.{u32_bytes};
+ghost use Rattle.road_model.specs.declared.lists.TurnArc.{TurnArc};
+ghost use Rattle.road_model.specs.declared.lists.Context.{Context};
 ghost use Rattle.road_model.specs.declared.blocks.Block.{Block};
 ghost use Rattle.road_model.specs.Orders.{rises, way_cmp};
 ghost use Rattle.road_model.specs.Format.{graph_bytes, IsBlockForm, IsGraphFile};
 ghost use Rattle.graph_file.specs.GraphReading.{IfMalformed, IsFile, IsOfItsWay};
+ghost use Rattle.graph_file.specs.LookUps.{AreOrdered, HasContextsOf, HasContextAt, HasArcsOf};
 
 use crate::ascending::do_ascend;
+use crate::look_ups::piece_named;
 use crate::spelling::read_list;
 use crate::unread::Unread;
 use road_base::NoMemory;
-use road_model::{Block, Blocks};
+use road_model::{Arcs, Block, Blocks, Context, Contexts, PieceName};
 use std::alloc::Global;
 
 /// A graph as a graph file holds it.
@@ -20,6 +25,8 @@ use std::alloc::Global;
 pub struct Graph {
     pub profile: u32,
     pub blocks: Blocks,
+    /// A piece is found by its way, and then by its name.
+    ghost ordered: { AreOrdered (values blocks.map) },
 }
 
 impl Graph {
@@ -31,6 +38,7 @@ impl Graph {
         ensures forms { IfOk result (λ r. IfSome r (λ g. AllByRecursion IsBlockForm (values g.blocks.map))) }
         ensures ways { IfOk result (λ r. IfSome r (λ g. AllByRecursion IsOfItsWay (values g.blocks.map))) }
         ensures grammar { IfOk result (λ r. IfSome r (λ _. IsGraphFile bytes.now)) }
+        ensures file { IfOk result (λ r. IfSome r (λ g. IsFile bytes.now (values g.blocks.map))) }
         ensures none { IfOk result (λ r. IfNone r (IsGraphFile bytes.now → ⊥)) }
     {
         match read_blocks(alloc, bytes) {
@@ -41,6 +49,43 @@ impl Graph {
             Err(Unread::Malformed) => Ok(None),
             Err(Unread::Memory) => Err(NoMemory),
         }
+    }
+
+    /// The contexts of the piece, by length and then by names. None exactly where the graph has no such piece. Takes no
+    /// memory.
+    pub fn contexts(&self, piece: PieceName) -> Option<&Contexts>
+        ensures some { IfSome result (λ l. HasContextsOf (values self.now.blocks.map) piece l.now) }
+        ensures only { (l : List Context) → HasContextsOf (values self.now.blocks.map) piece l
+            → option_copied result ≡ Some l }
+    {
+        match piece_named(self.blocks.items(), piece) {
+            Some(found) => Some(&found.contexts),
+            None => None,
+        }
+    }
+
+    /// The arcs from the piece's context at the place, by name. None exactly where the graph has no such piece, or the
+    /// piece no context at the place. Takes no memory.
+    pub fn arcs(&self, piece: PieceName, place: usize) -> Option<&Arcs>
+        ensures some { IfSome result (λ l. HasArcsOf (values self.now.blocks.map) piece place l.now) }
+        ensures only { (l : List TurnArc) → HasArcsOf (values self.now.blocks.map) piece place l
+            → option_copied result ≡ Some l }
+    {
+        match self.contexts(piece) {
+            Some(contexts) => arcs_at(contexts.items(), place),
+            None => None,
+        }
+    }
+}
+
+/// The arcs from the context at the place.
+fn arcs_at(contexts: &[Context], place: usize) -> Option<&Arcs>
+    ensures some { IfSome result (λ l. HasContextAt contexts.now place l.now) }
+    ensures only { (l : List TurnArc) → HasContextAt contexts.now place l → option_copied result ≡ Some l }
+{
+    match contexts.get(place) {
+        Some(context) => Some(&context.arcs),
+        None => None,
     }
 }
 

@@ -5,7 +5,8 @@
 //! blocks there are stands before the blocks: the writer keeps the place and fills it at the end.
 //!
 //! `Graph::read` goes once over the bytes and reads a graph back. A count that the bytes announce takes no memory: what
-//! is taken grows with the parts that were read, and so with the bytes.
+//! is taken grows with the parts that were read, and so with the bytes. What a graph has of a piece is found by two
+//! binary searches, over the blocks and over one block's pieces, and takes no memory.
 #![tactic(auto)]
 
 ghost use Rattle.std.specs.Prelude.{◌≡◌, ◌++◌, ◌<◌, ◌^◌, length, OnOk, OnErr, codes};
@@ -13,10 +14,13 @@ ghost use Rattle.std.specs.List.{AllByRecursion};
 ghost use Rattle.std.specs.FinMap.{values};
 ghost use Rattle.road_base.specs.Bytes.{u32_bytes, u64_bytes, Keeps};
 ghost use Rattle.road_model.specs.Format.{graph_bytes, BlockFits, IsBlockForm, IsGraphFile};
+ghost use Rattle.graph_file.specs.GraphReading.{IsFile, IsOfItsWay};
 
 mod ascending;
 mod extent;
 mod graph;
+pub mod laws;
+mod look_ups;
 mod numbers;
 mod parts;
 mod pieces;
@@ -39,6 +43,8 @@ pub fn write(profile: u32, blocks: &Blocks, out: &mut Vec<u8>) -> Result<(), NoM
     requires forms { AllByRecursion IsBlockForm (values blocks.now.map) }
     ensures bytes { OnOk result (out.new.items ≡ out.old.items ++ graph_bytes profile (values blocks.now.map)) }
     ensures grammar { OnOk result (IsGraphFile (graph_bytes profile (values blocks.now.map))) }
+    ensures file { AllByRecursion IsOfItsWay (values blocks.now.map)
+        → OnOk result (IsFile (graph_bytes profile (values blocks.now.map)) (values blocks.now.map)) }
     ensures err { OnErr result (out.new.items ≡ out.old.items) }
 {
     let before = out.len();

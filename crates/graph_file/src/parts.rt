@@ -151,8 +151,14 @@ fn lead_on(before: &Names, arcs: &Arcs) -> bool
 fn have_targets(arcs: &[TurnArc], most: u64) -> bool
     ensures { IsTrue result ↔ AllByRecursion (λ a. (1 ≤ a.length) × (a.length ≤ most)) arcs.now }
 {
-    arcs.iter()
-        .all(|arc| 1 <= arc.length && u64::from(arc.length) <= most)
+    arcs.iter().all(|arc| is_target(arc.length, most))
+}
+
+/// So many pieces are one at least, and so many at most.
+fn is_target(length: u32, most: u64) -> bool
+    ensures { IsTrue result ↔ ((1 ≤ length) × (length ≤ most)) }
+{
+    1 <= length && u64::from(length) <= most
 }
 
 /// Contexts of a piece, of which the first has no names and each comes before the next, behind how many there are.

@@ -282,8 +282,12 @@ fn refuses_what_is_not_a_graph_file(rt: HostRuntime) -> Result<(), Fail> {
     let mut longer = THERE_AND_BACK.to_vec(alloc)?;
     longer.push(0)?;
     assert!(rt; is_refused(alloc, &longer)?);
-    assert!(rt; is_refused(alloc, &THERE_AND_BACK[..219])?);
-    assert!(rt; is_refused(alloc, b"")?);
+    for end in 0..THERE_AND_BACK.len() {
+        assert!(rt;
+            is_refused(alloc, &THERE_AND_BACK[..end])?,
+            "the first {end} bytes"
+        );
+    }
     Ok(())
 }
 
@@ -319,5 +323,56 @@ fn refuses_pieces_and_contexts_out_of_order(rt: HostRuntime) -> Result<(), Fail>
     )?;
     assert_eq!(rt; contexts.len(), 152);
     assert!(rt; is_refused(alloc, &contexts)?);
+    Ok(())
+}
+
+fn count_of_contexts(graph: &Graph, piece: PieceName) -> Option<usize> {
+    match graph.contexts(piece) {
+        Some(contexts) => Some(contexts.items().len()),
+        None => None,
+    }
+}
+
+/// The first arc from the piece's context at the place.
+fn first_arc(graph: &Graph, piece: PieceName, place: usize) -> Option<TurnArc> {
+    match graph.arcs(piece, place) {
+        Some(arcs) => arcs.items().first().copied(),
+        None => None,
+    }
+}
+
+fn arc(piece: PieceName, length: u32) -> TurnArc {
+    TurnArc { piece, length }
+}
+
+#[test]
+fn looks_up_what_a_piece_has(rt: HostRuntime) -> Result<(), Fail> {
+    let alloc = rt.alloc();
+    let there = name(10, 0, Dir::Forward);
+    let back = name(10, 0, Dir::Backward);
+    let along = name(-1, 3, Dir::Backward);
+    let on = name(7, 0, Dir::Forward);
+    let missing = [
+        name(10, 1, Dir::Forward),
+        name(9, 0, Dir::Forward),
+        name(11, 0, Dir::Forward),
+        name(-1, 3, Dir::Forward),
+    ];
+    if let Some(graph) = Graph::read(alloc, THERE_AND_BACK)? {
+        assert_eq!(rt; count_of_contexts(&graph, there), Some(1));
+        assert_eq!(rt; first_arc(&graph, there, 0), Some(arc(back, 1)));
+        assert_eq!(rt; first_arc(&graph, back, 0), Some(arc(there, 1)));
+        assert_eq!(rt; first_arc(&graph, back, 1), None);
+        for piece in missing {
+            assert_eq!(rt; count_of_contexts(&graph, piece), None);
+            assert_eq!(rt; first_arc(&graph, piece, 0), None);
+        }
+    }
+    if let Some(graph) = Graph::read(alloc, &WITH_A_NAME[1..])? {
+        assert_eq!(rt; count_of_contexts(&graph, along), Some(2));
+        assert_eq!(rt; first_arc(&graph, along, 0), Some(arc(on, 1)));
+        assert_eq!(rt; first_arc(&graph, along, 1), Some(arc(on, 3)));
+        assert_eq!(rt; first_arc(&graph, along, 2), None);
+    }
     Ok(())
 }

@@ -1,10 +1,12 @@
 //! A graph file that is written block by block.
 ghost use Rattle.std.specs.Prelude.{◌≡◌, ◌+◌, ◌≤◌, ◌++◌, ◌∷◌, [], ℕ, List, map, take, drop, vec_len, OnOk, OnErr, IfOk};
 ghost use Rattle.std.specs.Prelude.{IsTrue};
+ghost use Rattle.std.specs.List.{AllByRecursion};
 ghost use Rattle.road_model.specs.Orders.{rises, way_cmp};
 ghost use Rattle.road_base.specs.Bytes.{u64_bytes};
 ghost use Rattle.road_model.specs.declared.blocks.Block.{Block};
 ghost use Rattle.road_model.specs.Format.{graph_bytes, block_bytes, BlockFits, IsBlockForm, IsGraphFile};
+ghost use Rattle.graph_file.specs.GraphReading.{IsFile, IsOfItsWay};
 
 use crate::pieces::GraphFile;
 use crate::put_header;
@@ -58,6 +60,11 @@ impl GraphWriter {
             → HasWritten 1 blocks self
             → IsTrue (rises way_cmp (map (λ b. b.way) blocks))
             → IsGraphFile result.items }
+        ensures file { (blocks : List Block)
+            → HasWritten 1 blocks self
+            → IsTrue (rises way_cmp (map (λ b. b.way) blocks))
+            → AllByRecursion IsOfItsWay blocks
+            → IsFile result.items blocks }
     {
         let GraphWriter { mut bytes, count } = self;
         set_count(&mut bytes, count);

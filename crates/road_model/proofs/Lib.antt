@@ -48,3 +48,5 @@ pub mod LocalWords
 pub mod LocalDrives
 pub mod LocalContexts
 pub mod LocalBlocks
+pub mod FilePlaces
+pub mod FileWalks

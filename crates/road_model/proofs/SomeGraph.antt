@@ -98,7 +98,7 @@ module _ (M : Objects) (P : Rules) where
 
   -- ---- contexts
 
-  names_tell : (a b : List Span) → Every (IsPiece M P) a → Every (IsPiece M P) b → map name_of a ≡ map name_of b →
+  pub names_tell : (a b : List Span) → Every (IsPiece M P) a → Every (IsPiece M P) b → map name_of a ≡ map name_of b →
       a ≡ b
   names_tell [] [] i j e = refl
   names_tell [] (q ∷ b) i j e = cc
@@ -114,7 +114,7 @@ module _ (M : Objects) (P : Rules) where
     context_entry : List Span → Context
     context_entry b = record { before = map name_of b; arcs = (arcs_of M P (b ++ p ∷ [])).0 }
 
-    context_of : (b : List Span) → IsContext M P (b ++ p ∷ []) → (e : Context) × IsContextEntry M P p e
+    unfoldable pub context_of : (b : List Span) → IsContext M P (b ++ p ∷ []) → (e : Context) × IsContextEntry M P p e
     unfolding context_entry
     context_of b c = (
       context_entry b,
@@ -159,7 +159,7 @@ module _ (M : Objects) (P : Rules) where
   -- ---- blocks
 
   module _ (w : WayId) where
-    piece_entry : (p : Span) → IsOf M P w p → (e : Piece) × IsPieceEntry M P w e
+    pub piece_entry : (p : Span) → IsOf M P w p → (e : Piece) × IsPieceEntry M P w e
     piece_entry p h =
         let t = places_of p h.is in
         let c = contexts_of p in (
@@ -176,9 +176,9 @@ module _ (M : Objects) (P : Rules) where
           },
         )
 
-    named : (p : Span) (h : IsOf M P w p) → (piece_entry p h).0.name ≡ name_of p
+    pub entry_named : (p : Span) (h : IsOf M P w p) → (piece_entry p h).0.name ≡ name_of p
     unfolding piece_entry
-    named p h = refl
+    entry_named p h = refl
 
     fin_entries : Finite (IsPieceEntry M P w)
     fin_entries = fin_made (fin_pieces_of M P w) piece_entry
@@ -186,7 +186,7 @@ module _ (M : Objects) (P : Rules) where
           k.piece,
           record { is = k.is; way = k.of },
           λ h. let f = piece_entry k.piece h in
-              one_entry M P w e f.0 k f.1 (k.named ∙ sym (named k.piece h)),
+              one_entry M P w e f.0 k f.1 (k.named ∙ sym (entry_named k.piece h)),
         ))
 
     block_of : (b : Block) × IsBlock M P w b

@@ -21,3 +21,4 @@ pub mod Broken
 pub mod OnNetwork
 pub mod Networks
 pub mod Local
+pub mod FileWalks

@@ -10,7 +10,7 @@ ghost use Rattle.road_base.specs.declared.ids.RelationId.{RelationId};
 ghost use Rattle.road_base.specs.declared.ids.Key.TheVariants.{Way as WayKey};
 ghost use Rattle.road_base.specs.declared.ids.Step.{Step};
 ghost use Rattle.road_model.specs.declared.lists.PieceName.{PieceName};
-ghost use Rattle.road_model.specs.Orders.{node_cmp, way_cmp, relation_cmp, name_cmp, names_cmp};
+ghost use Rattle.road_model.specs.Orders.{Lists, node_cmp, way_cmp, relation_cmp, name_cmp, names_cmp};
 ghost use Rattle.road_model.specs.Lines.{head_of, node_at};
 ghost use Rattle.road_model.specs.Driving.{drivable, is_road, Leaves};
 ghost use Rattle.road_model.specs.Pieces.{Span, IsPiece, IsInOnePiece, BeginsPiece, spell};
@@ -26,6 +26,7 @@ ghost use Rattle.road_model.specs.Highways.{IsHighway};
 ghost use Rattle.road_model.specs.declared.blocks.Block.{Block};
 ghost use Rattle.road_model.specs.Turning.{HasTurnSteps, BeginsWord, EndsPiece};
 ghost use Rattle.road_model.specs.Walks.{AreWalked};
+ghost use Rattle.road_model.specs.FileWalks.{AreFileWalks};
 ghost use Rattle.road_model.specs.Naming.{OnePiece, OneEntry, OneBlock, OneGraph, HasBlock, HasGraph};
 ghost use Rattle.road_model.specs.Broken.{BrokenRule, Broken};
 
@@ -190,6 +191,15 @@ pub fn context_decides<P: Profile>(profile: &P)
 /// is an infix of the spelling of exactly one shortest walk, by pieces and by steps alike.
 pub fn walk_law<P: Profile>(profile: &P)
     ensures { (M : Objects) → AreWalked M (P.rules profile.now) }
+{}
+
+/// Over the blocks of all ways with pieces, as a graph file spells them, the walks by names alone are the object map's
+/// walks, they spell exactly its legal drives from junction to junction, and the places of their pieces are the nodes
+/// passed.
+pub fn file_walks<P: Profile>(profile: &P)
+    ensures { (M : Objects) (blocks : List Block)
+        → Lists (λ b. b.way) way_cmp (IsRoadBlock M (P.rules profile.now)) blocks
+        → AreFileWalks M (P.rules profile.now) blocks }
 {}
 
 /// A drivable step alone is a legal drive, and a legal drive with one more drivable step is legal exactly where this

@@ -3,6 +3,7 @@ use Rattle.std.specs.List.{AllByRecursion}
 use Rattle.std.proofs.lemmas.Result.{on_ok_weaker}
 use Rattle.road_model.specs.Format.{graph_bytes, IsBlockForm}
 use Rattle.graph_file.proofs.Files.{values_are, is_graph_file}
+use Rattle.graph_file.proofs.GraphFiles.{map_file}
 use Rattle.graph_file.proofs.write.Goals as goal
 
 pub put_graph-written-requires : goal.put_graph-written-requires
@@ -20,4 +21,11 @@ returns-else-is_err-clause-grammar c =
     on_ok_weaker c.put_graph-written.result
     (λ fit. is_graph_file _ _ _ c.requires.profile c.items.ensures.entries c.items.ensures.ascending c.requires.forms
     fit c.put_graph-written.ensures.count)
+    c.put_graph-written.ensures.fit
+
+pub returns-else-is_err-clause-file : goal.returns-else-is_err-clause-file
+returns-else-is_err-clause-file c = λ own.
+    on_ok_weaker c.put_graph-written.result
+    (λ fit. map_file _ _ _ c.requires.profile c.items.ensures.entries c.items.ensures.ascending c.requires.forms
+    fit c.put_graph-written.ensures.count own)
     c.put_graph-written.ensures.fit

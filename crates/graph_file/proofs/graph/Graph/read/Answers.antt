@@ -1,7 +1,9 @@
 use Rattle.std.proofs.Common.{sym, subst}
 use Rattle.std.specs.List.{AllByRecursion}
 use Rattle.road_model.specs.Format.{IsBlockForm}
-use Rattle.graph_file.specs.GraphReading.{IsOfItsWay}
+use Rattle.graph_file.specs.GraphReading.{IsFile, IsOfItsWay}
+use Rattle.graph_file.specs.LookUps.{AreOrdered}
+use Rattle.graph_file.proofs.LookUps.{are_ordered}
 use Rattle.graph_file.proofs.GraphFiles.{forms, ways, grammar, none_in_grammar}
 use Rattle.graph_file.proofs.graph.Graph.read.Goals as goal
 
@@ -21,3 +23,13 @@ returns-in_ok-blocks-in-Ok-clause-grammar c = grammar c.args.bytes.now c.in-Ok.l
 pub returns-in-Err-Malformed-clause-none : goal.returns-in-Err-Malformed-clause-none
 returns-in-Err-Malformed-clause-none c =
     none_in_grammar c.args.bytes.now (rw c.in-Err-Malformed.field-0-is at c.in-Err-Malformed.ensures.malformed)
+
+pub returns-in_ok-blocks-in-Ok-clause-file : goal.returns-in_ok-blocks-in-Ok-clause-file
+returns-in_ok-blocks-in-Ok-clause-file c =
+    subst (IsFile c.args.bytes.now) (sym c.in_ok-blocks-in-Ok.ensures) c.in-Ok.ensures.found
+
+pub invariant_of-result : goal.invariant_of-result
+invariant_of-result c = record {
+  ordered = subst AreOrdered (sym c.in_ok-blocks-in-Ok.ensures)
+      (are_ordered c.in-Ok.list.items c.in-Ok.ensures.found.some.1);
+}

@@ -1,0 +1,14 @@
+-- Graph files whose walks are those of an object map.
+use Rattle.std.specs.Prelude.{◌≡◌, ℕ, List}
+use Rattle.road_base.specs.Objects.{Objects}
+use Rattle.road_model.specs.declared.blocks.Block.{Block}
+use Rattle.road_model.specs.Rules.{Rules}
+use Rattle.road_model.specs.FileWalks.{AreFileWalks}
+use Rattle.graph_file.specs.GraphReading.{IsFile}
+
+-- the bytes are a graph file of these blocks and no others, and whoever walks over them walks over the object map
+pub record IsWalkedFile (M : Objects) (P : Rules) (bytes : List ℕ) : Type 0 where
+  pub blocks : List Block
+  pub file : IsFile bytes blocks
+  pub only : (others : List Block) → IsFile bytes others → others ≡ blocks
+  pub walks : AreFileWalks M P blocks
