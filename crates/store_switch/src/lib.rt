@@ -8,6 +8,7 @@
 //! it goes to the file that isn't live.
 #![tactic(auto)]
 
+mod checkpointing;
 mod creating;
 pub mod laws;
 mod live;
@@ -15,6 +16,7 @@ mod loading;
 #[cfg(test)]
 mod store_tests;
 
+pub use checkpointing::checkpoint;
 pub use creating::create_store;
 pub use live::find_live;
 pub use loading::load_store;
