@@ -90,7 +90,8 @@ module _ (old : Journal) (events : List Event) (h : History) (w v : Outside) (on
       (LeavesCheckpoint h events w.output) b.any_moment
       (λ left l. record {
         files = either old.file old.generation h (checkpoint_of h events) (disk w to).reads (image_of left)
-            (subst (λ (x : List ℕ). Stands x old.generation h) (sym (mine left l.other)) (journal_stands old h w on).stands)
+            (subst (λ (x : List ℕ). Stands x old.generation h) (sym (mine left l.other))
+            (journal_stands old h w on).stands)
             on.over l.image;
         out = l.out;
       })

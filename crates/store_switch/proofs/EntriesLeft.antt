@@ -29,7 +29,8 @@ is_true true t = refl
 is_true false t = absurd t
 
 -- where all are above a key, none is of that key
-none_of : (k : Key) (events : List Event) → IsTrue (below_all key_cmp k (map pair events)) → filter (is_of k) events ≡ []
+none_of : (k : Key) (events : List Event) → IsTrue (below_all key_cmp k (map pair events))
+    → filter (is_of k) events ≡ []
 none_of k [] h = refl
 none_of k (x ∷ xs) h =
     let parts = and_parts _ _ h in

@@ -46,6 +46,7 @@ pub fn checkpoint<W: Site>(
     }
 }
 
+/// The other one of the two files.
 fn other_file(file: Which) -> Which
     ensures { result ≡ other file }
 {
