@@ -17,7 +17,7 @@ use Rattle.sequence_journal.specs.declared.error.JournalError.TheVariants.{SiteF
 use Rattle.sequence_journal.specs.Layout.{NoBase, base_bytes, head_bytes}
 use Rattle.sequence_journal.specs.Standing.{EventsFit, HistoryFits, Stands, base_of, history_bytes}
 use Rattle.sequence_journal.specs.Ends.{IsReplaced, Replaced, Replaces}
-use Rattle.sequence_journal.specs.Basing.{IsBaseImage, Based, WritesBase, base_alone}
+use Rattle.sequence_journal.specs.Basing.{IsBaseImage, Based, WritesBase, WritesWithin, base_alone}
 use Rattle.sequence_journal.proofs.AddedChange.{closed_gate}
 
 no_base_gate : (gate : ℕ) (tail : List ℕ) → gate ≢ 1 → NoBase (gate ∷ tail)
@@ -99,6 +99,12 @@ module _ (generation number : ℕ) (events : List Event) (piece : List ℕ)
         (λ (y : JournalError). WritesBase file generation (base_alone number events) (Err y) w v) (sym fault)
         (based_failed x replaces)
 
+    pub within_failed : (e : JournalError) (x : Failed) → e ≡ SiteFault → Replaces file given (Err x) w v
+        → WritesWithin file generation (base_alone number events) (Err e) w v
+    within_failed e x fault replaces = subst
+        (λ (y : JournalError). WritesWithin file generation (base_alone number events) (Err y) w v) (sym fault)
+        (based_failed x replaces)
+
     pub base_written : (x : Unit {0}) (gate : ℕ) (kept : Sequence) → gate ≡ length piece → kept.0 ≡ number
         → Replaces file given (Ok x) w v → WritesBase file generation (base_alone number events) (Ok (record {
           file = file;
@@ -139,3 +145,8 @@ pub base_unspelled : (file : Which) (generation : ℕ) (h : History) (e : Journa
     → WritesBase file generation h (Err e) w w
 base_unspelled file generation h e is w =
     subst (λ (y : JournalError). WritesBase file generation h (Err y) w w) (sym is) refl
+
+pub within_unspelled : (file : Which) (generation : ℕ) (h : History) (e : JournalError) → e ≡ NoMemory → (w : Outside)
+    → WritesWithin file generation h (Err e) w w
+within_unspelled file generation h e is w =
+    subst (λ (y : JournalError). WritesWithin file generation h (Err y) w w) (sym is) refl

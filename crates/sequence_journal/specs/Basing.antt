@@ -1,12 +1,15 @@
 -- What writing a base does.
-use Rattle.std.specs.Prelude.{◌≡◌, ◌⊎◌, ℕ, List, [], take, false, Result, Ok, Err}
+use Rattle.std.specs.Prelude.{◌≡◌, ◌⊎◌, ℕ, ◌+◌, ◌<◌, ◌≤◌, ◌^◌, List, [], length, take, false, Result, Ok, Err}
 use Rattle.road_base.specs.declared.event.Event.{Event}
+use Rattle.road_base.specs.declared.ids.Sequence.{Sequence}
 use Rattle.road_base.specs.History.{History}
+use Rattle.object_codec.specs.Spelling.{events_bytes}
 use Rattle.road_io.specs.declared.outside.Which.{Which}
+use Rattle.road_io.specs.Told.{Rose}
 use Rattle.road_io.specs.Disk.{IsDurable}
 use Rattle.road_io.specs.Outside.{Outside, LeavesOnly, LeavesFile, disk, other}
 use Rattle.sequence_journal.specs.declared.error.JournalError.{JournalError}
-use Rattle.sequence_journal.specs.declared.error.JournalError.TheVariants.{SiteFault, NoMemory}
+use Rattle.sequence_journal.specs.declared.error.JournalError.TheVariants.{SiteFault, TooLarge, NoMemory}
 use Rattle.sequence_journal.specs.declared.journal.Journal.{Journal}
 use Rattle.sequence_journal.specs.Layout.{NoBase}
 use Rattle.sequence_journal.specs.Standing.{Stands}
@@ -39,3 +42,35 @@ WritesBase file generation h (Ok j) w v = IsDurable (disk w file) → Based file
 WritesBase file generation h (Err SiteFault) w v = IsDurable (disk w file) → Based file generation h (Err SiteFault) w v
 WritesBase file generation h (Err NoMemory) w v = v ≡ w
 WritesBase file generation h (Err e) w v = ⊥
+
+-- ---- within the limit
+
+-- how many bytes a file has with a base of these events, and the gate behind it
+abbrev pub base_size : List Event → ℕ
+base_size events = 38 + length (events_bytes events)
+
+-- the journal on a file with this base, and no change
+abbrev pub journal_of_base : Which → ℕ → Sequence → List Event → Journal
+journal_of_base file generation base events = record {
+  file = file;
+  generation = generation;
+  gate = 37 + length (events_bytes events);
+  kept = base;
+  closed = false;
+}
+
+-- Each answer of `write_base_within` with what it means. TooLarge comes exactly where the file would pass 2^40 bytes,
+-- and SiteFault only where the count of the site's faults rose.
+abbrev pub WithinAnswer : Which → ℕ → Sequence → List Event → Result Journal JournalError → ℕ → ℕ → Type 0
+WithinAnswer file generation base events (Ok j) before now =
+    (base_size events ≤ 2 ^ 40) × (j ≡ journal_of_base file generation base events) × (now ≡ before)
+WithinAnswer file generation base events (Err TooLarge) before now = (2 ^ 40 < base_size events) × (now ≡ before)
+WithinAnswer file generation base events (Err NoMemory) before now = now ≡ before
+WithinAnswer file generation base events (Err SiteFault) before now =
+    (base_size events ≤ 2 ^ 40) × (before ≤ now) × Rose before now
+WithinAnswer file generation base events (Err e) before now = ⊥
+
+-- where the file would be too large, no file is touched
+abbrev pub WritesWithin : Which → ℕ → History → Result Journal JournalError → Outside → Outside → Type 0
+WritesWithin file generation h (Err TooLarge) w v = v ≡ w
+WritesWithin file generation h result w v = WritesBase file generation h result w v

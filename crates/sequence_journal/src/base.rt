@@ -1,12 +1,13 @@
 //! A base in the place of all that a file holds.
-ghost use Rattle.std.specs.Prelude.{◌≡◌, ◌⊎◌, IfSome, IfErr};
+ghost use Rattle.std.specs.Prelude.{◌≡◌, ◌⊎◌, ◌+◌, ◌≤◌, ◌^◌, IfSome, IfErr, length};
 ghost use Rattle.sequence_journal.specs.declared.error.JournalError.TheVariants.{SiteFault, NoMemory as NoMemoryError};
 ghost use Rattle.road_io.specs.Told.{Told};
 ghost use Rattle.road_io.specs.Disk.{IsDurable};
 ghost use Rattle.road_io.specs.Outside.{disk};
 ghost use Rattle.sequence_journal.specs.Journal.{CountsFaults};
-ghost use Rattle.sequence_journal.specs.Basing.{WritesBase, base_alone};
+ghost use Rattle.sequence_journal.specs.Basing.{WritesBase, WritesWithin, WithinAnswer, base_alone};
 
+use crate::append::has_room;
 use crate::ends::replace;
 use crate::error::JournalError;
 use crate::journal::Journal;
@@ -39,6 +40,36 @@ pub fn write_base<W: Site>(
         file,
         generation,
         gate: piece.len() as u64,
+        kept: base,
+        closed: false,
+    })
+}
+
+/// Writes a base as `write_base` does, but TooLarge exactly where the file would have more than 2^40 bytes, the gate
+/// behind the base among them: then no call on the site is made.
+pub fn write_base_within<W: Site>(
+    alloc: Global,
+    site: &mut W,
+    file: Which,
+    generation: u64,
+    base: Sequence,
+    events: &[Event],
+) -> Result<Journal, JournalError>
+    requires { IfSome (W.outside site.old) (λ w. IsDurable (disk w file)) }
+    ensures told { Told (WritesWithin file generation (base_alone base.0 events.now) result)
+        (W.outside site.old) (W.outside site.new) }
+    ensures answer { WithinAnswer file generation base events.now result (W.faults site.old) (W.faults site.new) }
+{
+    let piece = base_piece(alloc, generation, base, events)?;
+    let size = piece.len() as u64;
+    if !has_room(0, size) {
+        return Err(JournalError::TooLarge);
+    }
+    replace(site, file, &piece)?;
+    Ok(Journal {
+        file,
+        generation,
+        gate: size,
         kept: base,
         closed: false,
     })

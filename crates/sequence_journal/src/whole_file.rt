@@ -35,7 +35,7 @@ pub(crate) struct ReadHistory {
 }
 
 /// Reads a file and judges it: NoStore, TooLarge and Damaged in this order. At no time more than one part of the file,
-/// or 64 KiB of it, stand in memory beside the events.
+/// the base or a record, stands in memory beside the events, and nothing behind that part is read.
 pub(crate) fn judge<W: Site>(
     alloc: Global,
     site: &mut W,

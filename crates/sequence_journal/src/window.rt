@@ -10,9 +10,6 @@ use crate::parts::fill;
 use road_io::{Site, Which};
 use std::alloc::Global;
 
-/// How many bytes are read at once, if not more.
-const AT_ONCE: usize = 1 << 16;
-
 /// Bytes of a file from a place on.
 #[derive(Drop)]
 pub(crate) struct Window {
@@ -31,8 +28,8 @@ impl Window {
         }
     }
 
-    /// Brings so many bytes of a file from a place on into the window, or as many as there are. What is read stays for
-    /// the next calls; bytes that don't lie around the place are let go first.
+    /// Brings so many bytes of a file from a place on into the window, or as many as there are. Bytes that don't lie
+    /// around the place are let go first, and no others than these are read.
     pub fn show<W: Site>(
         &mut self,
         alloc: Global,
@@ -55,7 +52,7 @@ impl Window {
         }
         self.bytes = Vec::new(alloc);
         let mut bytes = Vec::new(alloc);
-        bytes.resize(larger(size), 0)?;
+        bytes.resize(size, 0)?;
         let n = fill(site, file, at, &mut bytes)?;
         bytes.truncate(n);
         self.from = at;
@@ -87,13 +84,4 @@ fn covers(from: u64, len: usize, at: u64, size: usize) -> bool
     ensures reaches { result ≡ true → at + size ≤ from + len }
 {
     from <= at && at - from <= len as u64 && size as u64 <= len as u64 - (at - from)
-}
-
-/// How many bytes to read where so many are needed.
-fn larger(size: usize) -> usize
-    requires { size ≤ 2 ^ 41 }
-    ensures least { size ≤ result }
-    ensures most { result ≤ 2 ^ 41 }
-{
-    if size < AT_ONCE { AT_ONCE } else { size }
 }

@@ -4,3 +4,5 @@ mod StoreLoads
 mod StoreCreations
 mod IntactStores
 mod ChangedStores
+mod CheckpointedStores
+mod EntriesLeft

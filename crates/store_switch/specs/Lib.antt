@@ -2,3 +2,4 @@ pub mod LiveFile
 pub mod TwoFiles
 pub mod StoreLoading
 pub mod StoreCreating
+pub mod Checkpointing

@@ -1,8 +1,11 @@
 //! What two files stand for, and what a stop leaves of them, as the contracts of functions that do nothing.
 ghost use Rattle.std.specs.Prelude.{◌≡◌, ◌⊎◌, ℕ, ◌≤◌, ◌^◌, List, length, Result, Ok, Err};
+ghost use Rattle.std.specs.FinMap.{empty};
 ghost use Rattle.road_base.specs.declared.event.Event.{Event};
 ghost use Rattle.road_base.specs.declared.ids.Sequence.{Sequence};
-ghost use Rattle.road_base.specs.History.{History, with_change};
+ghost use Rattle.road_base.specs.Objects.{Objects};
+ghost use Rattle.road_base.specs.Applying.{IsApplied};
+ghost use Rattle.road_base.specs.History.{History, HasObjects, SameForReader, with_change};
 ghost use Rattle.road_io.specs.declared.outside.Which.{Which};
 ghost use Rattle.road_io.specs.Outside.{Outside, Left, IsLeft, LeavesOnly, present, image_of};
 ghost use Rattle.sequence_journal.specs.declared.error.JournalError.{JournalError};
@@ -16,7 +19,10 @@ ghost use Rattle.store_switch.specs.TwoFiles.{StandOn, StandFor, CanBeLoaded, Ar
 ghost use Rattle.store_switch.specs.TwoFiles.{IsOnStore, LeavesStore, LeavesEither};
 ghost use Rattle.store_switch.specs.StoreLoading.{LoadsStore};
 ghost use Rattle.store_switch.specs.StoreCreating.{CreatesStore};
+ghost use Rattle.store_switch.specs.Checkpointing.{AreEntries, checkpoint_of, Checkpoints, CheckpointAnswer};
+ghost use Rattle.store_switch.specs.Checkpointing.{LeavesCheckpoint, LeavesAsRead};
 
+use road_base::laws::{history_objects, key_order};
 use sequence_journal::laws::{no_damage, one_history};
 
 // ---- two files
@@ -110,3 +116,35 @@ pub fn change_on_store()
         (w v : Outside) (before now : ℕ) → IsOnStore old h w → AddAnswer old new seq change (Ok x) before now
         → Adds old new change (Ok x) w v → length (reads_of v new.file) ≤ 2 ^ 40 }
 {}
+
+/// Going on in the other file of a store on which a journal stands, a stop leaves the store or its checkpoint, and so
+/// files that aren't damaged. After an Ok the journal stands on the checkpoint, and its file has at most 2^40 bytes.
+pub fn checkpoint_on_store()
+    ensures stopped { (old new : Journal) (h : History) (events : List Event) (result : Result (Unit {0}) JournalError)
+        (w v : Outside) → IsOnStore old h w → Checkpoints old new events result w v
+        → LeavesOnly w v (LeavesCheckpoint h events w.output) }
+    ensures intact { (old new : Journal) (h : History) (events : List Event) (result : Result (Unit {0}) JournalError)
+        (w v : Outside) → IsOnStore old h w → Checkpoints old new events result w v
+        → LeavesOnly w v (λ left. AreIntact (image_of left)) }
+    ensures ok { (old new : Journal) (h : History) (events : List Event) (x : Unit {0}) (w v : Outside)
+        → IsOnStore old h w → Checkpoints old new events (Ok x) w v → IsOnStore new (checkpoint_of h events) v }
+    ensures small { (old new : Journal) (h : History) (events : List Event) (x : Unit {0}) (w v : Outside)
+        (before now : ℕ) → IsOnStore old h w → CheckpointAnswer old new events (Ok x) before now
+        → Checkpoints old new events (Ok x) w v → length (reads_of v new.file) ≤ 2 ^ 40 }
+{}
+
+/// The entries of an object map, as events, leave that map. So the checkpoint of a history with the entries of its
+/// objects is the same for a reader, and going on there, a stop leaves files that are the same for a reader.
+pub fn checkpoint_for_reader()
+    ensures entries { (objects : Objects) (events : List Event)
+        → AreEntries objects events → IsApplied empty events objects }
+    ensures same { (h : History) (objects : Objects) (events : List Event)
+        → HasObjects h objects → AreEntries objects events → SameForReader (checkpoint_of h events) h }
+    ensures stopped { (old new : Journal) (h : History) (objects : Objects) (events : List Event)
+        (result : Result (Unit {0}) JournalError) (w v : Outside) → IsOnStore old h w → HasObjects h objects
+        → AreEntries objects events → Checkpoints old new events result w v
+        → LeavesOnly w v (LeavesAsRead h w.output) }
+{
+    key_order();
+    history_objects();
+}

@@ -8,13 +8,13 @@ use std::process::Abort;
 use std::test::Fail;
 
 /// A base of generation 1 with the number 5 and no events, and the gate behind it.
-const BASE: [u8; 46] = *b"\x01OSMJRNL1\x01\0\0\0\x01\0\0\0\0\0\0\0\x05\0\0\0\0\0\0\0\
+pub(crate) const BASE: [u8; 46] = *b"\x01OSMJRNL1\x01\0\0\0\x01\0\0\0\0\0\0\0\x05\0\0\0\0\0\0\0\
     \x08\0\0\0\0\0\0\0\0\0\0\0\0\0\0\0\0";
 
 /// The file, the generation and the kept number of a journal.
-type Told = (Which, u64, u64);
+pub(crate) type Told = (Which, u64, u64);
 
-type Answer = Result<Told, JournalError>;
+pub(crate) type Answer = Result<Told, JournalError>;
 
 /// The store that is made.
 const MADE: Answer = Ok((Which::A, 1, 5));
@@ -71,7 +71,7 @@ const LOADS: [(&str, Head, Head, Answer); 9] = [
     ),
 ];
 
-fn file([gate, profile, generation, number]: Head) -> [u8; 46] {
+pub(crate) fn file([gate, profile, generation, number]: Head) -> [u8; 46] {
     let mut bytes = BASE;
     bytes[0] = gate;
     bytes[9] = profile;
@@ -81,14 +81,19 @@ fn file([gate, profile, generation, number]: Head) -> [u8; 46] {
 }
 
 /// A site of these two files, on which the calls with these numbers fail.
-fn site_of(alloc: Global, a: &[u8], b: &[u8], fails: &[u64]) -> Result<MemorySite, AllocError> {
+pub(crate) fn site_of(
+    alloc: Global,
+    a: &[u8],
+    b: &[u8],
+    fails: &[u64],
+) -> Result<MemorySite, AllocError> {
     let a = a.to_vec(alloc)?;
     let b = b.to_vec(alloc)?;
     let fails = fails.to_vec(alloc)?;
     Ok(MemorySite::new(alloc, a, b, fails))
 }
 
-fn told(journal: &Journal) -> Told {
+pub(crate) fn told(journal: &Journal) -> Told {
     (journal.file(), journal.generation(), journal.kept().0)
 }
 
@@ -97,12 +102,12 @@ fn create(alloc: Global, site: &mut MemorySite) -> Answer {
     Ok(told(&journal))
 }
 
-fn load(alloc: Global, site: &mut MemorySite) -> Answer {
+pub(crate) fn load(alloc: Global, site: &mut MemorySite) -> Answer {
     let loaded = load_store(alloc, site)?;
     Ok(told(&loaded.journal))
 }
 
-fn load_of(alloc: Global, a: &[u8], b: &[u8]) -> Result<Answer, AllocError> {
+pub(crate) fn load_of(alloc: Global, a: &[u8], b: &[u8]) -> Result<Answer, AllocError> {
     let mut site = site_of(alloc, a, b, &[])?;
     Ok(load(alloc, &mut site))
 }
@@ -180,7 +185,7 @@ fn loads_after_each_fault(rt: HostRuntime) -> Result<(), Fail> {
     Ok(())
 }
 
-fn changes_a_file(call: &Call) -> bool {
+pub(crate) fn changes_a_file(call: &Call) -> bool {
     matches!(call, Call::WriteAt { .. } | Call::Cut { .. })
 }
 
@@ -218,21 +223,20 @@ fn torn(alloc: Global, piece: &[u8], way: u8) -> Result<Vec<u8>, AllocError> {
     Ok(new)
 }
 
-/// What a stop in a call leaves of file A, of which these bytes were on the disk, and for 0 what the call leads to.
-fn left_by(alloc: Global, bytes: &[u8], call: &Call, way: u8) -> Result<Vec<u8>, AllocError> {
+/// What a stop in a call on a file leaves of it, of which these bytes were on the disk, and for 0 what the call leads
+/// to.
+pub(crate) fn left_by(
+    alloc: Global,
+    bytes: &[u8],
+    call: &Call,
+    way: u8,
+) -> Result<Vec<u8>, AllocError> {
     match call {
-        Call::WriteAt {
-            file: Which::A,
-            at,
-            piece,
-        } => {
+        Call::WriteAt { at, piece, .. } => {
             let written = torn(alloc, piece.items(), way)?;
             overwritten(alloc, bytes, *at, &written)
         }
-        Call::Cut {
-            file: Which::A,
-            len,
-        } => bytes[..bytes.len().min(*len as usize)].to_vec(alloc),
+        Call::Cut { len, .. } => bytes[..bytes.len().min(*len as usize)].to_vec(alloc),
         _ => bytes.to_vec(alloc),
     }
 }

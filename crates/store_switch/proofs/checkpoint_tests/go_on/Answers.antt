@@ -1,0 +1,5 @@
+use Rattle.store_switch.proofs.checkpoint_tests.go_on.Goals as goal
+
+pub checkpoint-requires : goal.checkpoint-requires
+checkpoint-requires c = λ not_closed.
+    (c.in_ok-loaded.ensures.told.answer.history, c.in_ok-loaded.ensures.told.answer.ready)
