@@ -1,11 +1,14 @@
 -- What is within one link more, round by round.
-use Rattle.std.proofs.Common.{◌≡◌, ◌↔◌, ℕ, zero, suc, ◌⊎◌, inl, inr, List, [], refl, sym, subst, Contains}
+use Rattle.std.proofs.Common.{◌≡◌, ◌↔◌, ℕ, zero, suc, ◌+◌, ◌⊎◌, inl, inr, List, [], refl, sym, subst, Contains}
+use Rattle.std.proofs.Math.Numerals.{add-one}
 use Rattle.road_base.specs.declared.ids.WayId.{WayId}
 use Rattle.road_base.specs.declared.ids.Key.{Key}
 use Rattle.road_base.specs.declared.ids.Key.TheVariants.{Way as WayKey}
 use Rattle.road_base.specs.Objects.{Objects}
 use Rattle.road_base.proofs.ListMembers.{contains_none}
-use Rattle.road_model.specs.Links.{IsLink}
+use Rattle.road_model.specs.Orders.{Lists, way_cmp}
+use Rattle.road_model.specs.Links.{IsLink, AreReached}
+use Rattle.road_model.proofs.JoinedLists.{lists_same}
 use Rattle.touched_ways.specs.declared.search.Search.{Search}
 use Rattle.touched_ways.specs.Searches.{IsSeen, Sees, GivenBy, IsWayLink, IsWithinAny, IsRound}
 
@@ -43,7 +46,7 @@ module _ (M : Objects) (keys : List Key) where
   module _ (n : ℕ) (s t u : Search) (round : IsRound M keys n s) (same : t.seen.keys ≡ s.seen.keys)
       (empty : t.frontier.items ≡ []) where
     -- all links from the frontier were followed
-    pub next_round : Sees t u (GivenBy (IsLink M) s.frontier.items) → IsRound M keys (suc n) u
+    next_round : Sees t u (GivenBy (IsLink M) s.frontier.items) → IsRound M keys (suc n) u
     next_round h = record {
       sound = λ k i. elim (h.sound k i) [
         | inl old ↦ within_still n k (round.sound k (subst (λ l. Contains l k) same old))
@@ -70,7 +73,7 @@ module _ (M : Objects) (keys : List Key) where
         ]
 
     -- those to ways were followed
-    pub last_round : Sees t u (GivenBy (IsWayLink M) s.frontier.items) → (w : WayId)
+    last_round : Sees t u (GivenBy (IsWayLink M) s.frontier.items) → (w : WayId)
         → IsSeen u (WayKey w) ↔ IsWithinAny M keys (suc n) (WayKey w)
     last_round h w = (
       λ i. elim (h.sound (WayKey w) i) [
@@ -85,3 +88,20 @@ module _ (M : Objects) (keys : List Key) where
         ]
       ],
     )
+
+    pub round_more : (front : List Key) → front ≡ s.frontier.items → Sees t u (GivenBy (IsLink M) front)
+        → IsRound M keys (n + 1) u
+    round_more front is h =
+        subst (λ (m : ℕ). IsRound M keys m u) (sym (add-one n))
+        (next_round (subst (λ l. Sees t u (GivenBy (IsLink M) l)) is h))
+
+    pub ways_more : (front : List Key) → front ≡ s.frontier.items → Sees t u (GivenBy (IsWayLink M) front)
+        → (w : WayId) → IsSeen u (WayKey w) ↔ IsWithinAny M keys (n + 1) (WayKey w)
+    ways_more front is h w =
+        subst (λ (m : ℕ). IsSeen u (WayKey w) ↔ IsWithinAny M keys m (WayKey w)) (sym (add-one n))
+        (last_round (subst (λ l. Sees t u (GivenBy (IsWayLink M) l)) is h) w)
+
+  pub reached_ways : (s : Search) → ((w : WayId) → IsSeen s (WayKey w) ↔ IsWithinAny M keys 6 (WayKey w))
+      → (ways : List WayId) → Lists (λ w. w) way_cmp (λ w. IsSeen s (WayKey w)) ways → AreReached M keys ways
+  reached_ways s are ways lists = lists_same (λ w. w) way_cmp (λ w. IsSeen s (WayKey w))
+      (λ w. IsWithinAny M keys 6 (WayKey w)) ways lists (λ w i. (are w).0 i) (λ w i. (are w).1 i)

@@ -29,33 +29,33 @@ to_each key xs P each k (x, has, is) = subst P (sym is) (each x has)
 -- ---- of a node
 
 module _ (M : Objects) (n : NodeId) (ways : List WayId) (are : Lists (λ w. w) way_cmp (λ w. RefersTo M w n) ways)
-    where
-  module _ (rules : List RelationId)
-      (also : Lists (λ r. r) relation_cmp (λ r. HasMember M r (NodeKey n)) rules) where
-    node_cases : (k : Key) → IsLink M (NodeKey n) k → Keyed WayKey ways k ⊎ Keyed RelationKey rules k
-    node_cases (NodeKey m) l = absurd l
-    node_cases (WayKey w) l = inl (w, are.complete w l, refl)
-    node_cases (RelationKey r) l = inr (r, also.complete r l, refl)
+  where
+    module _ (rules : List RelationId)
+        (also : Lists (λ r. r) relation_cmp (λ r. HasMember M r (NodeKey n)) rules) where
+      node_cases : (k : Key) → IsLink M (NodeKey n) k → Keyed WayKey ways k ⊎ Keyed RelationKey rules k
+      node_cases (NodeKey m) l = absurd l
+      node_cases (WayKey w) l = inl (w, are.complete w l, refl)
+      node_cases (RelationKey r) l = inr (r, also.complete r l, refl)
 
-    pub node_linked : (key : Key) → key ≡ NodeKey n → (s t u : Search) → Sees s t (Keyed WayKey ways)
-        → Sees t u (Keyed RelationKey rules) → Sees s u (IsLink M key)
-    node_linked key is s t u h g =
-        subst (λ q. Sees s u (IsLink M q)) (sym is)
-        (sees_both s t u (Keyed WayKey ways) (Keyed RelationKey rules) (IsLink M (NodeKey n)) h g
-        (to_each WayKey ways (IsLink M (NodeKey n)) are.sound)
-        (to_each RelationKey rules (IsLink M (NodeKey n)) also.sound) node_cases)
+      pub node_linked : (key : Key) → key ≡ NodeKey n → (s t u : Search) → Sees s t (Keyed WayKey ways)
+          → Sees t u (Keyed RelationKey rules) → Sees s u (IsLink M key)
+      node_linked key is s t u h g =
+          subst (λ q. Sees s u (IsLink M q)) (sym is)
+          (sees_both s t u (Keyed WayKey ways) (Keyed RelationKey rules) (IsLink M (NodeKey n)) h g
+          (to_each WayKey ways (IsLink M (NodeKey n)) are.sound)
+          (to_each RelationKey rules (IsLink M (NodeKey n)) also.sound) node_cases)
 
-  node_way : (k : Key) → IsWayLink M (NodeKey n) k → Keyed WayKey ways k
-  node_way (NodeKey m) l = absurd l.0
-  node_way (WayKey w) l = (w, are.complete w l.0, refl)
-  node_way (RelationKey r) l = absurd l.1
+    node_way : (k : Key) → IsWayLink M (NodeKey n) k → Keyed WayKey ways k
+    node_way (NodeKey m) l = absurd l.0
+    node_way (WayKey w) l = (w, are.complete w l.0, refl)
+    node_way (RelationKey r) l = absurd l.1
 
-  pub node_way_linked : (key : Key) → key ≡ NodeKey n → (s t : Search) → Sees s t (Keyed WayKey ways)
-      → Sees s t (IsWayLink M key)
-  node_way_linked key is s t h =
-      subst (λ q. Sees s t (IsWayLink M q)) (sym is)
-      (sees_as s t (Keyed WayKey ways) (IsWayLink M (NodeKey n)) h
-      (to_each WayKey ways (IsWayLink M (NodeKey n)) (λ w has. (are.sound w has, tt))) node_way)
+    pub node_way_linked : (key : Key) → key ≡ NodeKey n → (s t : Search) → Sees s t (Keyed WayKey ways)
+        → Sees s t (IsWayLink M key)
+    node_way_linked key is s t h =
+        subst (λ q. Sees s t (IsWayLink M q)) (sym is)
+        (sees_as s t (Keyed WayKey ways) (IsWayLink M (NodeKey n)) h
+        (to_each WayKey ways (IsWayLink M (NodeKey n)) (λ w has. (are.sound w has, tt))) node_way)
 
 -- ---- of a way
 

@@ -9,12 +9,12 @@ use Rattle.road_base.specs.declared.ids.WayId.{WayId}
 use Rattle.road_base.specs.declared.ids.Key.{Key}
 use Rattle.road_base.specs.declared.ids.Key.TheVariants.{Node as NodeKey, Way as WayKey, Relation as RelationKey}
 use Rattle.road_base.specs.Objects.{Objects, key_cmp}
-use Rattle.road_base.proofs.ListMembers.{In, in_from_contains, contains_from_in}
+use Rattle.road_base.proofs.ListMembers.{In, in_from_contains, contains_from_in, contains_none}
 use Rattle.road_model.specs.Orders.{Lists, rises, rises_from, way_cmp}
 use Rattle.road_model.specs.Links.{AreChanged, AreReached, AreTouched}
 use Rattle.road_model.proofs.JoinedLists.{lists_same}
 use Rattle.touched_ways.specs.declared.search.Search.{Search}
-use Rattle.touched_ways.specs.Searches.{IsSeen, way_in}
+use Rattle.touched_ways.specs.Searches.{IsSeen, Sees, GivenBy, way_in}
 
 -- ---- a way's key is among them where the way is
 
@@ -86,6 +86,32 @@ ways_listed ks ways sorted are = subst (Lists (λ w. w) way_cmp (λ w. Contains 
   sound = λ w h. contains_from_in ks (WayKey w) (from_ways ks w (in_from_contains (filter_map way_in ks) w h));
   complete = λ w h. contains_from_in (filter_map way_in ks) w (in_ways ks w (in_from_contains ks (WayKey w) h));
 })
+
+-- ---- those of two lists
+
+pub merged_ways : (s t u : Search) (first second before after : List WayId) → s.seen.keys ≡ [] → first ≡ before
+    → second ≡ after → Sees s t (GivenBy (λ w k. k ≡ WayKey w) first)
+    → Sees t u (GivenBy (λ w k. k ≡ WayKey w) second) → (ways : List WayId)
+    → Lists (λ w. w) way_cmp (λ w. IsSeen u (WayKey w)) ways
+    → Lists (λ w. w) way_cmp (λ w. Contains before w ⊎ Contains after w) ways
+merged_ways s t u first second before after none p q h g ways lists =
+    lists_same (λ w. w) way_cmp (λ w. IsSeen u (WayKey w)) (λ w. Contains before w ⊎ Contains after w) ways lists to from
+  where
+    given : (l : List WayId) (w : WayId) → GivenBy (λ v k. k ≡ WayKey v) l (WayKey w) → Contains l w
+    given l w (v, has, is) = let e : v ≡ w = cc in subst (Contains l) e has
+
+    to : (w : WayId) → IsSeen u (WayKey w) → Contains before w ⊎ Contains after w
+    to w i = elim (g.sound (WayKey w) i) [
+      | inl earlier ↦ elim (h.sound (WayKey w) earlier) [
+        | inl old ↦ absurd (contains_none (WayKey w) (subst (λ l. Contains l (WayKey w)) none old))
+        | inr new ↦ inl (subst (λ l. Contains l w) p (given first w new))
+      ]
+      | inr new ↦ inr (subst (λ l. Contains l w) q (given second w new))
+    ]
+
+    from : (w : WayId) → Contains before w ⊎ Contains after w → IsSeen u (WayKey w)
+    from w (inl i) = g.keeps (WayKey w) (h.complete (WayKey w) (w, subst (λ l. Contains l w) (sym p) i, refl))
+    from w (inr i) = g.complete (WayKey w) (w, subst (λ l. Contains l w) (sym q) i, refl)
 
 -- ---- those reached before and after a change are those that it touches
 

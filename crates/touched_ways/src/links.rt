@@ -28,11 +28,7 @@ pub fn follow<M: World>(world: &M, key: Key, search: &mut Search) -> Result<(), 
 }
 
 /// Sees the ways that are linked to the key.
-pub fn follow_to_ways<M: World>(
-    world: &M,
-    key: Key,
-    search: &mut Search,
-) -> Result<(), NoMemory>
+pub fn follow_to_ways<M: World>(world: &M, key: Key, search: &mut Search) -> Result<(), NoMemory>
     ensures { OnOk result (Sees search.old search.new (IsWayLink (M.objects world.now) key)) }
 {
     match key {

@@ -12,8 +12,8 @@ pub returns : goal.returns
 returns c =
     let keys = c.args.self.now.seen.keys in
     let sorted : IsStrictlySortedBy key_cmp keys =
-        subst (λ cmp. IsStrictlySortedBy cmp keys) (λ i a b. c.key_order.ensures.by_cmp a b i)
-        c.in_ok-list.ensures.ordered
+    subst (λ cmp. IsStrictlySortedBy cmp keys) (λ i a b. c.key_order.ensures.by_cmp a b i)
+    c.in_ok-list.ensures.ordered
     in
     subst (Lists (λ w. w) way_cmp (λ w. Contains keys (WayKey w))) (sym c.from_list.ensures)
     (ways_listed keys c.in_ok-list.list.items sorted c.in_ok-list.ensures.ways)
