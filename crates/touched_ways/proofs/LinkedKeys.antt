@@ -1,22 +1,19 @@
 -- What the look-ups of a key give is what is linked to it.
-use Rattle.std.proofs.Common.{◌≡◌, ◌↔◌, ◌⊎◌, inl, inr, Bool, true, false, IsTrue, List, [], map, Option, Some, None, refl}
-use Rattle.std.proofs.Common.{sym, ap, subst, ◌∙◌, Contains}
+use Rattle.std.proofs.Common.{◌≡◌, ◌↔◌, ◌⊎◌, inl, inr, List, map, refl}
+use Rattle.std.proofs.Common.{sym, subst, Contains}
 use Rattle.road_base.specs.declared.ids.NodeId.{NodeId}
 use Rattle.road_base.specs.declared.ids.WayId.{WayId}
 use Rattle.road_base.specs.declared.ids.RelationId.{RelationId}
 use Rattle.road_base.specs.declared.ids.Key.{Key}
 use Rattle.road_base.specs.declared.ids.Key.TheVariants.{Node as NodeKey, Way as WayKey, Relation as RelationKey}
-use Rattle.road_base.specs.declared.objects.Way.{Way}
-use Rattle.road_base.specs.declared.objects.Relation.{Relation}
 use Rattle.road_base.specs.declared.objects.Member.{Member}
-use Rattle.road_base.specs.Objects.{Objects, way_of, relation_of}
-use Rattle.road_base.proofs.ListMembers.{contains_none, contains_map, contains_from_map}
-use Rattle.road_model.specs.Rules.{has_highway, is_restriction}
+use Rattle.road_base.specs.Objects.{Objects}
+use Rattle.road_base.proofs.ListMembers.{contains_map, contains_from_map}
 use Rattle.road_model.specs.Orders.{Lists, way_cmp, relation_cmp}
 use Rattle.road_model.specs.Links.{RefersTo, HasMember, IsLink}
 use Rattle.touched_ways.specs.declared.search.Search.{Search}
 use Rattle.touched_ways.specs.Searches.{Sees, GivenBy, IsNodeOrWay, IsWay, IsWayLink}
-use Rattle.touched_ways.proofs.SeenKeys.{sees_none, sees_as, sees_both}
+use Rattle.touched_ways.proofs.SeenKeys.{sees_as, sees_both}
 
 -- what a list gives as keys of its elements
 abbrev Keyed : {A : Type 0} → (A → Key) → List A → Key → Type 0

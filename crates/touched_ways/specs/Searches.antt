@@ -1,5 +1,5 @@
 -- What a search over links has seen, and what a call lets it see.
-use Rattle.std.specs.Prelude.{◌≡◌, ℕ, ◌⊎◌, List, Option, Some, None, Contains}
+use Rattle.std.specs.Prelude.{ℕ, ◌⊎◌, List, Option, Some, None, Contains}
 use Rattle.road_base.specs.declared.ids.WayId.{WayId}
 use Rattle.road_base.specs.declared.ids.Key.{Key}
 use Rattle.road_base.specs.declared.ids.Key.TheVariants.{Node as NodeKey, Way as WayKey, Relation as RelationKey}

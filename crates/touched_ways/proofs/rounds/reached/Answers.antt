@@ -1,10 +1,8 @@
 use Rattle.std.proofs.Common.{◌≡◌, ℕ, ◌-◌, ◌+◌, subst, arith}
 use Rattle.std.proofs.lemmas.Result.{IfOk-weaker}
-use Rattle.road_base.specs.declared.ids.WayId.{WayId}
 use Rattle.road_base.specs.declared.ids.Key.TheVariants.{Way as WayKey}
 use Rattle.road_model.specs.Links.{AreReached}
 use Rattle.road_model.specs.Orders.{Lists, way_cmp}
-use Rattle.std.proofs.Common.{List}
 use Rattle.touched_ways.specs.Searches.{IsSeen, IsRound, Sees, GivenBy}
 use Rattle.touched_ways.proofs.LinkRounds.{first_round, reached_ways}
 use Rattle.touched_ways.proofs.rounds.reached.Goals as goal

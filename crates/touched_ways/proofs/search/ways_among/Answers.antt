@@ -1,4 +1,4 @@
-use Rattle.std.proofs.Common.{ap, ◌∙◌, sym, ◌++◌}
+use Rattle.std.proofs.Common.{ap, ◌∙◌, ◌++◌}
 use Rattle.std.specs.List.{filter_map}
 use Rattle.touched_ways.specs.Searches.{way_in}
 use Rattle.touched_ways.proofs.WayLists.{way_more, other_more, none_more}

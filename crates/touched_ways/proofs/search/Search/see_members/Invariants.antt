@@ -1,5 +1,4 @@
 use Rattle.std.proofs.Common.{◌≡◌, take}
-use Rattle.road_base.specs.declared.objects.Member.{Member}
 use Rattle.touched_ways.specs.Searches.{Sees, GivenBy, IsNodeOrWay}
 use Rattle.touched_ways.proofs.search.Search.see_members.Given as goal
 

@@ -1,9 +1,8 @@
-use Rattle.std.proofs.Common.{◌≡◌, sym, subst, ◌∙◌}
+use Rattle.std.proofs.Common.{sym, subst}
 use Rattle.std.specs.List.Sorted.{IsStrictlySortedBy}
 use Rattle.road_base.specs.Objects.{key_cmp}
-use Rattle.road_base.specs.declared.ids.WayId.{WayId}
 use Rattle.road_base.specs.declared.ids.Key.TheVariants.{Way as WayKey}
-use Rattle.std.proofs.Common.{List, Contains}
+use Rattle.std.proofs.Common.{Contains}
 use Rattle.road_model.specs.Orders.{Lists, way_cmp}
 use Rattle.touched_ways.proofs.WayLists.{ways_listed}
 use Rattle.touched_ways.proofs.search.Search.ways.Goals as goal
