@@ -1,6 +1,6 @@
 //! The ways within six links, before and after a change.
 use crate::makers::world_of;
-use road_base::{Key, Keys, NodeId, RelationId, WayId};
+use road_base::{Key, Keys, NodeId, RelationId, WayId, Ways};
 use std::alloc::Global;
 use std::test::Fail;
 use touched_ways::{merge, reached};
@@ -21,8 +21,21 @@ const RULED: &[u8] =
     w13 Thighway=road Nn1,n6\nw14 Thighway=road Nn6,n7\nr5 Ttype=restriction Mw99@from,n6@via\n\
     r6 Ttype=route Mw10@\n";
 
-fn keys(alloc: Global, of: &[Key]) -> Result<Keys, Fail> {
-    Ok(Keys::from_list(Vec::from_slice(alloc, of)?))
+fn reached_in(alloc: Global, lines: &[u8], changed: &[Key]) -> Result<Ways, Fail> {
+    let world = world_of(alloc, lines)?;
+    let keys = Keys::from_list(Vec::from_slice(alloc, changed)?);
+    Ok(reached(alloc, &world, &keys)?)
+}
+
+fn are(ways: &Ways, want: &[i64]) -> bool {
+    let found = ways.items();
+    found.len() == want.len() && found.iter().zip(want).all(|(way, id)| way.0 == *id)
+}
+
+/// Whether these ways are reached from the key alone.
+fn reaches(alloc: Global, lines: &[u8], key: Key, want: &[i64]) -> Result<bool, Fail> {
+    let ways = reached_in(alloc, lines, &[key])?;
+    Ok(are(&ways, want))
 }
 
 #[test]
@@ -42,29 +55,21 @@ fn ways_within_six_links(rt: HostRuntime) -> Result<(), Fail> {
         (RULED, Key::Way(WayId(99)), [10, 13, 14, 99].as_slice()),
         (RULED, Key::Node(NodeId(6)), [10, 11, 13, 14, 99].as_slice()),
     ] {
-        let world = world_of(rt.alloc(), lines)?;
-        let ways = reached(rt.alloc(), &world, &keys(rt.alloc(), &[key])?)?;
-        let found = ways
-            .items()
-            .iter()
-            .map(|way| way.0)
-            .collect::<Vec<i64>>(rt.alloc())?;
-        assert_eq!(rt; found.as_slice(), want, "from {key:?}");
+        assert!(rt; reaches(rt.alloc(), lines, key, want)?, "from {key:?}");
     }
     Ok(())
 }
 
+/// The ways that are touched where these keys change.
+fn touched(alloc: Global, changed: &[Key]) -> Result<Ways, Fail> {
+    let before = reached_in(alloc, BEFORE, changed)?;
+    let after = reached_in(alloc, AFTER, changed)?;
+    Ok(merge(alloc, &before, &after)?)
+}
+
 #[test]
 fn touched_ways(rt: HostRuntime) -> Result<(), Fail> {
-    let changed = keys(rt.alloc(), &[Key::Node(NodeId(5)), Key::Way(WayId(12))])?;
-    let before = reached(rt.alloc(), &world_of(rt.alloc(), BEFORE)?, &changed)?;
-    let after = reached(rt.alloc(), &world_of(rt.alloc(), AFTER)?, &changed)?;
-    for ways in [
-        merge(rt.alloc(), &before, &after)?,
-        merge(rt.alloc(), &after, &before)?,
-    ] {
-        let want = [WayId(10), WayId(11), WayId(12), WayId(13)];
-        assert_eq!(rt; ways.items(), want.as_slice());
-    }
+    let ways = touched(rt.alloc(), &[Key::Node(NodeId(5)), Key::Way(WayId(12))])?;
+    assert!(rt; are(&ways, &[10, 11, 12, 13]));
     Ok(())
 }
