@@ -1,0 +1,75 @@
+//! The ways within six links, before and after a change.
+use crate::makers::world_of;
+use road_base::{Key, Keys, NodeId, RelationId, WayId, Ways};
+use std::alloc::Global;
+use std::test::Fail;
+use touched_ways::{merge, reached};
+
+/// Way 10 over the nodes 1 and 2, way 11 over 4, 3 and 2, way 13 over 1 and 6, and way 14 over 6 and 7.
+const BEFORE: &[u8] =
+    b"n1\nn2\nn3\nn4\nn6\nn7\nw10 Thighway=road Nn1,n2\nw11 Thighway=road Nn4,n3,n2\n\
+    w13 Thighway=road Nn1,n6\nw14 Thighway=road Nn6,n7\n";
+
+/// With node 5, and way 12 from node 3 to it.
+const AFTER: &[u8] =
+    b"n1\nn2\nn3\nn4\nn5\nn6\nn7\nw10 Thighway=road Nn1,n2\nw11 Thighway=road Nn4,n3,n2\n\
+    w12 Thighway=road Nn3,n5\nw13 Thighway=road Nn1,n6\nw14 Thighway=road Nn6,n7\n";
+
+/// With a restriction, of which a way that isn't there is a member, and a relation of another kind.
+const RULED: &[u8] =
+    b"n1\nn2\nn3\nn4\nn6\nn7\nw10 Thighway=road Nn1,n2\nw11 Thighway=road Nn4,n3,n2\n\
+    w13 Thighway=road Nn1,n6\nw14 Thighway=road Nn6,n7\nr5 Ttype=restriction Mw99@from,n6@via\n\
+    r6 Ttype=route Mw10@\n";
+
+fn reached_in(alloc: Global, lines: &[u8], changed: &[Key]) -> Result<Ways, Fail> {
+    let world = world_of(alloc, lines)?;
+    let keys = Keys::from_list(Vec::from_slice(alloc, changed)?);
+    Ok(reached(alloc, &world, &keys)?)
+}
+
+fn are(ways: &Ways, want: &[i64]) -> bool {
+    let found = ways.items();
+    found.len() == want.len() && found.iter().zip(want).all(|(way, id)| way.0 == *id)
+}
+
+/// Whether these ways are reached from the key alone.
+fn reaches(alloc: Global, lines: &[u8], key: Key, want: &[i64]) -> Result<bool, Fail> {
+    let ways = reached_in(alloc, lines, &[key])?;
+    Ok(are(&ways, want))
+}
+
+#[test]
+fn ways_within_six_links(rt: HostRuntime) -> Result<(), Fail> {
+    for (lines, key, want) in [
+        (BEFORE, Key::Way(WayId(12)), [12].as_slice()),
+        (BEFORE, Key::Node(NodeId(5)), [].as_slice()),
+        (AFTER, Key::Node(NodeId(5)), [10, 11, 12].as_slice()),
+        (AFTER, Key::Way(WayId(12)), [10, 11, 12, 13].as_slice()),
+        (AFTER, Key::Way(WayId(14)), [10, 11, 13, 14].as_slice()),
+        (
+            RULED,
+            Key::Relation(RelationId(5)),
+            [10, 11, 13, 14, 99].as_slice(),
+        ),
+        (RULED, Key::Relation(RelationId(6)), [].as_slice()),
+        (RULED, Key::Way(WayId(99)), [10, 13, 14, 99].as_slice()),
+        (RULED, Key::Node(NodeId(6)), [10, 11, 13, 14, 99].as_slice()),
+    ] {
+        assert!(rt; reaches(rt.alloc(), lines, key, want)?, "from {key:?}");
+    }
+    Ok(())
+}
+
+/// The ways that are touched where these keys change.
+fn touched(alloc: Global, changed: &[Key]) -> Result<Ways, Fail> {
+    let before = reached_in(alloc, BEFORE, changed)?;
+    let after = reached_in(alloc, AFTER, changed)?;
+    Ok(merge(alloc, &before, &after)?)
+}
+
+#[test]
+fn touched_ways(rt: HostRuntime) -> Result<(), Fail> {
+    let ways = touched(rt.alloc(), &[Key::Node(NodeId(5)), Key::Way(WayId(12))])?;
+    assert!(rt; are(&ways, &[10, 11, 12, 13]));
+    Ok(())
+}

@@ -1,0 +1,4 @@
+mod SeenKeys
+mod LinkRounds
+mod WayLists
+mod LinkedKeys

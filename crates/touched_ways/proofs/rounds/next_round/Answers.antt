@@ -1,0 +1,11 @@
+use Rattle.std.proofs.Common.{◌∙◌}
+use Rattle.std.proofs.lemmas.Result.{on_ok_weaker}
+use Rattle.touched_ways.proofs.LinkRounds.{round_more}
+use Rattle.touched_ways.proofs.rounds.next_round.Goals as goal
+
+pub returns : goal.returns
+returns g c = on_ok_weaker c.follow_all.result
+    (λ h keys n round. round_more (g.M.World.objects c.args.world.now) keys n c.args.search.now
+    c.next_frontier-frontier.new.self c.follow_all.new.search round c.next_frontier-frontier.ensures.seen
+    c.next_frontier-frontier.ensures.none c.deref.result.now
+    (c.deref.ensures.value ∙ c.next_frontier-frontier.ensures.frontier) h) c.follow_all.ensures
