@@ -37,6 +37,7 @@ mod word_table;
 pub use found::Found;
 pub use judging::judge;
 pub use messages::{Asked, message};
+pub use reaching::reach;
 pub use totals::{Totals, counts};
 pub use verdict::{Rule, Verdict};
 pub use word_table::WordTable;
