@@ -25,3 +25,4 @@ pub mod SearchTargets
 pub mod SearchTogether
 pub mod SearchDriven
 pub mod SearchSeen
+pub mod DriveLines

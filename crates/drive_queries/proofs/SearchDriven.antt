@@ -1,5 +1,5 @@
 -- The visits that lead to one spell a walk from the node where a drive begins.
-use Rattle.std.proofs.Common.{◌≡◌, ℕ, ◌+◌, ◌-◌, ◌<◌, ◌≤◌, List, [], ◌∷◌, ◌++◌, length, map, Some, slice_get, Contains, refl, sym}
+use Rattle.std.proofs.Common.{◌≡◌, ℕ, ◌+◌, ◌<◌, List, [], ◌∷◌, ◌++◌, length, map, Some, slice_get, Contains, refl, sym}
 use Rattle.std.proofs.Common.{◌∙◌, ap, subst, arith, take, drop, append_assoc, append-nil}
 use Rattle.std.specs.List.{flat_map}
 use Rattle.std.specs.BTreeMap.{BTreeMap}
@@ -13,21 +13,21 @@ use Rattle.road_base.specs.Objects.{Objects}
 use Rattle.road_model.specs.declared.lists.PieceName.{PieceName}
 use Rattle.road_model.specs.declared.lists.TurnArc.{TurnArc}
 use Rattle.road_model.specs.Rules.{Rules}
-use Rattle.road_model.specs.Pieces.{Span, IsPiece, spell}
+use Rattle.road_model.specs.Pieces.{Span, spell}
 use Rattle.road_model.specs.Network.{IsArc, spell_pieces}
 use Rattle.road_model.specs.Walks.{WalksTo, Start, Go}
-use Rattle.road_model.specs.Blocks.{IsArcEntry, name_of}
+use Rattle.road_model.specs.Blocks.{name_of}
 use Rattle.road_model.specs.Naming.{OnePiece}
 use Rattle.road_model.proofs.WalkLists.{spell_pieces-push}
 use Rattle.drive_queries.specs.declared.ends.Start.{Start as StartAt}
 use Rattle.drive_queries.specs.declared.ends.Goal.{Goal}
-use Rattle.drive_queries.specs.declared.marks.Origin.TheVariants.{Begins, Follows}
+use Rattle.drive_queries.specs.declared.marks.Origin.TheVariants.{Follows}
 use Rattle.drive_queries.specs.declared.marks.Visit.{Visit}
-use Rattle.drive_queries.specs.Marks.{At, key_of, names_behind}
+use Rattle.drive_queries.specs.Marks.{At, key_of}
 use Rattle.drive_queries.specs.Reaching.{LeadsTo}
-use Rattle.drive_queries.specs.Searching.{BeginsAt, StopsAt, LeadsAlong, along_pieces}
-use Rattle.drive_queries.specs.Sought.{IsSpot, IsStartAt, IsGoalAt, AreSpots, AreStarts, AreGoals}
-use Rattle.drive_queries.specs.Routes.{IsChain, One, More, IsRoute, spelled, steps_at}
+use Rattle.drive_queries.specs.Searching.{BeginsAt, LeadsAlong, along_pieces}
+use Rattle.drive_queries.specs.Sought.{IsSpot, IsGoalAt, AreSpots, AreStarts, AreGoals}
+use Rattle.drive_queries.specs.Routes.{IsChain, One, More, spelled, steps_at}
 use Rattle.drive_queries.specs.Visits.{Marks, IsSearch, Comes, Begun, AreBegun, LeadsBy, Meets}
 use Rattle.drive_queries.proofs.SearchRoutes.{steps_known}
 use Rattle.drive_queries.proofs.SearchTargets.{arc_of, arc_target, same_context, spot_spelled, entry_spells}
@@ -140,35 +140,35 @@ module _ (M : Objects) (P : Rules) (L : List At) (visits : List Visit) (a : Node
 
   module _ (one : OnePiece M P) (b : NodeId) (goals : BTreeMap PieceName Goal) (are : AreGoals M P b goals)
       (leads : LeadsAlong M P a b) (places : List ℕ) (place : ℕ) (goal : Goal) (d : Driven places place)
-      where
-    -- from the context of what was driven an arc leads to the goal
-    led_by : (arc : TurnArc) → Contains d.spot.context.arcs arc → (to : IsGoalAt M P b arc.piece goal)
-        → LeadsTo M P a b (along_pieces d.piece first d.whole to.listed.piece goal.last)
-    led_by arc has to =
-        let r = arc_of M P d.context d.spot d.is arc has in
-        let q = to.listed.piece in
-        let same : r.piece ≡ q = one r.piece q r.arc.by to.listed.is
-        (sym r.named ∙ sym to.named ∙ to.listed.named) in
-        let goes = subst (λ t. IsArc M P d.context t r.target) same r.arc in
-        leads d.piece first d.whole d.context q goal.last r.target d.walks goes d.begins to.stops
+    where
+      -- from the context of what was driven an arc leads to the goal
+      led_by : (arc : TurnArc) → Contains d.spot.context.arcs arc → (to : IsGoalAt M P b arc.piece goal)
+          → LeadsTo M P a b (along_pieces d.piece first d.whole to.listed.piece goal.last)
+      led_by arc has to =
+          let r = arc_of M P d.context d.spot d.is arc has in
+          let q = to.listed.piece in
+          let same : r.piece ≡ q = one r.piece q r.arc.by to.listed.is
+          (sym r.named ∙ sym to.named ∙ to.listed.named) in
+          let goes = subst (λ t. IsArc M P d.context t r.target) same r.arc in
+          leads d.piece first d.whole d.context q goal.last r.target d.walks goes d.begins to.stops
 
-    route_is : (to : List Step) → drop first (flat_map (steps_at L visits) places ++ to)
-        ≡ drop first (spell d.piece) ++ (spell_pieces d.whole ++ to)
-    route_is to = ap (λ l. drop first (l ++ to)) d.spells
-        ∙ drop_first (spell d.piece) (spell_pieces d.whole) to first
-        (slice_get_within (spell d.piece) first d.begins.step d.begins.at)
+      route_is : (to : List Step) → drop first (flat_map (steps_at L visits) places ++ to)
+          ≡ drop first (spell d.piece) ++ (spell_pieces d.whole ++ to)
+      route_is to = ap (λ l. drop first (l ++ to)) d.spells
+          ∙ drop_first (spell d.piece) (spell_pieces d.whole) to first
+          (slice_get_within (spell d.piece) first d.begins.step d.begins.at)
 
-    pub leads_along : Meets L goals visits place goal → (route : List Step)
-        → route ≡ drop first (flat_map (steps_at L visits) places ++ take (goal.last + 1) (spelled goal.piece.now))
-        → LeadsTo M P a b route
-    leads_along met route is =
-        let same : met.visit ≡ d.visit = one_stands visits place met.visit d.visit met.at d.at in
-        let from_at : slice_get L d.visit.number ≡ Some met.from
-        = subst (λ (w : Visit). slice_get L w.number ≡ Some met.from) same met.from_at in
-        let spot : met.from ≡ d.spot = one_stands L d.visit.number met.from d.spot from_at d.spot_at in
-        let has = subst (λ (x : At). Contains x.context.arcs met.arc) spot met.has in
-        let to = are.sound met.arc.piece goal met.met in
-        let last = ap (take (goal.last + 1)) (entry_spells M P to.way goal.piece.now to.listed) in
-        subst (LeadsTo M P a b)
-        (sym (is ∙ route_is (take (goal.last + 1) (spelled goal.piece.now))
-        ∙ ap (λ l. drop first (spell d.piece) ++ (spell_pieces d.whole ++ l)) last)) (led_by met.arc has to)
+      pub leads_along : Meets L goals visits place goal → (route : List Step)
+          → route ≡ drop first (flat_map (steps_at L visits) places ++ take (goal.last + 1) (spelled goal.piece.now))
+          → LeadsTo M P a b route
+      leads_along met route is =
+          let same : met.visit ≡ d.visit = one_stands visits place met.visit d.visit met.at d.at in
+          let from_at : slice_get L d.visit.number ≡ Some met.from
+          = subst (λ (w : Visit). slice_get L w.number ≡ Some met.from) same met.from_at in
+          let spot : met.from ≡ d.spot = one_stands L d.visit.number met.from d.spot from_at d.spot_at in
+          let has = subst (λ (x : At). Contains x.context.arcs met.arc) spot met.has in
+          let to = are.sound met.arc.piece goal met.met in
+          let last = ap (take (goal.last + 1)) (entry_spells M P to.way goal.piece.now to.listed) in
+          subst (LeadsTo M P a b)
+          (sym (is ∙ route_is (take (goal.last + 1) (spelled goal.piece.now))
+          ∙ ap (λ l. drop first (spell d.piece) ++ (spell_pieces d.whole ++ l)) last)) (led_by met.arc has to)

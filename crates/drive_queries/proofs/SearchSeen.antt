@@ -1,8 +1,7 @@
 -- Where a search has gone on from all that it visited and met nothing, no drive leads from the starts to the goals.
-use Rattle.std.proofs.Common.{◌≡◌, ◌⊎◌, inl, inr, ℕ, ◌+◌, ◌-◌, ◌<◌, ◌≤◌, List, [], ◌∷◌, ◌++◌, length, map, Option, Some, None, slice_get}
+use Rattle.std.proofs.Common.{◌≡◌, inl, inr, ℕ, ◌<◌, ◌≤◌, List, [], ◌∷◌, ◌++◌, length, map, Some, None, slice_get}
 use Rattle.std.proofs.Common.{Contains, refl, sym, ◌∙◌, ap, subst, arith}
 use Rattle.std.specs.BTreeMap.{BTreeMap}
-use Rattle.std.proofs.lemmas.Option.{slice_get_within}
 use Rattle.road_base.proofs.ListMembers.{In, in_at, at_in, in_from_contains, contains_from_in}
 use Rattle.road_base.proofs.ListPlaces.{contains_at, one_stands, some_at}
 use Rattle.road_base.specs.declared.ids.NodeId.{NodeId}
@@ -17,7 +16,7 @@ use Rattle.road_model.specs.Naming.{OnePiece}
 use Rattle.drive_queries.specs.declared.ends.Start.{Start}
 use Rattle.drive_queries.specs.declared.ends.Goal.{Goal}
 use Rattle.drive_queries.specs.declared.marks.Visit.{Visit}
-use Rattle.drive_queries.specs.Marks.{At, key_of, names_behind}
+use Rattle.drive_queries.specs.Marks.{At, key_of}
 use Rattle.drive_queries.specs.Searching.{BeginsAt, StopsAt, IsSearched}
 use Rattle.drive_queries.specs.Sought.{IsSpot, AreSpots, AreStarts, AreGoals}
 use Rattle.drive_queries.specs.Visits.{goal_in, IsStarted, IsVisited, IsClosed, LeadsBy}
@@ -176,10 +175,12 @@ module _ (M : Objects) (P : Rules) (L : List At) where
           → ⊥)
           → (seen : List (List Span)) × IsSearched M P a b seen
       searched numbers started none =
-          let r = are_seen are visits (λ v has. let at = at_in visits v has in numbers at.0 v at.1) in
-          (r.seen, record {
-            starts = seen_start r started;
-            apart = apart none;
-            goes_on = goes_on r;
-            misses = misses r;
-          })
+          let r = are_seen are visits (λ v has. let at = at_in visits v has in numbers at.0 v at.1) in (
+            r.seen,
+            record {
+              starts = seen_start r started;
+              apart = apart none;
+              goes_on = goes_on r;
+              misses = misses r;
+            },
+          )

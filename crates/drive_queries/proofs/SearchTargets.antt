@@ -4,17 +4,15 @@ use Rattle.std.proofs.Common.{arith, append_assoc, length-append}
 use Rattle.std.proofs.lemmas.List.{map-append, length-map}
 use Rattle.road_base.specs.declared.ids.NodeId.{NodeId}
 use Rattle.road_base.specs.declared.ids.WayId.{WayId}
-use Rattle.road_base.specs.declared.ids.Step.{Step}
 use Rattle.road_base.specs.Objects.{Objects}
-use Rattle.road_base.proofs.Splits.{Ends, Nil, Last, ends, same_last}
-use Rattle.road_model.specs.declared.lists.PieceName.{PieceName}
+use Rattle.road_base.proofs.Splits.{Nil, Last, ends, same_last}
 use Rattle.road_model.specs.declared.lists.TurnArc.{TurnArc}
 use Rattle.road_model.specs.declared.lists.Piece.{Piece}
 use Rattle.road_model.specs.Rules.{Rules}
 use Rattle.road_model.specs.Lines.{steps_from}
 use Rattle.road_model.specs.Pieces.{Span, IsPiece, spell}
 use Rattle.road_model.specs.Contexts.{Every, One, Many}
-use Rattle.road_model.specs.Network.{IsContext, IsArc}
+use Rattle.road_model.specs.Network.{IsContext}
 use Rattle.road_model.specs.Blocks.{IsPieceEntry, IsArcEntry, name_of}
 use Rattle.road_model.specs.Naming.{OnePiece}
 use Rattle.road_model.proofs.LongestContext.{Every-front, Every-tail}
@@ -22,7 +20,7 @@ use Rattle.road_model.proofs.WalkLists.{context_pieces}
 use Rattle.drive_queries.specs.declared.ends.Start.{Start}
 use Rattle.drive_queries.specs.Marks.{At, key_of, names_behind}
 use Rattle.drive_queries.specs.Visits.{HasTargets}
-use Rattle.drive_queries.specs.Sought.{IsSpot, AreSpots, IsStartAt, AreStarts}
+use Rattle.drive_queries.specs.Sought.{IsSpot, AreSpots, AreStarts}
 use Rattle.drive_queries.specs.Routes.{spelled}
 
 -- what is behind a list is left when as much as the list is dropped

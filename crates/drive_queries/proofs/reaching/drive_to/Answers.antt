@@ -1,15 +1,13 @@
-use Rattle.std.proofs.Common.{◌≡◌, ◌<◌, Some, Option, MatchOption, IsTrue, List, Contains, map, length, sym, ◌∙◌, ap, subst, [], ℕ, slice_get, ◌≤◌, refl, arith}
+use Rattle.std.proofs.Common.{◌≡◌, ◌<◌, Some, Option, MatchOption, List, Contains, map, length, sym, ◌∙◌, ap, subst, ℕ, slice_get, ◌≤◌, refl, arith}
 use Rattle.std.proofs.lemmas.List.{length-map}
 use Rattle.std.proofs.lemmas.Option.{slice_get_within}
 use Rattle.road_base.specs.declared.ids.Step.{Step}
-use Rattle.road_model.specs.declared.lists.PieceName.{PieceName}
 use Rattle.drive_queries.specs.declared.ends.Start.{Start}
 use Rattle.drive_queries.specs.declared.marks.Visit.{Visit}
 use Rattle.drive_queries.specs.declared.spots.Spot.{Spot}
-use Rattle.drive_queries.specs.Marks.{At, at_of, key_of}
+use Rattle.drive_queries.specs.Marks.{at_of}
 use Rattle.drive_queries.specs.Reaching.{LeadsTo}
 use Rattle.drive_queries.specs.Routes.{Descend, AreSpelled, IsRoute}
-use Rattle.drive_queries.specs.Visits.{HasTargets, AreClosed}
 use Rattle.drive_queries.specs.declared.following.Meeting.{Meeting}
 use Rattle.drive_queries.specs.Sought.{AreSpots, AreStarts}
 use Rattle.drive_queries.specs.Visits.{IsClosed, IsSearch, IsStarted, Meets, AreBegun, goal_in}

@@ -1,4 +1,4 @@
-use Rattle.std.proofs.Common.{◌≡◌, IfOk, sym, ap, subst}
+use Rattle.std.proofs.Common.{IfOk, sym, ap, subst}
 use Rattle.road_base.specs.Objects.{Objects}
 use Rattle.road_model.specs.Rules.{Rules}
 use Rattle.road_model.specs.BlockMap.{AreBlocksOf}
