@@ -22,7 +22,11 @@ use Rattle.turn_automata.specs.Watched.{Must, Stops}
 use Rattle.drive_queries.specs.declared.verdict.Rule.{Rule}
 use Rattle.drive_queries.specs.declared.verdict.Rule.TheVariants.{NoStep, NoNode, Closed, WrongWay, Apart, Barrier}
 use Rattle.drive_queries.specs.declared.verdict.Rule.TheVariants.{Reversal, No, Only}
-use Rattle.drive_queries.specs.Tables.{BeginsOn, IsTableOf}
+use Rattle.drive_queries.specs.Tables.{BeginsOn, AreDriveWords}
+use Rattle.std.specs.BTreeMap.{BTreeMap}
+use Rattle.road_base.specs.declared.ids.WayId.{WayId}
+use Rattle.drive_queries.specs.declared.drive_lines.DriveLine.{DriveLine}
+use Rattle.drive_queries.specs.DriveLines.{AreLinesOn}
 use Rattle.drive_queries.specs.Verdicts.{broken_rule}
 use Rattle.drive_queries.specs.Judging.{From, Breaks, Follows, KeepsOn, HasWords, WordWith, EndsDriven}
 use Rattle.drive_queries.specs.Judging.{LeavesIn, IsWordRule}
@@ -38,7 +42,7 @@ least_as : (Q R : RelationId → Type 0) → ((r : RelationId) → Q r → R r) 
     → (r : RelationId) → IsLeast Q r → IsLeast R r
 least_as Q R to back r h = record { holds = to r h.holds; least = λ q k. h.least q (back q k) }
 
-has_first : (front : List Step) (x : Step) (rest : List Step) → Contains (front ++ x ∷ rest) x
+pub has_first : (front : List Step) (x : Step) (rest : List Step) → Contains (front ++ x ∷ rest) x
 has_first front x rest = Contains-append_right front (x ∷ rest) x (0, omega arith, refl)
 
 module _ (M : Objects) (P : Rules) where
@@ -252,7 +256,7 @@ module _ (M : Objects) (P : Rules) where
     }
 
   -- the table of a drive has the words of each front
-  pub table_has : (d front behind : List Step) → d ≡ front ++ behind → (W : List Word) → IsTableOf M P d W
+  pub table_has : (d front behind : List Step) → d ≡ front ++ behind → (W : List Word) → AreDriveWords M P d W
       → HasWords M P front W
   table_has d front behind e W t = record {
     each = λ w c. (t.each w c).0;
@@ -263,6 +267,12 @@ module _ (M : Objects) (P : Rules) where
       driven = subst (λ v. Contains v b.first) (sym e) (Contains-append_left front behind b.first b.driven);
     });
   }
+
+-- the lines of a drive's ways are those of its first steps
+pub front_lines : (M : Objects) (lines : BTreeMap WayId DriveLine) (d front behind : List Step) → d ≡ front ++ behind
+    → AreLinesOn M lines d → AreLinesOn M lines front
+front_lines M lines d front behind e are s has =
+    are s (subst (λ v. Contains v s) (sym e) (Contains-append_left front behind s has))
 
 -- ---- where a drive is cut, and where the first state stands
 

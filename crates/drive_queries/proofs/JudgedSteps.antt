@@ -1,10 +1,10 @@
 -- The first rule that a step alone, or behind the one before it, breaks.
-use Rattle.std.proofs.Common.{◌≡◌, ℕ, inl, inr, ◌+◌, ◌<◌, ◌≤◌, List, [], ◌∷◌, ◌++◌, length, refl, sym, ap}
+use Rattle.std.proofs.Common.{◌≡◌, ℕ, ◌+◌, ◌<◌, ◌≤◌, List, [], ◌∷◌, ◌++◌, length, refl, sym, ap}
 use Rattle.std.proofs.Common.{◌∙◌, subst, arith, Option, Some, None, IfSome, IfNone, Bool, true, false, IsTrue, IsFalse}
 use Rattle.std.proofs.Common.{cond, not, int_eq, append_assoc}
 use Rattle.std.proofs.lemmas.Bool.{false≢true, true_from_ne_false, and_parts, and_from, ltb-true, lt-ltb}
 use Rattle.std.proofs.lemmas.Bool.Decides.{Decides-int_eq}
-use Rattle.std.proofs.lemmas.Option.{slice_get_within, slice_get_cases}
+use Rattle.std.proofs.lemmas.Option.{slice_get_within}
 use Rattle.road_base.specs.declared.ids.NodeId.{NodeId}
 use Rattle.road_base.specs.declared.ids.WayId.{WayId}
 use Rattle.road_base.specs.declared.ids.Step.{Step}
@@ -29,9 +29,6 @@ use Rattle.drive_queries.specs.Judging.{From, Breaks, Follows, closing}
 some_located : (M : Objects) (o : Option NodeId) → IsTrue (located M o) → (v : NodeId) × (o ≡ Some v)
 some_located M None h = absurd (false≢true h)
 some_located M (Some v) h = (v, refl)
-
-pub none_is_some : (o : Option NodeId) (v : NodeId) → o ≡ None → o ≡ Some v → ⊥
-none_is_some o v e f = let g : None ≡ Some v = sym e ∙ f in cc
 
 not_true : (b : Bool) → not b ≡ false → b ≡ true
 not_true true h = refl
@@ -68,11 +65,11 @@ if_named false o v e = cc
 -- ---- the parts of a step that may be driven
 
 module _ (M : Objects) (s : Step) where
-  at_named : (i : ℕ) → IsTrue (names_pair M s) → end_at M s i ≡ node_at M s.way i
+  pub at_named : (i : ℕ) → IsTrue (names_pair M s) → end_at M s i ≡ node_at M s.way i
   unfolding end_at
   at_named i named = ap (λ b. cond b (node_at M s.way i) None) named
 
-  end_named : (i : ℕ) (v : NodeId) → end_at M s i ≡ Some v → IsTrue (names_pair M s)
+  pub end_named : (i : ℕ) (v : NodeId) → end_at M s i ≡ Some v → IsTrue (names_pair M s)
   unfolding end_at
   end_named i v e = if_named (names_pair M s) (node_at M s.way i) v e
 
@@ -80,29 +77,38 @@ module _ (M : Objects) (s : Step) where
   unfolding names_pair node_at
   named_by_next v e = lt-ltb _ _ (slice_get_within (line_of M s.way) (s.index + 1) v e)
 
-  node_within : (i : ℕ) → i < length (line_of M s.way) → node_at M s.way i ≡ None → ⊥
-  unfolding node_at
-  node_within i l e = elim ((slice_get_cases (line_of M s.way) i).1)
-      [ inl r ↦ (let f = r.2 in cc) | inr n ↦ (let f = n.0 in omega arith) ]
+  -- a step that names no pair begins and ends nowhere
+  pub begins_nowhere : IsFalse (names_pair M s) → (v : NodeId) → tail_of M s ≡ Some v → ⊥
+  begins_nowhere none v e = false≢true (sym none ∙ end_named (tail_position s.dir s.index) v e)
 
-  tail_within : (d : Dir) (k n : ℕ) → k + 1 < n → tail_position d k < n
-  tail_within Forward k n l = omega arith
-  tail_within Backward k n l = l
+  pub ends_nowhere : IsFalse (names_pair M s) → (v : NodeId) → head_of M s ≡ Some v → ⊥
+  ends_nowhere none v e = false≢true (sym none ∙ end_named (head_position s.dir s.index) v e)
 
-  head_within : (d : Dir) (k n : ℕ) → k + 1 < n → head_position d k < n
-  head_within Forward k n l = l
-  head_within Backward k n l = omega arith
+-- whether a step goes back to where the one before began, by the nodes
+module _ (M : Objects) (last s : Step) (from to : NodeId) (is_from : tail_of M last ≡ Some from)
+    (is_to : head_of M s ≡ Some to) where
+  pub goes_back : int_eq to.0 from.0 ≡ true → head_of M s ≡ tail_of M last
+  goes_back h = is_to ∙ ap Some (node_is to from ((Decides-int_eq to.0 from.0).0 h)) ∙ sym is_from
 
-  -- a step that has no node where it begins, or ends, names no pair
-  pub no_tail : tail_of M s ≡ None → IsFalse (names_pair M s)
-  unfolding names_pair
-  no_tail e = false_by (names_pair M s) (λ h. node_within (tail_position s.dir s.index)
-      (tail_within s.dir s.index _ (ltb-true _ _ h)) (sym (at_named (tail_position s.dir s.index) h) ∙ e))
+  pub goes_elsewhere : int_eq to.0 from.0 ≡ false → head_of M s ≡ tail_of M last → ⊥
+  goes_elsewhere h e =
+      let both : Some to ≡ Some from = sym is_to ∙ e ∙ is_from in
+      let same : to ≡ from = cc in
+      false≢true (sym h ∙ (Decides-int_eq to.0 from.0).1 (ap (λ (n : NodeId). n.0) same))
 
-  pub no_head : head_of M s ≡ None → IsFalse (names_pair M s)
-  unfolding names_pair
-  no_head e = false_by (names_pair M s) (λ h. node_within (head_position s.dir s.index)
-      (head_within s.dir s.index _ (ltb-true _ _ h)) (sym (at_named (head_position s.dir s.index) h) ∙ e))
+-- a step that goes on follows the one before exactly where the node between them isn't shut
+module _ (M : Objects) (P : Rules) (last s : Step) (v : NodeId) (to : tail_of M s ≡ Some v)
+    (on : head_of M s ≡ tail_of M last → ⊥) where
+  pub shut_stops : IsTrue (shut M P v) → Passes M P last s → ⊥
+  shut_stops h p =
+      let both : Some p.node ≡ Some v = sym p.to ∙ to in
+      let same : p.node ≡ v = cc in
+      false≢true (sym (p.on on) ∙ ap (shut M P) same ∙ h)
+
+pub open_passes : (M : Objects) (P : Rules) (last s : Step) (v : NodeId) → head_of M last ≡ Some v
+    → tail_of M s ≡ Some v → (head_of M s ≡ tail_of M last → ⊥) → IsFalse (shut M P v) → Passes M P last s
+open_passes M P last s v from to on h = record
+    { node = v; from = from; to = to; back = λ e. absurd (on e); on = λ n. h }
 
 both_located : (M : Objects) (w : WayId) (d : Dir) (k : ℕ) → IsTrue (located M (node_at M w k))
     → IsTrue (located M (node_at M w (k + 1)))

@@ -21,3 +21,8 @@ pub mod SearchEnds
 pub mod SearchStartsOf
 pub mod SearchGoals
 pub mod SearchGoalsOf
+pub mod SearchTargets
+pub mod SearchTogether
+pub mod SearchDriven
+pub mod SearchSeen
+pub mod DriveLines

@@ -1,5 +1,5 @@
 -- Which steps of a piece begin and end at a node, by the places that are written of it.
-use Rattle.std.proofs.Common.{◌≡◌, ℕ, ◌+◌, ◌-◌, ◌<◌, ◌≤◌, List, length, Some, slice_get, IsTrue, refl, sym, ◌∙◌, ap, subst, arith}
+use Rattle.std.proofs.Common.{◌≡◌, ℕ, ◌+◌, ◌-◌, ◌<◌, ◌≤◌, length, Some, slice_get, IsTrue, refl, sym, ◌∙◌, ap, subst, arith}
 use Rattle.std.proofs.lemmas.Option.{slice_get_within}
 use Rattle.road_base.specs.declared.ids.NodeId.{NodeId}
 use Rattle.road_base.specs.declared.ids.WayId.{WayId}
@@ -10,11 +10,11 @@ use Rattle.road_base.specs.Objects.{Objects}
 use Rattle.road_base.proofs.ListPlaces.{some_at, one_stands}
 use Rattle.road_model.specs.declared.lists.Piece.{Piece}
 use Rattle.road_model.specs.Rules.{Rules}
-use Rattle.road_model.specs.Lines.{node_at, tail_of, head_of, end_at, steps_from}
+use Rattle.road_model.specs.Lines.{node_at, tail_of, head_of, steps_from}
 use Rattle.road_model.specs.Driving.{drivable, Leaves}
 use Rattle.road_model.specs.Links.{RefersTo}
 use Rattle.road_model.specs.Pieces.{Span, IsPiece, spell}
-use Rattle.road_model.specs.Blocks.{IsPieceEntry, IsPlaceOf, place_position}
+use Rattle.road_model.specs.Blocks.{IsPieceEntry, place_position}
 use Rattle.road_model.proofs.StepPlaces.{length-forward, length-backward, forward_at, backward_at}
 use Rattle.road_model.proofs.StepEnds.{named_end, drives_named}
 use Rattle.drive_queries.specs.Searching.{BeginsAt, StopsAt}

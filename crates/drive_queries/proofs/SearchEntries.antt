@@ -1,11 +1,10 @@
 -- Each piece and each context is written, and so all of them are listed by the blocks.
-use Rattle.std.proofs.Common.{◌≡◌, ℕ, zero, suc, ◌+◌, ◌-◌, ◌<◌, ◌≤◌, List, [], ◌∷◌, ◌++◌, length, map, inl, inr, refl, sym}
+use Rattle.std.proofs.Common.{◌≡◌, ℕ, zero, suc, ◌+◌, ◌-◌, ◌<◌, ◌≤◌, List, [], ◌∷◌, ◌++◌, length, map, refl, sym}
 use Rattle.std.proofs.Common.{ap, ◌∙◌, subst, arith, Option, Some, None, slice_get, IsTrue, Contains}
 use Rattle.std.proofs.Common.{Result, Ok, Err, IfOk}
 use Rattle.std.specs.Prelude.{is_some, ◌↔◌}
 use Rattle.std.specs.Cmp.{IsTotalOrder}
 use Rattle.std.specs.FinMap.{FinMap, IsAntisymmetric, get}
-use Rattle.std.specs.List.{flat_map}
 use Rattle.std.proofs.lemmas.Bool.{false≢true}
 use Rattle.road_base.specs.declared.ids.NodeId.{NodeId}
 use Rattle.road_base.specs.declared.ids.WayId.{WayId}
@@ -14,7 +13,6 @@ use Rattle.road_base.specs.declared.ids.Dir.TheVariants.{Forward, Backward}
 use Rattle.road_base.specs.declared.location.Location.{Location}
 use Rattle.road_base.specs.declared.objects.Node.{Node}
 use Rattle.road_base.specs.Objects.{Objects, node_of}
-use Rattle.road_model.specs.declared.lists.PieceName.{PieceName}
 use Rattle.road_model.specs.declared.lists.Place.{Place}
 use Rattle.road_model.specs.declared.lists.TurnArc.{TurnArc}
 use Rattle.road_model.specs.declared.lists.Context.{Context}
@@ -24,7 +22,7 @@ use Rattle.road_model.specs.Rules.{Rules}
 use Rattle.road_model.specs.Lines.{node_at}
 use Rattle.road_model.specs.Driving.{located, node_located}
 use Rattle.road_model.specs.Pieces.{Span, IsPiece}
-use Rattle.road_model.specs.Contexts.{Every, IsContextBy, One, Many, IsMany}
+use Rattle.road_model.specs.Contexts.{Every, One, Many}
 use Rattle.road_model.specs.Network.{IsContext}
 use Rattle.road_model.specs.Orders.{Lists, name_cmp, names_cmp, way_cmp, rises}
 use Rattle.road_model.specs.Blocks.{IsPlaceOf, IsArcEntry, IsContextEntry, IsPieceEntry, IsBlock, IsRoadBlock, name_of}
@@ -41,7 +39,7 @@ use Rattle.road_model.proofs.FiniteContexts.{fin_before, arcs_of}
 use Rattle.road_model.proofs.Enumerated.{Finite, fin_made}
 use Rattle.road_model.proofs.SortedLists.{listed}
 use Rattle.road_model.proofs.AscendingLists.{lists_unique}
-use Rattle.drive_queries.specs.Marks.{At, at_by, key_of, key_cmp, contexts_at, contexts_over, all_contexts}
+use Rattle.drive_queries.specs.Marks.{At, at_by, contexts_at, contexts_over, all_contexts}
 use Rattle.drive_queries.specs.Sought.{IsSpot, AreSpots}
 use Rattle.drive_queries.proofs.SearchOrder.{AreOrdered, all_rise}
 

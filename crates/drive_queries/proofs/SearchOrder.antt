@@ -1,7 +1,7 @@
 -- All contexts of a graph ascend by their names.
-use Rattle.std.proofs.Common.{◌≡◌, List, [], ◌∷◌, ◌++◌, map, inl, inr, refl, sym, ap, subst, IsTrue, Ordering, Bool}
-use Rattle.std.specs.declared.cmp.Ordering.TheVariants.{Less, Equal, Greater}
-use Rattle.std.specs.Ordering.{is_lt, ordering_then, nat_cmp}
+use Rattle.std.proofs.Common.{◌≡◌, List, [], ◌∷◌, ◌++◌, map, inl, inr, refl, sym, ap, subst, IsTrue, Ordering}
+use Rattle.std.specs.declared.cmp.Ordering.TheVariants.{Less, Equal}
+use Rattle.std.specs.Ordering.{is_lt, ordering_then}
 use Rattle.std.specs.Cmp.{IsTotalOrder}
 use Rattle.std.specs.List.{flat_map}
 use Rattle.std.proofs.lemmas.Cmp.{tied_itself}
@@ -11,7 +11,7 @@ use Rattle.road_model.specs.declared.lists.PieceName.{PieceName}
 use Rattle.road_model.specs.declared.lists.Context.{Context}
 use Rattle.road_model.specs.declared.lists.Piece.{Piece}
 use Rattle.road_model.specs.declared.blocks.Block.{Block}
-use Rattle.road_model.specs.Orders.{way_cmp, dir_cmp, name_cmp, names_cmp, rises}
+use Rattle.road_model.specs.Orders.{way_cmp, name_cmp, names_cmp, rises}
 use Rattle.road_model.proofs.AscendingLists.{Climbs, Below, climbs, rises_again}
 use Rattle.drive_queries.specs.Marks.{At, at_by, key_of, key_cmp, contexts_at, contexts_over, all_contexts}
 use Rattle.drive_queries.proofs.SearchKeys.{key_total}

@@ -1,5 +1,5 @@
 -- Contexts by their numbers, and where arcs lead.
-use Rattle.std.proofs.Common.{◌≡◌, ℕ, zero, suc, ◌-◌, ◌<◌, List, [], ◌∷◌, length, map, Some, slice_get, Contains, refl, sym}
+use Rattle.std.proofs.Common.{◌≡◌, ℕ, zero, suc, ◌-◌, ◌<◌, List, [], ◌∷◌, length, map, Some, slice_get, Contains, sym}
 use Rattle.std.proofs.Common.{◌∙◌, ap, subst, arith, get_or}
 use Rattle.std.specs.List.{HoldsAt}
 use Rattle.std.proofs.lemmas.Option.{get_or_from_slice_get}

@@ -1,18 +1,16 @@
 -- The visits with which drives begin.
-use Rattle.std.proofs.Common.{◌≡◌, ◌⊎◌, inl, inr, ℕ, zero, suc, ◌+◌, ◌<◌, ◌≤◌, List, [], ◌∷◌, ◌++◌, length, map, Some, slice_get, Contains}
-use Rattle.std.proofs.Common.{refl, sym, ◌∙◌, ap, subst, arith, take, get_or}
+use Rattle.std.proofs.Common.{◌≡◌, inl, inr, ℕ, zero, suc, ◌+◌, ◌<◌, ◌≤◌, List, [], length, map, Some, slice_get, Contains}
+use Rattle.std.proofs.Common.{sym, ◌∙◌, ap, subst, take, get_or}
 use Rattle.std.proofs.lemmas.List.{take_more, take_all}
 use Rattle.road_base.proofs.ListMembers.{contains_more}
-use Rattle.road_base.proofs.ListPlaces.{contains_at, at_contains}
 use Rattle.drive_queries.specs.declared.ends.Start.{Start}
 use Rattle.drive_queries.specs.declared.marks.Origin.{Origin}
 use Rattle.drive_queries.specs.declared.marks.Origin.TheVariants.{Begins, Follows}
-use Rattle.drive_queries.specs.declared.marks.Visit.{Visit}
 use Rattle.std.specs.List.{HoldsAt}
 use Rattle.drive_queries.specs.declared.spots.Spot.{Spot}
 use Rattle.drive_queries.specs.Marks.{At, at_of, key_of}
 use Rattle.drive_queries.proofs.SearchSpots.{spot_there}
-use Rattle.drive_queries.specs.Visits.{Marks, IsSearch, IsStarted, IsStartMarked, IsMarked, AreBegun, Begun, Grows}
+use Rattle.drive_queries.specs.Visits.{Marks, IsSearch, IsStarted, IsStartMarked, IsMarked, AreBegun, Grows}
 use Rattle.drive_queries.proofs.SearchMarks.{marked_cases, marked_grows, marked_keeps, marked_visited, visited_stays}
 use Rattle.std.proofs.lemmas.Option.{slice_get_within}
 

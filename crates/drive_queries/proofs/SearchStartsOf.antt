@@ -1,5 +1,5 @@
 -- The starts that the blocks of ways give are all starts.
-use Rattle.std.proofs.Common.{◌≡◌, ℕ, ◌≤◌, List, [], Option, Some, None, Contains, refl, sym, ◌∙◌, ap, subst}
+use Rattle.std.proofs.Common.{◌≡◌, ℕ, ◌≤◌, List, Option, Some, None, Contains, refl, sym, ◌∙◌, ap, subst}
 use Rattle.std.specs.Cmp.{IsTotalOrder}
 use Rattle.std.specs.FinMap.{FinMap, IsAntisymmetric, get}
 use Rattle.road_base.specs.declared.ids.NodeId.{NodeId}
@@ -13,7 +13,6 @@ use Rattle.road_model.specs.Rules.{Rules}
 use Rattle.road_model.specs.Driving.{Leaves as LeavesNode}
 use Rattle.road_model.specs.Links.{RefersTo}
 use Rattle.road_model.specs.Orders.{way_cmp, name_cmp, names_cmp}
-use Rattle.road_model.specs.Pieces.{Span, IsPiece}
 use Rattle.road_model.specs.Blocks.{IsPieceEntry, name_of}
 use Rattle.road_model.specs.BlockMap.{AreBlocksOf}
 use Rattle.road_model.specs.Naming.{HasBlock, OnePiece}

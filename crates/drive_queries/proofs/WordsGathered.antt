@@ -32,7 +32,7 @@ use Rattle.restrictions.specs.declared.relation_words.WordsError.{WordsError}
 use Rattle.restrictions.specs.declared.relation_words.WordsError.TheVariants.{Unusable as OfNoUse}
 use Rattle.restrictions.specs.Words.{IsRestriction, IsWordOf, SaysCause}
 use Rattle.drive_queries.proofs.WordOrder.{step_total, step_ties}
-use Rattle.drive_queries.specs.Tables.{BeginsOn, IsTableOf}
+use Rattle.drive_queries.specs.Tables.{BeginsOn, AreDriveWords}
 use Rattle.drive_queries.specs.Gathering.{AreInOrder, LiesOn, IsMemberOf, GainsWords, AreWordsOn}
 
 module _ {X : Type 0} (xs : List X) where
@@ -189,7 +189,7 @@ module _ (M : Objects) (P : Rules) where
         → ((w : WayId) → Contains ways w ↔ LiesOn drive w)
         → ((r : RelationId) → Contains rs r ↔ IsMemberOf M ways r)
         → ((s : Step) → Contains sorted s ↔ Contains drive s)
-        → AreWordsOn M P sorted rs words → IsTableOf M P drive words
+        → AreWordsOn M P sorted rs words → AreDriveWords M P drive words
     table drive sorted ways rs words lies on same are = record {
       each = λ u c.
           let h = are.each u c in
@@ -207,7 +207,7 @@ module _ (M : Objects) (P : Rules) where
 
   -- the same words in another order
   pub table_again : (drive : List Step) (words other : List Word)
-      → ((w : Word) → Contains other w ↔ Contains words w) → IsTableOf M P drive words → IsTableOf M P drive other
+      → ((w : Word) → Contains other w ↔ Contains words w) → AreDriveWords M P drive words → AreDriveWords M P drive other
   table_again drive words other same t = record {
     each = λ w c. t.each w ((same w).0 c);
     all = λ w is b. (same w).1 (t.all w is b);

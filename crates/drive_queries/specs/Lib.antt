@@ -12,3 +12,5 @@ pub mod Visits
 pub mod Routes
 pub mod Sought
 pub mod Ends
+pub mod DriveLines
+pub mod WordTables

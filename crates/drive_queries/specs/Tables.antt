@@ -14,6 +14,6 @@ pub record BeginsOn (drive steps : List Step) : Type 0 where
   pub driven : Contains drive first
 
 -- the list has exactly the words whose first step is in the drive
-pub record IsTableOf (M : Objects) (P : Rules) (drive : List Step) (words : List Word) : Type 0 where
+pub record AreDriveWords (M : Objects) (P : Rules) (drive : List Step) (words : List Word) : Type 0 where
   pub each : (w : Word) → Contains words w → IsWordOf M P w.relation w × BeginsOn drive w.steps
   pub all : (w : Word) → IsWordOf M P w.relation w → BeginsOn drive w.steps → Contains words w

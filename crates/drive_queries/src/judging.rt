@@ -1,7 +1,8 @@
 //! Whether a drive is legal.
 ghost use Rattle.std.specs.Prelude.{◌≢◌, ◌<◌, ◌∷◌, ◌++◌, [], length, IfOk, IfErr};
 ghost use Rattle.turn_automata.specs.Machines.{Watches};
-ghost use Rattle.drive_queries.specs.Tables.{IsTableOf};
+ghost use Rattle.drive_queries.specs.WordTables.{IsTableOf};
+ghost use Rattle.drive_queries.specs.DriveLines.{AreLinesOn};
 ghost use Rattle.drive_queries.specs.Gathering.{AreInWordOrder};
 ghost use Rattle.drive_queries.specs.Judging.{Breaks, HasWords, KeepsOn};
 ghost use Rattle.drive_queries.specs.Verdicts.{IsVerdict, broken_rule};
@@ -13,15 +14,15 @@ use crate::word_table::WordTable;
 use road_base::Step;
 use road_model::laws::{drive_grows, drive_parts};
 use road_model::{Profile, World};
+use turn_automata::State;
 use turn_automata::laws::unstopped_is_demanded;
-use turn_automata::{Automaton, State};
 
 /// Whether the drive, which isn't empty, is legal, and else the first step with which it isn't and the first rule that
 /// it breaks there. The table is the drive's own. Takes no memory.
 ///
-/// Takes a few look-ups and one step of the table's automaton for each step of the drive, and for one that goes back to
-/// where the step before began the time of the ways at the node. The words are compared with the last step alone, and
-/// only where they stop it.
+/// Takes for each step of the drive a few look-ups, each at the logarithm of what there is, and one step of the table's
+/// automaton; for one that goes back to where the step before began also the time of the references of the ways at the
+/// node. The words are compared with the last step alone, and only where they stop it.
 pub fn judge<M: World, P: Profile>(
     world: &M,
     profile: &P,
@@ -34,11 +35,10 @@ pub fn judge<M: World, P: Profile>(
 {
     drive_grows(profile);
     drive_parts(profile);
-    let automaton = table.automaton();
-    automaton.closed();
+    table.automaton.closed();
     let mut state = State(0);
     for at in 0..drive.len() {
-        match judge_step(world, profile, automaton, state, &drive[..at], drive[at]) {
+        match judge_step(world, profile, table, state, &drive[..at], drive[at]) {
             Ok(next) => state = next,
             Err(rule) => {
                 return Verdict::Broken {
@@ -55,28 +55,29 @@ pub fn judge<M: World, P: Profile>(
 fn judge_step<M: World, P: Profile>(
     world: &M,
     profile: &P,
-    automaton: &Automaton,
+    table: &WordTable,
     state: State,
     before: &[Step],
     step: Step,
 ) -> Result<State, Rule>
-    requires known { state.0 < length automaton.now.states }
-    requires watches { Watches automaton.now state.0 before.now }
-    requires sorted { AreInWordOrder automaton.now.words }
+    requires known { state.0 < length table.now.automaton.states }
+    requires watches { Watches table.now.automaton state.0 before.now }
+    requires sorted { AreInWordOrder table.now.automaton.words }
     requires words { HasWords (M.objects world.now) (P.rules profile.now) (before.now ++ step ∷ [])
-        automaton.now.words }
-    ensures known { IfOk result (λ next. next.0 < length automaton.now.states) }
-    ensures watches { IfOk result (λ next. Watches automaton.now next.0 (before.now ++ step ∷ [])) }
+        table.now.automaton.words }
+    requires lines { AreLinesOn (M.objects world.now) table.now.lines (before.now ++ step ∷ []) }
+    ensures known { IfOk result (λ next. next.0 < length table.now.automaton.states) }
+    ensures watches { IfOk result (λ next. Watches table.now.automaton next.0 (before.now ++ step ∷ [])) }
     ensures goes { IfOk result (λ next. KeepsOn (M.objects world.now) (P.rules profile.now) before.now step) }
     ensures breaks { IfErr result (λ rule. Breaks (M.objects world.now) (P.rules profile.now) before.now step
         (broken_rule rule)) }
 {
     unstopped_is_demanded();
-    if let Some(rule) = step_rule(world, profile, before, step) {
+    if let Some(rule) = step_rule(world, profile, &table.lines, before, step) {
         return Err(rule);
     }
-    match automaton.go(state, step) {
+    match table.automaton.go(state, step) {
         Some(next) => Ok(next),
-        None => Err(word_rule(automaton, state, before, step)),
+        None => Err(word_rule(&table.automaton, state, before, step)),
     }
 }

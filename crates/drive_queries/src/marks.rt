@@ -1,5 +1,5 @@
 //! The contexts that a search has visited.
-ghost use Rattle.std.specs.Prelude.{◌≡◌, ◌<◌, ◌∷◌, [], length, IfOk, OnOk, IfSome, IfNone, Some, slice_get};
+ghost use Rattle.std.specs.Prelude.{◌≡◌, ◌<◌, ◌∷◌, [], ℕ, true, length, IfOk, OnOk, IfSome, IfNone, Some, slice_get};
 ghost use Rattle.std.specs.List.Sorted.{IsPermutation};
 ghost use Rattle.drive_queries.specs.Visits.{IsMarked};
 
@@ -48,6 +48,7 @@ impl Search {
         ensures count { IfOk result (λ s. length s.marked ≡ count) }
         ensures visits { IfOk result (λ s. s.visits ≡ []) }
         ensures waiting { IfOk result (λ s. s.waiting ≡ []) }
+        ensures unmarked { IfOk result (λ s. (n : ℕ) → slice_get s.marked n ≡ Some true → ⊥) }
     {
         let marked = Vec::from_elem(alloc, false, count)?;
         let visits = Vec::with_capacity(alloc, count)?;

@@ -1,21 +1,53 @@
-//! What a search from one node to another needs of the nodes and of the list of contexts.
+//! Whether one may drive from one node to another.
 ghost use Rattle.std.specs.Prelude.{◌≡◌, ◌≤◌, map, IfOk, IfSome, IfNone, Some, IsTrue, IsFalse, Contains};
 ghost use Rattle.road_model.specs.BlockMap.{AreBlocksOf};
 ghost use Rattle.road_model.specs.Driving.{located};
-ghost use Rattle.road_model.specs.Networks.{on};
+ghost use Rattle.road_model.specs.Networks.{on, map_of};
 ghost use Rattle.drive_queries.specs.declared.ends.Start.{Start};
 ghost use Rattle.drive_queries.specs.declared.ends.Goal.{Goal};
 ghost use Rattle.drive_queries.specs.Marks.{at_of};
 ghost use Rattle.drive_queries.specs.Visits.{goal_in};
-ghost use Rattle.drive_queries.specs.Sought.{AreSpots};
+ghost use Rattle.drive_queries.specs.Reaching.{IsFound};
+ghost use Rattle.drive_queries.specs.Sought.{AreSpots, AreStarts, AreGoals};
 
-use crate::ends::{Goal, Start, goal_at};
+use crate::ends::{Goal, Start, goal_at, goals_of, starts_of};
+use crate::following::{begin, run};
+use crate::found::Found;
+use crate::laws::searched_drives;
+use crate::marks::Search;
+use crate::routes::{along, within};
 use crate::spots::{Spot, spots_of};
 use road_base::{Location, NoMemory, NodeId};
 use road_model::laws::{has_block, name_order, one_block, one_name};
 use road_model::{Blocks, Network, PieceName, Profile, World};
 use std::alloc::Global;
 use std::collections::BTreeMap;
+use way_lines::is_located;
+
+/// A legal drive from node a to node b, also where they are the same, or why there is none. The blocks are those of
+/// the world under the profile. The marks of all contexts are taken before the first step of the search.
+///
+/// Takes one pass over the contexts to list them, then for each context and arc that the search comes to the time of a
+/// short search by names, and memory in proportion to the contexts.
+pub fn reach<M: World, P: Profile>(
+    alloc: Global,
+    world: &M,
+    profile: &P,
+    blocks: &Blocks,
+    a: NodeId,
+    b: NodeId,
+) -> Result<Found, NoMemory>
+    requires { AreBlocksOf (M.objects world.now) (P.rules profile.now) blocks.now.map }
+    ensures { IfOk result (IsFound (M.objects world.now) (P.rules profile.now) a b) }
+{
+    if !is_located(world, a) {
+        return Ok(Found::NoNode(a));
+    }
+    let Some(to) = location_of(world, b) else {
+        return Ok(Found::NoNode(b));
+    };
+    drive_to(alloc, &Network::new(world, *profile), blocks, a, b, to)
+}
 
 /// Where the node lies, if it is visible with a location.
 fn location_of<M: World>(world: &M, node: NodeId) -> Option<Location>
@@ -25,6 +57,36 @@ fn location_of<M: World>(world: &M, node: NodeId) -> Option<Location>
     match world.node(node) {
         Some(body) => body.location,
         None => None,
+    }
+}
+
+/// A drive from node a to node b, which lies there, or that there is none.
+fn drive_to<M: World, P: Profile>(
+    alloc: Global,
+    network: &Network<'_, M, P>,
+    blocks: &Blocks,
+    a: NodeId,
+    b: NodeId,
+    to: Location,
+) -> Result<Found, NoMemory>
+    requires blocks { on network.now AreBlocksOf blocks.now.map }
+    requires from { IsTrue (located (map_of network.now) (Some a)) }
+    requires to { IsTrue (located (map_of network.now) (Some b)) }
+    ensures { IfOk result (on network.now IsFound a b) }
+{
+    searched_drives(&network.profile);
+    one_name(&network.profile);
+    let starts = starts_of(alloc, network, blocks, a)?;
+    let goals = goals_of(alloc, network, blocks, b)?;
+    if let Some((start, goal)) = inside_one(&starts, &goals) {
+        return Ok(Found::Drive(within(alloc, &start, &goal)?));
+    }
+    let spots = spots_in_order(alloc, network, blocks)?;
+    let mut search = Search::new(alloc, spots.len(), to)?;
+    begin(&mut search, &spots, &starts)?;
+    match run(alloc, &mut search, &spots, &goals)? {
+        Some(meeting) => Ok(Found::Drive(along(alloc, &spots, search.visits(), &meeting)?)),
+        None => Ok(Found::Nowhere),
     }
 }
 

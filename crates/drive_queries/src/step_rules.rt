@@ -1,48 +1,55 @@
 //! The rules that speak of a step alone, or of it and the step before.
-ghost use Rattle.std.specs.Prelude.{◌≡◌, ◌↔◌, List, IfSome, IfNone, IsTrue};
+ghost use Rattle.std.specs.Prelude.{◌≡◌, ◌∷◌, ◌++◌, [], List, IfSome, IfNone, IsTrue};
 ghost use Rattle.road_base.specs.declared.ids.Step.{Step};
 ghost use Rattle.road_model.specs.declared.answers.Access.{Access};
-ghost use Rattle.road_model.specs.Lines.{head_of, tail_of};
-ghost use Rattle.road_model.specs.Driving.{Passes, drivable};
+ghost use Rattle.road_model.specs.Driving.{Passes, drivable, shut};
 ghost use Rattle.road_model.specs.Broken.{IsAnswered, IsBehind};
 ghost use Rattle.drive_queries.specs.Verdicts.{broken_rule};
 ghost use Rattle.drive_queries.specs.Judging.{Breaks, Follows, closing};
+ghost use Rattle.drive_queries.specs.DriveLines.{AreLinesOn, IsLineIn};
 
+use crate::drive_lines::{DriveLine, ends_in};
 use crate::verdict::Rule;
-use road_base::Step;
+use road_base::{NodeId, Step, WayId};
 use road_model::{Access, Profile, World};
-use way_lines::{head, is_located, pass, tail};
+use std::collections::BTreeMap;
+use way_lines::{is_located, pass};
 
-/// The first of these rules that the step breaks behind the steps before it.
+/// The first of these rules that the step breaks behind the steps before it, by the lines of their ways.
 pub fn step_rule<M: World, P: Profile>(
     world: &M,
     profile: &P,
+    lines: &BTreeMap<WayId, DriveLine>,
     before: &[Step],
     step: Step,
 ) -> Option<Rule>
+    requires { AreLinesOn (M.objects world.now) lines.now (before.now ++ step ∷ []) }
     ensures some { IfSome result (λ rule. Breaks (M.objects world.now) (P.rules profile.now) before.now step
         (broken_rule rule)) }
     ensures none { IfNone result (Follows (M.objects world.now) (P.rules profile.now) before.now step) }
 {
-    if let Some(rule) = rule_alone(world, profile, step) {
+    if let Some(rule) = rule_alone(world, profile, lines, step) {
         return Some(rule);
     }
     match before.last() {
-        Some(last) => rule_between(world, profile, *last, step),
+        Some(last) => rule_between(world, profile, lines, *last, step),
         None => None,
     }
 }
 
 /// The first of the rules on a step alone that this one breaks.
-fn rule_alone<M: World, P: Profile>(world: &M, profile: &P, step: Step) -> Option<Rule>
+fn rule_alone<M: World, P: Profile>(
+    world: &M,
+    profile: &P,
+    lines: &BTreeMap<WayId, DriveLine>,
+    step: Step,
+) -> Option<Rule>
+    requires { IsLineIn (M.objects world.now) lines.now step.way }
     ensures some { IfSome result (λ rule. (before : List Step)
         → Breaks (M.objects world.now) (P.rules profile.now) before step (broken_rule rule)) }
     ensures none { IfNone result (IsTrue (drivable (M.objects world.now) (P.rules profile.now) step)) }
 {
-    let Some(tail) = tail(world, step) else {
-        return Some(Rule::NoStep);
-    };
-    let Some(head) = head(world, step) else {
+    let Some((tail, head)) = ends_in(lines, step) else {
         return Some(Rule::NoStep);
     };
     if !is_located(world, tail) {
@@ -72,36 +79,45 @@ fn closing_rule<M: World, P: Profile>(world: &M, profile: &P, step: Step) -> Opt
 fn rule_between<M: World, P: Profile>(
     world: &M,
     profile: &P,
+    lines: &BTreeMap<WayId, DriveLine>,
     last: Step,
     step: Step,
 ) -> Option<Rule>
-    requires { IsTrue (drivable (M.objects world.now) (P.rules profile.now) step) }
+    requires drives { IsTrue (drivable (M.objects world.now) (P.rules profile.now) step) }
+    requires from { IsLineIn (M.objects world.now) lines.now last.way }
+    requires to { IsLineIn (M.objects world.now) lines.now step.way }
     ensures some { IfSome result (λ rule. (before : List Step) → IsBehind before last
         → Breaks (M.objects world.now) (P.rules profile.now) before step (broken_rule rule)) }
     ensures none { IfNone result (Passes (M.objects world.now) (P.rules profile.now) last step) }
 {
-    if pass(world, profile, last, step) {
-        return None;
-    }
-    let Some(from) = head(world, last) else {
+    let Some((from, at)) = ends_in(lines, last) else {
         return Some(Rule::Apart);
     };
-    let Some(node) = tail(world, step) else {
+    let Some((node, to)) = ends_in(lines, step) else {
         return Some(Rule::Apart);
     };
-    if from != node {
+    if at != node {
         return Some(Rule::Apart);
     }
-    if goes_back(world, last, step) {
-        Some(Rule::Reversal(node))
-    } else {
+    if to == from {
+        if pass(world, profile, last, step) {
+            None
+        } else {
+            Some(Rule::Reversal(node))
+        }
+    } else if is_shut(world, profile, node) {
         Some(Rule::Barrier(node))
+    } else {
+        None
     }
 }
 
-/// Whether the step ends where the one before it began.
-fn goes_back<M: World>(world: &M, last: Step, step: Step) -> bool
-    ensures { IsTrue result ↔ (head_of (M.objects world.now) step ≡ tail_of (M.objects world.now) last) }
+/// Whether the node is visible and shut, as at a bollard.
+fn is_shut<M: World, P: Profile>(world: &M, profile: &P, node: NodeId) -> bool
+    ensures { result ≡ shut (M.objects world.now) (P.rules profile.now) node }
 {
-    head(world, step) == tail(world, last)
+    match world.node(node) {
+        Some(node) => !profile.node_open(&node.tags),
+        None => false,
+    }
 }

@@ -1,4 +1,4 @@
-//! The words of restrictions that may bind a drive.
+//! What judging a drive needs: the words of restrictions that may bind it, and the lines of its ways.
 ghost use Rattle.std.specs.Prelude.{◌≡◌, ◌↔◌, IfOk, OnOk, IsTrue, Contains};
 ghost use Rattle.std.specs.List.{All};
 ghost use Rattle.std.specs.FinMap.{IsAntisymmetric};
@@ -7,41 +7,33 @@ ghost use Rattle.road_base.specs.declared.ids.RelationId.{RelationId};
 ghost use Rattle.road_base.specs.declared.ids.Step.{Step};
 ghost use Rattle.restrictions.specs.declared.word_list.Word.{Word};
 ghost use Rattle.restrictions.specs.Words.{IsRestriction};
-ghost use Rattle.drive_queries.specs.Tables.{BeginsOn, IsTableOf};
+ghost use Rattle.drive_queries.specs.Tables.{BeginsOn};
+ghost use Rattle.drive_queries.specs.WordTables.{IsTableOf};
 ghost use Rattle.drive_queries.specs.Gathering.{AreInOrder, AreInWordOrder, GainsWords, AreWordsOn, IsMemberOf};
 ghost use Rattle.drive_queries.specs.Gathering.{LiesOn, steps_cmp};
 
+use crate::drive_lines::{DriveLine, lines_of};
 use restrictions::{Word, WordList, WordsError, words};
 use road_base::{NoMemory, RelationId, Step, WayId};
 use road_model::laws::{name_order, number_order, words_on_ways};
 use road_model::{Profile, World};
 use std::alloc::Global;
 use std::cmp::Ordering;
-use std::marker::Model;
+use std::collections::BTreeMap;
 use turn_automata::Automaton;
 
-/// The words whose first step is one of a drive's. Contracts see them as a list.
+/// What judging a drive needs: the words whose first step is one of the drive's, and the lines of its ways.
 #[derive(Drop)]
 pub struct WordTable {
-    automaton: Automaton,
-}
-
-impl Model for WordTable {
-    ghost use Rattle.std.specs.Prelude.{List};
-    ghost use Rattle.restrictions.specs.declared.word_list.Word.{Word};
-    ghost use Rattle.drive_queries.specs.Gathering.{AreInWordOrder};
-
-    ghost Value = { List Word };
-
-    ghost view = { λ t. t.automaton.words };
-
-    ghost invariant = { λ t. AreInWordOrder t.automaton.words };
+    pub(crate) automaton: Automaton,
+    pub(crate) lines: BTreeMap<WayId, DriveLine>,
 }
 
 impl WordTable {
-    /// All words whose first step is in the drive.
+    /// All words whose first step is in the drive, sorted by their steps, and the line of each way of the drive.
     ///
-    /// Each restriction that names a way of the drive is judged once. Of n words two are compared n log n times.
+    /// Each restriction that names a way of the drive is judged once, and each of its ways gone over once. Of n words
+    /// two are compared n log n times.
     pub fn of<M: World, P: Profile>(
         alloc: Global,
         world: &M,
@@ -52,6 +44,7 @@ impl WordTable {
     {
         words_on_ways(profile);
         let ways = ways_of(alloc, drive)?;
+        let lines = lines_of(alloc, world, ways.as_slice())?;
         let relations = relations_of(alloc, world, ways.as_slice())?;
         let steps = in_order(alloc, drive)?;
         let mut words = words_of(
@@ -63,15 +56,7 @@ impl WordTable {
         )?;
         put_in_order(&mut words);
         let automaton = Automaton::of(alloc, &WordList::from_list(words))?;
-        Ok(WordTable { automaton })
-    }
-
-    /// What watches for the words, which it lends sorted by their steps.
-    pub fn automaton(&self) -> &Automaton
-        ensures words { result.now.words ≡ self.now }
-        ensures sorted { AreInWordOrder self.now }
-    {
-        &self.automaton
+        Ok(WordTable { automaton, lines })
     }
 }
 

@@ -1,4 +1,4 @@
-use Rattle.std.proofs.Common.{◌≡◌, inr, refl, sym, ◌∙◌, ap, subst, List}
+use Rattle.std.proofs.Common.{◌≡◌, inr, sym, ◌∙◌, ap, subst, List}
 use Rattle.road_model.specs.declared.lists.Place.{Place}
 use Rattle.drive_queries.specs.declared.ends.Goal.{Goal}
 use Rattle.drive_queries.specs.Ends.{StopsBy}

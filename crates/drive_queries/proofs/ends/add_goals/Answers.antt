@@ -1,4 +1,4 @@
-use Rattle.std.proofs.Common.{◌≡◌, ◌≤◌, ◌⊎◌, inl, inr, ℕ, ◌+◌, Some, ◌∙◌, sym, ap, subst, List, Contains, take, get_or, ◌++◌, ◌∷◌, []}
+use Rattle.std.proofs.Common.{◌≡◌, ◌≤◌, ◌⊎◌, inl, inr, Some, ◌∙◌, sym, ap, subst, List, Contains, take, get_or, ◌++◌, ◌∷◌, []}
 use Rattle.std.proofs.lemmas.List.{take_more, take_all}
 use Rattle.std.proofs.lemmas.List.Elements.{Contains-append_left, Contains-push}
 use Rattle.road_base.proofs.ListMembers.{contains_more}

@@ -1,4 +1,4 @@
-use Rattle.std.proofs.Common.{◌≡◌, refl, sym, subst, List, Contains}
+use Rattle.std.proofs.Common.{refl, sym, subst, List, Contains}
 use Rattle.std.proofs.lemmas.List.Elements.{Contains-push}
 use Rattle.road_model.specs.declared.lists.Place.{Place}
 use Rattle.drive_queries.specs.declared.ends.Start.{Start}

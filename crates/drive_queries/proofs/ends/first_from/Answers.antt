@@ -1,4 +1,3 @@
-use Rattle.std.proofs.Common.{sym, ◌∙◌}
 use Rattle.drive_queries.proofs.ends.first_from.Goals as goal
 
 pub returns-then-begins-clause-some : goal.returns-then-begins-clause-some

@@ -1,14 +1,12 @@
-use Rattle.std.proofs.Common.{◌≡◌, ◌≤◌, inl, inr, Some, sym, ◌∙◌, ap, subst, List, Contains, take, get_or, pos}
+use Rattle.std.proofs.Common.{◌≡◌, inl, inr, sym, ◌∙◌, ap, subst, List, Contains, take, get_or, pos}
 use Rattle.std.specs.FinMap.{get}
 use Rattle.std.proofs.lemmas.List.{take_more, take_all}
 use Rattle.road_base.proofs.ListMembers.{contains_more}
 use Rattle.road_base.specs.declared.ids.WayId.{WayId}
 use Rattle.road_model.specs.declared.lists.Piece.{Piece}
-use Rattle.road_model.specs.declared.lists.PieceName.{PieceName}
-use Rattle.drive_queries.specs.declared.ends.Goal.{Goal}
 use Rattle.drive_queries.specs.Ends.{Arrives, pieces_in}
 use Rattle.drive_queries.specs.Visits.{goal_in}
-use Rattle.drive_queries.proofs.SearchGoalsOf.{are_goals, named_in, same_way, pieces_rise}
+use Rattle.drive_queries.proofs.SearchGoalsOf.{are_goals, named_in, same_way}
 use Rattle.drive_queries.proofs.ends.goals_of.Goals as goal
 
 abbrev no_way : WayId

@@ -1,4 +1,3 @@
-use Rattle.std.proofs.Common.{sym, ◌∙◌}
 use Rattle.drive_queries.proofs.ends.last_to.Goals as goal
 
 pub returns-then-stops-clause-some : goal.returns-then-stops-clause-some

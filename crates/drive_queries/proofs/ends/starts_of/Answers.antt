@@ -1,4 +1,4 @@
-use Rattle.std.proofs.Common.{◌≡◌, inl, inr, sym, subst, List, Contains, take, get_or, pos}
+use Rattle.std.proofs.Common.{inl, inr, sym, subst, List, Contains, take, get_or, pos}
 use Rattle.std.specs.FinMap.{get}
 use Rattle.std.proofs.lemmas.List.{take_more, take_all}
 use Rattle.road_base.proofs.ListMembers.{contains_more}

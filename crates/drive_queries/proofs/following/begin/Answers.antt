@@ -1,4 +1,4 @@
-use Rattle.std.proofs.Common.{◌≡◌, map, get_or, sym, subst, Contains}
+use Rattle.std.proofs.Common.{map, sym, subst, Contains}
 use Rattle.std.proofs.lemmas.List.Elements.{Contains-get_or}
 use Rattle.drive_queries.specs.declared.ends.Start.{Start}
 use Rattle.drive_queries.specs.Marks.{at_of}

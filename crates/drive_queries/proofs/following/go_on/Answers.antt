@@ -1,11 +1,11 @@
-use Rattle.std.proofs.Common.{◌≡◌, ◌∙◌, sym, map, length, Some, None, slice_get, Contains, get_or, subst, pos}
+use Rattle.std.proofs.Common.{◌∙◌, sym, map, Contains, get_or, subst, pos}
 use Rattle.std.proofs.lemmas.Option.{slice_get_within}
 use Rattle.std.proofs.lemmas.List.Elements.{Contains-get_or}
 use Rattle.road_model.specs.declared.lists.TurnArc.{TurnArc}
 use Rattle.road_base.specs.declared.ids.Dir.TheVariants.{Forward}
 use Rattle.drive_queries.specs.Marks.{At, at_of}
 use Rattle.drive_queries.proofs.SearchSpots.{spot_read, within_map}
-use Rattle.drive_queries.proofs.SearchMarks.{grows_again, begun_again, grows_same, begun_same, followed_stays}
+use Rattle.drive_queries.proofs.SearchMarks.{grows_again, begun_again, followed_stays}
 use Rattle.drive_queries.proofs.SearchMarks.{same_context, more_followed, all_followed}
 use Rattle.drive_queries.proofs.following.go_on.Goals as goal
 

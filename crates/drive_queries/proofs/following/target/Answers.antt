@@ -1,4 +1,4 @@
-use Rattle.std.proofs.Common.{◌≡◌, ◌-◌, ◌∙◌, ap}
+use Rattle.std.proofs.Common.{◌∙◌, ap}
 use Rattle.drive_queries.specs.Marks.{at_of, names_behind}
 use Rattle.drive_queries.proofs.SearchSpots.{spot_read, no_target, leads_to}
 use Rattle.drive_queries.proofs.following.target.Goals as goal

@@ -1,14 +1,13 @@
 -- The steps that go on one after the other are legal, and the first that doesn't is where the drive is broken.
-use Rattle.std.proofs.Common.{◌+◌, ℕ, [], inl, refl, sym, subst, drop, take}
+use Rattle.std.proofs.Common.{◌+◌, ℕ, [], inl, refl, subst, drop, take}
 use Rattle.road_model.specs.Broken.{Broken}
-use Rattle.drive_queries.specs.Tables.{IsTableOf}
 use Rattle.drive_queries.specs.Verdicts.{broken_rule}
-use Rattle.drive_queries.proofs.JudgedDrives.{first_state, table_has, broken, cut_at, cut_behind, front_length}
+use Rattle.drive_queries.proofs.JudgedDrives.{first_state, table_has, front_lines, broken, cut_at, cut_behind, front_length}
 use Rattle.drive_queries.proofs.judging.judge.Goals as goal
 
 pub loop-at-init : goal.loop-at-init
 loop-at-init g c =
-    let first = first_state c.automaton-automaton.result.now c.closed.ensures.closed in
+    let first = first_state c.args.table.now.automaton c.closed.ensures.closed in
     (first.0, first.1, inl (refl {a = []}))
 
 pub judge_step-requires-clause-words : goal.judge_step-requires-clause-words
@@ -16,9 +15,15 @@ judge_step-requires-clause-words g c =
     let M = g.M.World.objects c.args.world.now in
     let P = g.P.Profile.rules c.args.profile.now in
     let drive = c.args.drive.now in
-    let own = subst (IsTableOf M P drive) (sym c.automaton-automaton.ensures.words) c.requires.own in
     table_has M P drive _ (drop (c.loop-at.at + 1) drive) (cut_behind drive c.loop-at.at _ c.loop-at-test.true)
-    c.automaton-automaton.result.now.words own
+    c.args.table.now.automaton.words c.requires.own.words
+
+pub judge_step-requires-clause-lines : goal.judge_step-requires-clause-lines
+judge_step-requires-clause-lines g c =
+    let M = g.M.World.objects c.args.world.now in
+    let drive = c.args.drive.now in
+    front_lines M c.args.table.now.lines drive _ (drop (c.loop-at.at + 1) drive)
+    (cut_behind drive c.loop-at.at _ c.loop-at-test.true) c.requires.own.lines
 
 pub returns-in-Err : goal.returns-in-Err
 returns-in-Err g c =

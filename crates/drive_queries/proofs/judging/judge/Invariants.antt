@@ -6,5 +6,5 @@ use Rattle.drive_queries.proofs.judging.judge.Given as goal
 -- the steps so far are legal, and the state is theirs
 abbrev pub invariant-loop-at : goal.invariant-loop-at
 invariant-loop-at g l =
-    (l.state.0 < length l.automaton.states) × Watches l.automaton l.state.0 (take l.at l.drive)
+    (l.state.0 < length l.table.automaton.states) × Watches l.table.automaton l.state.0 (take l.at l.drive)
     × Begun (g.M.World.objects l.world) (g.P.Profile.rules l.profile) (take l.at l.drive)

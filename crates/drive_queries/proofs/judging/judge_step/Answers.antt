@@ -7,7 +7,7 @@ returns-in-Some-go-clause-goes g c =
     let M = g.M.World.objects c.args.world.now in
     let P = g.P.Profile.rules c.args.profile.now in
     let before = c.args.before.now in
-    let words = c.args.automaton.now.words in
+    let words = c.args.table.now.automaton.words in
     let stopped = c.go.ensures.stopped before c.requires.watches in
     let some = c.in-Some-go.is in
     keeps_on M P before c.args.step words c.requires.words c.in_default.ensures.none
@@ -18,5 +18,5 @@ returns-in-Some-go-clause-goes g c =
 pub returns-in-None-clause-breaks : goal.returns-in-None-clause-breaks
 returns-in-None-clause-breaks g c =
     word_breaks (g.M.World.objects c.args.world.now) (g.P.Profile.rules c.args.profile.now) c.args.before.now
-    c.args.step c.args.automaton.now.words c.requires.words c.in_default.ensures.none c.word_rule.result
+    c.args.step c.args.table.now.automaton.words c.requires.words c.in_default.ensures.none c.word_rule.result
     c.word_rule.ensures

@@ -1,4 +1,4 @@
-use Rattle.std.proofs.Common.{sym, subst, Contains, List, ℕ}
+use Rattle.std.proofs.Common.{subst, Contains, List, ℕ}
 use Rattle.drive_queries.proofs.SearchRoutes.{chain_within}
 use Rattle.drive_queries.proofs.routes.along.Goals as goal
 

@@ -1,52 +1,66 @@
--- A step that may be driven and doesn't pass is apart, or goes back where it may not turn, or goes on at a shut node.
+-- A step that may be driven is apart, or goes back where it may not turn, or goes on at a shut node, or passes.
 use Rattle.std.proofs.Common.{Some, sym, ap, ◌∙◌}
 use Rattle.std.proofs.lemmas.Bool.{false≢true}
-use Rattle.drive_queries.proofs.JudgedSteps.{breaks_apart, breaks_back, breaks_on, none_is_some, same_node, other_node}
-use Rattle.drive_queries.proofs.JudgedSteps.{both_some}
+use Rattle.drive_queries.proofs.JudgedSteps.{breaks_apart, breaks_back, breaks_on, same_node, other_node, both_some}
+use Rattle.drive_queries.proofs.JudgedSteps.{begins_nowhere, ends_nowhere, goes_back, goes_elsewhere, shut_stops, open_passes}
 use Rattle.drive_queries.proofs.step_rules.rule_between.Goals as goal
 
 pub returns-in_default-clause-some : goal.returns-in_default-clause-some
 returns-in_default-clause-some g c before behind =
     let M = g.M.World.objects c.args.world.now in
     let P = g.P.Profile.rules c.args.profile.now in
-    breaks_apart M P before c.args.last c.args.step c.requires behind
-    (λ v m. none_is_some _ v (sym c.head.ensures ∙ c.in_default.is) m.from)
+    breaks_apart M P before c.args.last c.args.step c.requires.drives behind
+    (λ v m. ends_nowhere M c.args.last (c.in_default.ensures.none M c.requires.from) v m.from)
 
-pub returns-in_default-tail-clause-some : goal.returns-in_default-tail-clause-some
-returns-in_default-tail-clause-some g c before behind =
+pub returns-in_default-ends_in-clause-some : goal.returns-in_default-ends_in-clause-some
+returns-in_default-ends_in-clause-some g c before behind =
     let M = g.M.World.objects c.args.world.now in
     let P = g.P.Profile.rules c.args.profile.now in
-    breaks_apart M P before c.args.last c.args.step c.requires behind
-    (λ v m. none_is_some _ v (sym c.tail.ensures ∙ c.in_default-tail.is) m.to)
+    breaks_apart M P before c.args.last c.args.step c.requires.drives behind
+    (λ v m. begins_nowhere M c.args.step (c.in_default-ends_in.ensures.none M c.requires.to) v m.to)
 
 pub returns-then-ne-clause-some : goal.returns-then-ne-clause-some
 returns-then-ne-clause-some g c before behind =
     let M = g.M.World.objects c.args.world.now in
     let P = g.P.Profile.rules c.args.profile.now in
-    let from = sym c.head.ensures ∙ c.in-Some.is in
-    let to = sym c.tail.ensures ∙ c.in-Some-tail.is in
-    breaks_apart M P before c.args.last c.args.step c.requires behind
-    (λ v m. other_node c.in-Some.from c.in-Some-tail.node (sym c.ne.ensures ∙ c.if-ne.true)
-    (both_some _ _ c.in-Some.from c.in-Some-tail.node v from to m.from m.to))
+    let from = c.in-Some.ensures.some M c.requires.from in
+    let to = c.in-Some-ends_in.ensures.some M c.requires.to in
+    breaks_apart M P before c.args.last c.args.step c.requires.drives behind
+    (λ v m. other_node c.in-Some.at c.in-Some-ends_in.node (sym c.ne.ensures ∙ c.if-ne.true)
+    (both_some _ _ c.in-Some.at c.in-Some-ends_in.node v from.1 to.0 m.from m.to))
 
-pub returns-then-goes_back-clause-some : goal.returns-then-goes_back-clause-some
-returns-then-goes_back-clause-some g c before behind =
+pub returns-else-pass-clause-some : goal.returns-else-pass-clause-some
+returns-else-pass-clause-some g c before behind =
     let M = g.M.World.objects c.args.world.now in
     let P = g.P.Profile.rules c.args.profile.now in
-    let same = same_node c.in-Some.from c.in-Some-tail.node (sym c.ne.ensures ∙ c.if-ne.false) in
-    let from = sym c.head.ensures ∙ c.in-Some.is ∙ ap Some same in
-    let to = sym c.tail.ensures ∙ c.in-Some-tail.is in
-    breaks_back M P before c.args.last c.args.step c.requires behind c.in-Some-tail.node
-    (record { from = from; to = to }) (λ p. false≢true (sym c.if-pass.false ∙ c.pass.ensures.1 p))
-    (c.goes_back.ensures.0 c.if-goes_back.true)
+    let from = c.in-Some.ensures.some M c.requires.from in
+    let to = c.in-Some-ends_in.ensures.some M c.requires.to in
+    let same = same_node c.in-Some.at c.in-Some-ends_in.node (sym c.ne.ensures ∙ c.if-ne.false) in
+    breaks_back M P before c.args.last c.args.step c.requires.drives behind c.in-Some-ends_in.node
+    (record { from = from.1 ∙ ap Some same; to = to.0 }) (λ p. false≢true (sym c.if-pass.false ∙ c.pass.ensures.1 p))
+    (goes_back M c.args.last c.args.step c.in-Some.from c.in-Some-ends_in.to from.0 to.1 (sym c.eq.ensures ∙ c.if-eq.true))
 
-pub returns-else-goes_back-clause-some : goal.returns-else-goes_back-clause-some
-returns-else-goes_back-clause-some g c before behind =
+pub returns-then-is_shut-clause-some : goal.returns-then-is_shut-clause-some
+returns-then-is_shut-clause-some g c before behind =
     let M = g.M.World.objects c.args.world.now in
     let P = g.P.Profile.rules c.args.profile.now in
-    let same = same_node c.in-Some.from c.in-Some-tail.node (sym c.ne.ensures ∙ c.if-ne.false) in
-    let from = sym c.head.ensures ∙ c.in-Some.is ∙ ap Some same in
-    let to = sym c.tail.ensures ∙ c.in-Some-tail.is in
-    breaks_on M P before c.args.last c.args.step c.requires behind c.in-Some-tail.node
-    (record { from = from; to = to }) (λ p. false≢true (sym c.if-pass.false ∙ c.pass.ensures.1 p))
-    (λ e. false≢true (sym c.if-goes_back.false ∙ c.goes_back.ensures.1 e))
+    let from = c.in-Some.ensures.some M c.requires.from in
+    let to = c.in-Some-ends_in.ensures.some M c.requires.to in
+    let same = same_node c.in-Some.at c.in-Some-ends_in.node (sym c.ne.ensures ∙ c.if-ne.false) in
+    let on = goes_elsewhere M c.args.last c.args.step c.in-Some.from c.in-Some-ends_in.to from.0 to.1
+    (sym c.eq.ensures ∙ c.if-eq.false) in
+    breaks_on M P before c.args.last c.args.step c.requires.drives behind c.in-Some-ends_in.node
+    (record { from = from.1 ∙ ap Some same; to = to.0 })
+    (shut_stops M P c.args.last c.args.step c.in-Some-ends_in.node to.0 on (sym c.is_shut.ensures ∙ c.if-is_shut.true)) on
+
+pub returns-else-is_shut-clause-none : goal.returns-else-is_shut-clause-none
+returns-else-is_shut-clause-none g c =
+    let M = g.M.World.objects c.args.world.now in
+    let P = g.P.Profile.rules c.args.profile.now in
+    let from = c.in-Some.ensures.some M c.requires.from in
+    let to = c.in-Some-ends_in.ensures.some M c.requires.to in
+    let same = same_node c.in-Some.at c.in-Some-ends_in.node (sym c.ne.ensures ∙ c.if-ne.false) in
+    let on = goes_elsewhere M c.args.last c.args.step c.in-Some.from c.in-Some-ends_in.to from.0 to.1
+    (sym c.eq.ensures ∙ c.if-eq.false) in
+    open_passes M P c.args.last c.args.step c.in-Some-ends_in.node (from.1 ∙ ap Some same) to.0 on
+    (sym c.is_shut.ensures ∙ c.if-is_shut.false)

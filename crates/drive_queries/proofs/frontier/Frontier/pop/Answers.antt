@@ -1,4 +1,3 @@
-use Rattle.std.proofs.Common.{rules}
 use Rattle.drive_queries.proofs.SearchFrontier.{popped}
 use Rattle.drive_queries.proofs.frontier.Frontier.pop.Goals as goal
 use Rattle.drive_queries.proofs.frontier.Frontier.pop.Goals.{in-Some, in-None}
