@@ -12,6 +12,8 @@ mod access_profile_tests;
 mod back_references_tests;
 #[cfg(test)]
 mod barrier_rules_tests;
+#[cfg(test)]
+mod drive_queries_tests;
 pub mod makers;
 #[cfg(test)]
 mod object_codec_tests;
