@@ -81,13 +81,16 @@ module _ (M : Objects) (keys : List Key) where
         | inr g ↦ within_next n g.0 (WayKey w) (round.sound g.0 (round.frontier g.0 g.1)) g.2.0
       ],
       λ i. elim (within_cases n (WayKey w) i) [
-        | inl before ↦ h.keeps (WayKey w) (subst (λ l. Contains l (WayKey w)) (sym same) (round.complete (WayKey w) before))
+        | inl before ↦ still w (round.complete (WayKey w) before)
         | inr (a, near, link) ↦ elim (round.followed a (WayKey w) (round.complete a near) link) [
-          | inl seen ↦ h.keeps (WayKey w) (subst (λ l. Contains l (WayKey w)) (sym same) seen)
+          | inl seen ↦ still w seen
           | inr waits ↦ h.complete (WayKey w) (a, waits, (link, tt))
         ]
       ],
     )
+      where
+        still : (v : WayId) → IsSeen s (WayKey v) → IsSeen u (WayKey v)
+        still v i = h.keeps (WayKey v) (subst (λ l. Contains l (WayKey v)) (sym same) i)
 
     pub round_more : (front : List Key) → front ≡ s.frontier.items → Sees t u (GivenBy (IsLink M) front)
         → IsRound M keys (n + 1) u

@@ -1,5 +1,6 @@
 -- The ways among keys in order.
-use Rattle.std.proofs.Common.{◌≡◌, ◌⊎◌, inl, inr, IsTrue, List, [], ◌∷◌, ◌++◌, ◌∙◌, append_assoc, append-nil, map, refl, sym, ap, subst, Contains}
+use Rattle.std.proofs.Common.{◌≡◌, ◌⊎◌, inl, inr, IsTrue, List, [], ◌∷◌, ◌++◌, ◌∙◌, append_assoc, append-nil, map, refl}
+use Rattle.std.proofs.Common.{sym, ap, subst, Contains}
 use Rattle.std.specs.List.{AllByRecursion, filter_map}
 use Rattle.std.specs.List.Sorted.{IsStrictlySortedBy}
 use Rattle.std.specs.declared.cmp.Ordering.TheVariants.{Less}
@@ -50,7 +51,8 @@ no_way (RelationKey r) rest none = refl
 
 pub other_more : (ways : List WayId) (key : Key) (ks rest : List Key) (all : List WayId) → ks ≡ key ∷ rest
     → ((w : WayId) → key ≡ WayKey w → ⊥) → ways ++ filter_map way_in ks ≡ all → ways ++ filter_map way_in rest ≡ all
-other_more ways key ks rest all e none h = ap (λ l. ways ++ l) (sym (ap (filter_map way_in) e ∙ no_way key rest none)) ∙ h
+other_more ways key ks rest all e none h =
+    ap (λ l. ways ++ l) (sym (ap (filter_map way_in) e ∙ no_way key rest none)) ∙ h
 
 pub none_more : (ways : List WayId) (ks : List Key) (all : List WayId) → ks ≡ []
     → ways ++ filter_map way_in ks ≡ all → ways ≡ all
@@ -95,7 +97,8 @@ pub merged_ways : (s t u : Search) (first second before after : List WayId) → 
     → Lists (λ w. w) way_cmp (λ w. IsSeen u (WayKey w)) ways
     → Lists (λ w. w) way_cmp (λ w. Contains before w ⊎ Contains after w) ways
 merged_ways s t u first second before after none p q h g ways lists =
-    lists_same (λ w. w) way_cmp (λ w. IsSeen u (WayKey w)) (λ w. Contains before w ⊎ Contains after w) ways lists to from
+    lists_same (λ w. w) way_cmp (λ w. IsSeen u (WayKey w)) (λ w. Contains before w ⊎ Contains after w) ways lists
+    to from
   where
     given : (l : List WayId) (w : WayId) → GivenBy (λ v k. k ≡ WayKey v) l (WayKey w) → Contains l w
     given l w (v, has, is) = let e : v ≡ w = cc in subst (Contains l) e has

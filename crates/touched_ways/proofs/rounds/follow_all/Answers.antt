@@ -7,10 +7,10 @@ loop-key-init g c = sees_first (IsLink (g.M.World.objects c.args.world.now)) c.a
 
 pub loop-key-preserved : goal.loop-key-preserved
 loop-key-preserved g c =
-    sees_next (IsLink (g.M.World.objects c.args.world.now)) c.args.search.now c.loop-key.search c.follow.new.search c.args.keys.now
-    c.loop-key.key-index _ c.loop-key-test.true c.loop-key.invariant c.in_ok-follow.ensures
+    sees_next (IsLink (g.M.World.objects c.args.world.now)) c.args.search.now c.loop-key.search c.follow.new.search
+    c.args.keys.now c.loop-key.key-index _ c.loop-key-test.true c.loop-key.invariant c.in_ok-follow.ensures
 
 pub returns : goal.returns
 returns g c =
-    sees_all (IsLink (g.M.World.objects c.args.world.now)) c.args.search.now c.loop-key.search c.args.keys.now c.loop-key.key-index
-    c.loop-key-test.false c.loop-key.invariant
+    sees_all (IsLink (g.M.World.objects c.args.world.now)) c.args.search.now c.loop-key.search c.args.keys.now
+    c.loop-key.key-index c.loop-key-test.false c.loop-key.invariant

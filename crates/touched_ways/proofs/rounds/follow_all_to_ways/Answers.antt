@@ -7,10 +7,11 @@ loop-key-init g c = sees_first (IsWayLink (g.M.World.objects c.args.world.now)) 
 
 pub loop-key-preserved : goal.loop-key-preserved
 loop-key-preserved g c =
-    sees_next (IsWayLink (g.M.World.objects c.args.world.now)) c.args.search.now c.loop-key.search c.follow_to_ways.new.search c.args.keys.now
-    c.loop-key.key-index _ c.loop-key-test.true c.loop-key.invariant c.in_ok-follow_to_ways.ensures
+    sees_next (IsWayLink (g.M.World.objects c.args.world.now)) c.args.search.now c.loop-key.search
+    c.follow_to_ways.new.search c.args.keys.now c.loop-key.key-index _ c.loop-key-test.true c.loop-key.invariant
+    c.in_ok-follow_to_ways.ensures
 
 pub returns : goal.returns
 returns g c =
-    sees_all (IsWayLink (g.M.World.objects c.args.world.now)) c.args.search.now c.loop-key.search c.args.keys.now c.loop-key.key-index
-    c.loop-key-test.false c.loop-key.invariant
+    sees_all (IsWayLink (g.M.World.objects c.args.world.now)) c.args.search.now c.loop-key.search c.args.keys.now
+    c.loop-key.key-index c.loop-key-test.false c.loop-key.invariant

@@ -6,11 +6,14 @@ use Rattle.touched_ways.proofs.search.Search.see_node_or_way.Goals as goal
 
 pub returns-in-Node : goal.returns-in-Node
 returns-in-Node c = on_ok_weaker c.see.result
-    (sees_if c.args.self.now c.see.new.self c.args.key IsNodeOrWay (subst IsNodeOrWay (sym c.in-Node.is) tt)) c.see.ensures
+    (sees_if c.args.self.now c.see.new.self c.args.key IsNodeOrWay (subst IsNodeOrWay (sym c.in-Node.is) tt))
+    c.see.ensures
 
 pub returns-in-Way : goal.returns-in-Way
 returns-in-Way c = on_ok_weaker c.see-in-Way.result
-    (sees_if c.args.self.now c.see-in-Way.new.self c.args.key IsNodeOrWay (subst IsNodeOrWay (sym c.in-Way.is) tt)) c.see-in-Way.ensures
+    (sees_if c.args.self.now c.see-in-Way.new.self c.args.key IsNodeOrWay (subst IsNodeOrWay (sym c.in-Way.is) tt))
+    c.see-in-Way.ensures
 
 pub returns-in-Relation : goal.returns-in-Relation
-returns-in-Relation c = sees_not c.args.self.now c.args.key IsNodeOrWay (λ p. absurd (subst IsNodeOrWay c.in-Relation.is p))
+returns-in-Relation c =
+    sees_not c.args.self.now c.args.key IsNodeOrWay (λ p. absurd (subst IsNodeOrWay c.in-Relation.is p))
