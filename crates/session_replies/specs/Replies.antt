@@ -34,3 +34,24 @@ pub record IsStateReply (M : Objects) (P : Rules) (kept : ℕ) (out : List ℕ) 
   pub blocks : FinMap way_cmp Block
   pub are : AreBlocksOf M P blocks
   pub spelled : out ≡ state_line kept (totals_of (blocks_in blocks))
+
+-- a line that is answered by itself: it begins no frame, and a drive that is asked about has a step
+abbrev pub IsQuery : Asked → Type 0
+IsQuery Empty = Unit {0}
+IsQuery (Seq n) = ⊥
+IsQuery Graph = Unit {0}
+IsQuery State = Unit {0}
+IsQuery (Drive d) = d ≢ []
+IsQuery (Reach a b) = Unit {0}
+IsQuery Unknown = Unit {0}
+
+-- What a line is answered with, over the objects and the kept number. A line without a word gets nothing. A line that
+-- begins a frame is answered with its frame, and so isn't meant here.
+abbrev pub IsReply : Objects → Rules → ℕ → Asked → List ℕ → Type 0
+IsReply M P kept Empty out = out ≡ []
+IsReply M P kept (Seq n) out = ⊥
+IsReply M P kept Graph out = IsGraphReply M P out
+IsReply M P kept State out = IsStateReply M P kept out
+IsReply M P kept (Drive d) out = (verdict : Verdict) × IsVerdict M P d verdict × (out ≡ verdict_line verdict)
+IsReply M P kept (Reach a b) out = (found : Found) × IsFound M P a b found × (out ≡ found_line found)
+IsReply M P kept Unknown out = out ≡ unknown_line

@@ -10,6 +10,5 @@ mod reply;
 mod texts;
 
 pub use frames::{applied, refused_fault, refused_sequence, unfinished};
-pub use queries::{drive_reply, graph_reply, line_alone, state_reply};
+pub use queries::reply_to;
 pub use reply::Reply;
-pub use texts::{found_reply, unknown};

@@ -1,21 +1,44 @@
 //! The replies to lines.
 ghost use Rattle.std.specs.Prelude.{◌≡◌, ◌≢◌, [], IfOk};
 ghost use Rattle.drive_queries.specs.Verdicts.{IsVerdict};
-ghost use Rattle.session_replies.specs.Replies.{IsGraphReply, IsStateReply, said};
-ghost use Rattle.session_replies.specs.Texts.{verdict_line};
+ghost use Rattle.drive_queries.specs.Reaching.{IsFound};
+ghost use Rattle.session_replies.specs.Replies.{IsQuery, IsReply, IsGraphReply, IsStateReply, said};
+ghost use Rattle.session_replies.specs.Texts.{verdict_line, found_line};
 
 use crate::reply::Reply;
-use crate::texts::{graph_head, state, verdict_reply};
+use crate::texts::{found_reply, graph_head, state, unknown, verdict_reply};
 use change_apply::Engine;
-use drive_queries::{WordTable, counts, judge};
+use drive_queries::{Asked, WordTable, counts, judge, reach};
 use graph_file::write;
-use road_base::{NoMemory, Sequence, Step};
+use road_base::{NoMemory, NodeId, Sequence, Step};
 use road_model::Profile;
 use road_model::laws::walk_law;
 use std::alloc::Global;
 
+/// The reply to a line that is answered by itself. The kept number is that of the last change.
+pub fn reply_to<P: Profile>(
+    alloc: Global,
+    engine: &Engine<P>,
+    kept: Sequence,
+    asked: &Asked,
+) -> Result<Reply, NoMemory>
+    requires number { (P.rules engine.now.profile).number ≡ 1 }
+    requires query { IsQuery asked.now }
+    ensures { IfOk result (λ r. IsReply engine.now.world (P.rules engine.now.profile) kept.0 asked.now (said r)) }
+{
+    match asked {
+        Asked::Empty => Ok(line_alone(alloc, Vec::new(alloc))),
+        Asked::Seq(_) => unreachable!(),
+        Asked::Graph => graph_reply(alloc, engine),
+        Asked::State => state_reply(alloc, engine, kept),
+        Asked::Drive(drive) => drive_reply(alloc, engine, drive.items()),
+        Asked::Reach(a, b) => reach_reply(alloc, engine, *a, *b),
+        Asked::Unknown => Ok(line_alone(alloc, unknown(alloc)?)),
+    }
+}
+
 /// A line with no graph behind it.
-pub fn line_alone(alloc: Global, line: Vec<u8>) -> Reply
+fn line_alone(alloc: Global, line: Vec<u8>) -> Reply
     ensures { said result ≡ line.items }
 {
     Reply {
@@ -25,7 +48,7 @@ pub fn line_alone(alloc: Global, line: Vec<u8>) -> Reply
 }
 
 /// The graph's bytes, behind a line that tells how many there are.
-pub fn graph_reply<P: Profile>(alloc: Global, engine: &Engine<P>) -> Result<Reply, NoMemory>
+fn graph_reply<P: Profile>(alloc: Global, engine: &Engine<P>) -> Result<Reply, NoMemory>
     requires { (P.rules engine.now.profile).number ≡ 1 }
     ensures { IfOk result (λ r. IsGraphReply engine.now.world (P.rules engine.now.profile) (said r)) }
 {
@@ -38,7 +61,7 @@ pub fn graph_reply<P: Profile>(alloc: Global, engine: &Engine<P>) -> Result<Repl
 }
 
 /// The kept number, and how large the graph is.
-pub fn state_reply<P: Profile>(
+fn state_reply<P: Profile>(
     alloc: Global,
     engine: &Engine<P>,
     kept: Sequence,
@@ -50,7 +73,7 @@ pub fn state_reply<P: Profile>(
 }
 
 /// Whether the drive is legal, and else the first rule that it breaks. It has one step at least.
-pub fn drive_reply<P: Profile>(
+fn drive_reply<P: Profile>(
     alloc: Global,
     engine: &Engine<P>,
     drive: &[Step],
@@ -64,4 +87,20 @@ pub fn drive_reply<P: Profile>(
     let table = WordTable::of(alloc, engine.world(), &profile, drive)?;
     let verdict = judge(engine.world(), &profile, &table, drive);
     Ok(line_alone(alloc, verdict_reply(alloc, &verdict)?))
+}
+
+/// A drive from node a to node b.
+fn reach_reply<P: Profile>(
+    alloc: Global,
+    engine: &Engine<P>,
+    a: NodeId,
+    b: NodeId,
+) -> Result<Reply, NoMemory>
+    ensures { IfOk result (λ r. (found : _)
+        × IsFound engine.now.world (P.rules engine.now.profile) a b found
+        × (said r ≡ found_line found)) }
+{
+    let profile = engine.profile();
+    let found = reach(alloc, engine.world(), &profile, engine.blocks(), a, b)?;
+    Ok(line_alone(alloc, found_reply(alloc, &found)?))
 }

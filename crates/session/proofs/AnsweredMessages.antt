@@ -1,0 +1,203 @@
+-- What an answer to a message leaves.
+use Rattle.std.proofs.Common.{◌≡◌, ◌⊎◌, inl, inr, ⊎_elim, ℕ, ◌+◌, ◌-◌, ◌<◌, ◌≤◌, ◌^◌, List, [], ◌∷◌, ◌++◌, length}
+use Rattle.std.proofs.Common.{true, false, Result, Ok, Err, IfErr, refl, sym, ◌∙◌, ap, subst, arith, codes}
+use Rattle.std.proofs.Common.{length-append}
+use Rattle.std.proofs.lemmas.List.{append-nil}
+use Rattle.std.specs.Io.{StartsWith}
+use Rattle.std.specs.Fmt.{decimal}
+use Rattle.road_base.specs.declared.event.Event.{Event}
+use Rattle.road_base.specs.declared.ids.Sequence.{Sequence}
+use Rattle.road_base.specs.History.{kept}
+use Rattle.road_base.specs.Objects.{Objects}
+use Rattle.road_base.specs.Applying.{IsApplied}
+use Rattle.road_model.specs.Rules.{Rules}
+use Rattle.object_codec.specs.Spelling.{events_bytes}
+use Rattle.opl_lexer.specs.declared.mode.Mode.TheVariants.{Change}
+use Rattle.opl_lexer.specs.Reading.{ReadAll}
+use Rattle.road_io.specs.Outside.{Outside, Left, LeavesOnly, image_of}
+use Rattle.road_io.proofs.CallRuns.{then_runs, only_weaker}
+use Rattle.sequence_journal.specs.declared.error.JournalError.{JournalError}
+use Rattle.sequence_journal.specs.declared.error.JournalError.TheVariants.{OutOfSequence, Damaged, NoStore, StoreExists}
+use Rattle.sequence_journal.specs.declared.error.JournalError.TheVariants.{SiteFault as SiteFaultError, TooLarge}
+use Rattle.sequence_journal.specs.declared.error.JournalError.TheVariants.{NoMemory as NoMemoryError}
+use Rattle.sequence_journal.specs.declared.journal.Journal.{Journal}
+use Rattle.sequence_journal.specs.Adding.{IsNext, Adds, AddAnswer, MayAdd, moved_on}
+use Rattle.store_switch.specs.TwoFiles.{StandFor, LeavesEither}
+use Rattle.session_input.specs.Messages.{Message, Line, Frame}
+use Rattle.session_replies.specs.Texts.{applied_line}
+use Rattle.session.specs.declared.stop.Stop.{Stop}
+use Rattle.session.specs.declared.stop.Stop.TheVariants.{SiteFault, Limit, NoMemory}
+use Rattle.session.specs.StoreLaws.{StoreLaws}
+use Rattle.session.specs.Conversation.{Kept, Replied, Accepted, room_at, with_record, record_size}
+use Rattle.session.specs.Conversing.{LeavesReply}
+use Rattle.session.specs.Putting.{LeavesPut, PutsOn}
+use Rattle.session.specs.Answering.{IsKept, Answers, stop_of}
+use Rattle.session.proofs.OutputFronts.{starts_whole, starts_front, nothing_put}
+use Rattle.session.proofs.KeptStores.{images_stand, kept_still}
+
+-- ---- a reply that changes nothing
+
+module _ (laws : StoreLaws) (P : Rules) (world : Objects) (journal : Journal) (from : Kept) (message : Message) where
+  put_leaves : (piece : List ℕ) (w : Outside) (left : Left) → IsKept world journal from w → LeavesPut piece w left
+      → LeavesReply from from w.output piece left
+  put_leaves piece w left k l =
+      let stands = images_stand laws journal from.history w left k.on_store l.a l.b in
+      record { begins = l.begins; within = l.within; files = inl stands; whole = λ all. stands }
+
+  pub put_answers : (piece : List ℕ) (result : Result (Unit {0}) Stop) (w v : Outside)
+      → IfErr result (λ e. e ≡ SiteFault) → PutsOn piece result w v → IsKept world journal from w
+      → Replied P from message piece from → Answers P from message world journal result w v
+  put_answers piece (Ok x) w v named p k r = record {
+    reply = piece;
+    to = from;
+    replied = r;
+    kept = kept_still w v p.same_a p.same_b laws world journal from k;
+    grows = p.grows ∙ ap (λ (l : List ℕ). w.output ++ l) p.whole;
+    only = only_weaker w v (LeavesPut piece w) (LeavesReply from from w.output piece) p.only
+        (λ left l. put_leaves piece w left k l);
+  }
+  put_answers piece (Err SiteFault) w v named p k r = record {
+    reply = piece;
+    to = from;
+    replied = r;
+    n = length p.put;
+    grows = p.grows ∙ ap (λ (l : List ℕ). w.output ++ l) (sym p.front);
+    only = only_weaker w v (LeavesPut piece w) (LeavesReply from from w.output piece) p.only
+        (λ left l. put_leaves piece w left k l);
+  }
+  put_answers piece (Err Limit) w v named p k r = let e : Limit ≡ SiteFault = named in cc
+  put_answers piece (Err NoMemory) w v named p k r = let e : NoMemory ≡ SiteFault = named in cc
+
+-- ---- a change that is added
+
+line_some : (n : ℕ) → 0 < length (applied_line n)
+line_some n = omega (arith, length-append (codes "applied ") (decimal n ++ 10 ∷ []))
+
+room_enough : (gate size room : ℕ) → room ≡ room_at gate → gate + (18 + size) ≤ 2 ^ 40 → 17 + size ≤ room
+room_enough gate size room is fits = omega (arith, is, fits)
+
+room_short : (gate size room : ℕ) → room ≡ room_at gate → 2 ^ 40 < gate + (18 + size) → room < 17 + size
+room_short gate size room is full = omega (arith, is, full)
+
+room_then : (gate size room : ℕ) → room ≡ room_at gate → room - (17 + size) ≡ room_at (gate + (17 + size))
+room_then gate size room is = omega (arith, is)
+
+module _ (laws : StoreLaws) (P : Rules) (number : Sequence) (body : List ℕ) (events : List Event) (old new : Journal)
+    (world after : Objects) (from : Kept) where
+  abbrev line : List ℕ
+  line = applied_line number.0
+
+  abbrev to : Kept
+  to = with_record from events
+
+  follows : (w : Outside) → IsKept world old from w → IsNext old number → number.0 ≡ kept from.history + 1
+  follows w k next = next ∙ ap (λ (m : ℕ). m + 1) k.on_store.at.last
+
+  replied : (w : Outside) → MayAdd old number events → IsKept world old from w → ReadAll Change body events
+      → Replied P from (Frame number.0 body) line to
+  replied w may k gives = Accepted events (record {
+    next = follows w k may.next;
+    gives = gives;
+    fits = room_enough old.gate (length (events_bytes events)) from.room k.room may.room;
+  }) refl refl
+
+  added_moments : (result : Result (Unit {0}) JournalError) (w v : Outside) → IsKept world old from w
+      → Adds old new events result w v → LeavesOnly w v (LeavesReply from to w.output line)
+  added_moments result w v k adds =
+      only_weaker w v (LeavesEither from.history events w.output) (LeavesReply from to w.output line)
+      (laws.added old new from.history events result w v k.on_store adds)
+      (λ left e. record {
+        begins = subst (λ (o : List ℕ). StartsWith o w.output) (sym e.out) (starts_whole w.output);
+        within = subst (λ (o : List ℕ). StartsWith (w.output ++ line) o) (sym e.out) (starts_front w.output line);
+        files = e.files;
+        whole = λ all. absurd (nothing_put w.output line left.out (line_some number.0)
+            (subst (λ (o : List ℕ). StartsWith w.output o) (sym e.out) (starts_whole w.output)) all);
+      })
+
+  module _ (before now : ℕ) (x : Unit {0}) (answer : AddAnswer old new number events (Ok x) before now)
+      (applied : IsApplied world events after) (gives : ReadAll Change body events) where
+    kept_then : (w v : Outside) → IsKept world old from w → Adds old new events (Ok x) w v → IsKept after new to v
+    kept_then w v k adds = record {
+      on_store = laws.ok old new from.history number events x w v before now k.on_store answer adds;
+      small = laws.small old new from.history number events x w v before now k.on_store answer adds;
+      objects = laws.grows from.history events world after k.objects applied;
+      room = room_then old.gate (length (events_bytes events)) from.room k.room
+          ∙ ap (λ (j : Journal). room_at j.gate) (sym answer.1);
+    }
+
+    -- the change is kept, and then it is told so
+    pub added_answers : (result : Result (Unit {0}) Stop) (w u v : Outside) → IfErr result (λ e. e ≡ SiteFault)
+        → IsKept world old from w → Adds old new events (Ok x) w u → PutsOn line result u v
+        → Answers P from (Frame number.0 body) after new result w v
+    added_answers result w u v named k adds p = go result named p
+      where
+        stored : IsKept after new to u
+        stored = kept_then w u k adds
+
+        out : u.output ≡ w.output
+        out = (adds from.history k.on_store.at).output
+
+        moments : LeavesOnly u v (LeavesPut line u) → LeavesOnly w v (LeavesReply from to w.output line)
+        moments only = then_runs w u v (LeavesReply from to w.output line) (LeavesPut line u)
+            (added_moments (Ok x) w u k adds) only
+            (λ left l. let stands = images_stand laws new to.history u left stored.on_store l.a l.b in record {
+              begins = subst (λ (o : List ℕ). StartsWith left.out o) out l.begins;
+              within = subst (λ (o : List ℕ). StartsWith (o ++ line) left.out) out l.within;
+              files = inr stands;
+              whole = λ all. stands;
+            })
+
+        go : (r : Result (Unit {0}) Stop) → IfErr r (λ e. e ≡ SiteFault) → PutsOn line r u v
+            → Answers P from (Frame number.0 body) after new r w v
+        go (Ok y) is q = record {
+          reply = line;
+          to = to;
+          replied = replied w answer.0 k gives;
+          kept = kept_still u v q.same_a q.same_b laws after new to stored;
+          grows = q.grows ∙ ap (λ (l : List ℕ). l ++ q.put) out ∙ ap (λ (l : List ℕ). w.output ++ l) q.whole;
+          only = moments q.only;
+        }
+        go (Err SiteFault) is q = record {
+          reply = line;
+          to = to;
+          replied = replied w answer.0 k gives;
+          n = length q.put;
+          grows = q.grows ∙ ap (λ (l : List ℕ). l ++ q.put) out ∙ ap (λ (l : List ℕ). w.output ++ l) (sym q.front);
+          only = moments q.only;
+        }
+        go (Err Limit) is q = let e : Limit ≡ SiteFault = is in cc
+        go (Err NoMemory) is q = let e : NoMemory ≡ SiteFault = is in cc
+
+  -- the change isn't added
+  pub added_fails : (before now : ℕ) (e : JournalError) (w v : Outside) → old.closed ≡ false
+      → AddAnswer old new number events (Err e) before now → ReadAll Change body events → IsKept world old from w
+      → Adds old new events (Err e) w v → Answers P from (Frame number.0 body) after new (Err (stop_of e)) w v
+  added_fails before now (OutOfSequence a b) w v alive answer gives k adds = adds
+  added_fails before now TooLarge w v alive answer gives k adds = (
+    record {
+      next = follows w k answer.1;
+      events = events;
+      gives = gives;
+      full = room_short old.gate (length (events_bytes events)) from.room k.room answer.2;
+    },
+    adds,
+  )
+  added_fails before now NoMemoryError w v alive answer gives k adds = adds
+  added_fails before now SiteFaultError w v alive answer gives k adds = record {
+    reply = line;
+    to = to;
+    replied = replied w may k gives;
+    n = 0;
+    grows = out ∙ sym (append-nil w.output);
+    only = added_moments (Err SiteFaultError) w v k adds;
+  }
+    where
+      may : MayAdd old number events
+      may = ⊎_elim (λ closed. let e : false ≡ true = sym alive ∙ closed.0 in cc) (λ m. m.0) answer.0
+
+      out : v.output ≡ w.output
+      out = ⊎_elim (λ closed. let e : false ≡ true = sym alive ∙ closed.0 in cc)
+          (λ a. (a.1 from.history k.on_store.at).output) adds
+  added_fails before now (Damaged file offset) w v alive answer gives k adds = absurd answer
+  added_fails before now NoStore w v alive answer gives k adds = absurd answer
+  added_fails before now StoreExists w v alive answer gives k adds = absurd answer

@@ -1,0 +1,354 @@
+-- How a session ends, by what it says last.
+use Rattle.std.proofs.Common.{◌≡◌, ◌≢◌, ◌⊎◌, inl, inr, ℕ, ◌<◌, List, [], ◌∷◌, ◌++◌, length, take, Option, Result, Ok, Err}
+use Rattle.std.proofs.Common.{refl, sym, ◌∙◌, ap, subst, append_assoc, arith}
+use Rattle.std.proofs.lemmas.List.{append-nil}
+use Rattle.std.specs.Io.{StartsWith}
+use Rattle.road_base.specs.History.{History}
+use Rattle.road_base.specs.Objects.{Objects}
+use Rattle.road_base.specs.declared.ids.Sequence.{Sequence}
+use Rattle.road_model.specs.Rules.{Rules}
+use Rattle.road_io.specs.Told.{Told}
+use Rattle.road_io.specs.Outside.{Outside, Left, LeavesOnly}
+use Rattle.road_io.proofs.CallRuns.{then_runs, only_weaker}
+use Rattle.road_io.proofs.ToldCalls.{told_weaker, told_then}
+use Rattle.sequence_journal.specs.declared.journal.Journal.{Journal}
+use Rattle.sequence_journal.specs.declared.load.Loaded.{Loaded}
+use Rattle.opl_lexer.specs.Letters.{newline}
+use Rattle.session_input.specs.declared.input.Input.{Input}
+use Rattle.session_input.specs.declared.received.Received.{Received}
+use Rattle.session_input.specs.declared.received.Ending.{Ending}
+use Rattle.session_input.specs.declared.received.Ending.TheVariants.{Done as DoneEnding, Last, Unfinished as UnfinishedEnding}
+use Rattle.session_input.specs.Messages.{Message}
+use Rattle.session_input.specs.Limits.{IsPending}
+use Rattle.session_input.specs.Holding.{Holds}
+use Rattle.session_input.specs.Reading.{Means, IsEnding}
+use Rattle.session_replies.specs.Texts.{unfinished_line}
+use Rattle.session.specs.declared.end.End.{End}
+use Rattle.session.specs.declared.end.End.TheVariants.{Done, Unfinished, ReadFault, SiteFault, Limit, NoMemory}
+use Rattle.session.specs.declared.stop.Stop.{Stop}
+use Rattle.session.specs.declared.stop.Stop.TheVariants.{SiteFault as SiteFaultStop, Limit as LimitStop}
+use Rattle.session.specs.declared.stop.Stop.TheVariants.{NoMemory as NoMemoryStop}
+use Rattle.session.specs.StoreLaws.{StoreLaws}
+use Rattle.session.specs.Conversation.{Kept, Replied}
+use Rattle.session.specs.Endings.{EndsSaying, OfEnd, OfLast, OfUnfinished, OfFullLast, OfReadFault, OfEnding, OfNothing}
+use Rattle.session.specs.Endings.{IsLast, IsUnfinished, Comes, limit_line}
+use Rattle.session.specs.Conversing.{IsOpening, opening_of, LeavesReply, LeavesSession, PutsAll, EndsWith, SessionEnds}
+use Rattle.session.specs.Putting.{LeavesPut, PutsOn}
+use Rattle.session.specs.Answering.{IsAnswered, IsKept, Answers}
+use Rattle.session.specs.Following.{LeavesStill, Talks, Since, Goes, Closes, Breaks, Halts}
+use Rattle.session.proofs.PutPieces.{puts_nothing}
+use Rattle.session.proofs.KeptStores.{images_stand, on_still, small_still, can_be_loaded}
+use Rattle.session.proofs.FollowedMessages.{breaks_more}
+
+-- ---- what is said last is put
+
+-- an end at which all that is given was put
+abbrev pub IsWhole : End → Type 0
+IsWhole Done = Unit {0}
+IsWhole Unfinished = Unit {0}
+IsWhole ReadFault = Unit {0}
+IsWhole SiteFault = ⊥
+IsWhole Limit = Unit {0}
+IsWhole NoMemory = ⊥
+
+pub all_put : (P : Rules) (opening : Kept) (read : List ℕ) (end : End) (w v : Outside) → IsWhole end
+    → PutsAll P opening read end w v → EndsWith P opening read end w v
+all_put P opening read Done w v is p = p
+all_put P opening read Unfinished w v is p = p
+all_put P opening read ReadFault w v is p = p
+all_put P opening read SiteFault w v is p = absurd is
+all_put P opening read Limit w v is p = p
+all_put P opening read NoMemory w v is p = absurd is
+
+module _ (laws : StoreLaws) (P : Rules) (opening : Kept) (read : List ℕ) (end : End) (last : List ℕ) (w u v : Outside)
+    (c : Closes P opening read end last w u) where
+  comes_last : Comes P opening read c.said c.from last c.from
+  comes_last = record {
+    front = c.front;
+    rest = c.rest;
+    is = c.is;
+    so_far = c.so_far;
+    next = OfEnding end c.ends;
+  }
+
+  moments : LeavesOnly u v (LeavesPut last u) → LeavesOnly w v (LeavesSession P opening read w)
+  moments only = then_runs w u v (LeavesSession P opening read w) (LeavesPut last u) c.only only
+      (λ left l. let stands = images_stand laws c.journal c.from.history u left c.on_store l.a l.b in record {
+        said = c.said;
+        reply = last;
+        from = c.from;
+        to = c.from;
+        comes = comes_last;
+        leaves = record {
+          begins = subst (λ (o : List ℕ). StartsWith left.out o) c.grows l.begins;
+          within = subst (λ (o : List ℕ). StartsWith (o ++ last) left.out) c.grows l.within;
+          files = inl stands;
+          whole = λ all. stands;
+        };
+      })
+
+  grown : (put : List ℕ) → v.output ≡ u.output ++ put → v.output ≡ w.output ++ (c.said ++ put)
+  grown put is = is ∙ ap (λ (l : List ℕ). l ++ put) c.grows ∙ append_assoc w.output c.said put
+
+  pub said_all : (x : Unit {0}) → IsWhole end → PutsOn {E = Stop} last (Ok x) u v → SessionEnds P opening read end w v
+  said_all x is p = record {
+    puts = all_put P opening read end w v is (record {
+      out = c.said ++ last;
+      to = c.from;
+      gives = record {
+        front = c.front;
+        rest = c.rest;
+        is = c.is;
+        said = c.said;
+        from = c.from;
+        so_far = c.so_far;
+        last = last;
+        ends = c.ends;
+        all = refl;
+      };
+      grows = grown last (p.grows ∙ ap (λ (l : List ℕ). u.output ++ l) p.whole);
+      stand = can_be_loaded laws c.journal c.from.history v
+          (on_still u v p.same_a p.same_b laws c.journal c.from.history c.on_store)
+          (small_still u v p.same_a p.same_b c.journal c.small);
+    });
+    stops = moments p.only;
+  }
+
+  pub said_part : (e : Stop) → PutsOn last (Err e) u v → SessionEnds P opening read SiteFault w v
+  said_part e p = record {
+    puts = record {
+      said = c.said;
+      reply = last;
+      from = c.from;
+      to = c.from;
+      comes = comes_last;
+      n = length p.put;
+      grows = grown (take (length p.put) last) (p.grows ∙ ap (λ (l : List ℕ). u.output ++ l) (sym p.front));
+    };
+    stops = moments p.only;
+  }
+
+-- nothing is said last
+pub closed_silently : StoreLaws → (P : Rules) (opening : Kept) (read : List ℕ) (end : End) (w v : Outside)
+    → IsWhole end → Closes P opening read end [] w v → SessionEnds P opening read end w v
+closed_silently laws P opening read end w v is c =
+    said_all laws P opening read end [] w v v c tt is (puts_nothing [] (Ok tt) v refl)
+
+pub broken : (P : Rules) (opening : Kept) (read : List ℕ) (w v : Outside) → Breaks P opening read w v
+    → SessionEnds P opening read SiteFault w v
+broken P opening read w v b = record { puts = b.puts; stops = b.only }
+
+pub out_of_memory : (P : Rules) (opening : Kept) (read : List ℕ) (w v : Outside) → Breaks P opening read w v
+    → SessionEnds P opening read NoMemory w v
+out_of_memory P opening read w v b = record { puts = b.puts; stops = b.only }
+
+-- ---- the last message
+
+session_now : (P : Rules) (opening : Kept) (read : List ℕ) (w v : Outside)
+    → LeavesOnly w v (LeavesStill P opening read w) → LeavesOnly w v (LeavesSession P opening read w)
+session_now P opening read w v only = only_weaker w v (LeavesStill P opening read w) (LeavesSession P opening read w)
+    only (λ left still. subst (λ (l : List ℕ). LeavesSession P opening l w left) (append-nil read) (still []))
+
+module _ (P : Rules) (opening : Kept) (front pending read : List ℕ) (is : read ≡ front ++ pending) (world : Objects)
+    (journal : Journal) (w u : Outside) (k : Talks P opening front read world journal w u) where
+  pub closes_now : (end : End) (last : List ℕ) → EndsSaying P k.from (length front) pending end last k.from
+      → Closes P opening read end last w u
+  closes_now end last ends = record {
+    front = front;
+    rest = pending;
+    is = is;
+    said = k.said;
+    from = k.from;
+    so_far = k.so_far;
+    ends = ends;
+    journal = journal;
+    on_store = k.kept.on_store;
+    small = k.kept.small;
+    grows = k.grows;
+    only = session_now P opening read w u k.only;
+  }
+
+  breaks_now : Breaks P opening read w u
+  breaks_now = record {
+    puts = record {
+      said = k.said;
+      reply = [];
+      from = k.from;
+      to = k.from;
+      comes = record { front = front; rest = pending; is = is; so_far = k.so_far; next = OfNothing refl refl };
+      n = 0;
+      grows = k.grows ∙ ap (λ (l : List ℕ). w.output ++ l) (sym (append-nil k.said));
+    };
+    only = session_now P opening read w u k.only;
+  }
+
+  module _ (laws : StoreLaws) (open_bytes : IsPending (length front) pending) (message : Message)
+      (last : IsLast message pending) where
+    last_comes : (reply : List ℕ) (to : Kept) → Replied P k.from message reply to
+        → Comes P opening read k.said k.from reply to
+    last_comes reply to replied = record {
+      front = front;
+      rest = pending;
+      is = is;
+      so_far = k.so_far;
+      next = OfEnding Done (OfLast open_bytes message last replied refl);
+    }
+
+    last_moments : (reply : List ℕ) (to : Kept) (v : Outside) → Replied P k.from message reply to
+        → LeavesOnly u v (LeavesReply k.from to u.output reply) → LeavesOnly w v (LeavesSession P opening read w)
+    last_moments reply to v replied only =
+        then_runs w u v (LeavesSession P opening read w) (LeavesReply k.from to u.output reply)
+        (session_now P opening read w u k.only) only
+        (λ left l. record {
+          said = k.said;
+          reply = reply;
+          from = k.from;
+          to = to;
+          comes = last_comes reply to replied;
+          leaves = subst (λ (o : List ℕ). LeavesReply k.from to o reply left) k.grows l;
+        })
+
+    last_answered : (after : Objects) (new : Journal) (v : Outside) → IsAnswered P k.from message after new u v
+        → SessionEnds P opening read Done w v
+    last_answered after new v a = record {
+      puts = record {
+        out = k.said ++ a.reply;
+        to = a.to;
+        gives = record {
+          front = front;
+          rest = pending;
+          is = is;
+          said = k.said;
+          from = k.from;
+          so_far = k.so_far;
+          last = a.reply;
+          ends = OfLast open_bytes message last a.replied refl;
+          all = refl;
+        };
+        grows = a.grows ∙ ap (λ (l : List ℕ). l ++ a.reply) k.grows ∙ append_assoc w.output k.said a.reply;
+        stand = can_be_loaded laws new a.to.history v a.kept.on_store a.kept.small;
+      };
+      stops = last_moments a.reply a.to v a.replied a.only;
+    }
+
+    last_halts : (stop : Stop) (after : Objects) (new : Journal) (v : Outside)
+        → Answers P k.from message after new (Err stop) u v → Halts P opening read stop w v
+    last_halts SiteFaultStop after new v a = record {
+      puts = record {
+        said = k.said;
+        reply = a.reply;
+        from = k.from;
+        to = a.to;
+        comes = last_comes a.reply a.to a.replied;
+        n = a.n;
+        grows = a.grows ∙ ap (λ (l : List ℕ). l ++ take a.n a.reply) k.grows
+            ∙ append_assoc w.output k.said (take a.n a.reply);
+      };
+      only = last_moments a.reply a.to v a.replied a.only;
+    }
+    last_halts LimitStop after new v a =
+        subst (λ (o : Outside). Closes P opening read Limit limit_line w o) (sym a.1)
+        (closes_now Limit limit_line (OfFullLast open_bytes message last a.0 refl refl refl))
+    last_halts NoMemoryStop after new v a = subst (λ (o : Outside). Breaks P opening read w o) (sym a) breaks_now
+
+-- ---- as far as the site tells
+
+-- what stands in a session gives how it ends
+pub since_weaker : (loaded : Loaded) (R S : Kept → Outside → Outside → Type 0) (x y : Option Outside)
+    → Since loaded R x y → ((opening : Kept) (w v : Outside) → R opening w v → S opening w v) → Since loaded S x y
+since_weaker loaded R S x y told f = told_weaker x y
+    (λ w v. (h : History) → IsOpening loaded h w → R (opening_of loaded h) w v)
+    (λ w v. (h : History) → IsOpening loaded h w → S (opening_of loaded h) w v) told
+    (λ w v r h o. f (opening_of loaded h) w v (r h o))
+
+-- and so does what stands before a call, and what the call does
+pub since_then : (loaded : Loaded) (R S : Kept → Outside → Outside → Type 0) (T : Outside → Outside → Type 0)
+    (x y z : Option Outside) → Since loaded R x y → Told T y z
+    → ((opening : Kept) (w u v : Outside) → R opening w u → T u v → S opening w v) → Since loaded S x z
+since_then loaded R S T x y z told next f = told_then x y z
+    (λ w v. (h : History) → IsOpening loaded h w → R (opening_of loaded h) w v) T
+    (λ w v. (h : History) → IsOpening loaded h w → S (opening_of loaded h) w v) told next
+    (λ w u v r t h o. f (opening_of loaded h) w u v (r h o) t)
+
+module _ (laws : StoreLaws) (P : Rules) (loaded : Loaded) (read : List ℕ) (input : Input) (world : Objects)
+    (journal : Journal) (x y : Option Outside) (g : Goes P loaded read input world journal x y) where
+  pub ends_silently : (end : End) → IsWhole end
+      → ((from : Kept) → EndsSaying P from (length g.front) g.pending end [] from)
+      → Since loaded (λ opening w v. SessionEnds P opening read end w v) x y
+  ends_silently end is ends =
+      since_weaker loaded (λ opening w v. Talks P opening g.front read world journal w v)
+      (λ opening w v. SessionEnds P opening read end w v) x y g.talks
+      (λ opening w v k. closed_silently laws P opening read end w v is
+      (closes_now P opening g.front g.pending read g.is world journal w v k end [] (ends k.from)))
+
+  pub ends_read : Since loaded (λ opening w v. SessionEnds P opening read ReadFault w v) x y
+  ends_read = ends_silently ReadFault tt (λ from. OfReadFault g.holds.pending refl refl refl)
+
+  pub ends_done : IsEnding g.pending DoneEnding
+      → Since loaded (λ opening w v. SessionEnds P opening read Done w v) x y
+  ends_done none = ends_silently Done tt (λ from. OfEnd none refl refl refl)
+
+  pub ends_memory : Since loaded (λ opening w v. SessionEnds P opening read NoMemory w v) x y
+  ends_memory = since_weaker loaded (λ opening w v. Talks P opening g.front read world journal w v)
+      (λ opening w v. SessionEnds P opening read NoMemory w v) x y g.talks
+      (λ opening w v k. out_of_memory P opening read w v
+      (breaks_now P opening g.front g.pending read g.is world journal w v k))
+
+  pub closes_unfinished : (number : Sequence) (line : List ℕ) → IsEnding g.pending (UnfinishedEnding number)
+      → line ≡ unfinished_line number.0
+      → Since loaded (λ opening w v. Closes P opening read Unfinished line w v) x y
+  closes_unfinished number line e is =
+      since_weaker loaded (λ opening w v. Talks P opening g.front read world journal w v)
+      (λ opening w v. Closes P opening read Unfinished line w v) x y g.talks
+      (λ opening w v k. closes_now P opening g.front g.pending read g.is world journal w v k Unfinished line
+      (OfUnfinished g.holds.pending number.0 (record { body = e.0; front = e.1; begins = e.2; all = e.3 }) refl is refl))
+
+  module _ (received : Received) (e : IsEnding g.pending (Last received)) (after : Objects) (new : Journal)
+      (z : Option Outside) where
+    pub ends_answered : (n : Unit {0})
+        → Told (λ w v. (from : Kept) (message : Message) → Means message received → IsKept world journal from w
+        → Answers P from message after new (Ok n) w v) y z
+        → Since loaded (λ opening w v. SessionEnds P opening read Done w v) x z
+    ends_answered n answers =
+        since_then loaded (λ opening w v. Talks P opening g.front read world journal w v)
+        (λ opening w v. SessionEnds P opening read Done w v)
+        (λ w v. (from : Kept) (message : Message) → Means message received → IsKept world journal from w
+        → Answers P from message after new (Ok n) w v) x y z g.talks answers
+        (λ opening w u v k a. last_answered P opening g.front g.pending read g.is world journal w u k laws
+        g.holds.pending e.1.0 (record { some = e.0; is = e.1.1 }) after new v (a k.from e.1.0 e.1.2 k.kept))
+
+    pub halts_last : (stop : Stop)
+        → Told (λ w v. (from : Kept) (message : Message) → Means message received → IsKept world journal from w
+        → Answers P from message after new (Err stop) w v) y z
+        → Since loaded (λ opening w v. Halts P opening read stop w v) x z
+    halts_last stop answers =
+        since_then loaded (λ opening w v. Talks P opening g.front read world journal w v)
+        (λ opening w v. Halts P opening read stop w v)
+        (λ w v. (from : Kept) (message : Message) → Means message received → IsKept world journal from w
+        → Answers P from message after new (Err stop) w v) x y z g.talks answers
+        (λ opening w u v k a. last_halts P opening g.front g.pending read g.is world journal w u k laws
+        g.holds.pending e.1.0 (record { some = e.0; is = e.1.1 }) stop after new v (a k.from e.1.0 e.1.2 k.kept))
+
+-- ---- a line that is said last
+
+pub ends_said : StoreLaws → (P : Rules) (loaded : Loaded) (read : List ℕ) (end : End) (line : List ℕ) (n : Unit {0})
+    (x y z : Option Outside) → IsWhole end
+    → Since loaded (λ opening w v. Closes P opening read end line w v) x y → Told (PutsOn {E = Stop} line (Ok n)) y z
+    → Since loaded (λ opening w v. SessionEnds P opening read end w v) x z
+ends_said laws P loaded read end line n x y z is closes put =
+    since_then loaded (λ opening w v. Closes P opening read end line w v)
+    (λ opening w v. SessionEnds P opening read end w v) (PutsOn {E = Stop} line (Ok n)) x y z closes put
+    (λ opening w u v c p. said_all laws P opening read end line w u v c n is p)
+
+pub ends_unsaid : StoreLaws → (P : Rules) (loaded : Loaded) (read : List ℕ) (end : End) (line : List ℕ) (e : Stop)
+    (x y z : Option Outside)
+    → Since loaded (λ opening w v. Closes P opening read end line w v) x y → Told (PutsOn line (Err e)) y z
+    → Since loaded (λ opening w v. SessionEnds P opening read SiteFault w v) x z
+ends_unsaid laws P loaded read end line e x y z closes put =
+    since_then loaded (λ opening w v. Closes P opening read end line w v)
+    (λ opening w v. SessionEnds P opening read SiteFault w v) (PutsOn line (Err e)) x y z closes put
+    (λ opening w u v c p. said_part laws P opening read end line w u v c e p)
+
+pub is_whole : (end : End) → (end ≡ Unfinished) ⊎ (end ≡ Limit) → IsWhole end
+is_whole end (inl is) = subst IsWhole (sym is) tt
+is_whole end (inr is) = subst IsWhole (sym is) tt

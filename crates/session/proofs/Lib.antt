@@ -1,0 +1,12 @@
+mod OutputFronts
+mod PutPieces
+mod KeptStores
+mod AnsweredMessages
+mod ToldAnswers
+mod Optional
+mod AskedAlone
+mod FollowedMessages
+mod ClosedSessions
+mod SourceParts
+mod OpenedSessions
+mod ReadSessions

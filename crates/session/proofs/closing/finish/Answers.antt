@@ -1,0 +1,77 @@
+use Rattle.std.proofs.Common.{◌≡◌, ◌++◌, ◌∷◌, [], ℕ, List, Option, length, subst, ◌∙◌}
+use Rattle.opl_lexer.specs.Letters.{newline}
+use Rattle.session_input.specs.declared.received.Ending.{Ending}
+use Rattle.session_input.specs.Reading.{IsEnding}
+use Rattle.session.proofs.AskedAlone.{is_alone}
+use Rattle.session.proofs.ClosedSessions.{ends_done, ends_memory, closes_unfinished, ends_answered, halts_last}
+use Rattle.session.proofs.closing.finish.Goals as goal
+
+pub returns-in-Err-clause-ends : goal.returns-in-Err-clause-ends
+returns-in-Err-clause-ends g c = λ loaded read x goes.
+    let talk = c.args.talk.now in
+    ends_memory c.store_laws.ensures (g.P.Profile.rules talk.engine.profile) loaded read c.args.input talk.engine.world
+    talk.journal x (g.W.Site.outside c.args.site.now) goes
+
+pub returns-in-Ok-Done-clause-ends : goal.returns-in-Ok-Done-clause-ends
+returns-in-Ok-Done-clause-ends g c = λ loaded read x goes.
+    let talk = c.args.talk.now in
+    let ended = c.in-Ok-Done in
+    ends_done c.store_laws.ensures (g.P.Profile.rules talk.engine.profile) loaded read c.args.input talk.engine.world
+    talk.journal x (g.W.Site.outside c.args.site.now) goes
+    (subst (λ (e : Ending). IsEnding goes.pending e) ended.field-0-is
+    (ended.ensures.ended (length goes.front) goes.pending goes.holds))
+
+-- ---- inside a frame
+
+pub returns-in-Ok-clause-ends : goal.returns-in-Ok-clause-ends
+returns-in-Ok-clause-ends g c = λ loaded read x goes.
+    let talk = c.args.talk.now in
+    let P = g.P.Profile.rules talk.engine.profile in
+    let ended = c.in-Ok-Unfinished in
+    c.say_last.ensures.ends P loaded read x
+    (closes_unfinished c.store_laws.ensures P loaded read c.args.input talk.engine.world talk.journal x
+    (g.W.Site.outside c.args.site.now) goes ended.number c.deref.result.now
+    (subst (λ (e : Ending). IsEnding goes.pending e) ended.field-0-is
+    (ended.ensures.ended (length goes.front) goes.pending goes.holds))
+    (c.deref.ensures.value ∙ c.in-Ok.ensures))
+
+pub returns-in-Ok-Unfinished-clause-ends : goal.returns-in-Ok-Unfinished-clause-ends
+returns-in-Ok-Unfinished-clause-ends g c = λ loaded read x goes.
+    let talk = c.args.talk.now in
+    ends_memory c.store_laws.ensures (g.P.Profile.rules talk.engine.profile) loaded read c.args.input talk.engine.world
+    talk.journal x (g.W.Site.outside c.args.site.now) goes
+
+-- ---- behind a last message
+
+pub answer-requires-clause-query : goal.answer-requires-clause-query
+answer-requires-clause-query g c =
+    let goes = c.requires.goes.3 in
+    let ended = c.in-Ok-Last in
+    let last = subst (λ (e : Ending). IsEnding goes.pending e) ended.field-0-is
+    (ended.ensures.ended (length goes.front) goes.pending goes.holds) in
+    is_alone last.1.0 ended.received (goes.pending ++ newline ∷ []) last.1.1 last.1.2
+
+pub returns-in-Ok-answer-clause-ends : goal.returns-in-Ok-answer-clause-ends
+returns-in-Ok-answer-clause-ends g c = λ loaded read x goes.
+    let talk = c.args.talk.now in
+    let ended = c.in-Ok-Last in
+    let after = c.answer.new.self in
+    ends_answered c.store_laws.ensures (g.P.Profile.rules talk.engine.profile) loaded read c.args.input
+    talk.engine.world talk.journal x (g.W.Site.outside c.args.site.now) goes ended.received
+    (subst (λ (e : Ending). IsEnding goes.pending e) ended.field-0-is
+    (ended.ensures.ended (length goes.front) goes.pending goes.holds))
+    after.engine.world after.journal (g.W.Site.outside c.answer.new.site) tt c.in-Ok-answer.ensures.told
+
+pub returns-clause-ends : goal.returns-clause-ends
+returns-clause-ends g c = λ loaded read x goes.
+    let talk = c.args.talk.now in
+    let P = g.P.Profile.rules talk.engine.profile in
+    let ended = c.in-Ok-Last in
+    let after = c.answer.new.self in
+    c.close.ensures.ends P loaded read x
+    (halts_last c.store_laws.ensures P loaded read c.args.input talk.engine.world talk.journal x
+    (g.W.Site.outside c.args.site.now) goes ended.received
+    (subst (λ (e : Ending). IsEnding goes.pending e) ended.field-0-is
+    (ended.ensures.ended (length goes.front) goes.pending goes.holds))
+    after.engine.world after.journal (g.W.Site.outside c.answer.new.site) c.in-Err-answer.stop
+    c.in-Err-answer.ensures.told)

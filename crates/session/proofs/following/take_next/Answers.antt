@@ -1,0 +1,85 @@
+use Rattle.std.proofs.Common.{◌≡◌, ◌++◌, ◌+◌, ℕ, List, [], Option, length, take, drop, sym, subst}
+use Rattle.std.proofs.lemmas.List.{take-append-drop}
+use Rattle.session_input.specs.declared.received.InputStop.{InputStop}
+use Rattle.session_input.specs.declared.received.Received.{Received}
+use Rattle.session_input.specs.Holding.{Holds}
+use Rattle.session_input.specs.Reading.{Receives, StopsAt}
+use Rattle.session.specs.Following.{Since, Halts}
+use Rattle.session.proofs.Optional.{at_some, at_none}
+use Rattle.session.proofs.AskedAlone.{received_alone}
+use Rattle.session.proofs.FollowedMessages.{goes_more, goes_on, halts, halts_long, breaks_more}
+use Rattle.session.proofs.following.take_next.Goals as goal
+
+-- ---- the input isn't read on
+
+pub returns-in-Err-TooLong-clause-halts : goal.returns-in-Err-TooLong-clause-halts
+returns-in-Err-TooLong-clause-halts g c = λ loaded read x goes.
+    let talk = c.args.talk.now in
+    let stop = c.in-Err-TooLong in
+    halts_long (g.P.Profile.rules talk.engine.profile) loaded read c.args.input.now talk.engine.world talk.journal x
+    (g.W.Site.outside c.args.site.now) goes c.args.part.now
+    (λ before bytes holds. subst (λ (e : InputStop). StopsAt e before (bytes ++ c.args.part.now)) stop.field-0-is
+    (stop.ensures.stopped before bytes holds))
+
+pub returns-in-Err-NoMemory-clause-halts : goal.returns-in-Err-NoMemory-clause-halts
+returns-in-Err-NoMemory-clause-halts g c = λ loaded read x goes.
+    let talk = c.args.talk.now in
+    breaks_more (g.P.Profile.rules talk.engine.profile) loaded read c.args.input.now talk.engine.world talk.journal x
+    (g.W.Site.outside c.args.site.now) goes c.args.part.now
+
+-- ---- no message ended
+
+pub returns-in-None-clause-goes : goal.returns-in-None-clause-goes
+returns-in-None-clause-goes g c = λ loaded read x goes.
+    let talk = c.args.talk.now in
+    let taken = c.in-Ok.taken in
+    goes_more (g.P.Profile.rules talk.engine.profile) loaded read c.args.input.now talk.engine.world talk.journal x
+    (g.W.Site.outside c.args.site.now) goes (take taken.used c.args.part.now) c.take.new.self
+    (at_none taken.received ((before : ℕ) (bytes : List ℕ) → Holds before bytes c.args.input.now
+    → Holds before (bytes ++ take taken.used c.args.part.now) c.take.new.self) c.in-None.is c.in-Ok.ensures.more)
+
+-- ---- a message ended
+
+pub answer-requires-clause-query : goal.answer-requires-clause-query
+answer-requires-clause-query g c =
+    let goes = c.requires.goes.3 in
+    let taken = c.in-Ok.taken in
+    let receives = at_some taken.received c.in-Some.received (λ r. (before : ℕ) (bytes : List ℕ)
+    → Holds before bytes c.args.input.now
+    → Receives before r (bytes ++ take taken.used c.args.part.now)
+    × Holds (before + length (bytes ++ take taken.used c.args.part.now)) [] c.take.new.self)
+    c.in-Some.is c.in-Ok.ensures.received in
+    received_alone (length goes.front) c.in-Some.received (goes.pending ++ take taken.used c.args.part.now)
+    (receives (length goes.front) goes.pending goes.holds).0
+
+pub returns-in-Ok-answer-clause-goes : goal.returns-in-Ok-answer-clause-goes
+returns-in-Ok-answer-clause-goes g c = λ loaded read x goes.
+    let talk = c.args.talk.now in
+    let taken = c.in-Ok.taken in
+    let after = c.answer.new.self in
+    let receives = at_some taken.received c.in-Some.received (λ r. (before : ℕ) (bytes : List ℕ)
+    → Holds before bytes c.args.input.now
+    → Receives before r (bytes ++ take taken.used c.args.part.now)
+    × Holds (before + length (bytes ++ take taken.used c.args.part.now)) [] c.take.new.self)
+    c.in-Some.is c.in-Ok.ensures.received in
+    goes_on (g.P.Profile.rules talk.engine.profile) loaded read c.args.input.now talk.engine.world talk.journal x
+    (g.W.Site.outside c.args.site.now) goes (take taken.used c.args.part.now) c.take.new.self c.in-Some.received
+    receives after.engine.world after.journal (g.W.Site.outside c.answer.new.site) tt c.in-Ok-answer.ensures.told
+
+pub returns-clause-halts : goal.returns-clause-halts
+returns-clause-halts g c = λ loaded read x goes.
+    let talk = c.args.talk.now in
+    let P = g.P.Profile.rules talk.engine.profile in
+    let taken = c.in-Ok.taken in
+    let part = c.args.part.now in
+    let after = c.answer.new.self in
+    let receives = at_some taken.received c.in-Some.received (λ r. (before : ℕ) (bytes : List ℕ)
+    → Holds before bytes c.args.input.now
+    → Receives before r (bytes ++ take taken.used part)
+    × Holds (before + length (bytes ++ take taken.used part)) [] c.take.new.self)
+    c.in-Some.is c.in-Ok.ensures.received in
+    subst (λ (l : List ℕ). Since loaded (λ opening w v. Halts P opening (read ++ l) c.in-Err.stop w v) x
+    (g.W.Site.outside c.answer.new.site)) (take-append-drop taken.used part)
+    (halts P loaded read c.args.input.now talk.engine.world talk.journal x (g.W.Site.outside c.args.site.now) goes
+    (take taken.used part) c.take.new.self c.in-Some.received receives after.engine.world after.journal
+    (g.W.Site.outside c.answer.new.site) c.in-Err.stop (drop taken.used part) c.in-Err.ensures.told)

@@ -1,0 +1,10 @@
+use Rattle.session.proofs.ToldAnswers.{number_answers}
+use Rattle.session.proofs.talk.Talk.refuse_number.Goals as goal
+
+pub returns-clause-told : goal.returns-clause-told
+returns-clause-told g c =
+    let self = c.args.self.now in
+    number_answers c.store_laws.ensures (g.P.Profile.rules self.engine.profile) self.engine.world self.journal
+    c.put_piece.result c.put_piece.ensures.named (g.W.Site.outside c.args.site.now)
+    (g.W.Site.outside c.put_piece.new.site) c.args.number c.kept.result c.in-Ok.line.items c.deref.result.now c.requires
+    c.kept.ensures c.in-Ok.ensures c.deref.ensures.value c.put_piece.ensures.told
