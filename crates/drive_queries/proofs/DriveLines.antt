@@ -1,5 +1,6 @@
 -- Lines that are kept by their ways, with one put among them, and where steps begin and end by them.
-use Rattle.std.proofs.Common.{◌≡◌, ◌⊎◌, inl, inr, ℕ, ◌+◌, List, [], length, Option, Some, None, cond, true, false, is_some}
+use Rattle.std.proofs.Common.{◌≡◌, ◌⊎◌, inl, inr, ℕ, ◌+◌, List, [], length, Option, Some, None, cond, true, false}
+use Rattle.std.proofs.Common.{is_some}
 use Rattle.std.proofs.Common.{IsTrue, IsFalse, IfSome, IfNone, slice_get, sym, ◌∙◌, ap, nat_lt}
 use Rattle.std.specs.Ordering.{is_eq}
 use Rattle.std.specs.Cmp.{IsTotalOrder}
@@ -83,7 +84,8 @@ same_line M lines w line e k =
     let same : line ≡ k.line = cc in
     ap (λ (l : DriveLine). l.nodes.items) same ∙ k.is
 
-module _ (lines : BTreeMap WayId DriveLine) (s : Step) (line : DriveLine) (found : line_in lines s.way ≡ Some line) where
+module _ (lines : BTreeMap WayId DriveLine) (s : Step) (line : DriveLine)
+    (found : line_in lines s.way ≡ Some line) where
   pub ends_some : (r : Option (NodeId × NodeId))
       → IfSome r (λ p. slice_get line.nodes.items (tail_position s.dir s.index) ≡ Some p.0)
       → IfSome r (λ p. slice_get line.nodes.items (head_position s.dir s.index) ≡ Some p.1)

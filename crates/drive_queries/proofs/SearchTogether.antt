@@ -1,5 +1,6 @@
 -- What a search from starts to goals asks for and keeps, from its first visits to what it meets.
-use Rattle.std.proofs.Common.{◌≡◌, inl, inr, ℕ, zero, suc, ◌+◌, ◌-◌, ◌<◌, ◌≤◌, List, [], length, Some, true, slice_get, Contains}
+use Rattle.std.proofs.Common.{◌≡◌, inl, inr, ℕ, zero, suc, ◌+◌, ◌-◌, ◌<◌, ◌≤◌, List, [], length, Some, true}
+use Rattle.std.proofs.Common.{slice_get, Contains}
 use Rattle.std.proofs.Common.{sym, ◌∙◌, ap, subst, arith, take, drop}
 use Rattle.std.specs.BTreeMap.{BTreeMap}
 use Rattle.std.proofs.lemmas.Option.{slice_get_within}
@@ -23,7 +24,8 @@ use Rattle.drive_queries.specs.Searching.{StopsAt, LeadsWithin}
 use Rattle.drive_queries.specs.Sought.{IsStartAt, IsGoalAt, AreSpots, AreGoals}
 use Rattle.drive_queries.specs.Routes.{Descend, AreSpelled, spelled}
 use Rattle.drive_queries.proofs.SearchTargets.{entry_spells}
-use Rattle.drive_queries.specs.Visits.{Marks, IsSearch, IsStarted, IsVisited, AreBegun, NoneBegun, AreClosed, Grows, Meets}
+use Rattle.drive_queries.specs.Visits.{Marks, IsSearch, IsStarted, IsVisited, AreBegun, NoneBegun, AreClosed, Grows}
+use Rattle.drive_queries.specs.Visits.{Meets}
 
 nothing_at : (k : ℕ) (v : Visit) → slice_get [] k ≡ Some v → ⊥
 nothing_at zero v e = cc
