@@ -1,7 +1,7 @@
 -- Lines that are kept by their ways, with one put among them, and where steps begin and end by them.
-use Rattle.std.proofs.Common.{◌≡◌, ◌⊎◌, inl, inr, ℕ, ◌+◌, List, [], length, Option, Some, None, cond, true, false, is_some}
-use Rattle.std.proofs.Common.{IsTrue, IsFalse, IfSome, IfNone, slice_get, refl, sym, ◌∙◌, ap, Ordering, nat_lt}
-use Rattle.std.specs.declared.cmp.Ordering.TheVariants.{Less, Equal, Greater}
+use Rattle.std.proofs.Common.{◌≡◌, ◌⊎◌, inl, inr, ℕ, ◌+◌, List, [], length, Option, Some, None, cond, true, false}
+use Rattle.std.proofs.Common.{is_some}
+use Rattle.std.proofs.Common.{IsTrue, IsFalse, IfSome, IfNone, slice_get, sym, ◌∙◌, ap, nat_lt}
 use Rattle.std.specs.Ordering.{is_eq}
 use Rattle.std.specs.Cmp.{IsTotalOrder}
 use Rattle.std.specs.FinMap.{IsAntisymmetric}
@@ -17,11 +17,7 @@ use Rattle.road_model.specs.Orders.{way_cmp}
 use Rattle.drive_queries.specs.declared.drive_lines.DriveLine.{DriveLine}
 use Rattle.drive_queries.specs.DriveLines.{line_in, IsLineIn, HasEnds}
 use Rattle.drive_queries.proofs.JudgedSteps.{at_named}
-
-eq_cases : (r : Ordering) → (r ≡ Equal) ⊎ (is_eq r ≡ false)
-eq_cases Less = inr refl
-eq_cases Equal = inl refl
-eq_cases Greater = inr refl
+use Rattle.drive_queries.proofs.SearchGoals.{eq_cases}
 
 module _ (M : Objects) where
   pub line_visible : (w : WayId) (b : Way) → way_of M w ≡ Some b → line_of M w ≡ changes b.refs
@@ -88,7 +84,8 @@ same_line M lines w line e k =
     let same : line ≡ k.line = cc in
     ap (λ (l : DriveLine). l.nodes.items) same ∙ k.is
 
-module _ (lines : BTreeMap WayId DriveLine) (s : Step) (line : DriveLine) (found : line_in lines s.way ≡ Some line) where
+module _ (lines : BTreeMap WayId DriveLine) (s : Step) (line : DriveLine)
+    (found : line_in lines s.way ≡ Some line) where
   pub ends_some : (r : Option (NodeId × NodeId))
       → IfSome r (λ p. slice_get line.nodes.items (tail_position s.dir s.index) ≡ Some p.0)
       → IfSome r (λ p. slice_get line.nodes.items (head_position s.dir s.index) ≡ Some p.1)

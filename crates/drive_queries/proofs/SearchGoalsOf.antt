@@ -1,5 +1,6 @@
 -- The goals that the blocks of ways give are all goals.
-use Rattle.std.proofs.Common.{◌≡◌, ◌⊎◌, inl, inr, ℕ, ◌+◌, ◌≤◌, List, [], ◌∷◌, Option, Some, None, IsTrue, Contains, map, refl}
+use Rattle.std.proofs.Common.{◌≡◌, ◌⊎◌, inl, inr, ℕ, ◌+◌, ◌≤◌, List, [], ◌∷◌, Option, Some, None, IsTrue, Contains}
+use Rattle.std.proofs.Common.{map, refl}
 use Rattle.std.proofs.Common.{sym, ◌∙◌, ap, subst, arith}
 use Rattle.std.specs.Ordering.{is_eq}
 use Rattle.std.specs.Cmp.{IsTotalOrder}
@@ -54,7 +55,8 @@ module _ (names : IsTotalOrder name_cmp) (ties : IsAntisymmetric name_cmp) where
     ]
   ]
 
-block_there : (o : Option Block) (e : Piece) → Contains (pieces_in o) e → (b : Block) × (o ≡ Some b) × Contains b.pieces e
+block_there : (o : Option Block) (e : Piece) → Contains (pieces_in o) e
+    → (b : Block) × (o ≡ Some b) × Contains b.pieces e
 block_there None e i = absurd (contains_none e i)
 block_there (Some b) e i = (b, refl, i)
 

@@ -16,7 +16,8 @@ use Rattle.drive_queries.specs.declared.marks.Origin.{Origin}
 use Rattle.drive_queries.specs.declared.marks.Origin.TheVariants.{Begins, Follows}
 use Rattle.drive_queries.specs.declared.marks.Visit.{Visit}
 use Rattle.drive_queries.specs.Marks.{At}
-use Rattle.drive_queries.specs.Visits.{Marks, IsSearch, IsVisited, Comes, IsNew, IsMarked, Grows, NoneBegun, unmarked, left}
+use Rattle.drive_queries.specs.Visits.{Marks, IsSearch, IsVisited, Comes, IsNew, IsMarked, Grows, NoneBegun, unmarked}
+use Rattle.drive_queries.specs.Visits.{left}
 use Rattle.drive_queries.specs.Visits.{AreFollowed, IsClosed, AreClosed, LeadsBy, goal_in}
 
 -- ---- marks in a list

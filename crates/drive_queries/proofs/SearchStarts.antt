@@ -1,5 +1,6 @@
 -- The visits with which drives begin.
-use Rattle.std.proofs.Common.{◌≡◌, inl, inr, ℕ, zero, suc, ◌+◌, ◌<◌, ◌≤◌, List, [], length, map, Some, slice_get, Contains}
+use Rattle.std.proofs.Common.{◌≡◌, inl, inr, ℕ, zero, suc, ◌+◌, ◌<◌, ◌≤◌, List, [], length, map, Some, slice_get}
+use Rattle.std.proofs.Common.{Contains}
 use Rattle.std.proofs.Common.{sym, ◌∙◌, ap, subst, take, get_or}
 use Rattle.std.proofs.lemmas.List.{take_more, take_all}
 use Rattle.road_base.proofs.ListMembers.{contains_more}

@@ -1,5 +1,6 @@
 -- Contexts are known by their names, and those to which arcs lead are listed.
-use Rattle.std.proofs.Common.{◌≡◌, ℕ, ◌+◌, ◌-◌, List, [], ◌∷◌, ◌++◌, length, map, drop, Contains, refl, sym, ◌∙◌, ap, subst}
+use Rattle.std.proofs.Common.{◌≡◌, ℕ, ◌+◌, ◌-◌, List, [], ◌∷◌, ◌++◌, length, map, drop, Contains, refl, sym, ◌∙◌, ap}
+use Rattle.std.proofs.Common.{subst}
 use Rattle.std.proofs.Common.{arith, append_assoc, length-append}
 use Rattle.std.proofs.lemmas.List.{map-append, length-map}
 use Rattle.road_base.specs.declared.ids.NodeId.{NodeId}
@@ -51,7 +52,8 @@ module _ (M : Objects) (P : Rules) where
   every_last b q every = (Every-tail (IsPiece M P) b (q ∷ []) every).0
 
   -- the names of the context of the pieces b and q
-  pub spot_named : (b : List Span) (q : Span) (x : At) → IsSpot M P (b ++ q ∷ []) x → key_of x ≡ (name_of q, map name_of b)
+  pub spot_named : (b : List Span) (q : Span) (x : At) → IsSpot M P (b ++ q ∷ []) x
+      → key_of x ≡ (name_of q, map name_of b)
   spot_named b q x s =
       let l = same_last b q s.entry.before s.listed.piece s.is in
       let n : x.piece.name ≡ name_of q = s.listed.named ∙ ap name_of (sym l.last) in

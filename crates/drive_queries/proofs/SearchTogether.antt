@@ -1,5 +1,6 @@
 -- What a search from starts to goals asks for and keeps, from its first visits to what it meets.
-use Rattle.std.proofs.Common.{◌≡◌, inl, inr, ℕ, zero, suc, ◌+◌, ◌-◌, ◌<◌, ◌≤◌, List, [], length, Some, true, slice_get, Contains}
+use Rattle.std.proofs.Common.{◌≡◌, inl, inr, ℕ, zero, suc, ◌+◌, ◌-◌, ◌<◌, ◌≤◌, List, [], length, Some, true}
+use Rattle.std.proofs.Common.{slice_get, Contains}
 use Rattle.std.proofs.Common.{sym, ◌∙◌, ap, subst, arith, take, drop}
 use Rattle.std.specs.BTreeMap.{BTreeMap}
 use Rattle.std.proofs.lemmas.Option.{slice_get_within}
@@ -11,7 +12,6 @@ use Rattle.road_base.specs.Objects.{Objects}
 use Rattle.road_model.specs.declared.lists.Piece.{Piece}
 use Rattle.road_model.specs.declared.lists.PieceName.{PieceName}
 use Rattle.road_model.specs.Rules.{Rules}
-use Rattle.road_model.specs.Lines.{steps_from}
 use Rattle.road_model.specs.Pieces.{spell}
 use Rattle.road_model.specs.Blocks.{IsPieceEntry}
 use Rattle.road_model.specs.Naming.{OnePiece}
@@ -23,7 +23,9 @@ use Rattle.drive_queries.specs.Reaching.{LeadsTo}
 use Rattle.drive_queries.specs.Searching.{StopsAt, LeadsWithin}
 use Rattle.drive_queries.specs.Sought.{IsStartAt, IsGoalAt, AreSpots, AreGoals}
 use Rattle.drive_queries.specs.Routes.{Descend, AreSpelled, spelled}
-use Rattle.drive_queries.specs.Visits.{Marks, IsSearch, IsStarted, IsVisited, AreBegun, NoneBegun, AreClosed, Grows, Meets}
+use Rattle.drive_queries.proofs.SearchTargets.{entry_spells}
+use Rattle.drive_queries.specs.Visits.{Marks, IsSearch, IsStarted, IsVisited, AreBegun, NoneBegun, AreClosed, Grows}
+use Rattle.drive_queries.specs.Visits.{Meets}
 
 nothing_at : (k : ℕ) (v : Visit) → slice_get [] k ≡ Some v → ⊥
 nothing_at zero v e = cc
@@ -68,12 +70,6 @@ module _ (L : List At) (m n : Marks) where
   descends s k j v e o = (s.comes k j v e o).0
 
 module _ (M : Objects) (P : Rules) where
-  entry_spelled : (w : WayId) (e : Piece) (l : IsPieceEntry M P w e) → spelled e ≡ spell l.piece
-  entry_spelled w e l =
-      let p = l.piece in
-      ap (λ (n : PieceName). steps_from n.way n.index (e.end - n.index) n.dir) l.named
-      ∙ ap (λ z. steps_from p.way p.index (z - p.index) p.dir) l.end_is
-
   pub entry_ascends : (w : WayId) (e : Piece) → IsPieceEntry M P w e → e.name.index ≤ e.end
   entry_ascends w e l =
       let up = l.is.ascends in
@@ -89,7 +85,7 @@ module _ (M : Objects) (P : Rules) where
 
   pub goal_within : (b : NodeId) (n : PieceName) (g : Goal) → IsGoalAt M P b n g
       → g.last < length (spelled g.piece.now)
-  goal_within b n g is = subst (λ l. g.last < length l) (sym (entry_spelled is.way g.piece.now is.listed))
+  goal_within b n g is = subst (λ l. g.last < length l) (sym (entry_spells M P is.way g.piece.now is.listed))
       (slice_get_within (spell is.listed.piece) g.last is.stops.step is.stops.at)
 
   -- the goal that is met is one
@@ -106,7 +102,7 @@ module _ (M : Objects) (P : Rules) where
 
     pub ends_within : g.last < length (spelled s.piece.now)
     ends_within = subst (λ l. g.last < length l)
-        (sym (entry_spelled from.way s.piece.now from.listed ∙ ap spell same_piece))
+        (sym (entry_spells M P from.way s.piece.now from.listed ∙ ap spell same_piece))
         (slice_get_within (spell to.listed.piece) g.last to.stops.step to.stops.at)
 
     pub leads_within : LeadsWithin M P a b → s.first ≤ g.last
@@ -114,5 +110,5 @@ module _ (M : Objects) (P : Rules) where
     leads_within leads l =
         let stops = subst (λ z. StopsAt M z g.last b) (sym same_piece) to.stops in
         subst (λ d. LeadsTo M P a b (take (g.last + 1 - s.first) (drop s.first d)))
-        (sym (entry_spelled from.way s.piece.now from.listed))
+        (sym (entry_spells M P from.way s.piece.now from.listed))
         (leads from.listed.piece s.first g.last from.listed.is from.begins stops l)

@@ -207,7 +207,8 @@ module _ (M : Objects) (P : Rules) where
 
   -- the same words in another order
   pub table_again : (drive : List Step) (words other : List Word)
-      → ((w : Word) → Contains other w ↔ Contains words w) → AreDriveWords M P drive words → AreDriveWords M P drive other
+      → ((w : Word) → Contains other w ↔ Contains words w) → AreDriveWords M P drive words
+      → AreDriveWords M P drive other
   table_again drive words other same t = record {
     each = λ w c. t.each w ((same w).0 c);
     all = λ w is b. (same w).1 (t.all w is b);

@@ -1,5 +1,6 @@
 -- The ends by the line that is kept are those of the step.
-use Rattle.std.proofs.Common.{◌≡◌, ◌+◌, Some, List, IfSome, is_some, length, nat_lt, option_copied, slice_get, sym, ◌∙◌, ap, subst}
+use Rattle.std.proofs.Common.{◌≡◌, ◌+◌, Some, List, IfSome, is_some, length, nat_lt, option_copied, slice_get, sym}
+use Rattle.std.proofs.Common.{◌∙◌, ap, subst}
 use Rattle.road_base.specs.declared.ids.NodeId.{NodeId}
 use Rattle.road_model.specs.Lines.{head_position, tail_position}
 use Rattle.drive_queries.proofs.DriveLines.{ends_some, ends_none}

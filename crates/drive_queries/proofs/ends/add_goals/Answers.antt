@@ -1,4 +1,5 @@
-use Rattle.std.proofs.Common.{◌≡◌, ◌≤◌, ◌⊎◌, inl, inr, Some, ◌∙◌, sym, ap, subst, List, Contains, take, get_or, ◌++◌, ◌∷◌, []}
+use Rattle.std.proofs.Common.{◌≡◌, ◌≤◌, ◌⊎◌, inl, inr, Some, ◌∙◌, sym, ap, subst, List, Contains, take, get_or, ◌++◌}
+use Rattle.std.proofs.Common.{◌∷◌, []}
 use Rattle.std.proofs.lemmas.List.{take_more, take_all}
 use Rattle.std.proofs.lemmas.List.Elements.{Contains-append_left, Contains-push}
 use Rattle.road_base.proofs.ListMembers.{contains_more}
@@ -39,7 +40,8 @@ loop-piece-preserved c =
             | inl before ↦ old.new e g before (sym (stays e before) ∙ is)
             | inr same ↦
                 let one : p ≡ e = c.piece-item.is ∙ sym same in
-                subst (λ (z : Piece). (goal_in was z.name ≡ Some g) ⊎ ((g.piece.now ≡ z) × Arrives z g.last c.args.node)) one
+                subst (λ (z : Piece). (goal_in was z.name ≡ Some g)
+                ⊎ ((g.piece.now ≡ z) × Arrives z g.last c.args.node)) one
                 (elim (more.new g (ap (λ (z : Piece). goal_in n z.name) one ∙ is)) [
                   | inl h ↦ inl (sym none ∙ h)
                   | inr h ↦ inr h

@@ -1,6 +1,7 @@
 use Rattle.std.proofs.Common.{map, sym, ◌∙◌}
 use Rattle.drive_queries.specs.Marks.{at_of}
-use Rattle.drive_queries.proofs.SearchMarks.{IsPopped, popped_keeps, popped_place, popped_begun, popped_stays, less_left}
+use Rattle.drive_queries.proofs.SearchMarks.{IsPopped, popped_keeps, popped_place, popped_begun, popped_stays}
+use Rattle.drive_queries.proofs.SearchMarks.{less_left}
 use Rattle.drive_queries.proofs.SearchMarks.{gone_on, begun_again, emptied, closed_same, met_none}
 use Rattle.drive_queries.proofs.following.run.Goals as goal
 

@@ -2,7 +2,8 @@
 use Rattle.std.proofs.Common.{◌+◌, ℕ, [], inl, refl, subst, drop, take}
 use Rattle.road_model.specs.Broken.{Broken}
 use Rattle.drive_queries.specs.Verdicts.{broken_rule}
-use Rattle.drive_queries.proofs.JudgedDrives.{first_state, table_has, front_lines, broken, cut_at, cut_behind, front_length}
+use Rattle.drive_queries.proofs.JudgedDrives.{first_state, table_has, front_lines, broken, cut_at, cut_behind}
+use Rattle.drive_queries.proofs.JudgedDrives.{front_length}
 use Rattle.drive_queries.proofs.judging.judge.Goals as goal
 
 pub loop-at-init : goal.loop-at-init

@@ -1,4 +1,5 @@
-use Rattle.std.proofs.Common.{◌≡◌, ◌<◌, Some, Option, MatchOption, List, Contains, map, length, sym, ◌∙◌, ap, subst, ℕ, slice_get, ◌≤◌, refl, arith}
+use Rattle.std.proofs.Common.{◌≡◌, ◌<◌, Some, Option, MatchOption, List, Contains, map, length, sym, ◌∙◌, ap, subst}
+use Rattle.std.proofs.Common.{ℕ, slice_get, ◌≤◌, refl, arith}
 use Rattle.std.proofs.lemmas.List.{length-map}
 use Rattle.std.proofs.lemmas.Option.{slice_get_within}
 use Rattle.road_base.specs.declared.ids.Step.{Step}
@@ -15,7 +16,9 @@ use Rattle.drive_queries.specs.declared.ends.Goal.{Goal}
 use Rattle.drive_queries.proofs.SearchSeen.{searched}
 use Rattle.drive_queries.proofs.SearchDriven.{driven, leads_along}
 use Rattle.drive_queries.proofs.SearchTargets.{start_listed, has_targets}
-use Rattle.drive_queries.proofs.SearchTogether.{new_search, still_begun, still_started, met_goal, first_closed, descends, entry_ascends, spots_spelled, goal_within, ends_within, leads_within}
+use Rattle.drive_queries.proofs.SearchTogether.{new_search, still_begun, still_started, met_goal, first_closed}
+use Rattle.drive_queries.proofs.SearchTogether.{descends, entry_ascends, spots_spelled, goal_within, ends_within}
+use Rattle.drive_queries.proofs.SearchTogether.{leads_within}
 use Rattle.drive_queries.proofs.reaching.drive_to.Goals as goal
 
 pub within-requires-clause-ascends : goal.within-requires-clause-ascends

@@ -2,7 +2,8 @@
 use Rattle.std.proofs.Common.{Some, sym, ap, ◌∙◌}
 use Rattle.std.proofs.lemmas.Bool.{false≢true}
 use Rattle.drive_queries.proofs.JudgedSteps.{breaks_apart, breaks_back, breaks_on, same_node, other_node, both_some}
-use Rattle.drive_queries.proofs.JudgedSteps.{begins_nowhere, ends_nowhere, goes_back, goes_elsewhere, shut_stops, open_passes}
+use Rattle.drive_queries.proofs.JudgedSteps.{begins_nowhere, ends_nowhere, goes_back, goes_elsewhere, shut_stops}
+use Rattle.drive_queries.proofs.JudgedSteps.{open_passes}
 use Rattle.drive_queries.proofs.step_rules.rule_between.Goals as goal
 
 pub returns-in_default-clause-some : goal.returns-in_default-clause-some
@@ -38,7 +39,8 @@ returns-else-pass-clause-some g c before behind =
     let same = same_node c.in-Some.at c.in-Some-ends_in.node (sym c.ne.ensures ∙ c.if-ne.false) in
     breaks_back M P before c.args.last c.args.step c.requires.drives behind c.in-Some-ends_in.node
     (record { from = from.1 ∙ ap Some same; to = to.0 }) (λ p. false≢true (sym c.if-pass.false ∙ c.pass.ensures.1 p))
-    (goes_back M c.args.last c.args.step c.in-Some.from c.in-Some-ends_in.to from.0 to.1 (sym c.eq.ensures ∙ c.if-eq.true))
+    (goes_back M c.args.last c.args.step c.in-Some.from c.in-Some-ends_in.to from.0 to.1
+    (sym c.eq.ensures ∙ c.if-eq.true))
 
 pub returns-then-is_shut-clause-some : goal.returns-then-is_shut-clause-some
 returns-then-is_shut-clause-some g c before behind =
@@ -51,7 +53,8 @@ returns-then-is_shut-clause-some g c before behind =
     (sym c.eq.ensures ∙ c.if-eq.false) in
     breaks_on M P before c.args.last c.args.step c.requires.drives behind c.in-Some-ends_in.node
     (record { from = from.1 ∙ ap Some same; to = to.0 })
-    (shut_stops M P c.args.last c.args.step c.in-Some-ends_in.node to.0 on (sym c.is_shut.ensures ∙ c.if-is_shut.true)) on
+    (shut_stops M P c.args.last c.args.step c.in-Some-ends_in.node to.0 on
+    (sym c.is_shut.ensures ∙ c.if-is_shut.true)) on
 
 pub returns-else-is_shut-clause-none : goal.returns-else-is_shut-clause-none
 returns-else-is_shut-clause-none g c =
