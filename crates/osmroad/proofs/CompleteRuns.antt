@@ -5,14 +5,18 @@ use Rattle.road_base.specs.History.{History}
 use Rattle.opl_lexer.specs.declared.mode.Mode.TheVariants.{Extract, Change}
 use Rattle.road_io.specs.Outside.{Outside}
 use Rattle.osmroad.specs.declared.command.Command.{Command}
-use Rattle.osmroad.specs.declared.command.Command.TheVariants.{Compile, Create, Apply, Graph, Audit}
+use Rattle.osmroad.specs.declared.command.Command.TheVariants.{Compile, Inspect, Sample, Create, Apply}
+use Rattle.osmroad.specs.declared.command.Command.TheVariants.{Graph, Audit, Checkpoint}
 use Rattle.osmroad.specs.declared.status.Status.{Status}
 use Rattle.osmroad.specs.declared.status.Status.TheVariants.{Done}
 use Rattle.osmroad.specs.declared.reply.Reply.{Reply}
 use Rattle.store_switch.specs.LiveFile.{NoBases}
 use Rattle.osmroad.specs.Opening.{Files, IsStore, size_with_change}
-use Rattle.osmroad.specs.Outcomes.{AreInput, CompileGives, CreateGives, ApplyGives, ShowGives, Gives}
-use Rattle.osmroad.specs.Run.{IsReadable, CanBeAdded, CanBeDone, files_of}
+use Rattle.road_model.specs.Format.{IsGraphFile}
+use Rattle.osmroad.specs.Limits.{HasTooManyBytes}
+use Rattle.osmroad.specs.Outcomes.{AreInput, CompileGives, InspectGives, CreateGives, ApplyGives, ShowGives, Gives}
+use Rattle.osmroad.specs.Checkpoints.{CheckpointGives}
+use Rattle.osmroad.specs.Run.{IsReadable, CanBeAdded, CanBeRebased, CanBeDone, files_of}
 use Rattle.osmroad.specs.Replies.{WillPut, Prepares}
 use Rattle.osmroad.proofs.HeldSource.{same_held}
 use Rattle.osmroad.specs.StoreLaws.{OneLive}
@@ -62,6 +66,20 @@ show_done live Shows files status out after r (ShowGives.OfStore refusal a) = ab
     (readable_not_refused files status out live r refusal)
 show_done live Shows files status out after r (ShowGives.OfHistory s shown e a) = e
 
+inspect_done : (bytes : List ℕ) (status : Status) (out : List ℕ) → (HasTooManyBytes bytes → ⊥) → IsGraphFile bytes
+    → InspectGives bytes status out → status ≡ Done
+inspect_done bytes status out few is (InspectGives.OfTooMuch much e o) = absurd (few much)
+inspect_done bytes status out few is (InspectGives.OfNoGraph w none e o) = absurd (none is)
+inspect_done bytes status out few is (InspectGives.OfGraph w g blocks file e o) = e
+
+checkpoint_done : OneLive → (files : Files) (status : Status) (out : List ℕ) (after : Option History)
+    → IsReadable files → CanBeRebased files → CheckpointGives files status out after → status ≡ Done
+checkpoint_done live files status out after r can (CheckpointGives.OfStore refusal a) = absurd
+    (readable_not_refused files status out live r refusal)
+checkpoint_done live files status out after r can (CheckpointGives.OfNoRoom s events are none e o a) = absurd
+    (can s events are none)
+checkpoint_done live files status out after r can (CheckpointGives.OfEntries s events are room e o a) = e
+
 -- ---- a run
 
 module _ (live : OneLive) (one : OneReading) where
@@ -70,6 +88,9 @@ module _ (live : OneLive) (one : OneReading) where
       → status ≡ Done
   can_done None files bytes status out after can gives = absurd can
   can_done (Some Compile) files bytes status out after can gives = compile_done bytes status out can.0 can.1 gives.0
+  can_done (Some Inspect) files bytes status out after can gives =
+      inspect_done bytes status out can.0 can.1 gives.0
+  can_done (Some (Sample n)) files bytes status out after can gives = gives.0
   can_done (Some (Create n)) None bytes status out after can gives = absurd can
   can_done (Some (Create n)) (Some f) bytes status out after can gives =
       create_done bytes status out can.1 n.0 f after can.0 can.2 gives
@@ -80,6 +101,9 @@ module _ (live : OneLive) (one : OneReading) where
   can_done (Some Graph) (Some f) bytes status out after can gives = show_done live _ f status out after can gives
   can_done (Some Audit) None bytes status out after can gives = absurd can
   can_done (Some Audit) (Some f) bytes status out after can gives = show_done live _ f status out after can gives
+  can_done (Some Checkpoint) None bytes status out after can gives = absurd can
+  can_done (Some Checkpoint) (Some f) bytes status out after can gives =
+      checkpoint_done live f status out after can.0 can.1 gives
 
   -- where the source tells bytes with which the command can be done, what is put says so
   pub done : (command : Option Command) (held left : Option (List ℕ)) (before mid : Option Outside) (bytes : List ℕ)

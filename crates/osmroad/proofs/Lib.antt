@@ -15,11 +15,16 @@ pub mod HeldSource
 pub mod Replied
 pub mod WithoutStore
 pub mod CompileReplies
+pub mod InspectReplies
+pub mod SampleReplies
 pub mod UnusedSides
 pub mod RunEnds
 pub mod Refusals
 pub mod CompleteRuns
 pub mod OneAudit
+pub mod Entries
+pub mod OneGraphFile
+pub mod OneSample
 pub mod OneAnswer
 pub mod OutputFronts
 pub mod Prepared
@@ -28,3 +33,4 @@ pub mod LoadedStores
 pub mod ShownStores
 pub mod AppliedChanges
 pub mod CreatedStores
+pub mod CheckpointedStores

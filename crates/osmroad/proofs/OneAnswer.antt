@@ -7,23 +7,32 @@ use Rattle.road_base.specs.Objects.{Objects}
 use Rattle.road_base.specs.History.{History, all_events, kept, with_change}
 use Rattle.road_model.specs.Orders.{relation_cmp}
 use Rattle.road_model.specs.Naming.{OneGraph}
+use Rattle.road_model.specs.declared.blocks.Block.{Block}
 use Rattle.road_model.specs.Format.{IsGraph}
+use Rattle.drive_queries.specs.Counting.{totals_of}
 use Rattle.access_profile.specs.Motorcar.{motorcar_rules}
 use Rattle.opl_lexer.specs.declared.mode.Mode.TheVariants.{Extract, Change}
 use Rattle.opl_lexer.specs.Reading.{input_fault}
 use Rattle.sequence_journal.specs.Basing.{base_alone}
+use Rattle.store_switch.specs.Checkpointing.{checkpoint_of}
 use Rattle.osmroad.specs.declared.command.Command.{Command}
-use Rattle.osmroad.specs.declared.command.Command.TheVariants.{Compile, Create, Apply, Graph, Audit}
+use Rattle.osmroad.specs.declared.command.Command.TheVariants.{Compile, Inspect, Sample, Create, Apply}
+use Rattle.osmroad.specs.declared.command.Command.TheVariants.{Graph, Audit, Checkpoint}
 use Rattle.osmroad.specs.declared.status.Status.{Status}
-use Rattle.osmroad.specs.Texts.{sequence_line}
+use Rattle.osmroad.specs.Texts.{sequence_line, counts_line, checkpoint_line}
 use Rattle.osmroad.specs.Compiled.{IsGraphOf}
 use Rattle.osmroad.specs.Audited.{IsAuditOf}
 use Rattle.osmroad.specs.Opening.{Files, IsStore, StoreRefusal, size_with_change}
-use Rattle.osmroad.specs.Outcomes.{AreInput, IsCompiled, CompileGives, CreateGives, ApplyGives, ShowGives, Gives}
+use Rattle.osmroad.specs.Checkpoints.{AreItsEntries, HasNoRoom, CheckpointGives}
+use Rattle.osmroad.specs.Outcomes.{AreInput, IsCompiled, CompileGives, InspectGives, CreateGives, ApplyGives}
+use Rattle.osmroad.specs.Outcomes.{ShowGives, Gives}
 use Rattle.osmroad.specs.Run.{IsStored}
 use Rattle.osmroad.specs.StoreLaws.{OneLive, HasLive, NoDamage, OneStore}
 use Rattle.osmroad.proofs.CitedLaws.{OneMap, OneReading, OneDamage}
 use Rattle.osmroad.proofs.OneAudit.{one_audit}
+use Rattle.osmroad.proofs.Entries.{entries_of_one}
+use Rattle.osmroad.proofs.OneGraphFile.{one_file}
+use Rattle.osmroad.proofs.OneSample.{one_sample}
 use Rattle.osmroad.proofs.Refusals.{Same, both, no_fault, one_fault}
 use Rattle.osmroad.proofs.Refusals.{not_refused, one_refusal, store_not_refused, one_store_refusal}
 
@@ -62,6 +71,30 @@ module _ (reading : OneReading) (map : OneMap) (graph : (M : Objects) → OneGra
       (not_refused Extract bytes another other c.events (record { within = w; read = c.read }) s)
   one_compile bytes status another out other (CompileGives.OfExtract w c e) (CompileGives.OfExtract v d f) =
       (both _ _ _ e f, one_compiled bytes out other c d)
+
+one_inspect : (bytes : List ℕ) (status another : Status) (out other : List ℕ)
+    → InspectGives bytes status out → InspectGives bytes another other → Same status out another other
+one_inspect bytes status another out other (InspectGives.OfTooMuch m e o) (InspectGives.OfTooMuch k f p) =
+    (both _ _ _ e f, both _ _ _ o p)
+one_inspect bytes status another out other (InspectGives.OfTooMuch m e o) (InspectGives.OfNoGraph v n f p) =
+    absurd (v m)
+one_inspect bytes status another out other (InspectGives.OfTooMuch m e o) (InspectGives.OfGraph v g l x f p) =
+    absurd (v m)
+one_inspect bytes status another out other (InspectGives.OfNoGraph w n e o) (InspectGives.OfTooMuch k f p) =
+    absurd (w k)
+one_inspect bytes status another out other (InspectGives.OfNoGraph w n e o) (InspectGives.OfNoGraph v k f p) =
+    (both _ _ _ e f, both _ _ _ o p)
+one_inspect bytes status another out other (InspectGives.OfNoGraph w n e o) (InspectGives.OfGraph v g l x f p) =
+    absurd (n g)
+one_inspect bytes status another out other (InspectGives.OfGraph w g l x e o) (InspectGives.OfTooMuch k f p) =
+    absurd (w k)
+one_inspect bytes status another out other (InspectGives.OfGraph w g l x e o) (InspectGives.OfNoGraph v k f p) =
+    absurd (k g)
+one_inspect bytes status another out other (InspectGives.OfGraph w g l x e o) (InspectGives.OfGraph v h k y f p) = (
+  both _ _ _ e f,
+  o ∙ (ap (λ (blocks : List Block). counts_line (totals_of blocks)) (one_file bytes l k x y)
+      ∙ sym p),
+)
 
 -- ---- a new store
 
@@ -115,6 +148,45 @@ module _ (live : OneLive) (has : HasLive) (sound : NoDamage) (alone : OneDamage)
           let same = sym (one_history s t) in
           let shown = subst (λ (h : History). Shows (all_events h) other) same y in
           (both _ _ _ e f, one (all_events s.history) out other x shown, as_before s t a b)
+
+    -- the entries of the history are one list of events
+    one_entries : OneMap → (s t : IsStore files) (x y : List Event) → AreItsEntries s.history x
+        → AreItsEntries t.history y → x ≡ y
+    one_entries map s t x y r q = entries_of_one map s.history x y r
+        (subst (λ (h : History). AreItsEntries h y) (sym (one_history s t)) q)
+
+    one_room : OneMap → (s t : IsStore files) (x y : List Event) → AreItsEntries s.history x
+        → AreItsEntries t.history y → HasNoRoom s.generation x → HasNoRoom t.generation y
+    one_room map s t x y r q none =
+        subst (λ (g : ℕ). HasNoRoom g y) (one_generation s t)
+        (subst (λ (l : List Event). HasNoRoom s.generation l) (one_entries map s t x y r q) none)
+
+    one_checkpoint : OneMap → CheckpointGives files status out after → CheckpointGives files another other later
+        → Alike status out after another other later
+    one_checkpoint map (CheckpointGives.OfStore r a) (CheckpointGives.OfStore q b) =
+        with_after _ _ _ _ _ _ (one_store_refusal files status another out other live alone r q) (both _ _ _ a b)
+    one_checkpoint map (CheckpointGives.OfStore r a) (CheckpointGives.OfNoRoom t y i n f p b) = absurd
+        (store_not_refused files status out live has sound t r)
+    one_checkpoint map (CheckpointGives.OfStore r a) (CheckpointGives.OfEntries t y i n f p b) = absurd
+        (store_not_refused files status out live has sound t r)
+    one_checkpoint map (CheckpointGives.OfNoRoom s x j m e o a) (CheckpointGives.OfStore q b) = absurd
+        (store_not_refused files another other live has sound s q)
+    one_checkpoint map (CheckpointGives.OfNoRoom s x j m e o a) (CheckpointGives.OfNoRoom t y i n f p b) =
+        (both _ _ _ e f, both _ _ _ o p, as_before s t a b)
+    one_checkpoint map (CheckpointGives.OfNoRoom s x j m e o a) (CheckpointGives.OfEntries t y i n f p b) =
+        absurd (n (one_room map s t x y j i m))
+    one_checkpoint map (CheckpointGives.OfEntries s x j m e o a) (CheckpointGives.OfStore q b) = absurd
+        (store_not_refused files another other live has sound s q)
+    one_checkpoint map (CheckpointGives.OfEntries s x j m e o a) (CheckpointGives.OfNoRoom t y i n f p b) =
+        absurd (m (one_room map t s y x i j n))
+    one_checkpoint map (CheckpointGives.OfEntries s x j m e o a) (CheckpointGives.OfEntries t y i n f p b) = (
+      both _ _ _ e f,
+      o ∙ (ap (λ (h : History). checkpoint_line (kept h)) (one_history s t)
+          ∙ sym p),
+      a ∙ (ap (λ (h : History). Some (checkpoint_of h x)) (one_history s t)
+          ∙ (ap (λ (l : List Event). Some (checkpoint_of t.history l)) (one_entries map s t x y j i)
+          ∙ sym b)),
+    )
 
     module _ (reading : OneReading) (number : ℕ) (bytes : List ℕ) where
       not_next : (s t : IsStore files) → (number ≡ kept s.history + 1 → ⊥) → number ≡ kept t.history + 1 → ⊥
@@ -225,21 +297,36 @@ module _ (reading : OneReading) (map : OneMap) (graph : (M : Objects) → OneGra
   one_alone files a b = with_after _ _ _ _ _ _ (one_compile reading map graph bytes status another out other a.0 b.0)
       (both _ _ _ a.1 b.1)
 
+  one_inspected : (files : Option Files) → Gives (Some Inspect) files bytes status out after
+      → Gives (Some Inspect) files bytes another other later → Alike status out after another other later
+  one_inspected files a b =
+      with_after _ _ _ _ _ _ (one_inspect bytes status another out other a.0 b.0) (both _ _ _ a.1 b.1)
+
+  one_sampled : (number : ℕ) (files : Option Files) → Gives (Some (Sample number)) files bytes status out after
+      → Gives (Some (Sample number)) files bytes another other later → Alike status out after another other later
+  one_sampled number files a b =
+      (both _ _ _ a.0 b.0, one_sample map graph number out other a.1 b.1, both _ _ _ a.2 b.2)
+
   -- without a store no file is looked at
   pub one_without : (command : Option Command) → (IsStored command → ⊥) → Gives command None bytes status out after
       → Gives command None bytes another other later → Alike status out after another other later
   one_without None n a b = one_usage None a b
   one_without (Some Compile) n a b = one_alone None a b
+  one_without (Some Inspect) n a b = one_inspected None a b
+  one_without (Some (Sample number)) n a b = one_sampled number None a b
   one_without (Some (Create number)) n a b = absurd (n tt)
   one_without (Some (Apply number)) n a b = absurd (n tt)
   one_without (Some Graph) n a b = absurd (n tt)
   one_without (Some Audit) n a b = absurd (n tt)
+  one_without (Some Checkpoint) n a b = absurd (n tt)
 
   pub one_answer : OneLive → HasLive → NoDamage → OneDamage → OneStore → (command : Option Command) (files : Files)
       → Gives command (Some files) bytes status out after → Gives command (Some files) bytes another other later
       → Alike status out after another other later
   one_answer live has sound alone store None files a b = one_usage (Some files) a b
   one_answer live has sound alone store (Some Compile) files a b = one_alone (Some files) a b
+  one_answer live has sound alone store (Some Inspect) files a b = one_inspected (Some files) a b
+  one_answer live has sound alone store (Some (Sample n)) files a b = one_sampled n (Some files) a b
   one_answer live has sound alone store (Some (Create n)) files a b =
       one_create reading n.0 files bytes status another out other after later a b
   one_answer live has sound alone store (Some (Apply n)) files a b =
@@ -250,3 +337,5 @@ module _ (reading : OneReading) (map : OneMap) (graph : (M : Objects) → OneGra
   one_answer live has sound alone store (Some Audit) files a b =
       one_show live has sound alone store files status another out other after later IsAuditOf (one_audit total map)
       a b
+  one_answer live has sound alone store (Some Checkpoint) files a b =
+      one_checkpoint live has sound alone store files status another out other after later map a b

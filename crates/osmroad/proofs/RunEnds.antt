@@ -11,7 +11,8 @@ use Rattle.road_io.specs.Outside.{Outside, Left, LeavesOnly, extended}
 use Rattle.road_io.proofs.CallRuns.{put_goes_on}
 use Rattle.road_io.proofs.ToldCalls.{told_then, told_weaker}
 use Rattle.osmroad.specs.declared.command.Command.{Command}
-use Rattle.osmroad.specs.declared.command.Command.TheVariants.{Compile, Create, Apply, Graph, Audit}
+use Rattle.osmroad.specs.declared.command.Command.TheVariants.{Compile, Inspect, Sample, Create, Apply}
+use Rattle.osmroad.specs.declared.command.Command.TheVariants.{Graph, Audit, Checkpoint}
 use Rattle.osmroad.specs.declared.reply.Reply.{Reply}
 use Rattle.osmroad.specs.declared.reply.Failure.{Failure}
 use Rattle.osmroad.specs.declared.reply.Failure.TheVariants.{ReadFault as ReadFailure, SiteFault as SiteFailure}
@@ -42,6 +43,10 @@ reply_is_plain None status is = plain Usage status tt is
 reply_is_plain (Some Compile) status (inl is) = plain Done status tt is
 reply_is_plain (Some Compile) status (inr (inl is)) = plain Refused status tt is
 reply_is_plain (Some Compile) status (inr (inr is)) = plain Limit status tt is
+reply_is_plain (Some Inspect) status (inl is) = plain Done status tt is
+reply_is_plain (Some Inspect) status (inr (inl is)) = plain Refused status tt is
+reply_is_plain (Some Inspect) status (inr (inr is)) = plain Limit status tt is
+reply_is_plain (Some (Sample n)) status is = plain Done status tt is
 reply_is_plain (Some (Create n)) status (inl is) = plain Done status tt is
 reply_is_plain (Some (Create n)) status (inr (inl is)) = plain Refused status tt is
 reply_is_plain (Some (Create n)) status (inr (inr (inl is))) = plain Limit status tt is
@@ -60,6 +65,10 @@ reply_is_plain (Some Audit) status (inl is) = plain Done status tt is
 reply_is_plain (Some Audit) status (inr (inl is)) = plain NoStore status tt is
 reply_is_plain (Some Audit) status (inr (inr (inl is))) = plain Damaged status tt is
 reply_is_plain (Some Audit) status (inr (inr (inr is))) = plain Limit status tt is
+reply_is_plain (Some Checkpoint) status (inl is) = plain Done status tt is
+reply_is_plain (Some Checkpoint) status (inr (inl is)) = plain NoStore status tt is
+reply_is_plain (Some Checkpoint) status (inr (inr (inl is))) = plain Damaged status tt is
+reply_is_plain (Some Checkpoint) status (inr (inr (inr is))) = plain Limit status tt is
 
 -- ---- a put, and what was prepared before it
 
@@ -81,27 +90,48 @@ grows_nothing before now silent = told_weaker before now (λ w v. v.output ≡ w
     silent (λ w v e. e ∙ sym (append-nil w.output))
 
 -- a put changes no file
-extended_stands : (command : Option Command) (after : Option History) (w u : Outside) (piece : List ℕ)
-    → StandAfter command after w u → StandAfter command after w (extended piece u)
-extended_stands None None w u piece s = s
-extended_stands None (Some h) w u piece s = s
-extended_stands (Some Compile) None w u piece s = s
-extended_stands (Some Compile) (Some h) w u piece s = s
-extended_stands (Some (Create n)) None w u piece s = s
-extended_stands (Some (Create n)) (Some h) w u piece s = s
-extended_stands (Some (Apply n)) None w u piece s = s
-extended_stands (Some (Apply n)) (Some h) w u piece s = s
-extended_stands (Some Graph) None w u piece s = s
-extended_stands (Some Graph) (Some h) w u piece s = s
-extended_stands (Some Audit) None w u piece s = s
-extended_stands (Some Audit) (Some h) w u piece s = s
+switched_stands : (status : Status) (h : History) (w u : Outside) (piece : List ℕ)
+    → StandAfter (Some Checkpoint) status (Some h) w u → StandAfter (Some Checkpoint) status (Some h) w (extended piece u)
+switched_stands Done h w u piece s = record {
+  live = s.live;
+  generation = s.generation;
+  old = s.old;
+  stood = s.stood;
+  stand = s.stand;
+  small = s.small;
+}
+switched_stands Usage h w u piece s = s
+switched_stands ReadFault h w u piece s = s
+switched_stands SiteFault h w u piece s = s
+switched_stands Refused h w u piece s = s
+switched_stands OutOfSequence h w u piece s = s
+switched_stands NoStore h w u piece s = s
+switched_stands StoreExists h w u piece s = s
+switched_stands Damaged h w u piece s = s
+switched_stands Limit h w u piece s = s
+switched_stands NoMemory h w u piece s = s
+
+extended_stands : (command : Option Command) (status : Status) (after : Option History) (w u : Outside) (piece : List ℕ)
+    → StandAfter command status after w u → StandAfter command status after w (extended piece u)
+extended_stands command status None w u piece s = s
+extended_stands None status (Some h) w u piece s = s
+extended_stands (Some Compile) status (Some h) w u piece s = s
+extended_stands (Some Inspect) status (Some h) w u piece s = s
+extended_stands (Some (Sample n)) status (Some h) w u piece s = s
+extended_stands (Some (Create n)) status (Some h) w u piece s = s
+extended_stands (Some (Apply n)) status (Some h) w u piece s = s
+extended_stands (Some Graph) status (Some h) w u piece s = s
+extended_stands (Some Audit) status (Some h) w u piece s = s
+extended_stands (Some Checkpoint) status (Some h) w u piece s = switched_stands status h w u piece s
 
 module _ (command : Option Command) (out : List ℕ) where
-  still_stands : (after : Option History) (w u v : Outside) → StandAfter command after w u → PutsSome out u v
-      → StandAfter command after w v
-  still_stands after w u v s (inl same) = subst (λ (x : Outside). StandAfter command after w x) (sym same) s
-  still_stands after w u v s (inr put) = subst (λ (x : Outside). StandAfter command after w x) (sym put.1)
-      (extended_stands command after w u (take put.0 out) s)
+  still_stands : (status : Status) (after : Option History) (w u v : Outside) → StandAfter command status after w u
+      → PutsSome out u v → StandAfter command status after w v
+  still_stands status after w u v s (inl same) =
+      subst (λ (x : Outside). StandAfter command status after w x) (sym same) s
+  still_stands status after w u v s (inr put) =
+      subst (λ (x : Outside). StandAfter command status after w x) (sym put.1)
+      (extended_stands command status after w u (take put.0 out) s)
 
   -- what a stop leaves while a front of the output is put
   abbrev pub IsLastLeft : List ℕ → Outside → Outside → Type 0
@@ -137,10 +167,13 @@ reads_at_fault : (command : Option Command) (before : Option Outside) (status : 
     → Reads command (files_of before) status bytes read → Reads command (files_of before) SiteFault bytes read
 reads_at_fault None before status bytes read reads = reads
 reads_at_fault (Some Compile) before status bytes read reads = tt
+reads_at_fault (Some Inspect) before status bytes read reads = tt
+reads_at_fault (Some (Sample n)) before status bytes read reads = reads
 reads_at_fault (Some (Create n)) before status bytes read reads = tt
 reads_at_fault (Some (Apply n)) before status bytes read reads = tt
 reads_at_fault (Some Graph) before status bytes read reads = reads
 reads_at_fault (Some Audit) before status bytes read reads = reads
+reads_at_fault (Some Checkpoint) before status bytes read reads = reads
 
 all_is_put : (command : Option Command) (bytes read : List ℕ) (status : Status) (before now : Option Outside)
     → IsPlain status → PutsAll command bytes status before now → EndsWith command bytes read status before now
@@ -168,9 +201,10 @@ module _ (command : Option Command) (before mid now : Option Outside) (faults_mi
       → Ends command status held left before now
   ends_put wanted out bytes read behind all holds will silent only put status ends = go ends
     where
-      stand : Told (StandAfter command will.after) before now
-      stand = told_then before mid now (StandAfter command will.after) (PutsSome out)
-          (StandAfter command will.after) will.stand put (λ w u v. still_stands command out will.after w u v)
+      stand : Told (StandAfter command wanted will.after) before now
+      stand = told_then before mid now (StandAfter command wanted will.after) (PutsSome out)
+          (StandAfter command wanted will.after) will.stand put
+          (λ w u v. still_stands command out wanted will.after w u v)
 
       stops : Told (λ w v. LeavesOnly w v (LeftBy command read w)) before now
       stops = told_leaves command out read before mid now only will.last put
@@ -231,6 +265,10 @@ reads_as_failed : (command : Command) (bytes read : List ℕ) (failure : Failure
 reads_as_failed Compile bytes read ReadFailure before now is fails = fails.1
 reads_as_failed Compile bytes read SiteFailure before now is fails = tt
 reads_as_failed Compile bytes read MemoryFailure before now is fails = tt
+reads_as_failed Inspect bytes read ReadFailure before now is fails = fails.1
+reads_as_failed Inspect bytes read SiteFailure before now is fails = tt
+reads_as_failed Inspect bytes read MemoryFailure before now is fails = tt
+reads_as_failed (Sample n) bytes read failure before now is fails = absurd is
 reads_as_failed (Create n) bytes read ReadFailure before now is fails = fails.1
 reads_as_failed (Create n) bytes read SiteFailure before now is fails = tt
 reads_as_failed (Create n) bytes read MemoryFailure before now is fails = tt
@@ -239,6 +277,7 @@ reads_as_failed (Apply n) bytes read SiteFailure before now is fails = tt
 reads_as_failed (Apply n) bytes read MemoryFailure before now is fails = tt
 reads_as_failed Graph bytes read failure before now is fails = absurd is
 reads_as_failed Audit bytes read failure before now is fails = absurd is
+reads_as_failed Checkpoint bytes read failure before now is fails = absurd is
 
 module _ (command : Option Command) (held left : Option (List ℕ)) (before now : Option Outside)
     (silent : Told (λ w v. v.output ≡ w.output) before now) where
@@ -277,18 +316,23 @@ module _ (failure : Failure) (held left : Option (List ℕ)) (before now : Optio
   nothing_held same =
       subst (λ (l : Option (List ℕ)). HeldBytes (behind_of held) (behind_of held) held l) (sym same) (held_still held)
 
-  -- a command that doesn't read its source leaves it as it was
+  -- and by one that doesn't, and leaves it as it was
+  ends_unread : (command : Command) → (IsReading (Some command) → ⊥)
+      → Reads (Some command) (files_of before) (failure_status failure) (behind_of held) [] → left ≡ held
+      → Prepares (Some command) (Err failure) held left before now
+      → Ends (Some command) (failure_status failure) held left before now
+  ends_unread command none reads same p =
+      ends_failing (Some command) held left before now p.silent (behind_of held) [] (behind_of held) failure refl
+      (nothing_held same) (fails_alike (Some command) p.read [] failure before now none p.answer) reads p.only
+
   pub ends_failed : (command : Command) → ((IsReading (Some command) → ⊥) → left ≡ held)
       → Prepares (Some command) (Err failure) held left before now
       → Ends (Some command) (failure_status failure) held left before now
   ends_failed Compile unread p = ends_reading Compile tt p
+  ends_failed Inspect unread p = ends_reading Inspect tt p
   ends_failed (Create n) unread p = ends_reading (Create n) tt p
   ends_failed (Apply n) unread p = ends_reading (Apply n) tt p
-  ends_failed Graph unread p =
-      ends_failing (Some Graph) held left before now p.silent (behind_of held) [] (behind_of held) failure refl
-      (nothing_held (unread (λ is. is)))
-      (fails_alike (Some Graph) p.read [] failure before now (λ is. is) p.answer) refl p.only
-  ends_failed Audit unread p =
-      ends_failing (Some Audit) held left before now p.silent (behind_of held) [] (behind_of held) failure refl
-      (nothing_held (unread (λ is. is)))
-      (fails_alike (Some Audit) p.read [] failure before now (λ is. is) p.answer) refl p.only
+  ends_failed (Sample n) unread p = ends_unread (Sample n) (λ is. is) refl (unread (λ is. is)) p
+  ends_failed Graph unread p = ends_unread Graph (λ is. is) refl (unread (λ is. is)) p
+  ends_failed Audit unread p = ends_unread Audit (λ is. is) refl (unread (λ is. is)) p
+  ends_failed Checkpoint unread p = ends_unread Checkpoint (λ is. is) refl (unread (λ is. is)) p

@@ -50,7 +50,7 @@ pub record ShowsStore (command : Option Command) (Shows : List Event → List �
   pub gives : (files : Option Files) (bytes : List ℕ) (status : Status) (out : List ℕ) (after : Option History)
       → IfSome files (λ f. ShowGives Shows f status out after) → Gives command files bytes status out after
   pub leaves : (w : Outside) (left : Left) → LeavesStored (LeavesHistory w left) w left → LeftBy command [] w left
-  pub stand : (w v : Outside) (h : History) → CanBeLoaded (reads_of v) h → StandAfter command (Some h) w v
+  pub stand : (w v : Outside) (h : History) → CanBeLoaded (reads_of v) h → StandAfter command Done (Some h) w v
 
 pub graph_shows : ShowsStore (Some Graph) IsGraphOf
 graph_shows = record {

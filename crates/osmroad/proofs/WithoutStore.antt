@@ -7,7 +7,8 @@ use Rattle.road_io.specs.Outside.{Outside, Left, LeavesOnly}
 use Rattle.road_io.proofs.CallRuns.{started}
 use Rattle.road_io.proofs.ToldCalls.{told_same}
 use Rattle.osmroad.specs.declared.command.Command.{Command}
-use Rattle.osmroad.specs.declared.command.Command.TheVariants.{Compile, Create, Apply, Graph, Audit}
+use Rattle.osmroad.specs.declared.command.Command.TheVariants.{Compile, Inspect, Sample, Create, Apply}
+use Rattle.osmroad.specs.declared.command.Command.TheVariants.{Graph, Audit, Checkpoint}
 use Rattle.osmroad.specs.declared.status.Status.{Status}
 use Rattle.osmroad.specs.Outcomes.{Gives}
 use Rattle.osmroad.specs.Stops.{CouldLeave, LeftBy}
@@ -29,10 +30,13 @@ module _ (command : Option Command) (read : List ℕ) where
       go : (c : Option Command) → (IsStored c → ⊥) → LeftBy c read w left
       go None n = could
       go (Some Compile) n = could
+      go (Some Inspect) n = could
+      go (Some (Sample number)) n = could
       go (Some (Create number)) n = absurd (n tt)
       go (Some (Apply number)) n = absurd (n tt)
       go (Some Graph) n = absurd (n tt)
       go (Some Audit) n = absurd (n tt)
+      go (Some Checkpoint) n = absurd (n tt)
 
   pub leaves_still : (IsStored command → ⊥) → (x : Option Outside)
       → Told (λ w v. LeavesOnly w v (LeftBy command read w)) x x
@@ -48,7 +52,7 @@ module _ (command : Option Command) (read : List ℕ) where
     reads = reads;
     after = None;
     gives = gives;
-    stand = told_same x (StandAfter command None) (λ w file. refl);
+    stand = told_same x (StandAfter command status None) (λ w file. refl);
     last = told_same x (λ w v. (left : Left) → IsImage v.a left.a → IsImage v.b left.b
         → StartsWith (v.output ++ out) left.out → LeftBy command read w left)
         (λ w left a b s. left_alone alone w left (record { a = a; b = b }));

@@ -5,7 +5,8 @@ use Rattle.std.specs.Option.{option_and_then}
 use Rattle.std.specs.Str.Parse.{digits_value}
 use Rattle.opl_lexer.specs.Numbers.{is_numeral}
 use Rattle.osmroad.specs.declared.command.Command.{Command}
-use Rattle.osmroad.specs.declared.command.Command.TheVariants.{Compile, Create, Apply, Graph, Audit}
+use Rattle.osmroad.specs.declared.command.Command.TheVariants.{Compile, Inspect, Sample, Create, Apply}
+use Rattle.osmroad.specs.declared.command.Command.TheVariants.{Graph, Audit, Checkpoint}
 
 -- a store's name isn't empty, and doesn't begin with `-`
 abbrev pub is_store : List ℕ → Bool
@@ -29,20 +30,32 @@ asked_numbered name n =
 abbrev pub asked_alone : List ℕ → Option Command
 asked_alone name =
     if bytes_eq name (codes "graph") then Some Graph
-    else (if bytes_eq name (codes "audit") then Some Audit else None)
+    else (if bytes_eq name (codes "audit") then Some Audit
+    else (if bytes_eq name (codes "checkpoint") then Some Checkpoint else None))
 
--- `- compile`, or the store's name and the command's
+-- without a store
+abbrev pub asked_without : List ℕ → Option Command
+asked_without name =
+    if bytes_eq name (codes "compile") then Some Compile
+    else (if bytes_eq name (codes "inspect") then Some Inspect else None)
+
+abbrev pub asked_sample : List ℕ → ℕ → Option Command
+asked_sample name n = if bytes_eq name (codes "sample") then Some (Sample n) else None
+
+-- `-` or the store's name, and the command's
 abbrev pub asked_by_two : List ℕ → List ℕ → Option Command
 asked_by_two store name =
-    if bytes_eq store (codes "-") then (if bytes_eq name (codes "compile") then Some Compile else None)
+    if bytes_eq store (codes "-") then asked_without name
     else (if is_store store then asked_alone name else None)
 
--- the store's name, the command's, and a number
+-- `-` or the store's name, the command's, and a number
 abbrev pub asked_by_three : List ℕ → List ℕ → List ℕ → Option Command
 asked_by_three store name number =
-    if is_store store then option_and_then (asked_numbered name) (number_of number) else None
+    if bytes_eq store (codes "-") then option_and_then (asked_sample name) (number_of number)
+    else (if is_store store then option_and_then (asked_numbered name) (number_of number) else None)
 
--- `- compile`, `STORE create N`, `STORE apply N`, `STORE graph` and `STORE audit`; other words ask nothing
+-- `- compile`, `- inspect`, `- sample N`, `STORE create N`, `STORE apply N`, `STORE graph`, `STORE audit` and
+-- `STORE checkpoint`; other words ask nothing
 abbrev pub asked : List (List ℕ) → Option Command
 asked [] = None
 asked (one ∷ []) = None

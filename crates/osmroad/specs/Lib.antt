@@ -6,10 +6,13 @@ pub mod Limits
 pub mod Texts
 pub mod Input
 pub mod Reading
+pub mod Gathering
+pub mod Sampling
 pub mod Status
 pub mod Commands
 pub mod Opening
 pub mod StoreLaws
+pub mod Checkpoints
 pub mod Outcomes
 pub mod Stops
 pub mod Run

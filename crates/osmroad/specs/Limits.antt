@@ -2,6 +2,10 @@
 use Rattle.std.specs.Prelude.{◌≡◌, ◌≢◌, ◌⊎◌, ◌+◌, ◌-◌, ◌≤◌, ◌<◌, ◌^◌, ℕ, List, length, slice_index}
 use Rattle.osmroad.specs.declared.limits.Measure.{Measure}
 
+-- there are more than 2^30 bytes: the limit of a graph file, which has no lines
+abbrev pub HasTooManyBytes : List ℕ → Type 0
+HasTooManyBytes bytes = 2 ^ 30 < length bytes
+
 -- from this byte on more than 2^24 bytes come without a newline
 abbrev pub IsLongFrom : List ℕ → ℕ → Type 0
 IsLongFrom bytes i = (i + 2 ^ 24 < length bytes) × ((j : ℕ) → i ≤ j → j ≤ i + 2 ^ 24 → slice_index bytes j ≢ 10)

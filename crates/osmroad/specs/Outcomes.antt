@@ -6,19 +6,26 @@ use Rattle.road_base.specs.History.{History, all_events, kept, with_change}
 use Rattle.opl_lexer.specs.declared.mode.Mode.{Mode}
 use Rattle.opl_lexer.specs.declared.mode.Mode.TheVariants.{Extract, Change}
 use Rattle.opl_lexer.specs.Reading.{FaultAt, input_fault, ReadAll}
+use Rattle.road_model.specs.declared.blocks.Block.{Block}
+use Rattle.road_model.specs.Format.{IsGraphFile}
+use Rattle.graph_file.specs.GraphReading.{IsFile}
+use Rattle.drive_queries.specs.Counting.{totals_of}
 use Rattle.road_io.specs.declared.outside.Which.{Which}
 use Rattle.sequence_journal.specs.Layout.{HasBase}
 use Rattle.sequence_journal.specs.Basing.{base_alone}
 use Rattle.store_switch.specs.LiveFile.{NoBases}
 use Rattle.osmroad.specs.declared.command.Command.{Command}
-use Rattle.osmroad.specs.declared.command.Command.TheVariants.{Compile, Create, Apply, Graph, Audit}
+use Rattle.osmroad.specs.declared.command.Command.TheVariants.{Compile, Inspect, Sample, Create, Apply}
+use Rattle.osmroad.specs.declared.command.Command.TheVariants.{Graph, Audit, Checkpoint}
 use Rattle.osmroad.specs.declared.status.Status.{Status}
 use Rattle.osmroad.specs.declared.status.Status.TheVariants.{Done, Usage, Refused, OutOfSequence, StoreExists, Limit}
-use Rattle.osmroad.specs.Limits.{PassesLimit}
+use Rattle.osmroad.specs.Limits.{PassesLimit, HasTooManyBytes}
 use Rattle.osmroad.specs.Texts.{usage_line, limit_line, store_exists_line, created_line, applied_line}
-use Rattle.osmroad.specs.Texts.{sequence_line, refused_line}
+use Rattle.osmroad.specs.Texts.{sequence_line, refused_line, refused_graph_line, counts_line}
 use Rattle.osmroad.specs.Compiled.{IsGraphOf}
 use Rattle.osmroad.specs.Audited.{IsAuditOf}
+use Rattle.osmroad.specs.Sampling.{IsSample}
+use Rattle.osmroad.specs.Checkpoints.{CheckpointGives}
 use Rattle.osmroad.specs.Opening.{Files, IsStore, StoreRefusal, size_with_change}
 
 -- ---- an input
@@ -49,6 +56,14 @@ pub record IsCompiled (bytes out : List ℕ) : Type 0 where
 pub data CompileGives (bytes : List ℕ) (status : Status) (out : List ℕ) : Type 0 where
   OfInput : InputRefusal Extract bytes status out → CompileGives bytes status out
   OfExtract : IsWithinLimits bytes → IsCompiled bytes out → status ≡ Done → CompileGives bytes status out
+
+-- `- inspect`: the bytes are a graph file, of which `out` says how large it is
+pub data InspectGives (bytes : List ℕ) (status : Status) (out : List ℕ) : Type 0 where
+  OfTooMuch : HasTooManyBytes bytes → status ≡ Limit → out ≡ limit_line → InspectGives bytes status out
+  OfNoGraph : (HasTooManyBytes bytes → ⊥) → (IsGraphFile bytes → ⊥)
+      → status ≡ Refused → out ≡ refused_graph_line → InspectGives bytes status out
+  OfGraph : (HasTooManyBytes bytes → ⊥) → IsGraphFile bytes → (blocks : List Block) → IsFile bytes blocks
+      → status ≡ Done → out ≡ counts_line (totals_of blocks) → InspectGives bytes status out
 
 -- `STORE create N`: where no file has an open base, the files then stand for base N with the events of the extract
 pub data CreateGives (number : ℕ) (files : Files) (bytes : List ℕ) (status : Status) (out : List ℕ)
@@ -102,7 +117,10 @@ pub data ShowGives (Shows : List Event → List ℕ → Type 0) (files : Files) 
 abbrev pub Gives : Option Command → Option Files → List ℕ → Status → List ℕ → Option History → Type 0
 Gives None files bytes status out after = (status ≡ Usage) × (out ≡ usage_line) × (after ≡ None)
 Gives (Some Compile) files bytes status out after = CompileGives bytes status out × (after ≡ None)
+Gives (Some Inspect) files bytes status out after = InspectGives bytes status out × (after ≡ None)
+Gives (Some (Sample n)) files bytes status out after = (status ≡ Done) × IsSample n out × (after ≡ None)
 Gives (Some (Create n)) files bytes status out after = IfSome files (λ f. CreateGives n.0 f bytes status out after)
 Gives (Some (Apply n)) files bytes status out after = IfSome files (λ f. ApplyGives n.0 f bytes status out after)
 Gives (Some Graph) files bytes status out after = IfSome files (λ f. ShowGives IsGraphOf f status out after)
 Gives (Some Audit) files bytes status out after = IfSome files (λ f. ShowGives IsAuditOf f status out after)
+Gives (Some Checkpoint) files bytes status out after = IfSome files (λ f. CheckpointGives f status out after)

@@ -32,9 +32,10 @@ use Rattle.osmroad.specs.declared.status.Status.TheVariants.{SiteFault as SiteFa
 use Rattle.osmroad.specs.declared.status.Status.TheVariants.{NoMemory as NoMemoryStatus}
 use Rattle.osmroad.specs.Texts.{limit_line, refused_line, sequence_line, damaged_line}
 use Rattle.osmroad.specs.Texts.{no_store_line, store_exists_line}
-use Rattle.osmroad.specs.Outcomes.{Gives, IsWithinLimits}
+use Rattle.osmroad.specs.Outcomes.{Gives}
 use Rattle.osmroad.specs.Stops.{LeftBy}
-use Rattle.osmroad.specs.Run.{IsReading, IsStored, IsReply, HeldBytes, Reads, StandAfter, StandAsBefore, files_of}
+use Rattle.osmroad.specs.Run.{IsReading, IsStored, IsReply, PassesFor, HeldBytes, Reads, StandAfter, StandAsBefore}
+use Rattle.osmroad.specs.Run.{files_of}
 
 -- ---- replies
 
@@ -86,13 +87,13 @@ pub record WillPut (command : Option Command) (bytes read : List ℕ) (status : 
   pub reads : Reads command (files_of before) status bytes read
   pub after : Option History
   pub gives : Gives command (files_of before) bytes status out after
-  pub stand : Told (StandAfter command after) before now
+  pub stand : Told (StandAfter command status after) before now
   pub last : Told (λ w v. (left : Left) → IsImage v.a left.a → IsImage v.b left.b
       → StartsWith (v.output ++ out) left.out → LeftBy command read w left) before now
 
 abbrev pub WillFail : Option Command → List ℕ → Failure → Option Outside → Option Outside → Type 0
 WillFail command read ReadFault before now =
-    IsReading command × IsWithinLimits read × Told StandAsBefore before now
+    IsReading command × (PassesFor command read → ⊥) × Told StandAsBefore before now
 WillFail command read SiteFault before now = IsStored command
 WillFail command read NoMemory before now = Told StandAsBefore before now
 

@@ -8,22 +8,25 @@ use Rattle.road_base.specs.Objects.{Objects}
 use Rattle.road_base.specs.Applying.{IsApplied}
 use Rattle.opl_lexer.specs.declared.mode.Mode.TheVariants.{Extract, Change}
 use Rattle.opl_lexer.specs.Reading.{ReadAll}
+use Rattle.road_model.specs.Format.{IsGraphFile}
 use Rattle.road_model.specs.Highways.{highways}
 use Rattle.road_io.specs.Told.{Told, Rose}
 use Rattle.road_io.specs.declared.outside.Which.{Which}
-use Rattle.road_io.specs.Outside.{Outside, LeavesOnly, extended}
+use Rattle.road_io.specs.Outside.{Outside, LeavesOnly, extended, other}
 use Rattle.sequence_journal.specs.Standing.{DamagedAt}
 use Rattle.store_switch.specs.LiveFile.{IsLive, NoBases, reads_of}
-use Rattle.store_switch.specs.TwoFiles.{StandFor, CanBeLoaded}
+use Rattle.store_switch.specs.TwoFiles.{StandOn, StandFor, CanBeLoaded}
 use Rattle.store_switch.specs.StoreLoading.{StillRead}
 use Rattle.osmroad.specs.declared.command.Command.{Command}
-use Rattle.osmroad.specs.declared.command.Command.TheVariants.{Compile, Create, Apply, Graph, Audit}
+use Rattle.osmroad.specs.declared.command.Command.TheVariants.{Compile, Inspect, Sample, Create, Apply}
+use Rattle.osmroad.specs.declared.command.Command.TheVariants.{Graph, Audit, Checkpoint}
 use Rattle.osmroad.specs.declared.status.Status.{Status}
 use Rattle.osmroad.specs.declared.status.Status.TheVariants.{Done, Usage, ReadFault, SiteFault, Refused, Limit}
 use Rattle.osmroad.specs.declared.status.Status.TheVariants.{NoMemory, OutOfSequence, NoStore, StoreExists, Damaged}
-use Rattle.osmroad.specs.Limits.{PassesLimit}
+use Rattle.osmroad.specs.Limits.{PassesLimit, HasTooManyBytes}
 use Rattle.osmroad.specs.Opening.{Files, IsStore, size_with_change}
-use Rattle.osmroad.specs.Outcomes.{Gives, AreInput, IsWithinLimits}
+use Rattle.osmroad.specs.Checkpoints.{AreItsEntries, HasNoRoom}
+use Rattle.osmroad.specs.Outcomes.{Gives, AreInput}
 use Rattle.osmroad.specs.Stops.{LeftBy}
 
 -- ---- kinds of commands
@@ -37,30 +40,39 @@ IsAsked (Some c) = Unit {0}
 abbrev pub IsReading : Option Command → Type 0
 IsReading None = ⊥
 IsReading (Some Compile) = Unit {0}
+IsReading (Some Inspect) = Unit {0}
+IsReading (Some (Sample n)) = ⊥
 IsReading (Some (Create n)) = Unit {0}
 IsReading (Some (Apply n)) = Unit {0}
 IsReading (Some Graph) = ⊥
 IsReading (Some Audit) = ⊥
+IsReading (Some Checkpoint) = ⊥
 
 -- the command works on a store; any other one touches no file
 abbrev pub IsStored : Option Command → Type 0
 IsStored None = ⊥
 IsStored (Some Compile) = ⊥
+IsStored (Some Inspect) = ⊥
+IsStored (Some (Sample n)) = ⊥
 IsStored (Some (Create n)) = Unit {0}
 IsStored (Some (Apply n)) = Unit {0}
 IsStored (Some Graph) = Unit {0}
 IsStored (Some Audit) = Unit {0}
+IsStored (Some Checkpoint) = Unit {0}
 
 -- the statuses with which a command puts something
 abbrev pub IsReply : Option Command → Status → Type 0
 IsReply None status = status ≡ Usage
 IsReply (Some Compile) status = (status ≡ Done) ⊎ (status ≡ Refused) ⊎ (status ≡ Limit)
+IsReply (Some Inspect) status = (status ≡ Done) ⊎ (status ≡ Refused) ⊎ (status ≡ Limit)
+IsReply (Some (Sample n)) status = status ≡ Done
 IsReply (Some (Create n)) status =
     (status ≡ Done) ⊎ (status ≡ Refused) ⊎ (status ≡ Limit) ⊎ (status ≡ StoreExists)
 IsReply (Some (Apply n)) status = (status ≡ Done) ⊎ (status ≡ Refused) ⊎ (status ≡ OutOfSequence)
     ⊎ (status ≡ NoStore) ⊎ (status ≡ Damaged) ⊎ (status ≡ Limit)
 IsReply (Some Graph) status = (status ≡ Done) ⊎ (status ≡ NoStore) ⊎ (status ≡ Damaged) ⊎ (status ≡ Limit)
 IsReply (Some Audit) status = (status ≡ Done) ⊎ (status ≡ NoStore) ⊎ (status ≡ Damaged) ⊎ (status ≡ Limit)
+IsReply (Some Checkpoint) status = (status ≡ Done) ⊎ (status ≡ NoStore) ⊎ (status ≡ Damaged) ⊎ (status ≡ Limit)
 
 -- Each status that a command may have, whatever source and site: one with which it puts something, or one by which a
 -- fault of them or want of memory ends it.
@@ -98,12 +110,22 @@ abbrev pub files_of : Option Outside → Option Files
 files_of None = None
 files_of (Some w) = Some (reads_of w)
 
+-- The file that wasn't live holds this history, under the generation behind that of the other one, and is live now.
+pub record HaveSwitched (h : History) (w v : Outside) : Type 0 where
+  pub live : Which
+  pub generation : ℕ
+  pub old : History
+  pub stood : StandOn live generation (reads_of w) old
+  pub stand : StandOn (other live) (generation + 1) (reads_of v) h
+  pub small : length (reads_of v (other live)) ≤ 2 ^ 40
+
 -- The files stand for this history, or, where none is said, read as before. The next run can load them; of a new store
--- no limit is said.
-abbrev pub StandAfter : Option Command → Option History → Outside → Outside → Type 0
-StandAfter command None w v = StillRead w v
-StandAfter (Some (Create n)) (Some h) w v = StandFor (reads_of v) h
-StandAfter command (Some h) w v = CanBeLoaded (reads_of v) h
+-- no limit is said. A checkpoint that is done has switched the files.
+abbrev pub StandAfter : Option Command → Status → Option History → Outside → Outside → Type 0
+StandAfter command status None w v = StillRead w v
+StandAfter (Some (Create n)) status (Some h) w v = StandFor (reads_of v) h
+StandAfter (Some Checkpoint) Done (Some h) w v = HaveSwitched h w v
+StandAfter command status (Some h) w v = CanBeLoaded (reads_of v) h
 
 -- the files read as before, or they stand for the history for which they stood
 abbrev pub StandAsBefore : Outside → Outside → Type 0
@@ -115,18 +137,23 @@ StandAsBefore w v = StillRead w v ⊎ ((h : History) × CanBeLoaded (reads_of w)
 abbrev pub HeldBytes : List ℕ → List ℕ → Option (List ℕ) → Option (List ℕ) → Type 0
 HeldBytes bytes behind = Told (λ before now. (before ≡ bytes) × (now ≡ behind))
 
+-- the limits on what a command reads
+abbrev pub PassesFor : Option Command → List ℕ → Type 0
+PassesFor (Some Inspect) read = HasTooManyBytes read
+PassesFor command read = PassesLimit read
+
 -- What was read at a limit: more than is allowed; with a change also all of it, where the store has no room for it, or
 -- nothing, where the live file is too large already.
 abbrev pub ReadsToLimit : Option Command → List ℕ → List ℕ → Type 0
 ReadsToLimit (Some (Apply n)) bytes read = PassesLimit read ⊎ (read ≡ bytes) ⊎ (read ≡ [])
-ReadsToLimit command bytes read = PassesLimit read
+ReadsToLimit command bytes read = PassesFor command read
 
 -- What was read by a command that reads its source: all of the bytes, no more than the limits allow, or nothing, where
 -- the files are looked at first. Where they aren't told, a store may appear while the source is read.
 abbrev pub ReadsSource : Option Command → Option Files → Status → List ℕ → List ℕ → Type 0
 ReadsSource command files Done bytes read = read ≡ bytes
 ReadsSource command files Usage bytes read = read ≡ []
-ReadsSource command files ReadFault bytes read = IsWithinLimits read
+ReadsSource command files ReadFault bytes read = PassesFor command read → ⊥
 ReadsSource command files SiteFault bytes read = Unit {0}
 ReadsSource command files Refused bytes read = read ≡ bytes
 ReadsSource command files OutOfSequence bytes read = read ≡ bytes
@@ -140,10 +167,13 @@ ReadsSource command files NoMemory bytes read = Unit {0}
 abbrev pub Reads : Option Command → Option Files → Status → List ℕ → List ℕ → Type 0
 Reads None files status bytes read = read ≡ []
 Reads (Some Compile) files status bytes read = ReadsSource (Some Compile) files status bytes read
+Reads (Some Inspect) files status bytes read = ReadsSource (Some Inspect) files status bytes read
+Reads (Some (Sample n)) files status bytes read = read ≡ []
 Reads (Some (Create n)) files status bytes read = ReadsSource (Some (Create n)) files status bytes read
 Reads (Some (Apply n)) files status bytes read = ReadsSource (Some (Apply n)) files status bytes read
 Reads (Some Graph) files status bytes read = read ≡ []
 Reads (Some Audit) files status bytes read = read ≡ []
+Reads (Some Checkpoint) files status bytes read = read ≡ []
 
 -- ---- how a run ends
 
@@ -154,7 +184,7 @@ pub record PutsAll (command : Option Command) (bytes : List ℕ) (status : Statu
   pub after : Option History
   pub gives : Gives command (files_of before) bytes status out after
   pub grows : Grows out before now
-  pub stand : Told (StandAfter command after) before now
+  pub stand : Told (StandAfter command status after) before now
 
 -- a front of what is given was put, all of which rests on what was read
 pub record PutsFront (command : Option Command) (bytes read : List ℕ) (before now : Option Outside) : Type 0 where
@@ -164,7 +194,7 @@ pub record PutsFront (command : Option Command) (bytes read : List ℕ) (before 
   pub reads : Reads command (files_of before) status bytes read
   pub gives : Gives command (files_of before) bytes status out after
   pub grows : GrowsInto out before now
-  pub stand : Told (StandAfter command after) before now
+  pub stand : Told (StandAfter command status after) before now
 
 -- What was put, by the status. Nothing is put where the source fails or memory ends, nor where the site fails before
 -- the last put.
@@ -202,23 +232,31 @@ abbrev pub CanBeAdded : ℕ → List Event → Files → Type 0
 CanBeAdded number events files = (s : IsStore files)
     → (number ≡ kept s.history + 1) × (size_with_change s.generation s.history events ≤ 2 ^ 40)
 
+-- there is room for the store's entries in the other file, under the next generation
+abbrev pub CanBeRebased : Files → Type 0
+CanBeRebased files = (s : IsStore files) (events : List Event) → AreItsEntries s.history events
+    → HasNoRoom s.generation events → ⊥
+
 -- The words ask something, the bytes pass no limit and none of their lines is in fault, the files are as the command
--- needs them, and a file to be written keeps within its limit.
+-- needs them, and a file to be written keeps within its limit. A file to be inspected is a graph's.
 abbrev pub CanBeDone : Option Command → Option Files → List ℕ → Type 0
 CanBeDone None files bytes = ⊥
 CanBeDone (Some Compile) files bytes = (events : List Event) × AreInput Extract bytes events
+CanBeDone (Some Inspect) files bytes = (HasTooManyBytes bytes → ⊥) × IsGraphFile bytes
+CanBeDone (Some (Sample n)) files bytes = Unit {0}
 CanBeDone (Some (Create n)) (Some files) bytes = NoBases files
     × (events : List Event) × AreInput Extract bytes events
 CanBeDone (Some (Apply n)) (Some files) bytes = IsReadable files
     × (events : List Event) × AreInput Change bytes events × CanBeAdded n.0 events files
 CanBeDone (Some Graph) (Some files) bytes = IsReadable files
 CanBeDone (Some Audit) (Some files) bytes = IsReadable files
+CanBeDone (Some Checkpoint) (Some files) bytes = IsReadable files × CanBeRebased files
 CanBeDone command None bytes = ⊥
 
 -- ---- how many blocks are built
 
 -- No more blocks are built than there are visible ways with the key `highway` among the objects of which the graph is.
--- Other commands build none.
+-- A sample builds those of eleven graphs, one after another, of which no bound is said. Other commands build none.
 abbrev pub Builds : Option Command → Option (List ℕ) → Option Outside → ℕ → ℕ → Type 0
 Builds (Some Compile) held before old new = (bytes : List ℕ) (events : List Event) (objects : Objects)
     → held ≡ Some bytes → ReadAll Extract bytes events → IsApplied empty events objects
@@ -226,4 +264,5 @@ Builds (Some Compile) held before old new = (bytes : List ℕ) (events : List Ev
 Builds (Some Graph) held before old new = (w : Outside) (h : History) (objects : Objects)
     → before ≡ Some w → CanBeLoaded (reads_of w) h → HasObjects h objects
     → new ≤ old + length (highways objects)
+Builds (Some (Sample n)) held before old new = Unit {0}
 Builds command held before old new = new ≡ old

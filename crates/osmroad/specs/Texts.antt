@@ -6,6 +6,8 @@ use Rattle.opl_lexer.specs.declared.fault.FaultKind.{FaultKind}
 use Rattle.opl_lexer.specs.declared.fault.FaultKind.TheVariants.{NotUtf8, UnknownLine, UnknownField, Repeated}
 use Rattle.opl_lexer.specs.declared.fault.FaultKind.TheVariants.{BadNumber, BadEscape, BadTag, BadMember, BadRef}
 use Rattle.opl_lexer.specs.declared.fault.FaultKind.TheVariants.{BadCoordinate, BadFlag, NoVersion, TooMany}
+use Rattle.drive_queries.specs.declared.totals.Totals.{Totals}
+use Rattle.reply_lines.specs.Texts.{counts_bytes}
 use Rattle.road_io.specs.declared.outside.Which.{Which}
 use Rattle.road_io.specs.declared.outside.Which.TheVariants.{A, B}
 
@@ -28,6 +30,24 @@ created_line n = codes "created " ++ (decimal n ++ 10 ∷ [])
 
 abbrev pub applied_line : ℕ → List ℕ
 applied_line n = codes "applied " ++ (decimal n ++ 10 ∷ [])
+
+-- the kept number
+abbrev pub checkpoint_line : ℕ → List ℕ
+checkpoint_line n = codes "checkpoint " ++ (decimal n ++ 10 ∷ [])
+
+-- how large a graph is
+abbrev pub counts_line : Totals → List ℕ
+counts_line totals = counts_bytes totals ++ 10 ∷ []
+
+-- `sample Q ways W pieces P contexts C arcs A bytes LEN`, with its newline: how large the graph behind change Q is
+abbrev pub sample_line : ℕ → Totals → ℕ → List ℕ
+sample_line q totals bytes = codes "sample "
+    ++ (decimal q ++ (codes " "
+    ++ (counts_bytes totals ++ (codes " bytes " ++ (decimal bytes ++ 10 ∷ [])))))
+
+-- bytes that are no graph file
+abbrev pub refused_graph_line : List ℕ
+refused_graph_line = codes "refused graph" ++ 10 ∷ []
 
 -- the number that came, and the kept one
 abbrev pub sequence_line : ℕ → ℕ → List ℕ

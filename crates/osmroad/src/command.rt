@@ -1,7 +1,7 @@
 //! What the words of a run ask.
 ghost use Rattle.std.specs.Prelude.{◌≡◌, map};
-ghost use Rattle.osmroad.specs.Commands.{asked, asked_by_two, asked_by_three, asked_alone, asked_numbered};
-ghost use Rattle.osmroad.specs.Commands.{asked_base, is_store, number_of};
+ghost use Rattle.osmroad.specs.Commands.{asked, asked_by_two, asked_by_three, asked_without, asked_alone};
+ghost use Rattle.osmroad.specs.Commands.{asked_sample, asked_numbered, asked_base, is_store, number_of};
 
 use road_base::Sequence;
 
@@ -10,6 +10,10 @@ use road_base::Sequence;
 pub enum Command {
     /// The graph of the extract on the source.
     Compile,
+    /// How large the graph is whose file is on the source.
+    Inspect,
+    /// How large the graphs of a town and of its ten changes are, which are made from this number.
+    Sample(u64),
     /// A store where there is none: its base is the extract on the source, under this number.
     Create(Sequence),
     /// One more change of the store, on the source and under this number.
@@ -18,10 +22,13 @@ pub enum Command {
     Graph,
     /// What becomes of each restriction that the store holds.
     Audit,
+    /// The store's other file with all that the store holds as a base, and no change.
+    Checkpoint,
 }
 
-/// What the words ask: `- compile`, `STORE create N`, `STORE apply N`, `STORE graph` or `STORE audit`. STORE isn't
-/// empty and doesn't begin with `-`; N is digits, a value of 64 bits, and for `create` not the last one.
+/// What the words ask: `- compile`, `- inspect`, `- sample N`, `STORE create N`, `STORE apply N`, `STORE graph`,
+/// `STORE audit` or `STORE checkpoint`. STORE isn't empty and doesn't begin with `-`; N is digits, a value of 64 bits,
+/// and for `create` not the last one.
 pub fn command_of(words: &[&str]) -> Option<Command>
     ensures { result ≡ asked (map (λ w. w.now) words.now) }
 {
@@ -36,11 +43,7 @@ fn asked_by_two(store: &str, name: &str) -> Option<Command>
     ensures { result ≡ asked_by_two store.now name.now }
 {
     if store == "-" {
-        return if name == "compile" {
-            Some(Command::Compile)
-        } else {
-            None
-        };
+        return asked_without(name);
     }
     if is_store(store) {
         asked_alone(name)
@@ -49,13 +52,39 @@ fn asked_by_two(store: &str, name: &str) -> Option<Command>
     }
 }
 
+fn asked_without(name: &str) -> Option<Command>
+    ensures { result ≡ asked_without name.now }
+{
+    if name == "compile" {
+        return Some(Command::Compile);
+    }
+    if name == "inspect" {
+        Some(Command::Inspect)
+    } else {
+        None
+    }
+}
+
 fn asked_by_three(store: &str, name: &str, number: &str) -> Option<Command>
     ensures { result ≡ asked_by_three store.now name.now number.now }
 {
+    if store == "-" {
+        return asked_sample(name, number_of(number)?);
+    }
     if !is_store(store) {
         return None;
     }
     asked_numbered(name, number_of(number)?)
+}
+
+fn asked_sample(name: &str, number: u64) -> Option<Command>
+    ensures { result ≡ asked_sample name.now number }
+{
+    if name == "sample" {
+        Some(Command::Sample(number))
+    } else {
+        None
+    }
 }
 
 fn asked_alone(name: &str) -> Option<Command>
@@ -65,7 +94,10 @@ fn asked_alone(name: &str) -> Option<Command>
         return Some(Command::Graph);
     }
     if name == "audit" {
-        Some(Command::Audit)
+        return Some(Command::Audit);
+    }
+    if name == "checkpoint" {
+        Some(Command::Checkpoint)
     } else {
         None
     }

@@ -13,7 +13,8 @@ use road_base::Event;
 use road_io::Source;
 use std::alloc::Global;
 
-const PIECE: usize = 1 << 16;
+/// How many bytes are read at once.
+pub const PIECE: usize = 1 << 16;
 
 /// Why an input isn't read.
 #[derive(Clone, Copy, PartialEq, Eq, Debug)]
@@ -27,8 +28,8 @@ pub enum InputError {
     NoMemory,
 }
 
-// The first n bytes.
-fn front(bytes: &[u8], n: usize) -> &[u8]
+/// The first n bytes.
+pub fn front(bytes: &[u8], n: usize) -> &[u8]
     requires { n ≤ length bytes.now }
     ensures value { result.now ≡ take n bytes.now }
     ensures len { length result.now ≡ n }

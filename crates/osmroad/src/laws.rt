@@ -6,7 +6,7 @@ ghost use Rattle.osmroad.specs.declared.status.Status.{Status};
 ghost use Rattle.osmroad.specs.Opening.{Files};
 ghost use Rattle.osmroad.specs.Outcomes.{Gives};
 ghost use Rattle.osmroad.specs.Run.{IsStored};
-ghost use Rattle.osmroad.specs.StoreLaws.{StoreLaws, ChangeLaws};
+ghost use Rattle.osmroad.specs.StoreLaws.{StoreLaws, ChangeLaws, CheckpointLaws};
 
 use access_profile::Motorcar;
 use opl_lexer::laws::one_reading;
@@ -14,7 +14,8 @@ use road_base::laws::one_map;
 use road_model::laws::{number_order, one_graph};
 use sequence_journal::laws::one_damage;
 use store_switch::laws::{
-    change_on_store, journal_on_store, no_damage_in_store, one_live, one_store, still_there,
+    change_on_store, checkpoint_for_reader, checkpoint_on_store, journal_on_store,
+    no_damage_in_store, one_live, one_store, still_there,
 };
 
 /// A command, the bytes of both files and those of the source determine the status, the output, and the history for
@@ -40,11 +41,15 @@ pub fn one_answer()
     store_laws();
 }
 
-/// What two files stand for, what a stop leaves of them, a journal that stands on them, and a change that is added.
+/// What two files stand for, what a stop leaves of them, a journal that stands on them, a change that is added, and a
+/// checkpoint.
 pub fn store_laws()
     ensures store { StoreLaws }
     ensures change { ChangeLaws }
+    ensures checkpoint { CheckpointLaws }
 {
+    checkpoint_on_store();
+    checkpoint_for_reader();
     one_store();
     one_live();
     no_damage_in_store();

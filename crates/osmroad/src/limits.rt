@@ -5,7 +5,7 @@ ghost use Rattle.std.specs.Prelude.{IfSome, IfNone};
 use memchr::{memchr, memrchr};
 
 /// The most bytes that an input may have.
-const MOST_BYTES: usize = 1 << 30;
+pub const MOST_BYTES: usize = 1 << 30;
 
 /// The most bytes that a line may have, without its newline.
 const MOST_LINE: usize = 1 << 24;

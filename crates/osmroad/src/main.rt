@@ -2,8 +2,8 @@
 //! changes in a store.
 //!
 //! `run` is the one call that does all that the program does, over any source and site; `main` hands it standard input,
-//! standard output and the two files of the store. `command` says what the words ask; `compile`, `create`, `apply` and
-//! `stored` each prepare a reply (`reply`), which is then put once.
+//! standard output and the two files of the store. `command` says what the words ask; `compile`, `inspect`, `sample`,
+//! `create`, `apply`, `stored` and `checkpoint` each prepare a reply (`reply`), which is then put once.
 //!
 //! A graph is built so: the input is read part by part into events (`input`), of each object the first event of the
 //! greatest version stands (`graph`), and for each visible way with the key `highway` its block is built,
@@ -12,6 +12,8 @@
 //! the graph's bytes once. The graph of a town is about as large as its extract; that of a node with very many ways
 //! grows with the square of their number. `create` costs its input, and holds what it writes once; `apply` costs the
 //! live file and its input, and so do `graph` and `audit`, with the graph, or the words of each restriction.
+//! `checkpoint` costs the live file and what it writes, and holds the objects, a copy of them, and their bytes.
+//! `inspect` costs its input, and holds it and the graph; `sample` costs eleven graphs of 7,080 ways, one after another.
 #![tactic(auto)]
 
 ghost use Rattle.std.specs.Prelude.{◌≡◌, ◌<◌};
@@ -19,16 +21,20 @@ ghost use Rattle.std.specs.Prelude.{◌≡◌, ◌<◌};
 mod apply;
 mod audit;
 mod blocks;
+mod checkpoint;
 mod command;
 mod compile;
 mod create;
 mod findings;
+mod gather;
 mod graph;
 mod input;
+mod inspect;
 mod laws;
 mod limits;
 mod reply;
 mod run;
+mod sample;
 mod status;
 mod stored;
 mod texts;

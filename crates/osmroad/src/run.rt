@@ -6,10 +6,13 @@ ghost use Rattle.osmroad.specs.Run.{IsReading, IsStored, MayEnd, Ends, EndsPut, 
 ghost use Rattle.osmroad.specs.Replies.{Prepares, CountsReads, CountsCalls};
 
 use crate::apply::apply;
+use crate::checkpoint::checkpoint;
 use crate::command::{Command, command_of};
 use crate::compile::compile;
 use crate::create::create;
+use crate::inspect::inspect;
 use crate::reply::{Failure, Reply};
+use crate::sample::sample;
 use crate::status::Status;
 use crate::stored::{stored_audit, stored_graph};
 use opl_lexer::laws::one_reading;
@@ -53,10 +56,13 @@ fn prepare<S: Source, W: Site, L: Ledger>(
 {
     match command {
         Command::Compile => compile(alloc, source, steps),
+        Command::Inspect => inspect(alloc, source),
+        Command::Sample(number) => sample(alloc, number, steps),
         Command::Create(number) => create(alloc, number, source, site),
         Command::Apply(number) => apply(alloc, number, source, site),
         Command::Graph => stored_graph(alloc, site, steps),
         Command::Audit => stored_audit(alloc, site),
+        Command::Checkpoint => checkpoint(alloc, site),
     }
 }
 
@@ -64,10 +70,12 @@ fn prepare<S: Source, W: Site, L: Ledger>(
 /// any words, source and site: a source that never ends is left as soon as it passed a limit, 2^30 bytes in all or 2^24
 /// in a line. The first read or call on the site that fails ends it: nothing is tried again.
 ///
-/// `- compile` puts the graph's bytes of the extract on the source. A STORE is the site's two files: `create N` makes
-/// one of the extract, `apply N` adds the change on the source, `graph` puts the graph's bytes of all that it holds,
-/// and `audit` what becomes of its restrictions. `steps` rises by one for each block that is built: one for each
-/// visible way with the key `highway`. Other words are answered by the usage line.
+/// `- compile` puts the graph's bytes of the extract on the source, `- inspect` how large the graph is whose file is on
+/// the source, of at most 2^30 bytes, and `- sample N` how large the graphs are of a town that is made from N, and of its
+/// ten changes. A STORE is the site's two files: `create N` makes one of the extract, `apply N` adds the change on the
+/// source, `graph` puts the graph's bytes of all that it holds, `audit` what becomes of its restrictions, and
+/// `checkpoint` writes all that it holds into its other file and goes on there. `steps` rises by one for each block that
+/// is built: one for each visible way with the key `highway`. Other words are answered by the usage line.
 pub fn run<S: Source, W: Site, L: Ledger>(
     alloc: Global,
     words: &[&str],

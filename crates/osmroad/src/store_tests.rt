@@ -41,7 +41,8 @@ struct Outcome {
     site: MemorySite,
 }
 
-fn joined(alloc: Global, parts: &[&[u8]]) -> Result<Vec<u8>, NoMemory> {
+/// The parts, one behind another.
+pub fn joined(alloc: Global, parts: &[&[u8]]) -> Result<Vec<u8>, NoMemory> {
     let mut all = Vec::new(alloc);
     for part in parts {
         all.extend_from_slice(part)?;
@@ -185,6 +186,16 @@ const GRAPH: &[&str] = &["town", "graph"];
 
 const AUDIT: &[&str] = &["town", "audit"];
 
+const CHECKPOINT: &[&str] = &["town", "checkpoint"];
+
+/// File B after a checkpoint of that store with the change: generation 2, number 6.
+const REBASED: &[u8] = b"\x01OSMJRNL1\x01\0\0\0\x02\0\0\0\0\0\0\0\x06\0\0\0\0\0\0\0\
+    \x08\0\0\0\0\0\0\0\0\0\0\0\0\0\0\0\0";
+
+/// `MADE` of the last generation, which no other one follows.
+const LAST_MADE: &[u8] = b"\x01OSMJRNL1\x01\0\0\0\xff\xff\xff\xff\xff\xff\xff\xff\x05\0\0\0\0\0\0\0\
+    \x08\0\0\0\0\0\0\0\0\0\0\0\0\0\0\0\0";
+
 /// `RECORD`, of one event of which no byte is there.
 const RECORD_OF_ONE: &[u8] = b"\x06\0\0\0\0\0\0\0\x08\0\0\0\0\0\0\0\x01\0\0\0\0\0\0\0\0";
 
@@ -284,6 +295,15 @@ fn stores_refuse(rt: HostRuntime) -> Result<(), Fail> {
             Status::Damaged,
             b"damaged b 45\n",
         ),
+        refuses(
+            CHECKPOINT,
+            b"",
+            &[SPELLED, b"\x01", RECORD_OF_ONE],
+            &[],
+            Status::Damaged,
+            b"damaged a 45\n",
+        ),
+        refuses(CHECKPOINT, b"", &[LAST_MADE], &[], Status::Limit, b"limit\n"),
     ];
     for case in &cases {
         check(&rt, rt.alloc(), case, &[])?;
@@ -291,9 +311,26 @@ fn stores_refuse(rt: HostRuntime) -> Result<(), Fail> {
     Ok(())
 }
 
+/// The file that was live stays as it is.
+#[test]
+fn a_checkpoint_goes_into_the_other_file(rt: HostRuntime) -> Result<(), Fail> {
+    let case = Case {
+        words: CHECKPOINT,
+        output: b"checkpoint 6\n",
+        ..SHOWS
+    };
+    let ended = ended::<Brand>(rt.alloc(), &case, &[], Blank::new(1))?;
+    assert_eq!(rt; ended.status, Status::Done);
+    assert_eq!(rt; ended.site.output(), case.output);
+    assert_eq!(rt; ended.site.file(Which::B), REBASED);
+    let before = joined(rt.alloc(), case.a)?;
+    assert_eq!(rt; ended.site.file(Which::A), before.as_slice());
+    Ok(())
+}
+
 #[test]
 fn words_ask_for_commands(rt: HostRuntime) -> Result<(), Fail> {
-    let none: [&[&str]; 12] = [
+    let none: [&[&str]; 15] = [
         &["town", "apply"],
         &["town", "create", "18446744073709551615"],
         &["town", "create", "18446744073709551616"],
@@ -305,6 +342,9 @@ fn words_ask_for_commands(rt: HostRuntime) -> Result<(), Fail> {
         &["", "graph"],
         &["-town", "graph"],
         &["-", "create", "5"],
+        &["-", "inspect", "5"],
+        &["-", "sample"],
+        &["-", "sample", "+1"],
         &["town", "compile"],
     ];
     for words in none {

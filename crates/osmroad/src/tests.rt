@@ -3,10 +3,12 @@ ghost use Rattle.std.specs.Prelude.{◌≡◌, ◌<◌};
 
 use crate::run::run;
 use crate::status::Status;
+use crate::store_tests::joined;
 use road_base::{NoMemory, Steps};
 use road_io::{MemorySite, MemorySource};
 use std::alloc::Global;
 use std::marker::Brand;
+use std::process::Abort;
 use std::sync::ledger::{Blank, Ledger};
 use std::test::Fail;
 
@@ -70,6 +72,23 @@ pub const STREET_GRAPH: &[u8] = b"\
     \x01\x00\x00\x00\x00\x00\x00\x00\x00\x00\x00\x00\x00\x00\x00\x00\
     \x01\x00\x00\x00\x00\x00\x00\x00\x01\x00\x00\x00\x01\x00\x00\x00\x00\x00\x00\x00\
     \x0a\x00\x00\x00\x00\x00\x00\x00\x00\x00\x00\x00\x00\x01\x00\x00\x00";
+
+/// The same in parts: the header and the head of way 10; its piece along it; and that against it, but for its last byte.
+const STREET_HEAD: &[u8] = b"OSMROAD1\x01\0\0\0\x01\0\0\0\0\0\0\0\x0a\0\0\0\0\0\0\0\x02\0\0\0";
+
+const STREET_ALONG: &[u8] = b"\0\0\0\0\x02\0\0\0\0\
+    \x01\0\0\0\0\0\0\0\0\0\0\0\0\0\0\0\
+    \x02\0\0\0\0\0\0\0\x10\x27\0\0\0\0\0\0\
+    \x03\0\0\0\0\0\0\0\x20\x4e\0\0\0\0\0\0\
+    \x01\0\0\0\0\0\0\0\x01\0\0\0\x01\0\0\0\0\0\0\0\
+    \x0a\0\0\0\0\0\0\0\0\0\0\0\x01\x01\0\0\0";
+
+const STREET_AGAINST: &[u8] = b"\0\0\0\0\x02\0\0\0\x01\
+    \x03\0\0\0\0\0\0\0\x20\x4e\0\0\0\0\0\0\
+    \x02\0\0\0\0\0\0\0\x10\x27\0\0\0\0\0\0\
+    \x01\0\0\0\0\0\0\0\0\0\0\0\0\0\0\0\
+    \x01\0\0\0\0\0\0\0\x01\0\0\0\x01\0\0\0\0\0\0\0\
+    \x0a\0\0\0\0\0\0\0\0\0\0\0\0\x01\0\0";
 
 /// Way 10 round from node 1 to itself, driven against its line alone.
 const RING: &[u8] = b"n1 x0.001 y0\nn2 x0.002 y0\nn3 x0.003 y0\n\
@@ -218,6 +237,39 @@ fn faults_of_extracts_are_named(rt: HostRuntime) -> Result<(), Fail> {
         let (status, put) = ended::<Brand>(rt.alloc(), &case, Blank::new(1))?;
         assert_eq!(rt; status, Status::Refused);
         assert_eq!(rt; put.as_slice(), output);
+    }
+    Ok(())
+}
+
+/// A graph file in parts is inspected.
+fn inspected(rt: &impl Abort, alloc: Global, parts: &[&[u8]], status: Status, output: &[u8]) -> Result<(), NoMemory> {
+    let file = joined(alloc, parts)?;
+    let case = Case {
+        words: &["-", "inspect"],
+        ..compiles(file.as_slice(), status, output)
+    };
+    let (ended, put) = ended::<Brand>(alloc, &case, Blank::new(1))?;
+    assert_eq!(rt; ended, status);
+    assert_eq!(rt; put.as_slice(), output);
+    Ok(())
+}
+
+/// A byte less, a byte more, or pieces in another order are no graph.
+#[test]
+fn graph_files_are_counted(rt: HostRuntime) -> Result<(), Fail> {
+    let counts = b"ways 1 pieces 2 contexts 2 arcs 2\n";
+    let none = b"refused graph\n";
+    let cases: [(&[&[u8]], Status, &[u8]); 7] = [
+        (&[STREET_GRAPH], Status::Done, counts),
+        (&[STREET_HEAD, STREET_ALONG, STREET_AGAINST, b"\0"], Status::Done, counts),
+        (&[NO_GRAPH], Status::Done, b"ways 0 pieces 0 contexts 0 arcs 0\n"),
+        (&[STREET_HEAD, STREET_ALONG, STREET_AGAINST], Status::Refused, none),
+        (&[STREET_GRAPH, b"\0"], Status::Refused, none),
+        (&[STREET_HEAD, STREET_AGAINST, b"\0", STREET_ALONG], Status::Refused, none),
+        (&[], Status::Refused, none),
+    ];
+    for (parts, status, output) in cases {
+        inspected(&rt, rt.alloc(), parts, status, output)?;
     }
     Ok(())
 }

@@ -3,7 +3,7 @@ ghost use Rattle.std.specs.Prelude.{◌≡◌, ◌++◌, ◌∷◌, [], codes, I
 ghost use Rattle.std.specs.Fmt.{decimal};
 ghost use Rattle.opl_objects.specs.StreamLines.{fault_at};
 ghost use Rattle.osmroad.specs.Texts.{kind_name, refused_line, created_line, applied_line, sequence_line};
-ghost use Rattle.osmroad.specs.Texts.{file_letter, damaged_line};
+ghost use Rattle.osmroad.specs.Texts.{checkpoint_line, file_letter, damaged_line};
 
 use opl_lexer::FaultKind;
 use opl_objects::Fault;
@@ -55,6 +55,14 @@ pub fn applied_text(alloc: Global, number: Sequence) -> Result<String, AllocErro
 {
     let number = number.0;
     format!(in alloc; "applied {number}\n")
+}
+
+/// The line where a checkpoint is written.
+pub fn checkpoint_text(alloc: Global, number: Sequence) -> Result<String, AllocError>
+    ensures { IfOk result (λ text. string_bytes text ≡ checkpoint_line number.0) }
+{
+    let number = number.0;
+    format!(in alloc; "checkpoint {number}\n")
 }
 
 /// The line where a change has another number than the one behind the kept one.

@@ -17,3 +17,11 @@ returns-clause-change c = record {
   ok = c.change_on_store.ensures.ok;
   small = c.change_on_store.ensures.small;
 }
+
+pub returns-clause-checkpoint : goal.returns-clause-checkpoint
+returns-clause-checkpoint c = record {
+  stopped = c.checkpoint_on_store.ensures.stopped;
+  ok = c.checkpoint_on_store.ensures.ok;
+  small = c.checkpoint_on_store.ensures.small;
+  same = c.checkpoint_for_reader.ensures.same;
+}

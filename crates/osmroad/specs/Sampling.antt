@@ -1,0 +1,41 @@
+-- The sample of a town: how large the graphs are to which its lists of events lead, one list after another.
+use Rattle.std.specs.Prelude.{◌≡◌, ℕ, zero, suc, List, [], ◌++◌, length}
+use Rattle.std.specs.FinMap.{empty}
+use Rattle.road_base.specs.declared.event.Event.{Event}
+use Rattle.road_base.specs.Objects.{Objects}
+use Rattle.road_base.specs.Applying.{IsApplied}
+use Rattle.road_model.specs.declared.blocks.Block.{Block}
+use Rattle.road_model.specs.Format.{IsGraph}
+use Rattle.access_profile.specs.Motorcar.{motorcar_rules}
+use Rattle.graph_file.specs.GraphReading.{IsFile}
+use Rattle.drive_queries.specs.Counting.{totals_of}
+use Rattle.sample_town.specs.Lists.{next_list}
+use Rattle.osmroad.specs.Texts.{sample_line}
+
+-- the events of the first so many lists of the town: its base, and then its changes
+abbrev pub events_of_lists : ℕ → ℕ → List Event
+events_of_lists n zero = []
+events_of_lists n (suc count) = events_of_lists n count ++ next_list (record { number = n; given = count })
+
+-- The line of change q: the graph is that of the objects that the events leave, the blocks are those that its bytes
+-- spell, and the line says how many of each there are, and how many bytes.
+pub record IsSampleLine (q : ℕ) (events : List Event) (line : List ℕ) : Type 0 where
+  pub objects : Objects
+  pub applied : IsApplied empty events objects
+  pub graph : List ℕ
+  pub is : IsGraph objects motorcar_rules graph
+  pub blocks : List Block
+  pub file : IsFile graph blocks
+  pub spelled : line ≡ sample_line q (totals_of blocks) (length graph)
+
+-- the lines of the first so many lists: that of the base, which is change 0, and then those of the changes
+abbrev pub AreSampleLines : ℕ → ℕ → List ℕ → Type 0
+AreSampleLines n zero text = text ≡ []
+AreSampleLines n (suc count) text = (front : List ℕ) × (line : List ℕ)
+    × AreSampleLines n count front
+    × IsSampleLine count (events_of_lists n (suc count)) line
+    × (text ≡ front ++ line)
+
+-- the lines of the base and of the ten changes
+pub record IsSample (n : ℕ) (text : List ℕ) : Type 0 where
+  pub lines : AreSampleLines n 11 text

@@ -1,0 +1,107 @@
+//! How large the graphs of a town and of its changes are.
+ghost use Rattle.std.specs.Prelude.{◌≡◌, ℕ, List, Option, Some, IfOk, length};
+ghost use Rattle.std.specs.FinMap.{empty};
+ghost use Rattle.road_base.specs.declared.event.Event.{Event};
+ghost use Rattle.road_base.specs.Applying.{IsApplied};
+ghost use Rattle.road_model.specs.declared.blocks.Block.{Block};
+ghost use Rattle.road_model.specs.Format.{IsGraphFile};
+ghost use Rattle.road_io.specs.Outside.{Outside};
+ghost use Rattle.graph_file.specs.GraphReading.{IsFile};
+ghost use Rattle.drive_queries.specs.Counting.{totals_of};
+ghost use Rattle.osmroad.specs.declared.command.Command.TheVariants.{Sample as SampleCommand};
+ghost use Rattle.osmroad.specs.Texts.{sample_line};
+ghost use Rattle.osmroad.specs.Sampling.{IsSampleLine, IsSample};
+ghost use Rattle.osmroad.specs.Replies.{Prepares};
+
+use crate::reply::{Failure, Reply};
+use crate::status::Status;
+use access_profile::Motorcar;
+use change_apply::Engine;
+use drive_queries::{Totals, counts};
+use graph_file::{Graph, write};
+use reply_lines::counts_text;
+use road_base::laws::applied_in_turn;
+use road_base::{NoMemory, Steps};
+use road_model::Profile;
+use sample_town::Town;
+use std::alloc::Global;
+use std::sync::ledger::Ledger;
+
+/// The base and the ten changes.
+const LISTS: u32 = 11;
+
+/// The lines of the town that is made from this number. It touches neither source nor site.
+pub fn sample<L: Ledger>(
+    alloc: Global,
+    number: u64,
+    steps: &mut Steps<L>,
+) -> Result<Reply, Failure>
+    ensures { (held : Option (List ℕ)) (outside : Option Outside)
+        → Prepares (Some (SampleCommand number)) result held held outside outside }
+{
+    let out = sample_text(alloc, number, steps)?;
+    Ok(Reply {
+        status: Status::Done,
+        out,
+    })
+}
+
+/// A line for each list of the town: how large the graph is to which the lists lead up to this one.
+fn sample_text<L: Ledger>(
+    alloc: Global,
+    number: u64,
+    steps: &mut Steps<L>,
+) -> Result<Vec<u8>, NoMemory>
+    ensures { IfOk result (λ text. IsSample number text.items) }
+{
+    applied_in_turn();
+    let mut town = Town::new(alloc, number);
+    let mut engine = Engine::load(alloc, Motorcar, Vec::new(alloc), steps)?;
+    let mut text = Vec::new(alloc);
+    for change in 0..LISTS {
+        let events = town.events()?;
+        engine.apply(&events, steps)?;
+        let line = line_of(alloc, change, &engine)?;
+        text.extend_from_slice(&line)?;
+    }
+    Ok(text)
+}
+
+/// The line of what the engine has come to.
+fn line_of(alloc: Global, change: u32, engine: &Engine<Motorcar>) -> Result<Vec<u8>, NoMemory>
+    ensures { IfOk result (λ line. (events : List Event)
+        → IsApplied empty events engine.now.world
+        → IsSampleLine change events line.items) }
+{
+    let mut graph = Vec::new(alloc);
+    write(Motorcar.number(), engine.blocks(), &mut graph)?;
+    let totals = totals_of(alloc, &graph)?;
+    sample_line(alloc, change, &totals, graph.len())
+}
+
+/// How large the graph is whose file has these bytes.
+fn totals_of(alloc: Global, bytes: &[u8]) -> Result<Totals, NoMemory>
+    requires { IsGraphFile bytes.now }
+    ensures { IfOk result (λ totals. (blocks : List Block) × IsFile bytes.now blocks × (totals ≡ totals_of blocks)) }
+{
+    match Graph::read(alloc, bytes)? {
+        Some(graph) => Ok(counts(&graph.blocks)),
+        None => unreachable!(),
+    }
+}
+
+/// `sample Q ways W pieces P contexts C arcs A bytes LEN`.
+fn sample_line(
+    alloc: Global,
+    change: u32,
+    totals: &Totals,
+    length: usize,
+) -> Result<Vec<u8>, NoMemory>
+    ensures { IfOk result (λ line. line.items ≡ sample_line change totals.now length) }
+{
+    let mut line = format!(in alloc; "sample {change} ")?.into_bytes();
+    counts_text(totals, &mut line)?;
+    let end = format!(in alloc; " bytes {length}\n")?;
+    line.extend_from_slice(end.as_bytes())?;
+    Ok(line)
+}
