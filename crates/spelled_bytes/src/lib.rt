@@ -2,8 +2,8 @@
 //!
 //! A type is `Spell` that says which bytes spell each of its values, and reads the value that bytes begin with. No
 //! spelling begins another one, and each is that of one value: so bytes begin with one value at most, and where no
-//! value is found there is none. Numbers, pairs and locations are spelled here, and `read_all` reads so many values
-//! of a type.
+//! value is found there is none. Numbers, pairs and locations are spelled here, alike in all kinds of bytes, and
+//! `read_all` reads so many values of a type.
 //!
 //! A read goes once over what it reads and costs as many steps as that has bytes. A number that the bytes announce
 //! takes no memory: what is taken grows with the values that were read.

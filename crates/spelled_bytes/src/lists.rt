@@ -11,7 +11,7 @@ use std::alloc::Global;
 
 /// Reads so many, and lends the bytes behind them. `Malformed` exactly where the bytes don't begin with so many. Takes
 /// memory for those alone that it has read.
-pub fn read_all<T: Spell + Drop>(
+pub fn read_all<F, T: Spell<F> + Drop>(
     alloc: Global,
     count: u64,
     bytes: &[u8],

@@ -10,7 +10,7 @@ use road_base::Location;
 use std::alloc::Global;
 
 /// The longitude, and then the latitude, both in range.
-impl Spell for Location {
+impl<F> Spell<F> for Location {
     ghost spelling = { location_bytes };
 
     ghost fits = { LocationFits };
@@ -18,7 +18,7 @@ impl Spell for Location {
     ghost one = { location_one };
 
     fn read(alloc: Global, bytes: &[u8]) -> Result<(Location, &[u8]), Unread> {
-        let ((lon, lat), rest) = <(i32, i32)>::read(alloc, bytes)?;
+        let ((lon, lat), rest) = <(i32, i32) as Spell<F>>::read(alloc, bytes)?;
         if !is_on_earth(lon, lat) {
             return Err(Unread::Malformed);
         }

@@ -8,7 +8,7 @@ use crate::spelling::Spell;
 use crate::unread::Unread;
 use std::alloc::Global;
 
-impl Spell for u32 {
+impl<F> Spell<F> for u32 {
     ghost spelling = { u32_bytes };
 
     ghost fits = { λ n. n < 2 ^ 32 };
@@ -25,7 +25,7 @@ impl Spell for u32 {
     }
 }
 
-impl Spell for u64 {
+impl<F> Spell<F> for u64 {
     ghost spelling = { u64_bytes };
 
     ghost fits = { λ n. n < 2 ^ 64 };
@@ -44,7 +44,7 @@ impl Spell for u64 {
     }
 }
 
-impl Spell for i32 {
+impl<F> Spell<F> for i32 {
     ghost spelling = { i32_bytes };
 
     ghost fits = { FitsSigned w32 };
@@ -61,7 +61,7 @@ impl Spell for i32 {
     }
 }
 
-impl Spell for i64 {
+impl<F> Spell<F> for i64 {
     ghost spelling = { i64_bytes };
 
     ghost fits = { FitsSigned w64 };

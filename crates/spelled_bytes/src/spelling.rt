@@ -7,8 +7,9 @@ ghost use Rattle.spelled_bytes.specs.OneSpelling.{pair_one};
 use crate::unread::Unread;
 use std::alloc::Global;
 
-/// What has a spelling, and is read by it.
-pub trait Spell {
+/// What has a spelling in bytes of the kind `F`, and is read by it. A crate that reads bytes has a type of its own for
+/// their kind, and spells in it the types of other crates too.
+pub trait Spell<F> {
     ghost spelling: { Self → List ℕ };
 
     /// The values that are read.
@@ -25,7 +26,7 @@ pub trait Spell {
 }
 
 /// The first, and then the second.
-impl<A: Spell + Drop, B: Spell + Drop> Spell for (A, B) {
+impl<F, A: Spell<F> + Drop, B: Spell<F> + Drop> Spell<F> for (A, B) {
     ghost spelling = { pair_bytes A.spelling B.spelling };
 
     ghost fits = { PairFits A.fits B.fits };

@@ -11,7 +11,7 @@ use Rattle.spelled_bytes.proofs.Fronts.{malformed_weaker, form_missing, value_re
 use Rattle.spelled_bytes.proofs.locations.LocationSpell.read.Goals as goal
 
 pub returns-in_err-lon-clause-malformed : goal.returns-in_err-lon-clause-malformed
-returns-in_err-lon-clause-malformed c =
+returns-in_err-lon-clause-malformed g c =
     let p = err_from_is_err_and c.from_residual.result c.from_residual.ensures.1 in
     rw (p.1, p.2) (malformed_weaker c.in_err-lon.field-0.0
     (form_missing (λ (x : Location). (x.lon, x.lat)) (pair_bytes i32_bytes i32_bytes)
@@ -29,7 +29,7 @@ abbrev pair_in_range : ℤ × ℤ → Bool
 pair_in_range p = is_in_range p.0 p.1
 
 pub returns-then-not-is_on_earth-clause-malformed : goal.returns-then-not-is_on_earth-clause-malformed
-returns-then-not-is_on_earth-clause-malformed c = λ l r whole.
+returns-then-not-is_on_earth-clause-malformed g c = λ l r whole.
     let read = c.in_ok-lon.ensures.found in
     let refused = out_of_range c.in_ok-lon.lon c.in_ok-lon.lat c.is_on_earth.result read.fits.0 read.fits.1
     c.is_on_earth.ensures c.if-not-is_on_earth.true in
