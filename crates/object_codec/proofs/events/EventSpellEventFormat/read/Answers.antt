@@ -1,11 +1,12 @@
 use Rattle.std.proofs.Common.{◌++◌, ◌<◌, ◌^◌, ◌∙◌, append_assoc}
 use Rattle.std.proofs.lemmas.Result.{err_from_is_err_and}
 use Rattle.road_base.specs.Bytes.{u32_bytes}
-use Rattle.object_codec.specs.Spelling.{key_bytes, body_bytes, event_bytes, KeyFits, EventFits, IsBodyOf, pair_bytes}
-use Rattle.object_codec.specs.Spelling.{PairFits}
-use Rattle.object_codec.specs.OneSpelling.{pair_one, key_one, u32_one}
-use Rattle.object_codec.proofs.Fronts.{malformed_weaker, second_missing, both_begin}
-use Rattle.object_codec.proofs.events.EventSpell.read.Goals as goal
+use Rattle.spelled_bytes.specs.Spelling.{pair_bytes, PairFits}
+use Rattle.object_codec.specs.Spelling.{key_bytes, body_bytes, event_bytes, KeyFits, EventFits, IsBodyOf}
+use Rattle.spelled_bytes.specs.OneSpelling.{pair_one, u32_one}
+use Rattle.object_codec.specs.OneSpelling.{key_one}
+use Rattle.spelled_bytes.proofs.Fronts.{malformed_weaker, second_missing, both_begin}
+use Rattle.object_codec.proofs.events.EventSpellEventFormat.read.Goals as goal
 
 pub returns-in_err-key-clause-malformed : goal.returns-in_err-key-clause-malformed
 unfolding event_bytes EventFits IsBodyOf

@@ -1,9 +1,9 @@
 use Rattle.std.proofs.lemmas.Result.{err_from_is_err_and}
 use Rattle.road_base.specs.declared.objects.Member.{Member}
-use Rattle.object_codec.specs.Spelling.{member_bytes, key_bytes, text_bytes, MemberFits, KeyFits, TextFits, pair_bytes}
-use Rattle.object_codec.specs.Spelling.{PairFits}
-use Rattle.object_codec.proofs.Fronts.{malformed_weaker, form_missing}
-use Rattle.object_codec.proofs.objects.MemberSpell.read.Goals as goal
+use Rattle.spelled_bytes.specs.Spelling.{pair_bytes, PairFits}
+use Rattle.object_codec.specs.Spelling.{member_bytes, key_bytes, text_bytes, MemberFits, KeyFits, TextFits}
+use Rattle.spelled_bytes.proofs.Fronts.{malformed_weaker, form_missing}
+use Rattle.object_codec.proofs.objects.MemberSpellEventFormat.read.Goals as goal
 
 pub returns-in_err-item-clause-malformed : goal.returns-in_err-item-clause-malformed
 unfolding member_bytes MemberFits

@@ -1,9 +1,9 @@
 use Rattle.std.proofs.lemmas.Result.{err_from_is_err_and}
 use Rattle.road_base.specs.declared.objects.Relation.{Relation}
+use Rattle.spelled_bytes.specs.Spelling.{pair_bytes, PairFits}
 use Rattle.object_codec.specs.Spelling.{relation_bytes, tags_bytes, members_bytes, RelationFits, TagsFit, MembersFit}
-use Rattle.object_codec.specs.Spelling.{pair_bytes, PairFits}
-use Rattle.object_codec.proofs.Fronts.{malformed_weaker, form_missing}
-use Rattle.object_codec.proofs.objects.RelationSpell.read.Goals as goal
+use Rattle.spelled_bytes.proofs.Fronts.{malformed_weaker, form_missing}
+use Rattle.object_codec.proofs.objects.RelationSpellEventFormat.read.Goals as goal
 
 pub returns-in_err-tags-clause-malformed : goal.returns-in_err-tags-clause-malformed
 unfolding relation_bytes RelationFits

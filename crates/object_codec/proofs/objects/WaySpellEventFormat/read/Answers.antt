@@ -1,9 +1,9 @@
 use Rattle.std.proofs.lemmas.Result.{err_from_is_err_and}
 use Rattle.road_base.specs.declared.objects.Way.{Way}
-use Rattle.object_codec.specs.Spelling.{way_bytes, tags_bytes, refs_bytes, WayFits, TagsFit, RefsFit, pair_bytes}
-use Rattle.object_codec.specs.Spelling.{PairFits}
-use Rattle.object_codec.proofs.Fronts.{malformed_weaker, form_missing}
-use Rattle.object_codec.proofs.objects.WaySpell.read.Goals as goal
+use Rattle.spelled_bytes.specs.Spelling.{pair_bytes, PairFits}
+use Rattle.object_codec.specs.Spelling.{way_bytes, tags_bytes, refs_bytes, WayFits, TagsFit, RefsFit}
+use Rattle.spelled_bytes.proofs.Fronts.{malformed_weaker, form_missing}
+use Rattle.object_codec.proofs.objects.WaySpellEventFormat.read.Goals as goal
 
 pub returns-in_err-tags-clause-malformed : goal.returns-in_err-tags-clause-malformed
 unfolding way_bytes WayFits

@@ -1,10 +1,11 @@
 use Rattle.std.proofs.Common.{◌∙◌, sym, ap}
 use Rattle.road_base.specs.Tags.{is_ascending}
-use Rattle.object_codec.specs.Spelling.{tags_bytes, text_bytes, pair_bytes, list_bytes, TagsFit, TextFits, PairFits}
-use Rattle.object_codec.specs.Spelling.{ListFits}
-use Rattle.object_codec.specs.OneSpelling.{list_one, pair_one, text_one}
-use Rattle.object_codec.proofs.Fronts.{value_refused}
-use Rattle.object_codec.proofs.texts.TagsSpell.read.Goals as goal
+use Rattle.spelled_bytes.specs.Spelling.{pair_bytes, PairFits}
+use Rattle.object_codec.specs.Spelling.{tags_bytes, text_bytes, list_bytes, TagsFit, TextFits, ListFits}
+use Rattle.spelled_bytes.specs.OneSpelling.{pair_one}
+use Rattle.object_codec.specs.OneSpelling.{list_one, text_one}
+use Rattle.spelled_bytes.proofs.Fronts.{value_refused}
+use Rattle.object_codec.proofs.texts.TagsSpellEventFormat.read.Goals as goal
 
 pub returns-then-not-are_ascending-clause-malformed : goal.returns-then-not-are_ascending-clause-malformed
 unfolding tags_bytes TagsFit
