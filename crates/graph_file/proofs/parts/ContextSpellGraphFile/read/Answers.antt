@@ -5,10 +5,12 @@ use Rattle.std.proofs.lemmas.Result.{err_from_is_err_and}
 use Rattle.road_base.specs.Bytes.{u32_bytes, joined}
 use Rattle.road_model.specs.declared.lists.Context.{Context}
 use Rattle.road_model.specs.Format.{name_bytes, arc_bytes, IsContextForm}
-use Rattle.graph_file.specs.GraphReading.{pair_bytes, PairFits, names_bytes, NamesFit, list_bytes, ListFits, ArcFits}
-use Rattle.graph_file.specs.OneSpelling.{pair_one, names_one, arcs_one, context_parts}
-use Rattle.graph_file.proofs.Fronts.{malformed_weaker, unfit_missing}
-use Rattle.graph_file.proofs.parts.ContextSpell.read.Goals as goal
+use Rattle.spelled_bytes.specs.Spelling.{pair_bytes, PairFits}
+use Rattle.spelled_bytes.specs.OneSpelling.{pair_one}
+use Rattle.graph_file.specs.GraphReading.{names_bytes, NamesFit, list_bytes, ListFits, ArcFits}
+use Rattle.graph_file.specs.OneSpelling.{names_one, arcs_one, context_parts}
+use Rattle.spelled_bytes.proofs.Fronts.{malformed_weaker, unfit_missing}
+use Rattle.graph_file.proofs.parts.ContextSpellGraphFile.read.Goals as goal
 
 pub returns-in_err-before-clause-malformed : goal.returns-in_err-before-clause-malformed
 returns-in_err-before-clause-malformed c =
@@ -28,7 +30,8 @@ returns-then-not-lead_on-clause-malformed c = λ x r whole.
     (record { fits = read.fits; parts = read.parts })
     (λ form. false≢true (sym c.if-not-lead_on.true ∙ c.lead_on.ensures.1 (form.arcs_ascend, form.targets)))
     (x.before, x.arcs) r (record { fits = parts.fits; parts = parts.parts })
-    (record { short = whole.fits.form.short; arcs_ascend = whole.fits.form.arcs_ascend; targets = whole.fits.form.targets })
+    (let form = whole.fits.form in
+    record { short = form.short; arcs_ascend = form.arcs_ascend; targets = form.targets })
 
 pub returns-clause-found : goal.returns-clause-found
 returns-clause-found c =

@@ -1,7 +1,7 @@
 use Rattle.std.proofs.lemmas.Result.{err_from_is_err_and}
 use Rattle.road_model.specs.declared.lists.PieceName.{PieceName}
-use Rattle.graph_file.proofs.Fronts.{malformed_weaker}
-use Rattle.graph_file.proofs.parts.PieceNameSpell.read.Goals as goal
+use Rattle.spelled_bytes.proofs.Fronts.{malformed_weaker}
+use Rattle.graph_file.proofs.parts.PieceNameSpellGraphFile.read.Goals as goal
 
 pub returns-in_err-way-clause-malformed : goal.returns-in_err-way-clause-malformed
 returns-in_err-way-clause-malformed c =

@@ -5,8 +5,8 @@ use Rattle.road_model.specs.Orders.{rises, names_cmp}
 use Rattle.road_model.specs.Format.{context_bytes, begins_alone}
 use Rattle.graph_file.specs.GraphReading.{list_bytes, ListFits, IsContext}
 use Rattle.graph_file.specs.OneSpelling.{list_one, context_one}
-use Rattle.graph_file.proofs.Fronts.{unfit_missing}
-use Rattle.graph_file.proofs.parts.ContextsSpell.read.Goals as goal
+use Rattle.spelled_bytes.proofs.Fronts.{unfit_missing}
+use Rattle.graph_file.proofs.parts.ContextsSpellGraphFile.read.Goals as goal
 
 pub returns-then-not-are_of_a_piece-clause-malformed : goal.returns-then-not-are_of_a_piece-clause-malformed
 returns-then-not-are_of_a_piece-clause-malformed c = λ x r whole.

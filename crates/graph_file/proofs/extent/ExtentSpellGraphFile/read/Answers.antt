@@ -1,8 +1,8 @@
 use Rattle.std.proofs.lemmas.Result.{err_from_is_err_and}
 use Rattle.graph_file.specs.declared.extent.Extent.{Extent}
 use Rattle.graph_file.specs.OneSpelling.{extent_fits}
-use Rattle.graph_file.proofs.Fronts.{malformed_weaker}
-use Rattle.graph_file.proofs.extent.ExtentSpell.read.Goals as goal
+use Rattle.spelled_bytes.proofs.Fronts.{malformed_weaker}
+use Rattle.graph_file.proofs.extent.ExtentSpellGraphFile.read.Goals as goal
 
 pub returns-in_err-index-clause-malformed : goal.returns-in_err-index-clause-malformed
 returns-in_err-index-clause-malformed c =
