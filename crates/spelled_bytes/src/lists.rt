@@ -9,7 +9,7 @@ use crate::spelling::Spell;
 use crate::unread::Unread;
 use std::alloc::Global;
 
-/// Reads so many, and lends the bytes behind them. `Malformed` exactly where the bytes don't begin with so many. Takes
+/// Reads so many, and lends the bytes behind them. `Malformed` only where the bytes don't begin with so many. Takes
 /// memory for those alone that it has read.
 pub fn read_all<F, T: Spell<F> + Drop>(
     alloc: Global,

@@ -15,7 +15,7 @@ pub trait Spell<F> {
     /// The values that are read.
     ghost fits: { Self → Type 0 };
 
-    /// Reads what the bytes begin with, and lends the bytes behind it. `Malformed` exactly where they begin with no
+    /// Reads what the bytes begin with, and lends the bytes behind it. `Malformed` only where they begin with no
     /// spelling.
     fn read(alloc: Global, bytes: &[u8]) -> Result<(Self, &[u8]), Unread>
         ensures found { IfOk result (λ x. Begins spelling fits bytes.now x.0 x.1.now) }

@@ -1,6 +1,15 @@
+use Rattle.std.proofs.Common.{refl, sym, subst}
 use Rattle.std.proofs.lemmas.Result.{err_from_is_err_and}
+use Rattle.road_base.specs.Bytes.{joined}
+use Rattle.spelled_bytes.specs.Spelling.{AreSoMany}
+use Rattle.spelled_bytes.specs.Reading.{Begins}
 use Rattle.spelled_bytes.proofs.Fronts.{malformed_weaker, item_missing, one_more_begins}
 use Rattle.spelled_bytes.proofs.lists.read_all.Goals as goal
+
+pub loop-init : goal.loop-init
+loop-init g c =
+    subst (λ l. Begins (joined g.T.Spell.spelling) (AreSoMany g.T.Spell.fits 0) c.args.bytes.now l c.args.bytes.now)
+    (sym c.new-items.ensures.items) (record { fits = (refl, tt); parts = refl })
 
 pub returns-in_err-item-clause-malformed : goal.returns-in_err-item-clause-malformed
 returns-in_err-item-clause-malformed g c =
