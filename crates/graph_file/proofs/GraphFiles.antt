@@ -18,7 +18,8 @@ use Rattle.road_model.specs.BlockMap.{entry_of}
 use Rattle.road_model.specs.Format.{piece_bytes, block_bytes, graph_bytes, place_cmp, IsPieceForm, IsBlockForm}
 use Rattle.road_model.specs.Format.{PieceFits, BlockFits, IsGraphFile}
 use Rattle.road_model.proofs.AscendingLists.{rest_rises}
-use Rattle.graph_file.specs.GraphReading.{Begins, list_bytes, ListFits, IsPieceAt, IsWayBlock, IsOfItsWay, IsFile}
+use Rattle.spelled_bytes.specs.Reading.{Begins}
+use Rattle.graph_file.specs.GraphReading.{list_bytes, ListFits, IsPieceAt, IsWayBlock, IsOfItsWay, IsFile}
 use Rattle.graph_file.specs.OneSpelling.{list_one, block_one}
 use Rattle.graph_file.proofs.Files.{way_cmp_total, no_entries, values_are}
 use Rattle.graph_file.proofs.PieceCount.{few_pieces}
@@ -174,7 +175,8 @@ same_pieces w [] = refl
 same_pieces w (p ∷ ps) = ap (λ l. piece_bytes p ++ l) (same_pieces w ps)
 
 same_block : (b : Block) → block_bytes (block_at b) ≡ block_bytes b
-same_block b = λ i. i64_bytes b.way.0 ++ (u32_bytes (as_many (piece_at b.way) b.pieces i) ++ same_pieces b.way b.pieces i)
+same_block b = λ i. i64_bytes b.way.0
+    ++ (u32_bytes (as_many (piece_at b.way) b.pieces i) ++ same_pieces b.way b.pieces i)
 
 same_blocks : (bs : List Block) → joined block_bytes (map block_at bs) ≡ joined block_bytes bs
 same_blocks [] = refl

@@ -2,7 +2,6 @@ pub mod Appends
 pub mod PieceCount
 pub mod Files
 pub mod WrittenBlocks
-pub mod Fronts
 pub mod Ascents
 pub mod PieceParts
 pub mod GraphFiles

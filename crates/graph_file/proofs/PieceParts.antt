@@ -13,10 +13,12 @@ use Rattle.road_model.specs.Orders.{rises}
 use Rattle.road_model.specs.Format.{dir_bytes, place_bytes, context_bytes, piece_bytes, block_bytes, place_cmp}
 use Rattle.road_model.specs.Format.{IsContextForm, ContextFits}
 use Rattle.graph_file.specs.declared.extent.Extent.{Extent}
-use Rattle.graph_file.specs.GraphReading.{Begins, NoneBegins, pair_bytes, PairFits, AreSoMany, PlaceFits, list_bytes}
-use Rattle.graph_file.specs.GraphReading.{IsContext, AreContexts, extent_bytes, IsExtent, IsPieceAt, IsWayBlock}
-use Rattle.graph_file.specs.OneSpelling.{extent_of, extent_one, piece_parts, piece_split, piece_one, joined_one, place_one}
-use Rattle.graph_file.specs.OneSpelling.{pair_one, i64_one, u32_one, three}
+use Rattle.spelled_bytes.specs.Spelling.{pair_bytes, PairFits, AreSoMany}
+use Rattle.spelled_bytes.specs.Reading.{Begins, NoneBegins}
+use Rattle.spelled_bytes.specs.OneSpelling.{joined_one, pair_one, i64_one, u32_one}
+use Rattle.graph_file.specs.GraphReading.{PlaceFits, list_bytes, IsContext, AreContexts, extent_bytes, IsExtent}
+use Rattle.graph_file.specs.GraphReading.{IsPieceAt, IsWayBlock}
+use Rattle.graph_file.specs.OneSpelling.{extent_of, extent_one, piece_parts, piece_split, piece_one, place_one, three}
 
 -- ---- pieces
 
@@ -51,7 +53,8 @@ pub no_contexts : (way : WayId) (bytes : List ℕ) (e : Extent) (mid : List ℕ)
     → NoneBegins (list_bytes context_bytes) AreContexts rest → NoneBegins piece_bytes (IsPieceAt way) bytes
 no_contexts way bytes e mid found places rest seen none p r whole =
     let behind = behind_extent way bytes e mid found p r whole in
-    let same = joined_one place_bytes PlaceFits place_one places p.places rest (list_bytes context_bytes p.contexts ++ r)
+    let same = joined_one place_bytes PlaceFits place_one places p.places rest
+    (list_bytes context_bytes p.contexts ++ r)
     (seen.fits.0 ∙ sym behind.fits.0) seen.fits.1 behind.fits.1 (sym seen.parts ∙ behind.parts) in
     none p.contexts r (record { fits = (piece_parts way p bytes r whole).contexts; parts = same.1 })
 
@@ -99,7 +102,8 @@ abbrev pub HeadFits : ℤ × ℕ → Type 0
 HeadFits = PairFits (FitsSigned w64) (λ n. n < 2 ^ 32)
 
 pub block_head : (bytes : List ℕ) (b : Block) (r : List ℕ) → Begins block_bytes IsWayBlock bytes b r
-    → Begins (pair_bytes i64_bytes u32_bytes) HeadFits bytes (b.way.0, length b.pieces) (joined piece_bytes b.pieces ++ r)
+    → Begins (pair_bytes i64_bytes u32_bytes) HeadFits bytes (b.way.0, length b.pieces)
+    (joined piece_bytes b.pieces ++ r)
 block_head bytes b r whole = record {
   fits = (whole.fits.way, whole.fits.count);
   parts = whole.parts ∙ three (i64_bytes b.way.0) (u32_bytes (length b.pieces)) (joined piece_bytes b.pieces) r

@@ -1,10 +1,9 @@
--- Reading a spelling from the front of bytes, and what the parts of a graph file have to be.
+-- What the parts of a graph file have to be, to be read back.
 use Rattle.std.specs.Prelude.{◌≡◌, ℕ, ◌+◌, ◌-◌, ◌<◌, ◌≤◌, ◌^◌, List, [], ◌++◌, length, map, IsTrue, FitsSigned}
 use Rattle.std.specs.List.{AllByRecursion}
 use Rattle.std.specs.Int.{w64}
 use Rattle.road_base.specs.declared.ids.WayId.{WayId}
-use Rattle.road_base.specs.declared.location.Location.{Location}
-use Rattle.road_base.specs.Bytes.{u32_bytes, u64_bytes, i32_bytes, joined}
+use Rattle.road_base.specs.Bytes.{u32_bytes, u64_bytes, joined}
 use Rattle.road_model.specs.declared.lists.PieceName.{PieceName}
 use Rattle.road_model.specs.declared.lists.Place.{Place}
 use Rattle.road_model.specs.declared.lists.TurnArc.{TurnArc}
@@ -16,45 +15,10 @@ use Rattle.road_model.specs.Format.{dir_bytes, name_bytes, NameFits}
 use Rattle.road_model.specs.Format.{ContextFits, PieceFits, IsContextForm, IsPieceForm, begins_alone, place_cmp}
 use Rattle.road_model.specs.Orders.{rises, names_cmp, way_cmp}
 use Rattle.graph_file.specs.declared.extent.Extent.{Extent}
-use Rattle.graph_file.specs.declared.unread.Unread.{Unread}
-use Rattle.graph_file.specs.declared.unread.Unread.TheVariants.{Malformed, Memory}
 
--- the bytes are the spelling of x, which is as it has to be, and then the rest
-pub record Begins {A : Type 0} (spell : A → List ℕ) (Fits : A → Type 0) (bytes : List ℕ) (x : A) (rest : List ℕ) : Type
-    0 where
-  pub fits : Fits x
-  pub parts : bytes ≡ spell x ++ rest
-
--- the bytes begin with no spelling
-abbrev pub NoneBegins : {A : Type 0} → (A → List ℕ) → (A → Type 0) → List ℕ → Type 0
-NoneBegins {A} spell Fits bytes = (x : A) (rest : List ℕ) → Begins spell Fits bytes x rest → ⊥
-
-abbrev pub IfMalformed : Unread → Type 0 → Type 0
-IfMalformed Malformed P = P
-IfMalformed Memory P = Unit {0}
-
--- no spelling begins another one, and each is that of one value
-abbrev pub IsOneSpelling : {A : Type 0} → (A → List ℕ) → (A → Type 0) → Type 0
-IsOneSpelling {A} spell Fits = (x y : A) (bytes r s : List ℕ) → Begins spell Fits bytes x r
-    → Begins spell Fits bytes y s → (x ≡ y) × (r ≡ s)
-
--- ---- parts
-
--- the bytes of the first, and then those of the second
-abbrev pub pair_bytes : {A B : Type 0} → (A → List ℕ) → (B → List ℕ) → A × B → List ℕ
-pair_bytes first second p = first p.0 ++ second p.1
-
-abbrev pub PairFits : {A B : Type 0} → (A → Type 0) → (B → Type 0) → A × B → Type 0
-PairFits First Second p = First p.0 × Second p.1
-
+-- each value
 abbrev pub Any : {A : Type 0} → A → Type 0
 Any x = Unit {0}
-
-abbrev pub AreSoMany : {A : Type 0} → (A → Type 0) → ℕ → List A → Type 0
-AreSoMany Fits count xs = (length xs ≡ count) × AllByRecursion Fits xs
-
-abbrev pub location_bytes : Location → List ℕ
-location_bytes l = i32_bytes l.lon ++ i32_bytes l.lat
 
 abbrev pub PlaceFits : Place → Type 0
 PlaceFits p = FitsSigned w64 p.node.0

@@ -2,9 +2,9 @@
 ghost use Rattle.graph_file.specs.GraphReading.{extent_bytes, IsExtent};
 ghost use Rattle.graph_file.specs.OneSpelling.{extent_one};
 
-use crate::spelling::Spell;
-use crate::unread::Unread;
+use crate::pieces::GraphFile;
 use road_base::Dir;
+use spelled_bytes::{Spell, Unread};
 use std::alloc::Global;
 
 /// The lower and the upper position of a piece on its way's line, and its direction.
@@ -18,7 +18,7 @@ pub(crate) struct Extent {
 /// The highest position on a line.
 const LAST: u32 = 65_534;
 
-impl Spell for Extent {
+impl Spell<GraphFile> for Extent {
     ghost spelling = { extent_bytes };
 
     ghost fits = { IsExtent };

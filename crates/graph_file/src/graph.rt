@@ -9,15 +9,16 @@ ghost use Rattle.road_model.specs.declared.lists.Context.{Context};
 ghost use Rattle.road_model.specs.declared.blocks.Block.{Block};
 ghost use Rattle.road_model.specs.Orders.{rises, way_cmp};
 ghost use Rattle.road_model.specs.Format.{graph_bytes, IsBlockForm, IsGraphFile};
-ghost use Rattle.graph_file.specs.GraphReading.{IfMalformed, IsFile, IsOfItsWay};
+ghost use Rattle.spelled_bytes.specs.Reading.{IfMalformed};
+ghost use Rattle.graph_file.specs.GraphReading.{IsFile, IsOfItsWay};
 ghost use Rattle.graph_file.specs.LookUps.{AreOrdered, HasContextsOf, HasContextAt, HasArcsOf};
 
 use crate::ascending::do_ascend;
+use crate::lists::read_list;
 use crate::look_ups::piece_named;
-use crate::spelling::read_list;
-use crate::unread::Unread;
 use road_base::NoMemory;
 use road_model::{Arcs, Block, Blocks, Context, Contexts, PieceName};
+use spelled_bytes::Unread;
 use std::alloc::Global;
 
 /// A graph as a graph file holds it.

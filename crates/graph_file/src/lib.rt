@@ -20,13 +20,11 @@ mod ascending;
 mod extent;
 mod graph;
 pub mod laws;
+mod lists;
 mod look_ups;
-mod numbers;
 mod parts;
 mod pieces;
 mod road_blocks;
-mod spelling;
-mod unread;
 mod writer;
 
 pub use graph::Graph;

@@ -1,23 +1,39 @@
-//! Names, places, arcs and contexts, read from the front of bytes.
+//! Directions, names, places, arcs and contexts, read from the front of bytes.
 ghost use Rattle.std.specs.Prelude.{◌≡◌, ◌+◌, ◌≤◌, ◌↔◌, length, map, IsTrue};
 ghost use Rattle.std.specs.List.{AllByRecursion};
-ghost use Rattle.road_base.specs.Ranges.{is_in_range};
 ghost use Rattle.road_model.specs.Orders.{name_cmp, names_cmp, rises};
-ghost use Rattle.road_model.specs.Format.{name_bytes, place_bytes, arc_bytes, context_bytes, NameFits};
+ghost use Rattle.road_model.specs.Format.{dir_bytes, name_bytes, place_bytes, arc_bytes, context_bytes, NameFits};
 ghost use Rattle.road_model.specs.Format.{begins_alone};
-ghost use Rattle.graph_file.specs.GraphReading.{Any, location_bytes, PlaceFits, ArcFits, list_bytes, ListFits};
+ghost use Rattle.graph_file.specs.GraphReading.{Any, PlaceFits, ArcFits, list_bytes, ListFits};
 ghost use Rattle.graph_file.specs.GraphReading.{names_bytes, NamesFit, IsContext, AreContexts};
-ghost use Rattle.graph_file.specs.OneSpelling.{name_one, location_one, place_one, arc_one, arcs_one, names_one};
+ghost use Rattle.graph_file.specs.OneSpelling.{dir_one, name_one, place_one, arc_one, arcs_one, names_one};
 ghost use Rattle.graph_file.specs.OneSpelling.{context_one, contexts_one};
 
 use crate::ascending::do_ascend;
-use crate::spelling::{Spell, read_all, read_list};
-use crate::unread::Unread;
+use crate::lists::read_list;
+use crate::pieces::GraphFile;
 use road_base::{Dir, Location, NodeId, WayId};
 use road_model::{Arcs, Context, Contexts, Names, PieceName, Place, TurnArc};
+use spelled_bytes::{Spell, Unread, read_all};
 use std::alloc::Global;
 
-impl Spell for PieceName {
+impl Spell<GraphFile> for Dir {
+    ghost spelling = { dir_bytes };
+
+    ghost fits = { Any };
+
+    ghost one = { dir_one };
+
+    fn read(_alloc: Global, bytes: &[u8]) -> Result<(Dir, &[u8]), Unread> {
+        match bytes {
+            [0, rest @ ..] => Ok((Dir::Forward, rest)),
+            [1, rest @ ..] => Ok((Dir::Backward, rest)),
+            _ => Err(Unread::Malformed),
+        }
+    }
+}
+
+impl Spell<GraphFile> for PieceName {
     ghost spelling = { name_bytes };
 
     ghost fits = { NameFits };
@@ -35,30 +51,7 @@ impl Spell for PieceName {
     }
 }
 
-impl Spell for Location {
-    ghost spelling = { location_bytes };
-
-    ghost fits = { Any };
-
-    ghost one = { location_one };
-
-    fn read(alloc: Global, bytes: &[u8]) -> Result<(Location, &[u8]), Unread> {
-        let ((lon, lat), rest) = <(i32, i32)>::read(alloc, bytes)?;
-        if !is_on_earth(lon, lat) {
-            return Err(Unread::Malformed);
-        }
-        Ok((Location { lon, lat }, rest))
-    }
-}
-
-/// The longitude is within 180 degrees, and the latitude within 90.
-fn is_on_earth(lon: i32, lat: i32) -> bool
-    ensures { result ≡ is_in_range lon lat }
-{
-    -1_800_000_000 <= lon && lon <= 1_800_000_000 && -900_000_000 <= lat && lat <= 900_000_000
-}
-
-impl Spell for Place {
+impl Spell<GraphFile> for Place {
     ghost spelling = { place_bytes };
 
     ghost fits = { PlaceFits };
@@ -66,7 +59,7 @@ impl Spell for Place {
     ghost one = { place_one };
 
     fn read(alloc: Global, bytes: &[u8]) -> Result<(Place, &[u8]), Unread> {
-        let ((node, location), rest) = <(i64, Location)>::read(alloc, bytes)?;
+        let ((node, location), rest) = <(i64, Location) as Spell<GraphFile>>::read(alloc, bytes)?;
         let place = Place {
             node: NodeId(node),
             location,
@@ -75,7 +68,7 @@ impl Spell for Place {
     }
 }
 
-impl Spell for TurnArc {
+impl Spell<GraphFile> for TurnArc {
     ghost spelling = { arc_bytes };
 
     ghost fits = { ArcFits };
@@ -89,7 +82,7 @@ impl Spell for TurnArc {
 }
 
 /// Arcs, behind how many there are.
-impl Spell for Arcs {
+impl Spell<GraphFile> for Arcs {
     ghost spelling = { list_bytes arc_bytes };
 
     ghost fits = { ListFits ArcFits };
@@ -103,7 +96,7 @@ impl Spell for Arcs {
 }
 
 /// The names of all pieces of a context but the last, behind how many pieces it has.
-impl Spell for Names {
+impl Spell<GraphFile> for Names {
     ghost spelling = { names_bytes };
 
     ghost fits = { NamesFit };
@@ -111,17 +104,17 @@ impl Spell for Names {
     ghost one = { names_one };
 
     fn read(alloc: Global, bytes: &[u8]) -> Result<(Names, &[u8]), Unread> {
-        let (length, rest) = u32::read(alloc, bytes)?;
+        let (length, rest) = <u32 as Spell<GraphFile>>::read(alloc, bytes)?;
         if length == 0 {
             return Err(Unread::Malformed);
         }
-        let (list, rest) = read_all::<PieceName>(alloc, u64::from(length - 1), rest)?;
+        let (list, rest) = read_all::<GraphFile, PieceName>(alloc, u64::from(length - 1), rest)?;
         Ok((Names::from_list(list), rest))
     }
 }
 
 /// A context whose arcs ascend and have targets that it may have.
-impl Spell for Context {
+impl Spell<GraphFile> for Context {
     ghost spelling = { context_bytes };
 
     ghost fits = { IsContext };
@@ -162,7 +155,7 @@ fn is_target(length: u32, most: u64) -> bool
 }
 
 /// Contexts of a piece, of which the first has no names and each comes before the next, behind how many there are.
-impl Spell for Contexts {
+impl Spell<GraphFile> for Contexts {
     ghost spelling = { list_bytes context_bytes };
 
     ghost fits = { AreContexts };

@@ -3,15 +3,17 @@ ghost use Rattle.std.specs.Prelude.{◌≡◌, ◌↔◌, [], map, IsTrue, IfOk,
 ghost use Rattle.road_model.specs.Orders.{rises};
 ghost use Rattle.road_base.specs.Bytes.{joined};
 ghost use Rattle.road_model.specs.Format.{piece_bytes, block_bytes, place_cmp};
-ghost use Rattle.graph_file.specs.GraphReading.{Begins, NoneBegins, IfMalformed, AreSoMany, IsPieceAt, IsWayBlock};
+ghost use Rattle.spelled_bytes.specs.Spelling.{AreSoMany};
+ghost use Rattle.spelled_bytes.specs.Reading.{Begins, NoneBegins, IfMalformed};
+ghost use Rattle.graph_file.specs.GraphReading.{IsPieceAt, IsWayBlock};
 ghost use Rattle.graph_file.specs.OneSpelling.{block_one};
 
 use crate::ascending::do_ascend;
 use crate::extent::Extent;
-use crate::spelling::{Spell, read_all};
-use crate::unread::Unread;
+use crate::pieces::GraphFile;
 use road_base::WayId;
 use road_model::{Block, Contexts, Piece, PieceName, Pieces, Place, Places};
+use spelled_bytes::{Spell, Unread, read_all};
 use std::alloc::Global;
 
 /// Reads a piece of the way.
@@ -21,7 +23,7 @@ fn read_piece(alloc: Global, way: WayId, bytes: &[u8]) -> Result<(Piece, &[u8]),
 {
     let (extent, rest) = Extent::read(alloc, bytes)?;
     let count = (extent.end - extent.index + 1) as u64;
-    let (places, rest) = read_all::<Place>(alloc, count, rest)?;
+    let (places, rest) = read_all::<GraphFile, Place>(alloc, count, rest)?;
     let (contexts, rest) = Contexts::read(alloc, rest)?;
     let piece = Piece {
         name: PieceName {
@@ -59,7 +61,7 @@ fn read_pieces(
 }
 
 /// A block with pieces, which ascend.
-impl Spell for Block {
+impl Spell<GraphFile> for Block {
     ghost spelling = { block_bytes };
 
     ghost fits = { IsWayBlock };
@@ -67,7 +69,7 @@ impl Spell for Block {
     ghost one = { block_one };
 
     fn read(alloc: Global, bytes: &[u8]) -> Result<(Block, &[u8]), Unread> {
-        let ((number, count), rest) = <(i64, u32)>::read(alloc, bytes)?;
+        let ((number, count), rest) = <(i64, u32) as Spell<GraphFile>>::read(alloc, bytes)?;
         let way = WayId(number);
         let (list, rest) = read_pieces(alloc, way, count, rest)?;
         if !are_of_a_way(&list) {

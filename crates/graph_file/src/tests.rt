@@ -358,7 +358,9 @@ fn looks_up_what_a_piece_has(rt: HostRuntime) -> Result<(), Fail> {
         name(11, 0, Dir::Forward),
         name(-1, 3, Dir::Forward),
     ];
-    if let Some(graph) = Graph::read(alloc, THERE_AND_BACK)? {
+    let read = Graph::read(alloc, THERE_AND_BACK)?;
+    assert!(rt; read.is_some());
+    if let Some(graph) = read {
         assert_eq!(rt; count_of_contexts(&graph, there), Some(1));
         assert_eq!(rt; first_arc(&graph, there, 0), Some(arc(back, 1)));
         assert_eq!(rt; first_arc(&graph, back, 0), Some(arc(there, 1)));
@@ -368,7 +370,9 @@ fn looks_up_what_a_piece_has(rt: HostRuntime) -> Result<(), Fail> {
             assert_eq!(rt; first_arc(&graph, piece, 0), None);
         }
     }
-    if let Some(graph) = Graph::read(alloc, &WITH_A_NAME[1..])? {
+    let read = Graph::read(alloc, &WITH_A_NAME[1..])?;
+    assert!(rt; read.is_some());
+    if let Some(graph) = read {
         assert_eq!(rt; count_of_contexts(&graph, along), Some(2));
         assert_eq!(rt; first_arc(&graph, along, 0), Some(arc(on, 1)));
         assert_eq!(rt; first_arc(&graph, along, 1), Some(arc(on, 3)));

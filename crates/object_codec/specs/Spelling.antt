@@ -1,10 +1,10 @@
 -- The bytes that spell a list of events. All numbers are little endian, and a count or a length stands in front of
 -- what it counts.
-use Rattle.std.specs.Prelude.{◌≡◌, ℕ, ◌<◌, ◌≤◌, ◌^◌, List, [], ◌∷◌, ◌++◌, length, Option, Some, None, FitsSigned}
+use Rattle.std.specs.Prelude.{ℕ, ◌<◌, ◌≤◌, ◌^◌, List, [], ◌∷◌, ◌++◌, length, Option, Some, None, FitsSigned}
 use Rattle.std.specs.Prelude.{IsUtf8, IsTrue}
 use Rattle.std.specs.List.{AllByRecursion}
-use Rattle.std.specs.Int.{w32, w64}
-use Rattle.road_base.specs.Bytes.{u32_bytes, u64_bytes, i32_bytes, i64_bytes, joined}
+use Rattle.std.specs.Int.{w64}
+use Rattle.road_base.specs.Bytes.{u32_bytes, u64_bytes, i64_bytes, joined}
 use Rattle.road_base.specs.Kinds.{has_kind}
 use Rattle.road_base.specs.Tags.{TagList, IsAscending}
 use Rattle.road_base.specs.declared.ids.NodeId.{NodeId}
@@ -19,12 +19,9 @@ use Rattle.road_base.specs.declared.objects.Body.{Body}
 use Rattle.road_base.specs.declared.objects.Body.TheVariants.{Node as NodeBody, Way as WayBody}
 use Rattle.road_base.specs.declared.objects.Body.TheVariants.{Relation as RelationBody, Deleted}
 use Rattle.road_base.specs.declared.event.Event.{Event}
+use Rattle.spelled_bytes.specs.Spelling.{pair_bytes, PairFits, location_bytes, LocationFits}
 
 -- ---- spelling
-
--- the bytes of the first, and then those of the second
-abbrev pub pair_bytes : {A B : Type 0} → (A → List ℕ) → (B → List ℕ) → A × B → List ℕ
-pair_bytes first second p = first p.0 ++ second p.1
 
 -- how many there are, in four bytes, and the bytes of each
 abbrev pub list_bytes : {A : Type 0} → (A → List ℕ) → List A → List ℕ
@@ -46,9 +43,6 @@ unfoldable pub key_bytes : Key → List ℕ
 key_bytes (NodeKey n) = 0 ∷ i64_bytes n.0
 key_bytes (WayKey w) = 1 ∷ i64_bytes w.0
 key_bytes (RelationKey r) = 2 ∷ i64_bytes r.0
-
-unfoldable pub location_bytes : Location → List ℕ
-location_bytes l = i32_bytes l.lon ++ i32_bytes l.lat
 
 -- 0, or 1 and the location
 unfoldable pub place_bytes : Option Location → List ℕ
@@ -91,12 +85,6 @@ events_bytes events = u64_bytes (length events) ++ joined event_bytes events
 -- ---- values that the program's types can hold. That a body has its key's kind and a location is in range, the types
 -- of a specification say too.
 
-abbrev pub PairFits : {A B : Type 0} → (A → Type 0) → (B → Type 0) → A × B → Type 0
-PairFits First Second p = First p.0 × Second p.1
-
-abbrev pub AreSoMany : {A : Type 0} → (A → Type 0) → ℕ → List A → Type 0
-AreSoMany Fits count xs = (length xs ≡ count) × AllByRecursion Fits xs
-
 -- at most 65,535 of them
 abbrev pub ListFits : {A : Type 0} → (A → Type 0) → List A → Type 0
 ListFits Fits xs = (length xs ≤ 65535) × AllByRecursion Fits xs
@@ -116,9 +104,6 @@ unfoldable pub KeyFits : Key → Type 0
 KeyFits (NodeKey n) = FitsSigned w64 n.0
 KeyFits (WayKey w) = FitsSigned w64 w.0
 KeyFits (RelationKey r) = FitsSigned w64 r.0
-
-unfoldable pub LocationFits : Location → Type 0
-LocationFits l = FitsSigned w32 l.lon × FitsSigned w32 l.lat
 
 unfoldable pub PlaceFits : Option Location → Type 0
 PlaceFits None = Unit {0}

@@ -2,12 +2,12 @@
 ghost use Rattle.std.specs.Prelude.{◌≡◌, ◌++◌, ◌∷◌, OnOk, OnErr, IfOk, IfErr};
 ghost use Rattle.road_base.specs.Bytes.{Keeps};
 ghost use Rattle.object_codec.specs.Spelling.{body_bytes, event_bytes, BodyFits, IsBodyOf, EventFits};
-ghost use Rattle.object_codec.specs.Reading.{Begins, NoneBegins, IfMalformed};
+ghost use Rattle.spelled_bytes.specs.Reading.{Begins, NoneBegins, IfMalformed};
 ghost use Rattle.object_codec.specs.OneSpelling.{event_one};
 
-use crate::spelling::Spell;
-use crate::unread::Unread;
+use crate::spelling::{EventFormat, Put};
 use road_base::{Body, Event, Key, NoMemory, Node, Relation, Way};
+use spelled_bytes::{Spell, Unread};
 use std::alloc::Global;
 
 /// The state of a deleted object.
@@ -17,23 +17,26 @@ const DELETED: u8 = 0;
 const VISIBLE: u8 = 1;
 
 #[tactic(auto, unfolding(crate::specs::Spelling::event_bytes, crate::specs::Spelling::EventFits))]
-impl Spell for Event {
+impl Spell<EventFormat> for Event {
     ghost spelling = { event_bytes };
 
     ghost fits = { EventFits };
 
     ghost one = { event_one };
 
-    fn put(&self, out: &mut Vec<u8>) -> Result<(), NoMemory> {
-        self.key.put(out)?;
-        self.version.put(out)?;
-        put_body(&self.body, out)
-    }
-
     fn read(alloc: Global, bytes: &[u8]) -> Result<(Event, &[u8]), Unread> {
         let ((key, version), rest) = <(Key, u32)>::read(alloc, bytes)?;
         let (body, rest) = read_body(alloc, key, rest)?;
         Ok((Event { key, version, body }, rest))
+    }
+}
+
+#[tactic(auto, unfolding(crate::specs::Spelling::event_bytes, crate::specs::Spelling::EventFits))]
+impl Put for Event {
+    fn put(&self, out: &mut Vec<u8>) -> Result<(), NoMemory> {
+        self.key.put(out)?;
+        self.version.put(out)?;
+        put_body(&self.body, out)
     }
 }
 
@@ -53,7 +56,7 @@ fn put_body(body: &Body, out: &mut Vec<u8>) -> Result<(), NoMemory>
 }
 
 /// Appends the state of a visible object, and the object.
-fn put_visible<T: Spell>(object: &T, out: &mut Vec<u8>) -> Result<(), NoMemory>
+fn put_visible<T: Put>(object: &T, out: &mut Vec<u8>) -> Result<(), NoMemory>
     ensures ok { OnOk result (out.new.items ≡ out.old.items ++ 1 ∷ T.spelling object.now) }
     ensures fit { OnOk result (T.fits object.now) }
     ensures err { OnErr result (Keeps out.old.items out.new.items) }

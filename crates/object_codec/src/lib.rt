@@ -9,7 +9,7 @@ ghost use Rattle.std.specs.Prelude.{◌≡◌, List, ◌++◌, OnOk, OnErr, IfOk
 ghost use Rattle.road_base.specs.Bytes.{Keeps};
 ghost use Rattle.road_base.specs.declared.event.Event.{Event};
 ghost use Rattle.object_codec.specs.Spelling.{events_bytes, AreEvents};
-ghost use Rattle.object_codec.specs.Reading.{Begins, NoneBegins, IfMalformed};
+ghost use Rattle.spelled_bytes.specs.Reading.{Begins, NoneBegins, IfMalformed};
 
 mod events;
 pub mod laws;
@@ -18,13 +18,11 @@ mod numbers;
 mod objects;
 mod spelling;
 mod texts;
-mod unread;
 
-use lists::read_all;
 use road_base::{Event, NoMemory, put_all};
-use spelling::{EventFormat, Spell};
+use spelled_bytes::{Spell, Unread, read_all};
+use spelling::{EventFormat, Put};
 use std::alloc::Global;
-use unread::Unread;
 
 /// Appends the spelling of the events: how many there are, and each one's key, version and body. Where no memory is
 /// found nothing is appended.
@@ -77,7 +75,7 @@ fn read_events(alloc: Global, bytes: &[u8]) -> Result<(Vec<Event>, &[u8]), Unrea
     ensures found { IfOk result (λ x. Begins events_bytes AreEvents bytes.now x.0.items x.1.now) }
     ensures malformed { IfErr result (λ e. IfMalformed e (NoneBegins events_bytes AreEvents bytes.now)) }
 {
-    let (count, rest) = u64::read(alloc, bytes)?;
-    let (events, rest) = read_all::<Event>(alloc, count, rest)?;
+    let (count, rest) = <u64 as Spell<EventFormat>>::read(alloc, bytes)?;
+    let (events, rest) = read_all::<EventFormat, Event>(alloc, count, rest)?;
     Ok((events, rest))
 }

@@ -1,40 +1,19 @@
 //! Lists, each with how many there are in front.
 ghost use Rattle.std.specs.Prelude.{◌≡◌, ◌++◌, ◌≤◌, length, OnOk, OnErr, IfOk, IfErr};
-ghost use Rattle.std.specs.List.{AllByRecursion};
-ghost use Rattle.road_base.specs.Bytes.{joined, Keeps};
-ghost use Rattle.object_codec.specs.Spelling.{list_bytes, ListFits, AreSoMany};
-ghost use Rattle.object_codec.specs.Reading.{Begins, NoneBegins, IfMalformed};
+ghost use Rattle.road_base.specs.Bytes.{Keeps};
+ghost use Rattle.object_codec.specs.Spelling.{list_bytes, ListFits};
+ghost use Rattle.spelled_bytes.specs.Reading.{Begins, NoneBegins, IfMalformed};
 
-use crate::spelling::{EventFormat, Spell};
-use crate::unread::Unread;
+use crate::spelling::{EventFormat, Put};
 use road_base::{NoMemory, put_all};
+use spelled_bytes::{Spell, Unread, read_all};
 use std::alloc::Global;
 
 /// How many items a list of an object has at most.
 const MOST: u32 = 65_535;
 
-/// Reads so many. Takes memory for those alone that it has read.
-pub(crate) fn read_all<T: Spell + Drop>(
-    alloc: Global,
-    count: u64,
-    bytes: &[u8],
-) -> Result<(Vec<T>, &[u8]), Unread>
-    ensures found { IfOk result (λ x. Begins (joined T.spelling) (AreSoMany T.fits count) bytes.now x.0.items x.1.now) }
-    ensures malformed { IfErr result (λ e. IfMalformed e
-        (NoneBegins (joined T.spelling) (AreSoMany T.fits count) bytes.now)) }
-{
-    let mut items = Vec::new(alloc);
-    let mut rest = bytes;
-    for _ in 0..count {
-        let (item, after) = T::read(alloc, rest)?;
-        items.push(item)?;
-        rest = after;
-    }
-    Ok((items, rest))
-}
-
 /// Appends how many there are, and the spelling of each.
-pub(crate) fn put_list<T: Spell>(items: &[T], out: &mut Vec<u8>) -> Result<(), NoMemory>
+pub(crate) fn put_list<T: Put>(items: &[T], out: &mut Vec<u8>) -> Result<(), NoMemory>
     requires { length items.now ≤ 65535 }
     ensures ok { OnOk result (out.new.items ≡ out.old.items ++ list_bytes T.spelling items.now) }
     ensures fit { OnOk result (ListFits T.fits items.now) }
@@ -45,7 +24,7 @@ pub(crate) fn put_list<T: Spell>(items: &[T], out: &mut Vec<u8>) -> Result<(), N
 }
 
 /// Reads how many there are, at most 65,535, and then these.
-pub(crate) fn read_list<T: Spell + Drop>(
+pub(crate) fn read_list<T: Spell<EventFormat> + Drop>(
     alloc: Global,
     bytes: &[u8],
 ) -> Result<(Vec<T>, &[u8]), Unread>
@@ -53,10 +32,10 @@ pub(crate) fn read_list<T: Spell + Drop>(
     ensures malformed { IfErr result (λ e. IfMalformed e
         (NoneBegins (list_bytes T.spelling) (ListFits T.fits) bytes.now)) }
 {
-    let (count, rest) = u32::read(alloc, bytes)?;
+    let (count, rest) = <u32 as Spell<EventFormat>>::read(alloc, bytes)?;
     if count > MOST {
         return Err(Unread::Malformed);
     }
-    let (items, rest) = read_all(alloc, u64::from(count), rest)?;
+    let (items, rest) = read_all::<EventFormat, T>(alloc, u64::from(count), rest)?;
     Ok((items, rest))
 }

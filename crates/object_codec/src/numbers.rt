@@ -1,117 +1,53 @@
-//! Numbers, little endian.
-ghost use Rattle.std.specs.Prelude.{◌<◌, ◌^◌, FitsSigned};
-ghost use Rattle.std.specs.Int.{w32, w64};
-ghost use Rattle.road_base.specs.Bytes.{u32_bytes, u64_bytes, i32_bytes, i64_bytes};
+//! Numbers, little endian, and those of nodes.
 ghost use Rattle.object_codec.specs.Spelling.{node_id_bytes, NodeIdFits};
-ghost use Rattle.object_codec.specs.OneSpelling.{u32_one, u64_one, i32_one, i64_one, node_id_one};
+ghost use Rattle.object_codec.specs.OneSpelling.{node_id_one};
 
-use crate::spelling::Spell;
-use crate::unread::Unread;
+use crate::spelling::{EventFormat, Put};
 use road_base::{LittleEndian, NoMemory, NodeId};
+use spelled_bytes::{Spell, Unread};
 use std::alloc::Global;
 
-impl Spell for u32 {
-    ghost spelling = { u32_bytes };
-
-    ghost fits = { λ n. n < 2 ^ 32 };
-
-    ghost one = { u32_one };
-
+impl Put for u32 {
     fn put(&self, out: &mut Vec<u8>) -> Result<(), NoMemory> {
         LittleEndian::put(self, out)
-    }
-
-    fn read(_alloc: Global, bytes: &[u8]) -> Result<(u32, &[u8]), Unread> {
-        if bytes.len() < 4 {
-            return Err(Unread::Malformed);
-        }
-        let (front, rest) = bytes.split_at(4);
-        let number = u32::from_le_bytes([front[0], front[1], front[2], front[3]]);
-        Ok((number, rest))
     }
 }
 
-impl Spell for u64 {
-    ghost spelling = { u64_bytes };
-
-    ghost fits = { λ n. n < 2 ^ 64 };
-
-    ghost one = { u64_one };
-
+impl Put for u64 {
     fn put(&self, out: &mut Vec<u8>) -> Result<(), NoMemory> {
         LittleEndian::put(self, out)
-    }
-
-    fn read(_alloc: Global, bytes: &[u8]) -> Result<(u64, &[u8]), Unread> {
-        if bytes.len() < 8 {
-            return Err(Unread::Malformed);
-        }
-        let (front, rest) = bytes.split_at(8);
-        let number = u64::from_le_bytes([
-            front[0], front[1], front[2], front[3], front[4], front[5], front[6], front[7],
-        ]);
-        Ok((number, rest))
     }
 }
 
-impl Spell for i32 {
-    ghost spelling = { i32_bytes };
-
-    ghost fits = { FitsSigned w32 };
-
-    ghost one = { i32_one };
-
+impl Put for i32 {
     fn put(&self, out: &mut Vec<u8>) -> Result<(), NoMemory> {
         LittleEndian::put(self, out)
-    }
-
-    fn read(_alloc: Global, bytes: &[u8]) -> Result<(i32, &[u8]), Unread> {
-        if bytes.len() < 4 {
-            return Err(Unread::Malformed);
-        }
-        let (front, rest) = bytes.split_at(4);
-        let number = i32::from_le_bytes([front[0], front[1], front[2], front[3]]);
-        Ok((number, rest))
     }
 }
 
-impl Spell for i64 {
-    ghost spelling = { i64_bytes };
-
-    ghost fits = { FitsSigned w64 };
-
-    ghost one = { i64_one };
-
+impl Put for i64 {
     fn put(&self, out: &mut Vec<u8>) -> Result<(), NoMemory> {
         LittleEndian::put(self, out)
-    }
-
-    fn read(_alloc: Global, bytes: &[u8]) -> Result<(i64, &[u8]), Unread> {
-        if bytes.len() < 8 {
-            return Err(Unread::Malformed);
-        }
-        let (front, rest) = bytes.split_at(8);
-        let number = i64::from_le_bytes([
-            front[0], front[1], front[2], front[3], front[4], front[5], front[6], front[7],
-        ]);
-        Ok((number, rest))
     }
 }
 
 #[tactic(auto, unfolding(crate::specs::Spelling::node_id_bytes, crate::specs::Spelling::NodeIdFits))]
-impl Spell for NodeId {
+impl Spell<EventFormat> for NodeId {
     ghost spelling = { node_id_bytes };
 
     ghost fits = { NodeIdFits };
 
     ghost one = { node_id_one };
 
+    fn read(alloc: Global, bytes: &[u8]) -> Result<(NodeId, &[u8]), Unread> {
+        let (number, rest) = <i64 as Spell<EventFormat>>::read(alloc, bytes)?;
+        Ok((NodeId(number), rest))
+    }
+}
+
+#[tactic(auto, unfolding(crate::specs::Spelling::node_id_bytes, crate::specs::Spelling::NodeIdFits))]
+impl Put for NodeId {
     fn put(&self, out: &mut Vec<u8>) -> Result<(), NoMemory> {
         LittleEndian::put(&self.0, out)
-    }
-
-    fn read(alloc: Global, bytes: &[u8]) -> Result<(NodeId, &[u8]), Unread> {
-        let (number, rest) = i64::read(alloc, bytes)?;
-        Ok((NodeId(number), rest))
     }
 }

@@ -2,21 +2,20 @@
 ghost use Rattle.std.specs.Prelude.{◌≡◌, ◌++◌, ◌∷◌, OnOk, OnErr, FitsSigned};
 ghost use Rattle.std.specs.Int.{w64};
 ghost use Rattle.road_base.specs.Bytes.{i64_bytes, Keeps};
-ghost use Rattle.road_base.specs.Ranges.{is_in_range};
-ghost use Rattle.object_codec.specs.Spelling.{key_bytes, location_bytes, place_bytes, node_bytes, refs_bytes};
+ghost use Rattle.object_codec.specs.Spelling.{key_bytes, place_bytes, node_bytes, refs_bytes};
 ghost use Rattle.object_codec.specs.Spelling.{way_bytes, member_bytes, members_bytes, relation_bytes, KeyFits};
-ghost use Rattle.object_codec.specs.Spelling.{LocationFits, PlaceFits, NodeFits, RefsFit, WayFits, MemberFits};
+ghost use Rattle.object_codec.specs.Spelling.{PlaceFits, NodeFits, RefsFit, WayFits, MemberFits};
 ghost use Rattle.object_codec.specs.Spelling.{MembersFit, RelationFits};
-ghost use Rattle.object_codec.specs.OneSpelling.{key_one, location_one, place_one, node_one, refs_one, way_one};
+ghost use Rattle.object_codec.specs.OneSpelling.{key_one, place_one, node_one, refs_one, way_one};
 ghost use Rattle.object_codec.specs.OneSpelling.{member_one, members_one, relation_one};
 
 use crate::lists::{put_list, read_list};
-use crate::spelling::Spell;
-use crate::unread::Unread;
+use crate::spelling::{EventFormat, Put};
 use road_base::{
     Key, Location, Member, Members, NoMemory, Node, NodeId, Refs, Relation, RelationId, Tags, Text,
     Way, WayId,
 };
+use spelled_bytes::{Spell, Unread};
 use std::alloc::Global;
 
 /// The kind of a node.
@@ -35,36 +34,39 @@ const ABSENT: u8 = 0;
 const PRESENT: u8 = 1;
 
 #[tactic(auto, unfolding(crate::specs::Spelling::key_bytes, crate::specs::Spelling::KeyFits))]
-impl Spell for Key {
+impl Spell<EventFormat> for Key {
     ghost spelling = { key_bytes };
 
     ghost fits = { KeyFits };
 
     ghost one = { key_one };
 
+    fn read(alloc: Global, bytes: &[u8]) -> Result<(Key, &[u8]), Unread> {
+        match bytes {
+            [NODE, rest @ ..] => {
+                let (number, rest) = <i64 as Spell<EventFormat>>::read(alloc, rest)?;
+                Ok((Key::Node(NodeId(number)), rest))
+            }
+            [WAY, rest @ ..] => {
+                let (number, rest) = <i64 as Spell<EventFormat>>::read(alloc, rest)?;
+                Ok((Key::Way(WayId(number)), rest))
+            }
+            [RELATION, rest @ ..] => {
+                let (number, rest) = <i64 as Spell<EventFormat>>::read(alloc, rest)?;
+                Ok((Key::Relation(RelationId(number)), rest))
+            }
+            _ => Err(Unread::Malformed),
+        }
+    }
+}
+
+#[tactic(auto, unfolding(crate::specs::Spelling::key_bytes, crate::specs::Spelling::KeyFits))]
+impl Put for Key {
     fn put(&self, out: &mut Vec<u8>) -> Result<(), NoMemory> {
         match self {
             Key::Node(node) => put_key(NODE, node.0, out),
             Key::Way(way) => put_key(WAY, way.0, out),
             Key::Relation(relation) => put_key(RELATION, relation.0, out),
-        }
-    }
-
-    fn read(alloc: Global, bytes: &[u8]) -> Result<(Key, &[u8]), Unread> {
-        match bytes {
-            [NODE, rest @ ..] => {
-                let (number, rest) = i64::read(alloc, rest)?;
-                Ok((Key::Node(NodeId(number)), rest))
-            }
-            [WAY, rest @ ..] => {
-                let (number, rest) = i64::read(alloc, rest)?;
-                Ok((Key::Way(WayId(number)), rest))
-            }
-            [RELATION, rest @ ..] => {
-                let (number, rest) = i64::read(alloc, rest)?;
-                Ok((Key::Relation(RelationId(number)), rest))
-            }
-            _ => Err(Unread::Malformed),
         }
     }
 }
@@ -79,44 +81,36 @@ fn put_key(kind: u8, number: i64, out: &mut Vec<u8>) -> Result<(), NoMemory>
     number.put(out)
 }
 
-#[tactic(auto, unfolding(crate::specs::Spelling::location_bytes, crate::specs::Spelling::LocationFits))]
-impl Spell for Location {
-    ghost spelling = { location_bytes };
-
-    ghost fits = { LocationFits };
-
-    ghost one = { location_one };
-
+impl Put for Location {
     fn put(&self, out: &mut Vec<u8>) -> Result<(), NoMemory> {
         self.lon.put(out)?;
         self.lat.put(out)
     }
-
-    fn read(alloc: Global, bytes: &[u8]) -> Result<(Location, &[u8]), Unread> {
-        let ((lon, lat), rest) = <(i32, i32)>::read(alloc, bytes)?;
-        if !is_on_earth(lon, lat) {
-            return Err(Unread::Malformed);
-        }
-        Ok((Location { lon, lat }, rest))
-    }
-}
-
-/// The longitude is within 180 degrees, and the latitude within 90.
-fn is_on_earth(lon: i32, lat: i32) -> bool
-    ensures { result ≡ is_in_range lon lat }
-{
-    -1_800_000_000 <= lon && lon <= 1_800_000_000 && -900_000_000 <= lat && lat <= 900_000_000
 }
 
 /// A flag, and the location behind it where there is one.
 #[tactic(auto, unfolding(crate::specs::Spelling::place_bytes, crate::specs::Spelling::PlaceFits))]
-impl Spell for Option<Location> {
+impl Spell<EventFormat> for Option<Location> {
     ghost spelling = { place_bytes };
 
     ghost fits = { PlaceFits };
 
     ghost one = { place_one };
 
+    fn read(alloc: Global, bytes: &[u8]) -> Result<(Option<Location>, &[u8]), Unread> {
+        match bytes {
+            [ABSENT, rest @ ..] => Ok((None, rest)),
+            [PRESENT, rest @ ..] => {
+                let (location, rest) = <Location as Spell<EventFormat>>::read(alloc, rest)?;
+                Ok((Some(location), rest))
+            }
+            _ => Err(Unread::Malformed),
+        }
+    }
+}
+
+#[tactic(auto, unfolding(crate::specs::Spelling::place_bytes, crate::specs::Spelling::PlaceFits))]
+impl Put for Option<Location> {
     fn put(&self, out: &mut Vec<u8>) -> Result<(), NoMemory> {
         match self {
             None => Ok(out.push(ABSENT)?),
@@ -126,31 +120,15 @@ impl Spell for Option<Location> {
             }
         }
     }
-
-    fn read(alloc: Global, bytes: &[u8]) -> Result<(Option<Location>, &[u8]), Unread> {
-        match bytes {
-            [ABSENT, rest @ ..] => Ok((None, rest)),
-            [PRESENT, rest @ ..] => {
-                let (location, rest) = Location::read(alloc, rest)?;
-                Ok((Some(location), rest))
-            }
-            _ => Err(Unread::Malformed),
-        }
-    }
 }
 
 #[tactic(auto, unfolding(crate::specs::Spelling::node_bytes, crate::specs::Spelling::NodeFits))]
-impl Spell for Node {
+impl Spell<EventFormat> for Node {
     ghost spelling = { node_bytes };
 
     ghost fits = { NodeFits };
 
     ghost one = { node_one };
-
-    fn put(&self, out: &mut Vec<u8>) -> Result<(), NoMemory> {
-        self.tags.put(out)?;
-        self.location.put(out)
-    }
 
     fn read(alloc: Global, bytes: &[u8]) -> Result<(Node, &[u8]), Unread> {
         let ((tags, location), rest) = <(Tags, Option<Location>)>::read(alloc, bytes)?;
@@ -158,17 +136,21 @@ impl Spell for Node {
     }
 }
 
+#[tactic(auto, unfolding(crate::specs::Spelling::node_bytes, crate::specs::Spelling::NodeFits))]
+impl Put for Node {
+    fn put(&self, out: &mut Vec<u8>) -> Result<(), NoMemory> {
+        self.tags.put(out)?;
+        self.location.put(out)
+    }
+}
+
 #[tactic(auto, unfolding(crate::specs::Spelling::refs_bytes, crate::specs::Spelling::RefsFit))]
-impl Spell for Refs {
+impl Spell<EventFormat> for Refs {
     ghost spelling = { refs_bytes };
 
     ghost fits = { RefsFit };
 
     ghost one = { refs_one };
-
-    fn put(&self, out: &mut Vec<u8>) -> Result<(), NoMemory> {
-        put_list(self.items(), out)
-    }
 
     fn read(alloc: Global, bytes: &[u8]) -> Result<(Refs, &[u8]), Unread> {
         let (list, rest) = read_list::<NodeId>(alloc, bytes)?;
@@ -176,18 +158,20 @@ impl Spell for Refs {
     }
 }
 
+#[tactic(auto, unfolding(crate::specs::Spelling::refs_bytes, crate::specs::Spelling::RefsFit))]
+impl Put for Refs {
+    fn put(&self, out: &mut Vec<u8>) -> Result<(), NoMemory> {
+        put_list(self.items(), out)
+    }
+}
+
 #[tactic(auto, unfolding(crate::specs::Spelling::way_bytes, crate::specs::Spelling::WayFits))]
-impl Spell for Way {
+impl Spell<EventFormat> for Way {
     ghost spelling = { way_bytes };
 
     ghost fits = { WayFits };
 
     ghost one = { way_one };
-
-    fn put(&self, out: &mut Vec<u8>) -> Result<(), NoMemory> {
-        self.tags.put(out)?;
-        self.refs.put(out)
-    }
 
     fn read(alloc: Global, bytes: &[u8]) -> Result<(Way, &[u8]), Unread> {
         let ((tags, refs), rest) = <(Tags, Refs)>::read(alloc, bytes)?;
@@ -195,18 +179,21 @@ impl Spell for Way {
     }
 }
 
+#[tactic(auto, unfolding(crate::specs::Spelling::way_bytes, crate::specs::Spelling::WayFits))]
+impl Put for Way {
+    fn put(&self, out: &mut Vec<u8>) -> Result<(), NoMemory> {
+        self.tags.put(out)?;
+        self.refs.put(out)
+    }
+}
+
 #[tactic(auto, unfolding(crate::specs::Spelling::member_bytes, crate::specs::Spelling::MemberFits))]
-impl Spell for Member {
+impl Spell<EventFormat> for Member {
     ghost spelling = { member_bytes };
 
     ghost fits = { MemberFits };
 
     ghost one = { member_one };
-
-    fn put(&self, out: &mut Vec<u8>) -> Result<(), NoMemory> {
-        self.item.put(out)?;
-        self.role.put(out)
-    }
 
     fn read(alloc: Global, bytes: &[u8]) -> Result<(Member, &[u8]), Unread> {
         let ((item, role), rest) = <(Key, Text)>::read(alloc, bytes)?;
@@ -214,17 +201,21 @@ impl Spell for Member {
     }
 }
 
+#[tactic(auto, unfolding(crate::specs::Spelling::member_bytes, crate::specs::Spelling::MemberFits))]
+impl Put for Member {
+    fn put(&self, out: &mut Vec<u8>) -> Result<(), NoMemory> {
+        self.item.put(out)?;
+        self.role.put(out)
+    }
+}
+
 #[tactic(auto, unfolding(crate::specs::Spelling::members_bytes, crate::specs::Spelling::MembersFit))]
-impl Spell for Members {
+impl Spell<EventFormat> for Members {
     ghost spelling = { members_bytes };
 
     ghost fits = { MembersFit };
 
     ghost one = { members_one };
-
-    fn put(&self, out: &mut Vec<u8>) -> Result<(), NoMemory> {
-        put_list(self.items(), out)
-    }
 
     fn read(alloc: Global, bytes: &[u8]) -> Result<(Members, &[u8]), Unread> {
         let (list, rest) = read_list::<Member>(alloc, bytes)?;
@@ -232,21 +223,31 @@ impl Spell for Members {
     }
 }
 
+#[tactic(auto, unfolding(crate::specs::Spelling::members_bytes, crate::specs::Spelling::MembersFit))]
+impl Put for Members {
+    fn put(&self, out: &mut Vec<u8>) -> Result<(), NoMemory> {
+        put_list(self.items(), out)
+    }
+}
+
 #[tactic(auto, unfolding(crate::specs::Spelling::relation_bytes, crate::specs::Spelling::RelationFits))]
-impl Spell for Relation {
+impl Spell<EventFormat> for Relation {
     ghost spelling = { relation_bytes };
 
     ghost fits = { RelationFits };
 
     ghost one = { relation_one };
 
-    fn put(&self, out: &mut Vec<u8>) -> Result<(), NoMemory> {
-        self.tags.put(out)?;
-        self.members.put(out)
-    }
-
     fn read(alloc: Global, bytes: &[u8]) -> Result<(Relation, &[u8]), Unread> {
         let ((tags, members), rest) = <(Tags, Members)>::read(alloc, bytes)?;
         Ok((Relation { tags, members }, rest))
+    }
+}
+
+#[tactic(auto, unfolding(crate::specs::Spelling::relation_bytes, crate::specs::Spelling::RelationFits))]
+impl Put for Relation {
+    fn put(&self, out: &mut Vec<u8>) -> Result<(), NoMemory> {
+        self.tags.put(out)?;
+        self.members.put(out)
     }
 }

@@ -5,27 +5,21 @@ ghost use Rattle.object_codec.specs.Spelling.{text_bytes, tags_bytes, TextFits, 
 ghost use Rattle.object_codec.specs.OneSpelling.{text_one, tags_one};
 
 use crate::lists::{put_list, read_list};
-use crate::spelling::Spell;
-use crate::unread::Unread;
+use crate::spelling::{EventFormat, Put};
 use road_base::{NoMemory, Tags, Text};
+use spelled_bytes::{Spell, Unread};
 use std::alloc::Global;
 
 #[tactic(auto, unfolding(crate::specs::Spelling::text_bytes, crate::specs::Spelling::TextFits))]
-impl Spell for Text {
+impl Spell<EventFormat> for Text {
     ghost spelling = { text_bytes };
 
     ghost fits = { TextFits };
 
     ghost one = { text_one };
 
-    fn put(&self, out: &mut Vec<u8>) -> Result<(), NoMemory> {
-        let text = self.as_str();
-        (text.len() as u64).put(out)?;
-        Ok(out.extend_from_slice(text.as_bytes())?)
-    }
-
     fn read(alloc: Global, bytes: &[u8]) -> Result<(Text, &[u8]), Unread> {
-        let (length, rest) = u64::read(alloc, bytes)?;
+        let (length, rest) = <u64 as Spell<EventFormat>>::read(alloc, bytes)?;
         if (rest.len() as u64) < length {
             return Err(Unread::Malformed);
         }
@@ -37,17 +31,22 @@ impl Spell for Text {
     }
 }
 
+#[tactic(auto, unfolding(crate::specs::Spelling::text_bytes, crate::specs::Spelling::TextFits))]
+impl Put for Text {
+    fn put(&self, out: &mut Vec<u8>) -> Result<(), NoMemory> {
+        let text = self.as_str();
+        (text.len() as u64).put(out)?;
+        Ok(out.extend_from_slice(text.as_bytes())?)
+    }
+}
+
 #[tactic(auto, unfolding(crate::specs::Spelling::tags_bytes, crate::specs::Spelling::TagsFit))]
-impl Spell for Tags {
+impl Spell<EventFormat> for Tags {
     ghost spelling = { tags_bytes };
 
     ghost fits = { TagsFit };
 
     ghost one = { tags_one };
-
-    fn put(&self, out: &mut Vec<u8>) -> Result<(), NoMemory> {
-        put_list(self.items(), out)
-    }
 
     fn read(alloc: Global, bytes: &[u8]) -> Result<(Tags, &[u8]), Unread> {
         let (list, rest) = read_list::<(Text, Text)>(alloc, bytes)?;
@@ -55,5 +54,12 @@ impl Spell for Tags {
             return Err(Unread::Malformed);
         }
         Ok((Tags::from_list(list), rest))
+    }
+}
+
+#[tactic(auto, unfolding(crate::specs::Spelling::tags_bytes, crate::specs::Spelling::TagsFit))]
+impl Put for Tags {
+    fn put(&self, out: &mut Vec<u8>) -> Result<(), NoMemory> {
+        put_list(self.items(), out)
     }
 }

@@ -6,10 +6,11 @@ use Rattle.road_base.specs.Bytes.{u32_bytes}
 use Rattle.road_model.specs.declared.blocks.Block.{Block}
 use Rattle.road_model.specs.Orders.{rises, way_cmp}
 use Rattle.road_model.specs.Format.{block_bytes}
-use Rattle.graph_file.specs.GraphReading.{list_bytes, ListFits, IsWayBlock, IsOneSpelling}
+use Rattle.spelled_bytes.specs.Reading.{IsOneSpelling}
+use Rattle.graph_file.specs.GraphReading.{list_bytes, ListFits, IsWayBlock}
 use Rattle.graph_file.specs.OneSpelling.{list_one, block_one}
 use Rattle.graph_file.proofs.Ascents.{named}
-use Rattle.graph_file.proofs.Fronts.{malformed_weaker}
+use Rattle.spelled_bytes.proofs.Fronts.{malformed_weaker}
 use Rattle.graph_file.proofs.GraphFiles.{behind}
 use Rattle.graph_file.proofs.graph.read_blocks.Goals as goal
 

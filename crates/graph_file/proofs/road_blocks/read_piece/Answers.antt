@@ -1,9 +1,11 @@
 use Rattle.std.proofs.Common.{◌+◌, ◌-◌, sym, subst}
 use Rattle.road_base.specs.Bytes.{joined}
 use Rattle.road_model.specs.Format.{place_bytes}
-use Rattle.graph_file.specs.GraphReading.{Begins, AreSoMany, PlaceFits}
+use Rattle.spelled_bytes.specs.Spelling.{AreSoMany}
+use Rattle.spelled_bytes.specs.Reading.{Begins}
+use Rattle.graph_file.specs.GraphReading.{PlaceFits}
 use Rattle.std.proofs.lemmas.Result.{err_from_is_err_and}
-use Rattle.graph_file.proofs.Fronts.{malformed_weaker}
+use Rattle.spelled_bytes.proofs.Fronts.{malformed_weaker}
 use Rattle.graph_file.proofs.PieceParts.{no_extent, no_places, no_contexts, whole_piece}
 use Rattle.graph_file.proofs.road_blocks.read_piece.Goals as goal
 

@@ -2,7 +2,7 @@ use Rattle.std.proofs.lemmas.Result.{err_from_is_err_and}
 use Rattle.road_model.specs.Format.{piece_bytes}
 use Rattle.graph_file.specs.GraphReading.{IsPieceAt}
 use Rattle.graph_file.specs.OneSpelling.{piece_one}
-use Rattle.graph_file.proofs.Fronts.{malformed_weaker, item_missing, one_more_begins}
+use Rattle.spelled_bytes.proofs.Fronts.{malformed_weaker, item_missing, one_more_begins}
 use Rattle.graph_file.proofs.road_blocks.read_pieces.Goals as goal
 
 pub returns-in_err-item-clause-malformed : goal.returns-in_err-item-clause-malformed

@@ -1,6 +1,8 @@
 use Rattle.road_base.specs.Bytes.{joined}
 use Rattle.road_model.specs.Format.{piece_bytes}
-use Rattle.graph_file.specs.GraphReading.{Begins, AreSoMany, IsPieceAt}
+use Rattle.spelled_bytes.specs.Spelling.{AreSoMany}
+use Rattle.spelled_bytes.specs.Reading.{Begins}
+use Rattle.graph_file.specs.GraphReading.{IsPieceAt}
 use Rattle.graph_file.proofs.road_blocks.read_pieces.Given as goal
 
 -- the bytes begin with what was read so far

@@ -1,9 +1,0 @@
-use Rattle.road_base.specs.Bytes.{joined}
-use Rattle.graph_file.specs.GraphReading.{AreSoMany}
-use Rattle.graph_file.specs.GraphReading.{Begins}
-use Rattle.graph_file.proofs.spelling.read_all.Given as goal
-
--- the bytes begin with what was read so far
-abbrev pub invariant-loop : goal.invariant-loop
-invariant-loop g l = Begins (joined g.T.Spell.spelling) (AreSoMany g.T.Spell.fits l.counter) l.bytes l.items.items
-    l.rest
