@@ -11,16 +11,18 @@ use Rattle.road_base.specs.declared.ids.WayId.{WayId}
 use Rattle.road_base.specs.Objects.{Objects}
 use Rattle.road_model.specs.declared.blocks.Block.{Block}
 use Rattle.road_model.specs.Rules.{Rules}
-use Rattle.road_model.specs.Orders.{rises, way_cmp}
+use Rattle.road_model.specs.Orders.{Lists, rises, way_cmp}
 use Rattle.road_model.specs.Blocks.{IsBlock, IsRoadBlock}
 use Rattle.road_model.specs.Format.{IsPieceForm, IsBlockForm, IsGraph, graph_bytes, place_cmp}
 use Rattle.road_model.specs.Naming.{OneBlock}
 use Rattle.graph_file.specs.declared.writer.GraphWriter.{GraphWriter}
 use Rattle.graph_file.specs.Writing.{HasWritten}
+use Rattle.graph_file.specs.GraphReading.{IsFile, IsOfItsWay}
+use Rattle.graph_file.specs.WalkedFiles.{IsWalkedFile}
 use Rattle.road_model.specs.Highways.{AreRoadWays}
 use Rattle.osmroad.specs.Building.{HasBlocksOf, IsBlockAmong}
 use Rattle.road_base.proofs.ListMembers.{In, contains_from_in, in_from_contains, contains_more, in_left, in_end}
-use Rattle.road_base.proofs.ListMembers.{from_map}
+use Rattle.road_base.proofs.ListMembers.{from_map, all_from}
 use Rattle.osmroad.proofs.RisingWays.{one_more_rises, below_last}
 
 module _ (M : Objects) (P : Rules) where
@@ -96,20 +98,43 @@ module _ (M : Objects) (P : Rules) where
           below_last way_cmp total ways block.way up w
           (subst (λ v. In v ways) (sym from.2) (in_from_contains ways from.0.way among))
 
-  -- the blocks of all roads are the graph
+  -- the blocks of all roads are all road blocks
+  all_listed : (ways : List WayId) (writer : GraphWriter) → AreRoadWays M P ways → (has : HasBlocksOf M P ways writer)
+      → Lists (λ (b : Block). b.way) way_cmp (IsRoadBlock M P) has.blocks
+  all_listed ways writer all has = record {
+    ascending = has.listed.ascending;
+    sound = λ b i. (has.listed.sound b i).road;
+    complete = λ b road. has.listed.complete b (record { among = all.all b road; road = road });
+  }
+
+  -- and so the graph
   pub whole_graph : (ways : List WayId) (writer : GraphWriter) (bytes : List ℕ)
       → AreRoadWays M P ways → HasBlocksOf M P ways writer
       → ((blocks : List Block) → HasWritten P.number blocks writer → bytes ≡ graph_bytes P.number blocks)
       → IsGraph M P bytes
   whole_graph ways writer bytes all has spelled = record {
     blocks = has.blocks;
-    listed = record {
-      ascending = has.listed.ascending;
-      sound = λ b i. (has.listed.sound b i).road;
-      complete = λ b road. has.listed.complete b (record { among = all.all b road; road = road });
-    };
+    listed = all_listed ways writer all has;
     spelled = spelled has.blocks has.written;
   }
+
+  -- the pieces of a road's block are named by its way
+  of_its_way : (b : Block) → IsRoadBlock M P b → IsOfItsWay b
+  of_its_way b road = all_from (λ p. p.name.way ≡ b.way) b.pieces (λ p i.
+      let e = road.block.pieces.sound p i in ap (λ n. n.way) e.named ∙ e.of)
+
+  -- the file of all roads is walked as the object map
+  pub whole_file : P.number ≡ 1 → (ways : List WayId) (writer : GraphWriter) (bytes : List ℕ)
+      → AreRoadWays M P ways → HasBlocksOf M P ways writer
+      → ((blocks : List Block) → HasWritten 1 blocks writer → IsTrue (rises way_cmp (map (λ b. b.way) blocks))
+      → AllByRecursion IsOfItsWay blocks → IsFile bytes blocks)
+      → ((file : List ℕ) (blocks : List Block) → Lists (λ b. b.way) way_cmp (IsRoadBlock M P) blocks → IsFile file blocks
+      → IsWalkedFile M P file)
+      → IsWalkedFile M P bytes
+  whole_file one ways writer bytes all has file law =
+      law bytes has.blocks (all_listed ways writer all has)
+      (file has.blocks (subst (λ n. HasWritten n has.blocks writer) one has.written) has.listed.ascending
+      (all_from IsOfItsWay has.blocks (λ b i. of_its_way b (has.listed.sound b i).road)))
 
 -- ---- lists that are empty or not
 

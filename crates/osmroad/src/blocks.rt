@@ -3,6 +3,7 @@ ghost use Rattle.std.specs.Prelude.{◌≡◌, ◌+◌, ◌≤◌, ◌++◌, ◌
 ghost use Rattle.road_base.specs.declared.ids.WayId.{WayId};
 ghost use Rattle.road_model.specs.Orders.{rises, way_cmp};
 ghost use Rattle.road_model.specs.Format.{IsGraph};
+ghost use Rattle.graph_file.specs.WalkedFiles.{IsWalkedFile};
 ghost use Rattle.access_profile.specs.Motorcar.{motorcar_rules};
 ghost use Rattle.road_model.specs.Highways.{AreRoadWays};
 ghost use Rattle.osmroad.specs.Building.{HasBlocksOf};
@@ -11,6 +12,7 @@ use access_profile::Motorcar;
 use back_references::Indexed;
 use expanded_graph::GraphBuilder;
 use graph_file::GraphWriter;
+use graph_file::laws::walked_file;
 use road_base::{NoMemory, Steps, WayId};
 use road_model::Profile;
 use road_model::laws::{name_order, one_block};
@@ -29,8 +31,10 @@ pub fn write_blocks<L: Ledger>(
 ) -> Result<Vec<u8>, NoMemory>
     requires { AreRoadWays builder.now.world motorcar_rules ways.now }
     ensures graph { IfOk result (λ out. IsGraph builder.now.world motorcar_rules out.items) }
+    ensures file { IfOk result (λ out. IsWalkedFile builder.now.world motorcar_rules out.items) }
     ensures built { steps.new ≤ steps.old + length ways.now }
 {
+    walked_file(&Motorcar);
     let room = ways.len().saturating_mul(ROOM_A_WAY);
     let mut writer = GraphWriter::new(alloc, Motorcar.number(), room)?;
     for way in ways {

@@ -1,10 +1,10 @@
-use Rattle.std.proofs.Common.{◌+◌, List, take, pos, IsTrue, sym, subst, arith}
+use Rattle.std.proofs.Common.{◌+◌, List, take, pos, IsTrue, refl, sym, subst, arith}
 use Rattle.std.proofs.lemmas.List.{take_all, take_more}
 use Rattle.road_base.specs.declared.ids.WayId.{WayId}
 use Rattle.road_model.specs.Orders.{rises, way_cmp}
 use Rattle.access_profile.specs.Motorcar.{motorcar_rules}
 use Rattle.osmroad.specs.Building.{HasBlocksOf}
-use Rattle.osmroad.proofs.Built.{whole_graph}
+use Rattle.osmroad.proofs.Built.{whole_graph, whole_file}
 use Rattle.osmroad.proofs.RisingWays.{take_rises}
 use Rattle.osmroad.proofs.blocks.write_blocks.Goals as goal
 
@@ -32,3 +32,13 @@ returns-clause-graph g c =
     let has = subst (λ (l : List WayId). HasBlocksOf M motorcar_rules l writer) whole c.loop-way.invariant.written in
     whole_graph M motorcar_rules ways writer c.finish.result.items c.requires has
     (c.finish.ensures.bytes motorcar_rules.number)
+
+pub returns-clause-file : goal.returns-clause-file
+returns-clause-file g c =
+    let M = c.args.builder.now.world in
+    let ways = c.args.ways.now in
+    let whole = take_all c.loop-way.way-index ways (omega (arith, c.loop-way-test.false)) in
+    let writer = c.loop-way.writer in
+    let has = subst (λ (l : List WayId). HasBlocksOf M motorcar_rules l writer) whole c.loop-way.invariant.written in
+    whole_file M motorcar_rules refl ways writer c.finish.result.items c.requires has c.finish.ensures.file
+    (c.walked_file.ensures M)

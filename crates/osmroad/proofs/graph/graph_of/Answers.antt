@@ -5,6 +5,7 @@ use Rattle.road_base.specs.declared.event.Event.{Event}
 use Rattle.road_base.specs.Objects.{Objects}
 use Rattle.road_base.specs.Applying.{IsApplied}
 use Rattle.road_model.specs.Format.{IsGraph}
+use Rattle.graph_file.specs.WalkedFiles.{IsWalkedFile}
 use Rattle.access_profile.specs.Motorcar.{motorcar_rules}
 use Rattle.access_profile.specs.declared.motorcar.Motorcar.{Motorcar}
 use Rattle.expanded_graph.specs.Pair.{Pair}
@@ -47,6 +48,9 @@ returns-clause-graph g c =
       graph =
           subst (λ (N : Objects). IsGraph N motorcar_rules c.in_ok-graph.graph.items) world c.in_ok-graph.ensures.graph;
       walks = c.walk_law.ensures M;
+      file =
+          subst (λ (N : Objects). IsWalkedFile N motorcar_rules c.in_ok-graph.graph.items) world
+          c.in_ok-graph.ensures.file;
     }
 
 pub returns-clause-built : goal.returns-clause-built
