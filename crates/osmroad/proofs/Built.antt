@@ -128,8 +128,8 @@ module _ (M : Objects) (P : Rules) where
       → AreRoadWays M P ways → HasBlocksOf M P ways writer
       → ((blocks : List Block) → HasWritten 1 blocks writer → IsTrue (rises way_cmp (map (λ b. b.way) blocks))
       → AllByRecursion IsOfItsWay blocks → IsFile bytes blocks)
-      → ((file : List ℕ) (blocks : List Block) → Lists (λ b. b.way) way_cmp (IsRoadBlock M P) blocks → IsFile file blocks
-      → IsWalkedFile M P file)
+      → ((file : List ℕ) (blocks : List Block) → Lists (λ b. b.way) way_cmp (IsRoadBlock M P) blocks
+      → IsFile file blocks → IsWalkedFile M P file)
       → IsWalkedFile M P bytes
   whole_file one ways writer bytes all has file law =
       law bytes has.blocks (all_listed ways writer all has)
