@@ -1,17 +1,14 @@
 -- The ways among keys in order.
-use Rattle.std.proofs.Common.{◌≡◌, ◌⊎◌, inl, inr, IsTrue, List, [], ◌∷◌, ◌++◌, ◌∙◌, append_assoc, append-nil, map, refl}
+use Rattle.std.proofs.Common.{◌≡◌, ◌⊎◌, inl, inr, IsTrue, List, [], ◌∷◌, map, refl}
 use Rattle.std.proofs.Common.{sym, ap, subst, Contains}
-use Rattle.std.specs.List.{AllByRecursion, filter_map}
 use Rattle.std.specs.List.Sorted.{IsStrictlySortedBy}
-use Rattle.std.specs.declared.cmp.Ordering.TheVariants.{Less}
 use Rattle.std.specs.Ordering.{is_lt}
 use Rattle.std.proofs.lemmas.Bool.{and_from}
 use Rattle.road_base.specs.declared.ids.WayId.{WayId}
 use Rattle.road_base.specs.declared.ids.Key.{Key}
-use Rattle.road_base.specs.declared.ids.Key.TheVariants.{Node as NodeKey, Way as WayKey, Relation as RelationKey}
-use Rattle.road_base.specs.Objects.{Objects, key_cmp}
-use Rattle.road_base.proofs.ListMembers.{In, in_from_contains, contains_from_in, contains_none}
-use Rattle.road_model.specs.Orders.{Lists, rises, rises_from, way_cmp}
+use Rattle.road_base.specs.declared.ids.Key.TheVariants.{Way as WayKey}
+use Rattle.road_base.specs.Objects.{Objects}
+use Rattle.road_model.specs.Orders.{Lists, rises, way_cmp}
 use Rattle.road_model.specs.Links.{AreChanged, AreReached, AreTouched}
 use Rattle.road_model.proofs.JoinedLists.{lists_same}
 use Rattle.touched_ways.specs.declared.search.Search.{Search}
@@ -39,8 +36,8 @@ ways_listed ways sorted = record {
 
 -- ---- those of two lists
 
-pub merged_ways : (s t u : Search) (first second before after : List WayId) → ((k : Key) → IsSeen s k → ⊥) → first ≡ before
-    → second ≡ after → Sees s t (GivenBy (λ w k. k ≡ WayKey w) first)
+pub merged_ways : (s t u : Search) (first second before after : List WayId) → ((k : Key) → IsSeen s k → ⊥)
+    → first ≡ before → second ≡ after → Sees s t (GivenBy (λ w k. k ≡ WayKey w) first)
     → Sees t u (GivenBy (λ w k. k ≡ WayKey w) second) → (ways : List WayId)
     → Lists (λ w. w) way_cmp (λ w. IsSeen u (WayKey w)) ways
     → Lists (λ w. w) way_cmp (λ w. Contains before w ⊎ Contains after w) ways

@@ -19,7 +19,8 @@ returns-clause-either c =
 
 pub returns-clause-touched : goal.returns-clause-touched
 returns-clause-touched c =
-    IfOk-weaker c.seen_ways.result (Lists (λ w. w) way_cmp (λ w. Contains c.args.before.now w ⊎ Contains c.args.after.now w))
+    IfOk-weaker c.seen_ways.result
+    (Lists (λ w. w) way_cmp (λ w. Contains c.args.before.now w ⊎ Contains c.args.after.now w))
     (λ ways. (M N : Objects) (keys : List Key) → AreChanged M N keys → AreReached M keys c.args.before.now
     → AreReached N keys c.args.after.now → AreTouched M N ways)
     (λ ways lists M N keys changed these those. touched_ways M N keys c.args.before.now c.args.after.now ways changed

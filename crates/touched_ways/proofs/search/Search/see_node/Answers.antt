@@ -8,15 +8,18 @@ use Rattle.touched_ways.proofs.search.Search.see_node.Goals as goal
 pub returns-in_ok-push : goal.returns-in_ok-push
 returns-in_ok-push c =
     let s = c.args.self.now in
-    let t : Search = record { nodes = c.insert.new.self; ways = c.args.self.now.ways; rules = c.args.self.now.rules; frontier = c.push.new.self } in
+    let t : Search =
+    record { nodes = c.insert.new.self; ways = s.ways; rules = s.rules; frontier = c.push.new.self }
+    in
     let only = told s t (NodeKey c.args.node)
     (λ q h. named NodeKey c.args.node q _
-    (put_only _ c.args.self.now.nodes.keys c.insert.new.self.keys c.args.node c.in_ok-is_new.ensures.keys q h))
+    (put_only _ s.nodes.keys c.insert.new.self.keys c.args.node c.in_ok-is_new.ensures.keys q h))
     (λ q h. inl h)
     (λ q h. inl h) in
     let now = put_now _ s.nodes.keys c.insert.new.self.keys c.args.node c.in_ok-is_new.ensures.keys
     c.number_order.ensures.node_ties in
-    let keeps = carried s t (put_keeps _ c.args.self.now.nodes.keys c.insert.new.self.keys c.args.node c.in_ok-is_new.ensures.keys)
+    let keeps = carried s t
+    (put_keeps _ s.nodes.keys c.insert.new.self.keys c.args.node c.in_ok-is_new.ensures.keys)
     (λ q h. h)
     (λ q h. h) in
     sees_new s t (NodeKey c.args.node) only now keeps c.in_ok-push.ensures.items
@@ -24,18 +27,21 @@ returns-in_ok-push c =
 pub returns-else-is_new : goal.returns-else-is_new
 returns-else-is_new c =
     let s = c.args.self.now in
-    let t : Search = record { nodes = c.insert.new.self; ways = c.args.self.now.ways; rules = c.args.self.now.rules; frontier = c.args.self.now.frontier } in
+    let t : Search =
+    record { nodes = c.insert.new.self; ways = s.ways; rules = s.rules; frontier = s.frontier }
+    in
     let only = told s t (NodeKey c.args.node)
     (λ q h. named NodeKey c.args.node q _
-    (put_only _ c.args.self.now.nodes.keys c.insert.new.self.keys c.args.node c.in_ok-is_new.ensures.keys q h))
+    (put_only _ s.nodes.keys c.insert.new.self.keys c.args.node c.in_ok-is_new.ensures.keys q h))
     (λ q h. inl h)
     (λ q h. inl h) in
     let now = put_now _ s.nodes.keys c.insert.new.self.keys c.args.node c.in_ok-is_new.ensures.keys
     c.number_order.ensures.node_ties in
-    let keeps = carried s t (put_keeps _ c.args.self.now.nodes.keys c.insert.new.self.keys c.args.node c.in_ok-is_new.ensures.keys)
+    let keeps = carried s t
+    (put_keeps _ s.nodes.keys c.insert.new.self.keys c.args.node c.in_ok-is_new.ensures.keys)
     (λ q h. h)
     (λ q h. h) in
     sees_old s t (NodeKey c.args.node) only now keeps
     (carried t s (λ q h. subst (λ l. Contains l q)
-    (subst (λ b. OnFalse b (c.insert.new.self.keys ≡ c.args.self.now.nodes.keys)) c.if-is_new.false
+    (subst (λ b. OnFalse b (c.insert.new.self.keys ≡ s.nodes.keys)) c.if-is_new.false
     c.in_ok-is_new.ensures.unchanged) h) (λ q h. h) (λ q h. h)) refl

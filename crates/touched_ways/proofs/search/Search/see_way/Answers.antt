@@ -8,34 +8,38 @@ use Rattle.touched_ways.proofs.search.Search.see_way.Goals as goal
 pub returns-in_ok-push : goal.returns-in_ok-push
 returns-in_ok-push c =
     let s = c.args.self.now in
-    let t : Search = record { nodes = c.args.self.now.nodes; ways = c.insert.new.self; rules = c.args.self.now.rules; frontier = c.push.new.self } in
+    let t : Search =
+    record { nodes = s.nodes; ways = c.insert.new.self; rules = s.rules; frontier = c.push.new.self }
+    in
     let only = told s t (WayKey c.args.way)
     (λ q h. inl h)
     (λ q h. named WayKey c.args.way q _
-    (put_only _ c.args.self.now.ways.keys c.insert.new.self.keys c.args.way c.in_ok-is_new.ensures.keys q h))
+    (put_only _ s.ways.keys c.insert.new.self.keys c.args.way c.in_ok-is_new.ensures.keys q h))
     (λ q h. inl h) in
     let now = put_now _ s.ways.keys c.insert.new.self.keys c.args.way c.in_ok-is_new.ensures.keys
     c.name_order.ensures.way_ties in
     let keeps = carried s t (λ q h. h)
-    (put_keeps _ c.args.self.now.ways.keys c.insert.new.self.keys c.args.way c.in_ok-is_new.ensures.keys)
+    (put_keeps _ s.ways.keys c.insert.new.self.keys c.args.way c.in_ok-is_new.ensures.keys)
     (λ q h. h) in
     sees_new s t (WayKey c.args.way) only now keeps c.in_ok-push.ensures.items
 
 pub returns-else-is_new : goal.returns-else-is_new
 returns-else-is_new c =
     let s = c.args.self.now in
-    let t : Search = record { nodes = c.args.self.now.nodes; ways = c.insert.new.self; rules = c.args.self.now.rules; frontier = c.args.self.now.frontier } in
+    let t : Search =
+    record { nodes = s.nodes; ways = c.insert.new.self; rules = s.rules; frontier = s.frontier }
+    in
     let only = told s t (WayKey c.args.way)
     (λ q h. inl h)
     (λ q h. named WayKey c.args.way q _
-    (put_only _ c.args.self.now.ways.keys c.insert.new.self.keys c.args.way c.in_ok-is_new.ensures.keys q h))
+    (put_only _ s.ways.keys c.insert.new.self.keys c.args.way c.in_ok-is_new.ensures.keys q h))
     (λ q h. inl h) in
     let now = put_now _ s.ways.keys c.insert.new.self.keys c.args.way c.in_ok-is_new.ensures.keys
     c.name_order.ensures.way_ties in
     let keeps = carried s t (λ q h. h)
-    (put_keeps _ c.args.self.now.ways.keys c.insert.new.self.keys c.args.way c.in_ok-is_new.ensures.keys)
+    (put_keeps _ s.ways.keys c.insert.new.self.keys c.args.way c.in_ok-is_new.ensures.keys)
     (λ q h. h) in
     sees_old s t (WayKey c.args.way) only now keeps
     (carried t s (λ q h. h) (λ q h. subst (λ l. Contains l q)
-    (subst (λ b. OnFalse b (c.insert.new.self.keys ≡ c.args.self.now.ways.keys)) c.if-is_new.false
+    (subst (λ b. OnFalse b (c.insert.new.self.keys ≡ s.ways.keys)) c.if-is_new.false
     c.in_ok-is_new.ensures.unchanged) h) (λ q h. h)) refl

@@ -1,5 +1,4 @@
-use Rattle.std.proofs.Common.{List, Contains, sym, subst, ◌∙◌}
-use Rattle.road_base.specs.declared.ids.WayId.{WayId}
+use Rattle.std.proofs.Common.{Contains, sym, subst, ◌∙◌}
 use Rattle.road_model.specs.Orders.{Lists, way_cmp}
 use Rattle.touched_ways.proofs.WayLists.{ways_listed}
 use Rattle.touched_ways.proofs.search.Search.seen_ways.Goals as goal
