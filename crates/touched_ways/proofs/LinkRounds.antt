@@ -25,11 +25,11 @@ module _ (M : Objects) (keys : List Key) where
   within_cases n b (c, has, inr (a, near, link)) = inr (a, (c, has, near), link)
 
   -- the keys alone were seen
-  pub first_round : (s t : Search) → s.seen.keys ≡ [] → s.frontier.items ≡ []
+  pub first_round : (s t : Search) → ((k : Key) → IsSeen s k → ⊥) → s.frontier.items ≡ []
       → Sees s t (GivenBy (λ x k. k ≡ x) keys) → IsRound M keys 0 t
   first_round s t none empty h = record {
     sound = λ k i. elim (h.sound k i) [
-      | inl old ↦ absurd (contains_none k (subst (λ l. Contains l k) none old))
+      | inl old ↦ absurd (none k old)
       | inr g ↦ (g.0, g.1, sym g.2)
     ];
     complete = λ k w. h.complete k (w.0, w.1, sym w.2);
@@ -38,22 +38,22 @@ module _ (M : Objects) (keys : List Key) where
       | inr g ↦ h.complete k g
     ];
     followed = λ a b i l. elim (h.fresh a i) [
-      | inl old ↦ absurd (contains_none a (subst (λ l. Contains l a) none old))
+      | inl old ↦ absurd (none a old)
       | inr new ↦ inr new
     ];
   }
 
-  module _ (n : ℕ) (s t u : Search) (round : IsRound M keys n s) (same : t.seen.keys ≡ s.seen.keys)
+  module _ (n : ℕ) (s t u : Search) (round : IsRound M keys n s) (same : (k : Key) → IsSeen t k ↔ IsSeen s k)
       (empty : t.frontier.items ≡ []) where
     -- all links from the frontier were followed
     next_round : Sees t u (GivenBy (IsLink M) s.frontier.items) → IsRound M keys (suc n) u
     next_round h = record {
       sound = λ k i. elim (h.sound k i) [
-        | inl old ↦ within_still n k (round.sound k (subst (λ l. Contains l k) same old))
+        | inl old ↦ within_still n k (round.sound k ((same k).0 old))
         | inr g ↦ within_next n g.0 k (round.sound g.0 (round.frontier g.0 g.1)) g.2
       ];
       complete = λ k w. elim (within_cases n k w) [
-        | inl before ↦ h.keeps k (subst (λ l. Contains l k) (sym same) (round.complete k before))
+        | inl before ↦ h.keeps k ((same k).1 (round.complete k before))
         | inr (a, near, link) ↦ linked a k (round.complete a near) link
       ];
       frontier = λ k i. elim (h.listed k i) [
@@ -61,14 +61,14 @@ module _ (M : Objects) (keys : List Key) where
         | inr g ↦ h.complete k g
       ];
       followed = λ a b i l. elim (h.fresh a i) [
-        | inl old ↦ inl (linked a b (subst (λ l. Contains l a) same old) l)
+        | inl old ↦ inl (linked a b ((same a).0 old) l)
         | inr new ↦ inr new
       ];
     }
       where
         linked : (a b : Key) → IsSeen s a → IsLink M a b → IsSeen u b
         linked a b i l = elim (round.followed a b i l) [
-          | inl seen ↦ h.keeps b (subst (λ l. Contains l b) (sym same) seen)
+          | inl seen ↦ h.keeps b ((same b).1 seen)
           | inr waits ↦ h.complete b (a, waits, l)
         ]
 
@@ -77,7 +77,7 @@ module _ (M : Objects) (keys : List Key) where
         → IsSeen u (WayKey w) ↔ IsWithinAny M keys (suc n) (WayKey w)
     last_round h w = (
       λ i. elim (h.sound (WayKey w) i) [
-        | inl old ↦ within_still n (WayKey w) (round.sound (WayKey w) (subst (λ l. Contains l (WayKey w)) same old))
+        | inl old ↦ within_still n (WayKey w) (round.sound (WayKey w) ((same (WayKey w)).0 old))
         | inr g ↦ within_next n g.0 (WayKey w) (round.sound g.0 (round.frontier g.0 g.1)) g.2.0
       ],
       λ i. elim (within_cases n (WayKey w) i) [
@@ -90,7 +90,7 @@ module _ (M : Objects) (keys : List Key) where
     )
       where
         still : (v : WayId) → IsSeen s (WayKey v) → IsSeen u (WayKey v)
-        still v i = h.keeps (WayKey v) (subst (λ l. Contains l (WayKey v)) (sym same) i)
+        still v i = h.keeps (WayKey v) ((same (WayKey v)).1 i)
 
     pub round_more : (front : List Key) → front ≡ s.frontier.items → Sees t u (GivenBy (IsLink M) front)
         → IsRound M keys (n + 1) u

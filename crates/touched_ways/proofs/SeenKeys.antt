@@ -1,12 +1,16 @@
 -- How what calls saw is put together.
 use Rattle.std.proofs.Common.{◌≡◌, ℕ, ◌+◌, ◌<◌, ◌≤◌, ◌⊎◌, inl, inr, List, [], ◌∷◌, ◌++◌, length, take, get_or, refl}
-use Rattle.std.proofs.Common.{sym, subst, Contains, Ordering}
+use Rattle.std.proofs.Common.{sym, ap, subst, Contains, Ordering}
 use Rattle.std.proofs.lemmas.List.{take_all}
 use Rattle.std.specs.declared.cmp.Ordering.TheVariants.{Less, Equal, Greater}
 use Rattle.std.specs.Ordering.{match_ordering}
 use Rattle.std.specs.FinMap.{IsAntisymmetric}
 use Rattle.std.specs.BTreeSet.{insert_key}
+use Rattle.road_base.specs.declared.ids.NodeId.{NodeId}
+use Rattle.road_base.specs.declared.ids.WayId.{WayId}
+use Rattle.road_base.specs.declared.ids.RelationId.{RelationId}
 use Rattle.road_base.specs.declared.ids.Key.{Key}
+use Rattle.road_base.specs.declared.ids.Key.TheVariants.{Node as NodeKey, Way as WayKey, Relation as RelationKey}
 use Rattle.road_base.proofs.ListMembers.{In, in_from_contains, contains_from_in, contains_none, in_end, in_left}
 use Rattle.road_base.proofs.ListMembers.{contains_more}
 use Rattle.road_model.proofs.JoinedLists.{one_more, has_last, has_before}
@@ -128,27 +132,48 @@ module _ {K : Type 0} (cmp : K → K → Ordering) where
 
 -- ---- one key
 
-module _ (cmp : Key → Key → Ordering) (ties : IsAntisymmetric cmp) (s t : Search) (key : Key)
-    (put : t.seen.keys ≡ insert_key cmp s.seen.keys key) where
-  seen_before : (k : Key) → IsSeen t k → IsSeen s k ⊎ (k ≡ key)
-  seen_before k h = elim (from_insert cmp s.seen.keys key k (in_from_contains _ k (subst (λ l. Contains l k) put h)))
-      [ inl i ↦ inl (contains_from_in s.seen.keys k i) | inr e ↦ inr e ]
+module _ {K : Type 0} (cmp : K → K → Ordering) (xs ys : List K) (x : K) (put : ys ≡ insert_key cmp xs x) where
+  pub put_only : (q : K) → Contains ys q → Contains xs q ⊎ (q ≡ x)
+  put_only q h = elim (from_insert cmp xs x q (in_from_contains _ q (subst (λ l. Contains l q) put h)))
+      [ inl i ↦ inl (contains_from_in xs q i) | inr e ↦ inr e ]
 
-  seen_still : (k : Key) → IsSeen s k → IsSeen t k
-  seen_still k h = subst (λ l. Contains l k) (sym put)
-      (contains_from_in _ k (old_insert cmp s.seen.keys key k (in_from_contains s.seen.keys k h)))
+  pub put_keeps : (q : K) → Contains xs q → Contains ys q
+  put_keeps q h = subst (λ l. Contains l q) (sym put)
+      (contains_from_in _ q (old_insert cmp xs x q (in_from_contains xs q h)))
 
-  seen_now : (k : Key) → k ≡ key → IsSeen t k
-  seen_now k e = subst (IsSeen t) (sym e) (subst (λ l. Contains l key) (sym put)
-      (contains_from_in _ key (new_insert cmp ties s.seen.keys key)))
+  pub put_now : IsAntisymmetric cmp → Contains ys x
+  put_now ties = subst (λ l. Contains l x) (sym put) (contains_from_in _ x (new_insert cmp ties xs x))
 
+-- what is seen of each kind tells what is seen
+pub carried : (s t : Search) → ((q : NodeId) → Contains s.nodes.keys q → Contains t.nodes.keys q)
+    → ((q : WayId) → Contains s.ways.keys q → Contains t.ways.keys q)
+    → ((q : RelationId) → Contains s.rules.keys q → Contains t.rules.keys q) → (k : Key) → IsSeen s k → IsSeen t k
+carried s t n w r (NodeKey q) h = n q h
+carried s t n w r (WayKey q) h = w q h
+carried s t n w r (RelationKey q) h = r q h
+
+pub told : (s t : Search) (key : Key)
+    → ((q : NodeId) → Contains t.nodes.keys q → Contains s.nodes.keys q ⊎ (NodeKey q ≡ key))
+    → ((q : WayId) → Contains t.ways.keys q → Contains s.ways.keys q ⊎ (WayKey q ≡ key))
+    → ((q : RelationId) → Contains t.rules.keys q → Contains s.rules.keys q ⊎ (RelationKey q ≡ key))
+    → (k : Key) → IsSeen t k → IsSeen s k ⊎ (k ≡ key)
+told s t key n w r (NodeKey q) h = n q h
+told s t key n w r (WayKey q) h = w q h
+told s t key n w r (RelationKey q) h = r q h
+
+pub named : {K : Type 0} (key : K → Key) (x q : K) (P : Type 0) → P ⊎ (q ≡ x) → P ⊎ (key q ≡ key x)
+named key x q P (inl h) = inl h
+named key x q P (inr e) = inr (ap key e)
+
+module _ (s t : Search) (key : Key) (only : (k : Key) → IsSeen t k → IsSeen s k ⊎ (k ≡ key)) (now : IsSeen t key)
+    (keeps : (k : Key) → IsSeen s k → IsSeen t k) where
   -- it was new, and was listed
   pub sees_new : t.frontier.items ≡ s.frontier.items ++ key ∷ [] → Sees s t (λ k. k ≡ key)
   sees_new listed = record {
-    sound = seen_before;
-    complete = seen_now;
-    keeps = seen_still;
-    fresh = λ k h. elim (seen_before k h) [
+    sound = only;
+    complete = λ k e. subst (IsSeen t) (sym e) now;
+    keeps = keeps;
+    fresh = λ k h. elim (only k h) [
       | inl old ↦ inl old
       | inr e ↦ inr (subst (λ l. Contains l k) (sym listed) (subst (Contains (s.frontier.items ++ key ∷ []))
           (sym e) (contains_from_in _ key (in_end s.frontier.items key []))))
@@ -159,12 +184,16 @@ module _ (cmp : Key → Key → Ordering) (ties : IsAntisymmetric cmp) (s t : Se
   }
 
   -- it had been seen
-  pub sees_old : t.seen.keys ≡ s.seen.keys → t.frontier.items ≡ s.frontier.items → Sees s t (λ k. k ≡ key)
+  pub sees_old : ((k : Key) → IsSeen t k → IsSeen s k) → t.frontier.items ≡ s.frontier.items
+      → Sees s t (λ k. k ≡ key)
   sees_old same kept = record {
-    sound = seen_before;
-    complete = seen_now;
-    keeps = seen_still;
-    fresh = λ k h. inl (subst (λ l. Contains l k) same h);
+    sound = only;
+    complete = λ k e. subst (IsSeen t) (sym e) now;
+    keeps = keeps;
+    fresh = λ k h. inl (same k h);
     listed = λ k h. inl (subst (λ l. Contains l k) kept h);
     stays = λ k h. subst (λ l. Contains l k) (sym kept) h;
   }
+
+pub sees_key : (s t : Search) (key other : Key) → key ≡ other → Sees s t (λ k. k ≡ other) → Sees s t (λ k. k ≡ key)
+sees_key s t key other e h = subst (λ x. Sees s t (λ k. k ≡ x)) (sym e) h

@@ -1,6 +1,5 @@
 -- What a search over links has seen, and what a call lets it see.
-use Rattle.std.specs.Prelude.{ℕ, ◌⊎◌, List, Option, Some, None, Contains}
-use Rattle.road_base.specs.declared.ids.WayId.{WayId}
+use Rattle.std.specs.Prelude.{ℕ, ◌⊎◌, List, Contains}
 use Rattle.road_base.specs.declared.ids.Key.{Key}
 use Rattle.road_base.specs.declared.ids.Key.TheVariants.{Node as NodeKey, Way as WayKey, Relation as RelationKey}
 use Rattle.road_base.specs.Objects.{Objects}
@@ -9,7 +8,9 @@ use Rattle.touched_ways.specs.declared.search.Search.{Search}
 
 -- the search has seen the key
 abbrev pub IsSeen : Search → Key → Type 0
-IsSeen s k = Contains s.seen.keys k
+IsSeen s (NodeKey n) = Contains s.nodes.keys n
+IsSeen s (WayKey w) = Contains s.ways.keys w
+IsSeen s (RelationKey r) = Contains s.rules.keys r
 
 -- between s and t exactly the keys of which the fact holds were seen; those that are new stand on the frontier
 pub record Sees (s t : Search) (Is : Key → Type 0) : Type 0 where
@@ -50,9 +51,3 @@ pub record IsRound (M : Objects) (keys : List Key) (n : ℕ) (s : Search) : Type
   pub complete : (k : Key) → IsWithinAny M keys n k → IsSeen s k
   pub frontier : (k : Key) → Contains s.frontier.items k → IsSeen s k
   pub followed : (a b : Key) → IsSeen s a → IsLink M a b → IsSeen s b ⊎ Contains s.frontier.items a
-
--- the way of a way's key
-abbrev pub way_in : Key → Option WayId
-way_in (NodeKey n) = None
-way_in (WayKey w) = Some w
-way_in (RelationKey r) = None

@@ -21,5 +21,5 @@ pub fn merge(alloc: Global, before: &Ways, after: &Ways) -> Result<Ways, NoMemor
     let mut search = Search::new(alloc);
     search.see_ways(before.items())?;
     search.see_ways(after.items())?;
-    search.ways(alloc)
+    search.seen_ways(alloc)
 }

@@ -26,7 +26,7 @@ pub fn reached<M: World>(alloc: Global, world: &M, changed: &Keys) -> Result<Way
         next_round(world, &mut search)?;
     }
     last_round(world, &mut search)?;
-    search.ways(alloc)
+    search.seen_ways(alloc)
 }
 
 /// Sees what is one link further.

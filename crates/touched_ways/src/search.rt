@@ -1,45 +1,81 @@
 //! The keys that a search over links has seen.
-ghost use Rattle.std.specs.Prelude.{◌≡◌, [], IfOk, OnOk, Contains, filter_map};
+ghost use Rattle.std.specs.Prelude.{◌≡◌, ◌↔◌, [], IfOk, OnOk, Contains};
+ghost use Rattle.road_base.specs.declared.ids.Key.{Key as KeyValue};
 ghost use Rattle.road_base.specs.declared.ids.Key.TheVariants.{Node as NodeKey, Way as WayKey, Relation as RelationKey};
 ghost use Rattle.std.specs.List.Sorted.{IsStrictlySortedBy};
 ghost use Rattle.road_model.specs.Orders.{Lists, way_cmp};
-ghost use Rattle.touched_ways.specs.Searches.{IsSeen, Sees, GivenBy, IsNodeOrWay, IsWay, way_in};
+ghost use Rattle.touched_ways.specs.Searches.{IsSeen, Sees, GivenBy, IsNodeOrWay, IsWay};
 
-use road_base::laws::key_order;
 use road_base::{Key, Member, NoMemory, NodeId, RelationId, WayId, Ways};
+use road_model::laws::{name_order, number_order};
 use std::alloc::Global;
 use std::collections::BTreeSet;
 use std::mem::replace;
 
-/// The keys seen so far, and the frontier: those among them whose links haven't been followed yet.
+/// The keys seen so far, by kind, and the frontier: those among them whose links haven't been followed yet.
 #[derive(Drop)]
 pub struct Search {
-    pub seen: BTreeSet<Key>,
+    pub nodes: BTreeSet<NodeId>,
+    pub ways: BTreeSet<WayId>,
+    pub rules: BTreeSet<RelationId>,
     pub frontier: Vec<Key>,
 }
 
 impl Search {
     /// Nothing was seen. Takes no memory.
     pub fn new(alloc: Global) -> Search
-        ensures seen { result.seen.keys ≡ [] }
+        ensures seen { (k : KeyValue) → IsSeen result k → ⊥ }
         ensures frontier { result.frontier.items ≡ [] }
     {
         Search {
-            seen: BTreeSet::new(alloc),
+            nodes: BTreeSet::new(alloc),
+            ways: BTreeSet::new(alloc),
+            rules: BTreeSet::new(alloc),
             frontier: Vec::new(alloc),
         }
     }
 
-    /// Sees the key.
-    pub fn see(&mut self, key: Key) -> Result<(), NoMemory>
-        ensures { OnOk result (Sees self.old self.new (λ k. k ≡ key)) }
+    fn see_node(&mut self, node: NodeId) -> Result<(), NoMemory>
+        ensures { OnOk result (Sees self.old self.new (λ k. k ≡ NodeKey node)) }
     {
-        key_order();
-        let is_new = self.seen.insert(key)?;
+        number_order();
+        let is_new = self.nodes.insert(node)?;
         if is_new {
-            self.frontier.push(key)?;
+            self.frontier.push(Key::Node(node))?;
         }
         Ok(())
+    }
+
+    fn see_way(&mut self, way: WayId) -> Result<(), NoMemory>
+        ensures { OnOk result (Sees self.old self.new (λ k. k ≡ WayKey way)) }
+    {
+        name_order();
+        let is_new = self.ways.insert(way)?;
+        if is_new {
+            self.frontier.push(Key::Way(way))?;
+        }
+        Ok(())
+    }
+
+    fn see_rule(&mut self, rule: RelationId) -> Result<(), NoMemory>
+        ensures { OnOk result (Sees self.old self.new (λ k. k ≡ RelationKey rule)) }
+    {
+        number_order();
+        let is_new = self.rules.insert(rule)?;
+        if is_new {
+            self.frontier.push(Key::Relation(rule))?;
+        }
+        Ok(())
+    }
+
+    fn see(&mut self, key: Key) -> Result<(), NoMemory>
+        ensures { OnOk result (Sees self.old self.new (λ k. k ≡ key)) }
+    {
+        match key {
+            Key::Node(node) => self.see_node(node),
+            Key::Way(way) => self.see_way(way),
+            Key::Relation(rule) => self.see_rule(rule),
+        }
     }
 
     /// Sees the keys.
@@ -57,7 +93,7 @@ impl Search {
         ensures { OnOk result (Sees self.old self.new (GivenBy (λ n k. k ≡ NodeKey n) nodes.now)) }
     {
         for node in nodes {
-            self.see(Key::Node(*node))?;
+            self.see_node(*node)?;
         }
         Ok(())
     }
@@ -67,7 +103,7 @@ impl Search {
         ensures { OnOk result (Sees self.old self.new (GivenBy (λ w k. k ≡ WayKey w) ways.now)) }
     {
         for way in ways {
-            self.see(Key::Way(*way))?;
+            self.see_way(*way)?;
         }
         Ok(())
     }
@@ -77,7 +113,7 @@ impl Search {
         ensures { OnOk result (Sees self.old self.new (GivenBy (λ r k. k ≡ RelationKey r) rules.now)) }
     {
         for rule in rules {
-            self.see(Key::Relation(*rule))?;
+            self.see_rule(*rule)?;
         }
         Ok(())
     }
@@ -98,7 +134,7 @@ impl Search {
         ensures { OnOk result (Sees self.old self.new (GivenBy (λ m k. (k ≡ m.item) × IsWay k) members.now)) }
     {
         for member in members {
-            self.see_way(member.item)?;
+            self.see_if_way(member.item)?;
         }
         Ok(())
     }
@@ -107,18 +143,18 @@ impl Search {
         ensures { OnOk result (Sees self.old self.new (λ k. (k ≡ key) × IsNodeOrWay k)) }
     {
         match key {
-            Key::Node(_) => self.see(key),
-            Key::Way(_) => self.see(key),
+            Key::Node(node) => self.see_node(node),
+            Key::Way(member) => self.see_way(member),
             Key::Relation(_) => Ok(()),
         }
     }
 
-    fn see_way(&mut self, key: Key) -> Result<(), NoMemory>
+    fn see_if_way(&mut self, key: Key) -> Result<(), NoMemory>
         ensures { OnOk result (Sees self.old self.new (λ k. (k ≡ key) × IsWay k)) }
     {
         match key {
             Key::Node(_) => Ok(()),
-            Key::Way(_) => self.see(key),
+            Key::Way(way) => self.see_way(way),
             Key::Relation(_) => Ok(()),
         }
     }
@@ -126,7 +162,7 @@ impl Search {
     /// Hands out the frontier, and leaves an empty one.
     pub fn next_frontier(&mut self) -> Vec<Key>
         ensures frontier { result.items ≡ self.old.frontier.items }
-        ensures seen { self.new.seen.keys ≡ self.old.seen.keys }
+        ensures seen { (k : KeyValue) → IsSeen self.new k ↔ IsSeen self.old k }
         ensures none { self.new.frontier.items ≡ [] }
     {
         let alloc = *self.frontier.allocator();
@@ -134,26 +170,22 @@ impl Search {
     }
 
     /// The ways that were seen, ascending.
-    pub fn ways(&self, alloc: Global) -> Result<Ways, NoMemory>
+    pub fn seen_ways(&self, alloc: Global) -> Result<Ways, NoMemory>
         ensures { IfOk result (Lists (λ w. w) way_cmp (λ w. IsSeen self.now (WayKey w))) }
     {
-        key_order();
-        let list = ways_among(alloc, &self.seen)?;
+        let list = in_order(alloc, &self.ways)?;
         Ok(Ways::from_list(list))
     }
 }
 
-/// The ways among the keys, in their order, which is ascending.
-fn ways_among(alloc: Global, keys: &BTreeSet<Key>) -> Result<Vec<WayId>, NoMemory>
-    ensures ways { IfOk result (λ ways. ways.items ≡ filter_map way_in keys.now.keys) }
-    ensures ordered { IsStrictlySortedBy ⟦<Key as Ord>⟧.cmp keys.now.keys }
+/// The ways of the set, ascending.
+fn in_order(alloc: Global, ways: &BTreeSet<WayId>) -> Result<Vec<WayId>, NoMemory>
+    ensures ways { IfOk result (λ list. list.items ≡ ways.now.keys) }
+    ensures ordered { IsStrictlySortedBy way_cmp ways.now.keys }
 {
-    let mut ways = Vec::new(alloc);
-    for key in keys {
-        let Key::Way(way) = *key else {
-            continue;
-        };
-        ways.push(way)?;
+    let mut list = Vec::with_capacity(alloc, ways.len())?;
+    for way in ways {
+        list.push(*way)?;
     }
-    Ok(ways)
+    Ok(list)
 }

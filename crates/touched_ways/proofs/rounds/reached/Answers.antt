@@ -29,6 +29,6 @@ returns g c =
     let round : IsRound M keys 5 c.loop-round.search =
     subst (λ (n : ℕ). IsRound M keys n c.loop-round.search) e c.loop-round.invariant
     in
-    IfOk-weaker c.ways.result (Lists (λ w. w) way_cmp (λ w. IsSeen c.last_round.new.search (WayKey w)))
+    IfOk-weaker c.seen_ways.result (Lists (λ w. w) way_cmp (λ w. IsSeen c.last_round.new.search (WayKey w)))
     (AreReached M keys) (reached_ways M keys c.last_round.new.search (c.in_ok-last_round.ensures keys 5 round))
-    c.ways.ensures
+    c.seen_ways.ensures

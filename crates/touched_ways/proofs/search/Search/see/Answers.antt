@@ -1,18 +1,18 @@
-use Rattle.std.proofs.Common.{◌≡◌, refl, sym, subst, ◌∙◌}
-use Rattle.std.specs.Bool.{OnFalse}
-use Rattle.touched_ways.proofs.SeenKeys.{sees_new, sees_old}
+use Rattle.std.proofs.lemmas.Result.{on_ok_weaker}
+use Rattle.touched_ways.proofs.SeenKeys.{sees_key}
 use Rattle.touched_ways.proofs.search.Search.see.Goals as goal
 
-pub returns-in_ok-push : goal.returns-in_ok-push
-returns-in_ok-push c =
-    sees_new _ (λ a b e. c.key_order.ensures.ties a b (sym (c.key_order.ensures.by_cmp a b) ∙ e)) c.args.self.now
-    (record { seen = c.insert.new.self; frontier = c.push.new.self }) c.args.key c.in_ok-is_new.ensures.keys
-    c.in_ok-push.ensures.items
+pub returns-in-Node : goal.returns-in-Node
+returns-in-Node c =
+    on_ok_weaker c.see_node.result (sees_key c.args.self.now c.see_node.new.self c.args.key _ c.in-Node.is)
+    c.see_node.ensures
 
-pub returns-else-is_new : goal.returns-else-is_new
-returns-else-is_new c =
-    sees_old _ (λ a b e. c.key_order.ensures.ties a b (sym (c.key_order.ensures.by_cmp a b) ∙ e)) c.args.self.now
-    (record { seen = c.insert.new.self; frontier = c.args.self.now.frontier }) c.args.key
-    c.in_ok-is_new.ensures.keys
-    (subst (λ b. OnFalse b (c.insert.new.self.keys ≡ c.args.self.now.seen.keys)) c.if-is_new.false
-    c.in_ok-is_new.ensures.unchanged) refl
+pub returns-in-Way : goal.returns-in-Way
+returns-in-Way c =
+    on_ok_weaker c.see_way.result (sees_key c.args.self.now c.see_way.new.self c.args.key _ c.in-Way.is)
+    c.see_way.ensures
+
+pub returns-in-Relation : goal.returns-in-Relation
+returns-in-Relation c =
+    on_ok_weaker c.see_rule.result (sees_key c.args.self.now c.see_rule.new.self c.args.key _ c.in-Relation.is)
+    c.see_rule.ensures

@@ -10,10 +10,10 @@ loop-member-init c = sees_first (λ m k. (k ≡ m.item) × IsWay k) c.args.self.
 pub loop-member-preserved : goal.loop-member-preserved
 loop-member-preserved c =
     let seen =
-    subst (λ (m : Member). Sees c.loop-member.self c.see_way.new.self (λ k. (k ≡ m.item) × IsWay k))
-    c.member-item.is c.in_ok-see_way.ensures
+    subst (λ (m : Member). Sees c.loop-member.self c.see_if_way.new.self (λ k. (k ≡ m.item) × IsWay k))
+    c.member-item.is c.in_ok-see_if_way.ensures
     in
-    sees_next (λ m k. (k ≡ m.item) × IsWay k) c.args.self.now c.loop-member.self c.see_way.new.self
+    sees_next (λ m k. (k ≡ m.item) × IsWay k) c.args.self.now c.loop-member.self c.see_if_way.new.self
     c.args.members.now c.loop-member.member-index _ c.loop-member-test.true c.loop-member.invariant seen
 
 pub returns : goal.returns

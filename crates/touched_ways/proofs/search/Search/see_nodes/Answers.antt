@@ -8,8 +8,8 @@ loop-node-init c = sees_first (λ n k. k ≡ NodeKey n) c.args.self.now c.args.n
 
 pub loop-node-preserved : goal.loop-node-preserved
 loop-node-preserved c =
-    sees_next (λ n k. k ≡ NodeKey n) c.args.self.now c.loop-node.self c.see.new.self c.args.nodes.now
-    c.loop-node.node-index _ c.loop-node-test.true c.loop-node.invariant c.in_ok-see.ensures
+    sees_next (λ n k. k ≡ NodeKey n) c.args.self.now c.loop-node.self c.see_node.new.self c.args.nodes.now
+    c.loop-node.node-index _ c.loop-node-test.true c.loop-node.invariant c.in_ok-see_node.ensures
 
 pub returns : goal.returns
 returns c =

@@ -8,8 +8,8 @@ loop-rule-init c = sees_first (λ r k. k ≡ RelationKey r) c.args.self.now c.ar
 
 pub loop-rule-preserved : goal.loop-rule-preserved
 loop-rule-preserved c =
-    sees_next (λ r k. k ≡ RelationKey r) c.args.self.now c.loop-rule.self c.see.new.self c.args.rules.now
-    c.loop-rule.rule-index _ c.loop-rule-test.true c.loop-rule.invariant c.in_ok-see.ensures
+    sees_next (λ r k. k ≡ RelationKey r) c.args.self.now c.loop-rule.self c.see_rule.new.self c.args.rules.now
+    c.loop-rule.rule-index _ c.loop-rule-test.true c.loop-rule.invariant c.in_ok-see_rule.ensures
 
 pub returns : goal.returns
 returns c =

@@ -1,15 +1,45 @@
-use Rattle.std.proofs.Common.{sym, subst}
-use Rattle.std.proofs.lemmas.Result.{on_ok_weaker}
-use Rattle.touched_ways.specs.Searches.{IsWay}
-use Rattle.touched_ways.proofs.SeenKeys.{sees_if, sees_not}
+use Rattle.std.proofs.Common.{◌≡◌, inl, refl, subst, Contains}
+use Rattle.std.specs.Bool.{OnFalse}
+use Rattle.road_base.specs.declared.ids.Key.TheVariants.{Way as WayKey}
+use Rattle.touched_ways.specs.declared.search.Search.{Search}
+use Rattle.touched_ways.proofs.SeenKeys.{put_only, put_keeps, put_now, carried, told, named, sees_new, sees_old}
 use Rattle.touched_ways.proofs.search.Search.see_way.Goals as goal
 
-pub returns-in-Node : goal.returns-in-Node
-returns-in-Node c = sees_not c.args.self.now c.args.key IsWay (λ p. absurd (subst IsWay c.in-Node.is p))
+pub returns-in_ok-push : goal.returns-in_ok-push
+returns-in_ok-push c =
+    let s = c.args.self.now in
+    let t : Search =
+    record { nodes = s.nodes; ways = c.insert.new.self; rules = s.rules; frontier = c.push.new.self }
+    in
+    let only = told s t (WayKey c.args.way)
+    (λ q h. inl h)
+    (λ q h. named WayKey c.args.way q _
+    (put_only _ s.ways.keys c.insert.new.self.keys c.args.way c.in_ok-is_new.ensures.keys q h))
+    (λ q h. inl h) in
+    let now = put_now _ s.ways.keys c.insert.new.self.keys c.args.way c.in_ok-is_new.ensures.keys
+    c.name_order.ensures.way_ties in
+    let keeps = carried s t (λ q h. h)
+    (put_keeps _ s.ways.keys c.insert.new.self.keys c.args.way c.in_ok-is_new.ensures.keys)
+    (λ q h. h) in
+    sees_new s t (WayKey c.args.way) only now keeps c.in_ok-push.ensures.items
 
-pub returns-in-Way : goal.returns-in-Way
-returns-in-Way c = on_ok_weaker c.see.result
-    (sees_if c.args.self.now c.see.new.self c.args.key IsWay (subst IsWay (sym c.in-Way.is) tt)) c.see.ensures
-
-pub returns-in-Relation : goal.returns-in-Relation
-returns-in-Relation c = sees_not c.args.self.now c.args.key IsWay (λ p. absurd (subst IsWay c.in-Relation.is p))
+pub returns-else-is_new : goal.returns-else-is_new
+returns-else-is_new c =
+    let s = c.args.self.now in
+    let t : Search =
+    record { nodes = s.nodes; ways = c.insert.new.self; rules = s.rules; frontier = s.frontier }
+    in
+    let only = told s t (WayKey c.args.way)
+    (λ q h. inl h)
+    (λ q h. named WayKey c.args.way q _
+    (put_only _ s.ways.keys c.insert.new.self.keys c.args.way c.in_ok-is_new.ensures.keys q h))
+    (λ q h. inl h) in
+    let now = put_now _ s.ways.keys c.insert.new.self.keys c.args.way c.in_ok-is_new.ensures.keys
+    c.name_order.ensures.way_ties in
+    let keeps = carried s t (λ q h. h)
+    (put_keeps _ s.ways.keys c.insert.new.self.keys c.args.way c.in_ok-is_new.ensures.keys)
+    (λ q h. h) in
+    sees_old s t (WayKey c.args.way) only now keeps
+    (carried t s (λ q h. h) (λ q h. subst (λ l. Contains l q)
+    (subst (λ b. OnFalse b (c.insert.new.self.keys ≡ s.ways.keys)) c.if-is_new.false
+    c.in_ok-is_new.ensures.unchanged) h) (λ q h. h)) refl

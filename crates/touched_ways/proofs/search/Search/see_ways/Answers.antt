@@ -8,8 +8,8 @@ loop-way-init c = sees_first (λ w k. k ≡ WayKey w) c.args.self.now c.args.way
 
 pub loop-way-preserved : goal.loop-way-preserved
 loop-way-preserved c =
-    sees_next (λ w k. k ≡ WayKey w) c.args.self.now c.loop-way.self c.see.new.self c.args.ways.now
-    c.loop-way.way-index _ c.loop-way-test.true c.loop-way.invariant c.in_ok-see.ensures
+    sees_next (λ w k. k ≡ WayKey w) c.args.self.now c.loop-way.self c.see_way.new.self c.args.ways.now
+    c.loop-way.way-index _ c.loop-way-test.true c.loop-way.invariant c.in_ok-see_way.ensures
 
 pub returns : goal.returns
 returns c =

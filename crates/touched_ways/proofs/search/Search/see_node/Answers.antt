@@ -1,0 +1,47 @@
+use Rattle.std.proofs.Common.{◌≡◌, inl, refl, subst, Contains}
+use Rattle.std.specs.Bool.{OnFalse}
+use Rattle.road_base.specs.declared.ids.Key.TheVariants.{Node as NodeKey}
+use Rattle.touched_ways.specs.declared.search.Search.{Search}
+use Rattle.touched_ways.proofs.SeenKeys.{put_only, put_keeps, put_now, carried, told, named, sees_new, sees_old}
+use Rattle.touched_ways.proofs.search.Search.see_node.Goals as goal
+
+pub returns-in_ok-push : goal.returns-in_ok-push
+returns-in_ok-push c =
+    let s = c.args.self.now in
+    let t : Search =
+    record { nodes = c.insert.new.self; ways = s.ways; rules = s.rules; frontier = c.push.new.self }
+    in
+    let only = told s t (NodeKey c.args.node)
+    (λ q h. named NodeKey c.args.node q _
+    (put_only _ s.nodes.keys c.insert.new.self.keys c.args.node c.in_ok-is_new.ensures.keys q h))
+    (λ q h. inl h)
+    (λ q h. inl h) in
+    let now = put_now _ s.nodes.keys c.insert.new.self.keys c.args.node c.in_ok-is_new.ensures.keys
+    c.number_order.ensures.node_ties in
+    let keeps = carried s t
+    (put_keeps _ s.nodes.keys c.insert.new.self.keys c.args.node c.in_ok-is_new.ensures.keys)
+    (λ q h. h)
+    (λ q h. h) in
+    sees_new s t (NodeKey c.args.node) only now keeps c.in_ok-push.ensures.items
+
+pub returns-else-is_new : goal.returns-else-is_new
+returns-else-is_new c =
+    let s = c.args.self.now in
+    let t : Search =
+    record { nodes = c.insert.new.self; ways = s.ways; rules = s.rules; frontier = s.frontier }
+    in
+    let only = told s t (NodeKey c.args.node)
+    (λ q h. named NodeKey c.args.node q _
+    (put_only _ s.nodes.keys c.insert.new.self.keys c.args.node c.in_ok-is_new.ensures.keys q h))
+    (λ q h. inl h)
+    (λ q h. inl h) in
+    let now = put_now _ s.nodes.keys c.insert.new.self.keys c.args.node c.in_ok-is_new.ensures.keys
+    c.number_order.ensures.node_ties in
+    let keeps = carried s t
+    (put_keeps _ s.nodes.keys c.insert.new.self.keys c.args.node c.in_ok-is_new.ensures.keys)
+    (λ q h. h)
+    (λ q h. h) in
+    sees_old s t (NodeKey c.args.node) only now keeps
+    (carried t s (λ q h. subst (λ l. Contains l q)
+    (subst (λ b. OnFalse b (c.insert.new.self.keys ≡ s.nodes.keys)) c.if-is_new.false
+    c.in_ok-is_new.ensures.unchanged) h) (λ q h. h) (λ q h. h)) refl
