@@ -7,8 +7,8 @@
 //! that the table tells, and where that isn't the one, or no memory was found for the table, the whole list is
 //! searched. The table takes at most about two bytes a reference, and one run over them when it is made. `of` and
 //! `apply` make the lists anew, from the entries of ways and of relations alone: with m entries, r references and n
-//! events that takes time of the order of (n + m + r) log (n + m + r). `with` is `apply` on a copy, and `highways` looks at
-//! each entry of a way once.
+//! events that takes time of the order of (n + m + r) log (n + m + r). `with` is `apply` on a copy, and `highways`
+//! looks at each entry of a way once.
 #![tactic(auto)]
 
 mod collecting;

@@ -1,5 +1,5 @@
 -- What an answer to a message leaves.
-use Rattle.std.proofs.Common.{◌≡◌, ◌⊎◌, inl, inr, ⊎_elim, ℕ, ◌+◌, ◌-◌, ◌<◌, ◌≤◌, ◌^◌, List, [], ◌∷◌, ◌++◌, length}
+use Rattle.std.proofs.Common.{◌≡◌, inl, inr, ⊎_elim, ℕ, ◌+◌, ◌-◌, ◌<◌, ◌≤◌, ◌^◌, List, [], ◌∷◌, ◌++◌, length}
 use Rattle.std.proofs.Common.{true, false, Result, Ok, Err, IfErr, refl, sym, ◌∙◌, ap, subst, arith, codes}
 use Rattle.std.proofs.Common.{length-append}
 use Rattle.std.proofs.lemmas.List.{append-nil}
@@ -14,21 +14,21 @@ use Rattle.road_model.specs.Rules.{Rules}
 use Rattle.object_codec.specs.Spelling.{events_bytes}
 use Rattle.opl_lexer.specs.declared.mode.Mode.TheVariants.{Change}
 use Rattle.opl_lexer.specs.Reading.{ReadAll}
-use Rattle.road_io.specs.Outside.{Outside, Left, LeavesOnly, image_of}
+use Rattle.road_io.specs.Outside.{Outside, Left, LeavesOnly}
 use Rattle.road_io.proofs.CallRuns.{then_runs, only_weaker}
 use Rattle.sequence_journal.specs.declared.error.JournalError.{JournalError}
 use Rattle.sequence_journal.specs.declared.error.JournalError.TheVariants.{OutOfSequence, Damaged, NoStore, StoreExists}
 use Rattle.sequence_journal.specs.declared.error.JournalError.TheVariants.{SiteFault as SiteFaultError, TooLarge}
 use Rattle.sequence_journal.specs.declared.error.JournalError.TheVariants.{NoMemory as NoMemoryError}
 use Rattle.sequence_journal.specs.declared.journal.Journal.{Journal}
-use Rattle.sequence_journal.specs.Adding.{IsNext, Adds, AddAnswer, MayAdd, moved_on}
-use Rattle.store_switch.specs.TwoFiles.{StandFor, LeavesEither}
-use Rattle.session_input.specs.Messages.{Message, Line, Frame}
+use Rattle.sequence_journal.specs.Adding.{IsNext, Adds, AddAnswer, MayAdd}
+use Rattle.store_switch.specs.TwoFiles.{LeavesEither}
+use Rattle.session_input.specs.Messages.{Message, Frame}
 use Rattle.session_replies.specs.Texts.{applied_line}
 use Rattle.session.specs.declared.stop.Stop.{Stop}
 use Rattle.session.specs.declared.stop.Stop.TheVariants.{SiteFault, Limit, NoMemory}
 use Rattle.session.specs.StoreLaws.{StoreLaws}
-use Rattle.session.specs.Conversation.{Kept, Replied, Accepted, room_at, with_record, record_size}
+use Rattle.session.specs.Conversation.{Kept, Replied, Accepted, room_at, with_record}
 use Rattle.session.specs.Conversing.{LeavesReply}
 use Rattle.session.specs.Putting.{LeavesPut, PutsOn}
 use Rattle.session.specs.Answering.{IsKept, Answers, stop_of}

@@ -1,5 +1,5 @@
 -- A line that is a message is answered by itself: it begins no frame, and a drive has a step.
-use Rattle.std.proofs.Common.{◌≡◌, ◌≢◌, ℕ, ℤ, List, [], ◌∷◌, Option, None, Some, Bool, true, false, cond, refl, sym, subst}
+use Rattle.std.proofs.Common.{◌≡◌, ◌≢◌, ℕ, ℤ, List, [], ◌∷◌, Option, None, Some, Bool, true, false, cond, subst}
 use Rattle.std.specs.Prelude.{if◌then◌else◌, bytes_eq, codes}
 use Rattle.std.specs.Option.{option_and_then, option_map}
 use Rattle.std.specs.Str.{is_utf8}
@@ -12,7 +12,7 @@ use Rattle.drive_queries.specs.declared.messages.Asked.TheVariants.{Empty, Seq, 
 use Rattle.drive_queries.specs.Messages.{asked, asked_of, asked_by, asked_frame, frame_of, asked_alone, asked_drive}
 use Rattle.drive_queries.specs.Messages.{drive_of, asked_reach, reach_of, step_of, steps_of, number_below}
 use Rattle.session_input.specs.declared.received.Received.{Received}
-use Rattle.session_input.specs.Messages.{Message, Line, Frame, IsMessage, asked_line, frame_number}
+use Rattle.session_input.specs.Messages.{Message, IsMessage, frame_number}
 use Rattle.session_input.specs.Reading.{Means, OfLine, OfFrame, Receives}
 use Rattle.session_replies.specs.Replies.{IsQuery}
 use Rattle.session.specs.Answering.{IsAskedAlone}

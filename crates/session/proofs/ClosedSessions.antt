@@ -1,6 +1,6 @@
 -- How a session ends, by what it says last.
-use Rattle.std.proofs.Common.{◌≡◌, ◌≢◌, ◌⊎◌, inl, inr, ℕ, ◌<◌, List, [], ◌∷◌, ◌++◌, length, take, Option, Result, Ok, Err}
-use Rattle.std.proofs.Common.{refl, sym, ◌∙◌, ap, subst, append_assoc, arith}
+use Rattle.std.proofs.Common.{◌≡◌, ◌⊎◌, inl, inr, ℕ, List, [], ◌++◌, length, take, Option, Ok, Err}
+use Rattle.std.proofs.Common.{refl, sym, ◌∙◌, ap, subst, append_assoc}
 use Rattle.std.proofs.lemmas.List.{append-nil}
 use Rattle.std.specs.Io.{StartsWith}
 use Rattle.road_base.specs.History.{History}
@@ -8,19 +8,17 @@ use Rattle.road_base.specs.Objects.{Objects}
 use Rattle.road_base.specs.declared.ids.Sequence.{Sequence}
 use Rattle.road_model.specs.Rules.{Rules}
 use Rattle.road_io.specs.Told.{Told}
-use Rattle.road_io.specs.Outside.{Outside, Left, LeavesOnly}
+use Rattle.road_io.specs.Outside.{Outside, LeavesOnly}
 use Rattle.road_io.proofs.CallRuns.{then_runs, only_weaker}
 use Rattle.road_io.proofs.ToldCalls.{told_weaker, told_then}
 use Rattle.sequence_journal.specs.declared.journal.Journal.{Journal}
 use Rattle.sequence_journal.specs.declared.load.Loaded.{Loaded}
-use Rattle.opl_lexer.specs.Letters.{newline}
 use Rattle.session_input.specs.declared.input.Input.{Input}
 use Rattle.session_input.specs.declared.received.Received.{Received}
-use Rattle.session_input.specs.declared.received.Ending.{Ending}
-use Rattle.session_input.specs.declared.received.Ending.TheVariants.{Done as DoneEnding, Last, Unfinished as UnfinishedEnding}
+use Rattle.session_input.specs.declared.received.Ending.TheVariants.{Done as DoneEnding, Last}
+use Rattle.session_input.specs.declared.received.Ending.TheVariants.{Unfinished as UnfinishedEnding}
 use Rattle.session_input.specs.Messages.{Message}
 use Rattle.session_input.specs.Limits.{IsPending}
-use Rattle.session_input.specs.Holding.{Holds}
 use Rattle.session_input.specs.Reading.{Means, IsEnding}
 use Rattle.session_replies.specs.Texts.{unfinished_line}
 use Rattle.session.specs.declared.end.End.{End}
@@ -31,14 +29,13 @@ use Rattle.session.specs.declared.stop.Stop.TheVariants.{NoMemory as NoMemorySto
 use Rattle.session.specs.StoreLaws.{StoreLaws}
 use Rattle.session.specs.Conversation.{Kept, Replied}
 use Rattle.session.specs.Endings.{EndsSaying, OfEnd, OfLast, OfUnfinished, OfFullLast, OfReadFault, OfEnding, OfNothing}
-use Rattle.session.specs.Endings.{IsLast, IsUnfinished, Comes, limit_line}
+use Rattle.session.specs.Endings.{IsLast, Comes, limit_line}
 use Rattle.session.specs.Conversing.{IsOpening, opening_of, LeavesReply, LeavesSession, PutsAll, EndsWith, SessionEnds}
 use Rattle.session.specs.Putting.{LeavesPut, PutsOn}
 use Rattle.session.specs.Answering.{IsAnswered, IsKept, Answers}
 use Rattle.session.specs.Following.{LeavesStill, Talks, Since, Goes, Closes, Breaks, Halts}
 use Rattle.session.proofs.PutPieces.{puts_nothing}
 use Rattle.session.proofs.KeptStores.{images_stand, on_still, small_still, can_be_loaded}
-use Rattle.session.proofs.FollowedMessages.{breaks_more}
 
 -- ---- what is said last is put
 
@@ -301,7 +298,8 @@ module _ (laws : StoreLaws) (P : Rules) (loaded : Loaded) (read : List ℕ) (inp
       since_weaker loaded (λ opening w v. Talks P opening g.front read world journal w v)
       (λ opening w v. Closes P opening read Unfinished line w v) x y g.talks
       (λ opening w v k. closes_now P opening g.front g.pending read g.is world journal w v k Unfinished line
-      (OfUnfinished g.holds.pending number.0 (record { body = e.0; front = e.1; begins = e.2; all = e.3 }) refl is refl))
+      (OfUnfinished g.holds.pending number.0 (record { body = e.0; front = e.1; begins = e.2; all = e.3 })
+      refl is refl))
 
   module _ (received : Received) (e : IsEnding g.pending (Last received)) (after : Objects) (new : Journal)
       (z : Option Outside) where

@@ -1,5 +1,5 @@
 -- One message more, and what stands where the session doesn't go on.
-use Rattle.std.proofs.Common.{◌≡◌, ℕ, ◌+◌, ◌≤◌, ◌^◌, List, [], ◌++◌, length, take, Option, IfSome, Result, Ok, Err}
+use Rattle.std.proofs.Common.{◌≡◌, ℕ, ◌+◌, List, [], ◌++◌, length, take, Option, IfSome, Ok, Err}
 use Rattle.std.proofs.Common.{refl, sym, ◌∙◌, ap, subst, append_assoc, length-append}
 use Rattle.std.proofs.lemmas.List.{append-nil}
 use Rattle.road_base.specs.History.{History}
@@ -11,8 +11,6 @@ use Rattle.road_io.proofs.CallRuns.{then_runs, only_weaker}
 use Rattle.road_io.proofs.ToldCalls.{told_if, told_weaker, told_then}
 use Rattle.sequence_journal.specs.declared.journal.Journal.{Journal}
 use Rattle.sequence_journal.specs.declared.load.Loaded.{Loaded}
-use Rattle.store_switch.specs.LiveFile.{reads_of}
-use Rattle.store_switch.specs.TwoFiles.{IsOnStore}
 use Rattle.session_input.specs.declared.input.Input.{Input}
 use Rattle.session_input.specs.declared.received.Received.{Received}
 use Rattle.session_input.specs.Messages.{Message}
@@ -131,7 +129,8 @@ module _ (P : Rules) (opening : Kept) (front pending read taken : List ℕ) (is 
     }
 
     only_next : (reply : List ℕ) (to : Kept) (v : Outside) → Replied P k.from message reply to
-        → LeavesOnly u v (LeavesReply k.from to u.output reply) → LeavesOnly w v (LeavesStill P opening (read ++ taken) w)
+        → LeavesOnly u v (LeavesReply k.from to u.output reply)
+        → LeavesOnly w v (LeavesStill P opening (read ++ taken) w)
     only_next reply to v replied only =
         then_runs w u v (LeavesStill P opening (read ++ taken) w) (LeavesReply k.from to u.output reply)
         (wider P opening front read taken world journal w u k).only only

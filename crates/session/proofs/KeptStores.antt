@@ -1,12 +1,11 @@
 -- Stores on which a journal stands, while only the output grows.
-use Rattle.std.proofs.Common.{◌≡◌, inl, inr, ℕ, ◌≤◌, ◌^◌, List, ◌++◌, length, refl, sym, ◌∙◌, ap, subst}
-use Rattle.std.specs.Io.{StartsWith}
+use Rattle.std.proofs.Common.{◌≡◌, ℕ, ◌≤◌, ◌^◌, List, length, refl, sym, ap, subst}
 use Rattle.road_base.specs.History.{History}
 use Rattle.road_base.specs.Objects.{Objects}
 use Rattle.road_io.specs.declared.outside.Which.{Which}
 use Rattle.road_io.specs.declared.outside.Which.TheVariants.{A, B}
 use Rattle.road_io.specs.Disk.{Disk, IsImage, IsDurable}
-use Rattle.road_io.specs.Outside.{Outside, Left, IsLeft, image_of, other, present, disk}
+use Rattle.road_io.specs.Outside.{Outside, Left, image_of, other}
 use Rattle.sequence_journal.specs.declared.journal.Journal.{Journal}
 use Rattle.sequence_journal.specs.Layout.{BaseIsOpen}
 use Rattle.sequence_journal.specs.Standing.{Stands}

@@ -1,12 +1,11 @@
 -- A session of which nothing was read yet.
-use Rattle.std.proofs.Common.{◌≡◌, inl, inr, ⊎_elim, ℕ, List, [], ◌++◌, length, Option, None, Some, refl, sym, ◌∙◌, subst}
+use Rattle.std.proofs.Common.{◌≡◌, inl, ⊎_elim, ℕ, List, [], ◌++◌, Option, None, Some, refl, sym, ◌∙◌, subst}
 use Rattle.std.proofs.lemmas.List.{append-nil}
-use Rattle.std.proofs.Transfers.{starts_with_trans}
 use Rattle.std.specs.Prelude.{unwrap_or}
 use Rattle.std.specs.Io.{StartsWith}
 use Rattle.road_base.specs.History.{History}
 use Rattle.road_model.specs.Rules.{Rules}
-use Rattle.road_io.specs.Outside.{Outside, Left, IsLeft, LeavesOnly, present}
+use Rattle.road_io.specs.Outside.{Outside, Left, IsLeft, present}
 use Rattle.road_io.proofs.CallRuns.{started}
 use Rattle.road_io.proofs.ToldCalls.{told_same}
 use Rattle.sequence_journal.specs.declared.load.Loaded.{Loaded}
@@ -14,7 +13,7 @@ use Rattle.session.specs.declared.end.End.TheVariants.{NoMemory}
 use Rattle.session.specs.StoreLaws.{StoreLaws}
 use Rattle.session.specs.Conversation.{Kept, Start}
 use Rattle.session.specs.Endings.{Comes, OfNothing}
-use Rattle.session.specs.Conversing.{IsOpening, opening_of, LeavesSession, PutsFront, SessionEnds, HeldBytes, Converses}
+use Rattle.session.specs.Conversing.{IsOpening, opening_of, LeavesSession, SessionEnds, HeldBytes, Converses}
 use Rattle.session.proofs.KeptStores.{images_stand}
 
 pub nothing_comes : (P : Rules) (opening : Kept) (read : List ℕ) → Comes P opening read [] opening [] opening

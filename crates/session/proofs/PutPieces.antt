@@ -7,7 +7,7 @@ use Rattle.std.proofs.lemmas.List.{append-nil}
 use Rattle.std.specs.Io.{StartsWith}
 use Rattle.road_io.specs.declared.outside.Failed.{Failed}
 use Rattle.road_io.specs.Disk.{Disk, IsImage}
-use Rattle.road_io.specs.Outside.{Outside, Moment, Left, IsLeft, LeavesOnly, extended, present}
+use Rattle.road_io.specs.Outside.{Outside, Left, IsLeft, extended, present}
 use Rattle.road_io.specs.Calls.{Puts}
 use Rattle.road_io.proofs.CallRuns.{started, goes_on, then_runs, only_weaker}
 use Rattle.session.specs.Putting.{LeavesPut, PutsOn}
@@ -28,7 +28,8 @@ pub no_byte : (piece : List ℕ) → true ≡ (length piece == 0) → [] ≡ pie
 no_byte [] e = refl
 no_byte (x ∷ piece) e = absurd (grind (arith, nat_tests, e))
 
-pub puts_nothing : {E : Type 0} (piece : List ℕ) (result : Result (Unit {0}) E) (w : Outside) → OnOk result (let n : List ℕ = [] in n ≡ piece)
+pub puts_nothing : {E : Type 0} (piece : List ℕ) (result : Result (Unit {0}) E) (w : Outside)
+    → OnOk result (let n : List ℕ = [] in n ≡ piece)
     → PutsOn piece result w w
 puts_nothing piece result w whole = record {
   same_a = refl;

@@ -1,5 +1,5 @@
 -- How a session ends, by what it read.
-use Rattle.std.proofs.Common.{◌≡◌, ◌≢◌, inl, inr, ⊎_elim, ℕ, ◌+◌, ◌<◌, List, [], ◌++◌, length, Option, None, Some, IfSome}
+use Rattle.std.proofs.Common.{◌≡◌, ⊎_elim, ℕ, List, [], ◌++◌, length, Option, None, Some, IfSome}
 use Rattle.std.proofs.Common.{refl, sym, ◌∙◌, ap, subst, length-append, arith}
 use Rattle.std.proofs.lemmas.List.{append-nil}
 use Rattle.std.specs.FinMap.{empty}
@@ -9,7 +9,7 @@ use Rattle.road_base.specs.Objects.{Objects}
 use Rattle.road_base.specs.Applying.{IsApplied}
 use Rattle.road_model.specs.Rules.{Rules}
 use Rattle.road_io.specs.Told.{Told}
-use Rattle.road_io.specs.Outside.{Outside, Left}
+use Rattle.road_io.specs.Outside.{Outside}
 use Rattle.road_io.proofs.CallRuns.{started}
 use Rattle.road_io.proofs.ToldCalls.{told_same}
 use Rattle.sequence_journal.specs.declared.journal.Journal.{Journal}
@@ -18,12 +18,10 @@ use Rattle.session_input.specs.declared.input.Input.{Input}
 use Rattle.session_input.specs.Holding.{Holds}
 use Rattle.session.specs.declared.end.End.{End}
 use Rattle.session.specs.declared.end.End.TheVariants.{Done, Unfinished, ReadFault, SiteFault, Limit, NoMemory}
-use Rattle.session.specs.declared.stop.Stop.{Stop}
 use Rattle.session.specs.StoreLaws.{StoreLaws}
-use Rattle.session.specs.Conversation.{Kept, Start}
+use Rattle.session.specs.Conversation.{Start}
 use Rattle.session.specs.Conversing.{IsOpening, opening_of, SessionEnds, HeldBytes, IsAtEnd, Converses}
 use Rattle.session.specs.Conversing.{CountsReads, CountsCalls}
-use Rattle.session.specs.Answering.{CountsStops}
 use Rattle.session.specs.Following.{LeavesStill, Talks, Since, Goes, IsHalted}
 use Rattle.session.proofs.SourceParts.{Took}
 use Rattle.session.proofs.OpenedSessions.{behind_of, first_left}
@@ -37,14 +35,16 @@ held_by read None (Some y) t = absurd t
 held_by read (Some x) None t = absurd t
 held_by read (Some x) (Some y) t = (t, refl)
 
-pub behind_nothing : (read : List ℕ) (held left : Option (List ℕ)) → Told (λ was after. (was ≡ read) × (after ≡ [])) held left
+pub behind_nothing : (read : List ℕ) (held left : Option (List ℕ))
+    → Told (λ was after. (was ≡ read) × (after ≡ [])) held left
     → behind_of left ≡ []
 behind_nothing read None None t = refl
 behind_nothing read None (Some y) t = absurd t
 behind_nothing read (Some x) None t = absurd t
 behind_nothing read (Some x) (Some y) t = t.1
 
-pub took_whole : (read : List ℕ) (held left : Option (List ℕ)) → Told (λ was after. (was ≡ read) × (after ≡ [])) held left
+pub took_whole : (read : List ℕ) (held left : Option (List ℕ))
+    → Told (λ was after. (was ≡ read) × (after ≡ [])) held left
     → Took read held left
 took_whole read None None t = tt
 took_whole read None (Some y) t = t

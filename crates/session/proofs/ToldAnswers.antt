@@ -1,5 +1,6 @@
 -- Answers to messages, as far as the site tells.
-use Rattle.std.proofs.Common.{◌≡◌, ◌≢◌, ℕ, ◌+◌, List, ◌++◌, Option, Some, Result, Ok, Err, IfErr, false, refl, sym, ◌∙◌, ap, subst}
+use Rattle.std.proofs.Common.{◌≡◌, ℕ, ◌+◌, List, ◌++◌, Option, Some, Result, Ok, Err, IfErr, false}
+use Rattle.std.proofs.Common.{refl, sym, ◌∙◌, ap, subst}
 use Rattle.road_base.specs.declared.event.Event.{Event}
 use Rattle.road_base.specs.declared.ids.Sequence.{Sequence}
 use Rattle.road_base.specs.History.{kept}
@@ -60,7 +61,8 @@ module _ (laws : StoreLaws) (P : Rules) (world : Objects) (journal : Journal) (r
       → number.0 ≡ kept from.history + 1 → IsNext journal number
   next_kept number w from k e = e ∙ ap (λ (n : ℕ). n + 1) (sym k.on_store.at.last)
 
-  pub number_answers : (number last : Sequence) (line piece : List ℕ) → (IsNext journal number → ⊥) → last ≡ journal.kept
+  pub number_answers : (number last : Sequence) (line piece : List ℕ)
+      → (IsNext journal number → ⊥) → last ≡ journal.kept
       → line ≡ refused_sequence_line number.0 last.0 → piece ≡ line → Told (PutsOn piece result) x y
       → Told (λ w v. (from : Kept) (body : List ℕ) → IsKept world journal from w
       → Answers P from (Frame number.0 body) world journal result w v) x y

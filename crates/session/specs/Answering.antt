@@ -1,5 +1,5 @@
 -- What the answer to one message leaves.
-use Rattle.std.specs.Prelude.{◌≡◌, ℕ, ◌≤◌, ◌<◌, ◌^◌, List, ◌++◌, length, take, Result, Ok, Err}
+use Rattle.std.specs.Prelude.{◌≡◌, ℕ, ◌≤◌, ◌^◌, List, ◌++◌, length, take, Result, Ok, Err}
 use Rattle.road_base.specs.History.{HasObjects}
 use Rattle.road_base.specs.Objects.{Objects}
 use Rattle.road_model.specs.Rules.{Rules}
@@ -12,7 +12,6 @@ use Rattle.sequence_journal.specs.declared.error.JournalError.TheVariants.{NoMem
 use Rattle.sequence_journal.specs.declared.journal.Journal.{Journal}
 use Rattle.store_switch.specs.LiveFile.{reads_of}
 use Rattle.store_switch.specs.TwoFiles.{IsOnStore}
-use Rattle.drive_queries.specs.declared.messages.Asked.{Asked}
 use Rattle.session_input.specs.declared.received.Received.{Received}
 use Rattle.session_input.specs.declared.received.Received.TheVariants.{Line as LineReceived, Frame as FrameReceived}
 use Rattle.session_input.specs.Messages.{Message}

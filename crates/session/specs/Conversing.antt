@@ -1,5 +1,5 @@
 -- What a session over a store does: what it reads and puts, for what the files then stand, and what a stop leaves.
-use Rattle.std.specs.Prelude.{◌≡◌, ◌≢◌, ◌⊎◌, ℕ, ◌<◌, ◌≤◌, ◌^◌, List, [], ◌++◌, length, take, Option}
+use Rattle.std.specs.Prelude.{◌≡◌, ◌⊎◌, ℕ, ◌<◌, ◌≤◌, ◌^◌, List, [], ◌++◌, length, take, Option}
 use Rattle.std.specs.Io.{StartsWith}
 use Rattle.road_base.specs.History.{History, all_events}
 use Rattle.road_model.specs.Rules.{Rules}

@@ -6,7 +6,7 @@ use Rattle.session_input.specs.Messages.{Message, IsMessage, BeginsFrame}
 use Rattle.session_input.specs.Limits.{IsTaken, IsPending, IsStopped}
 use Rattle.session_replies.specs.Texts.{unfinished_line}
 use Rattle.session.specs.declared.end.End.{End}
-use Rattle.session.specs.declared.end.End.TheVariants.{Done, Unfinished, ReadFault, SiteFault, Limit, NoMemory}
+use Rattle.session.specs.declared.end.End.TheVariants.{Done, Unfinished, ReadFault, Limit}
 use Rattle.session.specs.Conversation.{Kept, Conversed, Replied, IsFull}
 
 -- `limit`, with its newline

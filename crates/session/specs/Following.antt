@@ -1,5 +1,5 @@
 -- What stands while a session goes on, and what stands where it doesn't.
-use Rattle.std.specs.Prelude.{◌≡◌, ℕ, ◌+◌, ◌≤◌, ◌^◌, List, ◌++◌, length, Option, IfSome}
+use Rattle.std.specs.Prelude.{◌≡◌, ℕ, ◌≤◌, ◌^◌, List, ◌++◌, length, Option, IfSome}
 use Rattle.road_base.specs.History.{History}
 use Rattle.road_base.specs.Objects.{Objects}
 use Rattle.road_model.specs.Rules.{Rules}
@@ -18,7 +18,7 @@ use Rattle.session.specs.declared.stop.Stop.{Stop}
 use Rattle.session.specs.declared.stop.Stop.TheVariants.{SiteFault, Limit, NoMemory}
 use Rattle.session.specs.Conversation.{Kept, Conversed}
 use Rattle.session.specs.Endings.{EndsSaying, limit_line}
-use Rattle.session.specs.Conversing.{IsOpening, opening_of, LeavesSession, PutsFront, SessionEnds}
+use Rattle.session.specs.Conversing.{IsOpening, opening_of, LeavesSession, PutsFront}
 use Rattle.session.specs.Answering.{IsKept}
 
 -- a stop leaves what it leaves in a session that read these bytes, whatever it reads behind them

@@ -1,8 +1,8 @@
 -- Laws that an answer to a message rests on, as one fact.
-use Rattle.std.specs.Prelude.{◌≡◌, ℕ, ◌+◌, ◌≤◌, ◌^◌, List, length, Result, Ok}
+use Rattle.std.specs.Prelude.{◌≡◌, ℕ, ◌≤◌, ◌^◌, List, length, Result, Ok}
 use Rattle.road_base.specs.declared.event.Event.{Event}
 use Rattle.road_base.specs.declared.ids.Sequence.{Sequence}
-use Rattle.road_base.specs.History.{History, HasObjects, kept, with_change}
+use Rattle.road_base.specs.History.{History, HasObjects, with_change}
 use Rattle.road_base.specs.Objects.{Objects}
 use Rattle.road_base.specs.Applying.{IsApplied}
 use Rattle.road_io.specs.declared.outside.Which.{Which}

@@ -1,10 +1,8 @@
 //! A session's messages, as they come.
-ghost use Rattle.std.specs.Prelude.{◌≡◌, ◌≢◌, ◌⊎◌, ◌≤◌, ◌++◌, ℕ, List, [], Option, Err, false, length, take, drop, IfOk, IfErr};
-ghost use Rattle.std.specs.Prelude.{OnOk, Result};
+ghost use Rattle.std.specs.Prelude.{◌≡◌, ◌≢◌, ◌≤◌, ◌++◌, ℕ, List, [], Option, false, length, take, drop};
+ghost use Rattle.std.specs.Prelude.{IfOk, IfErr, OnOk};
 ghost use Rattle.road_io.specs.Outside.{Outside};
 ghost use Rattle.sequence_journal.specs.declared.load.Loaded.{Loaded};
-ghost use Rattle.session.specs.Conversation.{Kept};
-ghost use Rattle.session.specs.Conversing.{SessionEnds, CountsCalls};
 ghost use Rattle.session.specs.Answering.{CountsStops};
 ghost use Rattle.session.specs.Following.{Goes, Since, Halts};
 

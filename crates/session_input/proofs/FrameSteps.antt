@@ -40,7 +40,8 @@ parts_more body line ended lacks =
 lines_more : (body line : List ℕ) → parts 10 body ≡ whole_lines body ++ ([] ∷ []) → Lacks 10 line
     → whole_lines (body ++ (line ++ (10 ∷ []))) ≡ whole_lines body ++ (line ∷ [])
 lines_more body line ended lacks =
-    whole_lines_are (body ++ (line ++ (10 ∷ []))) [] (whole_lines body ++ (line ∷ [])) (parts_more body line ended lacks)
+    whole_lines_are (body ++ (line ++ (10 ∷ []))) [] (whole_lines body ++ (line ∷ []))
+        (parts_more body line ended lacks)
 
 ended_more : (body line : List ℕ) → parts 10 body ≡ whole_lines body ++ ([] ∷ []) → Lacks 10 line
     → parts 10 (body ++ (line ++ (10 ∷ []))) ≡ whole_lines (body ++ (line ++ (10 ∷ []))) ++ ([] ∷ [])

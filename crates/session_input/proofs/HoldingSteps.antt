@@ -11,7 +11,8 @@ use Rattle.session_input.specs.declared.received.Received.{Received}
 use Rattle.session_input.specs.Limits.{IsWithin, IsStopped}
 use Rattle.session_input.specs.Sizes.{frame_size}
 use Rattle.session_input.specs.Reading.{Receives}
-use Rattle.session_input.specs.Holding.{Holds, HasFrame, HasRoom, IsFront, IsReceived, IsWholeLine, IsFirstLine, LeadsTo}
+use Rattle.session_input.specs.Holding.{Holds, HasFrame, HasRoom, IsFront, IsReceived, IsWholeLine, IsFirstLine}
+use Rattle.session_input.specs.Holding.{LeadsTo}
 use Rattle.session_input.proofs.LineBytes.{lacks_none, lacks_both}
 use Rattle.session_input.proofs.LimitSteps.{IsInBounds, front_whole, within_part, within_line, within_none, open_bytes}
 use Rattle.session_input.proofs.StopSteps.{stop_part, stop_line}
@@ -57,7 +58,8 @@ holds_part before bytes part old new holds lacks room same_frame held total =
     (front_whole old.frame front holds.frame) holds.open_line lacks (within_all before bytes old holds)
     (omega (arith, room.in_line)) (omega (arith, room.in_frame))
     (omega (arith, room.in_session, holds.total, size)) in
-    let step : bytes ++ part ≡ front ++ (line ++ part) = ap (λ bs. bs ++ part) holds.held ∙ append_assoc front line part in
+    let step : bytes ++ part ≡ front ++ (line ++ part) = ap (λ bs. bs ++ part) holds.held
+        ∙ append_assoc front line part in
     let longer = lacks_both line part holds.open_line lacks in
     let opens = open_bytes old.frame front (line ++ part) holds.frame longer in
     record {
@@ -94,7 +96,8 @@ whole_both held line lacks whole = record {
 }
 
 -- a line of a frame
-pub holds_line : (before : ℕ) (bytes line : List ℕ) (old new : Input) (frame : OpenFrame) (holds : Holds before bytes old)
+pub holds_line : (before : ℕ) (bytes line : List ℕ) (old new : Input) (frame : OpenFrame)
+    (holds : Holds before bytes old)
     → IsWholeLine line → HasRoom old (length line - 1) 1
     → HasFrame (holds.front ++ (old.held.items ++ line)) frame → new.frame ≡ Some frame → new.held.items ≡ []
     → new.total ≡ old.total + length line → Holds before (bytes ++ line) new

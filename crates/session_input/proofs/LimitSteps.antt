@@ -12,7 +12,8 @@ use Rattle.session_input.specs.Limits.{PassesLimit, OfLine, OfFrame, OfSession, 
 use Rattle.session_input.specs.Sizes.{frame_size}
 use Rattle.session_input.specs.Holding.{IsFront}
 use Rattle.session_input.proofs.FrameSteps.{inner_none}
-use Rattle.session_input.proofs.LineBytes.{lacks_none, lacks_both, lacks_front, lacks_back, lacks_not, head_same, tail_same}
+use Rattle.session_input.proofs.LineBytes.{lacks_none, lacks_both, lacks_front, lacks_back, lacks_not, head_same}
+use Rattle.session_input.proofs.LineBytes.{tail_same}
 use Rattle.session_input.proofs.LineBytes.{two_cuts, first_newline, last_line, nil_of}
 
 -- ---- whole lines
@@ -135,7 +136,8 @@ pub within_line : (before size : ℕ) (front held line : List ℕ) → Whole fro
     → size + length held + length line + 1 ≤ 2 ^ 30 → before + length (front ++ held) + length line + 1 ≤ 2 ^ 40
     → IsWithin before ((front ++ held) ++ (line ++ (10 ∷ [])))
 within_line before size front held line whole open_line lacks within in_line in_frame in_session =
-    let part = within_part before size front held line whole open_line lacks within in_line (omega arith) (omega arith) in
+    let part = within_part before size front held line whole open_line lacks within in_line (omega arith)
+        (omega arith) in
     let bytes = (front ++ held) ++ line in
     let more = whole_more front (held ++ line) size whole (lacks_both held line open_line lacks) in
     let all : bytes ++ (10 ∷ []) ≡ (front ++ ((held ++ line) ++ (10 ∷ []))) ++ [] =
@@ -145,7 +147,8 @@ within_line before size front held line whole open_line lacks within in_line in_
     let size_all : length ((front ++ ((held ++ line) ++ (10 ∷ []))) ++ []) ≡ length (front ++ held) + length line + 1 =
     ap length (sym all) ∙ omega (arith, length-append bytes (10 ∷ []), length-append (front ++ held) line) in
     let fits : PassesLimit before (bytes ++ (10 ∷ [])) → ⊥ = λ passes.
-    not_passed before more.0 (front ++ ((held ++ line) ++ (10 ∷ []))) [] more.1 lacks_none (omega arith) (omega (arith, more.2))
+    not_passed before more.0 (front ++ ((held ++ line) ++ (10 ∷ []))) [] more.1 lacks_none (omega arith) (omega
+        (arith, more.2))
     (omega arith) (subst (PassesLimit before) all passes) in
     subst (IsWithin before) (append_assoc (front ++ held) line (10 ∷ [])) (within_byte before 10 bytes part fits)
 

@@ -1,4 +1,4 @@
-use Rattle.std.proofs.Common.{◌≡◌, subst}
+use Rattle.std.proofs.Common.{subst}
 use Rattle.session.specs.declared.stop.Stop.{Stop}
 use Rattle.session.specs.Following.{Since, Halts}
 use Rattle.session.proofs.closing.close.Goals as goal

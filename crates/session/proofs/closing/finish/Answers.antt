@@ -1,4 +1,4 @@
-use Rattle.std.proofs.Common.{◌≡◌, ◌++◌, ◌∷◌, [], ℕ, List, Option, length, subst, ◌∙◌}
+use Rattle.std.proofs.Common.{◌++◌, ◌∷◌, [], length, subst, ◌∙◌}
 use Rattle.opl_lexer.specs.Letters.{newline}
 use Rattle.session_input.specs.declared.received.Ending.{Ending}
 use Rattle.session_input.specs.Reading.{IsEnding}

@@ -1,4 +1,3 @@
-use Rattle.session.specs.declared.stop.Stop.TheVariants.{SiteFault}
 use Rattle.session.proofs.ClosedSessions.{ends_said, ends_unsaid, is_whole}
 use Rattle.session.proofs.closing.say_last.Goals as goal
 

@@ -1,4 +1,4 @@
-use Rattle.std.proofs.Common.{◌≡◌, refl, subst}
+use Rattle.std.proofs.Common.{refl, subst}
 use Rattle.session.specs.Conversing.{Converses}
 use Rattle.session.proofs.OpenedSessions.{converses_nothing}
 use Rattle.session.proofs.ReadSessions.{goes_first}

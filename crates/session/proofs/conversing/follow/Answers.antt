@@ -1,4 +1,4 @@
-use Rattle.std.proofs.Common.{◌≡◌, ◌<◌, ◌≤◌, ◌∙◌, ◌++◌, ◌+◌, ◌-◌, ◌^◌, ℕ, List, [], Option, Err, length, take, refl, sym, ap, subst, arith}
+use Rattle.std.proofs.Common.{◌≡◌, ◌<◌, ◌∙◌, ◌++◌, ℕ, List, [], Err, length, take, refl, sym, ap, subst, arith}
 use Rattle.std.proofs.Common.{length-append}
 use Rattle.std.proofs.lemmas.Grind.{common_steps}
 use Rattle.session.specs.declared.end.End.TheVariants.{NoMemory, ReadFault}
@@ -52,7 +52,8 @@ returns-in_default-read-clause-converses g c = λ loaded x goes.
     conversed P loaded ReadFault held after x now i.read
     (took_still i.read c.deref_mut.result.now c.read.new.buf failed.field-0 held left after i.took failed.ensures.told)
     (λ at. absurd (read_fault_inside at))
-    (ends_read c.store_laws.ensures P loaded i.read c.loop-n.input c.loop-n.talk.engine.world c.loop-n.talk.journal x now
+    (ends_read c.store_laws.ensures P loaded i.read c.loop-n.input c.loop-n.talk.engine.world c.loop-n.talk.journal x
+    now
     (i.goes loaded x goes))
 
 pub returns-in_default-read-clause-reads : goal.returns-in_default-read-clause-reads
@@ -102,10 +103,12 @@ returns-then-n-eq0-clause-converses g c = λ loaded x goes.
     i.took c.in-Ok-read.ensures.told in
     conversed P loaded c.finish.result held after x now i.read (took_whole i.read held after told)
     (λ at. behind_nothing i.read held after told)
-    (subst (λ p. Since loaded (λ opening w v. SessionEnds (g.P.Profile.rules p) opening i.read c.finish.result w v) x now)
+    (subst (λ p. Since loaded (λ opening w v. SessionEnds (g.P.Profile.rules p) opening i.read c.finish.result w v) x
+    now)
     c.loop-n.invariant.1
     (c.finish.ensures.ends loaded i.read x (subst (λ p. Goes (g.P.Profile.rules p) loaded i.read c.loop-n.input
-    talk.engine.world talk.journal x (g.W.Site.outside c.loop-n.site)) (sym c.loop-n.invariant.1) (i.goes loaded x goes))))
+    talk.engine.world talk.journal x (g.W.Site.outside c.loop-n.site)) (sym c.loop-n.invariant.1)
+    (i.goes loaded x goes))))
 
 pub returns-then-n-eq0-clause-reads : goal.returns-then-n-eq0-clause-reads
 returns-then-n-eq0-clause-reads g c =

@@ -1,7 +1,6 @@
-use Rattle.std.proofs.Common.{◌≡◌, ◌++◌, ◌+◌, ℕ, List, [], Option, length, take, drop, sym, subst}
+use Rattle.std.proofs.Common.{◌++◌, ◌+◌, ℕ, List, [], length, take, drop, subst}
 use Rattle.std.proofs.lemmas.List.{take-append-drop}
 use Rattle.session_input.specs.declared.received.InputStop.{InputStop}
-use Rattle.session_input.specs.declared.received.Received.{Received}
 use Rattle.session_input.specs.Holding.{Holds}
 use Rattle.session_input.specs.Reading.{Receives, StopsAt}
 use Rattle.session.specs.Following.{Since, Halts}

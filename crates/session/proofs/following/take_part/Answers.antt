@@ -1,9 +1,7 @@
-use Rattle.std.proofs.Common.{◌≡◌, ◌≢◌, ◌+◌, ◌<◌, ◌≤◌, ◌++◌, ℕ, List, [], Option, Ok, Err, length, take, drop, refl, sym, ◌∙◌}
+use Rattle.std.proofs.Common.{◌≡◌, ◌+◌, ◌≤◌, ◌++◌, ℕ, List, Err, length, take, drop, refl, sym, ◌∙◌}
 use Rattle.std.proofs.Common.{ap, subst, append_assoc, arith}
 use Rattle.std.proofs.lemmas.List.{append-nil, take-append-drop, take_all, length-drop}
 use Rattle.std.proofs.Math.Seq.{take-add}
-use Rattle.road_model.specs.Rules.{Rules}
-use Rattle.session_input.specs.declared.input.Input.{Input}
 use Rattle.session.specs.Answering.{CountsStops}
 use Rattle.session.specs.Following.{Goes, Since, Halts}
 use Rattle.session.proofs.following.take_part.Goals as goal
@@ -64,7 +62,8 @@ loop-used-preserved g c =
             ∙ ap (λ (l : List ℕ). read ++ l) (sym (take-add used more part)))
             (subst (λ (l : List ℕ). Goes (g.P.Profile.rules old.engine.profile) loaded
             ((read ++ take used part) ++ take more l) c.take_next.new.input talk.engine.world talk.journal x
-            (g.W.Site.outside c.take_next.new.site)) c.behind.ensures (c.in-Ok.ensures.goes loaded (read ++ take used part) x
+            (g.W.Site.outside c.take_next.new.site)) c.behind.ensures
+            (c.in-Ok.ensures.goes loaded (read ++ take used part) x
             (subst (λ p. Goes (g.P.Profile.rules p) loaded (read ++ take used part) c.loop-used.input old.engine.world
             old.journal x (g.W.Site.outside c.loop-used.site)) (sym i.1) (i.0.goes loaded read x goes)))));
         within = within_then used more part c.behind.result.now i.0.within c.behind.ensures c.in-Ok.ensures.used;

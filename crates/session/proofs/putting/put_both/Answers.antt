@@ -1,4 +1,4 @@
-use Rattle.std.proofs.Common.{◌≡◌, ◌++◌, List, ℕ, Ok, Err}
+use Rattle.std.proofs.Common.{◌++◌, Ok, Err}
 use Rattle.road_io.proofs.ToldCalls.{told_then, told_weaker}
 use Rattle.session.specs.declared.stop.Stop.{Stop}
 use Rattle.session.specs.Putting.{PutsOn}
@@ -10,7 +10,8 @@ returns-in-Ok-clause-told g c =
     let first = c.args.first.now in
     let second = c.args.second.now in
     told_then (g.W.Site.outside c.args.site.now) (g.W.Site.outside c.put_piece.new.site)
-    (g.W.Site.outside c.put_piece-in-Ok.new.site) (PutsOn {E = Stop} first (Ok tt)) (PutsOn second c.put_piece-in-Ok.result)
+    (g.W.Site.outside c.put_piece-in-Ok.new.site) (PutsOn {E = Stop} first (Ok tt))
+    (PutsOn second c.put_piece-in-Ok.result)
     (PutsOn (first ++ second) c.put_piece-in-Ok.result) c.in-Ok.ensures.told c.put_piece-in-Ok.ensures.told
     (λ w u v. puts_second first second tt c.put_piece-in-Ok.result w u v)
 

@@ -1,4 +1,4 @@
-use Rattle.std.proofs.Common.{◌≡◌, List, ℕ, Ok, Err, sym, ◌∙◌}
+use Rattle.std.proofs.Common.{Ok, Err, sym, ◌∙◌}
 use Rattle.road_io.proofs.ToldCalls.{told_same, told_weaker}
 use Rattle.road_io.specs.Calls.{Puts}
 use Rattle.session.specs.declared.stop.Stop.{Stop}
