@@ -319,11 +319,12 @@ module _ (failure : Failure) (held left : Option (List ℕ)) (before now : Optio
   -- and by one that doesn't, and leaves it as it was
   ends_unread : (command : Command) → (IsReading (Some command) → ⊥)
       → Reads (Some command) (files_of before) (failure_status failure) (behind_of held) [] → left ≡ held
-      → Prepares (Some command) (Err failure) held left before now
+      → (p : Prepares (Some command) (Err failure) held left before now)
+      → Told (λ w v. LeavesOnly w v (LeftBy (Some command) [] w)) before now
       → Ends (Some command) (failure_status failure) held left before now
-  ends_unread command none reads same p =
+  ends_unread command none reads same p only =
       ends_failing (Some command) held left before now p.silent (behind_of held) [] (behind_of held) failure refl
-      (nothing_held same) (fails_alike (Some command) p.read [] failure before now none p.answer) reads p.only
+      (nothing_held same) (fails_alike (Some command) p.read [] failure before now none p.answer) reads only
 
   pub ends_failed : (command : Command) → ((IsReading (Some command) → ⊥) → left ≡ held)
       → Prepares (Some command) (Err failure) held left before now
@@ -332,7 +333,7 @@ module _ (failure : Failure) (held left : Option (List ℕ)) (before now : Optio
   ends_failed Inspect unread p = ends_reading Inspect tt p
   ends_failed (Create n) unread p = ends_reading (Create n) tt p
   ends_failed (Apply n) unread p = ends_reading (Apply n) tt p
-  ends_failed (Sample n) unread p = ends_unread (Sample n) (λ is. is) refl (unread (λ is. is)) p
-  ends_failed Graph unread p = ends_unread Graph (λ is. is) refl (unread (λ is. is)) p
-  ends_failed Audit unread p = ends_unread Audit (λ is. is) refl (unread (λ is. is)) p
-  ends_failed Checkpoint unread p = ends_unread Checkpoint (λ is. is) refl (unread (λ is. is)) p
+  ends_failed (Sample n) unread p = ends_unread (Sample n) (λ is. is) refl (unread (λ is. is)) p p.only
+  ends_failed Graph unread p = ends_unread Graph (λ is. is) refl (unread (λ is. is)) p p.only
+  ends_failed Audit unread p = ends_unread Audit (λ is. is) refl (unread (λ is. is)) p p.only
+  ends_failed Checkpoint unread p = ends_unread Checkpoint (λ is. is) refl (unread (λ is. is)) p p.only

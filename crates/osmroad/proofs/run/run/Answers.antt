@@ -1,10 +1,12 @@
-use Rattle.std.proofs.Common.{List, ℕ, [], Option, None, Some, inl, inr, refl, sym, ap, ◌∙◌, subst}
+use Rattle.std.proofs.Common.{◌≡◌, List, ℕ, [], Option, None, Some, inl, inr, refl, sym, ap, ◌∙◌, subst}
+use Rattle.road_io.specs.Outside.{Outside}
+use Rattle.road_io.proofs.ToldCalls.{told_weaker}
 use Rattle.road_io.specs.Told.{Told, Rose}
 use Rattle.osmroad.specs.declared.command.Command.{Command}
 use Rattle.osmroad.specs.declared.status.Status.{Status}
 use Rattle.osmroad.specs.declared.status.Status.TheVariants.{Usage}
 use Rattle.osmroad.specs.Texts.{usage_line}
-use Rattle.osmroad.specs.Run.{EndsPut, PutsSome, CanBeDone, Ends, files_of}
+use Rattle.osmroad.specs.Run.{IsStored, EndsPut, PutsSome, CanBeDone, Ends, files_of}
 use Rattle.osmroad.proofs.HeldSource.{behind_of, held_still}
 use Rattle.osmroad.proofs.WithoutStore.{silent_still, leaves_still, will_put_alone}
 use Rattle.osmroad.proofs.RunEnds.{ends_put, ends_prepared, ends_failed}
@@ -46,6 +48,22 @@ returns-in-Ok-clause-ends g c =
     (subst (λ (l : List ℕ). Told (PutsSome l) mid after) c.deref.ensures.value c.put_last-in-Ok.ensures.files)
     status (subst (λ (l : List ℕ). EndsPut l reply.status status mid after faults faults_after)
     c.deref.ensures.value c.put_last-in-Ok.ensures.ends))
+
+puts_no_file : (piece : List ℕ) (w v : Outside) → PutsSome piece w v → (v.a ≡ w.a) × (v.b ≡ w.b)
+puts_no_file piece w v (inl same) = (ap (λ (o : Outside). o.a) same, ap (λ (o : Outside). o.b) same)
+puts_no_file piece w v (inr put) = (ap (λ (o : Outside). o.a) put.1, ap (λ (o : Outside). o.b) put.1)
+
+pub returns-in-Ok-clause-untouched : goal.returns-in-Ok-clause-untouched
+returns-in-Ok-clause-untouched g c = λ alone.
+    let before = g.W.Site.outside c.args.site.now in
+    let after = g.W.Site.outside c.put_last-in-Ok.new.site in
+    let piece = c.deref.result.now in
+    let same = c.prepare.ensures.untouched
+    (subst (λ (command : Option Command). IsStored command → ⊥) (sym c.in-Some.ensures) alone) in
+    told_weaker before after (PutsSome piece) (λ w v. (v.a ≡ w.a) × (v.b ≡ w.b))
+    (subst (λ (o : Option Outside). Told (PutsSome piece) o after) (ap g.W.Site.outside same)
+    c.put_last-in-Ok.ensures.files)
+    (puts_no_file piece)
 
 pub returns-in-Ok-clause-complete : goal.returns-in-Ok-clause-complete
 returns-in-Ok-clause-complete g c = λ bytes is can no_read_fault no_site_fault.
