@@ -213,8 +213,8 @@ module _ (laws : StoreLaws) where
               replies = inl refl;
               reads = refl;
               after = Some now;
-              gives = OfEntries (loaded_store l w a.between k) events (entries_of w a.between k) (has_room answer.0) refl
-                  (ap (λ (n : ℕ). checkpoint_line n) k.ready.at.last) refl;
+              gives = OfEntries (loaded_store l w a.between k) events (entries_of w a.between k) (has_room answer.0)
+                  refl (ap (λ (n : ℕ). checkpoint_line n) k.ready.at.last) refl;
               stand = record {
                 live = l.journal.file;
                 generation = l.journal.generation;
@@ -278,7 +278,8 @@ module _ (laws : StoreLaws) where
           checkpoint_not_written NoMemory result alive answer is told =
               checkpoint_failed l x y (untouched NoMemory (λ u v still. still) told) held result is
           checkpoint_not_written SiteFault result alive answer is told =
-              rebase_prepares result (Err SiteFault) silent told (by_failure command bytes [] x y SiteFailure result is tt)
+              rebase_prepares result (Err SiteFault) silent told
+              (by_failure command bytes [] x y SiteFailure result is tt)
             where
               silent : (w v : Outside) → Rebases l new events (Err SiteFault) w v → v.output ≡ w.output
               silent w v a = ⊎_elim (λ closed. let e : false ≡ true = sym alive ∙ closed.0 in cc)

@@ -91,7 +91,8 @@ grows_nothing before now silent = told_weaker before now (λ w v. v.output ≡ w
 
 -- a put changes no file
 switched_stands : (status : Status) (h : History) (w u : Outside) (piece : List ℕ)
-    → StandAfter (Some Checkpoint) status (Some h) w u → StandAfter (Some Checkpoint) status (Some h) w (extended piece u)
+    → StandAfter (Some Checkpoint) status (Some h) w u
+    → StandAfter (Some Checkpoint) status (Some h) w (extended piece u)
 switched_stands Done h w u piece s = record {
   live = s.live;
   generation = s.generation;

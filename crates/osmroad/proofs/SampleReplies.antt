@@ -31,7 +31,8 @@ module _ (number : ℕ) (held : Option (List ℕ)) (x : Option Outside) where
       (leaves_still command [] (λ stored. stored) x)
 
   -- memory ended
-  pub failed_sample : (result : Result Reply Failure) → result ≡ Err MemoryFailure → Prepares command result held held x x
+  pub failed_sample : (result : Result Reply Failure) → result ≡ Err MemoryFailure
+      → Prepares command result held held x x
   failed_sample result is = unread result
       (by_failure command (behind_of held) [] x x MemoryFailure result is (stands_still x))
 

@@ -21,7 +21,8 @@ GatherCause (Refused fault) read faults_before faults_now = ⊥
 GatherCause NoMemory read faults_before faults_now = Unit {0}
 
 -- some bytes were read, and then no more for this cause
-pub record GatherStopped (error : InputError) (before now : Option (List ℕ)) (faults_before faults_now : ℕ) : Type 0 where
+pub record GatherStopped (error : InputError) (before now : Option (List ℕ))
+    (faults_before faults_now : ℕ) : Type 0 where
   pub read : List ℕ
   pub took : Took read before now
   pub cause : GatherCause error read faults_before faults_now

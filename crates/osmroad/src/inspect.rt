@@ -38,11 +38,7 @@ pub fn inspect<S: Source>(alloc: Global, source: &mut S) -> Result<Reply, Failur
                 out,
             })
         }
-        None => Ok(Reply::fixed(
-            alloc,
-            Status::Refused,
-            b"refused graph\n",
-        )?),
+        None => Ok(Reply::fixed(alloc, Status::Refused, b"refused graph\n")?),
     }
 }
 

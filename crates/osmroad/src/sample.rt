@@ -31,11 +31,7 @@ use std::sync::ledger::Ledger;
 const LISTS: u32 = 11;
 
 /// The lines of the town that is made from this number. It touches neither source nor site.
-pub fn sample<L: Ledger>(
-    alloc: Global,
-    number: u64,
-    steps: &mut Steps<L>,
-) -> Result<Reply, Failure>
+pub fn sample<L: Ledger>(alloc: Global, number: u64, steps: &mut Steps<L>) -> Result<Reply, Failure>
     ensures { (held : Option (List ℕ)) (outside : Option Outside)
         → Prepares (Some (SampleCommand number)) result held held outside outside }
 {

@@ -303,7 +303,14 @@ fn stores_refuse(rt: HostRuntime) -> Result<(), Fail> {
             Status::Damaged,
             b"damaged a 45\n",
         ),
-        refuses(CHECKPOINT, b"", &[LAST_MADE], &[], Status::Limit, b"limit\n"),
+        refuses(
+            CHECKPOINT,
+            b"",
+            &[LAST_MADE],
+            &[],
+            Status::Limit,
+            b"limit\n",
+        ),
     ];
     for case in &cases {
         check(&rt, rt.alloc(), case, &[])?;

@@ -242,7 +242,13 @@ fn faults_of_extracts_are_named(rt: HostRuntime) -> Result<(), Fail> {
 }
 
 /// A graph file in parts is inspected.
-fn inspected(rt: &impl Abort, alloc: Global, parts: &[&[u8]], status: Status, output: &[u8]) -> Result<(), NoMemory> {
+fn inspected(
+    rt: &impl Abort,
+    alloc: Global,
+    parts: &[&[u8]],
+    status: Status,
+    output: &[u8],
+) -> Result<(), NoMemory> {
     let file = joined(alloc, parts)?;
     let case = Case {
         words: &["-", "inspect"],
@@ -261,11 +267,27 @@ fn graph_files_are_counted(rt: HostRuntime) -> Result<(), Fail> {
     let none = b"refused graph\n";
     let cases: [(&[&[u8]], Status, &[u8]); 7] = [
         (&[STREET_GRAPH], Status::Done, counts),
-        (&[STREET_HEAD, STREET_ALONG, STREET_AGAINST, b"\0"], Status::Done, counts),
-        (&[NO_GRAPH], Status::Done, b"ways 0 pieces 0 contexts 0 arcs 0\n"),
-        (&[STREET_HEAD, STREET_ALONG, STREET_AGAINST], Status::Refused, none),
+        (
+            &[STREET_HEAD, STREET_ALONG, STREET_AGAINST, b"\0"],
+            Status::Done,
+            counts,
+        ),
+        (
+            &[NO_GRAPH],
+            Status::Done,
+            b"ways 0 pieces 0 contexts 0 arcs 0\n",
+        ),
+        (
+            &[STREET_HEAD, STREET_ALONG, STREET_AGAINST],
+            Status::Refused,
+            none,
+        ),
         (&[STREET_GRAPH, b"\0"], Status::Refused, none),
-        (&[STREET_HEAD, STREET_AGAINST, b"\0", STREET_ALONG], Status::Refused, none),
+        (
+            &[STREET_HEAD, STREET_AGAINST, b"\0", STREET_ALONG],
+            Status::Refused,
+            none,
+        ),
         (&[], Status::Refused, none),
     ];
     for (parts, status, output) in cases {

@@ -53,8 +53,8 @@ returns-in_err-line-clause-calls g c =
 -- ---- the checkpoint is written
 
 pub checkpoint-requires : goal.checkpoint-requires
-checkpoint-requires g c = λ alive. told_gives (g.W.Site.outside c.args.site.now) (g.W.Site.outside c.load_store.new.site)
-    (LoadsStore (Ok c.in-Ok.loaded)) (IsOnSome c.in-Ok.loaded.journal) c.in-Ok.ensures.told
+checkpoint-requires g c = λ alive. told_gives (g.W.Site.outside c.args.site.now)
+    (g.W.Site.outside c.load_store.new.site) (LoadsStore (Ok c.in-Ok.loaded)) (IsOnSome c.in-Ok.loaded.journal) c.in-Ok.ensures.told
     (λ w v k. (k.answer.history, k.answer.ready))
 
 pub returns-in-Ok-checkpoint-clause-prepares : goal.returns-in-Ok-checkpoint-clause-prepares
@@ -67,8 +67,11 @@ returns-in-Ok-checkpoint-clause-prepares g c = λ held.
     let events = c.in_ok-entries.entries.items in
     let u = c.in-Ok-checkpoint.field-0 in
     checkpoint_written laws.store c.in-Ok.loaded its.0 its.1 events its.2 laws.checkpoint c.checkpoint.new.journal _ _
-    (behind_of held) before now held refl u c.new.result (c.new.ensures.0, c.new.ensures.1 ∙ c.in_ok-line.ensures
-    ∙ ap (λ (n : Sequence). checkpoint_line n.0) c.kept.ensures)
+    (behind_of held) before now held refl u c.new.result (
+      c.new.ensures.0,
+      c.new.ensures.1 ∙ c.in_ok-line.ensures
+          ∙ ap (λ (n : Sequence). checkpoint_line n.0) c.kept.ensures,
+    )
     (rw c.deref.ensures.value at c.in-Ok-checkpoint.ensures.answer)
     (told_rebases c.in-Ok.loaded c.checkpoint.new.journal events (Ok u) before loaded now c.in-Ok.ensures.told
     (rw c.deref.ensures.value at c.in-Ok-checkpoint.ensures.told))

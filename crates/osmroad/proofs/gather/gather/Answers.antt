@@ -78,8 +78,15 @@ front-part-requires g c = omega (arith, c.in-Ok-read.ensures.fits, c.deref.ensur
 pub overflow_add-len : goal.overflow_add-len
 overflow_add-len g c =
     let i = c.loop-n.invariant in
-    omega (arith, i.few, i.room, c.len.ensures, c.front-part.ensures.len, c.in-Ok-read.ensures.fits,
-    c.deref_mut.ensures.len)
+    omega (
+      arith,
+      i.few,
+      i.room,
+      c.len.ensures,
+      c.front-part.ensures.len,
+      c.in-Ok-read.ensures.fits,
+      c.deref_mut.ensures.len,
+    )
 
 pub returns-then-len-part-gt-MOST_BYTES-clause-err : goal.returns-then-len-part-gt-MOST_BYTES-clause-err
 returns-then-len-part-gt-MOST_BYTES-clause-err g c =
@@ -137,8 +144,13 @@ loop-n-preserved g c =
           (subst (λ (l : List ℕ). Took (bytes ++ l) held after) (sym value)
           (took_more bytes c.deref_mut.result.now c.read.new.buf c.in-Ok-read.n held left after
           i.took c.in-Ok-read.ensures.told));
-      few = omega (arith, ap (λ (l : List ℕ). length l) items, length-append bytes part, c.len.ensures,
-          c.if-len-part-gt-MOST_BYTES.false);
+      few = omega (
+        arith,
+        ap (λ (l : List ℕ). length l) items,
+        length-append bytes part,
+        c.len.ensures,
+        c.if-len-part-gt-MOST_BYTES.false,
+      );
       calm = c.in-Ok-read.ensures.counts.stays refl ∙ i.calm;
       room = i.room;
     }
@@ -148,5 +160,11 @@ loop-n-smaller g c =
     let bytes = c.loop-n.bytes.items in
     let part = c.front-part.result.now in
     let items : c.extend_from_slice.new.self.items ≡ bytes ++ part = c.in-Ok-extend_from_slice.ensures.items in
-    omega (arith, ap (λ (l : List ℕ). length l) items, length-append bytes part, c.front-part.ensures.len,
-    c.if-n-eq0.false, c.loop-n.invariant.few)
+    omega (
+      arith,
+      ap (λ (l : List ℕ). length l) items,
+      length-append bytes part,
+      c.front-part.ensures.len,
+      c.if-n-eq0.false,
+      c.loop-n.invariant.few,
+    )
