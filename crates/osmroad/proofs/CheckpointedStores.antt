@@ -1,5 +1,5 @@
 -- What is prepared to write a checkpoint of a store.
-use Rattle.std.proofs.Common.{◌≡◌, ◌⊎◌, inl, inr, ⊎_elim, ℕ, ◌+◌, ◌<◌, ◌≤◌, ◌^◌, List, [], ◌∷◌, ◌++◌, length}
+use Rattle.std.proofs.Common.{◌≡◌, inl, inr, ⊎_elim, ℕ, ◌<◌, ◌≤◌, ◌^◌, List, [], ◌∷◌, ◌++◌, length}
 use Rattle.std.proofs.Common.{Option, None, Some, Result, Ok, Err, true, false, refl, sym, ◌∙◌, ap, subst, arith}
 use Rattle.std.proofs.Common.{codes, length-append}
 use Rattle.std.specs.Io.{StartsWith}
@@ -21,7 +21,7 @@ use Rattle.sequence_journal.specs.declared.load.Loaded.{Loaded}
 use Rattle.store_switch.specs.LiveFile.{reads_of}
 use Rattle.store_switch.specs.TwoFiles.{StandOn, StandFor, IsOnStore}
 use Rattle.store_switch.specs.StoreLoading.{StoreLoaded, LoadsStore, IsLoadError}
-use Rattle.store_switch.specs.Checkpointing.{AreEntries, checkpoint_of, MayGoOn, IsTooLarge, gone_on}
+use Rattle.store_switch.specs.Checkpointing.{AreEntries, checkpoint_of, MayGoOn, IsTooLarge}
 use Rattle.store_switch.specs.Checkpointing.{CheckpointAnswer, Checkpoints, LeavesCheckpoint as LeavesOneOf}
 use Rattle.osmroad.specs.declared.command.Command.{Command}
 use Rattle.osmroad.specs.declared.command.Command.TheVariants.{Checkpoint}
@@ -31,11 +31,11 @@ use Rattle.osmroad.specs.declared.reply.Failure.TheVariants.{SiteFault as SiteFa
 use Rattle.osmroad.specs.declared.status.Status.{Status}
 use Rattle.osmroad.specs.declared.status.Status.TheVariants.{Done, Limit}
 use Rattle.osmroad.specs.Texts.{checkpoint_line, limit_line}
-use Rattle.osmroad.specs.Checkpoints.{AreItsEntries, CheckpointGives, HasNoRoom}
+use Rattle.osmroad.specs.Checkpoints.{AreItsEntries, HasNoRoom}
 use Rattle.osmroad.specs.Checkpoints.{OfStore, OfNoRoom, OfEntries}
 use Rattle.osmroad.specs.Stops.{Before, Without, With}
 use Rattle.osmroad.specs.Stops.{LeavesCheckpoint, LeavesStored, LeftBy}
-use Rattle.osmroad.specs.Run.{StandAsBefore, files_of}
+use Rattle.osmroad.specs.Run.{StandAsBefore}
 use Rattle.osmroad.specs.Replies.{Says, RefusesStore, CountsCalls, IsPrepared, WillPut, Prepares}
 use Rattle.osmroad.specs.StoreLaws.{StoreLaws, CheckpointLaws}
 use Rattle.osmroad.proofs.AnsweredFaults.{failed_calls, reply_calls}

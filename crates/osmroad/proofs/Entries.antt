@@ -7,7 +7,7 @@ use Rattle.road_base.specs.Kinds.{has_kind}
 use Rattle.road_base.specs.declared.ids.Key.{Key}
 use Rattle.road_base.specs.declared.event.Event.{Event}
 use Rattle.road_base.specs.History.{History, all_events}
-use Rattle.road_base.specs.Objects.{Objects, Entry}
+use Rattle.road_base.specs.Objects.{Entry}
 use Rattle.road_base.specs.Applying.{entry_of}
 use Rattle.osmroad.specs.Checkpoints.{AreItsEntries}
 use Rattle.osmroad.proofs.CitedLaws.{OneMap}

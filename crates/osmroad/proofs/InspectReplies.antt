@@ -1,5 +1,5 @@
 -- What `inspect` prepares.
-use Rattle.std.proofs.Common.{◌≡◌, ◌<◌, ◌^◌, ℕ, List, ◌++◌, length, Option, Some, Result, Err, inl, inr, refl, arith}
+use Rattle.std.proofs.Common.{◌≡◌, ◌<◌, ℕ, List, ◌++◌, Option, Some, Result, Err, inl, inr, refl, arith}
 use Rattle.std.proofs.Common.{length-append, sym, ◌∙◌}
 use Rattle.road_io.specs.Outside.{Outside}
 use Rattle.road_model.specs.declared.blocks.Block.{Block}
@@ -13,7 +13,6 @@ use Rattle.osmroad.specs.declared.input.InputError.TheVariants.{Failed, TooLong,
 use Rattle.osmroad.specs.declared.reply.Reply.{Reply}
 use Rattle.osmroad.specs.declared.reply.Failure.{Failure}
 use Rattle.osmroad.specs.declared.reply.Failure.TheVariants.{ReadFault, NoMemory as MemoryFailure}
-use Rattle.osmroad.specs.declared.status.Status.{Status}
 use Rattle.osmroad.specs.declared.status.Status.TheVariants.{Done, Limit}
 use Rattle.osmroad.specs.declared.status.Status.TheVariants.{Refused as RefusedStatus}
 use Rattle.osmroad.specs.Limits.{HasTooManyBytes}

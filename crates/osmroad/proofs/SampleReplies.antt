@@ -1,5 +1,5 @@
 -- What `sample` prepares, and the lines of a sample, one behind another.
-use Rattle.std.proofs.Common.{◌≡◌, ℕ, suc, ◌+◌, ◌<◌, List, [], ◌++◌, Option, Some, Result, Ok, Err, refl, ap, subst}
+use Rattle.std.proofs.Common.{◌≡◌, ℕ, suc, ◌+◌, ◌<◌, List, [], ◌++◌, Option, Some, Result, Err, refl, ap, subst}
 use Rattle.std.proofs.Common.{◌∙◌, sym, arith, Bool, true, cond, nat_lt, lt-ltb}
 use Rattle.std.specs.FinMap.{empty}
 use Rattle.road_base.specs.declared.event.Event.{Event}

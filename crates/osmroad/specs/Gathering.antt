@@ -1,6 +1,5 @@
 -- What was read of a source whose bytes are kept, as a graph file's.
 use Rattle.std.specs.Prelude.{ℕ, List, Option}
-use Rattle.opl_objects.specs.declared.fault.Fault.{Fault}
 use Rattle.road_io.specs.Told.{Rose}
 use Rattle.osmroad.specs.Input.{Took, Ended}
 use Rattle.osmroad.specs.Limits.{HasTooManyBytes}

@@ -1,9 +1,5 @@
 //! All that a store holds, as the base of its other file.
-ghost use Rattle.std.specs.Prelude.{◌≡◌, ℕ, List, Option, Some, IfOk};
-ghost use Rattle.std.specs.FinMap.{empty};
-ghost use Rattle.road_base.specs.Objects.{Objects as ObjectMap};
-ghost use Rattle.road_base.specs.Applying.{IsApplied};
-ghost use Rattle.store_switch.specs.Checkpointing.{AreEntries};
+ghost use Rattle.std.specs.Prelude.{◌≡◌, ℕ, List, Option, Some};
 ghost use Rattle.osmroad.specs.declared.command.Command.TheVariants.{Checkpoint as CheckpointCommand};
 ghost use Rattle.osmroad.specs.Replies.{Prepares, CountsCalls};
 
@@ -12,11 +8,9 @@ use crate::reply::{Failure, Reply, refuse_store};
 use crate::status::Status;
 use crate::texts::checkpoint_text;
 use object_store::Objects;
-use road_base::{Event, NoMemory};
 use road_io::Site;
 use sequence_journal::Loaded;
 use std::alloc::Global;
-use std::mem::forget;
 use store_switch::load_store;
 
 /// Writes what the store holds into its other file, as a base under the kept number, and goes on there.
@@ -33,21 +27,10 @@ pub fn checkpoint<W: Site>(alloc: Global, site: &mut W) -> Result<Reply, Failure
         Ok(loaded) => loaded,
         Err(error) => return refuse_store(alloc, error),
     };
-    let entries = entries_of(events)?;
+    let objects = Objects::of(events)?;
     let line = checkpoint_text(alloc, journal.kept())?;
-    match store_switch::checkpoint(alloc, site, &mut journal, &entries) {
+    match store_switch::checkpoint(alloc, site, &mut journal, objects.items()) {
         Ok(()) => Ok(Reply::new(Status::Done, line)),
         Err(error) => refuse_store(alloc, error),
     }
-}
-
-/// One event for each entry of the objects that the events leave, deletions too, in key order.
-fn entries_of(events: Vec<Event>) -> Result<Vec<Event>, NoMemory>
-    ensures { IfOk result (λ entries. (objects : ObjectMap) × IsApplied empty events.items objects
-        × AreEntries objects entries.items) }
-{
-    let objects = Objects::of(events)?;
-    let entries = objects.events()?;
-    forget(objects);
-    Ok(entries)
 }

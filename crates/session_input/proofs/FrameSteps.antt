@@ -41,7 +41,7 @@ lines_more : (body line : List ℕ) → parts 10 body ≡ whole_lines body ++ ([
     → whole_lines (body ++ (line ++ (10 ∷ []))) ≡ whole_lines body ++ (line ∷ [])
 lines_more body line ended lacks =
     whole_lines_are (body ++ (line ++ (10 ∷ []))) [] (whole_lines body ++ (line ∷ []))
-        (parts_more body line ended lacks)
+    (parts_more body line ended lacks)
 
 ended_more : (body line : List ℕ) → parts 10 body ≡ whole_lines body ++ ([] ∷ []) → Lacks 10 line
     → parts 10 (body ++ (line ++ (10 ∷ []))) ≡ whole_lines (body ++ (line ++ (10 ∷ []))) ++ ([] ∷ [])

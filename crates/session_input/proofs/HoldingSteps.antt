@@ -59,7 +59,7 @@ holds_part before bytes part old new holds lacks room same_frame held total =
     (omega (arith, room.in_line)) (omega (arith, room.in_frame))
     (omega (arith, room.in_session, holds.total, size)) in
     let step : bytes ++ part ≡ front ++ (line ++ part) = ap (λ bs. bs ++ part) holds.held
-        ∙ append_assoc front line part in
+    ∙ append_assoc front line part in
     let longer = lacks_both line part holds.open_line lacks in
     let opens = open_bytes old.frame front (line ++ part) holds.frame longer in
     record {

@@ -137,7 +137,7 @@ pub within_line : (before size : ℕ) (front held line : List ℕ) → Whole fro
     → IsWithin before ((front ++ held) ++ (line ++ (10 ∷ [])))
 within_line before size front held line whole open_line lacks within in_line in_frame in_session =
     let part = within_part before size front held line whole open_line lacks within in_line (omega arith)
-        (omega arith) in
+    (omega arith) in
     let bytes = (front ++ held) ++ line in
     let more = whole_more front (held ++ line) size whole (lacks_both held line open_line lacks) in
     let all : bytes ++ (10 ∷ []) ≡ (front ++ ((held ++ line) ++ (10 ∷ []))) ++ [] =
@@ -148,7 +148,7 @@ within_line before size front held line whole open_line lacks within in_line in_
     ap length (sym all) ∙ omega (arith, length-append bytes (10 ∷ []), length-append (front ++ held) line) in
     let fits : PassesLimit before (bytes ++ (10 ∷ [])) → ⊥ = λ passes.
     not_passed before more.0 (front ++ ((held ++ line) ++ (10 ∷ []))) [] more.1 lacks_none (omega arith) (omega
-        (arith, more.2))
+    (arith, more.2))
     (omega arith) (subst (PassesLimit before) all passes) in
     subst (IsWithin before) (append_assoc (front ++ held) line (10 ∷ [])) (within_byte before 10 bytes part fits)
 

@@ -72,7 +72,7 @@ last_line front line before behind e lacks =
             | inl v ↦
                 let all : behind ≡ (v.0 ++ (10 ∷ [])) ++ line = w.2 ∙ ap (λ bs. bs ++ line) v.2 in
                 let some = lacks_back v.0 (10 ∷ []) (lacks_front (v.0 ++ (10 ∷ [])) line (subst
-                    (Lacks 10) all lacks)) in
+                (Lacks 10) all lacks)) in
                 absurd (lacks_not 10 [] refl some)
             | inr v ↦
                 elim w.0 as (λ z. z ≡ w.0 → length behind ≤ length line) [

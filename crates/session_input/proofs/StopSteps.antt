@@ -108,9 +108,9 @@ stop_line before frame front held line rest at_front open_line lacks fits within
       | inl more_fits ↦
           let part = within_part before (frame_size frame) front held line whole open_line lacks within
           (omega (arith, more_fits.in_line)) (omega (arith, more_fits.in_frame)) (omega
-              (arith, more_fits.in_session)) in
+          (arith, more_fits.in_session)) in
           let all : (front ++ held) ++ ((line ++ (10 ∷ [])) ++ rest) ≡ ((front ++ (held ++ line)) ++ (10 ∷ []))
-              ++ rest =
+          ++ rest =
           sym (append_assoc (front ++ held) (line ++ (10 ∷ [])) rest)
           ∙ ap (λ bs. bs ++ rest) (sym (append_assoc (front ++ held) line (10 ∷ []))
           ∙ ap (λ bs. bs ++ (10 ∷ [])) step) in

@@ -1,12 +1,10 @@
-use Rattle.std.proofs.Common.{List, Ok, Err, ◌∙◌, ap, refl, subst}
+use Rattle.std.proofs.Common.{Ok, Err, ◌∙◌, ap, refl, sym}
 use Rattle.road_base.specs.declared.ids.Sequence.{Sequence}
 use Rattle.osmroad.specs.Texts.{checkpoint_line}
-use Rattle.road_base.specs.declared.event.Event.{Event}
-use Rattle.road_io.specs.Told.{Told}
 use Rattle.road_io.proofs.ToldCalls.{told_gives}
 use Rattle.sequence_journal.specs.declared.load.Loaded.{Loaded}
 use Rattle.store_switch.specs.StoreLoading.{LoadsStore}
-use Rattle.store_switch.specs.Checkpointing.{IsOnSome, Checkpoints, CheckpointAnswer}
+use Rattle.store_switch.specs.Checkpointing.{IsOnSome}
 use Rattle.osmroad.proofs.Prepared.{no_memory}
 use Rattle.osmroad.proofs.AnsweredFaults.{fault_calls, failed_calls, calls_calm, later_calls}
 use Rattle.osmroad.proofs.HeldSource.{behind_of}
@@ -28,14 +26,14 @@ returns-in-Err-clause-calls g c =
 
 -- ---- memory ends
 
-pub returns-in_err-entries-clause-prepares : goal.returns-in_err-entries-clause-prepares
-returns-in_err-entries-clause-prepares g c = λ held.
+pub returns-in_err-objects-clause-prepares : goal.returns-in_err-objects-clause-prepares
+returns-in_err-objects-clause-prepares g c = λ held.
     let laws = c.store_laws.ensures in
     checkpoint_failed laws.store c.in-Ok.loaded _ _ c.in-Ok.ensures.told held c.from_residual.result
     (no_memory c.from_residual.result c.from_residual.ensures.1)
 
-pub returns-in_err-entries-clause-calls : goal.returns-in_err-entries-clause-calls
-returns-in_err-entries-clause-calls g c = failed_calls c.from_residual.result _ _
+pub returns-in_err-objects-clause-calls : goal.returns-in_err-objects-clause-calls
+returns-in_err-objects-clause-calls g c = failed_calls c.from_residual.result _ _
     (no_memory c.from_residual.result c.from_residual.ensures.1) (c.in-Ok.ensures.counts.stays (λ e. (cc)))
 
 pub returns-in_err-line-clause-prepares : goal.returns-in_err-line-clause-prepares
@@ -63,18 +61,19 @@ returns-in-Ok-checkpoint-clause-prepares g c = λ held.
     let before = g.W.Site.outside c.args.site.now in
     let loaded = g.W.Site.outside c.load_store.new.site in
     let now = g.W.Site.outside c.checkpoint.new.site in
-    let its = c.in_ok-entries.ensures in
-    let events = c.in_ok-entries.entries.items in
+    let events = c.items.result.now in
+    let is = c.in_ok-objects.ensures in
+    let are = sym c.items.ensures.entries in
     let u = c.in-Ok-checkpoint.field-0 in
-    checkpoint_written laws.store c.in-Ok.loaded its.0 its.1 events its.2 laws.checkpoint c.checkpoint.new.journal _ _
+    checkpoint_written laws.store c.in-Ok.loaded c.in_ok-objects.objects is events are laws.checkpoint c.checkpoint.new.journal _ _
     (behind_of held) before now held refl u c.new.result (
       c.new.ensures.0,
       c.new.ensures.1 ∙ c.in_ok-line.ensures
           ∙ ap (λ (n : Sequence). checkpoint_line n.0) c.kept.ensures,
     )
-    (rw c.deref.ensures.value at c.in-Ok-checkpoint.ensures.answer)
+    c.in-Ok-checkpoint.ensures.answer
     (told_rebases c.in-Ok.loaded c.checkpoint.new.journal events (Ok u) before loaded now c.in-Ok.ensures.told
-    (rw c.deref.ensures.value at c.in-Ok-checkpoint.ensures.told))
+    c.in-Ok-checkpoint.ensures.told)
 
 pub returns-in-Ok-checkpoint-clause-calls : goal.returns-in-Ok-checkpoint-clause-calls
 returns-in-Ok-checkpoint-clause-calls g c = calls_calm _ _ _
@@ -88,20 +87,16 @@ returns-clause-prepares g c = λ held.
     let before = g.W.Site.outside c.args.site.now in
     let loaded = g.W.Site.outside c.load_store.new.site in
     let now = g.W.Site.outside c.checkpoint.new.site in
-    let its = c.in_ok-entries.ensures in
-    let events = c.in_ok-entries.entries.items in
+    let events = c.items.result.now in
+    let is = c.in_ok-objects.ensures in
+    let are = sym c.items.ensures.entries in
     let failed = c.in-Err-checkpoint in
     let refused = c.refuse_store-in-Err-checkpoint in
-    let answer = subst (λ (es : List Event). CheckpointAnswer c.in-Ok.loaded.journal c.checkpoint.new.journal es
-    (Err failed.error) (g.W.Site.faults c.load_store.new.site) (g.W.Site.faults c.checkpoint.new.site))
-    c.deref.ensures.value failed.ensures.answer in
-    let writes = subst (λ (es : List Event). Told (Checkpoints c.in-Ok.loaded.journal c.checkpoint.new.journal es
-    (Err failed.error)) loaded now) c.deref.ensures.value failed.ensures.told in
-    checkpoint_not_written laws.store c.in-Ok.loaded its.0 its.1 events its.2 laws.checkpoint c.checkpoint.new.journal
-    _ _ (behind_of held) before now held refl failed.error refused.result c.in-Ok.ensures.not_closed answer
+    checkpoint_not_written laws.store c.in-Ok.loaded c.in_ok-objects.objects is events are laws.checkpoint c.checkpoint.new.journal
+    _ _ (behind_of held) before now held refl failed.error refused.result c.in-Ok.ensures.not_closed failed.ensures.answer
     refused.ensures
     (told_rebases c.in-Ok.loaded c.checkpoint.new.journal events (Err failed.error) before loaded now
-    c.in-Ok.ensures.told writes)
+    c.in-Ok.ensures.told failed.ensures.told)
 
 pub returns-clause-calls : goal.returns-clause-calls
 returns-clause-calls g c =

@@ -1,6 +1,5 @@
-use Rattle.std.proofs.Common.{Err, Ok, ap, ◌∙◌, refl, sym, subst, List, ℕ}
+use Rattle.std.proofs.Common.{Ok, refl, subst, List, ℕ}
 use Rattle.std.specs.FinMap.{values}
-use Rattle.road_model.specs.declared.blocks.Block.{Block}
 use Rattle.road_model.specs.Format.{IsGraphFile}
 use Rattle.graph_file.specs.GraphReading.{IsFile}
 use Rattle.osmroad.specs.declared.status.Status.TheVariants.{Done}

@@ -1,4 +1,3 @@
-use Rattle.std.proofs.Common.{ℕ}
 use Rattle.osmroad.proofs.SampleReplies.{Led}
 use Rattle.osmroad.proofs.sample.sample_text.Given as goal
 
