@@ -34,3 +34,5 @@ pub mod ShownStores
 pub mod AppliedChanges
 pub mod CreatedStores
 pub mod CheckpointedStores
+pub mod ServedSessions
+pub mod RefusedSessions

@@ -164,7 +164,7 @@ module _ (laws : StoreLaws) where
   not_damaged files live offset l damage h c =
       laws.no_damage files live offset (inr (h, (c.0, c.1, c.2))) l damage
 
-  none_loaded : (w v : Outside) → LoadsStore (Err NoStore) w v → NotLoaded w v NoStoreStatus no_store_line
+  pub none_loaded : (w v : Outside) → LoadsStore (Err NoStore) w v → NotLoaded w v NoStoreStatus no_store_line
   none_loaded w v l = record {
     refusal = OfNoStore l.answer.0 refl refl;
     still = l.answer.1;
@@ -172,7 +172,7 @@ module _ (laws : StoreLaws) where
     only = l.any_moment;
   }
 
-  large_loaded : (w v : Outside) → LoadsStore (Err TooLarge) w v → NotLoaded w v Limit limit_line
+  pub large_loaded : (w v : Outside) → LoadsStore (Err TooLarge) w v → NotLoaded w v Limit limit_line
   large_loaded w v l =
       let r = l.answer in
       record {
@@ -182,7 +182,7 @@ module _ (laws : StoreLaws) where
         only = l.any_moment;
       }
 
-  damaged_loaded : (file : Which) (offset : ℕ) (w v : Outside) → LoadsStore (Err (Damaged file offset)) w v
+  pub damaged_loaded : (file : Which) (offset : ℕ) (w v : Outside) → LoadsStore (Err (Damaged file offset)) w v
       → NotLoaded w v DamagedStatus (damaged_line file offset)
   damaged_loaded file offset w v l =
       let r = l.answer in

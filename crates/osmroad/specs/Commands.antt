@@ -7,6 +7,8 @@ use Rattle.opl_lexer.specs.Numbers.{is_numeral}
 use Rattle.osmroad.specs.declared.command.Command.{Command}
 use Rattle.osmroad.specs.declared.command.Command.TheVariants.{Compile, Inspect, Sample, Create, Apply}
 use Rattle.osmroad.specs.declared.command.Command.TheVariants.{Graph, Audit, Checkpoint}
+use Rattle.osmroad.specs.declared.command.Request.{Request}
+use Rattle.osmroad.specs.declared.command.Request.TheVariants.{Session, Command as CommandRequest}
 
 -- a store's name isn't empty, and doesn't begin with `-`
 abbrev pub is_store : List ℕ → Bool
@@ -55,10 +57,25 @@ asked_by_three store name number =
     else (if is_store store then option_and_then (asked_numbered name) (number_of number) else None)
 
 -- `- compile`, `- inspect`, `- sample N`, `STORE create N`, `STORE apply N`, `STORE graph`, `STORE audit` and
--- `STORE checkpoint`; other words ask nothing
-abbrev pub asked : List (List ℕ) → Option Command
-asked [] = None
-asked (one ∷ []) = None
-asked (store ∷ name ∷ []) = asked_by_two store name
-asked (store ∷ name ∷ number ∷ []) = asked_by_three store name number
-asked (one ∷ two ∷ three ∷ four ∷ more) = None
+-- `STORE checkpoint`; other words are no command's
+abbrev pub asked_command : List (List ℕ) → Option Command
+asked_command [] = None
+asked_command (one ∷ []) = None
+asked_command (store ∷ name ∷ []) = asked_by_two store name
+asked_command (store ∷ name ∷ number ∷ []) = asked_by_three store name number
+asked_command (one ∷ two ∷ three ∷ four ∷ more) = None
+
+-- `STORE session`
+abbrev pub asks_session : List (List ℕ) → Bool
+asks_session [] = false
+asks_session (one ∷ []) = false
+asks_session (store ∷ name ∷ []) = is_store store && bytes_eq name (codes "session")
+asks_session (one ∷ two ∷ three ∷ more) = false
+
+abbrev pub request_for : Option Command → Option Request
+request_for None = None
+request_for (Some command) = Some (CommandRequest command)
+
+-- a session, or what a command does; other words ask nothing
+abbrev pub asked : List (List ℕ) → Option Request
+asked words = if asks_session words then Some Session else request_for (asked_command words)

@@ -16,4 +16,6 @@ pub mod Checkpoints
 pub mod Outcomes
 pub mod Stops
 pub mod Run
+pub mod Sessions
+pub mod Requests
 pub mod Replies

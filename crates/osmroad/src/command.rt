@@ -1,11 +1,21 @@
 //! What the words of a run ask.
 ghost use Rattle.std.specs.Prelude.{◌≡◌, map};
-ghost use Rattle.osmroad.specs.Commands.{asked, asked_by_two, asked_by_three, asked_without, asked_alone};
+ghost use Rattle.osmroad.specs.Commands.{asked, asks_session, asked_command};
+ghost use Rattle.osmroad.specs.Commands.{asked_by_two, asked_by_three, asked_without, asked_alone};
 ghost use Rattle.osmroad.specs.Commands.{asked_sample, asked_numbered, asked_base, is_store, number_of};
 
 use road_base::Sequence;
 
 /// What a run is asked for.
+#[derive(Clone, Copy, PartialEq, Eq, Debug)]
+pub enum Request {
+    /// A session: the messages on the source are answered in turn, over the store.
+    Session,
+    /// One thing, which is done once.
+    Command(Command),
+}
+
+/// What is done once.
 #[derive(Clone, Copy, PartialEq, Eq, Debug)]
 pub enum Command {
     /// The graph of the extract on the source.
@@ -26,11 +36,32 @@ pub enum Command {
     Checkpoint,
 }
 
-/// What the words ask: `- compile`, `- inspect`, `- sample N`, `STORE create N`, `STORE apply N`, `STORE graph`,
-/// `STORE audit` or `STORE checkpoint`. STORE isn't empty and doesn't begin with `-`; N is digits, a value of 64 bits,
-/// and for `create` not the last one.
-pub fn command_of(words: &[&str]) -> Option<Command>
+/// What the words ask: `- compile`, `- inspect`, `- sample N`, `STORE create N`, `STORE apply N`, `STORE session`,
+/// `STORE graph`, `STORE audit` or `STORE checkpoint`. STORE isn't empty and doesn't begin with `-`; N is digits, a
+/// value of 64 bits, and for `create` not the last one.
+pub fn request_of(words: &[&str]) -> Option<Request>
     ensures { result ≡ asked (map (λ w. w.now) words.now) }
+{
+    if asks_session(words) {
+        return Some(Request::Session);
+    }
+    match command_of(words) {
+        Some(command) => Some(Request::Command(command)),
+        None => None,
+    }
+}
+
+fn asks_session(words: &[&str]) -> bool
+    ensures { result ≡ asks_session (map (λ w. w.now) words.now) }
+{
+    match words {
+        [store, name] => is_store(store) && *name == "session",
+        _ => false,
+    }
+}
+
+fn command_of(words: &[&str]) -> Option<Command>
+    ensures { result ≡ asked_command (map (λ w. w.now) words.now) }
 {
     match words {
         [store, name] => asked_by_two(store, name),

@@ -35,6 +35,7 @@ mod limits;
 mod reply;
 mod run;
 mod sample;
+mod serve;
 mod status;
 mod stored;
 mod texts;
@@ -113,6 +114,8 @@ mod graph_text;
 mod map_tests;
 #[cfg(test)]
 mod piece_tests;
+#[cfg(test)]
+mod session_tests;
 #[cfg(test)]
 mod store_tests;
 #[cfg(test)]

@@ -1,9 +1,11 @@
-//! What a command prepares, before anything is put.
+//! What a command prepares, and how it is put.
 ghost use Rattle.std.specs.Prelude.{◌≡◌, IfOk, string_bytes};
 ghost use Rattle.opl_objects.specs.StreamLines.{fault_at};
 ghost use Rattle.sequence_journal.specs.declared.journal.Journal.{Journal};
 ghost use Rattle.osmroad.specs.declared.reply.Failure.TheVariants.{NoMemory as NoMemoryFailure};
+ghost use Rattle.road_io.specs.Told.{Told};
 ghost use Rattle.osmroad.specs.Texts.{refused_line};
+ghost use Rattle.osmroad.specs.Run.{EndsPut, PutsSome};
 ghost use Rattle.osmroad.specs.Replies.{Says, RefusesInput, RefusesStore, RefusesChange, failure_status};
 
 use crate::input::InputError;
@@ -11,6 +13,7 @@ use crate::status::Status;
 use crate::texts::{damaged_text, refused_text, sequence_text};
 use opl_objects::Fault;
 use road_base::{NoMemory, Sequence};
+use road_io::Site;
 use sequence_journal::{Journal, JournalError};
 use std::alloc::{AllocError, Global};
 
@@ -133,5 +136,17 @@ pub fn refuse_change(
     match journal.check(number) {
         Ok(()) => Ok(Reply::refused(alloc, fault)?),
         Err(error) => refuse_store(alloc, error),
+    }
+}
+
+/// Puts what is last put, and answers the status that it stands for.
+pub fn put_last<W: Site>(site: &mut W, piece: &[u8], status: Status) -> Status
+    ensures ends { EndsPut piece.now status result (W.outside site.old) (W.outside site.new)
+        (W.faults site.old) (W.faults site.new) }
+    ensures files { Told (PutsSome piece.now) (W.outside site.old) (W.outside site.new) }
+{
+    match site.put(piece) {
+        Ok(()) => status,
+        Err(_) => Status::SiteFault,
     }
 }

@@ -2,17 +2,19 @@
 ghost use Rattle.std.specs.Prelude.{◌≡◌, ◌⊎◌, ◌<◌, List, ℕ, map, Some};
 ghost use Rattle.road_io.specs.Told.{Told, Rose};
 ghost use Rattle.osmroad.specs.Commands.{asked};
-ghost use Rattle.osmroad.specs.Run.{IsReading, IsStored, MayEnd, Ends, EndsPut, PutsSome, CanBeDone, Builds, files_of};
+ghost use Rattle.osmroad.specs.Run.{IsReading, IsStored, MayEnd, Ends, CanBeDone, Builds, files_of};
+ghost use Rattle.osmroad.specs.Requests.{RunEnds, RunMayEnd, RunIsStored, RunCanBeDone, RunBuilds};
 ghost use Rattle.osmroad.specs.Replies.{Prepares, CountsReads, CountsCalls};
 
 use crate::apply::apply;
 use crate::checkpoint::checkpoint;
-use crate::command::{Command, command_of};
+use crate::command::{Command, Request, request_of};
 use crate::compile::compile;
 use crate::create::create;
 use crate::inspect::inspect;
-use crate::reply::{Failure, Reply};
+use crate::reply::{Failure, Reply, put_last};
 use crate::sample::sample;
+use crate::serve::serve_store;
 use crate::status::Status;
 use crate::stored::{stored_audit, stored_graph};
 use opl_lexer::laws::one_reading;
@@ -25,18 +27,6 @@ use store_switch::laws::one_live;
 /// The last line where the words aren't known.
 const USAGE: &[u8] =
     b"usage: osmroad STORE create N|apply N|session|graph|audit|checkpoint, or osmroad - compile|inspect|sample N\n";
-
-// Puts what is last put, and answers the status that it stands for.
-fn put_last<W: Site>(site: &mut W, piece: &[u8], status: Status) -> Status
-    ensures ends { EndsPut piece.now status result (W.outside site.old) (W.outside site.new)
-        (W.faults site.old) (W.faults site.new) }
-    ensures files { Told (PutsSome piece.now) (W.outside site.old) (W.outside site.new) }
-{
-    match site.put(piece) {
-        Ok(()) => status,
-        Err(_) => Status::SiteFault,
-    }
-}
 
 // What the command puts, before it is put.
 fn prepare<S: Source, W: Site, L: Ledger>(
@@ -66,6 +56,38 @@ fn prepare<S: Source, W: Site, L: Ledger>(
     }
 }
 
+// Does what the command says. Its clauses are those of `run`.
+fn run_command<S: Source, W: Site, L: Ledger>(
+    alloc: Global,
+    command: Command,
+    source: &mut S,
+    site: &mut W,
+    steps: &mut Steps<L>,
+) -> Status
+    ensures ends { Ends (Some command) result (S.bytes_left source.old) (S.bytes_left source.new)
+        (W.outside site.old) (W.outside site.new) }
+    ensures named { MayEnd (Some command) result }
+    ensures untouched { (IsStored (Some command) → ⊥)
+        → Told (λ before now. (now.a ≡ before.a) × (now.b ≡ before.b)) (W.outside site.old) (W.outside site.new) }
+    ensures read_fault { result ≡ Status.ReadFault → Rose (S.faults source.old) (S.faults source.new) }
+    ensures site_fault { result ≡ Status.SiteFault → Rose (W.faults site.old) (W.faults site.new) }
+    ensures each_read_fault { S.faults source.old < S.faults source.new → result ≡ Status.ReadFault }
+    ensures each_site_fault { W.faults site.old < W.faults site.new → result ≡ Status.SiteFault }
+    ensures complete { (bytes : List ℕ) → S.bytes_left source.old ≡ Some bytes
+        → CanBeDone (Some command) (files_of (W.outside site.old)) bytes
+        → (Rose (S.faults source.old) (S.faults source.new) → ⊥)
+        → (Rose (W.faults site.old) (W.faults site.new) → ⊥)
+        → (result ≡ Status.Done) ⊎ (result ≡ Status.NoMemory) }
+    ensures built { Builds (Some command) (S.bytes_left source.old) (W.outside site.old) steps.old steps.new }
+{
+    one_reading();
+    one_live();
+    match prepare(alloc, command, source, site, steps) {
+        Ok(reply) => put_last(site, &reply.out, reply.status),
+        Err(failure) => failure.status(),
+    }
+}
+
 /// Does what the words ask, reading from the source and putting to the site, and answers how it ended. It returns for
 /// any words, source and site: a source that never ends is left as soon as it passed a limit, 2^30 bytes in all or 2^24
 /// in a line. The first read or call on the site that fails ends it: nothing is tried again.
@@ -73,9 +95,10 @@ fn prepare<S: Source, W: Site, L: Ledger>(
 /// `- compile` puts the graph's bytes of the extract on the source, `- inspect` how large the graph is whose file is on
 /// the source, of at most 2^30 bytes, and `- sample N` how large the graphs are of a town that is made from N, and of
 /// its ten changes. A STORE is the site's two files: `create N` makes one of the extract, `apply N` adds the change on
-/// the source, `graph` puts the graph's bytes of all that it holds, `audit` what becomes of its restrictions, and
-/// `checkpoint` writes all that it holds into its other file and goes on there. `steps` rises by one for each block
-/// that is built: one for each visible way with the key `highway`. Other words are answered by the usage line.
+/// the source, `graph` puts the graph's bytes of all that it holds, `audit` what becomes of its restrictions,
+/// `checkpoint` writes all that it holds into its other file and goes on there, and `session` answers the messages on
+/// the source in turn. `steps` rises by one for each block that is built; for a command that is one for each visible way
+/// with the key `highway`. Other words are answered by the usage line.
 pub fn run<S: Source, W: Site, L: Ledger>(
     alloc: Global,
     words: &[&str],
@@ -85,14 +108,14 @@ pub fn run<S: Source, W: Site, L: Ledger>(
 ) -> Status
     // What is read and put, by the status, for what the files then stand, and what a stop at any moment leaves of the
     // files and the output.
-    ensures ends { Ends (asked (map (λ w. w.now) words.now)) result (S.bytes_left source.old)
+    ensures ends { RunEnds (asked (map (λ w. w.now) words.now)) result (S.bytes_left source.old)
         (S.bytes_left source.new) (W.outside site.old) (W.outside site.new) }
 
-    // A command has its own statuses, whatever source and site.
-    ensures named { MayEnd (asked (map (λ w. w.now) words.now)) result }
+    // A request has its own statuses, whatever source and site.
+    ensures named { RunMayEnd (asked (map (λ w. w.now) words.now)) result }
 
     // Without a store no file is touched.
-    ensures untouched { (IsStored (asked (map (λ w. w.now) words.now)) → ⊥)
+    ensures untouched { (RunIsStored (asked (map (λ w. w.now) words.now)) → ⊥)
         → Told (λ before now. (now.a ≡ before.a) × (now.b ≡ before.b)) (W.outside site.old) (W.outside site.new) }
 
     // A fault is answered only where it came, and where one came it is answered.
@@ -103,22 +126,18 @@ pub fn run<S: Source, W: Site, L: Ledger>(
 
     // Where the words, the bytes, the files and the outside are good, it is done, or memory ended.
     ensures complete { (bytes : List ℕ) → S.bytes_left source.old ≡ Some bytes
-        → CanBeDone (asked (map (λ w. w.now) words.now)) (files_of (W.outside site.old)) bytes
+        → RunCanBeDone (asked (map (λ w. w.now) words.now)) (files_of (W.outside site.old)) bytes
         → (Rose (S.faults source.old) (S.faults source.new) → ⊥)
         → (Rose (W.faults site.old) (W.faults site.new) → ⊥)
         → (result ≡ Status.Done) ⊎ (result ≡ Status.NoMemory) }
 
     // No more blocks are built than the graph's objects have visible ways with the key `highway`.
-    ensures built { Builds (asked (map (λ w. w.now) words.now)) (S.bytes_left source.old) (W.outside site.old)
+    ensures built { RunBuilds (asked (map (λ w. w.now) words.now)) (S.bytes_left source.old) (W.outside site.old)
         steps.old steps.new }
 {
-    one_reading();
-    one_live();
-    let Some(command) = command_of(words) else {
-        return put_last(site, USAGE, Status::Usage);
-    };
-    match prepare(alloc, command, source, site, steps) {
-        Ok(reply) => put_last(site, &reply.out, reply.status),
-        Err(failure) => failure.status(),
+    match request_of(words) {
+        Some(Request::Session) => serve_store(alloc, source, site, steps),
+        Some(Request::Command(command)) => run_command(alloc, command, source, site, steps),
+        None => put_last(site, USAGE, Status::Usage),
     }
 }

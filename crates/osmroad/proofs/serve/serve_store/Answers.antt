@@ -1,0 +1,49 @@
+use Rattle.std.proofs.Common.{ℕ, inl, inr, refl, subst}
+use Rattle.osmroad.specs.declared.status.Status.TheVariants.{SiteFault}
+use Rattle.osmroad.specs.Sessions.{AnswersFaults}
+use Rattle.osmroad.proofs.ServedSessions.{store_is_served, store_opens}
+use Rattle.osmroad.proofs.RefusedSessions.{store_is_refused, refused_no_read}
+use Rattle.osmroad.proofs.serve.serve_store.Goals as goal
+
+-- ---- the store is loaded
+
+pub serve-requires-clause-number : goal.serve-requires-clause-number
+serve-requires-clause-number g c = refl
+
+pub serve-requires-clause-opens : goal.serve-requires-clause-opens
+serve-requires-clause-opens g c = store_opens c.in-Ok.loaded (g.W.Site.outside c.args.site.now)
+    (g.W.Site.outside c.load_store.new.site) c.in-Ok.ensures.told
+
+pub returns-in-Ok-clause-ends : goal.returns-in-Ok-clause-ends
+returns-in-Ok-clause-ends g c =
+    store_is_served c.store_laws.ensures.store c.in-Ok.loaded c.serve.result
+    (g.S.Source.bytes_left c.args.source.now) (g.S.Source.bytes_left c.serve.new.source)
+    (g.W.Site.outside c.args.site.now) (g.W.Site.outside c.load_store.new.site) (g.W.Site.outside c.serve.new.site)
+    c.in-Ok.ensures.told c.serve.ensures.serves
+
+pub returns-in-Ok-clause-calls : goal.returns-in-Ok-clause-calls
+returns-in-Ok-clause-calls g c =
+    subst (λ (n : ℕ). AnswersFaults SiteFault c.serve.result n (g.W.Site.faults c.serve.new.site))
+    (c.in-Ok.ensures.counts.stays (λ e. (cc))) c.serve.ensures.calls
+
+pub returns-in-Ok-clause-named : goal.returns-in-Ok-clause-named
+returns-in-Ok-clause-named g c = inl c.serve.ensures.named
+
+-- ---- it isn't
+
+pub returns-in-Err-clause-ends : goal.returns-in-Err-clause-ends
+returns-in-Err-clause-ends g c =
+    store_is_refused c.refuse.result (g.S.Source.bytes_left c.args.source.now) (g.W.Site.outside c.args.site.now)
+    (g.W.Site.outside c.refuse.new.site) c.refuse.ensures.named
+    (c.refuse.ensures.runs (g.W.Site.outside c.args.site.now) c.in-Err.ensures.told)
+
+pub returns-in-Err-clause-reads : goal.returns-in-Err-clause-reads
+returns-in-Err-clause-reads g c =
+    refused_no_read c.refuse.result (g.S.Source.faults c.args.source.now) c.refuse.ensures.named
+
+pub returns-in-Err-clause-calls : goal.returns-in-Err-clause-calls
+returns-in-Err-clause-calls g c =
+    c.refuse.ensures.calls (g.W.Site.faults c.args.site.now) c.in-Err.ensures.counts
+
+pub returns-in-Err-clause-named : goal.returns-in-Err-clause-named
+returns-in-Err-clause-named g c = inr c.refuse.ensures.named

@@ -1,0 +1,122 @@
+-- How a run ends that is asked for a session: what was read and put, for what the files then stand, and what a stop
+-- leaves.
+use Rattle.std.specs.Prelude.{◌≡◌, ◌⊎◌, ℕ, ◌<◌, List, [], ◌++◌, length, take, Option}
+use Rattle.road_model.specs.Rules.{Rules}
+use Rattle.access_profile.specs.Motorcar.{motorcar_rules}
+use Rattle.road_io.specs.Told.{Told, Rose}
+use Rattle.road_io.specs.Outside.{Outside, Left, LeavesOnly}
+use Rattle.sequence_journal.specs.declared.load.Loaded.{Loaded}
+use Rattle.sequence_journal.specs.Standing.{history_bytes}
+use Rattle.store_switch.specs.LiveFile.{reads_of}
+use Rattle.store_switch.specs.StoreLoading.{StillRead, StillStands}
+use Rattle.session.specs.declared.end.End.{End}
+use Rattle.session.specs.declared.end.End.TheVariants.{Done as DoneEnd, Unfinished, ReadFault as ReadFaultEnd}
+use Rattle.session.specs.declared.end.End.TheVariants.{SiteFault as SiteFaultEnd, Limit as LimitEnd}
+use Rattle.session.specs.declared.end.End.TheVariants.{NoMemory as NoMemoryEnd}
+use Rattle.session.specs.Conversation.{Kept, room_at}
+use Rattle.session.specs.Conversing.{LeavesSession, EndsWith, Converses, HeldBytes}
+use Rattle.osmroad.specs.declared.status.Status.{Status}
+use Rattle.osmroad.specs.declared.status.Status.TheVariants.{Done, Usage, ReadFault, SiteFault, Refused, Limit}
+use Rattle.osmroad.specs.declared.status.Status.TheVariants.{NoMemory, OutOfSequence, NoStore, StoreExists, Damaged}
+use Rattle.osmroad.specs.Opening.{Files, IsStore, StoreRefusal}
+use Rattle.osmroad.specs.Stops.{CouldLeave, LeavesFirst}
+
+-- ---- statuses
+
+-- the status of a session that ended so; input that ends in a frame is refused
+abbrev pub end_status : End → Status
+end_status DoneEnd = Done
+end_status Unfinished = Refused
+end_status ReadFaultEnd = ReadFault
+end_status SiteFaultEnd = SiteFault
+end_status LimitEnd = Limit
+end_status NoMemoryEnd = NoMemory
+
+-- the statuses of a session whose store was loaded
+abbrev pub IsServed : Status → Type 0
+IsServed Done = Unit {0}
+IsServed ReadFault = Unit {0}
+IsServed SiteFault = Unit {0}
+IsServed Refused = Unit {0}
+IsServed Limit = Unit {0}
+IsServed NoMemory = Unit {0}
+IsServed status = ⊥
+
+-- the statuses where the store isn't loaded
+abbrev pub IsNotServed : Status → Type 0
+IsNotServed SiteFault = Unit {0}
+IsNotServed NoStore = Unit {0}
+IsNotServed Damaged = Unit {0}
+IsNotServed Limit = Unit {0}
+IsNotServed NoMemory = Unit {0}
+IsNotServed status = ⊥
+
+-- a fault has this status, which is answered exactly where one came
+pub record AnswersFaults (fault status : Status) (before now : ℕ) : Type 0 where
+  pub cause : status ≡ fault → Rose before now
+  pub each : before < now → status ≡ fault
+
+-- ---- over a store that was loaded
+
+-- a session ended, and this is the status that says how
+pub record Serves (P : Rules) (loaded : Loaded) (status : Status) (held remaining : Option (List ℕ))
+    (before now : Option Outside) : Type 0 where
+  pub end : End
+  pub is : status ≡ end_status end
+  pub converses : Converses P loaded end held remaining before now
+
+-- ---- over the two files
+
+-- what is kept when the session opens: the history of the files, and the room behind the next gate of the live one
+abbrev pub opening : {files : Files} → IsStore files → Kept
+opening s = record { history = s.history; room = room_at (length (history_bytes s.generation s.history)) }
+
+-- The line was put that says why the files aren't loaded: all of it, under its status; or a front of it, where the site
+-- failed.
+abbrev pub PutsLine : List ℕ → Status → Status → Outside → Outside → Type 0
+PutsLine line why status w v = ((status ≡ why) × (v.output ≡ w.output ++ line))
+    ⊎ ((status ≡ SiteFault) × (n : ℕ) × (v.output ≡ w.output ++ take n line))
+
+-- What was put, and for what the files then stand. Where they are a store, all is as the session says that opens with
+-- it. Where they aren't, nothing was read, and they read as before. Nothing was read or put where the store couldn't be
+-- loaded, for a fault of the site or for want of memory.
+pub data SessionPuts (read : List ℕ) (status : Status) (w v : Outside) : Type 0 where
+  OfStore : (s : IsStore (reads_of w)) → (end : End) → status ≡ end_status end
+      → EndsWith motorcar_rules (opening s) read end w v → SessionPuts read status w v
+  OfRefusal : read ≡ [] → (why : Status) (line : List ℕ) → StoreRefusal (reads_of w) why line
+      → PutsLine line why status w v → StillRead w v → SessionPuts read status w v
+  OfFault : read ≡ [] → status ≡ SiteFault → v.output ≡ w.output → StillRead w v ⊎ StillStands w v
+      → SessionPuts read status w v
+  OfMemory : read ≡ [] → status ≡ NoMemory → v.output ≡ w.output → StillRead w v → SessionPuts read status w v
+
+-- A stop leaves of a store what it could leave when the run began, with nothing put, or what it leaves in the session
+-- that opens with it. Other files are left as they could be when the run began.
+pub record LeavesServed (read : List ℕ) (w : Outside) (left : Left) : Type 0 where
+  pub stored : (s : IsStore (reads_of w))
+      → LeavesFirst w left s.history ⊎ LeavesSession motorcar_rules (opening s) read w left
+  pub otherwise : (IsStore (reads_of w) → ⊥) → CouldLeave w left
+
+-- what was put, and what a stop at any moment of the run leaves
+pub record SessionRuns (read : List ℕ) (status : Status) (w v : Outside) : Type 0 where
+  pub puts : SessionPuts read status w v
+  pub stops : LeavesOnly w v (LeavesServed read w)
+
+-- All was read where the session ended with its input, and nothing where there is no store or a damaged one.
+abbrev pub ReadsSession : Status → List ℕ → List ℕ → Type 0
+ReadsSession Done bytes read = read ≡ bytes
+ReadsSession Refused bytes read = read ≡ bytes
+ReadsSession NoStore bytes read = read ≡ []
+ReadsSession Damaged bytes read = read ≡ []
+ReadsSession status bytes read = Unit {0}
+
+-- How such a run ends: the bytes that the source held, those of them that were read, what was put, and what a stop
+-- leaves. Where the source tells nothing, these are some bytes that begin with those that were read.
+pub record EndsSession (status : Status) (held remaining : Option (List ℕ)) (before now : Option Outside) : Type 0
+  where
+    pub bytes : List ℕ
+    pub read : List ℕ
+    pub behind : List ℕ
+    pub all : bytes ≡ read ++ behind
+    pub holds : HeldBytes bytes behind held remaining
+    pub reads : ReadsSession status bytes read
+    pub runs : Told (SessionRuns read status) before now

@@ -1,0 +1,97 @@
+//! A session over the store on the site.
+ghost use Rattle.std.specs.Prelude.{◌≡◌, ◌⊎◌, ℕ, [], Option, Err, false, IfSome};
+ghost use Rattle.road_base.specs.History.{History};
+ghost use Rattle.access_profile.specs.Motorcar.{motorcar_rules};
+ghost use Rattle.road_io.specs.Told.{Told};
+ghost use Rattle.road_io.specs.Outside.{Outside};
+ghost use Rattle.sequence_journal.specs.declared.load.Loaded.{Loaded as LoadedStore};
+ghost use Rattle.sequence_journal.specs.Journal.{CountsFaults};
+ghost use Rattle.store_switch.specs.StoreLoading.{IsLoadError, LoadsStore};
+ghost use Rattle.session.specs.Conversing.{IsOpening};
+ghost use Rattle.osmroad.specs.Sessions.{end_status, IsServed, IsNotServed, AnswersFaults};
+ghost use Rattle.osmroad.specs.Sessions.{Serves, SessionRuns, EndsSession};
+
+use crate::laws::store_laws;
+use crate::reply::{put_last, refuse_store};
+use crate::status::Status;
+use access_profile::Motorcar;
+use road_base::Steps;
+use road_io::{Site, Source};
+use road_model::Profile;
+use sequence_journal::{JournalError, Loaded};
+use session::{End, converse};
+use std::alloc::Global;
+use std::sync::ledger::Ledger;
+use store_switch::load_store;
+
+fn status_of(end: End) -> Status
+    ensures { result ≡ end_status end }
+{
+    match end {
+        End::Done => Status::Done,
+        End::Unfinished => Status::Refused,
+        End::ReadFault => Status::ReadFault,
+        End::SiteFault => Status::SiteFault,
+        End::Limit => Status::Limit,
+        End::NoMemory => Status::NoMemory,
+    }
+}
+
+/// Answers the messages on the source until it ends, over the store that was loaded, and keeps each accepted change in
+/// it. Answers Done where all of them are answered, Refused where the source ends inside a frame, ReadFault and SiteFault
+/// where a read or a call on the site failed, Limit where a limit is passed, and NoMemory.
+pub fn serve<P: Profile, S: Source, W: Site, L: Ledger>(
+    alloc: Global,
+    profile: P,
+    loaded: Loaded,
+    source: &mut S,
+    site: &mut W,
+    steps: &mut Steps<L>,
+) -> Status
+    requires number { (P.rules profile).number ≡ 1 }
+    requires not_closed { loaded.journal.closed ≡ false }
+    requires opens { IfSome (W.outside site.old) (λ w. (h : History) × IsOpening loaded h w) }
+    ensures serves { Serves (P.rules profile) loaded result (S.bytes_left source.old) (S.bytes_left source.new)
+        (W.outside site.old) (W.outside site.new) }
+    ensures reads { AnswersFaults Status.ReadFault result (S.faults source.old) (S.faults source.new) }
+    ensures calls { AnswersFaults Status.SiteFault result (W.faults site.old) (W.faults site.new) }
+    ensures named { IsServed result }
+{
+    status_of(converse(alloc, profile, loaded, source, site, steps))
+}
+
+/// Says why the store isn't loaded.
+fn refuse<W: Site>(alloc: Global, site: &mut W, error: JournalError) -> Status
+    requires named { IsLoadError error }
+    ensures runs { (x : Option Outside) → Told (LoadsStore (Err error)) x (W.outside site.old)
+        → Told (SessionRuns [] result) x (W.outside site.new) }
+    ensures calls { (before : ℕ) → CountsFaults {T = LoadedStore} before (W.faults site.old) (Err error)
+        → AnswersFaults Status.SiteFault result before (W.faults site.new) }
+    ensures named { IsNotServed result }
+{
+    store_laws();
+    match refuse_store(alloc, error) {
+        Ok(reply) => put_last(site, &reply.out, reply.status),
+        Err(failure) => failure.status(),
+    }
+}
+
+/// Loads the store, and answers the messages on the source over it, for a motorcar.
+pub fn serve_store<S: Source, W: Site, L: Ledger>(
+    alloc: Global,
+    source: &mut S,
+    site: &mut W,
+    steps: &mut Steps<L>,
+) -> Status
+    ensures ends { EndsSession result (S.bytes_left source.old) (S.bytes_left source.new)
+        (W.outside site.old) (W.outside site.new) }
+    ensures reads { AnswersFaults Status.ReadFault result (S.faults source.old) (S.faults source.new) }
+    ensures calls { AnswersFaults Status.SiteFault result (W.faults site.old) (W.faults site.new) }
+    ensures named { IsServed result ⊎ IsNotServed result }
+{
+    store_laws();
+    match load_store(alloc, site) {
+        Ok(loaded) => serve(alloc, Motorcar, loaded, source, site, steps),
+        Err(error) => refuse(alloc, site, error),
+    }
+}

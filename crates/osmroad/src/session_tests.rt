@@ -1,0 +1,251 @@
+//! Sessions over stores in memory: what is replied, how they end, and what they leave.
+ghost use Rattle.std.specs.Prelude.{◌≡◌, ◌<◌};
+
+use crate::run::run;
+use crate::status::Status;
+use crate::store_tests::joined;
+use crate::tests::{NO_GRAPH, STREET_CUT, STREET_GRAPH, USAGE};
+use road_base::{NoMemory, Steps};
+use road_io::{MemorySite, MemorySource, Which};
+use std::alloc::Global;
+use std::marker::Brand;
+use std::process::Abort;
+use std::sync::ledger::{Blank, Ledger};
+use std::test::Fail;
+
+/// A session on a store that is made of an extract, and all that both runs put.
+#[derive(Clone, Copy)]
+struct Session<'a> {
+    number: &'a str,
+    extract: &'a [u8],
+    input: &'a [u8],
+    status: Status,
+    output: &'a [&'a [u8]],
+}
+
+/// The words run on this site, with this input.
+fn ended<L: Ledger>(
+    alloc: Global,
+    words: &[&str],
+    input: &[u8],
+    site: &mut MemorySite,
+    blank: Blank,
+) -> Result<Status, NoMemory>
+    requires name { blank.name ≡ L.name }
+    requires parts { blank.parts ≡ L.parts }
+    requires some { 0 < L.parts }
+{
+    let mut source = MemorySource::new(input.to_vec(alloc)?, Vec::new(alloc));
+    let mut steps = Steps::<L>::new(blank);
+    Ok(run(alloc, words, &mut source, site, &mut steps))
+}
+
+/// A site whose files are empty.
+fn empty_site(alloc: Global) -> MemorySite {
+    MemorySite::new(alloc, Vec::new(alloc), Vec::new(alloc), Vec::new(alloc))
+}
+
+const SESSION: &[&str] = &["town", "session"];
+
+/// Makes the store, runs the session on it, and compares what is put.
+fn check(rt: &impl Abort, alloc: Global, session: &Session) -> Result<(), NoMemory> {
+    let mut site = empty_site(alloc);
+    let create = ["town", "create", session.number];
+    let made = ended::<Brand>(alloc, &create, session.extract, &mut site, Blank::new(1))?;
+    assert_eq!(rt; made, Status::Done);
+    let status = ended::<Brand>(alloc, SESSION, session.input, &mut site, Blank::new(1))?;
+    assert_eq!(rt; status, session.status);
+    let output = joined(alloc, session.output)?;
+    assert_eq!(rt; site.output(), output.as_slice());
+    Ok(())
+}
+
+/// The graph follows the change that brings the street's middle node.
+const STREET_FOLLOWED: Session = Session {
+    number: "4",
+    extract: STREET_CUT,
+    input: b"graph\n#seq 5\nn2 v1 x0.001 y0\n#end\ngraph\nreach 1 9\n",
+    status: Status::Done,
+    output: &[
+        b"created 4\ngraph 20\n",
+        NO_GRAPH,
+        b"applied 5\ngraph 220\n",
+        STREET_GRAPH,
+        b"no-node 9\n",
+    ],
+};
+
+/// Two restrictions over several ways, of which the change deletes one.
+const FORK: Session = Session {
+    number: "6",
+    extract: b"n1 v1 x0.001 y0\nn2 v1 x0.002 y0\nn3 v1 x0.003 y0\nn4 v1 x0.004 y0\nn5 v1 x0.005 y0\n\
+        n6 v1 x0.006 y0\nw1 v1 Thighway=residential Nn1,n2\nw2 v1 Thighway=residential Nn2,n3\n\
+        w3 v1 Thighway=residential Nn3,n4\nw4 v1 Thighway=residential Nn4,n5\n\
+        w5 v1 Thighway=residential Nn4,n6\n\
+        r20 v1 Ttype=restriction,restriction=no_u_turn Mw1@from,w2@via,w3@via,w4@to\n\
+        r21 v1 Ttype=restriction,restriction=only_right_turn Mw2@from,w3@via,w5@to\n",
+    input: b"state\ndrive w1.0+ w2.0+ w3.0+ w4.0+\ndrive w2.0+ w3.0+ w4.0+\n\
+        #seq 7\nr21 v2 dD\n#end\nstate\ndrive w2.0+ w3.0+ w4.0+\n",
+    status: Status::Done,
+    output: &[
+        b"created 6\nstate sequence 6 ways 5 pieces 10 contexts 13 arcs 16\nbroken 4 no 20\n\
+        broken 3 only 21\napplied 7\nstate sequence 7 ways 5 pieces 10 contexts 12 arcs 15\nlegal\n",
+    ],
+};
+
+/// Frames under another number, with a fault, and without one.
+const REFUSED_FRAMES: Session = Session {
+    number: "12",
+    extract: b"",
+    input: b"#seq 14\nn1 v2 x0 y0\n#end\n#seq 13\nn1 v2 x0 y0\nq1 v1\nn2 v\n#end\nstate\n\
+        #seq 13\nn1 v2 x0 y0\n#end\n",
+    status: Status::Done,
+    output: &[
+        b"created 12\nrefused 14 sequence 12\nrefused 13 line 2 field 1 UnknownLine\n\
+        state sequence 12 ways 0 pieces 0 contexts 0 arcs 0\napplied 13\n",
+    ],
+};
+
+/// The input ends inside a frame.
+const UNFINISHED: Session = Session {
+    number: "5",
+    extract: b"",
+    input: b"state\n#seq 6\nn1 v1",
+    status: Status::Refused,
+    output: &[
+        b"created 5\nstate sequence 5 ways 0 pieces 0 contexts 0 arcs 0\nrefused unfinished 6\n",
+    ],
+};
+
+/// A village, with what an ordinary extract holds.
+const VILLAGE: &[u8] = b"\
+    n101 v3 dV c1001 t2020-05-01T10:00:00Z i7 uanna T x8.5 y50.1\n\
+    n102 v1 dV c1001 t2020-05-01T10:00:00Z i7 uanna T x8.501 y50.1\n\
+    n103 v2 dV c1002 t2020-05-02T10:00:00Z i8 ubert Thighway=crossing x8.502 y50.1\n\
+    n104 v1 dV c1001 t2020-05-01T10:00:00Z i7 uanna T x8.502 y50.101\n\
+    n105 v1 dV c1001 t2020-05-01T10:00:00Z i7 uanna T x8.503 y50.1\n\
+    n106 v1 dV c1003 t2020-05-03T10:00:00Z i7 uanna T x8.5005 y50.1005\n\
+    n107 v1 dV c1003 t2020-05-03T10:00:00Z i7 uanna T x8.5006 y50.1005\n\
+    n108 v1 dV c1003 t2020-05-03T10:00:00Z i7 uanna T x8.5006 y50.1006\n\
+    w201 v4 dV c1002 t2020-05-02T10:00:00Z i8 ubert Thighway=residential,name=Hauptstra\xc3\x9fe \
+    Nn101x8.5y50.1,n102x8.501y50.1,n103x8.502y50.1\n\
+    w202 v1 dV c1002 t2020-05-02T10:00:00Z i8 ubert \
+    Thighway=service,access:conditional=no%20%%40%%20%(22:00-06:00) Nn103x8.502y50.1,n104x8.502y50.101\n\
+    w203 v1 dV c1002 t2020-05-02T10:00:00Z i8 ubert Thighway=residential Nn103x8.502y50.1,n105x8.503y50.1\n\
+    w204 v1 dV c1003 t2020-05-03T10:00:00Z i7 uanna Tbuilding=yes \
+    Nn106x8.5005y50.1005,n107x8.5006y50.1005,n108x8.5006y50.1006,n106x8.5005y50.1005\n\
+    r301 v1 dV c1003 t2020-05-03T10:00:00Z i7 uanna Ttype=multipolygon,building=yes Mw204@outer\n\
+    r302 v1 dV c1004 t2020-05-04T10:00:00Z i8 ubert Ttype=route,route=bus Mw201@,w203@\n\
+    r303 v1 dV c1004 t2020-05-04T10:00:00Z i8 ubert Ttype=restriction,restriction=no_right_turn \
+    Mw201@from,n103@via,w202@to\n";
+
+/// The first change takes the way on which one turned, and the second one the restriction.
+const VILLAGE_FOLLOWED: Session = Session {
+    number: "5000",
+    extract: VILLAGE,
+    input: b"state\ndrive w201.0+ w201.1+ w202.0+\nreach 101 104\n\
+        #seq 5001\nn105 v2 dD c1005 t i0 u T x y\nw203 v2 dD c1005 t i0 u T N\n#end\n\
+        reach 101 104\nstate\n#seq 5002\nr303 v2 dD c1006 t i0 u T M\n#end\nreach 101 104\nstate\n",
+    status: Status::Done,
+    output: &[
+        b"created 5000\nstate sequence 5000 ways 3 pieces 6 contexts 6 arcs 8\nbroken 3 no 303\n\
+        drive w201.0+ w201.1+ w203.0+ w203.0- w202.0+\napplied 5001\nnone\n\
+        state sequence 5001 ways 2 pieces 4 contexts 4 arcs 3\napplied 5002\n\
+        drive w201.0+ w201.1+ w202.0+\nstate sequence 5002 ways 2 pieces 4 contexts 4 arcs 4\n",
+    ],
+};
+
+/// The first rule that a drive breaks.
+const VILLAGE_DRIVES: Session = Session {
+    number: "5000",
+    extract: VILLAGE,
+    input: b"drive w201.5+\ndrive w999.0+\ndrive w204.0+\ndrive w201.0+ w203.0+\ndrive w201.0+ w201.0-\n\
+        drive w203.0+ w203.0-\ndrive w201.1+ w202.0+\ndrive w202.0- w201.1- w201.0-\n",
+    status: Status::Done,
+    output: &[
+        b"created 5000\nbroken 1 no-step\nbroken 1 no-step\nbroken 1 closed highway\nbroken 2 apart\n\
+        broken 2 reversal 102\nlegal\nbroken 2 no 303\nlegal\n",
+    ],
+};
+
+#[test]
+fn sessions_answer(rt: HostRuntime) -> Result<(), Fail> {
+    let sessions = [
+        STREET_FOLLOWED,
+        FORK,
+        REFUSED_FRAMES,
+        UNFINISHED,
+        VILLAGE_FOLLOWED,
+        VILLAGE_DRIVES,
+    ];
+    for session in sessions {
+        check(&rt, rt.alloc(), &session)?;
+    }
+    Ok(())
+}
+
+/// A line of so many bytes, and what ends it.
+fn long_line(alloc: Global, bytes: usize, end: &[u8]) -> Result<Vec<u8>, NoMemory> {
+    let mut text = vec![in alloc; b'a'; bytes]?;
+    text.extend_from_slice(end)?;
+    Ok(text)
+}
+
+#[test]
+fn lines_of_a_session_have_a_limit(rt: HostRuntime) -> Result<(), Fail> {
+    let most = 1usize << 24;
+    let cases: [(usize, &[u8], Status, &[u8]); 2] = [
+        (most, b"\n", Status::Done, b"unknown\n"),
+        (most + 1, b"", Status::Limit, b"limit\n"),
+    ];
+    for (bytes, end, status, reply) in cases {
+        let input = long_line(rt.alloc(), bytes, end)?;
+        let session = Session {
+            number: "1",
+            extract: b"",
+            input: &input,
+            status,
+            output: &[b"created 1\n", reply],
+        };
+        check(&rt, rt.alloc(), &session)?;
+    }
+    Ok(())
+}
+
+#[test]
+fn a_session_needs_a_store(rt: HostRuntime) -> Result<(), Fail> {
+    let cases: [(&str, Status, &[u8]); 2] = [
+        ("town", Status::NoStore, b"no store\n"),
+        ("-x", Status::Usage, USAGE),
+    ];
+    for (store, status, output) in cases {
+        let mut site = empty_site(rt.alloc());
+        let words = [store, "session"];
+        let ended = ended::<Brand>(rt.alloc(), &words, b"state\n", &mut site, Blank::new(1))?;
+        assert_eq!(rt; ended, status);
+        assert_eq!(rt; site.output(), output);
+    }
+    Ok(())
+}
+
+/// What a change of the street leaves in file A: `apply` of it, or a session with it.
+fn changed(alloc: Global, words: &[&str], input: &[u8]) -> Result<Vec<u8>, NoMemory> {
+    let mut site = empty_site(alloc);
+    ended::<Brand>(
+        alloc,
+        &["town", "create", "4"],
+        STREET_CUT,
+        &mut site,
+        Blank::new(1),
+    )?;
+    ended::<Brand>(alloc, words, input, &mut site, Blank::new(1))?;
+    Ok(site.file(Which::A).to_vec(alloc)?)
+}
+
+#[test]
+fn a_session_keeps_what_apply_keeps(rt: HostRuntime) -> Result<(), Fail> {
+    let applied = changed(rt.alloc(), &["town", "apply", "5"], b"n2 v1 x0.001 y0\n")?;
+    let kept = changed(rt.alloc(), SESSION, b"#seq 5\nn2 v1 x0.001 y0\n#end\n")?;
+    assert_eq!(rt; kept.as_slice(), applied.as_slice());
+    Ok(())
+}
