@@ -1,18 +1,18 @@
 -- A session whose store isn't loaded: what is put, how the run ends, and what a stop leaves.
-use Rattle.std.proofs.Common.{◌≡◌, ◌⊎◌, inl, inr, ⊎_elim, ℕ, ◌<◌, ◌≤◌, ◌^◌, List, [], ◌++◌, length, take, Option, None, Some}
+use Rattle.std.proofs.Common.{◌≡◌, inl, inr, ℕ, ◌<◌, List, [], ◌++◌, take, Option, None, Some}
 use Rattle.std.proofs.Common.{Result, Ok, Err, refl, sym, ◌∙◌, ap, subst, arith}
 use Rattle.road_io.specs.Told.{Told, Rose}
-use Rattle.road_io.specs.Outside.{Outside, Left, IsLeft, LeavesOnly, present, extended}
+use Rattle.road_io.specs.Outside.{Outside, LeavesOnly}
 use Rattle.road_io.proofs.ToldCalls.{told_then, told_weaker}
-use Rattle.road_io.proofs.CallRuns.{only_weaker, put_goes_on}
+use Rattle.road_io.proofs.CallRuns.{put_goes_on}
 use Rattle.sequence_journal.specs.declared.error.JournalError.{JournalError}
-use Rattle.sequence_journal.specs.declared.error.JournalError.TheVariants.{OutOfSequence, Damaged, StoreExists, TooLarge}
+use Rattle.sequence_journal.specs.declared.error.JournalError.TheVariants.{OutOfSequence, Damaged, StoreExists}
+use Rattle.sequence_journal.specs.declared.error.JournalError.TheVariants.{TooLarge}
 use Rattle.sequence_journal.specs.declared.error.JournalError.TheVariants.{SiteFault as SiteFaultError}
 use Rattle.sequence_journal.specs.declared.error.JournalError.TheVariants.{NoStore as NoStoreError}
 use Rattle.sequence_journal.specs.declared.error.JournalError.TheVariants.{NoMemory as NoMemoryError}
 use Rattle.sequence_journal.specs.declared.load.Loaded.{Loaded}
 use Rattle.sequence_journal.specs.Journal.{CountsFaults}
-use Rattle.store_switch.specs.LiveFile.{reads_of}
 use Rattle.store_switch.specs.StoreLoading.{StillRead, LoadsStore, IsLoadError}
 use Rattle.osmroad.specs.declared.reply.Reply.{Reply}
 use Rattle.osmroad.specs.declared.reply.Failure.{Failure}
@@ -23,7 +23,7 @@ use Rattle.osmroad.specs.declared.status.Status.TheVariants.{Done, Usage, ReadFa
 use Rattle.osmroad.specs.declared.status.Status.TheVariants.{NoMemory, NoStore, StoreExists as StoreExistsStatus}
 use Rattle.osmroad.specs.declared.status.Status.TheVariants.{Damaged as DamagedStatus, OutOfSequence as SequenceStatus}
 use Rattle.osmroad.specs.Texts.{no_store_line, damaged_line, limit_line}
-use Rattle.osmroad.specs.Run.{Grows, GrowsInto, EndsPut, PutsSome}
+use Rattle.osmroad.specs.Run.{EndsPut, PutsSome}
 use Rattle.osmroad.specs.Replies.{Says, RefusesStore, CountsCalls, failure_status}
 use Rattle.osmroad.specs.StoreLaws.{StoreLaws}
 use Rattle.osmroad.specs.Sessions.{IsNotServed, AnswersFaults, PutsLine, OfRefusal, OfFault, OfMemory, LeavesServed}
@@ -72,7 +72,8 @@ module _ (laws : StoreLaws) where
     line_stops : PutsSome line u v → LeavesOnly w v (LeavesServed [] w)
     line_stops (inl same) = subst (λ (x : Outside). LeavesOnly w x (LeavesServed [] w)) (sym same)
         (load_leaves laws [] w u n.only)
-    line_stops (inr put) = put_goes_on w u v (LeavesServed [] w) (take put.0 line) (load_leaves laws [] w u n.only) put.1
+    line_stops (inr put) =
+        put_goes_on w u v (LeavesServed [] w) (take put.0 line) (load_leaves laws [] w u n.only) put.1
         (λ left a b front. record {
           stored = λ s. absurd (n.never s.history (s.live, s.generation, s.stands, s.small));
           otherwise = λ never. could_leave w u why line n left a b;
@@ -91,7 +92,8 @@ module _ (laws : StoreLaws) where
   put_line : (line : List ℕ) (why status : Status) (y z : Option Outside) (before now : ℕ)
       → EndsPut line why status y z before now → Told (PutsLine line why status) y z
   put_line line why status y z before now (inl p) =
-      told_weaker y z (λ u v. v.output ≡ u.output ++ line) (PutsLine line why status) p.1 (λ u v grows. inl (p.0, grows))
+      told_weaker y z (λ u v. v.output ≡ u.output ++ line) (PutsLine line why status) p.1
+      (λ u v grows. inl (p.0, grows))
   put_line line why status y z before now (inr p) =
       told_weaker y z (λ u v. (n : ℕ) × (v.output ≡ u.output ++ take n line)) (PutsLine line why status) p.1
       (λ u v grows. inr (p.0, grows.0, grows.1))

@@ -1,6 +1,6 @@
 -- A session over the two files: how it ends, and what a stop leaves.
-use Rattle.std.proofs.Common.{◌≡◌, ◌⊎◌, inl, inr, ℕ, ◌<◌, List, [], ◌++◌, length, take, Option, IfSome}
-use Rattle.std.proofs.Common.{Result, Ok, Err, refl, sym, ◌∙◌, ap, subst, arith}
+use Rattle.std.proofs.Common.{◌≡◌, ◌⊎◌, inl, inr, ℕ, List, [], ◌++◌, length, take, Option, IfSome}
+use Rattle.std.proofs.Common.{Ok, refl, sym, ◌∙◌, ap, subst}
 use Rattle.std.proofs.lemmas.List.{append-nil}
 use Rattle.std.specs.Io.{StartsWith}
 use Rattle.road_base.specs.History.{History}
@@ -10,7 +10,6 @@ use Rattle.road_io.specs.Told.{Told}
 use Rattle.road_io.specs.Outside.{Outside, Left, IsLeft, LeavesOnly, present}
 use Rattle.road_io.proofs.ToldCalls.{told_then, told_gives}
 use Rattle.road_io.proofs.CallRuns.{then_runs, only_weaker}
-use Rattle.sequence_journal.specs.declared.error.JournalError.{JournalError}
 use Rattle.sequence_journal.specs.declared.load.Loaded.{Loaded}
 use Rattle.sequence_journal.specs.Standing.{history_bytes}
 use Rattle.store_switch.specs.LiveFile.{reads_of}

@@ -16,8 +16,8 @@ use Rattle.session.specs.declared.end.End.TheVariants.{NoMemory as NoMemoryEnd}
 use Rattle.session.specs.Conversation.{Kept, room_at}
 use Rattle.session.specs.Conversing.{LeavesSession, EndsWith, Converses, HeldBytes}
 use Rattle.osmroad.specs.declared.status.Status.{Status}
-use Rattle.osmroad.specs.declared.status.Status.TheVariants.{Done, Usage, ReadFault, SiteFault, Refused, Limit}
-use Rattle.osmroad.specs.declared.status.Status.TheVariants.{NoMemory, OutOfSequence, NoStore, StoreExists, Damaged}
+use Rattle.osmroad.specs.declared.status.Status.TheVariants.{Done, ReadFault, SiteFault, Refused, Limit}
+use Rattle.osmroad.specs.declared.status.Status.TheVariants.{NoMemory, NoStore, Damaged}
 use Rattle.osmroad.specs.Opening.{Files, IsStore, StoreRefusal}
 use Rattle.osmroad.specs.Stops.{CouldLeave, LeavesFirst}
 

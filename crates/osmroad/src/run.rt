@@ -97,8 +97,8 @@ fn run_command<S: Source, W: Site, L: Ledger>(
 /// its ten changes. A STORE is the site's two files: `create N` makes one of the extract, `apply N` adds the change on
 /// the source, `graph` puts the graph's bytes of all that it holds, `audit` what becomes of its restrictions,
 /// `checkpoint` writes all that it holds into its other file and goes on there, and `session` answers the messages on
-/// the source in turn. `steps` rises by one for each block that is built; for a command that is one for each visible way
-/// with the key `highway`. Other words are answered by the usage line.
+/// the source in turn. `steps` rises by one for each block that is built; for a command that is one for each visible
+/// way with the key `highway`. Other words are answered by the usage line.
 pub fn run<S: Source, W: Site, L: Ledger>(
     alloc: Global,
     words: &[&str],

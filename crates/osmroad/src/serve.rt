@@ -38,8 +38,8 @@ fn status_of(end: End) -> Status
 }
 
 /// Answers the messages on the source until it ends, over the store that was loaded, and keeps each accepted change in
-/// it. Answers Done where all of them are answered, Refused where the source ends inside a frame, ReadFault and SiteFault
-/// where a read or a call on the site failed, Limit where a limit is passed, and NoMemory.
+/// it. Answers Done where all of them are answered, Refused where the source ends inside a frame, ReadFault and
+/// SiteFault where a read or a call on the site failed, Limit where a limit is passed, and NoMemory.
 pub fn serve<P: Profile, S: Source, W: Site, L: Ledger>(
     alloc: Global,
     profile: P,

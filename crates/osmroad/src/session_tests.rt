@@ -40,6 +40,16 @@ fn ended<L: Ledger>(
     Ok(run(alloc, words, &mut source, site, &mut steps))
 }
 
+/// The same, with a ledger of its own.
+fn run_on(
+    alloc: Global,
+    words: &[&str],
+    input: &[u8],
+    site: &mut MemorySite,
+) -> Result<Status, NoMemory> {
+    ended::<Brand>(alloc, words, input, site, Blank::new(1))
+}
+
 /// A site whose files are empty.
 fn empty_site(alloc: Global) -> MemorySite {
     MemorySite::new(alloc, Vec::new(alloc), Vec::new(alloc), Vec::new(alloc))
@@ -51,9 +61,9 @@ const SESSION: &[&str] = &["town", "session"];
 fn check(rt: &impl Abort, alloc: Global, session: &Session) -> Result<(), NoMemory> {
     let mut site = empty_site(alloc);
     let create = ["town", "create", session.number];
-    let made = ended::<Brand>(alloc, &create, session.extract, &mut site, Blank::new(1))?;
+    let made = run_on(alloc, &create, session.extract, &mut site)?;
     assert_eq!(rt; made, Status::Done);
-    let status = ended::<Brand>(alloc, SESSION, session.input, &mut site, Blank::new(1))?;
+    let status = run_on(alloc, SESSION, session.input, &mut site)?;
     assert_eq!(rt; status, session.status);
     let output = joined(alloc, session.output)?;
     assert_eq!(rt; site.output(), output.as_slice());
@@ -221,7 +231,7 @@ fn a_session_needs_a_store(rt: HostRuntime) -> Result<(), Fail> {
     for (store, status, output) in cases {
         let mut site = empty_site(rt.alloc());
         let words = [store, "session"];
-        let ended = ended::<Brand>(rt.alloc(), &words, b"state\n", &mut site, Blank::new(1))?;
+        let ended = run_on(rt.alloc(), &words, b"state\n", &mut site)?;
         assert_eq!(rt; ended, status);
         assert_eq!(rt; site.output(), output);
     }
@@ -231,14 +241,8 @@ fn a_session_needs_a_store(rt: HostRuntime) -> Result<(), Fail> {
 /// What a change of the street leaves in file A: `apply` of it, or a session with it.
 fn changed(alloc: Global, words: &[&str], input: &[u8]) -> Result<Vec<u8>, NoMemory> {
     let mut site = empty_site(alloc);
-    ended::<Brand>(
-        alloc,
-        &["town", "create", "4"],
-        STREET_CUT,
-        &mut site,
-        Blank::new(1),
-    )?;
-    ended::<Brand>(alloc, words, input, &mut site, Blank::new(1))?;
+    run_on(alloc, &["town", "create", "4"], STREET_CUT, &mut site)?;
+    run_on(alloc, words, input, &mut site)?;
     Ok(site.file(Which::A).to_vec(alloc)?)
 }
 

@@ -1,4 +1,4 @@
-use Rattle.std.proofs.Common.{◌≡◌, List, ℕ, [], Option, None, Some, refl, sym, ap, ◌∙◌, subst}
+use Rattle.std.proofs.Common.{[], Option, None, Some, refl, sym, ap, ◌∙◌, subst}
 use Rattle.osmroad.specs.declared.command.Request.{Request}
 use Rattle.osmroad.specs.declared.status.Status.TheVariants.{Usage}
 use Rattle.osmroad.specs.Texts.{usage_line}
