@@ -2,6 +2,7 @@
 """Asks a session on a store of a town, and prints how long each kind of message takes by the clock, from the first byte
 sent to the last byte of its reply. Use: ask_town.py PROGRAM STORE TOWN.opl CHANGES.opl; bench/session_town.sh calls it.
 """
+import math
 import random
 import re
 import subprocess
@@ -21,10 +22,12 @@ def ask(message):
     return reply, 1000 * (time.perf_counter() - start)
 
 
+def middle(found):
+    return sorted(found)[len(found) // 2]
+
+
 def tell(name, times):
-    times = sorted(times)
-    middle = times[len(times) // 2]
-    print(f'  {name:44} {len(times):5} times  middle {middle:9.2f} ms  longest {times[-1]:9.2f} ms')
+    print(f'  {name:44} {len(times):5} times  middle {middle(times):9.2f} ms  longest {max(times):9.2f} ms')
 
 
 def nodes_of(path):
@@ -50,10 +53,6 @@ def ends_of_ways(path):
     return sorted(set(ends))
 
 
-def median_detour(found):
-    return sorted(found)[len(found) // 2] if found else 0
-
-
 opened = ask('state\n')
 print(f'  {opened[0].strip()}, {opened[1]:.0f} ms by the clock')
 draws = random.Random(1)
@@ -71,12 +70,12 @@ for _ in range(100):
         apart.append(took)
 for _ in range(100):
     a = draws.choice(ends)
-    b = min((draws.choice(ends) for _ in range(4000)), key=lambda n: sum((p - q) ** 2 for p, q in zip(places[n], places[a])))
+    b = min((draws.choice(ends) for _ in range(4000)), key=lambda n: math.dist(places[n], places[a]))
     near.append(ask(f'reach {a} {b}\n')[1])
 tell('reach across the town, found', far)
 tell('reach across the town, none', apart or [0])
 tell('reach nearby', near)
-print(f'  steps of drives across the town: middle {median_detour(steps_far)}, longest {max(steps_far)}')
+print(f'  steps of drives across the town: middle {middle(steps_far)}, longest {max(steps_far)}')
 
 # a legal drive of 100,000 steps, put together of drives from node to node
 drive, here = [], draws.choice(low)

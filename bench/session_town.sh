@@ -1,9 +1,9 @@
 #!/usr/bin/env bash
-# Measures a session on a store of a town as osmium would write it: opening it, up to its first reply, beside `osmium cat`
-# on the town in the same run, on one core, the best of five by processor time, with the peak memory in kilobytes. Then,
-# by the clock, what a message takes: drives across the town and within it, a node that can't be reached, a drive of
-# 100,000 steps, and a frame of 20 events. Wants python3, GNU time, osmium-tool, taskset, a second core, and the program as
-# `rt run` builds it. Its arguments are the first two of gen_town.py, 400 and 4 where left out.
+# Measures a session on a store of a town as osmium would write it: opening it, up to its first reply, beside
+# `osmium cat` on the town in the same run, on one core, the best of five by processor time, with the peak memory in
+# kilobytes. Then, by the clock, what a message takes: drives across the town and within it, a node that can't be
+# reached, a drive of 100,000 steps, and a frame of 20 events. Wants python3, GNU time, osmium-tool, taskset, a second
+# core, and the program as `rt run` builds it. Its arguments are the first two of gen_town.py, 400 and 4 where left out.
 set -eu
 . "$(dirname "$0")/program.sh"
 

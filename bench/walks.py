@@ -71,10 +71,12 @@ def main():
                 if (reply == b'legal\n') != leads:
                     wrong += 1
                     if wrong <= 5:
-                        print(f'{graph_py.spelled(*walk)}: {reply!r}, and an arc {"leads" if leads else "does not lead"} there')
+                        told = 'an arc leads' if leads else 'no arc leads'
+                        print(f'{graph_py.spelled(*walk)}: {reply!r}, and {told} there')
             sender.join()
         legal = sum(leads for _, leads in tried)
-        print(f'{len(tried)} walks of up to {pieces_in_walk} pieces: {legal} along arcs, {len(tried) - legal} not; {wrong} judged otherwise')
+        print(f'{len(tried)} walks of up to {pieces_in_walk} pieces: {legal} along arcs, {len(tried) - legal} not')
+        print(f'{wrong} judged otherwise')
         return 1 if wrong else 0
 
 

@@ -13,7 +13,8 @@
 //! grows with the square of their number. `create` costs its input, and holds what it writes once; `apply` costs the
 //! live file and its input, and so do `graph` and `audit`, with the graph, or the words of each restriction.
 //! `checkpoint` costs the live file and what it writes, and holds the objects, a copy of them, and their bytes.
-//! `inspect` costs its input, and holds it and the graph; `sample` costs eleven graphs of 7,080 ways, one after another.
+//! `inspect` costs its input, and holds it and the graph; `sample` costs eleven graphs of 7,080 ways, one after
+//! another.
 #![tactic(auto)]
 
 ghost use Rattle.std.specs.Prelude.{◌≡◌, ◌<◌};
@@ -87,8 +88,8 @@ fn start<L: Ledger>(rt: &HostRuntime, words: &[String], blank: Blank) -> Result<
     for word in words {
         texts.push(word.as_str())?;
     }
-    // Where a standard stream is closed, the next file that is opened takes its number. It is to be none of the store's:
-    // a folder can be neither read nor written, so that reading and putting fail as they have to.
+    // Where a standard stream is closed, the next file that is opened takes its number. It is to be none of the
+    // store's: a folder can be neither read nor written, so that reading and putting fail as they have to.
     let taken = [folder(rt), folder(rt), folder(rt)];
     let mut source = RealSource::new(rt.stdin());
     let name_a = file_name(alloc, words, ".a")?;

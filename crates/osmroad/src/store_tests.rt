@@ -437,7 +437,8 @@ fn a_change_is_written_behind_its_gate(rt: HostRuntime) -> Result<(), Fail> {
     Ok(())
 }
 
-/// What stops in `apply 6` leave behind `SPELLED`, the number that the store then keeps, and the file once it is loaded.
+/// What stops in `apply 6` leave behind `SPELLED`, the number that the store then keeps, and the file once it is
+/// loaded.
 type Stop = (
     &'static [&'static [u8]],
     &'static [u8],

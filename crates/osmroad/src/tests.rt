@@ -73,7 +73,8 @@ pub const STREET_GRAPH: &[u8] = b"\
     \x01\x00\x00\x00\x00\x00\x00\x00\x01\x00\x00\x00\x01\x00\x00\x00\x00\x00\x00\x00\
     \x0a\x00\x00\x00\x00\x00\x00\x00\x00\x00\x00\x00\x00\x01\x00\x00\x00";
 
-/// The same in parts: the header and the head of way 10; its piece along it; and that against it, but for its last byte.
+/// The same in parts: the header and the head of way 10; its piece along it; and that against it, but for its last
+/// byte.
 const STREET_HEAD: &[u8] = b"OSMROAD1\x01\0\0\0\x01\0\0\0\0\0\0\0\x0a\0\0\0\0\0\0\0\x02\0\0\0";
 
 const STREET_ALONG: &[u8] = b"\0\0\0\0\x02\0\0\0\0\

@@ -52,7 +52,8 @@ returns-in_err-line-clause-calls g c =
 
 pub checkpoint-requires : goal.checkpoint-requires
 checkpoint-requires g c = λ alive. told_gives (g.W.Site.outside c.args.site.now)
-    (g.W.Site.outside c.load_store.new.site) (LoadsStore (Ok c.in-Ok.loaded)) (IsOnSome c.in-Ok.loaded.journal) c.in-Ok.ensures.told
+    (g.W.Site.outside c.load_store.new.site) (LoadsStore (Ok c.in-Ok.loaded))
+    (IsOnSome c.in-Ok.loaded.journal) c.in-Ok.ensures.told
     (λ w v k. (k.answer.history, k.answer.ready))
 
 pub returns-in-Ok-checkpoint-clause-prepares : goal.returns-in-Ok-checkpoint-clause-prepares
@@ -65,7 +66,8 @@ returns-in-Ok-checkpoint-clause-prepares g c = λ held.
     let is = c.in_ok-objects.ensures in
     let are = sym c.items.ensures.entries in
     let u = c.in-Ok-checkpoint.field-0 in
-    checkpoint_written laws.store c.in-Ok.loaded c.in_ok-objects.objects is events are laws.checkpoint c.checkpoint.new.journal _ _
+    checkpoint_written laws.store c.in-Ok.loaded c.in_ok-objects.objects is events are laws.checkpoint
+    c.checkpoint.new.journal _ _
     (behind_of held) before now held refl u c.new.result (
       c.new.ensures.0,
       c.new.ensures.1 ∙ c.in_ok-line.ensures
@@ -92,8 +94,10 @@ returns-clause-prepares g c = λ held.
     let are = sym c.items.ensures.entries in
     let failed = c.in-Err-checkpoint in
     let refused = c.refuse_store-in-Err-checkpoint in
-    checkpoint_not_written laws.store c.in-Ok.loaded c.in_ok-objects.objects is events are laws.checkpoint c.checkpoint.new.journal
-    _ _ (behind_of held) before now held refl failed.error refused.result c.in-Ok.ensures.not_closed failed.ensures.answer
+    checkpoint_not_written laws.store c.in-Ok.loaded c.in_ok-objects.objects is events are laws.checkpoint
+    c.checkpoint.new.journal
+    _ _ (behind_of held) before now held refl failed.error refused.result c.in-Ok.ensures.not_closed
+    failed.ensures.answer
     refused.ensures
     (told_rebases c.in-Ok.loaded c.checkpoint.new.journal events (Err failed.error) before loaded now
     c.in-Ok.ensures.told failed.ensures.told)
