@@ -77,19 +77,15 @@ tell('reach across the town, none', apart or [0])
 tell('reach nearby', near)
 print(f'  steps of drives across the town: middle {middle(steps_far)}, longest {max(steps_far)}')
 
-# a legal drive of 100,000 steps, put together of drives from node to node
-drive, here = [], draws.choice(low)
-while len(drive) < 100000:
-    there = draws.choice(ends)
-    reply, _ = ask(f'reach {here} {there}\n')
-    if not reply.startswith('drive'):
-        here = here if drive else draws.choice(low)
-        continue
-    more = reply.split()[1:]
-    verdict, took = ask('drive ' + ' '.join((drive[-1:] + more)) + '\n')
-    if verdict == 'legal\n':
-        drive, here = drive + more, there
-drive = drive[:100000]
+# a legal drive of 100,000 steps, there and back between two nodes
+drive = []
+while not drive:
+    here, there = draws.choice(low), draws.choice(low)
+    out, back = (ask(f'reach {a} {b}\n')[0] for a, b in ((here, there), (there, here)))
+    if out.startswith('drive') and back.startswith('drive') and here != there:
+        once = out.split()[1:] + back.split()[1:]
+        if ask('drive ' + ' '.join(once * 2) + '\n')[0] == 'legal\n':
+            drive = (once * (100000 // len(once) + 1))[:100000]
 verdict, took = ask('drive ' + ' '.join(drive) + '\n')
 print(f'  drive of {len(drive)} steps: {verdict.strip()}')
 tell('drive of 100,000 steps', [ask('drive ' + ' '.join(drive) + '\n')[1] for _ in range(5)])

@@ -1,8 +1,8 @@
 #!/usr/bin/env bash
-# Ends `create` and `apply` by SIGKILL at random moments, until so many were (300 where left out), and looks at the
-# store after each run: it loads, or there is none yet; it keeps the last number whose `applied` was put, or the next
-# one; and its graph is that which `- compile` makes of the changes up to that number. Wants the program as `rt run`
-# builds it.
+# Ends `create`, `apply` and `checkpoint` by SIGKILL at random moments, until so many were (300 where left out), and
+# looks at the store after each run: it loads, or there is none yet; it keeps the last number whose `applied` was put,
+# or the next one; and its graph is that which `- compile` makes of the changes up to that number. Wants the program as
+# `rt run` builds it.
 set -u
 . "$(dirname "$0")/program.sh"
 times=${1:-300}
@@ -11,6 +11,7 @@ store="$room/store"
 kept=
 failed=0
 ended=0
+checkpoints=0
 
 fail() {
     echo "FAILED: $1"
@@ -22,7 +23,8 @@ stopped() {
     "$@" &
     local process=$!
     sleep "0.$(printf '%03d' $((RANDOM % 25)))"
-    kill -9 "$process" 2>/dev/null && ended=$((ended + 1))
+    stopped=0
+    kill -9 "$process" 2>/dev/null && stopped=1 && ended=$((ended + 1))
     wait "$process" 2>/dev/null
 }
 
@@ -43,6 +45,10 @@ for ((n = 1; ended < times; n++)); do
         cp "$room/town.opl" "$room/all.opl"
         stopped sh -c "exec '$program' '$store' create 1 <'$room/town.opl' >'$room/said'" 2>/dev/null
         wanted=1
+    elif [ $((RANDOM % 2)) -eq 0 ]; then
+        stopped sh -c "exec '$program' '$store' checkpoint >'$room/said'" 2>/dev/null
+        [ "$stopped" -eq 1 ] && checkpoints=$((checkpoints + 1))
+        wanted=$kept
     else
         wanted=$((kept + 1))
         sed "s/ v[0-9]* / v$((wanted + 99)) /" "$room/change.opl" >"$room/next.opl"
@@ -56,7 +62,7 @@ for ((n = 1; ended < times; n++)); do
     if [ -s "$room/said" ] && [ "$now" != "$wanted" ]; then
         fail "$(cat "$room/said") was put, and ${now:-nothing} is kept"
     fi
-    if [ "$now" = "$wanted" ] && [ "$wanted" -gt 1 ]; then
+    if [ "$now" = "$wanted" ] && [ "$now" != "$kept" ] && [ "$wanted" -gt 1 ]; then
         cat "$room/next.opl" >>"$room/all.opl"
     fi
     kept=$now
@@ -70,5 +76,5 @@ for ((n = 1; ended < times; n++)); do
     fi
 done
 [ "$failed" -eq 0 ] && stands='each store stands' || stands='FAILED'
-echo "$((n - 1)) runs, $ended of them ended by SIGKILL: $stands"
+echo "$((n - 1)) runs, $ended of them ended by SIGKILL, $checkpoints in a checkpoint: $stands"
 exit "$failed"
