@@ -26,3 +26,4 @@ pub mod SearchTogether
 pub mod SearchDriven
 pub mod SearchSeen
 pub mod DriveLines
+pub mod NodesLeft

@@ -13,4 +13,5 @@ pub mod Routes
 pub mod Sought
 pub mod Ends
 pub mod DriveLines
+pub mod DeadEnds
 pub mod WordTables

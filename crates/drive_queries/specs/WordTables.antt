@@ -7,9 +7,12 @@ use Rattle.drive_queries.specs.declared.word_table.WordTable.{WordTable}
 use Rattle.drive_queries.specs.Tables.{AreDriveWords}
 use Rattle.drive_queries.specs.Gathering.{AreInWordOrder}
 use Rattle.drive_queries.specs.DriveLines.{AreLinesOn}
+use Rattle.drive_queries.specs.DeadEnds.{AreLeaving}
 
--- the table has exactly the words whose first step is in the drive, sorted by their steps, and the lines of its ways
+-- the table has exactly the words whose first step is in the drive, sorted by their steps, and the lines of its
+-- ways, and what it knows of the steps that leave nodes is so
 pub record IsTableOf (M : Objects) (P : Rules) (drive : List Step) (table : WordTable) : Type 0 where
   pub words : AreDriveWords M P drive table.automaton.words
   pub sorted : AreInWordOrder table.automaton.words
   pub lines : AreLinesOn M table.lines drive
+  pub leaving : AreLeaving M P table.leaving

@@ -3,6 +3,7 @@ ghost use Rattle.std.specs.Prelude.{◌≢◌, ◌<◌, ◌∷◌, ◌++◌, [],
 ghost use Rattle.turn_automata.specs.Machines.{Watches};
 ghost use Rattle.drive_queries.specs.WordTables.{IsTableOf};
 ghost use Rattle.drive_queries.specs.DriveLines.{AreLinesOn};
+ghost use Rattle.drive_queries.specs.DeadEnds.{AreLeaving};
 ghost use Rattle.drive_queries.specs.Gathering.{AreInWordOrder};
 ghost use Rattle.drive_queries.specs.Judging.{Breaks, HasWords, KeepsOn};
 ghost use Rattle.drive_queries.specs.Verdicts.{IsVerdict, broken_rule};
@@ -21,8 +22,7 @@ use turn_automata::laws::unstopped_is_demanded;
 /// it breaks there. The table is the drive's own. Takes no memory.
 ///
 /// Takes for each step of the drive a few look-ups, each at the logarithm of what there is, and one step of the table's
-/// automaton; for one that goes back to where the step before began also the time of the references of the ways at the
-/// node. The words are compared with the last step alone, and only where they stop it.
+/// automaton. The words are compared with the last step alone, and only where they stop it.
 pub fn judge<M: World, P: Profile>(
     world: &M,
     profile: &P,
@@ -66,6 +66,7 @@ fn judge_step<M: World, P: Profile>(
     requires words { HasWords (M.objects world.now) (P.rules profile.now) (before.now ++ step ∷ [])
         table.now.automaton.words }
     requires lines { AreLinesOn (M.objects world.now) table.now.lines (before.now ++ step ∷ []) }
+    requires leaving { AreLeaving (M.objects world.now) (P.rules profile.now) table.now.leaving }
     ensures known { IfOk result (λ next. next.0 < length table.now.automaton.states) }
     ensures watches { IfOk result (λ next. Watches table.now.automaton next.0 (before.now ++ step ∷ [])) }
     ensures goes { IfOk result (λ next. KeepsOn (M.objects world.now) (P.rules profile.now) before.now step) }
@@ -73,7 +74,7 @@ fn judge_step<M: World, P: Profile>(
         (broken_rule rule)) }
 {
     unstopped_is_demanded();
-    if let Some(rule) = step_rule(world, profile, &table.lines, before, step) {
+    if let Some(rule) = step_rule(world, profile, &table.lines, &table.leaving, before, step) {
         return Err(rule);
     }
     match table.automaton.go(state, step) {

@@ -4,9 +4,10 @@
 //! `message` takes time linear in its line. `WordTable::of` goes once over the references of each way of the drive,
 //! judges each restriction that names one of them once, keeps the words that begin on the drive's steps, sorts them,
 //! and makes an automaton of them (`turn_automata`): with n words it compares two of them n log n times. `judge` then
-//! takes for each step a few look-ups, each at the logarithm of what there is, with one step of the automaton; where it
-//! goes back to where the step before began, also the time of the references of the ways at the node. Only the step
-//! that words stop is compared with them, once: each No word with the end of the steps, and where none ends there, for
+//! takes for each step a few look-ups, each at the logarithm of what there is, with one step of the automaton: what
+//! leaves the nodes at which the drive goes back to where a step began stands in the table, which goes for it once over
+//! the references of each way at these nodes, with one look-up each (`dead_ends`). Only the step that words stop is
+//! compared with them, once: each No word with the end of the steps, and where none ends there, for
 //! each number of last steps up to that of the longest end that begins a word, at most 1,025, a binary search finds the
 //! words that begin with them, and these are looked at twice. `counts` goes over all contexts once.
 //!
@@ -19,6 +20,7 @@
 //! finds and misses is the law `laws::searched_drives`.
 #![tactic(auto)]
 
+mod dead_ends;
 mod drive_lines;
 mod ends;
 mod following;

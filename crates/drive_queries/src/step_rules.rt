@@ -2,28 +2,33 @@
 ghost use Rattle.std.specs.Prelude.{◌≡◌, ◌∷◌, ◌++◌, [], List, IfSome, IfNone, IsTrue};
 ghost use Rattle.road_base.specs.declared.ids.Step.{Step};
 ghost use Rattle.road_model.specs.declared.answers.Access.{Access};
-ghost use Rattle.road_model.specs.Driving.{Passes, drivable, shut};
+ghost use Rattle.road_model.specs.Driving.{Passes, drivable};
 ghost use Rattle.road_model.specs.Broken.{IsAnswered, IsBehind};
 ghost use Rattle.drive_queries.specs.Verdicts.{broken_rule};
 ghost use Rattle.drive_queries.specs.Judging.{Breaks, Follows, closing};
 ghost use Rattle.drive_queries.specs.DriveLines.{AreLinesOn, IsLineIn};
+ghost use Rattle.drive_queries.specs.DeadEnds.{AreLeaving};
 
+use crate::dead_ends::{Leaving, is_shut, turns_back};
 use crate::drive_lines::{DriveLine, ends_in};
 use crate::verdict::Rule;
 use road_base::{NodeId, Step, WayId};
 use road_model::{Access, Profile, World};
 use std::collections::BTreeMap;
-use way_lines::{is_located, pass};
+use way_lines::is_located;
 
-/// The first of these rules that the step breaks behind the steps before it, by the lines of their ways.
+/// The first of these rules that the step breaks behind the steps before it, by the lines of their ways and what leaves
+/// the nodes between them.
 pub fn step_rule<M: World, P: Profile>(
     world: &M,
     profile: &P,
     lines: &BTreeMap<WayId, DriveLine>,
+    leaving: &BTreeMap<NodeId, Leaving>,
     before: &[Step],
     step: Step,
 ) -> Option<Rule>
-    requires { AreLinesOn (M.objects world.now) lines.now (before.now ++ step ∷ []) }
+    requires leaving { AreLeaving (M.objects world.now) (P.rules profile.now) leaving.now }
+    requires lines { AreLinesOn (M.objects world.now) lines.now (before.now ++ step ∷ []) }
     ensures some { IfSome result (λ rule. Breaks (M.objects world.now) (P.rules profile.now) before.now step
         (broken_rule rule)) }
     ensures none { IfNone result (Follows (M.objects world.now) (P.rules profile.now) before.now step) }
@@ -32,7 +37,7 @@ pub fn step_rule<M: World, P: Profile>(
         return Some(rule);
     }
     match before.last() {
-        Some(last) => rule_between(world, profile, lines, *last, step),
+        Some(last) => rule_between(world, profile, lines, leaving, *last, step),
         None => None,
     }
 }
@@ -80,10 +85,12 @@ fn rule_between<M: World, P: Profile>(
     world: &M,
     profile: &P,
     lines: &BTreeMap<WayId, DriveLine>,
+    leaving: &BTreeMap<NodeId, Leaving>,
     last: Step,
     step: Step,
 ) -> Option<Rule>
     requires drives { IsTrue (drivable (M.objects world.now) (P.rules profile.now) step) }
+    requires leaving { AreLeaving (M.objects world.now) (P.rules profile.now) leaving.now }
     requires from { IsLineIn (M.objects world.now) lines.now last.way }
     requires to { IsLineIn (M.objects world.now) lines.now step.way }
     ensures some { IfSome result (λ rule. (before : List Step) → IsBehind before last
@@ -100,7 +107,7 @@ fn rule_between<M: World, P: Profile>(
         return Some(Rule::Apart);
     }
     if to == from {
-        if pass(world, profile, last, step) {
+        if turns_back(world, profile, leaving, node, last, step) {
             None
         } else {
             Some(Rule::Reversal(node))
@@ -109,15 +116,5 @@ fn rule_between<M: World, P: Profile>(
         Some(Rule::Barrier(node))
     } else {
         None
-    }
-}
-
-/// Whether the node is visible and shut, as at a bollard.
-fn is_shut<M: World, P: Profile>(world: &M, profile: &P, node: NodeId) -> bool
-    ensures { result ≡ shut (M.objects world.now) (P.rules profile.now) node }
-{
-    match world.node(node) {
-        Some(node) => !profile.node_open(&node.tags),
-        None => false,
     }
 }

@@ -1,4 +1,5 @@
-//! What judging a drive needs: the words of restrictions that may bind it, and the lines of its ways.
+//! What judging a drive needs: the words of restrictions that may bind it, the lines of its ways, and what leaves the
+//! nodes at which it goes back.
 ghost use Rattle.std.specs.Prelude.{◌≡◌, ◌↔◌, IfOk, OnOk, IsTrue, Contains};
 ghost use Rattle.std.specs.List.{All};
 ghost use Rattle.std.specs.FinMap.{IsAntisymmetric};
@@ -12,28 +13,32 @@ ghost use Rattle.drive_queries.specs.WordTables.{IsTableOf};
 ghost use Rattle.drive_queries.specs.Gathering.{AreInOrder, AreInWordOrder, GainsWords, AreWordsOn, IsMemberOf};
 ghost use Rattle.drive_queries.specs.Gathering.{LiesOn, steps_cmp};
 
+use crate::dead_ends::{Leaving, leaving_at_reversals};
 use crate::drive_lines::{DriveLine, lines_of};
 use restrictions::{Word, WordList, WordsError, words};
-use road_base::{NoMemory, RelationId, Step, WayId};
+use road_base::{NoMemory, NodeId, RelationId, Step, WayId};
 use road_model::laws::{name_order, number_order, words_on_ways};
-use road_model::{Profile, World};
+use road_model::{Network, Profile, World};
 use std::alloc::Global;
 use std::cmp::Ordering;
 use std::collections::BTreeMap;
 use turn_automata::Automaton;
 
-/// What judging a drive needs: the words whose first step is one of the drive's, and the lines of its ways.
+/// What judging a drive needs: the words whose first step is one of the drive's, the lines of its ways, and which
+/// drivable steps leave the nodes at which it goes back.
 #[derive(Drop)]
 pub struct WordTable {
     pub(crate) automaton: Automaton,
     pub(crate) lines: BTreeMap<WayId, DriveLine>,
+    pub(crate) leaving: BTreeMap<NodeId, Leaving>,
 }
 
 impl WordTable {
-    /// All words whose first step is in the drive, sorted by their steps, and the line of each way of the drive.
+    /// All words whose first step is in the drive, sorted by their steps, the line of each way of the drive, and what
+    /// leaves the nodes at which it goes back.
     ///
-    /// Each restriction that names a way of the drive is judged once, and each of its ways gone over once. Of n words
-    /// two are compared n log n times.
+    /// Each restriction that names a way of the drive is judged once, and each of its ways gone over once, as is
+    /// each way at the nodes where the drive goes back. Of n words two are compared n log n times.
     pub fn of<M: World, P: Profile>(
         alloc: Global,
         world: &M,
@@ -45,6 +50,7 @@ impl WordTable {
         words_on_ways(profile);
         let ways = ways_of(alloc, drive)?;
         let lines = lines_of(alloc, world, ways.as_slice())?;
+        let leaving = leaving_at_reversals(alloc, &Network::new(world, *profile), &lines, drive)?;
         let relations = relations_of(alloc, world, ways.as_slice())?;
         let steps = in_order(alloc, drive)?;
         let mut words = words_of(
@@ -56,7 +62,11 @@ impl WordTable {
         )?;
         put_in_order(&mut words);
         let automaton = Automaton::of(alloc, &WordList::from_list(words))?;
-        Ok(WordTable { automaton, lines })
+        Ok(WordTable {
+            automaton,
+            lines,
+            leaving,
+        })
     }
 }
 
@@ -92,7 +102,7 @@ fn relations_of<M: World>(
 }
 
 /// Each value once.
-fn leave_once<T: Ord + Copy>(list: &mut Vec<T>)
+pub(crate) fn leave_once<T: Ord + Copy>(list: &mut Vec<T>)
     requires { IsAntisymmetric T.cmp }
     ensures { (x : T) → Contains list.new.items x ↔ Contains list.old.items x }
 {

@@ -30,15 +30,16 @@ returns-then-ne-clause-some g c before behind =
     (λ v m. other_node c.in-Some.at c.in-Some-ends_in.node (sym c.ne.ensures ∙ c.if-ne.true)
     (both_some _ _ c.in-Some.at c.in-Some-ends_in.node v from.1 to.0 m.from m.to))
 
-pub returns-else-pass-clause-some : goal.returns-else-pass-clause-some
-returns-else-pass-clause-some g c before behind =
+pub returns-else-turns_back-clause-some : goal.returns-else-turns_back-clause-some
+returns-else-turns_back-clause-some g c before behind =
     let M = g.M.World.objects c.args.world.now in
     let P = g.P.Profile.rules c.args.profile.now in
     let from = c.in-Some.ensures.some M c.requires.from in
     let to = c.in-Some-ends_in.ensures.some M c.requires.to in
     let same = same_node c.in-Some.at c.in-Some-ends_in.node (sym c.ne.ensures ∙ c.if-ne.false) in
     breaks_back M P before c.args.last c.args.step c.requires.drives behind c.in-Some-ends_in.node
-    (record { from = from.1 ∙ ap Some same; to = to.0 }) (λ p. false≢true (sym c.if-pass.false ∙ c.pass.ensures.1 p))
+    (record { from = from.1 ∙ ap Some same; to = to.0 })
+    (λ p. false≢true (sym c.if-turns_back.false ∙ c.turns_back.ensures.1 p))
     (goes_back M c.args.last c.args.step c.in-Some.from c.in-Some-ends_in.to from.0 to.1
     (sym c.eq.ensures ∙ c.if-eq.true))
 
@@ -67,3 +68,22 @@ returns-else-is_shut-clause-none g c =
     (sym c.eq.ensures ∙ c.if-eq.false) in
     open_passes M P c.args.last c.args.step c.in-Some-ends_in.node (from.1 ∙ ap Some same) to.0 on
     (sym c.is_shut.ensures ∙ c.if-is_shut.false)
+
+pub turns_back-requires-clause-leaves : goal.turns_back-requires-clause-leaves
+turns_back-requires-clause-leaves g c = record {
+  drives = c.requires.drives;
+  tail = (c.in-Some-ends_in.ensures.some (g.M.World.objects c.args.world.now) c.requires.to).0;
+}
+
+pub turns_back-requires-clause-meets : goal.turns_back-requires-clause-meets
+turns_back-requires-clause-meets g c =
+    let same = same_node c.in-Some.at c.in-Some-ends_in.node (sym c.ne.ensures ∙ c.if-ne.false) in
+    (c.in-Some.ensures.some (g.M.World.objects c.args.world.now) c.requires.from).1 ∙ ap Some same
+
+pub turns_back-requires-clause-back : goal.turns_back-requires-clause-back
+turns_back-requires-clause-back g c =
+    let M = g.M.World.objects c.args.world.now in
+    let from = c.in-Some.ensures.some M c.requires.from in
+    let to = c.in-Some-ends_in.ensures.some M c.requires.to in
+    goes_back M c.args.last c.args.step c.in-Some.from c.in-Some-ends_in.to from.0 to.1
+    (sym c.eq.ensures ∙ c.if-eq.true)

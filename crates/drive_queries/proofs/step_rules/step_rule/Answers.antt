@@ -13,7 +13,7 @@ rule_between-requires-clause-from g c =
     let last = c.in-Some-last.last.now in
     let has : Contains c.args.before.now last
     = contains_at c.args.before.now _ last (sym c.in-Some-last.ensures.value) in
-    c.requires last (Contains-append_left c.args.before.now (c.args.step ∷ []) last has)
+    c.requires.lines last (Contains-append_left c.args.before.now (c.args.step ∷ []) last has)
 
 pub rule_between-requires-clause-to : goal.rule_between-requires-clause-to
-rule_between-requires-clause-to g c = c.requires c.args.step (has_first c.args.before.now c.args.step [])
+rule_between-requires-clause-to g c = c.requires.lines c.args.step (has_first c.args.before.now c.args.step [])

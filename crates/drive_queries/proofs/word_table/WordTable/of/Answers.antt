@@ -1,10 +1,13 @@
 -- The words that begin on the drive's steps, from the restrictions of its ways, are all.
-use Rattle.std.proofs.Common.{◌↔◌, List, refl, sym, subst, ◌∙◌, slice_index_or, Contains}
+use Rattle.std.proofs.Common.{◌↔◌, List, refl, ap, sym, subst, ◌∙◌, slice_index_or, Contains}
 use Rattle.std.proofs.lemmas.List.Elements.{Contains-get_or}
 use Rattle.road_base.specs.declared.ids.WayId.{WayId}
 use Rattle.road_base.specs.declared.ids.RelationId.{RelationId}
 use Rattle.road_base.specs.declared.ids.Step.{Step}
 use Rattle.restrictions.specs.declared.word_list.Word.{Word}
+use Rattle.road_base.specs.Objects.{Objects}
+use Rattle.road_model.specs.Rules.{Rules}
+use Rattle.drive_queries.specs.DeadEnds.{AreLeaving}
 use Rattle.drive_queries.specs.Tables.{AreDriveWords}
 use Rattle.drive_queries.specs.Gathering.{AreWordsOn, AreInWordOrder, IsMemberOf}
 use Rattle.drive_queries.proofs.WordsGathered.{restrict, table, table_again}
@@ -36,10 +39,15 @@ returns g c =
     let all = table_again M P c.args.drive.now words c.put_in_order.new.words.items c.put_in_order.ensures.same
     (table M P (c.words_on_ways.ensures.members M) c.args.drive.now steps ways relations words c.in_ok-ways.ensures on
     c.in_ok-steps.ensures.same are) in
+    let known = c.in_ok-leaving.leaving in
+    let leaving = subst (λ (m : Objects). AreLeaving m P known) (ap g.M.World.objects c.new.ensures.world)
+    (subst (λ (p : Rules). AreLeaving (g.M.World.objects c.new.result.world.now) p known)
+    (ap g.P.Profile.rules c.new.ensures.profile) c.in_ok-leaving.ensures) in
     record {
       words = subst (λ (l : List Word). AreDriveWords M P c.args.drive.now l) kept all;
       sorted = subst (λ (l : List Word). AreInWordOrder l) kept c.put_in_order.ensures.sorted;
       lines = λ s has. c.in_ok-lines.ensures s.way (subst (λ (l : List WayId). Contains l s.way)
           (sym c.as_slice.ensures.value)
           ((c.in_ok-ways.ensures s.way).1 (record { step = s; among = has; on = refl })));
+      leaving = leaving;
     }
