@@ -4,3 +4,5 @@ pub mod StandingEvents
 pub mod KindsInOrder
 pub mod KindEntries
 pub mod ChangedKeys
+mod SplitPairs
+mod Trees

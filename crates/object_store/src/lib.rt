@@ -9,10 +9,17 @@
 //! the events, and look each one's key up.
 #![tactic(auto)]
 
+mod base;
 mod changes;
+mod fresh;
 mod key_ranges;
 mod kinds;
 mod objects;
+mod shared_map;
 mod standing;
+mod tree;
 
+pub use base::Base;
+pub use fresh::Fresh;
 pub use objects::Objects;
+pub use shared_map::SharedMap;

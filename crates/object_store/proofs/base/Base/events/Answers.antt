@@ -2,7 +2,7 @@ use Rattle.std.proofs.Common.{map, sym, ap, ◌∙◌}
 use Rattle.std.specs.FinMap.{entries}
 use Rattle.object_store.specs.Listed.{pair_of}
 use Rattle.object_store.proofs.InOrder.{entries_of}
-use Rattle.object_store.proofs.objects.Objects.events.Goals as goal
+use Rattle.object_store.proofs.base.Base.events.Goals as goal
 
 pub returns : goal.returns
 returns c =

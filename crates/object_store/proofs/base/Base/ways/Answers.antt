@@ -1,6 +1,6 @@
 use Rattle.object_store.specs.Listed.{is_way}
 use Rattle.object_store.proofs.KindEntries.{pairs_of_kind, exactly_kind}
-use Rattle.object_store.proofs.objects.Objects.ways.Goals as goal
+use Rattle.object_store.proofs.base.Base.ways.Goals as goal
 
 pub returns-clause-entries : goal.returns-clause-entries
 returns-clause-entries c =
