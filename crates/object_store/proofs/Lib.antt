@@ -6,3 +6,6 @@ pub mod KindEntries
 pub mod ChangedKeys
 mod SplitPairs
 mod Trees
+mod Overlays
+mod AppliedOnes
+mod MergedEvents

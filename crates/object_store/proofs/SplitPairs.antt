@@ -48,7 +48,7 @@ module _ {K V : Type 0} (R : K → K → Ordering) where
   right_rises (x ∷ l) m h = right_rises l m (and_parts _ _ h).1
 
   -- what stands above the first of a list in order
-  above_first : (x : K × V) (m : List (K × V)) → Rise R (x ∷ m) → (y : K × V) → In y m → R x.0 y.0 ≡ Less
+  pub above_first : (x : K × V) (m : List (K × V)) → Rise R (x ∷ m) → (y : K × V) → In y m → R x.0 y.0 ≡ Less
   above_first x m h = below_each x.0 m (and_parts _ _ h).0
 
   -- what stands before an entry

@@ -177,11 +177,21 @@ impl Objects {
         applied_in_turn();
         let mut next = self.copy()?;
         for event in events {
-            if next.lacks(event) {
-                next = next.with_entry(event.copy()?)?;
-            }
+            next = next.with_event(event)?;
         }
         Ok(next)
+    }
+
+    /// What the event leaves.
+    fn with_event(self, event: &Event) -> Result<Objects, NoMemory>
+        ensures { IfOk result (λ o. IsApplied self (event.now ∷ []) o) }
+    {
+        key_order();
+        if self.lacks(event) {
+            self.with_entry(event.copy()?)
+        } else {
+            Ok(self)
+        }
     }
 
     /// Whether the event stands where it comes to its key's entry.
@@ -251,6 +261,7 @@ fn unchanged_events(
     ensures { IfOk result (λ v. (k : Key) → entries_for empty v.items k
         ≡ (if is_some (find key_cmp k changed.now) then [] else option_to_list (get (base_objects base.now) k))) }
 {
+    key_order();
     match base {
         None => Ok(Vec::new(alloc)),
         Some(base) => unchanged_among(alloc, base.items(), changed),
@@ -263,15 +274,24 @@ fn unchanged_among(
     entries: &[Event],
     changed: &SharedMap<Key, Event>,
 ) -> Result<Vec<Event>, NoMemory>
-    ensures { IfOk result (λ v. v.items ≡ filter (λ e. not (is_some (find ⟦<Key as Ord>⟧.cmp e.key changed.now))) entries.now) }
+    ensures { IfOk result (λ v.
+        v.items ≡ filter (λ e. not (is_some (find key_cmp e.key changed.now))) entries.now) }
 {
     let mut list = Vec::new(alloc);
     for event in entries {
-        if changed.get(event.key).is_none() {
+        if !has_entry(changed, event.key) {
             list.push(event.copy()?)?;
         }
     }
     Ok(list)
+}
+
+/// Whether the map has the key.
+fn has_entry(map: &SharedMap<Key, Event>, key: Key) -> bool
+    ensures { result ≡ is_some (find key_cmp key map.now) }
+{
+    key_order();
+    map.get(key).is_some()
 }
 
 /// Puts copies of the events behind the list's.
