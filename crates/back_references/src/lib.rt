@@ -12,9 +12,15 @@
 #![tactic(auto)]
 
 mod collecting;
+mod exchanges;
 mod highways;
 mod index;
 mod indexed;
+mod next;
+mod pair_list;
+mod prepared;
 mod references;
 
 pub use indexed::Indexed;
+pub use next::Next;
+pub use prepared::Prepared;

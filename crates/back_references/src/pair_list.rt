@@ -1,5 +1,5 @@
-//! Pairs of a key and a value, in which the values of a key lie side by side.
-ghost use Rattle.std.specs.Prelude.{◌≡◌, ◌↔◌, ◌<◌, ◌≤◌, ◌-◌, [], true, false, IfOk, IsTrue, Contains, length, map};
+//! Pairs of a key and a value that never change, in which the values of a key lie side by side.
+ghost use Rattle.std.specs.Prelude.{◌≡◌, ◌↔◌, ◌<◌, ◌≤◌, ◌-◌, true, false, IfOk, IsTrue, Contains, length, map};
 ghost use Rattle.std.specs.Prelude.{take, drop, slice_index_or};
 ghost use Rattle.std.specs.List.{AllWithin};
 ghost use Rattle.std.specs.List.Sorted.{IsPartitionedBy, IsPartitionPoint};
@@ -15,13 +15,13 @@ use std::marker::Model;
 /// Pairs, ascending by key and then by value, none of them twice. The ranges of the keys' numbers tell where a search
 /// begins, if anything: they are no part of what the pairs are.
 #[derive(Drop)]
-pub struct Index<K: Ord + Copy + Numbered, V: Ord + Copy> {
+pub struct PairList<K: Ord + Copy + Numbered, V: Ord + Copy> {
     keys: Vec<K>,
     values: Vec<V>,
     ranges: Ranges,
 }
 
-impl<K: Ord + Copy + Numbered, V: Ord + Copy> Model for Index<K, V> {
+impl<K: Ord + Copy + Numbered, V: Ord + Copy> Model for PairList<K, V> {
     ghost use Rattle.std.specs.Prelude.{◌≡◌, List, length, IsTrue};
     ghost use Rattle.std.specs.List.{zip};
     ghost use Rattle.road_model.specs.Orders.{rises};
@@ -35,20 +35,9 @@ impl<K: Ord + Copy + Numbered, V: Ord + Copy> Model for Index<K, V> {
         × IsTrue (rises (pair_cmp K.cmp V.cmp) (zip i.keys.items i.values.items)) };
 }
 
-impl<K: Ord + Copy + Numbered, V: Ord + Copy> Index<K, V> {
-    /// No pairs. Takes no memory.
-    pub fn new(alloc: Global) -> Index<K, V>
-        ensures { result ≡ [] }
-    {
-        Index {
-            keys: Vec::new(alloc),
-            values: Vec::new(alloc),
-            ranges: Ranges::new(alloc),
-        }
-    }
-
+impl<K: Ord + Copy + Numbered, V: Ord + Copy> PairList<K, V> {
     /// The pairs, each once.
-    pub fn of(alloc: Global, pairs: Vec<(K, V)>) -> Result<Index<K, V>, NoMemory>
+    pub fn of(alloc: Global, pairs: Vec<(K, V)>) -> Result<PairList<K, V>, NoMemory>
         requires keys { IsAntisymmetric K.cmp }
         requires values { IsAntisymmetric V.cmp }
         ensures { IfOk result (λ i. (p : K × V) → Contains i p ↔ Contains pairs.items p) }
@@ -58,7 +47,7 @@ impl<K: Ord + Copy + Numbered, V: Ord + Copy> Index<K, V> {
         let keys = firsts(alloc, pairs.as_slice())?;
         let values = seconds(alloc, pairs.as_slice())?;
         let ranges = Ranges::of(alloc, keys.as_slice());
-        Ok(Index {
+        Ok(PairList {
             keys,
             values,
             ranges,

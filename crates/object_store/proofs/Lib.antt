@@ -9,3 +9,4 @@ mod Trees
 mod Overlays
 mod AppliedOnes
 mod MergedEvents
+mod SameBodies

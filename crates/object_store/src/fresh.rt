@@ -1,7 +1,9 @@
 //! A change of objects, found and not made yet.
-ghost use Rattle.std.specs.Prelude.{◌≡◌, ◌↔◌, None, Some, IfSome, option_copied};
+ghost use Rattle.std.specs.Prelude.{◌≡◌, ◌↔◌, None, Some, IfSome, option_copied, Contains};
 ghost use Rattle.std.specs.FinMap.{get};
 ghost use Rattle.road_base.specs.Applying.{entry_of};
+ghost use Rattle.road_base.specs.Objects.{visible};
+ghost use Rattle.road_base.specs.declared.ids.Key.{Key};
 ghost use Rattle.road_model.specs.Links.{AreChanged};
 
 use crate::objects::Objects;
@@ -76,6 +78,9 @@ impl Fresh {
     pub fn keys(&self) -> &Keys
         ensures keys { result.now ≡ self.now.keys }
         ensures differ { AreChanged self.now.before self.now.after self.now.keys }
+        ensures same { (k : Key)
+            → ¬ (Contains self.now.keys k)
+            → visible self.now.before k ≡ visible self.now.after k }
     {
         &self.keys
     }

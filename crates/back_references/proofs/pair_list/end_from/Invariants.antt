@@ -1,7 +1,7 @@
 use Rattle.std.proofs.Common.{◌≡◌, true}
 use Rattle.std.specs.List.{AllWithin}
 use Rattle.std.specs.Ordering.{is_le}
-use Rattle.back_references.proofs.index.end_from.Given as goal
+use Rattle.back_references.proofs.pair_list.end_from.Given as goal
 
 -- no key so far is above this one
 abbrev pub invariant-loop-at : goal.invariant-loop-at

@@ -1,5 +1,5 @@
 use Rattle.std.proofs.Common.{◌<◌, ◌-◌, sym, ◌∙◌, length, arith}
-use Rattle.back_references.proofs.index.ends_below.Goals as goal
+use Rattle.back_references.proofs.pair_list.ends_below.Goals as goal
 
 pub returns-else-count-eq0 : goal.returns-else-count-eq0
 returns-else-count-eq0 g c = λ true k d from l.

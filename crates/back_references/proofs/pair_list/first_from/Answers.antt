@@ -1,7 +1,7 @@
 use Rattle.std.proofs.Common.{rules}
 use Rattle.std.specs.Ordering.{is_lt}
 use Rattle.std.proofs.lemmas.List.Sorted.{IsPartitionPoint-from_clause}
-use Rattle.back_references.proofs.index.first_from.Goals as goal
+use Rattle.back_references.proofs.pair_list.first_from.Goals as goal
 
 pub returns-clause-point : goal.returns-clause-point
 returns-clause-point g c =

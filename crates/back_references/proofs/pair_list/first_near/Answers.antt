@@ -1,7 +1,7 @@
 use Rattle.std.proofs.Common.{sym, ◌∙◌}
 use Rattle.std.specs.Ordering.{is_lt}
 use Rattle.back_references.proofs.Parts.{point_between}
-use Rattle.back_references.proofs.index.first_near.Goals as goal
+use Rattle.back_references.proofs.pair_list.first_near.Goals as goal
 
 pub returns-then-not-is_below-clause-point : goal.returns-then-not-is_below-clause-point
 returns-then-not-is_below-clause-point g c =

@@ -6,7 +6,7 @@ use Rattle.std.specs.List.Sorted.{IsPartitionedBy, IsPartitionPoint}
 use Rattle.road_model.specs.Orders.{Lists}
 use Rattle.road_base.proofs.SortedParts.{low_first}
 use Rattle.back_references.proofs.Lookups.{below_parted, upto_point, found_lists}
-use Rattle.back_references.proofs.index.Index.at.Goals as goal
+use Rattle.back_references.proofs.pair_list.PairList.at.Goals as goal
 
 pub first_near-low-requires-clause-parted : goal.first_near-low-requires-clause-parted
 first_near-low-requires-clause-parted g c =

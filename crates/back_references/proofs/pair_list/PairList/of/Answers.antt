@@ -3,7 +3,7 @@ use Rattle.std.specs.List.{zip}
 use Rattle.road_model.specs.Orders.{rises}
 use Rattle.back_references.specs.Pairs.{pair_cmp}
 use Rattle.back_references.proofs.SortedPairs.{zip_parts, even_parts}
-use Rattle.back_references.proofs.index.Index.of.Goals as goal
+use Rattle.back_references.proofs.pair_list.PairList.of.Goals as goal
 
 zipped : {A B : Type 0} (keys : List A) (values : List B) (ps qs zs : List (A × B)) → keys ≡ map (λ p. p.0) ps
     → values ≡ map (λ p. p.1) qs → ps ≡ zs → qs ≡ zs → zip keys values ≡ zs

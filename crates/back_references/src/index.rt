@@ -1,0 +1,160 @@
+//! The values of each key, which changes follow.
+ghost use Rattle.std.specs.Prelude.{◌≡◌, ◌↔◌, ◌⊎◌, [], IfOk, OnOk, IsTrue, Contains, map, ◌++◌};
+ghost use Rattle.std.specs.Prelude.{if◌then◌else◌};
+ghost use Rattle.std.specs.FinMap.{IsAntisymmetric};
+ghost use Rattle.std.specs.Ordering.{eq_by_cmp};
+ghost use Rattle.road_model.specs.Orders.{Lists, rises};
+ghost use Rattle.back_references.specs.Indexes.{Has, IsExchanged, IsChosen, Stays};
+ghost use Rattle.back_references.specs.Holding.{base_pairs};
+
+use crate::exchanges::{exchanged_values, keys_of};
+use crate::pair_list::PairList;
+use object_store::SharedMap;
+use road_base::{NoMemory, Numbered};
+use std::alloc::Global;
+use std::marker::Model;
+use std::rc::Rc;
+
+/// Keys with values. Contracts see the pairs as they were made, and the lists that stand in their place at the keys
+/// where something has changed since.
+#[derive(Drop)]
+pub struct Index<K: Ord + Copy + Numbered, V: Ord + Copy> {
+    alloc: Global,
+    base: Option<Rc<PairList<K, V>>>,
+    replaced: SharedMap<K, Vec<V>>,
+}
+
+impl<K: Ord + Copy + Numbered, V: Ord + Copy> Model for Index<K, V> {
+    ghost use Rattle.back_references.specs.Indexes.{Held, Ascend};
+    ghost use Rattle.std.specs.Prelude.{map};
+    ghost use Rattle.back_references.specs.Holding.{base_pairs};
+
+    ghost Value = { Held K V };
+
+    ghost view = { λ i. (base_pairs i.base, map (λ p. (p.0, p.1.items)) i.replaced) };
+
+    ghost invariant = { λ i. Ascend K.cmp V.cmp (map (λ p. (p.0, p.1.items)) i.replaced) };
+}
+
+impl<K: Ord + Copy + Numbered, V: Ord + Copy> Index<K, V> {
+    /// No values. Takes no memory.
+    pub fn new(alloc: Global) -> Index<K, V>
+        ensures { result ≡ ([], []) }
+    {
+        Index {
+            alloc,
+            base: None,
+            replaced: SharedMap::new(),
+        }
+    }
+
+    /// The pairs, each once.
+    pub fn of(alloc: Global, pairs: Vec<(K, V)>) -> Result<Index<K, V>, NoMemory>
+        requires keys { IsAntisymmetric K.cmp }
+        requires values { IsAntisymmetric V.cmp }
+        ensures { IfOk result (λ i. (k : K) (v : V) → Has K.cmp i k v ↔ Contains pairs.items (k, v)) }
+    {
+        let base = Rc::new(alloc, PairList::of(alloc, pairs)?)?;
+        Ok(Index {
+            alloc,
+            base: Some(base),
+            replaced: SharedMap::new(),
+        })
+    }
+
+    /// The values of a key, ascending. Takes the time of a search, and of the values; no memory.
+    pub fn at(&self, key: K) -> &[V]
+        requires { IsAntisymmetric K.cmp }
+        ensures { Lists (λ v. v) V.cmp (λ v. Has K.cmp self.now key v) result.now }
+    {
+        match self.replaced.get(key) {
+            Some(values) => values.as_slice(),
+            None => values_in(&self.base, key),
+        }
+    }
+
+    /// An equal value, which shares all with this one.
+    pub fn share(&self) -> Result<Index<K, V>, NoMemory>
+        ensures { IfOk result (λ i. i ≡ self.now) }
+    {
+        let base = shared_base(&self.base)?;
+        let replaced = self.replaced.share()?;
+        Ok(Index {
+            alloc: self.alloc,
+            base,
+            replaced,
+        })
+    }
+
+    /// What is left without the pairs that are gone, with those that came. Takes the time of the pairs' sort, and of
+    /// the lists of their keys, each gone through once.
+    pub fn exchanged(&self, gone: Vec<(K, V)>, come: Vec<(K, V)>) -> Result<Index<K, V>, NoMemory>
+        requires keys { IsAntisymmetric K.cmp }
+        requires values { IsAntisymmetric V.cmp }
+        ensures { IfOk result (λ i. IsExchanged K.cmp self.now gone.items come.items i) }
+    {
+        let keys = keys_of(self.alloc, gone.as_slice(), come.as_slice())?;
+        let gone = PairList::of(self.alloc, gone)?;
+        let come = PairList::of(self.alloc, come)?;
+        self.exchanged_at(keys.as_slice(), &gone, &come)
+    }
+
+    /// The same at the keys, each of which comes once.
+    fn exchanged_at(
+        &self,
+        keys: &[K],
+        gone: &PairList<K, V>,
+        come: &PairList<K, V>,
+    ) -> Result<Index<K, V>, NoMemory>
+        requires keys { IsAntisymmetric K.cmp }
+        requires values { IsAntisymmetric V.cmp }
+        ensures { IfOk result (λ i. (k : K) (v : V) → Has K.cmp i k v
+            ↔ IsChosen (Contains keys.now k) (Stays (Has K.cmp self.now k v) gone.now come.now (k, v))
+            (Has K.cmp self.now k v)) }
+    {
+        let mut next = self.share()?;
+        for key in keys {
+            let values = exchanged_values(self.alloc, self.at(*key), gone.at(*key), come.at(*key))?;
+            next = next.with_values(*key, values)?;
+        }
+        Ok(next)
+    }
+
+    /// With these values at the key.
+    fn with_values(self, key: K, values: Vec<V>) -> Result<Index<K, V>, NoMemory>
+        requires keys { IsAntisymmetric K.cmp }
+        requires { IsTrue (rises V.cmp values.items) }
+        ensures { IfOk result (λ i. (k : K) (v : V) → Has K.cmp i k v
+            ↔ (if eq_by_cmp K.cmp k key then Contains values.items v else Has K.cmp self k v)) }
+    {
+        let replaced = self.replaced.with(self.alloc, key, values)?;
+        Ok(Index {
+            alloc: self.alloc,
+            base: self.base,
+            replaced,
+        })
+    }
+}
+
+/// The values of a key in the base, ascending.
+fn values_in<K: Ord + Copy + Numbered, V: Ord + Copy>(base: &Option<Rc<PairList<K, V>>>, key: K) -> &[V]
+    requires { IsAntisymmetric K.cmp }
+    ensures { Lists (λ v. v) V.cmp (λ v. Contains (base_pairs base.now) (key, v)) result.now }
+{
+    match base {
+        None => &[],
+        Some(base) => base.at(key),
+    }
+}
+
+/// The same base, shared.
+fn shared_base<K: Ord + Copy + Numbered, V: Ord + Copy>(
+    base: &Option<Rc<PairList<K, V>>>,
+) -> Result<Option<Rc<PairList<K, V>>>, NoMemory>
+    ensures { IfOk result (λ b. base_pairs b ≡ base_pairs base.now) }
+{
+    match base {
+        None => Ok(None),
+        Some(base) => Ok(Some(base.clone()?)),
+    }
+}
