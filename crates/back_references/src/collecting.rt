@@ -51,9 +51,7 @@ pub fn way_references_at(
 {
     let mut pairs = Vec::new(alloc);
     for key in keys {
-        if let Some(event) = objects.get(*key) {
-            add_way_references(event, &mut pairs)?;
-        }
+        add_way_references_at(objects, *key, &mut pairs)?;
     }
     Ok(pairs)
 }
@@ -68,9 +66,7 @@ pub fn node_rules_at(
 {
     let mut pairs = Vec::new(alloc);
     for key in keys {
-        if let Some(event) = objects.get(*key) {
-            add_node_rules(event, &mut pairs)?;
-        }
+        add_node_rules_at(objects, *key, &mut pairs)?;
     }
     Ok(pairs)
 }
@@ -85,11 +81,18 @@ pub fn way_rules_at(
 {
     let mut pairs = Vec::new(alloc);
     for key in keys {
-        if let Some(event) = objects.get(*key) {
-            add_way_rules(event, &mut pairs)?;
-        }
+        add_way_rules_at(objects, *key, &mut pairs)?;
     }
     Ok(pairs)
+}
+
+fn add_way_references_at(objects: &Objects, key: Key, pairs: &mut Vec<(NodeId, WayId)>) -> Result<(), NoMemory>
+    ensures { OnOk result (pairs.new.items ≡ pairs.old.items ++ way_references_at objects.now key) }
+{
+    match objects.get(key) {
+        Some(event) => add_way_references(event, pairs),
+        None => Ok(()),
+    }
 }
 
 fn add_way_references(event: &Event, pairs: &mut Vec<(NodeId, WayId)>) -> Result<(), NoMemory>
@@ -108,6 +111,15 @@ fn add_nodes(nodes: &[NodeId], way: WayId, pairs: &mut Vec<(NodeId, WayId)>) -> 
         pairs.push((*node, way))?;
     }
     Ok(())
+}
+
+fn add_node_rules_at(objects: &Objects, key: Key, pairs: &mut Vec<(NodeId, RelationId)>) -> Result<(), NoMemory>
+    ensures { OnOk result (pairs.new.items ≡ pairs.old.items ++ node_rules_at objects.now key) }
+{
+    match objects.get(key) {
+        Some(event) => add_node_rules(event, pairs),
+        None => Ok(()),
+    }
 }
 
 fn add_node_rules(event: &Event, pairs: &mut Vec<(NodeId, RelationId)>) -> Result<(), NoMemory>
@@ -142,6 +154,15 @@ fn add_node(
     match item {
         Key::Node(node) => Ok(pairs.push((node, rule))?),
         _ => Ok(()),
+    }
+}
+
+fn add_way_rules_at(objects: &Objects, key: Key, pairs: &mut Vec<(WayId, RelationId)>) -> Result<(), NoMemory>
+    ensures { OnOk result (pairs.new.items ≡ pairs.old.items ++ way_rules_at objects.now key) }
+{
+    match objects.get(key) {
+        Some(event) => add_way_rules(event, pairs),
+        None => Ok(()),
     }
 }
 

@@ -61,11 +61,23 @@ fn others<V: Ord + Copy>(alloc: Global, values: &[V], gone: &[V]) -> Result<Vec<
 {
     let mut list = Vec::with_capacity(alloc, values.len())?;
     for value in values {
-        if !is_among(gone, *value) {
-            list.push(*value)?;
-        }
+        add_other(&mut list, *value, gone)?;
     }
     Ok(list)
+}
+
+/// Puts the value behind the list's, unless it is gone.
+fn add_other<V: Ord + Copy>(list: &mut Vec<V>, value: V, gone: &[V]) -> Result<(), NoMemory>
+    requires exact { IsAntisymmetric V.cmp }
+    requires gone { IsTrue (rises V.cmp gone.now) }
+    ensures { OnOk result ((v : V) → Contains list.new.items v
+        ↔ (Contains list.old.items v ⊎ ((v ≡ value) × ¬ (Contains gone.now value)))) }
+{
+    if is_among(gone, value) {
+        return Ok(());
+    }
+    list.push(value)?;
+    Ok(())
 }
 
 /// Whether the value is one of these, which ascend.

@@ -1,7 +1,7 @@
 //! The values of each key, which changes follow.
-ghost use Rattle.std.specs.Prelude.{◌≡◌, ◌↔◌, ◌⊎◌, [], IfOk, OnOk, IsTrue, Contains, map, ◌++◌};
+ghost use Rattle.std.specs.Prelude.{◌≡◌, ◌↔◌, [], IfOk, IsTrue, Contains, Some};
 ghost use Rattle.std.specs.Prelude.{if◌then◌else◌};
-ghost use Rattle.std.specs.FinMap.{IsAntisymmetric};
+ghost use Rattle.std.specs.FinMap.{IsAntisymmetric, find};
 ghost use Rattle.std.specs.Ordering.{eq_by_cmp};
 ghost use Rattle.road_model.specs.Orders.{Lists, rises};
 ghost use Rattle.back_references.specs.Indexes.{Has, IsExchanged, IsChosen, Stays};
@@ -54,11 +54,13 @@ impl<K: Ord + Copy + Numbered, V: Ord + Copy> Index<K, V> {
         requires values { IsAntisymmetric V.cmp }
         ensures { IfOk result (λ i. (k : K) (v : V) → Has K.cmp i k v ↔ Contains pairs.items (k, v)) }
     {
-        let base = Rc::new(alloc, PairList::of(alloc, pairs)?)?;
+        let list = PairList::of(alloc, pairs)?;
+        let base = Rc::new(alloc, list)?;
+        let replaced = SharedMap::new();
         Ok(Index {
             alloc,
             base: Some(base),
-            replaced: SharedMap::new(),
+            replaced,
         })
     }
 
@@ -114,18 +116,30 @@ impl<K: Ord + Copy + Numbered, V: Ord + Copy> Index<K, V> {
     {
         let mut next = self.share()?;
         for key in keys {
-            let values = exchanged_values(self.alloc, self.at(*key), gone.at(*key), come.at(*key))?;
+            let values = self.values_after(*key, gone, come)?;
             next = next.with_values(*key, values)?;
         }
         Ok(next)
     }
 
+    /// The values of the key without those that are gone, with those that came, ascending.
+    fn values_after(&self, key: K, gone: &PairList<K, V>, come: &PairList<K, V>) -> Result<Vec<V>, NoMemory>
+        requires keys { IsAntisymmetric K.cmp }
+        requires values { IsAntisymmetric V.cmp }
+        ensures ascending { IfOk result (λ r. IsTrue (rises V.cmp r.items)) }
+        ensures exactly { IfOk result (λ r. (v : V)
+            → Contains r.items v ↔ Stays (Has K.cmp self.now key v) gone.now come.now (key, v)) }
+    {
+        exchanged_values(self.alloc, self.at(key), gone.at(key), come.at(key))
+    }
+
     /// With these values at the key.
     fn with_values(self, key: K, values: Vec<V>) -> Result<Index<K, V>, NoMemory>
         requires keys { IsAntisymmetric K.cmp }
-        requires { IsTrue (rises V.cmp values.items) }
-        ensures { IfOk result (λ i. (k : K) (v : V) → Has K.cmp i k v
-            ↔ (if eq_by_cmp K.cmp k key then Contains values.items v else Has K.cmp self k v)) }
+        requires ascending { IsTrue (rises V.cmp values.items) }
+        ensures base { IfOk result (λ i. i.0 ≡ self.0) }
+        ensures lists { IfOk result (λ i. (k : K)
+            → find K.cmp k i.1 ≡ (if eq_by_cmp K.cmp k key then Some values.items else find K.cmp k self.1)) }
     {
         let replaced = self.replaced.with(self.alloc, key, values)?;
         Ok(Index {

@@ -1,8 +1,13 @@
 //! The ways and restrictions that name each object of a map.
-ghost use Rattle.std.specs.Prelude.{◌≡◌, IfOk, Contains};
+ghost use Rattle.std.specs.Prelude.{◌≡◌, ◌↔◌, IfOk, Contains};
 ghost use Rattle.std.specs.FinMap.{empty};
 ghost use Rattle.road_base.specs.Objects.{Objects as ObjectMap, visible};
 ghost use Rattle.road_base.specs.declared.ids.Key.{Key};
+ghost use Rattle.road_base.specs.declared.ids.Key.TheVariants.{Node as NodeKey, Way as WayKey};
+ghost use Rattle.road_base.specs.declared.ids.NodeId.{NodeId};
+ghost use Rattle.road_base.specs.declared.ids.WayId.{WayId};
+ghost use Rattle.road_base.specs.declared.ids.RelationId.{RelationId};
+ghost use Rattle.road_model.specs.Links.{RefersTo, HasMember};
 ghost use Rattle.road_model.specs.Orders.{Lists, node_cmp, way_cmp, relation_cmp};
 ghost use Rattle.back_references.specs.Indexes.{Has};
 
@@ -81,19 +86,76 @@ impl References {
         requires same { (k : Key) → ¬ (Contains keys.now k) → visible before.now k ≡ visible after.now k }
         ensures { IfOk result (λ r. IsIndexed after.now r) }
     {
-        name_order();
-        number_order();
-        let gone = way_references_at(alloc, before, keys)?;
-        let ways = self.ways.exchanged(gone, way_references_at(alloc, after, keys)?)?;
-        let gone = node_rules_at(alloc, before, keys)?;
-        let node_rules = self.node_rules.exchanged(gone, node_rules_at(alloc, after, keys)?)?;
-        let gone = way_rules_at(alloc, before, keys)?;
-        let way_rules = self.way_rules.exchanged(gone, way_rules_at(alloc, after, keys)?)?;
+        let ways = self.ways_after(alloc, before, after, keys)?;
+        let node_rules = self.node_rules_after(alloc, before, after, keys)?;
+        let way_rules = self.way_rules_after(alloc, before, after, keys)?;
         Ok(References {
             ways,
             node_rules,
             way_rules,
         })
+    }
+
+    /// The ways that refer to each node after the change.
+    fn ways_after(
+        &self,
+        alloc: Global,
+        before: &Objects,
+        after: &Objects,
+        keys: &[Key],
+    ) -> Result<Index<NodeId, WayId>, NoMemory>
+        requires held { IsIndexed before.now self.now }
+        requires same { (k : Key) → ¬ (Contains keys.now k) → visible before.now k ≡ visible after.now k }
+        ensures { IfOk result (λ i. (n : NodeId) (w : WayId) → Has node_cmp i n w ↔ RefersTo after.now w n) }
+    {
+        key_order();
+        name_order();
+        number_order();
+        let gone = way_references_at(alloc, before, keys)?;
+        let come = way_references_at(alloc, after, keys)?;
+        self.ways.exchanged(gone, come)
+    }
+
+    /// The restrictions that name each node after the change.
+    fn node_rules_after(
+        &self,
+        alloc: Global,
+        before: &Objects,
+        after: &Objects,
+        keys: &[Key],
+    ) -> Result<Index<NodeId, RelationId>, NoMemory>
+        requires held { IsIndexed before.now self.now }
+        requires same { (k : Key) → ¬ (Contains keys.now k) → visible before.now k ≡ visible after.now k }
+        ensures { IfOk result (λ i. (n : NodeId) (r : RelationId)
+            → Has node_cmp i n r ↔ HasMember after.now r (NodeKey n)) }
+    {
+        key_order();
+        name_order();
+        number_order();
+        let gone = node_rules_at(alloc, before, keys)?;
+        let come = node_rules_at(alloc, after, keys)?;
+        self.node_rules.exchanged(gone, come)
+    }
+
+    /// The restrictions that name each way after the change.
+    fn way_rules_after(
+        &self,
+        alloc: Global,
+        before: &Objects,
+        after: &Objects,
+        keys: &[Key],
+    ) -> Result<Index<WayId, RelationId>, NoMemory>
+        requires held { IsIndexed before.now self.now }
+        requires same { (k : Key) → ¬ (Contains keys.now k) → visible before.now k ≡ visible after.now k }
+        ensures { IfOk result (λ i. (w : WayId) (r : RelationId)
+            → Has way_cmp i w r ↔ HasMember after.now r (WayKey w)) }
+    {
+        key_order();
+        name_order();
+        number_order();
+        let gone = way_rules_at(alloc, before, keys)?;
+        let come = way_rules_at(alloc, after, keys)?;
+        self.way_rules.exchanged(gone, come)
     }
 
     /// The ways that refer to the node, ascending.
