@@ -8,6 +8,7 @@ use road_model::World;
 use std::marker::Model;
 
 /// The objects that a change would leave, while they stand as they are.
+#[derive(Drop)]
 pub struct Next<'a> {
     after: &'a Indexed,
 }
