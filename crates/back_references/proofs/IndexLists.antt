@@ -1,19 +1,22 @@
 -- Lists of values that are exchanged, and what an index holds then.
-use Rattle.std.proofs.Common.{◌≡◌, ◌↔◌, ℕ, ◌<◌, ◌+◌, Bool, true, false, cond, IsTrue, List, [], ◌∷◌, ◌++◌, map, length, Option, Some}
-use Rattle.std.proofs.Common.{None, Result, Ok, Err, inl, inr, ◌⊎◌, refl, sym, ap, ◌∙◌, subst, Contains, Ordering, slice_index_or}
+use Rattle.std.proofs.Common.{◌≡◌, ◌↔◌, ℕ, ◌+◌, Bool, true, false, cond}
+use Rattle.std.proofs.Common.{IsTrue, List, [], ◌∷◌, ◌++◌, map, length, Option, Some}
+use Rattle.std.proofs.Common.{None, Result, Ok, Err, inl, inr, ◌⊎◌}
+use Rattle.std.proofs.Common.{refl, sym, ap, ◌∙◌, subst, Contains, Ordering, slice_index_or}
 use Rattle.std.proofs.Common.{arith, is_ok, IfOk}
-use Rattle.std.specs.declared.cmp.Ordering.TheVariants.{Less, Equal, Greater}
-use Rattle.std.specs.Ordering.{is_lt, is_eq, eq_by_cmp, ordering_index}
+use Rattle.std.specs.declared.cmp.Ordering.TheVariants.{Less, Equal}
+use Rattle.std.specs.Ordering.{is_lt, is_eq, eq_by_cmp}
 use Rattle.std.specs.Option.{option_map}
 use Rattle.std.specs.Cmp.{IsTotalOrder, Equal-is}
 use Rattle.std.specs.FinMap.{IsAntisymmetric, find, put}
 use Rattle.std.specs.FinMap.Entries.{find-put}
-use Rattle.std.specs.List.Sorted.{IsSearchInRange, IsBinarySearchResult, IsSortedBy, IsNonDecreasingBy}
+use Rattle.std.specs.List.Sorted.{IsSearchInRange, IsBinarySearchResult, IsSortedBy}
 use Rattle.std.proofs.lemmas.Bool.{cases_lt}
 use Rattle.std.proofs.lemmas.Cmp.{tied_itself}
 use Rattle.std.proofs.lemmas.List.Sorted.{searchable_from_sorted}
 use Rattle.road_model.specs.Orders.{rises, Lists}
-use Rattle.road_base.proofs.ListMembers.{In, in_from_contains, contains_from_in, in_left, in_right, in_cases, contains_map}
+use Rattle.road_base.proofs.ListMembers.{In, in_from_contains, contains_from_in}
+use Rattle.road_base.proofs.ListMembers.{in_left, in_right, in_cases, contains_map}
 use Rattle.road_base.proofs.Comparisons.{turned}
 use Rattle.back_references.specs.Indexes.{Held, Has, Ascend, IsAmong, Stays, IsChosen}
 use mathlib.Core.Bool.{false≢true}
@@ -37,7 +40,8 @@ contains_either a b x c = elim (in_cases a b x (in_from_contains (a ++ b) x c)) 
 
 -- ---- keys of pairs
 
-pub key_in : {K V : Type 0} (left keys now : List K) (pairs : List (K × V)) (right : List K) → keys ≡ left ++ map (λ p. p.0) pairs
+pub key_in : {K V : Type 0} (left keys now : List K) (pairs : List (K × V)) (right : List K)
+    → keys ≡ left ++ map (λ p. p.0) pairs
     → ((k : K) → Contains keys k → Contains right k) → ((k : K) → Contains now k ↔ Contains right k) → (p : K × V)
     → Contains pairs p → Contains now p.0
 key_in {K = K} {V = V} left keys now pairs right e up same p c =
@@ -66,9 +70,9 @@ module _ {V : Type 0} where
     λ c. elim ((step v).0 c) [
       | inl old ↦ let p = (are v).0 old in (contains_left front (value ∷ []) v p.0, p.1)
       | inr here ↦ (
-          contains_right front (value ∷ []) v (contains_from_in (value ∷ []) v (inl here.0)),
-          subst (λ w. ¬ (Contains gone w)) (sym here.0) here.1,
-        )
+        contains_right front (value ∷ []) v (contains_from_in (value ∷ []) v (inl here.0)),
+        subst (λ w. ¬ (Contains gone w)) (sym here.0) here.1,
+      )
     ],
     λ p. (step v).1 (elim (in_cases front (value ∷ []) v (in_from_contains (front ++ value ∷ []) v p.0)) [
       | inl i ↦ inl ((are v).1 (contains_from_in front v i, p.1))
@@ -186,7 +190,8 @@ module _ {K : Type 0} where
   chosen_here : (front : List K) (key k : K) (Values A B : Type 0) → k ≡ key → (Values ↔ A)
       → Values ↔ IsChosen (Contains (front ++ key ∷ []) k) A B
   chosen_here front key k Values A B e is =
-      let c : Contains (front ++ key ∷ []) k = contains_right front (key ∷ []) k (contains_from_in (key ∷ []) k (inl e)) in (
+      let c : Contains (front ++ key ∷ []) k
+      = contains_right front (key ∷ []) k (contains_from_in (key ∷ []) k (inl e)) in (
         λ h. inl (c, is.0 h),
         λ h. elim h [ inl p ↦ is.1 p.1 | inr p ↦ absurd (p.0 c) ],
       )
@@ -210,7 +215,8 @@ module _ {K : Type 0} where
       )
 
 -- the exchange is made at the keys of the list and at no others
-abbrev pub IsUpTo : {K V : Type 0} → (K → K → Ordering) → List K → Held K V → List (K × V) → List (K × V) → Held K V → Type 0
+abbrev pub IsUpTo : {K V : Type 0} → (K → K → Ordering) → List K → Held K V → List (K × V) → List (K × V) → Held K V
+    → Type 0
 IsUpTo {K} {V} R keys held gone come next = (k : K) (v : V) → Has R next k v
     ↔ IsChosen (Contains keys k) (Stays (Has R held k v) gone come (k, v)) (Has R held k v)
 
@@ -272,10 +278,13 @@ module _ {K V : Type 0} (R : K → K → Ordering) (total : IsTotalOrder R) (exa
       | inr p ↦ inl (p.1, λ c. p.0 (ks (k, v) c))
     ],
     λ s. (upto k v).1 (elim (in_or_out R total exact keys k) [
-      | inl here ↦ inl (here, elim s [
-        | inl q ↦ inl (q.0, λ c. q.1 ((gs (k, v)).0 c))
-        | inr c ↦ inr ((cs (k, v)).1 c)
-      ])
+      | inl here ↦ inl (
+        here,
+        elim s [
+          | inl q ↦ inl (q.0, λ c. q.1 ((gs (k, v)).0 c))
+          | inr c ↦ inr ((cs (k, v)).1 c)
+        ],
+      )
       | inr away ↦ inr (away, elim s [ inl q ↦ q.0 | inr c ↦ absurd (away (ls (k, v) c)) ])
     ]),
   )
@@ -324,7 +333,8 @@ module _ {K V W : Type 0} (R : K → K → Ordering) (f : W → List V) where
   pub ascend_put : (S : V → V → Ordering) → IsTotalOrder R → (key : K) (w : W) (ps : List (K × W))
       → IsTrue (rises S (f w)) → Ascend R S (lists ps) → Ascend R S (lists (put R key w ps))
   ascend_put S total key w ps up old k values e =
-      elim (eq_by_cmp R k key) as (λ b. cond b (Some (f w)) (find R k (lists ps)) ≡ Some values → IsTrue (rises S values)) [
+      elim (eq_by_cmp R k key) as (λ b. cond b (Some (f w)) (find R k (lists ps)) ≡ Some values
+      → IsTrue (rises S values)) [
         | true ↦ λ h. let same : f w ≡ values = cc in subst (λ l. IsTrue (rises S l)) same up
         | false ↦ λ h. old k values h
       ] (sym (lists_put total key w ps k) ∙ e)
@@ -333,7 +343,8 @@ module _ {K V W : Type 0} (R : K → K → Ordering) (f : W → List V) where
       → ((p : K × V) → Contains list p ↔ Contains pairs p) → (k : K) (v : V)
       → IsAmong (find R k (lists ps)) v (Contains base (k, v)) ↔ Contains pairs (k, v)
   of_base ps pairs list base e same is k v =
-      subst (λ (qs : List (K × W)). IsAmong (find R k (lists qs)) v (Contains base (k, v)) ↔ Contains pairs (k, v)) (sym e)
+      subst (λ (qs : List (K × W)). IsAmong (find R k (lists qs)) v (Contains base (k, v)) ↔ Contains pairs (k, v))
+      (sym e)
       (subst (λ (l : List (K × V)). Contains l (k, v) ↔ Contains pairs (k, v)) (sym same) (is (k, v)))
 
 pub none_added : {A : Type 0} (xs more : List A) → more ≡ [] → xs ≡ xs ++ more

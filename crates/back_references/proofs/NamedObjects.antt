@@ -394,7 +394,8 @@ module _ (M : Objects) where
               contains_from_in keys (RelationKey r) (subst (λ k. In k keys) p.0 f.1),
             )
 
-        back : HasMember M r (key x) × Contains keys (RelationKey r) → Contains (flat_map (pairs_at rules M) keys) (x, r)
+        back : HasMember M r (key x) × Contains keys (RelationKey r)
+            → Contains (flat_map (pairs_at rules M) keys) (x, r)
         back (h, c) =
             let e = entry_relation r h.body h.is in
             contains_from_in _ _ (in_flat (pairs_at rules M) keys (RelationKey r) (x, r)
@@ -428,7 +429,8 @@ module _ {A : Type 0} (pairs : Key → Body → List A) (M : Objects) (k : Key) 
 pub refers_same : (M N : Objects) (w : WayId) (n : NodeId) → visible M (WayKey w) ≡ visible N (WayKey w)
     → RefersTo M w n → RefersTo N w n
 unfolding way_of
-refers_same M N w n e r = record { body = r.body; is = ap way_in (sym e) ∙ r.is; highway = r.highway; member = r.member }
+refers_same M N w n e r =
+    record { body = r.body; is = ap way_in (sym e) ∙ r.is; highway = r.highway; member = r.member }
 
 pub member_same : (M N : Objects) (r : RelationId) (k : Key) → visible M (RelationKey r) ≡ visible N (RelationKey r)
     → HasMember M r k → HasMember N r k

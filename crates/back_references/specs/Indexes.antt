@@ -30,5 +30,6 @@ abbrev pub IsChosen : Type 0 → Type 0 → Type 0 → Type 0
 IsChosen Condition This That = (Condition × This) ⊎ ((¬ Condition) × That)
 
 -- the second has what the first has, without the pairs that are gone and with those that came
-abbrev pub IsExchanged : {K V : Type 0} → (K → K → Ordering) → Held K V → List (K × V) → List (K × V) → Held K V → Type 0
+abbrev pub IsExchanged : {K V : Type 0} → (K → K → Ordering) → Held K V → List (K × V) → List (K × V) → Held K V
+    → Type 0
 IsExchanged {K} {V} R old gone come new = (k : K) (v : V) → Has R new k v ↔ Stays (Has R old k v) gone come (k, v)

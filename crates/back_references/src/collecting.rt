@@ -86,7 +86,11 @@ pub fn way_rules_at(
     Ok(pairs)
 }
 
-fn add_way_references_at(objects: &Objects, key: Key, pairs: &mut Vec<(NodeId, WayId)>) -> Result<(), NoMemory>
+fn add_way_references_at(
+    objects: &Objects,
+    key: Key,
+    pairs: &mut Vec<(NodeId, WayId)>,
+) -> Result<(), NoMemory>
     ensures { OnOk result (pairs.new.items ≡ pairs.old.items ++ way_references_at objects.now key) }
 {
     match objects.get(key) {
@@ -113,7 +117,11 @@ fn add_nodes(nodes: &[NodeId], way: WayId, pairs: &mut Vec<(NodeId, WayId)>) -> 
     Ok(())
 }
 
-fn add_node_rules_at(objects: &Objects, key: Key, pairs: &mut Vec<(NodeId, RelationId)>) -> Result<(), NoMemory>
+fn add_node_rules_at(
+    objects: &Objects,
+    key: Key,
+    pairs: &mut Vec<(NodeId, RelationId)>,
+) -> Result<(), NoMemory>
     ensures { OnOk result (pairs.new.items ≡ pairs.old.items ++ node_rules_at objects.now key) }
 {
     match objects.get(key) {
@@ -157,7 +165,11 @@ fn add_node(
     }
 }
 
-fn add_way_rules_at(objects: &Objects, key: Key, pairs: &mut Vec<(WayId, RelationId)>) -> Result<(), NoMemory>
+fn add_way_rules_at(
+    objects: &Objects,
+    key: Key,
+    pairs: &mut Vec<(WayId, RelationId)>,
+) -> Result<(), NoMemory>
     ensures { OnOk result (pairs.new.items ≡ pairs.old.items ++ way_rules_at objects.now key) }
 {
     match objects.get(key) {

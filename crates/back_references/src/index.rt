@@ -123,7 +123,12 @@ impl<K: Ord + Copy + Numbered, V: Ord + Copy> Index<K, V> {
     }
 
     /// The values of the key without those that are gone, with those that came, ascending.
-    fn values_after(&self, key: K, gone: &PairList<K, V>, come: &PairList<K, V>) -> Result<Vec<V>, NoMemory>
+    fn values_after(
+        &self,
+        key: K,
+        gone: &PairList<K, V>,
+        come: &PairList<K, V>,
+    ) -> Result<Vec<V>, NoMemory>
         requires keys { IsAntisymmetric K.cmp }
         requires values { IsAntisymmetric V.cmp }
         ensures ascending { IfOk result (λ r. IsTrue (rises V.cmp r.items)) }
@@ -151,7 +156,10 @@ impl<K: Ord + Copy + Numbered, V: Ord + Copy> Index<K, V> {
 }
 
 /// The values of a key in the base, ascending.
-fn values_in<K: Ord + Copy + Numbered, V: Ord + Copy>(base: &Option<Rc<PairList<K, V>>>, key: K) -> &[V]
+fn values_in<K: Ord + Copy + Numbered, V: Ord + Copy>(
+    base: &Option<Rc<PairList<K, V>>>,
+    key: K,
+) -> &[V]
     requires { IsAntisymmetric K.cmp }
     ensures { Lists (λ v. v) V.cmp (λ v. Contains (base_pairs base.now) (key, v)) result.now }
 {

@@ -95,9 +95,12 @@ impl Indexed {
         ensures after { IfOk result (λ p. IsApplied self.old events.now p.after) }
     {
         let fresh = self.objects.prepare(events)?;
-        let references = self
-            .references
-            .exchanged(self.alloc, fresh.before(), fresh.after(), fresh.keys().items())?;
+        let references = self.references.exchanged(
+            self.alloc,
+            fresh.before(),
+            fresh.after(),
+            fresh.keys().items(),
+        )?;
         let next = Indexed {
             alloc: self.alloc,
             objects: fresh.after().copy()?,

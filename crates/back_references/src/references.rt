@@ -11,7 +11,9 @@ ghost use Rattle.road_model.specs.Links.{RefersTo, HasMember};
 ghost use Rattle.road_model.specs.Orders.{Lists, node_cmp, way_cmp, relation_cmp};
 ghost use Rattle.back_references.specs.Indexes.{Has};
 
-use crate::collecting::{node_rules_at, node_rules_in, way_references_at, way_references_in, way_rules_at, way_rules_in};
+use crate::collecting::{
+    node_rules_at, node_rules_in, way_references_at, way_references_in, way_rules_at, way_rules_in,
+};
 use crate::index::Index;
 use object_store::{Base, Objects};
 use road_base::laws::key_order;

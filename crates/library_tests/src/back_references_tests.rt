@@ -146,7 +146,10 @@ fn links_of_a_deleted_way_go(rt: HostRuntime) -> Result<(), Fail> {
     let cases: [(NodeId, &[WayId]); 2] = [(NodeId(1), &[]), (NodeId(2), &[WayId(12)])];
     assert!(rt; refer(&world, &cases));
     assert!(rt; rules(&world, NodeId(2), &[WayId(10)]));
-    assert_eq!(rt; world.events()?.len(), world.objects().listed()?.items().len());
+    assert_eq!(rt;
+        world.events()?.len(),
+        world.objects().listed()?.items().len()
+    );
     Ok(())
 }
 
@@ -171,13 +174,28 @@ fn later(event: Event, version: u32) -> Event {
 /// restriction 30 turned into another relation and back.
 fn changes(alloc: Global) -> Result<Vec<Event>, Fail> {
     let mut list = town(alloc)?;
-    add(&mut list, Ok(later(way(alloc, 10, "highway=yes", &[NodeId(2), NodeId(3)])?, 2)))?;
+    add(
+        &mut list,
+        Ok(later(way(alloc, 10, "highway=yes", &[NodeId(2), NodeId(3)])?, 2)),
+    )?;
     add(&mut list, Ok(deletion(Key::Way(WayId(12)), 2)))?;
-    add(&mut list, Ok(later(way(alloc, 12, "highway=yes", &[NodeId(1)])?, 3)))?;
-    add(&mut list, Ok(later(way(alloc, 10, "waterway=yes", &[NodeId(1)])?, 3)))?;
+    add(
+        &mut list,
+        Ok(later(way(alloc, 12, "highway=yes", &[NodeId(1)])?, 3)),
+    )?;
+    add(
+        &mut list,
+        Ok(later(way(alloc, 10, "waterway=yes", &[NodeId(1)])?, 3)),
+    )?;
     add(&mut list, Ok(later(relation(alloc, 30, "type=route")?, 2)))?;
-    add(&mut list, Ok(later(relation(alloc, 30, "type=restriction")?, 3)))?;
-    add(&mut list, Ok(later(way(alloc, 10, "highway=yes", &[NodeId(1), NodeId(9)])?, 4)))?;
+    add(
+        &mut list,
+        Ok(later(relation(alloc, 30, "type=restriction")?, 3)),
+    )?;
+    add(
+        &mut list,
+        Ok(later(way(alloc, 10, "highway=yes", &[NodeId(1), NodeId(9)])?, 4)),
+    )?;
     add(&mut list, Ok(way(alloc, 10, "highway=yes", &[NodeId(5)])?))?;
     Ok(list)
 }
@@ -207,7 +225,10 @@ fn is_followed(alloc: Global, events: &[Event]) -> Result<bool, NoMemory> {
         let prepared = world.prepare(&events[at..at + 1])?;
         let foreseen = have_same_links(&Next::of(&world, &prepared), &made);
         world.commit(prepared);
-        if !foreseen || !have_same_links(&world, &made) || !are_same(&world.events()?, &made.events()?) {
+        if !foreseen
+            || !have_same_links(&world, &made)
+            || !are_same(&world.events()?, &made.events()?)
+        {
             return Ok(false);
         }
     }

@@ -1,7 +1,8 @@
 -- What no event and what one event leaves of an object map.
-use Rattle.std.proofs.Common.{◌≡◌, true, false, cond, List, [], ◌∷◌, ◌++◌, map, filter, Option, Some, None, refl, sym, ap, ◌∙◌}
-use Rattle.std.proofs.Common.{subst, Bool}
-use Rattle.std.specs.Ordering.{is_eq, eq_by_cmp}
+use Rattle.std.proofs.Common.{◌≡◌, true, false, cond, [], ◌∷◌, ◌++◌, map}
+use Rattle.std.proofs.Common.{filter, Option, Some, None, refl, sym, ap, ◌∙◌}
+use Rattle.std.proofs.Common.{Bool}
+use Rattle.std.specs.Ordering.{eq_by_cmp}
 use Rattle.std.specs.Option.{option_to_list}
 use Rattle.std.specs.Cmp.{Equal-is}
 use Rattle.std.specs.FinMap.{IsAntisymmetric, get}
@@ -25,7 +26,8 @@ Comes M e stands = first_greatest (option_to_list (get M e.key) ++ entry_of e �
 module _ (exact : IsAntisymmetric key_cmp) (M N : Objects) (e : Event) where
   left_of_one : (k : Key) (b : Bool) → is_of k e ≡ b → (o : Option Entry)
       → (b ≡ true → o ≡ first_greatest (option_to_list (get M e.key) ++ entry_of e ∷ []))
-      → (b ≡ false → o ≡ get M k) → o ≡ first_greatest (option_to_list (get M k) ++ map entry_of (filter (is_of k) (e ∷ [])))
+      → (b ≡ false → o ≡ get M k)
+      → o ≡ first_greatest (option_to_list (get M k) ++ map entry_of (filter (is_of k) (e ∷ [])))
   left_of_one k true t o here other =
       here refl
       ∙ ap (λ n. first_greatest (option_to_list (get M n) ++ entry_of e ∷ [])) (sym (exact _ _ ((Equal-is _).0 t)))

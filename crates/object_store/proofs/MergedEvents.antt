@@ -1,11 +1,12 @@
 -- What is listed anew: the entries of a base at whose keys nothing has changed, and the changed ones.
-use Rattle.std.proofs.Common.{◌≡◌, true, false, cond, not, List, [], ◌∷◌, ◌++◌, map, filter, Option, Some, None, is_some, inl, inr}
-use Rattle.std.proofs.Common.{◌⊎◌, refl, sym, ap, ◌∙◌, subst, Bool, Ordering, Contains}
-use Rattle.std.specs.declared.cmp.Ordering.TheVariants.{Less, Equal, Greater}
+use Rattle.std.proofs.Common.{◌≡◌, true, false, cond, not, List, [], ◌∷◌}
+use Rattle.std.proofs.Common.{◌++◌, map, filter, Option, Some, None, is_some, inl, inr}
+use Rattle.std.proofs.Common.{refl, sym, ap, ◌∙◌, Bool}
+use Rattle.std.specs.declared.cmp.Ordering.TheVariants.{Less, Equal}
 use Rattle.std.specs.Ordering.{is_eq, eq_by_cmp}
 use Rattle.std.specs.Option.{option_map, option_to_list}
 use Rattle.std.specs.Cmp.{IsTotalOrder, Equal-is}
-use Rattle.std.specs.FinMap.{IsAntisymmetric, empty, get, find, entries, get-entries, get-empty}
+use Rattle.std.specs.FinMap.{IsAntisymmetric, empty, get, find, entries, get-entries}
 use Rattle.std.proofs.lemmas.List.{map-append}
 use Rattle.std.proofs.lemmas.List.Elements.{filter-append}
 use Rattle.road_base.specs.declared.ids.Key.{Key}
@@ -16,7 +17,7 @@ use Rattle.road_base.proofs.ListMembers.{In, contains_head, contains_later}
 use Rattle.object_store.specs.Listed.{IsInOrder, pair_of}
 use Rattle.object_store.specs.Overlay.{over, AreKeyed}
 use Rattle.object_store.specs.Trees.{Rise}
-use Rattle.object_store.proofs.InOrder.{own, none_kept}
+use Rattle.object_store.proofs.InOrder.{own}
 use Rattle.object_store.proofs.StandingEvents.{entries_in, of_nothing}
 use Rattle.object_store.proofs.SplitPairs.{above_first, right_rises}
 use Rattle.object_store.proofs.Overlays.{overlaid, over_got}
@@ -90,7 +91,8 @@ module _ (total : IsTotalOrder key_cmp) (exact : IsAntisymmetric key_cmp) where
       let behind : AreKeyed ps = λ q c. keyed q (contains_later p q ps c) in
       let here : is_of k p.1 ≡ eq_by_cmp key_cmp k p.0
       = ap (λ m. is_eq (key_cmp k m)) (keyed p (contains_head p ps)) in
-      ap (λ b. map entry_of (cond b (p.1 ∷ filter (is_of k) (map (λ q. q.1) ps)) (filter (is_of k) (map (λ q. q.1) ps))))
+      ap (λ b. map entry_of (cond b (p.1 ∷ filter (is_of k) (map (λ q. q.1) ps))
+      (filter (is_of k) (map (λ q. q.1) ps))))
       here
       ∙ elim (eq_by_cmp key_cmp k p.0) as (λ t. eq_by_cmp key_cmp k p.0 ≡ t
       → map entry_of (cond t (p.1 ∷ filter (is_of k) (map (λ q. q.1) ps)) (filter (is_of k) (map (λ q. q.1) ps)))

@@ -1,6 +1,6 @@
 -- What is found in an object map with changed entries over it.
-use Rattle.std.proofs.Common.{◌≡◌, true, false, cond, IsTrue, List, [], ◌∷◌, ◌++◌, Option, Some, None, inl, inr, ◌⊎◌, refl, sym, ap}
-use Rattle.std.proofs.Common.{◌∙◌, subst, Ordering, Bool, Contains}
+use Rattle.std.proofs.Common.{◌≡◌, true, false, cond, List, [], ◌∷◌, Option, Some, None, inl, inr, ◌⊎◌, refl, sym, ap}
+use Rattle.std.proofs.Common.{◌∙◌, Ordering, Bool}
 use Rattle.std.specs.declared.cmp.Ordering.TheVariants.{Less, Equal, Greater}
 use Rattle.std.specs.Ordering.{is_eq, eq_by_cmp}
 use Rattle.std.specs.Cmp.{IsTotalOrder, Equal-is}
@@ -58,8 +58,10 @@ put_member k e (p ∷ ps) q i =
         | inr j ↦ inl j
       ]
       | Equal ↦ λ t. elim [
-        | inl h ↦ inr (ap (λ (p : Key × Event). p.1) h,
-            inr (ap (λ (p : Key × Event). key_cmp k p.0) h ∙ t))
+        | inl h ↦ inr (
+          ap (λ (p : Key × Event). p.1) h,
+          inr (ap (λ (p : Key × Event). key_cmp k p.0) h ∙ t),
+        )
         | inr j ↦ inl (inr j)
       ]
       | Greater ↦ λ t. elim [

@@ -1,10 +1,9 @@
 -- Bodies that can't differ are the same.
-use Rattle.std.proofs.Common.{◌≡◌, ℕ, ◌<◌, Option, Some, None, List, Contains, inl, inr, refl, sym, ap, subst, arith}
+use Rattle.std.proofs.Common.{◌≡◌, ℕ, List, Contains, inl, inr, refl, ap, arith}
 use base.Stored.{Gv, gnil, gnum, gcons}
 use Rattle.std.specs.Coded.{Coded, coded_option}
 use Rattle.std.proofs.lemmas.Bool.{cases_lt}
 use Rattle.road_base.specs.declared.ids.Key.{Key}
-use Rattle.road_base.specs.declared.objects.Body.{Body}
 use Rattle.road_base.specs.Objects.{Objects, visible}
 use Rattle.road_model.specs.Links.{AreChanged}
 use Rattle.object_store.specs.Codes.{coded_body}
@@ -45,7 +44,8 @@ same_code (gcons a b) (gcons c d) h =
     λ i. gcons (f i) (s i)
 
 pub same_coded : {A : Type 0} → Coded A → (x y : A) → ¬ (¬ (x ≡ y)) → x ≡ y
-same_coded coded x y h = coded.inj x y (same_code (coded.code x) (coded.code y) (λ differ. h (λ e. differ (ap coded.code e))))
+same_coded coded x y h =
+    coded.inj x y (same_code (coded.code x) (coded.code y) (λ differ. h (λ e. differ (ap coded.code e))))
 
 pub same_else : (M N : Objects) (keys : List Key) → AreChanged M N keys → (k : Key) → ¬ (Contains keys k)
     → visible M k ≡ visible N k

@@ -1,13 +1,13 @@
 -- What is found in a tree, and where an entry is put.
-use Rattle.std.proofs.Common.{◌≡◌, IsTrue, List, [], ◌∷◌, ◌++◌, Option, Some, Result, Ok, Err, IfOk}
-use Rattle.std.proofs.Common.{refl, sym, ap, ◌∙◌, subst, Ordering}
+use Rattle.std.proofs.Common.{◌≡◌, List, [], ◌∷◌, ◌++◌, Option, Some, Result, Ok, Err, IfOk}
+use Rattle.std.proofs.Common.{sym, ap, ◌∙◌, subst, Ordering}
 use Rattle.std.specs.declared.cmp.Ordering.TheVariants.{Less, Equal, Greater}
 use Rattle.std.specs.Cmp.{IsTotalOrder}
 use Rattle.std.specs.FinMap.{find, put}
 use Rattle.object_store.specs.declared.tree.Fork.{Fork}
-use Rattle.object_store.specs.declared.tree.Tree.{Tree}
 use Rattle.object_store.specs.Trees.{pair, in_order, in_fork, Rise}
-use Rattle.object_store.proofs.SplitPairs.{left_rises, right_rises, find_low, find_here, find_high, put_low, put_here, put_high}
+use Rattle.object_store.proofs.SplitPairs.{left_rises, right_rises, find_low, find_here}
+use Rattle.object_store.proofs.SplitPairs.{find_high, put_low, put_here, put_high}
 
 module _ {K V : Type 0} (R : K → K → Ordering) (total : IsTotalOrder R) (l : List (K × V)) (f : Fork K V)
     (whole : l ≡ in_fork f) (h : Rise R l) where

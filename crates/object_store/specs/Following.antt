@@ -1,5 +1,5 @@
 -- A change of an object map, found and not made yet.
-use Rattle.std.specs.Prelude.{◌≡◌, List, refl}
+use Rattle.std.specs.Prelude.{List, refl}
 use Rattle.std.specs.Coded.{Coded, code_by, coded×, coded_list}
 use Rattle.road_base.specs.declared.ids.Key.{Key}
 use Rattle.road_base.specs.declared.event.Event.{Event}

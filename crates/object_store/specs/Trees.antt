@@ -1,5 +1,5 @@
 -- The entries of a search tree.
-use Rattle.std.specs.Prelude.{ℕ, List, [], ◌∷◌, ◌++◌, IsTrue}
+use Rattle.std.specs.Prelude.{List, [], ◌∷◌, ◌++◌, IsTrue}
 use Rattle.std.specs.FinMap.{is_sorted}
 use Rattle.std.specs.declared.cmp.Ordering.{Ordering}
 use Rattle.object_store.specs.declared.tree.Entry.{Entry}

@@ -231,7 +231,12 @@ fn turned_up<K: Copy, V: Drop>(
 {
     match &low.above {
         Tree::Fork(middle) if middle.height > low.below.height() => {
-            let left = joined(alloc, low.below.share()?, low.entry.share()?, middle.below.share()?)?;
+            let left = joined(
+                alloc,
+                low.below.share()?,
+                low.entry.share()?,
+                middle.below.share()?,
+            )?;
             let right = joined(alloc, middle.above.share()?, entry, above)?;
             joined(alloc, left, middle.entry.share()?, right)
         }
@@ -288,6 +293,11 @@ fn over_middle<K: Copy, V: Drop>(
     ensures { IfOk result (λ t. in_order t ≡ in_order left ++ pair middle.now.entry
         ∷ (in_order middle.now.above ++ pair high.now.entry ∷ in_order high.now.above)) }
 {
-    let right = joined(alloc, middle.above.share()?, high.entry.share()?, high.above.share()?)?;
+    let right = joined(
+        alloc,
+        middle.above.share()?,
+        high.entry.share()?,
+        high.above.share()?,
+    )?;
     joined(alloc, left, middle.entry.share()?, right)
 }

@@ -13,7 +13,8 @@ returns-in-Some c =
     let same = at_some (λ k body. with_way k (highway_nodes body)) M c.args.key e
     (sym c.get.ensures.entry ∙ ap (λ o. option_map entry_of (option_copied o)) c.in-Some.is)
     (subst (λ o. IfSome (option_copied o) (λ x. x.key ≡ c.args.key)) c.in-Some.is c.get.ensures.key) in
-    subst (λ l. OnOk c.add_way_references.result (c.add_way_references.new.pairs.items ≡ c.args.pairs.now.items ++ l)) same
+    subst (λ l. OnOk c.add_way_references.result
+    (c.add_way_references.new.pairs.items ≡ c.args.pairs.now.items ++ l)) same
     c.add_way_references.ensures
 
 pub returns-in-None : goal.returns-in-None

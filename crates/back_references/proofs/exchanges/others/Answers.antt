@@ -1,4 +1,4 @@
-use Rattle.std.proofs.Common.{◌≡◌, ◌+◌, [], ◌∷◌, ◌++◌, List, take, sym, ap, ◌∙◌, subst, take_all}
+use Rattle.std.proofs.Common.{◌≡◌, ◌+◌, [], ◌∷◌, ◌++◌, take, sym, ap, ◌∙◌, subst, take_all}
 use Rattle.std.proofs.lemmas.List.{take_more}
 use Rattle.back_references.proofs.IndexLists.{AreOthers, others_none, others_more}
 use Rattle.back_references.proofs.exchanges.others.Goals as goal

@@ -3,7 +3,7 @@ use Rattle.std.proofs.lemmas.List.{take_more}
 use Rattle.road_base.specs.declared.event.Event.{Event}
 use Rattle.road_base.specs.Applying.{entry_of}
 use Rattle.road_base.specs.Objects.{Objects}
-use Rattle.object_store.specs.Listed.{objects_of, IsInOrder}
+use Rattle.object_store.specs.Listed.{IsInOrder}
 use Rattle.object_store.specs.Changes.{Alters}
 use Rattle.object_store.proofs.ChangedKeys.{IsPicked, AltersIn, none_picked, picked_one, picked_not, take_in_order}
 use Rattle.object_store.proofs.ChangedKeys.{changed}

@@ -1,5 +1,4 @@
 use Rattle.std.proofs.Common.{take}
-use Rattle.object_store.specs.Listed.{objects_of}
 use Rattle.object_store.proofs.ChangedKeys.{IsPicked, AltersIn}
 use Rattle.object_store.proofs.changes.changed_keys.Given as goal
 

@@ -1,8 +1,7 @@
-use Rattle.std.proofs.Common.{List, cond, is_some, [], ap, sym, subst, ◌∙◌}
+use Rattle.std.proofs.Common.{cond, is_some, [], ap, sym, ◌∙◌}
 use Rattle.std.specs.Option.{option_to_list}
-use Rattle.std.specs.FinMap.{empty, get, find, get-empty}
-use Rattle.road_base.specs.Objects.{Objects, Entry, key_cmp}
-use Rattle.road_base.specs.Applying.{entries_for}
+use Rattle.std.specs.FinMap.{get, find, get-empty}
+use Rattle.road_base.specs.Objects.{Objects, key_cmp}
 use Rattle.object_store.specs.Overlay.{base_objects}
 use Rattle.object_store.proofs.Trees.{if_ok}
 use Rattle.object_store.proofs.MergedEvents.{none_stay, some_stay}

@@ -1,4 +1,4 @@
-use Rattle.std.proofs.Common.{◌≡◌, Some, cond, map, ap, sym, subst, ◌∙◌}
+use Rattle.std.proofs.Common.{Some, cond, map, ap, sym, subst, ◌∙◌}
 use Rattle.std.specs.FinMap.{find}
 use Rattle.std.specs.Ordering.{eq_by_cmp}
 use Rattle.back_references.specs.Indexes.{Ascend}

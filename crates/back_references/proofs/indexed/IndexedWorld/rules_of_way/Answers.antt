@@ -1,10 +1,10 @@
-use Rattle.std.proofs.Common.{subst, Contains}
+use Rattle.std.proofs.Common.{subst}
 use Rattle.road_base.specs.declared.ids.Key.TheVariants.{Way as WayKey}
 use Rattle.road_model.specs.Links.{HasMember}
 use Rattle.road_model.specs.Orders.{Lists, relation_cmp}
 use Rattle.road_model.proofs.JoinedLists.{lists_same}
 use Rattle.back_references.specs.Indexes.{Has}
-use Rattle.road_model.specs.Orders.{node_cmp, way_cmp as by_way}
+use Rattle.road_model.specs.Orders.{way_cmp as by_way}
 use Rattle.back_references.proofs.indexed.IndexedWorld.rules_of_way.Goals as goal
 
 pub returns : goal.returns

@@ -1,8 +1,8 @@
 use Rattle.std.proofs.Common.{◌↔◌, Contains, sym, subst}
-use Rattle.road_base.specs.declared.ids.Key.TheVariants.{Node as NodeKey, Way as WayKey, Relation as RelationKey}
+use Rattle.road_base.specs.declared.ids.Key.TheVariants.{Way as WayKey}
 use Rattle.road_base.specs.Objects.{key_cmp}
-use Rattle.road_model.specs.Links.{RefersTo, HasMember}
-use Rattle.road_model.specs.Orders.{node_cmp, way_cmp}
+use Rattle.road_model.specs.Links.{RefersTo}
+use Rattle.road_model.specs.Orders.{node_cmp}
 use Rattle.back_references.specs.Indexes.{Has}
 use Rattle.back_references.proofs.IndexLists.{if_ok, chained, link_after, in_or_out}
 use Rattle.back_references.proofs.NamedObjects.{way_links_at, refers_same}

@@ -1,4 +1,4 @@
-use Rattle.std.proofs.Common.{sym, subst, ap, ◌∙◌}
+use Rattle.std.proofs.Common.{sym, subst}
 use Rattle.road_base.specs.Applying.{IsApplied}
 use Rattle.object_store.proofs.StandingEvents.{standing_back}
 use Rattle.object_store.proofs.objects.Objects.following.Goals as goal

@@ -11,7 +11,7 @@ returns-in-Some-clause-entry c =
     let changed = c.self.inside.changed in
     let below = base_objects c.self.inside.base in
     let found : find key_cmp k changed ≡ Some c.in-Some.event.now =
-        sym (find_by _ c.key_order.ensures.by_cmp k changed) ∙ sym c.get.ensures ∙ ap option_copied c.in-Some.is in
+    sym (find_by _ c.key_order.ensures.by_cmp k changed) ∙ sym c.get.ensures ∙ ap option_copied c.in-Some.is in
     sym (ap (λ M. get M k) (sym c.self.view_is) ∙ over_got c.key_order.ensures.total changed below k
     ∙ ap (λ o. overlaid o (get below k)) found)
 
@@ -20,7 +20,7 @@ returns-in-Some-clause-key c =
     let k = c.args.key in
     let changed = c.self.inside.changed in
     let found : find key_cmp k changed ≡ Some c.in-Some.event.now =
-        sym (find_by _ c.key_order.ensures.by_cmp k changed) ∙ sym c.get.ensures ∙ ap option_copied c.in-Some.is in
+    sym (find_by _ c.key_order.ensures.by_cmp k changed) ∙ sym c.get.ensures ∙ ap option_copied c.in-Some.is in
     found_keyed c.key_order.ensures.total c.key_order.ensures.ties k changed c.in-Some.event.now c.self.invariant found
 
 pub returns-in-None-clause-entry : goal.returns-in-None-clause-entry
@@ -29,6 +29,6 @@ returns-in-None-clause-entry c =
     let changed = c.self.inside.changed in
     let below = base_objects c.self.inside.base in
     let found : find key_cmp k changed ≡ None =
-        sym (find_by _ c.key_order.ensures.by_cmp k changed) ∙ sym c.get.ensures ∙ ap option_copied c.in-None.is in
+    sym (find_by _ c.key_order.ensures.by_cmp k changed) ∙ sym c.get.ensures ∙ ap option_copied c.in-None.is in
     c.entry_in.ensures.entry ∙ sym (ap (λ M. get M k) (sym c.self.view_is)
     ∙ over_got c.key_order.ensures.total changed below k ∙ ap (λ o. overlaid o (get below k)) found)

@@ -1,5 +1,5 @@
-use Rattle.std.proofs.Common.{Ordering, map, ap, sym, subst, ◌∙◌}
-use Rattle.std.specs.FinMap.{get, same_map}
+use Rattle.std.proofs.Common.{Ordering, map, ap, subst, ◌∙◌}
+use Rattle.std.specs.FinMap.{same_map}
 use Rattle.road_base.specs.declared.ids.Key.{Key}
 use Rattle.road_base.specs.Objects.{Objects, key_cmp}
 use Rattle.object_store.specs.Overlay.{over, base_objects}
