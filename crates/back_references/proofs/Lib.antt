@@ -3,3 +3,4 @@ pub mod Parts
 pub mod SortedPairs
 pub mod NamedObjects
 pub mod HighwayLists
+mod IndexLists

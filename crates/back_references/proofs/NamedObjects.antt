@@ -23,7 +23,11 @@ use Rattle.object_store.specs.Listed.{is_way, is_relation, AreEntriesOf}
 use Rattle.back_references.specs.declared.references.References.{References}
 use Rattle.back_references.specs.Indexing.{IsIndexed}
 use Rattle.back_references.specs.References.{highway_nodes, rule_members, with_way, way_references, node_pair, way_pair}
-use Rattle.back_references.specs.References.{nodes_with_rule, ways_with_rule, node_rules, way_rules}
+use Rattle.back_references.specs.References.{nodes_with_rule, ways_with_rule, node_rules, way_rules, pairs_at}
+use Rattle.back_references.specs.References.{way_references_at, node_rules_at, way_rules_at}
+use Rattle.back_references.specs.Indexes.{Held, Has}
+use Rattle.road_model.specs.Orders.{node_cmp, way_cmp}
+use Rattle.std.proofs.Common.{Ordering}
 use Rattle.road_base.proofs.ListMembers.{In, in_from_contains, contains_from_in, in_flat, from_flat, in_map, from_map}
 
 -- ---- the pairs of one event
@@ -178,25 +182,28 @@ unfolding relation_of visible
 no_relation r k h = let e = relation_there (get empty (RelationKey r)) h.body h.is in let f = get-empty {X = Entry}
     key_cmp (RelationKey r) in let g = e.1 in cc
 
-nothing_in : {A : Type 0} (xs : List A) (a : A) → xs ≡ [] → Contains xs a → ⊥
-nothing_in xs a e c = subst (λ l. In a l) e (in_from_contains xs a c)
+nothing_in : {K V : Type 0} (R : K → K → Ordering) (held : Held K V) (k : K) (v : V) → held ≡ ([], []) → Has R held k v
+    → ⊥
+nothing_in {K} {V} R held k v e h = in_from_contains {A = K × V} [] (k, v) (subst (λ (it : Held K V). Has R it k v) e h)
 
-pub empty_indexed : (held : References) → held.ways ≡ [] → held.node_rules ≡ [] → held.way_rules ≡ []
-    → IsIndexed empty held
+pub empty_indexed : (held : References) → held.ways ≡ ([], []) → held.node_rules ≡ ([], [])
+    → held.way_rules ≡ ([], []) → IsIndexed empty held
 empty_indexed held ways nodes rules = record {
-  ways = λ n w. (λ c. absurd (nothing_in held.ways (n, w) ways c), λ h. absurd (no_way w n h));
+  ways = λ n w. (λ c. absurd (nothing_in node_cmp held.ways n w ways c), λ h. absurd (no_way w n h));
   node_rules = λ n r. (
-    λ c. absurd (nothing_in held.node_rules (n, r) nodes c),
-    λ h. absurd
-        (no_relation r (NodeKey n) h),
+    λ c. absurd (nothing_in node_cmp held.node_rules n r nodes c),
+    λ h. absurd (no_relation r (NodeKey n) h),
   );
-  way_rules = λ w r. (λ c. absurd (nothing_in held.way_rules (w, r) rules c), λ h. absurd (no_relation r (WayKey w) h));
+  way_rules = λ w r. (
+    λ c. absurd (nothing_in way_cmp held.way_rules w r rules c),
+    λ h. absurd (no_relation r (WayKey w) h),
+  );
 }
 
 -- ---- entries of one kind
 
 module _ (M : Objects) where
-  way_shown : (x : Event) (w : WayId) (v : Way) → get M (WayKey w) ≡ Some (entry_of x) → x.body ≡ WayBody v
+  way_shown : (x : Entry) (w : WayId) (v : Way) → get M (WayKey w) ≡ Some x → x.body ≡ WayBody v
       → way_of M w ≡ Some v
   unfolding way_of visible
   way_shown x w v h e = ap (λ o. way_in (body_in o)) h ∙ shown x.body v e
@@ -214,7 +221,7 @@ module _ (M : Objects) where
       shown (RelationBody r) v e = cc
       shown Deleted v e = cc
 
-  relation_shown : (x : Event) (r : RelationId) (q : Relation) → get M (RelationKey r) ≡ Some (entry_of x)
+  relation_shown : (x : Entry) (r : RelationId) (q : Relation) → get M (RelationKey r) ≡ Some x
       → x.body ≡ RelationBody q → relation_of M r ≡ Some q
   unfolding relation_of visible
   relation_shown x r q h e = ap (λ o. relation_in (body_in o)) h ∙ shown x.body q e
@@ -266,7 +273,7 @@ module _ (M : Objects) where
           let q = from_highway (f.0).body n p.1 in
           record {
             body = q.0;
-            is = way_shown f.0 w q.0 (item_found is_way items are f.0 (WayKey w) f.1 p.0) q.1;
+            is = way_shown (entry_of f.0) w q.0 (item_found is_way items are f.0 (WayKey w) f.1 p.0) q.1;
             highway = q.2;
             member = contains_from_in _ _ q.3;
           }
@@ -297,7 +304,7 @@ module _ (M : Objects) where
             let q = from_rule (f.0).body (key x) p.1 in
             record {
               body = q.0;
-              is = relation_shown f.0 r q.0
+              is = relation_shown (entry_of f.0) r q.0
                   (item_found is_relation items are f.0 (RelationKey r) f.1 p.0) q.1;
               restriction = q.2;
               member
@@ -321,3 +328,112 @@ module _ (M : Objects) where
       → Contains (flat_map way_rules items) (w, r) ↔ HasMember M r (WayKey w)
   rule_links = member_links WayKey way_rules (λ e. in_way_rules e.key (rule_members e.body))
       (λ e. from_way_rules e.key (rule_members e.body))
+
+  -- ---- the pairs of some keys are the links of these
+
+  module _ {A : Type 0} (pairs : Key → Body → List A) (z : A) where
+    from_entry : (k : Key) (o : Option Entry) → In z (elim o [ None ↦ [] | Some entry ↦ pairs k entry.body ])
+        → (e : Entry) × (o ≡ Some e) × In z (pairs k e.body)
+    from_entry k None i = absurd i
+    from_entry k (Some e) i = (e, refl, i)
+
+    in_entry : (k : Key) (o : Option Entry) (e : Entry) → o ≡ Some e → In z (pairs k e.body)
+        → In z (elim o [ None ↦ [] | Some entry ↦ pairs k entry.body ])
+    in_entry k o e is i =
+        subst (λ x. In z (elim x [ None ↦ [] | Some entry ↦ pairs k entry.body ])) (sym is) i
+
+  pub way_links_at : (keys : List Key) (n : NodeId) (w : WayId)
+      → Contains (flat_map (way_references_at M) keys) (n, w) ↔ (RefersTo M w n × Contains keys (WayKey w))
+  way_links_at keys n w = (to, back)
+    where
+      to : Contains (flat_map (way_references_at M) keys) (n, w) → RefersTo M w n × Contains keys (WayKey w)
+      to c =
+          let f = from_flat (way_references_at M) keys (n, w) (in_from_contains _ _ c) in
+          let a = from_entry (λ k body. with_way k (highway_nodes body)) (n, w) f.0 (get M f.0) f.2 in
+          let p = from_references f.0 (highway_nodes (a.0).body) n w a.2 in
+          let q = from_highway (a.0).body n p.1 in (
+            record {
+              body = q.0;
+              is = way_shown a.0 w q.0 (ap (get M) (sym p.0) ∙ a.1) q.1;
+              highway = q.2;
+              member = contains_from_in _ _ q.3;
+            },
+            contains_from_in keys (WayKey w) (subst (λ k. In k keys) p.0 f.1),
+          )
+
+      back : RefersTo M w n × Contains keys (WayKey w) → Contains (flat_map (way_references_at M) keys) (n, w)
+      back (r, c) =
+          let e = entry_way w r.body r.is in
+          contains_from_in _ _ (in_flat (way_references_at M) keys (WayKey w) (n, w)
+          (in_from_contains keys (WayKey w) c)
+          (in_entry (λ k body. with_way k (highway_nodes body)) (n, w) (WayKey w) (get M (WayKey w)) e.0 e.1
+          (in_references (WayKey w) (highway_nodes (e.0).body) n w refl
+          (in_highway (e.0).body r.body n e.2 r.highway (in_from_contains _ _ r.member)))))
+
+  module _ {X : Type 0} (key : X → Key) (rules : Key → Body → List (X × RelationId))
+      (into : (k : Key) (body : Body) (x : X) (r : RelationId) → k ≡ RelationKey r
+      → In (key x) (map (λ m. m.item) (rule_members body)) → In (x, r) (rules k body))
+      (from : (k : Key) (body : Body) (x : X) (r : RelationId) → In (x, r) (rules k body)
+      → (k ≡ RelationKey r) × In (key x) (map (λ m. m.item) (rule_members body))) where
+    member_links_at : (keys : List Key) (x : X) (r : RelationId)
+        → Contains (flat_map (pairs_at rules M) keys) (x, r) ↔ (HasMember M r (key x) × Contains keys (RelationKey r))
+    member_links_at keys x r = (to, back)
+      where
+        to : Contains (flat_map (pairs_at rules M) keys) (x, r) → HasMember M r (key x) × Contains keys (RelationKey r)
+        to c =
+            let f = from_flat (pairs_at rules M) keys (x, r) (in_from_contains _ _ c) in
+            let a = from_entry rules (x, r) f.0 (get M f.0) f.2 in
+            let p = from f.0 (a.0).body x r a.2 in
+            let q = from_rule (a.0).body (key x) p.1 in (
+              record {
+                body = q.0;
+                is = relation_shown a.0 r q.0 (ap (get M) (sym p.0) ∙ a.1) q.1;
+                restriction = q.2;
+                member = contains_from_in _ _ q.3;
+              },
+              contains_from_in keys (RelationKey r) (subst (λ k. In k keys) p.0 f.1),
+            )
+
+        back : HasMember M r (key x) × Contains keys (RelationKey r)
+            → Contains (flat_map (pairs_at rules M) keys) (x, r)
+        back (h, c) =
+            let e = entry_relation r h.body h.is in
+            contains_from_in _ _ (in_flat (pairs_at rules M) keys (RelationKey r) (x, r)
+            (in_from_contains keys (RelationKey r) c)
+            (in_entry rules (x, r) (RelationKey r) (get M (RelationKey r)) e.0 e.1
+            (into (RelationKey r) (e.0).body x r refl
+            (in_rule (e.0).body h.body (key x) e.2 h.restriction (in_from_contains _ _ h.member)))))
+
+  pub node_links_at : (keys : List Key) (n : NodeId) (r : RelationId)
+      → Contains (flat_map (node_rules_at M) keys) (n, r) ↔ (HasMember M r (NodeKey n) × Contains keys (RelationKey r))
+  node_links_at = member_links_at NodeKey (λ k body. nodes_with_rule k (rule_members body))
+      (λ k body. in_node_rules k (rule_members body)) (λ k body. from_node_rules k (rule_members body))
+
+  pub rule_links_at : (keys : List Key) (w : WayId) (r : RelationId)
+      → Contains (flat_map (way_rules_at M) keys) (w, r) ↔ (HasMember M r (WayKey w) × Contains keys (RelationKey r))
+  rule_links_at = member_links_at WayKey (λ k body. ways_with_rule k (rule_members body))
+      (λ k body. in_way_rules k (rule_members body)) (λ k body. from_way_rules k (rule_members body))
+
+-- ---- the pairs of a key
+
+module _ {A : Type 0} (pairs : Key → Body → List A) (M : Objects) (k : Key) where
+  pub at_some : (e : Event) → get M k ≡ Some (entry_of e) → e.key ≡ k → pairs e.key e.body ≡ pairs_at pairs M k
+  at_some e is own = ap (λ n. pairs n e.body) own
+      ∙ sym (ap (λ o. elim o [ None ↦ [] | Some entry ↦ pairs k entry.body ]) is)
+
+  pub at_none : get M k ≡ None → pairs_at pairs M k ≡ []
+  at_none is = ap (λ o. elim o [ None ↦ [] | Some entry ↦ pairs k entry.body ]) is
+
+-- ---- links of ways and relations whose bodies are the same
+
+pub refers_same : (M N : Objects) (w : WayId) (n : NodeId) → visible M (WayKey w) ≡ visible N (WayKey w)
+    → RefersTo M w n → RefersTo N w n
+unfolding way_of
+refers_same M N w n e r =
+    record { body = r.body; is = ap way_in (sym e) ∙ r.is; highway = r.highway; member = r.member }
+
+pub member_same : (M N : Objects) (r : RelationId) (k : Key) → visible M (RelationKey r) ≡ visible N (RelationKey r)
+    → HasMember M r k → HasMember N r k
+unfolding relation_of
+member_same M N r k e h =
+    record { body = h.body; is = ap relation_in (sym e) ∙ h.is; restriction = h.restriction; member = h.member }

@@ -1,3 +1,5 @@
 pub mod Pairs
 pub mod References
+pub mod Indexes
+pub mod Holding
 pub mod Indexing

@@ -1,5 +1,6 @@
 -- The references that an event holds.
-use Rattle.std.specs.Prelude.{List, [], ◌∷◌, map, cond}
+use Rattle.std.specs.Prelude.{List, [], ◌∷◌, map, cond, Some, None}
+use Rattle.std.specs.FinMap.{get}
 use Rattle.std.specs.List.{flat_map}
 use Rattle.road_base.specs.declared.ids.NodeId.{NodeId}
 use Rattle.road_base.specs.declared.ids.WayId.{WayId}
@@ -11,6 +12,7 @@ use Rattle.road_base.specs.declared.objects.Body.{Body}
 use Rattle.road_base.specs.declared.objects.Body.TheVariants.{Node as NodeBody, Way as WayBody}
 use Rattle.road_base.specs.declared.objects.Body.TheVariants.{Relation as RelationBody, Deleted}
 use Rattle.road_base.specs.declared.event.Event.{Event}
+use Rattle.road_base.specs.Objects.{Objects}
 use Rattle.road_model.specs.Rules.{has_highway, is_restriction}
 
 -- the nodes to which a visible way with the key `highway` refers
@@ -66,3 +68,17 @@ node_rules e = nodes_with_rule e.key (rule_members e.body)
 -- the ways that are members of the event's restriction, each with the restriction
 abbrev pub way_rules : Event → List (WayId × RelationId)
 way_rules e = ways_with_rule e.key (rule_members e.body)
+
+-- what the pairs of a key are by its entry
+abbrev pub pairs_at : {A : Type 0} → (Key → Body → List A) → Objects → Key → List A
+pairs_at pairs M k = elim (get M k) [ None ↦ [] | Some entry ↦ pairs k entry.body ]
+
+-- the pairs of the key in the map
+abbrev pub way_references_at : Objects → Key → List (NodeId × WayId)
+way_references_at = pairs_at (λ k body. with_way k (highway_nodes body))
+
+abbrev pub node_rules_at : Objects → Key → List (NodeId × RelationId)
+node_rules_at = pairs_at (λ k body. nodes_with_rule k (rule_members body))
+
+abbrev pub way_rules_at : Objects → Key → List (WayId × RelationId)
+way_rules_at = pairs_at (λ k body. ways_with_rule k (rule_members body))

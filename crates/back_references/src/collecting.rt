@@ -2,8 +2,9 @@
 ghost use Rattle.std.specs.Prelude.{◌≡◌, ◌++◌, IfOk, OnOk, map};
 ghost use Rattle.std.specs.List.{flat_map};
 ghost use Rattle.back_references.specs.References.{highway_nodes, rule_members, way_references, node_rules, way_rules};
-ghost use Rattle.back_references.specs.References.{node_pair, way_pair};
+ghost use Rattle.back_references.specs.References.{node_pair, way_pair, way_references_at, node_rules_at, way_rules_at};
 
+use object_store::Objects;
 use road_base::{Body, Event, Key, Member, NoMemory, NodeId, RelationId, WayId};
 use std::alloc::Global;
 
@@ -40,6 +41,64 @@ pub fn way_rules_in(alloc: Global, events: &[Event]) -> Result<Vec<(WayId, Relat
     Ok(pairs)
 }
 
+/// Each node to which a visible way of the keys with the key `highway` refers, with the way.
+pub fn way_references_at(
+    alloc: Global,
+    objects: &Objects,
+    keys: &[Key],
+) -> Result<Vec<(NodeId, WayId)>, NoMemory>
+    ensures { IfOk result (λ v. v.items ≡ flat_map (way_references_at objects.now) keys.now) }
+{
+    let mut pairs = Vec::new(alloc);
+    for key in keys {
+        add_way_references_at(objects, *key, &mut pairs)?;
+    }
+    Ok(pairs)
+}
+
+/// Each node that is a member of a visible restriction of the keys, with the restriction.
+pub fn node_rules_at(
+    alloc: Global,
+    objects: &Objects,
+    keys: &[Key],
+) -> Result<Vec<(NodeId, RelationId)>, NoMemory>
+    ensures { IfOk result (λ v. v.items ≡ flat_map (node_rules_at objects.now) keys.now) }
+{
+    let mut pairs = Vec::new(alloc);
+    for key in keys {
+        add_node_rules_at(objects, *key, &mut pairs)?;
+    }
+    Ok(pairs)
+}
+
+/// Each way that is a member of a visible restriction of the keys, with the restriction.
+pub fn way_rules_at(
+    alloc: Global,
+    objects: &Objects,
+    keys: &[Key],
+) -> Result<Vec<(WayId, RelationId)>, NoMemory>
+    ensures { IfOk result (λ v. v.items ≡ flat_map (way_rules_at objects.now) keys.now) }
+{
+    let mut pairs = Vec::new(alloc);
+    for key in keys {
+        add_way_rules_at(objects, *key, &mut pairs)?;
+    }
+    Ok(pairs)
+}
+
+fn add_way_references_at(
+    objects: &Objects,
+    key: Key,
+    pairs: &mut Vec<(NodeId, WayId)>,
+) -> Result<(), NoMemory>
+    ensures { OnOk result (pairs.new.items ≡ pairs.old.items ++ way_references_at objects.now key) }
+{
+    match objects.get(key) {
+        Some(event) => add_way_references(event, pairs),
+        None => Ok(()),
+    }
+}
+
 fn add_way_references(event: &Event, pairs: &mut Vec<(NodeId, WayId)>) -> Result<(), NoMemory>
     ensures { OnOk result (pairs.new.items ≡ pairs.old.items ++ way_references event.now) }
 {
@@ -56,6 +115,19 @@ fn add_nodes(nodes: &[NodeId], way: WayId, pairs: &mut Vec<(NodeId, WayId)>) -> 
         pairs.push((*node, way))?;
     }
     Ok(())
+}
+
+fn add_node_rules_at(
+    objects: &Objects,
+    key: Key,
+    pairs: &mut Vec<(NodeId, RelationId)>,
+) -> Result<(), NoMemory>
+    ensures { OnOk result (pairs.new.items ≡ pairs.old.items ++ node_rules_at objects.now key) }
+{
+    match objects.get(key) {
+        Some(event) => add_node_rules(event, pairs),
+        None => Ok(()),
+    }
 }
 
 fn add_node_rules(event: &Event, pairs: &mut Vec<(NodeId, RelationId)>) -> Result<(), NoMemory>
@@ -90,6 +162,19 @@ fn add_node(
     match item {
         Key::Node(node) => Ok(pairs.push((node, rule))?),
         _ => Ok(()),
+    }
+}
+
+fn add_way_rules_at(
+    objects: &Objects,
+    key: Key,
+    pairs: &mut Vec<(WayId, RelationId)>,
+) -> Result<(), NoMemory>
+    ensures { OnOk result (pairs.new.items ≡ pairs.old.items ++ way_rules_at objects.now key) }
+{
+    match objects.get(key) {
+        Some(event) => add_way_rules(event, pairs),
+        None => Ok(()),
     }
 }
 

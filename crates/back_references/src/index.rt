@@ -1,49 +1,50 @@
-//! Pairs of a key and a value, in which the values of a key lie side by side.
-ghost use Rattle.std.specs.Prelude.{◌≡◌, ◌↔◌, ◌<◌, ◌≤◌, ◌-◌, [], true, false, IfOk, IsTrue, Contains, length, map};
-ghost use Rattle.std.specs.Prelude.{take, drop, slice_index_or};
-ghost use Rattle.std.specs.List.{AllWithin};
-ghost use Rattle.std.specs.List.Sorted.{IsPartitionedBy, IsPartitionPoint};
-ghost use Rattle.std.specs.Ordering.{is_le, is_lt};
-ghost use Rattle.std.specs.FinMap.{IsAntisymmetric};
+//! The values of each key, which changes follow.
+ghost use Rattle.std.specs.Prelude.{◌≡◌, ◌↔◌, [], IfOk, IsTrue, Contains, Some};
+ghost use Rattle.std.specs.Prelude.{if◌then◌else◌};
+ghost use Rattle.std.specs.FinMap.{IsAntisymmetric, find};
+ghost use Rattle.std.specs.Ordering.{eq_by_cmp};
 ghost use Rattle.road_model.specs.Orders.{Lists, rises};
-ghost use Rattle.back_references.specs.Pairs.{pair_cmp};
+ghost use Rattle.back_references.specs.Indexes.{Has, IsExchanged, IsChosen, Stays};
+ghost use Rattle.back_references.specs.Holding.{base_pairs};
 
-use road_base::{NoMemory, Numbered, Ranges};
-use std::alloc::{AllocError, Global};
+use crate::exchanges::{exchanged_values, keys_of};
+use crate::pair_list::PairList;
+use object_store::SharedMap;
+use road_base::{NoMemory, Numbered};
+use std::alloc::Global;
 use std::marker::Model;
+use std::rc::Rc;
 
-/// Pairs, ascending by key and then by value, none of them twice. The ranges of the keys' numbers tell where a search
-/// begins, if anything: they are no part of what the pairs are.
+/// Keys with values. Contracts see the pairs as they were made, and the lists that stand in their place at the keys
+/// where something has changed since.
 #[derive(Drop)]
 pub struct Index<K: Ord + Copy + Numbered, V: Ord + Copy> {
-    keys: Vec<K>,
-    values: Vec<V>,
-    ranges: Ranges,
+    alloc: Global,
+    base: Option<Rc<PairList<K, V>>>,
+    replaced: SharedMap<K, Vec<V>>,
 }
 
 impl<K: Ord + Copy + Numbered, V: Ord + Copy> Model for Index<K, V> {
-    ghost use Rattle.std.specs.Prelude.{◌≡◌, List, length, IsTrue};
-    ghost use Rattle.std.specs.List.{zip};
-    ghost use Rattle.road_model.specs.Orders.{rises};
-    ghost use Rattle.back_references.specs.Pairs.{pair_cmp};
+    ghost use Rattle.back_references.specs.Indexes.{Held, Ascend};
+    ghost use Rattle.std.specs.Prelude.{map};
+    ghost use Rattle.back_references.specs.Holding.{base_pairs};
 
-    ghost Value = { List (K × V) };
+    ghost Value = { Held K V };
 
-    ghost view = { λ i. zip i.keys.items i.values.items };
+    ghost view = { λ i. (base_pairs i.base, map (λ p. (p.0, p.1.items)) i.replaced) };
 
-    ghost invariant = { λ i. (length i.values.items ≡ length i.keys.items)
-        × IsTrue (rises (pair_cmp K.cmp V.cmp) (zip i.keys.items i.values.items)) };
+    ghost invariant = { λ i. Ascend K.cmp V.cmp (map (λ p. (p.0, p.1.items)) i.replaced) };
 }
 
 impl<K: Ord + Copy + Numbered, V: Ord + Copy> Index<K, V> {
-    /// No pairs. Takes no memory.
+    /// No values. Takes no memory.
     pub fn new(alloc: Global) -> Index<K, V>
-        ensures { result ≡ [] }
+        ensures { result ≡ ([], []) }
     {
         Index {
-            keys: Vec::new(alloc),
-            values: Vec::new(alloc),
-            ranges: Ranges::new(alloc),
+            alloc,
+            base: None,
+            replaced: SharedMap::new(),
         }
     }
 
@@ -51,119 +52,131 @@ impl<K: Ord + Copy + Numbered, V: Ord + Copy> Index<K, V> {
     pub fn of(alloc: Global, pairs: Vec<(K, V)>) -> Result<Index<K, V>, NoMemory>
         requires keys { IsAntisymmetric K.cmp }
         requires values { IsAntisymmetric V.cmp }
-        ensures { IfOk result (λ i. (p : K × V) → Contains i p ↔ Contains pairs.items p) }
+        ensures { IfOk result (λ i. (k : K) (v : V) → Has K.cmp i k v ↔ Contains pairs.items (k, v)) }
     {
-        let mut pairs = pairs;
-        put_in_order(&mut pairs);
-        let keys = firsts(alloc, pairs.as_slice())?;
-        let values = seconds(alloc, pairs.as_slice())?;
-        let ranges = Ranges::of(alloc, keys.as_slice());
+        let list = PairList::of(alloc, pairs)?;
+        let base = Rc::new(alloc, list)?;
+        let replaced = SharedMap::new();
         Ok(Index {
-            keys,
-            values,
-            ranges,
+            alloc,
+            base: Some(base),
+            replaced,
         })
     }
 
-    /// The values of a key, ascending. Takes the time of a search, and of the values.
+    /// The values of a key, ascending. Takes the time of a search, and of the values; no memory.
     pub fn at(&self, key: K) -> &[V]
         requires { IsAntisymmetric K.cmp }
-        ensures { Lists (λ v. v) V.cmp (λ v. Contains self.now (key, v)) result.now }
+        ensures { Lists (λ v. v) V.cmp (λ v. Has K.cmp self.now key v) result.now }
     {
-        let keys = self.keys.as_slice();
-        let low = first_near(keys, key, self.ranges.place(keys, key.number()));
-        let high = end_from(keys, low, key);
-        part(self.values.as_slice(), low, high)
-    }
-}
-
-/// The first position at which a key stands that isn't below this one.
-fn first_from<K: Ord + Copy>(keys: &[K], key: K) -> usize
-    requires { IsPartitionedBy (λ a. is_lt (K.cmp a key)) keys.now }
-    ensures point { IsPartitionPoint (λ a. is_lt (K.cmp a key) ≡ true) (λ a. is_lt (K.cmp a key) ≡ false) keys.now
-        result }
-    ensures bound { result ≤ length keys.now }
-{
-    keys.partition_point(|other| other.cmp(&key).is_lt())
-}
-
-/// The first position at which a key stands that isn't below this one. Where it is the one given, the keys around it
-/// show so, and no search is made.
-fn first_near<K: Ord + Copy>(keys: &[K], key: K, at: usize) -> usize
-    requires parted { IsPartitionedBy (λ a. is_lt (K.cmp a key)) keys.now }
-    requires at { at ≤ length keys.now }
-    ensures point { IsPartitionPoint (λ a. is_lt (K.cmp a key) ≡ true) (λ a. is_lt (K.cmp a key) ≡ false) keys.now
-        result }
-    ensures bound { result ≤ length keys.now }
-{
-    if ends_below(keys, at, key) && !is_below(keys, at, key) {
-        at
-    } else {
-        first_from(keys, key)
-    }
-}
-
-/// Whether the last of the first keys, of which there are so many, is below this one. True where there are none.
-fn ends_below<K: Ord + Copy>(keys: &[K], count: usize, key: K) -> bool
-    requires count { count ≤ length keys.now }
-    requires parted { IsPartitionedBy (λ a. is_lt (K.cmp a key)) keys.now }
-    ensures { IsTrue result → AllWithin (λ a. is_lt (K.cmp a key) ≡ true) keys.now 0 count }
-{
-    count == 0 || is_below(keys, count - 1, key)
-}
-
-/// Whether there is a key at the position, and it is below this one.
-fn is_below<K: Ord + Copy>(keys: &[K], at: usize, key: K) -> bool
-    ensures within { IsTrue result → at < length keys.now }
-    ensures below { (d : K) → at < length keys.now → result ≡ is_lt (K.cmp (slice_index_or keys.now at d) key) }
-{
-    at < keys.len() && keys[at].cmp(&key).is_lt()
-}
-
-/// Each pair once, ascending.
-fn put_in_order<K: Ord + Copy, V: Ord + Copy>(pairs: &mut Vec<(K, V)>)
-    requires keys { IsAntisymmetric K.cmp }
-    requires values { IsAntisymmetric V.cmp }
-    ensures ascending { IsTrue (rises (pair_cmp K.cmp V.cmp) pairs.new.items) }
-    ensures exactly { (p : K × V) → Contains pairs.new.items p ↔ Contains pairs.old.items p }
-{
-    pairs.sort_unstable();
-    pairs.dedup();
-}
-
-/// The first position from `low` on at which a key above this one stands. The keys of one node or way lie side by
-/// side and most often are few, so they are gone through.
-fn end_from<K: Ord + Copy>(keys: &[K], low: usize, key: K) -> usize
-    requires { low ≤ length keys.now }
-    ensures from { low ≤ result }
-    ensures bound { result ≤ length keys.now }
-    ensures upto { AllWithin (λ a. is_le (K.cmp a key) ≡ true) keys.now low result }
-    ensures next { (d : K) → result < length keys.now → is_le (K.cmp (slice_index_or keys.now result d) key) ≡ false }
-{
-    for at in low..keys.len() {
-        if !keys[at].cmp(&key).is_le() {
-            return at;
+        match self.replaced.get(key) {
+            Some(values) => values.as_slice(),
+            None => values_in(&self.base, key),
         }
     }
-    keys.len()
+
+    /// An equal value, which shares all with this one.
+    pub fn share(&self) -> Result<Index<K, V>, NoMemory>
+        ensures { IfOk result (λ i. i ≡ self.now) }
+    {
+        let base = shared_base(&self.base)?;
+        let replaced = self.replaced.share()?;
+        Ok(Index {
+            alloc: self.alloc,
+            base,
+            replaced,
+        })
+    }
+
+    /// What is left without the pairs that are gone, with those that came. Takes the time of the pairs' sort, and of
+    /// the lists of their keys, each gone through once.
+    pub fn exchanged(&self, gone: Vec<(K, V)>, come: Vec<(K, V)>) -> Result<Index<K, V>, NoMemory>
+        requires keys { IsAntisymmetric K.cmp }
+        requires values { IsAntisymmetric V.cmp }
+        ensures { IfOk result (λ i. IsExchanged K.cmp self.now gone.items come.items i) }
+    {
+        let keys = keys_of(self.alloc, gone.as_slice(), come.as_slice())?;
+        let gone = PairList::of(self.alloc, gone)?;
+        let come = PairList::of(self.alloc, come)?;
+        self.exchanged_at(keys.as_slice(), &gone, &come)
+    }
+
+    /// The same at the keys, each of which comes once.
+    fn exchanged_at(
+        &self,
+        keys: &[K],
+        gone: &PairList<K, V>,
+        come: &PairList<K, V>,
+    ) -> Result<Index<K, V>, NoMemory>
+        requires keys { IsAntisymmetric K.cmp }
+        requires values { IsAntisymmetric V.cmp }
+        ensures { IfOk result (λ i. (k : K) (v : V) → Has K.cmp i k v
+            ↔ IsChosen (Contains keys.now k) (Stays (Has K.cmp self.now k v) gone.now come.now (k, v))
+            (Has K.cmp self.now k v)) }
+    {
+        let mut next = self.share()?;
+        for key in keys {
+            let values = self.values_after(*key, gone, come)?;
+            next = next.with_values(*key, values)?;
+        }
+        Ok(next)
+    }
+
+    /// The values of the key without those that are gone, with those that came, ascending.
+    fn values_after(
+        &self,
+        key: K,
+        gone: &PairList<K, V>,
+        come: &PairList<K, V>,
+    ) -> Result<Vec<V>, NoMemory>
+        requires keys { IsAntisymmetric K.cmp }
+        requires values { IsAntisymmetric V.cmp }
+        ensures ascending { IfOk result (λ r. IsTrue (rises V.cmp r.items)) }
+        ensures exactly { IfOk result (λ r. (v : V)
+            → Contains r.items v ↔ Stays (Has K.cmp self.now key v) gone.now come.now (key, v)) }
+    {
+        exchanged_values(self.alloc, self.at(key), gone.at(key), come.at(key))
+    }
+
+    /// With these values at the key.
+    fn with_values(self, key: K, values: Vec<V>) -> Result<Index<K, V>, NoMemory>
+        requires keys { IsAntisymmetric K.cmp }
+        requires ascending { IsTrue (rises V.cmp values.items) }
+        ensures base { IfOk result (λ i. i.0 ≡ self.0) }
+        ensures lists { IfOk result (λ i. (k : K)
+            → find K.cmp k i.1 ≡ (if eq_by_cmp K.cmp k key then Some values.items else find K.cmp k self.1)) }
+    {
+        let replaced = self.replaced.with(self.alloc, key, values)?;
+        Ok(Index {
+            alloc: self.alloc,
+            base: self.base,
+            replaced,
+        })
+    }
 }
 
-fn firsts<K: Copy, V: Copy>(alloc: Global, pairs: &[(K, V)]) -> Result<Vec<K>, AllocError>
-    ensures { IfOk result (λ v. v.items ≡ map (λ p. p.0) pairs.now) }
+/// The values of a key in the base, ascending.
+fn values_in<K: Ord + Copy + Numbered, V: Ord + Copy>(
+    base: &Option<Rc<PairList<K, V>>>,
+    key: K,
+) -> &[V]
+    requires { IsAntisymmetric K.cmp }
+    ensures { Lists (λ v. v) V.cmp (λ v. Contains (base_pairs base.now) (key, v)) result.now }
 {
-    pairs.iter().map(|pair| pair.0).collect(alloc)
+    match base {
+        None => &[],
+        Some(base) => base.at(key),
+    }
 }
 
-fn seconds<K: Copy, V: Copy>(alloc: Global, pairs: &[(K, V)]) -> Result<Vec<V>, AllocError>
-    ensures { IfOk result (λ v. v.items ≡ map (λ p. p.1) pairs.now) }
+/// The same base, shared.
+fn shared_base<K: Ord + Copy + Numbered, V: Ord + Copy>(
+    base: &Option<Rc<PairList<K, V>>>,
+) -> Result<Option<Rc<PairList<K, V>>>, NoMemory>
+    ensures { IfOk result (λ b. base_pairs b ≡ base_pairs base.now) }
 {
-    pairs.iter().map(|pair| pair.1).collect(alloc)
-}
-
-fn part<V>(values: &[V], low: usize, high: usize) -> &[V]
-    requires rising { low ≤ high }
-    requires within { high ≤ length values.now }
-    ensures { result.now ≡ take (high - low) (drop low values.now) }
-{
-    &values[low..high]
+    match base {
+        None => Ok(None),
+        Some(base) => Ok(Some(base.clone()?)),
+    }
 }

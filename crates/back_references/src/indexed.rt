@@ -10,6 +10,7 @@ ghost use Rattle.road_model.specs.Highways.{IsHighway, highways};
 ghost use Rattle.road_model.specs.Orders.{rises, way_cmp};
 
 use crate::highways::highways_among;
+use crate::prepared::Prepared;
 use crate::references::References;
 use object_store::Objects;
 use road_base::laws::key_order;
@@ -60,7 +61,8 @@ impl Indexed {
         ensures { IfOk result (λ i. IsApplied empty events.items i) }
     {
         let objects = Objects::of(events)?;
-        let references = References::of(alloc, &objects)?;
+        let listed = objects.listed()?;
+        let references = References::of(alloc, &listed)?;
         Ok(Indexed {
             alloc,
             objects,
@@ -84,6 +86,37 @@ impl Indexed {
         self.objects.changed(events)
     }
 
+    /// Finds what the events leave: of each key the first one of the greatest version, its entry here before all of
+    /// them. The objects stay as they are. Takes the time of the events' sort, of a few look-ups for each of them, and
+    /// of the lists of references that change.
+    pub fn prepare(&mut self, events: &[Event]) -> Result<Prepared, NoMemory>
+        ensures same { self.new ≡ self.old }
+        ensures before { IfOk result (λ p. p.before ≡ self.old) }
+        ensures after { IfOk result (λ p. IsApplied self.old events.now p.after) }
+    {
+        let fresh = self.objects.prepare(events)?;
+        let references = self.references.exchanged(
+            self.alloc,
+            fresh.before(),
+            fresh.after(),
+            fresh.keys().items(),
+        )?;
+        let next = Indexed {
+            alloc: self.alloc,
+            objects: fresh.after().copy()?,
+            references,
+        };
+        Ok(Prepared::new(fresh, next))
+    }
+
+    /// Leaves what the events leave for which the change was prepared. Takes no memory.
+    pub fn commit(&mut self, prepared: Prepared)
+        requires { prepared.before ≡ self.now }
+        ensures { self.new ≡ prepared.after }
+    {
+        *self = prepared.into_next();
+    }
+
     /// Applies the events: of each key the first one of the greatest version stands, its entry here before all of
     /// them. Answers the keys whose visible body changed, ascending. Where no memory is found nothing changes.
     pub fn apply(&mut self, events: &[Event]) -> Result<Keys, NoMemory>
@@ -91,11 +124,9 @@ impl Indexed {
         ensures keys { IfOk result (λ keys. AreChanged self.old self.new keys) }
         ensures err { OnErr result (self.new ≡ self.old) }
     {
-        let mut objects = self.objects.copy()?;
-        let keys = objects.apply(events)?;
-        let references = References::of(self.alloc, &objects)?;
-        self.objects = objects;
-        self.references = references;
+        let prepared = self.prepare(events)?;
+        let keys = prepared.keys().copy()?;
+        self.commit(prepared);
         Ok(keys)
     }
 
@@ -104,9 +135,17 @@ impl Indexed {
     pub fn with(&self, events: &[Event]) -> Result<Indexed, NoMemory>
         ensures { IfOk result (λ i. IsApplied self.now events.now i) }
     {
-        let mut objects = self.objects.copy()?;
-        objects.apply(events)?;
-        let references = References::of(self.alloc, &objects)?;
+        let mut next = self.copy()?;
+        next.apply(events)?;
+        Ok(next)
+    }
+
+    /// An equal value. Takes little time, since all is shared.
+    pub fn copy(&self) -> Result<Indexed, NoMemory>
+        ensures { IfOk result (λ i. i ≡ self.now) }
+    {
+        let objects = self.objects.copy()?;
+        let references = self.references.share()?;
         Ok(Indexed {
             alloc: self.alloc,
             objects,
@@ -121,7 +160,8 @@ impl Indexed {
         ensures each { IfOk result (λ ways. (w : WayId) → IsHighway self.now w → Contains ways.items w) }
     {
         key_order();
-        Ok(highways_among(self.alloc, self.objects.ways())?)
+        let listed = self.objects.listed()?;
+        Ok(highways_among(self.alloc, listed.ways())?)
     }
 
     /// Copies of all entries as events, in key order.

@@ -1,20 +1,34 @@
 //! Objects with the ways and restrictions that name each of them: the world that everything else looks at.
 //!
-//! Beside the objects stand three lists of references, from nodes to ways, from nodes to restrictions and from ways
-//! to restrictions, each in order and without repeats, at 16 bytes a reference. A look-up copies nothing and costs
-//! the logarithm of a list's length and a step for each reference that it finds: where the numbers are spread evenly,
-//! a table of ranges of them leaves a few steps of the logarithm. Each look-up compares the keys around the place
-//! that the table tells, and where that isn't the one, or no memory was found for the table, the whole list is
-//! searched. The table takes at most about two bytes a reference, and one run over them when it is made. `of` and
-//! `apply` make the lists anew, from the entries of ways and of relations alone: with m entries, r references and n
-//! events that takes time of the order of (n + m + r) log (n + m + r). `with` is `apply` on a copy, and `highways`
-//! looks at each entry of a way once.
+//! Beside the objects stand three indexes, from nodes to ways, from nodes to restrictions and from ways to
+//! restrictions. Each is a list of pairs in order and without repeats, which never changes and is shared, at 16 bytes a
+//! reference; and beside it, for the keys where something has changed since, the whole list that stands in place of the
+//! pairs. `prepare` finds what events leave, with the lists that change, beside the world, which stays as it is; `Next`
+//! is the world that it would be; `commit` only exchanges.
+//!
+//! Cost. A look-up copies nothing. It asks the replaced lists first, which takes one test where nothing has changed,
+//! and else the logarithm of their number; then the pairs, in the logarithm of their number and a step for each
+//! reference that it finds: where the numbers are spread evenly, a table of ranges of them leaves a few steps of the
+//! logarithm. Each look-up compares the keys around the place that the table tells, and where that isn't the one, or
+//! no memory was found for the table, all pairs are searched. The table takes at most about two bytes a reference.
+//! `of` makes the lists from the entries of ways and of relations alone: with m entries and r references it takes time
+//! of the order of (m + r) log (m + r). `prepare` and `apply` take what the objects take, sort the references of the
+//! changed ways and relations as they were and as they are, and make the list of each key among them once, in the time
+//! of its length times the logarithm of what is gone from it. `copy` takes a moment, since all is shared; `with` is
+//! `apply` on a copy. `highways` looks at each entry of a way once, and copies all entries first where something has
+//! changed.
 #![tactic(auto)]
 
 mod collecting;
+mod exchanges;
 mod highways;
 mod index;
 mod indexed;
+mod next;
+mod pair_list;
+mod prepared;
 mod references;
 
 pub use indexed::Indexed;
+pub use next::Next;
+pub use prepared::Prepared;

@@ -1,14 +1,23 @@
 //! The ways and restrictions that name each object of a map.
-ghost use Rattle.std.specs.Prelude.{◌≡◌, IfOk, Contains};
+ghost use Rattle.std.specs.Prelude.{◌≡◌, ◌↔◌, IfOk, Contains};
 ghost use Rattle.std.specs.FinMap.{empty};
-ghost use Rattle.road_base.specs.Objects.{Objects as ObjectMap};
-ghost use Rattle.road_model.specs.Orders.{Lists, way_cmp, relation_cmp};
+ghost use Rattle.road_base.specs.Objects.{Objects as ObjectMap, visible};
+ghost use Rattle.road_base.specs.declared.ids.Key.{Key};
+ghost use Rattle.road_base.specs.declared.ids.Key.TheVariants.{Node as NodeKey, Way as WayKey};
+ghost use Rattle.road_base.specs.declared.ids.NodeId.{NodeId};
+ghost use Rattle.road_base.specs.declared.ids.WayId.{WayId};
+ghost use Rattle.road_base.specs.declared.ids.RelationId.{RelationId};
+ghost use Rattle.road_model.specs.Links.{RefersTo, HasMember};
+ghost use Rattle.road_model.specs.Orders.{Lists, node_cmp, way_cmp, relation_cmp};
+ghost use Rattle.back_references.specs.Indexes.{Has};
 
-use crate::collecting::{node_rules_in, way_references_in, way_rules_in};
+use crate::collecting::{
+    node_rules_at, node_rules_in, way_references_at, way_references_in, way_rules_at, way_rules_in,
+};
 use crate::index::Index;
-use object_store::Objects;
+use object_store::{Base, Objects};
 use road_base::laws::key_order;
-use road_base::{NoMemory, NodeId, RelationId, WayId};
+use road_base::{Key, NoMemory, NodeId, RelationId, WayId};
 use road_model::laws::{name_order, number_order};
 use std::alloc::Global;
 
@@ -35,7 +44,7 @@ impl References {
     }
 
     /// Those of all objects.
-    pub fn of(alloc: Global, objects: &Objects) -> Result<References, NoMemory>
+    pub fn of(alloc: Global, objects: &Base) -> Result<References, NoMemory>
         ensures { IfOk result (λ r. IsIndexed objects.now r) }
     {
         key_order();
@@ -52,9 +61,108 @@ impl References {
         })
     }
 
+    /// The same references, shared.
+    pub fn share(&self) -> Result<References, NoMemory>
+        ensures { IfOk result (λ r. (M : ObjectMap) → IsIndexed M self.now → IsIndexed M r) }
+    {
+        let ways = self.ways.share()?;
+        let node_rules = self.node_rules.share()?;
+        let way_rules = self.way_rules.share()?;
+        Ok(References {
+            ways,
+            node_rules,
+            way_rules,
+        })
+    }
+
+    /// Those of objects after a change, where these are those of the objects before it, and the visible bodies of other
+    /// keys are the same.
+    pub fn exchanged(
+        &self,
+        alloc: Global,
+        before: &Objects,
+        after: &Objects,
+        keys: &[Key],
+    ) -> Result<References, NoMemory>
+        requires held { IsIndexed before.now self.now }
+        requires same { (k : Key) → ¬ (Contains keys.now k) → visible before.now k ≡ visible after.now k }
+        ensures { IfOk result (λ r. IsIndexed after.now r) }
+    {
+        let ways = self.ways_after(alloc, before, after, keys)?;
+        let node_rules = self.node_rules_after(alloc, before, after, keys)?;
+        let way_rules = self.way_rules_after(alloc, before, after, keys)?;
+        Ok(References {
+            ways,
+            node_rules,
+            way_rules,
+        })
+    }
+
+    /// The ways that refer to each node after the change.
+    fn ways_after(
+        &self,
+        alloc: Global,
+        before: &Objects,
+        after: &Objects,
+        keys: &[Key],
+    ) -> Result<Index<NodeId, WayId>, NoMemory>
+        requires held { IsIndexed before.now self.now }
+        requires same { (k : Key) → ¬ (Contains keys.now k) → visible before.now k ≡ visible after.now k }
+        ensures { IfOk result (λ i. (n : NodeId) (w : WayId) → Has node_cmp i n w ↔ RefersTo after.now w n) }
+    {
+        key_order();
+        name_order();
+        number_order();
+        let gone = way_references_at(alloc, before, keys)?;
+        let come = way_references_at(alloc, after, keys)?;
+        self.ways.exchanged(gone, come)
+    }
+
+    /// The restrictions that name each node after the change.
+    fn node_rules_after(
+        &self,
+        alloc: Global,
+        before: &Objects,
+        after: &Objects,
+        keys: &[Key],
+    ) -> Result<Index<NodeId, RelationId>, NoMemory>
+        requires held { IsIndexed before.now self.now }
+        requires same { (k : Key) → ¬ (Contains keys.now k) → visible before.now k ≡ visible after.now k }
+        ensures { IfOk result (λ i. (n : NodeId) (r : RelationId)
+            → Has node_cmp i n r ↔ HasMember after.now r (NodeKey n)) }
+    {
+        key_order();
+        name_order();
+        number_order();
+        let gone = node_rules_at(alloc, before, keys)?;
+        let come = node_rules_at(alloc, after, keys)?;
+        self.node_rules.exchanged(gone, come)
+    }
+
+    /// The restrictions that name each way after the change.
+    fn way_rules_after(
+        &self,
+        alloc: Global,
+        before: &Objects,
+        after: &Objects,
+        keys: &[Key],
+    ) -> Result<Index<WayId, RelationId>, NoMemory>
+        requires held { IsIndexed before.now self.now }
+        requires same { (k : Key) → ¬ (Contains keys.now k) → visible before.now k ≡ visible after.now k }
+        ensures { IfOk result (λ i. (w : WayId) (r : RelationId)
+            → Has way_cmp i w r ↔ HasMember after.now r (WayKey w)) }
+    {
+        key_order();
+        name_order();
+        number_order();
+        let gone = way_rules_at(alloc, before, keys)?;
+        let come = way_rules_at(alloc, after, keys)?;
+        self.way_rules.exchanged(gone, come)
+    }
+
     /// The ways that refer to the node, ascending.
     pub fn ways_at(&self, id: NodeId) -> &[WayId]
-        ensures { Lists (λ w. w) way_cmp (λ w. Contains self.now.ways (id, w)) result.now }
+        ensures { Lists (λ w. w) way_cmp (λ w. Has node_cmp self.now.ways id w) result.now }
     {
         number_order();
         self.ways.at(id)
@@ -62,7 +170,7 @@ impl References {
 
     /// The restrictions of which the way is a member, ascending.
     pub fn rules_of_way(&self, id: WayId) -> &[RelationId]
-        ensures { Lists (λ r. r) relation_cmp (λ r. Contains self.now.way_rules (id, r)) result.now }
+        ensures { Lists (λ r. r) relation_cmp (λ r. Has way_cmp self.now.way_rules id r) result.now }
     {
         name_order();
         self.way_rules.at(id)
@@ -70,7 +178,7 @@ impl References {
 
     /// The restrictions of which the node is a member, ascending.
     pub fn rules_at(&self, id: NodeId) -> &[RelationId]
-        ensures { Lists (λ r. r) relation_cmp (λ r. Contains self.now.node_rules (id, r)) result.now }
+        ensures { Lists (λ r. r) relation_cmp (λ r. Has node_cmp self.now.node_rules id r) result.now }
     {
         number_order();
         self.node_rules.at(id)

@@ -2,7 +2,8 @@
 ghost use Rattle.std.specs.Prelude.{◌≤◌, length};
 
 use crate::makers::{deletion, no_tags, tags};
-use back_references::Indexed;
+use crate::object_store_tests::are_same;
+use back_references::{Indexed, Next};
 use road_base::{
     Body, Event, Key, Member, Members, NoMemory, Node, NodeId, Refs, Relation, RelationId, Text,
     Way, WayId,
@@ -145,7 +146,10 @@ fn links_of_a_deleted_way_go(rt: HostRuntime) -> Result<(), Fail> {
     let cases: [(NodeId, &[WayId]); 2] = [(NodeId(1), &[]), (NodeId(2), &[WayId(12)])];
     assert!(rt; refer(&world, &cases));
     assert!(rt; rules(&world, NodeId(2), &[WayId(10)]));
-    assert_eq!(rt; world.events()?.len(), world.objects().items().len());
+    assert_eq!(rt;
+        world.events()?.len(),
+        world.objects().listed()?.items().len()
+    );
     Ok(())
 }
 
@@ -155,4 +159,86 @@ fn no_objects_have_no_links(rt: HostRuntime) {
     assert!(rt; world.ways_at(NodeId(1)).is_empty());
     assert!(rt; world.rules_at(NodeId(1)).is_empty());
     assert!(rt; world.rules_of_way(WayId(1)).is_empty());
+}
+
+/// The event as another version.
+fn later(event: Event, version: u32) -> Event {
+    Event {
+        key: event.key,
+        version,
+        body: event.body,
+    }
+}
+
+/// The town, and then way 10 drawn anew, way 12 deleted and revived, way 10 closed and reopened elsewhere, and
+/// restriction 30 turned into another relation and back.
+fn changes(alloc: Global) -> Result<Vec<Event>, Fail> {
+    let mut list = town(alloc)?;
+    add(
+        &mut list,
+        Ok(later(way(alloc, 10, "highway=yes", &[NodeId(2), NodeId(3)])?, 2)),
+    )?;
+    add(&mut list, Ok(deletion(Key::Way(WayId(12)), 2)))?;
+    add(
+        &mut list,
+        Ok(later(way(alloc, 12, "highway=yes", &[NodeId(1)])?, 3)),
+    )?;
+    add(
+        &mut list,
+        Ok(later(way(alloc, 10, "waterway=yes", &[NodeId(1)])?, 3)),
+    )?;
+    add(&mut list, Ok(later(relation(alloc, 30, "type=route")?, 2)))?;
+    add(
+        &mut list,
+        Ok(later(relation(alloc, 30, "type=restriction")?, 3)),
+    )?;
+    add(
+        &mut list,
+        Ok(later(way(alloc, 10, "highway=yes", &[NodeId(1), NodeId(9)])?, 4)),
+    )?;
+    add(&mut list, Ok(way(alloc, 10, "highway=yes", &[NodeId(5)])?))?;
+    Ok(list)
+}
+
+/// Whether both worlds have the same links at the first numbers.
+fn have_same_links<A: World, B: World>(these: &A, those: &B) -> bool {
+    (0..100).all(|id| {
+        these.ways_at(NodeId(id)) == those.ways_at(NodeId(id))
+            && these.rules_at(NodeId(id)) == those.rules_at(NodeId(id))
+            && these.rules_of_way(WayId(id)) == those.rules_of_way(WayId(id))
+    })
+}
+
+fn copies(alloc: Global, events: &[Event]) -> Result<Vec<Event>, NoMemory> {
+    let mut list = Vec::new(alloc);
+    for event in events {
+        list.push(event.copy()?)?;
+    }
+    Ok(list)
+}
+
+/// Whether a world that follows the events, one by one, has the links and entries of one that is made of them.
+fn is_followed(alloc: Global, events: &[Event]) -> Result<bool, NoMemory> {
+    let mut world = Indexed::new(alloc);
+    for at in 0..events.len() {
+        let made = Indexed::of(alloc, copies(alloc, &events[..at + 1])?)?;
+        let prepared = world.prepare(&events[at..at + 1])?;
+        let foreseen = have_same_links(&Next::of(&world, &prepared), &made);
+        world.commit(prepared);
+        if !foreseen
+            || !have_same_links(&world, &made)
+            || !are_same(&world.events()?, &made.events()?)
+        {
+            return Ok(false);
+        }
+    }
+    Ok(true)
+}
+
+#[test]
+fn a_world_that_follows_is_the_one_that_is_made(rt: HostRuntime) -> Result<(), Fail> {
+    let alloc = rt.alloc();
+    let events = changes(alloc)?;
+    assert!(rt; is_followed(alloc, &events)?);
+    Ok(())
 }

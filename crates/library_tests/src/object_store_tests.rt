@@ -48,7 +48,7 @@ fn first_node(objects: &Objects) -> Option<(u32, Option<i32>)> {
     Some((event.version, lon))
 }
 
-fn are_same(these: &[Event], those: &[Event]) -> bool {
+pub(crate) fn are_same(these: &[Event], those: &[Event]) -> bool {
     if these.len() != those.len() {
         return false;
     }
@@ -103,7 +103,7 @@ fn applied_alone(objects: &mut Objects, event: Event) -> Result<Option<usize>, N
 fn is_copied(objects: &Objects) -> Result<bool, NoMemory> {
     let events = objects.events()?;
     let copied = objects.copy()?;
-    Ok(are_same(&events, objects.items()) && are_same(copied.items(), objects.items()))
+    Ok(are_same(&events, objects.listed()?.items()) && are_same(&events, copied.listed()?.items()))
 }
 
 #[test]
@@ -117,6 +117,25 @@ fn the_first_of_the_greatest_version_stands(rt: HostRuntime) -> Result<(), Fail>
     assert_eq!(rt; applied_alone(&mut objects, stale)?, Some(0));
     assert_eq!(rt; first_node(&objects), Some((4, None)));
     assert!(rt; is_copied(&objects)?);
+    Ok(())
+}
+
+/// The version of node 1 that the event would bring; None where it would bring none. The event is then applied.
+fn brought(objects: &mut Objects, event: Event) -> Result<Option<u32>, NoMemory> {
+    let fresh = objects.prepare(&[event])?;
+    let version = fresh.get(FIRST).map(|entry| entry.version);
+    objects.commit(fresh);
+    Ok(version)
+}
+
+#[test]
+fn a_change_is_found_before_it_is_made(rt: HostRuntime) -> Result<(), Fail> {
+    let alloc = rt.alloc();
+    let mut objects = Objects::of(extract(alloc)?)?;
+    assert_eq!(rt; brought(&mut objects, place(alloc, 3, 50_000_000)?)?, None);
+    assert_eq!(rt; brought(&mut objects, way(alloc, 9, 7)?)?, None);
+    assert_eq!(rt; brought(&mut objects, deletion(FIRST, 4))?, Some(4));
+    assert_eq!(rt; first_node(&objects), Some((4, None)));
     Ok(())
 }
 
@@ -140,11 +159,11 @@ fn is_same_in_turn(alloc: Global, events: &[Event]) -> Result<bool, NoMemory> {
     let single = applied_singly(alloc, events)?;
     for at in 0..events.len() {
         let cut = applied_in_two(alloc, events, at)?;
-        if !are_same(cut.items(), whole.items()) {
+        if !are_same(&cut.events()?, &whole.events()?) {
             return Ok(false);
         }
     }
-    Ok(are_same(single.items(), whole.items()))
+    Ok(are_same(&single.events()?, &whole.events()?))
 }
 
 #[test]

@@ -1,15 +1,12 @@
 -- What events leave of a map is what those of them leave that stand.
-use Rattle.std.proofs.Common.{◌≡◌, List, [], ◌∷◌, ◌++◌, map, filter, Option, Some, None, refl, sym, ap, ◌∙◌, subst}
+use Rattle.std.proofs.Common.{◌≡◌, List, [], ◌∷◌, ◌++◌, map, filter, Option, Some, None, refl, sym, ap, ◌∙◌}
 use Rattle.std.specs.Option.{option_to_list}
 use Rattle.std.specs.Cmp.{IsTotalOrder}
 use Rattle.std.specs.FinMap.{IsAntisymmetric, empty, get, get-empty, get-from_entries}
-use Rattle.std.proofs.lemmas.List.{map-append}
-use Rattle.std.proofs.lemmas.List.Elements.{filter-append}
 use Rattle.road_base.specs.declared.ids.Key.{Key}
 use Rattle.road_base.specs.declared.event.Event.{Event}
 use Rattle.road_base.specs.Objects.{Objects, Entry, key_cmp}
 use Rattle.road_base.specs.Applying.{entry_of, is_of, newer, first_greatest, entries_for, IsApplied}
-use Rattle.road_model.specs.Links.{AreChanged}
 use Rattle.object_store.specs.Listed.{pair_of, objects_of, IsInOrder}
 use Rattle.object_store.proofs.InOrder.{own}
 
@@ -23,10 +20,10 @@ greatest_alone None = refl
 greatest_alone (Some e) = refl
 
 -- the events of a key
-abbrev entries_in : List Event → Key → List Entry
+abbrev pub entries_in : List Event → Key → List Entry
 entries_in events k = map entry_of (filter (is_of k) events)
 
-of_nothing : (events : List Event) (k : Key) → entries_for empty events k ≡ entries_in events k
+pub of_nothing : (events : List Event) (k : Key) → entries_for empty events k ≡ entries_in events k
 of_nothing events k = rw (get-empty key_cmp k) refl
 
 module _ (total : IsTotalOrder key_cmp) (exact : IsAntisymmetric key_cmp) where
@@ -46,20 +43,9 @@ module _ (total : IsTotalOrder key_cmp) (exact : IsAntisymmetric key_cmp) where
       applied k ∙ same_left (option_to_list (get M k)) (entries_in events k) (entries_in stand k)
       (same_greatest k events stand h standing)
 
-  pub standing_with : (before stand after events : List Event) → IsInOrder before → IsInOrder stand
-      → IsApplied empty events (objects_of stand) → IsApplied empty (before ++ stand) (objects_of after)
-      → IsApplied (objects_of before) events (objects_of after)
-  standing_with before stand after events g h standing together k =
-      together k ∙ ap first_greatest (of_nothing (before ++ stand) k)
-      ∙ ap (λ l. first_greatest (map entry_of l)) (filter-append (is_of k) before stand)
-      ∙ ap first_greatest (map-append entry_of (filter (is_of k) before) (filter (is_of k) stand))
-      ∙ ap (λ l. first_greatest (l ++ entries_in stand k)) (sym (own_entry k before g))
-      ∙ same_left (option_to_list (get (objects_of before) k)) (entries_in stand k) (entries_in events k)
-      (sym (same_greatest k events stand h standing))
-
--- what is said of equal maps and lists
-pub moved_keys : (L M N : Objects) (xs ys : List Event) (keys : List Key) → L ≡ M → xs ≡ ys
-    → ((O : Objects) → IsApplied L xs O → AreChanged L O keys) → IsApplied M ys N → AreChanged M N keys
-moved_keys L M N xs ys keys e f h applied =
-    subst (λ O. AreChanged O N keys) e (h N (subst (λ O. IsApplied O xs N) (sym e)
-    (subst (λ l. IsApplied M l N) (sym f) applied)))
+  -- and what those leave that stand is what all leave
+  pub standing_back : (M N : Objects) (events stand : List Event) → IsInOrder stand
+      → IsApplied empty events (objects_of stand) → IsApplied M stand N → IsApplied M events N
+  standing_back M N events stand h standing applied k =
+      applied k ∙ sym (same_left (option_to_list (get M k)) (entries_in events k) (entries_in stand k)
+      (same_greatest k events stand h standing))

@@ -1,3 +1,6 @@
 pub mod Codes
 pub mod Listed
 pub mod Changes
+pub mod Trees
+pub mod Overlay
+pub mod Following

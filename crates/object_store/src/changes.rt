@@ -4,26 +4,25 @@ ghost use Rattle.std.specs.Option.{option_map};
 ghost use Rattle.road_base.specs.Applying.{IsApplied, entry_of};
 ghost use Rattle.road_base.specs.Objects.{Objects as ObjectMap};
 ghost use Rattle.road_model.specs.Links.{AreChanged};
-ghost use Rattle.object_store.specs.Listed.{IsInOrder, objects_of};
+ghost use Rattle.object_store.specs.Listed.{IsInOrder};
 ghost use Rattle.object_store.specs.Changes.{Alters};
 
-use crate::standing::event_of;
+use crate::objects::Objects;
 use road_base::laws::key_order;
 use road_base::{Body, Event, Keys, NoMemory};
 use std::alloc::Global;
 
-/// The keys whose visible body the events change, ascending. Both lists are in key order.
-pub fn changed_keys(alloc: Global, before: &[Event], events: &[Event]) -> Result<Keys, NoMemory>
-    requires before { IsInOrder before.now }
-    requires events { IsInOrder events.now }
+/// The keys whose visible body the events change, ascending. The events are in key order.
+pub fn changed_keys(alloc: Global, before: &Objects, events: &[Event]) -> Result<Keys, NoMemory>
+    requires { IsInOrder events.now }
     ensures { IfOk result (λ keys. (N : ObjectMap)
-        → IsApplied (objects_of before.now) events.now N
-        → AreChanged (objects_of before.now) N keys) }
+        → IsApplied before.now events.now N
+        → AreChanged before.now N keys) }
 {
     key_order();
     let mut list = Vec::new(alloc);
     for event in events {
-        if alters(event_of(before, event.key), event) {
+        if alters(before.get(event.key), event) {
             list.push(event.key)?;
         }
     }

@@ -16,17 +16,6 @@ pub struct KeyRanges {
 }
 
 impl KeyRanges {
-    /// No ranges. Takes no memory.
-    pub fn new(alloc: Global) -> KeyRanges {
-        KeyRanges {
-            ways_from: 0,
-            relations_from: 0,
-            nodes: Ranges::new(alloc),
-            ways: Ranges::new(alloc),
-            relations: Ranges::new(alloc),
-        }
-    }
-
     /// The ranges of a list in key order; none for a part for which no memory is found. Takes about two bytes an
     /// event, and the time of one run over them.
     pub fn of(alloc: Global, list: &[Event]) -> KeyRanges {

@@ -1,25 +1,32 @@
-//! The objects of a map.
-ghost use Rattle.std.specs.Prelude.{◌≡◌, IfOk, OnOk, OnErr, IfSome, map, filter, option_copied};
-ghost use Rattle.std.specs.FinMap.{empty, entries, get};
-ghost use Rattle.std.specs.Option.{option_map};
-ghost use Rattle.road_base.specs.Applying.{IsApplied, entry_of};
-ghost use Rattle.road_base.specs.Objects.{Objects as ObjectMap};
+//! The objects of a map, which changes follow.
+ghost use Rattle.std.specs.Prelude.{◌≡◌, ◌++◌, ◌∷◌, [], IfOk, OnOk, OnErr, IfSome, map, filter, option_copied};
+ghost use Rattle.std.specs.Prelude.{Some, if◌then◌else◌, is_some, not};
+ghost use Rattle.std.specs.FinMap.{empty, entries, get, find};
+ghost use Rattle.std.specs.Ordering.{eq_by_cmp};
+ghost use Rattle.std.specs.Option.{option_map, option_to_list};
+ghost use Rattle.road_base.specs.Applying.{IsApplied, entry_of, entries_for, first_greatest};
+ghost use Rattle.road_base.specs.Objects.{Objects as ObjectMap, key_cmp};
+ghost use Rattle.road_base.specs.declared.ids.Key.{Key};
 ghost use Rattle.road_model.specs.Links.{AreChanged};
+ghost use Rattle.object_store.specs.Overlay.{base_objects};
 
+use crate::base::Base;
 use crate::changes::changed_keys;
-use crate::key_ranges::KeyRanges;
-use crate::kinds::{relations_in, ways_in};
-use crate::standing::{copies, event_at, event_of, settle, settle_with, standing};
-use road_base::laws::key_order;
+use crate::fresh::Fresh;
+use crate::shared_map::SharedMap;
+use crate::standing::standing;
+use road_base::laws::{applied_in_turn, key_order};
 use road_base::{Event, Key, Keys, NoMemory};
 use std::alloc::Global;
 use std::marker::Model;
+use std::rc::Rc;
 
 /// An object map: to each key that was named its version, and its visible body or a deletion.
 #[derive(Drop)]
 pub struct Objects {
-    list: Vec<Event>,
-    ranges: KeyRanges,
+    alloc: Global,
+    base: Option<Rc<Base>>,
+    changed: SharedMap<Key, Event>,
 }
 
 impl Model for Objects {
@@ -30,23 +37,24 @@ impl Model for Objects {
 
     ghost coded = { coded_objects };
 
-    ghost use Rattle.object_store.specs.Listed.{objects_of, IsInOrder};
+    ghost use Rattle.object_store.specs.Overlay.{over, AreKeyed, base_objects};
 
-    ghost view = { λ o. objects_of o.list.items };
+    ghost view = { λ o. over o.changed (base_objects o.base) };
 
-    ghost invariant = { λ o. IsInOrder o.list.items };
+    ghost invariant = { λ o. AreKeyed o.changed };
 }
 
 impl Objects {
-    ghost use Rattle.object_store.specs.Listed.{pair_of, is_way, is_relation, IsInOrder, AreEntriesOf};
+    ghost use Rattle.object_store.specs.Listed.{pair_of};
 
     /// No objects. Takes no memory.
     pub fn new(alloc: Global) -> Objects
         ensures { result ≡ empty }
     {
         Objects {
-            list: Vec::new(alloc),
-            ranges: KeyRanges::new(alloc),
+            alloc,
+            base: None,
+            changed: SharedMap::new(),
         }
     }
 
@@ -54,50 +62,25 @@ impl Objects {
     pub fn of(events: Vec<Event>) -> Result<Objects, NoMemory>
         ensures { IfOk result (λ o. IsApplied empty events.items o) }
     {
-        let mut list = events;
-        settle(&mut list)?;
-        let ranges = KeyRanges::of(*list.allocator(), list.as_slice());
-        Ok(Objects { list, ranges })
+        let alloc = *events.allocator();
+        let base = Rc::new(alloc, Base::of(events)?)?;
+        Ok(Objects {
+            alloc,
+            base: Some(base),
+            changed: SharedMap::new(),
+        })
     }
 
-    /// The key's entry, as an event. None exactly where the key has no entry.
+    /// The key's entry, as an event. None exactly where the key has no entry. Takes no memory.
     pub fn get(&self, key: Key) -> Option<&Event>
         ensures entry { option_map entry_of (option_copied result) ≡ get self.now key }
         ensures key { IfSome (option_copied result) (λ e. e.key ≡ key) }
     {
-        match self.ranges.find(self.list.as_slice(), key) {
-            Some(at) => event_at(self.list.as_slice(), key, at),
-            None => event_of(self.list.as_slice(), key),
+        key_order();
+        match self.changed.get(key) {
+            Some(event) => Some(event),
+            None => entry_in(&self.base, key),
         }
-    }
-
-    /// All entries as events, in key order.
-    pub fn items(&self) -> &[Event]
-        ensures entries { entries self.now ≡ map pair_of result.now }
-        ensures in_order { IsInOrder result.now }
-    {
-        key_order();
-        self.list.as_slice()
-    }
-
-    /// The entries of ways alone as events, in key order.
-    pub fn ways(&self) -> &[Event]
-        ensures entries { map pair_of result.now ≡ filter (λ p. is_way p.0) (entries self.now) }
-        ensures exactly { AreEntriesOf is_way self.now result.now }
-        ensures in_order { IsInOrder result.now }
-    {
-        key_order();
-        ways_in(self.list.as_slice())
-    }
-
-    /// The entries of relations alone as events, in key order.
-    pub fn relations(&self) -> &[Event]
-        ensures entries { map pair_of result.now ≡ filter (λ p. is_relation p.0) (entries self.now) }
-        ensures exactly { AreEntriesOf is_relation self.now result.now }
-        ensures in_order { IsInOrder result.now }
-    {
-        key_order();
-        relations_in(self.list.as_slice())
     }
 
     /// The keys whose visible body the events would change, ascending.
@@ -107,10 +90,27 @@ impl Objects {
             → AreChanged self.now N keys) }
     {
         key_order();
-        let alloc = *self.list.allocator();
-        let events = standing(alloc, events)?;
-        let keys = changed_keys(alloc, self.list.as_slice(), events.as_slice())?;
+        let events = standing(self.alloc, events)?;
+        let keys = changed_keys(self.alloc, self, events.as_slice())?;
         Ok(keys)
+    }
+
+    /// Finds what the events leave: of each key the first one of the greatest version, its entry here before all of
+    /// them. The objects stay as they are.
+    pub fn prepare(&mut self, events: &[Event]) -> Result<Fresh, NoMemory>
+        ensures same { self.new ≡ self.old }
+        ensures before { IfOk result (λ f. f.before ≡ self.old) }
+        ensures after { IfOk result (λ f. IsApplied self.old events.now f.after) }
+    {
+        self.following(events)
+    }
+
+    /// Leaves what the events leave for which the change was prepared. Takes no memory.
+    pub fn commit(&mut self, fresh: Fresh)
+        requires { fresh.before ≡ self.now }
+        ensures { self.new ≡ fresh.after }
+    {
+        *self = fresh.into_objects();
     }
 
     /// Applies the events: of each key the first one of the greatest version stands, its entry here before all of
@@ -120,31 +120,186 @@ impl Objects {
         ensures keys { IfOk result (λ keys. AreChanged self.old self.new keys) }
         ensures err { OnErr result (self.new ≡ self.old) }
     {
-        key_order();
-        let alloc = *self.list.allocator();
-        let events = standing(alloc, events)?;
-        let keys = changed_keys(alloc, self.list.as_slice(), events.as_slice())?;
-        settle_with(&mut self.list, events)?;
-        self.ranges = KeyRanges::of(alloc, self.list.as_slice());
+        let fresh = self.prepare(events)?;
+        let keys = fresh.keys().copy()?;
+        self.commit(fresh);
         Ok(keys)
     }
 
-    /// An equal value.
+    /// An equal value. Takes the time of a change of one entry at most, since all else is shared.
     pub fn copy(&self) -> Result<Objects, NoMemory>
         ensures { IfOk result (λ o. o ≡ self.now) }
     {
-        let alloc = *self.list.allocator();
-        let list = copies(alloc, self.list.as_slice())?;
-        let ranges = KeyRanges::of(alloc, list.as_slice());
-        Ok(Objects { list, ranges })
+        let base = shared_base(&self.base)?;
+        let changed = self.changed.share()?;
+        Ok(Objects {
+            alloc: self.alloc,
+            base,
+            changed,
+        })
+    }
+
+    /// All entries, listed. Takes no memory where nothing has changed since the objects were made; else it copies all
+    /// entries.
+    pub fn listed(&self) -> Result<Rc<Base>, NoMemory>
+        ensures { IfOk result (λ b. b.value ≡ self.now) }
+    {
+        match &self.base {
+            Some(base) if self.changed.is_empty() => Ok(base.clone()?),
+            _ => Ok(Rc::new(self.alloc, self.merged()?)?),
+        }
     }
 
     /// Copies of all entries as events, in key order.
     pub fn events(&self) -> Result<Vec<Event>, NoMemory>
         ensures { IfOk result (λ v. map pair_of v.items ≡ entries self.now) }
     {
-        key_order();
-        let list = copies(*self.list.allocator(), self.list.as_slice())?;
-        Ok(list)
+        let base = self.listed()?;
+        base.events()
     }
+
+    /// What the events leave, found.
+    fn following(&self, events: &[Event]) -> Result<Fresh, NoMemory>
+        ensures before { IfOk result (λ f. f.before ≡ self.now) }
+        ensures after { IfOk result (λ f. IsApplied self.now events.now f.after) }
+    {
+        key_order();
+        let list = standing(self.alloc, events)?;
+        let keys = changed_keys(self.alloc, self, list.as_slice())?;
+        let next = self.with(list.as_slice())?;
+        Ok(Fresh::new(self.copy()?, next, keys))
+    }
+
+    /// What the events leave, beside these objects.
+    fn with(&self, events: &[Event]) -> Result<Objects, NoMemory>
+        ensures { IfOk result (λ o. IsApplied self.now events.now o) }
+    {
+        applied_in_turn();
+        let mut next = self.copy()?;
+        for event in events {
+            next = next.with_event(event)?;
+        }
+        Ok(next)
+    }
+
+    /// What the event leaves.
+    fn with_event(self, event: &Event) -> Result<Objects, NoMemory>
+        ensures { IfOk result (λ o. IsApplied self (event.now ∷ []) o) }
+    {
+        key_order();
+        if self.lacks(event) {
+            self.with_entry(event.copy()?)
+        } else {
+            Ok(self)
+        }
+    }
+
+    /// Whether the event stands where it comes to its key's entry.
+    fn lacks(&self, event: &Event) -> bool
+        ensures { first_greatest (option_to_list (get self.now event.now.key) ++ entry_of event.now ∷ [])
+            ≡ (if result then Some (entry_of event.now) else get self.now event.now.key) }
+    {
+        match self.get(event.key) {
+            None => true,
+            Some(entry) => entry.version < event.version,
+        }
+    }
+
+    /// These objects with the event's entry at its key.
+    fn with_entry(self, event: Event) -> Result<Objects, NoMemory>
+        ensures { IfOk result (λ o. (k : Key)
+            → get o k ≡ (if eq_by_cmp key_cmp k event.key then Some (entry_of event) else get self k)) }
+    {
+        key_order();
+        let changed = self.changed.with(self.alloc, event.key, event)?;
+        Ok(Objects {
+            alloc: self.alloc,
+            base: self.base,
+            changed,
+        })
+    }
+
+    /// All entries, listed anew.
+    fn merged(&self) -> Result<Base, NoMemory>
+        ensures { IfOk result (λ b. b ≡ self.now) }
+    {
+        key_order();
+        let mut list = unchanged_events(self.alloc, &self.base, &self.changed)?;
+        let changed = self.changed.values(self.alloc)?;
+        add_copies(changed.as_slice(), &mut list)?;
+        Base::of(list)
+    }
+}
+
+/// The key's entry in the base, as an event.
+fn entry_in(base: &Option<Rc<Base>>, key: Key) -> Option<&Event>
+    ensures entry { option_map entry_of (option_copied result) ≡ get (base_objects base.now) key }
+    ensures key { IfSome (option_copied result) (λ e. e.key ≡ key) }
+{
+    match base {
+        None => None,
+        Some(base) => base.get(key),
+    }
+}
+
+/// The same base, shared.
+fn shared_base(base: &Option<Rc<Base>>) -> Result<Option<Rc<Base>>, NoMemory>
+    ensures { IfOk result (λ b. base_objects b ≡ base_objects base.now) }
+{
+    match base {
+        None => Ok(None),
+        Some(base) => Ok(Some(base.clone()?)),
+    }
+}
+
+/// Copies of the base's entries at whose keys nothing has changed, in key order.
+fn unchanged_events(
+    alloc: Global,
+    base: &Option<Rc<Base>>,
+    changed: &SharedMap<Key, Event>,
+) -> Result<Vec<Event>, NoMemory>
+    ensures { IfOk result (λ v. (k : Key) → entries_for empty v.items k
+        ≡ (if is_some (find key_cmp k changed.now) then [] else option_to_list (get (base_objects base.now) k))) }
+{
+    key_order();
+    match base {
+        None => Ok(Vec::new(alloc)),
+        Some(base) => unchanged_among(alloc, base.items(), changed),
+    }
+}
+
+/// Copies of the entries at whose keys nothing has changed, in their order.
+fn unchanged_among(
+    alloc: Global,
+    entries: &[Event],
+    changed: &SharedMap<Key, Event>,
+) -> Result<Vec<Event>, NoMemory>
+    ensures { IfOk result (λ v.
+        v.items ≡ filter (λ e. not (is_some (find key_cmp e.key changed.now))) entries.now) }
+{
+    let mut list = Vec::new(alloc);
+    for event in entries {
+        if !has_entry(changed, event.key) {
+            list.push(event.copy()?)?;
+        }
+    }
+    Ok(list)
+}
+
+/// Whether the map has the key.
+fn has_entry(map: &SharedMap<Key, Event>, key: Key) -> bool
+    ensures { result ≡ is_some (find key_cmp key map.now) }
+{
+    key_order();
+    map.get(key).is_some()
+}
+
+/// Puts copies of the events behind the list's.
+fn add_copies(events: &[&Event], list: &mut Vec<Event>) -> Result<(), NoMemory>
+    ensures { OnOk result (list.new.items ≡ list.old.items ++ map (λ e. e.now) events.now) }
+{
+    for event in events {
+        list.push(event.copy()?)?;
+    }
+    Ok(())
 }

@@ -1,5 +1,5 @@
 //! Of many events those that stand: of each key the first one of the greatest version.
-ghost use Rattle.std.specs.Prelude.{◌≡◌, ◌++◌, IfOk, OnOk, OnErr, IfSome, option_copied};
+ghost use Rattle.std.specs.Prelude.{◌≡◌, IfOk, OnOk, OnErr, IfSome, option_copied};
 ghost use Rattle.std.specs.FinMap.{empty, get};
 ghost use Rattle.std.specs.Option.{option_map};
 ghost use Rattle.road_base.specs.Applying.{IsApplied, entry_of};
@@ -20,24 +20,6 @@ pub fn settle(events: &mut Vec<Event>) -> Result<(), NoMemory>
     events.sort_by_key(|event| (event.key, Reverse(event.version)))?;
     events.dedup_by_key(|event| event.key);
     Ok(())
-}
-
-/// Leaves the events that stand of both lists, in key order. Where no memory is found the first list stays as it is.
-pub fn settle_with(list: &mut Vec<Event>, events: Vec<Event>) -> Result<(), NoMemory>
-    ensures applied { OnOk result (IsApplied empty (list.old.items ++ events.items) (objects_of list.new.items)) }
-    ensures in_order { OnOk result (IsInOrder list.new.items) }
-    ensures err { OnErr result (list.new.items ≡ list.old.items) }
-{
-    let mut events = events;
-    let before = list.len();
-    list.append(&mut events)?;
-    match settle(list) {
-        Ok(()) => Ok(()),
-        Err(NoMemory) => {
-            list.truncate(before);
-            Err(NoMemory)
-        }
-    }
 }
 
 /// Copies of the events that stand, in key order.

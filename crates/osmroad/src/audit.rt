@@ -20,9 +20,10 @@ pub fn audit_text(alloc: Global, world: &Indexed) -> Result<String, NoMemory>
     ensures { IfOk result (λ text. IsAudit world.now motorcar_rules (string_bytes text)) }
 {
     key_order();
-    let rules = restrictions_among(alloc, world.objects().relations())?;
+    let listed = world.objects().listed()?;
+    let rules = restrictions_among(alloc, listed.relations())?;
     let mut text = rule_lines(alloc, world, &rules)?;
-    let count = conditional_count(world.objects().items());
+    let count = conditional_count(listed.items());
     text.push_str(&conditional_text(alloc, count)?)?;
     Ok(text)
 }

@@ -3,7 +3,7 @@ use Rattle.std.proofs.lemmas.List.{take_more}
 use Rattle.road_base.specs.declared.event.Event.{Event}
 use Rattle.road_base.specs.Applying.{entry_of}
 use Rattle.road_base.specs.Objects.{Objects}
-use Rattle.object_store.specs.Listed.{objects_of, IsInOrder}
+use Rattle.object_store.specs.Listed.{IsInOrder}
 use Rattle.object_store.specs.Changes.{Alters}
 use Rattle.object_store.proofs.ChangedKeys.{IsPicked, AltersIn, none_picked, picked_one, picked_not, take_in_order}
 use Rattle.object_store.proofs.ChangedKeys.{changed}
@@ -15,7 +15,7 @@ loop-event-init c = rw c.new-list.ensures.items (none_picked _)
 
 pub loop-event-preserved : goal.loop-event-preserved
 loop-event-preserved c =
-    let M : Objects = objects_of c.args.before.now in
+    let M : Objects = c.args.before.now in
     let xs : List Event = c.args.events.now in
     let e : Event = c.event-item.result in
     let front : List Event = take c.loop-event.event-index xs in
@@ -23,26 +23,26 @@ loop-event-preserved c =
     ≡ front ++ e ∷ [] = take_more xs c.loop-event.event-index e c.loop-event-test.true
     ∙ ap (λ z. front ++ z ∷ []) (sym c.event-item.is) in
     let up : IsInOrder (front ++ e ∷ []) = subst IsInOrder step
-    (take_in_order (c.loop-event.event-index + 1) xs c.requires.events) in
+    (take_in_order (c.loop-event.event-index + 1) xs c.requires) in
     subst (λ l. IsPicked (AltersIn M) l c.if-alters.list.items) (sym step)
     (elim c.if-alters.branch [
       | then-alters+in_ok-push w ↦
           subst (IsPicked (AltersIn M) (front ++ e ∷ []))
           (sym (ap (λ v. v.items) w.list-is ∙ w.in_ok-push.ensures.items))
           (picked_one c.key_order.ensures.total (AltersIn M) front e c.loop-event.list.items up c.loop-event.invariant
-          (subst (λ o. Alters o (entry_of e)) c.event_of.ensures.entry (c.alters.ensures.0 w.if-alters.true)))
+          (subst (λ o. Alters o (entry_of e)) c.get.ensures.entry (c.alters.ensures.0 w.if-alters.true)))
       | else-alters w ↦
           subst (IsPicked (AltersIn M) (front ++ e ∷ [])) (sym (ap (λ v. v.items) w.list-is))
           (picked_not (AltersIn M) front e c.loop-event.list.items c.loop-event.invariant
-          (λ p. let t = c.alters.ensures.1 (subst (λ o. Alters o (entry_of e)) (sym c.event_of.ensures.entry) p)
+          (λ p. let t = c.alters.ensures.1 (subst (λ o. Alters o (entry_of e)) (sym c.get.ensures.entry) p)
           in let f = w.if-alters.false in cc))
     ])
 
 pub returns : goal.returns
 returns c =
-    let M : Objects = objects_of c.args.before.now in
+    let M : Objects = c.args.before.now in
     let all : take c.loop-event.event-index c.args.events.now
     ≡ c.args.events.now = take_all c.loop-event.event-index c.args.events.now c.loop-event-test.false in
     let picked = subst (λ l. IsPicked (AltersIn M) l c.loop-event.list.items) all c.loop-event.invariant in
     λ N applied. changed c.key_order.ensures.total c.key_order.ensures.ties M N c.args.events.now c.from_list.result
-    c.requires.events (subst (IsPicked (AltersIn M) c.args.events.now) (sym c.from_list.ensures) picked) applied
+    c.requires (subst (IsPicked (AltersIn M) c.args.events.now) (sym c.from_list.ensures) picked) applied

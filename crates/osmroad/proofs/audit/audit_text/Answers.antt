@@ -18,25 +18,27 @@ rule_lines-requires c =
     let M = c.args.world.now in
     let events = c.relations.result.now in
     let exactly : AreEntriesOf is_relation M events =
-    subst (λ (N : Objects). AreEntriesOf is_relation N events) c.objects.ensures c.relations.ensures.exactly in
-    all_restrictions M events exactly c.deref.result.now (c.deref.ensures.value ∙ c.in_ok-rules.ensures)
+    subst (λ (N : Objects). AreEntriesOf is_relation N events)
+    (c.deref.ensures ∙ c.in_ok-listed.ensures ∙ c.objects.ensures) c.relations.ensures.exactly in
+    all_restrictions M events exactly c.deref-2.result.now (c.deref-2.ensures.value ∙ c.in_ok-rules.ensures)
 
 pub returns : goal.returns
 returns c =
     let M = c.args.world.now in
     let events = c.relations.result.now in
-    let all = c.deref.result.now in
+    let all = c.deref-2.result.now in
     let told : List RelationId = filter_map (λ (e : Event). restriction_of e.key e.body) events in
-    let are : all ≡ told = c.deref.ensures.value ∙ c.in_ok-rules.ensures in
+    let are : all ≡ told = c.deref-2.ensures.value ∙ c.in_ok-rules.ensures in
     let exactly : AreEntriesOf is_relation M events =
-    subst (λ (N : Objects). AreEntriesOf is_relation N events) c.objects.ensures c.relations.ensures.exactly in
+    subst (λ (N : Objects). AreEntriesOf is_relation N events)
+    (c.deref.ensures ∙ c.in_ok-listed.ensures ∙ c.objects.ensures) c.relations.ensures.exactly in
     let ascending = subst (λ (l : List RelationId). IsTrue (rises relation_cmp l)) (sym are)
     (restrictions_rise c.key_order.ensures.total events c.relations.ensures.in_order) in
     let text = string_bytes c.in_ok-text.text in
     let count = c.conditional_count-count.result in
     let counted : count ≡ conditional_count M = c.conditional_count-count.ensures
-    ∙ count_is c.objects-2.result.now c.items.result.now c.items.ensures.entries
-    ∙ ap conditional_count c.objects-2.ensures in
+    ∙ count_is c.deref-3.result.now c.items.result.now c.items.ensures.entries
+    ∙ ap conditional_count (c.deref-3.ensures ∙ c.in_ok-listed.ensures ∙ c.objects.ensures) in
     let pushed : string_bytes c.push_str.new.self ≡ text ++ conditional_line count = search rules in
     subst (IsAudit M motorcar_rules) (sym pushed)
     (whole_audit M motorcar_rules all ascending

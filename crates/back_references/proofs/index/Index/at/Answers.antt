@@ -1,58 +1,35 @@
-use Rattle.std.proofs.Common.{◌≡◌, ◌<◌, ◌≤◌, ◌-◌, slice_index_or, true, false, length, take, drop, sym, ap, ◌∙◌, subst}
-use Rattle.std.proofs.Common.{Contains}
-use Rattle.std.specs.Ordering.{is_lt, is_le}
-use Rattle.std.specs.List.{zip, AllWithin}
-use Rattle.std.specs.List.Sorted.{IsPartitionedBy, IsPartitionPoint}
+use Rattle.std.proofs.Common.{◌≡◌, Some, None, Contains, map, option_copied, ap, sym, subst, ◌∙◌}
+use Rattle.std.specs.Option.{option_map}
+use Rattle.std.specs.FinMap.{find}
 use Rattle.road_model.specs.Orders.{Lists}
-use Rattle.road_base.proofs.SortedParts.{low_first}
-use Rattle.back_references.proofs.Lookups.{below_parted, upto_point, found_lists}
+use Rattle.back_references.specs.Indexes.{Has}
+use Rattle.back_references.specs.Holding.{base_pairs}
+use Rattle.back_references.proofs.IndexLists.{lists_found, listed_some, listed_else}
 use Rattle.back_references.proofs.index.Index.at.Goals as goal
 
-pub first_near-low-requires-clause-parted : goal.first_near-low-requires-clause-parted
-first_near-low-requires-clause-parted g c =
-    subst (λ l. IsPartitionedBy (λ a. is_lt (g.K.Ord.cmp a c.args.key)) l) (sym c.as_slice-keys.ensures.value)
-    (below_parted g.K.Ord.cmp g.V.Ord.cmp g.met.K.Ord.total g.met.V.Ord.total c.self.inside.keys.items
-    c.self.inside.values.items c.self.invariant.0 c.self.invariant.1 c.args.key)
-
-pub part-requires-clause-rising : goal.part-requires-clause-rising
-part-requires-clause-rising g c =
+pub returns-in-Some : goal.returns-in-Some
+returns-in-Some g c =
     let R = g.K.Ord.cmp in
     let S = g.V.Ord.cmp in
-    let keys = c.self.inside.keys.items in
-    let values = c.self.inside.values.items in
-    let e = c.as_slice-keys.ensures.value in
-    let below = subst (λ l. IsPartitionPoint (λ a. is_lt (R a c.args.key) ≡ true) (λ a. is_lt (R a c.args.key) ≡ false)
-    l c.first_near-low.result) e c.first_near-low.ensures.point in
-    let within = upto_point R S g.met.K.Ord.total g.met.V.Ord.total keys values c.self.invariant.0 c.self.invariant.1
-    c.args.key c.first_near-low.result c.end_from-high.result below
-    (subst (λ l. AllWithin (λ a. is_le (R a c.args.key) ≡ true) l c.first_near-low.result c.end_from-high.result) e
-    c.end_from-high.ensures.upto)
-    (subst (λ l. (d : _) → c.end_from-high.result < length l
-    → is_le (R (slice_index_or l c.end_from-high.result d) c.args.key) ≡ false) e c.end_from-high.ensures.next) in
-    low_first (λ a. a) R c.args.key c.args.key keys c.first_near-low.result c.end_from-high.result below within
-    (subst (λ l. c.first_near-low.result ≤ length l) e c.first_near-low.ensures.bound)
-    (subst (λ l. c.end_from-high.result ≤ length l) e c.end_from-high.ensures.bound)
+    let k = c.args.key in
+    let below = base_pairs c.self.inside.base in
+    let lists = map (λ p. (p.0, p.1.items)) c.self.inside.replaced in
+    let found : find R k lists ≡ Some c.in-Some.values.now.items =
+    lists_found R (λ w. w.items) k c.self.inside.replaced
+    ∙ ap (option_map (λ w. w.items)) (sym c.get.ensures ∙ ap option_copied c.in-Some.is) in
+    subst (λ held. Lists (λ v. v) S (λ v. Has R held k v) c.as_slice.result.now) c.self.view_is
+    (listed_some S (λ v. Contains below (k, v)) (find R k lists) c.in-Some.values.now.items c.as_slice.result.now found
+    (c.self.invariant k c.in-Some.values.now.items found) c.as_slice.ensures.value)
 
-pub returns : goal.returns
-returns g c =
+pub returns-in-None : goal.returns-in-None
+returns-in-None g c =
     let R = g.K.Ord.cmp in
     let S = g.V.Ord.cmp in
-    let keys = c.self.inside.keys.items in
-    let values = c.self.inside.values.items in
-    let e = c.as_slice-keys.ensures.value in
-    let below = subst (λ l. IsPartitionPoint (λ a. is_lt (R a c.args.key) ≡ true) (λ a. is_lt (R a c.args.key) ≡ false)
-    l c.first_near-low.result) e c.first_near-low.ensures.point in
-    let within = upto_point R S g.met.K.Ord.total g.met.V.Ord.total keys values c.self.invariant.0 c.self.invariant.1
-    c.args.key c.first_near-low.result c.end_from-high.result below
-    (subst (λ l. AllWithin (λ a. is_le (R a c.args.key) ≡ true) l c.first_near-low.result c.end_from-high.result) e
-    c.end_from-high.ensures.upto)
-    (subst (λ l. (d : _) → c.end_from-high.result < length l
-    → is_le (R (slice_index_or l c.end_from-high.result d) c.args.key) ≡ false) e c.end_from-high.ensures.next) in
-    let lists = found_lists R S g.met.K.Ord.total g.met.V.Ord.total keys values c.self.invariant.0 c.self.invariant.1
-    c.requires c.args.key _ _ below within
-    (subst (λ l. c.first_near-low.result ≤ length l) e c.first_near-low.ensures.bound)
-    (subst (λ l. c.end_from-high.result ≤ length l) e c.end_from-high.ensures.bound) in
-    subst (λ ps. Lists (λ v. v) S (λ v. Contains ps (c.args.key, v)) c.part.result.now) c.self.view_is
-    (subst (λ l. Lists (λ v. v) S (λ v. Contains (zip keys values) (c.args.key, v)) l)
-    (sym (c.part.ensures ∙ ap (λ l. take (c.end_from-high.result - c.first_near-low.result)
-    (drop c.first_near-low.result l)) c.as_slice.ensures.value)) lists)
+    let k = c.args.key in
+    let below = base_pairs c.self.inside.base in
+    let lists = map (λ p. (p.0, p.1.items)) c.self.inside.replaced in
+    let found : find R k lists ≡ None =
+    lists_found R (λ w. w.items) k c.self.inside.replaced
+    ∙ ap (option_map (λ w. w.items)) (sym c.get.ensures ∙ ap option_copied c.in-None.is) in
+    subst (λ held. Lists (λ v. v) S (λ v. Has R held k v) c.values_in.result.now) c.self.view_is
+    (listed_else S (λ v. Contains below (k, v)) (find R k lists) c.values_in.result.now found c.values_in.ensures)

@@ -10,8 +10,8 @@ use Rattle.back_references.proofs.indexed.Indexed.highways.Goals as goal
 pub returns-clause-exactly : goal.returns-clause-exactly
 returns-clause-exactly c =
     c.in_ok-highways_among.ensures
-    ∙ highways_are c.self.inside.objects c.ways.result.now c.ways.ensures.entries
-    ∙ ap highways c.self.view_is
+    ∙ highways_are c.deref.result.now c.ways.result.now c.ways.ensures.entries
+    ∙ ap highways (c.deref.ensures ∙ c.in_ok-listed.ensures ∙ c.self.view_is)
 
 pub returns-clause-ascending : goal.returns-clause-ascending
 returns-clause-ascending c =
@@ -22,6 +22,7 @@ pub returns-clause-each : goal.returns-clause-each
 returns-clause-each c =
     let events = c.ways.result.now in
     let exactly : AreEntriesOf is_way c.args.self.now events =
-    subst (λ (N : Objects). AreEntriesOf is_way N events) c.self.view_is c.ways.ensures.exactly in
+    subst (λ (N : Objects). AreEntriesOf is_way N events)
+    (c.deref.ensures ∙ c.in_ok-listed.ensures ∙ c.self.view_is) c.ways.ensures.exactly in
     λ w is. subst (λ (l : List WayId). Contains l w) (sym c.in_ok-highways_among.ensures)
     (highway_listed c.args.self.now events exactly w is)

@@ -1,15 +1,17 @@
-use Rattle.std.proofs.Common.{subst, Contains}
+use Rattle.std.proofs.Common.{subst}
 use Rattle.road_base.specs.declared.ids.Key.TheVariants.{Node as NodeKey}
 use Rattle.road_model.specs.Links.{HasMember}
 use Rattle.road_model.specs.Orders.{Lists, relation_cmp}
 use Rattle.road_model.proofs.JoinedLists.{lists_same}
+use Rattle.back_references.specs.Indexes.{Has}
+use Rattle.road_model.specs.Orders.{node_cmp}
 use Rattle.back_references.proofs.indexed.IndexedWorld.rules_at.Goals as goal
 
 pub returns : goal.returns
 returns c =
     subst (λ M. Lists (λ r. r) relation_cmp (λ r. HasMember M r (NodeKey c.args.id)) c.rules_at.result.now)
     c.self.view_is
-    (lists_same (λ r. r) relation_cmp (λ r. Contains c.self.inside.references.node_rules (c.args.id, r))
+    (lists_same (λ r. r) relation_cmp (λ r. Has node_cmp c.self.inside.references.node_rules c.args.id r)
     (λ r. HasMember c.self.inside.objects r (NodeKey c.args.id)) c.rules_at.result.now
     c.rules_at.ensures (λ r. (c.self.invariant.node_rules c.args.id r).0)
     (λ r. (c.self.invariant.node_rules c.args.id r).1))

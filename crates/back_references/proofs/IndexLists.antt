@@ -1,0 +1,352 @@
+-- Lists of values that are exchanged, and what an index holds then.
+use Rattle.std.proofs.Common.{◌≡◌, ◌↔◌, ℕ, ◌+◌, Bool, true, false, cond}
+use Rattle.std.proofs.Common.{IsTrue, List, [], ◌∷◌, ◌++◌, map, length, Option, Some}
+use Rattle.std.proofs.Common.{None, Result, Ok, Err, inl, inr, ◌⊎◌}
+use Rattle.std.proofs.Common.{refl, sym, ap, ◌∙◌, subst, Contains, Ordering, slice_index_or}
+use Rattle.std.proofs.Common.{arith, is_ok, IfOk}
+use Rattle.std.specs.declared.cmp.Ordering.TheVariants.{Less, Equal}
+use Rattle.std.specs.Ordering.{is_lt, is_eq, eq_by_cmp}
+use Rattle.std.specs.Option.{option_map}
+use Rattle.std.specs.Cmp.{IsTotalOrder, Equal-is}
+use Rattle.std.specs.FinMap.{IsAntisymmetric, find, put}
+use Rattle.std.specs.FinMap.Entries.{find-put}
+use Rattle.std.specs.List.Sorted.{IsSearchInRange, IsBinarySearchResult, IsSortedBy}
+use Rattle.std.proofs.lemmas.Bool.{cases_lt}
+use Rattle.std.proofs.lemmas.Cmp.{tied_itself}
+use Rattle.std.proofs.lemmas.List.Sorted.{searchable_from_sorted}
+use Rattle.road_model.specs.Orders.{rises, Lists}
+use Rattle.road_base.proofs.ListMembers.{In, in_from_contains, contains_from_in}
+use Rattle.road_base.proofs.ListMembers.{in_left, in_right, in_cases, contains_map}
+use Rattle.road_base.proofs.Comparisons.{turned}
+use Rattle.back_references.specs.Indexes.{Held, Has, Ascend, IsAmong, Stays, IsChosen}
+use mathlib.Core.Bool.{false≢true}
+use Rattle.back_references.proofs.Lookups.{far}
+
+pub same_list : {A : Type 0} (xs : List A) → map (λ x. x) xs ≡ xs
+same_list [] = refl
+same_list (x ∷ xs) = ap (λ l. x ∷ l) (same_list xs)
+
+pub contains_left : {A : Type 0} (a b : List A) (x : A) → Contains a x → Contains (a ++ b) x
+contains_left a b x c = contains_from_in (a ++ b) x (in_left a b x (in_from_contains a x c))
+
+contains_right : {A : Type 0} (a b : List A) (x : A) → Contains b x → Contains (a ++ b) x
+contains_right a b x c = contains_from_in (a ++ b) x (in_right a b x (in_from_contains b x c))
+
+contains_either : {A : Type 0} (a b : List A) (x : A) → Contains (a ++ b) x → Contains a x ⊎ Contains b x
+contains_either a b x c = elim (in_cases a b x (in_from_contains (a ++ b) x c)) [
+  | inl i ↦ inl (contains_from_in a x i)
+  | inr i ↦ inr (contains_from_in b x i)
+]
+
+-- ---- keys of pairs
+
+pub key_in : {K V : Type 0} (left keys now : List K) (pairs : List (K × V)) (right : List K)
+    → keys ≡ left ++ map (λ p. p.0) pairs
+    → ((k : K) → Contains keys k → Contains right k) → ((k : K) → Contains now k ↔ Contains right k) → (p : K × V)
+    → Contains pairs p → Contains now p.0
+key_in {K = K} {V = V} left keys now pairs right e up same p c =
+    (same p.0).1 (up p.0 (subst (λ l. Contains l p.0) (sym e)
+    (contains_right left (map (λ q. q.0) pairs) p.0 (contains_map (λ (q : K × V). q.0) pairs p c))))
+
+-- ---- values without those that are gone
+
+module _ {V : Type 0} where
+  abbrev pub AreOthers : List V → List V → List V → Type 0
+  AreOthers values gone list = (v : V) → Contains list v ↔ (Contains values v × ¬ (Contains gone v))
+
+  none_in : (v : V) → Contains [] v → ⊥
+  none_in v c = in_from_contains [] v c
+
+  pub others_none : (gone list : List V) → list ≡ [] → AreOthers [] gone list
+  others_none gone list e v = (
+    λ c. absurd (none_in v (subst (λ l. Contains l v) e c)),
+    λ p. absurd (none_in v p.0),
+  )
+
+  pub others_more : (front gone list next : List V) (value : V) → AreOthers front gone list
+      → ((v : V) → Contains next v ↔ (Contains list v ⊎ ((v ≡ value) × ¬ (Contains gone value))))
+      → AreOthers (front ++ value ∷ []) gone next
+  others_more front gone list next value are step v = (
+    λ c. elim ((step v).0 c) [
+      | inl old ↦ let p = (are v).0 old in (contains_left front (value ∷ []) v p.0, p.1)
+      | inr here ↦ (
+        contains_right front (value ∷ []) v (contains_from_in (value ∷ []) v (inl here.0)),
+        subst (λ w. ¬ (Contains gone w)) (sym here.0) here.1,
+      )
+    ],
+    λ p. (step v).1 (elim (in_cases front (value ∷ []) v (in_from_contains (front ++ value ∷ []) v p.0)) [
+      | inl i ↦ inl ((are v).1 (contains_from_in front v i, p.1))
+      | inr i ↦ elim i [
+        | inl e ↦ inr (e, subst (λ w. ¬ (Contains gone w)) e p.1)
+        | inr none ↦ absurd none
+      ]
+    ]),
+  )
+
+  pub value_added : (old new : List V) (value : V) (gone : List V) → new ≡ old ++ value ∷ [] → ¬ (Contains gone value)
+      → (v : V) → Contains new v ↔ (Contains old v ⊎ ((v ≡ value) × ¬ (Contains gone value)))
+  value_added old new value gone e out v = (
+    λ c. elim (in_cases old (value ∷ []) v (in_from_contains (old ++ value ∷ []) v (subst (λ l. Contains l v) e c))) [
+      | inl i ↦ inl (contains_from_in old v i)
+      | inr i ↦ elim i [ inl h ↦ inr (h, out) | inr none ↦ absurd none ]
+    ],
+    λ p. subst (λ l. Contains l v) (sym e) (elim p [
+      | inl c ↦ contains_left old (value ∷ []) v c
+      | inr h ↦ contains_right old (value ∷ []) v (contains_from_in (value ∷ []) v (inl h.0))
+    ]),
+  )
+
+  pub value_left : (old new : List V) (value : V) (gone : List V) → new ≡ old → Contains gone value
+      → (v : V) → Contains new v ↔ (Contains old v ⊎ ((v ≡ value) × ¬ (Contains gone value)))
+  value_left old new value gone e there v = (
+    λ c. inl (subst (λ l. Contains l v) e c),
+    λ p. subst (λ l. Contains l v) (sym e) (elim p [ inl c ↦ c | inr h ↦ absurd (h.1 there) ]),
+  )
+
+  pub exchanged_lists : (values gone come kept all once : List V) → AreOthers values gone kept → all ≡ kept ++ come
+      → ((v : V) → Contains once v ↔ Contains all v) → (v : V)
+      → Contains once v ↔ ((Contains values v × ¬ (Contains gone v)) ⊎ Contains come v)
+  exchanged_lists values gone come kept all once are e same v = (
+    λ c. elim (contains_either kept come v (subst (λ l. Contains l v) e ((same v).0 c))) [
+      | inl k ↦ inl ((are v).0 k)
+      | inr k ↦ inr k
+    ],
+    λ p. (same v).1 (subst (λ l. Contains l v) (sym e) (elim p [
+      | inl k ↦ contains_left kept come v ((are v).1 k)
+      | inr k ↦ contains_right kept come v k
+    ])),
+  )
+
+  -- ---- a search in an ascending list
+  module _ (S : V → V → Ordering) (total : IsTotalOrder S) (exact : IsAntisymmetric S) where
+    sorted : (xs : List V) → IsTrue (rises S xs) → IsSortedBy (λ a b. is_lt (S a b)) xs
+    sorted xs h j d z l = ap is_lt (turned S total (slice_index_or xs j d) (slice_index_or xs (j + 1) d) Less
+        (far S total xs h j (j + 1) d (omega arith) (omega arith)))
+
+    pub searched : (xs : List V) (x : V) → IsTrue (rises S xs) → (r : Result ℕ ℕ) → IsSearchInRange r (length xs)
+        → IsBinarySearchResult (λ y. S y x) xs r → IsTrue (is_ok r) ↔ Contains xs x
+    searched xs x up (Ok i) bound found = (λ h. (i, bound, exact _ _ (found x)), λ c. refl)
+    searched xs x up (Err i) bound found = (
+      λ h. absurd (false≢true h),
+      λ (k, l, is).
+          let cut = found (searchable_from_sorted total (λ (y : V). y) xs x (sorted xs up)) in
+          let same : S (slice_index_or xs k x) x ≡ Equal =
+          subst (λ y. S y x ≡ Equal) (sym is) (tied_itself total x) in
+          elim (cases_lt k i) [
+            | inl b ↦ let l' = cut.0 k x (omega arith) b in cc
+            | inr b ↦ let g = cut.1 k x b l in cc
+          ],
+    )
+
+    pub found_among : (xs : List V) (x : V) → IsTrue (rises S xs) → (r : Result ℕ ℕ) → IsSearchInRange r (length xs)
+        → IsBinarySearchResult (λ y. S y x) xs r → (b : Bool) → b ≡ is_ok r → IsTrue b ↔ Contains xs x
+    found_among xs x up r bound position b same =
+        let f = searched xs x up r bound position in (λ h. f.0 (sym same ∙ h), λ c. same ∙ f.1 c)
+
+-- ---- what an index holds
+
+pub lists_found : {K V W : Type 0} (R : K → K → Ordering) (f : W → List V) (k : K) (ps : List (K × W))
+    → find R k (map (λ p. (p.0, f p.1)) ps) ≡ option_map f (find R k ps)
+lists_found R f k [] = refl
+lists_found R f k (p ∷ ps) =
+    elim (eq_by_cmp R k p.0) as (λ b. cond b (Some (f p.1)) (find R k (map (λ q. (q.0, f q.1)) ps))
+    ≡ option_map f (cond b (Some p.1) (find R k ps))) [ true ↦ refl | false ↦ lists_found R f k ps ]
+
+module _ {V : Type 0} (S : V → V → Ordering) (Else : V → Type 0) where
+  pub listed_some : (o : Option (List V)) (values xs : List V) → o ≡ Some values → IsTrue (rises S values) → xs ≡ values
+      → Lists (λ v. v) S (λ v. IsAmong o v (Else v)) xs
+  listed_some o values xs e up same =
+      subst (λ l. Lists (λ v. v) S (λ v. IsAmong o v (Else v)) l) (sym same)
+      (subst (λ it. Lists (λ v. v) S (λ v. IsAmong it v (Else v)) values) (sym e) (record {
+        ascending = subst (λ l. IsTrue (rises S l)) (sym (same_list values)) up;
+        sound = λ v c. c;
+        complete = λ v c. c;
+      }))
+
+  pub listed_else : (o : Option (List V)) (xs : List V) → o ≡ None → Lists (λ v. v) S Else xs
+      → Lists (λ v. v) S (λ v. IsAmong o v (Else v)) xs
+  listed_else o xs e lists = subst (λ it. Lists (λ v. v) S (λ v. IsAmong it v (Else v)) xs) (sym e) lists
+
+  pub list_rises : (Is : V → Type 0) (xs : List V) → Lists (λ v. v) S Is xs → IsTrue (rises S xs)
+  list_rises Is xs lists = subst (λ l. IsTrue (rises S l)) (same_list xs) lists.ascending
+
+pub stays_by : {V A : Type 0} (S : V → V → Ordering) (Before : V → Type 0) (gone come : List A) (pair : V → A)
+    (values out new r : List V) → Lists (λ v. v) S Before values → Lists (λ v. v) S (λ v. Contains gone (pair v)) out
+    → Lists (λ v. v) S (λ v. Contains come (pair v)) new
+    → ((v : V) → Contains r v ↔ ((Contains values v × ¬ (Contains out v)) ⊎ Contains new v)) → (v : V)
+    → Contains r v ↔ Stays (Before v) gone come (pair v)
+stays_by S Before gone come pair values out new r b g n is v = (
+  λ c. elim ((is v).0 c) [
+    | inl h ↦ inl (b.sound v h.0, λ w. h.1 (g.complete v w))
+    | inr h ↦ inr (n.sound v h)
+  ],
+  λ s. (is v).1 (elim s [
+    | inl h ↦ inl (b.complete v h.0, λ w. h.1 (g.sound v w))
+    | inr h ↦ inr (n.complete v h)
+  ]),
+)
+
+module _ {K : Type 0} where
+  chosen_here : (front : List K) (key k : K) (Values A B : Type 0) → k ≡ key → (Values ↔ A)
+      → Values ↔ IsChosen (Contains (front ++ key ∷ []) k) A B
+  chosen_here front key k Values A B e is =
+      let c : Contains (front ++ key ∷ []) k
+      = contains_right front (key ∷ []) k (contains_from_in (key ∷ []) k (inl e)) in (
+        λ h. inl (c, is.0 h),
+        λ h. elim h [ inl p ↦ is.1 p.1 | inr p ↦ absurd (p.0 c) ],
+      )
+
+  chosen_else : (front : List K) (key k : K) (H A B : Type 0) → ¬ (k ≡ key) → (H ↔ IsChosen (Contains front k) A B)
+      → H ↔ IsChosen (Contains (front ++ key ∷ []) k) A B
+  chosen_else front key k H A B other is =
+      let less : Contains (front ++ key ∷ []) k → Contains front k
+      = λ c. elim (contains_either front (key ∷ []) k c) [
+        | inl d ↦ d
+        | inr d ↦ elim (in_from_contains (key ∷ []) k d) [ inl e ↦ absurd (other e) | inr none ↦ absurd none ]
+      ] in (
+        λ h. elim (is.0 h) [
+          | inl p ↦ inl (contains_left front (key ∷ []) k p.0, p.1)
+          | inr p ↦ inr (λ c. p.0 (less c), p.1)
+        ],
+        λ h. is.1 (elim h [
+          | inl p ↦ inl (less p.0, p.1)
+          | inr p ↦ inr (λ c. p.0 (contains_left front (key ∷ []) k c), p.1)
+        ]),
+      )
+
+-- the exchange is made at the keys of the list and at no others
+abbrev pub IsUpTo : {K V : Type 0} → (K → K → Ordering) → List K → Held K V → List (K × V) → List (K × V) → Held K V
+    → Type 0
+IsUpTo {K} {V} R keys held gone come next = (k : K) (v : V) → Has R next k v
+    ↔ IsChosen (Contains keys k) (Stays (Has R held k v) gone come (k, v)) (Has R held k v)
+
+module _ {K : Type 0} (R : K → K → Ordering) (total : IsTotalOrder R) (exact : IsAntisymmetric R) where
+  pub in_or_out : (keys : List K) (k : K) → Contains keys k ⊎ (¬ (Contains keys k))
+  in_or_out [] k = inr (λ c. in_from_contains [] k c)
+  in_or_out (x ∷ keys) k =
+      elim (eq_by_cmp R k x) as (λ b. eq_by_cmp R k x ≡ b → Contains (x ∷ keys) k ⊎ (¬ (Contains (x ∷ keys) k))) [
+        | true ↦ λ t. inl (contains_from_in (x ∷ keys) k (inl (exact k x ((Equal-is _).0 t))))
+        | false ↦ λ t. elim (in_or_out keys k) [
+          | inl c ↦ inl (contains_from_in (x ∷ keys) k (inr (in_from_contains keys k c)))
+          | inr out ↦ inr (λ c. elim (in_from_contains (x ∷ keys) k c) [
+            | inl e ↦ false≢true (sym t ∙ subst (λ y. eq_by_cmp R k y ≡ true) e (ap is_eq (tied_itself total k)))
+            | inr i ↦ out (contains_from_in keys k i)
+          ])
+        ]
+      ] refl
+
+module _ {K V : Type 0} (R : K → K → Ordering) (total : IsTotalOrder R) (exact : IsAntisymmetric R) where
+  pub up_none : (held next : Held K V) (gone come : List (K × V)) → next ≡ held → IsUpTo R [] held gone come next
+  up_none held next gone come e k v = (
+    λ h. inr (λ c. in_from_contains [] k c, subst (λ (it : Held K V). Has R it k v) e h),
+    λ h. elim h [
+      | inl p ↦ absurd (in_from_contains [] k p.0)
+      | inr p ↦ subst (λ (it : Held K V). Has R it k v) (sym e) p.1
+    ],
+  )
+
+  pub up_more : (front : List K) (key : K) (values : List V) (held next after : Held K V) (gone come : List (K × V))
+      → IsUpTo R front held gone come next → after.0 ≡ next.0
+      → ((k : K) → find R k after.1 ≡ cond (eq_by_cmp R k key) (Some values) (find R k next.1))
+      → ((v : V) → Contains values v ↔ Stays (Has R held key v) gone come (key, v))
+      → IsUpTo R (front ++ key ∷ []) held gone come after
+  up_more front key values held next after gone come upto base lists exactly k v =
+      let A : Type 0 = Stays (Has R held k v) gone come (k, v) in
+      let B : Type 0 = Has R held k v in
+      let C : Type 0 = IsChosen (Contains (front ++ key ∷ []) k) A B in
+      subst (λ (o : Option (List V)). IsAmong o v (Contains after.0 (k, v)) ↔ C) (sym (lists k))
+      (subst (λ (ps : List (K × V)). IsAmong (cond (eq_by_cmp R k key) (Some values) (find R k next.1)) v
+      (Contains ps (k, v)) ↔ C) (sym base)
+      (elim (eq_by_cmp R k key) as (λ b. eq_by_cmp R k key ≡ b
+      → IsAmong (cond b (Some values) (find R k next.1)) v (Contains next.0 (k, v)) ↔ C) [
+        | true ↦ λ t. let e : k ≡ key = exact k key ((Equal-is _).0 t) in
+            chosen_here front key k (Contains values v) A B e
+            (subst (λ n. Contains values v ↔ Stays (Has R held n v) gone come (n, v)) (sym e) (exactly v))
+        | false ↦ λ t. chosen_else front key k (Has R next k v) A B
+            (λ e. false≢true (sym t ∙ subst (λ y. eq_by_cmp R k y ≡ true) e (ap is_eq (tied_itself total k))))
+            (upto k v)
+      ] refl))
+
+  pub exchanged_all : (keys : List K) (held new : Held K V) (gone come out more : List (K × V))
+      → IsUpTo R keys held out more new → ((p : K × V) → Contains out p ↔ Contains gone p)
+      → ((p : K × V) → Contains more p ↔ Contains come p) → ((p : K × V) → Contains gone p → Contains keys p.0)
+      → ((p : K × V) → Contains come p → Contains keys p.0) → (k : K) (v : V)
+      → Has R new k v ↔ Stays (Has R held k v) gone come (k, v)
+  exchanged_all keys held new gone come out more upto gs cs ks ls k v = (
+    λ h. elim ((upto k v).0 h) [
+      | inl p ↦ elim p.1 [ inl q ↦ inl (q.0, λ c. q.1 ((gs (k, v)).1 c)) | inr c ↦ inr ((cs (k, v)).0 c) ]
+      | inr p ↦ inl (p.1, λ c. p.0 (ks (k, v) c))
+    ],
+    λ s. (upto k v).1 (elim (in_or_out R total exact keys k) [
+      | inl here ↦ inl (
+        here,
+        elim s [
+          | inl q ↦ inl (q.0, λ c. q.1 ((gs (k, v)).0 c))
+          | inr c ↦ inr ((cs (k, v)).1 c)
+        ],
+      )
+      | inr away ↦ inr (away, elim s [ inl q ↦ q.0 | inr c ↦ absurd (away (ls (k, v) c)) ])
+    ]),
+  )
+
+-- ---- links after a change
+
+-- what is linked after a change, where at other keys all is the same
+pub link_after : (H P Q G C In : Type 0) → (H ↔ P) → (G ↔ (P × In)) → (C ↔ (Q × In)) → (In ⊎ (¬ In)) → ((¬ In) → P → Q)
+    → ((¬ In) → Q → P) → ((H × (¬ G)) ⊎ C) ↔ Q
+link_after H P Q G C In h g c either to back = (
+  λ s. elim s [
+    | inl p ↦ elim either [ inl i ↦ absurd (p.1 (g.1 (h.0 p.0, i))) | inr o ↦ to o (h.0 p.0) ]
+    | inr x ↦ (c.0 x).0
+  ],
+  λ q. elim either [
+    | inl i ↦ inr (c.1 (q, i))
+    | inr o ↦ inl (h.1 (back o q), λ x. o (g.0 x).1)
+  ],
+)
+
+pub chained : (A B C : Type 0) → (A ↔ B) → (B ↔ C) → A ↔ C
+chained A B C f g = (λ a. g.0 (f.0 a), λ c. f.1 (g.1 c))
+
+-- what follows from a fact on an answer
+pub if_ok : {A E : Type 0} (P Q : A → Type 0) (r : Result A E) → ((a : A) → P a → Q a) → IfOk r P → IfOk r Q
+if_ok P Q (Ok a) f p = f a p
+if_ok P Q (Err e) f p = tt
+
+-- ---- an index with a list more
+
+module _ {K V W : Type 0} (R : K → K → Ordering) (f : W → List V) where
+  abbrev lists : List (K × W) → List (K × List V)
+  lists ps = map (λ p. (p.0, f p.1)) ps
+
+  mapped : (b : Bool) (w : W) (o : Option W) → option_map f (cond b (Some w) o) ≡ cond b (Some (f w)) (option_map f o)
+  mapped true w o = refl
+  mapped false w o = refl
+
+  pub lists_put : IsTotalOrder R → (key : K) (w : W) (ps : List (K × W)) (k : K)
+      → find R k (lists (put R key w ps)) ≡ cond (eq_by_cmp R k key) (Some (f w)) (find R k (lists ps))
+  lists_put total key w ps k =
+      lists_found R f k (put R key w ps) ∙ ap (option_map f) (find-put R total k key w ps)
+      ∙ mapped (eq_by_cmp R k key) w (find R k ps)
+      ∙ ap (cond (eq_by_cmp R k key) (Some (f w))) (sym (lists_found R f k ps))
+
+  pub ascend_put : (S : V → V → Ordering) → IsTotalOrder R → (key : K) (w : W) (ps : List (K × W))
+      → IsTrue (rises S (f w)) → Ascend R S (lists ps) → Ascend R S (lists (put R key w ps))
+  ascend_put S total key w ps up old k values e =
+      elim (eq_by_cmp R k key) as (λ b. cond b (Some (f w)) (find R k (lists ps)) ≡ Some values
+      → IsTrue (rises S values)) [
+        | true ↦ λ h. let same : f w ≡ values = cc in subst (λ l. IsTrue (rises S l)) same up
+        | false ↦ λ h. old k values h
+      ] (sym (lists_put total key w ps k) ∙ e)
+
+  pub of_base : (ps : List (K × W)) (pairs list base : List (K × V)) → ps ≡ [] → base ≡ list
+      → ((p : K × V) → Contains list p ↔ Contains pairs p) → (k : K) (v : V)
+      → IsAmong (find R k (lists ps)) v (Contains base (k, v)) ↔ Contains pairs (k, v)
+  of_base ps pairs list base e same is k v =
+      subst (λ (qs : List (K × W)). IsAmong (find R k (lists qs)) v (Contains base (k, v)) ↔ Contains pairs (k, v))
+      (sym e)
+      (subst (λ (l : List (K × V)). Contains l (k, v) ↔ Contains pairs (k, v)) (sym same) (is (k, v)))
+
+pub none_added : {A : Type 0} (xs more : List A) → more ≡ [] → xs ≡ xs ++ more
+none_added [] more e = sym e
+none_added (x ∷ xs) more e = ap (λ l. x ∷ l) (none_added xs more e)

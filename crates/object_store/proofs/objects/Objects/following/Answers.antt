@@ -1,0 +1,13 @@
+use Rattle.std.proofs.Common.{sym, subst}
+use Rattle.road_base.specs.Applying.{IsApplied}
+use Rattle.object_store.proofs.StandingEvents.{standing_back}
+use Rattle.object_store.proofs.objects.Objects.following.Goals as goal
+
+pub returns-clause-after : goal.returns-clause-after
+returns-clause-after c =
+    let M = c.args.self.now in
+    let N = c.new.result.after in
+    standing_back c.key_order.ensures.total c.key_order.ensures.ties M N c.args.events.now c.in_ok-list.list.items
+    c.in_ok-list.ensures.in_order c.in_ok-list.ensures.applied
+    (subst (λ l. IsApplied M l N) c.as_slice-2.ensures.value
+    (subst (λ O. IsApplied M c.as_slice-2.result.now O) (sym c.new.ensures.after) c.in_ok-next.ensures))
