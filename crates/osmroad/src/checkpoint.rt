@@ -7,7 +7,7 @@ use crate::laws::store_laws;
 use crate::reply::{Failure, Reply, refuse_store};
 use crate::status::Status;
 use crate::texts::checkpoint_text;
-use object_store::Objects;
+use object_store::Base;
 use road_io::Site;
 use sequence_journal::Loaded;
 use std::alloc::Global;
@@ -27,7 +27,7 @@ pub fn checkpoint<W: Site>(alloc: Global, site: &mut W) -> Result<Reply, Failure
         Ok(loaded) => loaded,
         Err(error) => return refuse_store(alloc, error),
     };
-    let objects = Objects::of(events)?;
+    let objects = Base::of(events)?;
     let line = checkpoint_text(alloc, journal.kept())?;
     match store_switch::checkpoint(alloc, site, &mut journal, objects.items()) {
         Ok(()) => Ok(Reply::new(Status::Done, line)),
