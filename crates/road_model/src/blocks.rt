@@ -130,6 +130,15 @@ impl Blocks {
         self.list.as_slice()
     }
 
+    /// All blocks, ascending by way. Takes no memory.
+    pub fn into_list(self) -> Vec<Block>
+        ensures entries { entries self.map ≡ map entry_of result.items }
+        ensures ascending { IsTrue (rises way_cmp (map (λ b. b.way) result.items)) }
+        ensures each { (b : Block) → Contains result.items b ↔ (get self.map b.way ≡ Some b) }
+    {
+        self.list
+    }
+
     /// An equal value: the same blocks, and as much room to spare.
     pub fn copy(&self) -> Result<Blocks, NoMemory>
         ensures { IfOk result (λ blocks. blocks ≡ self.now) }

@@ -372,3 +372,10 @@ pub fn locality<P: Profile>(profile: &P, way: WayId)
         → (IsTouched M N way → ⊥)
         → IsBlock M (P.rules profile.now) way b ↔ IsBlock N (P.rules profile.now) way b }
 {}
+
+/// The same of the blocks of all ways: a way that a change doesn't touch keeps its block.
+pub fn blocks_stay<P: Profile>(profile: &P)
+    ensures { (M N : Objects) (w : WayId) (b : Block)
+        → (IsTouched M N w → ⊥)
+        → IsBlock M (P.rules profile.now) w b ↔ IsBlock N (P.rules profile.now) w b }
+{}
