@@ -1,24 +1,21 @@
 //! The blocks of a world.
-ghost use Rattle.std.specs.Prelude.{◌≡◌, ◌+◌, ◌≤◌, ◌++◌, ◌∷◌, [], List, length, IfOk, OnOk};
+ghost use Rattle.std.specs.Prelude.{◌≡◌, ◌+◌, ◌≤◌, ◌×◌, ◌++◌, ◌∷◌, [], List, Contains, length, IfOk, OnOk};
+ghost use Rattle.std.specs.FinMap.{find, get};
 ghost use Rattle.road_base.specs.declared.ids.WayId.{WayId};
 ghost use Rattle.road_model.specs.Highways.{AreRoadWays, highways};
 ghost use Rattle.road_model.specs.Naming.{OneBlock};
+ghost use Rattle.road_model.specs.Orders.{way_cmp};
 ghost use Rattle.change_apply.specs.Engines.{AreBlocksAmong, AreInForm, AreKept};
+ghost use Rattle.change_apply.specs.Rebuilding.{AreRebuilt, IsRebuiltWith};
 
 use back_references::Indexed;
 use expanded_graph::GraphBuilder;
+use object_store::SharedMap;
 use road_base::{NoMemory, Steps, WayId};
 use road_model::laws::{name_order, one_block, roads_refer};
-use road_model::{Blocks, Profile};
+use road_model::{Block, Blocks, Profile, World};
 use std::alloc::Global;
 use std::sync::ledger::Ledger;
-
-/// The blocks of a world, and how many were built.
-#[derive(Drop)]
-pub struct Built {
-    pub blocks: Blocks,
-    pub count: u64,
-}
 
 /// The blocks of all ways with pieces: one is built for each visible way with the key `highway`.
 pub fn build<P: Profile, L: Ledger>(
@@ -26,18 +23,13 @@ pub fn build<P: Profile, L: Ledger>(
     world: &Indexed,
     profile: P,
     steps: &mut Steps<L>,
-) -> Result<Built, NoMemory>
-    ensures blocks { IfOk result (λ b. AreKept world.now (P.rules profile) b.blocks.map) }
-    ensures count { IfOk result (λ b. steps.new ≡ steps.old + b.count) }
+) -> Result<Blocks, NoMemory>
+    ensures blocks { IfOk result (λ b. AreKept world.now (P.rules profile) (get b.map)) }
     ensures few { steps.new ≤ steps.old + length (highways world.now) }
 {
     roads_refer(&profile);
     let ways = world.highways()?;
-    let blocks = blocks_of(alloc, world, profile, ways.as_slice(), steps)?;
-    Ok(Built {
-        blocks,
-        count: ways.len() as u64,
-    })
+    blocks_of(alloc, world, profile, ways.as_slice(), steps)
 }
 
 /// The blocks of all ways with pieces, where these are they, ascending, and maybe others: one is built for each.
@@ -49,8 +41,7 @@ fn blocks_of<P: Profile, L: Ledger>(
     steps: &mut Steps<L>,
 ) -> Result<Blocks, NoMemory>
     requires { AreRoadWays world.now (P.rules profile) ways.now }
-    ensures blocks { IfOk result (λ blocks. AreKept world.now (P.rules profile) blocks.map) }
-    ensures each { OnOk result (steps.new ≡ steps.old + length ways.now) }
+    ensures blocks { IfOk result (λ blocks. AreKept world.now (P.rules profile) (get blocks.map)) }
     ensures few { steps.new ≤ steps.old + length ways.now }
 {
     one_block(&profile);
@@ -74,7 +65,7 @@ fn add_block<P: Profile, L: Ledger>(
         → OneBlock builder.now.world (P.rules builder.now.profile)
         → AreBlocksAmong builder.now.world (P.rules builder.now.profile) ways blocks.old.map
         → AreBlocksAmong builder.now.world (P.rules builder.now.profile) (ways ++ way ∷ []) blocks.new.map) }
-    ensures forms { OnOk result (AreInForm blocks.old.map → AreInForm blocks.new.map) }
+    ensures forms { OnOk result (AreInForm (get blocks.old.map) → AreInForm (get blocks.new.map)) }
     ensures built { steps.new ≡ steps.old + 1 }
 {
     name_order();
@@ -83,4 +74,44 @@ fn add_block<P: Profile, L: Ledger>(
         return Ok(());
     }
     blocks.insert(block)
+}
+
+/// Builds the blocks of these ways, ascending, and puts them in the place of what was built of them before: one is
+/// built for each, also where a way has no pieces.
+pub fn rebuild<M: World, P: Profile, L: Ledger>(
+    alloc: Global,
+    world: &M,
+    profile: P,
+    ways: &[WayId],
+    rebuilt: &SharedMap<WayId, Block>,
+    steps: &mut Steps<L>,
+) -> Result<SharedMap<WayId, Block>, NoMemory>
+    ensures rebuilt { IfOk result (λ r.
+        AreRebuilt (M.objects world.now) (P.rules profile) ways.now rebuilt.now r) }
+    ensures each { OnOk result (steps.new ≡ steps.old + length ways.now) }
+    ensures few { steps.new ≤ steps.old + length ways.now }
+{
+    let builder = GraphBuilder::of(alloc, world, profile, ways)?;
+    let mut next = rebuilt.share()?;
+    for way in ways {
+        next = rebuild_one(alloc, &builder, *way, &next, steps)?;
+    }
+    Ok(next)
+}
+
+/// Builds the block of the way, and puts it in the place of what was built of it before.
+fn rebuild_one<M: World, P: Profile, L: Ledger>(
+    alloc: Global,
+    builder: &GraphBuilder<'_, M, P>,
+    way: WayId,
+    rebuilt: &SharedMap<WayId, Block>,
+    steps: &mut Steps<L>,
+) -> Result<SharedMap<WayId, Block>, NoMemory>
+    ensures rebuilt { IfOk result (λ r. IsRebuiltWith (M.objects builder.now.world) (P.rules builder.now.profile) way
+        rebuilt.now r) }
+    ensures built { steps.new ≡ steps.old + 1 }
+{
+    name_order();
+    let block = builder.block(way, steps)?;
+    rebuilt.with(alloc, way, block)
 }

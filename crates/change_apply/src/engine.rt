@@ -1,20 +1,27 @@
 //! What follows changes.
-ghost use Rattle.std.specs.Prelude.{◌≡◌, ◌+◌, ◌≤◌, length, IfOk, OnOk, OnErr};
+ghost use Rattle.std.specs.Prelude.{◌≡◌, ◌+◌, ◌≤◌, List, length, IfOk, OnOk, OnErr};
 ghost use Rattle.std.specs.List.{AllByRecursion};
 ghost use Rattle.std.specs.FinMap.{empty, values};
+ghost use Rattle.road_base.specs.declared.ids.WayId.{WayId as WayNumber};
 ghost use Rattle.road_base.specs.Objects.{Objects};
 ghost use Rattle.road_base.specs.Applying.{IsApplied};
 ghost use Rattle.road_model.specs.Highways.{highways};
+ghost use Rattle.road_model.specs.Links.{AreTouched};
 ghost use Rattle.road_model.specs.BlockMap.{AreBlocksOf};
 ghost use Rattle.road_model.specs.Blocks.{IsRoadBlock};
 ghost use Rattle.road_model.specs.Format.{IsBlockForm};
 ghost use Rattle.road_model.specs.Orders.{Lists, way_cmp};
+ghost use Rattle.change_apply.specs.Engines.{BuildsTouched};
 
-use crate::building::build;
-use back_references::Indexed;
+use crate::building::{build, rebuild};
+use crate::listing::list_rebuilt;
+use crate::touching::touched_by;
+use back_references::{Indexed, Next};
+use object_store::SharedMap;
 use road_base::laws::one_map;
-use road_base::{Event, NoMemory, Steps};
-use road_model::{Blocks, Profile};
+use road_base::{Event, NoMemory, Steps, WayId};
+use road_model::laws::{blocks_stay, one_block};
+use road_model::{Block, Blocks, Profile};
 use std::alloc::Global;
 use std::marker::Model;
 use std::sync::ledger::Ledger;
@@ -22,6 +29,8 @@ use std::sync::ledger::Ledger;
 /// What a change cost.
 #[derive(Clone, Copy, PartialEq, Eq, Debug)]
 pub struct Report {
+    /// How many ways it touched.
+    pub touched: u64,
     /// How many blocks were built.
     pub rebuilt: u64,
 }
@@ -32,11 +41,24 @@ pub struct Engine<P: Profile> {
     alloc: Global,
     profile: P,
     world: Indexed,
-    blocks: Blocks,
+    /// The blocks as they were listed last.
+    listed: Blocks,
+    /// The blocks that were built since, each in the place of the one listed at its way; one without pieces stands for
+    /// none.
+    rebuilt: SharedMap<WayId, Block>,
+}
+
+/// A world with the blocks of all its ways with pieces in one list.
+#[derive(Drop)]
+pub struct RoadGraph<'a, P: Profile> {
+    pub profile: P,
+    pub world: &'a Indexed,
+    pub blocks: &'a Blocks,
 }
 
 impl<P: Profile> Model for Engine<P> {
     ghost use Rattle.change_apply.specs.Engines.{AreKept, Followed, coded_followed};
+    ghost use Rattle.change_apply.specs.Rebuilding.{AreAtTheirWays, block_at};
 
     ghost Value = { Followed P };
 
@@ -44,7 +66,8 @@ impl<P: Profile> Model for Engine<P> {
 
     ghost view = { λ e. record { profile = e.profile; world = e.world } };
 
-    ghost invariant = { λ e. AreKept e.world (P.rules e.profile) e.blocks.map };
+    ghost invariant = { λ e. AreKept e.world (P.rules e.profile) (block_at e.rebuilt e.listed.map)
+        × AreAtTheirWays e.rebuilt };
 }
 
 impl<P: Profile> Engine<P> {
@@ -64,17 +87,19 @@ impl<P: Profile> Engine<P> {
     {
         one_map();
         let world = Indexed::of(alloc, events)?;
-        let built = build(alloc, &world, profile, steps)?;
+        let listed = build(alloc, &world, profile, steps)?;
         Ok(Engine {
             alloc,
             profile,
             world,
-            blocks: built.blocks,
+            listed,
+            rebuilt: SharedMap::new(),
         })
     }
 
     /// Applies the events: of each key the first one of the greatest version stands, its entry here before all of
-    /// them. The blocks are then those of what the events left. Where no memory is found nothing changes.
+    /// them. The blocks are then those of what the events left: one is built for each way that the events touch, and
+    /// all others stay. Where no memory is found nothing changes.
     pub fn apply<L: Ledger>(
         &mut self,
         events: &[Event],
@@ -83,18 +108,27 @@ impl<P: Profile> Engine<P> {
         ensures applied { OnOk result (IsApplied self.old.world events.now self.new.world) }
         ensures profile { self.new.profile ≡ self.old.profile }
         ensures err { OnErr result (self.new ≡ self.old) }
-        ensures report { IfOk result (λ r. steps.new ≡ steps.old + r.rebuilt) }
-        ensures built { (objects : Objects)
-            → IsApplied self.old.world events.now objects
-            → steps.new ≤ steps.old + length (highways objects) }
+        ensures touched { IfOk result (λ r. (ways : List WayNumber)
+            → AreTouched self.old.world self.new.world ways
+            → r.touched ≡ length ways) }
+        ensures rebuilt { IfOk result (λ r. steps.new ≡ steps.old + r.rebuilt) }
+        ensures few { IfOk result (λ r. r.rebuilt ≤ r.touched) }
+        ensures built { BuildsTouched self.old.world events.now steps.old steps.new }
     {
         one_map();
-        let world = self.world.with(events)?;
-        let built = build(self.alloc, &world, self.profile, steps)?;
-        self.world = world;
-        self.blocks = built.blocks;
+        one_block(&self.profile);
+        blocks_stay(&self.profile);
+        let prepared = self.world.prepare(events)?;
+        let touched = touched_by(self.alloc, &self.world, &prepared)?;
+        let next = Next::of(&self.world, &prepared);
+        let ways = touched.items();
+        let rebuilt = rebuild(self.alloc, &next, self.profile, ways, &self.rebuilt, steps)?;
+        let count = ways.len() as u64;
+        self.world.commit(prepared);
+        self.rebuilt = rebuilt;
         Ok(Report {
-            rebuilt: built.count,
+            touched: count,
+            rebuilt: count,
         })
     }
 
@@ -113,14 +147,26 @@ impl<P: Profile> Engine<P> {
     }
 
     /// The blocks of all ways with pieces, in the form in which a graph file holds them, and ascending by way as those
-    /// of the graph are listed.
-    pub fn blocks(&self) -> &Blocks
-        ensures blocks { AreBlocksOf self.now.world (P.rules self.now.profile) result.now.map }
-        ensures listed { Lists (λ b. b.way) way_cmp (IsRoadBlock self.now.world (P.rules self.now.profile))
-            (values result.now.map) }
-        ensures forms { AllByRecursion IsBlockForm (values result.now.map) }
+    /// of the graph are listed. Those that were built since this was asked last are listed among the others first;
+    /// where no memory is found for that nothing changes.
+    pub fn graph(&mut self) -> Result<RoadGraph<'_, P>, NoMemory>
+        ensures same { self.new ≡ self.old }
+        ensures profile { IfOk result (λ g. g.profile ≡ self.old.profile) }
+        ensures world { IfOk result (λ g. g.world.now ≡ self.old.world) }
+        ensures blocks { IfOk result (λ g. AreBlocksOf self.old.world (P.rules self.old.profile) g.blocks.now.map) }
+        ensures listed { IfOk result (λ g. Lists (λ b. b.way) way_cmp
+            (IsRoadBlock self.old.world (P.rules self.old.profile)) (values g.blocks.now.map)) }
+        ensures forms { IfOk result (λ g. AllByRecursion IsBlockForm (values g.blocks.now.map)) }
     {
-        let _items = self.blocks.items();
-        &self.blocks
+        if !self.rebuilt.is_empty() {
+            list_rebuilt(self.alloc, &self.rebuilt, &mut self.listed)?;
+            self.rebuilt = SharedMap::new();
+        }
+        let _items = self.listed.items();
+        Ok(RoadGraph {
+            profile: self.profile,
+            world: &self.world,
+            blocks: &self.listed,
+        })
     }
 }

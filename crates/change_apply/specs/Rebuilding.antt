@@ -1,0 +1,40 @@
+-- Blocks that were built since the others were listed.
+use Rattle.std.specs.Prelude.{◌≡◌, List, [], ◌∷◌, Option, Some, None, Contains, IsTrue, map}
+use Rattle.std.specs.List.{AllByRecursion}
+use Rattle.std.specs.FinMap.{FinMap, find, get}
+use Rattle.road_base.specs.declared.ids.WayId.{WayId}
+use Rattle.road_base.specs.Objects.{Objects}
+use Rattle.road_model.specs.declared.blocks.Block.{Block}
+use Rattle.road_model.specs.declared.lists.Piece.{Piece}
+use Rattle.road_model.specs.Rules.{Rules}
+use Rattle.road_model.specs.Orders.{way_cmp, rises}
+use Rattle.road_model.specs.Blocks.{IsBlock}
+use Rattle.road_model.specs.Format.{IsPieceForm, place_cmp}
+
+-- the block, if it has pieces
+abbrev pub with_pieces : Block → Option Block
+with_pieces b = elim b.pieces [ [] ↦ None | p ∷ ps ↦ Some b ]
+
+-- the block of the way: that which was built since, if one was, and else that of the list
+abbrev pub block_at : List (WayId × Block) → FinMap way_cmp Block → WayId → Option Block
+block_at rebuilt listed w = elim (find way_cmp w rebuilt) [ None ↦ get listed w | Some b ↦ with_pieces b ]
+
+-- the way's block, in the form in which a graph file holds it
+pub record IsBuilt (M : Objects) (P : Rules) (w : WayId) (b : Block) : Type 0 where
+  pub block : IsBlock M P w b
+  pub pieces : AllByRecursion IsPieceForm b.pieces
+  pub ascend : IsTrue (rises place_cmp (map (λ p. p.name) b.pieces))
+
+-- the block of this way was built and stands at it; all else is as before
+pub record IsRebuiltWith (M : Objects) (P : Rules) (way : WayId) (before after : List (WayId × Block)) : Type 0 where
+  pub built : (b : Block) × IsBuilt M P way b × (find way_cmp way after ≡ Some b)
+  pub stays : (w : WayId) → (w ≡ way → ⊥) → find way_cmp w after ≡ find way_cmp w before
+
+-- the blocks of these ways were built and stand at them; all else is as before
+pub record AreRebuilt (M : Objects) (P : Rules) (ways : List WayId) (before after : List (WayId × Block)) : Type 0 where
+  pub built : (w : WayId) → Contains ways w → (b : Block) × IsBuilt M P w b × (find way_cmp w after ≡ Some b)
+  pub stays : (w : WayId) → (Contains ways w → ⊥) → find way_cmp w after ≡ find way_cmp w before
+
+-- each of them stands at its way
+abbrev pub AreAtTheirWays : List (WayId × Block) → Type 0
+AreAtTheirWays rebuilt = (w : WayId) (b : Block) → find way_cmp w rebuilt ≡ Some b → b.way ≡ w
