@@ -5,3 +5,4 @@ pub mod Putting
 pub mod StoreLaws
 pub mod Answering
 pub mod Following
+pub mod Building

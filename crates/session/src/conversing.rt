@@ -4,6 +4,7 @@ ghost use Rattle.road_base.specs.History.{History};
 ghost use Rattle.road_io.specs.Outside.{Outside};
 ghost use Rattle.sequence_journal.specs.declared.load.Loaded.{Loaded as LoadedStore};
 ghost use Rattle.session.specs.Conversing.{IsOpening, Converses, CountsReads, CountsCalls};
+ghost use Rattle.session.specs.Building.{SessionBuilds};
 ghost use Rattle.session.specs.Following.{Goes};
 
 use crate::closing::{close, finish};
@@ -88,6 +89,8 @@ pub fn converse<P: Profile, S: Source, W: Site, L: Ledger>(
     requires opens { IfSome (W.outside site.old) (λ w. (h : History) × IsOpening loaded h w) }
     ensures converses { Converses (P.rules profile) loaded result (S.bytes_left source.old) (S.bytes_left source.new)
         (W.outside site.old) (W.outside site.new) }
+    ensures builds { SessionBuilds loaded (S.bytes_left source.old) (S.bytes_left source.new) (W.outside site.old)
+        steps.old steps.new }
     ensures reads { CountsReads (S.faults source.old) (S.faults source.new) result }
     ensures calls { CountsCalls (W.faults site.old) (W.faults site.new) result }
 {

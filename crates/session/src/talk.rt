@@ -112,6 +112,12 @@ impl<P: Profile> Talk<P> {
         let Ok(line) = applied(self.alloc, number) else {
             return Err(Stop::NoMemory);
         };
+        let Ok(has_room) = self.journal.has_room_for(self.alloc, events) else {
+            return Err(Stop::NoMemory);
+        };
+        if !has_room {
+            return Err(Stop::Limit);
+        }
         let Ok(_) = self.engine.apply(events, steps) else {
             return Err(Stop::NoMemory);
         };
