@@ -143,6 +143,6 @@ abbrev pub SessionRunBuilds : Option (List ℕ) → Option (List ℕ) → Option
 SessionRunBuilds held remaining before old new = (bytes behind : List ℕ) (w : Outside)
     → held ≡ Some bytes → remaining ≡ Some behind → before ≡ Some w
     → ((s : IsStore (reads_of w)) (M : Objects) → HasObjects s.history M
-        → (read : List ℕ) × (bytes ≡ read ++ behind)
-        × BuildsFew (opening s) read (old + length (highways M)) new)
+    → (read : List ℕ) × (bytes ≡ read ++ behind)
+    × BuildsFew (opening s) read (old + length (highways M)) new)
     × ((IsStore (reads_of w) → ⊥) → new ≡ old)
