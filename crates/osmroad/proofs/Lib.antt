@@ -36,3 +36,4 @@ pub mod CreatedStores
 pub mod CheckpointedStores
 pub mod ServedSessions
 pub mod RefusedSessions
+pub mod WellEndedSessions

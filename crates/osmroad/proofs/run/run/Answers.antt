@@ -1,5 +1,6 @@
 use Rattle.std.proofs.Common.{[], Option, None, Some, refl, sym, ap, ◌∙◌, subst}
 use Rattle.osmroad.specs.declared.command.Request.{Request}
+use Rattle.osmroad.specs.declared.command.Request.TheVariants.{Session}
 use Rattle.osmroad.specs.declared.status.Status.TheVariants.{Usage}
 use Rattle.osmroad.specs.Texts.{usage_line}
 use Rattle.osmroad.specs.Run.{files_of}
@@ -7,7 +8,24 @@ use Rattle.osmroad.specs.Requests.{RunEnds, RunCanBeDone}
 use Rattle.osmroad.proofs.HeldSource.{behind_of, held_still}
 use Rattle.osmroad.proofs.WithoutStore.{silent_still, leaves_still, will_put_alone}
 use Rattle.osmroad.proofs.RunEnds.{ends_put}
+use Rattle.osmroad.proofs.WellEndedSessions.{session_done}
 use Rattle.osmroad.proofs.run.run.Goals as goal
+
+-- ---- a session
+
+pub returns-in-Some-Session-clause-complete : goal.returns-in-Some-Session-clause-complete
+returns-in-Some-Session-clause-complete g c = λ bytes is can no_read_fault no_site_fault.
+    let before = g.W.Site.outside c.args.site.now in
+    session_done c.store_laws.ensures.store.one_live c.serve_store.result
+    (g.S.Source.bytes_left c.args.source.now) (g.S.Source.bytes_left c.serve_store.new.source)
+    before (g.W.Site.outside c.serve_store.new.site) bytes
+    (g.S.Source.faults c.args.source.now) (g.S.Source.faults c.serve_store.new.source)
+    (g.W.Site.faults c.args.site.now) (g.W.Site.faults c.serve_store.new.site)
+    c.serve_store.ensures.ends c.serve_store.ensures.reads c.serve_store.ensures.calls is
+    (subst (λ (request : Option Request). RunCanBeDone request (files_of before) bytes)
+    (sym c.request_of.ensures ∙ c.in-Some-Session.is
+    ∙ ap (λ (request : Request). Some request) c.in-Some-Session.field-0-is) can)
+    no_read_fault no_site_fault
 
 -- ---- a command
 
