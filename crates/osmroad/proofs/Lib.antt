@@ -37,3 +37,4 @@ pub mod CheckpointedStores
 pub mod ServedSessions
 pub mod RefusedSessions
 pub mod WellEndedSessions
+pub mod IntactStops
