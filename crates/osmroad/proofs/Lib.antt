@@ -38,3 +38,4 @@ pub mod ServedSessions
 pub mod RefusedSessions
 pub mod WellEndedSessions
 pub mod IntactStops
+pub mod BuiltSessions
