@@ -1,4 +1,5 @@
-mod SeenKeys
+mod NumberLists
+mod FoundKeys
+mod LinkedKeys
 mod LinkRounds
 mod WayLists
-mod LinkedKeys

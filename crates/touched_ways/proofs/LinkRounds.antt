@@ -1,16 +1,85 @@
--- What is within one link more, round by round.
+-- What is reached round by round.
 use Rattle.std.proofs.Common.{◌≡◌, ◌↔◌, ℕ, suc, ◌+◌, ◌⊎◌, inl, inr, List, [], sym, subst, Contains}
 use Rattle.std.proofs.Math.Numerals.{add-one}
+use Rattle.road_base.specs.declared.ids.NodeId.{NodeId}
 use Rattle.road_base.specs.declared.ids.WayId.{WayId}
+use Rattle.road_base.specs.declared.ids.RelationId.{RelationId}
 use Rattle.road_base.specs.declared.ids.Key.{Key}
-use Rattle.road_base.specs.declared.ids.Key.TheVariants.{Way as WayKey}
+use Rattle.road_base.specs.declared.ids.Key.TheVariants.{Node as NodeKey, Way as WayKey, Relation as RelationKey}
 use Rattle.road_base.specs.Objects.{Objects}
 use Rattle.road_base.proofs.ListMembers.{contains_none}
 use Rattle.road_model.specs.Orders.{Lists, way_cmp}
-use Rattle.road_model.specs.Links.{IsLink, AreReached}
+use Rattle.road_model.specs.Links.{IsLink}
 use Rattle.road_model.proofs.JoinedLists.{lists_same}
+use Rattle.touched_ways.specs.declared.found.Found.{Found}
 use Rattle.touched_ways.specs.declared.search.Search.{Search}
-use Rattle.touched_ways.specs.Searches.{IsSeen, Sees, GivenBy, IsWayLink, IsWithinAny, IsRound}
+use Rattle.touched_ways.specs.Searches.{IsFound, Finds, GivenBy, IsFresh, WasFresh, IsNext, IsFurther, IsWayLink}
+use Rattle.touched_ways.specs.Searches.{IsWithinAny, IsRound}
+
+-- ---- what is taken in, by kind
+
+-- the numbers of one kind are taken in
+pub record Taken {T : Type 0} (fresh older found now then : List T) : Type 0 where
+  pub sound : (x : T) → Contains now x → Contains found x
+  pub complete : (x : T) → Contains found x → Contains now x ⊎ (Contains fresh x ⊎ Contains older x)
+  pub before : then ≡ fresh
+
+pub taken_next : (s t : Search) (f : Found)
+    → Taken s.nodes.fresh.items s.nodes.before.items f.nodes.items t.nodes.fresh.items t.nodes.before.items
+    → Taken s.ways.fresh.items s.ways.before.items f.ways.items t.ways.fresh.items t.ways.before.items
+    → Taken s.rules.fresh.items s.rules.before.items f.rules.items t.rules.fresh.items t.rules.before.items
+    → ((w : WayId) → Contains t.reached.items w ↔ (Contains s.reached.items w ⊎ IsFresh t (WayKey w)))
+    → IsNext s t (IsFound f)
+taken_next s t f nodes ways rules adds =
+    record { sound = only; complete = all; before = earlier; reached = adds }
+  where
+    only : (k : Key) → IsFresh t k → IsFound f k
+    only (NodeKey x) h = nodes.sound x h
+    only (WayKey x) h = ways.sound x h
+    only (RelationKey x) h = rules.sound x h
+
+    all : (k : Key) → IsFound f k → IsFresh t k ⊎ (IsFresh s k ⊎ WasFresh s k)
+    all (NodeKey x) h = nodes.complete x h
+    all (WayKey x) h = ways.complete x h
+    all (RelationKey x) h = rules.complete x h
+
+    earlier : (k : Key) → WasFresh t k → IsFresh s k
+    earlier (NodeKey x) h = subst (λ l. Contains l x) nodes.before h
+    earlier (WayKey x) h = subst (λ l. Contains l x) ways.before h
+    earlier (RelationKey x) h = subst (λ l. Contains l x) rules.before h
+
+-- ---- what was found is what is further
+
+module _ (M : Objects) (s : Search) (f0 f1 f2 f3 : Found) (none : (k : Key) → IsFound f0 k → ⊥)
+    (ns : List NodeId) (ws : List WayId) (rs : List RelationId) (nodes : ns ≡ s.nodes.fresh.items)
+    (ways : ws ≡ s.ways.fresh.items) (rules : rs ≡ s.rules.fresh.items)
+    (first : Finds f0 f1 (GivenBy (λ n. IsLink M (NodeKey n)) ns))
+    (second : Finds f1 f2 (GivenBy (λ w. IsLink M (WayKey w)) ws))
+    (third : Finds f2 f3 (GivenBy (λ r. IsLink M (RelationKey r)) rs)) where
+  further_sound : (k : Key) → IsFound f3 k → IsFurther M s k
+  further_sound k h = elim (third.sound k h) [
+    | inl before ↦ elim (second.sound k before) [
+      | inl earlier ↦ elim (first.sound k earlier) [
+        | inl old ↦ absurd (none k old)
+        | inr g ↦ (NodeKey g.0, subst (λ l. Contains l g.0) nodes g.1, g.2)
+      ]
+      | inr g ↦ (WayKey g.0, subst (λ l. Contains l g.0) ways g.1, g.2)
+    ]
+    | inr g ↦ (RelationKey g.0, subst (λ l. Contains l g.0) rules g.1, g.2)
+  ]
+
+  further_from : (a k : Key) → IsFresh s a → IsLink M a k → IsFound f3 k
+  further_from (NodeKey x) k fresh link =
+      third.keeps k (second.keeps k (first.complete k (x, subst (λ l. Contains l x) (sym nodes) fresh, link)))
+  further_from (WayKey x) k fresh link =
+      third.keeps k (second.complete k (x, subst (λ l. Contains l x) (sym ways) fresh, link))
+  further_from (RelationKey x) k fresh link =
+      third.complete k (x, subst (λ l. Contains l x) (sym rules) fresh, link)
+
+  pub all_further : (k : Key) → IsFound f3 k ↔ IsFurther M s k
+  all_further k = (further_sound k, λ h. further_from h.0 k h.1 h.2)
+
+-- ---- the rounds
 
 module _ (M : Objects) (keys : List Key) where
   within_next : (n : ℕ) (a b : Key) → IsWithinAny M keys n a → IsLink M a b → IsWithinAny M keys (suc n) b
@@ -24,87 +93,130 @@ module _ (M : Objects) (keys : List Key) where
   within_cases n b (c, has, inl before) = inl (c, has, before)
   within_cases n b (c, has, inr (a, near, link)) = inr (a, (c, has, near), link)
 
-  -- the keys alone were seen
-  pub first_round : (s t : Search) → ((k : Key) → IsSeen s k → ⊥) → s.frontier.items ≡ []
-      → Sees s t (GivenBy (λ x k. k ≡ x) keys) → IsRound M keys 0 t
-  first_round s t none empty h = record {
-    sound = λ k i. elim (h.sound k i) [
-      | inl old ↦ absurd (none k old)
-      | inr g ↦ (g.0, g.1, sym g.2)
-    ];
-    complete = λ k w. h.complete k (w.0, w.1, sym w.2);
-    frontier = λ k i. elim (h.listed k i) [
-      | inl old ↦ absurd (contains_none k (subst (λ l. Contains l k) empty old))
-      | inr g ↦ h.complete k g
-    ];
-    followed = λ a b i l. elim (h.fresh a i) [
-      | inl old ↦ absurd (none a old)
-      | inr new ↦ inr new
-    ];
+  -- the keys alone are reached
+  pub first_round : (s t : Search) (f0 f1 : Found) → ((k : Key) → IsFound f0 k → ⊥)
+      → Finds f0 f1 (GivenBy (λ x k. k ≡ x) keys) → ((k : Key) → IsFresh s k → ⊥) → ((k : Key) → WasFresh s k → ⊥)
+      → s.reached.items ≡ [] → IsNext s t (IsFound f1) → IsRound M keys 0 t
+  first_round s t f0 f1 none finds new old empty h = record {
+    fresh = near;
+    before = λ k i. absurd (new k (h.before k i));
+    followed = λ a b i l. inr (from a i);
+    reached = λ w. (
+      λ has. elim ((h.reached w).0 has) [
+        | inl earlier ↦ absurd (contains_none w (subst (λ l. Contains l w) empty earlier))
+        | inr fresh ↦ near (WayKey w) fresh
+      ],
+      λ i. (h.reached w).1 (inr (from (WayKey w) i)),
+    );
   }
+    where
+      near : (k : Key) → IsFresh t k → IsWithinAny M keys 0 k
+      near k i = elim (finds.sound k (h.sound k i)) [
+        | inl before ↦ absurd (none k before)
+        | inr g ↦ (g.0, g.1, sym g.2)
+      ]
 
-  module _ (n : ℕ) (s t u : Search) (round : IsRound M keys n s) (same : (k : Key) → IsSeen t k ↔ IsSeen s k)
-      (empty : t.frontier.items ≡ []) where
-    -- all links from the frontier were followed
-    next_round : Sees t u (GivenBy (IsLink M) s.frontier.items) → IsRound M keys (suc n) u
-    next_round h = record {
-      sound = λ k i. elim (h.sound k i) [
-        | inl old ↦ within_still n k (round.sound k ((same k).0 old))
-        | inr g ↦ within_next n g.0 k (round.sound g.0 (round.frontier g.0 g.1)) g.2
-      ];
-      complete = λ k w. elim (within_cases n k w) [
-        | inl before ↦ h.keeps k ((same k).1 (round.complete k before))
-        | inr (a, near, link) ↦ linked a k (round.complete a near) link
-      ];
-      frontier = λ k i. elim (h.listed k i) [
-        | inl old ↦ absurd (contains_none k (subst (λ l. Contains l k) empty old))
-        | inr g ↦ h.complete k g
-      ];
-      followed = λ a b i l. elim (h.fresh a i) [
-        | inl old ↦ inl (linked a b ((same a).0 old) l)
-        | inr new ↦ inr new
-      ];
-    }
-      where
-        linked : (a b : Key) → IsSeen s a → IsLink M a b → IsSeen u b
-        linked a b i l = elim (round.followed a b i l) [
-          | inl seen ↦ h.keeps b ((same b).1 seen)
-          | inr waits ↦ h.complete b (a, waits, l)
+      from : (k : Key) → IsWithinAny M keys 0 k → IsFresh t k
+      from k w = elim (h.complete k (finds.complete k (w.0, w.1, sym w.2))) [
+        | inl fresh ↦ fresh
+        | inr earlier ↦ elim earlier [ inl i ↦ absurd (new k i) | inr i ↦ absurd (old k i) ]
+      ]
+
+  module _ (n : ℕ) (s : Search) (round : IsRound M keys n s) where
+    -- what was taken in, and isn't new, had been reached
+    module _ (t : Search) (f : Found) (found : (k : Key) → IsFound f k ↔ IsFurther M s k)
+        (h : IsNext s t (IsFound f)) where
+      taken : (a b : Key) → IsFresh s a → IsLink M a b → IsFresh t b ⊎ IsWithinAny M keys n b
+      taken a b fresh link = elim (h.complete b ((found b).1 (a, fresh, link))) [
+        | inl new ↦ inl new
+        | inr earlier ↦ elim earlier [ inl i ↦ inr (round.fresh b i) | inr i ↦ inr (round.before b i) ]
+      ]
+
+      near : (k : Key) → IsFresh t k → IsWithinAny M keys (suc n) k
+      near k i = let g = (found k).0 (h.sound k i) in within_next n g.0 k (round.fresh g.0 g.1) g.2
+
+      on : (a b : Key) → IsWithinAny M keys (suc n) a → IsLink M a b
+          → IsWithinAny M keys (suc n) b ⊎ IsFresh t a
+      on a b i link = elim (within_cases n a i) [
+        | inl before ↦ inl (within_next n a b before link)
+        | inr (c, close, step) ↦ elim (round.followed c a close step) [
+          | inl before ↦ inl (within_next n a b before link)
+          | inr fresh ↦ elim (taken c a fresh step) [
+            | inl new ↦ inr new
+            | inr before ↦ inl (within_next n a b before link)
+          ]
         ]
+      ]
 
-    -- those to ways were followed
-    last_round : Sees t u (GivenBy (IsWayLink M) s.frontier.items) → (w : WayId)
-        → IsSeen u (WayKey w) ↔ IsWithinAny M keys (suc n) (WayKey w)
-    last_round h w = (
-      λ i. elim (h.sound (WayKey w) i) [
-        | inl old ↦ within_still n (WayKey w) (round.sound (WayKey w) ((same (WayKey w)).0 old))
-        | inr g ↦ within_next n g.0 (WayKey w) (round.sound g.0 (round.frontier g.0 g.1)) g.2.0
-      ],
-      λ i. elim (within_cases n (WayKey w) i) [
-        | inl before ↦ still w (round.complete (WayKey w) before)
-        | inr (a, near, link) ↦ elim (round.followed a (WayKey w) (round.complete a near) link) [
-          | inl seen ↦ still w seen
-          | inr waits ↦ h.complete (WayKey w) (a, waits, (link, tt))
+      got : (w : WayId) → IsWithinAny M keys (suc n) (WayKey w) → Contains s.reached.items w ⊎ IsFresh t (WayKey w)
+      got w i = elim (within_cases n (WayKey w) i) [
+        | inl before ↦ inl ((round.reached w).1 before)
+        | inr (c, close, step) ↦ elim (round.followed c (WayKey w) close step) [
+          | inl before ↦ inl ((round.reached w).1 before)
+          | inr fresh ↦ elim (taken c (WayKey w) fresh step) [
+            | inl new ↦ inr new
+            | inr before ↦ inl ((round.reached w).1 before)
+          ]
         ]
-      ],
-    )
-      where
-        still : (v : WayId) → IsSeen s (WayKey v) → IsSeen u (WayKey v)
-        still v i = h.keeps (WayKey v) ((same (WayKey v)).1 i)
+      ]
 
-    pub round_more : (front : List Key) → front ≡ s.frontier.items → Sees t u (GivenBy (IsLink M) front)
-        → IsRound M keys (n + 1) u
-    round_more front is h =
-        subst (λ (m : ℕ). IsRound M keys m u) (sym (add-one n))
-        (next_round (subst (λ l. Sees t u (GivenBy (IsLink M) l)) is h))
+      next : IsRound M keys (suc n) t
+      next = record {
+        fresh = near;
+        before = λ k i. within_still n k (round.fresh k (h.before k i));
+        followed = on;
+        reached = λ w. (
+          λ has. elim ((h.reached w).0 has) [
+            | inl earlier ↦ within_still n (WayKey w) ((round.reached w).0 earlier)
+            | inr fresh ↦ near (WayKey w) fresh
+          ],
+          λ i. (h.reached w).1 (got w i),
+        );
+      }
 
-    pub ways_more : (front : List Key) → front ≡ s.frontier.items → Sees t u (GivenBy (IsWayLink M) front)
-        → (w : WayId) → IsSeen u (WayKey w) ↔ IsWithinAny M keys (n + 1) (WayKey w)
-    ways_more front is h w =
-        subst (λ (m : ℕ). IsSeen u (WayKey w) ↔ IsWithinAny M keys m (WayKey w)) (sym (add-one n))
-        (last_round (subst (λ l. Sees t u (GivenBy (IsWayLink M) l)) is h) w)
+      pub round_more : IsRound M keys (n + 1) t
+      round_more = subst (λ (m : ℕ). IsRound M keys m t) (sym (add-one n)) next
 
-  pub reached_ways : (s : Search) → ((w : WayId) → IsSeen s (WayKey w) ↔ IsWithinAny M keys 6 (WayKey w))
-      → (ways : List WayId) → Lists (λ w. w) way_cmp (λ w. IsSeen s (WayKey w)) ways → AreReached M keys ways
-  reached_ways s are ways lists = lists_same (λ w. w) way_cmp (λ w. IsSeen s (WayKey w))
-      (λ w. IsWithinAny M keys 6 (WayKey w)) ways lists (λ w i. (are w).0 i) (λ w i. (are w).1 i)
+    -- the ways that are further alone were found
+    module _ (f0 f1 f2 : Found) (none : (k : Key) → IsFound f0 k → ⊥) (ns : List NodeId) (rs : List RelationId)
+        (nodes : ns ≡ s.nodes.fresh.items) (rules : rs ≡ s.rules.fresh.items)
+        (first : Finds f0 f1 (GivenBy (λ n. IsWayLink M (NodeKey n)) ns))
+        (second : Finds f1 f2 (GivenBy (λ r. IsWayLink M (RelationKey r)) rs)) where
+      way_near : (w : WayId) → IsFound f2 (WayKey w) → IsWithinAny M keys (suc n) (WayKey w)
+      way_near w h = elim (second.sound (WayKey w) h) [
+        | inl before ↦ elim (first.sound (WayKey w) before) [
+          | inl old ↦ absurd (none (WayKey w) old)
+          | inr (x, has, l) ↦ within_next n (NodeKey x) (WayKey w)
+              (round.fresh (NodeKey x) (subst (λ l. Contains l x) nodes has)) l.0
+        ]
+        | inr (x, has, l) ↦ within_next n (RelationKey x) (WayKey w)
+            (round.fresh (RelationKey x) (subst (λ l. Contains l x) rules has)) l.0
+      ]
+
+      way_from : (a : Key) (w : WayId) → IsFresh s a → IsLink M a (WayKey w) → IsFound f2 (WayKey w)
+      way_from (NodeKey x) w fresh link = second.keeps (WayKey w)
+          (first.complete (WayKey w) (x, subst (λ l. Contains l x) (sym nodes) fresh, (link, tt)))
+      way_from (WayKey x) w fresh link = absurd link
+      way_from (RelationKey x) w fresh link =
+          second.complete (WayKey w) (x, subst (λ l. Contains l x) (sym rules) fresh, (link, tt))
+
+      way_got : (w : WayId) → IsWithinAny M keys (suc n) (WayKey w)
+          → Contains s.reached.items w ⊎ IsFound f2 (WayKey w)
+      way_got w i = elim (within_cases n (WayKey w) i) [
+        | inl before ↦ inl ((round.reached w).1 before)
+        | inr (a, close, link) ↦ elim (round.followed a (WayKey w) close link) [
+          | inl before ↦ inl ((round.reached w).1 before)
+          | inr fresh ↦ inr (way_from a w fresh link)
+        ]
+      ]
+
+      pub last_ways : (last ways : List WayId) → last ≡ f2.ways.items
+          → Lists (λ w. w) way_cmp (λ w. Contains s.reached.items w ⊎ Contains last w) ways
+          → Lists (λ w. w) way_cmp (λ w. IsWithinAny M keys (suc n) (WayKey w)) ways
+      last_ways last ways e lists = lists_same (λ w. w) way_cmp
+          (λ w. Contains s.reached.items w ⊎ Contains last w) (λ w. IsWithinAny M keys (suc n) (WayKey w)) ways lists
+          (λ w h. elim h [
+            | inl old ↦ within_still n (WayKey w) ((round.reached w).0 old)
+            | inr new ↦ way_near w (subst (λ l. Contains l w) e new)
+          ])
+          (λ w h. elim (way_got w h) [ inl old ↦ inl old | inr new ↦ inr (subst (λ l. Contains l w) (sym e) new) ])

@@ -1,0 +1,117 @@
+-- Lists of numbers that a search gathers.
+use Rattle.std.proofs.Common.{◌≡◌, ◌↔◌, ℕ, ◌+◌, ◌<◌, ◌⊎◌, inl, inr, Bool, IsTrue, List, [], ◌∷◌, length, take, get_or}
+use Rattle.std.proofs.Common.{refl, sym, ap, ◌∙◌, subst, Contains, Ordering}
+use Rattle.std.specs.Ordering.{is_lt, is_eq, eq_by_cmp}
+use Rattle.std.specs.Cmp.{IsTotalOrder, Equal-is}
+use Rattle.std.specs.FinMap.{IsAntisymmetric}
+use Rattle.std.specs.List.{dedup}
+use Rattle.std.specs.List.Sorted.{IsPermutation, IsSorted, IsStrictlySortedBy}
+use Rattle.std.proofs.lemmas.Bool.{and_from}
+use Rattle.std.proofs.lemmas.Cmp.{eq_by_cmp_equiv}
+use Rattle.std.proofs.lemmas.List.Kept.{Contains-dedup, Contains-from_dedup, IsStrictlySortedBy-dedup}
+use Rattle.std.proofs.lemmas.List.Sorted.{Contains-permutation, IsPermutation-sym}
+use Rattle.road_base.proofs.ListMembers.{contains_none}
+use Rattle.road_model.specs.Orders.{rises}
+use Rattle.road_model.proofs.JoinedLists.{one_more, has_last, has_before}
+use Rattle.touched_ways.specs.Searches.{IsRest}
+
+module _ {T : Type 0} where
+  -- ---- numbers put behind a list's
+
+  -- the new list has what the old one has and the numbers
+  abbrev pub AreAdded : List T → List T → List T → Type 0
+  AreAdded old new numbers = (x : T) → Contains new x ↔ (Contains old x ⊎ Contains numbers x)
+
+  pub added_none : (list : List T) → AreAdded list list []
+  added_none list x = (λ has. inl has, λ has. elim has [ inl here ↦ here | inr none ↦ absurd (contains_none x none) ])
+
+  pub added_more : (old list next numbers : List T) (i : ℕ) (x : T) → i < length numbers → x ≡ get_or numbers i x
+      → AreAdded old list (take i numbers) → ((y : T) → Contains next y ↔ (Contains list y ⊎ (y ≡ x)))
+      → AreAdded old next (take (i + 1) numbers)
+  added_more old list next numbers i x within same are step y = (
+    λ has. elim ((step y).0 has) [
+      | inl here ↦ elim ((are y).0 here) [
+        | inl before ↦ inl before
+        | inr new ↦ inr (has_before numbers i x y within new)
+      ]
+      | inr last ↦ inr (has_last numbers i x y within (last ∙ same))
+    ],
+    λ has. (step y).1 (elim has [
+      | inl before ↦ inl ((are y).1 (inl before))
+      | inr new ↦ elim (one_more numbers i x y within new) [
+        | inl last ↦ inr (last ∙ sym same)
+        | inr earlier ↦ inl ((are y).1 (inr earlier))
+      ]
+    ]),
+  )
+
+  -- ---- a list without what is gone
+
+  pub rest_none : (gone rest : List T) → rest ≡ [] → IsRest [] gone rest
+  rest_none gone rest empty = record {
+    sound = λ x has. subst (λ l. Contains l x) empty has;
+    complete = λ x has. absurd (contains_none x has);
+  }
+
+  pub rest_all : (list gone : List T) → IsRest list gone list
+  rest_all list gone = record { sound = λ x has. has; complete = λ x has. inl has }
+
+  pub rest_more : (list gone rest next : List T) (i : ℕ) (x : T) → i < length list → x ≡ get_or list i x
+      → IsRest (take i list) gone rest → ((y : T) → Contains next y → Contains rest y ⊎ (y ≡ x))
+      → ((y : T) → Contains rest y → Contains next y) → Contains next x ⊎ Contains gone x
+      → IsRest (take (i + 1) list) gone next
+  rest_more list gone rest next i x within same is only keeps adds = record {
+    sound = λ y has. elim (only y has) [
+      | inl before ↦ has_before list i x y within (is.sound y before)
+      | inr last ↦ has_last list i x y within (last ∙ same)
+    ];
+    complete = λ y has. elim (one_more list i x y within has) [
+      | inl last ↦ let e : x ≡ y = same ∙ sym last in elim adds [
+        | inl new ↦ inl (subst (Contains next) e new)
+        | inr away ↦ inr (subst (Contains gone) e away)
+      ]
+      | inr earlier ↦ elim (is.complete y earlier) [ inl here ↦ inl (keeps y here) | inr away ↦ inr away ]
+    ];
+  }
+
+  -- ---- what a round finds, without what was new in the last two rounds
+
+  module _ (found numbers fresh before others new : List T)
+      (exactly : (x : T) → Contains numbers x ↔ Contains found x) (first : IsRest numbers fresh others)
+      (second : IsRest others before new) where
+    pub taken_sound : (x : T) → Contains new x → Contains found x
+    taken_sound x has = (exactly x).0 (first.sound x (second.sound x has))
+
+    pub taken_complete : (x : T) → Contains found x → Contains new x ⊎ (Contains fresh x ⊎ Contains before x)
+    taken_complete x has = elim (first.complete x ((exactly x).1 has)) [
+      | inl other ↦ elim (second.complete x other) [ inl here ↦ inl here | inr earlier ↦ inr (inr earlier) ]
+      | inr last ↦ inr (inl last)
+    ]
+
+-- ---- each once, ascending
+
+module _ {N : Type 0} (C : N → N → Ordering) where
+  rises_strictly : (xs : List N) → IsStrictlySortedBy C xs → IsTrue (rises C xs)
+  unfolding IsStrictlySortedBy
+  rises_strictly [] sorted = refl
+  rises_strictly (x ∷ []) sorted = refl
+  rises_strictly (x ∷ y ∷ ys) sorted = and_from _ _ (ap is_lt sorted.0.0) (rises_strictly (y ∷ ys) sorted.1)
+
+  module _ (total : IsTotalOrder C) (exact : IsAntisymmetric C) (E : N → N → Bool)
+      (ties : (x y : N) → E x y ≡ is_eq (C x y)) (xs ys zs : List N) (moves : IsPermutation xs ys)
+      (left : zs ≡ dedup E ys) where
+    pub once_rises : IsSorted C ys → IsTrue (rises C zs)
+    once_rises sorted = subst (λ l. IsTrue (rises C l)) (sym left)
+        (rises_strictly (dedup E ys) (IsStrictlySortedBy-dedup total ties ys sorted))
+
+    by_cmp : zs ≡ dedup (eq_by_cmp C) ys
+    by_cmp = left ∙ ap (λ (f : N → N → Bool). dedup f ys) (λ i x y. ties x y i)
+
+    pub once_keeps : (p : N) → Contains xs p → Contains zs p
+    once_keeps p c =
+        subst (λ l. Contains l p) (sym by_cmp) (Contains-dedup (eq_by_cmp_equiv total)
+        (λ x y e. exact x y ((Equal-is _).0 e)) ys p (Contains-permutation xs ys p moves c))
+
+    pub once_from : (p : N) → Contains zs p → Contains xs p
+    once_from p c = Contains-permutation ys xs p (IsPermutation-sym xs ys moves)
+        (Contains-from_dedup E ys p (subst (λ l. Contains l p) left c))

@@ -1,0 +1,11 @@
+use Rattle.std.proofs.Common.{take}
+use Rattle.road_base.specs.declared.ids.Key.TheVariants.{Node as NodeKey}
+use Rattle.road_model.specs.Links.{IsLink}
+use Rattle.touched_ways.specs.Searches.{Finds, GivenBy}
+use Rattle.touched_ways.proofs.rounds.follow_nodes.Given as goal
+
+-- what the numbers so far give was found
+abbrev pub invariant-loop-node : goal.invariant-loop-node
+invariant-loop-node g l =
+    Finds l.fn.found l.found
+    (GivenBy (λ n. IsLink (g.M.World.objects l.world) (NodeKey n)) (take l.node-index l.nodes))
