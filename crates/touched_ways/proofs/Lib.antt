@@ -1,5 +1,6 @@
 mod NumberLists
 mod FoundKeys
 mod LinkedKeys
+mod FollowedNodes
 mod LinkRounds
 mod WayLists

@@ -1,5 +1,5 @@
 -- What is reached round by round.
-use Rattle.std.proofs.Common.{◌≡◌, ◌↔◌, ℕ, suc, ◌+◌, ◌⊎◌, inl, inr, List, [], sym, subst, Contains}
+use Rattle.std.proofs.Common.{◌≡◌, ◌↔◌, ℕ, suc, ◌+◌, ◌⊎◌, inl, inr, List, sym, subst, Contains}
 use Rattle.std.proofs.Math.Numerals.{add-one}
 use Rattle.road_base.specs.declared.ids.NodeId.{NodeId}
 use Rattle.road_base.specs.declared.ids.WayId.{WayId}
@@ -7,51 +7,47 @@ use Rattle.road_base.specs.declared.ids.RelationId.{RelationId}
 use Rattle.road_base.specs.declared.ids.Key.{Key}
 use Rattle.road_base.specs.declared.ids.Key.TheVariants.{Node as NodeKey, Way as WayKey, Relation as RelationKey}
 use Rattle.road_base.specs.Objects.{Objects}
-use Rattle.road_base.proofs.ListMembers.{contains_none}
 use Rattle.road_model.specs.Orders.{Lists, way_cmp}
 use Rattle.road_model.specs.Links.{IsLink}
 use Rattle.road_model.proofs.JoinedLists.{lists_same}
 use Rattle.touched_ways.specs.declared.found.Found.{Found}
 use Rattle.touched_ways.specs.declared.search.Search.{Search}
-use Rattle.touched_ways.specs.Searches.{IsFound, Finds, GivenBy, IsFresh, WasFresh, IsNext, IsFurther, IsWayLink}
+use Rattle.touched_ways.specs.Searches.{IsFound, Finds, GivenBy, IsFresh, IsSeen, IsNext, IsFurther, IsWayLink}
 use Rattle.touched_ways.specs.Searches.{IsWithinAny, IsRound}
 
 -- ---- what is taken in, by kind
 
 -- the numbers of one kind are taken in
-pub record Taken {T : Type 0} (fresh older found now then : List T) : Type 0 where
-  pub sound : (x : T) → Contains now x → Contains found x
-  pub complete : (x : T) → Contains found x → Contains now x ⊎ (Contains fresh x ⊎ Contains older x)
-  pub before : then ≡ fresh
+pub record Taken {T : Type 0} (seen found fresh all : List T) : Type 0 where
+  pub sound : (x : T) → Contains fresh x → Contains found x
+  pub complete : (x : T) → Contains found x → Contains fresh x ⊎ Contains seen x
+  pub adds : (x : T) → Contains all x ↔ (Contains seen x ⊎ Contains fresh x)
 
-pub taken_next : (s t : Search) (f : Found)
-    → Taken s.nodes.fresh.items s.nodes.before.items f.nodes.items t.nodes.fresh.items t.nodes.before.items
-    → Taken s.ways.fresh.items s.ways.before.items f.ways.items t.ways.fresh.items t.ways.before.items
-    → Taken s.rules.fresh.items s.rules.before.items f.rules.items t.rules.fresh.items t.rules.before.items
-    → ((w : WayId) → Contains t.reached.items w ↔ (Contains s.reached.items w ⊎ IsFresh t (WayKey w)))
-    → IsNext s t (IsFound f)
-taken_next s t f nodes ways rules adds =
-    record { sound = only; complete = all; before = earlier; reached = adds }
+pub taken_next : (s t : Search) (f : Found) → t.nodes.items ≡ f.nodes.items
+    → Taken s.ways.all.items f.ways.list.items t.ways.fresh.items t.ways.all.items
+    → Taken s.rules.all.items f.rules.items t.rules.fresh.items t.rules.all.items → IsNext s t (IsFound f)
+taken_next s t f nodes taken rules =
+    record { sound = only; complete = all; seen = now; ways = λ w h. (taken.adds w).1 h }
   where
     only : (k : Key) → IsFresh t k → IsFound f k
-    only (NodeKey x) h = nodes.sound x h
-    only (WayKey x) h = ways.sound x h
+    only (NodeKey x) h = subst (λ l. Contains l x) nodes h
+    only (WayKey x) h = taken.sound x h
     only (RelationKey x) h = rules.sound x h
 
-    all : (k : Key) → IsFound f k → IsFresh t k ⊎ (IsFresh s k ⊎ WasFresh s k)
-    all (NodeKey x) h = nodes.complete x h
-    all (WayKey x) h = ways.complete x h
+    all : (k : Key) → IsFound f k → IsFresh t k ⊎ IsSeen s k
+    all (NodeKey x) h = inl (subst (λ l. Contains l x) (sym nodes) h)
+    all (WayKey x) h = taken.complete x h
     all (RelationKey x) h = rules.complete x h
 
-    earlier : (k : Key) → WasFresh t k → IsFresh s k
-    earlier (NodeKey x) h = subst (λ l. Contains l x) nodes.before h
-    earlier (WayKey x) h = subst (λ l. Contains l x) ways.before h
-    earlier (RelationKey x) h = subst (λ l. Contains l x) rules.before h
+    now : (k : Key) → IsSeen t k → IsSeen s k ⊎ IsFresh t k
+    now (NodeKey x) h = absurd h
+    now (WayKey x) h = (taken.adds x).0 h
+    now (RelationKey x) h = (rules.adds x).0 h
 
 -- ---- what was found is what is further
 
 module _ (M : Objects) (s : Search) (f0 f1 f2 f3 : Found) (none : (k : Key) → IsFound f0 k → ⊥)
-    (ns : List NodeId) (ws : List WayId) (rs : List RelationId) (nodes : ns ≡ s.nodes.fresh.items)
+    (ns : List NodeId) (ws : List WayId) (rs : List RelationId) (nodes : ns ≡ s.nodes.items)
     (ways : ws ≡ s.ways.fresh.items) (rules : rs ≡ s.rules.fresh.items)
     (first : Finds f0 f1 (GivenBy (λ n. IsLink M (NodeKey n)) ns))
     (second : Finds f1 f2 (GivenBy (λ w. IsLink M (WayKey w)) ws))
@@ -95,19 +91,13 @@ module _ (M : Objects) (keys : List Key) where
 
   -- the keys alone are reached
   pub first_round : (s t : Search) (f0 f1 : Found) → ((k : Key) → IsFound f0 k → ⊥)
-      → Finds f0 f1 (GivenBy (λ x k. k ≡ x) keys) → ((k : Key) → IsFresh s k → ⊥) → ((k : Key) → WasFresh s k → ⊥)
-      → s.reached.items ≡ [] → IsNext s t (IsFound f1) → IsRound M keys 0 t
-  first_round s t f0 f1 none finds new old empty h = record {
+      → Finds f0 f1 (GivenBy (λ x k. k ≡ x) keys) → ((k : Key) → IsSeen s k → ⊥) → IsNext s t (IsFound f1)
+      → IsRound M keys 0 t
+  first_round s t f0 f1 none finds old h = record {
     fresh = near;
-    before = λ k i. absurd (new k (h.before k i));
+    seen = λ k i. elim (h.seen k i) [ inl earlier ↦ absurd (old k earlier) | inr fresh ↦ near k fresh ];
+    ways = λ w i. h.ways w (inr (from (WayKey w) i));
     followed = λ a b i l. inr (from a i);
-    reached = λ w. (
-      λ has. elim ((h.reached w).0 has) [
-        | inl earlier ↦ absurd (contains_none w (subst (λ l. Contains l w) empty earlier))
-        | inr fresh ↦ near (WayKey w) fresh
-      ],
-      λ i. (h.reached w).1 (inr (from (WayKey w) i)),
-    );
   }
     where
       near : (k : Key) → IsFresh t k → IsWithinAny M keys 0 k
@@ -119,59 +109,47 @@ module _ (M : Objects) (keys : List Key) where
       from : (k : Key) → IsWithinAny M keys 0 k → IsFresh t k
       from k w = elim (h.complete k (finds.complete k (w.0, w.1, sym w.2))) [
         | inl fresh ↦ fresh
-        | inr earlier ↦ elim earlier [ inl i ↦ absurd (new k i) | inr i ↦ absurd (old k i) ]
+        | inr earlier ↦ absurd (old k earlier)
       ]
 
   module _ (n : ℕ) (s : Search) (round : IsRound M keys n s) where
-    -- what was taken in, and isn't new, had been reached
+    -- what was taken in, and isn't fresh, had been reached
     module _ (t : Search) (f : Found) (found : (k : Key) → IsFound f k ↔ IsFurther M s k)
         (h : IsNext s t (IsFound f)) where
       taken : (a b : Key) → IsFresh s a → IsLink M a b → IsFresh t b ⊎ IsWithinAny M keys n b
       taken a b fresh link = elim (h.complete b ((found b).1 (a, fresh, link))) [
         | inl new ↦ inl new
-        | inr earlier ↦ elim earlier [ inl i ↦ inr (round.fresh b i) | inr i ↦ inr (round.before b i) ]
+        | inr earlier ↦ inr (round.seen b earlier)
       ]
 
       near : (k : Key) → IsFresh t k → IsWithinAny M keys (suc n) k
       near k i = let g = (found k).0 (h.sound k i) in within_next n g.0 k (round.fresh g.0 g.1) g.2
 
-      on : (a b : Key) → IsWithinAny M keys (suc n) a → IsLink M a b
-          → IsWithinAny M keys (suc n) b ⊎ IsFresh t a
-      on a b i link = elim (within_cases n a i) [
-        | inl before ↦ inl (within_next n a b before link)
-        | inr (c, close, step) ↦ elim (round.followed c a close step) [
-          | inl before ↦ inl (within_next n a b before link)
-          | inr fresh ↦ elim (taken c a fresh step) [
-            | inl new ↦ inr new
-            | inr before ↦ inl (within_next n a b before link)
-          ]
-        ]
-      ]
-
-      got : (w : WayId) → IsWithinAny M keys (suc n) (WayKey w) → Contains s.reached.items w ⊎ IsFresh t (WayKey w)
-      got w i = elim (within_cases n (WayKey w) i) [
-        | inl before ↦ inl ((round.reached w).1 before)
-        | inr (c, close, step) ↦ elim (round.followed c (WayKey w) close step) [
-          | inl before ↦ inl ((round.reached w).1 before)
-          | inr fresh ↦ elim (taken c (WayKey w) fresh step) [
-            | inl new ↦ inr new
-            | inr before ↦ inl ((round.reached w).1 before)
-          ]
+      -- what is one link further had been reached, or is fresh
+      came : (b : Key) → IsWithinAny M keys (suc n) b → IsWithinAny M keys n b ⊎ IsFresh t b
+      came b i = elim (within_cases n b i) [
+        | inl before ↦ inl before
+        | inr (c, close, step) ↦ elim (round.followed c b close step) [
+          | inl before ↦ inl before
+          | inr fresh ↦ elim (taken c b fresh step) [ inl new ↦ inr new | inr before ↦ inl before ]
         ]
       ]
 
       next : IsRound M keys (suc n) t
       next = record {
         fresh = near;
-        before = λ k i. within_still n k (round.fresh k (h.before k i));
-        followed = on;
-        reached = λ w. (
-          λ has. elim ((h.reached w).0 has) [
-            | inl earlier ↦ within_still n (WayKey w) ((round.reached w).0 earlier)
-            | inr fresh ↦ near (WayKey w) fresh
-          ],
-          λ i. (h.reached w).1 (got w i),
-        );
+        seen = λ k i. elim (h.seen k i) [
+          | inl earlier ↦ within_still n k (round.seen k earlier)
+          | inr fresh ↦ near k fresh
+        ];
+        ways = λ w i. h.ways w (elim (came (WayKey w) i) [
+          | inl before ↦ inl (round.ways w before)
+          | inr fresh ↦ inr fresh
+        ]);
+        followed = λ a b i l. elim (came a i) [
+          | inl before ↦ inl (within_next n a b before l)
+          | inr fresh ↦ inr fresh
+        ];
       }
 
       pub round_more : IsRound M keys (n + 1) t
@@ -179,7 +157,7 @@ module _ (M : Objects) (keys : List Key) where
 
     -- the ways that are further alone were found
     module _ (f0 f1 f2 : Found) (none : (k : Key) → IsFound f0 k → ⊥) (ns : List NodeId) (rs : List RelationId)
-        (nodes : ns ≡ s.nodes.fresh.items) (rules : rs ≡ s.rules.fresh.items)
+        (nodes : ns ≡ s.nodes.items) (rules : rs ≡ s.rules.fresh.items)
         (first : Finds f0 f1 (GivenBy (λ n. IsWayLink M (NodeKey n)) ns))
         (second : Finds f1 f2 (GivenBy (λ r. IsWayLink M (RelationKey r)) rs)) where
       way_near : (w : WayId) → IsFound f2 (WayKey w) → IsWithinAny M keys (suc n) (WayKey w)
@@ -201,22 +179,22 @@ module _ (M : Objects) (keys : List Key) where
           second.complete (WayKey w) (x, subst (λ l. Contains l x) (sym rules) fresh, (link, tt))
 
       way_got : (w : WayId) → IsWithinAny M keys (suc n) (WayKey w)
-          → Contains s.reached.items w ⊎ IsFound f2 (WayKey w)
+          → Contains s.ways.all.items w ⊎ IsFound f2 (WayKey w)
       way_got w i = elim (within_cases n (WayKey w) i) [
-        | inl before ↦ inl ((round.reached w).1 before)
+        | inl before ↦ inl (round.ways w before)
         | inr (a, close, link) ↦ elim (round.followed a (WayKey w) close link) [
-          | inl before ↦ inl ((round.reached w).1 before)
+          | inl before ↦ inl (round.ways w before)
           | inr fresh ↦ inr (way_from a w fresh link)
         ]
       ]
 
-      pub last_ways : (last ways : List WayId) → last ≡ f2.ways.items
-          → Lists (λ w. w) way_cmp (λ w. Contains s.reached.items w ⊎ Contains last w) ways
+      pub last_ways : (last ways : List WayId) → last ≡ f2.ways.list.items
+          → Lists (λ w. w) way_cmp (λ w. Contains s.ways.all.items w ⊎ Contains last w) ways
           → Lists (λ w. w) way_cmp (λ w. IsWithinAny M keys (suc n) (WayKey w)) ways
       last_ways last ways e lists = lists_same (λ w. w) way_cmp
-          (λ w. Contains s.reached.items w ⊎ Contains last w) (λ w. IsWithinAny M keys (suc n) (WayKey w)) ways lists
+          (λ w. Contains s.ways.all.items w ⊎ Contains last w) (λ w. IsWithinAny M keys (suc n) (WayKey w)) ways lists
           (λ w h. elim h [
-            | inl old ↦ within_still n (WayKey w) ((round.reached w).0 old)
+            | inl old ↦ within_still n (WayKey w) (round.seen (WayKey w) old)
             | inr new ↦ way_near w (subst (λ l. Contains l w) e new)
           ])
           (λ w h. elim (way_got w h) [ inl old ↦ inl old | inr new ↦ inr (subst (λ l. Contains l w) (sym e) new) ])

@@ -1,5 +1,5 @@
 -- Lists of numbers that a search gathers.
-use Rattle.std.proofs.Common.{◌≡◌, ◌↔◌, ℕ, ◌+◌, ◌<◌, ◌⊎◌, inl, inr, Bool, IsTrue, List, [], ◌∷◌, length, take, get_or}
+use Rattle.std.proofs.Common.{◌≡◌, ◌↔◌, ℕ, ◌+◌, ◌<◌, ◌⊎◌, inl, inr, Bool, IsTrue, List, [], ◌∷◌, ◌++◌, length, take, get_or}
 use Rattle.std.proofs.Common.{refl, sym, ap, ◌∙◌, subst, Contains, Ordering}
 use Rattle.std.specs.Ordering.{is_lt, is_eq, eq_by_cmp}
 use Rattle.std.specs.Cmp.{IsTotalOrder, Equal-is}
@@ -8,6 +8,7 @@ use Rattle.std.specs.List.{dedup}
 use Rattle.std.specs.List.Sorted.{IsPermutation, IsSorted, IsStrictlySortedBy}
 use Rattle.std.proofs.lemmas.Bool.{and_from}
 use Rattle.std.proofs.lemmas.Cmp.{eq_by_cmp_equiv}
+use Rattle.std.proofs.lemmas.List.Elements.{Contains-append_left, Contains-append_right, Contains-append_cases}
 use Rattle.std.proofs.lemmas.List.Kept.{Contains-dedup, Contains-from_dedup, IsStrictlySortedBy-dedup}
 use Rattle.std.proofs.lemmas.List.Sorted.{Contains-permutation, IsPermutation-sym}
 use Rattle.road_base.proofs.ListMembers.{contains_none}
@@ -25,23 +26,41 @@ module _ {T : Type 0} where
   pub added_none : (list : List T) → AreAdded list list []
   added_none list x = (λ has. inl has, λ has. elim has [ inl here ↦ here | inr none ↦ absurd (contains_none x none) ])
 
-  pub added_more : (old list next numbers : List T) (i : ℕ) (x : T) → i < length numbers → x ≡ get_or numbers i x
+  pub added_more : (old list next numbers : List T) (i : ℕ) (d x : T) → i < length numbers → x ≡ get_or numbers i d
       → AreAdded old list (take i numbers) → ((y : T) → Contains next y ↔ (Contains list y ⊎ (y ≡ x)))
       → AreAdded old next (take (i + 1) numbers)
-  added_more old list next numbers i x within same are step y = (
+  added_more old list next numbers i d x within same are step y = (
     λ has. elim ((step y).0 has) [
       | inl here ↦ elim ((are y).0 here) [
         | inl before ↦ inl before
-        | inr new ↦ inr (has_before numbers i x y within new)
+        | inr new ↦ inr (has_before numbers i d y within new)
       ]
-      | inr last ↦ inr (has_last numbers i x y within (last ∙ same))
+      | inr last ↦ inr (has_last numbers i d y within (last ∙ same))
     ],
     λ has. (step y).1 (elim has [
       | inl before ↦ inl ((are y).1 (inl before))
-      | inr new ↦ elim (one_more numbers i x y within new) [
+      | inr new ↦ elim (one_more numbers i d y within new) [
         | inl last ↦ inr (last ∙ sym same)
         | inr earlier ↦ inl ((are y).1 (inr earlier))
       ]
+    ]),
+  )
+
+  pub added_as : (old new numbers other : List T) → numbers ≡ other → AreAdded old new numbers
+      → AreAdded old new other
+  added_as old new numbers other e are = subst (AreAdded old new) e are
+
+  -- what a list has that was put behind another
+  pub contains_behind : (all one more other : List T) → all ≡ one ++ more → more ≡ other
+      → (x : T) → Contains all x ↔ (Contains one x ⊎ Contains other x)
+  contains_behind all one more other e d x = (
+    λ has. elim (Contains-append_cases one more x (subst (λ l. Contains l x) e has)) [
+      | inl h ↦ inl h
+      | inr h ↦ inr (subst (λ l. Contains l x) d h)
+    ],
+    λ has. subst (λ l. Contains l x) (sym e) (elim has [
+      | inl h ↦ Contains-append_left one more x h
+      | inr h ↦ Contains-append_right one more x (subst (λ l. Contains l x) (sym d) h)
     ]),
   )
 
@@ -74,19 +93,27 @@ module _ {T : Type 0} where
     ];
   }
 
-  -- ---- what a round finds, without what was new in the last two rounds
+  pub rest_as : (list gone other rest : List T) → gone ≡ other → IsRest list gone rest → IsRest list other rest
+  rest_as list gone other rest e is = subst (λ (l : List T). IsRest list l rest) e is
 
-  module _ (found numbers fresh before others new : List T)
-      (exactly : (x : T) → Contains numbers x ↔ Contains found x) (first : IsRest numbers fresh others)
-      (second : IsRest others before new) where
-    pub taken_sound : (x : T) → Contains new x → Contains found x
-    taken_sound x has = (exactly x).0 (first.sound x (second.sound x has))
+  -- ---- what a round finds, without what had been seen
 
-    pub taken_complete : (x : T) → Contains found x → Contains new x ⊎ (Contains fresh x ⊎ Contains before x)
-    taken_complete x has = elim (first.complete x ((exactly x).1 has)) [
-      | inl other ↦ elim (second.complete x other) [ inl here ↦ inl here | inr earlier ↦ inr (inr earlier) ]
-      | inr last ↦ inr (inl last)
-    ]
+  module _ (found numbers all fresh : List T) (exactly : (x : T) → Contains numbers x ↔ Contains found x)
+      (is : IsRest numbers all fresh) where
+    pub taken_sound : (x : T) → Contains fresh x → Contains found x
+    taken_sound x has = (exactly x).0 (is.sound x has)
+
+    pub taken_complete : (x : T) → Contains found x → Contains fresh x ⊎ Contains all x
+    taken_complete x has = is.complete x ((exactly x).1 has)
+
+  -- what was put behind a list, and then sorted
+  pub contains_sorted : (old new sorted numbers : List T) → new ≡ old ++ numbers → IsPermutation new sorted
+      → AreAdded old sorted numbers
+  contains_sorted old new sorted numbers e moves x =
+      let behind = contains_behind new old numbers numbers e refl x in (
+        λ has. behind.0 (Contains-permutation sorted new x (IsPermutation-sym new sorted moves) has),
+        λ has. Contains-permutation new sorted x moves (behind.1 has),
+      )
 
 -- ---- each once, ascending
 

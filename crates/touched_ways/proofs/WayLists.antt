@@ -1,15 +1,13 @@
 -- Ways in order.
-use Rattle.std.proofs.Common.{◌≡◌, ◌↔◌, ◌⊎◌, inl, inr, IsTrue, List, [], ◌∷◌, ◌++◌, map, refl}
-use Rattle.std.proofs.Common.{sym, ap, ◌∙◌, subst, Contains}
-use Rattle.std.specs.List.Sorted.{IsPermutation}
-use Rattle.std.proofs.lemmas.List.Elements.{Contains-append_left, Contains-append_right, Contains-append_cases}
-use Rattle.std.proofs.lemmas.List.Sorted.{Contains-permutation, IsPermutation-sym}
+use Rattle.std.proofs.Common.{◌≡◌, ◌↔◌, ◌⊎◌, inl, inr, IsTrue, List, [], ◌∷◌, map, refl}
+use Rattle.std.proofs.Common.{sym, ap, subst, Contains}
 use Rattle.road_base.specs.declared.ids.WayId.{WayId}
 use Rattle.road_base.specs.declared.ids.Key.{Key}
 use Rattle.road_base.specs.Objects.{Objects}
 use Rattle.road_model.specs.Orders.{Lists, rises, way_cmp}
 use Rattle.road_model.specs.Links.{AreChanged, AreReached, AreTouched}
 use Rattle.road_model.proofs.JoinedLists.{lists_same}
+use Rattle.touched_ways.proofs.NumberLists.{AreAdded}
 
 same : (ws : List WayId) → map (λ w. w) ws ≡ ws
 same [] = refl
@@ -18,44 +16,13 @@ same (w ∷ ws) = ap (λ l. w ∷ l) (same ws)
 -- ---- the ways of two lists
 
 pub ways_of_both : (ways all one other : List WayId) → IsTrue (rises way_cmp ways)
-    → ((w : WayId) → Contains ways w ↔ Contains all w) → all ≡ one ++ other
+    → ((w : WayId) → Contains ways w ↔ Contains all w) → AreAdded one all other
     → Lists (λ w. w) way_cmp (λ w. Contains one w ⊎ Contains other w) ways
-ways_of_both ways all one other up exactly e = record {
+ways_of_both ways all one other up exactly are = record {
   ascending = subst (λ l. IsTrue (rises way_cmp l)) (sym (same ways)) up;
-  sound = λ w has. Contains-append_cases one other w (subst (λ l. Contains l w) e ((exactly w).0 has));
-  complete = λ w has. (exactly w).1 (subst (λ l. Contains l w) (sym e) (elim has [
-    | inl h ↦ Contains-append_left one other w h
-    | inr h ↦ Contains-append_right one other w h
-  ]));
+  sound = λ w has. (are w).0 ((exactly w).0 has);
+  complete = λ w has. (exactly w).1 ((are w).1 has);
 }
-
--- two lists put behind an empty one
-pub put_behind : (empty one all first second before after : List WayId) → empty ≡ [] → first ≡ before
-    → second ≡ after → one ≡ empty ++ first → all ≡ one ++ second → all ≡ before ++ after
-put_behind empty one all first second before after none p q e d =
-    d ∙ ap (λ l. l ++ second) (e ∙ ap (λ l. l ++ first) none) ∙ ap (λ l. l ++ second) p ∙ ap (λ l. before ++ l) q
-
--- what a list has that was put behind another
-pub contains_behind : (all one more other : List WayId) → all ≡ one ++ more → more ≡ other
-    → (w : WayId) → Contains all w ↔ (Contains one w ⊎ Contains other w)
-contains_behind all one more other e d w = (
-  λ has. elim (Contains-append_cases one more w (subst (λ l. Contains l w) e has)) [
-    | inl h ↦ inl h
-    | inr h ↦ inr (subst (λ l. Contains l w) d h)
-  ],
-  λ has. subst (λ l. Contains l w) (sym e) (elim has [
-    | inl h ↦ Contains-append_left one more w h
-    | inr h ↦ Contains-append_right one more w (subst (λ l. Contains l w) (sym d) h)
-  ]),
-)
-
--- the same where they were sorted first
-pub ways_moved : (ways moved all : List WayId) → IsPermutation all moved
-    → ((w : WayId) → Contains ways w ↔ Contains moved w) → (w : WayId) → Contains ways w ↔ Contains all w
-ways_moved ways moved all moves exactly w = (
-  λ has. Contains-permutation moved all w (IsPermutation-sym all moved moves) ((exactly w).0 has),
-  λ has. (exactly w).1 (Contains-permutation all moved w moves has),
-)
 
 -- ---- those reached before and after a change are those that it touches
 

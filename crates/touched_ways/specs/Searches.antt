@@ -1,9 +1,12 @@
 -- What a round of a search over links finds, and what the search keeps of it.
-use Rattle.std.specs.Prelude.{ℕ, ◌⊎◌, ◌↔◌, List, Contains}
+use Rattle.std.specs.Prelude.{ℕ, ◌⊎◌, IsTrue, List, Contains}
+use Rattle.std.specs.BTreeSet.{BTreeSet, contains}
+use Rattle.road_base.specs.declared.ids.NodeId.{NodeId}
 use Rattle.road_base.specs.declared.ids.WayId.{WayId}
 use Rattle.road_base.specs.declared.ids.Key.{Key}
 use Rattle.road_base.specs.declared.ids.Key.TheVariants.{Node as NodeKey, Way as WayKey, Relation as RelationKey}
 use Rattle.road_base.specs.Objects.{Objects}
+use Rattle.road_model.specs.Orders.{node_cmp}
 use Rattle.road_model.specs.Links.{IsLink, IsWithin}
 use Rattle.touched_ways.specs.declared.found.Found.{Found}
 use Rattle.touched_ways.specs.declared.search.Search.{Search}
@@ -18,7 +21,7 @@ pub record IsRest {T : Type 0} (list gone rest : List T) : Type 0 where
 -- the key was found
 abbrev pub IsFound : Found → Key → Type 0
 IsFound f (NodeKey n) = Contains f.nodes.items n
-IsFound f (WayKey w) = Contains f.ways.items w
+IsFound f (WayKey w) = Contains f.ways.list.items w
 IsFound f (RelationKey r) = Contains f.rules.items r
 
 -- between f and g exactly the keys of which the fact holds were found
@@ -47,28 +50,32 @@ IsWay (RelationKey r) = ⊥
 abbrev pub IsWayLink : Objects → Key → Key → Type 0
 IsWayLink M a b = IsLink M a b × IsWay b
 
+-- all that these nodes are linked to was found
+abbrev pub AreFollowed : (Key → Key → Type 0) → BTreeSet NodeId → Found → Type 0
+AreFollowed Link hubs f = (n : NodeId) → IsTrue (contains node_cmp hubs n) → (k : Key) → Link (NodeKey n) k → IsFound f k
+
 -- ---- what the search keeps
 
--- the key was new in the last round
+-- the key is to be followed next: it was found in the last round, and if it is no node's, was new then
 abbrev pub IsFresh : Search → Key → Type 0
-IsFresh s (NodeKey n) = Contains s.nodes.fresh.items n
+IsFresh s (NodeKey n) = Contains s.nodes.items n
 IsFresh s (WayKey w) = Contains s.ways.fresh.items w
 IsFresh s (RelationKey r) = Contains s.rules.fresh.items r
 
--- the key was new in the round before the last
-abbrev pub WasFresh : Search → Key → Type 0
-WasFresh s (NodeKey n) = Contains s.nodes.before.items n
-WasFresh s (WayKey w) = Contains s.ways.before.items w
-WasFresh s (RelationKey r) = Contains s.rules.before.items r
+-- the key is that of a way or restriction that was seen
+abbrev pub IsSeen : Search → Key → Type 0
+IsSeen s (NodeKey n) = ⊥
+IsSeen s (WayKey w) = Contains s.ways.all.items w
+IsSeen s (RelationKey r) = Contains s.rules.all.items r
 
--- t is s when the keys of which the fact holds were taken in: each of them is new, or was new in the last two rounds
+-- t is s when the keys of which the fact holds were taken in: each of them is fresh, or had been seen
 pub record IsNext (s t : Search) (Is : Key → Type 0) : Type 0 where
   pub sound : (k : Key) → IsFresh t k → Is k
-  pub complete : (k : Key) → Is k → IsFresh t k ⊎ (IsFresh s k ⊎ WasFresh s k)
-  pub before : (k : Key) → WasFresh t k → IsFresh s k
-  pub reached : (w : WayId) → Contains t.reached.items w ↔ (Contains s.reached.items w ⊎ IsFresh t (WayKey w))
+  pub complete : (k : Key) → Is k → IsFresh t k ⊎ IsSeen s k
+  pub seen : (k : Key) → IsSeen t k → IsSeen s k ⊎ IsFresh t k
+  pub ways : (w : WayId) → IsSeen s (WayKey w) ⊎ IsFresh t (WayKey w) → IsSeen t (WayKey w)
 
--- something that was new in the last round is linked to the key
+-- something that is to be followed is linked to the key
 abbrev pub IsFurther : Objects → Search → Key → Type 0
 IsFurther M s k = (a : Key) × IsFresh s a × IsLink M a k
 
@@ -76,9 +83,9 @@ IsFurther M s k = (a : Key) × IsFresh s a × IsLink M a k
 abbrev pub IsWithinAny : Objects → List Key → ℕ → Key → Type 0
 IsWithinAny M keys n k = (c : Key) × Contains keys c × IsWithin M n c k
 
--- n rounds were made: the ways within n links of the keys are reached, and what is new leads to all that is further
+-- n rounds were made: the ways within n links of the keys were seen, and what is fresh leads to all that is further
 pub record IsRound (M : Objects) (keys : List Key) (n : ℕ) (s : Search) : Type 0 where
   pub fresh : (k : Key) → IsFresh s k → IsWithinAny M keys n k
-  pub before : (k : Key) → WasFresh s k → IsWithinAny M keys n k
+  pub seen : (k : Key) → IsSeen s k → IsWithinAny M keys n k
+  pub ways : (w : WayId) → IsWithinAny M keys n (WayKey w) → IsSeen s (WayKey w)
   pub followed : (a b : Key) → IsWithinAny M keys n a → IsLink M a b → IsWithinAny M keys n b ⊎ IsFresh s a
-  pub reached : (w : WayId) → Contains s.reached.items w ↔ IsWithinAny M keys n (WayKey w)

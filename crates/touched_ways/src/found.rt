@@ -1,48 +1,49 @@
 //! The keys that a round of a search finds.
-ghost use Rattle.std.specs.Prelude.{◌≡◌, OnOk};
+ghost use Rattle.std.specs.Prelude.{◌≡◌, IfOk, OnOk};
 ghost use Rattle.road_base.specs.declared.ids.Key.{Key as KeyValue};
 ghost use Rattle.road_base.specs.declared.ids.Key.TheVariants.{Node as NodeKey, Way as WayKey, Relation as RelationKey};
 ghost use Rattle.touched_ways.specs.Searches.{IsFound, Finds, GivenBy, IsNodeOrWay, IsWay};
 
+use crate::found_ways::FoundWays;
 use crate::lists::{add, add_each};
 use road_base::{Key, Member, NoMemory, NodeId, RelationId, WayId};
-use road_model::laws::{name_order, number_order};
+use road_model::laws::number_order;
 use std::alloc::Global;
 
 /// The numbers found, by kind, in no order. One may stand there more than once.
 #[derive(Drop)]
 pub struct Found {
     pub nodes: Vec<NodeId>,
-    pub ways: Vec<WayId>,
+    pub ways: FoundWays,
     pub rules: Vec<RelationId>,
 }
 
 impl Found {
-    /// Nothing was found. Takes no memory.
-    pub fn new(alloc: Global) -> Found
-        ensures { (k : KeyValue) → IsFound result k → ⊥ }
+    /// Nothing was found.
+    pub fn new(alloc: Global) -> Result<Found, NoMemory>
+        ensures { IfOk result (λ f. (k : KeyValue) → IsFound f k → ⊥) }
     {
-        Found {
+        let ways = FoundWays::new(alloc)?;
+        Ok(Found {
             nodes: Vec::new(alloc),
-            ways: Vec::new(alloc),
+            ways,
             rules: Vec::new(alloc),
-        }
+        })
     }
 
     /// Finds the nodes.
     pub fn add_nodes(&mut self, nodes: &[NodeId]) -> Result<(), NoMemory>
         ensures { OnOk result (Finds self.old self.new (GivenBy (λ n k. k ≡ NodeKey n) nodes.now)) }
     {
-        number_order();
-        add_each(&mut self.nodes, nodes)
+        self.nodes.extend_from_slice(nodes)?;
+        Ok(())
     }
 
     /// Finds the ways.
     pub fn add_ways(&mut self, ways: &[WayId]) -> Result<(), NoMemory>
         ensures { OnOk result (Finds self.old self.new (GivenBy (λ w k. k ≡ WayKey w) ways.now)) }
     {
-        name_order();
-        add_each(&mut self.ways, ways)
+        self.ways.add_each(ways)
     }
 
     /// Finds the restrictions.
@@ -124,8 +125,7 @@ impl Found {
     fn add_way(&mut self, way: WayId) -> Result<(), NoMemory>
         ensures { OnOk result (Finds self.old self.new (λ k. k ≡ WayKey way)) }
     {
-        name_order();
-        add(&mut self.ways, way)
+        self.ways.add(way)
     }
 
     fn add_rule(&mut self, rule: RelationId) -> Result<(), NoMemory>

@@ -11,12 +11,18 @@ use crate::found::Found;
 use road_base::{Member, NoMemory, NodeId, RelationId, Tags, WayId};
 use road_model::World;
 
-/// Finds what is linked to the node.
-pub fn follow_node<M: World>(world: &M, node: NodeId, found: &mut Found) -> Result<(), NoMemory>
+/// How many links of a node may be followed again at no loss.
+const FEW: usize = 8;
+
+/// Finds what is linked to the node, and tells whether that is much.
+pub fn follow_node<M: World>(world: &M, node: NodeId, found: &mut Found) -> Result<bool, NoMemory>
     ensures { OnOk result (Finds found.old found.new (IsLink (M.objects world.now) (NodeKey node))) }
 {
-    found.add_ways(world.ways_at(node))?;
-    found.add_rules(world.rules_at(node))
+    let ways = world.ways_at(node);
+    let rules = world.rules_at(node);
+    found.add_ways(ways)?;
+    found.add_rules(rules)?;
+    Ok(ways.len().max(rules.len()) > FEW)
 }
 
 /// Finds what is linked to the way.
@@ -34,15 +40,17 @@ pub fn follow_rule<M: World>(world: &M, rule: RelationId, found: &mut Found) -> 
     found.add_members(members_of(world, rule))
 }
 
-/// Finds the ways that are linked to the node.
+/// Finds the ways that are linked to the node, and tells whether they are many.
 pub fn find_ways_of_node<M: World>(
     world: &M,
     node: NodeId,
     found: &mut Found,
-) -> Result<(), NoMemory>
+) -> Result<bool, NoMemory>
     ensures { OnOk result (Finds found.old found.new (IsWayLink (M.objects world.now) (NodeKey node))) }
 {
-    found.add_ways(world.ways_at(node))
+    let ways = world.ways_at(node);
+    found.add_ways(ways)?;
+    Ok(ways.len() > FEW)
 }
 
 /// Finds the ways that are linked to the restriction.

@@ -34,11 +34,21 @@ pub fn add<T: Ord + Copy>(list: &mut Vec<T>, number: T) -> Result<(), NoMemory>
 }
 
 /// Whether the number stands at the position.
-fn is_at<T: Ord + Copy>(list: &[T], at: usize, number: T) -> bool
+pub fn is_at<T: Ord + Copy>(list: &[T], at: usize, number: T) -> bool
     requires { IsAntisymmetric T.cmp }
     ensures { IsTrue result → Contains list.now number }
 {
     at < list.len() && list[at].cmp(&number).is_eq()
+}
+
+/// Puts the numbers into the list, and sorts it. Where both ascend they are gone along once.
+pub fn add_sorted<T: Ord + Copy>(list: &mut Vec<T>, numbers: &[T]) -> Result<(), NoMemory>
+    ensures { OnOk result ((x : T) → Contains list.new.items x
+        ↔ (Contains list.old.items x ⊎ Contains numbers.now x)) }
+{
+    list.extend_from_slice(numbers)?;
+    list.sort()?;
+    Ok(())
 }
 
 /// Leaves each number once, ascending.

@@ -5,7 +5,7 @@ ghost use Rattle.road_base.specs.declared.ids.Key.{Key};
 ghost use Rattle.road_model.specs.Orders.{Lists, way_cmp};
 ghost use Rattle.road_model.specs.Links.{AreChanged, AreReached, AreTouched};
 
-use crate::lists::leave_once;
+use crate::lists::{add_sorted, leave_once};
 use road_base::{NoMemory, Ways};
 use road_model::laws::name_order;
 use std::alloc::Global;
@@ -19,11 +19,9 @@ pub fn merge(alloc: Global, before: &Ways, after: &Ways) -> Result<Ways, NoMemor
         → AreReached N keys after.now
         → AreTouched M N ways) }
 {
-    let mut ways = Vec::new(alloc);
-    ways.extend_from_slice(before.items())?;
-    ways.extend_from_slice(after.items())?;
-    ways.sort()?;
     name_order();
+    let mut ways = Vec::from_slice(alloc, before.items())?;
+    add_sorted(&mut ways, after.items())?;
     leave_once(&mut ways);
     Ok(Ways::from_list(ways))
 }

@@ -7,11 +7,13 @@ ghost use Rattle.road_model.specs.Links.{IsLink, AreReached};
 ghost use Rattle.touched_ways.specs.Searches.{Finds, GivenBy, IsWayLink, IsFurther, IsRound};
 
 use crate::found::Found;
-use crate::links::{find_ways_of_node, find_ways_of_rule, follow_node, follow_rule, follow_way};
+use crate::hubs::{find_ways_once, follow_node_once};
+use crate::links::{find_ways_of_rule, follow_rule, follow_way};
 use crate::search::Search;
 use road_base::{Key, Keys, NoMemory, NodeId, RelationId, WayId, Ways};
 use road_model::World;
 use std::alloc::Global;
+use std::collections::BTreeSet;
 
 /// How many links lead to a way at most.
 const LINKS: u32 = 6;
@@ -32,7 +34,7 @@ pub fn reached<M: World>(alloc: Global, world: &M, changed: &Keys) -> Result<Way
 fn first_round(alloc: Global, keys: &[Key]) -> Result<Search, NoMemory>
     ensures { IfOk result (λ search. (M : Objects) → IsRound M keys.now 0 search) }
 {
-    let mut found = Found::new(alloc);
+    let mut found = Found::new(alloc)?;
     found.add_keys(keys)?;
     let mut search = Search::new(alloc);
     search.take_in(found)?;
@@ -44,8 +46,8 @@ fn next_round<M: World>(alloc: Global, world: &M, search: &mut Search) -> Result
     ensures { OnOk result ((keys : List KeyValue) (n : ℕ) → IsRound (M.objects world.now) keys n search.old
         → IsRound (M.objects world.now) keys (n + 1) search.new) }
 {
-    let mut found = Found::new(alloc);
-    follow_nodes(world, search.nodes.fresh.as_slice(), &mut found)?;
+    let mut found = Found::new(alloc)?;
+    follow_nodes(alloc, world, search.nodes.as_slice(), &mut found)?;
     follow_ways(world, search.ways.fresh.as_slice(), &mut found)?;
     follow_rules(world, search.rules.fresh.as_slice(), &mut found)?;
     search.take_in(found)
@@ -56,19 +58,25 @@ fn last_round<M: World>(alloc: Global, world: &M, search: Search) -> Result<Ways
     ensures { IfOk result (λ ways. (keys : List KeyValue) → IsRound (M.objects world.now) keys 5 search
         → AreReached (M.objects world.now) keys ways) }
 {
-    let mut found = Found::new(alloc);
-    find_ways_of_nodes(world, search.nodes.fresh.as_slice(), &mut found)?;
+    let mut found = Found::new(alloc)?;
+    find_ways_of_nodes(alloc, world, search.nodes.as_slice(), &mut found)?;
     find_ways_of_rules(world, search.rules.fresh.as_slice(), &mut found)?;
-    search.ways_with(found.ways.as_slice())
+    search.ways_with(found.ways.list.as_slice())
 }
 
 /// Finds what is linked to one of the nodes.
-fn follow_nodes<M: World>(world: &M, nodes: &[NodeId], found: &mut Found) -> Result<(), NoMemory>
+fn follow_nodes<M: World>(
+    alloc: Global,
+    world: &M,
+    nodes: &[NodeId],
+    found: &mut Found,
+) -> Result<(), NoMemory>
     ensures { OnOk result (Finds found.old found.new
         (GivenBy (λ n. IsLink (M.objects world.now) (NodeKey n)) nodes.now)) }
 {
+    let mut hubs = BTreeSet::new(alloc);
     for node in nodes {
-        follow_node(world, *node, found)?;
+        follow_node_once(world, *node, &mut hubs, found)?;
     }
     Ok(())
 }
@@ -101,6 +109,7 @@ fn follow_rules<M: World>(
 
 /// Finds the ways that are linked to one of the nodes.
 fn find_ways_of_nodes<M: World>(
+    alloc: Global,
     world: &M,
     nodes: &[NodeId],
     found: &mut Found,
@@ -108,8 +117,9 @@ fn find_ways_of_nodes<M: World>(
     ensures { OnOk result (Finds found.old found.new
         (GivenBy (λ n. IsWayLink (M.objects world.now) (NodeKey n)) nodes.now)) }
 {
+    let mut hubs = BTreeSet::new(alloc);
     for node in nodes {
-        find_ways_of_node(world, *node, found)?;
+        find_ways_once(world, *node, &mut hubs, found)?;
     }
     Ok(())
 }

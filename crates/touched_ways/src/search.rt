@@ -1,37 +1,36 @@
 //! What a search over links keeps from round to round.
-ghost use Rattle.std.specs.Prelude.{◌≡◌, ◌↔◌, ◌⊎◌, [], IfOk, OnOk, Contains};
+ghost use Rattle.std.specs.Prelude.{◌≡◌, ◌⊎◌, IfOk, OnOk, Contains};
 ghost use Rattle.road_base.specs.declared.ids.Key.{Key as KeyValue};
 ghost use Rattle.road_model.specs.Orders.{Lists, way_cmp};
-ghost use Rattle.touched_ways.specs.Searches.{IsFound, IsFresh, WasFresh, IsNext};
+ghost use Rattle.touched_ways.specs.Searches.{IsFound, IsFresh, IsSeen, IsNext};
 
 use crate::found::Found;
-use crate::layers::Layers;
 use crate::lists::leave_once;
+use crate::seen::Seen;
 use road_base::{NoMemory, NodeId, RelationId, WayId, Ways};
 use road_model::laws::{name_order, number_order};
 use std::alloc::Global;
 
-/// What was new in the last rounds, by kind, and the ways reached so far, in no order.
+/// The ways and restrictions seen, and all that is to be followed next: the nodes that were found in the last round, in
+/// no order, and the ways and restrictions that were new in it. Nodes aren't kept: since no way or restriction is
+/// followed twice, few of them come again.
 #[derive(Drop)]
 pub struct Search {
-    pub nodes: Layers<NodeId>,
-    pub ways: Layers<WayId>,
-    pub rules: Layers<RelationId>,
-    pub reached: Vec<WayId>,
+    pub nodes: Vec<NodeId>,
+    pub ways: Seen<WayId>,
+    pub rules: Seen<RelationId>,
 }
 
 impl Search {
-    /// Nothing was reached. Takes no memory.
+    /// Nothing was seen. Takes no memory.
     pub fn new(alloc: Global) -> Search
+        ensures seen { (k : KeyValue) → IsSeen result k → ⊥ }
         ensures fresh { (k : KeyValue) → IsFresh result k → ⊥ }
-        ensures before { (k : KeyValue) → WasFresh result k → ⊥ }
-        ensures reached { result.reached.items ≡ [] }
     {
         Search {
-            nodes: Layers::new(alloc),
-            ways: Layers::new(alloc),
-            rules: Layers::new(alloc),
-            reached: Vec::new(alloc),
+            nodes: Vec::new(alloc),
+            ways: Seen::new(alloc),
+            rules: Seen::new(alloc),
         }
     }
 
@@ -41,19 +40,20 @@ impl Search {
     {
         number_order();
         name_order();
-        self.nodes.take_in(found.nodes)?;
-        self.ways.take_in(found.ways)?;
-        self.rules.take_in(found.rules)?;
-        self.reached.extend_from_slice(self.ways.fresh.as_slice())?;
+        let Found { nodes, ways, rules } = found;
+        self.nodes = nodes;
+        self.ways.take_in(ways.list)?;
+        self.rules.take_in(rules)?;
         Ok(())
     }
 
-    /// The ways reached and those given, ascending.
+    /// The ways seen and those given, ascending.
     pub fn ways_with(self, last: &[WayId]) -> Result<Ways, NoMemory>
         ensures { IfOk result
-            (Lists (λ w. w) way_cmp (λ w. Contains self.reached.items w ⊎ Contains last.now w)) }
+            (Lists (λ w. w) way_cmp (λ w. Contains self.ways.all.items w ⊎ Contains last.now w)) }
     {
-        let mut ways = self.reached;
+        let seen = self.ways;
+        let mut ways = seen.all;
         ways.extend_from_slice(last)?;
         name_order();
         leave_once(&mut ways);

@@ -1,20 +1,19 @@
-use Rattle.std.proofs.Common.{◌⊎◌, Contains, sym, subst}
+use Rattle.std.proofs.Common.{◌⊎◌, ◌∙◌, sym, subst, Contains}
 use Rattle.road_model.specs.Orders.{Lists, way_cmp}
-use Rattle.touched_ways.proofs.WayLists.{ways_of_both, ways_moved, put_behind, touched_ways}
+use Rattle.touched_ways.proofs.NumberLists.{AreAdded, added_as}
+use Rattle.touched_ways.proofs.WayLists.{ways_of_both, touched_ways}
 use Rattle.touched_ways.proofs.merging.merge.Goals as goal
 
 pub returns-clause-either : goal.returns-clause-either
 returns-clause-either c =
-    let moved = c.sort.new.self.items in
-    let all = c.extend_from_slice-2.new.self.items in
-    let ways = c.leave_once.new.list.items in
+    let all = c.add_sorted.new.list.items in
+    let are = subst (λ l. AreAdded l all c.args.after.now) (c.in_ok-ways.ensures.items ∙ c.items.ensures)
+    (added_as c.in_ok-ways.ways.items all c.items-2.result.now c.args.after.now c.items-2.ensures
+    c.in_ok-add_sorted.ensures) in
     subst (Lists (λ w. w) way_cmp (λ w. Contains c.args.before.now w ⊎ Contains c.args.after.now w))
     (sym c.from_list.ensures)
-    (ways_of_both ways all c.args.before.now c.args.after.now c.leave_once.ensures.ascending
-    (ways_moved ways moved all c.in_ok-sort.ensures.permutation c.leave_once.ensures.exactly)
-    (put_behind c.new-ways.result.items c.extend_from_slice.new.self.items all c.items.result.now c.items-2.result.now
-    c.args.before.now c.args.after.now c.new-ways.ensures.items c.items.ensures c.items-2.ensures
-    c.in_ok-extend_from_slice.ensures.items c.in_ok-extend_from_slice-2.ensures.items))
+    (ways_of_both c.leave_once.new.list.items all c.args.before.now c.args.after.now c.leave_once.ensures.ascending
+    c.leave_once.ensures.exactly are)
 
 pub returns-clause-touched : goal.returns-clause-touched
 returns-clause-touched c = λ M N keys changed these those.

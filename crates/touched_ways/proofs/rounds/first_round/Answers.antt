@@ -3,6 +3,5 @@ use Rattle.touched_ways.proofs.rounds.first_round.Goals as goal
 
 pub returns : goal.returns
 returns c = λ M.
-    first_round M c.args.keys.now c.new-search.result c.take_in.new.self c.new-found.result c.add_keys.new.self
-    c.new-found.ensures c.in_ok-add_keys.ensures c.new-search.ensures.fresh c.new-search.ensures.before
-    c.new-search.ensures.reached c.in_ok-take_in.ensures
+    first_round M c.args.keys.now c.new-search.result c.take_in.new.self c.in_ok-found.found c.add_keys.new.self
+    c.in_ok-found.ensures c.in_ok-add_keys.ensures c.new-search.ensures.seen c.in_ok-take_in.ensures

@@ -12,10 +12,10 @@ returns g c =
     let M = g.M.World.objects c.args.world.now in
     let s = c.args.search in
     IfOk-weaker c.ways_with.result
-    (Lists (λ w. w) way_cmp (λ w. Contains s.reached.items w ⊎ Contains c.as_slice-3.result.now w))
+    (Lists (λ w. w) way_cmp (λ w. Contains s.ways.all.items w ⊎ Contains c.as_slice-3.result.now w))
     (λ ways. (keys : List Key) → IsRound M keys 5 s → AreReached M keys ways)
-    (λ ways lists keys round. last_ways M keys 5 s round c.new-found.result c.find_ways_of_nodes.new.found
-    c.find_ways_of_rules.new.found c.new-found.ensures c.as_slice.result.now c.as_slice-2.result.now
+    (λ ways lists keys round. last_ways M keys 5 s round c.in_ok-found.found c.find_ways_of_nodes.new.found
+    c.find_ways_of_rules.new.found c.in_ok-found.ensures c.as_slice.result.now c.as_slice-2.result.now
     c.as_slice.ensures.value c.as_slice-2.ensures.value c.in_ok-find_ways_of_nodes.ensures
     c.in_ok-find_ways_of_rules.ensures c.as_slice-3.result.now ways c.as_slice-3.ensures.value lists)
     c.ways_with.ensures
