@@ -90,8 +90,8 @@ finds_one key x f g h = finds_as f g (KeyOf key (λ y. y ≡ x)) (λ k. k ≡ ke
 
 module _ (f g : Found) where
   pub found_nodes : (Is : NodeId → Type 0)
-      → ((x : NodeId) → Contains g.nodes.items x ↔ (Contains f.nodes.items x ⊎ Is x)) → g.ways.list.items ≡ f.ways.list.items
-      → g.rules.items ≡ f.rules.items → Finds f g (KeyOf NodeKey Is)
+      → ((x : NodeId) → Contains g.nodes.items x ↔ (Contains f.nodes.items x ⊎ Is x))
+      → g.ways.list.items ≡ f.ways.list.items → g.rules.items ≡ f.rules.items → Finds f g (KeyOf NodeKey Is)
   found_nodes Is added ways rules = record {
     sound = only;
     complete = λ k i. subst (IsFound g) (sym i.2) ((added i.0).1 (inr i.1));
@@ -109,8 +109,8 @@ module _ (f g : Found) where
       stays (RelationKey x) h = subst (λ l. Contains l x) (sym rules) h
 
   pub found_ways : (Is : WayId → Type 0)
-      → ((x : WayId) → Contains g.ways.list.items x ↔ (Contains f.ways.list.items x ⊎ Is x)) → g.nodes.items ≡ f.nodes.items
-      → g.rules.items ≡ f.rules.items → Finds f g (KeyOf WayKey Is)
+      → ((x : WayId) → Contains g.ways.list.items x ↔ (Contains f.ways.list.items x ⊎ Is x))
+      → g.nodes.items ≡ f.nodes.items → g.rules.items ≡ f.rules.items → Finds f g (KeyOf WayKey Is)
   found_ways Is added nodes rules = record {
     sound = only;
     complete = λ k i. subst (IsFound g) (sym i.2) ((added i.0).1 (inr i.1));

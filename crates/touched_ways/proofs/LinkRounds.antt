@@ -12,34 +12,34 @@ use Rattle.road_model.specs.Links.{IsLink}
 use Rattle.road_model.proofs.JoinedLists.{lists_same}
 use Rattle.touched_ways.specs.declared.found.Found.{Found}
 use Rattle.touched_ways.specs.declared.search.Search.{Search}
-use Rattle.touched_ways.specs.Searches.{IsFound, Finds, GivenBy, IsFresh, IsSeen, IsNext, IsFurther, IsWayLink}
+use Rattle.touched_ways.specs.Searches.{IsFound, Finds, GivenBy, IsFrontier, IsSeen, IsNext, IsFurther, IsWayLink}
 use Rattle.touched_ways.specs.Searches.{IsWithinAny, IsRound}
 
 -- ---- what is taken in, by kind
 
 -- the numbers of one kind are taken in
-pub record Taken {T : Type 0} (seen found fresh all : List T) : Type 0 where
-  pub sound : (x : T) → Contains fresh x → Contains found x
-  pub complete : (x : T) → Contains found x → Contains fresh x ⊎ Contains seen x
-  pub adds : (x : T) → Contains all x ↔ (Contains seen x ⊎ Contains fresh x)
+pub record Taken {T : Type 0} (seen found frontier all : List T) : Type 0 where
+  pub sound : (x : T) → Contains frontier x → Contains found x
+  pub complete : (x : T) → Contains found x → Contains frontier x ⊎ Contains seen x
+  pub adds : (x : T) → Contains all x ↔ (Contains seen x ⊎ Contains frontier x)
 
 pub taken_next : (s t : Search) (f : Found) → t.nodes.items ≡ f.nodes.items
-    → Taken s.ways.all.items f.ways.list.items t.ways.fresh.items t.ways.all.items
-    → Taken s.rules.all.items f.rules.items t.rules.fresh.items t.rules.all.items → IsNext s t (IsFound f)
+    → Taken s.ways.all.items f.ways.list.items t.ways.frontier.items t.ways.all.items
+    → Taken s.rules.all.items f.rules.items t.rules.frontier.items t.rules.all.items → IsNext s t (IsFound f)
 taken_next s t f nodes taken rules =
     record { sound = only; complete = all; seen = now; ways = λ w h. (taken.adds w).1 h }
   where
-    only : (k : Key) → IsFresh t k → IsFound f k
+    only : (k : Key) → IsFrontier t k → IsFound f k
     only (NodeKey x) h = subst (λ l. Contains l x) nodes h
     only (WayKey x) h = taken.sound x h
     only (RelationKey x) h = rules.sound x h
 
-    all : (k : Key) → IsFound f k → IsFresh t k ⊎ IsSeen s k
+    all : (k : Key) → IsFound f k → IsFrontier t k ⊎ IsSeen s k
     all (NodeKey x) h = inl (subst (λ l. Contains l x) (sym nodes) h)
     all (WayKey x) h = taken.complete x h
     all (RelationKey x) h = rules.complete x h
 
-    now : (k : Key) → IsSeen t k → IsSeen s k ⊎ IsFresh t k
+    now : (k : Key) → IsSeen t k → IsSeen s k ⊎ IsFrontier t k
     now (NodeKey x) h = absurd h
     now (WayKey x) h = (taken.adds x).0 h
     now (RelationKey x) h = (rules.adds x).0 h
@@ -48,7 +48,7 @@ taken_next s t f nodes taken rules =
 
 module _ (M : Objects) (s : Search) (f0 f1 f2 f3 : Found) (none : (k : Key) → IsFound f0 k → ⊥)
     (ns : List NodeId) (ws : List WayId) (rs : List RelationId) (nodes : ns ≡ s.nodes.items)
-    (ways : ws ≡ s.ways.fresh.items) (rules : rs ≡ s.rules.fresh.items)
+    (ways : ws ≡ s.ways.frontier.items) (rules : rs ≡ s.rules.frontier.items)
     (first : Finds f0 f1 (GivenBy (λ n. IsLink M (NodeKey n)) ns))
     (second : Finds f1 f2 (GivenBy (λ w. IsLink M (WayKey w)) ws))
     (third : Finds f2 f3 (GivenBy (λ r. IsLink M (RelationKey r)) rs)) where
@@ -64,13 +64,13 @@ module _ (M : Objects) (s : Search) (f0 f1 f2 f3 : Found) (none : (k : Key) → 
     | inr g ↦ (RelationKey g.0, subst (λ l. Contains l g.0) rules g.1, g.2)
   ]
 
-  further_from : (a k : Key) → IsFresh s a → IsLink M a k → IsFound f3 k
-  further_from (NodeKey x) k fresh link =
-      third.keeps k (second.keeps k (first.complete k (x, subst (λ l. Contains l x) (sym nodes) fresh, link)))
-  further_from (WayKey x) k fresh link =
-      third.keeps k (second.complete k (x, subst (λ l. Contains l x) (sym ways) fresh, link))
-  further_from (RelationKey x) k fresh link =
-      third.complete k (x, subst (λ l. Contains l x) (sym rules) fresh, link)
+  further_from : (a k : Key) → IsFrontier s a → IsLink M a k → IsFound f3 k
+  further_from (NodeKey x) k frontier link =
+      third.keeps k (second.keeps k (first.complete k (x, subst (λ l. Contains l x) (sym nodes) frontier, link)))
+  further_from (WayKey x) k frontier link =
+      third.keeps k (second.complete k (x, subst (λ l. Contains l x) (sym ways) frontier, link))
+  further_from (RelationKey x) k frontier link =
+      third.complete k (x, subst (λ l. Contains l x) (sym rules) frontier, link)
 
   pub all_further : (k : Key) → IsFound f3 k ↔ IsFurther M s k
   all_further k = (further_sound k, λ h. further_from h.0 k h.1 h.2)
@@ -94,61 +94,61 @@ module _ (M : Objects) (keys : List Key) where
       → Finds f0 f1 (GivenBy (λ x k. k ≡ x) keys) → ((k : Key) → IsSeen s k → ⊥) → IsNext s t (IsFound f1)
       → IsRound M keys 0 t
   first_round s t f0 f1 none finds old h = record {
-    fresh = near;
-    seen = λ k i. elim (h.seen k i) [ inl earlier ↦ absurd (old k earlier) | inr fresh ↦ near k fresh ];
+    frontier = near;
+    seen = λ k i. elim (h.seen k i) [ inl earlier ↦ absurd (old k earlier) | inr frontier ↦ near k frontier ];
     ways = λ w i. h.ways w (inr (from (WayKey w) i));
     followed = λ a b i l. inr (from a i);
   }
     where
-      near : (k : Key) → IsFresh t k → IsWithinAny M keys 0 k
+      near : (k : Key) → IsFrontier t k → IsWithinAny M keys 0 k
       near k i = elim (finds.sound k (h.sound k i)) [
         | inl before ↦ absurd (none k before)
         | inr g ↦ (g.0, g.1, sym g.2)
       ]
 
-      from : (k : Key) → IsWithinAny M keys 0 k → IsFresh t k
+      from : (k : Key) → IsWithinAny M keys 0 k → IsFrontier t k
       from k w = elim (h.complete k (finds.complete k (w.0, w.1, sym w.2))) [
-        | inl fresh ↦ fresh
+        | inl frontier ↦ frontier
         | inr earlier ↦ absurd (old k earlier)
       ]
 
   module _ (n : ℕ) (s : Search) (round : IsRound M keys n s) where
-    -- what was taken in, and isn't fresh, had been reached
+    -- what was taken in, and isn't on the frontier, had been reached
     module _ (t : Search) (f : Found) (found : (k : Key) → IsFound f k ↔ IsFurther M s k)
         (h : IsNext s t (IsFound f)) where
-      taken : (a b : Key) → IsFresh s a → IsLink M a b → IsFresh t b ⊎ IsWithinAny M keys n b
-      taken a b fresh link = elim (h.complete b ((found b).1 (a, fresh, link))) [
+      taken : (a b : Key) → IsFrontier s a → IsLink M a b → IsFrontier t b ⊎ IsWithinAny M keys n b
+      taken a b frontier link = elim (h.complete b ((found b).1 (a, frontier, link))) [
         | inl new ↦ inl new
         | inr earlier ↦ inr (round.seen b earlier)
       ]
 
-      near : (k : Key) → IsFresh t k → IsWithinAny M keys (suc n) k
-      near k i = let g = (found k).0 (h.sound k i) in within_next n g.0 k (round.fresh g.0 g.1) g.2
+      near : (k : Key) → IsFrontier t k → IsWithinAny M keys (suc n) k
+      near k i = let g = (found k).0 (h.sound k i) in within_next n g.0 k (round.frontier g.0 g.1) g.2
 
-      -- what is one link further had been reached, or is fresh
-      came : (b : Key) → IsWithinAny M keys (suc n) b → IsWithinAny M keys n b ⊎ IsFresh t b
+      -- what is one link further had been reached, or is on the frontier
+      came : (b : Key) → IsWithinAny M keys (suc n) b → IsWithinAny M keys n b ⊎ IsFrontier t b
       came b i = elim (within_cases n b i) [
         | inl before ↦ inl before
         | inr (c, close, step) ↦ elim (round.followed c b close step) [
           | inl before ↦ inl before
-          | inr fresh ↦ elim (taken c b fresh step) [ inl new ↦ inr new | inr before ↦ inl before ]
+          | inr frontier ↦ elim (taken c b frontier step) [ inl new ↦ inr new | inr before ↦ inl before ]
         ]
       ]
 
       next : IsRound M keys (suc n) t
       next = record {
-        fresh = near;
+        frontier = near;
         seen = λ k i. elim (h.seen k i) [
           | inl earlier ↦ within_still n k (round.seen k earlier)
-          | inr fresh ↦ near k fresh
+          | inr frontier ↦ near k frontier
         ];
         ways = λ w i. h.ways w (elim (came (WayKey w) i) [
           | inl before ↦ inl (round.ways w before)
-          | inr fresh ↦ inr fresh
+          | inr frontier ↦ inr frontier
         ]);
         followed = λ a b i l. elim (came a i) [
           | inl before ↦ inl (within_next n a b before l)
-          | inr fresh ↦ inr fresh
+          | inr frontier ↦ inr frontier
         ];
       }
 
@@ -157,7 +157,7 @@ module _ (M : Objects) (keys : List Key) where
 
     -- the ways that are further alone were found
     module _ (f0 f1 f2 : Found) (none : (k : Key) → IsFound f0 k → ⊥) (ns : List NodeId) (rs : List RelationId)
-        (nodes : ns ≡ s.nodes.items) (rules : rs ≡ s.rules.fresh.items)
+        (nodes : ns ≡ s.nodes.items) (rules : rs ≡ s.rules.frontier.items)
         (first : Finds f0 f1 (GivenBy (λ n. IsWayLink M (NodeKey n)) ns))
         (second : Finds f1 f2 (GivenBy (λ r. IsWayLink M (RelationKey r)) rs)) where
       way_near : (w : WayId) → IsFound f2 (WayKey w) → IsWithinAny M keys (suc n) (WayKey w)
@@ -165,18 +165,18 @@ module _ (M : Objects) (keys : List Key) where
         | inl before ↦ elim (first.sound (WayKey w) before) [
           | inl old ↦ absurd (none (WayKey w) old)
           | inr (x, has, l) ↦ within_next n (NodeKey x) (WayKey w)
-              (round.fresh (NodeKey x) (subst (λ l. Contains l x) nodes has)) l.0
+              (round.frontier (NodeKey x) (subst (λ l. Contains l x) nodes has)) l.0
         ]
         | inr (x, has, l) ↦ within_next n (RelationKey x) (WayKey w)
-            (round.fresh (RelationKey x) (subst (λ l. Contains l x) rules has)) l.0
+            (round.frontier (RelationKey x) (subst (λ l. Contains l x) rules has)) l.0
       ]
 
-      way_from : (a : Key) (w : WayId) → IsFresh s a → IsLink M a (WayKey w) → IsFound f2 (WayKey w)
-      way_from (NodeKey x) w fresh link = second.keeps (WayKey w)
-          (first.complete (WayKey w) (x, subst (λ l. Contains l x) (sym nodes) fresh, (link, tt)))
-      way_from (WayKey x) w fresh link = absurd link
-      way_from (RelationKey x) w fresh link =
-          second.complete (WayKey w) (x, subst (λ l. Contains l x) (sym rules) fresh, (link, tt))
+      way_from : (a : Key) (w : WayId) → IsFrontier s a → IsLink M a (WayKey w) → IsFound f2 (WayKey w)
+      way_from (NodeKey x) w frontier link = second.keeps (WayKey w)
+          (first.complete (WayKey w) (x, subst (λ l. Contains l x) (sym nodes) frontier, (link, tt)))
+      way_from (WayKey x) w frontier link = absurd link
+      way_from (RelationKey x) w frontier link =
+          second.complete (WayKey w) (x, subst (λ l. Contains l x) (sym rules) frontier, (link, tt))
 
       way_got : (w : WayId) → IsWithinAny M keys (suc n) (WayKey w)
           → Contains s.ways.all.items w ⊎ IsFound f2 (WayKey w)
@@ -184,7 +184,7 @@ module _ (M : Objects) (keys : List Key) where
         | inl before ↦ inl (round.ways w before)
         | inr (a, close, link) ↦ elim (round.followed a (WayKey w) close link) [
           | inl before ↦ inl (round.ways w before)
-          | inr fresh ↦ inr (way_from a w fresh link)
+          | inr frontier ↦ inr (way_from a w frontier link)
         ]
       ]
 

@@ -1,6 +1,6 @@
 -- Lists of numbers that a search gathers.
-use Rattle.std.proofs.Common.{◌≡◌, ◌↔◌, ℕ, ◌+◌, ◌<◌, ◌⊎◌, inl, inr, Bool, IsTrue, List, [], ◌∷◌, ◌++◌, length, take, get_or}
-use Rattle.std.proofs.Common.{refl, sym, ap, ◌∙◌, subst, Contains, Ordering}
+use Rattle.std.proofs.Common.{◌≡◌, ◌↔◌, ℕ, ◌+◌, ◌<◌, ◌⊎◌, inl, inr, Bool, IsTrue, List, [], ◌∷◌, ◌++◌, length}
+use Rattle.std.proofs.Common.{take, get_or, refl, sym, ap, ◌∙◌, subst, Contains, Ordering}
 use Rattle.std.specs.Ordering.{is_lt, is_eq, eq_by_cmp}
 use Rattle.std.specs.Cmp.{IsTotalOrder, Equal-is}
 use Rattle.std.specs.FinMap.{IsAntisymmetric}
@@ -98,12 +98,12 @@ module _ {T : Type 0} where
 
   -- ---- what a round finds, without what had been seen
 
-  module _ (found numbers all fresh : List T) (exactly : (x : T) → Contains numbers x ↔ Contains found x)
-      (is : IsRest numbers all fresh) where
-    pub taken_sound : (x : T) → Contains fresh x → Contains found x
+  module _ (found numbers all frontier : List T) (exactly : (x : T) → Contains numbers x ↔ Contains found x)
+      (is : IsRest numbers all frontier) where
+    pub taken_sound : (x : T) → Contains frontier x → Contains found x
     taken_sound x has = (exactly x).0 (is.sound x has)
 
-    pub taken_complete : (x : T) → Contains found x → Contains fresh x ⊎ Contains all x
+    pub taken_complete : (x : T) → Contains found x → Contains frontier x ⊎ Contains all x
     taken_complete x has = is.complete x ((exactly x).1 has)
 
   -- what was put behind a list, and then sorted

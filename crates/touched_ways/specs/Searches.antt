@@ -50,17 +50,18 @@ IsWay (RelationKey r) = ⊥
 abbrev pub IsWayLink : Objects → Key → Key → Type 0
 IsWayLink M a b = IsLink M a b × IsWay b
 
--- all that these nodes are linked to was found
+-- all that these hubs are linked to was found
 abbrev pub AreFollowed : (Key → Key → Type 0) → BTreeSet NodeId → Found → Type 0
-AreFollowed Link hubs f = (n : NodeId) → IsTrue (contains node_cmp hubs n) → (k : Key) → Link (NodeKey n) k → IsFound f k
+AreFollowed Link hubs f =
+    (n : NodeId) → IsTrue (contains node_cmp hubs n) → (k : Key) → Link (NodeKey n) k → IsFound f k
 
 -- ---- what the search keeps
 
--- the key is to be followed next: it was found in the last round, and if it is no node's, was new then
-abbrev pub IsFresh : Search → Key → Type 0
-IsFresh s (NodeKey n) = Contains s.nodes.items n
-IsFresh s (WayKey w) = Contains s.ways.fresh.items w
-IsFresh s (RelationKey r) = Contains s.rules.fresh.items r
+-- the key's links are followed next: it was found in the last round, and if it is no node's, was new then
+abbrev pub IsFrontier : Search → Key → Type 0
+IsFrontier s (NodeKey n) = Contains s.nodes.items n
+IsFrontier s (WayKey w) = Contains s.ways.frontier.items w
+IsFrontier s (RelationKey r) = Contains s.rules.frontier.items r
 
 -- the key is that of a way or restriction that was seen
 abbrev pub IsSeen : Search → Key → Type 0
@@ -68,24 +69,24 @@ IsSeen s (NodeKey n) = ⊥
 IsSeen s (WayKey w) = Contains s.ways.all.items w
 IsSeen s (RelationKey r) = Contains s.rules.all.items r
 
--- t is s when the keys of which the fact holds were taken in: each of them is fresh, or had been seen
+-- t is s when the keys of which the fact holds were taken in: each of them is on the frontier, or had been seen
 pub record IsNext (s t : Search) (Is : Key → Type 0) : Type 0 where
-  pub sound : (k : Key) → IsFresh t k → Is k
-  pub complete : (k : Key) → Is k → IsFresh t k ⊎ IsSeen s k
-  pub seen : (k : Key) → IsSeen t k → IsSeen s k ⊎ IsFresh t k
-  pub ways : (w : WayId) → IsSeen s (WayKey w) ⊎ IsFresh t (WayKey w) → IsSeen t (WayKey w)
+  pub sound : (k : Key) → IsFrontier t k → Is k
+  pub complete : (k : Key) → Is k → IsFrontier t k ⊎ IsSeen s k
+  pub seen : (k : Key) → IsSeen t k → IsSeen s k ⊎ IsFrontier t k
+  pub ways : (w : WayId) → IsSeen s (WayKey w) ⊎ IsFrontier t (WayKey w) → IsSeen t (WayKey w)
 
--- something that is to be followed is linked to the key
+-- something on the frontier is linked to the key
 abbrev pub IsFurther : Objects → Search → Key → Type 0
-IsFurther M s k = (a : Key) × IsFresh s a × IsLink M a k
+IsFurther M s k = (a : Key) × IsFrontier s a × IsLink M a k
 
 -- the key is within n links of one of the keys
 abbrev pub IsWithinAny : Objects → List Key → ℕ → Key → Type 0
 IsWithinAny M keys n k = (c : Key) × Contains keys c × IsWithin M n c k
 
--- n rounds were made: the ways within n links of the keys were seen, and what is fresh leads to all that is further
+-- n rounds were made: the ways within n links of the keys were seen, and all that is further is linked to the frontier
 pub record IsRound (M : Objects) (keys : List Key) (n : ℕ) (s : Search) : Type 0 where
-  pub fresh : (k : Key) → IsFresh s k → IsWithinAny M keys n k
+  pub frontier : (k : Key) → IsFrontier s k → IsWithinAny M keys n k
   pub seen : (k : Key) → IsSeen s k → IsWithinAny M keys n k
   pub ways : (w : WayId) → IsWithinAny M keys n (WayKey w) → IsSeen s (WayKey w)
-  pub followed : (a b : Key) → IsWithinAny M keys n a → IsLink M a b → IsWithinAny M keys n b ⊎ IsFresh s a
+  pub followed : (a b : Key) → IsWithinAny M keys n a → IsLink M a b → IsWithinAny M keys n b ⊎ IsFrontier s a

@@ -1,4 +1,4 @@
-//! Nodes with many links, which are followed once in a round.
+//! Hubs: nodes with many links, which are followed once in a round.
 ghost use Rattle.std.specs.Prelude.{◌≡◌, OnOk};
 ghost use Rattle.road_base.specs.declared.ids.Key.TheVariants.{Node as NodeKey};
 ghost use Rattle.road_model.specs.Links.{IsLink};
@@ -11,7 +11,7 @@ use road_model::World;
 use road_model::laws::number_order;
 use std::collections::BTreeSet;
 
-/// Finds what is linked to the node, unless it is a hub, all of whose links were followed in this round.
+/// Finds what is linked to the node, unless it is one of the hubs, all of whose links were followed in this round.
 pub fn follow_node_once<M: World>(
     world: &M,
     node: NodeId,
@@ -33,7 +33,7 @@ pub fn follow_node_once<M: World>(
     Ok(())
 }
 
-/// Finds the ways that are linked to the node, unless it is a hub whose ways were found in this round.
+/// Finds the ways that are linked to the node, unless it is one of the hubs, whose ways were found in this round.
 pub fn find_ways_once<M: World>(
     world: &M,
     node: NodeId,

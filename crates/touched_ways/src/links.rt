@@ -11,10 +11,10 @@ use crate::found::Found;
 use road_base::{Member, NoMemory, NodeId, RelationId, Tags, WayId};
 use road_model::World;
 
-/// How many links of a node may be followed again at no loss.
+/// A node to which more ways or more restrictions are linked is a hub.
 const FEW: usize = 8;
 
-/// Finds what is linked to the node, and tells whether that is much.
+/// Finds what is linked to the node, and tells whether it is a hub.
 pub fn follow_node<M: World>(world: &M, node: NodeId, found: &mut Found) -> Result<bool, NoMemory>
     ensures { OnOk result (Finds found.old found.new (IsLink (M.objects world.now) (NodeKey node))) }
 {
@@ -40,7 +40,7 @@ pub fn follow_rule<M: World>(world: &M, rule: RelationId, found: &mut Found) -> 
     found.add_members(members_of(world, rule))
 }
 
-/// Finds the ways that are linked to the node, and tells whether they are many.
+/// Finds the ways that are linked to the node, and tells whether it is a hub by them.
 pub fn find_ways_of_node<M: World>(
     world: &M,
     node: NodeId,

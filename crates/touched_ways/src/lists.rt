@@ -76,13 +76,13 @@ pub fn without<T: Ord + Copy>(list: Vec<T>, gone: &[T]) -> Result<Vec<T>, NoMemo
     )
 }
 
-/// The same, in the place that is made for it.
-fn rest_of<T: Ord + Copy>(list: &[T], gone: &[T], place: Vec<T>) -> Result<Vec<T>, NoMemory>
+/// The same, put into an empty list.
+fn rest_of<T: Ord + Copy>(list: &[T], gone: &[T], empty: Vec<T>) -> Result<Vec<T>, NoMemory>
     requires exact { IsAntisymmetric T.cmp }
-    requires empty { place.items ≡ [] }
+    requires empty { empty.items ≡ [] }
     ensures { IfOk result (λ rest. IsRest list.now gone.now rest.items) }
 {
-    let mut rest = place;
+    let mut rest = empty;
     let mut at = 0;
     for number in list {
         at = first_from(gone, at, *number);

@@ -48,8 +48,8 @@ fn next_round<M: World>(alloc: Global, world: &M, search: &mut Search) -> Result
 {
     let mut found = Found::new(alloc)?;
     follow_nodes(alloc, world, search.nodes.as_slice(), &mut found)?;
-    follow_ways(world, search.ways.fresh.as_slice(), &mut found)?;
-    follow_rules(world, search.rules.fresh.as_slice(), &mut found)?;
+    follow_ways(world, search.ways.frontier.as_slice(), &mut found)?;
+    follow_rules(world, search.rules.frontier.as_slice(), &mut found)?;
     search.take_in(found)
 }
 
@@ -60,7 +60,7 @@ fn last_round<M: World>(alloc: Global, world: &M, search: Search) -> Result<Ways
 {
     let mut found = Found::new(alloc)?;
     find_ways_of_nodes(alloc, world, search.nodes.as_slice(), &mut found)?;
-    find_ways_of_rules(world, search.rules.fresh.as_slice(), &mut found)?;
+    find_ways_of_rules(world, search.rules.frontier.as_slice(), &mut found)?;
     search.ways_with(found.ways.list.as_slice())
 }
 

@@ -2,7 +2,7 @@
 ghost use Rattle.std.specs.Prelude.{◌≡◌, ◌⊎◌, IfOk, OnOk, Contains};
 ghost use Rattle.road_base.specs.declared.ids.Key.{Key as KeyValue};
 ghost use Rattle.road_model.specs.Orders.{Lists, way_cmp};
-ghost use Rattle.touched_ways.specs.Searches.{IsFound, IsFresh, IsSeen, IsNext};
+ghost use Rattle.touched_ways.specs.Searches.{IsFound, IsFrontier, IsSeen, IsNext};
 
 use crate::found::Found;
 use crate::lists::leave_once;
@@ -11,9 +11,8 @@ use road_base::{NoMemory, NodeId, RelationId, WayId, Ways};
 use road_model::laws::{name_order, number_order};
 use std::alloc::Global;
 
-/// The ways and restrictions seen, and all that is to be followed next: the nodes that were found in the last round, in
-/// no order, and the ways and restrictions that were new in it. Nodes aren't kept: since no way or restriction is
-/// followed twice, few of them come again.
+/// The ways and restrictions seen, and the frontier: the nodes found in the last round, in no order, and the ways and
+/// restrictions that were new in it. Nodes aren't kept: since no way or restriction is followed twice, few come again.
 #[derive(Drop)]
 pub struct Search {
     pub nodes: Vec<NodeId>,
@@ -25,7 +24,7 @@ impl Search {
     /// Nothing was seen. Takes no memory.
     pub fn new(alloc: Global) -> Search
         ensures seen { (k : KeyValue) → IsSeen result k → ⊥ }
-        ensures fresh { (k : KeyValue) → IsFresh result k → ⊥ }
+        ensures frontier { (k : KeyValue) → IsFrontier result k → ⊥ }
     {
         Search {
             nodes: Vec::new(alloc),

@@ -6,39 +6,39 @@ use crate::lists::{add_sorted, leave_once, without};
 use road_base::NoMemory;
 use std::alloc::Global;
 
-/// The numbers seen, and those among them that were new in the last round. Both ascend.
+/// The numbers seen, and the frontier: those among them that were new in the last round. Both ascend.
 #[derive(Drop)]
 pub struct Seen<T: Ord + Copy> {
     pub all: Vec<T>,
-    pub fresh: Vec<T>,
+    pub frontier: Vec<T>,
 }
 
 impl<T: Ord + Copy> Seen<T> {
     /// Takes no memory.
     pub fn new(alloc: Global) -> Seen<T>
         ensures all { result.all.items ≡ [] }
-        ensures fresh { result.fresh.items ≡ [] }
+        ensures frontier { result.frontier.items ≡ [] }
     {
         Seen {
             all: Vec::new(alloc),
-            fresh: Vec::new(alloc),
+            frontier: Vec::new(alloc),
         }
     }
 
     /// Takes in what a round found.
     pub fn take_in(&mut self, found: Vec<T>) -> Result<(), NoMemory>
         requires { IsAntisymmetric T.cmp }
-        ensures sound { OnOk result ((x : T) → Contains self.new.fresh.items x → Contains found.items x) }
+        ensures sound { OnOk result ((x : T) → Contains self.new.frontier.items x → Contains found.items x) }
         ensures complete { OnOk result ((x : T) → Contains found.items x
-            → Contains self.new.fresh.items x ⊎ Contains self.old.all.items x) }
+            → Contains self.new.frontier.items x ⊎ Contains self.old.all.items x) }
         ensures all { OnOk result ((x : T) → Contains self.new.all.items x
-            ↔ (Contains self.old.all.items x ⊎ Contains self.new.fresh.items x)) }
+            ↔ (Contains self.old.all.items x ⊎ Contains self.new.frontier.items x)) }
     {
         let mut numbers = found;
         leave_once(&mut numbers);
-        let fresh = without(numbers, self.all.as_slice())?;
-        add_sorted(&mut self.all, fresh.as_slice())?;
-        self.fresh = fresh;
+        let frontier = without(numbers, self.all.as_slice())?;
+        add_sorted(&mut self.all, frontier.as_slice())?;
+        self.frontier = frontier;
         Ok(())
     }
 }

@@ -15,5 +15,5 @@ returns-in_ok-insert-clause-followed g c =
     let Link = IsWayLink (g.M.World.objects c.args.world.now) in
     followed_more Link c.args.hubs.now c.insert.new.self c.find_ways_of_node.new.found c.args.node
     c.number_order.ensures.node_ties c.in_ok-insert.ensures.updates
-    (followed_still Link c.args.hubs.now c.args.found.now c.find_ways_of_node.new.found _ c.in_ok-is_hub.ensures c.requires)
-    c.in_ok-is_hub.ensures.complete
+    (followed_still Link c.args.hubs.now c.args.found.now c.find_ways_of_node.new.found _ c.in_ok-is_hub.ensures
+    c.requires) c.in_ok-is_hub.ensures.complete

@@ -8,8 +8,8 @@ loop-number-init g c = added_none c.args.list.now.items
 pub loop-number-preserved : goal.loop-number-preserved
 loop-number-preserved g c =
     added_more c.args.list.now.items c.loop-number.list.items c.add.new.list.items c.args.numbers.now
-    c.loop-number.number-index c.number-item.result c.number-item.result c.loop-number-test.true c.number-item.is c.loop-number.invariant
-    c.in_ok-add.ensures
+    c.loop-number.number-index c.number-item.result c.number-item.result c.loop-number-test.true
+    c.number-item.is c.loop-number.invariant c.in_ok-add.ensures
 
 pub returns : goal.returns
 returns g c =

@@ -10,4 +10,5 @@ returns c =
     let f = c.args.self.now in
     let g : Found = record f { nodes = c.add.new.list } in
     on_ok_weaker c.add.result
-    (λ added. finds_one NodeKey c.args.node f g (found_nodes f g (λ x. x ≡ c.args.node) added refl refl)) c.add.ensures
+    (λ added. finds_one NodeKey c.args.node f g (found_nodes f g (λ x. x ≡ c.args.node) added refl refl))
+    c.add.ensures

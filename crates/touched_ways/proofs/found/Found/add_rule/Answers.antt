@@ -10,4 +10,5 @@ returns c =
     let f = c.args.self.now in
     let g : Found = record f { rules = c.add.new.list } in
     on_ok_weaker c.add.result
-    (λ added. finds_one RelationKey c.args.rule f g (found_rules f g (λ x. x ≡ c.args.rule) added refl refl)) c.add.ensures
+    (λ added. finds_one RelationKey c.args.rule f g (found_rules f g (λ x. x ≡ c.args.rule) added refl refl))
+    c.add.ensures

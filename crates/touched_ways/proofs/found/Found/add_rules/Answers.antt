@@ -8,4 +8,5 @@ pub returns : goal.returns
 returns c =
     let f = c.args.self.now in
     let g : Found = record f { rules = c.add_each.new.list } in
-    on_ok_weaker c.add_each.result (λ added. found_rules f g (Contains c.args.rules.now) added refl refl) c.add_each.ensures
+    on_ok_weaker c.add_each.result
+    (λ added. found_rules f g (Contains c.args.rules.now) added refl refl) c.add_each.ensures

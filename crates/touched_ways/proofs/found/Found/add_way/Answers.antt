@@ -10,4 +10,5 @@ returns c =
     let f = c.args.self.now in
     let g : Found = record f { ways = c.add.new.self } in
     on_ok_weaker c.add.result
-    (λ added. finds_one WayKey c.args.way f g (found_ways f g (λ x. x ≡ c.args.way) added refl refl)) c.add.ensures
+    (λ added. finds_one WayKey c.args.way f g (found_ways f g (λ x. x ≡ c.args.way) added refl refl))
+    c.add.ensures

@@ -8,4 +8,5 @@ pub returns : goal.returns
 returns c =
     let f = c.args.self.now in
     let g : Found = record f { ways = c.add_each.new.self } in
-    on_ok_weaker c.add_each.result (λ added. found_ways f g (Contains c.args.ways.now) added refl refl) c.add_each.ensures
+    on_ok_weaker c.add_each.result
+    (λ added. found_ways f g (Contains c.args.ways.now) added refl refl) c.add_each.ensures

@@ -10,14 +10,14 @@ returns c =
     let w = c.take_in.new.self in
     let r = c.take_in-2.new.self in
     let t : Search = record { nodes = f.nodes; ways = w; rules = r } in
-    let ways : Taken s.ways.all.items f.ways.list.items w.fresh.items w.all.items =
+    let ways : Taken s.ways.all.items f.ways.list.items w.frontier.items w.all.items =
     record {
       sound = c.in_ok-take_in.ensures.sound;
       complete = c.in_ok-take_in.ensures.complete;
       adds = c.in_ok-take_in.ensures.all;
     }
     in
-    let rules : Taken s.rules.all.items f.rules.items r.fresh.items r.all.items =
+    let rules : Taken s.rules.all.items f.rules.items r.frontier.items r.all.items =
     record {
       sound = c.in_ok-take_in-2.ensures.sound;
       complete = c.in_ok-take_in-2.ensures.complete;
