@@ -1,5 +1,5 @@
 -- What was built while a session goes on, and where it doesn't.
-use Rattle.std.proofs.Common.{◌≡◌, inl, inr, ⊎_elim, ℕ, ◌+◌, ◌≤◌, List, [], ◌++◌, length, Result, Ok, Err}
+use Rattle.std.proofs.Common.{◌≡◌, inl, inr, ⊎_elim, ℕ, ◌+◌, List, [], ◌++◌, length, Result, Ok, Err}
 use Rattle.std.proofs.Common.{refl, sym, ◌∙◌, ap, subst, append_assoc, length-append, arith}
 use Rattle.std.proofs.lemmas.List.{append-nil}
 use Rattle.road_base.specs.Objects.{Objects}
@@ -10,12 +10,11 @@ use Rattle.session_input.specs.declared.received.Received.{Received}
 use Rattle.session_input.specs.declared.received.Ending.TheVariants.{Last}
 use Rattle.session_input.specs.Messages.{Message}
 use Rattle.session_input.specs.Holding.{Holds}
-use Rattle.session_input.specs.Reading.{Means, Receives, IsEnding}
+use Rattle.session_input.specs.Reading.{Receives, IsEnding}
 use Rattle.session.specs.declared.stop.Stop.{Stop}
 use Rattle.session.specs.Conversation.{Kept}
-use Rattle.session.specs.Building.{Touched, Go, BuildsFew}
+use Rattle.session.specs.Building.{Go, BuildsFew}
 use Rattle.session.specs.BuildingOn.{MessageBuilds, IsBuiltFor, AnswerBuilds, BuildsOn}
-use Rattle.session.specs.Answering.{IsKept}
 
 -- one that was answered, too
 pub message_builds : (from : Kept) (message : Message) (world : Objects) (journal : Journal)
@@ -65,7 +64,7 @@ module _ (opening : Kept) (read : List ℕ) (input : Input) (world : Objects) (j
       (receives : (before : ℕ) (bytes : List ℕ) → Holds before bytes input
       → Receives before received (bytes ++ taken) × Holds (before + length (bytes ++ taken)) [] next)
       (after : Objects) (new : Journal) (now : ℕ) where
-    got : Receives (length b.front) received (b.pending ++ taken)
+    abbrev pub got : Receives (length b.front) received (b.pending ++ taken)
     got = (receives (length b.front) b.pending b.holds).0
 
     together : (more : List ℕ)

@@ -83,8 +83,8 @@ fn follow<P: Profile, S: Source, W: Site, L: Ledger>(
 
 /// Answers the messages on the source until it ends, over the store that was loaded, and keeps each accepted change in
 /// it. It puts each reply by itself, the bytes of a graph behind their line, and what it says last: `refused unfinished
-/// N`, or `limit`. The first read or call on the site that fails ends it. It builds no more blocks than there are visible
-/// ways with the key `highway` when it begins, and for each accepted frame the ways that it touches.
+/// N`, or `limit`. The first read or call on the site that fails ends it. It builds no more blocks than there are
+/// visible ways with the key `highway` when it begins, and for each accepted frame the ways that it touches.
 pub fn converse<P: Profile, S: Source, W: Site, L: Ledger>(
     alloc: Global,
     profile: P,

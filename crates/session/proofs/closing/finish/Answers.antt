@@ -1,4 +1,4 @@
-use Rattle.std.proofs.Common.{◌++◌, ◌∷◌, ℕ, List, [], Ok, Err, length, subst, ◌∙◌}
+use Rattle.std.proofs.Common.{◌++◌, ◌∷◌, [], Ok, Err, length, subst, ◌∙◌}
 use Rattle.opl_lexer.specs.Letters.{newline}
 use Rattle.session_input.specs.declared.received.Ending.{Ending}
 use Rattle.session_input.specs.Reading.{IsEnding}
@@ -115,6 +115,7 @@ returns-clause-builds g c =
     let ended = c.in-Ok-Last in
     let after = c.answer.new.self in
     last_building c.args.input talk.engine.world talk.journal c.args.steps.now (g.W.Site.outside c.args.site.now)
-    ended.received after.engine.world after.journal c.answer.new.steps (g.W.Site.outside c.answer.new.site) (Err c.in-Err-answer.stop)
+    ended.received after.engine.world after.journal c.answer.new.steps (g.W.Site.outside c.answer.new.site)
+    (Err c.in-Err-answer.stop)
     (λ before bytes holds. subst (λ (e : Ending). IsEnding bytes e) ended.field-0-is (ended.ensures.ended before bytes
     holds)) c.in-Err-answer.ensures.builds

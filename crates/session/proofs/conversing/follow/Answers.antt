@@ -94,9 +94,9 @@ returns-in_default-read-clause-builds g c = λ bytes behind w opening first was 
     let now = told_at (g.W.Site.outside c.args.site.now) (g.W.Site.outside c.loop-n.site) _ w i.builds tells in (
       i.read,
       read_of i.read bytes behind held after (took_still i.read c.deref_mut.result.now c.read.new.buf failed.field-0
-      held left after i.took failed.ensures.told) was is,
+          held left after i.took failed.ensures.told) was is,
       builds_all opening i.read c.loop-n.input talk.engine.world talk.journal first c.loop-n.steps now.0
-      (now.2 opening first b),
+          (now.2 opening first b),
     )
 
 -- ---- all was read
@@ -291,9 +291,9 @@ returns-in-Err-clause-builds g c = λ bytes behind w opening first was is tells 
     let now = told_at (g.W.Site.outside c.args.site.now) here _ w i.builds tells in (
       i.read ++ part,
       read_of (i.read ++ part) bytes behind held after
-      (subst (λ (l : List ℕ). Took (i.read ++ l) held after) (sym taken)
-      (took_more i.read c.deref_mut.result.now c.read.new.buf n held left after i.took c.in-Ok-read.ensures.told))
-      was is,
+          (subst (λ (l : List ℕ). Took (i.read ++ l) held after) (sym taken)
+          (took_more i.read c.deref_mut.result.now c.read.new.buf n held left after i.took c.in-Ok-read.ensures.told))
+          was is,
       at_some here now.0 _ now.1 c.in-Err.ensures.few opening i.read first (now.2 opening first b),
     )
 

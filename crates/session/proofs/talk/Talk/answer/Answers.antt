@@ -6,9 +6,9 @@ pub returns-in-Line-clause-told : goal.returns-in-Line-clause-told
 returns-in-Line-clause-told g c =
     let self = c.args.self.now in
     rw c.answer_line.ensures.same
-    (told_line (g.P.Profile.rules self.engine.profile) c.in-Line.asked c.args.received.now self.engine.world self.journal
-    c.answer_line.result (g.W.Site.outside c.args.site.now) (g.W.Site.outside c.answer_line.new.site) c.in-Line.is
-    c.answer_line.ensures.told)
+    (told_line (g.P.Profile.rules self.engine.profile) c.in-Line.asked c.args.received.now self.engine.world
+    self.journal c.answer_line.result (g.W.Site.outside c.args.site.now) (g.W.Site.outside c.answer_line.new.site)
+    c.in-Line.is c.answer_line.ensures.told)
 
 pub returns-in-Frame-clause-told : goal.returns-in-Frame-clause-told
 returns-in-Frame-clause-told g c =

@@ -1,14 +1,13 @@
-use Rattle.std.proofs.Common.{ℕ, List, subst}
-use Rattle.session_input.specs.declared.received.Change.{Change}
-use Rattle.session_input.specs.Messages.{Frame}
-use Rattle.session_input.specs.Reading.{IsChange}
+use Rattle.std.proofs.Common.{◌≡◌, ℕ, List, Some, subst}
 use Rattle.opl_lexer.specs.declared.mode.Mode.TheVariants.{Change as ChangeMode}
 use Rattle.opl_lexer.specs.Reading.{input_fault}
 use Rattle.opl_objects.specs.StreamLines.{fault_at}
-use Rattle.std.proofs.Common.{◌≡◌, Some}
+use Rattle.session_input.specs.declared.received.Change.{Change}
+use Rattle.session_input.specs.Messages.{Frame}
+use Rattle.session_input.specs.Reading.{IsChange}
 use Rattle.session.specs.Conversation.{Kept}
-use Rattle.session.specs.Answering.{IsKept}
 use Rattle.session.specs.BuildingOn.{TouchesNone}
+use Rattle.session.specs.Answering.{IsKept}
 use Rattle.session.proofs.BuiltAnswers.{frame_none}
 use Rattle.session.proofs.talk.Talk.answer_frame.Goals as goal
 

@@ -21,4 +21,5 @@ returns-clause-builds g c =
 pub returns-in_default-clause-builds : goal.returns-in_default-clause-builds
 returns-in_default-clause-builds g c =
     let self = c.args.self.now in
-    fault_still self.engine.world self.journal (g.W.Site.outside c.args.site.now) c.args.number (fault_at c.args.fault.now) c.requires
+    fault_still self.engine.world self.journal (g.W.Site.outside c.args.site.now) c.args.number
+    (fault_at c.args.fault.now) c.requires
