@@ -1,7 +1,6 @@
 //! One more change at the end of a journal's file.
-ghost use Rattle.std.specs.Prelude.{◌≡◌, ◌↔◌, ◌+◌, ◌<◌, ◌≤◌, ◌^◌, ◌++◌, ◌∷◌, [], List, false, true, IfSome, IfOk, OnOk, IsTrue, length};
-ghost use Rattle.road_base.specs.Bytes.{u64_bytes};
-ghost use Rattle.object_codec.specs.Spelling.{events_bytes, AreEvents};
+ghost use Rattle.std.specs.Prelude.{◌≡◌, ◌↔◌, ◌+◌, ◌<◌, ◌≤◌, ◌^◌, false, true, IfSome, IfOk, IsTrue, length};
+ghost use Rattle.object_codec.specs.Spelling.{events_bytes};
 ghost use Rattle.road_io.specs.Told.{Told};
 ghost use Rattle.sequence_journal.specs.Journal.{IsReady};
 ghost use Rattle.sequence_journal.specs.Adding.{Adds, AddAnswer};

@@ -6,3 +6,4 @@ pub mod StoreLaws
 pub mod Answering
 pub mod Following
 pub mod Building
+pub mod BuildingOn
