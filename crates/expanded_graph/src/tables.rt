@@ -8,11 +8,10 @@ ghost use Rattle.expanded_graph.specs.Intersections.{AreIntersections};
 use crate::endings::{Ending, endings_of};
 use crate::intersections::Intersections;
 use crate::states::States;
-use road_base::{Dir, NoMemory, NodeId, Ranges, WayId};
+use road_base::{NoMemory, Ranges, WayId};
 use road_model::{Network, Profile, World};
 use std::alloc::Global;
-use way_lines::nodes_of;
-use way_pieces::{PieceSpan, RoadPieces};
+use way_pieces::RoadPieces;
 
 /// What the blocks of ways are built from: ways cut into pieces, the nodes where these end, the automaton of the words
 /// near the ways, and the states in which contexts may end. Nothing is added while blocks are built: a way that isn't
@@ -28,8 +27,8 @@ pub struct Tables {
 }
 
 impl Tables {
-    /// For blocks of these ways. They and all ways that meet them are cut into pieces, each of them once, and the nodes
-    /// where their own pieces end are asked what leaves them.
+    /// For blocks of these ways. They and all ways that meet them are cut into pieces, each of them once and its line
+    /// kept, and the nodes where their own pieces end are asked what leaves them.
     pub fn of<M: World, P: Profile>(
         alloc: Global,
         network: &Network<'_, M, P>,
@@ -39,8 +38,8 @@ impl Tables {
         ensures ways { IfOk result (λ t. t.ways.items ≡ ways.now) }
     {
         let met = ways_met(alloc, network, ways)?;
-        let pieces = RoadPieces::of(alloc, network, met.as_slice())?;
-        let ends = ends_on(alloc, network, &pieces, ways)?;
+        let pieces = RoadPieces::with_lines(alloc, network, met.as_slice())?;
+        let ends = pieces.ends_on(alloc, ways)?;
         let intersections = Intersections::of(alloc, network, &pieces, ends.as_slice())?;
         Tables::over(alloc, network, ways, pieces, intersections)
     }
@@ -127,49 +126,4 @@ fn add_met<M: World, P: Profile>(
         met.extend_from_slice(network.world.ways_at(*node))?;
     }
     Ok(())
-}
-
-/// The nodes where the pieces of these ways end, as far as the ways are found among those that were cut; in no order,
-/// some more than once.
-fn ends_on<M: World, P: Profile>(
-    alloc: Global,
-    network: &Network<'_, M, P>,
-    pieces: &RoadPieces,
-    ways: &[WayId],
-) -> Result<Vec<NodeId>, NoMemory> {
-    let mut ends = Vec::new(alloc);
-    for way in ways {
-        if let Some(spans) = pieces.spans_of(*way) {
-            add_ends(alloc, &mut ends, network, *way, spans)?;
-        }
-    }
-    Ok(ends)
-}
-
-/// Adds the nodes where these pieces of the way end. None of them is looked up.
-fn add_ends<M: World, P: Profile>(
-    alloc: Global,
-    ends: &mut Vec<NodeId>,
-    network: &Network<'_, M, P>,
-    way: WayId,
-    spans: &[PieceSpan],
-) -> Result<(), NoMemory> {
-    let Some(body) = network.world.way(way) else {
-        return Ok(());
-    };
-    let nodes = nodes_of(alloc, body)?;
-    for span in spans {
-        if let Some(node) = nodes.get(end_of(*span) as usize) {
-            ends.push(*node)?;
-        }
-    }
-    Ok(())
-}
-
-/// The position of the way's line where the piece ends.
-fn end_of(span: PieceSpan) -> u32 {
-    match span.name.dir {
-        Dir::Forward => span.end,
-        Dir::Backward => span.name.index,
-    }
 }
