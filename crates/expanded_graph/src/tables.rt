@@ -27,8 +27,8 @@ pub struct Tables {
 }
 
 impl Tables {
-    /// For blocks of these ways. They and all ways that meet them are cut into pieces, and the nodes where their own
-    /// pieces end are asked what leaves them.
+    /// For blocks of these ways. They and all ways that meet them are cut into pieces, each of them once and its line
+    /// kept, and the nodes where their own pieces end are asked what leaves them.
     pub fn of<M: World, P: Profile>(
         alloc: Global,
         network: &Network<'_, M, P>,
@@ -37,10 +37,10 @@ impl Tables {
         ensures are { IfOk result (on network.now AreTables) }
         ensures ways { IfOk result (λ t. t.ways.items ≡ ways.now) }
     {
-        let own = RoadPieces::of(alloc, network, ways)?;
         let met = ways_met(alloc, network, ways)?;
-        let pieces = RoadPieces::of(alloc, network, met.as_slice())?;
-        let intersections = Intersections::of(alloc, network, &pieces, own.ends())?;
+        let pieces = RoadPieces::with_lines(alloc, network, met.as_slice())?;
+        let ends = pieces.ends_on(alloc, ways)?;
+        let intersections = Intersections::of(alloc, network, &pieces, ends.as_slice())?;
         Tables::over(alloc, network, ways, pieces, intersections)
     }
 
