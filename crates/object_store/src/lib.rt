@@ -17,6 +17,7 @@
 
 mod base;
 mod changes;
+mod filter;
 mod fresh;
 mod key_ranges;
 mod kinds;
@@ -26,6 +27,7 @@ mod standing;
 mod tree;
 
 pub use base::Base;
+pub use filter::Slotted;
 pub use fresh::Fresh;
 pub use objects::Objects;
 pub use shared_map::SharedMap;
