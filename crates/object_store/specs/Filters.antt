@@ -1,5 +1,5 @@
--- Marks at slots, by which keys are told that a map doesn't have.
-use Rattle.std.specs.Prelude.{◌≡◌, ℕ, ℤ, ◌%◌, List, [], Bool, false, Option, Some, None, IsTrue, is_some, slice_index_or}
+-- Marks at the slots of numbers, by which a map tells most keys that it doesn't have.
+use Rattle.std.specs.Prelude.{ℕ, ℤ, ◌%◌, List, [], Bool, false, Option, Some, None, IsTrue, is_some, slice_index_or}
 use Rattle.std.specs.Int.{w64, cast_unsigned}
 use Rattle.std.specs.FinMap.{find}
 use Rattle.std.specs.declared.cmp.Ordering.{Ordering}

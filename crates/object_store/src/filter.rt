@@ -1,4 +1,6 @@
-//! Marks by which most keys that a map doesn't have are told without a search (B. H. Bloom, 1970, with one slot a key).
+//! Filters: marks at the numbers of a map's keys, by which it tells most keys that it doesn't have without a search.
+//!
+//! A filter is that of B. H. Bloom (1970), with one slot for each number.
 ghost use Rattle.std.specs.Prelude.{◌≡◌, ◌↔◌, ◌<◌, ℤ, IfOk, IsTrue};
 ghost use Rattle.std.specs.declared.cmp.Ordering.TheVariants.{Equal};
 ghost use Rattle.object_store.specs.Filters.{slot_of, slots_in, IsMarked};

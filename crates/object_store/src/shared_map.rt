@@ -2,16 +2,16 @@
 ghost use Rattle.std.specs.Prelude.{◌≡◌, ◌↔◌, [], IfOk, IsTrue, is_some, map, option_copied};
 ghost use Rattle.std.specs.FinMap.{find, put};
 
-use crate::filter::{is_marked, marked, shared, Filter, Slotted};
+use crate::filter::{Filter, Slotted, is_marked, marked, shared};
 use crate::tree::{Tree, add_values, with_entry};
 use road_base::NoMemory;
 use std::alloc::Global;
 use std::marker::Model;
 use std::rc::Rc;
 
-/// A map from keys to values. It never changes: what puts an entry makes another map beside it, in the time and the
-/// memory of the logarithm of its length, and shares all else with it. Of a filter of 64 KiB, by which most keys that
-/// the map doesn't have are told, a map that is shared makes a copy of its own at the first entry that is put.
+/// A map from keys to values. It never changes: what puts an entry makes another map in its place, in the time and the
+/// memory of the logarithm of its length, and shares all else with those that share it. A filter of 64 KiB, by which it
+/// tells most keys that it doesn't have, is copied at the first entry that is put into a map that was shared.
 #[derive(Drop)]
 pub struct SharedMap<K: Ord + Copy + Slotted, V: Drop> {
     root: Tree<K, V>,
