@@ -1,1 +1,3 @@
 pub mod BuiltBlocks
+pub mod ListedPuts
+pub mod ListedBlocks
