@@ -91,6 +91,7 @@ pub fn rebuild<M: World, P: Profile, L: Ledger>(
     ensures each { OnOk result (steps.new ≡ steps.old + length ways.now) }
     ensures few { steps.new ≤ steps.old + length ways.now }
 {
+    name_order();
     let builder = GraphBuilder::of(alloc, world, profile, ways)?;
     let mut next = rebuilt.share()?;
     for way in ways {

@@ -1,9 +1,9 @@
 //! What follows changes.
-ghost use Rattle.std.specs.Prelude.{◌≡◌, ◌+◌, ◌≤◌, List, length, IfOk, OnOk, OnErr};
+ghost use Rattle.std.specs.Prelude.{◌≡◌, ◌+◌, ◌≤◌, [], List, length, IfOk, OnOk, OnErr};
 ghost use Rattle.std.specs.Borrow.{sem};
 ghost use Rattle.std.specs.Io.BufRead.{Rests};
 ghost use Rattle.std.specs.List.{AllByRecursion};
-ghost use Rattle.std.specs.FinMap.{empty, values};
+ghost use Rattle.std.specs.FinMap.{empty, get, values};
 ghost use Rattle.road_base.specs.declared.ids.WayId.{WayId as WayNumber};
 ghost use Rattle.road_base.specs.Objects.{Objects};
 ghost use Rattle.road_base.specs.Applying.{IsApplied};
@@ -14,6 +14,7 @@ ghost use Rattle.road_model.specs.Blocks.{IsRoadBlock};
 ghost use Rattle.road_model.specs.Format.{IsBlockForm};
 ghost use Rattle.road_model.specs.Orders.{Lists, way_cmp};
 ghost use Rattle.change_apply.specs.Engines.{BuildsTouched};
+ghost use Rattle.change_apply.specs.Rebuilding.{AreAtTheirWays, block_at};
 
 use crate::building::{build, rebuild};
 use crate::listing::list_rebuilt;
@@ -22,7 +23,7 @@ use back_references::{Indexed, Next};
 use object_store::SharedMap;
 use road_base::laws::one_map;
 use road_base::{Event, NoMemory, Steps, WayId};
-use road_model::laws::{blocks_stay, one_block};
+use road_model::laws::{blocks_stay, name_order, one_block};
 use road_model::{Block, Blocks, Profile};
 use std::alloc::Global;
 use std::marker::Model;
@@ -120,13 +121,21 @@ impl<P: Profile> Engine<P> {
         ensures built { BuildsTouched self.old.world events.now steps.old steps.new }
     {
         one_map();
+        name_order();
         one_block(&self.graph.profile);
         blocks_stay(&self.graph.profile);
         let prepared = self.graph.world.prepare(events)?;
         let touched = touched_by(self.alloc, &self.graph.world, &prepared)?;
         let next = Next::of(&self.graph.world, &prepared);
         let ways = touched.items();
-        let rebuilt = rebuild(self.alloc, &next, self.graph.profile, ways, &self.rebuilt, steps)?;
+        let rebuilt = rebuild(
+            self.alloc,
+            &next,
+            self.graph.profile,
+            ways,
+            &self.rebuilt,
+            steps,
+        )?;
         let count = ways.len() as u64;
         self.graph.world.commit(prepared);
         self.rebuilt = rebuilt;
@@ -162,11 +171,29 @@ impl<P: Profile> Engine<P> {
             (IsRoadBlock self.old.world (P.rules self.old.profile)) (values g.now.blocks.map)) }
         ensures forms { IfOk result (λ g. AllByRecursion IsBlockForm (values g.now.blocks.map)) }
     {
-        if !self.rebuilt.is_empty() {
-            list_rebuilt(self.alloc, &self.rebuilt, &mut self.graph.blocks)?;
-            self.rebuilt = SharedMap::new();
-        }
+        list_all(self.alloc, &mut self.rebuilt, &mut self.graph.blocks)?;
         let _items = self.graph.blocks.items();
         Ok(&self.graph)
     }
+}
+
+/// Lists the blocks that were built since among the others, so that none is left. Where no memory is found nothing
+/// changes.
+fn list_all(
+    alloc: Global,
+    rebuilt: &mut SharedMap<WayId, Block>,
+    blocks: &mut Blocks,
+) -> Result<(), NoMemory>
+    requires { AreAtTheirWays rebuilt.old }
+    ensures none { OnOk result (rebuilt.new ≡ []) }
+    ensures ok { OnOk result ((w : WayNumber) → get blocks.new.map w ≡ block_at rebuilt.old blocks.old.map w) }
+    ensures err { OnErr result (rebuilt.new ≡ rebuilt.old) }
+    ensures err_listed { OnErr result (blocks.new ≡ blocks.old) }
+{
+    if rebuilt.is_empty() {
+        return Ok(());
+    }
+    list_rebuilt(alloc, rebuilt, blocks)?;
+    *rebuilt = SharedMap::new();
+    Ok(())
 }
