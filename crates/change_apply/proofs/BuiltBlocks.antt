@@ -104,8 +104,8 @@ module _ (M : Objects) (P : Rules) where
         (by_test v b (eq_by_cmp way_cmp v block.way) refl)
 
 -- the block that is put has the form
-pub in_form : IsTotalOrder way_cmp → (block : Block) (m : FinMap way_cmp Block) → IsBlockForm block → AreInForm m
-    → AreInForm (insert m block.way block)
+pub in_form : IsTotalOrder way_cmp → (block : Block) (m : FinMap way_cmp Block) → IsBlockForm block → AreInForm (get m)
+    → AreInForm (get (insert m block.way block))
 in_form total block m form all w b got =
     at (eq_by_cmp way_cmp w block.way) (sym (get-insert total m block.way block w) ∙ got)
   where
@@ -113,13 +113,13 @@ in_form total block m form all w b got =
     at true e = let same : block ≡ b = cc in subst (λ x. IsBlockForm x) same form
     at false e = all w b e
 
-pub none_in_form : (m : FinMap way_cmp Block) → m ≡ empty → AreInForm m
+pub none_in_form : (m : FinMap way_cmp Block) → m ≡ empty → AreInForm (get m)
 none_in_form m bare w b got =
     let gone : None ≡ Some b = sym (ap (λ n. get n w) bare ∙ get-empty way_cmp w) ∙ got in cc
 
 -- the blocks of a list, which are all of the map
 all_in_form : (m : FinMap way_cmp Block) (bs : List Block)
-    → ((b : Block) → In b bs → get m b.way ≡ Some b) → AreInForm m → AllByRecursion IsBlockForm bs
+    → ((b : Block) → In b bs → get m b.way ≡ Some b) → AreInForm (get m) → AllByRecursion IsBlockForm bs
 all_in_form m [] each all = tt
 all_in_form m (b ∷ bs) each all = (all b.way b (each b (inl refl)), all_in_form m bs (λ x i. each x (inr i)) all)
 
@@ -128,7 +128,7 @@ values_of [] = refl
 values_of (b ∷ bs) = ap (λ l. b ∷ l) (values_of bs)
 
 pub listed_forms : (m : FinMap way_cmp Block) (bs : List Block) → entries m ≡ map entry_of bs
-    → ((b : Block) → Contains bs b ↔ (get m b.way ≡ Some b)) → AreInForm m → AllByRecursion IsBlockForm (values m)
+    → ((b : Block) → Contains bs b ↔ (get m b.way ≡ Some b)) → AreInForm (get m) → AllByRecursion IsBlockForm (values m)
 listed_forms m bs are each all =
     subst (λ l. AllByRecursion IsBlockForm l) (sym (ap (λ l. map (λ e. e.1) l) are ∙ values_of bs))
     (all_in_form m bs (λ b i. (each b).0 (contains_from_in bs b i)) all)

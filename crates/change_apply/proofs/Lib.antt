@@ -1,3 +1,4 @@
 pub mod BuiltBlocks
 pub mod ListedPuts
 pub mod ListedBlocks
+pub mod RebuiltBlocks

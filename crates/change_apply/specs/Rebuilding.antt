@@ -5,7 +5,6 @@ use Rattle.std.specs.FinMap.{FinMap, find, get}
 use Rattle.road_base.specs.declared.ids.WayId.{WayId}
 use Rattle.road_base.specs.Objects.{Objects}
 use Rattle.road_model.specs.declared.blocks.Block.{Block}
-use Rattle.road_model.specs.declared.lists.Piece.{Piece}
 use Rattle.road_model.specs.Rules.{Rules}
 use Rattle.road_model.specs.Orders.{way_cmp, rises}
 use Rattle.road_model.specs.Blocks.{IsBlock}

@@ -1,5 +1,5 @@
 //! The blocks of a world.
-ghost use Rattle.std.specs.Prelude.{◌≡◌, ◌+◌, ◌≤◌, ◌×◌, ◌++◌, ◌∷◌, [], List, Contains, length, IfOk, OnOk};
+ghost use Rattle.std.specs.Prelude.{◌≡◌, ◌+◌, ◌≤◌, ◌++◌, ◌∷◌, [], List, Contains, length, IfOk, OnOk};
 ghost use Rattle.std.specs.FinMap.{find, get};
 ghost use Rattle.road_base.specs.declared.ids.WayId.{WayId};
 ghost use Rattle.road_model.specs.Highways.{AreRoadWays, highways};
@@ -91,6 +91,7 @@ pub fn rebuild<M: World, P: Profile, L: Ledger>(
     ensures each { OnOk result (steps.new ≡ steps.old + length ways.now) }
     ensures few { steps.new ≤ steps.old + length ways.now }
 {
+    name_order();
     let builder = GraphBuilder::of(alloc, world, profile, ways)?;
     let mut next = rebuilt.share()?;
     for way in ways {

@@ -1,7 +1,9 @@
 //! What follows changes.
-ghost use Rattle.std.specs.Prelude.{◌≡◌, ◌+◌, ◌≤◌, List, length, IfOk, OnOk, OnErr};
+ghost use Rattle.std.specs.Prelude.{◌≡◌, ◌+◌, ◌≤◌, [], List, length, IfOk, OnOk, OnErr};
+ghost use Rattle.std.specs.Borrow.{sem};
+ghost use Rattle.std.specs.Io.BufRead.{Rests};
 ghost use Rattle.std.specs.List.{AllByRecursion};
-ghost use Rattle.std.specs.FinMap.{empty, values};
+ghost use Rattle.std.specs.FinMap.{empty, get, values};
 ghost use Rattle.road_base.specs.declared.ids.WayId.{WayId as WayNumber};
 ghost use Rattle.road_base.specs.Objects.{Objects};
 ghost use Rattle.road_base.specs.Applying.{IsApplied};
@@ -12,6 +14,7 @@ ghost use Rattle.road_model.specs.Blocks.{IsRoadBlock};
 ghost use Rattle.road_model.specs.Format.{IsBlockForm};
 ghost use Rattle.road_model.specs.Orders.{Lists, way_cmp};
 ghost use Rattle.change_apply.specs.Engines.{BuildsTouched};
+ghost use Rattle.change_apply.specs.Rebuilding.{AreAtTheirWays, block_at};
 
 use crate::building::{build, rebuild};
 use crate::listing::list_rebuilt;
@@ -20,7 +23,7 @@ use back_references::{Indexed, Next};
 use object_store::SharedMap;
 use road_base::laws::one_map;
 use road_base::{Event, NoMemory, Steps, WayId};
-use road_model::laws::{blocks_stay, one_block};
+use road_model::laws::{blocks_stay, name_order, one_block};
 use road_model::{Block, Blocks, Profile};
 use std::alloc::Global;
 use std::marker::Model;
@@ -35,25 +38,23 @@ pub struct Report {
     pub rebuilt: u64,
 }
 
+/// A world with blocks of its ways, for one profile.
+#[derive(Drop)]
+pub struct RoadGraph<P: Profile> {
+    pub profile: P,
+    pub world: Indexed,
+    pub blocks: Blocks,
+}
+
 /// A world with the blocks of all its ways with pieces.
 #[derive(Drop)]
 pub struct Engine<P: Profile> {
     alloc: Global,
-    profile: P,
-    world: Indexed,
-    /// The blocks as they were listed last.
-    listed: Blocks,
+    /// The world, with the blocks as they were listed last.
+    graph: RoadGraph<P>,
     /// The blocks that were built since, each in the place of the one listed at its way; one without pieces stands for
     /// none.
     rebuilt: SharedMap<WayId, Block>,
-}
-
-/// A world with the blocks of all its ways with pieces in one list.
-#[derive(Drop)]
-pub struct RoadGraph<'a, P: Profile> {
-    pub profile: P,
-    pub world: &'a Indexed,
-    pub blocks: &'a Blocks,
 }
 
 impl<P: Profile> Model for Engine<P> {
@@ -64,13 +65,15 @@ impl<P: Profile> Model for Engine<P> {
 
     ghost coded = { coded_followed P.code };
 
-    ghost view = { λ e. record { profile = e.profile; world = e.world } };
+    ghost view = { λ e. record { profile = e.graph.profile; world = e.graph.world } };
 
-    ghost invariant = { λ e. AreKept e.world (P.rules e.profile) (block_at e.rebuilt e.listed.map)
+    ghost invariant = { λ e. AreKept e.graph.world (P.rules e.graph.profile) (block_at e.rebuilt e.graph.blocks.map)
         × AreAtTheirWays e.rebuilt };
 }
 
 impl<P: Profile> Engine<P> {
+    ghost use Rattle.change_apply.specs.contracts.engine.Engine.{the_row};
+
     /// What the events leave of no objects, of each object the first one of the greatest version, with its blocks. The
     /// events are moved, not copied. No more blocks are built than there are visible ways with the key `highway`.
     pub fn load<L: Ledger>(
@@ -87,12 +90,14 @@ impl<P: Profile> Engine<P> {
     {
         one_map();
         let world = Indexed::of(alloc, events)?;
-        let listed = build(alloc, &world, profile, steps)?;
+        let blocks = build(alloc, &world, profile, steps)?;
         Ok(Engine {
             alloc,
-            profile,
-            world,
-            listed,
+            graph: RoadGraph {
+                profile,
+                world,
+                blocks,
+            },
             rebuilt: SharedMap::new(),
         })
     }
@@ -116,15 +121,23 @@ impl<P: Profile> Engine<P> {
         ensures built { BuildsTouched self.old.world events.now steps.old steps.new }
     {
         one_map();
-        one_block(&self.profile);
-        blocks_stay(&self.profile);
-        let prepared = self.world.prepare(events)?;
-        let touched = touched_by(self.alloc, &self.world, &prepared)?;
-        let next = Next::of(&self.world, &prepared);
+        name_order();
+        one_block(&self.graph.profile);
+        blocks_stay(&self.graph.profile);
+        let prepared = self.graph.world.prepare(events)?;
+        let touched = touched_by(self.alloc, &self.graph.world, &prepared)?;
+        let next = Next::of(&self.graph.world, &prepared);
         let ways = touched.items();
-        let rebuilt = rebuild(self.alloc, &next, self.profile, ways, &self.rebuilt, steps)?;
+        let rebuilt = rebuild(
+            self.alloc,
+            &next,
+            self.graph.profile,
+            ways,
+            &self.rebuilt,
+            steps,
+        )?;
         let count = ways.len() as u64;
-        self.world.commit(prepared);
+        self.graph.world.commit(prepared);
         self.rebuilt = rebuilt;
         Ok(Report {
             touched: count,
@@ -136,37 +149,51 @@ impl<P: Profile> Engine<P> {
     pub fn profile(&self) -> P
         ensures { result ≡ self.now.profile }
     {
-        self.profile
+        self.graph.profile
     }
 
     /// The objects.
     pub fn world(&self) -> &Indexed
         ensures { result.now ≡ self.now.world }
     {
-        &self.world
+        &self.graph.world
     }
 
-    /// The blocks of all ways with pieces, in the form in which a graph file holds them, and ascending by way as those
-    /// of the graph are listed. Those that were built since this was asked last are listed among the others first;
-    /// where no memory is found for that nothing changes.
-    pub fn graph(&mut self) -> Result<RoadGraph<'_, P>, NoMemory>
-        ensures same { self.new ≡ self.old }
-        ensures profile { IfOk result (λ g. g.profile ≡ self.old.profile) }
-        ensures world { IfOk result (λ g. g.world.now ≡ self.old.world) }
-        ensures blocks { IfOk result (λ g. AreBlocksOf self.old.world (P.rules self.old.profile) g.blocks.now.map) }
+    /// The world with the blocks of all its ways with pieces, in the form in which a graph file holds them, and
+    /// ascending by way as those of the graph are listed. Those that were built since this was asked last are listed
+    /// among the others first. The world and the profile stay, also where no memory is found.
+    pub fn graph(&mut self) -> Result<&RoadGraph<P>, NoMemory>
+        ensures* same { sem 𝓛 (Rests (the_row P.row P.Profile) self.entry (λ new. new ≡ self.old)) }
+        ensures profile { IfOk result (λ g. g.now.profile ≡ self.old.profile) }
+        ensures world { IfOk result (λ g. g.now.world ≡ self.old.world) }
+        ensures blocks { IfOk result (λ g. AreBlocksOf self.old.world (P.rules self.old.profile) g.now.blocks.map) }
         ensures listed { IfOk result (λ g. Lists (λ b. b.way) way_cmp
-            (IsRoadBlock self.old.world (P.rules self.old.profile)) (values g.blocks.now.map)) }
-        ensures forms { IfOk result (λ g. AllByRecursion IsBlockForm (values g.blocks.now.map)) }
+            (IsRoadBlock self.old.world (P.rules self.old.profile)) (values g.now.blocks.map)) }
+        ensures forms { IfOk result (λ g. AllByRecursion IsBlockForm (values g.now.blocks.map)) }
     {
-        if !self.rebuilt.is_empty() {
-            list_rebuilt(self.alloc, &self.rebuilt, &mut self.listed)?;
-            self.rebuilt = SharedMap::new();
-        }
-        let _items = self.listed.items();
-        Ok(RoadGraph {
-            profile: self.profile,
-            world: &self.world,
-            blocks: &self.listed,
-        })
+        list_all(self.alloc, &mut self.rebuilt, &mut self.graph.blocks)?;
+        let _items = self.graph.blocks.items();
+        Ok(&self.graph)
     }
+}
+
+/// Lists the blocks that were built since among the others, so that none is left. Where no memory is found nothing
+/// changes.
+fn list_all(
+    alloc: Global,
+    rebuilt: &mut SharedMap<WayId, Block>,
+    blocks: &mut Blocks,
+) -> Result<(), NoMemory>
+    requires { AreAtTheirWays rebuilt.old }
+    ensures none { OnOk result (rebuilt.new ≡ []) }
+    ensures ok { OnOk result ((w : WayNumber) → get blocks.new.map w ≡ block_at rebuilt.old blocks.old.map w) }
+    ensures err { OnErr result (rebuilt.new ≡ rebuilt.old) }
+    ensures err_listed { OnErr result (blocks.new ≡ blocks.old) }
+{
+    if rebuilt.is_empty() {
+        return Ok(());
+    }
+    list_rebuilt(alloc, rebuilt, blocks)?;
+    *rebuilt = SharedMap::new();
+    Ok(())
 }

@@ -1,5 +1,5 @@
 //! The ways that a change touches.
-ghost use Rattle.std.specs.Prelude.{IfOk};
+ghost use Rattle.std.specs.Prelude.{◌≡◌, IfOk};
 ghost use Rattle.road_model.specs.Links.{AreTouched};
 
 use back_references::{Indexed, Next, Prepared};

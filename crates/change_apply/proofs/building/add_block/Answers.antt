@@ -1,5 +1,8 @@
 use Rattle.std.proofs.Common.{◌≡◌, [], Result, Ok, Err, OnOk, ◌++◌, ◌∷◌, sym, subst, ◌∙◌}
+use Rattle.std.specs.FinMap.{FinMap, get}
 use Rattle.road_base.specs.declared.ids.WayId.{WayId}
+use Rattle.road_model.specs.declared.blocks.Block.{Block}
+use Rattle.road_model.specs.Orders.{way_cmp}
 use Rattle.road_model.specs.Blocks.{IsBlock, IsRoadBlock}
 use Rattle.road_model.specs.Format.{IsBlockForm}
 use Rattle.change_apply.specs.Engines.{AreBlocksAmong, AreInForm}
@@ -44,5 +47,5 @@ returns-clause-forms g c = on_ok c.insert.result c.insert.ensures.ok (λ put all
       ascend = c.in_ok-block.ensures.form.1;
       pieces = c.in_ok-block.ensures.form.0;
     } in
-    subst (λ m. AreInForm m) (sym put)
+    subst (λ (m : FinMap way_cmp Block). AreInForm (get m)) (sym put)
     (in_form c.name_order.ensures.ways block c.args.blocks.now.map form all))
