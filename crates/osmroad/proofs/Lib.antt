@@ -6,7 +6,6 @@ pub mod OneFinding
 pub mod AuditLines
 pub mod ParsedNumbers
 pub mod Built
-pub mod SourceParts
 pub mod LineLengths
 pub mod InputEnds
 pub mod PassedLimits
