@@ -15,16 +15,19 @@ use road_model::Profile;
 use road_model::laws::walk_law;
 use std::alloc::Global;
 
-/// The reply to a line that is answered by itself. The kept number is that of the last change.
+/// The reply to a line that is answered by itself. The kept number is that of the last change. The engine stays what
+/// it is; it may list its blocks.
 pub fn reply_to<P: Profile>(
     alloc: Global,
-    engine: &Engine<P>,
+    engine: &mut Engine<P>,
     kept: Sequence,
     asked: &Asked,
 ) -> Result<Reply, NoMemory>
-    requires number { (P.rules engine.now.profile).number ≡ 1 }
+    requires number { (P.rules engine.old.profile).number ≡ 1 }
     requires query { IsQuery asked.now }
-    ensures { IfOk result (λ r. IsReply engine.now.world (P.rules engine.now.profile) kept.0 asked.now (said r)) }
+    ensures reply { IfOk result (λ r.
+        IsReply engine.old.world (P.rules engine.old.profile) kept.0 asked.now (said r)) }
+    ensures same { engine.new ≡ engine.old }
 {
     match asked {
         Asked::Empty => Ok(line_alone(alloc, Vec::new(alloc))),
@@ -48,14 +51,16 @@ fn line_alone(alloc: Global, line: Vec<u8>) -> Reply
 }
 
 /// The graph's bytes, behind a line that tells how many there are.
-fn graph_reply<P: Profile>(alloc: Global, engine: &Engine<P>) -> Result<Reply, NoMemory>
-    requires { (P.rules engine.now.profile).number ≡ 1 }
-    ensures { IfOk result (λ r. IsGraphReply engine.now.world (P.rules engine.now.profile) (said r)) }
+fn graph_reply<P: Profile>(alloc: Global, engine: &mut Engine<P>) -> Result<Reply, NoMemory>
+    requires { (P.rules engine.old.profile).number ≡ 1 }
+    ensures reply { IfOk result (λ r. IsGraphReply engine.old.world (P.rules engine.old.profile) (said r)) }
+    ensures same { engine.new ≡ engine.old }
 {
     let profile = engine.profile();
     walk_law(&profile);
+    let road_graph = engine.graph()?;
     let mut graph = Vec::new(alloc);
-    write(profile.number(), engine.blocks(), &mut graph)?;
+    write(profile.number(), &road_graph.blocks, &mut graph)?;
     let line = graph_head(alloc, &graph)?;
     Ok(Reply { line, graph })
 }
@@ -63,12 +68,14 @@ fn graph_reply<P: Profile>(alloc: Global, engine: &Engine<P>) -> Result<Reply, N
 /// The kept number, and how large the graph is.
 fn state_reply<P: Profile>(
     alloc: Global,
-    engine: &Engine<P>,
+    engine: &mut Engine<P>,
     kept: Sequence,
 ) -> Result<Reply, NoMemory>
-    ensures { IfOk result (λ r. IsStateReply engine.now.world (P.rules engine.now.profile) kept.0 (said r)) }
+    ensures reply { IfOk result (λ r. IsStateReply engine.old.world (P.rules engine.old.profile) kept.0 (said r)) }
+    ensures same { engine.new ≡ engine.old }
 {
-    let totals = counts(engine.blocks());
+    let road_graph = engine.graph()?;
+    let totals = counts(&road_graph.blocks);
     Ok(line_alone(alloc, state(alloc, kept, &totals)?))
 }
 
@@ -92,15 +99,16 @@ fn drive_reply<P: Profile>(
 /// A drive from node a to node b.
 fn reach_reply<P: Profile>(
     alloc: Global,
-    engine: &Engine<P>,
+    engine: &mut Engine<P>,
     a: NodeId,
     b: NodeId,
 ) -> Result<Reply, NoMemory>
-    ensures { IfOk result (λ r. (found : _)
-        × IsFound engine.now.world (P.rules engine.now.profile) a b found
+    ensures reply { IfOk result (λ r. (found : _)
+        × IsFound engine.old.world (P.rules engine.old.profile) a b found
         × (said r ≡ found_line found)) }
+    ensures same { engine.new ≡ engine.old }
 {
-    let profile = engine.profile();
-    let found = reach(alloc, engine.world(), &profile, engine.blocks(), a, b)?;
+    let graph = engine.graph()?;
+    let found = reach(alloc, &graph.world, &graph.profile, &graph.blocks, a, b)?;
     Ok(line_alone(alloc, found_reply(alloc, &found)?))
 }
