@@ -10,7 +10,7 @@ use Rattle.sequence_journal.specs.declared.load.Loaded.{Loaded}
 use Rattle.store_switch.specs.LiveFile.{reads_of}
 use Rattle.store_switch.specs.StoreLoading.{StoreLoaded, LoadsStore}
 use Rattle.session.specs.Conversation.{Kept}
-use Rattle.osmroad.specs.SessionBuilding.{Start, BuildsFew, SessionBuilds}
+use Rattle.session.specs.Building.{Start, BuildsFew, SessionBuilds}
 use Rattle.osmroad.specs.Opening.{IsStore}
 use Rattle.osmroad.specs.StoreLaws.{StoreLaws}
 use Rattle.osmroad.specs.Sessions.{SessionRunBuilds, opening}
