@@ -26,8 +26,11 @@ class Objects:
                 self.take(line)
 
     def take(self, line):
-        fields = line.split()
-        self.lines[fields[0]] = (int(fields[1][1:]), line)
+        """Of each object the first line of the greatest version stands."""
+        name, version = line.split()[:2]
+        version = int(version[1:])
+        if name not in self.lines or version > self.lines[name][0]:
+            self.lines[name] = (version, line)
 
     def text(self):
         return ''.join(line for _, line in self.lines.values()).encode()
