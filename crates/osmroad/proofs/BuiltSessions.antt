@@ -29,6 +29,7 @@ module _ (laws : StoreLaws) (l : Loaded) (old new : ℕ) where
       × BuildsFew (opening s) read (old + length (highways M)) new)
       × ((IsStore (reads_of w) → ⊥) → new ≡ old)
 
+  -- where the site tells
   builds_on : (held remaining : Option (List ℕ)) (w u : Outside) → LoadsStore (Ok l) w u
       → SessionBuilds l held remaining (Some u) old new → SessionRunBuilds held remaining (Some w) old new
   builds_on held remaining w u load builds = λ bytes behind x has left is.
