@@ -54,18 +54,12 @@ fn leads(engine: &Engine<Motorcar>, drive: &[Step], a: NodeId, b: NodeId) -> boo
 /// The verdict on the drive that is found between the nodes, or why there is none.
 fn reached(
     alloc: Global,
-    engine: &Engine<Motorcar>,
+    engine: &mut Engine<Motorcar>,
     a: NodeId,
     b: NodeId,
 ) -> Result<Vec<u8>, Fail> {
-    let found = reach(
-        alloc,
-        engine.world(),
-        &engine.profile(),
-        engine.blocks(),
-        a,
-        b,
-    )?;
+    let graph = engine.graph()?;
+    let found = reach(alloc, &graph.world, &graph.profile, &graph.blocks, a, b)?;
     match found {
         Found::Drive(drive) if leads(engine, drive.items(), a, b) => {
             judged(alloc, engine, drive.items())
@@ -80,7 +74,7 @@ fn reached(
 }
 
 /// What is replied to the line.
-fn replied(alloc: Global, engine: &Engine<Motorcar>, line: &str) -> Result<Vec<u8>, Fail> {
+fn replied(alloc: Global, engine: &mut Engine<Motorcar>, line: &str) -> Result<Vec<u8>, Fail> {
     match message(alloc, line)? {
         Asked::Drive(drive) => judged(alloc, engine, drive.items()),
         Asked::Reach(a, b) => reached(alloc, engine, a, b),
@@ -100,9 +94,9 @@ fn first_other<'a, L: Ledger>(
     requires some { 0 < L.parts }
 {
     let mut steps = Steps::<L>::new(blank);
-    let engine = engine_of(alloc, lines, &mut steps)?;
+    let mut engine = engine_of(alloc, lines, &mut steps)?;
     for (line, want) in rows {
-        if replied(alloc, &engine, line)?.as_slice() != want.as_bytes() {
+        if replied(alloc, &mut engine, line)?.as_slice() != want.as_bytes() {
             return Ok(Some(*line));
         }
     }

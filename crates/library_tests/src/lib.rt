@@ -13,6 +13,8 @@ mod back_references_tests;
 #[cfg(test)]
 mod barrier_rules_tests;
 #[cfg(test)]
+mod change_apply_tests;
+#[cfg(test)]
 mod drive_queries_tests;
 pub mod makers;
 #[cfg(test)]

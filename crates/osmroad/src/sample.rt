@@ -57,20 +57,26 @@ fn sample_text<L: Ledger>(
     for change in 0..LISTS {
         let events = town.events()?;
         engine.apply(&events, steps)?;
-        let line = line_of(alloc, change, &engine)?;
+        let line = line_of(alloc, change, &mut engine)?;
         text.extend_from_slice(&line)?;
     }
     Ok(text)
 }
 
 /// The line of what the engine has come to.
-fn line_of(alloc: Global, change: u32, engine: &Engine<Motorcar>) -> Result<Vec<u8>, NoMemory>
-    ensures { IfOk result (λ line. (events : List Event)
-        → IsApplied empty events engine.now.world
+fn line_of(
+    alloc: Global,
+    change: u32,
+    engine: &mut Engine<Motorcar>,
+) -> Result<Vec<u8>, NoMemory>
+    ensures line { IfOk result (λ line. (events : List Event)
+        → IsApplied empty events engine.old.world
         → IsSampleLine change events line.items) }
+    ensures same { engine.new ≡ engine.old }
 {
+    let road_graph = engine.graph()?;
     let mut graph = Vec::new(alloc);
-    write(Motorcar.number(), engine.blocks(), &mut graph)?;
+    write(Motorcar.number(), &road_graph.blocks, &mut graph)?;
     let totals = totals_of(alloc, &graph)?;
     sample_line(alloc, change, &totals, graph.len())
 }

@@ -1,0 +1,94 @@
+//! What a change costs, and that the graph behind changes is that of all their events.
+ghost use Rattle.std.specs.Prelude.{◌≡◌, ◌<◌};
+
+use access_profile::Motorcar;
+use change_apply::Engine;
+use graph_file::write;
+use opl_objects::{Mode, Reader};
+use road_base::{Event, Steps};
+use road_model::Profile;
+use std::alloc::Global;
+use std::marker::Brand;
+use std::sync::ledger::{Blank, Ledger};
+use std::test::Fail;
+
+/// The events of these changes, one behind another.
+fn events_of(alloc: Global, changes: &[&[u8]]) -> Result<Vec<Event>, Fail> {
+    let mut reader = Reader::new(alloc, Mode::Change);
+    for change in changes {
+        if reader.feed(change).is_err() {
+            return Err(Fail::from("the change isn't read"));
+        }
+    }
+    match reader.finish() {
+        Ok(events) => Ok(events),
+        Err(_) => Err(Fail::from("the change isn't read")),
+    }
+}
+
+/// The bytes of the graph.
+fn graph_of(alloc: Global, engine: &mut Engine<Motorcar>) -> Result<Vec<u8>, Fail> {
+    let graph = engine.graph()?;
+    let mut bytes = Vec::new(alloc);
+    write(Motorcar.number(), &graph.blocks, &mut bytes)?;
+    Ok(bytes)
+}
+
+/// How many ways the last of the changes touches. All of them are followed in turn; the graph then has to be that of
+/// all events at once.
+fn touched_last<L: Ledger>(alloc: Global, changes: &[&[u8]], blank: Blank) -> Result<u64, Fail>
+    requires name { blank.name ≡ L.name }
+    requires parts { blank.parts ≡ L.parts }
+    requires some { 0 < L.parts }
+{
+    let mut steps = Steps::<L>::new(blank);
+    let mut engine = Engine::load(alloc, Motorcar, Vec::new(alloc), &mut steps)?;
+    let mut touched = 0;
+    for change in changes {
+        let events = events_of(alloc, &[*change])?;
+        touched = engine.apply(&events, &mut steps)?.touched;
+        graph_of(alloc, &mut engine)?;
+    }
+    let mut whole = Engine::load(alloc, Motorcar, events_of(alloc, changes)?, &mut steps)?;
+    if graph_of(alloc, &mut engine)?.as_slice() != graph_of(alloc, &mut whole)?.as_slice() {
+        return Err(Fail::from("the graph is another one"));
+    }
+    Ok(touched)
+}
+
+/// A chain: way k goes from node k to node k + 1.
+const CHAIN: &[u8] = b"n1 v1 x0.001 y0\nn2 v1 x0.002 y0\nn3 v1 x0.003 y0\nn4 v1 x0.004 y0\n\
+    n5 v1 x0.005 y0\nn6 v1 x0.006 y0\nn7 v1 x0.007 y0\nn8 v1 x0.008 y0\nn9 v1 x0.009 y0\n\
+    n10 v1 x0.01 y0\nn11 v1 x0.011 y0\n\
+    w1 v1 Thighway=residential Nn1,n2\nw2 v1 Thighway=residential Nn2,n3\n\
+    w3 v1 Thighway=residential Nn3,n4\nw4 v1 Thighway=residential Nn4,n5\n\
+    w5 v1 Thighway=residential Nn5,n6\nw6 v1 Thighway=residential Nn6,n7\n\
+    w7 v1 Thighway=residential Nn7,n8\nw8 v1 Thighway=residential Nn8,n9\n\
+    w9 v1 Thighway=residential Nn9,n10\nw10 v1 Thighway=residential Nn10,n11\n";
+
+/// Node 2 lies elsewhere: the ways 1 and 2 are one link away, way 3 three, way 4 five, and way 5 seven.
+const MOVED: &[u8] = b"n2 v2 x0.0025 y0\n";
+
+/// Nothing changes: the entry that stands has the same version.
+const SAME: &[u8] = b"n2 v1 x0.0025 y0\n";
+
+/// Way 3 goes: the ways 2 and 4 were two links away, 1 and 5 four, 6 six.
+const GONE: &[u8] = b"w3 v2 dD\n";
+
+/// Way 3 comes back and reaches node 9, so that the ways 8 and 9 are two links away, 7 and 10 four.
+const LONGER: &[u8] = b"w3 v3 Thighway=residential Nn3,n4,n9\n";
+
+#[test]
+fn changes_touch_what_is_near(rt: HostRuntime) -> Result<(), Fail> {
+    let rows: [(&[&[u8]], u64); 5] = [
+        (&[CHAIN], 10),
+        (&[CHAIN, SAME], 0),
+        (&[CHAIN, MOVED], 4),
+        (&[CHAIN, MOVED, GONE], 6),
+        (&[CHAIN, MOVED, GONE, LONGER], 10),
+    ];
+    for (changes, want) in rows {
+        assert_eq!(rt; touched_last::<Brand>(rt.alloc(), changes, Blank::new(1))?, want);
+    }
+    Ok(())
+}
