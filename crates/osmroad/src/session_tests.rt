@@ -42,7 +42,7 @@ fn ended<L: Ledger>(
 }
 
 /// The same with a ledger of its own, and all reads give what there is.
-pub fn run_on(
+fn run_on(
     alloc: Global,
     words: &[&str],
     input: &[u8],
@@ -52,7 +52,7 @@ pub fn run_on(
 }
 
 /// A site whose files are empty.
-pub fn empty_site(alloc: Global) -> MemorySite {
+fn empty_site(alloc: Global) -> MemorySite {
     MemorySite::new(alloc, Vec::new(alloc), Vec::new(alloc), Vec::new(alloc))
 }
 
