@@ -5,8 +5,8 @@ use Rattle.osmroad.specs.declared.command.Request.{Request}
 use Rattle.osmroad.specs.declared.command.Request.TheVariants.{Session, Command as CommandRequest}
 use Rattle.osmroad.specs.declared.status.Status.{Status}
 use Rattle.osmroad.specs.Opening.{Files}
-use Rattle.osmroad.specs.Run.{IsStored, MayEnd, Ends, CanBeDone, Builds}
-use Rattle.osmroad.specs.Sessions.{IsServed, IsNotServed, EndsSession}
+use Rattle.osmroad.specs.Run.{IsStored, MayEnd, Ends, IsReadable, CanBeDone, Builds}
+use Rattle.osmroad.specs.Sessions.{IsServed, IsNotServed, EndsSession, EndsWell, SessionRunBuilds}
 
 -- what is read and put, for what the files then stand, and what a stop leaves
 abbrev pub RunEnds : Option Request → Status → Option (List ℕ) → Option (List ℕ) → Option Outside → Option Outside
@@ -28,14 +28,15 @@ RunIsStored None = ⊥
 RunIsStored (Some (CommandRequest command)) = IsStored (Some command)
 RunIsStored (Some Session) = Unit {0}
 
--- What must be done. Of a session it isn't said here: how it ends is said of each by what it reads.
+-- what must be done
 abbrev pub RunCanBeDone : Option Request → Option Files → List ℕ → Type 0
 RunCanBeDone None files bytes = ⊥
 RunCanBeDone (Some (CommandRequest command)) files bytes = CanBeDone (Some command) files bytes
-RunCanBeDone (Some Session) files bytes = ⊥
+RunCanBeDone (Some Session) None bytes = ⊥
+RunCanBeDone (Some Session) (Some files) bytes = IsReadable files × EndsWell files bytes
 
--- How many blocks are built. Of a session no bound is said.
-abbrev pub RunBuilds : Option Request → Option (List ℕ) → Option Outside → ℕ → ℕ → Type 0
-RunBuilds None held before old new = Builds None held before old new
-RunBuilds (Some (CommandRequest command)) held before old new = Builds (Some command) held before old new
-RunBuilds (Some Session) held before old new = Unit {0}
+-- how many blocks are built
+abbrev pub RunBuilds : Option Request → Option (List ℕ) → Option (List ℕ) → Option Outside → ℕ → ℕ → Type 0
+RunBuilds None held remaining before old new = Builds None held before old new
+RunBuilds (Some (CommandRequest command)) held remaining before old new = Builds (Some command) held before old new
+RunBuilds (Some Session) held remaining before old new = SessionRunBuilds held remaining before old new

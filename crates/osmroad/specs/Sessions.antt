@@ -1,7 +1,10 @@
 -- How a run ends that is asked for a session: what was read and put, for what the files then stand, and what a stop
 -- leaves.
-use Rattle.std.specs.Prelude.{◌≡◌, ◌⊎◌, ℕ, ◌<◌, List, [], ◌++◌, length, take, Option}
+use Rattle.std.specs.Prelude.{◌≡◌, ◌⊎◌, ℕ, ◌+◌, ◌<◌, List, [], ◌++◌, length, take, Option, Some}
+use Rattle.road_base.specs.History.{HasObjects}
+use Rattle.road_base.specs.Objects.{Objects}
 use Rattle.road_model.specs.Rules.{Rules}
+use Rattle.road_model.specs.Highways.{highways}
 use Rattle.access_profile.specs.Motorcar.{motorcar_rules}
 use Rattle.road_io.specs.Told.{Told, Rose}
 use Rattle.road_io.specs.Outside.{Outside, Left, LeavesOnly}
@@ -15,6 +18,8 @@ use Rattle.session.specs.declared.end.End.TheVariants.{SiteFault as SiteFaultEnd
 use Rattle.session.specs.declared.end.End.TheVariants.{NoMemory as NoMemoryEnd}
 use Rattle.session.specs.Conversation.{Kept, room_at}
 use Rattle.session.specs.Conversing.{LeavesSession, EndsWith, Converses, HeldBytes}
+use Rattle.session.specs.Endings.{SessionGives}
+use Rattle.session.specs.Building.{BuildsFew}
 use Rattle.osmroad.specs.declared.status.Status.{Status}
 use Rattle.osmroad.specs.declared.status.Status.TheVariants.{Done, ReadFault, SiteFault, Refused, Limit}
 use Rattle.osmroad.specs.declared.status.Status.TheVariants.{NoMemory, NoStore, Damaged}
@@ -120,3 +125,24 @@ pub record EndsSession (status : Status) (held remaining : Option (List ℕ)) (b
     pub holds : HeldBytes bytes behind held remaining
     pub reads : ReadsSession status bytes read
     pub runs : Told (SessionRuns read status) before now
+
+-- ---- what must be done
+
+-- No front of the bytes passes a limit in the session that opens with the store, and the bytes don't end inside a frame.
+pub record EndsWell (files : Files) (bytes : List ℕ) : Type 0 where
+  pub within : (s : IsStore files) (read behind out : List ℕ) (to : Kept) → bytes ≡ read ++ behind
+      → SessionGives motorcar_rules (opening s) read LimitEnd out to → ⊥
+  pub finished : (s : IsStore files) (out : List ℕ) (to : Kept)
+      → SessionGives motorcar_rules (opening s) bytes Unfinished out to → ⊥
+
+-- ---- how many blocks are built
+
+-- Over a store no more than its objects have visible ways with the key `highway`, and for each accepted frame whole in
+-- what was read the ways that it touches; else none. It is said where source and site tell.
+abbrev pub SessionRunBuilds : Option (List ℕ) → Option (List ℕ) → Option Outside → ℕ → ℕ → Type 0
+SessionRunBuilds held remaining before old new = (bytes behind : List ℕ) (w : Outside)
+    → held ≡ Some bytes → remaining ≡ Some behind → before ≡ Some w
+    → ((s : IsStore (reads_of w)) (M : Objects) → HasObjects s.history M
+        → (read : List ℕ) × (bytes ≡ read ++ behind)
+        × BuildsFew (opening s) read (old + length (highways M)) new)
+    × ((IsStore (reads_of w) → ⊥) → new ≡ old)

@@ -1,6 +1,9 @@
 //! The one top call: what the program does for its words, over any source and site.
 ghost use Rattle.std.specs.Prelude.{◌≡◌, ◌⊎◌, ◌<◌, List, ℕ, map, Some};
 ghost use Rattle.road_io.specs.Told.{Told, Rose};
+ghost use Rattle.road_io.specs.Outside.{LeavesOnly, image_of};
+ghost use Rattle.store_switch.specs.LiveFile.{BothDurable, reads_of};
+ghost use Rattle.store_switch.specs.TwoFiles.{AreIntact};
 ghost use Rattle.osmroad.specs.Commands.{asked};
 ghost use Rattle.osmroad.specs.Run.{IsReading, IsStored, MayEnd, Ends, CanBeDone, Builds, files_of};
 ghost use Rattle.osmroad.specs.Requests.{RunEnds, RunMayEnd, RunIsStored, RunCanBeDone, RunBuilds};
@@ -131,9 +134,15 @@ pub fn run<S: Source, W: Site, L: Ledger>(
         → (Rose (W.faults site.old) (W.faults site.new) → ⊥)
         → (result ≡ Status.Done) ⊎ (result ≡ Status.NoMemory) }
 
-    // No more blocks are built than the graph's objects have visible ways with the key `highway`.
-    ensures built { RunBuilds (asked (map (λ w. w.now) words.now)) (S.bytes_left source.old) (W.outside site.old)
-        steps.old steps.new }
+    // Where nothing is pending on files that stand for a history, or that hold no store, a stop at any moment leaves such
+    // files: a store that these runs made is never damaged, after any list of stops.
+    ensures intact { Told (λ w v. BothDurable w → AreIntact (reads_of w)
+        → LeavesOnly w v (λ left. AreIntact (image_of left))) (W.outside site.old) (W.outside site.new) }
+
+    // No more blocks are built than the graph's objects have visible ways with the key `highway`; in a session, for each
+    // accepted frame no more than the ways that it touches.
+    ensures built { RunBuilds (asked (map (λ w. w.now) words.now)) (S.bytes_left source.old)
+        (S.bytes_left source.new) (W.outside site.old) steps.old steps.new }
 {
     match request_of(words) {
         Some(Request::Session) => serve_store(alloc, source, site, steps),

@@ -8,8 +8,9 @@ ghost use Rattle.sequence_journal.specs.declared.load.Loaded.{Loaded as LoadedSt
 ghost use Rattle.sequence_journal.specs.Journal.{CountsFaults};
 ghost use Rattle.store_switch.specs.StoreLoading.{IsLoadError, LoadsStore};
 ghost use Rattle.session.specs.Conversing.{IsOpening};
+ghost use Rattle.session.specs.Building.{SessionBuilds};
 ghost use Rattle.osmroad.specs.Sessions.{end_status, IsServed, IsNotServed, AnswersFaults};
-ghost use Rattle.osmroad.specs.Sessions.{Serves, SessionRuns, EndsSession};
+ghost use Rattle.osmroad.specs.Sessions.{Serves, SessionRuns, EndsSession, SessionRunBuilds};
 
 use crate::laws::store_laws;
 use crate::reply::{put_last, refuse_store};
@@ -53,6 +54,8 @@ pub fn serve<P: Profile, S: Source, W: Site, L: Ledger>(
     requires opens { IfSome (W.outside site.old) (λ w. (h : History) × IsOpening loaded h w) }
     ensures serves { Serves (P.rules profile) loaded result (S.bytes_left source.old) (S.bytes_left source.new)
         (W.outside site.old) (W.outside site.new) }
+    ensures builds { SessionBuilds loaded (S.bytes_left source.old) (S.bytes_left source.new) (W.outside site.old)
+        steps.old steps.new }
     ensures reads { AnswersFaults Status.ReadFault result (S.faults source.old) (S.faults source.new) }
     ensures calls { AnswersFaults Status.SiteFault result (W.faults site.old) (W.faults site.new) }
     ensures named { IsServed result }
@@ -85,6 +88,8 @@ pub fn serve_store<S: Source, W: Site, L: Ledger>(
 ) -> Status
     ensures ends { EndsSession result (S.bytes_left source.old) (S.bytes_left source.new)
         (W.outside site.old) (W.outside site.new) }
+    ensures built { SessionRunBuilds (S.bytes_left source.old) (S.bytes_left source.new) (W.outside site.old)
+        steps.old steps.new }
     ensures reads { AnswersFaults Status.ReadFault result (S.faults source.old) (S.faults source.new) }
     ensures calls { AnswersFaults Status.SiteFault result (W.faults site.old) (W.faults site.new) }
     ensures named { IsServed result ⊎ IsNotServed result }

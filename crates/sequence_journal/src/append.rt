@@ -1,7 +1,6 @@
 //! One more change at the end of a journal's file.
-ghost use Rattle.std.specs.Prelude.{◌≡◌, ◌+◌, ◌<◌, ◌≤◌, ◌^◌, ◌++◌, ◌∷◌, [], List, false, true, IfSome, OnOk, length};
-ghost use Rattle.road_base.specs.Bytes.{u64_bytes};
-ghost use Rattle.object_codec.specs.Spelling.{events_bytes, AreEvents};
+ghost use Rattle.std.specs.Prelude.{◌≡◌, ◌↔◌, ◌+◌, ◌<◌, ◌≤◌, ◌^◌, false, true, IfSome, IfOk, IsTrue, length};
+ghost use Rattle.object_codec.specs.Spelling.{events_bytes};
 ghost use Rattle.road_io.specs.Told.{Told};
 ghost use Rattle.sequence_journal.specs.Journal.{IsReady};
 ghost use Rattle.sequence_journal.specs.Adding.{Adds, AddAnswer};
@@ -11,7 +10,7 @@ use crate::error::JournalError;
 use crate::journal::Journal;
 use crate::pieces::record_piece;
 use crate::whole_file::LARGEST;
-use road_base::{Event, Sequence};
+use road_base::{Event, NoMemory, Sequence};
 use road_io::Site;
 use std::alloc::Global;
 
@@ -51,6 +50,18 @@ impl Journal {
                 Err(JournalError::SiteFault)
             }
         }
+    }
+}
+
+impl Journal {
+    /// Whether the journal's file keeps within 2^40 bytes with a change of these events: whether `append` of it under
+    /// the next number doesn't answer TooLarge.
+    pub fn has_room_for(&self, alloc: Global, events: &[Event]) -> Result<bool, NoMemory>
+        ensures { IfOk result
+            (λ r. IsTrue r ↔ (self.now.gate + (17 + length (events_bytes events.now) + 1) ≤ 2 ^ 40)) }
+    {
+        let piece = record_piece(alloc, self.kept, events)?;
+        Ok(has_room(self.gate, piece.len() as u64))
     }
 }
 

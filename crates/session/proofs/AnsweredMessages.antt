@@ -1,7 +1,8 @@
 -- What an answer to a message leaves.
 use Rattle.std.proofs.Common.{◌≡◌, inl, inr, ⊎_elim, ℕ, ◌+◌, ◌-◌, ◌<◌, ◌≤◌, ◌^◌, List, [], ◌∷◌, ◌++◌, length}
 use Rattle.std.proofs.Common.{true, false, Result, Ok, Err, IfErr, refl, sym, ◌∙◌, ap, subst, arith, codes}
-use Rattle.std.proofs.Common.{length-append}
+use Rattle.std.proofs.Common.{◌↔◌, Bool, IsTrue, length-append}
+use Rattle.std.proofs.Math.Nat.{lt_of_not-le}
 use Rattle.std.proofs.lemmas.List.{append-nil}
 use Rattle.std.specs.Io.{StartsWith}
 use Rattle.std.specs.Fmt.{decimal}
@@ -73,11 +74,23 @@ module _ (laws : StoreLaws) (P : Rules) (world : Objects) (journal : Journal) (f
 line_some : (n : ℕ) → 0 < length (applied_line n)
 line_some n = omega (arith, length-append (codes "applied ") (decimal n ++ 10 ∷ []))
 
-room_enough : (gate size room : ℕ) → room ≡ room_at gate → gate + (18 + size) ≤ 2 ^ 40 → 17 + size ≤ room
+pub room_enough : (gate size room : ℕ) → room ≡ room_at gate → gate + (18 + size) ≤ 2 ^ 40 → 17 + size ≤ room
 room_enough gate size room is fits = omega (arith, is, fits)
 
-room_short : (gate size room : ℕ) → room ≡ room_at gate → 2 ^ 40 < gate + (18 + size) → room < 17 + size
+pub room_short : (gate size room : ℕ) → room ≡ room_at gate → 2 ^ 40 < gate + (18 + size) → room < 17 + size
 room_short gate size room is full = omega (arith, is, full)
+
+-- what it says that there is room
+pub room_there : (gate size : ℕ) (r : Bool) → (IsTrue r ↔ (gate + (17 + size + 1) ≤ 2 ^ 40)) → r ≡ true
+    → gate + (18 + size) ≤ 2 ^ 40
+room_there gate size r is so = omega (arith, is.0 so)
+
+pub room_missing : (gate size : ℕ) (r : Bool) → (IsTrue r ↔ (gate + (17 + size + 1) ≤ 2 ^ 40)) → r ≡ false
+    → 2 ^ 40 < gate + (18 + size)
+room_missing gate size r is so =
+    let full : 2 ^ 40 < gate + (17 + size + 1) =
+    lt_of_not-le (λ fits. let e : false ≡ true = sym so ∙ is.1 fits in cc) in
+    omega (arith, full)
 
 room_then : (gate size room : ℕ) → room ≡ room_at gate → room - (17 + size) ≡ room_at (gate + (17 + size))
 room_then gate size room is = omega (arith, is)
@@ -116,7 +129,7 @@ module _ (laws : StoreLaws) (P : Rules) (number : Sequence) (body : List ℕ) (e
 
   module _ (before now : ℕ) (x : Unit {0}) (answer : AddAnswer old new number events (Ok x) before now)
       (applied : IsApplied world events after) (gives : ReadAll Change body events) where
-    kept_then : (w v : Outside) → IsKept world old from w → Adds old new events (Ok x) w v → IsKept after new to v
+    pub kept_then : (w v : Outside) → IsKept world old from w → Adds old new events (Ok x) w v → IsKept after new to v
     kept_then w v k adds = record {
       on_store = laws.ok old new from.history number events x w v before now k.on_store answer adds;
       small = laws.small old new from.history number events x w v before now k.on_store answer adds;

@@ -10,3 +10,6 @@ mod ClosedSessions
 mod SourceParts
 mod OpenedSessions
 mod ReadSessions
+mod BuiltAnswers
+mod BuiltMessages
+mod BuiltSessions

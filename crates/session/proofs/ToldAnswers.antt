@@ -1,5 +1,5 @@
 -- Answers to messages, as far as the site tells.
-use Rattle.std.proofs.Common.{◌≡◌, ℕ, ◌+◌, List, ◌++◌, Option, Some, Result, Ok, Err, IfErr, false}
+use Rattle.std.proofs.Common.{◌≡◌, ℕ, ◌+◌, ◌<◌, ◌^◌, List, ◌++◌, length, Option, Some, Result, Ok, Err, IfErr, false}
 use Rattle.std.proofs.Common.{refl, sym, ◌∙◌, ap, subst}
 use Rattle.road_base.specs.declared.event.Event.{Event}
 use Rattle.road_base.specs.declared.ids.Sequence.{Sequence}
@@ -7,11 +7,12 @@ use Rattle.road_base.specs.History.{kept}
 use Rattle.road_base.specs.Objects.{Objects}
 use Rattle.road_base.specs.Applying.{IsApplied}
 use Rattle.road_model.specs.Rules.{Rules}
+use Rattle.object_codec.specs.Spelling.{events_bytes}
 use Rattle.opl_lexer.specs.declared.mode.Mode.TheVariants.{Change}
 use Rattle.opl_lexer.specs.Reading.{FaultAt, ReadAll, input_fault}
 use Rattle.road_io.specs.Told.{Told}
 use Rattle.road_io.specs.Outside.{Outside}
-use Rattle.road_io.proofs.ToldCalls.{told_weaker, told_then}
+use Rattle.road_io.proofs.ToldCalls.{told_same, told_weaker, told_then}
 use Rattle.sequence_journal.specs.declared.error.JournalError.{JournalError}
 use Rattle.sequence_journal.specs.declared.journal.Journal.{Journal}
 use Rattle.sequence_journal.specs.Adding.{IsNext, Adds, AddAnswer}
@@ -25,12 +26,12 @@ use Rattle.session_replies.specs.declared.reply.Reply.{Reply}
 use Rattle.session_replies.specs.Replies.{IsReply, said}
 use Rattle.session_replies.specs.Texts.{applied_line, refused_sequence_line, refused_fault_line}
 use Rattle.session.specs.declared.stop.Stop.{Stop}
-use Rattle.session.specs.declared.stop.Stop.TheVariants.{SiteFault}
+use Rattle.session.specs.declared.stop.Stop.TheVariants.{SiteFault, Limit}
 use Rattle.session.specs.StoreLaws.{StoreLaws}
 use Rattle.session.specs.Conversation.{Kept, OutOfSequence, Faulty}
 use Rattle.session.specs.Putting.{PutsOn}
 use Rattle.session.specs.Answering.{IsKept, Answers, stop_of}
-use Rattle.session.proofs.AnsweredMessages.{put_answers, added_answers, added_fails}
+use Rattle.session.proofs.AnsweredMessages.{put_answers, added_answers, added_fails, room_short}
 
 -- ---- what changes nothing
 
@@ -112,6 +113,24 @@ module _ (laws : StoreLaws) (P : Rules) (number : Sequence) (events : List Event
       → IsKept world old from w → Answers P from (Frame number.0 body) after new (Err stop) w v) adds
       (λ w v a from body gives k. subst (λ (s : Stop). Answers P from (Frame number.0 body) after new (Err s) w v)
       (sym is) (added_fails laws P number body events old new world after from before now e w v alive answer gives k a))
+
+-- there is no room for the change
+pub full_answers : (P : Rules) (number : Sequence) (events : List Event) (journal : Journal) (world : Objects)
+    (x : Option Outside) → IsNext journal number → 2 ^ 40 < journal.gate + (18 + length (events_bytes events))
+    → Told (λ w v. (from : Kept) (body : List ℕ) → ReadAll Change body events → IsKept world journal from w
+    → Answers P from (Frame number.0 body) world journal (Err Limit) w v) x x
+full_answers P number events journal world x next full =
+    told_same x (λ w v. (from : Kept) (body : List ℕ) → ReadAll Change body events → IsKept world journal from w
+    → Answers P from (Frame number.0 body) world journal (Err Limit) w v)
+    (λ w from body gives k. (
+      record {
+        next = next ∙ ap (λ (n : ℕ). n + 1) k.on_store.at.last;
+        events = events;
+        gives = gives;
+        full = room_short journal.gate (length (events_bytes events)) from.room k.room full;
+      },
+      refl,
+    ))
 
 -- ---- a message, by what was received
 

@@ -5,3 +5,5 @@ pub mod Putting
 pub mod StoreLaws
 pub mod Answering
 pub mod Following
+pub mod Building
+pub mod BuildingOn

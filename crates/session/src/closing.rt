@@ -1,9 +1,12 @@
 //! How a session ends.
-ghost use Rattle.std.specs.Prelude.{◌≡◌, ◌≢◌, ◌⊎◌, ℕ, List, Option, Err, false};
+ghost use Rattle.std.specs.Prelude.{◌≡◌, ◌≢◌, ◌⊎◌, ℕ, List, Option, Err, IfSome, false};
 ghost use Rattle.road_model.specs.Rules.{Rules};
 ghost use Rattle.road_io.specs.Outside.{Outside};
 ghost use Rattle.sequence_journal.specs.declared.load.Loaded.{Loaded};
 ghost use Rattle.session.specs.Conversing.{SessionEnds, CountsCalls};
+ghost use Rattle.session.specs.Conversation.{Kept};
+ghost use Rattle.session.specs.Building.{BuildsFew};
+ghost use Rattle.session.specs.BuildingOn.{BuildsOn};
 ghost use Rattle.session.specs.Answering.{CountsStops};
 ghost use Rattle.session.specs.Following.{Goes, Since, Closes, Halts, IsHalted};
 
@@ -69,6 +72,9 @@ pub fn finish<P: Profile, W: Site, L: Ledger>(
         (W.outside site.old)
         → Since loaded (λ opening w v. SessionEnds (P.rules talk.old.engine.profile) opening read result w v) x
         (W.outside site.new) }
+    ensures builds { IfSome (W.outside site.old) (λ w. (opening : Kept) (read : List ℕ) (first : ℕ)
+        → BuildsOn opening read input talk.old.engine.world talk.old.journal first steps.old w
+        → BuildsFew opening read first steps.new) }
     ensures calls { CountsCalls (W.faults site.old) (W.faults site.new) result }
     ensures named { result ≢ End.ReadFault }
 {

@@ -1,9 +1,12 @@
 //! A session, from its first read to its end.
-ghost use Rattle.std.specs.Prelude.{◌≡◌, ◌≤◌, [], Option, false, IfSome, length, take};
+ghost use Rattle.std.specs.Prelude.{◌≡◌, ◌≤◌, ◌++◌, ℕ, List, [], Option, Some, false, IfSome, length, take};
 ghost use Rattle.road_base.specs.History.{History};
 ghost use Rattle.road_io.specs.Outside.{Outside};
 ghost use Rattle.sequence_journal.specs.declared.load.Loaded.{Loaded as LoadedStore};
 ghost use Rattle.session.specs.Conversing.{IsOpening, Converses, CountsReads, CountsCalls};
+ghost use Rattle.session.specs.Conversation.{Kept};
+ghost use Rattle.session.specs.Building.{BuildsFew, SessionBuilds};
+ghost use Rattle.session.specs.BuildingOn.{BuildsOn};
 ghost use Rattle.session.specs.Following.{Goes};
 
 use crate::closing::{close, finish};
@@ -50,6 +53,12 @@ fn follow<P: Profile, S: Source, W: Site, L: Ledger>(
         (W.outside site.old)
         → Converses (P.rules talk.old.engine.profile) loaded result (S.bytes_left source.old) (S.bytes_left source.new)
         x (W.outside site.new) }
+    ensures builds { (bytes behind : List ℕ) (w : Outside) (opening : Kept) (first : ℕ)
+        → S.bytes_left source.old ≡ Some bytes
+        → S.bytes_left source.new ≡ Some behind
+        → W.outside site.old ≡ Some w
+        → BuildsOn opening [] input talk.old.engine.world talk.old.journal first steps.old w
+        → (read : List ℕ) × (bytes ≡ read ++ behind) × BuildsFew opening read first steps.new }
     ensures reads { CountsReads (S.faults source.old) (S.faults source.new) result }
     ensures calls { CountsCalls (W.faults site.old) (W.faults site.new) result }
 {
@@ -74,7 +83,8 @@ fn follow<P: Profile, S: Source, W: Site, L: Ledger>(
 
 /// Answers the messages on the source until it ends, over the store that was loaded, and keeps each accepted change in
 /// it. It puts each reply by itself, the bytes of a graph behind their line, and what it says last: `refused unfinished
-/// N`, or `limit`. The first read or call on the site that fails ends it.
+/// N`, or `limit`. The first read or call on the site that fails ends it. It builds no more blocks than there are
+/// visible ways with the key `highway` when it begins, and for each accepted frame the ways that it touches.
 pub fn converse<P: Profile, S: Source, W: Site, L: Ledger>(
     alloc: Global,
     profile: P,
@@ -88,6 +98,8 @@ pub fn converse<P: Profile, S: Source, W: Site, L: Ledger>(
     requires opens { IfSome (W.outside site.old) (λ w. (h : History) × IsOpening loaded h w) }
     ensures converses { Converses (P.rules profile) loaded result (S.bytes_left source.old) (S.bytes_left source.new)
         (W.outside site.old) (W.outside site.new) }
+    ensures builds { SessionBuilds loaded (S.bytes_left source.old) (S.bytes_left source.new) (W.outside site.old)
+        steps.old steps.new }
     ensures reads { CountsReads (S.faults source.old) (S.faults source.new) result }
     ensures calls { CountsCalls (W.faults site.old) (W.faults site.new) result }
 {

@@ -1,8 +1,12 @@
 //! A session's messages, as they come.
 ghost use Rattle.std.specs.Prelude.{◌≡◌, ◌≢◌, ◌≤◌, ◌++◌, ℕ, List, [], Option, false, length, take, drop};
-ghost use Rattle.std.specs.Prelude.{IfOk, IfErr, OnOk};
+ghost use Rattle.std.specs.Prelude.{IfOk, IfErr, IfSome, OnOk};
 ghost use Rattle.road_io.specs.Outside.{Outside};
+ghost use Rattle.road_io.specs.Told.{Told};
 ghost use Rattle.sequence_journal.specs.declared.load.Loaded.{Loaded};
+ghost use Rattle.session.specs.Conversation.{Kept};
+ghost use Rattle.session.specs.Building.{BuildsFew};
+ghost use Rattle.session.specs.BuildingOn.{BuildsOn};
 ghost use Rattle.session.specs.Answering.{CountsStops};
 ghost use Rattle.session.specs.Following.{Goes, Since, Halts};
 
@@ -39,6 +43,13 @@ pub fn take_next<P: Profile, W: Site, L: Ledger>(
         (W.outside site.old)
         → Since loaded (λ opening w v. Halts (P.rules talk.old.engine.profile) opening (read ++ part.now) e w v) x
         (W.outside site.new)) }
+    ensures builds { IfOk result (λ n. Told (λ w v. (opening : Kept) (read : List ℕ) (first : ℕ)
+        → BuildsOn opening read input.old talk.old.engine.world talk.old.journal first steps.old w
+        → BuildsOn opening (read ++ take n part.now) input.new talk.new.engine.world talk.new.journal first steps.new v)
+        (W.outside site.old) (W.outside site.new)) }
+    ensures few { IfErr result (λ e. IfSome (W.outside site.old) (λ w. (opening : Kept) (read : List ℕ) (first : ℕ)
+        → BuildsOn opening read input.old talk.old.engine.world talk.old.journal first steps.old w
+        → BuildsFew opening (read ++ part.now) first steps.new)) }
     ensures calls { CountsStops (W.faults site.old) (W.faults site.new) result }
     ensures not_closed { OnOk result (talk.new.journal.closed ≡ false) }
     ensures profile { talk.new.engine.profile ≡ talk.old.engine.profile }
@@ -87,6 +98,13 @@ pub fn take_part<P: Profile, W: Site, L: Ledger>(
         (W.outside site.old)
         → Since loaded (λ opening w v. Halts (P.rules talk.old.engine.profile) opening (read ++ part.now) e w v) x
         (W.outside site.new)) }
+    ensures builds { OnOk result (Told (λ w v. (opening : Kept) (read : List ℕ) (first : ℕ)
+        → BuildsOn opening read input.old talk.old.engine.world talk.old.journal first steps.old w
+        → BuildsOn opening (read ++ part.now) input.new talk.new.engine.world talk.new.journal first steps.new v)
+        (W.outside site.old) (W.outside site.new)) }
+    ensures few { IfErr result (λ e. IfSome (W.outside site.old) (λ w. (opening : Kept) (read : List ℕ) (first : ℕ)
+        → BuildsOn opening read input.old talk.old.engine.world talk.old.journal first steps.old w
+        → BuildsFew opening (read ++ part.now) first steps.new)) }
     ensures calls { CountsStops (W.faults site.old) (W.faults site.new) result }
     ensures not_closed { OnOk result (talk.new.journal.closed ≡ false) }
     ensures profile { talk.new.engine.profile ≡ talk.old.engine.profile }

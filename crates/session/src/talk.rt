@@ -10,6 +10,7 @@ ghost use Rattle.session_input.specs.Reading.{IsChange, Means};
 ghost use Rattle.session_replies.specs.Replies.{IsQuery};
 ghost use Rattle.session.specs.Conversation.{Kept};
 ghost use Rattle.session.specs.Answering.{IsReadyAt, IsKept, Answers, IsAskedAlone, CountsStops};
+ghost use Rattle.session.specs.BuildingOn.{TouchesNone, AnswerBuilds};
 
 use crate::laws::store_laws;
 use crate::putting::{put_both, put_piece};
@@ -36,16 +37,21 @@ pub struct Talk<P: Profile> {
 
 impl<P: Profile> Talk<P> {
     /// Answers a line, which is answered by itself.
-    fn answer_line<W: Site>(&self, asked: &Asked, site: &mut W) -> Result<(), Stop>
-        requires number { (P.rules self.now.engine.profile).number ≡ 1 }
+    fn answer_line<W: Site>(&mut self, asked: &Asked, site: &mut W) -> Result<(), Stop>
+        requires number { (P.rules self.old.engine.profile).number ≡ 1 }
         requires query { IsQuery asked.now }
-        ensures told { Told (λ w v. (from : Kept) → IsKept self.now.engine.world self.now.journal from w
-            → Answers (P.rules self.now.engine.profile) from (LineMessage asked.now) self.now.engine.world
-            self.now.journal result w v) (W.outside site.old) (W.outside site.new) }
+        ensures same { self.new ≡ self.old }
+        ensures told { Told (λ w v. (from : Kept) → IsKept self.old.engine.world self.old.journal from w
+            → Answers (P.rules self.old.engine.profile) from (LineMessage asked.now) self.old.engine.world
+            self.old.journal result w v) (W.outside site.old) (W.outside site.new) }
+        ensures builds { Told (λ w v. (from : Kept) → IsKept self.old.engine.world self.old.journal from w
+            → TouchesNone from (LineMessage asked.now) self.old.engine.world self.old.journal v) (W.outside site.old)
+            (W.outside site.new) }
         ensures calls { CountsStops (W.faults site.old) (W.faults site.new) result }
     {
         store_laws();
-        let Ok(reply) = reply_to(self.alloc, &self.engine, self.journal.kept(), asked) else {
+        let kept = self.journal.kept();
+        let Ok(reply) = reply_to(self.alloc, &mut self.engine, kept, asked) else {
             return Err(Stop::NoMemory);
         };
         put_both(site, &reply.line, &reply.graph)
@@ -57,6 +63,10 @@ impl<P: Profile> Talk<P> {
         ensures told { Told (λ w v. (from : Kept) (body : List ℕ) → IsKept self.now.engine.world self.now.journal from w
             → Answers (P.rules self.now.engine.profile) from (FrameMessage number.0 body) self.now.engine.world
             self.now.journal result w v) (W.outside site.old) (W.outside site.new) }
+        ensures builds { Told (λ w v. (from : Kept) (body : List ℕ)
+            → IsKept self.now.engine.world self.now.journal from w
+            → TouchesNone from (FrameMessage number.0 body) self.now.engine.world self.now.journal v)
+            (W.outside site.old) (W.outside site.new) }
         ensures calls { CountsStops (W.faults site.old) (W.faults site.new) result }
     {
         store_laws();
@@ -79,6 +89,11 @@ impl<P: Profile> Talk<P> {
             → IsKept self.now.engine.world self.now.journal from w
             → Answers (P.rules self.now.engine.profile) from (FrameMessage number.0 body) self.now.engine.world
             self.now.journal result w v) (W.outside site.old) (W.outside site.new) }
+        ensures builds { Told (λ w v. (from : Kept) (body : List ℕ)
+            → input_fault ChangeMode body ≡ Some (fault_at fault.now)
+            → IsKept self.now.engine.world self.now.journal from w
+            → TouchesNone from (FrameMessage number.0 body) self.now.engine.world self.now.journal v)
+            (W.outside site.old) (W.outside site.new) }
         ensures calls { CountsStops (W.faults site.old) (W.faults site.new) result }
     {
         store_laws();
@@ -88,8 +103,8 @@ impl<P: Profile> Talk<P> {
         put_piece(site, &line)
     }
 
-    /// Accepts a frame that has the next number and no fault: its change is applied to the objects, then kept, and then
-    /// it is told so.
+    /// Accepts a frame that has the next number and no fault, where there is room for it: its change is applied to the
+    /// objects, then kept, and then it is told so.
     fn accept<W: Site, L: Ledger>(
         &mut self,
         number: Sequence,
@@ -104,6 +119,10 @@ impl<P: Profile> Talk<P> {
             → IsKept self.old.engine.world self.old.journal from w
             → Answers (P.rules self.old.engine.profile) from (FrameMessage number.0 body) self.new.engine.world
             self.new.journal result w v) (W.outside site.old) (W.outside site.new) }
+        ensures builds { Told (λ w v. (from : Kept) (body : List ℕ) → ReadAll ChangeMode body events.now
+            → IsKept self.old.engine.world self.old.journal from w
+            → AnswerBuilds from (FrameMessage number.0 body) self.new.engine.world self.new.journal result steps.old
+            steps.new v) (W.outside site.old) (W.outside site.new) }
         ensures calls { CountsStops (W.faults site.old) (W.faults site.new) result }
         ensures not_closed { OnOk result (self.new.journal.closed ≡ false) }
         ensures profile { self.new.engine.profile ≡ self.old.engine.profile }
@@ -112,6 +131,12 @@ impl<P: Profile> Talk<P> {
         let Ok(line) = applied(self.alloc, number) else {
             return Err(Stop::NoMemory);
         };
+        let Ok(has_room) = self.journal.has_room_for(self.alloc, events) else {
+            return Err(Stop::NoMemory);
+        };
+        if !has_room {
+            return Err(Stop::Limit);
+        }
         let Ok(_) = self.engine.apply(events, steps) else {
             return Err(Stop::NoMemory);
         };
@@ -135,6 +160,10 @@ impl<P: Profile> Talk<P> {
             → IsKept self.old.engine.world self.old.journal from w
             → Answers (P.rules self.old.engine.profile) from (FrameMessage number.0 body) self.new.engine.world
             self.new.journal result w v) (W.outside site.old) (W.outside site.new) }
+        ensures builds { Told (λ w v. (from : Kept) (body : List ℕ) → IsChange body change.now
+            → IsKept self.old.engine.world self.old.journal from w
+            → AnswerBuilds from (FrameMessage number.0 body) self.new.engine.world self.new.journal result steps.old
+            steps.new v) (W.outside site.old) (W.outside site.new) }
         ensures calls { CountsStops (W.faults site.old) (W.faults site.new) result }
         ensures not_closed { OnOk result (self.new.journal.closed ≡ false) }
         ensures profile { self.new.engine.profile ≡ self.old.engine.profile }
@@ -162,6 +191,10 @@ impl<P: Profile> Talk<P> {
         ensures told { Told (λ w v. (from : Kept) (message : Message) → Means message received.now
             → IsKept self.old.engine.world self.old.journal from w
             → Answers (P.rules self.old.engine.profile) from message self.new.engine.world self.new.journal result w v)
+            (W.outside site.old) (W.outside site.new) }
+        ensures builds { Told (λ w v. (from : Kept) (message : Message) → Means message received.now
+            → IsKept self.old.engine.world self.old.journal from w
+            → AnswerBuilds from message self.new.engine.world self.new.journal result steps.old steps.new v)
             (W.outside site.old) (W.outside site.new) }
         ensures calls { CountsStops (W.faults site.old) (W.faults site.new) result }
         ensures not_closed { OnOk result (self.new.journal.closed ≡ false) }

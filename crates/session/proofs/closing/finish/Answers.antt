@@ -1,9 +1,10 @@
-use Rattle.std.proofs.Common.{◌++◌, ◌∷◌, [], length, subst, ◌∙◌}
+use Rattle.std.proofs.Common.{◌++◌, ◌∷◌, [], Ok, Err, length, subst, ◌∙◌}
 use Rattle.opl_lexer.specs.Letters.{newline}
 use Rattle.session_input.specs.declared.received.Ending.{Ending}
 use Rattle.session_input.specs.Reading.{IsEnding}
 use Rattle.session.proofs.AskedAlone.{is_alone}
 use Rattle.session.proofs.ClosedSessions.{ends_done, ends_memory, closes_unfinished, ends_answered, halts_last}
+use Rattle.session.proofs.BuiltSessions.{ends_building, last_building}
 use Rattle.session.proofs.closing.finish.Goals as goal
 
 pub returns-in-Err-clause-ends : goal.returns-in-Err-clause-ends
@@ -75,3 +76,46 @@ returns-clause-ends g c = λ loaded read x goes.
     (ended.ensures.ended (length goes.front) goes.pending goes.holds))
     after.engine.world after.journal (g.W.Site.outside c.answer.new.site) c.in-Err-answer.stop
     c.in-Err-answer.ensures.told)
+
+-- ---- how many blocks were built
+
+pub returns-in-Err-clause-builds : goal.returns-in-Err-clause-builds
+returns-in-Err-clause-builds g c =
+    let talk = c.args.talk.now in
+    ends_building c.args.input talk.engine.world talk.journal c.args.steps.now (g.W.Site.outside c.args.site.now)
+
+pub returns-in-Ok-Done-clause-builds : goal.returns-in-Ok-Done-clause-builds
+returns-in-Ok-Done-clause-builds g c =
+    let talk = c.args.talk.now in
+    ends_building c.args.input talk.engine.world talk.journal c.args.steps.now (g.W.Site.outside c.args.site.now)
+
+pub returns-in-Ok-clause-builds : goal.returns-in-Ok-clause-builds
+returns-in-Ok-clause-builds g c =
+    let talk = c.args.talk.now in
+    ends_building c.args.input talk.engine.world talk.journal c.args.steps.now (g.W.Site.outside c.args.site.now)
+
+pub returns-in-Ok-Unfinished-clause-builds : goal.returns-in-Ok-Unfinished-clause-builds
+returns-in-Ok-Unfinished-clause-builds g c =
+    let talk = c.args.talk.now in
+    ends_building c.args.input talk.engine.world talk.journal c.args.steps.now (g.W.Site.outside c.args.site.now)
+
+pub returns-in-Ok-answer-clause-builds : goal.returns-in-Ok-answer-clause-builds
+returns-in-Ok-answer-clause-builds g c =
+    let talk = c.args.talk.now in
+    let ended = c.in-Ok-Last in
+    let after = c.answer.new.self in
+    last_building c.args.input talk.engine.world talk.journal c.args.steps.now (g.W.Site.outside c.args.site.now)
+    ended.received after.engine.world after.journal c.answer.new.steps (g.W.Site.outside c.answer.new.site) (Ok tt)
+    (λ before bytes holds. subst (λ (e : Ending). IsEnding bytes e) ended.field-0-is (ended.ensures.ended before bytes
+    holds)) c.in-Ok-answer.ensures.builds
+
+pub returns-clause-builds : goal.returns-clause-builds
+returns-clause-builds g c =
+    let talk = c.args.talk.now in
+    let ended = c.in-Ok-Last in
+    let after = c.answer.new.self in
+    last_building c.args.input talk.engine.world talk.journal c.args.steps.now (g.W.Site.outside c.args.site.now)
+    ended.received after.engine.world after.journal c.answer.new.steps (g.W.Site.outside c.answer.new.site)
+    (Err c.in-Err-answer.stop)
+    (λ before bytes holds. subst (λ (e : Ending). IsEnding bytes e) ended.field-0-is (ended.ensures.ended before bytes
+    holds)) c.in-Err-answer.ensures.builds

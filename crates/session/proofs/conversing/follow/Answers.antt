@@ -9,6 +9,9 @@ use Rattle.session.proofs.SourceParts.{Took, took_nothing, took_more, took_still
 use Rattle.session.proofs.ClosedSessions.{ends_memory, ends_read}
 use Rattle.session.proofs.ReadSessions.{conversed, took_whole, behind_nothing, not_at_end, not_read_fault, total_read}
 use Rattle.session.proofs.ReadSessions.{reads_calm, calls_calm, read_fault_inside}
+use Rattle.session.proofs.Optional.{at_some}
+use Rattle.session.proofs.BuiltMessages.{builds_all}
+use Rattle.session.proofs.BuiltSessions.{read_begins, read_building, read_of, told_at}
 use Rattle.session.proofs.conversing.follow.Goals as goal
 
 pub returns-in_default-clause-converses : goal.returns-in_default-clause-converses
@@ -26,6 +29,8 @@ loop-n-init g c = (
     read = [];
     took = took_nothing (g.S.Source.bytes_left c.args.source.now);
     goes = λ loaded x goes. goes;
+    builds = read_begins c.args.input c.args.talk.now.engine.world c.args.talk.now.journal c.args.steps.now
+        (g.W.Site.outside c.args.site.now);
     total = total_read (g.P.Profile.rules c.args.talk.now.engine.profile) c.requires.goes.0 [] c.args.input
         c.args.talk.now.engine.world c.args.talk.now.journal c.requires.goes.1 (g.W.Site.outside c.args.site.now)
         c.requires.goes.2;
@@ -36,6 +41,15 @@ loop-n-init g c = (
   },
   refl,
 )
+
+pub returns-in_default-clause-builds : goal.returns-in_default-clause-builds
+returns-in_default-clause-builds g c = λ bytes behind w opening first was is tells b.
+    let talk = c.args.talk.now in
+    let held = g.S.Source.bytes_left c.args.source.now in (
+      [],
+      read_of [] bytes behind held held (took_nothing held) was is,
+      builds_all opening [] c.args.input talk.engine.world talk.journal first c.args.steps.now w b,
+    )
 
 -- ---- a read failed
 
@@ -68,6 +82,22 @@ pub returns-in_default-read-clause-calls : goal.returns-in_default-read-clause-c
 returns-in_default-read-clause-calls g c =
     calls_calm (g.W.Site.faults c.args.site.now) (g.W.Site.faults c.loop-n.site) ReadFault
     c.loop-n.invariant.0.calm_calls (λ e. (cc))
+
+pub returns-in_default-read-clause-builds : goal.returns-in_default-read-clause-builds
+returns-in_default-read-clause-builds g c = λ bytes behind w opening first was is tells b.
+    let i = c.loop-n.invariant.0 in
+    let talk = c.loop-n.talk in
+    let held = g.S.Source.bytes_left c.args.source.now in
+    let left = g.S.Source.bytes_left c.loop-n.source in
+    let after = g.S.Source.bytes_left c.read.new.self in
+    let failed = c.in_default-read in
+    let now = told_at (g.W.Site.outside c.args.site.now) (g.W.Site.outside c.loop-n.site) _ w i.builds tells in (
+      i.read,
+      read_of i.read bytes behind held after (took_still i.read c.deref_mut.result.now c.read.new.buf failed.field-0
+          held left after i.took failed.ensures.told) was is,
+      builds_all opening i.read c.loop-n.input talk.engine.world talk.journal first c.loop-n.steps now.0
+          (now.2 opening first b),
+    )
 
 -- ---- all was read
 
@@ -109,6 +139,23 @@ returns-then-n-eq0-clause-converses g c = λ loaded x goes.
     (c.finish.ensures.ends loaded i.read x (subst (λ p. Goes (g.P.Profile.rules p) loaded i.read c.loop-n.input
     talk.engine.world talk.journal x (g.W.Site.outside c.loop-n.site)) (sym c.loop-n.invariant.1)
     (i.goes loaded x goes))))
+
+pub returns-then-n-eq0-clause-builds : goal.returns-then-n-eq0-clause-builds
+returns-then-n-eq0-clause-builds g c = λ bytes behind w opening first was is tells b.
+    let i = c.loop-n.invariant.0 in
+    let talk = c.loop-n.talk in
+    let held = g.S.Source.bytes_left c.args.source.now in
+    let left = g.S.Source.bytes_left c.loop-n.source in
+    let after = g.S.Source.bytes_left c.read.new.self in
+    let room : 0 < length c.deref_mut.result.now = omega (arith, c.deref_mut.ensures.len, i.room) in
+    let told = took_all i.read c.deref_mut.result.now c.read.new.buf c.in-Ok-read.n held left after room c.if-n-eq0.true
+    i.took c.in-Ok-read.ensures.told in
+    let here = g.W.Site.outside c.loop-n.site in
+    let now = told_at (g.W.Site.outside c.args.site.now) here _ w i.builds tells in (
+      i.read,
+      read_of i.read bytes behind held after (took_whole i.read held after told) was is,
+      at_some here now.0 _ now.1 c.finish.ensures.builds opening i.read first (now.2 opening first b),
+    )
 
 pub returns-then-n-eq0-clause-reads : goal.returns-then-n-eq0-clause-reads
 returns-then-n-eq0-clause-reads g c =
@@ -188,6 +235,10 @@ loop-n-preserved g c =
             (c.in-Ok-take_part.ensures.goes loaded i.read x (subst (λ p. Goes (g.P.Profile.rules p) loaded i.read
             c.loop-n.input old.engine.world old.journal x (g.W.Site.outside c.loop-n.site)) (sym same)
             (i.goes loaded x goes)));
+        builds = read_building c.args.input c.loop-n.input c.take_part.new.input c.args.talk.now.engine.world
+            old.engine.world talk.engine.world c.args.talk.now.journal old.journal talk.journal c.args.steps.now
+            c.loop-n.steps c.take_part.new.steps (g.W.Site.outside c.args.site.now) (g.W.Site.outside c.loop-n.site)
+            i.read part (g.W.Site.outside c.take_part.new.site) i.builds c.in-Ok-take_part.ensures.builds;
         total = total_read (g.P.Profile.rules old.engine.profile) was.0 (i.read ++ part) c.take_part.new.input
             talk.engine.world talk.journal was.1 (g.W.Site.outside c.take_part.new.site)
             (c.in-Ok-take_part.ensures.goes was.0 i.read was.1 (subst (λ p. Goes (g.P.Profile.rules p) was.0 i.read
@@ -225,6 +276,26 @@ returns-in-Err-clause-converses g c = λ loaded x goes.
     (g.W.Site.outside c.take_part.new.site)) same
     (c.in-Err.ensures.halts loaded i.read x (subst (λ p. Goes (g.P.Profile.rules p) loaded i.read c.loop-n.input
     old.engine.world old.journal x (g.W.Site.outside c.loop-n.site)) (sym same) (i.goes loaded x goes)))))
+
+pub returns-in-Err-clause-builds : goal.returns-in-Err-clause-builds
+returns-in-Err-clause-builds g c = λ bytes behind w opening first was is tells b.
+    let i = c.loop-n.invariant.0 in
+    let held = g.S.Source.bytes_left c.args.source.now in
+    let left = g.S.Source.bytes_left c.loop-n.source in
+    let after = g.S.Source.bytes_left c.read.new.self in
+    let part = c.front.result.now in
+    let n = c.in-Ok-read.n in
+    let same : c.deref.result.now ≡ c.read.new.buf = grind (arith, common_steps) in
+    let taken : part ≡ take n c.read.new.buf = c.front.ensures.value ∙ ap (λ (l : List ℕ). take n l) same in
+    let here = g.W.Site.outside c.loop-n.site in
+    let now = told_at (g.W.Site.outside c.args.site.now) here _ w i.builds tells in (
+      i.read ++ part,
+      read_of (i.read ++ part) bytes behind held after
+          (subst (λ (l : List ℕ). Took (i.read ++ l) held after) (sym taken)
+          (took_more i.read c.deref_mut.result.now c.read.new.buf n held left after i.took c.in-Ok-read.ensures.told))
+          was is,
+      at_some here now.0 _ now.1 c.in-Err.ensures.few opening i.read first (now.2 opening first b),
+    )
 
 pub returns-in-Err-clause-reads : goal.returns-in-Err-clause-reads
 returns-in-Err-clause-reads g c =

@@ -1,12 +1,16 @@
-use Rattle.std.proofs.Common.{◌++◌, ◌+◌, ℕ, List, [], length, take, drop, subst}
+use Rattle.std.proofs.Common.{◌++◌, ◌+◌, ℕ, List, [], IfSome, length, take, drop, subst}
 use Rattle.std.proofs.lemmas.List.{take-append-drop}
 use Rattle.session_input.specs.declared.received.InputStop.{InputStop}
 use Rattle.session_input.specs.Holding.{Holds}
 use Rattle.session_input.specs.Reading.{Receives, StopsAt}
+use Rattle.session.specs.Conversation.{Kept}
+use Rattle.session.specs.Building.{BuildsFew}
+use Rattle.session.specs.BuildingOn.{BuildsOn}
 use Rattle.session.specs.Following.{Since, Halts}
 use Rattle.session.proofs.Optional.{at_some, at_none}
 use Rattle.session.proofs.AskedAlone.{received_alone}
 use Rattle.session.proofs.FollowedMessages.{goes_more, goes_on, halts, halts_long, breaks_more}
+use Rattle.session.proofs.BuiltSessions.{goes_building, stops_building, answers_building, halts_building}
 use Rattle.session.proofs.following.take_next.Goals as goal
 
 -- ---- the input isn't read on
@@ -26,6 +30,18 @@ returns-in-Err-NoMemory-clause-halts g c = λ loaded read x goes.
     breaks_more (g.P.Profile.rules talk.engine.profile) loaded read c.args.input.now talk.engine.world talk.journal x
     (g.W.Site.outside c.args.site.now) goes c.args.part.now
 
+pub returns-in-Err-TooLong-clause-few : goal.returns-in-Err-TooLong-clause-few
+returns-in-Err-TooLong-clause-few g c =
+    let talk = c.args.talk.now in
+    stops_building c.args.input.now talk.engine.world talk.journal c.args.steps.now
+    (g.W.Site.outside c.args.site.now) c.args.part.now
+
+pub returns-in-Err-NoMemory-clause-few : goal.returns-in-Err-NoMemory-clause-few
+returns-in-Err-NoMemory-clause-few g c =
+    let talk = c.args.talk.now in
+    stops_building c.args.input.now talk.engine.world talk.journal c.args.steps.now
+    (g.W.Site.outside c.args.site.now) c.args.part.now
+
 -- ---- no message ended
 
 pub returns-in-None-clause-goes : goal.returns-in-None-clause-goes
@@ -34,6 +50,15 @@ returns-in-None-clause-goes g c = λ loaded read x goes.
     let taken = c.in-Ok.taken in
     goes_more (g.P.Profile.rules talk.engine.profile) loaded read c.args.input.now talk.engine.world talk.journal x
     (g.W.Site.outside c.args.site.now) goes (take taken.used c.args.part.now) c.take.new.self
+    (at_none taken.received ((before : ℕ) (bytes : List ℕ) → Holds before bytes c.args.input.now
+    → Holds before (bytes ++ take taken.used c.args.part.now) c.take.new.self) c.in-None.is c.in-Ok.ensures.more)
+
+pub returns-in-None-clause-builds : goal.returns-in-None-clause-builds
+returns-in-None-clause-builds g c =
+    let talk = c.args.talk.now in
+    let taken = c.in-Ok.taken in
+    goes_building c.args.input.now talk.engine.world talk.journal c.args.steps.now (g.W.Site.outside c.args.site.now)
+    (take taken.used c.args.part.now) c.take.new.self
     (at_none taken.received ((before : ℕ) (bytes : List ℕ) → Holds before bytes c.args.input.now
     → Holds before (bytes ++ take taken.used c.args.part.now) c.take.new.self) c.in-None.is c.in-Ok.ensures.more)
 
@@ -82,3 +107,37 @@ returns-clause-halts g c = λ loaded read x goes.
     (halts P loaded read c.args.input.now talk.engine.world talk.journal x (g.W.Site.outside c.args.site.now) goes
     (take taken.used part) c.take.new.self c.in-Some.received receives after.engine.world after.journal
     (g.W.Site.outside c.answer.new.site) c.in-Err.stop (drop taken.used part) c.in-Err.ensures.told)
+
+pub returns-in-Ok-answer-clause-builds : goal.returns-in-Ok-answer-clause-builds
+returns-in-Ok-answer-clause-builds g c =
+    let talk = c.args.talk.now in
+    let taken = c.in-Ok.taken in
+    let after = c.answer.new.self in
+    let receives = at_some taken.received c.in-Some.received (λ r. (before : ℕ) (bytes : List ℕ)
+    → Holds before bytes c.args.input.now
+    → Receives before r (bytes ++ take taken.used c.args.part.now)
+    × Holds (before + length (bytes ++ take taken.used c.args.part.now)) [] c.take.new.self)
+    c.in-Some.is c.in-Ok.ensures.received in
+    answers_building c.args.input.now talk.engine.world talk.journal c.args.steps.now
+    (g.W.Site.outside c.args.site.now) c.in-Some.received after.engine.world after.journal c.answer.new.steps
+    (g.W.Site.outside c.answer.new.site) (take taken.used c.args.part.now) c.take.new.self receives tt
+    c.in-Ok-answer.ensures.builds
+
+pub returns-clause-few : goal.returns-clause-few
+returns-clause-few g c =
+    let talk = c.args.talk.now in
+    let taken = c.in-Ok.taken in
+    let part = c.args.part.now in
+    let after = c.answer.new.self in
+    let receives = at_some taken.received c.in-Some.received (λ r. (before : ℕ) (bytes : List ℕ)
+    → Holds before bytes c.args.input.now
+    → Receives before r (bytes ++ take taken.used part)
+    × Holds (before + length (bytes ++ take taken.used part)) [] c.take.new.self)
+    c.in-Some.is c.in-Ok.ensures.received in
+    subst (λ (l : List ℕ). IfSome (g.W.Site.outside c.args.site.now) (λ w. (opening : Kept) (read : List ℕ) (first : ℕ)
+    → BuildsOn opening read c.args.input.now talk.engine.world talk.journal first c.args.steps.now w
+    → BuildsFew opening (read ++ l) first c.answer.new.steps)) (take-append-drop taken.used part)
+    (halts_building c.args.input.now talk.engine.world talk.journal c.args.steps.now
+    (g.W.Site.outside c.args.site.now) c.in-Some.received after.engine.world after.journal c.answer.new.steps
+    (g.W.Site.outside c.answer.new.site) (take taken.used part) c.take.new.self receives c.in-Err.stop
+    (drop taken.used part) c.in-Err.ensures.builds)

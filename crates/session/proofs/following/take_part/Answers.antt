@@ -2,8 +2,12 @@ use Rattle.std.proofs.Common.{◌≡◌, ◌+◌, ◌≤◌, ◌++◌, ℕ, List
 use Rattle.std.proofs.Common.{ap, subst, append_assoc, arith}
 use Rattle.std.proofs.lemmas.List.{append-nil, take-append-drop, take_all, length-drop}
 use Rattle.std.proofs.Math.Seq.{take-add}
+use Rattle.road_io.specs.Told.{Told}
+use Rattle.session.specs.Conversation.{Kept}
+use Rattle.session.specs.BuildingOn.{BuildsOn}
 use Rattle.session.specs.Answering.{CountsStops}
 use Rattle.session.specs.Following.{Goes, Since, Halts}
+use Rattle.session.proofs.BuiltSessions.{part_begins, part_building, part_halts}
 use Rattle.session.proofs.following.take_part.Goals as goal
 
 within_then : (used more : ℕ) (part rest : List ℕ) → used ≤ length part → rest ≡ drop used part → more ≤ length rest
@@ -17,6 +21,8 @@ loop-used-init g c = (
     goes = λ loaded read x goes. subst (λ (l : List ℕ). Goes (g.P.Profile.rules c.args.talk.now.engine.profile) loaded l
         c.args.input.now c.args.talk.now.engine.world c.args.talk.now.journal x (g.W.Site.outside c.args.site.now))
         (sym (append-nil read)) goes;
+    builds = part_begins c.args.input.now c.args.talk.now.engine.world c.args.talk.now.journal c.args.steps.now
+        (g.W.Site.outside c.args.site.now);
     within = omega arith;
     calm = refl;
     not_closed = c.requires.not_closed;
@@ -66,6 +72,11 @@ loop-used-preserved g c =
             (c.in-Ok.ensures.goes loaded (read ++ take used part) x
             (subst (λ p. Goes (g.P.Profile.rules p) loaded (read ++ take used part) c.loop-used.input old.engine.world
             old.journal x (g.W.Site.outside c.loop-used.site)) (sym i.1) (i.0.goes loaded read x goes)))));
+        builds = part_building c.args.input.now c.loop-used.input c.take_next.new.input c.args.talk.now.engine.world
+            old.engine.world talk.engine.world c.args.talk.now.journal old.journal talk.journal c.args.steps.now
+            c.loop-used.steps c.take_next.new.steps (g.W.Site.outside c.args.site.now)
+            (g.W.Site.outside c.loop-used.site) used more part c.behind.result.now
+            (g.W.Site.outside c.take_next.new.site) c.behind.ensures i.0.builds c.in-Ok.ensures.builds;
         within = within_then used more part c.behind.result.now i.0.within c.behind.ensures c.in-Ok.ensures.used;
         calm = c.in-Ok.ensures.calls.stays (λ e. (cc)) ∙ i.0.calm;
         not_closed = c.in-Ok.ensures.not_closed;
@@ -91,6 +102,15 @@ returns-in-Err-clause-halts g c = λ loaded read x goes.
     (subst (λ p. Goes (g.P.Profile.rules p) loaded (read ++ take used part) c.loop-used.input old.engine.world
     old.journal x (g.W.Site.outside c.loop-used.site)) (sym i.1) (i.0.goes loaded read x goes)))))
 
+pub returns-in-Err-clause-few : goal.returns-in-Err-clause-few
+returns-in-Err-clause-few g c =
+    let old = c.loop-used.talk in
+    let talk = c.take_next.new.talk in
+    part_halts c.args.input.now c.loop-used.input c.take_next.new.input c.args.talk.now.engine.world old.engine.world
+    talk.engine.world c.args.talk.now.journal old.journal talk.journal c.args.steps.now c.loop-used.steps
+    c.take_next.new.steps (g.W.Site.outside c.args.site.now) (g.W.Site.outside c.loop-used.site) c.loop-used.used
+    c.args.part.now c.behind.result.now c.behind.ensures c.loop-used.invariant.0.builds c.in-Err.ensures.few
+
 pub returns-in-Err-clause-calls : goal.returns-in-Err-clause-calls
 returns-in-Err-clause-calls g c =
     subst (λ (n : ℕ). CountsStops {T = Unit {0}} n (g.W.Site.faults c.take_next.new.site) (Err c.in-Err.stop))
@@ -110,6 +130,17 @@ returns-clause-goes g c = λ loaded read x goes.
     subst (λ (l : List ℕ). Goes (g.P.Profile.rules c.args.talk.now.engine.profile) loaded (read ++ l) c.loop-used.input
     c.loop-used.talk.engine.world c.loop-used.talk.journal x (g.W.Site.outside c.loop-used.site))
     (take_all c.loop-used.used part (omega (arith, c.loop-used-test.false))) (i.0.goes loaded read x goes)
+
+pub returns-clause-builds : goal.returns-clause-builds
+returns-clause-builds g c =
+    let part = c.args.part.now in
+    let talk = c.loop-used.talk in
+    subst (λ (l : List ℕ). Told (λ w v. (opening : Kept) (read : List ℕ) (first : ℕ)
+    → BuildsOn opening read c.args.input.now c.args.talk.now.engine.world c.args.talk.now.journal first
+    c.args.steps.now w
+    → BuildsOn opening (read ++ l) c.loop-used.input talk.engine.world talk.journal first c.loop-used.steps v)
+    (g.W.Site.outside c.args.site.now) (g.W.Site.outside c.loop-used.site))
+    (take_all c.loop-used.used part (omega (arith, c.loop-used-test.false))) c.loop-used.invariant.0.builds
 
 pub returns-clause-calls : goal.returns-clause-calls
 returns-clause-calls g c = record { cause = λ e. (cc); stays = λ other. c.loop-used.invariant.0.calm }

@@ -1,5 +1,43 @@
-use Rattle.session.proofs.ToldAnswers.{change_answers, change_fails}
+use Rattle.std.proofs.Common.{length}
+use Rattle.object_codec.specs.Spelling.{events_bytes}
+use Rattle.road_io.proofs.ToldCalls.{some_weaker}
+use Rattle.sequence_journal.specs.Journal.{IsReady}
+use Rattle.session.specs.Answering.{IsReadyAt}
+use Rattle.session.specs.declared.stop.Stop.TheVariants.{NoMemory}
+use Rattle.session.proofs.AnsweredMessages.{room_there, room_missing}
+use Rattle.session.proofs.ToldAnswers.{change_answers, change_fails, full_answers}
+use Rattle.session.proofs.BuiltAnswers.{change_builds_still, change_builds_only, change_builds_kept}
 use Rattle.session.proofs.talk.Talk.accept.Goals as goal
+
+-- ---- there is no room for the change, or no memory
+
+pub returns-then-not-has_room-clause-told : goal.returns-then-not-has_room-clause-told
+returns-then-not-has_room-clause-told g c =
+    let self = c.args.self.now in
+    let asked = c.in-Ok-has_room_for in
+    full_answers (g.P.Profile.rules self.engine.profile) c.args.number c.args.events.now self.journal self.engine.world
+    (g.W.Site.outside c.args.site.now) c.requires.next
+    (room_missing self.journal.gate (length (events_bytes c.args.events.now)) asked.has_room asked.ensures
+    c.if-not-has_room.true)
+
+pub returns-in_default-apply-clause-builds : goal.returns-in_default-apply-clause-builds
+returns-in_default-apply-clause-builds g c =
+    let self = c.args.self.now in
+    let asked = c.in-Ok-has_room_for in
+    change_builds_still c.store_laws.ensures (g.P.Profile.rules self.engine.profile) c.args.number c.args.events.now
+    self.journal self.journal self.engine.world c.apply.new.self.world c.args.steps.now c.apply.new.steps
+    c.requires.next
+    (room_there self.journal.gate (length (events_bytes c.args.events.now)) asked.has_room asked.ensures
+    c.if-not-has_room.false)
+    c.apply.ensures.built NoMemory (g.W.Site.outside c.args.site.now)
+
+-- ---- the change is kept, and told
+
+pub append-requires : goal.append-requires
+append-requires g c = λ not_closed.
+    let self = c.args.self.now in
+    some_weaker (g.W.Site.outside c.args.site.now) (IsReadyAt self.engine.world self.journal) (IsReady self.journal)
+    c.requires.ready (λ w ready. (ready.0.history, ready.1.on_store.at))
 
 pub returns-in-Ok-append-clause-told : goal.returns-in-Ok-append-clause-told
 returns-in-Ok-append-clause-told g c =
@@ -11,6 +49,22 @@ returns-in-Ok-append-clause-told g c =
     c.in-Ok-apply.ensures.applied c.in-Ok.ensures c.deref.ensures.value c.in-Ok-append.ensures.told
     c.put_piece.ensures.told
 
+pub returns-in-Ok-append-clause-builds : goal.returns-in-Ok-append-clause-builds
+returns-in-Ok-append-clause-builds g c =
+    let self = c.args.self.now in
+    let asked = c.in-Ok-has_room_for in
+    change_builds_kept c.store_laws.ensures (g.P.Profile.rules self.engine.profile) c.args.number c.args.events.now
+    self.journal c.append.new.self self.engine.world c.apply.new.self.world c.args.steps.now c.apply.new.steps
+    c.requires.next
+    (room_there self.journal.gate (length (events_bytes c.args.events.now)) asked.has_room asked.ensures
+    c.if-not-has_room.false)
+    c.apply.ensures.built c.in-Ok-apply.ensures.ways _ _ tt c.in-Ok-append.ensures.answer
+    c.in-Ok-apply.ensures.applied (g.W.Site.outside c.args.site.now) (g.W.Site.outside c.append.new.site)
+    (g.W.Site.outside c.put_piece.new.site) c.deref.result.now c.put_piece.result c.in-Ok-append.ensures.told
+    c.put_piece.ensures.told
+
+-- ---- the change isn't kept
+
 pub returns-clause-told : goal.returns-clause-told
 returns-clause-told g c =
     let self = c.args.self.now in
@@ -18,3 +72,15 @@ returns-clause-told g c =
     self.journal c.append.new.self self.engine.world c.apply.new.self.world _ _ (g.W.Site.outside c.args.site.now)
     (g.W.Site.outside c.append.new.site) c.in-Err.error c.stop_of.result c.requires.not_closed c.in-Err.ensures.answer
     c.stop_of.ensures c.in-Err.ensures.told
+
+pub returns-clause-builds : goal.returns-clause-builds
+returns-clause-builds g c =
+    let self = c.args.self.now in
+    let asked = c.in-Ok-has_room_for in
+    change_builds_only c.store_laws.ensures (g.P.Profile.rules self.engine.profile) c.args.number c.args.events.now
+    self.journal c.append.new.self self.engine.world c.apply.new.self.world c.args.steps.now c.apply.new.steps
+    c.requires.next
+    (room_there self.journal.gate (length (events_bytes c.args.events.now)) asked.has_room asked.ensures
+    c.if-not-has_room.false)
+    c.apply.ensures.built _ c.stop_of.result (g.W.Site.outside c.args.site.now)
+    (g.W.Site.outside c.append.new.site) c.in-Err.ensures.told

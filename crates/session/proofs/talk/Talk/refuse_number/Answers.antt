@@ -1,4 +1,5 @@
 use Rattle.session.proofs.ToldAnswers.{number_answers}
+use Rattle.session.proofs.BuiltAnswers.{number_builds, number_still}
 use Rattle.session.proofs.talk.Talk.refuse_number.Goals as goal
 
 pub returns-clause-told : goal.returns-clause-told
@@ -8,3 +9,15 @@ returns-clause-told g c =
     c.put_piece.result c.put_piece.ensures.named (g.W.Site.outside c.args.site.now)
     (g.W.Site.outside c.put_piece.new.site) c.args.number c.kept.result c.in-Ok.line.items c.deref.result.now c.requires
     c.kept.ensures c.in-Ok.ensures c.deref.ensures.value c.put_piece.ensures.told
+
+pub returns-clause-builds : goal.returns-clause-builds
+returns-clause-builds g c =
+    let self = c.args.self.now in
+    number_builds c.store_laws.ensures self.engine.world self.journal c.deref.result.now c.put_piece.result
+    (g.W.Site.outside c.args.site.now) (g.W.Site.outside c.put_piece.new.site) c.put_piece.ensures.told c.args.number
+    c.requires
+
+pub returns-in_default-clause-builds : goal.returns-in_default-clause-builds
+returns-in_default-clause-builds g c =
+    let self = c.args.self.now in
+    number_still self.engine.world self.journal (g.W.Site.outside c.args.site.now) c.args.number c.requires
