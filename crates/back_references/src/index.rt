@@ -9,7 +9,7 @@ ghost use Rattle.back_references.specs.Holding.{base_pairs};
 
 use crate::exchanges::{exchanged_values, keys_of};
 use crate::pair_list::PairList;
-use object_store::SharedMap;
+use object_store::{SharedMap, Slotted};
 use road_base::{NoMemory, Numbered};
 use std::alloc::Global;
 use std::marker::Model;
@@ -18,13 +18,13 @@ use std::rc::Rc;
 /// Keys with values. Contracts see the pairs as they were made, and the lists that stand in their place at the keys
 /// where something has changed since.
 #[derive(Drop)]
-pub struct Index<K: Ord + Copy + Numbered, V: Ord + Copy> {
+pub struct Index<K: Ord + Copy + Numbered + Slotted, V: Ord + Copy> {
     alloc: Global,
     base: Option<Rc<PairList<K, V>>>,
     replaced: SharedMap<K, Vec<V>>,
 }
 
-impl<K: Ord + Copy + Numbered, V: Ord + Copy> Model for Index<K, V> {
+impl<K: Ord + Copy + Numbered + Slotted, V: Ord + Copy> Model for Index<K, V> {
     ghost use Rattle.back_references.specs.Indexes.{Held, Ascend};
     ghost use Rattle.std.specs.Prelude.{map};
     ghost use Rattle.back_references.specs.Holding.{base_pairs};
@@ -36,7 +36,7 @@ impl<K: Ord + Copy + Numbered, V: Ord + Copy> Model for Index<K, V> {
     ghost invariant = { λ i. Ascend K.cmp V.cmp (map (λ p. (p.0, p.1.items)) i.replaced) };
 }
 
-impl<K: Ord + Copy + Numbered, V: Ord + Copy> Index<K, V> {
+impl<K: Ord + Copy + Numbered + Slotted, V: Ord + Copy> Index<K, V> {
     /// No values. Takes no memory.
     pub fn new(alloc: Global) -> Index<K, V>
         ensures { result ≡ ([], []) }

@@ -6,17 +6,18 @@
 //! pairs. `prepare` finds what events leave, with the lists that change, beside the world, which stays as it is; `Next`
 //! is the world that it would be; `commit` only exchanges.
 //!
-//! Cost. A look-up copies nothing. It asks the replaced lists first, which takes one test where nothing has changed,
-//! and else the logarithm of their number; then the pairs, in the logarithm of their number and a step for each
-//! reference that it finds: where the numbers are spread evenly, a table of ranges of them leaves a few steps of the
-//! logarithm. Each look-up compares the keys around the place that the table tells, and where that isn't the one, or
-//! no memory was found for the table, all pairs are searched. The table takes at most about two bytes a reference.
-//! `of` makes the lists from the entries of ways and of relations alone: with m entries and r references it takes time
-//! of the order of (m + r) log (m + r). `prepare` and `apply` take what the objects take, sort the references of the
-//! changed ways and relations as they were and as they are, and make the list of each key among them once, in the time
-//! of its length times the logarithm of what is gone from it. `copy` takes a moment, since all is shared; `with` is
-//! `apply` on a copy. `highways` looks at each entry of a way once, and copies all entries first where something has
-//! changed.
+//! Cost. A look-up copies nothing. It asks the replaced lists first: up to some tens of thousands of them, one test
+//! tells of most keys where nothing has changed, and of all others the logarithm of their number is taken. Then it asks
+//! the pairs, in the logarithm of their number and a step for each reference that it finds: where the numbers are
+//! spread evenly, a table of ranges of them leaves a few steps of the logarithm. Each look-up compares the keys around
+//! the place that the table tells, and where that isn't the one, or no memory was found for the table, all pairs are
+//! searched. The table takes at most about two bytes a reference. `of` makes the lists from the entries of ways and of
+//! relations alone: with m entries and r references it takes time of the order of (m + r) log (m + r). `prepare` and
+//! `apply` take what the objects take, sort the references of the changed ways and relations as they were and as they
+//! are, and make the list of each key among them once, in the time of its length times the logarithm of what is gone
+//! from it; an index of which lists change takes 64 KiB for the marks of their keys. `copy` takes a moment, since all
+//! is shared; `with` is `apply` on a copy. `highways` looks at each entry of a way once, and copies all entries first
+//! where something has changed.
 #![tactic(auto)]
 
 mod collecting;

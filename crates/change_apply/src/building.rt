@@ -95,7 +95,7 @@ pub fn rebuild<M: World, P: Profile, L: Ledger>(
     let builder = GraphBuilder::of(alloc, world, profile, ways)?;
     let mut next = rebuilt.share()?;
     for way in ways {
-        next = rebuild_one(alloc, &builder, *way, &next, steps)?;
+        next = rebuild_one(alloc, &builder, *way, next, steps)?;
     }
     Ok(next)
 }
@@ -105,11 +105,11 @@ fn rebuild_one<M: World, P: Profile, L: Ledger>(
     alloc: Global,
     builder: &GraphBuilder<'_, M, P>,
     way: WayId,
-    rebuilt: &SharedMap<WayId, Block>,
+    rebuilt: SharedMap<WayId, Block>,
     steps: &mut Steps<L>,
 ) -> Result<SharedMap<WayId, Block>, NoMemory>
     ensures rebuilt { IfOk result (λ r. IsRebuiltWith (M.objects builder.now.world) (P.rules builder.now.profile) way
-        rebuilt.now r) }
+        rebuilt r) }
     ensures built { steps.new ≡ steps.old + 1 }
 {
     name_order();

@@ -13,7 +13,7 @@ ghost use Rattle.road_model.specs.BlockMap.{AreBlocksOf};
 ghost use Rattle.road_model.specs.Blocks.{IsRoadBlock};
 ghost use Rattle.road_model.specs.Format.{IsBlockForm};
 ghost use Rattle.road_model.specs.Orders.{Lists, way_cmp};
-ghost use Rattle.change_apply.specs.Engines.{BuildsTouched};
+ghost use Rattle.change_apply.specs.Engines.{BuildsTouched, Touches};
 ghost use Rattle.change_apply.specs.Rebuilding.{AreAtTheirWays, block_at};
 
 use crate::building::{build, rebuild};
@@ -118,6 +118,7 @@ impl<P: Profile> Engine<P> {
             → r.touched ≡ length ways) }
         ensures rebuilt { IfOk result (λ r. steps.new ≡ steps.old + r.rebuilt) }
         ensures few { IfOk result (λ r. r.rebuilt ≤ r.touched) }
+        ensures ways { OnOk result (Touches self.old.world events.now) }
         ensures built { BuildsTouched self.old.world events.now steps.old steps.new }
     {
         one_map();

@@ -1,10 +1,12 @@
 //! The block of a way.
-ghost use Rattle.std.specs.Prelude.{◌≡◌, ◌+◌, [], map, IfOk, IsTrue, Contains};
+ghost use Rattle.std.specs.Prelude.{◌≡◌, ◌≤◌, ◌+◌, [], length, map, IfOk, IsTrue, Contains};
 ghost use Rattle.std.specs.List.{AllByRecursion};
 ghost use Rattle.road_model.specs.Orders.{rises};
 ghost use Rattle.road_model.specs.Blocks.{IsBlock};
 ghost use Rattle.road_model.specs.Format.{IsPieceForm, place_cmp};
-ghost use Rattle.road_model.specs.Networks.{on};
+ghost use Rattle.road_model.specs.Lines.{line_of};
+ghost use Rattle.road_model.specs.Networks.{on, made_on, map_of};
+ghost use Rattle.way_lines.specs.RoadLines.{line_node};
 ghost use Rattle.way_pieces.specs.RoadPieces.{AreSpans};
 ghost use Rattle.expanded_graph.specs.Tables.{AreTables};
 
@@ -63,7 +65,7 @@ pub fn block_of<M: World, P: Profile>(
     block_with(alloc, network, tables, way, own.spans.as_slice())
 }
 
-/// The block of the way with these pieces. Its line is read where it has some.
+/// The block of the way with these pieces. Where it has some, its line is read, if it wasn't kept.
 fn block_with<M: World, P: Profile>(
     alloc: Global,
     network: &Network<'_, M, P>,
@@ -78,16 +80,41 @@ fn block_with<M: World, P: Profile>(
     ensures form { IfOk result (λ b. AllByRecursion IsPieceForm b.pieces
         × IsTrue (rises place_cmp (map (λ p. p.name) b.pieces))) }
 {
-    name_order();
     one_name(&network.profile);
     if spans.is_empty() {
         return Ok(bare_block(alloc, way));
     }
+    if let Some(line) = tables.pieces.line_of(way) {
+        return block_along(alloc, network, tables, line, spans);
+    }
     let road = tables.pieces.roads().road(network, way);
     let line = RoadLine::of(alloc, network, road)?;
-    let pieces = pieces_along(alloc, network, tables, &line, spans)?;
+    block_along(alloc, network, tables, &line, spans)
+}
+
+/// The block of the way with this line and these pieces.
+fn block_along<M: World, P: Profile>(
+    alloc: Global,
+    network: &Network<'_, M, P>,
+    tables: &Tables,
+    line: &RoadLine,
+    spans: &[PieceSpan],
+) -> Result<Block, NoMemory>
+    requires tables { on network.now AreTables tables.now }
+    requires serve { Contains tables.now.ways.items line.now.road.way }
+    requires line { line.now.nodes.items
+        ≡ map (made_on network.now line_node) (line_of (map_of network.now) line.now.road.way) }
+    requires short { length line.now.nodes.items ≤ 65535 }
+    requires spans { on network.now AreSpans line.now.road.way spans.now }
+    ensures block { IfOk result (on network.now IsBlock line.now.road.way) }
+    ensures form { IfOk result (λ b. AllByRecursion IsPieceForm b.pieces
+        × IsTrue (rises place_cmp (map (λ p. p.name) b.pieces))) }
+{
+    name_order();
+    one_name(&network.profile);
+    let pieces = pieces_along(alloc, network, tables, line, spans)?;
     Ok(Block {
-        way,
+        way: line.road.way,
         pieces: Pieces::from_list(pieces),
     })
 }

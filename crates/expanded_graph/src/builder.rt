@@ -35,8 +35,8 @@ impl<'a, M: World, P: Profile> Model for GraphBuilder<'a, M, P> {
 }
 
 impl<'a, M: World, P: Profile> GraphBuilder<'a, M, P> {
-    /// For the blocks of these ways, ascending. They and all ways that meet them are cut into pieces. A block of any
-    /// other way is built as well, but what it needs is then found for it alone.
+    /// For the blocks of these ways, ascending. They and all ways that meet them are cut into pieces, each once, and
+    /// their lines are kept. A block of any other way is built as well, but what it needs is then found for it alone.
     pub fn of(
         alloc: Global,
         world: &'a M,
@@ -54,7 +54,8 @@ impl<'a, M: World, P: Profile> GraphBuilder<'a, M, P> {
         })
     }
 
-    /// For the blocks of all roads of the world, where these are they, ascending: no other way is cut into pieces.
+    /// For the blocks of all roads of the world, where these are they, ascending: no other way is cut into pieces, and
+    /// no line is kept.
     pub fn of_all(
         alloc: Global,
         world: &'a M,

@@ -8,7 +8,7 @@ ghost use Rattle.expanded_graph.specs.Intersections.{AreIntersections};
 use crate::endings::{Ending, endings_of};
 use crate::intersections::Intersections;
 use crate::states::States;
-use road_base::{NoMemory, Ranges, WayId};
+use road_base::{NoMemory, NodeId, Ranges, WayId};
 use road_model::{Network, Profile, World};
 use std::alloc::Global;
 use way_pieces::RoadPieces;
@@ -27,8 +27,8 @@ pub struct Tables {
 }
 
 impl Tables {
-    /// For blocks of these ways. They and all ways that meet them are cut into pieces, and the nodes where their own
-    /// pieces end are asked what leaves them.
+    /// For blocks of these ways. They and all ways that meet them are cut into pieces, each of them once and its line
+    /// kept, and the nodes where their own pieces end are asked what leaves them.
     pub fn of<M: World, P: Profile>(
         alloc: Global,
         network: &Network<'_, M, P>,
@@ -37,10 +37,10 @@ impl Tables {
         ensures are { IfOk result (on network.now AreTables) }
         ensures ways { IfOk result (λ t. t.ways.items ≡ ways.now) }
     {
-        let own = RoadPieces::of(alloc, network, ways)?;
         let met = ways_met(alloc, network, ways)?;
-        let pieces = RoadPieces::of(alloc, network, met.as_slice())?;
-        let intersections = Intersections::of(alloc, network, &pieces, own.ends())?;
+        let pieces = RoadPieces::with_lines(alloc, network, met.as_slice())?;
+        let ends = pieces.ends_on(alloc, ways)?;
+        let intersections = Intersections::of(alloc, network, &pieces, ends.as_slice())?;
         Tables::over(alloc, network, ways, pieces, intersections)
     }
 
@@ -103,27 +103,29 @@ fn ways_met<M: World, P: Profile>(
     network: &Network<'_, M, P>,
     ways: &[WayId],
 ) -> Result<Vec<WayId>, NoMemory> {
-    let mut met = Vec::new(alloc);
-    for way in ways {
-        met.push(*way)?;
-        add_met(&mut met, network, *way)?;
+    let nodes = nodes_of(alloc, network, ways)?;
+    let mut met = ways.to_vec(alloc)?;
+    for node in nodes.as_slice() {
+        met.extend_from_slice(network.world.ways_at(*node))?;
     }
     met.sort_unstable();
     met.dedup();
     Ok(met)
 }
 
-/// Adds the ways that refer to a node of the way.
-fn add_met<M: World, P: Profile>(
-    met: &mut Vec<WayId>,
+/// The nodes to which the ways refer, each once: many ways may meet at one.
+fn nodes_of<M: World, P: Profile>(
+    alloc: Global,
     network: &Network<'_, M, P>,
-    way: WayId,
-) -> Result<(), NoMemory> {
-    let Some(body) = network.world.way(way) else {
-        return Ok(());
-    };
-    for node in body.refs.items() {
-        met.extend_from_slice(network.world.ways_at(*node))?;
+    ways: &[WayId],
+) -> Result<Vec<NodeId>, NoMemory> {
+    let mut nodes = Vec::new(alloc);
+    for way in ways {
+        if let Some(body) = network.world.way(*way) {
+            nodes.extend_from_slice(body.refs.items())?;
+        }
     }
-    Ok(())
+    nodes.sort_unstable();
+    nodes.dedup();
+    Ok(nodes)
 }

@@ -88,7 +88,10 @@ fn changes_touch_what_is_near(rt: HostRuntime) -> Result<(), Fail> {
         (&[CHAIN, MOVED, GONE, LONGER], 10),
     ];
     for (changes, want) in rows {
-        assert_eq!(rt; touched_last::<Brand>(rt.alloc(), changes, Blank::new(1))?, want);
+        assert_eq!(rt;
+            touched_last::<Brand>(rt.alloc(), changes, Blank::new(1))?,
+            want
+        );
     }
     Ok(())
 }

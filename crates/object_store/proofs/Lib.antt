@@ -10,3 +10,4 @@ mod Overlays
 mod AppliedOnes
 mod MergedEvents
 mod SameBodies
+mod Marks

@@ -1,5 +1,5 @@
 -- What is found in a tree, and where an entry is put.
-use Rattle.std.proofs.Common.{◌≡◌, List, [], ◌∷◌, ◌++◌, Option, Some, Result, Ok, Err, IfOk}
+use Rattle.std.proofs.Common.{◌≡◌, List, [], ◌∷◌, ◌++◌, Some, Result, Ok, Err, IfOk}
 use Rattle.std.proofs.Common.{sym, ap, ◌∙◌, subst, Ordering}
 use Rattle.std.specs.declared.cmp.Ordering.TheVariants.{Less, Equal, Greater}
 use Rattle.std.specs.Cmp.{IsTotalOrder}
@@ -21,20 +21,18 @@ module _ {K V : Type 0} (R : K → K → Ordering) (total : IsTotalOrder R) (l :
   above_rises = right_rises R (pair f.entry ∷ []) (in_order f.above)
       (right_rises R (in_order f.below) (pair f.entry ∷ in_order f.above) risen)
 
-  pub got_below : (q : K) (o : Option V) → R q f.entry.key ≡ Less
-      → (Rise R (in_order f.below) → o ≡ find R q (in_order f.below)) → o ≡ find R q l
-  got_below q o e is =
-      is below_rises ∙ sym (ap (find R q) whole
+  pub got_below : (q : K) → R q f.entry.key ≡ Less → find R q (in_order f.below) ≡ find R q l
+  got_below q e =
+      sym (ap (find R q) whole
       ∙ find_low R total q (in_order f.below) (pair f.entry) (in_order f.above) risen e)
 
   pub got_here : (q : K) → R q f.entry.key ≡ Equal → Some f.entry.value.value ≡ find R q l
   got_here q e = sym (ap (find R q) whole
       ∙ find_here R total q (in_order f.below) (pair f.entry) (in_order f.above) risen e)
 
-  pub got_above : (q : K) (o : Option V) → R q f.entry.key ≡ Greater
-      → (Rise R (in_order f.above) → o ≡ find R q (in_order f.above)) → o ≡ find R q l
-  got_above q o e is =
-      is above_rises ∙ sym (ap (find R q) whole
+  pub got_above : (q : K) → R q f.entry.key ≡ Greater → find R q (in_order f.above) ≡ find R q l
+  got_above q e =
+      sym (ap (find R q) whole
       ∙ find_high R total q (in_order f.below) (pair f.entry) (in_order f.above) risen e)
 
   pub laid_below : (k : K) (v : V) (m n : List (K × V)) → R k f.entry.key ≡ Less

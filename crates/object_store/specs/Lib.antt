@@ -4,3 +4,5 @@ pub mod Changes
 pub mod Trees
 pub mod Overlay
 pub mod Following
+pub mod Filters
+pub mod Numbers

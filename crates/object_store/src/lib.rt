@@ -2,21 +2,24 @@
 //!
 //! Contracts see the object map of `road_base/specs/Objects.antt`. `Base` is a list of the entries in key order that
 //! never changes. `Objects` is a base, shared, with the entries that have changed since beside it in a `SharedMap`: a
-//! balanced search tree that never changes either, of which a changed one shares all but a path. So `copy` takes a
-//! moment, and `commit` only exchanges two values, whatever their size. `prepare` finds what events leave, beside the
-//! objects, which stay as they are.
+//! balanced search tree that never changes either, of which a changed one shares all but a path, and a filter, a list
+//! of 65,536 marks by the numbers of the changed keys. So `copy` takes a moment, and `commit` only exchanges two
+//! values, whatever their size. `prepare` finds what events leave, beside the objects, which stay as they are.
 //!
 //! Cost. `of` sorts, in time of the order of n log n, and of n where events come in key order. A look-up asks the
-//! changed entries first, which takes one test where nothing has changed, and else the logarithm of their number; then
-//! the base, in the logarithm of its length: where the numbers of nodes, of ways and of relations are spread evenly,
-//! tables of ranges of them leave it a few steps for a key that has an entry. The tables take at most about two bytes
-//! an entry. `changed`, `prepare` and `apply` copy and sort their n events, and look each one up; for each that stands
-//! they take the time and the memory of the logarithm of the number of changed entries. `listed` and `events` merge: of
-//! a base beside which nothing has changed `listed` takes nothing, and else both copy and sort all entries.
+//! changed entries first: up to some tens of thousands of them, one test in the filter tells of most keys where nothing
+//! has changed; of all others the tree is asked, in the logarithm of their number. Then the base is asked, in the
+//! logarithm of its length: where the numbers of nodes, of ways and of relations are spread evenly, tables of ranges of
+//! them leave it a few steps for a key that has an entry. The tables take at most about two bytes an entry. `changed`,
+//! `prepare` and `apply` copy and sort their n events, and look each one up; for each that stands they take the time
+//! and the memory of the logarithm of the number of changed entries, and for all of them together one copy of the
+//! filter, of 64 KiB. `listed` and `events` merge: of a base beside which nothing has changed `listed` takes nothing,
+//! and else both copy and sort all entries.
 #![tactic(auto)]
 
 mod base;
 mod changes;
+mod filter;
 mod fresh;
 mod key_ranges;
 mod kinds;
@@ -26,6 +29,7 @@ mod standing;
 mod tree;
 
 pub use base::Base;
+pub use filter::Slotted;
 pub use fresh::Fresh;
 pub use objects::Objects;
 pub use shared_map::SharedMap;

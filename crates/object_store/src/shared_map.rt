@@ -1,39 +1,48 @@
-//! Maps that share what they have in common.
-ghost use Rattle.std.specs.Prelude.{◌≡◌, ◌↔◌, [], IfOk, IsTrue, map, option_copied};
+//! Maps that never change and share what they have in common.
+ghost use Rattle.std.specs.Prelude.{◌≡◌, ◌↔◌, [], IfOk, IsTrue, is_some, map, option_copied};
 ghost use Rattle.std.specs.FinMap.{find, put};
 
+use crate::filter::{Filter, Slotted, is_marked, marked, shared};
 use crate::tree::{Tree, add_values, with_entry};
 use road_base::NoMemory;
 use std::alloc::Global;
 use std::marker::Model;
 use std::rc::Rc;
 
-/// A map from keys to values. It never changes: what puts an entry makes another map beside it, in the time and the
-/// memory of the logarithm of its length, and shares all else with it.
+/// A map from keys to values. It never changes: what puts an entry makes another map in its place, in the time and the
+/// memory of the logarithm of its length, and shares all else with those that share it. A filter of 64 KiB, by which it
+/// tells most keys that it doesn't have, is copied at the first entry that is put into a map that was shared.
 #[derive(Drop)]
-pub struct SharedMap<K: Ord + Copy, V: Drop> {
+pub struct SharedMap<K: Ord + Copy + Slotted, V: Drop> {
     root: Tree<K, V>,
+    /// None only where there are no entries.
+    filter: Option<Rc<Filter>>,
 }
 
-impl<K: Ord + Copy, V: Drop> Model for SharedMap<K, V> {
+impl<K: Ord + Copy + Slotted, V: Drop> Model for SharedMap<K, V> {
     ghost use Rattle.std.specs.Prelude.{List};
     ghost use Rattle.object_store.specs.Trees.{in_order, Rise};
+    ghost use Rattle.object_store.specs.Filters.{AreMarked, slots_in};
 
     ghost Value = { List (K × V) };
 
     ghost view = { λ m. in_order m.root };
 
-    ghost invariant = { λ m. Rise K.cmp (in_order m.root) };
+    ghost invariant = { λ m. Rise K.cmp (in_order m.root)
+        × AreMarked K.cmp K.number (in_order m.root) (slots_in m.filter) };
 }
 
-impl<K: Ord + Copy, V: Drop> SharedMap<K, V> {
+impl<K: Ord + Copy + Slotted, V: Drop> SharedMap<K, V> {
     ghost use Rattle.object_store.specs.Trees.{Rise};
 
     /// No entries. Takes no memory.
     pub fn new() -> SharedMap<K, V>
         ensures { result ≡ [] }
     {
-        SharedMap { root: Tree::Empty }
+        SharedMap {
+            root: Tree::Empty,
+            filter: None,
+        }
     }
 
     /// Whether there are no entries.
@@ -43,19 +52,35 @@ impl<K: Ord + Copy, V: Drop> SharedMap<K, V> {
         self.root.is_empty()
     }
 
-    /// The value of the key, and None exactly where the key has none. Takes no memory.
+    /// The value of the key, and None exactly where the key has none. Where it has none this takes one test, unless
+    /// another key of the map has the same slot; else the logarithm of the map's length. Takes no memory.
     pub fn get(&self, key: K) -> Option<&V>
         ensures { option_copied result ≡ find K.cmp key self.now }
     {
-        self.root.get(key)
+        if self.may_have(key) {
+            self.root.get(key)
+        } else {
+            None
+        }
+    }
+
+    /// Whether the slot of the key's number is marked, as it is where the key has a value.
+    fn may_have(&self, key: K) -> bool
+        ensures { IsTrue (is_some (find K.cmp key self.now)) → IsTrue result }
+    {
+        is_marked(&self.filter, key.number())
     }
 
     /// The map with the value at the key.
-    pub fn with(&self, alloc: Global, key: K, value: V) -> Result<SharedMap<K, V>, NoMemory>
-        ensures { IfOk result (λ m. m ≡ put K.cmp key value self.now) }
+    pub fn with(self, alloc: Global, key: K, value: V) -> Result<SharedMap<K, V>, NoMemory>
+        ensures { IfOk result (λ m. m ≡ put K.cmp key value self) }
     {
+        let filter = marked(alloc, self.filter, key.number())?;
         let root = with_entry(alloc, &self.root, key, Rc::new(alloc, value)?)?;
-        Ok(SharedMap { root })
+        Ok(SharedMap {
+            root,
+            filter: Some(filter),
+        })
     }
 
     /// The same map, shared.
@@ -63,7 +88,8 @@ impl<K: Ord + Copy, V: Drop> SharedMap<K, V> {
         ensures { IfOk result (λ m. m ≡ self.now) }
     {
         let root = self.root.share()?;
-        Ok(SharedMap { root })
+        let filter = shared(&self.filter)?;
+        Ok(SharedMap { root, filter })
     }
 
     /// The values, ascending by key.

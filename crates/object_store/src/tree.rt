@@ -86,14 +86,15 @@ impl<K: Ord + Copy, V> Tree<K, V> {
     pub fn get(&self, key: K) -> Option<&V>
         ensures { Rise K.cmp (in_order self.now) → option_copied result ≡ find K.cmp key (in_order self.now) }
     {
-        match self {
-            Tree::Empty => None,
-            Tree::Fork(fork) => match key.cmp(&fork.entry.key) {
-                Ordering::Less => fork.below.get(key),
-                Ordering::Equal => Some(&fork.entry.value),
-                Ordering::Greater => fork.above.get(key),
-            },
+        let mut tree = self;
+        while let Tree::Fork(fork) = tree {
+            match key.cmp(&fork.entry.key) {
+                Ordering::Less => tree = &fork.below,
+                Ordering::Equal => return Some(&fork.entry.value),
+                Ordering::Greater => tree = &fork.above,
+            }
         }
+        None
     }
 }
 

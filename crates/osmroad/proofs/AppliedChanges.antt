@@ -37,7 +37,8 @@ use Rattle.osmroad.specs.declared.status.Status.{Status}
 use Rattle.osmroad.specs.declared.status.Status.TheVariants.{Done, Refused, Limit, OutOfSequence as OutOfSequenceStatus}
 use Rattle.osmroad.specs.Texts.{applied_line, limit_line, refused_line, sequence_line}
 use Rattle.osmroad.specs.Limits.{PassesLimit}
-use Rattle.osmroad.specs.Input.{Took, Ended, ReadWhole, Stopped}
+use Rattle.osmroad.specs.Input.{Ended, ReadWhole, Stopped}
+use Rattle.road_io.specs.Parts.{Took}
 use Rattle.osmroad.specs.Opening.{Files}
 use Rattle.osmroad.specs.Outcomes.{AreInput, ApplyGives}
 use Rattle.osmroad.specs.Outcomes.{OfStore, OfTooMuch, OfSequence, OfFault, OfFullFile, OfChange}
@@ -49,7 +50,7 @@ use Rattle.osmroad.specs.Replies.{Prepares}
 use Rattle.osmroad.proofs.HeldSource.{behind_of}
 use Rattle.osmroad.proofs.Replied.{replied}
 use Rattle.osmroad.proofs.PassedLimits.{still_passes}
-use Rattle.osmroad.proofs.SourceParts.{took_nothing}
+use Rattle.road_io.proofs.SourceParts.{took_nothing}
 use Rattle.osmroad.proofs.OutputFronts.{starts_whole, nothing_put, other_put}
 use Rattle.osmroad.specs.StoreLaws.{StoreLaws, ChangeLaws}
 use Rattle.osmroad.proofs.Prepared.{will_put, by_failure, prepares, prepares_whole}

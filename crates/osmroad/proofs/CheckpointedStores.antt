@@ -41,7 +41,7 @@ use Rattle.osmroad.specs.StoreLaws.{StoreLaws, CheckpointLaws}
 use Rattle.osmroad.proofs.AnsweredFaults.{failed_calls, reply_calls}
 use Rattle.osmroad.proofs.HeldSource.{behind_of}
 use Rattle.osmroad.proofs.Replied.{replied}
-use Rattle.osmroad.proofs.SourceParts.{took_nothing}
+use Rattle.road_io.proofs.SourceParts.{took_nothing}
 use Rattle.osmroad.proofs.OutputFronts.{starts_whole, nothing_put, other_put}
 use Rattle.osmroad.proofs.Prepared.{will_put, by_failure, prepares}
 use Rattle.osmroad.proofs.LoadedStores.{LeavesKept, stored_weaker, same_history, load_moments, loaded_before}

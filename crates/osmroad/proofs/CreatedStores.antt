@@ -38,7 +38,8 @@ use Rattle.osmroad.specs.declared.reply.Failure.TheVariants.{NoMemory as NoMemor
 use Rattle.osmroad.specs.declared.status.Status.{Status}
 use Rattle.osmroad.specs.declared.status.Status.TheVariants.{Done, Refused, Limit, StoreExists as StoreExistsStatus}
 use Rattle.osmroad.specs.Texts.{created_line, limit_line, refused_line, store_exists_line}
-use Rattle.osmroad.specs.Input.{Took, Ended, ReadWhole, Stopped}
+use Rattle.osmroad.specs.Input.{Ended, ReadWhole, Stopped}
+use Rattle.road_io.specs.Parts.{Took}
 use Rattle.osmroad.specs.Opening.{Files}
 use Rattle.osmroad.specs.Outcomes.{AreInput, InputRefusal}
 use Rattle.osmroad.specs.Outcomes.{OfOldStore, OfInput, OfExtract, OfTooMuch, OfFault}
@@ -49,7 +50,7 @@ use Rattle.osmroad.specs.Replies.{Says, RefusesInput, RefusesStore, IsPrepared, 
 use Rattle.osmroad.proofs.HeldSource.{behind_of}
 use Rattle.osmroad.proofs.Replied.{replied}
 use Rattle.osmroad.proofs.PassedLimits.{still_passes}
-use Rattle.osmroad.proofs.SourceParts.{took_nothing}
+use Rattle.road_io.proofs.SourceParts.{took_nothing}
 use Rattle.osmroad.proofs.OutputFronts.{starts_whole, nothing_put, other_put}
 use Rattle.osmroad.proofs.Prepared.{will_put, by_failure, prepares, prepares_whole}
 use Rattle.osmroad.proofs.LoadedStores.{left_unput, stand_unput, unput}

@@ -2,7 +2,8 @@
 use Rattle.std.proofs.Common.{◌≡◌, ℕ, List, [], ◌++◌, Option, None, Some, refl, ap, ◌∙◌}
 use Rattle.std.proofs.lemmas.List.{append-nil}
 use Rattle.std.specs.Prelude.{unwrap_or}
-use Rattle.osmroad.specs.Input.{Took, Ended}
+use Rattle.osmroad.specs.Input.{Ended}
+use Rattle.road_io.specs.Parts.{Took}
 use Rattle.osmroad.specs.Run.{HeldBytes}
 
 -- what is left, nothing where it isn't told

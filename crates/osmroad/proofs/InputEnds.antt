@@ -14,7 +14,8 @@ use Rattle.osmroad.specs.declared.input.InputError.{InputError}
 use Rattle.osmroad.specs.declared.input.InputError.TheVariants.{Failed, TooLong, Refused, NoMemory}
 use Rattle.osmroad.specs.Limits.{PassesLimit, Measures}
 use Rattle.osmroad.specs.Reading.{Holds, Stops}
-use Rattle.osmroad.specs.Input.{Took, Ended, ReadWhole, IsRefusal, Stopped}
+use Rattle.osmroad.specs.Input.{Ended, ReadWhole, IsRefusal, Stopped}
+use Rattle.road_io.specs.Parts.{Took}
 
 pub within : (bytes : List ℕ) (measure : Measure) → Measures bytes measure → PassesLimit bytes → ⊥
 within bytes measure m (inl more) = let few = measure.few in let total = m.total in omega arith

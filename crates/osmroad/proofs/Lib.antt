@@ -6,7 +6,6 @@ pub mod OneFinding
 pub mod AuditLines
 pub mod ParsedNumbers
 pub mod Built
-pub mod SourceParts
 pub mod LineLengths
 pub mod InputEnds
 pub mod PassedLimits
@@ -36,3 +35,6 @@ pub mod CreatedStores
 pub mod CheckpointedStores
 pub mod ServedSessions
 pub mod RefusedSessions
+pub mod WellEndedSessions
+pub mod IntactStops
+pub mod BuiltSessions

@@ -51,7 +51,7 @@ pub at_last : (w v : Outside) (P : Left → Type 0) → LeavesOnly w v P → (le
     → IsImage v.b left.b → P (unput v left)
 at_last w v P only left a b = only.each (unput v left) (inl (only.later, left_unput v left a b))
 
-stands_still : (files images : Which → List ℕ) → ((f : Which) → images f ≡ files f) → (h : History)
+pub stands_still : (files images : Which → List ℕ) → ((f : Which) → images f ≡ files f) → (h : History)
     → StandFor files h → StandFor images h
 stands_still files images same h s = (
   s.0,

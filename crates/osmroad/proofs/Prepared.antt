@@ -8,7 +8,8 @@ use Rattle.osmroad.specs.declared.command.Command.{Command}
 use Rattle.osmroad.specs.declared.reply.Reply.{Reply}
 use Rattle.osmroad.specs.declared.reply.Failure.{Failure}
 use Rattle.osmroad.specs.declared.reply.Failure.TheVariants.{NoMemory as NoMemoryFailure}
-use Rattle.osmroad.specs.Input.{Took, Ended}
+use Rattle.osmroad.specs.Input.{Ended}
+use Rattle.road_io.specs.Parts.{Took}
 use Rattle.osmroad.specs.Stops.{LeftBy}
 use Rattle.osmroad.specs.declared.status.Status.{Status}
 use Rattle.osmroad.specs.Outcomes.{Gives}

@@ -16,7 +16,7 @@ use Rattle.osmroad.specs.declared.status.Status.TheVariants.{Done}
 use Rattle.osmroad.specs.Sampling.{events_of_lists, IsSampleLine, AreSampleLines, IsSample}
 use Rattle.osmroad.specs.Replies.{Replies, IsPrepared, Prepares}
 use Rattle.osmroad.proofs.HeldSource.{behind_of}
-use Rattle.osmroad.proofs.SourceParts.{took_nothing}
+use Rattle.road_io.proofs.SourceParts.{took_nothing}
 use Rattle.osmroad.proofs.Replied.{replied}
 use Rattle.osmroad.proofs.Prepared.{by_failure, prepares}
 use Rattle.osmroad.proofs.WithoutStore.{silent_still, stands_still, leaves_still, will_put_alone}

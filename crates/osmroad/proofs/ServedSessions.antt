@@ -175,7 +175,7 @@ opened l w u k = record { events = k.events; on_store = k.ready; small = k.kept_
 abbrev pub kept_at : History → ℕ → Kept
 kept_at h gate = record { history = h; room = room_at gate }
 
-opening_is : (l : Loaded) (w u : Outside) → (k : StoreLoaded l w u)
+pub opening_is : (l : Loaded) (w u : Outside) → (k : StoreLoaded l w u)
     → opening_of l k.history ≡ opening (loaded_store l w u k)
 opening_is l w u k = ap (λ (gate : ℕ). kept_at k.history gate) k.ready.at.gate
 
@@ -183,7 +183,7 @@ abbrev pub opening_at : ℕ → History → Kept
 opening_at generation h = kept_at h (length (history_bytes generation h))
 
 module _ (laws : StoreLaws) where
-  same_opening : (files : Files) (s t : IsStore files) → opening s ≡ opening t
+  pub same_opening : (files : Files) (s t : IsStore files) → opening s ≡ opening t
   same_opening files s t =
       let same = laws.one_store files s.live t.live s.generation t.generation s.history t.history s.stands t.stands in
       ap (λ (g : ℕ). opening_at g s.history) same.1 ∙ ap (λ (h : History). opening_at t.generation h) same.2

@@ -34,7 +34,7 @@ use Rattle.osmroad.specs.Run.{IsReply, IsStored, Reads, StandAfter, StandAsBefor
 use Rattle.osmroad.specs.Replies.{Says, RefusesStore, IsPrepared, WillPut, Prepares}
 use Rattle.osmroad.proofs.HeldSource.{behind_of}
 use Rattle.osmroad.proofs.Replied.{replied}
-use Rattle.osmroad.proofs.SourceParts.{took_nothing}
+use Rattle.road_io.proofs.SourceParts.{took_nothing}
 use Rattle.osmroad.specs.StoreLaws.{StoreLaws}
 use Rattle.osmroad.proofs.Prepared.{will_put, by_failure, prepares}
 use Rattle.osmroad.proofs.LoadedStores.{LeavesKept, stored_weaker, same_history, load_moments, loaded_before}

@@ -1,7 +1,8 @@
 -- What was read of a source whose bytes are kept, as a graph file's.
 use Rattle.std.specs.Prelude.{ℕ, List, Option}
 use Rattle.road_io.specs.Told.{Rose}
-use Rattle.osmroad.specs.Input.{Took, Ended}
+use Rattle.osmroad.specs.Input.{Ended}
+use Rattle.road_io.specs.Parts.{Took}
 use Rattle.osmroad.specs.Limits.{HasTooManyBytes}
 use Rattle.osmroad.specs.declared.input.InputError.{InputError}
 use Rattle.osmroad.specs.declared.input.InputError.TheVariants.{Failed, TooLong, Refused, NoMemory}

@@ -1,17 +1,14 @@
 -- What was read of an input, and what it gave.
 use Rattle.std.specs.Prelude.{◌≡◌, ℕ, List, [], ◌++◌, Option, Some, None}
 use Rattle.road_base.specs.declared.event.Event.{Event}
-use Rattle.road_io.specs.Told.{Told, Rose}
+use Rattle.road_io.specs.Told.{Rose}
+use Rattle.road_io.specs.Parts.{Took}
 use Rattle.opl_lexer.specs.declared.mode.Mode.{Mode}
 use Rattle.opl_lexer.specs.Reading.{ReadAll, input_fault}
 use Rattle.opl_objects.specs.StreamLines.{fault_at}
 use Rattle.osmroad.specs.Limits.{PassesLimit}
 use Rattle.osmroad.specs.declared.input.InputError.{InputError}
 use Rattle.osmroad.specs.declared.input.InputError.TheVariants.{Failed, TooLong, Refused, NoMemory}
-
--- These bytes were read of those that were left, where they are told. A source that tells goes on telling.
-abbrev pub Took : List ℕ → Option (List ℕ) → Option (List ℕ) → Type 0
-Took read = Told (λ before now. before ≡ read ++ now)
 
 -- nothing is left, where it is told (`Took` says that it is told still)
 abbrev pub Ended : Option (List ℕ) → Type 0

@@ -128,7 +128,8 @@ pub record EndsSession (status : Status) (held remaining : Option (List ℕ)) (b
 
 -- ---- what must be done
 
--- No front of the bytes passes a limit in the session that opens with the store, and the bytes don't end inside a frame.
+-- No front of the bytes passes a limit in the session that opens with the store, and the bytes don't end inside a
+-- frame.
 pub record EndsWell (files : Files) (bytes : List ℕ) : Type 0 where
   pub within : (s : IsStore files) (read behind out : List ℕ) (to : Kept) → bytes ≡ read ++ behind
       → SessionGives motorcar_rules (opening s) read LimitEnd out to → ⊥
@@ -143,6 +144,6 @@ abbrev pub SessionRunBuilds : Option (List ℕ) → Option (List ℕ) → Option
 SessionRunBuilds held remaining before old new = (bytes behind : List ℕ) (w : Outside)
     → held ≡ Some bytes → remaining ≡ Some behind → before ≡ Some w
     → ((s : IsStore (reads_of w)) (M : Objects) → HasObjects s.history M
-        → (read : List ℕ) × (bytes ≡ read ++ behind)
-        × BuildsFew (opening s) read (old + length (highways M)) new)
+    → (read : List ℕ) × (bytes ≡ read ++ behind)
+    × BuildsFew (opening s) read (old + length (highways M)) new)
     × ((IsStore (reads_of w) → ⊥) → new ≡ old)

@@ -40,6 +40,8 @@ pub record StoreLaws : Type 0 where
   pub one_live : OneLive
   pub live : HasLive
   pub no_damage : NoDamage
+  pub there : (w : Outside) (left : Left) (file : Which)
+      → BothDurable w → IsLeft (present w) left → image_of left file ≡ reads_of w file
   pub still : (w : Outside) (left : Left) (h : History)
       → BothDurable w → IsLeft (present w) left → StandFor (reads_of w) h → StandFor (image_of left) h
   pub stand : (j : Journal) (h : History) (w : Outside)

@@ -15,6 +15,7 @@ use crate::command::{Command, Request, request_of};
 use crate::compile::compile;
 use crate::create::create;
 use crate::inspect::inspect;
+use crate::laws::store_laws;
 use crate::reply::{Failure, Reply, put_last};
 use crate::sample::sample;
 use crate::serve::serve_store;
@@ -134,16 +135,18 @@ pub fn run<S: Source, W: Site, L: Ledger>(
         → (Rose (W.faults site.old) (W.faults site.new) → ⊥)
         → (result ≡ Status.Done) ⊎ (result ≡ Status.NoMemory) }
 
-    // Where nothing is pending on files that stand for a history, or that hold no store, a stop at any moment leaves such
-    // files: a store that these runs made is never damaged, after any list of stops.
+    // Where nothing is pending on files that stand for a history, or that hold no store, a stop at any moment leaves
+    // such files: a store that these runs made is never damaged, after any list of stops. Loading such files never
+    // answers Damaged, by the law `no_damage_in_store` of `store_switch`.
     ensures intact { Told (λ w v. BothDurable w → AreIntact (reads_of w)
         → LeavesOnly w v (λ left. AreIntact (image_of left))) (W.outside site.old) (W.outside site.new) }
 
-    // No more blocks are built than the graph's objects have visible ways with the key `highway`; in a session, for each
-    // accepted frame no more than the ways that it touches.
+    // No more blocks are built than the graph's objects have visible ways with the key `highway`; in a session, for
+    // each accepted frame no more than the ways that it touches.
     ensures built { RunBuilds (asked (map (λ w. w.now) words.now)) (S.bytes_left source.old)
         (S.bytes_left source.new) (W.outside site.old) steps.old steps.new }
 {
+    store_laws();
     match request_of(words) {
         Some(Request::Session) => serve_store(alloc, source, site, steps),
         Some(Request::Command(command)) => run_command(alloc, command, source, site, steps),

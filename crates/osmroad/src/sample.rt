@@ -64,11 +64,7 @@ fn sample_text<L: Ledger>(
 }
 
 /// The line of what the engine has come to.
-fn line_of(
-    alloc: Global,
-    change: u32,
-    engine: &mut Engine<Motorcar>,
-) -> Result<Vec<u8>, NoMemory>
+fn line_of(alloc: Global, change: u32, engine: &mut Engine<Motorcar>) -> Result<Vec<u8>, NoMemory>
     ensures line { IfOk result (λ line. (events : List Event)
         → IsApplied empty events engine.old.world
         → IsSampleLine change events line.items) }

@@ -5,3 +5,4 @@ pub mod FileRuns
 pub mod QuietRuns
 pub mod OnlyImages
 pub mod RecordedCalls
+pub mod SourceParts

@@ -6,3 +6,4 @@ pub mod Replay
 pub mod SoundDisks
 pub mod Memory
 pub mod Real
+pub mod Parts

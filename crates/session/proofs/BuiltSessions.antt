@@ -26,7 +26,7 @@ use Rattle.session.specs.Conversing.{IsOpening, opening_of}
 use Rattle.session.specs.Building.{Start, BuildsFew}
 use Rattle.session.specs.BuildingOn.{AnswerBuilds, BuildsOn}
 use Rattle.session.specs.Answering.{IsKept}
-use Rattle.session.proofs.SourceParts.{Took}
+use Rattle.road_io.specs.Parts.{Took}
 use Rattle.session.proofs.BuiltMessages.{message_builds, builds_more, builds_few, builds_all, builds_on, builds_until}
 use Rattle.session.proofs.BuiltMessages.{builds_last}
 

@@ -7,7 +7,6 @@ mod Optional
 mod AskedAlone
 mod FollowedMessages
 mod ClosedSessions
-mod SourceParts
 mod OpenedSessions
 mod ReadSessions
 mod BuiltAnswers

@@ -23,7 +23,7 @@ use Rattle.session.specs.Conversation.{Start}
 use Rattle.session.specs.Conversing.{IsOpening, opening_of, SessionEnds, HeldBytes, IsAtEnd, Converses}
 use Rattle.session.specs.Conversing.{CountsReads, CountsCalls}
 use Rattle.session.specs.Following.{LeavesStill, Talks, Since, Goes, IsHalted}
-use Rattle.session.proofs.SourceParts.{Took}
+use Rattle.road_io.specs.Parts.{Took}
 use Rattle.session.proofs.OpenedSessions.{behind_of, first_left}
 
 -- ---- what was read

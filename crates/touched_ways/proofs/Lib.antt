@@ -1,4 +1,6 @@
-mod SeenKeys
+mod NumberLists
+mod FoundKeys
+mod LinkedKeys
+mod FollowedNodes
 mod LinkRounds
 mod WayLists
-mod LinkedKeys

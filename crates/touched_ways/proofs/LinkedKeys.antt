@@ -11,9 +11,9 @@ use Rattle.road_base.specs.Objects.{Objects}
 use Rattle.road_base.proofs.ListMembers.{contains_map, contains_from_map}
 use Rattle.road_model.specs.Orders.{Lists, way_cmp, relation_cmp}
 use Rattle.road_model.specs.Links.{RefersTo, HasMember, IsLink}
-use Rattle.touched_ways.specs.declared.search.Search.{Search}
-use Rattle.touched_ways.specs.Searches.{Sees, GivenBy, IsNodeOrWay, IsWay, IsWayLink}
-use Rattle.touched_ways.proofs.SeenKeys.{sees_as, sees_both}
+use Rattle.touched_ways.specs.declared.found.Found.{Found}
+use Rattle.touched_ways.specs.Searches.{Finds, GivenBy, IsNodeOrWay, IsWay, IsWayLink}
+use Rattle.touched_ways.proofs.FoundKeys.{finds_as, finds_both}
 
 -- what a list gives as keys of its elements
 abbrev Keyed : {A : Type 0} → (A → Key) → List A → Key → Type 0
@@ -34,25 +34,21 @@ module _ (M : Objects) (n : NodeId) (ways : List WayId) (are : Lists (λ w. w) w
       node_cases (WayKey w) l = inl (w, are.complete w l, refl)
       node_cases (RelationKey r) l = inr (r, also.complete r l, refl)
 
-      pub node_linked : (key : Key) → key ≡ NodeKey n → (s t u : Search) → Sees s t (Keyed WayKey ways)
-          → Sees t u (Keyed RelationKey rules) → Sees s u (IsLink M key)
-      node_linked key is s t u h g =
-          subst (λ q. Sees s u (IsLink M q)) (sym is)
-          (sees_both s t u (Keyed WayKey ways) (Keyed RelationKey rules) (IsLink M (NodeKey n)) h g
+      pub node_linked : (f g e : Found) → Finds f g (Keyed WayKey ways) → Finds g e (Keyed RelationKey rules)
+          → Finds f e (IsLink M (NodeKey n))
+      node_linked f g e first second =
+          finds_both f g e (Keyed WayKey ways) (Keyed RelationKey rules) (IsLink M (NodeKey n)) first second
           (to_each WayKey ways (IsLink M (NodeKey n)) are.sound)
-          (to_each RelationKey rules (IsLink M (NodeKey n)) also.sound) node_cases)
+          (to_each RelationKey rules (IsLink M (NodeKey n)) also.sound) node_cases
 
     node_way : (k : Key) → IsWayLink M (NodeKey n) k → Keyed WayKey ways k
     node_way (NodeKey m) l = absurd l.0
     node_way (WayKey w) l = (w, are.complete w l.0, refl)
     node_way (RelationKey r) l = absurd l.1
 
-    pub node_way_linked : (key : Key) → key ≡ NodeKey n → (s t : Search) → Sees s t (Keyed WayKey ways)
-        → Sees s t (IsWayLink M key)
-    node_way_linked key is s t h =
-        subst (λ q. Sees s t (IsWayLink M q)) (sym is)
-        (sees_as s t (Keyed WayKey ways) (IsWayLink M (NodeKey n)) h
-        (to_each WayKey ways (IsWayLink M (NodeKey n)) (λ w has. (are.sound w has, tt))) node_way)
+    pub node_way_linked : (f g : Found) → Finds f g (Keyed WayKey ways) → Finds f g (IsWayLink M (NodeKey n))
+    node_way_linked f g h = finds_as f g (Keyed WayKey ways) (IsWayLink M (NodeKey n)) h
+        (to_each WayKey ways (IsWayLink M (NodeKey n)) (λ w has. (are.sound w has, tt))) node_way
 
 -- ---- of a way
 
@@ -64,13 +60,12 @@ module _ (M : Objects) (w : WayId) (nodes : List NodeId) (rules : List RelationI
   way_cases (WayKey v) l = absurd l
   way_cases (RelationKey r) l = inr (r, also.complete r l, refl)
 
-  pub way_linked : (key : Key) → key ≡ WayKey w → (s t u : Search) → Sees s t (Keyed NodeKey nodes)
-      → Sees t u (Keyed RelationKey rules) → Sees s u (IsLink M key)
-  way_linked key is s t u h g =
-      subst (λ q. Sees s u (IsLink M q)) (sym is)
-      (sees_both s t u (Keyed NodeKey nodes) (Keyed RelationKey rules) (IsLink M (WayKey w)) h g
+  pub way_linked : (f g e : Found) → Finds f g (Keyed NodeKey nodes) → Finds g e (Keyed RelationKey rules)
+      → Finds f e (IsLink M (WayKey w))
+  way_linked f g e first second =
+      finds_both f g e (Keyed NodeKey nodes) (Keyed RelationKey rules) (IsLink M (WayKey w)) first second
       (to_each NodeKey nodes (IsLink M (WayKey w)) (λ n has. (are n).0 has))
-      (to_each RelationKey rules (IsLink M (WayKey w)) also.sound) way_cases)
+      (to_each RelationKey rules (IsLink M (WayKey w)) also.sound) way_cases
 
 -- ---- of a relation
 
@@ -97,10 +92,9 @@ module _ (M : Objects) (r : RelationId) (members : List Member)
   rule_from (WayKey w) l = member_that IsNodeOrWay (WayKey w) l tt
   rule_from (RelationKey q) l = absurd l
 
-  pub rule_linked : (key : Key) → key ≡ RelationKey r → (s t : Search) → Sees s t (MemberThat IsNodeOrWay members)
-      → Sees s t (IsLink M key)
-  rule_linked key is s t h = subst (λ q. Sees s t (IsLink M q)) (sym is)
-      (sees_as s t (MemberThat IsNodeOrWay members) (IsLink M (RelationKey r)) h rule_to rule_from)
+  pub rule_linked : (f g : Found) → Finds f g (MemberThat IsNodeOrWay members) → Finds f g (IsLink M (RelationKey r))
+  rule_linked f g h =
+      finds_as f g (MemberThat IsNodeOrWay members) (IsLink M (RelationKey r)) h rule_to rule_from
 
   rule_to_way : (k : Key) → MemberThat IsWay members k → IsWayLink M (RelationKey r) k
   rule_to_way (NodeKey n) g = absurd g.2.1
@@ -112,7 +106,7 @@ module _ (M : Objects) (r : RelationId) (members : List Member)
   rule_from_way (WayKey w) l = member_that IsWay (WayKey w) l.0 tt
   rule_from_way (RelationKey q) l = absurd l.1
 
-  pub rule_way_linked : (key : Key) → key ≡ RelationKey r → (s t : Search) → Sees s t (MemberThat IsWay members)
-      → Sees s t (IsWayLink M key)
-  rule_way_linked key is s t h = subst (λ q. Sees s t (IsWayLink M q)) (sym is)
-      (sees_as s t (MemberThat IsWay members) (IsWayLink M (RelationKey r)) h rule_to_way rule_from_way)
+  pub rule_way_linked : (f g : Found) → Finds f g (MemberThat IsWay members)
+      → Finds f g (IsWayLink M (RelationKey r))
+  rule_way_linked f g h =
+      finds_as f g (MemberThat IsWay members) (IsWayLink M (RelationKey r)) h rule_to_way rule_from_way

@@ -1,65 +1,28 @@
--- The ways among keys in order.
-use Rattle.std.proofs.Common.{◌≡◌, ◌⊎◌, inl, inr, IsTrue, List, [], ◌∷◌, map, refl}
+-- Ways in order.
+use Rattle.std.proofs.Common.{◌≡◌, ◌↔◌, ◌⊎◌, inl, inr, IsTrue, List, [], ◌∷◌, map, refl}
 use Rattle.std.proofs.Common.{sym, ap, subst, Contains}
-use Rattle.std.specs.List.Sorted.{IsStrictlySortedBy}
-use Rattle.std.specs.Ordering.{is_lt}
-use Rattle.std.proofs.lemmas.Bool.{and_from}
 use Rattle.road_base.specs.declared.ids.WayId.{WayId}
 use Rattle.road_base.specs.declared.ids.Key.{Key}
-use Rattle.road_base.specs.declared.ids.Key.TheVariants.{Way as WayKey}
 use Rattle.road_base.specs.Objects.{Objects}
 use Rattle.road_model.specs.Orders.{Lists, rises, way_cmp}
 use Rattle.road_model.specs.Links.{AreChanged, AreReached, AreTouched}
 use Rattle.road_model.proofs.JoinedLists.{lists_same}
-use Rattle.touched_ways.specs.declared.search.Search.{Search}
-use Rattle.touched_ways.specs.Searches.{IsSeen, Sees, GivenBy}
-
--- ---- they ascend
-
-rises_strictly : (ws : List WayId) → IsStrictlySortedBy way_cmp ws → IsTrue (rises way_cmp ws)
-unfolding IsStrictlySortedBy
-rises_strictly [] sorted = refl
-rises_strictly (w ∷ []) sorted = refl
-rises_strictly (w ∷ v ∷ ws) sorted = and_from _ _ (ap is_lt sorted.0.0) (rises_strictly (v ∷ ws) sorted.1)
+use Rattle.touched_ways.proofs.NumberLists.{AreAdded}
 
 same : (ws : List WayId) → map (λ w. w) ws ≡ ws
 same [] = refl
 same (w ∷ ws) = ap (λ l. w ∷ l) (same ws)
 
-pub ways_listed : (ways : List WayId) → IsStrictlySortedBy way_cmp ways
-    → Lists (λ w. w) way_cmp (λ w. Contains ways w) ways
-ways_listed ways sorted = record {
-  ascending = subst (λ l. IsTrue (rises way_cmp l)) (sym (same ways)) (rises_strictly ways sorted);
-  sound = λ w h. h;
-  complete = λ w h. h;
+-- ---- the ways of two lists
+
+pub ways_of_both : (ways all one other : List WayId) → IsTrue (rises way_cmp ways)
+    → ((w : WayId) → Contains ways w ↔ Contains all w) → AreAdded one all other
+    → Lists (λ w. w) way_cmp (λ w. Contains one w ⊎ Contains other w) ways
+ways_of_both ways all one other up exactly are = record {
+  ascending = subst (λ l. IsTrue (rises way_cmp l)) (sym (same ways)) up;
+  sound = λ w has. (are w).0 ((exactly w).0 has);
+  complete = λ w has. (exactly w).1 ((are w).1 has);
 }
-
--- ---- those of two lists
-
-pub merged_ways : (s t u : Search) (first second before after : List WayId) → ((k : Key) → IsSeen s k → ⊥)
-    → first ≡ before → second ≡ after → Sees s t (GivenBy (λ w k. k ≡ WayKey w) first)
-    → Sees t u (GivenBy (λ w k. k ≡ WayKey w) second) → (ways : List WayId)
-    → Lists (λ w. w) way_cmp (λ w. IsSeen u (WayKey w)) ways
-    → Lists (λ w. w) way_cmp (λ w. Contains before w ⊎ Contains after w) ways
-merged_ways s t u first second before after none p q h g ways lists =
-    lists_same (λ w. w) way_cmp (λ w. IsSeen u (WayKey w)) (λ w. Contains before w ⊎ Contains after w) ways lists
-    to from
-  where
-    given : (l : List WayId) (w : WayId) → GivenBy (λ v k. k ≡ WayKey v) l (WayKey w) → Contains l w
-    given l w (v, has, is) = let e : v ≡ w = cc in subst (Contains l) e has
-
-    to : (w : WayId) → IsSeen u (WayKey w) → Contains before w ⊎ Contains after w
-    to w i = elim (g.sound (WayKey w) i) [
-      | inl earlier ↦ elim (h.sound (WayKey w) earlier) [
-        | inl old ↦ absurd (none (WayKey w) old)
-        | inr new ↦ inl (subst (λ l. Contains l w) p (given first w new))
-      ]
-      | inr new ↦ inr (subst (λ l. Contains l w) q (given second w new))
-    ]
-
-    from : (w : WayId) → Contains before w ⊎ Contains after w → IsSeen u (WayKey w)
-    from w (inl i) = g.keeps (WayKey w) (h.complete (WayKey w) (w, subst (λ l. Contains l w) (sym p) i, refl))
-    from w (inr i) = g.complete (WayKey w) (w, subst (λ l. Contains l w) (sym q) i, refl)
 
 -- ---- those reached before and after a change are those that it touches
 

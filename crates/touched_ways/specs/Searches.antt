@@ -1,25 +1,34 @@
--- What a search over links has seen, and what a call lets it see.
-use Rattle.std.specs.Prelude.{ℕ, ◌⊎◌, List, Contains}
+-- What a round of a search over links finds, and what the search keeps of it.
+use Rattle.std.specs.Prelude.{ℕ, ◌⊎◌, IsTrue, List, Contains}
+use Rattle.std.specs.BTreeSet.{BTreeSet, contains}
+use Rattle.road_base.specs.declared.ids.NodeId.{NodeId}
+use Rattle.road_base.specs.declared.ids.WayId.{WayId}
 use Rattle.road_base.specs.declared.ids.Key.{Key}
 use Rattle.road_base.specs.declared.ids.Key.TheVariants.{Node as NodeKey, Way as WayKey, Relation as RelationKey}
 use Rattle.road_base.specs.Objects.{Objects}
+use Rattle.road_model.specs.Orders.{node_cmp}
 use Rattle.road_model.specs.Links.{IsLink, IsWithin}
+use Rattle.touched_ways.specs.declared.found.Found.{Found}
 use Rattle.touched_ways.specs.declared.search.Search.{Search}
 
--- the search has seen the key
-abbrev pub IsSeen : Search → Key → Type 0
-IsSeen s (NodeKey n) = Contains s.nodes.keys n
-IsSeen s (WayKey w) = Contains s.ways.keys w
-IsSeen s (RelationKey r) = Contains s.rules.keys r
+-- the rest has nothing but what the list has, and lacks nothing of it but what is gone
+pub record IsRest {T : Type 0} (list gone rest : List T) : Type 0 where
+  pub sound : (x : T) → Contains rest x → Contains list x
+  pub complete : (x : T) → Contains list x → Contains rest x ⊎ Contains gone x
 
--- between s and t exactly the keys of which the fact holds were seen; those that are new stand on the frontier
-pub record Sees (s t : Search) (Is : Key → Type 0) : Type 0 where
-  pub sound : (k : Key) → IsSeen t k → IsSeen s k ⊎ Is k
-  pub complete : (k : Key) → Is k → IsSeen t k
-  pub keeps : (k : Key) → IsSeen s k → IsSeen t k
-  pub fresh : (k : Key) → IsSeen t k → IsSeen s k ⊎ Contains t.frontier.items k
-  pub listed : (k : Key) → Contains t.frontier.items k → Contains s.frontier.items k ⊎ Is k
-  pub stays : (k : Key) → Contains s.frontier.items k → Contains t.frontier.items k
+-- ---- what a round finds
+
+-- the key was found
+abbrev pub IsFound : Found → Key → Type 0
+IsFound f (NodeKey n) = Contains f.nodes.items n
+IsFound f (WayKey w) = Contains f.ways.list.items w
+IsFound f (RelationKey r) = Contains f.rules.items r
+
+-- between f and g exactly the keys of which the fact holds were found
+pub record Finds (f g : Found) (Is : Key → Type 0) : Type 0 where
+  pub sound : (k : Key) → IsFound g k → IsFound f k ⊎ Is k
+  pub complete : (k : Key) → Is k → IsFound g k
+  pub keeps : (k : Key) → IsFound f k → IsFound g k
 
 -- something in the list gives the key
 abbrev pub GivenBy : {A : Type 0} → (A → Key → Type 0) → List A → Key → Type 0
@@ -41,13 +50,43 @@ IsWay (RelationKey r) = ⊥
 abbrev pub IsWayLink : Objects → Key → Key → Type 0
 IsWayLink M a b = IsLink M a b × IsWay b
 
+-- all that these hubs are linked to was found
+abbrev pub AreFollowed : (Key → Key → Type 0) → BTreeSet NodeId → Found → Type 0
+AreFollowed Link hubs f =
+    (n : NodeId) → IsTrue (contains node_cmp hubs n) → (k : Key) → Link (NodeKey n) k → IsFound f k
+
+-- ---- what the search keeps
+
+-- the key's links are followed next: it was found in the last round, and if it is no node's, was new then
+abbrev pub IsFrontier : Search → Key → Type 0
+IsFrontier s (NodeKey n) = Contains s.nodes.items n
+IsFrontier s (WayKey w) = Contains s.ways.frontier.items w
+IsFrontier s (RelationKey r) = Contains s.rules.frontier.items r
+
+-- the key is that of a way or restriction that was seen
+abbrev pub IsSeen : Search → Key → Type 0
+IsSeen s (NodeKey n) = ⊥
+IsSeen s (WayKey w) = Contains s.ways.all.items w
+IsSeen s (RelationKey r) = Contains s.rules.all.items r
+
+-- t is s when the keys of which the fact holds were taken in: each of them is on the frontier, or had been seen
+pub record IsNext (s t : Search) (Is : Key → Type 0) : Type 0 where
+  pub sound : (k : Key) → IsFrontier t k → Is k
+  pub complete : (k : Key) → Is k → IsFrontier t k ⊎ IsSeen s k
+  pub seen : (k : Key) → IsSeen t k → IsSeen s k ⊎ IsFrontier t k
+  pub ways : (w : WayId) → IsSeen s (WayKey w) ⊎ IsFrontier t (WayKey w) → IsSeen t (WayKey w)
+
+-- something on the frontier is linked to the key
+abbrev pub IsFurther : Objects → Search → Key → Type 0
+IsFurther M s k = (a : Key) × IsFrontier s a × IsLink M a k
+
 -- the key is within n links of one of the keys
 abbrev pub IsWithinAny : Objects → List Key → ℕ → Key → Type 0
 IsWithinAny M keys n k = (c : Key) × Contains keys c × IsWithin M n c k
 
--- the search has seen what is within n links of the keys, and followed all links but those from its frontier
+-- n rounds were made: the ways within n links of the keys were seen, and all that is further is linked to the frontier
 pub record IsRound (M : Objects) (keys : List Key) (n : ℕ) (s : Search) : Type 0 where
-  pub sound : (k : Key) → IsSeen s k → IsWithinAny M keys n k
-  pub complete : (k : Key) → IsWithinAny M keys n k → IsSeen s k
-  pub frontier : (k : Key) → Contains s.frontier.items k → IsSeen s k
-  pub followed : (a b : Key) → IsSeen s a → IsLink M a b → IsSeen s b ⊎ Contains s.frontier.items a
+  pub frontier : (k : Key) → IsFrontier s k → IsWithinAny M keys n k
+  pub seen : (k : Key) → IsSeen s k → IsWithinAny M keys n k
+  pub ways : (w : WayId) → IsWithinAny M keys n (WayKey w) → IsSeen s (WayKey w)
+  pub followed : (a b : Key) → IsWithinAny M keys n a → IsLink M a b → IsWithinAny M keys n b ⊎ IsFrontier s a

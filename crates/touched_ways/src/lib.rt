@@ -1,16 +1,22 @@
 //! The ways that a change touches: those within six links of what changed.
 //!
-//! A search over links goes round by round, over what is linked to the keys that were new in the last round. The keys
-//! seen stand in sets in order, so that each key's links are followed once, however many lead there, and the last
-//! round looks for ways alone. Where n links are followed that takes time of the order of n log n and memory for the
-//! keys that are seen, and nothing of the size of the map; on a town a fraction of a microsecond for each key. `merge`
-//! takes time of the order of n log n in the lengths of both lists.
+//! A search over links goes round by round, over what the last round found. What a round finds is listed by kind,
+//! without a look-up. Ways and restrictions are then sorted and gone along beside those seen before, so that the links
+//! of each are followed once. Nodes are followed as often as such a way or restriction names them, but one with more
+//! than eight links once a round. The last round looks for ways alone. Where n links are followed that takes time of
+//! the order of n log n, and memory for the ways and restrictions seen and for what a round finds, and nothing of the
+//! size of the map. `merge` goes along both lists once.
 #![tactic(auto)]
 
+mod found;
+mod found_ways;
+mod hubs;
 mod links;
+mod lists;
 mod merging;
 mod rounds;
 mod search;
+mod seen;
 
 pub use merging::merge;
 pub use rounds::reached;

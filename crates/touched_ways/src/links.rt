@@ -1,41 +1,67 @@
 //! What is linked to a key.
 ghost use Rattle.std.specs.Prelude.{◌≡◌, ◌↔◌, OnOk, Contains, map};
 ghost use Rattle.road_base.specs.declared.ids.Key.{Key as KeyValue};
+ghost use Rattle.road_base.specs.declared.ids.Key.TheVariants.{Node as NodeKey, Way as WayKey, Relation as RelationKey};
 ghost use Rattle.road_base.specs.declared.ids.NodeId.{NodeId as NodeNumber};
 ghost use Rattle.road_model.specs.Rules.{has_highway, is_restriction};
 ghost use Rattle.road_model.specs.Links.{RefersTo, HasMember, IsLink};
-ghost use Rattle.touched_ways.specs.Searches.{Sees, IsWayLink};
+ghost use Rattle.touched_ways.specs.Searches.{Finds, IsWayLink};
 
-use crate::search::Search;
-use road_base::{Key, Member, NoMemory, NodeId, RelationId, Tags, WayId};
+use crate::found::Found;
+use road_base::{Member, NoMemory, NodeId, RelationId, Tags, WayId};
 use road_model::World;
 
-/// Sees what is linked to the key.
-pub fn follow<M: World>(world: &M, key: Key, search: &mut Search) -> Result<(), NoMemory>
-    ensures { OnOk result (Sees search.old search.new (IsLink (M.objects world.now) key)) }
+/// A node to which more ways or more restrictions are linked is a hub.
+const FEW: usize = 8;
+
+/// Finds what is linked to the node, and tells whether it is a hub.
+pub fn follow_node<M: World>(world: &M, node: NodeId, found: &mut Found) -> Result<bool, NoMemory>
+    ensures { OnOk result (Finds found.old found.new (IsLink (M.objects world.now) (NodeKey node))) }
 {
-    match key {
-        Key::Node(node) => {
-            search.see_ways(world.ways_at(node))?;
-            search.see_rules(world.rules_at(node))
-        }
-        Key::Way(way) => {
-            search.see_nodes(nodes_of(world, way))?;
-            search.see_rules(world.rules_of_way(way))
-        }
-        Key::Relation(rule) => search.see_members(members_of(world, rule)),
-    }
+    let ways = world.ways_at(node);
+    let rules = world.rules_at(node);
+    found.add_ways(ways)?;
+    found.add_rules(rules)?;
+    Ok(ways.len().max(rules.len()) > FEW)
 }
 
-/// Sees the ways that are linked to the key.
-pub fn follow_to_ways<M: World>(world: &M, key: Key, search: &mut Search) -> Result<(), NoMemory>
-    ensures { OnOk result (Sees search.old search.new (IsWayLink (M.objects world.now) key)) }
+/// Finds what is linked to the way.
+pub fn follow_way<M: World>(world: &M, way: WayId, found: &mut Found) -> Result<(), NoMemory>
+    ensures { OnOk result (Finds found.old found.new (IsLink (M.objects world.now) (WayKey way))) }
 {
-    match key {
-        Key::Node(node) => search.see_ways(world.ways_at(node)),
-        Key::Way(_) => Ok(()),
-        Key::Relation(rule) => search.see_member_ways(members_of(world, rule)),
-    }
+    found.add_nodes(nodes_of(world, way))?;
+    found.add_rules(world.rules_of_way(way))
+}
+
+/// Finds what is linked to the restriction.
+pub fn follow_rule<M: World>(world: &M, rule: RelationId, found: &mut Found) -> Result<(), NoMemory>
+    ensures { OnOk result (Finds found.old found.new (IsLink (M.objects world.now) (RelationKey rule))) }
+{
+    found.add_members(members_of(world, rule))
+}
+
+/// Finds the ways that are linked to the node, and tells whether it is a hub by them.
+pub fn find_ways_of_node<M: World>(
+    world: &M,
+    node: NodeId,
+    found: &mut Found,
+) -> Result<bool, NoMemory>
+    ensures { OnOk result (Finds found.old found.new (IsWayLink (M.objects world.now) (NodeKey node))) }
+{
+    let ways = world.ways_at(node);
+    found.add_ways(ways)?;
+    Ok(ways.len() > FEW)
+}
+
+/// Finds the ways that are linked to the restriction.
+pub fn find_ways_of_rule<M: World>(
+    world: &M,
+    rule: RelationId,
+    found: &mut Found,
+) -> Result<(), NoMemory>
+    ensures { OnOk result (Finds found.old found.new (IsWayLink (M.objects world.now) (RelationKey rule))) }
+{
+    found.add_member_ways(members_of(world, rule))
 }
 
 /// The nodes to which the way refers, where it is visible and has the key `highway`.

@@ -5,8 +5,9 @@ ghost use Rattle.road_base.specs.declared.ids.Key.{Key};
 ghost use Rattle.road_model.specs.Orders.{Lists, way_cmp};
 ghost use Rattle.road_model.specs.Links.{AreChanged, AreReached, AreTouched};
 
-use crate::search::Search;
+use crate::lists::{add_sorted, leave_once};
 use road_base::{NoMemory, Ways};
+use road_model::laws::name_order;
 use std::alloc::Global;
 
 /// The ways of either list, ascending, each once. Of the ways reached before a change and those reached after it, from
@@ -18,8 +19,9 @@ pub fn merge(alloc: Global, before: &Ways, after: &Ways) -> Result<Ways, NoMemor
         → AreReached N keys after.now
         → AreTouched M N ways) }
 {
-    let mut search = Search::new(alloc);
-    search.see_ways(before.items())?;
-    search.see_ways(after.items())?;
-    search.seen_ways(alloc)
+    name_order();
+    let mut ways = Vec::from_slice(alloc, before.items())?;
+    add_sorted(&mut ways, after.items())?;
+    leave_once(&mut ways);
+    Ok(Ways::from_list(ways))
 }

@@ -1,16 +1,19 @@
 //! The search over links, round by round.
-ghost use Rattle.std.specs.Prelude.{◌≡◌, ℕ, ◌+◌, ◌↔◌, List, IfOk, OnOk};
+ghost use Rattle.std.specs.Prelude.{◌≡◌, ℕ, ◌+◌, List, IfOk, OnOk};
 ghost use Rattle.road_base.specs.declared.ids.Key.{Key as KeyValue};
-ghost use Rattle.road_base.specs.declared.ids.Key.TheVariants.{Way as WayKey};
-ghost use Rattle.road_base.specs.declared.ids.WayId.{WayId};
+ghost use Rattle.road_base.specs.declared.ids.Key.TheVariants.{Node as NodeKey, Way as WayKey, Relation as RelationKey};
+ghost use Rattle.road_base.specs.Objects.{Objects};
 ghost use Rattle.road_model.specs.Links.{IsLink, AreReached};
-ghost use Rattle.touched_ways.specs.Searches.{IsSeen, Sees, GivenBy, IsWayLink, IsWithinAny, IsRound};
+ghost use Rattle.touched_ways.specs.Searches.{Finds, GivenBy, IsWayLink, IsFurther, IsRound};
 
-use crate::links::{follow, follow_to_ways};
+use crate::found::Found;
+use crate::hubs::{find_ways_once, follow_node_once};
+use crate::links::{find_ways_of_rule, follow_rule, follow_way};
 use crate::search::Search;
-use road_base::{Key, Keys, NoMemory, Ways};
+use road_base::{Key, Keys, NoMemory, NodeId, RelationId, WayId, Ways};
 use road_model::World;
 use std::alloc::Global;
+use std::collections::BTreeSet;
 
 /// How many links lead to a way at most.
 const LINKS: u32 = 6;
@@ -20,54 +23,118 @@ const LINKS: u32 = 6;
 pub fn reached<M: World>(alloc: Global, world: &M, changed: &Keys) -> Result<Ways, NoMemory>
     ensures { IfOk result (AreReached (M.objects world.now) changed.now) }
 {
-    let mut search = Search::new(alloc);
-    search.see_keys(changed.items())?;
+    let mut search = first_round(alloc, changed.items())?;
     for _round in 1..LINKS {
-        next_round(world, &mut search)?;
+        next_round(alloc, world, &mut search)?;
     }
-    last_round(world, &mut search)?;
-    search.seen_ways(alloc)
+    last_round(alloc, world, search)
 }
 
-/// Sees what is one link further.
-fn next_round<M: World>(world: &M, search: &mut Search) -> Result<(), NoMemory>
+/// The search that has reached the keys.
+fn first_round(alloc: Global, keys: &[Key]) -> Result<Search, NoMemory>
+    ensures { IfOk result (λ search. (M : Objects) → IsRound M keys.now 0 search) }
+{
+    let mut found = Found::new(alloc)?;
+    found.add_keys(keys)?;
+    let mut search = Search::new(alloc);
+    search.take_in(found)?;
+    Ok(search)
+}
+
+/// Reaches what is one link further.
+fn next_round<M: World>(alloc: Global, world: &M, search: &mut Search) -> Result<(), NoMemory>
     ensures { OnOk result ((keys : List KeyValue) (n : ℕ) → IsRound (M.objects world.now) keys n search.old
         → IsRound (M.objects world.now) keys (n + 1) search.new) }
 {
-    let frontier = search.next_frontier();
-    follow_all(world, &frontier, search)
+    let mut found = Found::new(alloc)?;
+    follow_nodes(alloc, world, search.nodes.as_slice(), &mut found)?;
+    follow_ways(world, search.ways.frontier.as_slice(), &mut found)?;
+    follow_rules(world, search.rules.frontier.as_slice(), &mut found)?;
+    search.take_in(found)
 }
 
-/// Sees the ways that are one link further.
-fn last_round<M: World>(world: &M, search: &mut Search) -> Result<(), NoMemory>
-    ensures { OnOk result ((keys : List KeyValue) (n : ℕ) → IsRound (M.objects world.now) keys n search.old
-        → (w : WayId) → IsSeen search.new (WayKey w)
-        ↔ IsWithinAny (M.objects world.now) keys (n + 1) (WayKey w)) }
+/// The ways reached, and those that are one link further.
+fn last_round<M: World>(alloc: Global, world: &M, search: Search) -> Result<Ways, NoMemory>
+    ensures { IfOk result (λ ways. (keys : List KeyValue) → IsRound (M.objects world.now) keys 5 search
+        → AreReached (M.objects world.now) keys ways) }
 {
-    let frontier = search.next_frontier();
-    follow_all_to_ways(world, &frontier, search)
+    let mut found = Found::new(alloc)?;
+    find_ways_of_nodes(alloc, world, search.nodes.as_slice(), &mut found)?;
+    find_ways_of_rules(world, search.rules.frontier.as_slice(), &mut found)?;
+    search.ways_with(found.ways.list.as_slice())
 }
 
-/// Sees what is linked to one of the keys.
-fn follow_all<M: World>(world: &M, keys: &[Key], search: &mut Search) -> Result<(), NoMemory>
-    ensures { OnOk result (Sees search.old search.new (GivenBy (IsLink (M.objects world.now)) keys.now)) }
+/// Finds what is linked to one of the nodes.
+fn follow_nodes<M: World>(
+    alloc: Global,
+    world: &M,
+    nodes: &[NodeId],
+    found: &mut Found,
+) -> Result<(), NoMemory>
+    ensures { OnOk result (Finds found.old found.new
+        (GivenBy (λ n. IsLink (M.objects world.now) (NodeKey n)) nodes.now)) }
 {
-    for key in keys {
-        follow(world, *key, search)?;
+    let mut hubs = BTreeSet::new(alloc);
+    for node in nodes {
+        follow_node_once(world, *node, &mut hubs, found)?;
     }
     Ok(())
 }
 
-/// Sees the ways that are linked to one of the keys.
-fn follow_all_to_ways<M: World>(
-    world: &M,
-    keys: &[Key],
-    search: &mut Search,
-) -> Result<(), NoMemory>
-    ensures { OnOk result (Sees search.old search.new (GivenBy (IsWayLink (M.objects world.now)) keys.now)) }
+/// Finds what is linked to one of the ways.
+fn follow_ways<M: World>(world: &M, ways: &[WayId], found: &mut Found) -> Result<(), NoMemory>
+    ensures { OnOk result (Finds found.old found.new
+        (GivenBy (λ w. IsLink (M.objects world.now) (WayKey w)) ways.now)) }
 {
-    for key in keys {
-        follow_to_ways(world, *key, search)?;
+    for way in ways {
+        follow_way(world, *way, found)?;
+    }
+    Ok(())
+}
+
+/// Finds what is linked to one of the restrictions.
+fn follow_rules<M: World>(
+    world: &M,
+    rules: &[RelationId],
+    found: &mut Found,
+) -> Result<(), NoMemory>
+    ensures { OnOk result (Finds found.old found.new
+        (GivenBy (λ r. IsLink (M.objects world.now) (RelationKey r)) rules.now)) }
+{
+    for rule in rules {
+        follow_rule(world, *rule, found)?;
+    }
+    Ok(())
+}
+
+/// Finds the ways that are linked to one of the nodes.
+fn find_ways_of_nodes<M: World>(
+    alloc: Global,
+    world: &M,
+    nodes: &[NodeId],
+    found: &mut Found,
+) -> Result<(), NoMemory>
+    ensures { OnOk result (Finds found.old found.new
+        (GivenBy (λ n. IsWayLink (M.objects world.now) (NodeKey n)) nodes.now)) }
+{
+    let mut hubs = BTreeSet::new(alloc);
+    for node in nodes {
+        find_ways_once(world, *node, &mut hubs, found)?;
+    }
+    Ok(())
+}
+
+/// Finds the ways that are linked to one of the restrictions.
+fn find_ways_of_rules<M: World>(
+    world: &M,
+    rules: &[RelationId],
+    found: &mut Found,
+) -> Result<(), NoMemory>
+    ensures { OnOk result (Finds found.old found.new
+        (GivenBy (λ r. IsWayLink (M.objects world.now) (RelationKey r)) rules.now)) }
+{
+    for rule in rules {
+        find_ways_of_rule(world, *rule, found)?;
     }
     Ok(())
 }

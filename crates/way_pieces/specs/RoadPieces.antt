@@ -1,5 +1,5 @@
--- The pieces of a way, and the departures over it by the node that they leave.
-use Rattle.std.specs.Prelude.{◌≡◌, ℕ, List, Some, length, slice_get}
+-- The pieces of a way, its line, and the departures over it by the node that they leave.
+use Rattle.std.specs.Prelude.{◌≡◌, ◌≤◌, ℕ, List, Some, length, slice_get}
 use Rattle.std.specs.List.Sorted.{IsSortedByKey}
 use Rattle.road_base.specs.declared.ids.NodeId.{NodeId}
 use Rattle.road_base.specs.declared.ids.WayId.{WayId}
@@ -7,7 +7,8 @@ use Rattle.road_base.specs.Objects.{Objects}
 use Rattle.road_model.specs.Rules.{Rules}
 use Rattle.road_model.specs.Orders.{Lists, node_cmp, name_cmp}
 use Rattle.way_lines.specs.declared.roads.Road.{Road}
-use Rattle.way_lines.specs.RoadLines.{AreRoads}
+use Rattle.way_lines.specs.declared.road_line.RoadLine.{RoadLine}
+use Rattle.way_lines.specs.RoadLines.{AreRoads, IsRoadLine}
 use Rattle.way_pieces.specs.declared.spans.PieceSpan.{PieceSpan}
 use Rattle.way_pieces.specs.declared.starts.Start.{Start}
 use Rattle.way_pieces.specs.declared.road_pieces.WayPieces.{WayPieces}
@@ -30,7 +31,13 @@ pub record AreWayPieces (M : Objects) (P : Rules) (w : WayId) (t : WayPieces) : 
   pub spans : AreSpans M P w t.spans.items
   pub starts : AreStarts M P w t.starts.items
 
--- the pieces of each road, and where they start as far as that is kept
+-- the line of the way
+pub record IsLineOf (M : Objects) (P : Rules) (w : WayId) (l : RoadLine) : Type 0 where
+  pub of : l.road.way ≡ w
+  pub line : IsRoadLine M P l
+  pub short : length l.nodes.items ≤ 65535
+
+-- the pieces of each road, where they start as far as that is kept, and its line as far as it is kept
 pub record AreRoadPieces (M : Objects) (P : Rules) (p : RoadPieces) : Type 0 where
   pub roads : AreRoads M P p.roads
   pub span_count : length p.spans ≡ length p.roads.roads.items
@@ -42,3 +49,7 @@ pub record AreRoadPieces (M : Objects) (P : Rules) (p : RoadPieces) : Type 0 whe
       → slice_get p.roads.roads.items k ≡ Some road
       → slice_get p.starts k ≡ Some starts
       → AreStarts M P road.way starts
+  pub lines : (k : ℕ) (road : Road) (line : RoadLine)
+      → slice_get p.roads.roads.items k ≡ Some road
+      → slice_get p.lines.items k ≡ Some line
+      → IsLineOf M P road.way line

@@ -3,8 +3,9 @@
 //! A way is cut from its line (`way_lines::RoadLine`), which is read once, and its junctions: with n references and w
 //! ways at their nodes in time of the order of n log n + w, and memory of the order of n. `RoadPieces` cuts many ways,
 //! each once, and keeps their pieces, and where these start, in flat lists: then a node's departures take, for each way
-//! there, a short search, the logarithm of the number of its pieces, and one step for each departure. `departures_from`
-//! and `pieces_from` cut all ways at the node, `pieces_of`, `spans_of` and `spell` the way alone.
+//! there, a short search, the logarithm of the number of its pieces, and one step for each departure. Made by
+//! `with_lines` it keeps the lines as well, in memory of the order of the ways' references. `departures_from` and
+//! `pieces_from` cut all ways at the node, `pieces_of`, `spans_of` and `spell` the way alone.
 #![tactic(auto)]
 
 mod departures;

@@ -1,13 +1,13 @@
 //! Roads cut into pieces.
-ghost use Rattle.std.specs.Prelude.{◌≡◌, map, IfOk, IfSome, OnOk};
+ghost use Rattle.std.specs.Prelude.{◌≡◌, ◌≤◌, ◌++◌, ◌∷◌, [], cond, length, map, IfOk, IfSome, OnOk};
 ghost use Rattle.road_base.specs.Objects.{Objects};
 ghost use Rattle.road_model.specs.Rules.{Rules};
 ghost use Rattle.road_model.specs.Orders.{Lists, name_cmp};
 ghost use Rattle.road_model.specs.Networks.{on};
-ghost use Rattle.way_lines.specs.RoadLines.{AreRoads, IsRoad};
+ghost use Rattle.way_lines.specs.RoadLines.{AreRoads, IsRoad, IsRoadLine};
 ghost use Rattle.way_pieces.specs.Names.{IsDeparture};
 ghost use Rattle.way_pieces.specs.Departures.{IsOver, Gains};
-ghost use Rattle.way_pieces.specs.RoadPieces.{AreSpans, AreStarts, AreWayPieces, AreRoadPieces};
+ghost use Rattle.way_pieces.specs.RoadPieces.{AreSpans, AreStarts, AreWayPieces, IsLineOf, AreRoadPieces};
 
 use crate::departures::Departure;
 use crate::spans::{PieceSpan, spans_along};
@@ -24,7 +24,6 @@ use way_lines::{LineNode, Road, RoadLine, Roads};
 pub struct WayPieces {
     pub spans: Vec<PieceSpan>,
     pub starts: Vec<Start>,
-    ends: Vec<NodeId>,
 }
 
 impl WayPieces {
@@ -39,20 +38,29 @@ impl WayPieces {
         requires road { on network.now IsRoad road }
         ensures { IfOk result (on network.now AreWayPieces road.way) }
     {
+        let line = RoadLine::of(alloc, network, road)?;
+        WayPieces::along(alloc, network, roads, &line)
+    }
+
+    /// The pieces of the way whose line this is.
+    pub fn along<M: World, P: Profile>(
+        alloc: Global,
+        network: &Network<'_, M, P>,
+        roads: &Roads,
+        line: &RoadLine,
+    ) -> Result<WayPieces, NoMemory>
+        requires roads { on network.now AreRoads roads.now }
+        requires line { on network.now IsRoadLine line.now }
+        requires short { length line.now.nodes.items ≤ 65535 }
+        ensures { IfOk result (on network.now AreWayPieces line.now.road.way) }
+    {
         name_order();
         number_order();
-        let line = RoadLine::of(alloc, network, road)?;
-        let junctions = junctions_along(alloc, network, roads, &line)?;
-        let spans = spans_along(alloc, network, &line, junctions.as_slice())?;
-        let nodes = line.nodes.as_slice();
-        let mut starts = starts_of(alloc, nodes, spans.as_slice())?;
+        let junctions = junctions_along(alloc, network, roads, line)?;
+        let spans = spans_along(alloc, network, line, junctions.as_slice())?;
+        let mut starts = starts_of(alloc, line.nodes.as_slice(), spans.as_slice())?;
         put_in_order(&mut starts)?;
-        let ends = ends_of(alloc, nodes, spans.as_slice())?;
-        Ok(WayPieces {
-            spans,
-            starts,
-            ends,
-        })
+        Ok(WayPieces { spans, starts })
     }
 }
 
@@ -71,13 +79,12 @@ pub fn spans_of<M: World, P: Profile>(
     Ok(pieces.spans)
 }
 
-/// The nodes where the pieces of the way end whose line these nodes are.
-fn ends_of(
-    alloc: Global,
+/// Adds the nodes where the pieces of the way end whose line these nodes are.
+fn add_ends(
+    ends: &mut Vec<NodeId>,
     nodes: &[LineNode],
     spans: &[PieceSpan],
-) -> Result<Vec<NodeId>, NoMemory> {
-    let mut ends = Vec::with_capacity(alloc, spans.len())?;
+) -> Result<(), NoMemory> {
     for span in spans {
         let position = match span.name.dir {
             Dir::Forward => span.end,
@@ -87,7 +94,18 @@ fn ends_of(
             ends.push(end.node)?;
         }
     }
-    Ok(ends)
+    Ok(())
+}
+
+/// Adds the line where lines are kept.
+fn keep_line(lines: &mut Vec<RoadLine>, line: RoadLine, keeps: bool) -> Result<(), NoMemory>
+    ensures { OnOk result (lines.new.items ≡ cond keeps (lines.old.items ++ line ∷ []) lines.old.items) }
+{
+    if !keeps {
+        return Ok(());
+    }
+    lines.push(line)?;
+    Ok(())
 }
 
 /// Roads that were cut into pieces, each once. The pieces of one of them are found in the time of a short search, where
@@ -98,6 +116,7 @@ pub struct RoadPieces {
     spans: Groups<PieceSpan>,
     starts: Groups<Start>,
     ends: Vec<NodeId>,
+    lines: Vec<RoadLine>,
 }
 
 impl RoadPieces {
@@ -110,21 +129,50 @@ impl RoadPieces {
         ensures are { IfOk result (on network.now AreRoadPieces) }
         ensures ways { IfOk result (λ p. map (λ x. x.way) p.roads.roads.items ≡ ways.now) }
     {
+        RoadPieces::cut(alloc, network, ways, false)
+    }
+
+    /// The same, with the lines of all these ways kept.
+    pub fn with_lines<M: World, P: Profile>(
+        alloc: Global,
+        network: &Network<'_, M, P>,
+        ways: &[WayId],
+    ) -> Result<RoadPieces, NoMemory>
+        ensures are { IfOk result (on network.now AreRoadPieces) }
+        ensures ways { IfOk result (λ p. map (λ x. x.way) p.roads.roads.items ≡ ways.now) }
+    {
+        RoadPieces::cut(alloc, network, ways, true)
+    }
+
+    /// These ways, cut into pieces, each along its line, which is kept or let go.
+    fn cut<M: World, P: Profile>(
+        alloc: Global,
+        network: &Network<'_, M, P>,
+        ways: &[WayId],
+        keeps_lines: bool,
+    ) -> Result<RoadPieces, NoMemory>
+        ensures are { IfOk result (on network.now AreRoadPieces) }
+        ensures ways { IfOk result (λ p. map (λ x. x.way) p.roads.roads.items ≡ ways.now) }
+    {
         let roads = Roads::of(alloc, network, ways)?;
         let mut spans = Groups::new(alloc);
         let mut starts = Groups::new(alloc);
         let mut ends = Vec::new(alloc);
+        let mut lines = Vec::new(alloc);
         for road in roads.items() {
-            let pieces = WayPieces::of(alloc, network, &roads, *road)?;
+            let line = RoadLine::of(alloc, network, *road)?;
+            let pieces = WayPieces::along(alloc, network, &roads, &line)?;
             spans.push(pieces.spans.as_slice())?;
             starts.push(pieces.starts.as_slice())?;
-            ends.extend_from_slice(pieces.ends.as_slice())?;
+            add_ends(&mut ends, line.nodes.as_slice(), pieces.spans.as_slice())?;
+            keep_line(&mut lines, line, keeps_lines)?;
         }
         Ok(RoadPieces {
             roads,
             spans,
             starts,
             ends,
+            lines,
         })
     }
 
@@ -140,7 +188,19 @@ impl RoadPieces {
         self.ends.as_slice()
     }
 
-    /// The same roads and pieces, where these start and end let go: what leaves a node is then cut for each call.
+    /// The nodes where the pieces of these ways end, of those whose lines were kept; in no order, some more than once.
+    pub fn ends_on(&self, alloc: Global, ways: &[WayId]) -> Result<Vec<NodeId>, NoMemory> {
+        let mut ends = Vec::new(alloc);
+        for way in ways {
+            if let (Some(line), Some(spans)) = (self.line_of(*way), self.spans_of(*way)) {
+                add_ends(&mut ends, line.nodes.as_slice(), spans)?;
+            }
+        }
+        Ok(ends)
+    }
+
+    /// The same roads and pieces, where these start and end, and the lines, let go: what leaves a node is then cut for
+    /// each call.
     pub fn without_starts(self, alloc: Global) -> RoadPieces
         ensures are { (M : Objects) (P : Rules) → AreRoadPieces M P self → AreRoadPieces M P result }
         ensures roads { result.roads ≡ self.roads }
@@ -151,6 +211,7 @@ impl RoadPieces {
             spans,
             starts: Groups::new(alloc),
             ends: Vec::new(alloc),
+            lines: Vec::new(alloc),
         }
     }
 
@@ -165,6 +226,19 @@ impl RoadPieces {
             return None;
         }
         Some(self.spans.at(at))
+    }
+
+    /// The line of the way, if it is found among those whose lines were kept.
+    pub fn line_of(&self, way: WayId) -> Option<&RoadLine>
+        ensures { IfSome result (λ line. (M : Objects) (P : Rules)
+            → AreRoadPieces M P self.now
+            → IsLineOf M P way line.now) }
+    {
+        let at = self.roads.position_of(way)?;
+        if at >= self.lines.len() {
+            return None;
+        }
+        Some(&self.lines[at])
     }
 
     /// Where the pieces of the way start, by node, if it is found among those that were cut.

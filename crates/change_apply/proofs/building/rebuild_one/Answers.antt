@@ -22,7 +22,7 @@ returns-clause-rebuilt g c =
       pieces = c.in_ok-block.ensures.form.0;
       ascend = c.in_ok-block.ensures.form.1;
     } in
-    on_ok {A = λ (r : List (WayId × Block)). r ≡ put way_cmp c.args.way block c.args.rebuilt.now}
-    {B = λ r. IsRebuiltWith M P c.args.way c.args.rebuilt.now r} c.with.result c.with.ensures
+    on_ok {A = λ (r : List (WayId × Block)). r ≡ put way_cmp c.args.way block c.args.rebuilt}
+    {B = λ r. IsRebuiltWith M P c.args.way c.args.rebuilt r} c.with.result c.with.ensures
     (λ r e. rebuilt_with c.name_order.ensures.ways c.name_order.ensures.way_ties M P c.args.way block
-    c.args.rebuilt.now r is e)
+    c.args.rebuilt r is e)

@@ -1,8 +1,8 @@
 use Rattle.std.proofs.Common.{◌≡◌, ◌<◌, ◌∙◌, ◌++◌, ℕ, List, [], length, take, ap, sym, subst, arith, refl}
 use Rattle.std.proofs.Common.{length-append}
 use Rattle.std.proofs.lemmas.Grind.{common_steps}
-use Rattle.osmroad.specs.Input.{Took}
-use Rattle.osmroad.proofs.SourceParts.{took_nothing, took_more, took_still, took_all, rose_since}
+use Rattle.road_io.specs.Parts.{Took}
+use Rattle.road_io.proofs.SourceParts.{took_nothing, took_more, took_still, took_all, rose_since}
 use Rattle.osmroad.proofs.InputEnds.{took_whole, ended_whole}
 use Rattle.osmroad.proofs.gather.gather.Goals as goal
 

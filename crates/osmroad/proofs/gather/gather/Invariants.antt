@@ -1,5 +1,5 @@
 use Rattle.std.proofs.Common.{◌≡◌, ◌-◌, ◌≤◌, ◌^◌, ℕ, List, Option, length, vec_len}
-use Rattle.osmroad.specs.Input.{Took}
+use Rattle.road_io.specs.Parts.{Took}
 use Rattle.osmroad.proofs.gather.gather.Given as goal
 
 -- these bytes were read so far, no read failed, and there is room for a piece

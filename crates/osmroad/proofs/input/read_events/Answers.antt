@@ -1,6 +1,6 @@
 use Rattle.std.proofs.Common.{◌≡◌, ◌<◌, ◌∙◌, ◌++◌, length, take, [], arith, refl}
 use Rattle.std.proofs.lemmas.Grind.{common_steps}
-use Rattle.osmroad.proofs.SourceParts.{took_nothing, took_more, took_still, took_all, rose_since}
+use Rattle.road_io.proofs.SourceParts.{took_nothing, took_more, took_still, took_all, rose_since}
 use Rattle.osmroad.proofs.InputEnds.{within, whole_events, whole_refusal, stopped, ok_maps, err_maps}
 use Rattle.osmroad.proofs.input.read_events.Goals as goal
 

@@ -2,7 +2,7 @@ use Rattle.std.proofs.Common.{◌≡◌, ◌-◌, ℕ, List, Option, vec_len}
 use Rattle.opl_lexer.specs.declared.mode.Mode.{Mode}
 use Rattle.osmroad.specs.declared.input.Input.{Input}
 use Rattle.osmroad.specs.Reading.{Holds}
-use Rattle.osmroad.specs.Input.{Took}
+use Rattle.road_io.specs.Parts.{Took}
 use Rattle.osmroad.proofs.input.read_events.Given as goal
 
 -- these bytes were read so far, no read failed, and there is room for a piece

@@ -6,6 +6,7 @@ returns-clause-store c = record {
   one_live = c.one_live.ensures.once;
   live = c.one_live.ensures.stands;
   no_damage = c.no_damage_in_store.ensures.live;
+  there = c.still_there.ensures.files;
   still = c.still_there.ensures.store;
   stand = c.journal_on_store.ensures.stand;
   stopped = c.journal_on_store.ensures.stopped;

@@ -3,6 +3,7 @@ use Rattle.osmroad.specs.declared.status.Status.TheVariants.{SiteFault}
 use Rattle.osmroad.specs.Sessions.{AnswersFaults}
 use Rattle.osmroad.proofs.ServedSessions.{store_is_served, store_opens}
 use Rattle.osmroad.proofs.RefusedSessions.{store_is_refused, refused_no_read}
+use Rattle.osmroad.proofs.BuiltSessions.{store_builds, none_built}
 use Rattle.osmroad.proofs.serve.serve_store.Goals as goal
 
 -- ---- the store is loaded
@@ -21,6 +22,13 @@ returns-in-Ok-clause-ends g c =
     (g.W.Site.outside c.args.site.now) (g.W.Site.outside c.load_store.new.site) (g.W.Site.outside c.serve.new.site)
     c.in-Ok.ensures.told c.serve.ensures.serves
 
+pub returns-in-Ok-clause-built : goal.returns-in-Ok-clause-built
+returns-in-Ok-clause-built g c =
+    store_builds c.store_laws.ensures.store c.in-Ok.loaded c.args.steps.now c.serve.new.steps
+    (g.S.Source.bytes_left c.args.source.now) (g.S.Source.bytes_left c.serve.new.source)
+    (g.W.Site.outside c.args.site.now) (g.W.Site.outside c.load_store.new.site)
+    c.in-Ok.ensures.told c.serve.ensures.builds
+
 pub returns-in-Ok-clause-calls : goal.returns-in-Ok-clause-calls
 returns-in-Ok-clause-calls g c =
     subst (λ (n : ℕ). AnswersFaults SiteFault c.serve.result n (g.W.Site.faults c.serve.new.site))
@@ -36,6 +44,10 @@ returns-in-Err-clause-ends g c =
     store_is_refused c.refuse.result (g.S.Source.bytes_left c.args.source.now) (g.W.Site.outside c.args.site.now)
     (g.W.Site.outside c.refuse.new.site) c.refuse.ensures.named
     (c.refuse.ensures.runs (g.W.Site.outside c.args.site.now) c.in-Err.ensures.told)
+
+pub returns-in-Err-clause-built : goal.returns-in-Err-clause-built
+returns-in-Err-clause-built g c = none_built (g.S.Source.bytes_left c.args.source.now)
+    (g.W.Site.outside c.args.site.now) c.args.steps.now
 
 pub returns-in-Err-clause-reads : goal.returns-in-Err-clause-reads
 returns-in-Err-clause-reads g c =

@@ -4,7 +4,7 @@ use Rattle.session.specs.Conversing.{Converses, opening_of}
 use Rattle.session.proofs.OpenedSessions.{converses_nothing}
 use Rattle.session.proofs.ReadSessions.{goes_first}
 use Rattle.session.proofs.BuiltSessions.{read_of, builds_first, builds_nothing}
-use Rattle.session.proofs.SourceParts.{took_nothing}
+use Rattle.road_io.proofs.SourceParts.{took_nothing}
 use Rattle.session.proofs.conversing.converse.Goals as goal
 
 pub returns-in_default-clause-converses : goal.returns-in_default-clause-converses

@@ -5,7 +5,8 @@ use Rattle.session.specs.declared.end.End.TheVariants.{NoMemory, ReadFault}
 use Rattle.session.specs.Conversing.{SessionEnds, CountsCalls}
 use Rattle.session.specs.Answering.{CountsStops}
 use Rattle.session.specs.Following.{Goes, Since, Halts}
-use Rattle.session.proofs.SourceParts.{Took, took_nothing, took_more, took_still, took_all, rose_since}
+use Rattle.road_io.specs.Parts.{Took}
+use Rattle.road_io.proofs.SourceParts.{took_nothing, took_more, took_still, took_all, rose_since}
 use Rattle.session.proofs.ClosedSessions.{ends_memory, ends_read}
 use Rattle.session.proofs.ReadSessions.{conversed, took_whole, behind_nothing, not_at_end, not_read_fault, total_read}
 use Rattle.session.proofs.ReadSessions.{reads_calm, calls_calm, read_fault_inside}

@@ -9,7 +9,7 @@ use Rattle.session_input.specs.declared.input.Input.{Input}
 use Rattle.session.specs.Conversation.{Kept}
 use Rattle.session.specs.BuildingOn.{BuildsOn}
 use Rattle.session.specs.Following.{Goes}
-use Rattle.session.proofs.SourceParts.{Took}
+use Rattle.road_io.specs.Parts.{Took}
 use Rattle.session.proofs.conversing.follow.Given as goal
 
 -- these bytes were read so far, no call failed, and there is room for a part

@@ -1,11 +1,21 @@
-use Rattle.std.proofs.Common.{◌∙◌}
-use Rattle.std.proofs.lemmas.Result.{on_ok_weaker}
-use Rattle.touched_ways.proofs.LinkRounds.{ways_more}
+use Rattle.std.proofs.Common.{◌⊎◌, List, Contains}
+use Rattle.std.proofs.lemmas.Result.{IfOk-weaker}
+use Rattle.road_base.specs.declared.ids.Key.{Key}
+use Rattle.road_model.specs.Links.{AreReached}
+use Rattle.road_model.specs.Orders.{Lists, way_cmp}
+use Rattle.touched_ways.specs.Searches.{IsRound}
+use Rattle.touched_ways.proofs.LinkRounds.{last_ways}
 use Rattle.touched_ways.proofs.rounds.last_round.Goals as goal
 
 pub returns : goal.returns
-returns g c = on_ok_weaker c.follow_all_to_ways.result
-    (λ h keys n round. ways_more (g.M.World.objects c.args.world.now) keys n c.args.search.now
-    c.next_frontier-frontier.new.self c.follow_all_to_ways.new.search round c.next_frontier-frontier.ensures.seen
-    c.next_frontier-frontier.ensures.none c.deref.result.now
-    (c.deref.ensures.value ∙ c.next_frontier-frontier.ensures.frontier) h) c.follow_all_to_ways.ensures
+returns g c =
+    let M = g.M.World.objects c.args.world.now in
+    let s = c.args.search in
+    IfOk-weaker c.ways_with.result
+    (Lists (λ w. w) way_cmp (λ w. Contains s.ways.all.items w ⊎ Contains c.as_slice-3.result.now w))
+    (λ ways. (keys : List Key) → IsRound M keys 5 s → AreReached M keys ways)
+    (λ ways lists keys round. last_ways M keys 5 s round c.in_ok-found.found c.find_ways_of_nodes.new.found
+    c.find_ways_of_rules.new.found c.in_ok-found.ensures c.as_slice.result.now c.as_slice-2.result.now
+    c.as_slice.ensures.value c.as_slice-2.ensures.value c.in_ok-find_ways_of_nodes.ensures
+    c.in_ok-find_ways_of_rules.ensures c.as_slice-3.result.now ways c.as_slice-3.ensures.value lists)
+    c.ways_with.ensures

@@ -218,3 +218,26 @@ returns-in_err-rebuilt-clause-rebuilt g c = no_value _ c.from_residual-in_err-re
 
 pub returns-in_err-rebuilt-clause-few : goal.returns-in_err-rebuilt-clause-few
 returns-in_err-rebuilt-clause-few g c = no_value _ c.from_residual-in_err-rebuilt.result c.from_residual-in_err-rebuilt.ensures.0
+
+pub returns-clause-ways : goal.returns-clause-ways
+returns-clause-ways g c =
+    let events = c.args.events.now in
+    let after = c.in_ok-prepared.prepared.after in
+    let items = c.items-ways.result.now in
+    let here : c.self.inside.graph.world ≡ c.args.self.now.world = ap (λ f. f.world) c.self.view_is in
+    let applied = subst (λ (M : Objects). IsApplied M events after) here c.in_ok-prepared.ensures.after in
+    let touched =
+    touched_of c.args.self.now.world c.in_ok-prepared.prepared.before after after items c.in_ok-touched.touched
+    (c.in_ok-prepared.ensures.before ∙ here) refl c.items-ways.ensures c.in_ok-touched.ensures in
+    record { after = after; applied = applied; ways = items; touched = touched }
+
+pub returns-in_err-prepared-clause-ways : goal.returns-in_err-prepared-clause-ways
+returns-in_err-prepared-clause-ways g c = no_ok _ c.from_residual.result c.from_residual.ensures.0
+
+pub returns-in_err-touched-clause-ways : goal.returns-in_err-touched-clause-ways
+returns-in_err-touched-clause-ways g c =
+    no_ok _ c.from_residual-in_err-touched.result c.from_residual-in_err-touched.ensures.0
+
+pub returns-in_err-rebuilt-clause-ways : goal.returns-in_err-rebuilt-clause-ways
+returns-in_err-rebuilt-clause-ways g c =
+    no_ok _ c.from_residual-in_err-rebuilt.result c.from_residual-in_err-rebuilt.ensures.0

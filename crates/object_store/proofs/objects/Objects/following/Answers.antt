@@ -1,7 +1,16 @@
-use Rattle.std.proofs.Common.{sym, subst}
+use Rattle.std.proofs.Common.{sym, subst, ◌∙◌}
 use Rattle.road_base.specs.Applying.{IsApplied}
+use Rattle.road_model.specs.Links.{AreChanged}
 use Rattle.object_store.proofs.StandingEvents.{standing_back}
 use Rattle.object_store.proofs.objects.Objects.following.Goals as goal
+
+pub new-requires-clause-keys : goal.new-requires-clause-keys
+new-requires-clause-keys c =
+    let M = c.args.self.now in
+    let N = c.in_ok-next.next in
+    subst (λ O. AreChanged O N c.in_ok-keys.keys) (sym c.in_ok-copy.ensures)
+    (c.in_ok-keys.ensures N (subst (λ l. IsApplied M l N)
+    (c.as_slice-2.ensures.value ∙ sym c.as_slice.ensures.value) c.in_ok-next.ensures))
 
 pub returns-clause-after : goal.returns-clause-after
 returns-clause-after c =

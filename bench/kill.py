@@ -1,0 +1,137 @@
+#!/usr/bin/env python3
+"""Ends sessions at random moments, always on the same store, and looks at the store after each: it loads, it keeps no
+number below the last `applied` that was read and none above the last frame that was sent whole, and its graph is the one
+that `- compile` makes of the objects that those changes leave. Use: kill.py PROGRAM STORE EXTRACT TIMES; bench/kill.sh
+calls it.
+"""
+import random
+import re
+import signal
+import subprocess
+import sys
+import threading
+import time
+
+program, store, extract, times = sys.argv[1:]
+draws = random.Random(5)
+
+
+class Objects:
+    """The line of each object that stands, by its first field, with its version."""
+
+    def __init__(self, path):
+        self.lines = {}
+        with open(path, encoding='utf-8') as lines:
+            for line in lines:
+                self.take(line)
+
+    def take(self, line):
+        """Of each object the first line of the greatest version stands."""
+        name, version = line.split()[:2]
+        version = int(version[1:])
+        if name not in self.lines or version > self.lines[name][0]:
+            self.lines[name] = (version, line)
+
+    def text(self):
+        return ''.join(line for _, line in self.lines.values()).encode()
+
+
+def event(objects, changed):
+    """A change of an object, or a new one, behind the changes of this session."""
+    name = draws.choice(objects) if draws.randrange(8) else f'n{draws.randrange(10 ** 6, 10 ** 7)}'
+    version, line = changed(name)
+    if line is None:
+        return f'{name} v1 dV T x{draws.uniform(8, 9):.7f} y{draws.uniform(50, 51):.7f}\n'
+    data = line.split()[2:]
+    if draws.randrange(10) == 0:
+        return f'{name} v{version + 1} dD\n'
+    if name[0] == 'w' and draws.randrange(2):
+        data = [draws.choice(['Thighway=residential', 'Thighway=footway', 'Thighway=residential,oneway=yes'])
+                if field[0] == 'T' else field for field in data]
+    return f'{name} v{version + 1} ' + ' '.join(data) + '\n'
+
+
+def run(*words, given=b''):
+    done = subprocess.run([program, *words], input=given, stdout=subprocess.PIPE, check=False)
+    return done.returncode, done.stdout
+
+
+def kept():
+    """The number that the store keeps."""
+    status, said = run(store, 'apply', '0')
+    found = re.fullmatch(rb'sequence 0 kept (\d+)\n', said)
+    if status != 5 or not found:
+        sys.exit(f'FAILED: the store says {said} with status {status}')
+    return int(found.group(1))
+
+
+class Session:
+    """A session that is fed with frames until it ends."""
+
+    def __init__(self, objects, number):
+        self.objects, self.number = objects, number
+        self.frames, self.replies = [], b''
+        self.process = subprocess.Popen([program, store, 'session'], stdin=subprocess.PIPE, stdout=subprocess.PIPE)
+        self.reader = threading.Thread(target=self.read)
+        self.writer = threading.Thread(target=self.write)
+
+    def read(self):
+        self.replies = self.process.stdout.read()
+
+    def write(self):
+        names, changed = list(self.objects.lines), {}
+
+        def newest(name):
+            return changed.get(name) or self.objects.lines.get(name) or (0, None)
+
+        try:
+            while True:
+                lines = [event(names, newest) for _ in range(draws.randrange(1, 30))]
+                for line in lines:
+                    fields = line.split()
+                    changed[fields[0]] = (int(fields[1][1:]), line)
+                self.number += 1
+                self.frames.append(lines)
+                self.process.stdin.write(f'#seq {self.number}\n{"".join(lines)}#end\n'.encode())
+                self.process.stdin.flush()
+        except (BrokenPipeError, ValueError, OSError):
+            pass
+
+    def end(self, after):
+        self.writer.start()
+        self.reader.start()
+        time.sleep(after)
+        self.process.send_signal(signal.SIGKILL)
+        self.process.wait()
+        self.writer.join()
+        self.reader.join()
+        found = re.findall(rb'applied (\d+)\n', self.replies)
+        if self.replies and not re.fullmatch(rb'(applied \d+\n)*(a[a-z]* ?\d*)?', self.replies):
+            sys.exit(f'FAILED: {self.replies[-200:]} was put')
+        return int(found[-1]) if found else None
+
+
+status, said = run(store, 'create', '1', given=open(extract, 'rb').read())
+if said != b'created 1\n':
+    sys.exit(f'FAILED: {said} with status {status}')
+objects, number, applied, inside = Objects(extract), 1, 0, 0
+for round_number in range(int(times)):
+    session = Session(objects, number)
+    acknowledged = session.end(draws.uniform(0, 0.08))
+    now = kept()
+    if now < max(acknowledged or 0, number) or now > session.number:
+        sys.exit(f'FAILED: {now} is kept, {acknowledged} was told, {session.number} was sent')
+    applied += now - number
+    inside += acknowledged != now and now > number
+    for lines in session.frames[:now - number]:
+        for line in lines:
+            objects.take(line)
+    number = now
+    compiled, graph = run('-', 'compile', given=objects.text()), run(store, 'graph')
+    if compiled[0] or compiled != graph:
+        sys.exit(f'FAILED: the graph behind {number} is another one')
+    # the journal stays short, so that a session opens in a moment
+    if round_number % 20 == 19 and run(store, 'checkpoint')[1] != b'checkpoint %d\n' % number:
+        sys.exit(f'FAILED: no checkpoint behind {number}')
+print(f'{times} sessions ended by SIGKILL, {applied} changes kept, {inside} times one more than was told: '
+      'the store stands each time')

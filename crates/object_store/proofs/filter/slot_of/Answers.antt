@@ -1,0 +1,11 @@
+use Rattle.std.proofs.Common.{◌%◌, ap, ◌∙◌}
+use Rattle.std.specs.Int.{w64, cast_unsigned}
+use Rattle.std.proofs.lemmas.Int.{to_z-of_z}
+use Rattle.object_store.specs.Filters.{slot_of}
+use Rattle.object_store.proofs.filter.slot_of.Goals as goal
+
+pub returns-clause-slot : goal.returns-clause-slot
+unfolding slot_of
+returns-clause-slot c =
+    ap (λ n. n % 65536) (c.cast_unsigned.ensures
+    ∙ ap (cast_unsigned w64) (to_z-of_z w64 c.args.number c.ranges.number))

@@ -1,0 +1,167 @@
+//! Filters: marks at the numbers of a map's keys, by which it tells most keys that it doesn't have without a search.
+//!
+//! A filter is that of B. H. Bloom (1970), with one slot for each number.
+ghost use Rattle.std.specs.Prelude.{◌≡◌, ◌↔◌, ◌<◌, ℤ, IfOk, IsTrue};
+ghost use Rattle.std.specs.declared.cmp.Ordering.TheVariants.{Equal};
+ghost use Rattle.object_store.specs.Filters.{slot_of, slots_in, IsMarked};
+ghost use Rattle.object_store.specs.Numbers.{key_number, key_tied, node_tied, way_tied};
+
+use road_base::{Key, NoMemory, NodeId, WayId};
+use std::alloc::Global;
+use std::marker::Model;
+use std::rc::Rc;
+
+/// How many slots a filter has.
+const SLOTS: usize = 65_536;
+
+/// What has a number. Keys that tie have the same one.
+pub trait Slotted: Ord {
+    ghost number: { Self → ℤ };
+
+    /// The number.
+    fn number(&self) -> i64
+        ensures { result ≡ number self.now };
+
+    ghost tied: { (a b : Self) → Self.cmp a b ≡ Equal → number a ≡ number b };
+}
+
+impl Slotted for Key {
+    ghost number = { key_number };
+
+    /// The number of the node, way or relation.
+    fn number(&self) -> i64 {
+        match self {
+            Key::Node(id) => id.0,
+            Key::Way(id) => id.0,
+            Key::Relation(id) => id.0,
+        }
+    }
+
+    ghost tied = { key_tied };
+}
+
+impl Slotted for NodeId {
+    ghost number = { λ n. n.0 };
+
+    fn number(&self) -> i64 {
+        self.0
+    }
+
+    ghost tied = { node_tied };
+}
+
+impl Slotted for WayId {
+    ghost number = { λ w. w.0 };
+
+    fn number(&self) -> i64 {
+        self.0
+    }
+
+    ghost tied = { way_tied };
+}
+
+/// For each slot whether it is marked.
+#[derive(Drop)]
+pub struct Filter {
+    slots: Vec<bool>,
+}
+
+impl Model for Filter {
+    ghost use Rattle.std.specs.Prelude.{◌≡◌, List, Bool, length};
+
+    ghost Value = { List Bool };
+
+    ghost view = { λ f. f.slots.items };
+
+    ghost invariant = { λ f. length f.slots.items ≡ 65536 };
+}
+
+impl Filter {
+    /// A filter without marks. Takes a byte a slot.
+    fn new(alloc: Global) -> Result<Filter, NoMemory>
+        ensures { IfOk result (λ f. (number : ℤ) → ¬ (IsMarked f number)) }
+    {
+        let mut slots = Vec::new(alloc);
+        slots.resize(SLOTS, false)?;
+        Ok(Filter { slots })
+    }
+
+    /// An equal filter. Takes the time and the memory of all slots.
+    fn copy(&self) -> Result<Filter, NoMemory>
+        ensures { IfOk result (λ f. f ≡ self.now) }
+    {
+        let mut slots = Vec::new(*self.slots.allocator());
+        slots.extend_from_slice(self.slots.as_slice())?;
+        Ok(Filter { slots })
+    }
+
+    /// Whether the number's slot is marked.
+    fn has(&self, number: i64) -> bool
+        ensures { IsTrue result ↔ IsMarked self.now number }
+    {
+        self.slots[slot_of(number)]
+    }
+
+    /// Marks the number's slot.
+    fn mark(&mut self, number: i64)
+        ensures own { IsMarked self.new number }
+        ensures others { (other : ℤ) → IsMarked self.old other → IsMarked self.new other }
+    {
+        self.slots[slot_of(number)] = true;
+    }
+}
+
+/// The slot of a number. Neighbouring numbers have different ones.
+fn slot_of(number: i64) -> usize
+    ensures slot { result ≡ slot_of number }
+    ensures within { result < 65536 }
+{
+    (number.cast_unsigned() % SLOTS as u64) as usize
+}
+
+/// Whether the number's slot is marked. Without a filter none is.
+pub fn is_marked(filter: &Option<Rc<Filter>>, number: i64) -> bool
+    ensures { IsTrue result ↔ IsMarked (slots_in filter.now) number }
+{
+    match filter {
+        None => false,
+        Some(filter) => filter.has(number),
+    }
+}
+
+/// The filter with the number's slot marked. A filter that others share is copied first.
+pub fn marked(
+    alloc: Global,
+    filter: Option<Rc<Filter>>,
+    number: i64,
+) -> Result<Rc<Filter>, NoMemory>
+    ensures own { IfOk result (λ f. IsMarked f.value number) }
+    ensures others { IfOk result (λ f. (other : ℤ) → IsMarked (slots_in filter) other → IsMarked f.value other) }
+{
+    let mut own = match filter {
+        None => Filter::new(alloc)?,
+        Some(shared) => unshared(shared)?,
+    };
+    own.mark(number);
+    Ok(Rc::new(alloc, own)?)
+}
+
+/// The filter itself where nobody shares it, else a copy.
+fn unshared(filter: Rc<Filter>) -> Result<Filter, NoMemory>
+    ensures { IfOk result (λ f. f ≡ filter.value) }
+{
+    match Rc::try_unwrap(filter) {
+        Ok(own) => Ok(own),
+        Err(shared) => shared.copy(),
+    }
+}
+
+/// The same filter, shared.
+pub fn shared(filter: &Option<Rc<Filter>>) -> Result<Option<Rc<Filter>>, NoMemory>
+    ensures { IfOk result (λ f. slots_in f ≡ slots_in filter.now) }
+{
+    match filter {
+        None => Ok(None),
+        Some(filter) => Ok(Some(filter.clone()?)),
+    }
+}

@@ -1,0 +1,83 @@
+-- How many blocks a session over the two files builds.
+use Rattle.std.proofs.Common.{◌≡◌, inl, ℕ, ◌+◌, List, [], ◌++◌, length, Option, None, Some, Ok, refl, sym}
+use Rattle.std.proofs.Common.{ap, ◌∙◌, subst, arith}
+use Rattle.road_base.specs.History.{History, HasObjects}
+use Rattle.road_base.specs.Objects.{Objects}
+use Rattle.road_model.specs.Highways.{highways}
+use Rattle.road_io.specs.Told.{Told}
+use Rattle.road_io.specs.Outside.{Outside}
+use Rattle.sequence_journal.specs.declared.load.Loaded.{Loaded}
+use Rattle.store_switch.specs.LiveFile.{reads_of}
+use Rattle.store_switch.specs.StoreLoading.{StoreLoaded, LoadsStore}
+use Rattle.session.specs.Conversation.{Kept}
+use Rattle.session.specs.Building.{Start, BuildsFew, SessionBuilds}
+use Rattle.osmroad.specs.Opening.{IsStore}
+use Rattle.osmroad.specs.StoreLaws.{StoreLaws}
+use Rattle.osmroad.specs.Sessions.{SessionRunBuilds, opening}
+use Rattle.osmroad.proofs.LoadedStores.{loaded_store}
+use Rattle.osmroad.proofs.ServedSessions.{opened, opening_is, same_opening}
+
+-- ---- the store is loaded
+
+-- the blocks of the loaded store's session are those of the session that opens with the files
+module _ (laws : StoreLaws) (l : Loaded) (old new : ℕ) where
+  -- so many blocks are built over these files
+  abbrev BuildsOver : Outside → List ℕ → List ℕ → Type 0
+  BuildsOver w bytes behind =
+      ((s : IsStore (reads_of w)) (M : Objects) → HasObjects s.history M
+      → (read : List ℕ) × (bytes ≡ read ++ behind)
+      × BuildsFew (opening s) read (old + length (highways M)) new)
+      × ((IsStore (reads_of w) → ⊥) → new ≡ old)
+
+  -- where the site tells
+  builds_on : (held remaining : Option (List ℕ)) (w u : Outside) → LoadsStore (Ok l) w u
+      → SessionBuilds l held remaining (Some u) old new → SessionRunBuilds held remaining (Some w) old new
+  builds_on held remaining w u load builds = λ bytes behind x has left is.
+      let k : StoreLoaded l w u = load.answer in
+      let mine = loaded_store l w u k in
+      let here : w ≡ x = cc in
+      subst (λ (o : Outside). BuildsOver o bytes behind) here (
+        λ s M objects.
+            let same : opening mine ≡ opening s = same_opening laws (reads_of w) mine s in
+            let history : k.history ≡ s.history = ap (λ (o : Kept). o.history) same in
+            let b = builds bytes behind u k.history M has left refl (opened l w u k)
+            (subst (λ (h : History). HasObjects h M) (sym history) objects) in (
+              b.0,
+              b.1,
+              subst (λ (o : Kept). BuildsFew o b.0 (old + length (highways M)) new) (opening_is l w u k ∙ same) b.2,
+            ),
+        λ never. absurd (never mine),
+      )
+
+  pub store_builds : (held remaining : Option (List ℕ)) (x y : Option Outside) → Told (LoadsStore (Ok l)) x y
+      → SessionBuilds l held remaining y old new → SessionRunBuilds held remaining x old new
+  store_builds held remaining None None told builds = λ bytes behind w has left is. (cc)
+  store_builds held remaining None (Some u) told builds = absurd told
+  store_builds held remaining (Some w) None told builds = absurd told
+  store_builds held remaining (Some w) (Some u) told builds = builds_on held remaining w u told builds
+
+-- ---- it isn't
+
+-- nothing is read, and no block is built
+pub none_built : (held : Option (List ℕ)) (x : Option Outside) (built : ℕ) → SessionRunBuilds held held x built built
+none_built held x built = λ bytes behind w has left is. (
+  λ s M objects. (
+    [],
+    whole bytes behind has left,
+    record {
+      front = [];
+      rest = [];
+      is = refl;
+      from = opening s;
+      n = 0;
+      touched = Start;
+      last = 0;
+      ends = inl refl;
+      few = omega arith;
+    },
+  ),
+  λ never. refl,
+)
+  where
+    whole : (bytes behind : List ℕ) → held ≡ Some bytes → held ≡ Some behind → bytes ≡ [] ++ behind
+    whole bytes behind has left = let same : bytes ≡ behind = cc in same

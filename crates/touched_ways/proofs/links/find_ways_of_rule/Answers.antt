@@ -1,0 +1,8 @@
+use Rattle.std.proofs.lemmas.Result.{on_ok_weaker}
+use Rattle.touched_ways.proofs.LinkedKeys.{rule_way_linked}
+use Rattle.touched_ways.proofs.links.find_ways_of_rule.Goals as goal
+
+pub returns : goal.returns
+returns g c = on_ok_weaker c.add_member_ways.result
+    (rule_way_linked (g.M.World.objects c.args.world.now) c.args.rule c.members_of.result.now c.members_of.ensures
+    c.args.found.now c.add_member_ways.new.self) c.add_member_ways.ensures
