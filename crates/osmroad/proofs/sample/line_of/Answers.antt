@@ -12,19 +12,19 @@ pub write-requires-clause-profile : goal.write-requires-clause-profile
 write-requires-clause-profile c = c.number.ensures
 
 pub write-requires-clause-forms : goal.write-requires-clause-forms
-write-requires-clause-forms c = c.blocks-2.ensures.forms
+write-requires-clause-forms c = c.in_ok-road_graph.ensures.forms
 
 pub totals_of-requires : goal.totals_of-requires
 totals_of-requires c =
-    let blocks = values c.blocks-2.result.now.map in
+    let blocks = values c.in_ok-road_graph.road_graph.now.blocks.map in
     let bytes : c.write.new.out.items ≡ graph_bytes c.number.result blocks =
     c.in_ok-write.ensures.bytes ∙ ap (λ (l : List ℕ). l ++ graph_bytes c.number.result blocks) c.new-graph.ensures.items
     in
     subst IsGraphFile (sym (c.deref.ensures.value ∙ bytes)) c.in_ok-write.ensures.grammar
 
-pub returns : goal.returns
-returns c =
-    let blocks = values c.blocks-2.result.now.map in
+pub returns-clause-line : goal.returns-clause-line
+returns-clause-line c =
+    let blocks = values c.in_ok-road_graph.road_graph.now.blocks.map in
     let graph = c.write.new.out.items in
     let bytes : graph ≡ graph_bytes c.number.result blocks =
     c.in_ok-write.ensures.bytes ∙ ap (λ (l : List ℕ). l ++ graph_bytes c.number.result blocks) c.new-graph.ensures.items
@@ -37,7 +37,7 @@ returns c =
       graph = graph;
       is = record {
         blocks = blocks;
-        listed = c.blocks-2.ensures.listed;
+        listed = c.in_ok-road_graph.ensures.listed;
         spelled = bytes ∙ ap (λ (n : ℕ). graph_bytes n blocks) c.number.ensures;
       };
       blocks = read.0;
