@@ -12,13 +12,11 @@ use std::marker::Brand;
 use std::sync::ledger::{Blank, Ledger};
 use std::test::Fail;
 
-/// The events of these changes, one behind another.
-fn events_of(alloc: Global, changes: &[&[u8]]) -> Result<Vec<Event>, Fail> {
+/// The events of the change.
+fn events_of(alloc: Global, change: &[u8]) -> Result<Vec<Event>, Fail> {
     let mut reader = Reader::new(alloc, Mode::Change);
-    for change in changes {
-        if reader.feed(change).is_err() {
-            return Err(Fail::from("the change isn't read"));
-        }
+    if reader.feed(change).is_err() {
+        return Err(Fail::from("the change isn't read"));
     }
     match reader.finish() {
         Ok(events) => Ok(events),
@@ -34,26 +32,52 @@ fn graph_of(alloc: Global, engine: &mut Engine<Motorcar>) -> Result<Vec<u8>, Fai
     Ok(bytes)
 }
 
-/// How many ways the last of the changes touches. All of them are followed in turn; the graph then has to be that of
-/// all events at once.
-fn touched_last<L: Ledger>(alloc: Global, changes: &[&[u8]], blank: Blank) -> Result<u64, Fail>
+/// Follows the change, and asks for the graph behind it: how many ways it touches. Its events are put behind those of
+/// the changes before.
+fn follow<L: Ledger>(
+    alloc: Global,
+    engine: &mut Engine<Motorcar>,
+    change: &[u8],
+    all: &mut Vec<Event>,
+    steps: &mut Steps<L>,
+) -> Result<u64, Fail> {
+    let mut events = events_of(alloc, change)?;
+    let report = engine.apply(&events, steps)?;
+    graph_of(alloc, engine)?;
+    all.append(&mut events)?;
+    Ok(report.touched)
+}
+
+/// Whether the graph is that of all these events at once.
+fn is_graph_of<L: Ledger>(
+    alloc: Global,
+    engine: &mut Engine<Motorcar>,
+    all: Vec<Event>,
+    steps: &mut Steps<L>,
+) -> Result<bool, Fail> {
+    let mut whole = Engine::load(alloc, Motorcar, all, steps)?;
+    let want = graph_of(alloc, &mut whole)?;
+    Ok(graph_of(alloc, engine)?.as_slice() == want.as_slice())
+}
+
+/// How many ways the last of the changes touches, and whether the graph behind all of them is that of all their events
+/// at once.
+fn followed<L: Ledger>(alloc: Global, changes: &[&[u8]], blank: Blank) -> Result<(u64, bool), Fail>
     requires name { blank.name ≡ L.name }
     requires parts { blank.parts ≡ L.parts }
     requires some { 0 < L.parts }
 {
     let mut steps = Steps::<L>::new(blank);
     let mut engine = Engine::load(alloc, Motorcar, Vec::new(alloc), &mut steps)?;
+    let mut all = Vec::new(alloc);
     let mut touched = 0;
     for change in changes {
-        let events = events_of(alloc, &[*change])?;
-        touched = engine.apply(&events, &mut steps)?.touched;
-        graph_of(alloc, &mut engine)?;
+        touched = follow(alloc, &mut engine, change, &mut all, &mut steps)?;
     }
-    let mut whole = Engine::load(alloc, Motorcar, events_of(alloc, changes)?, &mut steps)?;
-    if graph_of(alloc, &mut engine)?.as_slice() != graph_of(alloc, &mut whole)?.as_slice() {
-        return Err(Fail::from("the graph is another one"));
-    }
-    Ok(touched)
+    Ok((
+        touched,
+        is_graph_of(alloc, &mut engine, all, &mut steps)?,
+    ))
 }
 
 /// A chain: way k goes from node k to node k + 1.
@@ -88,10 +112,9 @@ fn changes_touch_what_is_near(rt: HostRuntime) -> Result<(), Fail> {
         (&[CHAIN, MOVED, GONE, LONGER], 10),
     ];
     for (changes, want) in rows {
-        assert_eq!(rt;
-            touched_last::<Brand>(rt.alloc(), changes, Blank::new(1))?,
-            want
-        );
+        let (touched, same) = followed::<Brand>(rt.alloc(), changes, Blank::new(1))?;
+        assert_eq!(rt; touched, want);
+        assert!(rt; same);
     }
     Ok(())
 }

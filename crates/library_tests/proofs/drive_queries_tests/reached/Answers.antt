@@ -1,9 +1,10 @@
--- The engine's blocks are those of its world.
+-- The graph's blocks are those of its world.
 use Rattle.std.proofs.Common.{sym, subst}
 use Rattle.road_base.specs.Objects.{Objects}
 use Rattle.road_model.specs.BlockMap.{AreBlocksOf}
 use Rattle.library_tests.proofs.drive_queries_tests.reached.Goals as goal
 
 pub reach-requires : goal.reach-requires
-reach-requires c = subst (λ (M : Objects). AreBlocksOf M _ c.blocks-2.result.now.map) (sym c.world.ensures)
-    c.blocks-2.ensures.blocks
+reach-requires c =
+    subst (λ (M : Objects). AreBlocksOf M _ c.in_ok-graph.graph.now.blocks.map) (sym c.in_ok-graph.ensures.world)
+    c.in_ok-graph.ensures.blocks
