@@ -74,10 +74,7 @@ fn followed<L: Ledger>(alloc: Global, changes: &[&[u8]], blank: Blank) -> Result
     for change in changes {
         touched = follow(alloc, &mut engine, change, &mut all, &mut steps)?;
     }
-    Ok((
-        touched,
-        is_graph_of(alloc, &mut engine, all, &mut steps)?,
-    ))
+    Ok((touched, is_graph_of(alloc, &mut engine, all, &mut steps)?))
 }
 
 /// A chain: way k goes from node k to node k + 1.
