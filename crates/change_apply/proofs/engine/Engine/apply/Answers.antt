@@ -1,4 +1,5 @@
-use Rattle.std.proofs.Common.{◌≡◌, ℕ, ◌+◌, ◌≤◌, true, false, List, length, Result, Ok, Err, IsErr, IfOk, OnOk, OnErr, inl, inr, refl, ap, sym, subst, ◌∙◌, arith}
+use Rattle.std.proofs.Common.{◌≡◌, ℕ, ◌+◌, ◌≤◌, true, false, List, length, Result, Ok, Err}
+use Rattle.std.proofs.Common.{IsErr, IfOk, OnOk, OnErr, inl, inr, refl, ap, sym, subst, ◌∙◌, arith}
 use Rattle.road_base.specs.declared.ids.WayId.{WayId}
 use Rattle.road_base.specs.declared.event.Event.{Event}
 use Rattle.road_base.specs.Objects.{Objects}
@@ -184,7 +185,8 @@ pub returns-in_err-prepared-clause-few : goal.returns-in_err-prepared-clause-few
 returns-in_err-prepared-clause-few g c = no_value _ c.from_residual.result c.from_residual.ensures.0
 
 pub returns-in_err-touched-clause-applied : goal.returns-in_err-touched-clause-applied
-returns-in_err-touched-clause-applied g c = no_ok _ c.from_residual-in_err-touched.result c.from_residual-in_err-touched.ensures.0
+returns-in_err-touched-clause-applied g c =
+    no_ok _ c.from_residual-in_err-touched.result c.from_residual-in_err-touched.ensures.0
 
 pub returns-in_err-touched-clause-err : goal.returns-in_err-touched-clause-err
 returns-in_err-touched-clause-err g c =
@@ -193,16 +195,20 @@ returns-in_err-touched-clause-err g c =
     (sym c.prepare.ensures.same) c.self.view_is)
 
 pub returns-in_err-touched-clause-touched : goal.returns-in_err-touched-clause-touched
-returns-in_err-touched-clause-touched g c = no_value _ c.from_residual-in_err-touched.result c.from_residual-in_err-touched.ensures.0
+returns-in_err-touched-clause-touched g c =
+    no_value _ c.from_residual-in_err-touched.result c.from_residual-in_err-touched.ensures.0
 
 pub returns-in_err-touched-clause-rebuilt : goal.returns-in_err-touched-clause-rebuilt
-returns-in_err-touched-clause-rebuilt g c = no_value _ c.from_residual-in_err-touched.result c.from_residual-in_err-touched.ensures.0
+returns-in_err-touched-clause-rebuilt g c =
+    no_value _ c.from_residual-in_err-touched.result c.from_residual-in_err-touched.ensures.0
 
 pub returns-in_err-touched-clause-few : goal.returns-in_err-touched-clause-few
-returns-in_err-touched-clause-few g c = no_value _ c.from_residual-in_err-touched.result c.from_residual-in_err-touched.ensures.0
+returns-in_err-touched-clause-few g c =
+    no_value _ c.from_residual-in_err-touched.result c.from_residual-in_err-touched.ensures.0
 
 pub returns-in_err-rebuilt-clause-applied : goal.returns-in_err-rebuilt-clause-applied
-returns-in_err-rebuilt-clause-applied g c = no_ok _ c.from_residual-in_err-rebuilt.result c.from_residual-in_err-rebuilt.ensures.0
+returns-in_err-rebuilt-clause-applied g c =
+    no_ok _ c.from_residual-in_err-rebuilt.result c.from_residual-in_err-rebuilt.ensures.0
 
 pub returns-in_err-rebuilt-clause-err : goal.returns-in_err-rebuilt-clause-err
 returns-in_err-rebuilt-clause-err g c =
@@ -211,13 +217,16 @@ returns-in_err-rebuilt-clause-err g c =
     (sym c.prepare.ensures.same) c.self.view_is)
 
 pub returns-in_err-rebuilt-clause-touched : goal.returns-in_err-rebuilt-clause-touched
-returns-in_err-rebuilt-clause-touched g c = no_value _ c.from_residual-in_err-rebuilt.result c.from_residual-in_err-rebuilt.ensures.0
+returns-in_err-rebuilt-clause-touched g c =
+    no_value _ c.from_residual-in_err-rebuilt.result c.from_residual-in_err-rebuilt.ensures.0
 
 pub returns-in_err-rebuilt-clause-rebuilt : goal.returns-in_err-rebuilt-clause-rebuilt
-returns-in_err-rebuilt-clause-rebuilt g c = no_value _ c.from_residual-in_err-rebuilt.result c.from_residual-in_err-rebuilt.ensures.0
+returns-in_err-rebuilt-clause-rebuilt g c =
+    no_value _ c.from_residual-in_err-rebuilt.result c.from_residual-in_err-rebuilt.ensures.0
 
 pub returns-in_err-rebuilt-clause-few : goal.returns-in_err-rebuilt-clause-few
-returns-in_err-rebuilt-clause-few g c = no_value _ c.from_residual-in_err-rebuilt.result c.from_residual-in_err-rebuilt.ensures.0
+returns-in_err-rebuilt-clause-few g c =
+    no_value _ c.from_residual-in_err-rebuilt.result c.from_residual-in_err-rebuilt.ensures.0
 
 pub returns-clause-ways : goal.returns-clause-ways
 returns-clause-ways g c =
