@@ -23,11 +23,12 @@ struct Session<'a> {
     output: &'a [&'a [u8]],
 }
 
-/// The words run on this site, with this input.
+/// The words run on this site, with this input, of which the reads with these numbers fail.
 fn ended<L: Ledger>(
     alloc: Global,
     words: &[&str],
     input: &[u8],
+    read_fails: &[u64],
     site: &mut MemorySite,
     blank: Blank,
 ) -> Result<Status, NoMemory>
@@ -35,19 +36,19 @@ fn ended<L: Ledger>(
     requires parts { blank.parts ≡ L.parts }
     requires some { 0 < L.parts }
 {
-    let mut source = MemorySource::new(input.to_vec(alloc)?, Vec::new(alloc));
+    let mut source = MemorySource::new(input.to_vec(alloc)?, read_fails.to_vec(alloc)?);
     let mut steps = Steps::<L>::new(blank);
     Ok(run(alloc, words, &mut source, site, &mut steps))
 }
 
-/// The same, with a ledger of its own.
+/// The same with a ledger of its own, and all reads give what there is.
 fn run_on(
     alloc: Global,
     words: &[&str],
     input: &[u8],
     site: &mut MemorySite,
 ) -> Result<Status, NoMemory> {
-    ended::<Brand>(alloc, words, input, site, Blank::new(1))
+    ended::<Brand>(alloc, words, input, &[], site, Blank::new(1))
 }
 
 /// A site whose files are empty.
@@ -178,6 +179,21 @@ const VILLAGE_DRIVES: Session = Session {
     ],
 };
 
+/// The change brings a way to a plain node, which is a junction from then on.
+const JUNCTION_MADE: Session = Session {
+    number: "4",
+    extract: b"n1 v1 x0.001 y0\nn2 v1 x0.002 y0\nn3 v1 x0.003 y0\nn4 v1 x0.004 y0\nn6 v1 x0.006 y0\n\
+        n7 v1 x0.007 y0\nw10 v1 Thighway=residential Nn1,n2\nw11 v1 Thighway=residential Nn4,n3,n2\n\
+        w13 v1 Thighway=residential Nn1,n6\nw14 v1 Thighway=residential Nn6,n7\n",
+    input: b"state\n#seq 5\nn5 v1 x0.005 y0\nw12 v1 Thighway=residential Nn3,n5\n#end\nstate\n\
+        drive w10.0+ w11.1- w12.0+\n",
+    status: Status::Done,
+    output: &[
+        b"created 4\nstate sequence 4 ways 4 pieces 8 contexts 8 arcs 8\napplied 5\n\
+        state sequence 5 ways 5 pieces 12 contexts 12 arcs 15\nlegal\n",
+    ],
+};
+
 #[test]
 fn sessions_answer(rt: HostRuntime) -> Result<(), Fail> {
     let sessions = [
@@ -187,6 +203,7 @@ fn sessions_answer(rt: HostRuntime) -> Result<(), Fail> {
         UNFINISHED,
         VILLAGE_FOLLOWED,
         VILLAGE_DRIVES,
+        JUNCTION_MADE,
     ];
     for session in sessions {
         check(&rt, rt.alloc(), &session)?;
@@ -251,5 +268,99 @@ fn a_session_keeps_what_apply_keeps(rt: HostRuntime) -> Result<(), Fail> {
     let applied = changed(rt.alloc(), &["town", "apply", "5"], b"n2 v1 x0.001 y0\n")?;
     let kept = changed(rt.alloc(), SESSION, b"#seq 5\nn2 v1 x0.001 y0\n#end\n")?;
     assert_eq!(rt; kept.as_slice(), applied.as_slice());
+    Ok(())
+}
+
+/// A session that adds a node to a store under the number 12.
+const NODE_ADDED: &[u8] = b"#seq 13\nn1 v2 x0 y0\n#end\nstate\n";
+
+const NODE_ADDED_REPLIES: &[u8] =
+    b"applied 13\nstate sequence 13 ways 0 pieces 0 contexts 0 arcs 0\n";
+
+const KEPT_12: &[u8] = b"sequence 0 kept 12\n";
+
+const KEPT_13: &[u8] = b"sequence 0 kept 13\n";
+
+/// The files of a site on a new one, which has put nothing, and whose calls with these numbers fail.
+fn anew(alloc: Global, site: &MemorySite, fails: &[u64]) -> Result<MemorySite, NoMemory> {
+    let a = site.file(Which::A).to_vec(alloc)?;
+    let b = site.file(Which::B).to_vec(alloc)?;
+    Ok(MemorySite::new(alloc, a, b, fails.to_vec(alloc)?))
+}
+
+/// The store of an empty extract under the number 12.
+fn empty_store(alloc: Global) -> Result<MemorySite, NoMemory> {
+    let mut site = empty_site(alloc);
+    run_on(alloc, &["town", "create", "12"], b"", &mut site)?;
+    Ok(site)
+}
+
+/// What a run says that asks for no change of the store on these files, and so says which number it keeps.
+fn kept(alloc: Global, site: &MemorySite) -> Result<Vec<u8>, NoMemory> {
+    let mut after = anew(alloc, site, &[])?;
+    run_on(alloc, &["town", "apply", "0"], b"", &mut after)?;
+    Ok(after.output().to_vec(alloc)?)
+}
+
+/// Whether the store may keep this where the session put this: a change that was said to be applied is kept.
+fn is_kept(output: &[u8], kept: &[u8]) -> bool {
+    kept == KEPT_13 || kept == KEPT_12 && !output.starts_with(b"applied 13\n")
+}
+
+/// How many calls the session with the change makes of its site, where none fails.
+fn calls_of(rt: &impl Abort, alloc: Global, store: &MemorySite) -> Result<u64, NoMemory> {
+    let mut site = anew(alloc, store, &[])?;
+    let status = run_on(alloc, SESSION, NODE_ADDED, &mut site)?;
+    assert_eq!(rt; status, Status::Done);
+    assert_eq!(rt; site.output(), NODE_ADDED_REPLIES);
+    Ok(site.calls().len() as u64)
+}
+
+/// The session whose call with this number fails.
+fn check_call(rt: &impl Abort, alloc: Global, store: &MemorySite, n: u64) -> Result<(), NoMemory> {
+    let mut site = anew(alloc, store, &[n])?;
+    let status = run_on(alloc, SESSION, NODE_ADDED, &mut site)?;
+    assert_eq!(rt; status, Status::SiteFault);
+    let kept = kept(alloc, &site)?;
+    assert!(rt; is_kept(site.output(), &kept));
+    Ok(())
+}
+
+/// A fault at any call ends a session, and the store keeps each change that the output names.
+#[test]
+fn a_failing_call_ends_a_session(rt: HostRuntime) -> Result<(), Fail> {
+    let store = empty_store(rt.alloc())?;
+    let calls = calls_of(&rt, rt.alloc(), &store)?;
+    assert!(rt; calls >= 10);
+    for n in 0..calls {
+        check_call(&rt, rt.alloc(), &store, n)?;
+    }
+    Ok(())
+}
+
+/// The session whose read with this number fails: what it puts, and what the store says of its number.
+fn check_read(
+    rt: &impl Abort,
+    alloc: Global,
+    store: &MemorySite,
+    n: u64,
+    output: &[u8],
+    number: &[u8],
+) -> Result<(), NoMemory> {
+    let mut site = anew(alloc, store, &[])?;
+    let status = ended::<Brand>(alloc, SESSION, NODE_ADDED, &[n], &mut site, Blank::new(1))?;
+    assert_eq!(rt; status, Status::ReadFault);
+    assert_eq!(rt; site.output(), output);
+    let kept = kept(alloc, &site)?;
+    assert_eq!(rt; kept.as_slice(), number);
+    Ok(())
+}
+
+/// What was read before a read that fails is answered, and kept.
+#[test]
+fn a_failing_read_ends_a_session(rt: HostRuntime) -> Result<(), Fail> {
+    let store = empty_store(rt.alloc())?;
+    check_read(&rt, rt.alloc(), &store, 0, b"", KEPT_12)?;
+    check_read(&rt, rt.alloc(), &store, 1, NODE_ADDED_REPLIES, KEPT_13)?;
     Ok(())
 }

@@ -1,0 +1,5 @@
+use Rattle.osmroad.proofs.session_tests.check_read.Given as goal
+
+-- the ledger that was just made
+abbrev pub ghosts-ended : goal.ghosts-ended
+ghosts-ended g a = record { name = a.blank.name; parts = a.blank.parts }
