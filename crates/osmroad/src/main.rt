@@ -110,6 +110,8 @@ fn main(rt: HostRuntime) -> ExitCode {
 }
 
 #[cfg(test)]
+mod counting_tests;
+#[cfg(test)]
 mod graph_text;
 #[cfg(test)]
 mod map_tests;

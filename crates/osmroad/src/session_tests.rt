@@ -42,7 +42,7 @@ fn ended<L: Ledger>(
 }
 
 /// The same with a ledger of its own, and all reads give what there is.
-fn run_on(
+pub fn run_on(
     alloc: Global,
     words: &[&str],
     input: &[u8],
@@ -52,7 +52,7 @@ fn run_on(
 }
 
 /// A site whose files are empty.
-fn empty_site(alloc: Global) -> MemorySite {
+pub fn empty_site(alloc: Global) -> MemorySite {
     MemorySite::new(alloc, Vec::new(alloc), Vec::new(alloc), Vec::new(alloc))
 }
 
