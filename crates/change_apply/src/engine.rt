@@ -23,11 +23,12 @@ use back_references::{Indexed, Next};
 use object_store::SharedMap;
 use road_base::laws::one_map;
 use road_base::{Event, NoMemory, Steps, WayId};
-use road_model::laws::{blocks_stay, name_order, one_block};
+use road_model::laws::{name_order, one_block};
 use road_model::{Block, Blocks, Profile};
 use std::alloc::Global;
 use std::marker::Model;
 use std::sync::ledger::Ledger;
+use touched_ways::laws::unaltered_blocks_stay;
 
 /// What a change cost.
 #[derive(Clone, Copy, PartialEq, Eq, Debug)]
@@ -103,8 +104,8 @@ impl<P: Profile> Engine<P> {
     }
 
     /// Applies the events: of each key the first one of the greatest version stands, its entry here before all of
-    /// them. The blocks are then those of what the events left: one is built for each way that the events touch, and
-    /// all others stay. Where no memory is found nothing changes.
+    /// them. The blocks are then those of what the events left: one is built for each way that the events touch and
+    /// whose block they may alter, and all others stay. Where no memory is found nothing changes.
     pub fn apply<L: Ledger>(
         &mut self,
         events: &[Event],
@@ -124,11 +125,11 @@ impl<P: Profile> Engine<P> {
         one_map();
         name_order();
         one_block(&self.graph.profile);
-        blocks_stay(&self.graph.profile);
+        unaltered_blocks_stay(&self.graph.profile);
         let prepared = self.graph.world.prepare(events)?;
         let touched = touched_by(self.alloc, &self.graph.world, &prepared)?;
         let next = Next::of(&self.graph.world, &prepared);
-        let ways = touched.items();
+        let ways = touched.altered.items();
         let rebuilt = rebuild(
             self.alloc,
             &next,
@@ -137,13 +138,13 @@ impl<P: Profile> Engine<P> {
             &self.rebuilt,
             steps,
         )?;
-        let count = ways.len() as u64;
+        let report = Report {
+            touched: touched.ways.items().len() as u64,
+            rebuilt: ways.len() as u64,
+        };
         self.graph.world.commit(prepared);
         self.rebuilt = rebuilt;
-        Ok(Report {
-            touched: count,
-            rebuilt: count,
-        })
+        Ok(report)
     }
 
     /// The profile.

@@ -8,9 +8,11 @@
 //! size of the map. `merge` goes along both lists once.
 #![tactic(auto)]
 
+mod altering;
 mod found;
 mod found_ways;
 mod hubs;
+pub mod laws;
 mod links;
 mod lists;
 mod merging;
@@ -18,5 +20,6 @@ mod rounds;
 mod search;
 mod seen;
 
+pub use altering::altered;
 pub use merging::merge;
-pub use rounds::reached;
+pub use rounds::{Surroundings, reached, surroundings};

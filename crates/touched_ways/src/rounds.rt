@@ -4,6 +4,7 @@ ghost use Rattle.road_base.specs.declared.ids.Key.{Key as KeyValue};
 ghost use Rattle.road_base.specs.declared.ids.Key.TheVariants.{Node as NodeKey, Way as WayKey, Relation as RelationKey};
 ghost use Rattle.road_base.specs.Objects.{Objects};
 ghost use Rattle.road_model.specs.Links.{IsLink, AreReached};
+ghost use Rattle.touched_ways.specs.Altering.{AreWithin};
 ghost use Rattle.touched_ways.specs.Searches.{Finds, GivenBy, IsWayLink, IsFurther, IsRound};
 
 use crate::found::Found;
@@ -18,16 +19,56 @@ use std::collections::BTreeSet;
 /// How many links lead to a way at most.
 const LINKS: u32 = 6;
 
-/// The ways within six links of the keys, ascending, visible or not: a way is within zero links of itself. Takes the
-/// time and memory of what is reached.
+/// How many links lead at most to a way whose block a change may alter though no restriction names the way.
+const FEW_LINKS: u32 = 4;
+
+/// The ways near some keys, visible or not, ascending: those within four links of one of them, and those within six. A
+/// way is within zero links of itself.
+#[derive(Drop)]
+pub struct Surroundings {
+    pub near: Ways,
+    pub all: Ways,
+}
+
+/// The ways within six links of the keys, ascending. Takes the time and memory of what is reached.
 pub fn reached<M: World>(alloc: Global, world: &M, changed: &Keys) -> Result<Ways, NoMemory>
     ensures { IfOk result (AreReached (M.objects world.now) changed.now) }
 {
+    let found = surroundings(alloc, world, changed)?;
+    Ok(found.all)
+}
+
+/// The ways within four and those within six links of the keys, in one search.
+pub fn surroundings<M: World>(
+    alloc: Global,
+    world: &M,
+    changed: &Keys,
+) -> Result<Surroundings, NoMemory>
+    ensures near { IfOk result (λ s. AreWithin 4 (M.objects world.now) changed.now s.near) }
+    ensures all { IfOk result (λ s. AreReached (M.objects world.now) changed.now s.all) }
+{
     let mut search = first_round(alloc, changed.items())?;
-    for _round in 1..LINKS {
-        next_round(alloc, world, &mut search)?;
+    rounds(alloc, world, &mut search, FEW_LINKS)?;
+    let near = search.ways(alloc)?;
+    rounds(alloc, world, &mut search, LINKS - FEW_LINKS - 1)?;
+    let all = last_round(alloc, world, search)?;
+    Ok(Surroundings { near, all })
+}
+
+/// Reaches what is so many links further.
+fn rounds<M: World>(
+    alloc: Global,
+    world: &M,
+    search: &mut Search,
+    count: u32,
+) -> Result<(), NoMemory>
+    ensures { OnOk result ((keys : List KeyValue) (n : ℕ) → IsRound (M.objects world.now) keys n search.old
+        → IsRound (M.objects world.now) keys (n + count) search.new) }
+{
+    for _round in 0..count {
+        next_round(alloc, world, search)?;
     }
-    last_round(alloc, world, search)
+    Ok(())
 }
 
 /// The search that has reached the keys.

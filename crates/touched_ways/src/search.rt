@@ -46,6 +46,16 @@ impl Search {
         Ok(())
     }
 
+    /// The ways seen, ascending.
+    pub fn ways(&self, alloc: Global) -> Result<Ways, NoMemory>
+        ensures { IfOk result (Lists (λ w. w) way_cmp (λ w. Contains self.now.ways.all.items w)) }
+    {
+        let mut ways = Vec::from_slice(alloc, self.ways.all.as_slice())?;
+        name_order();
+        leave_once(&mut ways);
+        Ok(Ways::from_list(ways))
+    }
+
     /// The ways seen and those given, ascending.
     pub fn ways_with(self, last: &[WayId]) -> Result<Ways, NoMemory>
         ensures { IfOk result
