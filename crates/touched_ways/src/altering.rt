@@ -7,7 +7,7 @@ ghost use Rattle.road_model.specs.Links.{AreChanged, AreTouched};
 ghost use Rattle.road_model.specs.Orders.{rises, way_cmp};
 ghost use Rattle.touched_ways.specs.Altering.{AreWithin, IsUnrestricted, IsUnaltered};
 
-use crate::rounds::Surroundings;
+use crate::rounds::NearWays;
 use road_base::{NoMemory, WayId, Ways};
 use road_model::World;
 use road_model::laws::name_order;
@@ -20,8 +20,8 @@ pub fn altered<M: World>(
     alloc: Global,
     next: &M,
     touched: &Ways,
-    before: &Surroundings,
-    after: &Surroundings,
+    before: &NearWays,
+    after: &NearWays,
 ) -> Result<Ways, NoMemory>
     requires before { IsTrue (rises way_cmp before.now.near) }
     requires after { IsTrue (rises way_cmp after.now.near) }

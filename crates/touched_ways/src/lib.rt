@@ -22,4 +22,4 @@ mod seen;
 
 pub use altering::altered;
 pub use merging::merge;
-pub use rounds::{Surroundings, reached, surroundings};
+pub use rounds::{NearWays, reached, surroundings};

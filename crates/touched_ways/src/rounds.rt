@@ -25,7 +25,7 @@ const FEW_LINKS: u32 = 4;
 /// The ways near some keys, visible or not, ascending: those within four links of one of them, and those within six. A
 /// way is within zero links of itself.
 #[derive(Drop)]
-pub struct Surroundings {
+pub struct NearWays {
     pub near: Ways,
     pub all: Ways,
 }
@@ -43,7 +43,7 @@ pub fn surroundings<M: World>(
     alloc: Global,
     world: &M,
     changed: &Keys,
-) -> Result<Surroundings, NoMemory>
+) -> Result<NearWays, NoMemory>
     ensures near { IfOk result (λ s. AreWithin 4 (M.objects world.now) changed.now s.near) }
     ensures all { IfOk result (λ s. AreReached (M.objects world.now) changed.now s.all) }
 {
@@ -52,7 +52,7 @@ pub fn surroundings<M: World>(
     let near = search.ways(alloc)?;
     rounds(alloc, world, &mut search, LINKS - FEW_LINKS - 1)?;
     let all = last_round(alloc, world, search)?;
-    Ok(Surroundings { near, all })
+    Ok(NearWays { near, all })
 }
 
 /// Reaches what is so many links further.
