@@ -13,10 +13,10 @@ use Rattle.road_model.specs.declared.blocks.Block.{Block}
 use Rattle.road_model.specs.declared.lists.Piece.{Piece}
 use Rattle.road_model.specs.Rules.{Rules}
 use Rattle.road_model.specs.Orders.{way_cmp}
-use Rattle.road_model.specs.Links.{IsTouched, AreTouched}
 use Rattle.road_model.specs.Blocks.{IsBlock, IsRoadBlock}
 use Rattle.road_model.specs.Naming.{OneBlock}
 use Rattle.road_model.specs.Format.{IsBlockForm}
+use Rattle.touched_ways.specs.Altering.{IsUnaltered}
 use Rattle.change_apply.specs.Engines.{AreInForm, AreKept, IsBlockAt}
 use Rattle.change_apply.specs.Rebuilding.{with_pieces, block_at, IsBuilt, IsRebuiltWith, AreRebuilt, AreAtTheirWays}
 use Rattle.road_base.proofs.ListMembers.{contains_from_in, in_from_contains, contains_head, contains_later}
@@ -140,12 +140,13 @@ at_other before after listed w same =
 
 module _ (M N : Objects) (P : Rules) (ways : List WayId) (before after : List (WayId × Block))
     (listed : FinMap way_cmp Block) (total : IsTotalOrder way_cmp) (ties : IsAntisymmetric way_cmp)
-    (one : OneBlock N P) (stay : (w : WayId) (b : Block) → (IsTouched M N w → ⊥) → IsBlock M P w b ↔ IsBlock N P w b)
-    (touched : AreTouched M N ways) (rebuilt : AreRebuilt N P ways before after) where
-  -- at a touched way
+    (one : OneBlock N P) (stay : (w : WayId) (b : Block) → IsUnaltered M N w → IsBlock M P w b ↔ IsBlock N P w b)
+    (others : (w : WayId) → (Contains ways w → ⊥) → IsUnaltered M N w) (rebuilt : AreRebuilt N P ways before after)
+    where
+  -- at a way whose block was built
   module _ (w : WayId) (b : Block) (is : IsBuilt N P w b) (found : find way_cmp w after ≡ Some b) where
-    touched_block : IsBlockAt N P w (with_pieces b)
-    touched_block c = (to, from)
+    built_block : IsBlockAt N P w (with_pieces b)
+    built_block c = (to, from)
       where
         to : with_pieces b ≡ Some c → (c.way ≡ w) × IsRoadBlock N P c
         to e =
@@ -160,31 +161,28 @@ module _ (M N : Objects) (P : Rules) (ways : List WayId) (before after : List (W
             let same : b ≡ c = one w b c is.block here in
             some_pieces b.pieces b (λ none. r.1.some (ap (λ x. x.pieces) (sym same) ∙ none)) ∙ ap Some same
 
-    touched_form : (c : Block) → with_pieces b ≡ Some c → IsBlockForm c
-    touched_form c e =
+    built_form : (c : Block) → with_pieces b ≡ Some c → IsBlockForm c
+    built_form c e =
         let r = pieces_of b.pieces b c e in
         let form : IsBlockForm b = record { some = r.1; ascend = is.ascend; pieces = is.pieces } in
         subst (λ (x : Block). IsBlockForm x) r.0 form
 
   -- at any other way
-  other_block : (w : WayId) (at : Option Block) → (IsTouched M N w → ⊥) → IsBlockAt M P w at → IsBlockAt N P w at
-  other_block w at not is c = (to, from)
+  other_block : (w : WayId) (at : Option Block) → IsUnaltered M N w → IsBlockAt M P w at → IsBlockAt N P w at
+  other_block w at unaltered is c = (to, from)
     where
       to : at ≡ Some c → (c.way ≡ w) × IsRoadBlock N P c
       to e =
           let r = (is c).0 e in
           let here : IsBlock M P w c = subst (λ v. IsBlock M P v c) r.0 r.1.block in
-          let there = (stay w c not).0 here in
+          let there = (stay w c unaltered).0 here in
           (r.0, record { block = subst (λ v. IsBlock N P v c) (sym r.0) there; some = r.1.some })
 
       from : (c.way ≡ w) × IsRoadBlock N P c → at ≡ Some c
       from r =
           let there : IsBlock N P w c = subst (λ v. IsBlock N P v c) r.0 r.1.block in
-          let here = (stay w c not).1 there in
+          let here = (stay w c unaltered).1 there in
           (is c).1 (r.0, record { block = subst (λ v. IsBlock M P v c) (sym r.0) here; some = r.1.some })
-
-  not_touched : (w : WayId) → (Contains ways w → ⊥) → IsTouched M N w → ⊥
-  not_touched w not t = not (touched.complete w t)
 
   -- what stands at each way is its block behind the change, where it was before
   pub kept_behind : AreKept M P (block_at before listed) → AreKept N P (block_at after listed)
@@ -194,16 +192,16 @@ module _ (M N : Objects) (P : Rules) (ways : List WayId) (before after : List (W
       blocks w = elim (listed_or_not total ties ways w) [
         | inl has ↦ let r = rebuilt.built w has in
             subst (λ (o : Option Block). IsBlockAt N P w o) (sym (at_built after listed w r.0 r.2))
-            (touched_block w r.0 r.1 r.2)
+            (built_block w r.0 r.1 r.2)
         | inr not ↦ subst (λ (o : Option Block). IsBlockAt N P w o)
             (sym (at_other before after listed w (rebuilt.stays w not)))
-            (other_block w (block_at before listed w) (not_touched w not) (kept.blocks w))
+            (other_block w (block_at before listed w) (others w not) (kept.blocks w))
       ]
 
       forms : AreInForm (block_at after listed)
       forms w c e = elim (listed_or_not total ties ways w) [
         | inl has ↦ let r = rebuilt.built w has in
-            touched_form w r.0 r.1 r.2 c (sym (at_built after listed w r.0 r.2) ∙ e)
+            built_form w r.0 r.1 r.2 c (sym (at_built after listed w r.0 r.2) ∙ e)
         | inr not ↦ kept.forms w c (sym (at_other before after listed w (rebuilt.stays w not)) ∙ e)
       ]
 

@@ -1,11 +1,12 @@
 use Rattle.std.proofs.Common.{◌≡◌, ℕ, ◌+◌, ◌≤◌, true, false, List, length, Result, Ok, Err}
-use Rattle.std.proofs.Common.{IsErr, IfOk, OnOk, OnErr, inl, inr, refl, ap, sym, subst, ◌∙◌, arith}
+use Rattle.std.proofs.Common.{IsErr, IfOk, OnOk, OnErr, Contains, inl, inr, refl, ap, sym, subst, ◌∙◌, arith}
 use Rattle.road_base.specs.declared.ids.WayId.{WayId}
 use Rattle.road_base.specs.declared.event.Event.{Event}
 use Rattle.road_base.specs.Objects.{Objects}
 use Rattle.road_base.specs.Applying.{IsApplied}
 use Rattle.road_model.specs.Orders.{way_cmp}
 use Rattle.road_model.specs.Links.{IsTouched, AreTouched}
+use Rattle.touched_ways.specs.Altering.{IsUnaltered}
 use Rattle.road_model.proofs.AscendingLists.{lists_unique}
 use Rattle.change_apply.specs.Engines.{AreKept, BuildsTouched}
 use Rattle.change_apply.specs.Rebuilding.{AreRebuilt, block_at}
@@ -19,6 +20,15 @@ touched_of M before N after items ways a b c t =
     subst (λ (x : Objects). AreTouched x N items) a
     (subst (λ (y : Objects). AreTouched before y items) (sym b)
     (subst (λ (l : List WayId). AreTouched before after l) (sym c) t))
+
+-- the same of the ways whose blocks stay
+others_of : (M before N after : Objects) (items ways : List WayId) → before ≡ M → N ≡ after → items ≡ ways
+    → ((w : WayId) → (Contains ways w → ⊥) → IsUnaltered before after w) → (w : WayId) → (Contains items w → ⊥)
+    → IsUnaltered M N w
+others_of M before N after items ways a b c stay w not =
+    subst (λ (x : Objects). IsUnaltered x N w) a
+    (subst (λ (y : Objects). IsUnaltered before y w) (sym b)
+    (stay w (λ has. not (subst (λ (l : List WayId). Contains l w) (sym c) has))))
 
 builds : (M after : Objects) (events : List Event) (ways : List WayId) (old new : ℕ) → IsApplied M events after
     → AreTouched M after ways → new ≤ old + length ways → BuildsTouched M events old new
@@ -118,15 +128,15 @@ invariant_of-self-2 g c =
     let total = c.name_order.ensures.ways in
     let ties = c.name_order.ensures.way_ties in
     let one = c.one_block.ensures N in
-    let stay = c.blocks_stay.ensures M N in
-    let touched =
-    touched_of M c.in_ok-prepared.prepared.before N c.in_ok-prepared.prepared.after items c.in_ok-touched.touched
-    c.in_ok-prepared.ensures.before c.commit.ensures c.items-ways.ensures c.in_ok-touched.ensures in
+    let stay = c.unaltered_blocks_stay.ensures M N in
+    let others =
+    others_of M c.in_ok-prepared.prepared.before N c.in_ok-prepared.prepared.after items c.in_ok-touched.touched.altered
+    c.in_ok-prepared.ensures.before c.commit.ensures c.items-ways.ensures c.in_ok-touched.ensures.others in
     let rebuilt : AreRebuilt N P items before after =
     subst (λ (x : Objects). AreRebuilt x P items before after) (c.of-next.ensures ∙ sym c.commit.ensures)
     c.in_ok-rebuilt.ensures.rebuilt in (
-      kept_behind M N P items before after listed total ties one stay touched rebuilt c.self.invariant.0,
-      at_their_ways M N P items before after listed total ties one stay touched rebuilt c.self.invariant.1,
+      kept_behind M N P items before after listed total ties one stay others rebuilt c.self.invariant.0,
+      at_their_ways M N P items before after listed total ties one stay others rebuilt c.self.invariant.1,
     )
 
 pub returns-clause-applied : goal.returns-clause-applied
