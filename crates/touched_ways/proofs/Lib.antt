@@ -4,3 +4,7 @@ mod LinkedKeys
 mod FollowedNodes
 mod LinkRounds
 mod WayLists
+mod PlainTurns
+mod PlainContexts
+mod PlainArcs
+mod PlainBlocks
