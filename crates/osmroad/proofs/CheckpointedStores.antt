@@ -39,13 +39,15 @@ use Rattle.osmroad.specs.Run.{StandAsBefore}
 use Rattle.osmroad.specs.Replies.{Says, RefusesStore, CountsCalls, IsPrepared, WillPut, Prepares}
 use Rattle.osmroad.specs.StoreLaws.{StoreLaws, CheckpointLaws}
 use Rattle.osmroad.proofs.AnsweredFaults.{failed_calls, reply_calls}
-use Rattle.osmroad.proofs.HeldSource.{behind_of}
+use Rattle.session.proofs.HeldSource.{behind_of}
 use Rattle.osmroad.proofs.Replied.{replied}
 use Rattle.road_io.proofs.SourceParts.{took_nothing}
-use Rattle.osmroad.proofs.OutputFronts.{starts_whole, nothing_put, other_put}
+use Rattle.session.proofs.OutputFronts.{starts_whole, nothing_put}
+use Rattle.osmroad.proofs.OutputFronts.{other_put}
 use Rattle.osmroad.proofs.Prepared.{will_put, by_failure, prepares}
 use Rattle.osmroad.proofs.LoadedStores.{LeavesKept, stored_weaker, same_history, load_moments, loaded_before}
-use Rattle.osmroad.proofs.LoadedStores.{loaded_now, loaded_store, loaded_as_before, left_unput, stand_unput, unput}
+use Rattle.osmroad.proofs.LoadedStores.{loaded_now, loaded_store, loaded_as_before, left_unput, stand_unput}
+use Rattle.session.proofs.KeptStores.{unput}
 use Rattle.osmroad.proofs.LoadedStores.{NotLoaded, could_leave, IsRefusal, load_refused}
 
 line_some : (n : ℕ) → 0 < length (checkpoint_line n)

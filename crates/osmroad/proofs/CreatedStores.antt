@@ -47,13 +47,15 @@ use Rattle.osmroad.specs.Stops.{Before, Without, With}
 use Rattle.osmroad.specs.Stops.{CouldLeave, LeavesCreated, LeftBy}
 use Rattle.osmroad.specs.Run.{IsReply, Reads, StandAsBefore, files_of}
 use Rattle.osmroad.specs.Replies.{Says, RefusesInput, RefusesStore, IsPrepared, WillPut, Prepares}
-use Rattle.osmroad.proofs.HeldSource.{behind_of}
+use Rattle.session.proofs.HeldSource.{behind_of}
 use Rattle.osmroad.proofs.Replied.{replied}
 use Rattle.osmroad.proofs.PassedLimits.{still_passes}
 use Rattle.road_io.proofs.SourceParts.{took_nothing}
-use Rattle.osmroad.proofs.OutputFronts.{starts_whole, nothing_put, other_put}
+use Rattle.session.proofs.OutputFronts.{starts_whole, nothing_put}
+use Rattle.osmroad.proofs.OutputFronts.{other_put}
 use Rattle.osmroad.proofs.Prepared.{will_put, by_failure, prepares, prepares_whole}
-use Rattle.osmroad.proofs.LoadedStores.{left_unput, stand_unput, unput}
+use Rattle.session.proofs.KeptStores.{unput}
+use Rattle.osmroad.proofs.LoadedStores.{left_unput, stand_unput}
 
 line_some : (n : ℕ) → 0 < length (created_line n)
 line_some n = omega (arith, length-append (codes "created ") (decimal n ++ 10 ∷ []))

@@ -1,14 +1,9 @@
--- What a source held, and what was read of it.
+-- What a source held that was read to its end, or that told its bytes.
 use Rattle.std.proofs.Common.{◌≡◌, ℕ, List, [], ◌++◌, Option, None, Some, refl, ap, ◌∙◌}
 use Rattle.std.proofs.lemmas.List.{append-nil}
-use Rattle.std.specs.Prelude.{unwrap_or}
+use Rattle.session.specs.Conversing.{HeldBytes}
+use Rattle.session.proofs.HeldSource.{behind_of}
 use Rattle.osmroad.specs.Input.{Ended}
-use Rattle.road_io.specs.Parts.{Took}
-use Rattle.osmroad.specs.Run.{HeldBytes}
-
--- what is left, nothing where it isn't told
-abbrev pub behind_of : Option (List ℕ) → List ℕ
-behind_of left = unwrap_or left []
 
 behind_nothing : (left : Option (List ℕ)) → Ended left → behind_of left ≡ []
 behind_nothing None e = refl
@@ -17,19 +12,6 @@ behind_nothing (Some y) e = e
 -- what was read of an input that ended is all of it
 pub all_read : (read : List ℕ) (left : Option (List ℕ)) → Ended left → read ++ behind_of left ≡ read
 all_read read left e = ap (λ (l : List ℕ). read ++ l) (behind_nothing left e) ∙ append-nil read
-
--- what was read stood before what is left
-pub held_by : (read : List ℕ) (held left : Option (List ℕ)) → Took read held left
-    → HeldBytes (read ++ behind_of left) (behind_of left) held left
-held_by read None None t = tt
-held_by read None (Some y) t = absurd t
-held_by read (Some x) None t = absurd t
-held_by read (Some x) (Some y) t = (t, refl)
-
--- nothing was read
-pub held_still : (held : Option (List ℕ)) → HeldBytes (behind_of held) (behind_of held) held held
-held_still None = tt
-held_still (Some x) = (refl, refl)
 
 -- what a source tells is what it held
 pub same_held : (bytes other behind : List ℕ) (held left : Option (List ℕ)) → held ≡ Some bytes

@@ -21,7 +21,7 @@ use Rattle.osmroad.specs.Texts.{limit_line, refused_graph_line, counts_line}
 use Rattle.osmroad.specs.Outcomes.{InspectGives}
 use Rattle.osmroad.specs.Replies.{Replies, RefusesInput, CountsReads, IsPrepared, Prepares}
 use Rattle.osmroad.proofs.AnsweredFaults.{reads_calm, reply_no_failure}
-use Rattle.osmroad.proofs.HeldSource.{behind_of}
+use Rattle.session.proofs.HeldSource.{behind_of}
 use Rattle.osmroad.proofs.Replied.{replied}
 use Rattle.osmroad.proofs.Prepared.{by_failure, prepares, prepares_whole}
 use Rattle.osmroad.proofs.WithoutStore.{silent_still, stands_still, leaves_still, will_put_alone}

@@ -31,7 +31,8 @@ use Rattle.osmroad.specs.Run.{Ends}
 use Rattle.osmroad.specs.Sessions.{LeavesServed, EndsSession, SessionRuns, opening}
 use Rattle.osmroad.specs.Requests.{RunEnds}
 use Rattle.osmroad.specs.StoreLaws.{StoreLaws}
-use Rattle.osmroad.proofs.LoadedStores.{unput, left_unput, stands_still}
+use Rattle.session.proofs.KeptStores.{unput, stands_still}
+use Rattle.osmroad.proofs.LoadedStores.{left_unput}
 
 -- what a stop leaves of files on which nothing is pending, which stand for a history or hold no store
 abbrev pub StaysIntact : Outside → Outside → Type 0

@@ -6,15 +6,14 @@ use Rattle.road_io.specs.declared.outside.Which.{Which}
 use Rattle.road_io.specs.declared.outside.Which.TheVariants.{A, B}
 use Rattle.road_io.specs.Disk.{IsImage}
 use Rattle.road_io.specs.Told.{Told}
-use Rattle.road_io.specs.Outside.{Outside, Left, IsLeft, LeavesOnly, other, present, image_of}
+use Rattle.road_io.specs.Outside.{Outside, Left, IsLeft, LeavesOnly, present, image_of}
 use Rattle.road_io.proofs.ToldCalls.{told_weaker}
 use Rattle.road_io.proofs.CallRuns.{only_weaker}
 use Rattle.sequence_journal.specs.declared.error.JournalError.{JournalError}
 use Rattle.sequence_journal.specs.declared.error.JournalError.TheVariants.{OutOfSequence, SiteFault, Damaged, NoStore}
 use Rattle.sequence_journal.specs.declared.error.JournalError.TheVariants.{StoreExists, TooLarge, NoMemory}
 use Rattle.sequence_journal.specs.declared.load.Loaded.{Loaded}
-use Rattle.sequence_journal.specs.Layout.{BaseIsOpen}
-use Rattle.sequence_journal.specs.Standing.{Stands, DamagedAt}
+use Rattle.sequence_journal.specs.Standing.{DamagedAt}
 use Rattle.store_switch.specs.LiveFile.{IsLive, NoBases, reads_of}
 use Rattle.store_switch.specs.TwoFiles.{StandFor, CanBeLoaded, LeavesStore}
 use Rattle.store_switch.specs.StoreLoading.{StoreLoaded, StillRead, LeavesAlike, LoadsStore, IsLoadError}
@@ -30,16 +29,13 @@ use Rattle.osmroad.specs.Opening.{OfNoStore, OfTooLarge, OfDamage}
 use Rattle.osmroad.specs.Stops.{CouldLeave, LeavesFirst, LeavesStored}
 use Rattle.osmroad.specs.Run.{IsStored, StandAsBefore}
 use Rattle.osmroad.specs.Replies.{RefusesStore, IsPrepared, WillPut}
-use Rattle.osmroad.proofs.OutputFronts.{starts_whole}
+use Rattle.session.proofs.OutputFronts.{starts_whole}
+use Rattle.session.proofs.KeptStores.{unput, stands_still}
 use Rattle.osmroad.specs.StoreLaws.{StoreLaws}
 use Rattle.osmroad.proofs.Replied.{replied}
 use Rattle.osmroad.proofs.Prepared.{by_failure}
 
 -- ---- the last moment
-
--- what a stop leaves of the files, before anything more is put
-abbrev pub unput : Outside → Left → Left
-unput v left = record { a = left.a; b = left.b; out = v.output }
 
 pub left_unput : (v : Outside) (left : Left) → IsImage v.a left.a → IsImage v.b left.b
     → IsLeft (present v) (unput v left)
@@ -50,17 +46,6 @@ left_unput v left a b =
 pub at_last : (w v : Outside) (P : Left → Type 0) → LeavesOnly w v P → (left : Left) → IsImage v.a left.a
     → IsImage v.b left.b → P (unput v left)
 at_last w v P only left a b = only.each (unput v left) (inl (only.later, left_unput v left a b))
-
-pub stands_still : (files images : Which → List ℕ) → ((f : Which) → images f ≡ files f) → (h : History)
-    → StandFor files h → StandFor images h
-stands_still files images same h s = (
-  s.0,
-  s.1,
-  record {
-    stands = subst (λ (l : List ℕ). Stands l s.1 h) (sym (same s.0)) s.2.stands;
-    over = λ b rest o. s.2.over b rest (subst (λ (l : List ℕ). BaseIsOpen l b rest) (same (other s.0)) o);
-  },
-)
 
 -- files that stand for a history do so whatever is put
 pub stand_unput : (v : Outside) (left : Left) (h : History) → StandFor (image_of (unput v left)) h

@@ -1,30 +1,16 @@
--- Fronts of what is put: which line they can hold.
-use Rattle.std.proofs.Common.{◌≡◌, ℕ, ◌+◌, ◌<◌, ◌≤◌, List, ◌++◌, length, get_or, sym, ◌∙◌, ap}
+-- Fronts of what is put: which line they can't hold.
+use Rattle.std.proofs.Common.{◌≡◌, ℕ, ◌+◌, ◌<◌, List, ◌++◌, length, get_or, sym, ◌∙◌, ap}
 use Rattle.std.proofs.Common.{arith, length-append}
-use Rattle.std.proofs.lemmas.List.{length-take, take_all, get_or-take, get_or-append-add}
+use Rattle.std.proofs.Transfers.{starts_with_length}
+use Rattle.std.proofs.lemmas.List.{get_or-take, get_or-append-add}
 use Rattle.std.specs.Io.{StartsWith}
-
-pub starts_whole : (xs : List ℕ) → StartsWith xs xs
-starts_whole xs = take_all (length xs) xs (omega arith)
-
-starts_no_longer : (xs front : List ℕ) → StartsWith xs front → length front ≤ length xs
-starts_no_longer xs front starts = omega (arith, ap (λ (l : List ℕ). length l) starts, length-take (length front) xs)
-
--- an output that is a front of what it was holds no line behind that
-pub nothing_put : (was line put : List ℕ) → 0 < length line → StartsWith was put → StartsWith put (was ++ line) → ⊥
-nothing_put was line put some front starts = omega (
-  arith,
-  starts_no_longer was put front,
-  starts_no_longer put (was ++ line) starts,
-  length-append was line,
-)
 
 -- a front of what was put holds no line that begins with another byte
 pub other_put : (was out line put : List ℕ) → 0 < length line → (get_or out 0 0 ≡ get_or line 0 0 → ⊥)
     → StartsWith (was ++ out) put → StartsWith put (was ++ line) → ⊥
 other_put was out line put some other front starts =
     let total = length-append was line in
-    let long : length was + 0 < length put = omega (arith, starts_no_longer put (was ++ line) starts) in
+    let long : length was + 0 < length put = omega (arith, starts_with_length put (was ++ line) starts) in
     let within : length was + 0 < length (was ++ line) = omega arith in
     let k = length was + 0 in
     other (sym (get_or-append-add was out 0 0)

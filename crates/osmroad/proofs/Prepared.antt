@@ -13,9 +13,11 @@ use Rattle.road_io.specs.Parts.{Took}
 use Rattle.osmroad.specs.Stops.{LeftBy}
 use Rattle.osmroad.specs.declared.status.Status.{Status}
 use Rattle.osmroad.specs.Outcomes.{Gives}
-use Rattle.osmroad.specs.Run.{HeldBytes, IsReply, Reads}
+use Rattle.session.specs.Conversing.{HeldBytes}
+use Rattle.osmroad.specs.Run.{IsReply, Reads}
 use Rattle.osmroad.specs.Replies.{IsPrepared, WillPut, WillFail, Prepares}
-use Rattle.osmroad.proofs.HeldSource.{behind_of, held_by, all_read}
+use Rattle.session.proofs.HeldSource.{behind_of, held_by}
+use Rattle.osmroad.proofs.HeldSource.{all_read}
 
 -- ---- an answer
 

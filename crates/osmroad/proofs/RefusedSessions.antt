@@ -28,7 +28,7 @@ use Rattle.osmroad.specs.Replies.{Says, RefusesStore, CountsCalls, failure_statu
 use Rattle.osmroad.specs.StoreLaws.{StoreLaws}
 use Rattle.osmroad.specs.Sessions.{IsNotServed, AnswersFaults, PutsLine, OfRefusal, OfFault, OfMemory, LeavesServed}
 use Rattle.osmroad.specs.Sessions.{SessionRuns, ReadsSession, EndsSession}
-use Rattle.osmroad.proofs.HeldSource.{behind_of, held_still}
+use Rattle.session.proofs.HeldSource.{behind_of, held_still}
 use Rattle.osmroad.proofs.AnsweredFaults.{fault_calls}
 use Rattle.osmroad.proofs.LoadedStores.{NotLoaded, IsRefusal, could_leave, none_loaded, large_loaded, damaged_loaded}
 use Rattle.osmroad.proofs.ServedSessions.{load_leaves}

@@ -22,9 +22,10 @@ use Rattle.osmroad.specs.declared.status.Status.TheVariants.{Done, Usage, ReadFa
 use Rattle.osmroad.specs.declared.status.Status.TheVariants.{NoMemory, OutOfSequence, NoStore, StoreExists, Damaged}
 use Rattle.osmroad.specs.Stops.{LeftBy}
 use Rattle.osmroad.specs.Run.{IsReading, IsReply, Grows, GrowsInto, EndsPut, PutsSome, files_of}
-use Rattle.osmroad.specs.Run.{StandAfter, HeldBytes, Reads, PutsAll, EndsWith, Ends}
+use Rattle.session.specs.Conversing.{HeldBytes}
+use Rattle.osmroad.specs.Run.{StandAfter, Reads, PutsAll, EndsWith, Ends}
 use Rattle.osmroad.specs.Replies.{WillPut, WillFail, Prepares, failure_status}
-use Rattle.osmroad.proofs.HeldSource.{behind_of, held_still}
+use Rattle.session.proofs.HeldSource.{behind_of, held_still}
 
 -- ---- statuses with which something is put
 

@@ -15,7 +15,7 @@ use Rattle.osmroad.specs.declared.reply.Failure.TheVariants.{NoMemory as MemoryF
 use Rattle.osmroad.specs.declared.status.Status.TheVariants.{Done}
 use Rattle.osmroad.specs.Sampling.{events_of_lists, IsSampleLine, AreSampleLines, IsSample}
 use Rattle.osmroad.specs.Replies.{Replies, IsPrepared, Prepares}
-use Rattle.osmroad.proofs.HeldSource.{behind_of}
+use Rattle.session.proofs.HeldSource.{behind_of}
 use Rattle.road_io.proofs.SourceParts.{took_nothing}
 use Rattle.osmroad.proofs.Replied.{replied}
 use Rattle.osmroad.proofs.Prepared.{by_failure, prepares}

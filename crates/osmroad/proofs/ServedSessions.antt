@@ -29,7 +29,7 @@ use Rattle.osmroad.specs.Opening.{Files, IsStore}
 use Rattle.osmroad.specs.StoreLaws.{StoreLaws}
 use Rattle.osmroad.specs.Sessions.{end_status, IsServed, AnswersFaults, Serves, opening, OfStore, LeavesServed}
 use Rattle.osmroad.specs.Sessions.{SessionRuns, ReadsSession, EndsSession}
-use Rattle.osmroad.proofs.OutputFronts.{starts_whole}
+use Rattle.session.proofs.OutputFronts.{starts_whole}
 use Rattle.osmroad.proofs.LoadedStores.{same_history, loaded_store}
 
 -- ---- statuses

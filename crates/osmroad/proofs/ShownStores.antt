@@ -32,13 +32,14 @@ use Rattle.osmroad.specs.Audited.{IsAuditOf}
 use Rattle.osmroad.specs.Stops.{LeavesStored, LeavesHistory, LeftBy}
 use Rattle.osmroad.specs.Run.{IsReply, IsStored, Reads, StandAfter, StandAsBefore, Builds, files_of}
 use Rattle.osmroad.specs.Replies.{Says, RefusesStore, IsPrepared, WillPut, Prepares}
-use Rattle.osmroad.proofs.HeldSource.{behind_of}
+use Rattle.session.proofs.HeldSource.{behind_of}
 use Rattle.osmroad.proofs.Replied.{replied}
 use Rattle.road_io.proofs.SourceParts.{took_nothing}
 use Rattle.osmroad.specs.StoreLaws.{StoreLaws}
 use Rattle.osmroad.proofs.Prepared.{will_put, by_failure, prepares}
 use Rattle.osmroad.proofs.LoadedStores.{LeavesKept, stored_weaker, same_history, load_moments, loaded_before}
-use Rattle.osmroad.proofs.LoadedStores.{loaded_now, loaded_store, loaded_as_before, left_unput, stand_unput, unput}
+use Rattle.osmroad.proofs.LoadedStores.{loaded_now, loaded_store, loaded_as_before, left_unput, stand_unput}
+use Rattle.session.proofs.KeptStores.{unput}
 use Rattle.osmroad.proofs.LoadedStores.{NotLoaded, could_leave, IsRefusal, load_refused}
 
 -- a command that reads nothing, and shows something of all events of a store

@@ -34,8 +34,8 @@ use Rattle.osmroad.specs.Texts.{limit_line, refused_line, sequence_line, damaged
 use Rattle.osmroad.specs.Texts.{no_store_line, store_exists_line}
 use Rattle.osmroad.specs.Outcomes.{Gives}
 use Rattle.osmroad.specs.Stops.{LeftBy}
-use Rattle.osmroad.specs.Run.{IsReading, IsStored, IsReply, PassesFor, HeldBytes, Reads, StandAfter, StandAsBefore}
-use Rattle.osmroad.specs.Run.{files_of}
+use Rattle.session.specs.Conversing.{HeldBytes}
+use Rattle.osmroad.specs.Run.{IsReading, IsStored, IsReply, PassesFor, Reads, StandAfter, StandAsBefore, files_of}
 
 -- ---- replies
 

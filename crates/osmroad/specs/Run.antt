@@ -17,6 +17,7 @@ use Rattle.sequence_journal.specs.Standing.{DamagedAt}
 use Rattle.store_switch.specs.LiveFile.{IsLive, NoBases, reads_of}
 use Rattle.store_switch.specs.TwoFiles.{StandOn, StandFor, CanBeLoaded}
 use Rattle.store_switch.specs.StoreLoading.{StillRead}
+use Rattle.session.specs.Conversing.{HeldBytes}
 use Rattle.osmroad.specs.declared.command.Command.{Command}
 use Rattle.osmroad.specs.declared.command.Command.TheVariants.{Compile, Inspect, Sample, Create, Apply}
 use Rattle.osmroad.specs.declared.command.Command.TheVariants.{Graph, Audit, Checkpoint}
@@ -132,10 +133,6 @@ abbrev pub StandAsBefore : Outside → Outside → Type 0
 StandAsBefore w v = StillRead w v ⊎ ((h : History) × CanBeLoaded (reads_of w) h × CanBeLoaded (reads_of v) h)
 
 -- ---- what was read
-
--- The source held these bytes, and these remain of them, where it tells them. One that tells goes on telling.
-abbrev pub HeldBytes : List ℕ → List ℕ → Option (List ℕ) → Option (List ℕ) → Type 0
-HeldBytes bytes behind = Told (λ before now. (before ≡ bytes) × (now ≡ behind))
 
 -- the limits on what a command reads
 abbrev pub PassesFor : Option Command → List ℕ → Type 0

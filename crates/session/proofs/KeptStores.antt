@@ -19,10 +19,10 @@ use Rattle.session.proofs.OutputFronts.{starts_whole}
 -- ---- images of files
 
 -- what a stop leaves of the files, before anything more is put
-abbrev unput : Outside → Left → Left
+abbrev pub unput : Outside → Left → Left
 unput v left = record { a = left.a; b = left.b; out = v.output }
 
-stands_still : (files images : Which → List ℕ) → ((f : Which) → images f ≡ files f) → (h : History)
+pub stands_still : (files images : Which → List ℕ) → ((f : Which) → images f ≡ files f) → (h : History)
     → StandFor files h → StandFor images h
 stands_still files images same h s = (
   s.0,

@@ -1,12 +1,13 @@
-mod OutputFronts
+pub mod OutputFronts
 mod PutPieces
-mod KeptStores
+pub mod KeptStores
 mod AnsweredMessages
 mod ToldAnswers
 mod Optional
 mod AskedAlone
 mod FollowedMessages
 mod ClosedSessions
+pub mod HeldSource
 mod OpenedSessions
 mod ReadSessions
 mod BuiltAnswers

@@ -1,7 +1,6 @@
 -- A session of which nothing was read yet.
-use Rattle.std.proofs.Common.{◌≡◌, inl, ⊎_elim, ℕ, List, [], ◌++◌, Option, None, Some, refl, sym, ◌∙◌, subst}
+use Rattle.std.proofs.Common.{◌≡◌, inl, ⊎_elim, ℕ, List, [], ◌++◌, Option, refl, sym, ◌∙◌, subst}
 use Rattle.std.proofs.lemmas.List.{append-nil}
-use Rattle.std.specs.Prelude.{unwrap_or}
 use Rattle.std.specs.Io.{StartsWith}
 use Rattle.road_base.specs.History.{History}
 use Rattle.road_model.specs.Rules.{Rules}
@@ -13,7 +12,8 @@ use Rattle.session.specs.declared.end.End.TheVariants.{NoMemory}
 use Rattle.session.specs.StoreLaws.{StoreLaws}
 use Rattle.session.specs.Conversation.{Kept, Start}
 use Rattle.session.specs.Endings.{Comes, OfNothing}
-use Rattle.session.specs.Conversing.{IsOpening, opening_of, LeavesSession, SessionEnds, HeldBytes, Converses}
+use Rattle.session.specs.Conversing.{IsOpening, opening_of, LeavesSession, SessionEnds, Converses}
+use Rattle.session.proofs.HeldSource.{behind_of, held_still}
 use Rattle.session.proofs.KeptStores.{images_stand}
 
 pub nothing_comes : (P : Rules) (opening : Kept) (read : List ℕ) → Comes P opening read [] opening [] opening
@@ -59,14 +59,6 @@ ends_first laws P loaded h w o = record {
   };
   stops = started w (LeavesSession P (opening_of loaded h) [] w) (first_left laws P loaded h w [] o);
 }
-
--- what is left, nothing where it isn't told
-abbrev pub behind_of : Option (List ℕ) → List ℕ
-behind_of left = unwrap_or left []
-
-pub held_still : (held : Option (List ℕ)) → HeldBytes (behind_of held) (behind_of held) held held
-held_still None = tt
-held_still (Some x) = (refl, refl)
 
 pub converses_nothing : StoreLaws → (P : Rules) (loaded : Loaded) (held : Option (List ℕ)) (x : Option Outside)
     → Converses P loaded NoMemory held held x x

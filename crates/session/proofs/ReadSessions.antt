@@ -20,20 +20,14 @@ use Rattle.session.specs.declared.end.End.{End}
 use Rattle.session.specs.declared.end.End.TheVariants.{Done, Unfinished, ReadFault, SiteFault, Limit, NoMemory}
 use Rattle.session.specs.StoreLaws.{StoreLaws}
 use Rattle.session.specs.Conversation.{Start}
-use Rattle.session.specs.Conversing.{IsOpening, opening_of, SessionEnds, HeldBytes, IsAtEnd, Converses}
+use Rattle.session.specs.Conversing.{IsOpening, opening_of, SessionEnds, IsAtEnd, Converses}
 use Rattle.session.specs.Conversing.{CountsReads, CountsCalls}
 use Rattle.session.specs.Following.{LeavesStill, Talks, Since, Goes, IsHalted}
 use Rattle.road_io.specs.Parts.{Took}
-use Rattle.session.proofs.OpenedSessions.{behind_of, first_left}
+use Rattle.session.proofs.HeldSource.{behind_of, held_by}
+use Rattle.session.proofs.OpenedSessions.{first_left}
 
 -- ---- what was read
-
-pub held_by : (read : List ℕ) (held left : Option (List ℕ)) → Took read held left
-    → HeldBytes (read ++ behind_of left) (behind_of left) held left
-held_by read None None t = tt
-held_by read None (Some y) t = absurd t
-held_by read (Some x) None t = absurd t
-held_by read (Some x) (Some y) t = (t, refl)
 
 pub behind_nothing : (read : List ℕ) (held left : Option (List ℕ))
     → Told (λ was after. (was ≡ read) × (after ≡ [])) held left

@@ -7,7 +7,7 @@ use Rattle.store_switch.specs.StoreLoading.{LoadsStore}
 use Rattle.store_switch.specs.Checkpointing.{IsOnSome}
 use Rattle.osmroad.proofs.Prepared.{no_memory}
 use Rattle.osmroad.proofs.AnsweredFaults.{fault_calls, failed_calls, calls_calm, later_calls}
-use Rattle.osmroad.proofs.HeldSource.{behind_of}
+use Rattle.session.proofs.HeldSource.{behind_of}
 use Rattle.osmroad.proofs.CheckpointedStores.{checkpoint_refused, checkpoint_failed, told_rebases, checkpoint_written}
 use Rattle.osmroad.proofs.CheckpointedStores.{checkpoint_not_written, checkpoint_calls}
 use Rattle.osmroad.proofs.checkpoint.checkpoint.Goals as goal

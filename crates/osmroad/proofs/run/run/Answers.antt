@@ -6,7 +6,7 @@ use Rattle.osmroad.specs.Commands.{asked}
 use Rattle.osmroad.specs.Texts.{usage_line}
 use Rattle.osmroad.specs.Run.{files_of}
 use Rattle.osmroad.specs.Requests.{RunEnds, RunCanBeDone}
-use Rattle.osmroad.proofs.HeldSource.{behind_of, held_still}
+use Rattle.session.proofs.HeldSource.{behind_of, held_still}
 use Rattle.osmroad.proofs.WithoutStore.{silent_still, leaves_still, will_put_alone}
 use Rattle.osmroad.proofs.RunEnds.{ends_put}
 use Rattle.osmroad.proofs.WellEndedSessions.{session_done}
