@@ -8,3 +8,4 @@ mod PlainTurns
 mod PlainContexts
 mod PlainArcs
 mod PlainBlocks
+mod NearLists

@@ -9,11 +9,19 @@ use Rattle.road_model.specs.Links.{AreChanged, AreReached, AreTouched}
 use Rattle.road_model.proofs.JoinedLists.{lists_same}
 use Rattle.touched_ways.proofs.NumberLists.{AreAdded}
 
-same : (ws : List WayId) → map (λ w. w) ws ≡ ws
+pub same : (ws : List WayId) → map (λ w. w) ws ≡ ws
 same [] = refl
 same (w ∷ ws) = ap (λ l. w ∷ l) (same ws)
 
--- ---- the ways of two lists
+-- ---- the ways of a list, and of two lists
+
+pub ways_of_one : (ways all one : List WayId) → all ≡ one → IsTrue (rises way_cmp ways)
+    → ((w : WayId) → Contains ways w ↔ Contains all w) → Lists (λ w. w) way_cmp (λ w. Contains one w) ways
+ways_of_one ways all one e up exactly = subst (λ l. Lists (λ w. w) way_cmp (λ w. Contains l w) ways) e (record {
+  ascending = subst (λ l. IsTrue (rises way_cmp l)) (sym (same ways)) up;
+  sound = λ w has. (exactly w).0 has;
+  complete = λ w has. (exactly w).1 has;
+})
 
 pub ways_of_both : (ways all one other : List WayId) → IsTrue (rises way_cmp ways)
     → ((w : WayId) → Contains ways w ↔ Contains all w) → AreAdded one all other
