@@ -30,6 +30,12 @@ others_of M before N after items ways a b c stay w not =
     (subst (λ (y : Objects). IsUnaltered before y w) (sym b)
     (stay w (λ has. not (subst (λ (l : List WayId). Contains l w) (sym c) has))))
 
+-- no more blocks are built than there are touched ways
+few_of : (new old : ℕ) (items altered ways : List WayId) → items ≡ altered → length altered ≤ length ways
+    → new ≤ old + length items → new ≤ old + length ways
+few_of new old items altered ways same small few =
+    omega (arith, ap (λ (l : List WayId). length l) same, small, few)
+
 builds : (M after : Objects) (events : List Event) (ways : List WayId) (old new : ℕ) → IsApplied M events after
     → AreTouched M after ways → new ≤ old + length ways → BuildsTouched M events old new
 builds M after events ways old new applied touched few =
@@ -94,27 +100,31 @@ pub returns-in_err-rebuilt-clause-built : goal.returns-in_err-rebuilt-clause-bui
 returns-in_err-rebuilt-clause-built g c =
     let events = c.args.events.now in
     let after = c.in_ok-prepared.prepared.after in
-    let items = c.items-ways.result.now in
+    let ways = c.in_ok-touched.touched.ways in
+    let altered = c.in_ok-touched.touched.altered in
     let here : c.self.inside.graph.world ≡ c.args.self.now.world = ap (λ f. f.world) c.self.view_is in
     let applied = subst (λ (M : Objects). IsApplied M events after) here c.in_ok-prepared.ensures.after in
     let touched =
-    touched_of c.args.self.now.world c.in_ok-prepared.prepared.before after after items c.in_ok-touched.touched
-    (c.in_ok-prepared.ensures.before ∙ here) refl c.items-ways.ensures c.in_ok-touched.ensures in
-    builds c.args.self.now.world after events items c.args.steps.now c.rebuild.new.steps applied touched
-    c.rebuild.ensures.few
+    touched_of c.args.self.now.world c.in_ok-prepared.prepared.before after after ways ways
+    (c.in_ok-prepared.ensures.before ∙ here) refl refl c.in_ok-touched.ensures.touched in
+    builds c.args.self.now.world after events ways c.args.steps.now c.rebuild.new.steps applied touched
+    (few_of c.rebuild.new.steps c.args.steps.now c.items-ways.result.now altered ways c.items-ways.ensures
+    c.in_ok-touched.ensures.few c.rebuild.ensures.few)
 
 pub returns-clause-built : goal.returns-clause-built
 returns-clause-built g c =
     let events = c.args.events.now in
     let after = c.in_ok-prepared.prepared.after in
-    let items = c.items-ways.result.now in
+    let ways = c.in_ok-touched.touched.ways in
+    let altered = c.in_ok-touched.touched.altered in
     let here : c.self.inside.graph.world ≡ c.args.self.now.world = ap (λ f. f.world) c.self.view_is in
     let applied = subst (λ (M : Objects). IsApplied M events after) here c.in_ok-prepared.ensures.after in
     let touched =
-    touched_of c.args.self.now.world c.in_ok-prepared.prepared.before after after items c.in_ok-touched.touched
-    (c.in_ok-prepared.ensures.before ∙ here) refl c.items-ways.ensures c.in_ok-touched.ensures in
-    builds c.args.self.now.world after events items c.args.steps.now c.rebuild.new.steps applied touched
-    c.rebuild.ensures.few
+    touched_of c.args.self.now.world c.in_ok-prepared.prepared.before after after ways ways
+    (c.in_ok-prepared.ensures.before ∙ here) refl refl c.in_ok-touched.ensures.touched in
+    builds c.args.self.now.world after events ways c.args.steps.now c.rebuild.new.steps applied touched
+    (few_of c.rebuild.new.steps c.args.steps.now c.items-ways.result.now altered ways c.items-ways.ensures
+    c.in_ok-touched.ensures.few c.rebuild.ensures.few)
 
 pub invariant_of-self-2 : goal.invariant_of-self-2
 invariant_of-self-2 g c =
@@ -154,18 +164,24 @@ pub returns-clause-touched : goal.returns-clause-touched
 returns-clause-touched g c = λ ways are.
     let M = c.args.self.now.world in
     let N = c.commit.new.self in
-    let items = c.items-ways.result.now in
+    let items = c.items.result.now in
     let here : c.self.inside.graph.world ≡ c.args.self.now.world = ap (λ f. f.world) c.self.view_is in
     let touched =
-    touched_of M c.in_ok-prepared.prepared.before N c.in_ok-prepared.prepared.after items c.in_ok-touched.touched
-    (c.in_ok-prepared.ensures.before ∙ here) c.commit.ensures c.items-ways.ensures c.in_ok-touched.ensures in
+    touched_of M c.in_ok-prepared.prepared.before N c.in_ok-prepared.prepared.after items
+    c.in_ok-touched.touched.ways (c.in_ok-prepared.ensures.before ∙ here) c.commit.ensures c.items.ensures
+    c.in_ok-touched.ensures.touched in
     ap length (lists_unique (λ (w : WayId). w) way_cmp c.name_order.ensures.ways (IsTouched M N) items ways touched are)
 
 pub returns-clause-rebuilt : goal.returns-clause-rebuilt
 returns-clause-rebuilt g c = c.in_ok-rebuilt.ensures.each
 
 pub returns-clause-few : goal.returns-clause-few
-returns-clause-few g c = omega arith
+returns-clause-few g c = omega (
+  arith,
+  ap (λ (l : List WayId). length l) c.items-ways.ensures,
+  ap (λ (l : List WayId). length l) c.items.ensures,
+  c.in_ok-touched.ensures.few,
+)
 
 pub returns-in_err-prepared-clause-profile : goal.returns-in_err-prepared-clause-profile
 returns-in_err-prepared-clause-profile g c = ap (λ f. f.profile) c.self.view_is
@@ -242,13 +258,13 @@ pub returns-clause-ways : goal.returns-clause-ways
 returns-clause-ways g c =
     let events = c.args.events.now in
     let after = c.in_ok-prepared.prepared.after in
-    let items = c.items-ways.result.now in
+    let ways = c.in_ok-touched.touched.ways in
     let here : c.self.inside.graph.world ≡ c.args.self.now.world = ap (λ f. f.world) c.self.view_is in
     let applied = subst (λ (M : Objects). IsApplied M events after) here c.in_ok-prepared.ensures.after in
     let touched =
-    touched_of c.args.self.now.world c.in_ok-prepared.prepared.before after after items c.in_ok-touched.touched
-    (c.in_ok-prepared.ensures.before ∙ here) refl c.items-ways.ensures c.in_ok-touched.ensures in
-    record { after = after; applied = applied; ways = items; touched = touched }
+    touched_of c.args.self.now.world c.in_ok-prepared.prepared.before after after ways ways
+    (c.in_ok-prepared.ensures.before ∙ here) refl refl c.in_ok-touched.ensures.touched in
+    record { after = after; applied = applied; ways = ways; touched = touched }
 
 pub returns-in_err-prepared-clause-ways : goal.returns-in_err-prepared-clause-ways
 returns-in_err-prepared-clause-ways g c = no_ok _ c.from_residual.result c.from_residual.ensures.0
