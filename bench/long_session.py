@@ -8,8 +8,14 @@ long_session.py PROGRAM FOLDER MESSAGES SECONDS [PART..]; bench/long_session.sh 
   frames    frames of 2^30 bytes, and of one more
   files     live files of 2^40 bytes, with holes, and of one more
   numbers   numbers at the ends of their ranges, and one beyond
+  short     little memory
+  total     a session of 2^40 bytes, and of one more: tried only where it is named, since it takes half an hour or so
+
+Times are the processor time of the session, and then those by the clock.
 """
+import fcntl
 import os
+import resource
 import subprocess
 import sys
 import threading
@@ -18,7 +24,8 @@ import time
 program, folder, messages, seconds, *parts = sys.argv[1:]
 messages, seconds = int(messages), float(seconds)
 store = os.path.join(folder, 'store')
-LINE, FRAME, FILE = 2 ** 24, 2 ** 30, 2 ** 40
+LINE, FRAME, FILE, TOTAL = 2 ** 24, 2 ** 30, 2 ** 40, 2 ** 40
+F_SETPIPE_SZ = 1031
 I64, U64 = 2 ** 63, 2 ** 64
 failed = 0
 
@@ -52,9 +59,10 @@ def kept():
 class Session:
     """A session on the store. What it puts is gathered beside, its first and last bytes and how many there are."""
 
-    def __init__(self):
+    def __init__(self, limit=resource.RLIM_INFINITY):
         self.start = time.perf_counter()
-        self.process = subprocess.Popen([program, store, 'session'], stdin=subprocess.PIPE, stdout=subprocess.PIPE)
+        self.process = subprocess.Popen([program, store, 'session'], stdin=subprocess.PIPE, stdout=subprocess.PIPE,
+                                        preexec_fn=lambda: resource.setrlimit(resource.RLIMIT_AS, (limit, limit)))
         self.output, self.size, self.peak, self.sent = b'', 0, 0, 0
         self.reader = threading.Thread(target=self.read)
         self.watcher = threading.Thread(target=self.watch)
@@ -100,16 +108,17 @@ class Session:
         except BrokenPipeError:
             pass
         self.reader.join()
-        status = self.process.wait()
+        _, status, used = os.wait4(self.process.pid, 0)
+        self.process.returncode = os.waitstatus_to_exitcode(status)
         self.watcher.join()
-        self.took = time.perf_counter() - self.start
-        return status
+        self.took = f'{used.ru_utime + used.ru_stime:.1f} s of {time.perf_counter() - self.start:.1f}'
+        return self.process.returncode
 
 
-def wants(name, pieces, status, output, number=None):
+def wants(name, pieces, status, output, number=None, limit=resource.RLIM_INFINITY):
     """A session on the store: with this input it ends so, with this output; then so much is kept. Pieces are bytes, or
     bytes and how often they stand."""
-    session = Session()
+    session = Session(limit)
     for piece in pieces:
         part, times = piece if isinstance(piece, tuple) else (piece, 1)
         together = max(1, min(times, (1 << 20) // max(1, len(part))))
@@ -125,7 +134,7 @@ def wants(name, pieces, status, output, number=None):
     elif number is not None and kept() != (5, b'sequence 0 kept %d\n' % number):
         fail(f'{name}: the store says {kept()}, and {number} is to be kept')
     else:
-        print(f'  ok: {name}: status {status}, {session.took:.1f} s, peak {session.peak / 1024:.1f} MB', flush=True)
+        print(f'  ok: {name}: status {status}, {session.took}, peak {session.peak / 1024:.1f} MB', flush=True)
 
 
 # ---- a million messages
@@ -195,7 +204,10 @@ def million():
     first, _, graph = head.partition(b'\n')
     graph += session.stdout.read(int(first.split()[1]) - len(graph))
     session.stdin.close()
-    if session.stdout.read() or session.wait():
+    rest = session.stdout.read()
+    _, status, used = os.wait4(session.pid, 0)
+    session.returncode = os.waitstatus_to_exitcode(status)
+    if rest or status:
         fail(f'the session of {messages} messages ends with status {session.returncode}')
     if graph != run('-', 'compile', given=streets.extract().encode())[1]:
         fail('the graph behind a million messages is another one')
@@ -206,10 +218,11 @@ def million():
     loads = time.perf_counter() - start
     for name, k in ('beginning', 0), ('after a tenth', len(peaks) // 10), ('middle', len(peaks) // 2), ('end', -1):
         print(f'  {name}: peak {peaks[k][0]} KB, {peaks[k][1]} KB then')
+    print('  peaks by tenths: ' + ', '.join(str(peaks[k * (len(peaks) - 1) // 10][0]) for k in range(11)))
     if peaks[-1][0] > peaks[len(peaks) // 10][0] + 256:
         fail('memory grows with the session')
-    print(f'  {streets.kept - 1} frames were applied, in {took:.0f} s in all; the live file has {size} bytes, and '
-          f'`graph` takes {loads:.1f} s', flush=True)
+    print(f'  {streets.kept - 1} frames were applied, in {used.ru_utime + used.ru_stime:.0f} s of {took:.0f} for all; '
+          f'the live file has {size} bytes, and `graph` takes {loads:.1f} s', flush=True)
 
 
 # ---- input that doesn't end
@@ -244,9 +257,9 @@ def endless():
         elif kept() != (5, b'sequence 0 kept %d\n' % number):
             fail(f'{name}: the store says {kept()}')
         else:
-            print(f'  ok: {name}: status {got} behind {session.sent / 2 ** 20:.0f} MB, {session.took:.1f} s, peak '
-                  f'{(first or session.memory())[0] / 1024:.1f} MB behind 16 MB, {session.peak / 1024:.1f} MB at the end',
-                  flush=True)
+            early = (first or session.memory())[0]
+            print(f'  ok: {name}: status {got} behind {session.sent / 2 ** 20:.0f} MB, {session.took}, peak '
+                  f'{early / 1024:.1f} MB behind 16 MB, {session.peak / 1024:.1f} MB at the end', flush=True)
 
 
 # ---- lines and frames at their limits
@@ -257,7 +270,7 @@ def lines():
     for name, pieces, status, output in [
             ('2^24 bytes', [(b'a', LINE), b'\nstate\n'], 0, 'unknown\n' + state),
             ('one more', [b'state\n', (b'a', LINE + 1)], 9, state + 'limit\n'),
-            ('one more, which is the newline of a second line', [(b'a', LINE), b'\n', (b'a', LINE + 1), b'\n'], 9,
+            ('one more, in a second line', [(b'a', LINE), b'\n', (b'a', LINE + 1), b'\n'], 9,
              'unknown\nlimit\n'),
             ('2^24 bytes, and the input ends', [(b'a', LINE)], 0, 'unknown\n'),
             ('2^24 bytes, the last a carriage return', [b'state', (b' ', LINE - 6), b'\r\n'], 0, state),
@@ -267,12 +280,14 @@ def lines():
             ('a drive of 2,396,744 steps', [b'drive', (b' w10.0+ w10.0-', (LINE - 5) // 14), b' ' * 3, b'\n'], 0,
              'legal\n'),
             ('a drive that breaks at its last step',
-             [b'drive', (b' w10.0+ w10.0-', (LINE - 12) // 14), b' w10.1+\n'], 0, f'broken {(LINE - 12) // 14 * 2 + 1} no-step\n'),
+             [b'drive', (b' w10.0+ w10.0-', (LINE - 12) // 14), b' w10.1+\n'], 0,
+             f'broken {(LINE - 12) // 14 * 2 + 1} no-step\n'),
             ('a number of a frame with 16,777,210 zeros', [b'#seq ', (b'0', LINE - 6), b'2\n#end\n'], 0, 'applied 2\n'),
-            ('a number of a node with 16,777,208 zeros', [b'reach 1 ', (b'0', LINE - 9), b'2\n'], 0, 'drive w10.0+\n')]:
+            ('a number of a node with 16,777,207 zeros', [b'reach 1 ', (b'0', LINE - 9), b'2\n'], 0, 'drive w10.0+\n')]:
         make()
         wants(name, pieces, status, output, 2 if 'applied' in output else 1)
     print('in a frame')
+    way = b'w10 v2 Thighway=residential N'
     for name, pieces, status, output in [
             ('a comment of 2^24 bytes', [b'#', (b'a', LINE - 1), b'\n#end\n'], 0, 'applied 2\n'),
             ('one more', [b'#', (b'a', LINE)], 9, 'limit\n'),
@@ -281,16 +296,27 @@ def lines():
             ('an #end of 2^24 bytes', [b'#end', (b' ', LINE - 4), b'\n'], 0, 'applied 2\n'),
             ('an #end of 2^24 bytes, where the input ends', [b'#end', (b'\t', LINE - 4)], 0, 'applied 2\n'),
             ('one more', [b'#end', (b' ', LINE - 3), b'\n'], 9, 'limit\n'),
-            ('a tag of 16,777,193 bytes', [b'n1 v2 x8 y50 Tk=', (b'v', LINE - 16), b'\n#end\n'], 0, 'applied 2\n'),
+            ('a tag of 16,777,202 bytes', [b'n1 v2 x8 y50 Tk=', (b'v', LINE - 16), b'\n#end\n'], 0, 'applied 2\n'),
             ('one more', [b'n1 v2 x8 y50 Tk=', (b'v', LINE - 15), b'\n#end\n'], 9, 'limit\n'),
             ('a line that is no text', [(b'\xff', LINE), b'\n#end\n'], 0, 'refused 2 line 1 field 0 NotUtf8\n'),
-            ('65,535 references', [b'w10 v2 Thighway=residential N', (b'n3,n4,', 32767), b'n3\n#end\n'], 0, 'applied 2\n'),
-            ('65,536 references', [b'w10 v2 Thighway=residential N', (b'n3,n4,', 32767), b'n3,n4\n#end\n'], 0,
+            ('65,535 references', [way, (b'n3,n4,', 32767), b'n3\n#end\n'], 0, 'applied 2\n'),
+            ('65,536 references', [way, (b'n3,n4,', 32767), b'n3,n4\n#end\n'], 0,
              'refused 2 line 1 field 4 TooMany\n')]:
         make()
         wants(name, [b'#seq 2\n', *pieces], status, output, 2 if 'applied' in output else 1)
     make()
     wants('one more byte in a line of a stale frame', [b'#seq 7\n', (b'#', LINE + 1)], 9, 'limit\n', 1)
+
+
+def tags(more):
+    """64 lines with long tags, and the line that ends the frame: 2^30 bytes, and so many more."""
+    pieces, left = [], FRAME - len(b'#end\n') + more
+    for number in range(1, 65):
+        head = b'n%d v2 x8 y50 Tnote=' % number
+        length = min(LINE, left - 1)
+        pieces += [head, (b'v', length - len(head)), b'\n']
+        left -= length + 1
+    return [*pieces, b'#end\n']
 
 
 def frames():
@@ -311,10 +337,76 @@ def frames():
               + [b'behind\n'] * end.endswith(b'\n'), status, output, 2 if 'applied' in output else 1)
     for name, more, status, output in ('blank lines, 2^30 bytes', 0, 0, 'applied 2\n'), ('one more', 1, 9, 'limit\n'):
         make()
-        wants(name, [b'#seq 2\n', (b'\n', FRAME - 5 + more), b'#end\n'], status, output, 2 if 'applied' in output else 1)
+        wants(name, [b'#seq 2\n', (b'\n', FRAME - 5 + more), b'#end\n'], status, output, 2 - more)
+    for name, more, status, output in ('tags, 2^30 bytes', 0, 0, 'applied 2\nunknown\n'), ('one more', 1, 9, 'limit\n'):
+        make()
+        wants(name, [b'#seq 2\n', *tags(more), b'behind\n'], status, output, 2 - more)
     make()
     wants('one object in each line, two million lines', [b'#seq 2\n', (b'n1 v2 dD\n', 2000000), b'#end\nstate\n'], 0,
-          'applied 2\nstate sequence 2 ways 1 pieces 0 contexts 0 arcs 0\n', 2)
+          'applied 2\nstate sequence 2 ways 0 pieces 0 contexts 0 arcs 0\n', 2)
+
+
+# ---- little memory
+
+def short():
+    print('little memory')
+    state, deletions = STATE.format(1), (b'n1 v2 dD\n', 50000000)
+    for name, megabytes, pieces, output, number in [
+            ('a line of 2^24 bytes', 8, [b'state\n', (b'a', LINE), b'\n'], state, 1),
+            ('a frame of 2^30 bytes', 512, [b'state\n#seq 2\n', deletions], state, 1),
+            ('such a frame behind a good one', 512, [b'#seq 2\nn1 v2 x8 y50.1\n#end\n#seq 3\n', deletions],
+             'applied 2\n', 2)]:
+        make()
+        wants(f'{name}, {megabytes} MB of memory', pieces, 10, output, number, megabytes << 20)
+    # frames of streets, with more and more memory: the session goes on for longer and longer
+    texts = [''.join(f'n{k} v1 x8.{k:07} y50\nn{k + 1} v1 x8.{k:07} y51\nw{k} v1 Thighway=residential Nn{k},n{k + 1}\n'
+                     for k in range(number * 1000, number * 1000 + 1000, 2)) for number in range(2, 32)]
+    sent = [f'#seq {number}\n{text}#end\n'.encode() for number, text in enumerate(texts, 2)]
+    graphs, ends = {}, {0: 0, 10: 0}
+    for kilobytes in range(4096, 40961, 256):
+        make()
+        session = Session(kilobytes << 10)
+        for frame in sent:
+            session.send(frame)
+        status = session.end()
+        replies = session.output.decode().splitlines()
+        told = int(replies[-1].split()[1]) if replies else 1
+        found, said = kept()
+        now = int(said.split()[-1]) if found == 5 else -1
+        if now not in graphs:
+            graphs[now] = run('-', 'compile', given=(STREET + ''.join(texts[:now - 1])).encode())
+        if (status not in ends or replies != [f'applied {k}' for k in range(2, told + 1)] or not told <= now <= told + 1
+                or (told == 31) != (status == 0) or run(store, 'graph') != graphs[now]):
+            fail(f'{kilobytes} KB: status {status}, {told} was told, and the store says {said}')
+        else:
+            ends[status] += 1
+    print(f'  ok: 30 frames with 4 to 40 MB of memory: {ends[10]} times status 10, {ends[0]} times status 0; from '
+          f'{min(graphs) - 1} to {max(graphs) - 1} of them were kept', flush=True)
+
+
+# ---- a session of 2^40 bytes
+
+def total():
+    print('a session of 2^40 bytes, and of one more')
+    make()
+    session = Session()
+    line, ending = b'\xff' * LINE + b'\n', b'state\n'
+    fcntl.fcntl(session.process.stdin, F_SETPIPE_SZ, 1 << 20)
+    whole, rest = divmod(TOTAL - len(ending), len(line))
+    for _ in range(whole):
+        session.send(line)
+    session.send(b' ' * (rest - 1) + b'\n' + ending)
+    wanted = len(b'unknown\n') * whole + len(STATE.format(1))
+    while session.size < wanted and session.process.poll() is None:
+        time.sleep(0.1)
+    if session.size != wanted or not session.output.endswith(STATE.format(1).encode()) or session.sent != TOTAL:
+        fail(f'behind 2^40 bytes: {session.size} bytes of replies for {wanted}: {session.output[-100:]}')
+    session.send(b'\n')
+    status = session.end()
+    if (status, session.output[-6:], session.size) != (9, b'limit\n', wanted + 6):
+        fail(f'one byte more: status {status}, {session.output[-100:]}')
+    else:
+        print(f'  ok: status {status}, {session.took}, peak {session.peak / 1024:.1f} MB')
 
 
 # ---- live files
@@ -364,13 +456,15 @@ def numbers():
     make()
     wants('frames', [f'#seq {U64 - 1}\nn1 v9\n#end\n#seq {U64}\n#seq -1\n#seq +2\n#seq 2 2\n#seq\n'.encode()], 0,
           f'refused {U64 - 1} sequence 1\n' + 5 * 'unknown\n', 1)
-    wants('steps', [b''.join(f'drive {step}\n'.encode() for step in [
-        f'w{I64 - 1}.{2 ** 32 - 1}+', f'w-{I64}.{2 ** 32 - 1}-', f'w{I64}.0+', f'w-{I64 + 1}.0+', f'w10.{2 ** 32}+',
-        f'w10.{2 ** 64}+', 'w10.-0+', 'w+10.0+', 'w-0.0+', 'w10.0', 'w10.0+-', 'w10.0.0+', 'w0000000000000000000010.00000000000+'])],
-        0, 2 * 'broken 1 no-step\n' + 6 * 'unknown\n' + 'broken 1 no-step\n' + 3 * 'unknown\n' + 'legal\n', 1)
-    wants('places to reach', [f'reach -{I64} {I64 - 1}\nreach 1 {I64 - 1}\nreach {I64} 1\nreach 1 {I64}\n'
-                              f'reach -{I64 + 1} 1\nreach 1 -{I64 + 1}\nreach {U64} {U64}\nreach +1 2\nreach -1 2\n'.encode()],
-          0, f'no-node -{I64}\nno-node {I64 - 1}\n' + 6 * 'unknown\n' + 'no-node -1\n', 1)
+    steps = [f'w{I64 - 1}.{2 ** 32 - 1}+', f'w-{I64}.{2 ** 32 - 1}-', f'w{I64}.0+', f'w-{I64 + 1}.0+',
+             f'w10.{2 ** 32}+', f'w10.{2 ** 64}+', 'w10.-0+', 'w+10.0+', 'w-0.0+', 'w10.0', 'w10.0+-', 'w10.0.0+',
+             f'w{10:022}.{0:011}+']
+    wants('steps', [''.join(f'drive {step}\n' for step in steps).encode()], 0,
+          2 * 'broken 1 no-step\n' + 6 * 'unknown\n' + 'broken 1 no-step\n' + 3 * 'unknown\n' + 'legal\n', 1)
+    places = [f'-{I64} {I64 - 1}', f'1 {I64 - 1}', f'{I64} 1', f'1 {I64}', f'-{I64 + 1} 1', f'1 -{I64 + 1}',
+              f'{U64} {U64}', '+1 2', '-1 2']
+    wants('places to reach', [''.join(f'reach {ends}\n' for ends in places).encode()], 0,
+          f'no-node -{I64}\nno-node {I64 - 1}\n' + 6 * 'unknown\n' + 'no-node -1\n', 1)
     ends = (f'n-{I64} v4294967294 x-180 y-90\nn{I64 - 1} v1 x180 y90\n'
             f'w-{I64} v1 Thighway=residential Nn-{I64},n{I64 - 1}\n'
             f'w{I64 - 1} v1 Thighway=residential Nn{I64 - 1},n1\nn1 v1 x0 y0\n'
@@ -386,7 +480,7 @@ def numbers():
         + 'refused 3 line 1 field 4 BadRef\n', 2)
 
 
-for part in [million, endless, lines, frames, files, numbers]:
-    if not parts or part.__name__ in parts:
+for part in [million, endless, lines, frames, files, numbers, short, total]:
+    if part.__name__ in parts or not parts and part is not total:
         part()
 sys.exit(failed)

@@ -1,6 +1,7 @@
 #!/usr/bin/env python3
 """Refuses each allocation of a run in turn, and looks at how the run ends and at what it leaves. Use:
-refused_memory.py PROGRAM SHIM FOLDER TOWN.opl VILLAGE.opl; bench/refused_memory.sh calls it. SHIM is refuse_memory.c, built.
+refused_memory.py PROGRAM SHIM FOLDER TOWN.opl VILLAGE.opl; bench/refused_memory.sh calls it. SHIM is refuse_memory.c,
+built.
 
 A run ends as it does where nothing is refused, with all its output; or with status 10, or with 3 where a write found no
 memory, and with the replies until then. Then the store loads, keeps no number below the last one that was told and at
@@ -104,7 +105,7 @@ class Case:
             return 'status 10'
         if status == 3 and usual_output.startswith(output):
             return 'status 3'
-        self.fails(number, how, f'status {status} for {usual_status}, with {len(output)} bytes of output: {output[-80:]}')
+        self.fails(number, how, f'status {status} for {usual_status}, with {len(output)} bytes: {output[-80:]}')
         return None
 
     def tries(self):
@@ -140,8 +141,9 @@ def main():
     for path in extracts:
         with open(path, encoding='utf-8') as it:
             extract += it.read()
-    # a node of the village moves, and one gets a bollard; a way of the town is cut, another deleted, and a new one leads
-    # from one to the other; a restriction goes, and one over a via way comes, behind a line that is read in two parts
+    # a node of the village moves, and one gets a bollard; a way of the town is cut, another deleted, and a new one
+    # leads from one to the other; a restriction goes, and one over a via way comes, behind a line that is read in two
+    # parts
     changes = [
         'n103 v3 x8.502 y50.1001\n'
         'n37 v99 Tbarrier=bollard,bicycle=yes x8.0001 y50.0002\n',
