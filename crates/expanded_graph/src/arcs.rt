@@ -24,6 +24,9 @@ use turn_automata::State;
 use turn_automata::laws::{watched_decides, watched_grows};
 use way_pieces::Departure;
 
+/// Room for so many arcs is taken at once. Most nodes have fewer departures, and at one with more, few of them may follow.
+const FEW: usize = 8;
+
 /// The arcs of the contexts that come to the intersection from the node `from` in the state, ascending by name.
 pub fn arcs_at<M: World, P: Profile>(
     alloc: Global,
@@ -46,7 +49,7 @@ pub fn arcs_at<M: World, P: Profile>(
     steps_depart(&network.profile);
     context_goes_on(&network.profile);
     let departures = intersection.departures;
-    let mut arcs = Vec::with_capacity(alloc, departures.len())?;
+    let mut arcs = Vec::with_capacity(alloc, departures.len().min(FEW))?;
     for departure in departures {
         if let Some(arc) = arc_by(network, states, state, intersection, from, *departure) {
             arcs.push(arc)?;
