@@ -24,7 +24,7 @@ use turn_automata::State;
 use turn_automata::laws::{watched_decides, watched_grows};
 use way_pieces::Departure;
 
-/// Room for so many arcs is taken at once. Most nodes have fewer departures, and at one with more, few of them may follow.
+/// Room for so many arcs is taken at once. Most nodes have fewer departures, and of many at a node few may follow.
 const FEW: usize = 8;
 
 /// The arcs of the contexts that come to the intersection from the node `from` in the state, ascending by name.
