@@ -29,12 +29,12 @@ within_of here M own keys ways a b r =
 touched_of : (here N M : Objects) (ways : List WayId) → here ≡ N → AreTouched M N ways → AreTouched M here ways
 touched_of here N M ways a t = subst (λ (x : Objects). AreTouched M x ways) (sym a) t
 
-pub altered-altered-requires-clause-before : goal.altered-altered-requires-clause-before
-altered-altered-requires-clause-before c =
+pub altered-requires-clause-before : goal.altered-requires-clause-before
+altered-requires-clause-before c =
     ascending c.args.world.now c.keys.result.now c.in_ok-before.before.near c.in_ok-before.ensures.near
 
-pub altered-altered-requires-clause-after : goal.altered-altered-requires-clause-after
-altered-altered-requires-clause-after c =
+pub altered-requires-clause-after : goal.altered-requires-clause-after
+altered-requires-clause-after c =
     ascending c.of-next.result c.keys-2.result.now c.in_ok-after.after.near c.in_ok-after.ensures.near
 
 pub returns-clause-touched : goal.returns-clause-touched
