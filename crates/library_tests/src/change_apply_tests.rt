@@ -2,7 +2,7 @@
 ghost use Rattle.std.specs.Prelude.{◌≡◌, ◌<◌};
 
 use access_profile::Motorcar;
-use change_apply::Engine;
+use change_apply::{Engine, Report};
 use graph_file::write;
 use opl_objects::{Mode, Reader};
 use road_base::{Event, Steps};
@@ -11,6 +11,11 @@ use std::alloc::Global;
 use std::marker::Brand;
 use std::sync::ledger::{Blank, Ledger};
 use std::test::Fail;
+
+const NOTHING: Report = Report {
+    touched: 0,
+    rebuilt: 0,
+};
 
 /// The events of the change.
 fn events_of(alloc: Global, change: &[u8]) -> Result<Vec<Event>, Fail> {
@@ -32,20 +37,20 @@ fn graph_of(alloc: Global, engine: &mut Engine<Motorcar>) -> Result<Vec<u8>, Fai
     Ok(bytes)
 }
 
-/// Follows the change, and asks for the graph behind it: how many ways it touches. Its events are put behind those of
-/// the changes before.
+/// Follows the change, and asks for the graph behind it: how many ways it touches, and how many blocks were built. Its
+/// events are put behind those of the changes before.
 fn follow<L: Ledger>(
     alloc: Global,
     engine: &mut Engine<Motorcar>,
     change: &[u8],
     all: &mut Vec<Event>,
     steps: &mut Steps<L>,
-) -> Result<u64, Fail> {
+) -> Result<Report, Fail> {
     let mut events = events_of(alloc, change)?;
     let report = engine.apply(&events, steps)?;
     graph_of(alloc, engine)?;
     all.append(&mut events)?;
-    Ok(report.touched)
+    Ok(report)
 }
 
 /// Whether the graph is that of all these events at once.
@@ -60,9 +65,12 @@ fn is_graph_of<L: Ledger>(
     Ok(graph_of(alloc, engine)?.as_slice() == want.as_slice())
 }
 
-/// How many ways the last of the changes touches, and whether the graph behind all of them is that of all their events
-/// at once.
-fn followed<L: Ledger>(alloc: Global, changes: &[&[u8]], blank: Blank) -> Result<(u64, bool), Fail>
+/// What the last of the changes cost, and whether the graph behind all of them is that of all their events at once.
+fn followed<L: Ledger>(
+    alloc: Global,
+    changes: &[&[u8]],
+    blank: Blank,
+) -> Result<(Report, bool), Fail>
     requires name { blank.name ≡ L.name }
     requires parts { blank.parts ≡ L.parts }
     requires some { 0 < L.parts }
@@ -70,11 +78,11 @@ fn followed<L: Ledger>(alloc: Global, changes: &[&[u8]], blank: Blank) -> Result
     let mut steps = Steps::<L>::new(blank);
     let mut engine = Engine::load(alloc, Motorcar, Vec::new(alloc), &mut steps)?;
     let mut all = Vec::new(alloc);
-    let mut touched = 0;
+    let mut report = NOTHING;
     for change in changes {
-        touched = follow(alloc, &mut engine, change, &mut all, &mut steps)?;
+        report = follow(alloc, &mut engine, change, &mut all, &mut steps)?;
     }
-    Ok((touched, is_graph_of(alloc, &mut engine, all, &mut steps)?))
+    Ok((report, is_graph_of(alloc, &mut engine, all, &mut steps)?))
 }
 
 /// A chain: way k goes from node k to node k + 1.
@@ -87,7 +95,8 @@ const CHAIN: &[u8] = b"n1 v1 x0.001 y0\nn2 v1 x0.002 y0\nn3 v1 x0.003 y0\nn4 v1 
     w7 v1 Thighway=residential Nn7,n8\nw8 v1 Thighway=residential Nn8,n9\n\
     w9 v1 Thighway=residential Nn9,n10\nw10 v1 Thighway=residential Nn10,n11\n";
 
-/// Node 2 lies elsewhere: the ways 1 and 2 are one link away, way 3 three, way 4 five, and way 5 seven.
+/// Node 2 lies elsewhere: the ways 1 and 2 are one link away, way 3 three, way 4 five, and way 5 seven. No restriction
+/// names a way, so blocks are built up to four links away.
 const MOVED: &[u8] = b"n2 v2 x0.0025 y0\n";
 
 /// Nothing changes: the entry that stands has the same version.
@@ -101,16 +110,17 @@ const LONGER: &[u8] = b"w3 v3 Thighway=residential Nn3,n4,n9\n";
 
 #[test]
 fn changes_touch_what_is_near(rt: HostRuntime) -> Result<(), Fail> {
-    let rows: [(&[&[u8]], u64); 5] = [
-        (&[CHAIN], 10),
-        (&[CHAIN, SAME], 0),
-        (&[CHAIN, MOVED], 4),
-        (&[CHAIN, MOVED, GONE], 6),
-        (&[CHAIN, MOVED, GONE, LONGER], 10),
+    let rows: [(&[&[u8]], u64, u64); 5] = [
+        (&[CHAIN], 10, 10),
+        (&[CHAIN, SAME], 0, 0),
+        (&[CHAIN, MOVED], 4, 3),
+        (&[CHAIN, MOVED, GONE], 6, 5),
+        (&[CHAIN, MOVED, GONE, LONGER], 10, 9),
     ];
-    for (changes, want) in rows {
-        let (touched, same) = followed::<Brand>(rt.alloc(), changes, Blank::new(1))?;
-        assert_eq!(rt; touched, want);
+    for (changes, touched, rebuilt) in rows {
+        let (report, same) = followed::<Brand>(rt.alloc(), changes, Blank::new(1))?;
+        assert_eq!(rt; report.touched, touched);
+        assert_eq!(rt; report.rebuilt, rebuilt);
         assert!(rt; same);
     }
     Ok(())
