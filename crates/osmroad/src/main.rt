@@ -112,7 +112,11 @@ fn main(rt: HostRuntime) -> ExitCode {
 #[cfg(test)]
 mod counting_tests;
 #[cfg(test)]
+mod failure_tests;
+#[cfg(test)]
 mod graph_text;
+#[cfg(test)]
+mod limit_tests;
 #[cfg(test)]
 mod map_tests;
 #[cfg(test)]

@@ -15,16 +15,16 @@ use std::test::Fail;
 
 /// A session on a store that is made of an extract, and all that both runs put.
 #[derive(Clone, Copy)]
-struct Session<'a> {
-    number: &'a str,
-    extract: &'a [u8],
-    input: &'a [u8],
-    status: Status,
-    output: &'a [&'a [u8]],
+pub struct Session<'a> {
+    pub number: &'a str,
+    pub extract: &'a [u8],
+    pub input: &'a [u8],
+    pub status: Status,
+    pub output: &'a [&'a [u8]],
 }
 
 /// The words run on this site, with this input, of which the reads with these numbers fail.
-fn ended<L: Ledger>(
+pub fn ended<L: Ledger>(
     alloc: Global,
     words: &[&str],
     input: &[u8],
@@ -56,7 +56,7 @@ pub fn empty_site(alloc: Global) -> MemorySite {
     MemorySite::new(alloc, Vec::new(alloc), Vec::new(alloc), Vec::new(alloc))
 }
 
-const SESSION: &[&str] = &["town", "session"];
+pub const SESSION: &[&str] = &["town", "session"];
 
 /// Makes the store, runs the session on it, and compares what is put.
 fn check(rt: &impl Abort, alloc: Global, session: &Session) -> Result<(), NoMemory> {
@@ -104,12 +104,29 @@ const FORK: Session = Session {
     ],
 };
 
+/// The same map with a second only-restriction, on whose last two ways the first one goes on.
+const FORK_STRAIGHT: Session = Session {
+    number: "6",
+    extract: b"n1 v1 x0.001 y0\nn2 v1 x0.002 y0\nn3 v1 x0.003 y0\nn4 v1 x0.004 y0\nn5 v1 x0.005 y0\n\
+        n6 v1 x0.006 y0\nw1 v1 Thighway=residential Nn1,n2\nw2 v1 Thighway=residential Nn2,n3\n\
+        w3 v1 Thighway=residential Nn3,n4\nw4 v1 Thighway=residential Nn4,n5\n\
+        w5 v1 Thighway=residential Nn4,n6\n\
+        r20 v1 Ttype=restriction,restriction=no_u_turn Mw1@from,w2@via,w3@via,w4@to\n\
+        r21 v1 Ttype=restriction,restriction=only_right_turn Mw2@from,w3@via,w5@to\n\
+        r22 v1 Ttype=restriction,restriction=only_straight_on Mw1@from,w2@via,w3@to\n",
+    input: b"drive w1.0+ w2.0+ w3.0+ w5.0+\n",
+    status: Status::Done,
+    output: &[b"created 6\nlegal\n"],
+};
+
 /// Frames under another number, with a fault, and without one.
-const REFUSED_FRAMES: Session = Session {
+pub const REFUSED_MESSAGES: &[u8] = b"#seq 14\nn1 v2 x0 y0\n#end\n\
+    #seq 13\nn1 v2 x0 y0\nq1 v1\nn2 v\n#end\nstate\n#seq 13\nn1 v2 x0 y0\n#end\n";
+
+pub const REFUSED_FRAMES: Session = Session {
     number: "12",
     extract: b"",
-    input: b"#seq 14\nn1 v2 x0 y0\n#end\n#seq 13\nn1 v2 x0 y0\nq1 v1\nn2 v\n#end\nstate\n\
-        #seq 13\nn1 v2 x0 y0\n#end\n",
+    input: REFUSED_MESSAGES,
     status: Status::Done,
     output: &[
         b"created 12\nrefused 14 sequence 12\nrefused 13 line 2 field 1 UnknownLine\n\
@@ -151,7 +168,7 @@ const VILLAGE: &[u8] = b"\
     Mw201@from,n103@via,w202@to\n";
 
 /// The first change takes the way on which one turned, and the second one the restriction.
-const VILLAGE_FOLLOWED: Session = Session {
+pub const VILLAGE_FOLLOWED: Session = Session {
     number: "5000",
     extract: VILLAGE,
     input: b"state\ndrive w201.0+ w201.1+ w202.0+\nreach 101 104\n\
@@ -199,6 +216,7 @@ fn sessions_answer(rt: HostRuntime) -> Result<(), Fail> {
     let sessions = [
         STREET_FOLLOWED,
         FORK,
+        FORK_STRAIGHT,
         REFUSED_FRAMES,
         UNFINISHED,
         VILLAGE_FOLLOWED,
@@ -268,99 +286,5 @@ fn a_session_keeps_what_apply_keeps(rt: HostRuntime) -> Result<(), Fail> {
     let applied = changed(rt.alloc(), &["town", "apply", "5"], b"n2 v1 x0.001 y0\n")?;
     let kept = changed(rt.alloc(), SESSION, b"#seq 5\nn2 v1 x0.001 y0\n#end\n")?;
     assert_eq!(rt; kept.as_slice(), applied.as_slice());
-    Ok(())
-}
-
-/// A session that adds a node to a store under the number 12.
-const NODE_ADDED: &[u8] = b"#seq 13\nn1 v2 x0 y0\n#end\nstate\n";
-
-const NODE_ADDED_REPLIES: &[u8] =
-    b"applied 13\nstate sequence 13 ways 0 pieces 0 contexts 0 arcs 0\n";
-
-const KEPT_12: &[u8] = b"sequence 0 kept 12\n";
-
-const KEPT_13: &[u8] = b"sequence 0 kept 13\n";
-
-/// The files of a site on a new one, which has put nothing, and whose calls with these numbers fail.
-fn anew(alloc: Global, site: &MemorySite, fails: &[u64]) -> Result<MemorySite, NoMemory> {
-    let a = site.file(Which::A).to_vec(alloc)?;
-    let b = site.file(Which::B).to_vec(alloc)?;
-    Ok(MemorySite::new(alloc, a, b, fails.to_vec(alloc)?))
-}
-
-/// The store of an empty extract under the number 12.
-fn empty_store(alloc: Global) -> Result<MemorySite, NoMemory> {
-    let mut site = empty_site(alloc);
-    run_on(alloc, &["town", "create", "12"], b"", &mut site)?;
-    Ok(site)
-}
-
-/// What a run says that asks for no change of the store on these files, and so says which number it keeps.
-fn kept(alloc: Global, site: &MemorySite) -> Result<Vec<u8>, NoMemory> {
-    let mut after = anew(alloc, site, &[])?;
-    run_on(alloc, &["town", "apply", "0"], b"", &mut after)?;
-    Ok(after.output().to_vec(alloc)?)
-}
-
-/// Whether the store may keep this where the session put this: a change that was said to be applied is kept.
-fn is_kept(output: &[u8], kept: &[u8]) -> bool {
-    kept == KEPT_13 || kept == KEPT_12 && !output.starts_with(b"applied 13\n")
-}
-
-/// How many calls the session with the change makes of its site, where none fails.
-fn calls_of(rt: &impl Abort, alloc: Global, store: &MemorySite) -> Result<u64, NoMemory> {
-    let mut site = anew(alloc, store, &[])?;
-    let status = run_on(alloc, SESSION, NODE_ADDED, &mut site)?;
-    assert_eq!(rt; status, Status::Done);
-    assert_eq!(rt; site.output(), NODE_ADDED_REPLIES);
-    Ok(site.calls().len() as u64)
-}
-
-/// The session whose call with this number fails.
-fn check_call(rt: &impl Abort, alloc: Global, store: &MemorySite, n: u64) -> Result<(), NoMemory> {
-    let mut site = anew(alloc, store, &[n])?;
-    let status = run_on(alloc, SESSION, NODE_ADDED, &mut site)?;
-    assert_eq!(rt; status, Status::SiteFault);
-    let kept = kept(alloc, &site)?;
-    assert!(rt; is_kept(site.output(), &kept));
-    Ok(())
-}
-
-/// A fault at any call ends a session, and the store keeps each change that the output names.
-#[test]
-fn a_failing_call_ends_a_session(rt: HostRuntime) -> Result<(), Fail> {
-    let store = empty_store(rt.alloc())?;
-    let calls = calls_of(&rt, rt.alloc(), &store)?;
-    assert!(rt; calls >= 10);
-    for n in 0..calls {
-        check_call(&rt, rt.alloc(), &store, n)?;
-    }
-    Ok(())
-}
-
-/// The session whose read with this number fails: what it puts, and what the store says of its number.
-fn check_read(
-    rt: &impl Abort,
-    alloc: Global,
-    store: &MemorySite,
-    n: u64,
-    output: &[u8],
-    number: &[u8],
-) -> Result<(), NoMemory> {
-    let mut site = anew(alloc, store, &[])?;
-    let status = ended::<Brand>(alloc, SESSION, NODE_ADDED, &[n], &mut site, Blank::new(1))?;
-    assert_eq!(rt; status, Status::ReadFault);
-    assert_eq!(rt; site.output(), output);
-    let kept = kept(alloc, &site)?;
-    assert_eq!(rt; kept.as_slice(), number);
-    Ok(())
-}
-
-/// What was read before a read that fails is answered, and kept.
-#[test]
-fn a_failing_read_ends_a_session(rt: HostRuntime) -> Result<(), Fail> {
-    let store = empty_store(rt.alloc())?;
-    check_read(&rt, rt.alloc(), &store, 0, b"", KEPT_12)?;
-    check_read(&rt, rt.alloc(), &store, 1, NODE_ADDED_REPLIES, KEPT_13)?;
     Ok(())
 }

@@ -14,24 +14,24 @@ use std::test::Fail;
 
 /// File A of a store that was made under the number 5 of an empty extract: gate, magic, profile, generation, number,
 /// length, no events, and the next gate.
-const MADE: &[u8] = b"\x01OSMJRNL1\x01\0\0\0\x01\0\0\0\0\0\0\0\x05\0\0\0\0\0\0\0\
+pub const MADE: &[u8] = b"\x01OSMJRNL1\x01\0\0\0\x01\0\0\0\0\0\0\0\x05\0\0\0\0\0\0\0\
     \x08\0\0\0\0\0\0\0\0\0\0\0\0\0\0\0\0";
 
 /// What `apply 6` of an empty change writes behind the gate of `MADE`.
-const RECORD: &[u8] = b"\x06\0\0\0\0\0\0\0\x08\0\0\0\0\0\0\0\0\0\0\0\0\0\0\0\0";
+pub const RECORD: &[u8] = b"\x06\0\0\0\0\0\0\0\x08\0\0\0\0\0\0\0\0\0\0\0\0\0\0\0\0";
 
 /// What a run on a store is given, and what is expected of it.
 #[derive(Clone, Copy)]
-struct Case<'a> {
-    words: &'a [&'a str],
-    input: &'a [u8],
+pub struct Case<'a> {
+    pub words: &'a [&'a str],
+    pub input: &'a [u8],
     /// File A and file B before the run, each in parts.
-    a: &'a [&'a [u8]],
-    b: &'a [&'a [u8]],
-    status: Status,
-    output: &'a [u8],
+    pub a: &'a [&'a [u8]],
+    pub b: &'a [&'a [u8]],
+    pub status: Status,
+    pub output: &'a [u8],
     /// File A after the run, in parts.
-    after: &'a [&'a [u8]],
+    pub after: &'a [&'a [u8]],
 }
 
 /// How a run ended, and its site.
@@ -71,7 +71,7 @@ fn ended<L: Ledger>(
 }
 
 /// Runs the case, with faults at the calls with these numbers, and compares what is expected of it.
-fn check(rt: &impl Abort, alloc: Global, case: &Case, fails: &[u64]) -> Result<(), NoMemory> {
+pub fn check(rt: &impl Abort, alloc: Global, case: &Case, fails: &[u64]) -> Result<(), NoMemory> {
     let ended = ended::<Brand>(alloc, case, fails, Blank::new(1))?;
     assert_eq!(rt; ended.status, case.status);
     assert_eq!(rt; ended.site.output(), case.output);
@@ -103,7 +103,7 @@ const APPLIES: Case = Case {
 };
 
 /// `MADE` without its last gate.
-const SPELLED: &[u8] = b"\x01OSMJRNL1\x01\0\0\0\x01\0\0\0\0\0\0\0\x05\0\0\0\0\0\0\0\
+pub const SPELLED: &[u8] = b"\x01OSMJRNL1\x01\0\0\0\x01\0\0\0\0\0\0\0\x05\0\0\0\0\0\0\0\
     \x08\0\0\0\0\0\0\0\0\0\0\0\0\0\0\0";
 
 /// `graph` of that store with the change.
@@ -180,13 +180,13 @@ const fn refuses<'a>(
 
 const CREATE: &[&str] = &["town", "create", "5"];
 
-const APPLY: &[&str] = &["town", "apply", "6"];
+pub const APPLY: &[&str] = &["town", "apply", "6"];
 
 const GRAPH: &[&str] = &["town", "graph"];
 
 const AUDIT: &[&str] = &["town", "audit"];
 
-const CHECKPOINT: &[&str] = &["town", "checkpoint"];
+pub const CHECKPOINT: &[&str] = &["town", "checkpoint"];
 
 /// File B after a checkpoint of that store with the change: generation 2, number 6.
 const REBASED: &[u8] = b"\x01OSMJRNL1\x01\0\0\0\x02\0\0\0\0\0\0\0\x06\0\0\0\0\0\0\0\
@@ -434,54 +434,6 @@ fn adds_the_record(calls: &[Entry]) -> bool {
 fn a_change_is_written_behind_its_gate(rt: HostRuntime) -> Result<(), Fail> {
     let applied = ended::<Brand>(rt.alloc(), &APPLIES, &[], Blank::new(1))?;
     assert!(rt; adds_the_record(applied.site.calls()));
-    Ok(())
-}
-
-/// What stops in `apply 6` leave behind `SPELLED`, the number that the store then keeps, and the file once it is
-/// loaded.
-type Stop = (
-    &'static [&'static [u8]],
-    &'static [u8],
-    &'static [&'static [u8]],
-);
-
-const STOPS: [Stop; 9] = [
-    // Nothing was written, or the write of the record has begun: any bytes, also further ones than were written.
-    (&[SPELLED, b"\0"], KEPT_5, &[MADE]),
-    (&[SPELLED, b"\0", b"\x06\0\0"], KEPT_5, &[MADE]),
-    (&[SPELLED, b"\0", b"\xff\xff\xff\xff\xff"], KEPT_5, &[MADE]),
-    (&[SPELLED, b"\0", RECORD], KEPT_5, &[MADE]),
-    // The gate was written.
-    (&[SPELLED, b"\x07", RECORD], KEPT_5, &[MADE]),
-    (
-        &[SPELLED, b"\x01", RECORD],
-        KEPT_6,
-        &[SPELLED, b"\x01", RECORD],
-    ),
-    // A stop while the store is loaded: it is cut at the gate, or the gate isn't there yet.
-    (&[SPELLED], KEPT_5, &[MADE]),
-    (&[SPELLED, b"\x01"], KEPT_5, &[MADE]),
-    (&[SPELLED, b"\x07"], KEPT_5, &[MADE]),
-];
-
-const KEPT_5: &[u8] = b"sequence 0 kept 5\n";
-
-const KEPT_6: &[u8] = b"sequence 0 kept 6\n";
-
-#[test]
-fn stops_leave_a_change_or_none(rt: HostRuntime) -> Result<(), Fail> {
-    for (a, output, after) in STOPS.iter() {
-        let case = Case {
-            words: &["town", "apply", "0"],
-            input: b"",
-            a,
-            b: &[],
-            status: Status::OutOfSequence,
-            output,
-            after,
-        };
-        check(&rt, rt.alloc(), &case, &[])?;
-    }
     Ok(())
 }
 
