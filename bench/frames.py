@@ -179,7 +179,7 @@ def main():
     session.wait()
     anew = subprocess.run([program, store, 'graph'], stdout=subprocess.PIPE, check=True).stdout
     if graph != anew:
-        sys.exit(f'the graph of {len(graph)} bytes that was followed is not the one of {len(anew)} bytes that is compiled')
+        sys.exit(f'the graph that was followed, of {len(graph)} bytes, is not the one that is compiled, of {len(anew)}')
     os.write(1, f'  {kind:8} the graph that was followed is the one that is compiled: {len(anew)} bytes\n'.encode())
 
 

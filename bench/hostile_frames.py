@@ -1,8 +1,8 @@
 #!/usr/bin/env python3
 """Sends hostile frames to sessions, and prints how long each takes by the clock beside what `- compile` of the same map
-takes: a node of 10,000 ways that is deleted; a restriction of 65,535 members that comes, and goes; a change that touches
-every way; one object two thousand times; a hundred thousand nodes moved. Behind each the graph that was followed is
-compared with the one that is compiled. Use: hostile_frames.py PROGRAM FOLDER; bench/frames.sh calls it.
+takes: a node of 10,000 ways that is deleted; a restriction of 65,535 members that comes, and goes; a change that
+touches every way; one object two thousand times; a hundred thousand nodes moved. Behind each the graph that was
+followed is compared with the one that is compiled. Use: hostile_frames.py PROGRAM FOLDER; bench/frames.sh calls it.
 """
 import os
 import subprocess

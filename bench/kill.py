@@ -1,8 +1,8 @@
 #!/usr/bin/env python3
 """Ends sessions at random moments, always on the same store, and looks at the store after each: it loads, it keeps no
-number below the last `applied` that was read and none above the last frame that was sent whole, and its graph is the one
-that `- compile` makes of the objects that those changes leave. Use: kill.py PROGRAM STORE EXTRACT TIMES; bench/kill.sh
-calls it.
+number below the last `applied` that was read and none above the last frame that was sent whole, and its graph is the
+one that `- compile` makes of the objects that those changes leave. Use: kill.py PROGRAM STORE EXTRACT TIMES;
+bench/kill.sh calls it.
 """
 import random
 import re

@@ -52,7 +52,10 @@ fi
 "$program" "$room/pipe" create 1 <"$here/../examples/village/extract.opl" >/dev/null
 frames 2 2000 20 >"$room/input"
 ("$program" "$room/pipe" session <"$room/input"; echo $? >"$room/status") 2>/dev/null | head -n 5 >"$room/replies"
-case $(cat "$room/status") in 3 | 141) ;; *) fail "a closed pipe ends a session with status $(cat "$room/status")" ;; esac
+case $(cat "$room/status") in
+    3 | 141) ;;
+    *) fail "a closed pipe ends a session with status $(cat "$room/status")" ;;
+esac
 stands "a closed pipe" "$room/pipe" "$room/replies"
 
 "$program" "$room/memory" create 1 <"$here/../examples/village/extract.opl" >/dev/null

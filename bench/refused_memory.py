@@ -1,7 +1,6 @@
 #!/usr/bin/env python3
 """Refuses each allocation of a run in turn, and looks at how the run ends and at what it leaves. Use:
-refused_memory.py PROGRAM SHIM FOLDER TOWN.opl VILLAGE.opl; bench/refused_memory.sh calls it. SHIM is refuse_memory.c,
-built.
+refused_memory.py PROGRAM SHIM FOLDER TOWN.opl VILLAGE.opl; bench/refused_memory.sh builds SHIM and calls it.
 
 A run ends as it does where nothing is refused, with all its output; or with status 10, or with 3 where a write found no
 memory, and with the replies until then. Then the store loads, keeps no number below the last one that was told and at
