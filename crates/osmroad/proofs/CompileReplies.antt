@@ -18,7 +18,8 @@ use Rattle.osmroad.specs.Compiled.{IsGraphOf}
 use Rattle.osmroad.specs.Texts.{limit_line, refused_line}
 use Rattle.osmroad.specs.Outcomes.{InputRefusal, CompileGives}
 use Rattle.osmroad.specs.Replies.{RefusesInput, WillPut, IsPrepared, Prepares}
-use Rattle.osmroad.proofs.HeldSource.{behind_of, all_read}
+use Rattle.session.proofs.HeldSource.{behind_of}
+use Rattle.osmroad.proofs.HeldSource.{all_read}
 use Rattle.osmroad.proofs.PassedLimits.{still_passes}
 use Rattle.osmroad.proofs.Replied.{replied}
 use Rattle.osmroad.proofs.Prepared.{by_failure, prepares, prepares_whole}
