@@ -1,17 +1,33 @@
 //! What is said of the ways whose blocks a change doesn't alter.
-ghost use Rattle.std.specs.Prelude.{◌↔◌};
+ghost use Rattle.std.specs.Prelude.{◌≡◌, ◌↔◌};
 ghost use Rattle.road_base.specs.declared.ids.WayId.{WayId};
 ghost use Rattle.road_base.specs.Objects.{Objects};
 ghost use Rattle.road_model.specs.declared.blocks.Block.{Block};
 ghost use Rattle.road_model.specs.Blocks.{IsBlock};
-ghost use Rattle.touched_ways.specs.Altering.{IsUnaltered};
+ghost use Rattle.road_model.specs.Local.{IsSameWithin};
+ghost use Rattle.touched_ways.specs.Altering.{HasSamePieces, IsFar, IsUnaltered, listed_pieces};
 
 use road_model::Profile;
 
-/// Where nothing differs within four links of a way, and no restriction names it, its block is the same before and
-/// after a change, also where the change touches it.
+/// Where nothing differs within two links of a way, no restriction names it, and the ways that share a node with it
+/// have the same pieces, its block is the same before and after a change, also where the change touches it.
 pub fn unaltered_blocks_stay<P: Profile>(profile: &P)
     ensures { (M N : Objects) (w : WayId) (b : Block)
-        → IsUnaltered M N w
+        → IsUnaltered M N (P.rules profile.now) w
         → IsBlock M (P.rules profile.now) w b ↔ IsBlock N (P.rules profile.now) w b }
+{}
+
+/// Where nothing differs within two links of a way, or a change doesn't touch it, its pieces are the same before and
+/// after.
+pub fn far_pieces_stay<P: Profile>(profile: &P)
+    ensures { (M N : Objects) (w : WayId) → IsFar M N w → HasSamePieces M N (P.rules profile.now) w }
+{}
+
+/// Where a way's blocks before and after list the same pieces, by names and ends, its pieces are the same.
+pub fn listed_pieces_stay<P: Profile>(profile: &P)
+    ensures { (M N : Objects) (w : WayId) (b c : Block)
+        → IsBlock M (P.rules profile.now) w b
+        → IsBlock N (P.rules profile.now) w c
+        → listed_pieces b ≡ listed_pieces c
+        → HasSamePieces M N (P.rules profile.now) w }
 {}

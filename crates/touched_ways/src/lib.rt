@@ -20,6 +20,6 @@ mod rounds;
 mod search;
 mod seen;
 
-pub use altering::altered;
+pub use altering::{TouchedWays, meeting, part};
 pub use merging::merge;
 pub use rounds::{NearWays, reached, surroundings};

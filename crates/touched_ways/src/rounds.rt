@@ -19,10 +19,10 @@ use std::collections::BTreeSet;
 /// How many links lead to a way at most.
 const LINKS: u32 = 6;
 
-/// How many links lead at most to a way whose block a change may alter though no restriction names the way.
-const FEW_LINKS: u32 = 4;
+/// How many links lead at most to a way whose pieces a change may alter.
+const FEW_LINKS: u32 = 2;
 
-/// The ways near some keys, visible or not, ascending: those within four links of one of them, and those within six. A
+/// The ways near some keys, visible or not, ascending: those within two links of one of them, and those within six. A
 /// way is within zero links of itself.
 #[derive(Drop)]
 pub struct NearWays {
@@ -38,13 +38,13 @@ pub fn reached<M: World>(alloc: Global, world: &M, changed: &Keys) -> Result<Way
     Ok(found.all)
 }
 
-/// The ways within four and those within six links of the keys, in one search.
+/// The ways within two and those within six links of the keys, in one search.
 pub fn surroundings<M: World>(
     alloc: Global,
     world: &M,
     changed: &Keys,
 ) -> Result<NearWays, NoMemory>
-    ensures near { IfOk result (λ s. AreWithin 4 (M.objects world.now) changed.now s.near) }
+    ensures near { IfOk result (λ s. AreWithin 2 (M.objects world.now) changed.now s.near) }
     ensures all { IfOk result (λ s. AreReached (M.objects world.now) changed.now s.all) }
 {
     let mut search = first_round(alloc, changed.items())?;
@@ -123,7 +123,7 @@ fn follow_nodes<M: World>(
 }
 
 /// Finds what is linked to one of the ways.
-fn follow_ways<M: World>(world: &M, ways: &[WayId], found: &mut Found) -> Result<(), NoMemory>
+pub fn follow_ways<M: World>(world: &M, ways: &[WayId], found: &mut Found) -> Result<(), NoMemory>
     ensures { OnOk result (Finds found.old found.new
         (GivenBy (λ w. IsLink (M.objects world.now) (WayKey w)) ways.now)) }
 {
@@ -149,7 +149,7 @@ fn follow_rules<M: World>(
 }
 
 /// Finds the ways that are linked to one of the nodes.
-fn find_ways_of_nodes<M: World>(
+pub fn find_ways_of_nodes<M: World>(
     alloc: Global,
     world: &M,
     nodes: &[NodeId],
