@@ -49,8 +49,8 @@ IsUnaltered M N P w =
 
 -- The touched ways in two parts: those that are near what the change changes or that a restriction names, and the
 -- others.
-pub record AreParted (M N : Objects) (touched near far : List WayId) : Type 0 where
-  pub count : length near + length far ≡ length touched
-  pub touched : AreTouched M N touched
+pub record AreParted (M N : Objects) (all near away : List WayId) : Type 0 where
+  pub count : length near + length away ≡ length all
+  pub touched : AreTouched M N all
   pub far : (w : WayId) → (Contains near w → ⊥) → IsFar M N w
-  pub others : (w : WayId) → (Contains near w → ⊥) → (Contains far w → ⊥) → IsTouched M N w → ⊥
+  pub others : (w : WayId) → (Contains near w → ⊥) → (Contains away w → ⊥) → IsTouched M N w → ⊥
