@@ -11,7 +11,7 @@ returns-clause-near g c =
     let first = subst (λ (l : List Key). IsRound M l 0 c.in_ok-search.search) c.items.ensures
     (c.in_ok-search.ensures M) in
     let near = c.in_ok-rounds.ensures keys 0 first in
-    ways_within M keys 4 c.rounds.new.search c.in_ok-near.near near c.in_ok-near.ensures
+    ways_within M keys 2 c.rounds.new.search c.in_ok-near.near near c.in_ok-near.ensures
 
 pub returns-clause-all : goal.returns-clause-all
 returns-clause-all g c =
@@ -20,4 +20,4 @@ returns-clause-all g c =
     let first = subst (λ (l : List Key). IsRound M l 0 c.in_ok-search.search) c.items.ensures
     (c.in_ok-search.ensures M) in
     let near = c.in_ok-rounds.ensures keys 0 first in
-    let far = c.in_ok-rounds-2.ensures keys 4 near in c.in_ok-all.ensures keys far
+    let far = c.in_ok-rounds-2.ensures keys 2 near in c.in_ok-all.ensures keys far
