@@ -1,7 +1,7 @@
 -- Ways near what a change changes, and those whose blocks it may alter.
-use Rattle.std.proofs.Common.{◌≡◌, ◌↔◌, ℕ, ◌+◌, ◌≤◌, ◌⊎◌, inl, inr, Bool, true, false, not, IsTrue, IsFalse}
+use Rattle.std.proofs.Common.{◌≡◌, ◌↔◌, ℕ, ◌+◌, ◌⊎◌, inl, inr, Bool, true, false, not, IsTrue, IsFalse}
 use Rattle.std.proofs.Common.{List, [], ◌∷◌, ◌++◌, ◌==◌, length, map, refl, sym, ap, ◌∙◌, subst, arith, Contains}
-use Rattle.std.proofs.Common.{Result, Ok, Err, is_ok, length-append, eqb-true}
+use Rattle.std.proofs.Common.{Result, Ok, Err, is_ok, eqb-true}
 use Rattle.std.specs.declared.cmp.Ordering.TheVariants.{Less, Greater}
 use Rattle.std.specs.Cmp.{IsTotalOrder}
 use Rattle.std.specs.FinMap.{IsAntisymmetric}
@@ -10,23 +10,23 @@ use Rattle.std.specs.List.Sorted.{IsSearchInRange, IsBinarySearchResult}
 use Rattle.std.proofs.lemmas.Bool.{cases_lt, false≢true}
 use Rattle.std.proofs.lemmas.Cmp.{tied_itself}
 use Rattle.std.proofs.lemmas.List.{nil_from_length}
-use Rattle.std.proofs.lemmas.List.Elements.{Contains-append_left}
 use Rattle.road_base.specs.declared.ids.WayId.{WayId}
 use Rattle.road_base.specs.declared.ids.RelationId.{RelationId}
 use Rattle.road_base.specs.declared.ids.Key.{Key}
 use Rattle.road_base.specs.declared.ids.Key.TheVariants.{Way as WayKey}
 use Rattle.road_base.specs.Objects.{Objects}
-use Rattle.road_base.proofs.ListMembers.{In, in_from_contains, contains_from_in, in_end, contains_more, contains_none}
-use Rattle.road_model.specs.Links.{HasMember, AreChanged, AreTouched}
+use Rattle.road_base.proofs.ListMembers.{In, in_from_contains, contains_from_in, contains_none}
+use Rattle.road_model.specs.Links.{HasMember, IsTouched, AreChanged, AreTouched}
+use Rattle.road_model.specs.Local.{IsSameWithin}
 use Rattle.road_model.specs.Orders.{Lists, rises, way_cmp, relation_cmp}
 use Rattle.road_model.proofs.JoinedLists.{lists_same}
 use Rattle.road_model.proofs.SortedMaps.{search_below, search_behind}
 use Rattle.road_model.proofs.Decided.{Decided, some_in}
 use Rattle.road_model.proofs.Positions.{decided_way}
 use Rattle.touched_ways.specs.declared.search.Search.{Search}
-use Rattle.touched_ways.specs.Altering.{AreWithin, IsUnrestricted, IsUnaltered}
+use Rattle.touched_ways.specs.Altering.{AreParted, AreWithin, IsFar, IsUnrestricted}
 use Rattle.touched_ways.specs.Searches.{IsWithinAny, IsRound}
-use Rattle.touched_ways.proofs.WayLists.{same}
+use Rattle.touched_ways.proofs.WayLists.{same, one_longer, was_or_last, still_has, last_has}
 
 -- ---- the ways that a search has seen
 
@@ -90,79 +90,95 @@ module _ (M : Objects) (w : WayId) (rules : List RelationId)
   unrestricted true same some = none_listed (nil_from_length rules (eqb-true _ _ (sym same)))
   unrestricted false same some = absurd (false≢true (sym some))
 
--- ---- ways kept of a list, and ways left out
+-- ---- the parts of a list
 
 -- the way is near nothing that a change changes, and no restriction names it
 abbrev pub IsLeftOut : Objects → List WayId → List WayId → WayId → Type 0
 IsLeftOut N before after w = (Contains before w → ⊥) × (Contains after w → ⊥) × IsUnrestricted N w
 
--- each way of the list was kept or left out
-pub record AreKept (N : Objects) (before after list ways : List WayId) : Type 0 where
-  pub few : length ways ≤ length list
-  pub others : (w : WayId) → Contains list w → Contains ways w ⊎ IsLeftOut N before after w
+-- each way of the list is in one of two others, and was left out if it isn't in the first
+pub record AreInTwo (N : Objects) (before after list near far : List WayId) : Type 0 where
+  pub count : length near + length far ≡ length list
+  pub either : (w : WayId) → Contains list w → Contains near w ⊎ (Contains far w × IsLeftOut N before after w)
 
 module _ (N : Objects) (before after : List WayId) where
-  -- of no ways none was kept
-  pub kept_none : (ways : List WayId) → ways ≡ [] → AreKept N before after [] ways
-  kept_none ways empty = let none : length ways ≡ 0 = ap length empty in record {
-    few = omega arith;
-    others = λ w has. absurd (contains_none w has);
+  -- no ways have no parts
+  pub parted_none : (near far : List WayId) → near ≡ [] → far ≡ [] → AreInTwo N before after [] near far
+  parted_none near far no_near no_far = record {
+    count = cc (ap length no_near, ap length no_far);
+    either = λ w has. absurd (contains_none w has);
   }
 
-  module _ (list more ways : List WayId) (way : WayId) (longer : more ≡ list ++ way ∷ [])
-      (are : AreKept N before after list ways) where
-    -- the list has one way more, its last
-    length_more : length more ≡ length list + 1
-    length_more = ap length longer ∙ length-append list (way ∷ [])
-
-    was_or_last : (w : WayId) → Contains more w → Contains list w ⊎ (w ≡ way)
-    was_or_last w has = contains_more list way w (subst (λ l. Contains l w) longer has)
-
-    -- one way more was kept
-    pub kept_more : (next : List WayId) → next ≡ ways ++ way ∷ [] → AreKept N before after more next
-    kept_more next pushed = record { few = few; others = others }
+  module _ (list more near far : List WayId) (way : WayId) (longer : more ≡ list ++ way ∷ [])
+      (are : AreInTwo N before after list near far) where
+    -- the last way goes into the first part
+    pub parted_near : (pushed next others : List WayId) → pushed ≡ near ++ way ∷ [] → next ≡ pushed → others ≡ far
+        → AreInTwo N before after more next others
+    parted_near pushed next others last_in same alike =
+        subst (λ l. AreInTwo N before after more next l) (sym alike)
+        (subst (λ l. AreInTwo N before after more l far) (sym same) (record { count = count; either = either }))
       where
-        few : length next ≤ length more
-        few = let grown : length next ≡ length ways + 1 = ap length pushed ∙ length-append ways (way ∷ []) in
-            let so_far = are.few in omega (arith, length_more)
+        count : length pushed + length far ≡ length more
+        count = let so_far = are.count in
+            omega (arith, one_longer list more way longer, one_longer near pushed way last_in)
 
-        has_next : (w : WayId) → Contains (ways ++ way ∷ []) w → Contains next w
-        has_next w has = subst (λ l. Contains l w) (sym pushed) has
-
-        others : (w : WayId) → Contains more w → Contains next w ⊎ IsLeftOut N before after w
-        others w has = elim (was_or_last w has) [
-          | inl earlier ↦ elim (are.others w earlier) [
-            | inl kept ↦ inl (has_next w (Contains-append_left ways (way ∷ []) w kept))
-            | inr out ↦ inr out
-          ]
-          | inr last ↦ inl (has_next w (subst (Contains (ways ++ way ∷ [])) (sym last)
-              (contains_from_in (ways ++ way ∷ []) way (in_end ways way []))))
+        either : (w : WayId) → Contains more w → Contains pushed w ⊎ (Contains far w × IsLeftOut N before after w)
+        either w has = elim (was_or_last list more way longer w has) [
+          | inl earlier ↦ elim (are.either w earlier)
+              [ inl is ↦ inl (still_has near pushed way last_in w is) | inr out ↦ inr out ]
+          | inr last ↦ inl (last_has near pushed way last_in w last)
         ]
 
-    -- one way more was left out
-    pub kept_same : IsLeftOut N before after way → AreKept N before after more ways
-    kept_same out = record {
-      few = let so_far = are.few in omega (arith, length_more);
-      others = λ w has. elim (was_or_last w has) [
-        | inl earlier ↦ are.others w earlier
-        | inr last ↦ inr (subst (IsLeftOut N before after) (sym last) out)
-      ];
+    -- the last way, left out, goes into the second
+    pub parted_far : IsLeftOut N before after way → (pushed next others : List WayId) → pushed ≡ far ++ way ∷ []
+        → next ≡ pushed → others ≡ near → AreInTwo N before after more others next
+    parted_far out pushed next others last_in same alike =
+        subst (λ l. AreInTwo N before after more l next) (sym alike)
+        (subst (λ l. AreInTwo N before after more near l) (sym same) (record { count = count; either = either }))
+      where
+        count : length near + length pushed ≡ length more
+        count = let so_far = are.count in
+            omega (arith, one_longer list more way longer, one_longer far pushed way last_in)
+
+        either : (w : WayId) → Contains more w → Contains near w ⊎ (Contains pushed w × IsLeftOut N before after w)
+        either w has = elim (was_or_last list more way longer w has) [
+          | inl earlier ↦ elim (are.either w earlier)
+              [ inl is ↦ inl is | inr other ↦ inr (still_has far pushed way last_in w other.0, other.1) ]
+          | inr last ↦
+              inr (last_has far pushed way last_in w last, subst (IsLeftOut N before after) (sym last) out)
+        ]
+
+  -- the ways that a change touches, in two parts
+  module _ (M : Objects) (keys : List Key) (all near away : List WayId) (are : AreInTwo N before after all near away)
+      (changed : AreChanged M N keys) (was : AreWithin 2 M keys before) (is : AreWithin 2 N keys after)
+      (touched : AreTouched M N all) where
+    -- a way that was left out is far from what the change changes
+    same_within : (w : WayId) → IsLeftOut N before after w → IsSameWithin 2 M N w
+    same_within w out (k, differs, near_by) = elim near_by [
+      | inl here ↦ out.0 (was.complete w (k, changed.complete k differs, here))
+      | inr there ↦ out.1 (is.complete w (k, changed.complete k differs, there))
+    ]
+
+    far_by : (w : WayId) → (Contains near w → ⊥) → Decided (Contains all w) → IsFar M N w
+    far_by w not (inl has) = elim (are.either w has) [
+      | inl here ↦ absurd (not here)
+      | inr other ↦ inr (same_within w other.1, other.1.2)
+    ]
+    far_by w not (inr none) = inl (λ touches. none (touched.complete w touches))
+
+    either_touched : (w : WayId) → (Contains near w → ⊥) → (Contains away w → ⊥) → IsTouched M N w → ⊥
+    either_touched w not none touches = elim (are.either w (touched.complete w touches))
+        [ inl here ↦ not here | inr other ↦ none other.0 ]
+
+    parted : AreParted M N all near away
+    parted = record {
+      count = are.count;
+      touched = touched;
+      far = λ w not. far_by w not (listed all w);
+      others = λ w not none. either_touched w not none;
     }
 
-  -- of the ways that a change touches, those left out are far from what it changes
-  pub others_unaltered : (M : Objects) (keys : List Key) (touched ways : List WayId) (w : WayId)
-      → AreKept N before after touched ways → AreChanged M N keys → AreWithin 4 M keys before
-      → AreWithin 4 N keys after → AreTouched M N touched → (Contains ways w → ⊥) → IsUnaltered M N w
-  others_unaltered M keys touched ways w are changed these those all not = elim (listed touched w) [
-    | inl has ↦ elim (are.others w has) [
-      | inl kept ↦ absurd (not kept)
-      | inr out ↦ inr (
-        λ far. elim far.2 [
-          | inl near ↦ out.0 (these.complete w (far.0, changed.complete far.0 far.1, near))
-          | inr near ↦ out.1 (those.complete w (far.0, changed.complete far.0 far.1, near))
-        ],
-        out.2,
-      )
-    ]
-    | inr out ↦ inl (λ touches. out (all.complete w touches))
-  ]
+    -- in lists made of them
+    pub parted_as : (these those : List WayId) → these ≡ near → those ≡ away → AreParted M N all these those
+    parted_as these those same alike = subst (λ l. AreParted M N all l those) (sym same)
+        (subst (λ l. AreParted M N all near l) (sym alike) parted)

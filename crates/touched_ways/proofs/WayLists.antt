@@ -1,9 +1,11 @@
 -- Ways in order.
-use Rattle.std.proofs.Common.{◌≡◌, ◌↔◌, ◌⊎◌, inl, inr, IsTrue, List, [], ◌∷◌, map, refl}
-use Rattle.std.proofs.Common.{sym, ap, subst, Contains}
+use Rattle.std.proofs.Common.{◌≡◌, ◌↔◌, ◌+◌, ◌⊎◌, inl, inr, IsTrue, List, [], ◌∷◌, ◌++◌, length, map, refl}
+use Rattle.std.proofs.Common.{sym, ap, ◌∙◌, subst, Contains, length-append}
+use Rattle.std.proofs.lemmas.List.Elements.{Contains-append_left}
 use Rattle.road_base.specs.declared.ids.WayId.{WayId}
 use Rattle.road_base.specs.declared.ids.Key.{Key}
 use Rattle.road_base.specs.Objects.{Objects}
+use Rattle.road_base.proofs.ListMembers.{contains_from_in, in_end, contains_more}
 use Rattle.road_model.specs.Orders.{Lists, rises, way_cmp}
 use Rattle.road_model.specs.Links.{AreChanged, AreReached, AreTouched}
 use Rattle.road_model.proofs.JoinedLists.{lists_same}
@@ -12,6 +14,22 @@ use Rattle.touched_ways.proofs.NumberLists.{AreAdded}
 pub same : (ws : List WayId) → map (λ w. w) ws ≡ ws
 same [] = refl
 same (w ∷ ws) = ap (λ l. w ∷ l) (same ws)
+
+-- ---- a list of ways with one more behind
+
+module _ (ways next : List WayId) (way : WayId) (pushed : next ≡ ways ++ way ∷ []) where
+  pub one_longer : length next ≡ length ways + 1
+  one_longer = ap length pushed ∙ length-append ways (way ∷ [])
+
+  pub was_or_last : (w : WayId) → Contains next w → Contains ways w ⊎ (w ≡ way)
+  was_or_last w has = contains_more ways way w (subst (λ l. Contains l w) pushed has)
+
+  pub still_has : (w : WayId) → Contains ways w → Contains next w
+  still_has w has = subst (λ l. Contains l w) (sym pushed) (Contains-append_left ways (way ∷ []) w has)
+
+  pub last_has : (w : WayId) → w ≡ way → Contains next w
+  last_has w is = subst (λ l. Contains l w) (sym pushed)
+      (subst (Contains (ways ++ way ∷ [])) (sym is) (contains_from_in (ways ++ way ∷ []) way (in_end ways way [])))
 
 -- ---- the ways of a list, and of two lists
 
