@@ -9,3 +9,4 @@ mod PlainContexts
 mod PlainArcs
 mod PlainBlocks
 mod NearLists
+mod MetWays

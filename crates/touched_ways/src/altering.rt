@@ -96,13 +96,23 @@ pub fn meeting<M: World>(
         → Contains met w) }
 {
     let found = ways_met(alloc, world, others)?;
-    let mut met = Vec::new(alloc);
+    both_of(alloc, ways, &found)
+}
+
+/// Those of the ways that were found, in their order.
+fn both_of(alloc: Global, ways: &Ways, found: &Ways) -> Result<Ways, NoMemory>
+    requires { IsTrue (rises way_cmp found.now) }
+    ensures few { IfOk result (λ both. length both ≤ length ways.now) }
+    ensures all { IfOk result
+        (λ both. (w : WayNumber) → Contains ways.now w → Contains found.now w → Contains both w) }
+{
+    let mut both = Vec::new(alloc);
     for way in ways.items() {
-        if is_among(&found, *way) {
-            met.push(*way)?;
+        if is_among(found, *way) {
+            both.push(*way)?;
         }
     }
-    Ok(Ways::from_list(met))
+    Ok(Ways::from_list(both))
 }
 
 /// The ways that share a node with one of these, ascending.
@@ -119,7 +129,8 @@ fn ways_met<M: World>(alloc: Global, world: &M, ways: &[WayId]) -> Result<Ways, 
     follow_ways(world, ways, &mut nodes)?;
     let mut found = Found::new(alloc)?;
     find_ways_of_nodes(alloc, world, nodes.nodes.as_slice(), &mut found)?;
-    let mut met = found.ways.list;
+    let ways_found = found.ways;
+    let mut met = ways_found.list;
     leave_once(&mut met);
     Ok(Ways::from_list(met))
 }

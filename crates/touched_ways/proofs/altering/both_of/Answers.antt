@@ -1,0 +1,42 @@
+use Rattle.std.proofs.Common.{◌+◌, ◌≤◌, ◌∙◌, List, length, take, take_all, sym, ap, subst, Contains}
+use Rattle.std.proofs.lemmas.List.{take_more}
+use Rattle.road_base.specs.declared.ids.WayId.{WayId}
+use Rattle.touched_ways.proofs.MetWays.{AreFoundOf, found_none, found_more, found_same}
+use Rattle.touched_ways.proofs.altering.both_of.Goals as goal
+use Rattle.touched_ways.proofs.altering.both_of.Goals.{then-is_among+in_ok-push, else-is_among}
+
+pub loop-way-init : goal.loop-way-init
+loop-way-init c = found_none c.args.found.now c.new-both.result.items c.new-both.ensures.items
+
+pub loop-way-preserved : goal.loop-way-preserved
+loop-way-preserved c =
+    let found = c.args.found.now in
+    let all = c.items-way-items.result.now in
+    let i = c.loop-way.way-index in
+    let both = c.loop-way.both.items in
+    let longer = take_more all i _ c.loop-way-test.true in
+    elim c.if-is_among.branch [
+      | then-is_among+in_ok-push w ↦
+          subst (AreFoundOf found (take (i + 1) all)) (ap (λ v. v.items) (sym w.both-is))
+          (found_more found (take i all) (take (i + 1) all) both _ longer c.loop-way.invariant w.push.new.self.items
+          w.in_ok-push.ensures.items)
+      | else-is_among w ↦
+          subst (AreFoundOf found (take (i + 1) all)) (ap (λ v. v.items) (sym w.both-is))
+          (found_same found (take i all) (take (i + 1) all) both _ longer c.loop-way.invariant
+          (λ has. let is = c.is_among.ensures.1 has in let no = w.if-is_among.false in cc))
+    ]
+
+pub returns-clause-few : goal.returns-clause-few
+returns-clause-few c =
+    let all = take_all c.loop-way.way-index c.items-way-items.result.now c.loop-way-test.false
+    ∙ c.items-way-items.ensures in
+    subst (λ (l : List WayId). length c.from_list.result ≤ length l) all
+    (subst (λ (l : List WayId). length l ≤ length (take c.loop-way.way-index c.items-way-items.result.now))
+    (sym c.from_list.ensures) c.loop-way.invariant.few)
+
+pub returns-clause-all : goal.returns-clause-all
+returns-clause-all c w own has =
+    let all = take_all c.loop-way.way-index c.items-way-items.result.now c.loop-way-test.false
+    ∙ c.items-way-items.ensures in
+    subst (λ (l : List WayId). Contains l w) (sym c.from_list.ensures)
+    (c.loop-way.invariant.all w (subst (λ (l : List WayId). Contains l w) (sym all) own) has)
