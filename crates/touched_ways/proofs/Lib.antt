@@ -4,6 +4,8 @@ mod LinkedKeys
 mod FollowedNodes
 mod LinkRounds
 mod WayLists
+mod SamePieces
+mod PlainWays
 mod PlainTurns
 mod PlainContexts
 mod PlainArcs

@@ -1,4 +1,4 @@
--- A way's block is the same where all within four links of the way is, and no restriction names it.
+-- The blocks of quiet ways are the same in both object maps.
 use Rattle.std.proofs.Common.{◌↔◌, inl, inr, List, [], ◌∷◌, ◌++◌, Ordering, sym, subst}
 use Rattle.road_base.specs.declared.ids.WayId.{WayId}
 use Rattle.road_base.specs.Objects.{Objects}
@@ -14,7 +14,8 @@ use Rattle.road_model.proofs.LocalLinks.{alike_from}
 use Rattle.road_model.proofs.LocalPieces.{NeedsHighway, piece_kept, place_kept}
 use Rattle.road_model.proofs.LocalBlocks.{same_block}
 use Rattle.touched_ways.specs.Altering.{IsUnaltered}
-use Rattle.touched_ways.proofs.PlainArcs.{IsQuiet, quiet_turned, quiet_from, two_of_four, context_kept, arc_kept}
+use Rattle.touched_ways.proofs.PlainWays.{IsQuiet, quiet_turned, quiet_from}
+use Rattle.touched_ways.proofs.PlainArcs.{context_kept, arc_kept}
 
 -- a list of what is the same
 lists_kept : {A B : Type 0} {name : A → B} {R : B → B → Ordering} {Is Was : A → Type 0} (xs : List A)
@@ -26,7 +27,7 @@ lists_kept xs to from l = record {
 }
 
 module _ (M N : Objects) (P : Rules) (needs : NeedsHighway P) where
-  arc_entry : (before : List Span) (p : Span) → IsQuiet M N p.way → IsPiece M P p → (a : TurnArc)
+  arc_entry : (before : List Span) (p : Span) → IsQuiet M N P p.way → IsPiece M P p → (a : TurnArc)
       → IsArcEntry M P (before ++ p ∷ []) a → IsArcEntry N P (before ++ p ∷ []) a
   arc_entry before p q h a e = record {
     piece = e.piece;
@@ -37,22 +38,21 @@ module _ (M N : Objects) (P : Rules) (needs : NeedsHighway P) where
   }
 
 module _ (M N : Objects) (P : Rules) (needs : NeedsHighway P) where
-  context_entry : (p : Span) → IsQuiet M N p.way → IsPiece M P p → IsPiece N P p → (e : Context)
+  context_entry : (p : Span) → IsQuiet M N P p.way → IsPiece M P p → IsPiece N P p → (e : Context)
       → IsContextEntry M P p e → IsContextEntry N P p e
   context_entry p q h k e c = record {
     before = c.before;
     context = context_kept M N P needs c.before p q h c.context;
     named = c.named;
     arcs = lists_kept e.arcs (arc_entry M N P needs c.before p q h)
-        (arc_entry N M P needs c.before p (quiet_turned M N p.way q) k) c.arcs;
+        (arc_entry N M P needs c.before p (quiet_turned M N P p.way q) k) c.arcs;
   }
 
 module _ (M N : Objects) (P : Rules) (needs : NeedsHighway P) where
-  piece_entry : (w : WayId) → IsQuiet M N w → (e : Piece) → IsPieceEntry M P w e → IsPieceEntry N P w e
+  piece_entry : (w : WayId) → IsQuiet M N P w → (e : Piece) → IsPieceEntry M P w e → IsPieceEntry N P w e
   piece_entry w quiet e p =
-      let q : IsQuiet M N p.piece.way = subst (IsQuiet M N) (sym p.of) quiet in
-      let two = two_of_four M N p.piece.way q.alike in
-      let is = piece_kept M N P needs p.piece two p.is in
+      let q : IsQuiet M N P p.piece.way = subst (IsQuiet M N P) (sym p.of) quiet in
+      let is = piece_kept M N P needs p.piece q.alike p.is in
       record {
         piece = p.piece;
         is = is;
@@ -60,23 +60,23 @@ module _ (M N : Objects) (P : Rules) (needs : NeedsHighway P) where
         named = p.named;
         end_is = p.end_is;
         count = p.count;
-        places = λ k x at. place_kept M N P needs p.piece two p.is k x (p.places k x at);
+        places = λ k x at. place_kept M N P needs p.piece q.alike p.is k x (p.places k x at);
         contexts = lists_kept e.contexts (context_entry M N P needs p.piece q p.is is)
-            (context_entry N M P needs p.piece (quiet_turned M N p.piece.way q) is p.is) p.contexts;
+            (context_entry N M P needs p.piece (quiet_turned M N P p.piece.way q) is p.is) p.contexts;
       }
 
-block_kept : (M N : Objects) (P : Rules) → NeedsHighway P → (w : WayId) → IsQuiet M N w → (b : Block)
+block_kept : (M N : Objects) (P : Rules) → NeedsHighway P → (w : WayId) → IsQuiet M N P w → (b : Block)
     → IsBlock M P w b → IsBlock N P w b
 block_kept M N P needs w q b h = record {
   way = h.way;
-  pieces = lists_kept b.pieces (piece_entry M N P needs w q) (piece_entry N M P needs w (quiet_turned M N w q))
+  pieces = lists_kept b.pieces (piece_entry M N P needs w q) (piece_entry N M P needs w (quiet_turned M N P w q))
       h.pieces;
 }
 
 -- a way that a change leaves unaltered keeps its block
-pub unaltered_block : (M N : Objects) (P : Rules) → NeedsHighway P → (w : WayId) (b : Block) → IsUnaltered M N w
+pub unaltered_block : (M N : Objects) (P : Rules) → NeedsHighway P → (w : WayId) (b : Block) → IsUnaltered M N P w
     → IsBlock M P w b ↔ IsBlock N P w b
 unaltered_block M N P needs w b (inl untouched) = same_block M N P needs w b untouched
-unaltered_block M N P needs w b (inr near) =
-    let q = quiet_from M N w (alike_from M N 4 w near.0) near.1 in
-    (block_kept M N P needs w q b, block_kept N M P needs w (quiet_turned M N w q) b)
+unaltered_block M N P needs w b (inr (near, free, meets)) =
+    let q = quiet_from M N P w (alike_from M N 2 w near) free meets in
+    (block_kept M N P needs w q b, block_kept N M P needs w (quiet_turned M N P w q) b)

@@ -28,7 +28,7 @@ behind_first p t x a b e =
 
 module _ (M : Objects) (P : Rules) (w : WayId) (free : IsUnrestricted M w) where
   -- no word has a step of the way
-  no_word : (u : List Step) → AnyWord M P u → (s : Step) → In s u → s.way ≡ w → ⊥
+  pub no_word : (u : List Step) → AnyWord M P u → (s : Step) → In s u → s.way ≡ w → ⊥
   no_word u h s i e = free h.relation (subst (λ v. HasMember M h.relation (WayKey v)) e
       (on_members M P h.relation h.only h.binding u h.word s (contains_from_in u s i)))
 
