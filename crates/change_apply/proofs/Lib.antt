@@ -2,3 +2,5 @@ pub mod BuiltBlocks
 pub mod ListedPuts
 pub mod ListedBlocks
 pub mod RebuiltBlocks
+pub mod ComparedPieces
+pub mod AlteredBlocks

@@ -20,7 +20,8 @@ use Rattle.touched_ways.specs.Altering.{IsUnaltered}
 use Rattle.change_apply.specs.Engines.{AreInForm, AreKept, IsBlockAt}
 use Rattle.change_apply.specs.Rebuilding.{with_pieces, block_at, IsBuilt, IsRebuiltWith, AreRebuilt, AreAtTheirWays}
 use Rattle.road_base.proofs.ListMembers.{contains_from_in, in_from_contains, contains_head, contains_later}
-use Rattle.road_base.proofs.ListMembers.{contains_cases, contains_none, contains_more, in_left, in_end}
+use Rattle.road_base.proofs.ListMembers.{contains_cases, contains_none, contains_more, in_left, in_right, in_cases}
+use Rattle.road_base.proofs.ListMembers.{in_end}
 
 -- ---- whether two ways are one, and whether a way is in a list
 
@@ -45,10 +46,10 @@ module _ (total : IsTotalOrder way_cmp) (ties : IsAntisymmetric way_cmp) where
   other_way : (w v : WayId) → (w ≡ v → ⊥) → eq_by_cmp way_cmp w v ≡ false
   other_way w v other = other_by w v (eq_by_cmp way_cmp w v) refl other
 
-  abbrev Listed : List WayId → WayId → Type 0
+  abbrev pub Listed : List WayId → WayId → Type 0
   Listed ways w = Contains ways w ⊎ (Contains ways w → ⊥)
 
-  listed_or_not : (ways : List WayId) (w : WayId) → Listed ways w
+  pub listed_or_not : (ways : List WayId) (w : WayId) → Listed ways w
   listed_or_not [] w = inr (contains_none w)
   listed_or_not (v ∷ ways) w = elim (same_or_not w v) [
     | inl same ↦ inl (subst (λ x. Contains (v ∷ ways) x) (sym same) (contains_head v ways))
@@ -113,6 +114,26 @@ module _ (total : IsTotalOrder way_cmp) (ties : IsAntisymmetric way_cmp) where
         stays w not = one.stays w (λ same. not (at_end ways way w same))
             ∙ all.stays w (λ has. not (in_more ways way w has))
 
+    -- some ways' blocks were built, and then those of others
+    pub both_rebuilt : (near met : List WayId) (before first after : List (WayId × Block))
+        → AreRebuilt M P near before first → AreRebuilt M P met first after → AreRebuilt M P (near ++ met) before after
+    both_rebuilt near met before first after one two = record { built = built; stays = stays }
+      where
+        built : (w : WayId) → Contains (near ++ met) w → Built w after
+        built w has = elim (listed_or_not met w) [
+          | inl second ↦ two.built w second
+          | inr not ↦ elim (in_cases near met w (in_from_contains (near ++ met) w has)) [
+            | inl i ↦ let r = one.built w (contains_from_in near w i) in (r.0, r.1, two.stays w not ∙ r.2)
+            | inr i ↦ absurd (not (contains_from_in met w i))
+          ]
+        ]
+
+        stays : (w : WayId) → (Contains (near ++ met) w → ⊥) → find way_cmp w after ≡ find way_cmp w before
+        stays w not = two.stays w (λ has. not (contains_from_in (near ++ met) w
+            (in_right near met w (in_from_contains met w has))))
+            ∙ one.stays w (λ has. not (contains_from_in (near ++ met) w
+            (in_left near met w (in_from_contains near w has))))
+
 -- ---- a block with pieces
 
 pub pieces_of : (ps : List Piece) (b c : Block) → elim ps [ [] ↦ None | p ∷ qs ↦ Some b ] ≡ Some c
@@ -127,7 +148,7 @@ some_pieces (p ∷ qs) b some = refl
 -- ---- what stands at a way
 
 -- what was built since stands there, if it has pieces
-at_built : (rebuilt : List (WayId × Block)) (listed : FinMap way_cmp Block) (w : WayId) (b : Block)
+pub at_built : (rebuilt : List (WayId × Block)) (listed : FinMap way_cmp Block) (w : WayId) (b : Block)
     → find way_cmp w rebuilt ≡ Some b → block_at rebuilt listed w ≡ with_pieces b
 at_built rebuilt listed w b found =
     ap (λ (o : Option Block). elim o [ None ↦ get listed w | Some x ↦ with_pieces x ]) found
@@ -140,8 +161,8 @@ at_other before after listed w same =
 
 module _ (M N : Objects) (P : Rules) (ways : List WayId) (before after : List (WayId × Block))
     (listed : FinMap way_cmp Block) (total : IsTotalOrder way_cmp) (ties : IsAntisymmetric way_cmp)
-    (one : OneBlock N P) (stay : (w : WayId) (b : Block) → IsUnaltered M N w → IsBlock M P w b ↔ IsBlock N P w b)
-    (others : (w : WayId) → (Contains ways w → ⊥) → IsUnaltered M N w) (rebuilt : AreRebuilt N P ways before after)
+    (one : OneBlock N P) (stay : (w : WayId) (b : Block) → IsUnaltered M N P w → IsBlock M P w b ↔ IsBlock N P w b)
+    (others : (w : WayId) → (Contains ways w → ⊥) → IsUnaltered M N P w) (rebuilt : AreRebuilt N P ways before after)
   where
     -- at a way whose block was built
     module _ (w : WayId) (b : Block) (is : IsBuilt N P w b) (found : find way_cmp w after ≡ Some b) where
@@ -168,7 +189,7 @@ module _ (M N : Objects) (P : Rules) (ways : List WayId) (before after : List (W
           subst (λ (x : Block). IsBlockForm x) r.0 form
 
     -- at any other way
-    other_block : (w : WayId) (at : Option Block) → IsUnaltered M N w → IsBlockAt M P w at → IsBlockAt N P w at
+    other_block : (w : WayId) (at : Option Block) → IsUnaltered M N P w → IsBlockAt M P w at → IsBlockAt N P w at
     other_block w at unaltered is c = (to, from)
       where
         to : at ≡ Some c → (c.way ≡ w) × IsRoadBlock N P c
@@ -205,14 +226,17 @@ module _ (M N : Objects) (P : Rules) (ways : List WayId) (before after : List (W
           | inr not ↦ kept.forms w c (sym (at_other before after listed w (rebuilt.stays w not)) ∙ e)
         ]
 
-    pub at_their_ways : AreAtTheirWays before → AreAtTheirWays after
-    at_their_ways all w c e = elim (listed_or_not total ties ways w) [
-      | inl has ↦ let r = rebuilt.built w has in
-          let got : Some r.0 ≡ Some c = sym r.2 ∙ e in
-          let same : r.0 ≡ c = cc in
-          ap (λ (x : Block). x.way) (sym same) ∙ r.1.block.way
-      | inr not ↦ all w c (sym (rebuilt.stays w not) ∙ e)
-    ]
+-- each block stands at its way, where each did before
+pub at_their_ways : (N : Objects) (P : Rules) (ways : List WayId) (before after : List (WayId × Block))
+    → IsTotalOrder way_cmp → IsAntisymmetric way_cmp → AreRebuilt N P ways before after → AreAtTheirWays before
+    → AreAtTheirWays after
+at_their_ways N P ways before after total ties rebuilt all w c e = elim (listed_or_not total ties ways w) [
+  | inl has ↦ let r = rebuilt.built w has in
+      let got : Some r.0 ≡ Some c = sym r.2 ∙ e in
+      let same : r.0 ≡ c = cc in
+      ap (λ (x : Block). x.way) (sym same) ∙ r.1.block.way
+  | inr not ↦ all w c (sym (rebuilt.stays w not) ∙ e)
+]
 
 -- ---- the blocks in one list
 

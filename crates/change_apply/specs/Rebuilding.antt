@@ -1,14 +1,17 @@
 -- Blocks that were built since the others were listed.
-use Rattle.std.specs.Prelude.{◌≡◌, List, [], ◌∷◌, Option, Some, None, Contains, IsTrue, map}
+use Rattle.std.specs.Prelude.{◌≡◌, ℕ, List, [], ◌∷◌, Option, Some, None, Contains, IsTrue, map}
 use Rattle.std.specs.List.{AllByRecursion}
 use Rattle.std.specs.FinMap.{FinMap, find, get}
 use Rattle.road_base.specs.declared.ids.WayId.{WayId}
 use Rattle.road_base.specs.Objects.{Objects}
+use Rattle.road_model.specs.declared.lists.Piece.{Piece}
+use Rattle.road_model.specs.declared.lists.PieceName.{PieceName}
 use Rattle.road_model.specs.declared.blocks.Block.{Block}
 use Rattle.road_model.specs.Rules.{Rules}
 use Rattle.road_model.specs.Orders.{way_cmp, rises}
 use Rattle.road_model.specs.Blocks.{IsBlock}
 use Rattle.road_model.specs.Format.{IsPieceForm, place_cmp}
+use Rattle.touched_ways.specs.Altering.{listed_pieces}
 
 -- the block, if it has pieces
 abbrev pub with_pieces : Block → Option Block
@@ -17,6 +20,19 @@ with_pieces b = elim b.pieces [ [] ↦ None | p ∷ ps ↦ Some b ]
 -- the block of the way: that which was built since, if one was, and else that of the list
 abbrev pub block_at : List (WayId × Block) → FinMap way_cmp Block → WayId → Option Block
 block_at rebuilt listed w = elim (find way_cmp w rebuilt) [ None ↦ get listed w | Some b ↦ with_pieces b ]
+
+-- the names and ends of pieces
+abbrev pub listed : List Piece → List (PieceName × ℕ)
+listed ps = map (λ p. (p.name, p.end)) ps
+
+-- those of the pieces of the option's block; none where there is no block
+abbrev pub pieces_in : Option Block → List (PieceName × ℕ)
+pieces_in None = []
+pieces_in (Some b) = listed_pieces b
+
+-- those of the pieces of the way
+abbrev pub pieces_at : List (WayId × Block) → FinMap way_cmp Block → WayId → List (PieceName × ℕ)
+pieces_at rebuilt listed w = pieces_in (block_at rebuilt listed w)
 
 -- the way's block, in the form in which a graph file holds it
 pub record IsBuilt (M : Objects) (P : Rules) (w : WayId) (b : Block) : Type 0 where

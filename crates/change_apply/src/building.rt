@@ -6,16 +6,21 @@ ghost use Rattle.road_model.specs.Highways.{AreRoadWays, highways};
 ghost use Rattle.road_model.specs.Naming.{OneBlock};
 ghost use Rattle.road_model.specs.Orders.{way_cmp};
 ghost use Rattle.change_apply.specs.Engines.{AreBlocksAmong, AreInForm, AreKept};
-ghost use Rattle.change_apply.specs.Rebuilding.{AreRebuilt, IsRebuiltWith};
+ghost use Rattle.change_apply.specs.Rebuilding.{AreAtTheirWays, AreRebuilt, IsRebuiltWith, block_at};
+ghost use Rattle.road_base.specs.Objects.{Objects};
+ghost use Rattle.touched_ways.specs.Altering.{AreParted};
 
+use crate::altering::altered;
 use back_references::Indexed;
 use expanded_graph::GraphBuilder;
 use object_store::SharedMap;
 use road_base::{NoMemory, Steps, WayId};
-use road_model::laws::{name_order, one_block, roads_refer};
+use road_model::laws::{has_block, name_order, one_block, roads_refer};
 use road_model::{Block, Blocks, Profile, World};
 use std::alloc::Global;
 use std::sync::ledger::Ledger;
+use touched_ways::laws::{far_pieces_stay, listed_pieces_stay, unaltered_blocks_stay};
+use touched_ways::{TouchedWays, meeting};
 
 /// The blocks of all ways with pieces: one is built for each visible way with the key `highway`.
 pub fn build<P: Profile, L: Ledger>(
@@ -115,4 +120,46 @@ fn rebuild_one<M: World, P: Profile, L: Ledger>(
     name_order();
     let block = builder.block(way, steps)?;
     rebuilt.with(alloc, way, block)
+}
+
+/// Blocks with those that a change altered, and how many were built.
+#[derive(Drop)]
+pub struct Rebuilt {
+    pub blocks: SharedMap<WayId, Block>,
+    pub count: u64,
+}
+
+/// Builds over the world that a change leaves the blocks of the touched ways that are near it or named by a
+/// restriction, and then those of the other touched ways that meet one of them whose pieces are others than before.
+/// What stands at every way is then its block, where it was before.
+pub fn rebuild_touched<M: World, P: Profile, L: Ledger>(
+    alloc: Global,
+    world: &M,
+    profile: P,
+    touched: &TouchedWays,
+    listed: &Blocks,
+    rebuilt: &SharedMap<WayId, Block>,
+    steps: &mut Steps<L>,
+) -> Result<Rebuilt, NoMemory>
+    ensures kept { IfOk result (λ r. (was : Objects)
+        → AreParted was (M.objects world.now) touched.now.all touched.now.near touched.now.far
+        → AreKept was (P.rules profile) (block_at rebuilt.now listed.now.map)
+        → AreKept (M.objects world.now) (P.rules profile) (block_at r.blocks listed.now.map)) }
+    ensures at_ways { IfOk result (λ r. AreAtTheirWays rebuilt.now → AreAtTheirWays r.blocks) }
+    ensures count { IfOk result (λ r. steps.new ≡ steps.old + r.count) }
+    ensures few { steps.new ≤ steps.old + (length touched.now.near + length touched.now.far) }
+{
+    name_order();
+    one_block(&profile);
+    has_block(&profile);
+    unaltered_blocks_stay(&profile);
+    far_pieces_stay(&profile);
+    listed_pieces_stay(&profile);
+    let near = touched.near.items();
+    let first = rebuild(alloc, world, profile, near, rebuilt, steps)?;
+    let altered = altered(alloc, listed, rebuilt, &first, near)?;
+    let met = meeting(alloc, world, &touched.far, altered.as_slice())?;
+    let blocks = rebuild(alloc, world, profile, met.items(), &first, steps)?;
+    let count = near.len() as u64 + met.items().len() as u64;
+    Ok(Rebuilt { blocks, count })
 }

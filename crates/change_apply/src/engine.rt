@@ -16,19 +16,18 @@ ghost use Rattle.road_model.specs.Orders.{Lists, way_cmp};
 ghost use Rattle.change_apply.specs.Engines.{BuildsTouched, Touches};
 ghost use Rattle.change_apply.specs.Rebuilding.{AreAtTheirWays, block_at};
 
-use crate::building::{build, rebuild};
+use crate::building::{build, rebuild_touched};
 use crate::listing::list_rebuilt;
 use crate::touching::touched_by;
 use back_references::{Indexed, Next};
 use object_store::SharedMap;
 use road_base::laws::one_map;
 use road_base::{Event, NoMemory, Steps, WayId};
-use road_model::laws::{name_order, one_block};
+use road_model::laws::name_order;
 use road_model::{Block, Blocks, Profile};
 use std::alloc::Global;
 use std::marker::Model;
 use std::sync::ledger::Ledger;
-use touched_ways::laws::unaltered_blocks_stay;
 
 /// What a change cost.
 #[derive(Clone, Copy, PartialEq, Eq, Debug)]
@@ -124,26 +123,24 @@ impl<P: Profile> Engine<P> {
     {
         one_map();
         name_order();
-        one_block(&self.graph.profile);
-        unaltered_blocks_stay(&self.graph.profile);
         let prepared = self.graph.world.prepare(events)?;
         let touched = touched_by(self.alloc, &self.graph.world, &prepared)?;
         let next = Next::of(&self.graph.world, &prepared);
-        let ways = touched.altered.items();
-        let rebuilt = rebuild(
+        let rebuilt = rebuild_touched(
             self.alloc,
             &next,
             self.graph.profile,
-            ways,
+            &touched,
+            &self.graph.blocks,
             &self.rebuilt,
             steps,
         )?;
         let report = Report {
-            touched: touched.ways.items().len() as u64,
-            rebuilt: ways.len() as u64,
+            touched: touched.all.items().len() as u64,
+            rebuilt: rebuilt.count,
         };
         self.graph.world.commit(prepared);
-        self.rebuilt = rebuilt;
+        self.rebuilt = rebuilt.blocks;
         Ok(report)
     }
 

@@ -1,10 +1,11 @@
-use Rattle.std.proofs.Common.{◌≡◌, List, [], ◌∷◌, map, IsTrue, refl, sym, ap, subst}
+use Rattle.std.proofs.Common.{◌≡◌, List, [], ◌∷◌, map, Result, Ok, Err, IfOk, IsTrue, refl, sym}
+use Rattle.std.proofs.Common.{ap, subst}
 use Rattle.road_base.specs.declared.ids.Key.{Key}
 use Rattle.road_base.specs.declared.ids.WayId.{WayId}
 use Rattle.road_base.specs.Objects.{Objects}
 use Rattle.road_model.specs.Links.{AreChanged, AreReached, AreTouched}
 use Rattle.road_model.specs.Orders.{rises, way_cmp}
-use Rattle.touched_ways.specs.Altering.{AreWithin, IsUnaltered}
+use Rattle.touched_ways.specs.Altering.{AreParted, AreWithin}
 use Rattle.change_apply.proofs.touching.touched_by.Goals as goal
 
 same : (ws : List WayId) → map (λ w. w) ws ≡ ws
@@ -12,7 +13,7 @@ same [] = refl
 same (w ∷ ws) = ap (λ (l : List WayId). w ∷ l) (same ws)
 
 -- the ways near some keys ascend
-ascending : (M : Objects) (keys : List Key) (ways : List WayId) → AreWithin 4 M keys ways → IsTrue (rises way_cmp ways)
+ascending : (M : Objects) (keys : List Key) (ways : List WayId) → AreWithin 2 M keys ways → IsTrue (rises way_cmp ways)
 ascending M keys ways near = subst (λ (l : List WayId). IsTrue (rises way_cmp l)) (same ways) near.ascending
 
 -- what was found from these keys in this map, of the keys and of the map as they are called elsewhere
@@ -22,47 +23,42 @@ reached_of here M own keys ways a b r =
     subst (λ (x : Objects). AreReached x keys ways) a (subst (λ (ks : List Key). AreReached here ks ways) b r)
 
 within_of : (here M : Objects) (own keys : List Key) (ways : List WayId) → here ≡ M → own ≡ keys
-    → AreWithin 4 here own ways → AreWithin 4 M keys ways
+    → AreWithin 2 here own ways → AreWithin 2 M keys ways
 within_of here M own keys ways a b r =
-    subst (λ (x : Objects). AreWithin 4 x keys ways) a (subst (λ (ks : List Key). AreWithin 4 here ks ways) b r)
+    subst (λ (x : Objects). AreWithin 2 x keys ways) a (subst (λ (ks : List Key). AreWithin 2 here ks ways) b r)
 
-touched_of : (here N M : Objects) (ways : List WayId) → here ≡ N → AreTouched M N ways → AreTouched M here ways
-touched_of here N M ways a t = subst (λ (x : Objects). AreTouched M x ways) (sym a) t
+-- what two facts of a value give
+if_both : {T E : Type 0} {A B C : T → Type 0} (r : Result T E) → ((t : T) → A t → B t → C t) → IfOk r A → IfOk r B
+    → IfOk r C
+if_both (Ok t) f a b = f t a b
+if_both (Err e) f a b = tt
 
-pub altered-requires-clause-before : goal.altered-requires-clause-before
-altered-requires-clause-before c =
+pub part-requires-clause-before : goal.part-requires-clause-before
+part-requires-clause-before c =
     ascending c.args.world.now c.keys.result.now c.in_ok-before.before.near c.in_ok-before.ensures.near
 
-pub altered-requires-clause-after : goal.altered-requires-clause-after
-altered-requires-clause-after c =
+pub part-requires-clause-after : goal.part-requires-clause-after
+part-requires-clause-after c =
     ascending c.of-next.result c.keys-2.result.now c.in_ok-after.after.near c.in_ok-after.ensures.near
 
-pub returns-clause-touched : goal.returns-clause-touched
-returns-clause-touched c =
-    let M = c.args.prepared.now.before in
-    let N = c.args.prepared.now.after in
-    let keys = c.args.prepared.now.keys in
-    c.in_ok-ways.ensures.touched M N keys c.keys.ensures.differ
-    (reached_of c.args.world.now M c.keys.result.now keys c.in_ok-before.before.all (sym c.requires)
-    c.keys.ensures.keys c.in_ok-before.ensures.all)
-    (reached_of c.of-next.result N c.keys-2.result.now keys c.in_ok-after.after.all c.of-next.ensures
-    c.keys-2.ensures.keys c.in_ok-after.ensures.all)
-
-pub returns-clause-few : goal.returns-clause-few
-returns-clause-few c = c.in_ok-altered.ensures.few
-
-pub returns-clause-others : goal.returns-clause-others
-returns-clause-others c = λ w not.
+pub returns : goal.returns
+returns c =
     let M = c.args.prepared.now.before in
     let N = c.args.prepared.now.after in
     let next = c.of-next.result in
     let keys = c.args.prepared.now.keys in
     let changed : AreChanged M next keys =
     subst (λ (x : Objects). AreChanged M x keys) (sym c.of-next.ensures) c.keys.ensures.differ in
-    subst (λ (x : Objects). IsUnaltered M x w) c.of-next.ensures
-    (c.in_ok-altered.ensures.others M keys w changed
-    (within_of c.args.world.now M c.keys.result.now keys c.in_ok-before.before.near (sym c.requires)
-    c.keys.ensures.keys c.in_ok-before.ensures.near)
+    let reached : AreTouched M next c.in_ok-ways.ways =
+    c.in_ok-ways.ensures.touched M next keys changed
+    (reached_of c.args.world.now M c.keys.result.now keys c.in_ok-before.before.all (sym c.requires)
+    c.keys.ensures.keys c.in_ok-before.ensures.all)
+    (reached_of next next c.keys-2.result.now keys c.in_ok-after.after.all refl c.keys-2.ensures.keys
+    c.in_ok-after.ensures.all) in
+    if_both c.part.result
+    (λ t same parts. subst (λ (x : Objects). AreParted M x t.all t.near t.far) c.of-next.ensures
+    (subst (λ (l : List WayId). AreParted M next l t.near t.far) (sym same)
+    (parts M keys changed (within_of c.args.world.now M c.keys.result.now keys c.in_ok-before.before.near
+    (sym c.requires) c.keys.ensures.keys c.in_ok-before.ensures.near)
     (within_of next next c.keys-2.result.now keys c.in_ok-after.after.near refl c.keys-2.ensures.keys
-    c.in_ok-after.ensures.near)
-    (touched_of next N M c.in_ok-ways.ways c.of-next.ensures (returns-clause-touched c)) not)
+    c.in_ok-after.ensures.near) reached))) c.part.ensures.all c.part.ensures.parted

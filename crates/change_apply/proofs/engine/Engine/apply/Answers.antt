@@ -1,40 +1,23 @@
 use Rattle.std.proofs.Common.{◌≡◌, ℕ, ◌+◌, ◌≤◌, true, false, List, length, Result, Ok, Err}
-use Rattle.std.proofs.Common.{IsErr, IfOk, OnOk, OnErr, Contains, inl, inr, refl, ap, sym, subst, ◌∙◌, arith}
+use Rattle.std.proofs.Common.{IsErr, IfOk, OnOk, OnErr, inl, inr, refl, ap, sym, subst, ◌∙◌, arith}
 use Rattle.road_base.specs.declared.ids.WayId.{WayId}
 use Rattle.road_base.specs.declared.event.Event.{Event}
 use Rattle.road_base.specs.Objects.{Objects}
 use Rattle.road_base.specs.Applying.{IsApplied}
 use Rattle.road_model.specs.Orders.{way_cmp}
 use Rattle.road_model.specs.Links.{IsTouched, AreTouched}
-use Rattle.touched_ways.specs.Altering.{IsUnaltered}
+use Rattle.touched_ways.specs.Altering.{AreParted}
 use Rattle.road_model.proofs.AscendingLists.{lists_unique}
 use Rattle.change_apply.specs.Engines.{AreKept, BuildsTouched}
-use Rattle.change_apply.specs.Rebuilding.{AreRebuilt, block_at}
-use Rattle.change_apply.proofs.RebuiltBlocks.{kept_behind, at_their_ways}
+use Rattle.change_apply.specs.Rebuilding.{block_at}
 use Rattle.change_apply.proofs.engine.Engine.apply.Goals as goal
 
--- what was found over the objects as they were, of the objects as they are called elsewhere
-touched_of : (M before N after : Objects) (items ways : List WayId) → before ≡ M → N ≡ after → items ≡ ways
-    → AreTouched before after ways → AreTouched M N items
-touched_of M before N after items ways a b c t =
-    subst (λ (x : Objects). AreTouched x N items) a
-    (subst (λ (y : Objects). AreTouched before y items) (sym b)
-    (subst (λ (l : List WayId). AreTouched before after l) (sym c) t))
-
--- the same of the ways whose blocks stay
-others_of : (M before N after : Objects) (items ways : List WayId) → before ≡ M → N ≡ after → items ≡ ways
-    → ((w : WayId) → (Contains ways w → ⊥) → IsUnaltered before after w) → (w : WayId) → (Contains items w → ⊥)
-    → IsUnaltered M N w
-others_of M before N after items ways a b c stay w not =
-    subst (λ (x : Objects). IsUnaltered x N w) a
-    (subst (λ (y : Objects). IsUnaltered before y w) (sym b)
-    (stay w (λ has. not (subst (λ (l : List WayId). Contains l w) (sym c) has))))
-
--- no more blocks are built than there are touched ways
-few_of : (new old : ℕ) (items altered ways : List WayId) → items ≡ altered → length altered ≤ length ways
-    → new ≤ old + length items → new ≤ old + length ways
-few_of new old items altered ways same small few =
-    omega (arith, ap (λ (l : List WayId). length l) same, small, few)
+-- the parts of the touched ways, of the objects as they are called elsewhere
+parted_of : (M before N after : Objects) (all near away : List WayId) → before ≡ M → N ≡ after
+    → AreParted before after all near away → AreParted M N all near away
+parted_of M before N after all near away a b p =
+    subst (λ (x : Objects). AreParted x N all near away) a
+    (subst (λ (y : Objects). AreParted before y all near away) (sym b) p)
 
 builds : (M after : Objects) (events : List Event) (ways : List WayId) (old new : ℕ) → IsApplied M events after
     → AreTouched M after ways → new ≤ old + length ways → BuildsTouched M events old new
@@ -100,53 +83,42 @@ pub returns-in_err-rebuilt-clause-built : goal.returns-in_err-rebuilt-clause-bui
 returns-in_err-rebuilt-clause-built g c =
     let events = c.args.events.now in
     let after = c.in_ok-prepared.prepared.after in
-    let ways = c.in_ok-touched.touched.ways in
-    let altered = c.in_ok-touched.touched.altered in
+    let touched = c.in_ok-touched.touched in
     let here : c.self.inside.graph.world ≡ c.args.self.now.world = ap (λ f. f.world) c.self.view_is in
     let applied = subst (λ (M : Objects). IsApplied M events after) here c.in_ok-prepared.ensures.after in
-    let touched =
-    touched_of c.args.self.now.world c.in_ok-prepared.prepared.before after after ways ways
-    (c.in_ok-prepared.ensures.before ∙ here) refl refl c.in_ok-touched.ensures.touched in
-    builds c.args.self.now.world after events ways c.args.steps.now c.rebuild.new.steps applied touched
-    (few_of c.rebuild.new.steps c.args.steps.now c.items-ways.result.now altered ways c.items-ways.ensures
-    c.in_ok-touched.ensures.few c.rebuild.ensures.few)
+    let parted =
+    parted_of c.args.self.now.world c.in_ok-prepared.prepared.before after after touched.all touched.near touched.far
+    (c.in_ok-prepared.ensures.before ∙ here) refl c.in_ok-touched.ensures in
+    builds c.args.self.now.world after events touched.all c.args.steps.now c.rebuild_touched.new.steps applied
+    parted.touched (omega (arith, c.rebuild_touched.ensures.few, parted.count))
 
 pub returns-clause-built : goal.returns-clause-built
 returns-clause-built g c =
     let events = c.args.events.now in
     let after = c.in_ok-prepared.prepared.after in
-    let ways = c.in_ok-touched.touched.ways in
-    let altered = c.in_ok-touched.touched.altered in
+    let touched = c.in_ok-touched.touched in
     let here : c.self.inside.graph.world ≡ c.args.self.now.world = ap (λ f. f.world) c.self.view_is in
     let applied = subst (λ (M : Objects). IsApplied M events after) here c.in_ok-prepared.ensures.after in
-    let touched =
-    touched_of c.args.self.now.world c.in_ok-prepared.prepared.before after after ways ways
-    (c.in_ok-prepared.ensures.before ∙ here) refl refl c.in_ok-touched.ensures.touched in
-    builds c.args.self.now.world after events ways c.args.steps.now c.rebuild.new.steps applied touched
-    (few_of c.rebuild.new.steps c.args.steps.now c.items-ways.result.now altered ways c.items-ways.ensures
-    c.in_ok-touched.ensures.few c.rebuild.ensures.few)
+    let parted =
+    parted_of c.args.self.now.world c.in_ok-prepared.prepared.before after after touched.all touched.near touched.far
+    (c.in_ok-prepared.ensures.before ∙ here) refl c.in_ok-touched.ensures in
+    builds c.args.self.now.world after events touched.all c.args.steps.now c.rebuild_touched.new.steps applied
+    parted.touched (omega (arith, c.rebuild_touched.ensures.few, parted.count))
 
 pub invariant_of-self-2 : goal.invariant_of-self-2
 invariant_of-self-2 g c =
     let M = c.self.inside.graph.world in
     let N = c.commit.new.self in
     let P = g.P.Profile.rules c.self.inside.graph.profile in
-    let items = c.items-ways.result.now in
-    let before = c.self.inside.rebuilt in
-    let after = c.in_ok-rebuilt.rebuilt in
-    let listed = c.self.inside.graph.blocks.map in
-    let total = c.name_order.ensures.ways in
-    let ties = c.name_order.ensures.way_ties in
-    let one = c.one_block.ensures N in
-    let stay = c.unaltered_blocks_stay.ensures M N in
-    let others =
-    others_of M c.in_ok-prepared.prepared.before N c.in_ok-prepared.prepared.after items c.in_ok-touched.touched.altered
-    c.in_ok-prepared.ensures.before c.commit.ensures c.items-ways.ensures c.in_ok-touched.ensures.others in
-    let rebuilt : AreRebuilt N P items before after =
-    subst (λ (x : Objects). AreRebuilt x P items before after) (c.of-next.ensures ∙ sym c.commit.ensures)
-    c.in_ok-rebuilt.ensures.rebuilt in (
-      kept_behind M N P items before after listed total ties one stay others rebuilt c.self.invariant.0,
-      at_their_ways M N P items before after listed total ties one stay others rebuilt c.self.invariant.1,
+    let touched = c.in_ok-touched.touched in
+    let at = block_at c.in_ok-rebuilt.rebuilt.blocks c.self.inside.graph.blocks.map in
+    let next : c.of-next.result ≡ N = c.of-next.ensures ∙ sym c.commit.ensures in
+    let parted =
+    parted_of M c.in_ok-prepared.prepared.before c.of-next.result c.in_ok-prepared.prepared.after touched.all
+    touched.near touched.far c.in_ok-prepared.ensures.before c.of-next.ensures c.in_ok-touched.ensures in (
+      subst (λ (x : Objects). AreKept x P at) next
+          (c.in_ok-rebuilt.ensures.kept M parted c.self.invariant.0),
+      c.in_ok-rebuilt.ensures.at_ways c.self.invariant.1,
     )
 
 pub returns-clause-applied : goal.returns-clause-applied
@@ -164,23 +136,25 @@ pub returns-clause-touched : goal.returns-clause-touched
 returns-clause-touched g c = λ ways are.
     let M = c.args.self.now.world in
     let N = c.commit.new.self in
-    let items = c.items.result.now in
+    let touched = c.in_ok-touched.touched in
     let here : c.self.inside.graph.world ≡ c.args.self.now.world = ap (λ f. f.world) c.self.view_is in
-    let touched =
-    touched_of M c.in_ok-prepared.prepared.before N c.in_ok-prepared.prepared.after items
-    c.in_ok-touched.touched.ways (c.in_ok-prepared.ensures.before ∙ here) c.commit.ensures c.items.ensures
-    c.in_ok-touched.ensures.touched in
-    ap length (lists_unique (λ (w : WayId). w) way_cmp c.name_order.ensures.ways (IsTouched M N) items ways touched are)
+    let parted =
+    parted_of M c.in_ok-prepared.prepared.before N c.in_ok-prepared.prepared.after touched.all touched.near
+    touched.far (c.in_ok-prepared.ensures.before ∙ here) c.commit.ensures c.in_ok-touched.ensures in
+    ap length c.items.ensures ∙ ap length
+    (lists_unique (λ (w : WayId). w) way_cmp c.name_order.ensures.ways (IsTouched M N) touched.all ways parted.touched
+    are)
 
 pub returns-clause-rebuilt : goal.returns-clause-rebuilt
-returns-clause-rebuilt g c = c.in_ok-rebuilt.ensures.each
+returns-clause-rebuilt g c = c.in_ok-rebuilt.ensures.count
 
 pub returns-clause-few : goal.returns-clause-few
 returns-clause-few g c = omega (
   arith,
-  ap (λ (l : List WayId). length l) c.items-ways.ensures,
   ap (λ (l : List WayId). length l) c.items.ensures,
-  c.in_ok-touched.ensures.few,
+  c.in_ok-touched.ensures.count,
+  c.in_ok-rebuilt.ensures.count,
+  c.rebuild_touched.ensures.few,
 )
 
 pub returns-in_err-prepared-clause-profile : goal.returns-in_err-prepared-clause-profile
@@ -258,13 +232,13 @@ pub returns-clause-ways : goal.returns-clause-ways
 returns-clause-ways g c =
     let events = c.args.events.now in
     let after = c.in_ok-prepared.prepared.after in
-    let ways = c.in_ok-touched.touched.ways in
+    let touched = c.in_ok-touched.touched in
     let here : c.self.inside.graph.world ≡ c.args.self.now.world = ap (λ f. f.world) c.self.view_is in
     let applied = subst (λ (M : Objects). IsApplied M events after) here c.in_ok-prepared.ensures.after in
-    let touched =
-    touched_of c.args.self.now.world c.in_ok-prepared.prepared.before after after ways ways
-    (c.in_ok-prepared.ensures.before ∙ here) refl refl c.in_ok-touched.ensures.touched in
-    record { after = after; applied = applied; ways = ways; touched = touched }
+    let parted =
+    parted_of c.args.self.now.world c.in_ok-prepared.prepared.before after after touched.all touched.near touched.far
+    (c.in_ok-prepared.ensures.before ∙ here) refl c.in_ok-touched.ensures in
+    record { after = after; applied = applied; ways = touched.all; touched = parted.touched }
 
 pub returns-in_err-prepared-clause-ways : goal.returns-in_err-prepared-clause-ways
 returns-in_err-prepared-clause-ways g c = no_ok _ c.from_residual.result c.from_residual.ensures.0

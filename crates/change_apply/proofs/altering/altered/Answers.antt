@@ -1,0 +1,37 @@
+use Rattle.std.proofs.Common.{◌≡◌, take, slice_index_or, pos, sym, ap, subst, ◌∙◌}
+use Rattle.std.proofs.lemmas.List.{take_all, take_more}
+use Rattle.road_base.specs.declared.ids.WayId.{WayId}
+use Rattle.change_apply.specs.Rebuilding.{pieces_at}
+use Rattle.change_apply.proofs.ComparedPieces.{AreSame, more_same, more_altered}
+use Rattle.change_apply.proofs.altering.altered.Goals as goal
+use Rattle.change_apply.proofs.altering.altered.Goals.{then-not-same_pieces+in_ok-push, else-not-same_pieces}
+
+pub loop-way-preserved : goal.loop-way-preserved
+loop-way-preserved c =
+    let ways = c.args.ways.now in
+    let i = c.loop-way.way-index in
+    let way = slice_index_or ways i (record { 0 = pos 0 }) in
+    let before = c.args.before.now in
+    let after = c.args.after.now in
+    let blocks = c.args.blocks.now.map in
+    let Same : WayId → Type 0 = λ w. pieces_at before blocks w ≡ pieces_at after blocks w in
+    let more = take_more ways i (record { 0 = pos 0 }) c.loop-way-test.true in
+    elim c.if-not-same_pieces.branch [
+      | then-not-same_pieces+in_ok-push w ↦
+          subst (λ l. AreSame Same l c.if-not-same_pieces.altered.items) (sym more)
+          (subst (AreSame Same _) (sym (ap (λ v. v.items) w.altered-is ∙ w.in_ok-push.ensures.items))
+          (more_altered Same (take i ways) c.loop-way.altered.items way c.loop-way.invariant))
+      | else-not-same_pieces w ↦
+          subst (λ l. AreSame Same l c.if-not-same_pieces.altered.items) (sym more)
+          (subst (AreSame Same _) (sym (ap (λ v. v.items) w.altered-is))
+          (more_same Same (take i ways) c.loop-way.altered.items way c.loop-way.invariant
+          (sym c.pieces_at-was.ensures ∙ c.same_pieces.ensures w.if-not-same_pieces.false ∙ c.pieces_at-is.ensures)))
+    ]
+
+pub returns : goal.returns
+returns c =
+    let before = c.args.before.now in
+    let after = c.args.after.now in
+    let blocks = c.args.blocks.now.map in
+    subst (λ l. AreSame (λ w. pieces_at before blocks w ≡ pieces_at after blocks w) l c.loop-way.altered.items)
+    (take_all c.loop-way.way-index c.args.ways.now c.loop-way-test.false) c.loop-way.invariant
