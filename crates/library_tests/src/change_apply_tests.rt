@@ -96,7 +96,7 @@ const CHAIN: &[u8] = b"n1 v1 x0.001 y0\nn2 v1 x0.002 y0\nn3 v1 x0.003 y0\nn4 v1 
     w9 v1 Thighway=residential Nn9,n10\nw10 v1 Thighway=residential Nn10,n11\n";
 
 /// Node 2 lies elsewhere: the ways 1 and 2 are one link away, way 3 three, way 4 five, and way 5 seven. No restriction
-/// names a way, so blocks are built up to four links away.
+/// names a way, so blocks are built up to two links away, and farther on where pieces change: here none do.
 const MOVED: &[u8] = b"n2 v2 x0.0025 y0\n";
 
 /// Nothing changes: the entry that stands has the same version.
@@ -108,14 +108,26 @@ const GONE: &[u8] = b"w3 v2 dD\n";
 /// Way 3 comes back and reaches node 9, so that the ways 8 and 9 are two links away, 7 and 10 four.
 const LONGER: &[u8] = b"w3 v3 Thighway=residential Nn3,n4,n9\n";
 
+/// Way 1 passes node 2; way 2 leaves way 1's last node, and way 3 the last one of way 2.
+const PASSED: &[u8] = b"n1 v1 x0.001 y0\nn2 v1 x0.002 y0\nn3 v1 x0.003 y0\nn4 v1 x0.004 y0\n\
+    n5 v1 x0.005 y0\nn6 v1 x0.002 y0.001\n\
+    w1 v1 Thighway=residential Nn1,n2,n3\nw2 v1 Thighway=residential Nn3,n4\n\
+    w3 v1 Thighway=residential Nn4,n5\n";
+
+/// Way 4 comes to node 2 and makes it a junction: way 1, two links away, gets other pieces, so that way 2, four links
+/// away, is built too; way 3, six links away, isn't.
+const JOINED: &[u8] = b"w4 v1 Thighway=residential Nn6,n2\n";
+
 #[test]
 fn changes_touch_what_is_near(rt: HostRuntime) -> Result<(), Fail> {
-    let rows: [(&[&[u8]], u64, u64); 5] = [
+    let rows: [(&[&[u8]], u64, u64); 7] = [
         (&[CHAIN], 10, 10),
         (&[CHAIN, SAME], 0, 0),
-        (&[CHAIN, MOVED], 4, 3),
-        (&[CHAIN, MOVED, GONE], 6, 5),
-        (&[CHAIN, MOVED, GONE, LONGER], 10, 9),
+        (&[CHAIN, MOVED], 4, 2),
+        (&[CHAIN, MOVED, GONE], 6, 3),
+        (&[CHAIN, MOVED, GONE, LONGER], 10, 5),
+        (&[PASSED], 3, 3),
+        (&[PASSED, JOINED], 4, 3),
     ];
     for (changes, touched, rebuilt) in rows {
         let (report, same) = followed::<Brand>(rt.alloc(), changes, Blank::new(1))?;
