@@ -1,12 +1,10 @@
 -- The visible ways with the key `highway` among the entries of a map.
 use Rattle.std.proofs.Common.{◌≡◌, Bool, true, false, cond, IsTrue, List, [], ◌∷◌, map, filter}
-use Rattle.std.proofs.Common.{Contains, Option, Some, None, refl, inl, inr, sym, ap, subst, ◌∙◌}
+use Rattle.std.proofs.Common.{Contains, Option, Some, None, refl, sym, ap, ◌∙◌}
 use Rattle.std.specs.Prelude.{filter_map}
 use Rattle.std.specs.List.{cons_option}
 use Rattle.std.specs.Cmp.{IsTotalOrder}
-use Rattle.std.specs.Cmp.Derive.{both_true}
 use Rattle.std.specs.FinMap.{get, entries}
-use Rattle.std.proofs.lemmas.Bool.{and_parts}
 use Rattle.road_base.specs.declared.ids.WayId.{WayId}
 use Rattle.road_base.specs.declared.ids.Key.{Key}
 use Rattle.road_base.specs.declared.ids.Key.TheVariants.{Node as NodeKey, Way as WayKey, Relation as RelationKey}
@@ -18,10 +16,10 @@ use Rattle.road_base.specs.declared.event.Event.{Event}
 use Rattle.road_base.specs.Objects.{Objects, Entry, key_cmp, body_in, way_in, visible, way_of}
 use Rattle.road_model.specs.Rules.{has_highway}
 use Rattle.road_model.specs.Highways.{IsHighway, highway_of, highways, visible_highway}
-use Rattle.road_model.specs.Orders.{rises, rises_from, way_cmp}
-use Rattle.object_store.specs.Listed.{AreEntriesOf, IsInOrder, is_way, key_of, pair_of}
+use Rattle.road_model.specs.Orders.{rises, way_cmp}
+use Rattle.object_store.specs.Listed.{AreEntriesOf, IsInOrder, is_way, pair_of}
 use Rattle.road_base.proofs.ListMembers.{In, contains_from_in, in_from_contains}
-use Rattle.road_model.proofs.AscendingLists.{rest_rises, behind_next}
+use Rattle.back_references.proofs.ToldNames.{in_told, told_rise}
 
 -- ---- they are told from the entries of ways alone
 
@@ -73,51 +71,14 @@ key_is (NodeKey n) b w e = cc
 key_is (WayKey v) b w e = ap (λ x. WayKey x) (visible_key v w b e)
 key_is (RelationKey r) b w e = cc
 
-rise_next : (w : WayId) (e : Event) (es : List Event)
-    → IsTrue (rises_from key_cmp (WayKey w) (key_of e ∷ map key_of es))
-    → IsTrue (rises_from way_cmp w (filter_map in_event es))
-    → ((v : WayId) → IsTrue (rises_from key_cmp (WayKey v) (map key_of es))
-    → IsTrue (rises_from way_cmp v (filter_map in_event es)))
-    → (o : Option WayId) → in_event e ≡ o → IsTrue (rises_from way_cmp w (cons_option o (filter_map in_event es)))
-rise_next w e es up rest from None is = rest
-rise_next w e es up rest from (Some v) is =
-    let key = key_is e.key e.body v is in
-    let at_way = subst (λ k. IsTrue (rises_from key_cmp (WayKey w) (k ∷ map key_of es))) key up in
-    let parts = and_parts _ _ at_way in
-    both_true parts.0 (from v parts.1)
+own_key : (e : Event) (w : WayId) → in_event e ≡ Some w → e.key ≡ WayKey w
+own_key e w is = key_is e.key e.body w is
 
-module _ (total : IsTotalOrder key_cmp) where
-  rise_from : (w : WayId) (es : List Event) → IsTrue (rises_from key_cmp (WayKey w) (map key_of es))
-      → IsTrue (rises_from way_cmp w (filter_map in_event es))
-  rise_from w [] up = refl
-  rise_from w (e ∷ es) up =
-      let from = behind_next key_cmp total (WayKey w) e.key (map key_of es) up in
-      rise_next w e es up (rise_from w es from) (λ v. rise_from v es) (in_event e) refl
-
-  pub highways_rise : (es : List Event) → IsInOrder es → IsTrue (rises way_cmp (filter_map in_event es))
-  highways_rise [] up = refl
-  highways_rise (e ∷ es) up = next (in_event e) refl (highways_rise es (rest_rises key_cmp e.key (map key_of es) up))
-    where
-      next : (o : Option WayId) → in_event e ≡ o → IsTrue (rises way_cmp (filter_map in_event es))
-          → IsTrue (rises way_cmp (cons_option o (filter_map in_event es)))
-      next None is rest = rest
-      next (Some v) is rest =
-          rise_from v es (subst (λ k. IsTrue (rises_from key_cmp k (map key_of es))) (key_is e.key e.body v is) up)
+pub highways_rise : IsTotalOrder key_cmp → (es : List Event) → IsInOrder es
+    → IsTrue (rises way_cmp (filter_map in_event es))
+highways_rise total = told_rise way_cmp (λ w. WayKey w) (λ a b. refl) in_event own_key total
 
 -- ---- each is among them
-
-first_of : (o : Option WayId) (w : WayId) (ws : List WayId) → o ≡ Some w → In w (cons_option o ws)
-first_of None w ws e = cc
-first_of (Some v) w ws e = inl (cc)
-
-later_of : (o : Option WayId) (w : WayId) (ws : List WayId) → In w ws → In w (cons_option o ws)
-later_of None w ws i = i
-later_of (Some v) w ws i = inr i
-
-in_highways : (es : List Event) (e : Event) (w : WayId) → In e es → in_event e ≡ Some w → In w (filter_map in_event es)
-in_highways [] e w i is = absurd i
-in_highways (x ∷ es) e w (inl here) is = first_of (in_event x) w (filter_map in_event es) (ap in_event (sym here) ∙ is)
-in_highways (x ∷ es) e w (inr i) is = later_of (in_event x) w (filter_map in_event es) (in_highways es e w i is)
 
 body_is : (b : Body) (body : Way)
     → way_in (body_in (Some (record { version = 0; body = b }))) ≡ Some body → b ≡ WayBody body
@@ -144,7 +105,7 @@ module _ (M : Objects) (es : List Event) (all : AreEntriesOf is_way M es) where
       ∙ ap (visible_highway w) body_of
       ∙ ap (λ t. cond t (Some w) None) tagged
       in
-      in_highways es event.0 w (in_from_contains es event.0 event.1) is
+      in_told in_event es event.0 w (in_from_contains es event.0 event.1) is
 
   pub highway_listed : (w : WayId) → IsHighway M w → Contains (filter_map in_event es) w
   highway_listed w is =

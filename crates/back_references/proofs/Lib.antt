@@ -2,5 +2,6 @@ pub mod Lookups
 pub mod Parts
 pub mod SortedPairs
 pub mod NamedObjects
+pub mod ToldNames
 pub mod HighwayLists
 mod IndexLists

@@ -1,5 +1,4 @@
 pub mod RisingWays
-pub mod ToldNames
 pub mod VisibleRestrictions
 pub mod DistinctLists
 pub mod OneFinding

@@ -20,7 +20,7 @@ use Rattle.object_store.specs.Listed.{AreEntriesOf, IsInOrder, is_relation}
 use Rattle.restrictions.specs.Words.{IsRestriction}
 use Rattle.osmroad.specs.Audit.{restriction_of, visible_restriction}
 use Rattle.road_base.proofs.ListMembers.{In, contains_from_in, in_from_contains, in_get}
-use Rattle.osmroad.proofs.ToldNames.{in_told, from_told, told_rise}
+use Rattle.back_references.proofs.ToldNames.{in_told, from_told, told_rise}
 
 abbrev in_event : Event → Option RelationId
 in_event e = restriction_of e.key e.body
