@@ -19,7 +19,7 @@ use Rattle.road_model.specs.Rules.{Rules}
 use Rattle.road_model.specs.Lines.{node_at}
 use Rattle.road_model.specs.Driving.{is_road}
 use Rattle.road_model.specs.Links.{RefersTo}
-use Rattle.road_model.specs.Orders.{way_cmp, name_cmp, names_cmp, rises}
+use Rattle.road_model.specs.Orders.{way_cmp, name_cmp, rises}
 use Rattle.road_model.specs.Blocks.{IsPieceEntry, IsRoadBlock, name_of, place_position}
 use Rattle.road_model.specs.BlockMap.{AreBlocksOf}
 use Rattle.road_model.specs.Naming.{HasBlock, OnePiece}
@@ -30,7 +30,7 @@ use Rattle.drive_queries.specs.Ends.{Arrives, pieces_in}
 use Rattle.drive_queries.specs.Visits.{goal_in}
 use Rattle.drive_queries.specs.Sought.{AreGoals, IsGoalAt}
 use Rattle.drive_queries.proofs.SearchEnds.{stops_at, stops_by}
-use Rattle.drive_queries.proofs.SearchEntries.{piece_entry, entry_of_piece, entry_in}
+use Rattle.drive_queries.proofs.SearchEntries.{entry_of, entry_of_piece, entry_in}
 use Rattle.drive_queries.proofs.SearchGoals.{eq_cases}
 
 module _ (names : IsTotalOrder name_cmp) (ties : IsAntisymmetric name_cmp) where
@@ -85,8 +85,7 @@ module _ (M : Objects) (P : Rules) (m : FinMap way_cmp Block) (are : AreBlocksOf
       → f.name ≡ e.name → v ≡ w
   same_way v w e f i j s = sym (named_by v e i) ∙ ap (λ (n : PieceName). n.way) (sym s) ∙ named_by w f j
 
-  module _ (names : IsTotalOrder name_cmp) (lists : IsTotalOrder names_cmp) (list_ties : IsAntisymmetric names_cmp)
-      (one : OnePiece M P) (has : HasBlock M P) where
+  module _ (one : OnePiece M P) (has : HasBlock M P) where
     goal_of : (b : NodeId) (n : PieceName) (g : Goal) (w : WayId) → Contains (pieces_in (get m w)) g.piece.now
         → g.piece.now.name ≡ n → Arrives g.piece.now g.last b → IsGoalAt M P b n g
     goal_of b n g w i named l =
@@ -116,9 +115,9 @@ module _ (M : Objects) (P : Rules) (m : FinMap way_cmp Block) (are : AreBlocksOf
     are_goals b ways goals refers passed sound complete = record {
       sound = λ n g h. let r = sound n g h in goal_of b n g r.0 r.1 r.2 r.3;
       complete = λ p j is s.
-          let e = piece_entry M P names lists list_ties one p is in
-          let same = entry_of_piece M P names lists list_ties one p is in
-          let there = entry_in M P names lists list_ties one has m are p is in
+          let e = entry_of M P p is in
+          let same = entry_of_piece M P one p is in
+          let there = entry_in M P has m are p is in
           let l = stops_by M P p.way e.0 e.1 j b (subst (λ q. StopsAt M q j b) (sym same) s) in
           let has_way = refers p.way (stop_refers passed p.way e.0 e.1 j b l) in
           let held : Contains (pieces_in (get m p.way)) e.0

@@ -1,7 +1,6 @@
 -- The starts that the blocks of ways give are all starts.
 use Rattle.std.proofs.Common.{◌≡◌, ℕ, ◌≤◌, List, Option, Some, None, Contains, refl, sym, ◌∙◌, ap, subst}
-use Rattle.std.specs.Cmp.{IsTotalOrder}
-use Rattle.std.specs.FinMap.{FinMap, IsAntisymmetric, get}
+use Rattle.std.specs.FinMap.{FinMap, get}
 use Rattle.road_base.specs.declared.ids.NodeId.{NodeId}
 use Rattle.road_base.specs.declared.ids.WayId.{WayId}
 use Rattle.road_base.specs.declared.ids.Step.{Step}
@@ -12,7 +11,7 @@ use Rattle.road_model.specs.declared.blocks.Block.{Block}
 use Rattle.road_model.specs.Rules.{Rules}
 use Rattle.road_model.specs.Driving.{Leaves as LeavesNode}
 use Rattle.road_model.specs.Links.{RefersTo}
-use Rattle.road_model.specs.Orders.{way_cmp, name_cmp, names_cmp}
+use Rattle.road_model.specs.Orders.{way_cmp}
 use Rattle.road_model.specs.Blocks.{IsPieceEntry, name_of}
 use Rattle.road_model.specs.BlockMap.{AreBlocksOf}
 use Rattle.road_model.specs.Naming.{HasBlock, OnePiece}
@@ -21,15 +20,14 @@ use Rattle.drive_queries.specs.Searching.{BeginsAt}
 use Rattle.drive_queries.specs.Ends.{Leaves, pieces_in}
 use Rattle.drive_queries.specs.Sought.{AreStarts, IsStartAt}
 use Rattle.drive_queries.proofs.SearchEnds.{begins_at, begins_by, begin_refers}
-use Rattle.drive_queries.proofs.SearchEntries.{piece_entry, entry_of_piece, entry_in}
+use Rattle.drive_queries.proofs.SearchEntries.{entry_of, entry_of_piece, entry_in}
 
 block_there : (o : Option Block) (e : Piece) → Contains (pieces_in o) e → (b : Block) × (o ≡ Some b)
     × Contains b.pieces e
 block_there None e i = absurd (contains_none e i)
 block_there (Some b) e i = (b, refl, i)
 
-module _ (M : Objects) (P : Rules) (names : IsTotalOrder name_cmp) (lists : IsTotalOrder names_cmp)
-    (list_ties : IsAntisymmetric names_cmp) (one : OnePiece M P) (has : HasBlock M P) (m : FinMap way_cmp Block)
+module _ (M : Objects) (P : Rules) (one : OnePiece M P) (has : HasBlock M P) (m : FinMap way_cmp Block)
     (are : AreBlocksOf M P m) where
   pub listed_in : (w : WayId) (e : Piece) → Contains (pieces_in (get m w)) e → (v : WayId) × IsPieceEntry M P v e
   listed_in w e i =
@@ -54,9 +52,9 @@ module _ (M : Objects) (P : Rules) (names : IsTotalOrder name_cmp) (lists : IsTo
   are_starts a ways starts refers left sound complete = record {
     sound = λ s h. let r = sound s h in start_at a s r.0 r.1 r.2;
     complete = λ p i is b.
-        let e = piece_entry M P names lists list_ties one p is in
-        let same = entry_of_piece M P names lists list_ties one p is in
-        let there = entry_in M P names lists list_ties one has m are p is in
+        let e = entry_of M P p is in
+        let same = entry_of_piece M P one p is in
+        let there = entry_in M P has m are p is in
         let has_way = refers p.way (begin_refers M P left p is i a b) in
         let l = begins_by M P p.way e.0 e.1 i a (subst (λ q. BeginsAt M q i a) (sym same) b) in
         let held : Contains (pieces_in (get m p.way)) e.0

@@ -44,7 +44,6 @@ pub fn starts_of<'a, M: World, P: Profile>(
     requires { on network.now AreBlocksOf blocks.now.map }
     ensures { IfOk result (λ v. on network.now AreStarts node v.items) }
 {
-    name_order();
     one_name(&network.profile);
     has_block(&network.profile);
     roads_refer(&network.profile);

@@ -62,10 +62,9 @@ pub returns : goal.returns
 returns g c =
     let M = g.M.World.objects c.args.network.now.world.now in
     let P = g.P.Profile.rules c.args.network.now.profile in
-    let o = c.name_order.ensures in
     let ways = c.ways_at-way-items.result.now in
     let inv = c.loop-way.invariant in
-    are_goals M P c.args.blocks.now.map c.requires o.names o.lists o.list_ties (c.one_name.ensures.pieces M)
+    are_goals M P c.args.blocks.now.map c.requires (c.one_name.ensures.pieces M)
     (c.has_block.ensures M) c.args.node ways c.loop-way.goals c.ways_at-way-items.ensures.complete
     (c.roads_refer.ensures.passed M) inv.sound
     (λ w e j h. inv.complete w e j (subst (λ (xs : List WayId). Contains xs w)

@@ -36,10 +36,9 @@ pub returns : goal.returns
 returns g c =
     let M = g.M.World.objects c.args.network.now.world.now in
     let P = g.P.Profile.rules c.args.network.now.profile in
-    let o = c.name_order.ensures in
     let ways = c.ways_at-way-items.result.now in
     let inv = c.loop-way.invariant in
-    are_starts M P o.names o.lists o.list_ties (c.one_name.ensures.pieces M) (c.has_block.ensures M)
+    are_starts M P (c.one_name.ensures.pieces M) (c.has_block.ensures M)
     c.args.blocks.now.map c.requires c.args.node ways c.loop-way.starts.items c.ways_at-way-items.ensures.complete
     (c.roads_refer.ensures.left M) inv.sound
     (λ w e i h. inv.complete w e i (subst (λ (xs : List WayId). Contains xs w)
