@@ -1,26 +1,20 @@
 -- The number that a word of digits alone is parsed to.
-use Rattle.std.proofs.Common.{◌≡◌, ◌≢◌, ◌<◌, ◌^◌, ◌&&◌, ℕ, List, [], ◌∷◌, length, get_or, Bool, true, false}
+use Rattle.std.proofs.Common.{◌≡◌, ◌≢◌, ◌<◌, ◌^◌, ◌&&◌, ℕ, List, length, get_or, Bool, true, false}
 use Rattle.std.proofs.Common.{cond, refl, sym}
 use Rattle.std.proofs.Common.{ap, ◌∙◌, Some, None, true≢false}
 use Rattle.std.specs.Prelude.{nat_lt, Result, Ok, Err}
 use Rattle.std.specs.Bool.{Decides}
 use Rattle.std.specs.Result.{result_ok}
-use Rattle.std.specs.List.{list_all}
-use Rattle.std.specs.Char.{digit_value}
 use Rattle.std.specs.Str.Parse.{AllDigits, digits_value, ParsesUnsigned}
 use Rattle.std.proofs.lemmas.Bool.Decides.{Decides-and, Decides-ltb, Decides-like}
 use Rattle.std.proofs.lemmas.Str.Parse.{IsNumeralModel, numerals_by_value, tells_digits, parse_plain}
-use Rattle.opl_lexer.specs.Numbers.{is_digit, is_numeral}
+use Rattle.opl_lexer.specs.Numbers.{is_numeral}
+use Rattle.opl_lexer.proofs.Numerals.{decides_numeral}
 use Rattle.drive_queries.specs.Messages.{number_below}
 
 -- one digit or more, a value of 64 bits
 abbrev IsNumber : List ℕ → Type 0
 IsNumber word = AllDigits 10 word × (0 < length word) × (digits_value 10 word < 2 ^ 64)
-
-decides_digits : (cs : List ℕ) → Decides (list_all is_digit cs) (AllDigits 10 cs)
-decides_digits [] = (λ _. tt, λ _. refl)
-decides_digits (c ∷ cs) = Decides-and (is_digit c) (list_all is_digit cs) (Decides-ltb (digit_value c) 10)
-    (decides_digits cs)
 
 abbrev is_number : List ℕ → Bool
 is_number word = is_numeral word && nat_lt (digits_value 10 word) 18446744073709551616
@@ -29,7 +23,7 @@ decides_number : (word : List ℕ) → Decides (is_number word) (IsNumber word)
 decides_number word = Decides-like (is_number word)
     (λ h. (h.0.1, h.0.0, h.1)) (λ h. ((h.1, h.0), h.2))
     (Decides-and (is_numeral word) (nat_lt (digits_value 10 word) 18446744073709551616)
-    (Decides-and (nat_lt 0 (length word)) (list_all is_digit word) (Decides-ltb 0 (length word)) (decides_digits word))
+    (decides_numeral word)
     (Decides-ltb (digits_value 10 word) 18446744073709551616))
 
 chosen : {A : Type 0} (b : Bool) (P : Type 0) (v : A) → Decides b P → P → Some v ≡ cond b (Some v) None

@@ -44,6 +44,7 @@ pub use found::Found;
 pub use judging::judge;
 pub use messages::{Asked, message};
 pub use reaching::reach;
+pub use step_words::long_number;
 pub use totals::{Totals, counts};
 pub use verdict::{Rule, Verdict};
 pub use word_table::WordTable;

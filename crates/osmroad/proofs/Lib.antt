@@ -3,7 +3,6 @@ pub mod VisibleRestrictions
 pub mod DistinctLists
 pub mod OneFinding
 pub mod AuditLines
-pub mod ParsedNumbers
 pub mod Built
 pub mod LineLengths
 pub mod InputEnds

@@ -2,8 +2,8 @@
 use Rattle.std.specs.Prelude.{ℕ, List, [], ◌∷◌, Option, Some, None, Bool, false, cond, ◌&&◌, not, ◌==◌, nat_lt}
 use Rattle.std.specs.Prelude.{bytes_eq, codes, if◌then◌else◌}
 use Rattle.std.specs.Option.{option_and_then}
-use Rattle.std.specs.Str.Parse.{digits_value}
-use Rattle.opl_lexer.specs.Numbers.{is_numeral}
+use Rattle.opl_lexer.specs.Letters.{minus_sign}
+use Rattle.drive_queries.specs.Messages.{number_below}
 use Rattle.osmroad.specs.declared.command.Command.{Command}
 use Rattle.osmroad.specs.declared.command.Command.TheVariants.{Compile, Inspect, Sample, Create, Apply}
 use Rattle.osmroad.specs.declared.command.Command.TheVariants.{Graph, Audit, Checkpoint}
@@ -13,12 +13,11 @@ use Rattle.osmroad.specs.declared.command.Request.TheVariants.{Session, Command 
 -- a store's name isn't empty, and doesn't begin with `-`
 abbrev pub is_store : List ℕ → Bool
 is_store [] = false
-is_store (c ∷ cs) = not (c == 45)
+is_store (c ∷ cs) = not (c == minus_sign)
 
 -- a number is one digit or more, a value of 64 bits
 abbrev pub number_of : List ℕ → Option ℕ
-number_of word = cond (is_numeral word && nat_lt (digits_value 10 word) 18446744073709551616)
-    (Some (digits_value 10 word)) None
+number_of word = number_below 18446744073709551616 word
 
 -- a base isn't numbered by the last number of 64 bits, which no change could follow
 abbrev pub asked_base : ℕ → Option Command

@@ -2,8 +2,9 @@
 ghost use Rattle.std.specs.Prelude.{◌≡◌, map};
 ghost use Rattle.osmroad.specs.Commands.{asked, asks_session, asked_command};
 ghost use Rattle.osmroad.specs.Commands.{asked_by_two, asked_by_three, asked_without, asked_alone};
-ghost use Rattle.osmroad.specs.Commands.{asked_sample, asked_numbered, asked_base, is_store, number_of};
+ghost use Rattle.osmroad.specs.Commands.{asked_sample, asked_numbered, asked_base, is_store};
 
+use drive_queries::long_number;
 use road_base::Sequence;
 
 /// What a run is asked for.
@@ -100,12 +101,12 @@ fn asked_by_three(store: &str, name: &str, number: &str) -> Option<Command>
     ensures { result ≡ asked_by_three store.now name.now number.now }
 {
     if store == "-" {
-        return asked_sample(name, number_of(number)?);
+        return asked_sample(name, long_number(number)?);
     }
     if !is_store(store) {
         return None;
     }
-    asked_numbered(name, number_of(number)?)
+    asked_numbered(name, long_number(number)?)
 }
 
 fn asked_sample(name: &str, number: u64) -> Option<Command>
@@ -165,14 +166,4 @@ fn is_store(word: &str) -> bool
         [] | [b'-', ..] => false,
         _ => true,
     }
-}
-
-/// The number that digits alone spell.
-fn number_of(word: &str) -> Option<u64>
-    ensures { result ≡ number_of word.now }
-{
-    if word.starts_with('+') {
-        return None;
-    }
-    word.parse::<u64>().ok()
 }
