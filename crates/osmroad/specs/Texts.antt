@@ -1,57 +1,54 @@
 -- The lines that are put, each with its newline.
 use Rattle.std.specs.Prelude.{◌++◌, ℕ, List, [], ◌∷◌, codes}
 use Rattle.std.specs.Fmt.{decimal}
+use Rattle.opl_lexer.specs.Letters.{newline}
 use Rattle.opl_lexer.specs.Reading.{FaultAt}
-use Rattle.opl_lexer.specs.declared.fault.FaultKind.{FaultKind}
-use Rattle.opl_lexer.specs.declared.fault.FaultKind.TheVariants.{NotUtf8, UnknownLine, UnknownField, Repeated}
-use Rattle.opl_lexer.specs.declared.fault.FaultKind.TheVariants.{BadNumber, BadEscape, BadTag, BadMember, BadRef}
-use Rattle.opl_lexer.specs.declared.fault.FaultKind.TheVariants.{BadCoordinate, BadFlag, NoVersion, TooMany}
 use Rattle.drive_queries.specs.declared.totals.Totals.{Totals}
-use Rattle.reply_lines.specs.Texts.{counts_bytes}
+use Rattle.reply_lines.specs.Texts.{counts_bytes, kind_name}
 use Rattle.road_io.specs.declared.outside.Which.{Which}
 use Rattle.road_io.specs.declared.outside.Which.TheVariants.{A, B}
 
 abbrev pub usage_line : List ℕ
 usage_line =
     codes "usage: osmroad STORE create N|apply N|session|graph|audit|checkpoint, or osmroad - compile|inspect|sample N"
-    ++ 10 ∷ []
+    ++ newline ∷ []
 
 abbrev pub limit_line : List ℕ
-limit_line = codes "limit" ++ 10 ∷ []
+limit_line = codes "limit" ++ newline ∷ []
 
 abbrev pub no_store_line : List ℕ
-no_store_line = codes "no store" ++ 10 ∷ []
+no_store_line = codes "no store" ++ newline ∷ []
 
 abbrev pub store_exists_line : List ℕ
-store_exists_line = codes "store exists" ++ 10 ∷ []
+store_exists_line = codes "store exists" ++ newline ∷ []
 
 abbrev pub created_line : ℕ → List ℕ
-created_line n = codes "created " ++ (decimal n ++ 10 ∷ [])
+created_line n = codes "created " ++ (decimal n ++ newline ∷ [])
 
 abbrev pub applied_line : ℕ → List ℕ
-applied_line n = codes "applied " ++ (decimal n ++ 10 ∷ [])
+applied_line n = codes "applied " ++ (decimal n ++ newline ∷ [])
 
 -- the kept number
 abbrev pub checkpoint_line : ℕ → List ℕ
-checkpoint_line n = codes "checkpoint " ++ (decimal n ++ 10 ∷ [])
+checkpoint_line n = codes "checkpoint " ++ (decimal n ++ newline ∷ [])
 
 -- how large a graph is
 abbrev pub counts_line : Totals → List ℕ
-counts_line totals = counts_bytes totals ++ 10 ∷ []
+counts_line totals = counts_bytes totals ++ newline ∷ []
 
 -- `sample Q ways W pieces P contexts C arcs A bytes LEN`, with its newline: how large the graph behind change Q is
 abbrev pub sample_line : ℕ → Totals → ℕ → List ℕ
 sample_line q totals bytes = codes "sample "
     ++ (decimal q ++ (codes " "
-    ++ (counts_bytes totals ++ (codes " bytes " ++ (decimal bytes ++ 10 ∷ [])))))
+    ++ (counts_bytes totals ++ (codes " bytes " ++ (decimal bytes ++ newline ∷ [])))))
 
 -- bytes that are no graph file
 abbrev pub refused_graph_line : List ℕ
-refused_graph_line = codes "refused graph" ++ 10 ∷ []
+refused_graph_line = codes "refused graph" ++ newline ∷ []
 
 -- the number that came, and the kept one
 abbrev pub sequence_line : ℕ → ℕ → List ℕ
-sequence_line n kept = codes "sequence " ++ (decimal n ++ (codes " kept " ++ (decimal kept ++ 10 ∷ [])))
+sequence_line n kept = codes "sequence " ++ (decimal n ++ (codes " kept " ++ (decimal kept ++ newline ∷ [])))
 
 abbrev pub file_letter : Which → List ℕ
 file_letter A = codes "a"
@@ -59,25 +56,10 @@ file_letter B = codes "b"
 
 -- the file, and the place of the gate of its first part in fault
 abbrev pub damaged_line : Which → ℕ → List ℕ
-damaged_line file offset = codes "damaged " ++ (file_letter file ++ (codes " " ++ (decimal offset ++ 10 ∷ [])))
-
-abbrev pub kind_name : FaultKind → List ℕ
-kind_name NotUtf8 = codes "NotUtf8"
-kind_name UnknownLine = codes "UnknownLine"
-kind_name UnknownField = codes "UnknownField"
-kind_name Repeated = codes "Repeated"
-kind_name BadNumber = codes "BadNumber"
-kind_name BadEscape = codes "BadEscape"
-kind_name BadTag = codes "BadTag"
-kind_name BadMember = codes "BadMember"
-kind_name BadRef = codes "BadRef"
-kind_name BadCoordinate = codes "BadCoordinate"
-kind_name BadFlag = codes "BadFlag"
-kind_name NoVersion = codes "NoVersion"
-kind_name TooMany = codes "TooMany"
+damaged_line file offset = codes "damaged " ++ (file_letter file ++ (codes " " ++ (decimal offset ++ newline ∷ [])))
 
 -- `refused line L field F KIND`, with its newline
 abbrev pub refused_line : FaultAt → List ℕ
 refused_line fault = codes "refused line "
     ++ (decimal fault.line ++ (codes " field "
-    ++ (decimal fault.field ++ (codes " " ++ (kind_name fault.kind ++ 10 ∷ [])))))
+    ++ (decimal fault.field ++ (codes " " ++ (kind_name fault.kind ++ newline ∷ [])))))

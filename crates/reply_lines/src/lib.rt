@@ -1,7 +1,7 @@
 //! The texts of replies: steps, verdicts, faults and sizes.
 //!
-//! Each call appends its text, without a newline, in time linear in the text. Where no memory is found, nothing is
-//! appended.
+//! Each call but `kind_name` appends its text, without a newline, in time linear in the text. Where no memory is found,
+//! nothing is appended.
 #![tactic(auto)]
 
 mod digits;
@@ -10,7 +10,7 @@ mod texts;
 mod verdict_texts;
 
 pub use step_texts::step_text;
-pub use texts::{counts_text, fault_text};
+pub use texts::{counts_text, fault_text, kind_name};
 pub use verdict_texts::verdict_text;
 
 #[cfg(test)]

@@ -9,8 +9,8 @@ use opl_objects::Fault;
 use road_base::NoMemory;
 use std::alloc::{AllocError, Global};
 
-/// The name of a kind of fault.
-fn kind_name(kind: FaultKind) -> &'static str
+/// The name of a kind of fault, as replies and last lines have it.
+pub fn kind_name(kind: FaultKind) -> &'static str
     ensures { result.now ≡ kind_name kind }
 {
     match kind {
