@@ -85,7 +85,7 @@ impl Input {
         self.check(line.len() - 1, 1)?;
         Ok(Taken {
             used: line.len(),
-            received: self.end_line(line)?,
+            received: self.receive_line(line)?,
         })
     }
 
@@ -198,7 +198,7 @@ impl Input {
     }
 
     /// Ends the line with these bytes, the last of which is the newline.
-    fn end_line(&mut self, line: &[u8]) -> Result<Option<Received>, InputStop>
+    fn receive_line(&mut self, line: &[u8]) -> Result<Option<Received>, InputStop>
         requires whole { IsWholeLine line.now }
         requires some { 0 < length line.now }
         requires room { HasRoom self.old (length line.now - 1) 1 }

@@ -1,7 +1,7 @@
 use Rattle.std.proofs.Common.{◌+◌, ◌++◌, length, refl, arith, ap, subst, length-append}
 use Rattle.session_input.specs.Holding.{LeadsTo}
 use Rattle.session_input.proofs.HoldingSteps.{holds_line, holds_none, receives_line, whole_both}
-use Rattle.session_input.proofs.input.Input.end_line.Goals as goal
+use Rattle.session_input.proofs.input.Input.receive_line.Goals as goal
 
 pub returns-in-Open-clause-more : goal.returns-in-Open-clause-more
 returns-in-Open-clause-more c = λ before bytes holds.
