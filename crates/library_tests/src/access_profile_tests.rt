@@ -1,7 +1,7 @@
 //! Both classes of ways with each key that may decide, the order of these keys, and what restrictions say.
 use crate::makers::{tags, tags_of, text};
 use access_profile::{Motorcar, deciding};
-use road_base::Dir;
+use road_base::{Dir, NoMemory, Tags, Text};
 use road_model::{Access, AccessKey, ClosedBy, Profile, RuleKind};
 use std::alloc::Global;
 use std::test::Fail;
@@ -61,74 +61,109 @@ const KEYS: [(&str, AccessKey, Option<Dir>); 8] = [
     ("access", AccessKey::Access, None),
 ];
 
+/// What is answered along a way of the class with this value of the key.
+fn along(alloc: Global, class: &str, key: &str, value: &str) -> Result<Access, Fail> {
+    let of = format!(in alloc; "highway={class} {key}={value}")?;
+    Ok(directions(alloc, &of)?.0)
+}
+
+/// The first of these classes of which another answer is given.
+fn first_other<'a>(
+    alloc: Global,
+    classes: &[&'a str],
+    key: &str,
+    value: &str,
+    want: Access,
+) -> Result<Option<&'a str>, Fail> {
+    for class in classes {
+        if along(alloc, class, key, value)? != want {
+            return Ok(Some(*class));
+        }
+    }
+    Ok(None)
+}
+
 #[test]
-fn each_key_decides_in_each_class(rt: HostRuntime) -> Result<(), Fail> {
+fn each_key_decides_for_cars(rt: HostRuntime) -> Result<(), Fail> {
+    let alloc = rt.alloc();
     for (key, name, side) in KEYS {
-        let opens = if matches!(name, AccessKey::Motorcar | AccessKey::MotorVehicle) {
-            (Access::Free, closed(name, side))
-        } else {
-            (BY_HIGHWAY, BY_HIGHWAY)
-        };
-        for class in FOR_CARS {
-            let open = format!(in rt.alloc(); "highway={class} {key}=permissive")?;
-            assert_eq!(rt;
-                directions(rt.alloc(), &open)?.0,
-                Access::Free,
-                "at {open:?}"
-            );
-            let shut = format!(in rt.alloc(); "highway={class} {key}=private")?;
-            assert_eq!(rt;
-                directions(rt.alloc(), &shut)?.0,
-                closed(name, side),
-                "at {shut:?}"
-            );
-        }
-        for class in FOR_OTHERS {
-            let open = format!(in rt.alloc(); "highway={class} {key}=permissive")?;
-            assert_eq!(rt; directions(rt.alloc(), &open)?.0, opens.0, "at {open:?}");
-            let shut = format!(in rt.alloc(); "highway={class} {key}=")?;
-            assert_eq!(rt; directions(rt.alloc(), &shut)?.0, opens.1, "at {shut:?}");
-        }
+        let open = first_other(alloc, &FOR_CARS, key, "permissive", Access::Free)?;
+        assert_eq!(rt; open, None, "at {key}");
+        let shut = first_other(alloc, &FOR_CARS, key, "private", closed(name, side))?;
+        assert_eq!(rt; shut, None, "at {key}");
     }
     Ok(())
 }
 
+/// What is answered of a way for others where the value of the key opens, and where it doesn't.
+fn for_others(name: AccessKey, side: Option<Dir>) -> (Access, Access) {
+    match name {
+        AccessKey::Motorcar | AccessKey::MotorVehicle => (Access::Free, closed(name, side)),
+        _ => (BY_HIGHWAY, BY_HIGHWAY),
+    }
+}
+
+#[test]
+fn keys_of_motors_decide_for_others(rt: HostRuntime) -> Result<(), Fail> {
+    let alloc = rt.alloc();
+    for (key, name, side) in KEYS {
+        let (opened, closed) = for_others(name, side);
+        let open = first_other(alloc, &FOR_OTHERS, key, "permissive", opened)?;
+        assert_eq!(rt; open, None, "at {key}");
+        let shut = first_other(alloc, &FOR_OTHERS, key, "", closed)?;
+        assert_eq!(rt; shut, None, "at {key}");
+    }
+    Ok(())
+}
+
+const OTHER_CLASSES: [&str; 9] = [
+    "",
+    "construction",
+    "proposed",
+    "steps",
+    "corridor",
+    "raceway",
+    "Primary",
+    "primary;service",
+    "tracks",
+];
+
+/// Tags that decide nothing.
+const RESTS: [&str; 6] = [
+    "",
+    "access:conditional=no",
+    "motorcar:lanes=no",
+    "bicycle=no",
+    "area=no",
+    "vehicle:both=no",
+];
+
+/// The first of these classes whose ways aren't answered so in both directions.
+fn first_not_so<'a>(
+    alloc: Global,
+    classes: &[&'a str],
+    rest: &str,
+    want: Access,
+) -> Result<Option<&'a str>, Fail> {
+    for class in classes {
+        let of = format!(in alloc; "highway={class} {rest}")?;
+        if directions(alloc, &of)? != (want, want) {
+            return Ok(Some(*class));
+        }
+    }
+    Ok(None)
+}
+
 #[test]
 fn classes_decide_without_a_key(rt: HostRuntime) -> Result<(), Fail> {
-    let others = [
-        "",
-        "construction",
-        "proposed",
-        "steps",
-        "corridor",
-        "raceway",
-        "Primary",
-        "primary;service",
-        "tracks",
-    ];
-    for rest in [
-        "",
-        "access:conditional=no",
-        "motorcar:lanes=no",
-        "bicycle=no",
-        "area=no",
-        "vehicle:both=no",
-    ] {
-        for class in FOR_CARS {
-            let of = format!(in rt.alloc(); "highway={class} {rest}")?;
-            assert_eq!(rt;
-                directions(rt.alloc(), &of)?,
-                (Access::Free, Access::Free),
-                "at {of:?}"
-            );
-        }
-        for class in FOR_OTHERS.into_iter().chain(others) {
-            let of = format!(in rt.alloc(); "highway={class} {rest}")?;
-            assert_eq!(rt;
-                directions(rt.alloc(), &of)?,
-                (BY_HIGHWAY, BY_HIGHWAY),
-                "at {of:?}"
-            );
+    for rest in RESTS {
+        for (classes, want) in [
+            (FOR_CARS.as_slice(), Access::Free),
+            (FOR_OTHERS.as_slice(), BY_HIGHWAY),
+            (OTHER_CLASSES.as_slice(), BY_HIGHWAY),
+        ] {
+            let other = first_not_so(rt.alloc(), classes, rest, want)?;
+            assert_eq!(rt; other, None, "at {rest:?}");
         }
         assert_eq!(rt;
             directions(rt.alloc(), rest)?,
@@ -139,58 +174,84 @@ fn classes_decide_without_a_key(rt: HostRuntime) -> Result<(), Fail> {
     Ok(())
 }
 
+const FREE: Access = Access::Free;
+
+const AREA: Access = Access::Closed(ClosedBy::Area);
+
+const WRONG: Access = Access::WrongWay;
+
+const NO_MOTORS: Access = Access::Closed(ClosedBy::Deciding {
+    name: AccessKey::MotorVehicle,
+    side: None,
+});
+
+const NO_MOTORS_BACK: Access = Access::Closed(ClosedBy::Deciding {
+    name: AccessKey::MotorVehicle,
+    side: Some(Dir::Backward),
+});
+
+const NO_ACCESS: Access = Access::Closed(ClosedBy::Deciding {
+    name: AccessKey::Access,
+    side: None,
+});
+
+const NO_ACCESS_ALONG: Access = Access::Closed(ClosedBy::Deciding {
+    name: AccessKey::Access,
+    side: Some(Dir::Forward),
+});
+
+const NO_MOTORCAR: Access = Access::Closed(ClosedBy::Deciding {
+    name: AccessKey::Motorcar,
+    side: None,
+});
+
+/// Tags, and the answers along the way and against it.
+const REASONS: [(&str, Access, Access); 16] = [
+    (
+        "highway=service access=no motorcar=yes motor_vehicle:backward=no",
+        FREE,
+        FREE,
+    ),
+    (
+        "highway=service vehicle=yes access=no motor_vehicle:backward=no",
+        FREE,
+        NO_MOTORS_BACK,
+    ),
+    ("highway=track vehicle=yes", BY_HIGHWAY, BY_HIGHWAY),
+    (
+        "highway=track vehicle=yes motor_vehicle=no",
+        NO_MOTORS,
+        NO_MOTORS,
+    ),
+    (
+        "highway=track motor_vehicle:forward=yes access=yes",
+        FREE,
+        BY_HIGHWAY,
+    ),
+    ("highway=motorway", FREE, WRONG),
+    ("highway=motorway oneway=-1", WRONG, FREE),
+    ("highway=service junction=roundabout", FREE, WRONG),
+    ("highway=service oneway=reversible", WRONG, WRONG),
+    ("highway=service oneway=yes access=no", NO_ACCESS, NO_ACCESS),
+    ("highway=service area=yes", AREA, AREA),
+    ("area=yes motorcar=no oneway=yes", AREA, AREA),
+    ("highway=footway area=yes", AREA, AREA),
+    ("railway=rail motorcar=yes", BY_HIGHWAY, BY_HIGHWAY),
+    (
+        "highway=service access:forward=no access=yes",
+        NO_ACCESS_ALONG,
+        FREE,
+    ),
+    (
+        "highway=service motorcar=no motorcar:forward=destination",
+        FREE,
+        NO_MOTORCAR,
+    ),
+];
+
 #[test]
 fn first_reason_closes(rt: HostRuntime) -> Result<(), Fail> {
-    let free = Access::Free;
-    let area = Access::Closed(ClosedBy::Area);
-    let wrong = Access::WrongWay;
-    let no_motors_back = closed(AccessKey::MotorVehicle, Some(Dir::Backward));
-    for (of, along, against) in [
-        (
-            "highway=service access=no motorcar=yes motor_vehicle:backward=no",
-            free,
-            free,
-        ),
-        (
-            "highway=service vehicle=yes access=no motor_vehicle:backward=no",
-            free,
-            no_motors_back,
-        ),
-        ("highway=track vehicle=yes", BY_HIGHWAY, BY_HIGHWAY),
-        (
-            "highway=track vehicle=yes motor_vehicle=no",
-            closed(AccessKey::MotorVehicle, None),
-            closed(AccessKey::MotorVehicle, None),
-        ),
-        (
-            "highway=track motor_vehicle:forward=yes access=yes",
-            free,
-            BY_HIGHWAY,
-        ),
-        ("highway=motorway", free, wrong),
-        ("highway=motorway oneway=-1", wrong, free),
-        ("highway=service junction=roundabout", free, wrong),
-        ("highway=service oneway=reversible", wrong, wrong),
-        (
-            "highway=service oneway=yes access=no",
-            closed(AccessKey::Access, None),
-            closed(AccessKey::Access, None),
-        ),
-        ("highway=service area=yes", area, area),
-        ("area=yes motorcar=no oneway=yes", area, area),
-        ("highway=footway area=yes", area, area),
-        ("railway=rail motorcar=yes", BY_HIGHWAY, BY_HIGHWAY),
-        (
-            "highway=service access:forward=no access=yes",
-            closed(AccessKey::Access, Some(Dir::Forward)),
-            free,
-        ),
-        (
-            "highway=service motorcar=no motorcar:forward=destination",
-            free,
-            closed(AccessKey::Motorcar, None),
-        ),
-    ] {
+    for (of, along, against) in REASONS {
         assert_eq!(rt; directions(rt.alloc(), of)?, (along, against), "at {of:?}");
     }
     Ok(())
@@ -218,19 +279,22 @@ fn deciding_keys_are_named(rt: HostRuntime) -> Result<(), Fail> {
     Ok(())
 }
 
+/// Tags of a node, whether one may turn there, and whether it lets through.
+const NODES: [(&str, bool, bool); 5] = [
+    ("highway=turning_circle", true, true),
+    ("highway=turning_loop barrier=bollard", true, false),
+    ("highway=turning_circle;crossing barrier=gate", false, true),
+    (
+        "turning_circle=yes barrier=bollard motorcar=yes",
+        false,
+        true,
+    ),
+    ("", false, true),
+];
+
 #[test]
 fn nodes_turn_and_let_through(rt: HostRuntime) -> Result<(), Fail> {
-    for (of, turns, open) in [
-        ("highway=turning_circle", true, true),
-        ("highway=turning_loop barrier=bollard", true, false),
-        ("highway=turning_circle;crossing barrier=gate", false, true),
-        (
-            "turning_circle=yes barrier=bollard motorcar=yes",
-            false,
-            true,
-        ),
-        ("", false, true),
-    ] {
+    for (of, turns, open) in NODES {
         let tags = tags(rt.alloc(), of)?;
         assert_eq!(rt; Motorcar.turns(&tags), turns, "at {of:?}");
         assert_eq!(rt; Motorcar.node_open(&tags), open, "at {of:?}");
@@ -238,60 +302,80 @@ fn nodes_turn_and_let_through(rt: HostRuntime) -> Result<(), Fail> {
     Ok(())
 }
 
+const KINDS: [(&str, RuleKind); 16] = [
+    ("restriction=no_left_turn", RuleKind::No),
+    ("restriction=no_", RuleKind::No),
+    ("restriction=only_straight_on", RuleKind::Only),
+    ("restriction=no", RuleKind::Absent),
+    ("restriction=give_way", RuleKind::Absent),
+    ("restriction= ", RuleKind::Absent),
+    ("restriction:hgv=no_left_turn", RuleKind::Absent),
+    ("restriction:motorcar=only_left_turn", RuleKind::Only),
+    (
+        "restriction:motorcar=none restriction=no_left_turn",
+        RuleKind::Absent,
+    ),
+    (
+        "restriction:motorcar= restriction=no_left_turn",
+        RuleKind::Absent,
+    ),
+    ("except=motorcar restriction=no_left_turn", RuleKind::Freed),
+    ("except=vehicle", RuleKind::Freed),
+    (
+        "except=psv;motorcar restriction=only_left_turn",
+        RuleKind::Freed,
+    ),
+    (
+        "except=psv;bicycle restriction=only_left_turn",
+        RuleKind::Only,
+    ),
+    ("except=motorcars restriction=no_left_turn", RuleKind::No),
+    ("except= restriction=no_left_turn", RuleKind::No),
+];
+
 #[test]
 fn restrictions_have_a_kind(rt: HostRuntime) -> Result<(), Fail> {
-    for (of, kind) in [
-        ("restriction=no_left_turn", RuleKind::No),
-        ("restriction=no_", RuleKind::No),
-        ("restriction=only_straight_on", RuleKind::Only),
-        ("restriction=no", RuleKind::Absent),
-        ("restriction=give_way", RuleKind::Absent),
-        ("restriction= ", RuleKind::Absent),
-        ("restriction:hgv=no_left_turn", RuleKind::Absent),
-        ("restriction:motorcar=only_left_turn", RuleKind::Only),
-        (
-            "restriction:motorcar=none restriction=no_left_turn",
-            RuleKind::Absent,
-        ),
-        (
-            "restriction:motorcar= restriction=no_left_turn",
-            RuleKind::Absent,
-        ),
-        ("except=motorcar restriction=no_left_turn", RuleKind::Freed),
-        ("except=vehicle", RuleKind::Freed),
-        (
-            "except=psv;motorcar restriction=only_left_turn",
-            RuleKind::Freed,
-        ),
-        (
-            "except=psv;bicycle restriction=only_left_turn",
-            RuleKind::Only,
-        ),
-        ("except=motorcars restriction=no_left_turn", RuleKind::No),
-        ("except= restriction=no_left_turn", RuleKind::No),
-    ] {
-        assert_eq!(rt; Motorcar.rule(&tags(rt.alloc(), of)?), kind, "at {of:?}");
+    for (of, kind) in KINDS {
+        let tags = tags(rt.alloc(), of)?;
+        assert_eq!(rt; Motorcar.rule(&tags), kind, "at {of:?}");
     }
     Ok(())
 }
 
+/// Values of `except`, and the kind of a restriction with them.
+const EXCEPTIONS: [(&str, RuleKind); 7] = [
+    ("psv ;  motor_vehicle ; taxi", RuleKind::Freed),
+    ("  motorcar", RuleKind::Freed),
+    (";vehicle ", RuleKind::Freed),
+    ("motor car", RuleKind::No),
+    ("motorcar,psv", RuleKind::No),
+    ("\tmotorcar", RuleKind::No),
+    ("  ", RuleKind::No),
+];
+
+fn add_tag(
+    alloc: Global,
+    list: &mut Vec<(Text, Text)>,
+    key: &str,
+    value: &str,
+) -> Result<(), NoMemory> {
+    let key = text(alloc, key)?;
+    list.push((key, text(alloc, value)?))?;
+    Ok(())
+}
+
+/// The tags of a restriction with an exception.
+fn excepted(alloc: Global, value: &str) -> Result<Tags, Fail> {
+    let mut list = Vec::new(alloc);
+    add_tag(alloc, &mut list, "except", value)?;
+    add_tag(alloc, &mut list, "restriction", "no_left_turn")?;
+    tags_of(list)
+}
+
 #[test]
 fn spaces_around_an_exception_are_dropped(rt: HostRuntime) -> Result<(), Fail> {
-    for (value, kind) in [
-        ("psv ;  motor_vehicle ; taxi", RuleKind::Freed),
-        ("  motorcar", RuleKind::Freed),
-        (";vehicle ", RuleKind::Freed),
-        ("motor car", RuleKind::No),
-        ("motorcar,psv", RuleKind::No),
-        ("\tmotorcar", RuleKind::No),
-        ("  ", RuleKind::No),
-    ] {
-        let except = (text(rt.alloc(), "except")?, text(rt.alloc(), value)?);
-        let rule = (
-            text(rt.alloc(), "restriction")?,
-            text(rt.alloc(), "no_left_turn")?,
-        );
-        let tags = tags_of(vec![in rt.alloc(); except, rule]?)?;
+    for (value, kind) in EXCEPTIONS {
+        let tags = excepted(rt.alloc(), value)?;
         assert_eq!(rt; Motorcar.rule(&tags), kind, "at {value:?}");
     }
     Ok(())

@@ -1,10 +1,10 @@
 //! What a change costs, and that the graph behind changes is that of all their events.
 ghost use Rattle.std.specs.Prelude.{◌≡◌, ◌<◌};
 
+use crate::makers::events_of;
 use access_profile::Motorcar;
 use change_apply::{Engine, Report};
 use graph_file::write;
-use opl_objects::{Mode, Reader};
 use road_base::{Event, Steps};
 use road_model::Profile;
 use std::alloc::Global;
@@ -16,18 +16,6 @@ const NOTHING: Report = Report {
     touched: 0,
     rebuilt: 0,
 };
-
-/// The events of the change.
-fn events_of(alloc: Global, change: &[u8]) -> Result<Vec<Event>, Fail> {
-    let mut reader = Reader::new(alloc, Mode::Change);
-    if reader.feed(change).is_err() {
-        return Err(Fail::from("the change isn't read"));
-    }
-    match reader.finish() {
-        Ok(events) => Ok(events),
-        Err(_) => Err(Fail::from("the change isn't read")),
-    }
-}
 
 /// The bytes of the graph.
 fn graph_of(alloc: Global, engine: &mut Engine<Motorcar>) -> Result<Vec<u8>, Fail> {
@@ -48,7 +36,7 @@ fn follow<L: Ledger>(
 ) -> Result<Report, Fail> {
     let mut events = events_of(alloc, change)?;
     let report = engine.apply(&events, steps)?;
-    graph_of(alloc, engine)?;
+    let _ = graph_of(alloc, engine)?;
     all.append(&mut events)?;
     Ok(report)
 }
@@ -118,18 +106,20 @@ const PASSED: &[u8] = b"n1 v1 x0.001 y0\nn2 v1 x0.002 y0\nn3 v1 x0.003 y0\nn4 v1
 /// away, is built too; way 3, six links away, isn't.
 const JOINED: &[u8] = b"w4 v1 Thighway=residential Nn6,n2\n";
 
+/// Changes, how many ways the last of them touches, and how many blocks are built behind it.
+const ROWS: [(&[&[u8]], u64, u64); 7] = [
+    (&[CHAIN], 10, 10),
+    (&[CHAIN, SAME], 0, 0),
+    (&[CHAIN, MOVED], 4, 2),
+    (&[CHAIN, MOVED, GONE], 6, 3),
+    (&[CHAIN, MOVED, GONE, LONGER], 10, 5),
+    (&[PASSED], 3, 3),
+    (&[PASSED, JOINED], 4, 3),
+];
+
 #[test]
 fn changes_touch_what_is_near(rt: HostRuntime) -> Result<(), Fail> {
-    let rows: [(&[&[u8]], u64, u64); 7] = [
-        (&[CHAIN], 10, 10),
-        (&[CHAIN, SAME], 0, 0),
-        (&[CHAIN, MOVED], 4, 2),
-        (&[CHAIN, MOVED, GONE], 6, 3),
-        (&[CHAIN, MOVED, GONE, LONGER], 10, 5),
-        (&[PASSED], 3, 3),
-        (&[PASSED, JOINED], 4, 3),
-    ];
-    for (changes, touched, rebuilt) in rows {
+    for (changes, touched, rebuilt) in ROWS {
         let (report, same) = followed::<Brand>(rt.alloc(), changes, Blank::new(1))?;
         assert_eq!(rt; report.touched, touched);
         assert_eq!(rt; report.rebuilt, rebuilt);

@@ -1,33 +1,17 @@
 //! What is replied of drives and pairs of nodes, on drawn maps and on a village.
 ghost use Rattle.std.specs.Prelude.{◌≡◌, ◌<◌};
 
+use crate::makers::extract_of;
 use access_profile::Motorcar;
 use change_apply::Engine;
 use drive_queries::{Asked, Found, WordTable, judge, message, reach};
-use opl_objects::{Mode, Reader};
 use reply_lines::verdict_text;
-use road_base::{NodeId, Step, Steps};
+use road_base::{NoMemory, NodeId, Step, Steps};
 use std::alloc::Global;
 use std::marker::Brand;
 use std::sync::ledger::{Blank, Ledger};
 use std::test::Fail;
 use way_lines::{head, tail};
-
-/// The world and blocks of an extract.
-fn engine_of<L: Ledger>(
-    alloc: Global,
-    lines: &[u8],
-    steps: &mut Steps<L>,
-) -> Result<Engine<Motorcar>, Fail> {
-    let mut reader = Reader::new(alloc, Mode::Extract);
-    if reader.feed(lines).is_err() {
-        return Err(Fail::from("the extract isn't read"));
-    }
-    match reader.finish() {
-        Ok(events) => Ok(Engine::load(alloc, Motorcar, events, steps)?),
-        Err(_) => Err(Fail::from("the extract isn't read")),
-    }
-}
 
 /// The verdict on the drive.
 fn judged(alloc: Global, engine: &Engine<Motorcar>, drive: &[Step]) -> Result<Vec<u8>, Fail> {
@@ -51,6 +35,38 @@ fn leads(engine: &Engine<Motorcar>, drive: &[Step], a: NodeId, b: NodeId) -> boo
     }
 }
 
+/// What is found between the nodes.
+fn found(
+    alloc: Global,
+    engine: &mut Engine<Motorcar>,
+    a: NodeId,
+    b: NodeId,
+) -> Result<Found, NoMemory> {
+    let graph = engine.graph()?;
+    reach(alloc, &graph.world, &graph.profile, &graph.blocks, a, b)
+}
+
+/// That the node isn't there.
+fn no_node(alloc: Global, node: NodeId) -> Result<Vec<u8>, Fail> {
+    let node = node.0;
+    Ok(format!(in alloc; "no-node {node}")?.into_bytes())
+}
+
+/// The verdict on the drive, where it leads from one node to the other.
+fn judged_between(
+    alloc: Global,
+    engine: &Engine<Motorcar>,
+    drive: &[Step],
+    a: NodeId,
+    b: NodeId,
+) -> Result<Vec<u8>, Fail> {
+    if leads(engine, drive, a, b) {
+        judged(alloc, engine, drive)
+    } else {
+        Err(Fail::from("the drive leads elsewhere"))
+    }
+}
+
 /// The verdict on the drive that is found between the nodes, or why there is none.
 fn reached(
     alloc: Global,
@@ -58,17 +74,9 @@ fn reached(
     a: NodeId,
     b: NodeId,
 ) -> Result<Vec<u8>, Fail> {
-    let graph = engine.graph()?;
-    let found = reach(alloc, &graph.world, &graph.profile, &graph.blocks, a, b)?;
-    match found {
-        Found::Drive(drive) if leads(engine, drive.items(), a, b) => {
-            judged(alloc, engine, drive.items())
-        }
-        Found::Drive(_) => Ok(b"elsewhere".to_vec(alloc)?),
-        Found::NoNode(node) => {
-            let node = node.0;
-            Ok(format!(in alloc; "no-node {node}")?.into_bytes())
-        }
+    match found(alloc, engine, a, b)? {
+        Found::Drive(drive) => judged_between(alloc, engine, drive.items(), a, b),
+        Found::NoNode(node) => no_node(alloc, node),
         Found::Nowhere => Ok(b"none".to_vec(alloc)?),
     }
 }
@@ -82,8 +90,32 @@ fn replied(alloc: Global, engine: &mut Engine<Motorcar>, line: &str) -> Result<V
     }
 }
 
-/// The first line on the map to which another reply is given than the one beside it.
-fn first_other<'a, L: Ledger>(
+/// Whether this is replied to the line.
+fn replies(
+    alloc: Global,
+    engine: &mut Engine<Motorcar>,
+    line: &str,
+    want: &str,
+) -> Result<bool, Fail> {
+    Ok(replied(alloc, engine, line)?.as_slice() == want.as_bytes())
+}
+
+/// The first of the lines to which another reply is given than the one beside it.
+fn first_other<'a>(
+    alloc: Global,
+    engine: &mut Engine<Motorcar>,
+    rows: &[(&'a str, &str)],
+) -> Result<Option<&'a str>, Fail> {
+    for (line, want) in rows {
+        if !replies(alloc, engine, line, want)? {
+            return Ok(Some(*line));
+        }
+    }
+    Ok(None)
+}
+
+/// The same on the map of an extract.
+fn first_other_on<'a, L: Ledger>(
     alloc: Global,
     lines: &[u8],
     rows: &[(&'a str, &str)],
@@ -94,13 +126,8 @@ fn first_other<'a, L: Ledger>(
     requires some { 0 < L.parts }
 {
     let mut steps = Steps::<L>::new(blank);
-    let mut engine = engine_of(alloc, lines, &mut steps)?;
-    for (line, want) in rows {
-        if replied(alloc, &mut engine, line)?.as_slice() != want.as_bytes() {
-            return Ok(Some(*line));
-        }
-    }
-    Ok(None)
+    let mut engine = Engine::load(alloc, Motorcar, extract_of(alloc, lines)?, &mut steps)?;
+    first_other(alloc, &mut engine, rows)
 }
 
 /// A roundabout that is driven against its line.
@@ -163,78 +190,78 @@ const VILLAGE: &[u8] = b"n101 x8.5 y50.1\nn102 x8.501 y50.1\nn103 Thighway=cross
     r301 Ttype=multipolygon,building=yes Mw204@outer\nr302 Ttype=route,route=bus Mw201@,w203@\n\
     r303 Ttype=restriction,restriction=no_right_turn Mw201@from,n103@via,w202@to\n";
 
+/// The maps, with lines and what is replied to them.
+const MAPS: [(&[u8], &[(&str, &str)]); 11] = [
+    (
+        ROUNDABOUT,
+        &[
+            ("drive w10.0+", "broken 1 wrong-way"),
+            ("drive w10.2- w10.1-", "legal"),
+        ],
+    ),
+    (
+        BOLLARD,
+        &[
+            ("drive w10.0+ w10.1+", "broken 2 barrier 2"),
+            ("drive w10.0+ w10.0-", "legal"),
+            ("reach 1 3", "none"),
+        ],
+    ),
+    (
+        OPEN_BOLLARD,
+        &[("reach 1 3", "legal"), ("reach 1 9", "no-node 9")],
+    ),
+    (
+        THERE_AND_BACK,
+        &[("drive w10.0+ w10.1+", "broken 2 reversal 2")],
+    ),
+    (ONEWAY_BACK, &[("drive w10.0+ w10.1+", "legal")]),
+    (
+        NO_TURN,
+        &[
+            ("drive w10.0+ w11.0+", "broken 2 no 5"),
+            ("reach 1 3", "legal"),
+        ],
+    ),
+    (EXCEPTED, &[("drive w10.0+ w11.0+", "legal")]),
+    (
+        TWO_ONLY,
+        &[
+            ("drive w10.0+ w11.0+", "legal"),
+            ("drive w10.0+ w12.0+", "legal"),
+            ("drive w10.0+ w13.0+", "broken 2 only 5"),
+        ],
+    ),
+    (CHAIN, &[("drive w2.0+ w3.0+ w4.0+", "legal")]),
+    (
+        BOUND_CHAIN,
+        &[
+            ("drive w1.0+ w2.0+ w3.0+ w4.0+", "broken 4 no 20"),
+            ("drive w2.0+ w3.0+ w4.0+", "broken 3 only 21"),
+        ],
+    ),
+    (
+        VILLAGE,
+        &[
+            ("drive w201.5+", "broken 1 no-step"),
+            ("drive w999.0+", "broken 1 no-step"),
+            ("drive w204.0+", "broken 1 closed highway"),
+            ("drive w201.0+ w203.0+", "broken 2 apart"),
+            ("drive w201.0+ w201.0-", "broken 2 reversal 102"),
+            ("drive w203.0+ w203.0-", "legal"),
+            ("drive w201.1+ w202.0+", "broken 2 no 303"),
+            ("drive w202.0- w201.1- w201.0-", "legal"),
+            ("drive w201.0+ w201.1+ w202.0+", "broken 3 no 303"),
+            ("reach 101 104", "legal"),
+        ],
+    ),
+];
+
 #[test]
 fn lines_are_answered(rt: HostRuntime) -> Result<(), Fail> {
-    let maps: [(&[u8], &[(&str, &str)]); 11] = [
-        (
-            ROUNDABOUT,
-            &[
-                ("drive w10.0+", "broken 1 wrong-way"),
-                ("drive w10.2- w10.1-", "legal"),
-            ],
-        ),
-        (
-            BOLLARD,
-            &[
-                ("drive w10.0+ w10.1+", "broken 2 barrier 2"),
-                ("drive w10.0+ w10.0-", "legal"),
-                ("reach 1 3", "none"),
-            ],
-        ),
-        (
-            OPEN_BOLLARD,
-            &[("reach 1 3", "legal"), ("reach 1 9", "no-node 9")],
-        ),
-        (
-            THERE_AND_BACK,
-            &[("drive w10.0+ w10.1+", "broken 2 reversal 2")],
-        ),
-        (ONEWAY_BACK, &[("drive w10.0+ w10.1+", "legal")]),
-        (
-            NO_TURN,
-            &[
-                ("drive w10.0+ w11.0+", "broken 2 no 5"),
-                ("reach 1 3", "legal"),
-            ],
-        ),
-        (EXCEPTED, &[("drive w10.0+ w11.0+", "legal")]),
-        (
-            TWO_ONLY,
-            &[
-                ("drive w10.0+ w11.0+", "legal"),
-                ("drive w10.0+ w12.0+", "legal"),
-                ("drive w10.0+ w13.0+", "broken 2 only 5"),
-            ],
-        ),
-        (CHAIN, &[("drive w2.0+ w3.0+ w4.0+", "legal")]),
-        (
-            BOUND_CHAIN,
-            &[
-                ("drive w1.0+ w2.0+ w3.0+ w4.0+", "broken 4 no 20"),
-                ("drive w2.0+ w3.0+ w4.0+", "broken 3 only 21"),
-            ],
-        ),
-        (
-            VILLAGE,
-            &[
-                ("drive w201.5+", "broken 1 no-step"),
-                ("drive w999.0+", "broken 1 no-step"),
-                ("drive w204.0+", "broken 1 closed highway"),
-                ("drive w201.0+ w203.0+", "broken 2 apart"),
-                ("drive w201.0+ w201.0-", "broken 2 reversal 102"),
-                ("drive w203.0+ w203.0-", "legal"),
-                ("drive w201.1+ w202.0+", "broken 2 no 303"),
-                ("drive w202.0- w201.1- w201.0-", "legal"),
-                ("drive w201.0+ w201.1+ w202.0+", "broken 3 no 303"),
-                ("reach 101 104", "legal"),
-            ],
-        ),
-    ];
-    for (lines, rows) in maps {
-        assert_eq!(rt;
-            first_other::<Brand>(rt.alloc(), lines, rows, Blank::new(1))?,
-            None
-        );
+    for (lines, rows) in MAPS {
+        let other = first_other_on::<Brand>(rt.alloc(), lines, rows, Blank::new(1))?;
+        assert_eq!(rt; other, None);
     }
     Ok(())
 }

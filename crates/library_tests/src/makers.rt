@@ -57,16 +57,37 @@ pub fn deletion(key: Key, version: u32) -> Event
     }
 }
 
-fn events_of(alloc: Global, lines: &[u8]) -> Result<Vec<Event>, ReadError> {
-    let mut reader = Reader::new(alloc, Mode::Extract);
+fn read(alloc: Global, mode: Mode, lines: &[u8]) -> Result<Vec<Event>, ReadError> {
+    let mut reader = Reader::new(alloc, mode);
     reader.feed(lines)?;
     reader.finish()
 }
 
-/// The world of an extract.
-pub fn world_of(alloc: Global, lines: &[u8]) -> Result<Indexed, Fail> {
-    match events_of(alloc, lines) {
-        Ok(events) => Ok(Indexed::of(alloc, events)?),
+/// The events of a change, one a line.
+pub fn events_of(alloc: Global, lines: &[u8]) -> Result<Vec<Event>, Fail> {
+    match read(alloc, Mode::Change, lines) {
+        Ok(events) => Ok(events),
+        Err(_) => Err(Fail::from("the change isn't read")),
+    }
+}
+
+/// The last event of a change.
+pub fn event_of(alloc: Global, lines: &[u8]) -> Result<Event, Fail> {
+    match events_of(alloc, lines)?.pop() {
+        Some(event) => Ok(event),
+        None => Err(Fail::from("the change has no event")),
+    }
+}
+
+/// The events of an extract.
+pub fn extract_of(alloc: Global, lines: &[u8]) -> Result<Vec<Event>, Fail> {
+    match read(alloc, Mode::Extract, lines) {
+        Ok(events) => Ok(events),
         Err(_) => Err(Fail::from("the extract isn't read")),
     }
+}
+
+/// The world of an extract.
+pub fn world_of(alloc: Global, lines: &[u8]) -> Result<Indexed, Fail> {
+    Ok(Indexed::of(alloc, extract_of(alloc, lines)?)?)
 }

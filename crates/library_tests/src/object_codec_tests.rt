@@ -1,10 +1,7 @@
 //! Lists of events whose bytes were spelled by hand.
-use crate::makers::{deletion, no_tags, text};
+use crate::makers::{deletion, events_of};
 use object_codec::{decode, encode};
-use road_base::{
-    Body, Event, Key, Location, Member, Members, NoMemory, Node, NodeId, Refs, Relation,
-    RelationId, Tags, Way, WayId,
-};
+use road_base::{Body, Key, NoMemory, NodeId};
 use std::alloc::Global;
 use std::test::Fail;
 
@@ -76,77 +73,9 @@ const OUTSIDE: [(&str, &[u8]); 9] = [
     ),
 ];
 
-fn node_with_all(alloc: Global) -> Result<Event, NoMemory> {
-    let bridge = (text(alloc, "bridge")?, text(alloc, "yes")?);
-    let name = (text(alloc, "name")?, text(alloc, "Lange Brücke")?);
-    let tags = Tags::from_list(vec![in alloc; bridge, name]?);
-    let place = Location {
-        lon: 133_777_500,
-        lat: 525_162_000,
-    };
-    Ok(Event {
-        key: Key::Node(NodeId(1)),
-        version: 2,
-        body: Body::Node(Node {
-            tags,
-            location: Some(place),
-        }),
-    })
-}
-
-fn bare_node(alloc: Global) -> Event {
-    Event {
-        key: Key::Node(NodeId(-5)),
-        version: 1,
-        body: Body::Node(Node {
-            tags: no_tags(alloc),
-            location: None,
-        }),
-    }
-}
-
-fn way(alloc: Global) -> Result<Event, NoMemory> {
-    let refs = Refs::from_list(vec![in alloc; NodeId(1), NodeId(-5), NodeId(1)]?);
-    Ok(Event {
-        key: Key::Way(WayId(10)),
-        version: 3,
-        body: Body::Way(Way {
-            tags: no_tags(alloc),
-            refs,
-        }),
-    })
-}
-
-fn relation(alloc: Global) -> Result<Event, NoMemory> {
-    let from = Member {
-        item: Key::Way(WayId(10)),
-        role: text(alloc, "from")?,
-    };
-    let other = Member {
-        item: Key::Node(NodeId(1)),
-        role: text(alloc, "")?,
-    };
-    let members = Members::from_list(vec![in alloc; from, other]?);
-    Ok(Event {
-        key: Key::Relation(RelationId(7)),
-        version: 1,
-        body: Body::Relation(Relation {
-            tags: no_tags(alloc),
-            members,
-        }),
-    })
-}
-
-fn each_kind(alloc: Global) -> Result<Vec<Event>, NoMemory> {
-    let mut events = Vec::new(alloc);
-    events.push(node_with_all(alloc)?)?;
-    events.push(bare_node(alloc))?;
-    events.push(way(alloc)?)?;
-    events.push(relation(alloc)?)?;
-    events.push(deletion(Key::Way(WayId(11)), u32::MAX))?;
-    events.push(deletion(Key::Relation(RelationId(i64::MIN)), 0))?;
-    Ok(events)
-}
+/// The lines of the same events.
+const LINES: &[u8] = b"n1 v2 Tbridge=yes,name=Lange%20%Br%fc%cke x13.37775 y52.5162\nn-5 v1\n\
+    w10 v3 Nn1,n-5,n1\nr7 v1 Mw10@from,n1@\nw11 v4294967295 dD\nr-9223372036854775808 v0 dD\n";
 
 /// No list has this spelling, or the one that has is spelled so again.
 fn is_refused_or_same(alloc: Global, bytes: &[u8]) -> Result<bool, NoMemory> {
@@ -189,7 +118,7 @@ fn no_events(rt: HostRuntime) -> Result<(), Fail> {
 fn each_kind_is_read_again(rt: HostRuntime) -> Result<(), Fail> {
     let alloc = rt.alloc();
     let mut out = Vec::new(alloc);
-    encode(&each_kind(alloc)?, &mut out)?;
+    encode(&events_of(alloc, LINES)?, &mut out)?;
     assert_eq!(rt; out.as_slice(), EACH_KIND);
     let events = decode(alloc, EACH_KIND)?.ok_or("it spells six events")?;
     assert_eq!(rt; events.len(), 6);

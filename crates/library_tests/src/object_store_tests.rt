@@ -1,45 +1,18 @@
 //! The happy path of each public call, with ample memory.
-ghost use Rattle.std.specs.Prelude.{pos, IsTrue, ◌≤◌, length};
-ghost use Rattle.road_base.specs.Ranges.{is_in_range};
+ghost use Rattle.std.specs.Prelude.{◌≤◌, length};
 
-use crate::makers::{deletion, no_tags};
+use crate::makers::{event_of, events_of};
 use object_store::Objects;
-use road_base::{Body, Event, Key, Location, NoMemory, Node, NodeId, Ranges, Refs, Way, WayId};
+use road_base::{Body, Event, Key, NoMemory, NodeId, Ranges};
 use std::alloc::Global;
 use std::test::Fail;
 
 const FIRST: Key = Key::Node(NodeId(1));
 
-/// A version of node 1 without tags, on the equator.
-fn place(alloc: Global, version: u32, lon: i32) -> Result<Event, NoMemory>
-    requires { IsTrue (is_in_range lon (pos 0)) }
-{
-    let node = Node {
-        tags: no_tags(alloc),
-        location: Some(Location { lon, lat: 0 }),
-    };
-    Ok(Event {
-        key: Key::Node(NodeId(1)),
-        version,
-        body: Body::Node(node),
-    })
-}
+/// What is known of node 1: its version, and its longitude where it is visible.
+type Known = Option<(u32, Option<i32>)>;
 
-/// A version of way 1 that refers to one node.
-fn way(alloc: Global, version: u32, node: i64) -> Result<Event, NoMemory> {
-    let way = Way {
-        tags: no_tags(alloc),
-        refs: Refs::from_list(vec![in alloc; NodeId(node)]?),
-    };
-    Ok(Event {
-        key: Key::Way(WayId(1)),
-        version,
-        body: Body::Way(way),
-    })
-}
-
-/// The version of node 1, and its longitude where it is visible.
-fn first_node(objects: &Objects) -> Option<(u32, Option<i32>)> {
+fn first_node(objects: &Objects) -> Known {
     let event = objects.get(FIRST)?;
     let lon = match &event.body {
         Body::Node(node) => node.location.map(|location| location.lon),
@@ -61,64 +34,55 @@ pub(crate) fn are_same(these: &[Event], those: &[Event]) -> bool {
     true
 }
 
-fn applied_singly(alloc: Global, events: &[Event]) -> Result<Objects, NoMemory> {
-    let mut objects = Objects::new(alloc);
-    for part in events.chunks(1) {
-        let _ = objects.apply(part)?;
-    }
-    Ok(objects)
-}
+/// Versions of node 1, of which two are the greatest.
+const EXTRACT: &[u8] = b"n1 v2 x1 y0\nn1 v3 x2 y0\nn1 v3 x3 y0\nn1 v1 x4 y0\n";
 
-fn applied_in_two(alloc: Global, events: &[Event], at: usize) -> Result<Objects, NoMemory>
-    requires { at ≤ length events.now }
-{
-    let (front, back) = events.split_at(at);
-    let mut objects = Objects::new(alloc);
-    let _ = objects.apply(front)?;
-    let _ = objects.apply(back)?;
-    Ok(objects)
-}
+/// A change, how many keys it changes, and what is then known of node 1.
+const CHANGES: [(&[u8], usize, Known); 2] = [
+    (b"n1 v4 dD", 1, Some((4, None))),
+    (b"n1 v2 x5 y0", 0, Some((4, None))),
+];
 
-fn extract(alloc: Global) -> Result<Vec<Event>, NoMemory> {
-    let list = vec![in alloc;
-        place(alloc, 2, 10_000_000)?,
-        place(alloc, 3, 20_000_000)?,
-        place(alloc, 3, 30_000_000)?,
-        place(alloc, 1, 40_000_000)?,
-    ]?;
-    Ok(list)
-}
-
-/// How many keys the event changes; `changed` and `apply` say the same.
-fn applied_alone(objects: &mut Objects, event: Event) -> Result<Option<usize>, NoMemory> {
-    let events = [event];
-    let told = objects.changed(&events)?;
-    let keys = objects.apply(&events)?;
+/// How many keys the events change; `changed` and `apply` say the same.
+fn applied_alone(objects: &mut Objects, events: &[Event]) -> Result<Option<usize>, NoMemory> {
+    let told = objects.changed(events)?;
+    let keys = objects.apply(events)?;
     if told.items() != keys.items() {
         return Ok(None);
     }
     Ok(Some(keys.items().len()))
 }
 
+/// Whether these are the events of the objects.
+fn lists(objects: &Objects, events: &[Event]) -> Result<bool, NoMemory> {
+    Ok(are_same(events, objects.listed()?.items()))
+}
+
 fn is_copied(objects: &Objects) -> Result<bool, NoMemory> {
     let events = objects.events()?;
-    let copied = objects.copy()?;
-    Ok(are_same(&events, objects.listed()?.items()) && are_same(&events, copied.listed()?.items()))
+    Ok(lists(objects, &events)? && lists(&objects.copy()?, &events)?)
 }
 
 #[test]
 fn the_first_of_the_greatest_version_stands(rt: HostRuntime) -> Result<(), Fail> {
     let alloc = rt.alloc();
-    let mut objects = Objects::of(extract(alloc)?)?;
+    let mut objects = Objects::of(events_of(alloc, EXTRACT)?)?;
     assert_eq!(rt; first_node(&objects), Some((3, Some(20_000_000))));
-    assert_eq!(rt; applied_alone(&mut objects, deletion(FIRST, 4))?, Some(1));
-    assert_eq!(rt; first_node(&objects), Some((4, None)));
-    let stale = place(alloc, 2, 50_000_000)?;
-    assert_eq!(rt; applied_alone(&mut objects, stale)?, Some(0));
-    assert_eq!(rt; first_node(&objects), Some((4, None)));
+    for (change, keys, known) in CHANGES.iter() {
+        let events = events_of(alloc, change)?;
+        assert_eq!(rt; applied_alone(&mut objects, &events)?, Some(*keys));
+        assert_eq!(rt; first_node(&objects), *known);
+    }
     assert!(rt; is_copied(&objects)?);
     Ok(())
 }
+
+/// A change, and the version of node 1 that it brings; None where it brings none.
+const BROUGHT: [(&[u8], Option<u32>); 3] = [
+    (b"n1 v3 x5 y0", None),
+    (b"w1 v9 Nn7", None),
+    (b"n1 v4 dD", Some(4)),
+];
 
 /// The version of node 1 that the event would bring; None where it would bring none. The event is then applied.
 fn brought(objects: &mut Objects, event: Event) -> Result<Option<u32>, NoMemory> {
@@ -131,46 +95,58 @@ fn brought(objects: &mut Objects, event: Event) -> Result<Option<u32>, NoMemory>
 #[test]
 fn a_change_is_found_before_it_is_made(rt: HostRuntime) -> Result<(), Fail> {
     let alloc = rt.alloc();
-    let mut objects = Objects::of(extract(alloc)?)?;
-    assert_eq!(rt; brought(&mut objects, place(alloc, 3, 50_000_000)?)?, None);
-    assert_eq!(rt; brought(&mut objects, way(alloc, 9, 7)?)?, None);
-    assert_eq!(rt; brought(&mut objects, deletion(FIRST, 4))?, Some(4));
+    let mut objects = Objects::of(events_of(alloc, EXTRACT)?)?;
+    for (change, version) in BROUGHT.iter() {
+        assert_eq!(rt; brought(&mut objects, event_of(alloc, change)?)?, *version);
+    }
     assert_eq!(rt; first_node(&objects), Some((4, None)));
     Ok(())
 }
 
-fn some_events(alloc: Global) -> Result<Vec<Event>, NoMemory> {
-    let list = vec![in alloc;
-        way(alloc, 2, 7)?,
-        place(alloc, 1, 10_000_000)?,
-        deletion(Key::Way(WayId(1)), 3),
-        place(alloc, 1, 20_000_000)?,
-        way(alloc, 3, 8)?,
-        place(alloc, 5, 30_000_000)?,
-        deletion(FIRST, 5),
-    ]?;
-    Ok(list)
+/// Versions of way 1 and of node 1, and their deletions.
+const EVENTS: &[u8] =
+    b"w1 v2 Nn7\nn1 v1 x1 y0\nw1 v3 dD\nn1 v1 x2 y0\nw1 v3 Nn8\nn1 v5 x3 y0\nn1 v5 dD\n";
+
+fn applied_at_once(alloc: Global, events: &[Event]) -> Result<Vec<Event>, NoMemory> {
+    let mut objects = Objects::new(alloc);
+    let _ = objects.apply(events)?;
+    objects.events()
 }
 
-/// Whether the events leave the same objects one by one, and cut in two at each place, as at once.
-fn is_same_in_turn(alloc: Global, events: &[Event]) -> Result<bool, NoMemory> {
-    let mut whole = Objects::new(alloc);
-    let _ = whole.apply(events)?;
-    let single = applied_singly(alloc, events)?;
+fn applied_singly(alloc: Global, events: &[Event]) -> Result<Vec<Event>, NoMemory> {
+    let mut objects = Objects::new(alloc);
+    for part in events.chunks(1) {
+        let _ = objects.apply(part)?;
+    }
+    objects.events()
+}
+
+fn applied_in_two(alloc: Global, events: &[Event], at: usize) -> Result<Vec<Event>, NoMemory>
+    requires { at ≤ length events.now }
+{
+    let (front, back) = events.split_at(at);
+    let mut objects = Objects::new(alloc);
+    let _ = objects.apply(front)?;
+    let _ = objects.apply(back)?;
+    objects.events()
+}
+
+/// Whether the events leave these objects one by one, and cut in two at each place.
+fn is_same_in_turn(alloc: Global, events: &[Event], whole: &[Event]) -> Result<bool, NoMemory> {
     for at in 0..events.len() {
-        let cut = applied_in_two(alloc, events, at)?;
-        if !are_same(&cut.events()?, &whole.events()?) {
+        if !are_same(&applied_in_two(alloc, events, at)?, whole) {
             return Ok(false);
         }
     }
-    Ok(are_same(&single.events()?, &whole.events()?))
+    Ok(are_same(&applied_singly(alloc, events)?, whole))
 }
 
 #[test]
 fn events_in_turn_leave_what_they_leave_at_once(rt: HostRuntime) -> Result<(), Fail> {
     let alloc = rt.alloc();
-    let events = some_events(alloc)?;
-    assert!(rt; is_same_in_turn(alloc, &events)?);
+    let events = events_of(alloc, EVENTS)?;
+    let whole = applied_at_once(alloc, &events)?;
+    assert!(rt; is_same_in_turn(alloc, &events, &whole)?);
     Ok(())
 }
 

@@ -193,33 +193,29 @@ fn long_way(alloc: Global, count: usize, behind: &str) -> Result<String, AllocEr
     Ok(line)
 }
 
-fn read_whole(alloc: Global, line: &str) -> Result<Vec<Event>, ReadError> {
-    read_cut(alloc, Mode::Change, line.as_bytes(), 0)
+fn read_whole(alloc: Global, count: usize, behind: &str) -> Result<usize, ReadError> {
+    let line = long_way(alloc, count, behind)?;
+    Ok(read_cut(alloc, Mode::Change, line.as_bytes(), 0)?.len())
 }
 
+/// How many references there are, what stands behind them, and the fault.
+const LONG_WAYS: [(usize, &str, FaultKind); 4] = [
+    (65_535, ",", FaultKind::TooMany),
+    (65_535, ",x", FaultKind::TooMany),
+    (65_536, "", FaultKind::TooMany),
+    (65_534, ",x,n1,n1", FaultKind::BadRef),
+];
+
 #[test]
-fn lists_end_at_65535_items(rt: HostRuntime) -> Result<(), Fail> {
-    let alloc = rt.alloc();
-    let most = read_whole(alloc, &long_way(alloc, 65_535, "")?)?;
-    assert_eq!(rt; most.len(), 1);
-    let faults = [
-        (65_535usize, ",", FaultKind::TooMany),
-        (65_535, ",x", FaultKind::TooMany),
-        (65_536, "", FaultKind::TooMany),
-        (65_534, ",x,n1,n1", FaultKind::BadRef),
-    ];
-    for (count, behind, kind) in faults {
+fn lists_end_at_65535_items(rt: HostRuntime) {
+    assert_eq!(rt; read_whole(rt.alloc(), 65_535, ""), Ok(1));
+    for (count, behind, kind) in LONG_WAYS {
         let fault = Fault {
             line: 1,
             field: 3,
             kind,
         };
-        let read = read_whole(alloc, &long_way(alloc, count, behind)?);
-        assert_eq!(rt;
-            read.err(),
-            Some(ReadError::Fault(fault)),
-            "{count}{behind}"
-        );
+        let read = read_whole(rt.alloc(), count, behind);
+        assert_eq!(rt; read, Err(ReadError::Fault(fault)), "{count}{behind}");
     }
-    Ok(())
 }

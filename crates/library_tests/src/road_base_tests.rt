@@ -1,10 +1,10 @@
 //! The happy path of each public call, with ample memory.
 ghost use Rattle.std.specs.Prelude.{◌≡◌, ◌<◌};
 
-use crate::makers::text;
+use crate::makers::event_of;
 use road_base::{
-    Body, Dir, Drive, Event, Key, Keys, LittleEndian, Location, Member, Members, NoMemory, Node,
-    NodeId, Refs, Relation, RelationId, Step, Steps, Tags, Way, WayId, Ways,
+    Body, Dir, Drive, Key, Keys, LittleEndian, Location, Member, NoMemory, NodeId, RelationId,
+    Step, Steps, Tags, WayId, Ways,
 };
 use std::alloc::{AllocError, AllocFailed, Global};
 use std::marker::Brand;
@@ -17,44 +17,26 @@ const PLACE: Location = Location {
     lat: 525_162_000,
 };
 
-fn bridge_tags(alloc: Global) -> Result<Tags, NoMemory> {
-    let bridge = (text(alloc, "bridge")?, text(alloc, "yes")?);
-    let highway = (text(alloc, "highway")?, text(alloc, "primary")?);
-    let name = (text(alloc, "name")?, text(alloc, "Lange Brücke")?);
-    let list = vec![in alloc; bridge, highway, name]?;
-    Ok(Tags::from_list(list))
+/// A node at that place, a way, a relation, and the deletion of a node.
+const NODE: &[u8] = b"n4 v3 Tbridge=yes,highway=primary,name=Lange%20%Br%fc%cke x13.37775 y52.5162";
+
+const WAY: &[u8] = b"w7 v1 Tbridge=yes,highway=primary,name=Lange%20%Br%fc%cke Nn4,n-5,n4";
+
+const RELATION: &[u8] = b"r1 v1 Tbridge=yes,highway=primary,name=Lange%20%Br%fc%cke Mw7@across";
+
+const EACH_BODY: [&[u8]; 4] = [NODE, WAY, RELATION, b"n1 v1 dD"];
+
+/// A copy of the body of the event.
+fn copied(alloc: Global, line: &[u8]) -> Result<Body, Fail> {
+    Ok(event_of(alloc, line)?.body.copy()?)
 }
 
-fn bridge_node(alloc: Global) -> Result<Event, NoMemory> {
-    let node = Node {
-        tags: bridge_tags(alloc)?,
-        location: Some(PLACE),
-    };
-    Ok(Event {
-        key: Key::Node(NodeId(4)),
-        version: 3,
-        body: Body::Node(node),
-    })
-}
-
-fn bridge_way(alloc: Global) -> Result<Way, NoMemory> {
-    let list = vec![in alloc; NodeId(4), NodeId(-5), NodeId(4)]?;
-    Ok(Way {
-        tags: bridge_tags(alloc)?,
-        refs: Refs::from_list(list),
-    })
-}
-
-fn bridge_relation(alloc: Global) -> Result<Relation, NoMemory> {
-    let member = Member {
-        item: Key::Way(WayId(7)),
-        role: text(alloc, "across")?,
-    };
-    let members = Members::from_list(vec![in alloc; member]?);
-    Ok(Relation {
-        tags: bridge_tags(alloc)?,
-        members,
-    })
+/// A copy of the node's tags.
+fn copied_tags(alloc: Global) -> Result<Tags, Fail> {
+    match &event_of(alloc, NODE)?.body {
+        Body::Node(node) => Ok(node.tags.copy()?),
+        _ => Err(Fail::from("the line spells no node")),
+    }
 }
 
 fn is_at_place(body: &Body) -> bool {
@@ -80,7 +62,7 @@ fn members_in(body: &Body) -> &[Member] {
 
 #[test]
 fn a_key_is_looked_up(rt: HostRuntime) -> Result<(), Fail> {
-    let tags = bridge_tags(rt.alloc())?.copy()?;
+    let tags = copied_tags(rt.alloc())?;
     let cases = [
         ("access", None),
         ("bridge", Some("yes")),
@@ -99,7 +81,7 @@ fn a_key_is_looked_up(rt: HostRuntime) -> Result<(), Fail> {
 
 #[test]
 fn a_node_is_copied(rt: HostRuntime) -> Result<(), Fail> {
-    let copied = bridge_node(rt.alloc())?.copy()?;
+    let copied = event_of(rt.alloc(), NODE)?.copy()?;
     assert_eq!(rt; copied.key, Key::Node(NodeId(4)));
     assert_eq!(rt; copied.version, 3);
     assert!(rt; is_at_place(&copied.body));
@@ -108,7 +90,7 @@ fn a_node_is_copied(rt: HostRuntime) -> Result<(), Fail> {
 
 #[test]
 fn a_way_is_copied(rt: HostRuntime) -> Result<(), Fail> {
-    let copied = Body::Way(bridge_way(rt.alloc())?).copy()?;
+    let copied = copied(rt.alloc(), WAY)?;
     assert_eq!(rt;
         refs_in(&copied),
         [NodeId(4), NodeId(-5), NodeId(4)].as_slice()
@@ -118,7 +100,7 @@ fn a_way_is_copied(rt: HostRuntime) -> Result<(), Fail> {
 
 #[test]
 fn a_relation_is_copied(rt: HostRuntime) -> Result<(), Fail> {
-    let copied = Body::Relation(bridge_relation(rt.alloc())?).copy()?;
+    let copied = copied(rt.alloc(), RELATION)?;
     let members = members_in(&copied);
     assert_eq!(rt; members.len(), 1);
     assert_eq!(rt; members[0].item, Key::Way(WayId(7)));
@@ -132,13 +114,20 @@ fn a_deletion_is_copied(rt: HostRuntime) -> Result<(), Fail> {
     Ok(())
 }
 
-fn each_body(alloc: Global) -> Result<Vec<Body>, NoMemory> {
+fn each_body(alloc: Global) -> Result<Vec<Body>, Fail> {
     let mut bodies = Vec::new(alloc);
-    bodies.push(bridge_node(alloc)?.body)?;
-    bodies.push(Body::Way(bridge_way(alloc)?))?;
-    bodies.push(Body::Relation(bridge_relation(alloc)?))?;
-    bodies.push(Body::Deleted)?;
+    for line in EACH_BODY {
+        bodies.push(event_of(alloc, line)?.body)?;
+    }
     Ok(bodies)
+}
+
+/// Whether the body is the same as the one at the place alone.
+fn is_at_alone(body: &Body, at: usize, bodies: &[Body]) -> bool {
+    bodies
+        .iter()
+        .enumerate()
+        .all(|(other, that)| body.same(that) == (at == other))
 }
 
 #[test]
@@ -146,40 +135,52 @@ fn bodies_are_the_same_as_their_copies_alone(rt: HostRuntime) -> Result<(), Fail
     let bodies = each_body(rt.alloc())?;
     for (at, body) in bodies.iter().enumerate() {
         let copied = body.copy()?;
-        for (other, body) in bodies.iter().enumerate() {
-            assert_eq!(rt; copied.same(body), at == other, "{at} and {other}");
-        }
+        assert!(rt; is_at_alone(&copied, at, &bodies), "body {at}");
     }
     Ok(())
 }
 
-#[test]
-fn a_drive_is_copied(rt: HostRuntime) -> Result<(), Fail> {
-    let [there, back] = [Dir::Forward, Dir::Backward].map(|dir| Step {
+const STEPS: [Step; 2] = [
+    Step {
         way: WayId(7),
         index: 0,
-        dir,
-    });
-    let copied = Drive::from_list(vec![in rt.alloc(); there, back]?).copy()?;
-    assert_eq!(rt; copied.items(), [there, back].as_slice());
+        dir: Dir::Forward,
+    },
+    Step {
+        way: WayId(7),
+        index: 0,
+        dir: Dir::Backward,
+    },
+];
+
+#[test]
+fn a_drive_is_copied(rt: HostRuntime) -> Result<(), Fail> {
+    let copied = Drive::from_list(STEPS.to_vec(rt.alloc())?).copy()?;
+    assert_eq!(rt; copied.items(), STEPS.as_slice());
     Ok(())
 }
+
+/// Keys in their order.
+const KEYS: [Key; 3] = [
+    Key::Node(NodeId(i64::MAX)),
+    Key::Way(WayId(1)),
+    Key::Relation(RelationId(i64::MIN)),
+];
 
 #[test]
 fn keys_are_copied(rt: HostRuntime) -> Result<(), Fail> {
-    let node = Key::Node(NodeId(i64::MAX));
-    let way = Key::Way(WayId(1));
-    let relation = Key::Relation(RelationId(i64::MIN));
-    assert!(rt; node < way && way < relation);
-    let copied = Keys::from_list(vec![in rt.alloc(); node, way, relation]?).copy()?;
-    assert_eq!(rt; copied.items(), [node, way, relation].as_slice());
+    assert!(rt; KEYS[0] < KEYS[1] && KEYS[1] < KEYS[2]);
+    let copied = Keys::from_list(KEYS.to_vec(rt.alloc())?).copy()?;
+    assert_eq!(rt; copied.items(), KEYS.as_slice());
     Ok(())
 }
 
+const WAYS: [WayId; 2] = [WayId(9), WayId(-9)];
+
 #[test]
 fn ways_are_copied(rt: HostRuntime) -> Result<(), Fail> {
-    let copied = Ways::from_list(vec![in rt.alloc(); WayId(9), WayId(-9)]?).copy()?;
-    assert_eq!(rt; copied.items(), [WayId(9), WayId(-9)].as_slice());
+    let copied = Ways::from_list(WAYS.to_vec(rt.alloc())?).copy()?;
+    assert_eq!(rt; copied.items(), WAYS.as_slice());
     Ok(())
 }
 

@@ -179,6 +179,16 @@ fn shape(entry: &Entry) -> Option<(u64, usize)> {
     }
 }
 
+/// The calls of an addition, behind nine others.
+const SHAPES: [Option<(u64, usize)>; 4] = [Some((46, 25)), None, Some((45, 1)), None];
+
+fn are_shapes(calls: &[Entry]) -> bool {
+    calls
+        .iter()
+        .zip(SHAPES.iter())
+        .all(|(entry, wanted)| shape(entry) == *wanted)
+}
+
 #[test]
 fn an_addition_writes_behind_the_gate_and_opens_it(rt: HostRuntime) -> Result<(), Fail> {
     let alloc = rt.alloc();
@@ -188,13 +198,7 @@ fn an_addition_writes_behind_the_gate_and_opens_it(rt: HostRuntime) -> Result<()
     assert!(rt; site.file(Which::A) == whole.as_slice());
     let calls = site.calls();
     assert_eq!(rt; calls.len(), 13);
-    assert!(rt;
-        calls
-            .iter()
-            .skip(9)
-            .map(shape)
-            .eq([Some((46, 25)), None, Some((45, 1)), None])
-    );
+    assert!(rt; are_shapes(&calls[9..]));
     Ok(())
 }
 
@@ -218,36 +222,47 @@ fn add_to(alloc: Global, site: &mut MemorySite) -> Result<(bool, u64), JournalEr
     Ok((refused && quiet, kept))
 }
 
+/// A site whose file A is a base, and whose calls of these numbers are to fail.
+fn base_site(alloc: Global, fails: &[u64]) -> Result<MemorySite, AllocError> {
+    let file = file_of(alloc, &[BASE, b"\0"], None)?;
+    Ok(site_of(alloc, file, fails.to_vec(alloc)?))
+}
+
+/// How many calls loading a base makes.
+fn calls_of_a_load(alloc: Global) -> Result<u64, AllocError> {
+    let mut site = base_site(alloc, &[])?;
+    let _ = load_a(alloc, &mut site);
+    Ok(site.calls().len() as u64)
+}
+
 #[test]
 fn a_call_that_fails_closes_the_journal(rt: HostRuntime) -> Result<(), Fail> {
     let alloc = rt.alloc();
+    let first = calls_of_a_load(alloc)?;
     for (call, kept) in STOPS.iter() {
-        let file = file_of(alloc, &[BASE, b"\0"], None)?;
-        let mut site = site_of(alloc, file, Vec::new(alloc));
-        let _ = load_a(alloc, &mut site);
-        let first = site.calls().len() as u64;
-        let file = file_of(alloc, &[BASE, b"\0"], None)?;
-        let mut site = site_of(alloc, file, vec![in alloc; first.saturating_add(*call)]?);
+        let mut site = base_site(alloc, &[first.saturating_add(*call)])?;
         assert_eq!(rt; add_to(alloc, &mut site), Ok((true, *kept)), "call {call}");
     }
     Ok(())
 }
 
+/// What the journal of a base says of the number.
+fn checked(alloc: Global, number: u64) -> Result<(), JournalError> {
+    let mut site = base_site(alloc, &[])?;
+    let loaded = Journal::load(alloc, &mut site, Which::A)?;
+    loaded.journal.check(Sequence(number))
+}
+
 #[test]
-fn only_the_next_number_is_added(rt: HostRuntime) -> Result<(), Fail> {
-    let alloc = rt.alloc();
-    let file = file_of(alloc, &[BASE, b"\0"], None)?;
-    let mut site = site_of(alloc, file, Vec::new(alloc));
-    let journal = Journal::load(alloc, &mut site, Which::A)?.journal;
+fn only_the_next_number_is_added(rt: HostRuntime) {
     for number in [0, 4, 5, 7, u64::MAX] {
         let refused = JournalError::OutOfSequence {
             kept: Sequence(5),
             got: Sequence(number),
         };
-        assert_eq!(rt; journal.check(Sequence(number)), Err(refused));
+        assert_eq!(rt; checked(rt.alloc(), number), Err(refused));
     }
-    assert_eq!(rt; journal.check(Sequence(6)), Ok(()));
-    Ok(())
+    assert_eq!(rt; checked(rt.alloc(), 6), Ok(()));
 }
 
 /// A base and so many records without events behind it, each with the next number, and a closed gate.

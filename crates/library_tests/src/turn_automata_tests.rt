@@ -27,12 +27,18 @@ fn word(alloc: Global, only: bool, binding: u32, indexes: &[u32]) -> Result<Word
 }
 
 /// No 1 2 3, No 2 4, Only 5 6 7 8 from two steps on, No 6 9.
+const WORDS: [(bool, u32, &[u32]); 4] = [
+    (false, 1, &[1, 2, 3]),
+    (false, 1, &[2, 4]),
+    (true, 2, &[5, 6, 7, 8]),
+    (false, 1, &[6, 9]),
+];
+
 fn words(alloc: Global) -> Result<WordList, NoMemory> {
     let mut list = Vec::new(alloc);
-    list.push(word(alloc, false, 1, &[1, 2, 3])?)?;
-    list.push(word(alloc, false, 1, &[2, 4])?)?;
-    list.push(word(alloc, true, 2, &[5, 6, 7, 8])?)?;
-    list.push(word(alloc, false, 1, &[6, 9])?)?;
+    for (only, binding, indexes) in WORDS.iter() {
+        list.push(word(alloc, *only, *binding, indexes)?)?;
+    }
     Ok(WordList::from_list(list))
 }
 
@@ -48,25 +54,27 @@ fn watched(automaton: &Automaton, first: u32, others: &[u32]) -> Option<usize> {
     Some(automaton.watched_len(state))
 }
 
+/// The first step of a drive, the others, and how many steps are then watched.
+const ROWS: [(u32, &[u32], Option<usize>); 12] = [
+    (1, &[2], Some(2)),
+    (1, &[2, 3], None),
+    (2, &[3], Some(0)),
+    (1, &[2, 4], None),
+    (1, &[1, 2], Some(2)),
+    (5, &[9], Some(0)),
+    (5, &[6], Some(2)),
+    (5, &[6, 1], None),
+    (5, &[6, 7], Some(3)),
+    (5, &[6, 7, 1], None),
+    (5, &[6, 7, 8], Some(0)),
+    (6, &[9], None),
+];
+
 #[test]
 fn drives_are_watched(rt: HostRuntime) -> Result<(), Fail> {
     let automaton = Automaton::of(rt.alloc(), &words(rt.alloc())?)?;
-    let rows: [(u32, &[u32], Option<usize>); 12] = [
-        (1, &[2], Some(2)),
-        (1, &[2, 3], None),
-        (2, &[3], Some(0)),
-        (1, &[2, 4], None),
-        (1, &[1, 2], Some(2)),
-        (5, &[9], Some(0)),
-        (5, &[6], Some(2)),
-        (5, &[6, 1], None),
-        (5, &[6, 7], Some(3)),
-        (5, &[6, 7, 1], None),
-        (5, &[6, 7, 8], Some(0)),
-        (6, &[9], None),
-    ];
-    for (first, others, expected) in rows {
-        assert_eq!(rt; watched(&automaton, first, others), expected);
+    for (first, others, expected) in ROWS.iter() {
+        assert_eq!(rt; watched(&automaton, *first, others), *expected);
     }
     Ok(())
 }

@@ -1,7 +1,8 @@
 //! Lines, with repeats and returns, and steps over them.
 use crate::makers::{no_tags, world_of};
 use access_profile::Motorcar;
-use road_base::{Dir, NodeId, Refs, Step, Way, WayId};
+use back_references::Indexed;
+use road_base::{Dir, NoMemory, NodeId, Refs, Step, Way, WayId};
 use road_model::Network;
 use std::alloc::Global;
 use std::test::Fail;
@@ -23,26 +24,40 @@ fn way(alloc: Global, refs: &[i64]) -> Result<Way, Fail> {
     })
 }
 
+/// References, and the line without consecutive repeats.
+const LINES: [(&[i64], &[i64]); 5] = [
+    (&[1, 1, 2, 1], &[1, 2, 1]),
+    (&[1, 2, 3, 1], &[1, 2, 3, 1]),
+    (&[5, 5, 5], &[5]),
+    (&[-7, -7, 7, 7, -7], &[-7, 7, -7]),
+    (&[], &[]),
+];
+
+/// The line as it is walked.
+fn walked(alloc: Global, way: &Way) -> Result<Vec<i64>, NoMemory> {
+    let mut list = Vec::new(alloc);
+    for node in line(way) {
+        list.push(node.0)?;
+    }
+    Ok(list)
+}
+
+/// Whether the line has these nodes at their places, and no other.
+fn has_at_places(way: &Way, want: &[i64]) -> bool {
+    for (at, id) in want.iter().enumerate() {
+        if line_at(way, at) != Some(NodeId(*id)) {
+            return false;
+        }
+    }
+    line_len(way) == want.len() && line_at(way, want.len()).is_none()
+}
+
 #[test]
 fn lines_drop_consecutive_repeats(rt: HostRuntime) -> Result<(), Fail> {
-    let none: [i64; 0] = [];
-    for (refs, want) in [
-        ([1, 1, 2, 1].as_slice(), [1, 2, 1].as_slice()),
-        ([1, 2, 3, 1].as_slice(), [1, 2, 3, 1].as_slice()),
-        ([5, 5, 5].as_slice(), [5].as_slice()),
-        ([-7, -7, 7, 7, -7].as_slice(), [-7, 7, -7].as_slice()),
-        (none.as_slice(), none.as_slice()),
-    ] {
+    for (refs, want) in LINES {
         let way = way(rt.alloc(), refs)?;
-        assert_eq!(rt; line_len(&way), want.len(), "at {refs:?}");
-        for (at, id) in want.iter().enumerate() {
-            assert_eq!(rt; line_at(&way, at), Some(NodeId(*id)), "at {refs:?}");
-        }
-        assert_eq!(rt; line_at(&way, want.len()), None, "at {refs:?}");
-        let walked = line(&way)
-            .map(|node| node.0)
-            .collect::<Vec<i64>>(rt.alloc())?;
-        assert_eq!(rt; walked.as_slice(), want, "at {refs:?}");
+        assert!(rt; has_at_places(&way, want), "at {refs:?}");
+        assert_eq!(rt; walked(rt.alloc(), &way)?.as_slice(), want, "at {refs:?}");
     }
     Ok(())
 }
@@ -60,111 +75,174 @@ fn step(way: i64, index: u32, dir: Dir) -> Step {
     }
 }
 
+/// The nodes at both ends, and whether it may be driven.
+type Ends = (Option<NodeId>, Option<NodeId>, bool);
+
+fn ends(world: &Indexed, step: Step) -> Ends {
+    (
+        tail(world, step),
+        head(world, step),
+        drivable(world, &Motorcar, step),
+    )
+}
+
+const NO_ENDS: Ends = (None, None, false);
+
+const ENDS: [(i64, u32, Dir, Ends); 10] = [
+    (
+        10,
+        0,
+        Dir::Forward,
+        (Some(NodeId(1)), Some(NodeId(2)), true),
+    ),
+    (
+        10,
+        0,
+        Dir::Backward,
+        (Some(NodeId(2)), Some(NodeId(1)), true),
+    ),
+    (
+        10,
+        1,
+        Dir::Forward,
+        (Some(NodeId(2)), Some(NodeId(3)), true),
+    ),
+    (10, 2, Dir::Forward, NO_ENDS),
+    (10, 2, Dir::Backward, NO_ENDS),
+    (
+        11,
+        0,
+        Dir::Forward,
+        (Some(NodeId(3)), Some(NodeId(4)), true),
+    ),
+    (
+        11,
+        0,
+        Dir::Backward,
+        (Some(NodeId(4)), Some(NodeId(3)), false),
+    ),
+    (
+        12,
+        0,
+        Dir::Forward,
+        (Some(NodeId(4)), Some(NodeId(9)), false),
+    ),
+    (13, 0, Dir::Forward, NO_ENDS),
+    (10, u32::MAX, Dir::Forward, NO_ENDS),
+];
+
 #[test]
 fn steps_have_ends(rt: HostRuntime) -> Result<(), Fail> {
     let world = world_of(rt.alloc(), ROADS)?;
-    let cases = [
-        (step(10, 0, Dir::Forward), Some((1, 2)), true),
-        (step(10, 0, Dir::Backward), Some((2, 1)), true),
-        (step(10, 1, Dir::Forward), Some((2, 3)), true),
-        (step(10, 2, Dir::Forward), None, false),
-        (step(10, 2, Dir::Backward), None, false),
-        (step(11, 0, Dir::Forward), Some((3, 4)), true),
-        (step(11, 0, Dir::Backward), Some((4, 3)), false),
-        (step(12, 0, Dir::Forward), Some((4, 9)), false),
-        (step(13, 0, Dir::Forward), None, false),
-        (step(10, u32::MAX, Dir::Forward), None, false),
-    ];
-    for (step, ends, drives) in cases {
-        assert_eq!(rt;
-            tail(&world, step).map(|node| node.0),
-            ends.map(|it| it.0),
-            "{step:?}"
-        );
-        assert_eq!(rt;
-            head(&world, step).map(|node| node.0),
-            ends.map(|it| it.1),
-            "{step:?}"
-        );
-        assert_eq!(rt; drivable(&world, &Motorcar, step), drives, "{step:?}");
+    for (way, index, dir, wanted) in ENDS {
+        let step = step(way, index, dir);
+        assert_eq!(rt; ends(&world, step), wanted, "{step:?}");
     }
     Ok(())
+}
+
+/// The steps of two parts of ways, in order of travel.
+const ADDED: [(i64, u32, Dir); 4] = [
+    (7, 3, Dir::Forward),
+    (7, 4, Dir::Forward),
+    (8, 1, Dir::Backward),
+    (8, 0, Dir::Backward),
+];
+
+fn added(alloc: Global) -> Result<Vec<Step>, NoMemory> {
+    let mut steps = Vec::new(alloc);
+    add_steps(&mut steps, WayId(7), 3, 2, Dir::Forward)?;
+    add_steps(&mut steps, WayId(8), 0, 2, Dir::Backward)?;
+    Ok(steps)
 }
 
 #[test]
 fn steps_are_added_in_order_of_travel(rt: HostRuntime) -> Result<(), Fail> {
-    let mut steps = Vec::new(rt.alloc());
-    add_steps(&mut steps, WayId(7), 3, 2, Dir::Forward)?;
-    add_steps(&mut steps, WayId(8), 0, 2, Dir::Backward)?;
-    let wanted = [
-        step(7, 3, Dir::Forward),
-        step(7, 4, Dir::Forward),
-        step(8, 1, Dir::Backward),
-        step(8, 0, Dir::Backward),
-    ];
-    assert_eq!(rt; steps.as_slice(), wanted.as_slice());
+    let steps = added(rt.alloc())?;
+    assert_eq!(rt; steps.len(), ADDED.len());
+    for (found, (way, index, dir)) in steps.iter().zip(ADDED) {
+        assert_eq!(rt; *found, step(way, index, dir));
+    }
     Ok(())
 }
+
+/// Two steps, and whether one may pass from the first to the second.
+const PASSES: [((i64, u32, Dir), (i64, u32, Dir), bool); 7] = [
+    ((10, 0, Dir::Forward), (10, 1, Dir::Forward), true),
+    ((10, 1, Dir::Forward), (11, 0, Dir::Forward), true),
+    ((10, 0, Dir::Forward), (11, 0, Dir::Forward), false),
+    // Node 1 is a dead end, and node 2 isn't.
+    ((10, 0, Dir::Backward), (10, 0, Dir::Forward), true),
+    ((10, 0, Dir::Forward), (10, 0, Dir::Backward), false),
+    // No step leaves node 4.
+    ((11, 0, Dir::Forward), (11, 0, Dir::Backward), false),
+    ((10, 1, Dir::Forward), (10, 2, Dir::Forward), false),
+];
 
 #[test]
 fn steps_follow_where_one_may_pass(rt: HostRuntime) -> Result<(), Fail> {
     let world = world_of(rt.alloc(), ROADS)?;
-    let cases = [
-        (step(10, 0, Dir::Forward), step(10, 1, Dir::Forward), true),
-        (step(10, 1, Dir::Forward), step(11, 0, Dir::Forward), true),
-        (step(10, 0, Dir::Forward), step(11, 0, Dir::Forward), false),
-        // Node 1 is a dead end, and node 2 isn't.
-        (step(10, 0, Dir::Backward), step(10, 0, Dir::Forward), true),
-        (step(10, 0, Dir::Forward), step(10, 0, Dir::Backward), false),
-        // No step leaves node 4.
-        (step(11, 0, Dir::Forward), step(11, 0, Dir::Backward), false),
-        (step(10, 1, Dir::Forward), step(10, 2, Dir::Forward), false),
-    ];
-    for (first, second, may) in cases {
-        assert_eq!(rt;
-            pass(&world, &Motorcar, first, second),
-            may,
-            "{first:?} {second:?}"
-        );
+    for (first, second, may) in PASSES {
+        let from = step(first.0, first.1, first.2);
+        let to = step(second.0, second.1, second.2);
+        assert_eq!(rt; pass(&world, &Motorcar, from, to), may, "{from:?} {to:?}");
     }
     Ok(())
+}
+
+/// Ways, and whether they may be driven along and against.
+const OPEN: [(WayId, bool, bool); 3] = [
+    (WayId(10), true, true),
+    (WayId(11), true, false),
+    (WayId(13), false, false),
+];
+
+const ASKED: [WayId; 3] = [WayId(10), WayId(11), WayId(13)];
+
+fn are_open(roads: &[Road]) -> bool {
+    for (road, wanted) in roads.iter().zip(OPEN) {
+        if (road.way, road.forward, road.backward) != wanted {
+            return false;
+        }
+    }
+    roads.len() == OPEN.len()
 }
 
 #[test]
 fn directions_of_ways_are_asked_once(rt: HostRuntime) -> Result<(), Fail> {
     let world = world_of(rt.alloc(), ROADS)?;
     let network = Network::new(&world, Motorcar);
-    let ways = [WayId(10), WayId(11), WayId(13)];
-    let roads = Roads::of(rt.alloc(), &network, ways.as_slice())?;
-    let open = roads
-        .items()
-        .iter()
-        .map(|road| (road.way.0, road.forward, road.backward))
-        .collect::<Vec<(i64, bool, bool)>>(rt.alloc())?;
-    let wanted = [(10, true, true), (11, true, false), (13, false, false)];
-    assert_eq!(rt; open.as_slice(), wanted.as_slice());
+    let roads = Roads::of(rt.alloc(), &network, ASKED.as_slice())?;
+    assert!(rt; are_open(roads.items()));
     assert_eq!(rt; roads.position_of(WayId(12)), None);
     assert!(rt; roads.road(&network, WayId(12)).is_open());
     Ok(())
 }
 
-/// Way 12 leads to a node that isn't there, and there is no way 13.
+/// Way 12 leads to a node that isn't there, and there is no way 13. Of each node the number, whether it has a place,
+/// and whether the way goes through.
+const NODES: [(i64, &[(i64, bool, bool)]); 3] = [
+    (11, &[(3, true, true), (4, true, true)]),
+    (12, &[(4, true, true), (9, false, false)]),
+    (13, &[]),
+];
+
+fn has_nodes(line: &RoadLine, nodes: &[(i64, bool, bool)]) -> bool {
+    for (at, wanted) in line.nodes.iter().zip(nodes) {
+        if (at.node.0, at.location.is_some(), at.goes_through) != *wanted {
+            return false;
+        }
+    }
+    line.nodes.len() == nodes.len()
+}
+
 #[test]
 fn lines_of_roads_have_their_nodes(rt: HostRuntime) -> Result<(), Fail> {
     let world = world_of(rt.alloc(), ROADS)?;
     let network = Network::new(&world, Motorcar);
-    for (way, wanted) in [
-        (11, [(3, true, true), (4, true, true)].as_slice()),
-        (12, [(4, true, true), (9, false, false)].as_slice()),
-        (13, [].as_slice()),
-    ] {
+    for (way, nodes) in NODES {
         let line = RoadLine::of(rt.alloc(), &network, Road::of(&network, WayId(way)))?;
-        let nodes = line
-            .nodes
-            .iter()
-            .map(|at| (at.node.0, at.location.is_some(), at.goes_through))
-            .collect::<Vec<(i64, bool, bool)>>(rt.alloc())?;
-        assert_eq!(rt; nodes.as_slice(), wanted, "at way {way}");
+        assert!(rt; has_nodes(&line, nodes), "at way {way}");
     }
     Ok(())
 }
