@@ -1,6 +1,7 @@
 //! The table of `barrier`, beside each key that may decide.
 use crate::makers::tags;
 use barrier_rules::barrier_open;
+use std::alloc::Global;
 use std::test::Fail;
 
 const OPEN: [&str; 10] = [
@@ -33,55 +34,74 @@ const SHUT: [&str; 14] = [
     "gate;bollard",
 ];
 
+/// The first of these kinds of barriers that doesn't answer so beside the tags.
+fn first_other<'a>(
+    alloc: Global,
+    kinds: &[&'a str],
+    rest: &str,
+    open: bool,
+) -> Result<Option<&'a str>, Fail> {
+    for kind in kinds {
+        let of = format!(in alloc; "barrier={kind} {rest}")?;
+        if barrier_open(&tags(alloc, &of)?) != open {
+            return Ok(Some(*kind));
+        }
+    }
+    Ok(None)
+}
+
+/// Tags that decide nothing.
+const RESTS: [&str; 5] = [
+    "",
+    "foot=yes",
+    "access:conditional=no",
+    "motorcar:forward=no",
+    "motor_vehicle:lanes=yes",
+];
+
 #[test]
 fn barriers_decide_without_a_key(rt: HostRuntime) -> Result<(), Fail> {
-    for rest in [
-        "",
-        "foot=yes",
-        "access:conditional=no",
-        "motorcar:forward=no",
-        "motor_vehicle:lanes=yes",
-    ] {
+    for rest in RESTS {
         let bare = format!(in rt.alloc(); "highway=crossing {rest}")?;
         assert!(rt; barrier_open(&tags(rt.alloc(), &bare)?), "at {bare:?}");
-        for (kinds, open) in [(OPEN.as_slice(), true), (SHUT.as_slice(), false)] {
-            for kind in kinds {
-                let of = format!(in rt.alloc(); "barrier={kind} {rest}")?;
-                assert_eq!(rt; barrier_open(&tags(rt.alloc(), &of)?), open, "at {of:?}");
-            }
-        }
+        let shut = first_other(rt.alloc(), &OPEN, rest, true)?;
+        assert_eq!(rt; shut, None, "at {rest:?}");
+        let open = first_other(rt.alloc(), &SHUT, rest, false)?;
+        assert_eq!(rt; open, None, "at {rest:?}");
     }
     Ok(())
 }
 
+const KEYS: [(&str, bool); 20] = [
+    ("motorcar=yes", true),
+    ("motor_vehicle=permissive", true),
+    ("vehicle=designated", true),
+    ("access=destination", true),
+    ("access=official", true),
+    ("access=public", true),
+    ("access=discouraged", true),
+    ("access=unknown", true),
+    ("motorcar=no", false),
+    ("motor_vehicle=private", false),
+    ("vehicle=customers", false),
+    ("access=", false),
+    ("access=Yes", false),
+    ("access=no motorcar=yes", true),
+    ("access=no motor_vehicle=yes", true),
+    ("access=no vehicle=yes", true),
+    ("access=yes vehicle=no", false),
+    ("vehicle=yes motor_vehicle=no", false),
+    ("motor_vehicle=yes motorcar=no", false),
+    ("motor_vehicle=yes motorcar=", false),
+];
+
 #[test]
 fn first_key_decides_at_a_barrier(rt: HostRuntime) -> Result<(), Fail> {
-    for (keys, open) in [
-        ("motorcar=yes", true),
-        ("motor_vehicle=permissive", true),
-        ("vehicle=designated", true),
-        ("access=destination", true),
-        ("access=official", true),
-        ("access=public", true),
-        ("access=discouraged", true),
-        ("access=unknown", true),
-        ("motorcar=no", false),
-        ("motor_vehicle=private", false),
-        ("vehicle=customers", false),
-        ("access=", false),
-        ("access=Yes", false),
-        ("access=no motorcar=yes", true),
-        ("access=no motor_vehicle=yes", true),
-        ("access=no vehicle=yes", true),
-        ("access=yes vehicle=no", false),
-        ("vehicle=yes motor_vehicle=no", false),
-        ("motor_vehicle=yes motorcar=no", false),
-        ("motor_vehicle=yes motorcar=", false),
-    ] {
-        for kind in OPEN.into_iter().chain(SHUT) {
-            let of = format!(in rt.alloc(); "barrier={kind} {keys}")?;
-            assert_eq!(rt; barrier_open(&tags(rt.alloc(), &of)?), open, "at {of:?}");
-        }
+    for (keys, open) in KEYS {
+        let other = first_other(rt.alloc(), &OPEN, keys, open)?;
+        assert_eq!(rt; other, None, "at {keys:?}");
+        let other = first_other(rt.alloc(), &SHUT, keys, open)?;
+        assert_eq!(rt; other, None, "at {keys:?}");
         assert!(rt; barrier_open(&tags(rt.alloc(), keys)?), "at {keys:?}");
     }
     Ok(())

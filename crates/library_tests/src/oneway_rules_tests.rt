@@ -22,43 +22,75 @@ const ROADS: [&str; 8] = [
     "",
 ];
 
+/// What is allowed beside a value of `oneway`.
+const VALUES: [(&str, (bool, bool)); 10] = [
+    ("yes", (true, false)),
+    ("true", (true, false)),
+    ("1", (true, false)),
+    ("-1", (false, true)),
+    ("reverse", (false, true)),
+    ("no", (true, true)),
+    ("false", (true, true)),
+    ("0", (true, true)),
+    ("alternating", (true, true)),
+    ("reversible", (false, false)),
+];
+
+/// The first of the roads on which another answer is given.
+fn first_other(
+    alloc: Global,
+    value: &str,
+    want: (bool, bool),
+) -> Result<Option<&'static str>, Fail> {
+    for road in ROADS {
+        let of = format!(in alloc; "{road} oneway={value}")?;
+        if allowed(alloc, &of)? != want {
+            return Ok(Some(road));
+        }
+    }
+    Ok(None)
+}
+
 #[test]
 fn values_decide_on_every_road(rt: HostRuntime) -> Result<(), Fail> {
-    for (value, want) in [
-        ("yes", (true, false)),
-        ("true", (true, false)),
-        ("1", (true, false)),
-        ("-1", (false, true)),
-        ("reverse", (false, true)),
-        ("no", (true, true)),
-        ("false", (true, true)),
-        ("0", (true, true)),
-        ("alternating", (true, true)),
-        ("reversible", (false, false)),
-    ] {
-        for road in ROADS {
-            let of = format!(in rt.alloc(); "{road} oneway={value}")?;
-            assert_eq!(rt; allowed(rt.alloc(), &of)?, want, "at {of:?}");
-        }
+    for (value, want) in VALUES {
+        assert_eq!(rt; first_other(rt.alloc(), value, want)?, None, "at {value:?}");
     }
     Ok(())
 }
 
+/// Whether the roads may be driven both ways.
+const USUAL: [bool; 8] = [true, false, true, false, false, false, false, true];
+
+/// Tags that decide nothing.
+const RESTS: [&str; 6] = [
+    "",
+    "oneway=",
+    "oneway=Yes",
+    "oneway=-2",
+    "oneway:bicycle=-1",
+    "oneway:conditional=no",
+];
+
+/// The first of the tags beside which another answer is given.
+fn first_deciding(alloc: Global, road: &str, both: bool) -> Result<Option<&'static str>, Fail> {
+    for rest in RESTS {
+        let of = format!(in alloc; "{road} {rest}")?;
+        if allowed(alloc, &of)? != (true, both) {
+            return Ok(Some(rest));
+        }
+    }
+    Ok(None)
+}
+
 #[test]
 fn roads_have_their_usual_direction(rt: HostRuntime) -> Result<(), Fail> {
-    let usual = [true, false, true, false, false, false, false, true];
-    for (road, both) in ROADS.into_iter().zip(usual) {
-        for rest in [
-            "",
-            "oneway=",
-            "oneway=Yes",
-            "oneway=-2",
-            "oneway:bicycle=-1",
-            "oneway:conditional=no",
-        ] {
-            let of = format!(in rt.alloc(); "{road} {rest}")?;
-            assert_eq!(rt; allowed(rt.alloc(), &of)?, (true, both), "at {of:?}");
-        }
+    for (road, both) in ROADS.into_iter().zip(USUAL) {
+        assert_eq!(rt;
+            first_deciding(rt.alloc(), road, both)?,
+            None,
+            "at {road:?}"
+        );
     }
     Ok(())
 }

@@ -2,50 +2,58 @@
 use opl_lexer::{FaultKind, LexError, coordinate, fields, unescape, version, whole};
 use std::alloc::{AllocError, Global};
 
+const WHOLES: [(&str, Option<i64>); 11] = [
+    ("0", Some(0)),
+    ("-007", Some(-7)),
+    ("9223372036854775807", Some(i64::MAX)),
+    ("-9223372036854775808", Some(i64::MIN)),
+    ("9223372036854775808", None),
+    ("-9223372036854775809", None),
+    ("", None),
+    ("-", None),
+    ("+1", None),
+    ("1.0", None),
+    ("x", None),
+];
+
 #[test]
 fn numbers_are_read(rt: HostRuntime) {
-    let wholes = [
-        ("0", Some(0)),
-        ("-007", Some(-7)),
-        ("9223372036854775807", Some(i64::MAX)),
-        ("-9223372036854775808", Some(i64::MIN)),
-        ("9223372036854775808", None),
-        ("-9223372036854775809", None),
-        ("", None),
-        ("-", None),
-        ("+1", None),
-        ("1.0", None),
-        ("x", None),
-    ];
-    for (text, value) in wholes {
+    for (text, value) in WHOLES {
         assert_eq!(rt; whole(text), value, "at {text:?}");
     }
-    let versions = [
-        ("4294967295", Some(u32::MAX)),
-        ("0003", Some(3)),
-        ("4294967296", None),
-        ("-1", None),
-        ("", None),
-    ];
-    for (text, value) in versions {
+}
+
+const VERSIONS: [(&str, Option<u32>); 5] = [
+    ("4294967295", Some(u32::MAX)),
+    ("0003", Some(3)),
+    ("4294967296", None),
+    ("-1", None),
+    ("", None),
+];
+
+#[test]
+fn versions_are_read(rt: HostRuntime) {
+    for (text, value) in VERSIONS {
         assert_eq!(rt; version(text), value, "at {text:?}");
     }
 }
 
+/// A text, a limit and the coordinate, in units of 1e-7 degrees.
+const COORDINATES: [(&str, i32, Option<i32>); 9] = [
+    ("180", 1_800_000_000, Some(1_800_000_000)),
+    ("-90.00000009", 900_000_000, Some(-900_000_000)),
+    ("180.0000001", 1_800_000_000, None),
+    ("9.5270956", 1_800_000_000, Some(95_270_956)),
+    ("-0.001", 900_000_000, Some(-10_000)),
+    ("1e2", 1_800_000_000, None),
+    ("1.", 1_800_000_000, None),
+    (".5", 1_800_000_000, None),
+    ("", 1_800_000_000, None),
+];
+
 #[test]
 fn coordinates_are_read(rt: HostRuntime) {
-    let cases = [
-        ("180", 1_800_000_000, Some(1_800_000_000)),
-        ("-90.00000009", 900_000_000, Some(-900_000_000)),
-        ("180.0000001", 1_800_000_000, None),
-        ("9.5270956", 1_800_000_000, Some(95_270_956)),
-        ("-0.001", 900_000_000, Some(-10_000)),
-        ("1e2", 1_800_000_000, None),
-        ("1.", 1_800_000_000, None),
-        (".5", 1_800_000_000, None),
-        ("", 1_800_000_000, None),
-    ];
-    for (text, limit, value) in cases {
+    for (text, limit, value) in COORDINATES {
         assert_eq!(rt; coordinate(text, limit), value, "at {text:?}");
     }
 }

@@ -38,23 +38,22 @@ fn reaches(alloc: Global, lines: &[u8], key: Key, want: &[i64]) -> Result<bool, 
     Ok(are(&ways, want))
 }
 
+/// A map, a key that changes, and the ways that are reached from it.
+const REACHED: [(&[u8], Key, &[i64]); 9] = [
+    (BEFORE, Key::Way(WayId(12)), &[12]),
+    (BEFORE, Key::Node(NodeId(5)), &[]),
+    (AFTER, Key::Node(NodeId(5)), &[10, 11, 12]),
+    (AFTER, Key::Way(WayId(12)), &[10, 11, 12, 13]),
+    (AFTER, Key::Way(WayId(14)), &[10, 11, 13, 14]),
+    (RULED, Key::Relation(RelationId(5)), &[10, 11, 13, 14, 99]),
+    (RULED, Key::Relation(RelationId(6)), &[]),
+    (RULED, Key::Way(WayId(99)), &[10, 13, 14, 99]),
+    (RULED, Key::Node(NodeId(6)), &[10, 11, 13, 14, 99]),
+];
+
 #[test]
 fn ways_within_six_links(rt: HostRuntime) -> Result<(), Fail> {
-    for (lines, key, want) in [
-        (BEFORE, Key::Way(WayId(12)), [12].as_slice()),
-        (BEFORE, Key::Node(NodeId(5)), [].as_slice()),
-        (AFTER, Key::Node(NodeId(5)), [10, 11, 12].as_slice()),
-        (AFTER, Key::Way(WayId(12)), [10, 11, 12, 13].as_slice()),
-        (AFTER, Key::Way(WayId(14)), [10, 11, 13, 14].as_slice()),
-        (
-            RULED,
-            Key::Relation(RelationId(5)),
-            [10, 11, 13, 14, 99].as_slice(),
-        ),
-        (RULED, Key::Relation(RelationId(6)), [].as_slice()),
-        (RULED, Key::Way(WayId(99)), [10, 13, 14, 99].as_slice()),
-        (RULED, Key::Node(NodeId(6)), [10, 11, 13, 14, 99].as_slice()),
-    ] {
+    for (lines, key, want) in REACHED {
         assert!(rt; reaches(rt.alloc(), lines, key, want)?, "from {key:?}");
     }
     Ok(())
