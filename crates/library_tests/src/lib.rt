@@ -30,6 +30,8 @@ mod opl_lexer_tests;
 #[cfg(test)]
 mod opl_objects_tests;
 #[cfg(test)]
+mod reply_lines_tests;
+#[cfg(test)]
 mod road_base_tests;
 #[cfg(test)]
 mod road_model_tests;

@@ -12,6 +12,3 @@ mod verdict_texts;
 pub use step_texts::step_text;
 pub use texts::{counts_text, fault_text, kind_name};
 pub use verdict_texts::verdict_text;
-
-#[cfg(test)]
-mod tests;

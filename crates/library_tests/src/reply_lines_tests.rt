@@ -1,8 +1,8 @@
 //! What lines of a session ask, and the texts of replies.
-use crate::{counts_text, fault_text, step_text, verdict_text};
 use drive_queries::{Asked, Rule, Totals, Verdict, message};
 use opl_lexer::FaultKind;
 use opl_objects::Fault;
+use reply_lines::{counts_text, fault_text, step_text, verdict_text};
 use road_base::{Dir, NoMemory, NodeId, RelationId, Sequence, Step, WayId};
 use road_model::{AccessKey, ClosedBy};
 use std::alloc::Global;
