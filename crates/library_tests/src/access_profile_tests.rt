@@ -257,24 +257,38 @@ fn first_reason_closes(rt: HostRuntime) -> Result<(), Fail> {
     Ok(())
 }
 
+const ALL_KEYS: &str =
+    "access=a access:backward=b vehicle=c motor_vehicle:backward=d motor_vehicle=e motorcar:forward=f";
+
+/// Tags, a direction, and the key that decides, with its side.
+const NAMED: [(&str, Dir, Option<(AccessKey, Option<Dir>)>); 3] = [
+    (
+        ALL_KEYS,
+        Dir::Forward,
+        Some((AccessKey::Motorcar, Some(Dir::Forward))),
+    ),
+    (
+        ALL_KEYS,
+        Dir::Backward,
+        Some((AccessKey::MotorVehicle, Some(Dir::Backward))),
+    ),
+    (
+        "motorcar:lanes=no access:conditional=no bicycle=no",
+        Dir::Forward,
+        None,
+    ),
+];
+
+fn decided(alloc: Global, of: &str, dir: Dir) -> Result<Option<(AccessKey, Option<Dir>)>, Fail> {
+    let tags = tags(alloc, of)?;
+    Ok(deciding(&tags, dir))
+}
+
 #[test]
 fn deciding_keys_are_named(rt: HostRuntime) -> Result<(), Fail> {
-    let all =
-        "access=a access:backward=b vehicle=c motor_vehicle:backward=d motor_vehicle=e motorcar:forward=f";
-    let tagged = tags(rt.alloc(), all)?;
-    assert_eq!(rt;
-        deciding(&tagged, Dir::Forward),
-        Some((AccessKey::Motorcar, Some(Dir::Forward)))
-    );
-    assert_eq!(rt;
-        deciding(&tagged, Dir::Backward),
-        Some((AccessKey::MotorVehicle, Some(Dir::Backward)))
-    );
-    let untagged = tags(
-        rt.alloc(),
-        "motorcar:lanes=no access:conditional=no bicycle=no",
-    )?;
-    assert_eq!(rt; deciding(&untagged, Dir::Forward), None);
+    for (of, dir, key) in NAMED {
+        assert_eq!(rt; decided(rt.alloc(), of, dir)?, key, "{dir:?} at {of:?}");
+    }
     assert_eq!(rt; Motorcar.number(), 1);
     Ok(())
 }
