@@ -43,27 +43,20 @@ fn rules(world: &Indexed, node: NodeId, ways: &[WayId]) -> bool {
             .all(|way| world.rules_of_way(*way) == wanted.as_slice())
 }
 
-/// The nodes of the town that ways refer to, beside these ways.
-const LINKS: [(NodeId, &[WayId]); 3] = [
-    (NodeId(1), &[WayId(10)]),
-    (NodeId(2), &[WayId(10), WayId(12)]),
-    (NodeId(9), &[WayId(12)]),
-];
-
-/// Whether the town's objects are found, and node 9 isn't.
-fn has_objects(world: &Indexed) -> bool {
-    world.node(NodeId(2)).is_some()
-        && world.node(NodeId(9)).is_none()
-        && world.way(WayId(11)).is_some()
-        && world.relation(RelationId(31)).is_some()
-}
-
 #[test]
 fn links_are_listed(rt: HostRuntime) -> Result<(), Fail> {
     let world = town(rt.alloc())?;
-    assert!(rt; refer(&world, &LINKS));
+    let cases: [(NodeId, &[WayId]); 3] = [
+        (NodeId(1), &[WayId(10)]),
+        (NodeId(2), &[WayId(10), WayId(12)]),
+        (NodeId(9), &[WayId(12)]),
+    ];
+    assert!(rt; refer(&world, &cases));
     assert!(rt; rules(&world, NodeId(2), &[WayId(10), WayId(99)]));
-    assert!(rt; has_objects(&world));
+    assert!(rt; world.node(NodeId(2)).is_some());
+    assert!(rt; world.node(NodeId(9)).is_none());
+    assert!(rt; world.way(WayId(11)).is_some());
+    assert!(rt; world.relation(RelationId(31)).is_some());
     Ok(())
 }
 

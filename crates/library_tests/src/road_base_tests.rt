@@ -3,8 +3,8 @@ ghost use Rattle.std.specs.Prelude.{◌≡◌, ◌<◌};
 
 use crate::makers::event_of;
 use road_base::{
-    Body, Dir, Drive, Event, Key, Keys, LittleEndian, Location, Member, NoMemory, NodeId,
-    RelationId, Step, Steps, Tags, WayId, Ways,
+    Body, Dir, Drive, Key, Keys, LittleEndian, Location, Member, NoMemory, NodeId, RelationId,
+    Step, Steps, Tags, WayId, Ways,
 };
 use std::alloc::{AllocError, AllocFailed, Global};
 use std::marker::Brand;
@@ -25,10 +25,6 @@ const WAY: &[u8] = b"w7 v1 Tbridge=yes,highway=primary,name=Lange%20%Br%fc%cke N
 const RELATION: &[u8] = b"r1 v1 Tbridge=yes,highway=primary,name=Lange%20%Br%fc%cke Mw7@across";
 
 const EACH_BODY: [&[u8]; 4] = [NODE, WAY, RELATION, b"n1 v1 dD"];
-
-fn copied_event(alloc: Global, line: &[u8]) -> Result<Event, Fail> {
-    Ok(event_of(alloc, line)?.copy()?)
-}
 
 /// A copy of the body of the event.
 fn copied(alloc: Global, line: &[u8]) -> Result<Body, Fail> {
@@ -85,7 +81,7 @@ fn a_key_is_looked_up(rt: HostRuntime) -> Result<(), Fail> {
 
 #[test]
 fn a_node_is_copied(rt: HostRuntime) -> Result<(), Fail> {
-    let copied = copied_event(rt.alloc(), NODE)?;
+    let copied = event_of(rt.alloc(), NODE)?.copy()?;
     assert_eq!(rt; copied.key, Key::Node(NodeId(4)));
     assert_eq!(rt; copied.version, 3);
     assert!(rt; is_at_place(&copied.body));

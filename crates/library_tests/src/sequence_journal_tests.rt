@@ -189,23 +189,13 @@ fn are_shapes(calls: &[Entry]) -> bool {
         .all(|(entry, wanted)| shape(entry) == *wanted)
 }
 
-/// The site after a base was written and a change added.
-fn added(alloc: Global) -> Result<MemorySite, JournalError> {
-    let mut site = site_of(alloc, Vec::new(alloc), Vec::new(alloc));
-    write_and_add(alloc, &mut site)?;
-    Ok(site)
-}
-
-/// Whether file A is a base with a record behind it.
-fn has_record(alloc: Global, site: &MemorySite) -> Result<bool, AllocError> {
-    let whole = file_of(alloc, &[BASE, RECORD, b"\0"], None)?;
-    Ok(site.file(Which::A) == whole.as_slice())
-}
-
 #[test]
 fn an_addition_writes_behind_the_gate_and_opens_it(rt: HostRuntime) -> Result<(), Fail> {
-    let site = added(rt.alloc())?;
-    assert!(rt; has_record(rt.alloc(), &site)?);
+    let alloc = rt.alloc();
+    let mut site = site_of(alloc, Vec::new(alloc), Vec::new(alloc));
+    assert_eq!(rt; write_and_add(alloc, &mut site), Ok(()));
+    let whole = file_of(alloc, &[BASE, RECORD, b"\0"], None)?;
+    assert!(rt; site.file(Which::A) == whole.as_slice());
     let calls = site.calls();
     assert_eq!(rt; calls.len(), 13);
     assert!(rt; are_shapes(&calls[9..]));

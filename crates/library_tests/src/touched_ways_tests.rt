@@ -1,7 +1,6 @@
 //! The ways within six links, before and after a change.
 use crate::makers::world_of;
-use back_references::Indexed;
-use road_base::{Key, Keys, NoMemory, NodeId, RelationId, WayId, Ways};
+use road_base::{Key, Keys, NodeId, RelationId, WayId, Ways};
 use std::alloc::Global;
 use std::test::Fail;
 use touched_ways::{merge, reached};
@@ -22,14 +21,10 @@ const RULED: &[u8] =
     w13 Thighway=road Nn1,n6\nw14 Thighway=road Nn6,n7\nr5 Ttype=restriction Mw99@from,n6@via\n\
     r6 Ttype=route Mw10@\n";
 
-fn reached_from(alloc: Global, world: &Indexed, changed: &[Key]) -> Result<Ways, NoMemory> {
-    let keys = Keys::from_list(Vec::from_slice(alloc, changed)?);
-    reached(alloc, world, &keys)
-}
-
 fn reached_in(alloc: Global, lines: &[u8], changed: &[Key]) -> Result<Ways, Fail> {
     let world = world_of(alloc, lines)?;
-    Ok(reached_from(alloc, &world, changed)?)
+    let keys = Keys::from_list(Vec::from_slice(alloc, changed)?);
+    Ok(reached(alloc, &world, &keys)?)
 }
 
 fn are(ways: &Ways, want: &[i64]) -> bool {
