@@ -33,12 +33,21 @@ fn add_node(alloc: Global, text: &mut String, node: &Node) -> Result<(), NoMemor
     Ok(())
 }
 
+fn add_word(text: &mut String, word: &str) -> Result<(), NoMemory> {
+    text.push_str(" ")?;
+    text.push_str(word)?;
+    Ok(())
+}
+
+fn add_key(alloc: Global, text: &mut String, key: Key) -> Result<(), NoMemory> {
+    let name = key_text(alloc, key)?;
+    add_word(text, name.as_str())
+}
+
 fn add_way(alloc: Global, text: &mut String, way: &Way) -> Result<(), NoMemory> {
     add_tags(text, &way.tags)?;
     for id in way.refs.items() {
-        text.push_str(" ")?;
-        let name = key_text(alloc, Key::Node(*id))?;
-        text.push_str(name.as_str())?;
+        add_key(alloc, text, Key::Node(*id))?;
     }
     Ok(())
 }
@@ -46,11 +55,8 @@ fn add_way(alloc: Global, text: &mut String, way: &Way) -> Result<(), NoMemory> 
 fn add_relation(alloc: Global, text: &mut String, relation: &Relation) -> Result<(), NoMemory> {
     add_tags(text, &relation.tags)?;
     for member in relation.members.items() {
-        text.push_str(" ")?;
-        let name = key_text(alloc, member.item)?;
-        text.push_str(name.as_str())?;
-        text.push_str(" ")?;
-        text.push_str(member.role.as_str())?;
+        add_key(alloc, text, member.item)?;
+        add_word(text, member.role.as_str())?;
     }
     Ok(())
 }
@@ -116,19 +122,34 @@ fn the_first_draw(rt: HostRuntime) {
     assert_eq!(rt; draws.below(8), 7);
 }
 
+/// How many events the list of this version has.
+fn count_of(version: u32) -> usize {
+    match version {
+        1 => 3600 + 3540 + 3540 + 600,
+        12 => 0,
+        _ => 20,
+    }
+}
+
+/// The first version whose list has another count of events, or an event of another version.
+fn wrong_version(lists: &[Vec<Event>]) -> Option<u32> {
+    for (events, version) in lists.iter().zip(1..13) {
+        if events.len() != count_of(version) || !have_version(events, version) {
+            return Some(version);
+        }
+    }
+    None
+}
+
+/// How many lists there are, and the first version whose list is wrong.
+fn counted_lists(alloc: Global) -> Result<(usize, Option<u32>), NoMemory> {
+    let lists = twelve_lists(alloc, 0)?;
+    Ok((lists.len(), wrong_version(&lists)))
+}
+
 #[test]
 fn the_lists_and_their_versions(rt: HostRuntime) -> Result<(), Fail> {
-    let lists = twelve_lists(rt.alloc(), 0)?;
-    assert_eq!(rt; lists.len(), 12);
-    for (events, version) in lists.iter().zip(1..13) {
-        let wanted = match version {
-            1 => 3600 + 3540 + 3540 + 600,
-            12 => 0,
-            _ => 20,
-        };
-        assert_eq!(rt; events.len(), wanted, "in version {version}");
-        assert!(rt; have_version(events, version), "in version {version}");
-    }
+    assert_eq!(rt; counted_lists(rt.alloc())?, (12, None));
     Ok(())
 }
 
@@ -142,8 +163,10 @@ fn equal_numbers_give_equal_lists(rt: HostRuntime) -> Result<(), Fail> {
     Ok(())
 }
 
-/// Each case is a list, a place in it, and the event that stands there.
-const OF_TOWN_0: [(usize, usize, &str); 12] = [
+/// A list, a place in it, and the event that stands there.
+type Case = (usize, usize, &'static str);
+
+const OF_TOWN_0: [Case; 12] = [
     (0, 0, "n1 v1 0 0"),
     (0, 61, "n62 v1 10000 10000"),
     (0, 3600, "w1 v1 highway=residential n1 n2"),
@@ -174,7 +197,7 @@ const OF_TOWN_0: [(usize, usize, &str); 12] = [
     (1, 3, "r508 v2 deleted"),
 ];
 
-const OF_TOWN_7: [(usize, usize, &str); 5] = [
+const OF_TOWN_7: [Case; 5] = [
     (0, 3606, "w7 v1 highway=residential oneway=yes n7 n8"),
     (
         0,
@@ -190,17 +213,42 @@ const OF_TOWN_7: [(usize, usize, &str); 5] = [
     (10, 19, "n875 v11 340010 140000"),
 ];
 
+/// Whether the event of a case is what stands there.
+fn stands_there(
+    alloc: Global,
+    lists: &[Vec<Event>],
+    (list, place, wanted): Case,
+) -> Result<bool, NoMemory> {
+    let text = text_at(alloc, lists, list, place)?;
+    Ok(text.as_str() == wanted)
+}
+
+/// List and place of the first case in whose place another event stands.
+fn other_among(
+    alloc: Global,
+    lists: &[Vec<Event>],
+    cases: &[Case],
+) -> Result<Option<(usize, usize)>, NoMemory> {
+    for case in cases {
+        if !stands_there(alloc, lists, *case)? {
+            return Ok(Some((case.0, case.1)));
+        }
+    }
+    Ok(None)
+}
+
+fn other_in_town(
+    alloc: Global,
+    number: u64,
+    cases: &[Case],
+) -> Result<Option<(usize, usize)>, NoMemory> {
+    let lists = twelve_lists(alloc, number)?;
+    other_among(alloc, &lists, cases)
+}
+
 #[test]
 fn the_events_of_two_towns(rt: HostRuntime) -> Result<(), Fail> {
-    let lists = twelve_lists(rt.alloc(), 0)?;
-    for (list, place, wanted) in OF_TOWN_0 {
-        let text = text_at(rt.alloc(), &lists, list, place)?;
-        assert_eq!(rt; text.as_str(), wanted, "at {place} of {list}");
-    }
-    let lists = twelve_lists(rt.alloc(), 7)?;
-    for (list, place, wanted) in OF_TOWN_7 {
-        let text = text_at(rt.alloc(), &lists, list, place)?;
-        assert_eq!(rt; text.as_str(), wanted, "at {place} of {list}");
-    }
+    assert_eq!(rt; other_in_town(rt.alloc(), 0, &OF_TOWN_0)?, None);
+    assert_eq!(rt; other_in_town(rt.alloc(), 7, &OF_TOWN_7)?, None);
     Ok(())
 }
