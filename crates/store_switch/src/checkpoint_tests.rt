@@ -1,18 +1,20 @@
 //! A store that goes on in its other file: the bytes, the calls, and what faults and stops leave. And which parts of a
 //! file are read to load it.
 use crate::store_tests::{
-    Answer, BASE, changes_a_file, file, left_by, load, load_of, site_of, told,
+    Answer, BASE, change_no_file, file, left_by, load, load_of, make_call, site_of, told,
 };
 use crate::{checkpoint, create_store, load_store};
 use road_base::{Body, Event, Key, Node, NodeId, Sequence, Tags};
 use road_io::{Call, Entry, MemorySite, Which};
 use sequence_journal::JournalError;
 use std::alloc::{AllocError, Global};
-use std::process::Abort;
 use std::test::Fail;
 
-/// What change 6 without events makes of a base's last byte: its open gate, its record, and the gate behind it.
-const CHANGE: [u8; 26] = *b"\x01\x06\0\0\0\0\0\0\0\x08\0\0\0\0\0\0\0\0\0\0\0\0\0\0\0\0";
+/// File A with change 6, which has no events: an open gate stands before the base and the change, and a closed one
+/// behind them.
+const CHANGED: [u8; 71] = *b"\x01OSMJRNL1\x01\0\0\0\x01\0\0\0\0\0\0\0\x05\0\0\0\0\0\0\0\
+    \x08\0\0\0\0\0\0\0\0\0\0\0\0\0\0\0\
+    \x01\x06\0\0\0\0\0\0\0\x08\0\0\0\0\0\0\0\0\0\0\0\0\0\0\0\0";
 
 /// The base of generation 2 with the number 6 and no events, and the gate behind it.
 const NEXT: [u8; 46] = *b"\x01OSMJRNL1\x01\0\0\0\x02\0\0\0\0\0\0\0\x06\0\0\0\0\0\0\0\
@@ -25,13 +27,6 @@ const NEW: Answer = Ok((Which::B, 2, 6));
 
 /// How many calls a checkpoint makes, the last one of which but one opens the new base.
 const CALLS: usize = 8;
-
-/// File A with change 6, 71 bytes.
-fn changed(alloc: Global) -> Result<Vec<u8>, AllocError> {
-    let mut bytes = BASE[..45].to_vec(alloc)?;
-    bytes.extend_from_slice(&CHANGE)?;
-    Ok(bytes)
-}
 
 /// A store loaded, and its checkpoint with these events made.
 fn go_on(alloc: Global, site: &mut MemorySite, events: &[Event]) -> Answer {
@@ -82,20 +77,25 @@ fn is_call(entry: &Entry, wanted: &Wanted) -> bool {
     }
 }
 
+/// The first of the last eight calls that isn't the wanted one.
+fn other_call(calls: &[Entry]) -> Option<usize> {
+    let from = calls.len().saturating_sub(CALLS);
+    for (n, (entry, wanted)) in calls.iter().skip(from).zip(WANTED.iter()).enumerate() {
+        if !is_call(entry, wanted) {
+            return Some(n);
+        }
+    }
+    None
+}
+
 #[test]
 fn goes_on(rt: HostRuntime) -> Result<(), Fail> {
-    let alloc = rt.alloc();
-    let a = changed(alloc)?;
-    let mut site = site_of(alloc, &a, b"old", &[])?;
-    assert_eq!(rt; go_on(alloc, &mut site, &[]), NEW);
-    assert_eq!(rt; site.file(Which::A), a.as_slice());
+    let mut site = site_of(rt.alloc(), &CHANGED, b"old", &[])?;
+    assert_eq!(rt; go_on(rt.alloc(), &mut site, &[]), NEW);
+    assert_eq!(rt; site.file(Which::A), CHANGED.as_slice());
     assert_eq!(rt; site.file(Which::B), NEXT.as_slice());
-    let calls = site.calls();
-    let from = calls.len().saturating_sub(CALLS);
-    assert_eq!(rt; calls.len(), from + CALLS);
-    for (entry, wanted) in calls.iter().skip(from).zip(WANTED.iter()) {
-        assert!(rt; is_call(entry, wanted));
-    }
+    assert!(rt; site.calls().len() >= CALLS);
+    assert_eq!(rt; other_call(site.calls()), None);
     Ok(())
 }
 
@@ -114,9 +114,7 @@ fn goes_on_within_the_generations(rt: HostRuntime) -> Result<(), Fail> {
         go_on(rt.alloc(), &mut site, &[]),
         Err(JournalError::TooLarge)
     );
-    for entry in site.calls() {
-        assert!(rt; !changes_a_file(&entry.call));
-    }
+    assert!(rt; change_no_file(site.calls()));
     assert_eq!(rt;
         add(rt.alloc(), &mut site, 6, &[]),
         Ok((Which::A, u64::MAX, 6))
@@ -139,9 +137,7 @@ fn goes_on_unless_closed(rt: HostRuntime) -> Result<(), Fail> {
         go_on_closed(rt.alloc(), &mut site),
         Err(JournalError::SiteFault)
     );
-    for entry in site.calls() {
-        assert!(rt; !changes_a_file(&entry.call));
-    }
+    assert!(rt; change_no_file(site.calls()));
     Ok(())
 }
 
@@ -155,11 +151,10 @@ fn go_on_and_add(alloc: Global, site: &mut MemorySite) -> Answer {
 
 #[test]
 fn adds_to_the_other_file(rt: HostRuntime) -> Result<(), Fail> {
-    let a = changed(rt.alloc())?;
-    let mut site = site_of(rt.alloc(), &a, &[], &[])?;
+    let mut site = site_of(rt.alloc(), &CHANGED, &[], &[])?;
     let added = Ok((Which::B, 2, 7));
     assert_eq!(rt; go_on_and_add(rt.alloc(), &mut site), added);
-    assert_eq!(rt; site.file(Which::A), a.as_slice());
+    assert_eq!(rt; site.file(Which::A), CHANGED.as_slice());
     assert_eq!(rt; site.file(Which::B).len(), 71);
     assert_eq!(rt; load(rt.alloc(), &mut site), added);
     assert_eq!(rt; go_on(rt.alloc(), &mut site, &[]), Ok((Which::A, 3, 7)));
@@ -174,78 +169,108 @@ fn is_closed_by_a_fault(alloc: Global, site: &mut MemorySite) -> Result<bool, Jo
     Ok(answer == Err(JournalError::SiteFault) && loaded.journal.closed())
 }
 
-/// A checkpoint with a fault at the call of this number, and what is loaded then.
+/// Whether a fault at the call of this number, in a checkpoint, closes the journal, and what is loaded then.
 fn load_after_fault(
-    rt: &impl Abort,
     alloc: Global,
-    a: &[u8],
     n: u64,
-) -> Result<Answer, AllocError> {
-    let mut site = site_of(alloc, a, &[], &[n])?;
-    assert_eq!(rt; is_closed_by_a_fault(alloc, &mut site), Ok(true));
-    Ok(load(alloc, &mut site))
+) -> Result<(Result<bool, JournalError>, Answer), AllocError> {
+    let mut site = site_of(alloc, &CHANGED, &[], &[n])?;
+    let closed = is_closed_by_a_fault(alloc, &mut site);
+    Ok((closed, load(alloc, &mut site)))
+}
+
+/// The store loaded, and how many calls that makes.
+fn load_changed(alloc: Global) -> Result<(Answer, u64), AllocError> {
+    let mut site = site_of(alloc, &CHANGED, &[], &[])?;
+    let answer = load(alloc, &mut site);
+    Ok((answer, site.calls().len() as u64))
 }
 
 /// Behind a fault of the last call, a sync, the new base is open.
 #[test]
 fn closes_after_each_fault(rt: HostRuntime) -> Result<(), Fail> {
-    let alloc = rt.alloc();
-    let a = changed(alloc)?;
-    let mut site = site_of(alloc, &a, &[], &[])?;
-    assert_eq!(rt; load(alloc, &mut site), OLD);
-    let from = site.calls().len() as u64;
+    let (answer, from) = load_changed(rt.alloc())?;
+    assert_eq!(rt; answer, OLD);
     for n in 0..8 {
-        let answer = load_after_fault(&rt, alloc, &a, from + n)?;
-        assert_eq!(rt; answer, if n < 7 { OLD } else { NEW });
+        let loaded = if n < 7 { OLD } else { NEW };
+        let answers = load_after_fault(rt.alloc(), from.saturating_add(n))?;
+        assert_eq!(rt; answers, (Ok(true), loaded));
     }
     Ok(())
 }
 
-/// How often a stop in a call on file B, of which these bytes were on the disk, leaves the checkpoint. Else it leaves
-/// the old store.
-fn checkpoints_left_by(
-    rt: &impl Abort,
-    alloc: Global,
-    a: &[u8],
-    b: &[u8],
-    call: &Call,
-) -> Result<u8, AllocError> {
+/// What is loaded after a stop in a call on file B, of which these bytes were on the disk.
+fn load_stopped(alloc: Global, b: &[u8], call: &Call, way: u8) -> Result<Answer, AllocError> {
+    let image = left_by(alloc, b, call, way)?;
+    load_of(alloc, &CHANGED, &image)
+}
+
+/// How often a stop in a call on file B leaves the checkpoint, where it leaves the old store else. None where it leaves
+/// another answer.
+fn checkpoints_left_by(alloc: Global, b: &[u8], call: &Call) -> Result<Option<u8>, AllocError> {
     let mut new: u8 = 0;
     for way in 0..5 {
-        let image = left_by(alloc, b, call, way)?;
-        let answer = load_of(alloc, a, &image)?;
+        let answer = load_stopped(alloc, b, call, way)?;
         if answer == NEW {
             new = new.saturating_add(1);
-        } else {
-            assert_eq!(rt; answer, OLD);
+        } else if answer != OLD {
+            return Ok(None);
         }
     }
-    Ok(new)
+    Ok(Some(new))
 }
 
-/// A stop in each call of a checkpoint, file B having these bytes at first: file A stays live until the new base is
-/// opened, by the last write, and file B is from then on.
-fn stops_beside(rt: &impl Abort, alloc: Global, old: &[u8]) -> Result<(), AllocError> {
-    let a = changed(alloc)?;
-    let mut site = site_of(alloc, &a, old, &[])?;
-    assert_eq!(rt; go_on(alloc, &mut site, &[]), NEW);
-    let calls = site.calls();
-    let from = calls.len().saturating_sub(CALLS);
-    let mut b = old.to_vec(alloc)?;
-    for (n, entry) in calls.iter().skip(from).enumerate() {
-        let new = checkpoints_left_by(rt, alloc, &a, &b, &entry.call)?;
-        assert!(rt; n == 6 || new == if n < 6 { 0 } else { 5 });
-        b = left_by(alloc, &b, &entry.call, 0)?;
+/// Whether stops in the call with this number leave the checkpoint as often as they should.
+fn is_wanted(n: usize, new: Option<u8>) -> bool {
+    match new {
+        Some(new) => n == 6 || new == if n < 6 { 0 } else { 5 },
+        None => false,
     }
-    assert_eq!(rt; b.as_slice(), NEXT.as_slice());
-    Ok(())
 }
 
+/// The calls made on file B with these bytes, and the first of them in which a stop leaves what it shouldn't.
+fn wrong_stop(
+    alloc: Global,
+    b: &mut Vec<u8>,
+    calls: &[Entry],
+) -> Result<Option<usize>, AllocError> {
+    let from = calls.len().saturating_sub(CALLS);
+    for (n, entry) in calls.iter().skip(from).enumerate() {
+        if !is_wanted(n, checkpoints_left_by(alloc, b, &entry.call)?) {
+            return Ok(Some(n));
+        }
+        make_call(alloc, b, &entry.call)?;
+    }
+    Ok(None)
+}
+
+/// The first of these calls in which a stop leaves what it shouldn't, file B having these bytes at first, and whether
+/// it has the new base in the end.
+fn walk_calls(
+    alloc: Global,
+    old: &[u8],
+    calls: &[Entry],
+) -> Result<(Option<usize>, bool), AllocError> {
+    let mut b = old.to_vec(alloc)?;
+    let wrong = wrong_stop(alloc, &mut b, calls)?;
+    Ok((wrong, b.as_slice() == NEXT.as_slice()))
+}
+
+/// A checkpoint, file B having these bytes at first, and what stops in its calls leave.
+fn stops_beside(alloc: Global, old: &[u8]) -> Result<(Answer, (Option<usize>, bool)), AllocError> {
+    let mut site = site_of(alloc, &CHANGED, old, &[])?;
+    let answer = go_on(alloc, &mut site, &[]);
+    Ok((answer, walk_calls(alloc, old, site.calls())?))
+}
+
+/// A stop in each call of a checkpoint: file A stays live until the new base is opened, by the last write, and file B
+/// is from then on.
 #[test]
 fn stops_while_it_goes_on(rt: HostRuntime) -> Result<(), Fail> {
-    stops_beside(&rt, rt.alloc(), &[])?;
-    stops_beside(&rt, rt.alloc(), b"no base")?;
-    stops_beside(&rt, rt.alloc(), &file([1, 1, 1, 3]))?;
+    let wanted = (NEW, (None, true));
+    assert_eq!(rt; stops_beside(rt.alloc(), &[])?, wanted);
+    assert_eq!(rt; stops_beside(rt.alloc(), b"no base")?, wanted);
+    assert_eq!(rt; stops_beside(rt.alloc(), &file([1, 1, 1, 3]))?, wanted);
     Ok(())
 }
 
@@ -280,24 +305,45 @@ fn two_nodes(alloc: Global, site: &mut MemorySite) -> Answer {
     add(alloc, site, 6, &[deletion(1)])
 }
 
+/// A checkpoint of that, in which node 1 is a deletion.
+fn go_on_with_a_deletion(alloc: Global, site: &mut MemorySite) -> Answer {
+    let entries = [deletion(1), node(alloc, 2)];
+    go_on(alloc, site, &entries)
+}
+
+/// The key and the version of an event, and whether it is a deletion.
+type Head = (Key, u32, bool);
+
+fn head(event: &Event) -> Head {
+    (event.key, event.version, is_deletion(event))
+}
+
+/// The events' heads, where there are two.
+fn two_heads(events: &[Event]) -> Option<[Head; 2]> {
+    if events.len() == 2 {
+        Some([head(&events[0]), head(&events[1])])
+    } else {
+        None
+    }
+}
+
+fn load_two_heads(alloc: Global, site: &mut MemorySite) -> Result<Option<[Head; 2]>, JournalError> {
+    let loaded = load_store(alloc, site)?;
+    Ok(two_heads(&loaded.events))
+}
+
 /// A deletion stays in the base, as the event of its key.
 #[test]
 fn keeps_a_deletion(rt: HostRuntime) -> Result<(), Fail> {
-    let alloc = rt.alloc();
-    let mut site = site_of(alloc, &[], &[], &[])?;
-    assert_eq!(rt; two_nodes(alloc, &mut site), OLD);
-    let entries = [deletion(1), node(alloc, 2)];
-    assert_eq!(rt; go_on(alloc, &mut site, &entries), NEW);
-    let Ok(loaded) = load_store(alloc, &mut site) else {
-        return Err(Fail::from("the checkpoint isn't loaded"));
-    };
-    let events = loaded.events;
-    assert_eq!(rt; events.len(), 2);
-    assert_eq!(rt; events[0].key, Key::Node(NodeId(1)));
-    assert_eq!(rt; events[0].version, 2);
-    assert!(rt; is_deletion(&events[0]));
-    assert_eq!(rt; events[1].key, Key::Node(NodeId(2)));
-    assert!(rt; !is_deletion(&events[1]));
+    let mut site = site_of(rt.alloc(), &[], &[], &[])?;
+    assert_eq!(rt; two_nodes(rt.alloc(), &mut site), OLD);
+    assert_eq!(rt; go_on_with_a_deletion(rt.alloc(), &mut site), NEW);
+    let first = (Key::Node(NodeId(1)), 2, true);
+    let second = (Key::Node(NodeId(2)), 1, false);
+    assert_eq!(rt;
+        load_two_heads(rt.alloc(), &mut site),
+        Ok(Some([first, second]))
+    );
     Ok(())
 }
 
@@ -309,26 +355,32 @@ fn lie_in_a_part(at: u64, len: u64) -> bool {
     PARTS.iter().any(|(from, end)| *from <= at && at.saturating_add(len) <= *end)
 }
 
-/// While a file is loaded, no read reaches behind the part that is read.
-#[test]
-fn reads_one_part_at_a_time(rt: HostRuntime) -> Result<(), Fail> {
-    let alloc = rt.alloc();
-    let mut site = site_of(alloc, &changed(alloc)?, &[], &[])?;
-    assert_eq!(rt; add(alloc, &mut site, 7, &[]), Ok((Which::A, 1, 7)));
-    let loaded = site.calls().len();
-    assert_eq!(rt; load(alloc, &mut site), Ok((Which::A, 1, 7)));
+/// Where the last of these reads of file A begins, 0 with none. None where a read reaches behind a part.
+fn last_read(calls: &[Entry], from: usize) -> Option<u64> {
     let mut last = 0;
-    for entry in site.calls().iter().skip(loaded) {
+    for entry in calls.iter().skip(from) {
         if let Call::ReadAt {
             file: Which::A,
             at,
             len,
         } = &entry.call
         {
-            assert!(rt; lie_in_a_part(*at, *len));
+            if !lie_in_a_part(*at, *len) {
+                return None;
+            }
             last = *at;
         }
     }
-    assert_eq!(rt; last, 95);
+    Some(last)
+}
+
+/// While a file is loaded, no read reaches behind the part that is read.
+#[test]
+fn reads_one_part_at_a_time(rt: HostRuntime) -> Result<(), Fail> {
+    let mut site = site_of(rt.alloc(), &CHANGED, &[], &[])?;
+    assert_eq!(rt; add(rt.alloc(), &mut site, 7, &[]), Ok((Which::A, 1, 7)));
+    let from = site.calls().len();
+    assert_eq!(rt; load(rt.alloc(), &mut site), Ok((Which::A, 1, 7)));
+    assert_eq!(rt; last_read(site.calls(), from), Some(95));
     Ok(())
 }

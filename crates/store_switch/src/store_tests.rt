@@ -4,7 +4,6 @@ use road_base::Sequence;
 use road_io::{Call, Entry, MemorySite, Which};
 use sequence_journal::{Journal, JournalError, Loaded};
 use std::alloc::{AllocError, Global};
-use std::process::Abort;
 use std::test::Fail;
 
 /// A base of generation 1 with the number 5 and no events, and the gate behind it.
@@ -185,8 +184,13 @@ fn loads_after_each_fault(rt: HostRuntime) -> Result<(), Fail> {
     Ok(())
 }
 
-pub(crate) fn changes_a_file(call: &Call) -> bool {
+fn changes_a_file(call: &Call) -> bool {
     matches!(call, Call::WriteAt { .. } | Call::Cut { .. })
+}
+
+/// Whether none of these calls changes a file.
+pub(crate) fn change_no_file(calls: &[Entry]) -> bool {
+    calls.iter().all(|entry| !changes_a_file(&entry.call))
 }
 
 /// A store whose last gate is there and closed: nothing is written while it is loaded.
@@ -194,9 +198,7 @@ pub(crate) fn changes_a_file(call: &Call) -> bool {
 fn loads_without_a_write(rt: HostRuntime) -> Result<(), Fail> {
     let mut site = site_of(rt.alloc(), &file([1, 1, 1, 7]), &file([1, 1, 2, 5]), &[])?;
     assert_eq!(rt; load(rt.alloc(), &mut site), Ok((Which::B, 2, 5)));
-    for entry in site.calls() {
-        assert!(rt; !changes_a_file(&entry.call));
-    }
+    assert!(rt; change_no_file(site.calls()));
     Ok(())
 }
 
@@ -241,53 +243,85 @@ pub(crate) fn left_by(
     }
 }
 
-/// How often a stop in a call leaves the store. Else it leaves none.
-fn stores_left_by(
-    rt: &impl Abort,
-    alloc: Global,
-    bytes: &[u8],
-    call: &Call,
-) -> Result<u8, AllocError> {
+/// A call made on a file with these bytes.
+pub(crate) fn make_call(alloc: Global, bytes: &mut Vec<u8>, call: &Call) -> Result<(), AllocError> {
+    *bytes = left_by(alloc, bytes, call, 0)?;
+    Ok(())
+}
+
+/// What is loaded after a stop in a call on file A, of which these bytes were on the disk.
+fn load_stopped(alloc: Global, bytes: &[u8], call: &Call, way: u8) -> Result<Answer, AllocError> {
+    let image = left_by(alloc, bytes, call, way)?;
+    load_of(alloc, &image, &[])
+}
+
+/// How often a stop in a call leaves the store, where it leaves none else. None where it leaves another answer.
+fn stores_left_by(alloc: Global, bytes: &[u8], call: &Call) -> Result<Option<u8>, AllocError> {
     let mut stores: u8 = 0;
     for way in 0..5 {
-        let image = left_by(alloc, bytes, call, way)?;
-        let answer = load_of(alloc, &image, &[])?;
+        let answer = load_stopped(alloc, bytes, call, way)?;
         if answer == MADE {
             stores = stores.saturating_add(1);
-        } else {
-            assert_eq!(rt; answer, Err(JournalError::NoStore));
+        } else if answer != Err(JournalError::NoStore) {
+            return Ok(None);
         }
     }
-    Ok(stores)
+    Ok(Some(stores))
+}
+
+/// Whether stops in the call with this number leave the store as often as they should, where this call opens it.
+fn is_wanted(n: usize, opens: usize, stores: Option<u8>) -> bool {
+    match stores {
+        Some(stores) => n == opens || stores == if n < opens { 0 } else { 5 },
+        None => false,
+    }
+}
+
+/// The calls made on file A with these bytes, and the first of them in which a stop leaves what it shouldn't.
+fn wrong_stop(
+    alloc: Global,
+    bytes: &mut Vec<u8>,
+    calls: &[Entry],
+    opens: usize,
+) -> Result<Option<usize>, AllocError> {
+    for (n, entry) in calls.iter().enumerate() {
+        if !is_wanted(n, opens, stores_left_by(alloc, bytes, &entry.call)?) {
+            return Ok(Some(n));
+        }
+        make_call(alloc, bytes, &entry.call)?;
+    }
+    Ok(None)
 }
 
 /// A stop in each of these calls, on file A with these bytes: it leaves no store before the call with this number, and
-/// none but the store behind it.
+/// none but the store behind it. The first call in which it leaves another.
 fn stops_in(
-    rt: &impl Abort,
     alloc: Global,
     opening: &[u8],
     calls: &[Entry],
     opens: usize,
-) -> Result<(), AllocError> {
+) -> Result<Option<usize>, AllocError> {
     let mut bytes = opening.to_vec(alloc)?;
-    for (n, entry) in calls.iter().enumerate() {
-        let stores = stores_left_by(rt, alloc, &bytes, &entry.call)?;
-        assert!(rt; n == opens || stores == if n < opens { 0 } else { 5 });
-        bytes = left_by(alloc, &bytes, &entry.call, 0)?;
-    }
-    Ok(())
+    wrong_stop(alloc, &mut bytes, calls, opens)
+}
+
+fn stops_while_creating(alloc: Global) -> Result<(Answer, Option<usize>), AllocError> {
+    let mut site = site_of(alloc, &[], &[], &[])?;
+    let answer = create(alloc, &mut site);
+    Ok((answer, stops_in(alloc, &[], site.calls(), 12)?))
+}
+
+fn stops_while_loading(alloc: Global) -> Result<(Answer, Option<usize>), AllocError> {
+    let mut site = site_of(alloc, &BASE[..45], &[], &[])?;
+    let answer = load(alloc, &mut site);
+    Ok((answer, stops_in(alloc, &BASE[..45], site.calls(), 0)?))
 }
 
 /// The call that opens a new store is the last write, behind which comes one sync. A store that is loaded stands all
 /// the time.
 #[test]
 fn stops(rt: HostRuntime) -> Result<(), Fail> {
-    let mut made = site_of(rt.alloc(), &[], &[], &[])?;
-    assert_eq!(rt; create(rt.alloc(), &mut made), MADE);
-    stops_in(&rt, rt.alloc(), &[], made.calls(), 12)?;
-    let mut old = site_of(rt.alloc(), &BASE[..45], &[], &[])?;
-    assert_eq!(rt; load(rt.alloc(), &mut old), MADE);
-    stops_in(&rt, rt.alloc(), &BASE[..45], old.calls(), 0)?;
+    assert_eq!(rt; stops_while_creating(rt.alloc())?, (MADE, None));
+    assert_eq!(rt; stops_while_loading(rt.alloc())?, (MADE, None));
     Ok(())
 }
