@@ -3,11 +3,12 @@ use Rattle.std.specs.Prelude.{ℕ, List, [], ◌∷◌, Bool, false, ◌||◌}
 use Rattle.std.specs.Bool.{◌==◌}
 use Rattle.std.specs.List.{list_any}
 use Rattle.road_base.specs.Tags.{TagList}
+use Rattle.access_profile.specs.Letters.{letter_a, letter_m, letter_v}
 
 -- the key begins with a, m or v, as `access`, `motorcar`, `motor_vehicle` and `vehicle` do
 abbrev pub may_be_access_key : List ℕ → Bool
 may_be_access_key [] = false
-may_be_access_key (b ∷ bs) = (b == 97 || b == 109) || b == 118
+may_be_access_key (b ∷ bs) = (b == letter_a || b == letter_m) || b == letter_v
 
 -- some key of the tags does
 abbrev pub may_have_access_key : TagList → Bool

@@ -5,6 +5,7 @@ use Rattle.std.specs.Str.{bytes_eq}
 use Rattle.road_base.specs.Tags.{TagList, value_of}
 use Rattle.road_model.specs.declared.answers.RuleKind.{RuleKind}
 use Rattle.road_model.specs.declared.answers.RuleKind.TheVariants.{Freed, Absent, No, Only}
+use Rattle.access_profile.specs.Letters.{semicolon, space}
 
 -- the vehicles that a car is one of
 abbrev pub car_names : List (List ℕ)
@@ -16,7 +17,7 @@ is_car_name name = list_any (bytes_eq name) car_names
 -- without the spaces in front
 abbrev pub behind_spaces : List ℕ → List ℕ
 behind_spaces [] = []
-behind_spaces (b ∷ bs) = cond (b == 32) (behind_spaces bs) (b ∷ bs)
+behind_spaces (b ∷ bs) = cond (b == space) (behind_spaces bs) (b ∷ bs)
 
 -- without the spaces on both sides
 unfoldable pub without_spaces : List ℕ → List ℕ
@@ -24,7 +25,7 @@ without_spaces bs = reverse (behind_spaces (reverse (behind_spaces bs)))
 
 -- the parts between semicolons
 abbrev pub parts : List ℕ → List (List ℕ)
-parts value = slice_split (λ b. b == 59) value
+parts value = slice_split (λ b. b == semicolon) value
 
 -- a part of the value names a car
 unfoldable pub names_car : List ℕ → Bool
