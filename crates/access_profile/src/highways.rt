@@ -22,21 +22,36 @@ pub(crate) fn road_class(tags: &Tags) -> Option<RoadClass>
     class_of(value)
 }
 
-/// The class of a value of `highway` (OSM wiki, Key:highway).
+/// The class of a value of `highway` (OSM wiki, Key:highway). The first letter leaves few values to compare with.
 fn class_of(value: &str) -> Option<RoadClass>
     ensures { result ≡ class_of value.now }
 {
-    match value {
-        "motorway" | "trunk" | "primary" | "secondary" | "tertiary" => Some(RoadClass::ForCars),
-        "motorway_link" | "trunk_link" | "primary_link" | "secondary_link" | "tertiary_link" =>
-            Some(RoadClass::ForCars),
-        "unclassified" | "residential" | "living_street" | "service" | "road" => Some(
-            RoadClass::ForCars,
-        ),
-        "track" | "pedestrian" | "cycleway" | "footway" | "path" | "bridleway" | "busway" => Some(
-            RoadClass::ForOthers,
-        ),
-        _ => None,
+    match value.as_bytes() {
+        [b'r', ..] => match value {
+            "residential" | "road" => Some(RoadClass::ForCars),
+            _ => None,
+        },
+        [b's', ..] => match value {
+            "service" | "secondary" | "secondary_link" => Some(RoadClass::ForCars),
+            _ => None,
+        },
+        [b't', ..] => match value {
+            "tertiary" | "trunk" | "tertiary_link" | "trunk_link" => Some(RoadClass::ForCars),
+            "track" => Some(RoadClass::ForOthers),
+            _ => None,
+        },
+        [b'p', ..] => match value {
+            "primary" | "primary_link" => Some(RoadClass::ForCars),
+            "path" | "pedestrian" => Some(RoadClass::ForOthers),
+            _ => None,
+        },
+        _ => match value {
+            "unclassified" | "living_street" | "motorway" | "motorway_link" => Some(
+                RoadClass::ForCars,
+            ),
+            "footway" | "cycleway" | "bridleway" | "busway" => Some(RoadClass::ForOthers),
+            _ => None,
+        },
     }
 }
 
