@@ -1,6 +1,6 @@
 //! Which nodes let a car through (OSM wiki, Key:barrier and Key:access).
 //!
-//! A call looks up five keys at most among the tags, each at the logarithm of their number, and takes no memory.
+//! A call looks up five keys at most among the tags, each at the cost of `Tags::get`, and takes no memory.
 #![tactic(auto)]
 
 ghost use Rattle.std.specs.Prelude.{◌≡◌};

@@ -1,6 +1,6 @@
 //! In which directions oneway lets a car go along a way (OSM wiki, Key:oneway).
 //!
-//! A call looks up three keys at most among the tags, each at the logarithm of their number, and takes no memory.
+//! A call looks up three keys at most among the tags, each at the cost of `Tags::get`, and takes no memory.
 #![tactic(auto)]
 
 ghost use Rattle.std.specs.Prelude.{◌≡◌};
