@@ -6,6 +6,7 @@ pub mod ListPlaces
 pub mod Splits
 mod Ascents
 pub mod TagSearch
+mod TagWalks
 pub mod KeyOrder
 pub mod Applied
 pub mod Histories

@@ -16,12 +16,12 @@ abbrev pub text_cmp : List ℕ → List ℕ → Ordering
 text_cmp = slice_cmp nat_cmp
 
 -- tags that stand above a text ascend
-ascending_of_above : (k : List ℕ) (ts : TagList) → IsTrue (is_above k ts) → IsAscending ts
+pub ascending_of_above : (k : List ℕ) (ts : TagList) → IsTrue (is_above k ts) → IsAscending ts
 ascending_of_above k [] up = refl
 ascending_of_above k (t ∷ ts) up = second_so _ _ up
 
 -- a text below the first key is below each key
-below_each : (k : List ℕ) (ts : TagList) → IsTrue (is_above k ts) → (i : ℕ) (d : List ℕ × List ℕ) → i < length ts
+pub below_each : (k : List ℕ) (ts : TagList) → IsTrue (is_above k ts) → (i : ℕ) (d : List ℕ × List ℕ) → i < length ts
     → text_cmp k (get_or ts i d).0 ≡ Less
 below_each k [] up i d within = absurd (omega arith)
 below_each k (t ∷ ts) up zero d within = less _ (first_so _ _ up)
@@ -54,7 +54,7 @@ comparisons_rise ts up k =
 equal_from_cmp : (a b : List ℕ) → text_cmp a b ≡ Equal → bytes_eq a b ≡ true
 equal_from_cmp a b e = texts_ties a b ∙ ap is_eq e
 
-differ_from_cmp : (a b : List ℕ) → is_eq (text_cmp a b) ≡ false → bytes_eq a b ≡ false
+pub differ_from_cmp : (a b : List ℕ) → is_eq (text_cmp a b) ≡ false → bytes_eq a b ≡ false
 differ_from_cmp a b e = texts_ties a b ∙ e
 
 -- a key that is found at a place has the value that stands there
@@ -68,7 +68,7 @@ found_value k (t ∷ ts) up (suc i) d within same =
     rw (differ_from_cmp t.0 k (ap is_eq below)) (found_value k ts (ascending_of_above t.0 ts up) i d (omega arith) same)
 
 -- a key that differs from each has no value
-no_value : (k : List ℕ) (ts : TagList) → ((i : ℕ) (d : List ℕ × List ℕ) → i < length ts
+pub no_value : (k : List ℕ) (ts : TagList) → ((i : ℕ) (d : List ℕ × List ℕ) → i < length ts
     → is_eq (text_cmp (get_or ts i d).0 k) ≡ false) → value_of k ts ≡ None
 no_value k [] differ = refl
 no_value k (t ∷ ts) differ = rw (differ_from_cmp t.0 k (differ 0 t (omega arith)))

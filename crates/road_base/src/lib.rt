@@ -2,9 +2,10 @@
 //!
 //! An object map is what a list of events leaves: for each key the first entry of the greatest version.
 //! `specs/Objects.antt` and `specs/Applying.antt` say so. A copy, a comparison or an append costs the size of what is
-//! gone over, and so does a test whether tags ascend; a look-up among tags costs the logarithm of their number, and
-//! everything else a constant. `Groups` keeps lists of items in one list, at a number for each. `Ranges` tells where
-//! in a list in order of numbers a number may stand: where the numbers are spread evenly, a few steps lead there.
+//! gone over, and so does a test whether tags ascend; a look-up among tags goes through them where they are few, and
+//! else costs the logarithm of their number; everything else costs a constant. `Groups` keeps lists of items in one
+//! list, at a number for each. `Ranges` tells where in a list in order of numbers a number may stand: where the numbers
+//! are spread evenly, a few steps lead there.
 #![tactic(auto)]
 
 mod bytes;

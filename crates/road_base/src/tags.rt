@@ -1,9 +1,15 @@
 //! The tags of an object.
-ghost use Rattle.std.specs.Prelude.{◌≡◌, ◌↔◌, IfOk, IsTrue, ◌≤◌, length, option_copied};
+ghost use Rattle.std.specs.Prelude.{◌≡◌, ◌↔◌, IfOk, IsTrue, ◌≤◌, length, take, option_copied};
+ghost use Rattle.std.specs.Ordering.{nat_cmp};
+ghost use Rattle.std.specs.Cmp.Lexicographic.{slice_cmp};
 ghost use Rattle.road_base.specs.Tags.{IsAscending, is_ascending, value_of};
 
 use crate::{NoMemory, Text};
+use std::cmp::Ordering;
 use std::marker::Model;
+
+/// So many tags at most are gone through for a key. Most objects have fewer.
+const FEW: usize = 16;
 
 /// Keys with their values, the keys strictly ascending by bytes, at most 65,535 of them.
 #[derive(Drop)]
@@ -58,6 +64,9 @@ impl Tags {
         ensures { option_copied result ≡ value_of key.now self.now }
     {
         let list = self.list.as_slice();
+        if list.len() <= FEW {
+            return value_among(list, key);
+        }
         match list.binary_search_by(|pair| pair.0.as_str().cmp(key)) {
             Ok(at) => Some(list[at].1.as_str()),
             Err(_) => None,
@@ -81,6 +90,38 @@ impl Tags {
             list.push((pair.0.copy()?, pair.1.copy()?))?;
         }
         Ok(Tags { list })
+    }
+}
+
+/// The value of a key among few pairs: they are gone through until a key begins with a later byte.
+fn value_among<'a>(list: &'a [(Text, Text)], key: &str) -> Option<&'a str>
+    requires ascending { IsAscending list.now }
+    ensures { option_copied result ≡ value_of key.now list.now }
+{
+    for pair in list {
+        let found = pair.0.as_str();
+        match first_bytes_order(found.as_bytes(), key.as_bytes()) {
+            Ordering::Less => {}
+            Ordering::Equal => {
+                if found == key {
+                    return Some(pair.1.as_str());
+                }
+            }
+            Ordering::Greater => return None,
+        }
+    }
+    None
+}
+
+/// How the first bytes compare. No byte is below each.
+fn first_bytes_order(these: &[u8], those: &[u8]) -> Ordering
+    ensures { result ≡ slice_cmp nat_cmp (take 1 these.now) (take 1 those.now) }
+{
+    match (these, those) {
+        ([this, ..], [that, ..]) => this.cmp(that),
+        ([], [_, ..]) => Ordering::Less,
+        ([_, ..], []) => Ordering::Greater,
+        ([], []) => Ordering::Equal,
     }
 }
 
