@@ -15,7 +15,7 @@
 //! relations alone: with m entries and r references it takes time of the order of (m + r) log (m + r). `prepare` and
 //! `apply` take what the objects take, sort the references of the changed ways and relations as they were and as they
 //! are, and make the list of each key among them once, in the time of its length times the logarithm of what is gone
-//! from it; an index of which lists change takes 64 KiB for the marks of their keys. `copy` takes a moment, since all
+//! from it; an index of which lists change takes 32 KiB for the marks of their keys. `copy` takes a moment, since all
 //! is shared; `with` is `apply` on a copy. `highways` looks at each entry of a way once, and copies all entries first
 //! where something has changed.
 #![tactic(auto)]

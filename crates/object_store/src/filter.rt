@@ -1,7 +1,8 @@
 //! Filters: marks at the numbers of a map's keys, by which it tells most keys that it doesn't have without a search.
 //!
 //! A filter is that of B. H. Bloom (1970), with one slot for each number.
-ghost use Rattle.std.specs.Prelude.{◌≡◌, ◌↔◌, ◌<◌, ℤ, IfOk, IsTrue};
+ghost use Rattle.std.specs.Prelude.{◌≡◌, ◌≢◌, ◌↔◌, ◌<◌, ℕ, ℤ, IfOk, IsTrue};
+ghost use Rattle.std.specs.Int.{bit_at};
 ghost use Rattle.std.specs.declared.cmp.Ordering.TheVariants.{Equal};
 ghost use Rattle.object_store.specs.Filters.{slot_of, slots_in, IsMarked};
 ghost use Rattle.object_store.specs.Numbers.{key_number, key_tied, node_tied, way_tied};
@@ -11,8 +12,14 @@ use std::alloc::Global;
 use std::marker::Model;
 use std::rc::Rc;
 
+/// How many words a filter has.
+const WORDS: usize = 4_096;
+
+/// How many slots a word has.
+const SLOTS_OF_WORD: usize = 64;
+
 /// How many slots a filter has.
-const SLOTS: usize = 65_536;
+const SLOTS: u64 = 262_144;
 
 /// What has a number. Keys that tie have the same one.
 pub trait Slotted: Ord {
@@ -60,46 +67,48 @@ impl Slotted for WayId {
     ghost tied = { way_tied };
 }
 
-/// For each slot whether it is marked.
+/// For each slot whether it is marked, in a bit.
 #[derive(Drop)]
 pub struct Filter {
-    slots: Vec<bool>,
+    /// Each has 64 slots, the lowest bit first.
+    words: Vec<u64>,
 }
 
 impl Model for Filter {
-    ghost use Rattle.std.specs.Prelude.{◌≡◌, List, Bool, length};
+    ghost use Rattle.std.specs.Prelude.{◌≡◌, List, ℕ, length};
 
-    ghost Value = { List Bool };
+    ghost Value = { List ℕ };
 
-    ghost view = { λ f. f.slots.items };
+    ghost view = { λ f. f.words.items };
 
-    ghost invariant = { λ f. length f.slots.items ≡ 65536 };
+    ghost invariant = { λ f. length f.words.items ≡ 4096 };
 }
 
 impl Filter {
-    /// A filter without marks. Takes a byte a slot.
+    /// A filter without marks. Takes a bit a slot.
     fn new(alloc: Global) -> Result<Filter, NoMemory>
         ensures { IfOk result (λ f. (number : ℤ) → ¬ (IsMarked f number)) }
     {
-        let mut slots = Vec::new(alloc);
-        slots.resize(SLOTS, false)?;
-        Ok(Filter { slots })
+        let mut words = Vec::new(alloc);
+        words.resize(WORDS, 0)?;
+        Ok(Filter { words })
     }
 
     /// An equal filter. Takes the time and the memory of all slots.
     fn copy(&self) -> Result<Filter, NoMemory>
         ensures { IfOk result (λ f. f ≡ self.now) }
     {
-        let mut slots = Vec::new(*self.slots.allocator());
-        slots.extend_from_slice(self.slots.as_slice())?;
-        Ok(Filter { slots })
+        let mut words = Vec::new(*self.words.allocator());
+        words.extend_from_slice(self.words.as_slice())?;
+        Ok(Filter { words })
     }
 
     /// Whether the number's slot is marked.
     fn has(&self, number: i64) -> bool
         ensures { IsTrue result ↔ IsMarked self.now number }
     {
-        self.slots[slot_of(number)]
+        let slot = slot_of(number);
+        has_bit(self.words[slot / SLOTS_OF_WORD], slot % SLOTS_OF_WORD)
     }
 
     /// Marks the number's slot.
@@ -107,16 +116,35 @@ impl Filter {
         ensures own { IsMarked self.new number }
         ensures others { (other : ℤ) → IsMarked self.old other → IsMarked self.new other }
     {
-        self.slots[slot_of(number)] = true;
+        let slot = slot_of(number);
+        let place = slot / SLOTS_OF_WORD;
+        self.words[place] = with_bit(self.words[place], slot % SLOTS_OF_WORD);
     }
 }
 
 /// The slot of a number. Neighbouring numbers have different ones.
 fn slot_of(number: i64) -> usize
     ensures slot { result ≡ slot_of number }
-    ensures within { result < 65536 }
+    ensures within { result < 262144 }
 {
-    (number.cast_unsigned() % SLOTS as u64) as usize
+    (number.cast_unsigned() % SLOTS) as usize
+}
+
+/// Whether the word has the bit.
+fn has_bit(word: u64, bit: usize) -> bool
+    requires { bit < 64 }
+    ensures { IsTrue result ↔ (bit_at word bit ≡ 1) }
+{
+    word & (1 << bit) != 0
+}
+
+/// The word with the bit beside those that it has.
+fn with_bit(word: u64, bit: usize) -> u64
+    requires { bit < 64 }
+    ensures own { bit_at result bit ≡ 1 }
+    ensures others { (i : ℕ) → i ≢ bit → bit_at result i ≡ bit_at word i }
+{
+    word | (1 << bit)
 }
 
 /// Whether the number's slot is marked. Without a filter none is.

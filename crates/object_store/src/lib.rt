@@ -2,8 +2,8 @@
 //!
 //! Contracts see the object map of `road_base/specs/Objects.antt`. `Base` is a list of the entries in key order that
 //! never changes. `Objects` is a base, shared, with the entries that have changed since beside it in a `SharedMap`: a
-//! balanced search tree that never changes either, of which a changed one shares all but a path, and a filter, a list
-//! of 65,536 marks by the numbers of the changed keys. So `copy` takes a moment, and `commit` only exchanges two
+//! balanced search tree that never changes either, of which a changed one shares all but a path, and a filter, 262,144
+//! marks by the numbers of the changed keys. So `copy` takes a moment, and `commit` only exchanges two
 //! values, whatever their size. `prepare` finds what events leave, beside the objects, which stay as they are.
 //!
 //! Cost. `of` sorts, in time of the order of n log n, and of n where events come in key order. A look-up asks the
@@ -13,7 +13,7 @@
 //! them leave it a few steps for a key that has an entry. The tables take at most about two bytes an entry. `changed`,
 //! `prepare` and `apply` copy and sort their n events, and look each one up; for each that stands they take the time
 //! and the memory of the logarithm of the number of changed entries, and for all of them together one copy of the
-//! filter, of 64 KiB. `listed` and `events` merge: of a base beside which nothing has changed `listed` takes nothing,
+//! filter, of 32 KiB. `listed` and `events` merge: of a base beside which nothing has changed `listed` takes nothing,
 //! and else both copy and sort all entries.
 #![tactic(auto)]
 

@@ -10,7 +10,7 @@ use std::marker::Model;
 use std::rc::Rc;
 
 /// A map from keys to values. It never changes: what puts an entry makes another map in its place, in the time and the
-/// memory of the logarithm of its length, and shares all else with those that share it. A filter of 64 KiB, by which it
+/// memory of the logarithm of its length, and shares all else with those that share it. A filter of 32 KiB, by which it
 /// tells most keys that it doesn't have, is copied at the first entry that is put into a map that was shared.
 #[derive(Drop)]
 pub struct SharedMap<K: Ord + Copy + Slotted, V: Drop> {

@@ -12,13 +12,13 @@ invariant_of-result g c =
     let total = g.met.K.Ord.total in
     let ps = in_order c.self.inside.root in
     let k = c.args.key in
-    let slots = c.in_ok-filter.filter.value in
+    let words = c.in_ok-filter.filter.value in
     let same : to_z w64 (of_z w64 c.number.result) ≡ c.number.result = search (rules, to_z-of_z) in
-    let own : IsMarked slots (g.K.Slotted.number k) = subst (IsMarked slots) (same ∙ c.number.ensures)
+    let own : IsMarked words (g.K.Slotted.number k) = subst (IsMarked words) (same ∙ c.number.ensures)
     c.in_ok-filter.ensures.own in
     let laid = c.in_ok-root.ensures c.self.invariant.0 in (
       subst (Rise R) (sym laid) (put_rises R total k _ ps c.self.invariant.0),
-      subst (λ l. AreMarked R g.K.Slotted.number l slots) (sym laid)
-          (put_marked R total g.K.Slotted.number g.met.K.Slotted.tied k _ ps (slots_in c.self.inside.filter) slots
+      subst (λ l. AreMarked R g.K.Slotted.number l words) (sym laid)
+          (put_marked R total g.K.Slotted.number g.met.K.Slotted.tied k _ ps (slots_in c.self.inside.filter) words
           c.self.invariant.1 own c.in_ok-filter.ensures.others),
     )
