@@ -7,7 +7,7 @@ ghost use Rattle.road_base.specs.Objects.{Objects as ObjectMap};
 
 use crate::key_ranges::KeyRanges;
 use crate::kinds::{relations_in, ways_in};
-use crate::standing::{copies, event_at, event_of, settle};
+use crate::standing::{copies, event_at, settle};
 use road_base::laws::key_order;
 use road_base::{Event, Key, NoMemory};
 use std::marker::Model;
@@ -53,10 +53,8 @@ impl Base {
         ensures entry { option_map entry_of (option_copied result) ≡ get self.now key }
         ensures key { IfSome (option_copied result) (λ e. e.key ≡ key) }
     {
-        match self.ranges.find(self.list.as_slice(), key) {
-            Some(at) => event_at(self.list.as_slice(), key, at),
-            None => event_of(self.list.as_slice(), key),
-        }
+        let list = self.list.as_slice();
+        event_at(list, key, self.ranges.place(list, key))
     }
 
     /// All entries as events, in key order.

@@ -32,13 +32,13 @@ impl KeyRanges {
 
     /// Where the key's event stands in the list whose ranges these are, if it has one. Takes the time of a search
     /// among the events of one range.
-    pub fn find(&self, list: &[Event], key: Key) -> Option<usize> {
+    pub fn place(&self, list: &[Event], key: Key) -> usize {
         let (ranges, number, from, to) = match key {
             Key::Node(id) => (&self.nodes, id.0, 0, self.ways_from),
             Key::Way(id) => (&self.ways, id.0, self.ways_from, self.relations_from),
             Key::Relation(id) => (&self.relations, id.0, self.relations_from, list.len()),
         };
-        from.checked_add(ranges.find(part(list, from, to), number)?)
+        from.saturating_add(ranges.place(part(list, from, to), number))
     }
 }
 

@@ -44,7 +44,7 @@ pub fn copies(alloc: Global, events: &[Event]) -> Result<Vec<Event>, NoMemory>
 }
 
 /// The key's event in a list in key order.
-pub fn event_of(list: &[Event], key: Key) -> Option<&Event>
+fn event_of(list: &[Event], key: Key) -> Option<&Event>
     requires { IsInOrder list.now }
     ensures entry { option_map entry_of (option_copied result) ≡ get (objects_of list.now) key }
     ensures key { IfSome (option_copied result) (λ e. e.key ≡ key) }

@@ -232,20 +232,33 @@ fn turned_up<K: Copy, V: Drop>(
 {
     match &low.above {
         Tree::Fork(middle) if middle.height > low.below.height() => {
-            let left = joined(
-                alloc,
-                low.below.share()?,
-                low.entry.share()?,
-                middle.below.share()?,
-            )?;
             let right = joined(alloc, middle.above.share()?, entry, above)?;
-            joined(alloc, left, middle.entry.share()?, right)
+            under_middle(alloc, low, middle, right)
         }
         _ => {
             let right = joined(alloc, low.above.share()?, entry, above)?;
             joined(alloc, low.below.share()?, low.entry.share()?, right)
         }
     }
+}
+
+/// The first fork without what it holds above its entry, the second one without that, and the tree.
+fn under_middle<K: Copy, V: Drop>(
+    alloc: Global,
+    low: &Fork<K, V>,
+    middle: &Fork<K, V>,
+    right: Tree<K, V>,
+) -> Result<Tree<K, V>, NoMemory>
+    ensures { IfOk result (λ t. in_order t ≡ in_order low.now.below
+        ++ pair low.now.entry ∷ (in_order middle.now.below ++ pair middle.now.entry ∷ in_order right)) }
+{
+    let left = joined(
+        alloc,
+        low.below.share()?,
+        low.entry.share()?,
+        middle.below.share()?,
+    )?;
+    joined(alloc, left, middle.entry.share()?, right)
 }
 
 /// The two trees with the entry between them, where the upper one is too high.
