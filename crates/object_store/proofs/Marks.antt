@@ -1,5 +1,5 @@
 -- Marks of the numbers of keys, where an entry is put.
-use Rattle.std.proofs.Common.{◌≡◌, ℕ, ℤ, true, false, cond, Bool, IsTrue, List, Some, is_some, refl, sym, subst}
+use Rattle.std.proofs.Common.{◌≡◌, ℕ, ℤ, true, false, cond, IsTrue, List, Some, is_some, refl, sym, subst}
 use Rattle.std.proofs.Common.{Ordering}
 use Rattle.std.specs.declared.cmp.Ordering.TheVariants.{Equal}
 use Rattle.std.specs.Ordering.{eq_by_cmp}
