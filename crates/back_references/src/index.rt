@@ -96,9 +96,25 @@ impl<K: Ord + Copy + Numbered + Slotted, V: Ord + Copy> Index<K, V> {
         ensures { IfOk result (λ i. IsExchanged K.cmp self.now gone.items come.items i) }
     {
         let keys = keys_of(self.alloc, gone.as_slice(), come.as_slice())?;
+        self.exchanged_among(keys.as_slice(), gone, come)
+    }
+
+    /// The same, where the keys of the pairs are among these, each of which comes once.
+    fn exchanged_among(
+        &self,
+        keys: &[K],
+        gone: Vec<(K, V)>,
+        come: Vec<(K, V)>,
+    ) -> Result<Index<K, V>, NoMemory>
+        requires keys { IsAntisymmetric K.cmp }
+        requires values { IsAntisymmetric V.cmp }
+        requires gone { (p : K × V) → Contains gone.items p → Contains keys.now p.0 }
+        requires come { (p : K × V) → Contains come.items p → Contains keys.now p.0 }
+        ensures { IfOk result (λ i. IsExchanged K.cmp self.now gone.items come.items i) }
+    {
         let gone = PairList::of(self.alloc, gone)?;
         let come = PairList::of(self.alloc, come)?;
-        self.exchanged_at(keys.as_slice(), &gone, &come)
+        self.exchanged_at(keys, &gone, &come)
     }
 
     /// The same at the keys, each of which comes once.

@@ -12,7 +12,7 @@ ghost use Rattle.road_model.specs.Orders.{rises, way_cmp};
 use crate::highways::highways_among;
 use crate::prepared::Prepared;
 use crate::references::References;
-use object_store::Objects;
+use object_store::{Fresh, Objects};
 use road_base::laws::key_order;
 use road_base::{Body, Event, Key, Keys, NoMemory, Node, NodeId, Relation, RelationId, Way, WayId};
 use road_model::World;
@@ -95,18 +95,27 @@ impl Indexed {
         ensures after { IfOk result (λ p. IsApplied self.old events.now p.after) }
     {
         let fresh = self.objects.prepare(events)?;
+        let next = self.after(&fresh)?;
+        Ok(Prepared::new(fresh, next))
+    }
+
+    /// The objects after the change, which was found for these.
+    fn after(&self, fresh: &Fresh) -> Result<Indexed, NoMemory>
+        requires { fresh.now.before ≡ self.now }
+        ensures { IfOk result (λ i. i ≡ fresh.now.after) }
+    {
+        let objects = fresh.after().copy()?;
         let references = self.references.exchanged(
             self.alloc,
             fresh.before(),
             fresh.after(),
             fresh.keys().items(),
         )?;
-        let next = Indexed {
+        Ok(Indexed {
             alloc: self.alloc,
-            objects: fresh.after().copy()?,
+            objects,
             references,
-        };
-        Ok(Prepared::new(fresh, next))
+        })
     }
 
     /// Leaves what the events leave for which the change was prepared. Takes no memory.
@@ -125,6 +134,16 @@ impl Indexed {
         ensures err { OnErr result (self.new ≡ self.old) }
     {
         let prepared = self.prepare(events)?;
+        self.commit_answered(prepared)
+    }
+
+    /// Leaves what was prepared, and answers the keys whose visible body changed.
+    fn commit_answered(&mut self, prepared: Prepared) -> Result<Keys, NoMemory>
+        requires { prepared.before ≡ self.now }
+        ensures applied { OnOk result (self.new ≡ prepared.after) }
+        ensures keys { IfOk result (λ keys. AreChanged prepared.before prepared.after keys) }
+        ensures err { OnErr result (self.new ≡ self.old) }
+    {
         let keys = prepared.keys().copy()?;
         self.commit(prepared);
         Ok(keys)

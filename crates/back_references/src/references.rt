@@ -47,13 +47,9 @@ impl References {
     pub fn of(alloc: Global, objects: &Base) -> Result<References, NoMemory>
         ensures { IfOk result (λ r. IsIndexed objects.now r) }
     {
-        key_order();
-        name_order();
-        number_order();
-        let relations = objects.relations();
-        let ways = Index::of(alloc, way_references_in(alloc, objects.ways())?)?;
-        let node_rules = Index::of(alloc, node_rules_in(alloc, relations)?)?;
-        let way_rules = Index::of(alloc, way_rules_in(alloc, relations)?)?;
+        let ways = ways_of(alloc, objects)?;
+        let node_rules = node_rules_of(alloc, objects)?;
+        let way_rules = way_rules_of(alloc, objects)?;
         Ok(References {
             ways,
             node_rules,
@@ -183,4 +179,39 @@ impl References {
         number_order();
         self.node_rules.at(id)
     }
+}
+
+/// The ways that refer to each node.
+fn ways_of(alloc: Global, objects: &Base) -> Result<Index<NodeId, WayId>, NoMemory>
+    ensures { IfOk result (λ i. (n : NodeId) (w : WayId) → Has node_cmp i n w ↔ RefersTo objects.now w n) }
+{
+    key_order();
+    name_order();
+    number_order();
+    let pairs = way_references_in(alloc, objects.ways())?;
+    Index::of(alloc, pairs)
+}
+
+/// The restrictions that name each node.
+fn node_rules_of(alloc: Global, objects: &Base) -> Result<Index<NodeId, RelationId>, NoMemory>
+    ensures { IfOk result (λ i. (n : NodeId) (r : RelationId)
+        → Has node_cmp i n r ↔ HasMember objects.now r (NodeKey n)) }
+{
+    key_order();
+    name_order();
+    number_order();
+    let pairs = node_rules_in(alloc, objects.relations())?;
+    Index::of(alloc, pairs)
+}
+
+/// The restrictions that name each way.
+fn way_rules_of(alloc: Global, objects: &Base) -> Result<Index<WayId, RelationId>, NoMemory>
+    ensures { IfOk result (λ i. (w : WayId) (r : RelationId)
+        → Has way_cmp i w r ↔ HasMember objects.now r (WayKey w)) }
+{
+    key_order();
+    name_order();
+    number_order();
+    let pairs = way_rules_in(alloc, objects.relations())?;
+    Index::of(alloc, pairs)
 }
