@@ -1,5 +1,5 @@
--- What stands at each way where blocks of touched ways were built: first of those near a change, then of those that meet
--- one of them whose pieces are others than before.
+-- What stands at each way where blocks of touched ways were built: first of those near a change, then of those that
+-- meet one of them whose pieces are others than before.
 use Rattle.std.proofs.Common.{◌≡◌, inl, inr, List, [], ◌∷◌, ◌++◌, map, Option, Some, None, Contains, refl, sym, ap}
 use Rattle.std.proofs.Common.{subst, ◌∙◌}
 use Rattle.std.specs.Prelude.{◌↔◌}
