@@ -135,14 +135,24 @@ pub record Connects (M : Objects) (allowed : WayId → Dir → Bool) (r : Relati
 
 -- ---- causes
 
--- no from, no to or no via member; a from or to that isn't a way; via members that are neither one node alone nor all
--- ways; an Only rule with several from or to members
+-- no from, no to or no via member
+abbrev pub lacks_role : Relation → Bool
+lacks_role r = (is_empty (froms r) || is_empty (tos r)) || is_empty (vias r)
+
+-- a from or to that isn't a way
+abbrev pub has_wrong_kind : Relation → Bool
+has_wrong_kind r = not (list_all is_way_key (froms r)) || not (list_all is_way_key (tos r))
+
+-- via members that are neither one node alone nor all ways
+abbrev pub has_wrong_via : Relation → Bool
+has_wrong_via r = not (is_one_node (vias r) || are_ways (vias r))
+
+-- an Only rule with several from or to members
+abbrev pub has_several : Bool → Relation → Bool
+has_several only r = only && (nat_lt 1 (length (froms r)) || nat_lt 1 (length (tos r)))
+
 abbrev pub wrong_members : Bool → Relation → Bool
-wrong_members only r =
-    ((is_empty (froms r) || is_empty (tos r)) || is_empty (vias r))
-    || ((not (list_all is_way_key (froms r)) || not (list_all is_way_key (tos r)))
-    || (not (is_one_node (vias r) || are_ways (vias r))
-    || (only && (nat_lt 1 (length (froms r)) || nat_lt 1 (length (tos r))))))
+wrong_members only r = lacks_role r || (has_wrong_kind r || (has_wrong_via r || has_several only r))
 
 abbrev pub is_tagged_highway : Option Way → Bool
 is_tagged_highway None = false
