@@ -1,5 +1,6 @@
 pub mod TotalOrders
 pub mod AscendingLists
+pub mod SortedOnce
 pub mod JoinedLists
 pub mod UniqueEntries
 pub mod SortedMaps

@@ -1,18 +1,10 @@
 -- Lists of numbers that a search gathers.
-use Rattle.std.proofs.Common.{◌≡◌, ◌↔◌, ℕ, ◌+◌, ◌<◌, ◌⊎◌, inl, inr, Bool, IsTrue, List, [], ◌∷◌, ◌++◌, length}
-use Rattle.std.proofs.Common.{take, get_or, refl, sym, ap, ◌∙◌, subst, Contains, Ordering}
-use Rattle.std.specs.Ordering.{is_lt, is_eq, eq_by_cmp}
-use Rattle.std.specs.Cmp.{IsTotalOrder, Equal-is}
-use Rattle.std.specs.FinMap.{IsAntisymmetric}
-use Rattle.std.specs.List.{dedup}
-use Rattle.std.specs.List.Sorted.{IsPermutation, IsSorted, IsStrictlySortedBy}
-use Rattle.std.proofs.lemmas.Bool.{and_from}
-use Rattle.std.proofs.lemmas.Cmp.{eq_by_cmp_equiv}
+use Rattle.std.proofs.Common.{◌≡◌, ◌↔◌, ℕ, ◌+◌, ◌<◌, ◌⊎◌, inl, inr, List, [], ◌∷◌, ◌++◌, length, take, get_or, refl}
+use Rattle.std.proofs.Common.{sym, ◌∙◌, subst, Contains}
+use Rattle.std.specs.List.Sorted.{IsPermutation}
 use Rattle.std.proofs.lemmas.List.Elements.{Contains-append_left, Contains-append_right, Contains-append_cases}
-use Rattle.std.proofs.lemmas.List.Kept.{Contains-dedup, Contains-from_dedup, IsStrictlySortedBy-dedup}
 use Rattle.std.proofs.lemmas.List.Sorted.{Contains-permutation, IsPermutation-sym}
 use Rattle.road_base.proofs.ListMembers.{contains_none}
-use Rattle.road_model.specs.Orders.{rises}
 use Rattle.road_model.proofs.JoinedLists.{one_more, has_last, has_before}
 use Rattle.touched_ways.specs.Searches.{IsRest}
 
@@ -114,31 +106,3 @@ module _ {T : Type 0} where
         λ has. behind.0 (Contains-permutation sorted new x (IsPermutation-sym new sorted moves) has),
         λ has. Contains-permutation new sorted x moves (behind.1 has),
       )
-
--- ---- each once, ascending
-
-module _ {N : Type 0} (C : N → N → Ordering) where
-  rises_strictly : (xs : List N) → IsStrictlySortedBy C xs → IsTrue (rises C xs)
-  unfolding IsStrictlySortedBy
-  rises_strictly [] sorted = refl
-  rises_strictly (x ∷ []) sorted = refl
-  rises_strictly (x ∷ y ∷ ys) sorted = and_from _ _ (ap is_lt sorted.0.0) (rises_strictly (y ∷ ys) sorted.1)
-
-  module _ (total : IsTotalOrder C) (exact : IsAntisymmetric C) (E : N → N → Bool)
-      (ties : (x y : N) → E x y ≡ is_eq (C x y)) (xs ys zs : List N) (moves : IsPermutation xs ys)
-      (left : zs ≡ dedup E ys) where
-    pub once_rises : IsSorted C ys → IsTrue (rises C zs)
-    once_rises sorted = subst (λ l. IsTrue (rises C l)) (sym left)
-        (rises_strictly (dedup E ys) (IsStrictlySortedBy-dedup total ties ys sorted))
-
-    by_cmp : zs ≡ dedup (eq_by_cmp C) ys
-    by_cmp = left ∙ ap (λ (f : N → N → Bool). dedup f ys) (λ i x y. ties x y i)
-
-    pub once_keeps : (p : N) → Contains xs p → Contains zs p
-    once_keeps p c =
-        subst (λ l. Contains l p) (sym by_cmp) (Contains-dedup (eq_by_cmp_equiv total)
-        (λ x y e. exact x y ((Equal-is _).0 e)) ys p (Contains-permutation xs ys p moves c))
-
-    pub once_from : (p : N) → Contains zs p → Contains xs p
-    once_from p c = Contains-permutation ys xs p (IsPermutation-sym xs ys moves)
-        (Contains-from_dedup E ys p (subst (λ l. Contains l p) left c))

@@ -1,5 +1,5 @@
 use Rattle.std.proofs.lemmas.List.Filters.{dedup_is}
-use Rattle.back_references.proofs.SortedPairs.{dedup_rises, dedup_keeps, dedup_from_all}
+use Rattle.road_model.proofs.SortedOnce.{dedup_rises, dedup_keeps, dedup_from_all}
 use Rattle.back_references.proofs.exchanges.leave_once.Goals as goal
 
 pub returns-clause-ascending : goal.returns-clause-ascending
