@@ -20,9 +20,12 @@ abbrev pub number_below : ℕ → List ℕ → Option ℕ
 number_below limit word =
     cond (is_numeral word && nat_lt (digits_value 10 word) limit) (Some (digits_value 10 word)) None
 
+abbrev pub plus_sign : ℕ
+plus_sign = 43
+
 -- the sign behind a step
 abbrev pub dir_of : ℕ → Option Dir
-dir_of c = cond (c == 43) (Some Forward) (cond (c == minus_sign) (Some Backward) None)
+dir_of c = cond (c == plus_sign) (Some Forward) (cond (c == minus_sign) (Some Backward) None)
 
 -- by the parts between points: the way's number, and the position in digits, a value of 32 bits
 abbrev pub step_along : Dir → List (List ℕ) → Option Step
