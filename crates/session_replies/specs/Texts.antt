@@ -3,6 +3,7 @@ use Rattle.std.specs.Prelude.{◌++◌, ℕ, List, [], ◌∷◌, codes, length}
 use Rattle.std.specs.List.{flat_map}
 use Rattle.std.specs.Fmt.{decimal, signed_decimal}
 use Rattle.road_base.specs.declared.ids.Step.{Step}
+use Rattle.opl_lexer.specs.Letters.{newline}
 use Rattle.opl_lexer.specs.Reading.{FaultAt}
 use Rattle.drive_queries.specs.declared.verdict.Verdict.{Verdict}
 use Rattle.drive_queries.specs.declared.totals.Totals.{Totals}
@@ -14,15 +15,16 @@ use Rattle.reply_lines.specs.Texts.{step_bytes, verdict_bytes, fault_bytes, coun
 
 -- `unknown`
 abbrev pub unknown_line : List ℕ
-unknown_line = codes "unknown" ++ 10 ∷ []
+unknown_line = codes "unknown" ++ newline ∷ []
 
 -- `state sequence N ways W pieces P contexts C arcs A`, with the kept number
 abbrev pub state_line : ℕ → Totals → List ℕ
-state_line kept totals = codes "state sequence " ++ (decimal kept ++ (codes " " ++ (counts_bytes totals ++ 10 ∷ [])))
+state_line kept totals = codes "state sequence "
+    ++ (decimal kept ++ (codes " " ++ (counts_bytes totals ++ newline ∷ [])))
 
 -- `legal`, or `broken K RULE`
 abbrev pub verdict_line : Verdict → List ℕ
-verdict_line verdict = verdict_bytes verdict ++ 10 ∷ []
+verdict_line verdict = verdict_bytes verdict ++ newline ∷ []
 
 -- each step behind a space
 abbrev pub steps_bytes : List Step → List ℕ
@@ -35,26 +37,26 @@ found_bytes (NoNode v) = codes "no-node " ++ signed_decimal v.0
 found_bytes Nowhere = codes "none"
 
 abbrev pub found_line : Found → List ℕ
-found_line found = found_bytes found ++ 10 ∷ []
+found_line found = found_bytes found ++ newline ∷ []
 
 -- `graph LEN`, and behind the newline so many bytes, which are the graph's
 abbrev pub graph_line : List ℕ → List ℕ
-graph_line graph = codes "graph " ++ (decimal (length graph) ++ 10 ∷ [])
+graph_line graph = codes "graph " ++ (decimal (length graph) ++ newline ∷ [])
 
 -- ---- frames
 
 -- `applied N`
 abbrev pub applied_line : ℕ → List ℕ
-applied_line n = codes "applied " ++ (decimal n ++ 10 ∷ [])
+applied_line n = codes "applied " ++ (decimal n ++ newline ∷ [])
 
 -- `refused N sequence KEPT`
 abbrev pub refused_sequence_line : ℕ → ℕ → List ℕ
-refused_sequence_line n kept = codes "refused " ++ (decimal n ++ (codes " sequence " ++ (decimal kept ++ 10 ∷ [])))
+refused_sequence_line n kept = codes "refused " ++ (decimal n ++ (codes " sequence " ++ (decimal kept ++ newline ∷ [])))
 
 -- `refused N line L field F KIND`
 abbrev pub refused_fault_line : ℕ → FaultAt → List ℕ
-refused_fault_line n fault = codes "refused " ++ (decimal n ++ (codes " " ++ (fault_bytes fault ++ 10 ∷ [])))
+refused_fault_line n fault = codes "refused " ++ (decimal n ++ (codes " " ++ (fault_bytes fault ++ newline ∷ [])))
 
 -- `refused unfinished N`
 abbrev pub unfinished_line : ℕ → List ℕ
-unfinished_line n = codes "refused unfinished " ++ (decimal n ++ 10 ∷ [])
+unfinished_line n = codes "refused unfinished " ++ (decimal n ++ newline ∷ [])
