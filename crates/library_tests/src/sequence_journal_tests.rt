@@ -171,10 +171,10 @@ fn write_and_add(alloc: Global, site: &mut MemorySite) -> Result<(), JournalErro
     journal.append(alloc, site, Sequence(6), &none)
 }
 
-/// The last calls of an addition: where a piece is written and how long it is, or a sync.
+/// The last calls of an addition: where a chunk is written and how long it is, or a sync.
 fn shape(entry: &Entry) -> Option<(u64, usize)> {
     match &entry.call {
-        Call::WriteAt { file: _, at, piece } => Some((*at, piece.items().len())),
+        Call::WriteAt { file: _, at, chunk } => Some((*at, chunk.items().len())),
         _ => None,
     }
 }

@@ -379,11 +379,11 @@ fn each_fault_of_the_site_ends_a_run(rt: HostRuntime) -> Result<(), Fail> {
     Ok(())
 }
 
-/// What a call is, with its piece.
+/// Whether a call writes these bytes at this place of file A.
 fn is_write(entry: &Entry, place: u64, bytes: &[u8]) -> bool {
     match &entry.call {
-        Call::WriteAt { file, at, piece } => {
-            *file == Which::A && *at == place && piece.items() == bytes
+        Call::WriteAt { file, at, chunk } => {
+            *file == Which::A && *at == place && chunk.items() == bytes
         }
         _ => false,
     }
@@ -395,7 +395,7 @@ fn is_sync(entry: &Entry) -> bool {
 
 fn is_put(entry: &Entry, bytes: &[u8]) -> bool {
     match &entry.call {
-        Call::Put(piece) => piece.items() == bytes,
+        Call::Put(chunk) => chunk.items() == bytes,
         _ => false,
     }
 }

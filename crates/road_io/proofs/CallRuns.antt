@@ -68,11 +68,11 @@ only_weaker o v P Q only f = record {
 }
 
 -- an output that grows, and all that holds of what a stop leaves while it does
-pub put_goes_on : (o u v : Outside) (P : Left → Type 0) (piece : List ℕ) → LeavesOnly o u P → v ≡ extended piece u
-    → ((left : Left) → IsImage u.a left.a → IsImage u.b left.b → StartsWith (u.output ++ piece) left.out → P left)
+pub put_goes_on : (o u v : Outside) (P : Left → Type 0) (chunk : List ℕ) → LeavesOnly o u P → v ≡ extended chunk u
+    → ((left : Left) → IsImage u.a left.a → IsImage u.b left.b → StartsWith (u.output ++ chunk) left.out → P left)
     → LeavesOnly o v P
-put_goes_on o u v P piece so_far is holds = subst (λ (x : Outside). LeavesOnly o x P) (sym is)
-    (goes_on o u (extended piece u) P (record { a = u.a; b = u.b; from = u.output; to = u.output ++ piece })
+put_goes_on o u v P chunk so_far is holds = subst (λ (x : Outside). LeavesOnly o x P) (sym is)
+    (goes_on o u (extended chunk u) P (record { a = u.a; b = u.b; from = u.output; to = u.output ++ chunk })
     so_far refl (λ left l. holds left l.a l.b l.no_more) (λ left l. holds left l.a l.b l.no_more))
 
 -- ---- calls on one file

@@ -19,23 +19,23 @@ module _ (file : Which) (Q : List ℕ → Type 0) (o u v : Outside) (d : Disk) (
       → ((c : List ℕ) → IsImage after c → Q c) → Reached file Q o v after
   change during after is in_call images = reached_change file Q o u v d during after so_far is in_call images
 
-  pub reached_write : (at : ℕ) (piece : List ℕ) (x : Unit {0}) → Writes file at piece (Ok x) u v
-      → ((e : Disk) → IsPending at (length piece) d e → (c : List ℕ) → IsImage e c → Q c)
-      → Reached file Q o v (written at piece d)
-  reached_write at piece x is images =
-      let e = written at piece d in
-      let here : (c : List ℕ) → IsImage e c → Q c = images e (written_pending at piece d) in
+  pub reached_write : (at : ℕ) (chunk : List ℕ) (x : Unit {0}) → Writes file at chunk (Ok x) u v
+      → ((e : Disk) → IsPending at (length chunk) d e → (c : List ℕ) → IsImage e c → Q c)
+      → Reached file Q o v (written at chunk d)
+  reached_write at chunk x is images =
+      let e = written at chunk d in
+      let here : (c : List ℕ) → IsImage e c → Q c = images e (written_pending at chunk d) in
       change e e
-      (is ∙ ap (λ (b : Disk). changed file (written at piece b) (written at piece b) u) so_far.disk_is) here here
+      (is ∙ ap (λ (b : Disk). changed file (written at chunk b) (written at chunk b) u) so_far.disk_is) here here
 
-  pub failed_write : (at : ℕ) (piece : List ℕ) (x : Failed) → Writes file at piece (Err x) u v
-      → ((e : Disk) → IsPending at (length piece) d e → (c : List ℕ) → IsImage e c → Q c) → Somewhere file Q o v
-  failed_write at piece x (inl same) images =
+  pub failed_write : (at : ℕ) (chunk : List ℕ) (x : Failed) → Writes file at chunk (Err x) u v
+      → ((e : Disk) → IsPending at (length chunk) d e → (c : List ℕ) → IsImage e c → Q c) → Somewhere file Q o v
+  failed_write at chunk x (inl same) images =
       record { d = d; reached = subst (λ (y : Outside). Reached file Q o y d) (sym same) so_far }
-  failed_write at piece x (inr part) images =
+  failed_write at chunk x (inr part) images =
       let here : (c : List ℕ) → IsImage part.0 c → Q c = images part.0
-      (subst (λ (b : Disk). IsPending at (length piece) b part.0) so_far.disk_is
-      (part_pending at (length piece) (disk u file) part.0 part.1)) in
+      (subst (λ (b : Disk). IsPending at (length chunk) b part.0) so_far.disk_is
+      (part_pending at (length chunk) (disk u file) part.0 part.1)) in
       record { d = part.0; reached = change part.0 part.0 part.2 here here }
 
   pub reached_cut : (len : ℕ) (x : Unit {0}) → Cuts file len (Ok x) u v

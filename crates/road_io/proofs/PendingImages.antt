@@ -33,8 +33,8 @@ pub record IsPending (at n : ℕ) (old new : Disk) : Type 0 where
   pub least : new.least ≡ old.least
   pub greatest : new.greatest ≡ max old.greatest (at + n)
 
-pub written_pending : (at : ℕ) (piece : List ℕ) (d : Disk) → IsPending at (length piece) d (written at piece d)
-written_pending at piece d = record { synced = refl; torn = refl; least = refl; greatest = refl }
+pub written_pending : (at : ℕ) (chunk : List ℕ) (d : Disk) → IsPending at (length chunk) d (written at chunk d)
+written_pending at chunk d = record { synced = refl; torn = refl; least = refl; greatest = refl }
 
 pub part_pending : (at n : ℕ) (old new : Disk) → IsPartWritten at n old new → IsPending at n old new
 part_pending at n old new p =

@@ -54,11 +54,11 @@ alike : (o p : Outside) → p ≡ o → ReadsAlike o p
 alike o p is = subst (λ (x : Outside). ReadsAlike o x) (sym is) (record { a = refl; b = refl; output = refl })
 
 pub refused_alike : (call : Call) (o : Outside) → ReadsAlike o (refused call o)
-refused_alike (Put piece) o = record { a = refl; b = refl; output = refl }
+refused_alike (Put chunk) o = record { a = refl; b = refl; output = refl }
 refused_alike (FileLen file) o = record { a = refl; b = refl; output = refl }
 refused_alike (ReadAt file at len) o = record { a = refl; b = refl; output = refl }
-refused_alike (WriteAt A at piece) o = record { a = refl; b = refl; output = refl }
-refused_alike (WriteAt B at piece) o = record { a = refl; b = refl; output = refl }
+refused_alike (WriteAt A at chunk) o = record { a = refl; b = refl; output = refl }
+refused_alike (WriteAt B at chunk) o = record { a = refl; b = refl; output = refl }
 refused_alike (Cut A len) o = record { a = refl; b = refl; output = refl }
 refused_alike (Cut B len) o = record { a = refl; b = refl; output = refl }
 refused_alike (Sync file) o = record { a = refl; b = refl; output = refl }
@@ -93,8 +93,8 @@ bytes_kept B f output o k = k.file_b
 
 -- ---- put
 
-pub put_refused : (piece : List ℕ) (e : Failed) (o p : Outside) → p ≡ refused (Put piece) o → Puts piece (Err e) o p
-put_refused piece e o p is = inr (
+pub put_refused : (chunk : List ℕ) (e : Failed) (o p : Outside) → p ≡ refused (Put chunk) o → Puts chunk (Err e) o p
+put_refused chunk e o p is = inr (
   0,
   is ∙ sym (ap (λ (out : List ℕ). record {
     a = o.a;
@@ -104,25 +104,25 @@ put_refused piece e o p is = inr (
   }) (append-nil o.output)),
 )
 
-pub put_kept : (f : FilesState) (piece before now : List ℕ) (o p : Outside) → IsKept f before o
-    → now ≡ before ++ piece → p ≡ answered (Put piece) o → IsKept f now p
-put_kept f piece before now o p k is told = subst (λ (x : Outside). IsKept f now x) (sym told) (record {
+pub put_kept : (f : FilesState) (chunk before now : List ℕ) (o p : Outside) → IsKept f before o
+    → now ≡ before ++ chunk → p ≡ answered (Put chunk) o → IsKept f now p
+put_kept f chunk before now o p k is told = subst (λ (x : Outside). IsKept f now x) (sym told) (record {
   file_a = k.file_a;
   file_b = k.file_b;
-  put = is ∙ ap (λ (out : List ℕ). out ++ piece) k.put;
+  put = is ∙ ap (λ (out : List ℕ). out ++ chunk) k.put;
 })
 
 -- ---- write_at
 
-module _ (file : Which) (at : ℕ) (piece : List ℕ) (o p : Outside) (fits : at ≤ length (disk o file).reads) where
-  pub write_told : p ≡ answered (WriteAt file at piece) o → Writes file at piece (Ok tt) o p
+module _ (file : Which) (at : ℕ) (chunk : List ℕ) (o p : Outside) (fits : at ≤ length (disk o file).reads) where
+  pub write_told : p ≡ answered (WriteAt file at chunk) o → Writes file at chunk (Ok tt) o p
   write_told is =
       let whole : min at (length (disk o file).reads) ≡ at = omega (arith, fits) in
-      is ∙ ap (λ (n : ℕ). changed file (written n piece (disk o file)) (written n piece (disk o file)) o) whole
+      is ∙ ap (λ (n : ℕ). changed file (written n chunk (disk o file)) (written n chunk (disk o file)) o) whole
 
-  pub write_refused : (e : Failed) → p ≡ refused (WriteAt file at piece) o → Writes file at piece (Err e) o p
+  pub write_refused : (e : Failed) → p ≡ refused (WriteAt file at chunk) o → Writes file at chunk (Err e) o p
   write_refused e is = inr (
-    tried_write at (length piece) (disk o file),
+    tried_write at (length chunk) (disk o file),
     record {
       before = refl;
       after = refl;
@@ -136,23 +136,23 @@ module _ (file : Which) (at : ℕ) (piece : List ℕ) (o p : Outside) (fits : at
     is,
   )
 
-pub write_kept : (file : Which) (at : ℕ) (piece : List ℕ) (f g : FilesState) (output : List ℕ) (o p : Outside)
-    → IsKept f output o → g ≡ with_file file (overwritten at piece (bytes_of f file)) f
-    → Writes file at piece (Ok tt) o p → IsKept g output p
-write_kept A at piece f g output o p k is told =
+pub write_kept : (file : Which) (at : ℕ) (chunk : List ℕ) (f g : FilesState) (output : List ℕ) (o p : Outside)
+    → IsKept f output o → g ≡ with_file file (overwritten at chunk (bytes_of f file)) f
+    → Writes file at chunk (Ok tt) o p → IsKept g output p
+write_kept A at chunk f g output o p k is told =
     subst (λ (x : Outside). IsKept g output x) (sym told)
-    (subst (λ (h : FilesState). IsKept h output (changed A (written at piece o.a) (written at piece o.a) o)) (sym is)
+    (subst (λ (h : FilesState). IsKept h output (changed A (written at chunk o.a) (written at chunk o.a) o)) (sym is)
     (record {
-      file_a = ap (λ (l : List ℕ). overwritten at piece l) k.file_a;
+      file_a = ap (λ (l : List ℕ). overwritten at chunk l) k.file_a;
       file_b = k.file_b;
       put = k.put;
     }))
-write_kept B at piece f g output o p k is told =
+write_kept B at chunk f g output o p k is told =
     subst (λ (x : Outside). IsKept g output x) (sym told)
-    (subst (λ (h : FilesState). IsKept h output (changed B (written at piece o.b) (written at piece o.b) o)) (sym is)
+    (subst (λ (h : FilesState). IsKept h output (changed B (written at chunk o.b) (written at chunk o.b) o)) (sym is)
     (record {
       file_a = k.file_a;
-      file_b = ap (λ (l : List ℕ). overwritten at piece l) k.file_b;
+      file_b = ap (λ (l : List ℕ). overwritten at chunk l) k.file_b;
       put = k.put;
     }))
 

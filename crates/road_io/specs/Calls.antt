@@ -26,10 +26,10 @@ Takes old new (Err e) before after = after ≡ before
 abbrev pub Idles : Outside → Outside → Type 0
 Idles before now = (now ≡ before) ⊎ (now ≡ stays before)
 
--- The piece stands behind the output. A put that failed did nothing, or put a front of the piece.
+-- The chunk stands behind the output. A put that failed did nothing, or put a front of the chunk.
 abbrev pub Puts : List ℕ → Result (Unit {0}) Failed → Outside → Outside → Type 0
-Puts piece (Ok u) before now = now ≡ extended piece before
-Puts piece (Err e) before now = (now ≡ before) ⊎ ((n : ℕ) × (now ≡ extended (take n piece) before))
+Puts chunk (Ok u) before now = now ≡ extended chunk before
+Puts chunk (Err e) before now = (now ≡ before) ⊎ ((n : ℕ) × (now ≡ extended (take n chunk) before))
 
 -- the length of a file, 0 where it isn't there
 abbrev pub TellsLen : Which → Result ℕ Failed → Outside → Outside → Type 0
@@ -43,13 +43,13 @@ GivesBytes file at old new (Ok n) before now =
     Gives n (drop at (disk before file).reads) old new × (now ≡ stays before)
 GivesBytes file at old new (Err e) before now = Idles before now
 
--- A piece stands in its place. A write that failed did nothing, or changed some bytes of its range.
+-- A chunk stands in its place. A write that failed did nothing, or changed some bytes of its range.
 abbrev pub Writes : Which → ℕ → List ℕ → Result (Unit {0}) Failed → Outside → Outside → Type 0
-Writes file at piece (Ok u) before now =
-    now ≡ changed file (written at piece (disk before file)) (written at piece (disk before file)) before
-Writes file at piece (Err e) before now =
+Writes file at chunk (Ok u) before now =
+    now ≡ changed file (written at chunk (disk before file)) (written at chunk (disk before file)) before
+Writes file at chunk (Err e) before now =
     (now ≡ before)
-    ⊎ ((d : Disk) × IsPartWritten at (length piece) (disk before file) d × (now ≡ changed file d d before))
+    ⊎ ((d : Disk) × IsPartWritten at (length chunk) (disk before file) d × (now ≡ changed file d d before))
 
 -- The file has this length, no greater than before. A cut that failed did nothing, or changed some bytes behind its
 -- length.

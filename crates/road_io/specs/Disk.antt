@@ -33,18 +33,18 @@ settled bytes = record {
   greatest = length bytes;
 }
 
--- bytes with a piece in their place
+-- bytes with a chunk in its place
 abbrev pub overwritten : ℕ → List ℕ → List ℕ → List ℕ
-overwritten at piece bytes = take at bytes ++ piece ++ drop (at + length piece) bytes
+overwritten at chunk bytes = take at bytes ++ chunk ++ drop (at + length chunk) bytes
 
 -- after a write
 abbrev pub written : ℕ → List ℕ → Disk → Disk
-written at piece d = record {
-  reads = overwritten at piece d.reads;
+written at chunk d = record {
+  reads = overwritten at chunk d.reads;
   synced = d.synced;
-  torn = (at, length piece) ∷ d.torn;
+  torn = (at, length chunk) ∷ d.torn;
   least = d.least;
-  greatest = max d.greatest (at + length piece);
+  greatest = max d.greatest (at + length chunk);
 }
 
 -- after a write of n bytes that failed: no byte outside its range changed

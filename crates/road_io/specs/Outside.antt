@@ -84,11 +84,11 @@ changed B during after o = record o { b = after; past = moment B during o ∷ o.
 abbrev pub stays : Outside → Outside
 stays o = record o { past = present o ∷ o.past }
 
--- a put of this piece
+-- a put of this chunk
 abbrev pub extended : List ℕ → Outside → Outside
-extended piece o = record o {
-  output = o.output ++ piece;
-  past = record (present o) { to = o.output ++ piece } ∷ o.past;
+extended chunk o = record o {
+  output = o.output ++ chunk;
+  past = record (present o) { to = o.output ++ chunk } ∷ o.past;
 }
 
 -- ---- what holds of some calls, one behind another

@@ -25,23 +25,23 @@ at_once file d o = changed file d d o
 
 -- A write that is done at once. A place past the file's end, which no call has, would stand for the end.
 abbrev pub write_done : ℕ → List ℕ → Disk → Disk
-write_done at piece d = written (min at (length d.reads)) piece d
+write_done at chunk d = written (min at (length d.reads)) chunk d
 
 -- after a call that answered Ok
 abbrev pub answered : Call → Outside → Outside
-answered (Put piece) o = extended piece o
+answered (Put chunk) o = extended chunk o
 answered (FileLen file) o = stays o
 answered (ReadAt file at len) o = stays o
-answered (WriteAt file at piece) o = at_once file (write_done at piece (disk o file)) o
+answered (WriteAt file at chunk) o = at_once file (write_done at chunk (disk o file)) o
 answered (Cut file len) o = at_once file (cut_off len (disk o file)) o
 answered (Sync file) o = changed file (disk o file) (settled (disk o file).reads) o
 
 -- after a call that failed
 abbrev pub refused : Call → Outside → Outside
-refused (Put piece) o = stays o
+refused (Put chunk) o = stays o
 refused (FileLen file) o = stays o
 refused (ReadAt file at len) o = stays o
-refused (WriteAt file at piece) o = at_once file (tried_write at (length piece) (disk o file)) o
+refused (WriteAt file at chunk) o = at_once file (tried_write at (length chunk) (disk o file)) o
 refused (Cut file len) o = at_once file (tried_cut len (disk o file)) o
 refused (Sync file) o = stays o
 

@@ -26,47 +26,47 @@ cut_image len d i =
       same = λ k a b whole. get_or-take len d.reads k 0 (omega (arith, size)) ∙ i.same k (omega (arith, size)) b whole;
     }
 
-module _ (at : ℕ) (piece bytes : List ℕ) (fits : at ≤ length bytes) where
-  pub overwritten_length : length (overwritten at piece bytes) ≡ max (length bytes) (at + length piece)
+module _ (at : ℕ) (chunk bytes : List ℕ) (fits : at ≤ length bytes) where
+  pub overwritten_length : length (overwritten at chunk bytes) ≡ max (length bytes) (at + length chunk)
   overwritten_length =
       omega (
         arith,
-        length-append (take at bytes ++ piece) (drop (at + length piece) bytes),
-        length-append (take at bytes) piece,
+        length-append (take at bytes ++ chunk) (drop (at + length chunk) bytes),
+        length-append (take at bytes) chunk,
         length-take-le at bytes fits,
-        length-drop (at + length piece) bytes,
+        length-drop (at + length chunk) bytes,
       )
 
-  front_length : length (take at bytes ++ piece) ≡ at + length piece
-  front_length = omega (arith, length-append (take at bytes) piece, length-take-le at bytes fits)
+  front_length : length (take at bytes ++ chunk) ≡ at + length chunk
+  front_length = omega (arith, length-append (take at bytes) chunk, length-take-le at bytes fits)
 
-  below : (k : ℕ) → k < at → get_or (overwritten at piece bytes) k 0 ≡ get_or bytes k 0
+  below : (k : ℕ) → k < at → get_or (overwritten at chunk bytes) k 0 ≡ get_or bytes k 0
   below k lt =
-      get_or_append_left (take at bytes ++ piece) (drop (at + length piece) bytes) 0 k (omega (arith, front_length))
-      ∙ get_or_append_left (take at bytes) piece 0 k (omega (arith, length-take-le at bytes fits))
+      get_or_append_left (take at bytes ++ chunk) (drop (at + length chunk) bytes) 0 k (omega (arith, front_length))
+      ∙ get_or_append_left (take at bytes) chunk 0 k (omega (arith, length-take-le at bytes fits))
       ∙ get_or-take at bytes k 0 lt
 
-  above : (k : ℕ) → at + length piece ≤ k → get_or (overwritten at piece bytes) k 0 ≡ get_or bytes k 0
+  above : (k : ℕ) → at + length chunk ≤ k → get_or (overwritten at chunk bytes) k 0 ≡ get_or bytes k 0
   above k le =
-      get_or-append_right (take at bytes ++ piece) (drop (at + length piece) bytes) (at + length piece) k 0
+      get_or-append_right (take at bytes ++ chunk) (drop (at + length chunk) bytes) (at + length chunk) k 0
       front_length le
-      ∙ get_or-drop (at + length piece) bytes (k - (at + length piece)) 0
+      ∙ get_or-drop (at + length chunk) bytes (k - (at + length chunk)) 0
       ∙ ap (λ n. get_or bytes n 0) (omega arith)
 
-written_image : (at : ℕ) (piece : List ℕ) (d : Disk) → at ≤ length d.reads → IsImage d d.reads
-    → IsImage (written at piece d) (overwritten at piece d.reads)
-written_image at piece d fits i =
-    let size = overwritten_length at piece d.reads fits in
+written_image : (at : ℕ) (chunk : List ℕ) (d : Disk) → at ≤ length d.reads → IsImage d d.reads
+    → IsImage (written at chunk d) (overwritten at chunk d.reads)
+written_image at chunk d fits i =
+    let size = overwritten_length at chunk d.reads fits in
     record {
       no_shorter = omega (arith, size, i.no_shorter);
       no_longer = omega (arith, size, i.no_longer);
       same = λ k a b whole. ⊎_elim
-          (λ lt. below at piece d.reads fits k lt ∙ i.same k (omega (arith, lt)) b (λ torn. whole (inr torn)))
+          (λ lt. below at chunk d.reads fits k lt ∙ i.same k (omega (arith, lt)) b (λ torn. whole (inr torn)))
           (λ ge. ⊎_elim
           (λ lt. absurd (whole (inl (ge, lt))))
-          (λ past. above at piece d.reads fits k past
+          (λ past. above at chunk d.reads fits k past
           ∙ i.same k (omega (arith, a, past, size)) b (λ torn. whole (inr torn)))
-          (cases_lt k (at + length piece)))
+          (cases_lt k (at + length chunk)))
           (cases_lt k at);
     }
 
@@ -97,40 +97,40 @@ tried_cut_sound len d s = record {
   high = s.high;
 }
 
-pub written_sound : (at : ℕ) (piece : List ℕ) (d : Disk) → at ≤ length d.reads → IsSoundDisk d
-    → IsSoundDisk (written at piece d)
-written_sound at piece d fits s =
-    record { image = written_image at piece d fits s.image; low = s.low; high = omega (arith, s.high) }
+pub written_sound : (at : ℕ) (chunk : List ℕ) (d : Disk) → at ≤ length d.reads → IsSoundDisk d
+    → IsSoundDisk (written at chunk d)
+written_sound at chunk d fits s =
+    record { image = written_image at chunk d fits s.image; low = s.low; high = omega (arith, s.high) }
 
 pub cut_off_sound : (len : ℕ) (d : Disk) → IsSoundDisk d → IsSoundDisk (cut_off len d)
 cut_off_sound len d s = record { image = cut_image len d s.image; low = omega (arith, s.low); high = s.high }
 
-write_done_sound : (at : ℕ) (piece : List ℕ) (d : Disk) → IsSoundDisk d → IsSoundDisk (write_done at piece d)
-write_done_sound at piece d s = written_sound (min at (length d.reads)) piece d (omega arith) s
+write_done_sound : (at : ℕ) (chunk : List ℕ) (d : Disk) → IsSoundDisk d → IsSoundDisk (write_done at chunk d)
+write_done_sound at chunk d s = written_sound (min at (length d.reads)) chunk d (omega arith) s
 
 -- ---- a record of calls
 
 answered_sound : (call : Call) (o : Outside) → IsSound o → IsSound (answered call o)
-answered_sound (Put piece) o s = record { disk_a = s.disk_a; disk_b = s.disk_b }
+answered_sound (Put chunk) o s = record { disk_a = s.disk_a; disk_b = s.disk_b }
 answered_sound (FileLen file) o s = record { disk_a = s.disk_a; disk_b = s.disk_b }
 answered_sound (ReadAt file at len) o s = record { disk_a = s.disk_a; disk_b = s.disk_b }
-answered_sound (WriteAt A at piece) o s =
-    record { disk_a = write_done_sound at piece o.a s.disk_a; disk_b = s.disk_b }
-answered_sound (WriteAt B at piece) o s =
-    record { disk_a = s.disk_a; disk_b = write_done_sound at piece o.b s.disk_b }
+answered_sound (WriteAt A at chunk) o s =
+    record { disk_a = write_done_sound at chunk o.a s.disk_a; disk_b = s.disk_b }
+answered_sound (WriteAt B at chunk) o s =
+    record { disk_a = s.disk_a; disk_b = write_done_sound at chunk o.b s.disk_b }
 answered_sound (Cut A len) o s = record { disk_a = cut_off_sound len o.a s.disk_a; disk_b = s.disk_b }
 answered_sound (Cut B len) o s = record { disk_a = s.disk_a; disk_b = cut_off_sound len o.b s.disk_b }
 answered_sound (Sync A) o s = record { disk_a = settled_sound o.a.reads; disk_b = s.disk_b }
 answered_sound (Sync B) o s = record { disk_a = s.disk_a; disk_b = settled_sound o.b.reads }
 
 refused_sound : (call : Call) (o : Outside) → IsSound o → IsSound (refused call o)
-refused_sound (Put piece) o s = record { disk_a = s.disk_a; disk_b = s.disk_b }
+refused_sound (Put chunk) o s = record { disk_a = s.disk_a; disk_b = s.disk_b }
 refused_sound (FileLen file) o s = record { disk_a = s.disk_a; disk_b = s.disk_b }
 refused_sound (ReadAt file at len) o s = record { disk_a = s.disk_a; disk_b = s.disk_b }
-refused_sound (WriteAt A at piece) o s =
-    record { disk_a = tried_write_sound at (length piece) o.a s.disk_a; disk_b = s.disk_b }
-refused_sound (WriteAt B at piece) o s =
-    record { disk_a = s.disk_a; disk_b = tried_write_sound at (length piece) o.b s.disk_b }
+refused_sound (WriteAt A at chunk) o s =
+    record { disk_a = tried_write_sound at (length chunk) o.a s.disk_a; disk_b = s.disk_b }
+refused_sound (WriteAt B at chunk) o s =
+    record { disk_a = s.disk_a; disk_b = tried_write_sound at (length chunk) o.b s.disk_b }
 refused_sound (Cut A len) o s = record { disk_a = tried_cut_sound len o.a s.disk_a; disk_b = s.disk_b }
 refused_sound (Cut B len) o s = record { disk_a = s.disk_a; disk_b = tried_cut_sound len o.b s.disk_b }
 refused_sound (Sync file) o s = record { disk_a = s.disk_a; disk_b = s.disk_b }

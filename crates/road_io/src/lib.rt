@@ -7,11 +7,11 @@
 //! keeps a record of its calls, and tells what the record leads to. `RealSource` and `RealSite` stand over readers,
 //! writers and files of the system, and tell nothing.
 //!
-//! In memory a read costs the bytes that it gives and a put or a write, taken over all of them, the bytes of its piece,
+//! In memory a read costs the bytes that it gives and a put or a write, taken over all of them, the bytes of its chunk,
 //! which the record keeps as well; the first write or cut on a file also copies the file. `file_len`, `cut` and `sync`
 //! cost an entry of the record. Each call also looks through the list of calls that are to fail. Nothing is buffered:
-//! a real call is one call of the system (a write goes on until its piece is written, a put also flushes, and the first
-//! sync of a file also syncs its folder), so read into large buffers, and put and write large pieces.
+//! a real call is one call of the system (a write goes on until its chunk is written, a put also flushes, and the first
+//! sync of a file also syncs its folder), so read into large buffers, and put and write large chunks.
 #![tactic(auto)]
 
 mod call_log;

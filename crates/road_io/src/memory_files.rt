@@ -38,13 +38,13 @@ impl MemoryFile {
         &self.bytes
     }
 
-    fn overwrite(&mut self, alloc: Global, at: usize, piece: &[u8]) -> Result<(), AllocError>
+    fn overwrite(&mut self, alloc: Global, at: usize, chunk: &[u8]) -> Result<(), AllocError>
         requires within { at ≤ length self.old.reads }
-        ensures ok { OnOk result (self.new ≡ with_bytes (overwritten at piece.now self.old.reads) self.old) }
+        ensures ok { OnOk result (self.new ≡ with_bytes (overwritten at chunk.now self.old.reads) self.old) }
         ensures err { OnErr result (self.new ≡ self.old) }
     {
         keep_opening(alloc, &self.bytes, &mut self.opening)?;
-        overwrite(&mut self.bytes, at, piece)
+        overwrite(&mut self.bytes, at, chunk)
     }
 
     fn cut(&mut self, alloc: Global, len: usize) -> Result<(), AllocError>
@@ -74,15 +74,15 @@ fn keep_opening(
     Ok(())
 }
 
-// Puts a piece in its place, also past the end.
-fn overwrite(bytes: &mut Vec<u8>, at: usize, piece: &[u8]) -> Result<(), AllocError>
+// Puts a chunk in its place, also past the end.
+fn overwrite(bytes: &mut Vec<u8>, at: usize, chunk: &[u8]) -> Result<(), AllocError>
     requires within { at ≤ length bytes.old.items }
-    ensures ok { OnOk result (bytes.new.items ≡ overwritten at piece.now bytes.old.items) }
+    ensures ok { OnOk result (bytes.new.items ≡ overwritten at chunk.now bytes.old.items) }
     ensures err { OnErr result (bytes.new.items ≡ bytes.old.items) }
 {
-    let within = piece.len().min(bytes.len() - at);
-    bytes.extend_from_slice(&piece[within..])?;
-    bytes[at..at + within].copy_from_slice(&piece[..within]);
+    let within = chunk.len().min(bytes.len() - at);
+    bytes.extend_from_slice(&chunk[within..])?;
+    bytes[at..at + within].copy_from_slice(&chunk[..within]);
     Ok(())
 }
 
@@ -128,16 +128,16 @@ impl MemoryFiles {
         alloc: Global,
         file: Which,
         at: usize,
-        piece: &[u8],
+        chunk: &[u8],
     ) -> Result<(), AllocError>
         requires within { at ≤ length (bytes_of self.old file) }
         ensures ok { OnOk result
-            (self.new ≡ with_file file (overwritten at piece.now (bytes_of self.old file)) self.old) }
+            (self.new ≡ with_file file (overwritten at chunk.now (bytes_of self.old file)) self.old) }
         ensures err { OnErr result (self.new ≡ self.old) }
     {
         match file {
-            Which::A => self.a.overwrite(alloc, at, piece),
-            Which::B => self.b.overwrite(alloc, at, piece),
+            Which::A => self.a.overwrite(alloc, at, chunk),
+            Which::B => self.b.overwrite(alloc, at, chunk),
         }
     }
 

@@ -94,22 +94,22 @@ impl Site for MemorySite {
     ghost use Rattle.road_io.specs.declared.entries.Call.TheVariants.{Put, FileLen, ReadAt, WriteAt, Cut, Sync};
     ghost use Rattle.road_io.specs.Memory.{CallIsToFail, after_call, FailsCall, ReadsAlike};
 
-    fn put(&mut self, piece: &[u8]) -> Result<(), Failed>
-        ensures told { Puts piece.now result (outside_of self.old) (outside_of self.new) }
+    fn put(&mut self, chunk: &[u8]) -> Result<(), Failed>
+        ensures told { Puts chunk.now result (outside_of self.old) (outside_of self.new) }
         ensures counts { Counts self.old.faults self.new.faults result }
 
         ensures fails { CallIsToFail self.old → IsErr result }
-        ensures ok { OnOk result (self.new ≡ after_call (Put piece.now) self.old) }
-        ensures err { OnErr result (FailsCall (Put piece.now) self.old self.new) }
+        ensures ok { OnOk result (self.new ≡ after_call (Put chunk.now) self.old) }
+        ensures err { OnErr result (FailsCall (Put chunk.now) self.old self.new) }
         ensures alike { OnErr result (ReadsAlike (outside_of self.old) (outside_of self.new)) }
     {
-        let Ok(copy) = Bytes::copied(self.alloc, piece) else {
+        let Ok(copy) = Bytes::copied(self.alloc, chunk) else {
             return Err(self.log.without_memory());
         };
         if self.log.make_room()? {
             return Err(self.log.enter_failed(Call::Put(copy)));
         }
-        if self.output.extend_from_slice(piece).is_err() {
+        if self.output.extend_from_slice(chunk).is_err() {
             return Err(self.log.without_memory());
         }
         self.log.enter(Call::Put(copy));
@@ -145,30 +145,30 @@ impl Site for MemorySite {
         Ok(copy_front(buf, from_place(self.files.bytes(file), at)))
     }
 
-    fn write_at(&mut self, file: Which, at: u64, piece: &[u8]) -> Result<(), Failed>
+    fn write_at(&mut self, file: Which, at: u64, chunk: &[u8]) -> Result<(), Failed>
         requires within { at ≤ length (disk (outside_of self.old) file).reads }
-        ensures told { Writes file at piece.now result (outside_of self.old) (outside_of self.new) }
+        ensures told { Writes file at chunk.now result (outside_of self.old) (outside_of self.new) }
         ensures counts { Counts self.old.faults self.new.faults result }
 
         ensures fails { CallIsToFail self.old → IsErr result }
-        ensures ok { OnOk result (self.new ≡ after_call (WriteAt file at piece.now) self.old) }
-        ensures err { OnErr result (FailsCall (WriteAt file at piece.now) self.old self.new) }
+        ensures ok { OnOk result (self.new ≡ after_call (WriteAt file at chunk.now) self.old) }
+        ensures err { OnErr result (FailsCall (WriteAt file at chunk.now) self.old self.new) }
         ensures alike { OnErr result (ReadsAlike (outside_of self.old) (outside_of self.new)) }
     {
-        let Ok(copy) = Bytes::copied(self.alloc, piece) else {
+        let Ok(copy) = Bytes::copied(self.alloc, chunk) else {
             return Err(self.log.without_memory());
         };
         let call = Call::WriteAt {
             file,
             at,
-            piece: copy,
+            chunk: copy,
         };
         if self.log.make_room()? {
             return Err(self.log.enter_failed(call));
         }
         if self
             .files
-            .overwrite(self.alloc, file, at as usize, piece)
+            .overwrite(self.alloc, file, at as usize, chunk)
             .is_err()
         {
             return Err(self.log.without_memory());
@@ -276,7 +276,7 @@ mod tests {
 
     fn answer(rt: &impl Abort, site: &mut MemorySite, step: Step) -> Result<u64, Failed> {
         match step {
-            Step::Put(piece) => site.put(piece.as_bytes()).map(|()| 0),
+            Step::Put(chunk) => site.put(chunk.as_bytes()).map(|()| 0),
             Step::Len(file) => site.file_len(file),
             Step::Read(file, at, text) => {
                 let mut buf = *b"........";
@@ -285,9 +285,9 @@ mod tests {
                 assert_eq!(rt; buf[..text.len()], *text.as_bytes(), "{text}");
                 answer.map(|n| n as u64)
             }
-            Step::Write(file, at, piece) => {
+            Step::Write(file, at, chunk) => {
                 assert!(rt; at <= site.file(file).len() as u64);
-                site.write_at(file, at, piece.as_bytes()).map(|()| 0)
+                site.write_at(file, at, chunk.as_bytes()).map(|()| 0)
             }
             Step::Cut(file, len) => {
                 assert!(rt; len <= site.file(file).len() as u64);
@@ -299,7 +299,7 @@ mod tests {
 
     fn is_step(call: &Call, step: Step) -> bool {
         match (call, step) {
-            (Call::Put(put), Step::Put(piece)) => put.items() == piece.as_bytes(),
+            (Call::Put(put), Step::Put(chunk)) => put.items() == chunk.as_bytes(),
             (Call::FileLen(of), Step::Len(file)) => *of == file,
             (Call::ReadAt { file: of, at, len }, Step::Read(file, from, text)) => {
                 *of == file && *at == from && *len == text.len() as u64
@@ -308,10 +308,10 @@ mod tests {
                 Call::WriteAt {
                     file: of,
                     at,
-                    piece,
+                    chunk,
                 },
                 Step::Write(file, from, text),
-            ) => *of == file && *at == from && piece.items() == text.as_bytes(),
+            ) => *of == file && *at == from && chunk.items() == text.as_bytes(),
             (Call::Cut { file: of, len }, Step::Cut(file, to)) => *of == file && *len == to,
             (Call::Sync(of), Step::Sync(file)) => *of == file,
             _ => false,

@@ -40,9 +40,9 @@ pub trait Site {
     /// How often a call failed. It never falls, and stays where a call is Ok.
     ghost faults: { Self → ℕ };
 
-    /// Puts a piece behind the output. A put that failed may have put a front of it.
-    fn put(&mut self, piece: &[u8]) -> Result<(), Failed>
-        ensures told { Told (Puts piece.now result) (outside self.old) (outside self.new) }
+    /// Puts a chunk behind the output. A put that failed may have put a front of it.
+    fn put(&mut self, chunk: &[u8]) -> Result<(), Failed>
+        ensures told { Told (Puts chunk.now result) (outside self.old) (outside self.new) }
         ensures counts { Counts (faults self.old) (faults self.new) result };
 
     /// The length of a file in bytes. A file that isn't there has length 0.
@@ -57,11 +57,11 @@ pub trait Site {
         ensures told { Told (GivesBytes file at buf.old buf.new result) (outside self.old) (outside self.new) }
         ensures counts { Counts (faults self.old) (faults self.new) result };
 
-    /// Writes a piece over what stands from a place on, and past the end. It makes a file that isn't there. Where it
-    /// failed, no byte beside the piece's place changed.
-    fn write_at(&mut self, file: Which, at: u64, piece: &[u8]) -> Result<(), Failed>
+    /// Writes a chunk over what stands from a place on, and past the end. It makes a file that isn't there. Where it
+    /// failed, no byte beside the chunk's place changed.
+    fn write_at(&mut self, file: Which, at: u64, chunk: &[u8]) -> Result<(), Failed>
         requires within { IfSome (outside self.old) (λ o. at ≤ length (disk o file).reads) }
-        ensures told { Told (Writes file at piece.now result) (outside self.old) (outside self.new) }
+        ensures told { Told (Writes file at chunk.now result) (outside self.old) (outside self.new) }
         ensures counts { Counts (faults self.old) (faults self.new) result };
 
     /// Cuts a file to a length. It makes a file that isn't there. Where it failed, no byte below the length changed.

@@ -99,15 +99,15 @@ impl<R: Files<File = File>, W: Write> Site for RealSite<R, W> {
 
     ghost sound = { λ _. tt };
 
-    /// Writes the whole piece to the writer beneath, and flushes.
-    fn put(&mut self, piece: &[u8]) -> Result<(), Failed>
+    /// Writes the whole chunk to the writer beneath, and flushes.
+    fn put(&mut self, chunk: &[u8]) -> Result<(), Failed>
         ensures counts { Counts self.old.faults self.new.faults result }
 
         ensures faults { self.new.faults ≡ faults_after result self.old.faults }
         ensures beneath { OnOk result
-            (Appends (W.contents self.old.beneath) (W.contents self.new.beneath) piece.now) }
+            (Appends (W.contents self.old.beneath) (W.contents self.new.beneath) chunk.now) }
     {
-        let answer = write_whole(&mut self.output, piece);
+        let answer = write_whole(&mut self.output, chunk);
         counted(answer, &mut self.faults)
     }
 
@@ -137,14 +137,14 @@ impl<R: Files<File = File>, W: Write> Site for RealSite<R, W> {
         counted(answer, &mut self.faults)
     }
 
-    fn write_at(&mut self, file: Which, at: u64, piece: &[u8]) -> Result<(), Failed>
+    fn write_at(&mut self, file: Which, at: u64, chunk: &[u8]) -> Result<(), Failed>
         ensures counts { Counts self.old.faults self.new.faults result }
 
         ensures faults { self.new ≡ record self.old { faults = faults_after result self.old.faults } }
     {
         let answer = match file {
-            Which::A => self.a.write_at(&self.files, at, piece),
-            Which::B => self.b.write_at(&self.files, at, piece),
+            Which::A => self.a.write_at(&self.files, at, chunk),
+            Which::B => self.b.write_at(&self.files, at, chunk),
         };
         counted(answer, &mut self.faults)
     }
@@ -175,10 +175,10 @@ impl<R: Files<File = File>, W: Write> Site for RealSite<R, W> {
     }
 }
 
-fn write_whole<W: Write>(output: &mut W, piece: &[u8]) -> io::Result<()>
-    ensures { OnOk result (Appends (W.contents output.old) (W.contents output.new) piece.now) }
+fn write_whole<W: Write>(output: &mut W, chunk: &[u8]) -> io::Result<()>
+    ensures { OnOk result (Appends (W.contents output.old) (W.contents output.new) chunk.now) }
 {
-    output.write_all(piece)?;
+    output.write_all(chunk)?;
     output.flush()
 }
 
@@ -348,7 +348,7 @@ mod tests {
         step: Step,
     ) -> Result<u64, Failed> {
         match step {
-            Step::Put(piece) => site.put(piece.as_bytes()).map(|()| 0),
+            Step::Put(chunk) => site.put(chunk.as_bytes()).map(|()| 0),
             Step::Len(file) => site.file_len(file),
             Step::Read(file, at, text) => {
                 let mut buf = *b"........";
@@ -357,7 +357,7 @@ mod tests {
                 assert_eq!(rt; buf[..text.len()], *text.as_bytes(), "{text}");
                 answer.map(|n| n as u64)
             }
-            Step::Write(file, at, piece) => site.write_at(file, at, piece.as_bytes()).map(|()| 0),
+            Step::Write(file, at, chunk) => site.write_at(file, at, chunk.as_bytes()).map(|()| 0),
             Step::Cut(file, len) => site.cut(file, len).map(|()| 0),
             Step::Sync(file) => site.sync(file).map(|()| 0),
         }

@@ -74,10 +74,10 @@ impl RealFile {
         &mut self,
         files: &R,
         at: u64,
-        piece: &[u8],
+        chunk: &[u8],
     ) -> io::Result<()> {
         match self.opened(files, true)? {
-            Some(file) => file.write_all_at(piece, at),
+            Some(file) => file.write_all_at(chunk, at),
             None => Err(ErrorKind::NotFound.into()),
         }
     }

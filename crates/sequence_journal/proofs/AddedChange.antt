@@ -24,11 +24,11 @@ pub closed_gate : (gate : ℕ) (tail : List ℕ) → gate ≢ 1 → IsClosed (ga
 closed_gate gate tail shut r after o = let e = o.split in shut (cc)
 
 -- what the code tested: the number is the next one, and there is room behind the gate
-pub record IsNextPiece (old : Journal) (seq : Sequence) (change : List Event) (piece : List ℕ) : Type 0 where
+pub record IsNextChunk (old : Journal) (seq : Sequence) (change : List Event) (chunk : List ℕ) : Type 0 where
   pub fit : EventsFit change
   pub next : seq.0 ≡ old.kept.0 + 1
   pub small : seq.0 < 2 ^ 64
-  pub piece_is : piece ≡ fields (record_of seq.0 change) ++ 0 ∷ []
+  pub chunk_is : chunk ≡ fields (record_of seq.0 change) ++ 0 ∷ []
   pub room : old.gate < 2 ^ 40
 
 shape : (old : Journal) (h : History) (w : Outside) → old.gate < 2 ^ 40 → IsAt old h w
@@ -50,23 +50,23 @@ gate_last old w room ready =
       length-append (history_bytes old.generation h) (0 ∷ []),
     )
 
-module _ (old : Journal) (seq : Sequence) (change : List Event) (piece : List ℕ)
-    (n : IsNextPiece old seq change piece)
+module _ (old : Journal) (seq : Sequence) (change : List Event) (chunk : List ℕ)
+    (n : IsNextChunk old seq change chunk)
     (h : History) (w : Outside) (at : IsAt old h w) where
   begins : (file rest : List ℕ) → file ≡ history_bytes old.generation h ++ rest
       → BeginsWith file old.generation h rest
   begins file rest split = record { split = split; fits = at.fits }
 
-  pushed : (file : List ℕ) → file ≡ history_bytes old.generation h ++ 1 ∷ piece
+  pushed : (file : List ℕ) → file ≡ history_bytes old.generation h ++ 1 ∷ chunk
       → BeginsWith file old.generation (with_change h change) (0 ∷ [])
-  pushed file is = begins_push file old.generation h (1 ∷ piece) (0 ∷ []) seq.0 change (begins file (1 ∷ piece) is)
+  pushed file is = begins_push file old.generation h (1 ∷ chunk) (0 ∷ []) seq.0 change (begins file (1 ∷ chunk) is)
       (record {
         fits = record { number = n.small; size = n.fit.size };
-        split = ap (λ (l : List ℕ). 1 ∷ l) n.piece_is;
+        split = ap (λ (l : List ℕ). 1 ∷ l) n.chunk_is;
       })
       n.fit (n.next ∙ ap (λ (x : ℕ). x + 1) at.last)
 
-  with_or_without : (c : List ℕ) → IsGated (history_bytes old.generation h) piece c
+  with_or_without : (c : List ℕ) → IsGated (history_bytes old.generation h) chunk c
       → Stands c old.generation h ⊎ Stands c old.generation (with_change h change)
   with_or_without c (inl shut) = inl (record {
     rest = 0 ∷ shut.0;
@@ -76,45 +76,45 @@ module _ (old : Journal) (seq : Sequence) (change : List Event) (piece : List �
   with_or_without c (inr whole) = ⊎_elim
       (λ is_open. inr (record {
         rest = 0 ∷ [];
-        begins = pushed c (whole.1 ∙ ap (λ (x : ℕ). history_bytes old.generation h ++ x ∷ piece) is_open);
+        begins = pushed c (whole.1 ∙ ap (λ (x : ℕ). history_bytes old.generation h ++ x ∷ chunk) is_open);
         closed = closed_gate 0 [] (omega arith);
       }))
       (λ shut. inl (record {
-        rest = whole.0 ∷ piece;
-        begins = begins c (whole.0 ∷ piece) whole.1;
-        closed = closed_gate whole.0 piece shut;
+        rest = whole.0 ∷ chunk;
+        begins = begins c (whole.0 ∷ chunk) whole.1;
+        closed = closed_gate whole.0 chunk shut;
       }))
       (cases_eq whole.0 1)
 
-  opened : (r : Result (Unit {0}) Failed) (v : Outside) → Opens old.file old.gate piece r w v
-      → Opened old.file (history_bytes old.generation h) piece r w v
+  opened : (r : Result (Unit {0}) Failed) (v : Outside) → Opens old.file old.gate chunk r w v
+      → Opened old.file (history_bytes old.generation h) chunk r w v
   opened r v opens = opens (history_bytes old.generation h) (sym at.gate) (shape old h w n.room at) at.durable
 
-  moments : (r : Result (Unit {0}) Failed) (v : Outside) → Opened old.file (history_bytes old.generation h) piece r w
+  moments : (r : Result (Unit {0}) Failed) (v : Outside) → Opened old.file (history_bytes old.generation h) chunk r w
       v
       → LeavesOnly w v (LeavesFile old.file
       (λ image. Stands image old.generation h ⊎ Stands image old.generation (with_change h change)) w)
-  moments r v o = only_weaker w v (LeavesFile old.file (IsGated (history_bytes old.generation h) piece) w)
+  moments r v o = only_weaker w v (LeavesFile old.file (IsGated (history_bytes old.generation h) chunk) w)
       (LeavesFile old.file (λ image. Stands image old.generation h ⊎ Stands image old.generation
       (with_change h change)) w)
       o.any_moment
       (λ left l. record { image = with_or_without (image_of left old.file) l.image; other = l.other; out = l.out })
 
-  added_failed : (new : Journal) (x : Failed) (v : Outside) → Opens old.file old.gate piece (Err x) w v
+  added_failed : (new : Journal) (x : Failed) (v : Outside) → Opens old.file old.gate chunk (Err x) w v
       → Added old new h change (Err SiteFault) w v
   added_failed new x v opens =
       let o = opened (Err x) v opens in
       record { any_moment = moments (Err x) v o; ok = tt; others = o.others; output = o.output }
 
   added : (new : Journal) (x y : Unit {0}) (v : Outside) → new.file ≡ old.file → new.generation ≡ old.generation
-      → new.kept.0 ≡ seq.0 → new.gate ≡ old.gate + length piece → Opens old.file old.gate piece (Ok x) w v
+      → new.kept.0 ≡ seq.0 → new.gate ≡ old.gate + length chunk → Opens old.file old.gate chunk (Ok x) w v
       → Added old new h change (Ok y) w v
   added new x y v file generation last gate opens =
       let o = opened (Ok x) v opens in
       let front = history_bytes old.generation h in
-      let d : disk v new.file ≡ settled (front ++ 1 ∷ piece) = ap (λ (f : Which). disk v f) file ∙ o.done in
-      let b : BeginsWith (front ++ 1 ∷ piece) old.generation (with_change h change) (0 ∷ []) =
-      pushed (front ++ 1 ∷ piece) refl in
+      let d : disk v new.file ≡ settled (front ++ 1 ∷ chunk) = ap (λ (f : Which). disk v f) file ∙ o.done in
+      let b : BeginsWith (front ++ 1 ∷ chunk) old.generation (with_change h change) (0 ∷ []) =
+      pushed (front ++ 1 ∷ chunk) refl in
       let longer : length (h.changes ++ change ∷ []) ≡ length h.changes + 1 = length-append h.changes (change ∷ []) in
       record {
         any_moment = moments (Ok x) v o;
@@ -128,31 +128,31 @@ module _ (old : Journal) (seq : Sequence) (change : List Event) (piece : List �
             gate,
             at.gate,
             gate_push old.generation h change,
-            ap (λ (l : List ℕ). length l) n.piece_is,
+            ap (λ (l : List ℕ). length l) n.chunk_is,
             length-append (fields (record_of seq.0 change)) (0 ∷ []),
           )
               ∙ ap (λ (k : ℕ). length (history_bytes k (with_change h change))) (sym generation);
           last = omega (arith, last, n.next, at.last, longer);
           fits = subst (λ (k : ℕ). HistoryFits k (with_change h change)) (sym generation) b.fits;
-          durable = subst IsDurable (sym d) (settled_durable (front ++ 1 ∷ piece));
+          durable = subst IsDurable (sym d) (settled_durable (front ++ 1 ∷ chunk));
         };
         others = o.others;
         output = o.output;
       }
 
 -- as the code's values have it
-module _ (old new : Journal) (seq : Sequence) (change : List Event) (piece given : List ℕ)
-    (n : IsNextPiece old seq change piece) (same : given ≡ piece) (w v : Outside) where
+module _ (old new : Journal) (seq : Sequence) (change : List Event) (chunk given : List ℕ)
+    (n : IsNextChunk old seq change chunk) (same : given ≡ chunk) (w v : Outside) where
   opens_of : (r : Result (Unit {0}) Failed) → Opens old.file old.gate given r w v
-      → Opens old.file old.gate piece r w v
+      → Opens old.file old.gate chunk r w v
   opens_of r o = subst (λ (l : List ℕ). Opens old.file old.gate l r w v) same o
 
   pub adding_failed : (x : Failed) → old.closed ≡ false → Opens old.file old.gate given (Err x) w v
       → Adds old new change (Err SiteFault) w v
   adding_failed x not_closed o =
-      inr (not_closed, λ h at. added_failed old seq change piece n h w at new x v (opens_of (Err x) o))
+      inr (not_closed, λ h at. added_failed old seq change chunk n h w at new x v (opens_of (Err x) o))
 
   pub adding_done : (x y : Unit {0}) → new.file ≡ old.file → new.generation ≡ old.generation → new.kept.0 ≡ seq.0
-      → new.gate ≡ old.gate + length piece → Opens old.file old.gate given (Ok x) w v → Adds old new change (Ok y) w v
+      → new.gate ≡ old.gate + length chunk → Opens old.file old.gate given (Ok x) w v → Adds old new change (Ok y) w v
   adding_done x y file generation last gate o h at =
-      added old seq change piece n h w at new x y v file generation last gate (opens_of (Ok x) o)
+      added old seq change chunk n h w at new x y v file generation last gate (opens_of (Ok x) o)

@@ -36,8 +36,8 @@ module _ (file : Which) (from at n : ℕ) (buf old sub : List ℕ) (in_buf : at 
   front : length (take at buf) ≡ at
   front = length-take-le at buf (omega arith)
 
-  piece : (post : List ℕ) → take n (sub ++ post) ≡ take n (drop at there)
-  piece post = ap (λ (l : List ℕ). take n (l ++ post)) gives.0.bytes
+  given : (post : List ℕ) → take n (sub ++ post) ≡ take n (drop at there)
+  given post = ap (λ (l : List ℕ). take n (l ++ post)) gives.0.bytes
       ∙ ap (λ (l : List ℕ). take n l) (append_assoc (take n (drop (from + at) (disk u file).reads)) (drop n old) post)
       ∙ take_at (take n (drop (from + at) (disk u file).reads)) (drop n old ++ post) n
       (length-take-le n (drop (from + at) (disk u file).reads) gives.0.enough)
@@ -48,7 +48,7 @@ module _ (file : Which) (from at n : ℕ) (buf old sub : List ℕ) (in_buf : at 
       ∙ ap (λ (l : List ℕ). l ++ take n (drop at (take at buf ++ (sub ++ post))))
       (take_at (take at buf) (sub ++ post) at front ∙ s.read)
       ∙ ap (λ (l : List ℕ). take at there ++ take n l) (drop_at (take at buf) (sub ++ post) at front)
-      ∙ ap (λ (l : List ℕ). take at there ++ l) (piece post)
+      ∙ ap (λ (l : List ℕ). take at there ++ l) (given post)
       ∙ sym (take-add at n there)
 
   pub fill_more : FilledSoFar file from (at + n) (put_mid at (length buf - at) buf sub) w v

@@ -33,14 +33,14 @@ no_base_short file short b rest o = omega (
 )
 
 -- a base of these events and the closed gate behind it, all but the first gate
-pub record IsBasePiece (generation number : ℕ) (events : List Event) (piece : List ℕ) : Type 0 where
-  pub bytes : 1 ∷ piece ≡ base_bytes (base_of generation number events) ++ 0 ∷ []
+pub record IsBaseChunk (generation number : ℕ) (events : List Event) (chunk : List ℕ) : Type 0 where
+  pub bytes : 1 ∷ chunk ≡ base_bytes (base_of generation number events) ++ 0 ∷ []
   pub fits : HistoryFits generation (base_alone number events)
 
-pub base_piece : (generation number : ℕ) (events : List Event) (piece : List ℕ)
-    → 1 ∷ piece ≡ base_bytes (base_of generation number events) ++ 0 ∷ []
-    → generation < 2 ^ 64 → number < 2 ^ 64 → EventsFit events → IsBasePiece generation number events piece
-base_piece generation number events piece bytes generation_fits number_fits fit = record {
+pub base_chunk : (generation number : ℕ) (events : List Event) (chunk : List ℕ)
+    → 1 ∷ chunk ≡ base_bytes (base_of generation number events) ++ 0 ∷ []
+    → generation < 2 ^ 64 → number < 2 ^ 64 → EventsFit events → IsBaseChunk generation number events chunk
+base_chunk generation number events chunk bytes generation_fits number_fits fit = record {
   bytes = bytes;
   fits = record {
     generation_fits = generation_fits;
@@ -50,36 +50,36 @@ base_piece generation number events piece bytes generation_fits number_fits fit 
   };
 }
 
-module _ (generation number : ℕ) (events : List Event) (piece : List ℕ)
-    (is : IsBasePiece generation number events piece) where
-  split : 1 ∷ piece ≡ history_bytes generation (base_alone number events) ++ 0 ∷ []
+module _ (generation number : ℕ) (events : List Event) (chunk : List ℕ)
+    (is : IsBaseChunk generation number events chunk) where
+  split : 1 ∷ chunk ≡ history_bytes generation (base_alone number events) ++ 0 ∷ []
   split = is.bytes ∙ ap (λ (l : List ℕ). l ++ 0 ∷ []) (sym (append-nil (base_bytes (base_of generation number events))))
 
-  stands : Stands (1 ∷ piece) generation (base_alone number events)
+  stands : Stands (1 ∷ chunk) generation (base_alone number events)
   stands = record {
     rest = 0 ∷ [];
     begins = record { split = split; fits = is.fits };
     closed = closed_gate 0 [] (omega arith);
   }
 
-  image : (was c : List ℕ) → IsReplaced was piece c → IsBaseImage was generation (base_alone number events) c
+  image : (was c : List ℕ) → IsReplaced was chunk c → IsBaseImage was generation (base_alone number events) c
   image was c (inl front) = inl front
   image was c (inr (inl one)) = inr (inl (subst NoBase (sym one.1) (no_base_short (one.0 ∷ []) (omega arith))))
   image was c (inr (inr (inl shut))) = inr (inl (subst NoBase (sym shut.1) (no_base_gate 0 shut.0 (omega arith))))
   image was c (inr (inr (inr whole))) = ⊎_elim
       (λ is_open. inr (inr (subst (λ (l : List ℕ). Stands l generation (base_alone number events))
-      (sym (whole.1 ∙ ap (λ (g : ℕ). g ∷ piece) is_open)) stands)))
-      (λ shut. inr (inl (subst NoBase (sym whole.1) (no_base_gate whole.0 piece shut))))
+      (sym (whole.1 ∙ ap (λ (g : ℕ). g ∷ chunk) is_open)) stands)))
+      (λ shut. inr (inl (subst NoBase (sym whole.1) (no_base_gate whole.0 chunk shut))))
       (cases_eq whole.0 1)
 
-  module _ (file : Which) (given : List ℕ) (same : given ≡ piece) (w v : Outside) where
+  module _ (file : Which) (given : List ℕ) (same : given ≡ chunk) (w v : Outside) where
     replaced : (r : Result (Unit {0}) Failed) → Replaces file given r w v → IsDurable (disk w file)
-        → Replaced file piece r w v
+        → Replaced file chunk r w v
     replaced r replaces durable = subst (λ (l : List ℕ). Replaces file l r w v) same replaces durable
 
-    moments : (r : Result (Unit {0}) Failed) → Replaced file piece r w v
+    moments : (r : Result (Unit {0}) Failed) → Replaced file chunk r w v
         → LeavesOnly w v (LeavesFile file (IsBaseImage (disk w file).reads generation (base_alone number events)) w)
-    moments r s = only_weaker w v (LeavesFile file (IsReplaced (disk w file).reads piece) w)
+    moments r s = only_weaker w v (LeavesFile file (IsReplaced (disk w file).reads chunk) w)
         (LeavesFile file (IsBaseImage (disk w file).reads generation (base_alone number events)) w) s.any_moment
         (λ left l. record {
           image = image (disk w file).reads (image_of left file) l.image;
@@ -105,7 +105,7 @@ module _ (generation number : ℕ) (events : List Event) (piece : List ℕ)
         (λ (y : JournalError). WritesWithin file generation (base_alone number events) (Err y) w v) (sym fault)
         (based_failed x replaces)
 
-    pub base_written : (x : Unit {0}) (gate : ℕ) (kept : Sequence) → gate ≡ length piece → kept.0 ≡ number
+    pub base_written : (x : Unit {0}) (gate : ℕ) (kept : Sequence) → gate ≡ length chunk → kept.0 ≡ number
         → Replaces file given (Ok x) w v → WritesBase file generation (base_alone number events) (Ok (record {
           file = file;
           generation = generation;
@@ -130,7 +130,7 @@ module _ (generation number : ℕ) (events : List Event) (piece : List ℕ)
               );
               last = omega (arith, last);
               fits = is.fits;
-              durable = subst IsDurable (sym s.done) (settled_durable (1 ∷ piece));
+              durable = subst IsDurable (sym s.done) (settled_durable (1 ∷ chunk));
             },
             refl,
             refl,

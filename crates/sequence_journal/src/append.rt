@@ -5,10 +5,10 @@ ghost use Rattle.road_io.specs.Told.{Told};
 ghost use Rattle.sequence_journal.specs.Journal.{IsReady};
 ghost use Rattle.sequence_journal.specs.Adding.{Adds, AddAnswer};
 
+use crate::chunks::record_chunk;
 use crate::ends::open_behind;
 use crate::error::JournalError;
 use crate::journal::Journal;
-use crate::pieces::record_piece;
 use crate::whole_file::LARGEST;
 use road_base::{Event, NoMemory, Sequence};
 use road_io::Site;
@@ -34,12 +34,12 @@ impl Journal {
             return Err(JournalError::SiteFault);
         }
         self.check(seq)?;
-        let piece = record_piece(alloc, seq, events)?;
-        let size = piece.len() as u64;
+        let chunk = record_chunk(alloc, seq, events)?;
+        let size = chunk.len() as u64;
         if !has_room(self.gate, size) {
             return Err(JournalError::TooLarge);
         }
-        match open_behind(site, self.file, self.gate, &piece) {
+        match open_behind(site, self.file, self.gate, &chunk) {
             Ok(()) => {
                 self.gate += size;
                 self.kept = seq;
@@ -60,8 +60,8 @@ impl Journal {
         ensures { IfOk result
             (λ r. IsTrue r ↔ (self.now.gate + (17 + length (events_bytes events.now) + 1) ≤ 2 ^ 40)) }
     {
-        let piece = record_piece(alloc, self.kept, events)?;
-        Ok(has_room(self.gate, piece.len() as u64))
+        let chunk = record_chunk(alloc, self.kept, events)?;
+        Ok(has_room(self.gate, chunk.len() as u64))
     }
 }
 

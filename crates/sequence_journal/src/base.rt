@@ -8,10 +8,10 @@ ghost use Rattle.sequence_journal.specs.Journal.{CountsFaults};
 ghost use Rattle.sequence_journal.specs.Basing.{WritesBase, WritesWithin, WithinAnswer, base_alone};
 
 use crate::append::has_room;
+use crate::chunks::base_chunk;
 use crate::ends::replace;
 use crate::error::JournalError;
 use crate::journal::Journal;
-use crate::pieces::base_piece;
 use road_base::{Event, Sequence};
 use road_io::{Site, Which};
 use std::alloc::Global;
@@ -34,12 +34,12 @@ pub fn write_base<W: Site>(
     ensures named { IfErr result (λ e. (e ≡ SiteFault) ⊎ (e ≡ NoMemoryError)) }
     ensures counts { CountsFaults (W.faults site.old) (W.faults site.new) result }
 {
-    let piece = base_piece(alloc, generation, base, events)?;
-    replace(site, file, &piece)?;
+    let chunk = base_chunk(alloc, generation, base, events)?;
+    replace(site, file, &chunk)?;
     Ok(Journal {
         file,
         generation,
-        gate: piece.len() as u64,
+        gate: chunk.len() as u64,
         kept: base,
         closed: false,
     })
@@ -60,12 +60,12 @@ pub fn write_base_within<W: Site>(
         (W.outside site.old) (W.outside site.new) }
     ensures answer { WithinAnswer file generation base events.now result (W.faults site.old) (W.faults site.new) }
 {
-    let piece = base_piece(alloc, generation, base, events)?;
-    let size = piece.len() as u64;
+    let chunk = base_chunk(alloc, generation, base, events)?;
+    let size = chunk.len() as u64;
     if !has_room(0, size) {
         return Err(JournalError::TooLarge);
     }
-    replace(site, file, &piece)?;
+    replace(site, file, &chunk)?;
     Ok(Journal {
         file,
         generation,

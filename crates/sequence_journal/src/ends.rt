@@ -13,20 +13,20 @@ pub(crate) const CLOSED: u8 = 0;
 /// A gate that is open.
 pub(crate) const OPEN: u8 = 1;
 
-/// Writes a piece behind the closed gate at the end of a file, and opens the gate once the piece is on the disk.
+/// Writes a chunk behind the closed gate at the end of a file, and opens the gate once the chunk is on the disk.
 pub(crate) fn open_behind<W: Site>(
     site: &mut W,
     file: Which,
     gate: u64,
-    piece: &[u8],
+    chunk: &[u8],
 ) -> Result<(), Failed>
     requires fits { gate < 2 ^ 63 }
     requires place { IfSome (W.outside site.old) (λ w. length (disk w file).reads ≡ gate + 1) }
-    ensures told { Told (Opens file gate piece.now result) (W.outside site.old) (W.outside site.new) }
+    ensures told { Told (Opens file gate chunk.now result) (W.outside site.old) (W.outside site.new) }
     ensures counts { Counts (W.faults site.old) (W.faults site.new) result }
 {
-    site.write_at(file, gate + 1, piece)?;
-    site.sync(file)?; // Now the piece is on the disk.
+    site.write_at(file, gate + 1, chunk)?;
+    site.sync(file)?; // Now the chunk is on the disk.
     site.write_at(file, gate, &[OPEN])?;
     site.sync(file)
 }
@@ -43,12 +43,12 @@ pub(crate) fn repair_end<W: Site>(site: &mut W, file: Which, gate: u64) -> Resul
     site.sync(file)
 }
 
-/// Empties a file, and writes an open gate and a piece behind it.
-pub(crate) fn replace<W: Site>(site: &mut W, file: Which, piece: &[u8]) -> Result<(), Failed>
+/// Empties a file, and writes an open gate and a chunk behind it.
+pub(crate) fn replace<W: Site>(site: &mut W, file: Which, chunk: &[u8]) -> Result<(), Failed>
     requires { IfSome (W.outside site.old) (λ w. IsDurable (disk w file)) }
-    ensures told { Told (Replaces file piece.now result) (W.outside site.old) (W.outside site.new) }
+    ensures told { Told (Replaces file chunk.now result) (W.outside site.old) (W.outside site.new) }
     ensures counts { Counts (W.faults site.old) (W.faults site.new) result }
 {
     repair_end(site, file, 0)?;
-    open_behind(site, file, 0, piece)
+    open_behind(site, file, 0, chunk)
 }

@@ -8,6 +8,7 @@
 
 mod append;
 mod base;
+mod chunks;
 mod ends;
 mod error;
 mod heads;
@@ -16,7 +17,6 @@ pub mod laws;
 mod layout;
 mod load;
 mod parts;
-mod pieces;
 mod records;
 mod whole_file;
 mod window;

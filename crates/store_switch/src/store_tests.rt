@@ -202,22 +202,22 @@ fn loads_without_a_write(rt: HostRuntime) -> Result<(), Fail> {
     Ok(())
 }
 
-/// Bytes with a piece in its place.
-fn overwritten(alloc: Global, bytes: &[u8], at: u64, piece: &[u8]) -> Result<Vec<u8>, AllocError> {
+/// Bytes with a chunk in its place.
+fn overwritten(alloc: Global, bytes: &[u8], at: u64, chunk: &[u8]) -> Result<Vec<u8>, AllocError> {
     let at = bytes.len().min(at as usize);
-    let end = bytes.len().min(at + piece.len());
+    let end = bytes.len().min(at + chunk.len());
     let mut new = bytes[..at].to_vec(alloc)?;
-    new.extend_from_slice(piece)?;
+    new.extend_from_slice(chunk)?;
     new.extend_from_slice(&bytes[end..])?;
     Ok(new)
 }
 
-/// A piece of which a stop leaves all, the first half, or other bytes.
-fn torn(alloc: Global, piece: &[u8], way: u8) -> Result<Vec<u8>, AllocError> {
-    let mut new = piece.to_vec(alloc)?;
+/// A chunk of which a stop leaves all, the first half, or other bytes.
+fn torn(alloc: Global, chunk: &[u8], way: u8) -> Result<Vec<u8>, AllocError> {
+    let mut new = chunk.to_vec(alloc)?;
     match way {
         0 => {}
-        1 => new.truncate(piece.len() / 2),
+        1 => new.truncate(chunk.len() / 2),
         2 => new.fill(0),
         3 => new.fill(1),
         _ => new.fill(255),
@@ -234,8 +234,8 @@ pub(crate) fn left_by(
     way: u8,
 ) -> Result<Vec<u8>, AllocError> {
     match call {
-        Call::WriteAt { at, piece, .. } => {
-            let written = torn(alloc, piece.items(), way)?;
+        Call::WriteAt { at, chunk, .. } => {
+            let written = torn(alloc, chunk.items(), way)?;
             overwritten(alloc, bytes, *at, &written)
         }
         Call::Cut { len, .. } => bytes[..bytes.len().min(*len as usize)].to_vec(alloc),

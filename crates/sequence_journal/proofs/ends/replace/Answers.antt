@@ -8,11 +8,11 @@ use Rattle.sequence_journal.proofs.ends.replace.Goals as goal
 
 pub returns-in_err-repair_end-clause-told : goal.returns-in_err-repair_end-clause-told
 returns-in_err-repair_end-clause-told g c = told_weaker _ _ _ _ c.repair_end.ensures.told
-    (λ w u. base_failed c.args.file c.args.piece.now w c.from_residual.result _ c.from_residual.ensures.0 u)
+    (λ w u. base_failed c.args.file c.args.chunk.now w c.from_residual.result _ c.from_residual.ensures.0 u)
 
 pub returns-clause-told : goal.returns-clause-told
 returns-clause-told g c = told_then _ _ _ _ _ _ c.in_ok-repair_end.ensures.told c.open_behind.ensures.told
-    (λ w u v. based c.args.file c.args.piece.now w c.open_behind.result _ u v)
+    (λ w u v. based c.args.file c.args.chunk.now w c.open_behind.result _ u v)
 
 pub open_behind-requires-clause-place : goal.open_behind-requires-clause-place
 open_behind-requires-clause-place g c =

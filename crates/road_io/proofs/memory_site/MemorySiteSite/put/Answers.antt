@@ -26,9 +26,9 @@ returns-then-branch-clause-told c =
     let call = Put c.in-Ok.copy in
     let told : told_by f n ≡ refused call (told_by f l) = noted_refuses f call l n
     (room_then_failed call l c.make_room.new.self n c.in_ok-make_room.ensures.ok c.enter_failed.ensures.state) in
-    subst (λ (s : SiteState). Puts c.args.piece.now (Err c.enter_failed.result) (outside_of s) (told_by f n))
+    subst (λ (s : SiteState). Puts c.args.chunk.now (Err c.enter_failed.result) (outside_of s) (told_by f n))
     c.self.view_is
-    (put_refused c.args.piece.now c.enter_failed.result (told_by f l) (told_by f n) told)
+    (put_refused c.args.chunk.now c.enter_failed.result (told_by f l) (told_by f n) told)
 
 pub returns-then-branch-clause-alike : goal.returns-then-branch-clause-alike
 returns-then-branch-clause-alike c =
@@ -49,14 +49,14 @@ invariant_of-self-2 c =
     let call = Put c.in-Ok.copy in
     let before = c.self.inside.output.items in
     let now = c.extend_from_slice.new.self.items in
-    let is : now ≡ before ++ c.args.piece.now =
+    let is : now ≡ before ++ c.args.chunk.now =
     c.extend_from_slice.ensures.items
-    ∙ ap (λ (b : Bool). if b then before ++ c.args.piece.now else before)
+    ∙ ap (λ (b : Bool). if b then before ++ c.args.chunk.now else before)
     (is_not_err c.extend_from_slice.result c.if-is_err.ensures.value) in
-    let told : told_by f n ≡ answered (Put c.args.piece.now) (told_by f l) = noted_answers f call l n
+    let told : told_by f n ≡ answered (Put c.args.chunk.now) (told_by f l) = noted_answers f call l n
     (room_then_noted call l c.make_room.new.self n c.in_ok-make_room.ensures.ok c.enter.ensures)
-    ∙ ap (λ (piece : List ℕ). answered (Put piece) (told_by f l)) c.in-Ok.ensures in
-    put_kept f c.args.piece.now before now (told_by f l) (told_by f n) c.self.invariant is told
+    ∙ ap (λ (chunk : List ℕ). answered (Put chunk) (told_by f l)) c.in-Ok.ensures in
+    put_kept f c.args.chunk.now before now (told_by f l) (told_by f n) c.self.invariant is told
 
 pub returns-clause-told : goal.returns-clause-told
 returns-clause-told c =
@@ -64,7 +64,7 @@ returns-clause-told c =
     let l = c.self.inside.log in
     let n = c.enter.new.self in
     let call = Put c.in-Ok.copy in
-    let told : told_by f n ≡ answered (Put c.args.piece.now) (told_by f l) = noted_answers f call l n
+    let told : told_by f n ≡ answered (Put c.args.chunk.now) (told_by f l) = noted_answers f call l n
     (room_then_noted call l c.make_room.new.self n c.in_ok-make_room.ensures.ok c.enter.ensures)
-    ∙ ap (λ (piece : List ℕ). answered (Put piece) (told_by f l)) c.in-Ok.ensures in
-    subst (λ (s : SiteState). told_by f n ≡ answered (Put c.args.piece.now) (outside_of s)) c.self.view_is told
+    ∙ ap (λ (chunk : List ℕ). answered (Put chunk) (told_by f l)) c.in-Ok.ensures in
+    subst (λ (s : SiteState). told_by f n ≡ answered (Put c.args.chunk.now) (outside_of s)) c.self.view_is told

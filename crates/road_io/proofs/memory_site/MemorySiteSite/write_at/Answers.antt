@@ -26,18 +26,18 @@ returns-then-branch-clause-told c =
     let f = c.self.inside.files in
     let l = c.self.inside.log in
     let n = c.enter_failed.new.self in
-    let piece = c.args.piece.now in
+    let chunk = c.args.chunk.now in
     let call = WriteAt c.args.file c.args.at c.in-Ok.copy in
-    let told : told_by f n ≡ refused (WriteAt c.args.file c.args.at piece) (told_by f l) = noted_refuses f call l n
+    let told : told_by f n ≡ refused (WriteAt c.args.file c.args.at chunk) (told_by f l) = noted_refuses f call l n
     (room_then_failed call l c.make_room.new.self n c.in_ok-make_room.ensures.ok c.enter_failed.ensures.state)
     ∙ ap (λ (p : List ℕ). refused (WriteAt c.args.file c.args.at p) (told_by f l)) c.in-Ok.ensures in
     let within : c.args.at ≤ length (disk (told_by f l) c.args.file).reads = subst
     (λ (s : SiteState). c.args.at ≤ length (disk (outside_of s) c.args.file).reads)
     (sym c.self.view_is) c.requires.within in
     subst
-    (λ (s : SiteState). Writes c.args.file c.args.at piece (Err c.enter_failed.result) (outside_of s) (told_by f n))
+    (λ (s : SiteState). Writes c.args.file c.args.at chunk (Err c.enter_failed.result) (outside_of s) (told_by f n))
     c.self.view_is
-    (write_refused c.args.file c.args.at piece (told_by f l) (told_by f n) within c.enter_failed.result told)
+    (write_refused c.args.file c.args.at chunk (told_by f l) (told_by f n) within c.enter_failed.result told)
 
 pub returns-then-branch-clause-alike : goal.returns-then-branch-clause-alike
 returns-then-branch-clause-alike c =
@@ -56,12 +56,12 @@ invariant_of-self-2 c =
     let g = c.overwrite.new.self in
     let l = c.self.inside.log in
     let n = c.enter.new.self in
-    let piece = c.args.piece.now in
+    let chunk = c.args.chunk.now in
     let call = WriteAt c.args.file c.args.at c.in-Ok.copy in
-    let bytes = overwritten c.args.at piece (bytes_of f c.args.file) in
+    let bytes = overwritten c.args.at chunk (bytes_of f c.args.file) in
     let is : g ≡ with_file c.args.file bytes f =
     not_err c.overwrite.result _ c.overwrite.ensures.ok c.if-is_err.ensures.value in
-    let answer : told_by g n ≡ answered (WriteAt c.args.file c.args.at piece) (told_by f l) =
+    let answer : told_by g n ≡ answered (WriteAt c.args.file c.args.at chunk) (told_by f l) =
     file_changed_opens c.args.file bytes f g n is
     ∙ noted_answers f call l n
     (room_then_noted call l c.make_room.new.self n c.in_ok-make_room.ensures.ok c.enter.ensures)
@@ -69,9 +69,9 @@ invariant_of-self-2 c =
     let within : c.args.at ≤ length (disk (told_by f l) c.args.file).reads = subst
     (λ (s : SiteState). c.args.at ≤ length (disk (outside_of s) c.args.file).reads)
     (sym c.self.view_is) c.requires.within in
-    write_kept c.args.file c.args.at piece f g c.self.inside.output.items (told_by f l) (told_by g n)
+    write_kept c.args.file c.args.at chunk f g c.self.inside.output.items (told_by f l) (told_by g n)
     c.self.invariant is
-    (write_told c.args.file c.args.at piece (told_by f l) (told_by g n) within answer)
+    (write_told c.args.file c.args.at chunk (told_by f l) (told_by g n) within answer)
 
 pub returns-clause-told : goal.returns-clause-told
 returns-clause-told c =
@@ -79,12 +79,12 @@ returns-clause-told c =
     let g = c.overwrite.new.self in
     let l = c.self.inside.log in
     let n = c.enter.new.self in
-    let piece = c.args.piece.now in
+    let chunk = c.args.chunk.now in
     let call = WriteAt c.args.file c.args.at c.in-Ok.copy in
-    let bytes = overwritten c.args.at piece (bytes_of f c.args.file) in
+    let bytes = overwritten c.args.at chunk (bytes_of f c.args.file) in
     let is : g ≡ with_file c.args.file bytes f =
     not_err c.overwrite.result _ c.overwrite.ensures.ok c.if-is_err.ensures.value in
-    let answer : told_by g n ≡ answered (WriteAt c.args.file c.args.at piece) (told_by f l) =
+    let answer : told_by g n ≡ answered (WriteAt c.args.file c.args.at chunk) (told_by f l) =
     file_changed_opens c.args.file bytes f g n is
     ∙ noted_answers f call l n
     (room_then_noted call l c.make_room.new.self n c.in_ok-make_room.ensures.ok c.enter.ensures)
@@ -92,6 +92,6 @@ returns-clause-told c =
     let within : c.args.at ≤ length (disk (told_by f l) c.args.file).reads = subst
     (λ (s : SiteState). c.args.at ≤ length (disk (outside_of s) c.args.file).reads)
     (sym c.self.view_is) c.requires.within in
-    subst (λ (s : SiteState). Writes c.args.file c.args.at piece (Ok c.enter.result) (outside_of s) (told_by g n))
+    subst (λ (s : SiteState). Writes c.args.file c.args.at chunk (Ok c.enter.result) (outside_of s) (told_by g n))
     c.self.view_is
-    (write_told c.args.file c.args.at piece (told_by f l) (told_by g n) within answer)
+    (write_told c.args.file c.args.at chunk (told_by f l) (told_by g n) within answer)

@@ -1,4 +1,4 @@
-//! The bytes of a record and of a base, each as one piece behind its gate.
+//! The bytes of a record and of a base, each as one chunk behind its gate.
 ghost use Rattle.std.specs.Prelude.{◌≡◌, ◌+◌, ◌<◌, ◌≤◌, ◌^◌, ◌++◌, ◌∷◌, [], IfOk, OnOk, length, take, drop};
 ghost use Rattle.road_base.specs.Bytes.{u64_bytes};
 ghost use Rattle.object_codec.specs.Spelling.{events_bytes};
@@ -11,57 +11,57 @@ use road_base::{Event, LittleEndian, NoMemory, Sequence};
 use std::alloc::Global;
 
 /// What stands behind the gate of a change's record: its fields and bytes, and the next gate, closed.
-pub(crate) fn record_piece(
+pub(crate) fn record_chunk(
     alloc: Global,
     seq: Sequence,
     events: &[Event],
 ) -> Result<Vec<u8>, NoMemory>
-    ensures bytes { IfOk result (λ piece. piece.items ≡ fields (record_of seq.0 events.now) ++ 0 ∷ []) }
-    ensures fit { IfOk result (λ piece. EventsFit events.now) }
-    ensures number_fits { IfOk result (λ piece. seq.0 < 2 ^ 64) }
+    ensures bytes { IfOk result (λ chunk. chunk.items ≡ fields (record_of seq.0 events.now) ++ 0 ∷ []) }
+    ensures fit { IfOk result (λ chunk. EventsFit events.now) }
+    ensures number_fits { IfOk result (λ chunk. seq.0 < 2 ^ 64) }
 {
-    let mut piece = Vec::new(alloc);
-    seq.0.put(&mut piece)?;
-    put_events(events, &mut piece)?;
-    Ok(piece)
+    let mut chunk = Vec::new(alloc);
+    seq.0.put(&mut chunk)?;
+    put_events(events, &mut chunk)?;
+    Ok(chunk)
 }
 
 /// What stands behind the gate of a base: the magic, its fields and bytes, and the next gate, closed.
-pub(crate) fn base_piece(
+pub(crate) fn base_chunk(
     alloc: Global,
     generation: u64,
     number: Sequence,
     events: &[Event],
 ) -> Result<Vec<u8>, NoMemory>
     ensures bytes { IfOk result
-        (λ piece. 1 ∷ piece.items ≡ base_bytes (base_of generation number.0 events.now) ++ 0 ∷ []) }
-    ensures fit { IfOk result (λ piece. EventsFit events.now) }
-    ensures generation_fits { IfOk result (λ piece. generation < 2 ^ 64) }
-    ensures number_fits { IfOk result (λ piece. number.0 < 2 ^ 64) }
+        (λ chunk. 1 ∷ chunk.items ≡ base_bytes (base_of generation number.0 events.now) ++ 0 ∷ []) }
+    ensures fit { IfOk result (λ chunk. EventsFit events.now) }
+    ensures generation_fits { IfOk result (λ chunk. generation < 2 ^ 64) }
+    ensures number_fits { IfOk result (λ chunk. number.0 < 2 ^ 64) }
 {
-    let mut piece = Vec::new(alloc);
-    piece.extend_from_slice(b"OSMJRNL1".as_slice())?;
-    1u32.put(&mut piece)?;
-    generation.put(&mut piece)?;
-    number.0.put(&mut piece)?;
-    put_events(events, &mut piece)?;
-    Ok(piece)
+    let mut chunk = Vec::new(alloc);
+    chunk.extend_from_slice(b"OSMJRNL1".as_slice())?;
+    1u32.put(&mut chunk)?;
+    generation.put(&mut chunk)?;
+    number.0.put(&mut chunk)?;
+    put_events(events, &mut chunk)?;
+    Ok(chunk)
 }
 
 /// Appends how many bytes spell the events, these bytes and a closed gate. Where no memory is found, a part of it may
 /// stand there.
-fn put_events(events: &[Event], piece: &mut Vec<u8>) -> Result<(), NoMemory>
-    ensures ok { OnOk result (piece.new.items
-        ≡ piece.old.items ++ u64_bytes (length (events_bytes events.now)) ++ events_bytes events.now ++ 0 ∷ []) }
+fn put_events(events: &[Event], chunk: &mut Vec<u8>) -> Result<(), NoMemory>
+    ensures ok { OnOk result (chunk.new.items
+        ≡ chunk.old.items ++ u64_bytes (length (events_bytes events.now)) ++ events_bytes events.now ++ 0 ∷ []) }
     ensures fit { OnOk result (EventsFit events.now) }
 {
-    let place = piece.len();
-    0u64.put(piece)?;
-    let from = piece.len();
-    encode(events, piece)?;
-    let size = (piece.len() - from) as u64;
-    set_number(piece, place, size);
-    piece.push(CLOSED)?;
+    let place = chunk.len();
+    0u64.put(chunk)?;
+    let from = chunk.len();
+    encode(events, chunk)?;
+    let size = (chunk.len() - from) as u64;
+    set_number(chunk, place, size);
+    chunk.push(CLOSED)?;
     Ok(())
 }
 
