@@ -1,11 +1,10 @@
 -- How a file of a store is laid out: an open base, and open records behind it. All numbers are little endian, and a
 -- length stands in front of the bytes that it counts. A gate is one byte, 1 where it is open.
-use Rattle.std.specs.Prelude.{◌≡◌, ℕ, ◌<◌, ◌^◌, List, [], ◌∷◌, ◌++◌, length}
+use Rattle.std.specs.Prelude.{◌≡◌, ℕ, ◌<◌, ◌^◌, List, ◌∷◌, ◌++◌, length, codes}
 use Rattle.road_base.specs.Bytes.{u32_bytes, u64_bytes}
 
--- OSMJRNL1
 abbrev pub magic : List ℕ
-magic = 79 ∷ 83 ∷ 77 ∷ 74 ∷ 82 ∷ 78 ∷ 76 ∷ 49 ∷ []
+magic = codes "OSMJRNL1"
 
 -- ---- the base
 
