@@ -212,7 +212,8 @@ impl Site for MemorySite {
 #[cfg(test)]
 mod tests {
     use super::*;
-    use crate::steps::Step;
+    use crate::steps::{Step, with_number, without_number};
+    use std::alloc::AllocError;
     use std::process::Abort;
     use std::test::Fail;
 
@@ -274,26 +275,34 @@ mod tests {
 
     const FAILS: [u64; 6] = [2, 5, 8, 10, 11, 19];
 
+    fn read(
+        rt: &impl Abort,
+        site: &mut MemorySite,
+        file: Which,
+        at: u64,
+        text: &str,
+    ) -> Result<usize, Failed> {
+        let mut buf = *b"........";
+        assert!(rt; text.len() <= buf.len());
+        let answer = site.read_at(file, at, &mut buf[..text.len()]);
+        assert_eq!(rt; buf[..text.len()], *text.as_bytes(), "{text}");
+        answer
+    }
+
     fn answer(rt: &impl Abort, site: &mut MemorySite, step: Step) -> Result<u64, Failed> {
         match step {
-            Step::Put(chunk) => site.put(chunk.as_bytes()).map(|()| 0),
+            Step::Put(chunk) => without_number(site.put(chunk.as_bytes())),
             Step::Len(file) => site.file_len(file),
-            Step::Read(file, at, text) => {
-                let mut buf = *b"........";
-                assert!(rt; text.len() <= buf.len());
-                let answer = site.read_at(file, at, &mut buf[..text.len()]);
-                assert_eq!(rt; buf[..text.len()], *text.as_bytes(), "{text}");
-                answer.map(|n| n as u64)
-            }
+            Step::Read(file, at, text) => with_number(read(rt, site, file, at, text)),
             Step::Write(file, at, chunk) => {
                 assert!(rt; at <= site.file(file).len() as u64);
-                site.write_at(file, at, chunk.as_bytes()).map(|()| 0)
+                without_number(site.write_at(file, at, chunk.as_bytes()))
             }
             Step::Cut(file, len) => {
                 assert!(rt; len <= site.file(file).len() as u64);
-                site.cut(file, len).map(|()| 0)
+                without_number(site.cut(file, len))
             }
-            Step::Sync(file) => site.sync(file).map(|()| 0),
+            Step::Sync(file) => without_number(site.sync(file)),
         }
     }
 
@@ -346,11 +355,15 @@ mod tests {
         }
     }
 
+    fn site(alloc: Global) -> Result<MemorySite, AllocError> {
+        let a = b"hello".to_vec(alloc)?;
+        let fails = FAILS.to_vec(alloc)?;
+        Ok(MemorySite::new(alloc, a, Vec::new(alloc), fails))
+    }
+
     #[test]
     fn calls(rt: HostRuntime) -> Result<(), Fail> {
-        let a = b"hello".to_vec(rt.alloc())?;
-        let fails = FAILS.to_vec(rt.alloc())?;
-        let mut site = MemorySite::new(rt.alloc(), a, Vec::new(rt.alloc()), fails);
+        let mut site = site(rt.alloc())?;
         check_answers(&rt, &mut site);
         check_record(&rt, site.calls());
         Ok(())

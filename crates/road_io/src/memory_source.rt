@@ -85,6 +85,7 @@ impl Source for MemorySource {
 #[cfg(test)]
 mod tests {
     use super::*;
+    use std::process::Abort;
     use std::test::Fail;
 
     const ROOM: usize = 8;
@@ -102,17 +103,20 @@ mod tests {
         (8, Ok(0), b"........"),
     ];
 
-    #[test]
-    fn reads(rt: HostRuntime) -> Result<(), Fail> {
-        let bytes = b"abcdefghij".to_vec(rt.alloc())?;
-        let fails = vec![in rt.alloc(); 5, 2]?;
-        let mut source = MemorySource::new(bytes, fails);
+    fn check_reads(rt: &impl Abort, source: &mut MemorySource) {
         for (at, (room, answer, after)) in READS.iter().enumerate() {
             let mut buf = *b"........";
             assert!(rt; *room <= ROOM);
             assert_eq!(rt; source.read(&mut buf[..*room]), *answer, "read {at}");
             assert_eq!(rt; buf, **after, "read {at}");
         }
+    }
+
+    #[test]
+    fn reads(rt: HostRuntime) -> Result<(), Fail> {
+        let bytes = b"abcdefghij".to_vec(rt.alloc())?;
+        let fails = vec![in rt.alloc(); 5, 2]?;
+        check_reads(&rt, &mut MemorySource::new(bytes, fails));
         Ok(())
     }
 }

@@ -200,7 +200,7 @@ fn counted<T: Drop>(answer: io::Result<T>, faults: &mut u64) -> Result<T, Failed
 #[cfg(test)]
 mod tests {
     use super::*;
-    use crate::steps::Step;
+    use crate::steps::{Step, with_number, without_number};
     use std::io::ErrorKind;
     use std::process::Abort;
     use std::test::Fail;
@@ -263,7 +263,7 @@ mod tests {
     }
 
     #[test]
-    fn puts(rt: HostRuntime) -> Result<(), Fail> {
+    fn puts(rt: HostRuntime) {
         let alloc = rt.alloc();
         let output = Narrow {
             taken: Vec::new(alloc),
@@ -276,7 +276,6 @@ mod tests {
         assert_eq!(rt; site.output.taken.as_slice(), b"abcdef".as_slice());
         assert_eq!(rt; site.output.flushes, 3);
         assert_eq!(rt; site.faults, 1);
-        Ok(())
     }
 
     #[test]
@@ -292,20 +291,23 @@ mod tests {
         assert_eq!(rt; room, *b"abcd");
     }
 
-    // A folder of this process's own, without what an earlier one may have left there.
-    fn empty_folder(rt: &HostRuntime) -> Result<String, Fail> {
+    // The name of a folder of this process's own.
+    fn folder_name(rt: &HostRuntime) -> Result<String, Fail> {
         let parent = env::temp_dir(rt)?;
         let id = process::id(rt.process());
-        let folder = format!(in rt.alloc(); "{}/road_io_{id}", parent.as_str())?;
-        let _ = fs::remove_dir_all(rt, folder.as_str());
-        fs::create_dir(rt, folder.as_str())?;
-        Ok(folder)
+        Ok(format!(in rt.alloc(); "{}/road_io_{id}", parent.as_str())?)
     }
 
-    fn site_in<'a>(
-        rt: &'a HostRuntime,
-        folder: &str,
-    ) -> Result<RealSite<&'a HostRuntime, io::Stdout>, Fail> {
+    // Makes the folder, without what an earlier process may have left there.
+    fn make_empty(rt: &HostRuntime, folder: &str) -> Result<(), Fail> {
+        let _ = fs::remove_dir_all(rt, folder);
+        fs::create_dir(rt, folder)?;
+        Ok(())
+    }
+
+    type FileSite<'a> = RealSite<&'a HostRuntime, io::Stdout>;
+
+    fn site_in<'a>(rt: &'a HostRuntime, folder: &str) -> Result<FileSite<'a>, Fail> {
         let a = format!(in rt.alloc(); "{folder}/map.a")?;
         let b = format!(in rt.alloc(); "{folder}/map.b")?;
         Ok(RealSite::new(rt, rt.stdout(), a, b))
@@ -342,46 +344,79 @@ mod tests {
         (Step::Sync(Which::B), Ok(0)),
     ];
 
-    fn answer(
+    fn read(
         rt: &impl Abort,
-        site: &mut RealSite<&HostRuntime, io::Stdout>,
-        step: Step,
-    ) -> Result<u64, Failed> {
+        site: &mut FileSite<'_>,
+        file: Which,
+        at: u64,
+        text: &str,
+    ) -> Result<usize, Failed> {
+        let mut buf = *b"........";
+        assert!(rt; text.len() <= buf.len());
+        let answer = site.read_at(file, at, &mut buf[..text.len()]);
+        assert_eq!(rt; buf[..text.len()], *text.as_bytes(), "{text}");
+        answer
+    }
+
+    fn answer(rt: &impl Abort, site: &mut FileSite<'_>, step: Step) -> Result<u64, Failed> {
         match step {
-            Step::Put(chunk) => site.put(chunk.as_bytes()).map(|()| 0),
+            Step::Put(chunk) => without_number(site.put(chunk.as_bytes())),
             Step::Len(file) => site.file_len(file),
-            Step::Read(file, at, text) => {
-                let mut buf = *b"........";
-                assert!(rt; text.len() <= buf.len());
-                let answer = site.read_at(file, at, &mut buf[..text.len()]);
-                assert_eq!(rt; buf[..text.len()], *text.as_bytes(), "{text}");
-                answer.map(|n| n as u64)
-            }
-            Step::Write(file, at, chunk) => site.write_at(file, at, chunk.as_bytes()).map(|()| 0),
-            Step::Cut(file, len) => site.cut(file, len).map(|()| 0),
-            Step::Sync(file) => site.sync(file).map(|()| 0),
+            Step::Read(file, at, text) => with_number(read(rt, site, file, at, text)),
+            Step::Write(file, at, chunk) => without_number(site.write_at(
+                file,
+                at,
+                chunk.as_bytes(),
+            )),
+            Step::Cut(file, len) => without_number(site.cut(file, len)),
+            Step::Sync(file) => without_number(site.sync(file)),
         }
+    }
+
+    fn check_answers(
+        rt: &impl Abort,
+        site: &mut FileSite<'_>,
+        steps: &[(Step, Result<u64, Failed>)],
+    ) {
+        for (at, (step, wanted)) in steps.iter().enumerate() {
+            assert_eq!(rt; answer(rt, site, *step), *wanted, "call {at}");
+        }
+    }
+
+    // Makes calls on the files of a folder, and tells how many were counted as faults.
+    fn faults_in(
+        abort: &impl Abort,
+        rt: &HostRuntime,
+        folder: &str,
+        steps: &[(Step, Result<u64, Failed>)],
+    ) -> Result<u64, Fail> {
+        let mut site = site_in(rt, folder)?;
+        check_answers(abort, &mut site, steps);
+        Ok(site.faults)
+    }
+
+    // The faults in a new folder, and how many files it then has.
+    fn calls_in(abort: &impl Abort, rt: &HostRuntime, folder: &str) -> Result<(u64, usize), Fail> {
+        make_empty(rt, folder)?;
+        let faults = faults_in(abort, rt, folder, &STEPS)?;
+        let files = fs::read_dir(rt, folder)?.count();
+        fs::remove_dir_all(rt, folder)?;
+        Ok((faults, files))
     }
 
     #[test]
     fn files(rt: HostRuntime) -> Result<(), Fail> {
-        let folder = empty_folder(&rt)?;
-        let mut site = site_in(&rt, &folder)?;
-        for (at, (step, wanted)) in STEPS.iter().enumerate() {
-            assert_eq!(rt; answer(&rt, &mut site, *step), *wanted, "call {at}");
-        }
-        assert_eq!(rt; fs::read_dir(&rt, folder.as_str())?.count(), 2);
-        fs::remove_dir_all(&rt, folder.as_str())?;
+        let folder = folder_name(&rt)?;
+        assert_eq!(rt; calls_in(&rt, &rt, &folder)?, (0, 2));
         Ok(())
     }
 
     #[test]
     fn no_folder(rt: HostRuntime) -> Result<(), Fail> {
-        let mut site = site_in(&rt, "/road_io/no/folder")?;
-        for (at, (step, wanted)) in STEPS_NOWHERE.iter().enumerate() {
-            assert_eq!(rt; answer(&rt, &mut site, *step), *wanted, "call {at}");
-        }
-        assert_eq!(rt; site.faults, 2);
+        assert_eq!(rt;
+            faults_in(&rt, &rt, "/road_io/no/folder", &STEPS_NOWHERE)?,
+            2
+        );
         Ok(())
     }
 }

@@ -1,5 +1,5 @@
 //! Calls on a site, for the tests.
-use crate::Which;
+use crate::{Failed, Which};
 
 /// A call. A read has as much room as its text is long, which is what the buffer of dots holds behind it.
 #[derive(Clone, Copy)]
@@ -10,4 +10,20 @@ pub enum Step {
     Write(Which, u64, &'static str),
     Cut(Which, u64),
     Sync(Which),
+}
+
+/// The answer of a call that gives no number, with 0 for one.
+pub fn without_number(answer: Result<(), Failed>) -> Result<u64, Failed> {
+    match answer {
+        Ok(()) => Ok(0),
+        Err(failed) => Err(failed),
+    }
+}
+
+/// The answer of a read.
+pub fn with_number(answer: Result<usize, Failed>) -> Result<u64, Failed> {
+    match answer {
+        Ok(n) => Ok(n as u64),
+        Err(failed) => Err(failed),
+    }
 }
