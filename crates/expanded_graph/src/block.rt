@@ -10,7 +10,6 @@ ghost use Rattle.way_lines.specs.RoadLines.{line_node};
 ghost use Rattle.way_pieces.specs.RoadPieces.{AreSpans};
 ghost use Rattle.expanded_graph.specs.Tables.{AreTables};
 
-use crate::builder::GraphBuilder;
 use crate::pieces::pieces_along;
 use crate::tables::Tables;
 use road_base::{NoMemory, Steps, WayId};
@@ -35,13 +34,22 @@ pub fn build_block<M: World, P: Profile, L: Ledger>(
         × IsTrue (rises place_cmp (map (λ p. p.name) b.pieces))) }
     ensures tick { steps.new ≡ steps.old + 1 }
 {
-    match GraphBuilder::of(alloc, world, *profile, &[way]) {
-        Ok(builder) => builder.block(way, steps),
-        Err(NoMemory) => {
-            steps.tick();
-            Err(NoMemory)
-        }
-    }
+    steps.tick();
+    block_alone(alloc, &Network::new(world, *profile), way)
+}
+
+/// The block of the way, built from tables for it alone.
+pub fn block_alone<M: World, P: Profile>(
+    alloc: Global,
+    network: &Network<'_, M, P>,
+    way: WayId,
+) -> Result<Block, NoMemory>
+    ensures block { IfOk result (on network.now IsBlock way) }
+    ensures form { IfOk result (λ b. AllByRecursion IsPieceForm b.pieces
+        × IsTrue (rises place_cmp (map (λ p. p.name) b.pieces))) }
+{
+    let tables = Tables::of(alloc, network, &[way])?;
+    block_of(alloc, network, &tables, way)
 }
 
 /// The block of one of the ways that the tables serve.

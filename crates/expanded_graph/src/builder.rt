@@ -6,7 +6,7 @@ ghost use Rattle.road_model.specs.Blocks.{IsBlock};
 ghost use Rattle.road_model.specs.Format.{IsPieceForm, place_cmp};
 ghost use Rattle.road_model.specs.Networks.{on};
 
-use crate::block::block_of;
+use crate::block::{block_alone, block_of};
 use crate::tables::Tables;
 use road_base::{NoMemory, Steps, WayId};
 use road_model::{Block, Network, Profile, World};
@@ -85,7 +85,6 @@ impl<'a, M: World, P: Profile> GraphBuilder<'a, M, P> {
         if self.tables.serve(way) {
             return block_of(self.alloc, &self.network, &self.tables, way);
         }
-        let own = Tables::of(self.alloc, &self.network, &[way])?;
-        block_of(self.alloc, &self.network, &own, way)
+        block_alone(self.alloc, &self.network, way)
     }
 }

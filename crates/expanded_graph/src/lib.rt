@@ -5,7 +5,7 @@
 //! that meet them, each once, with their lines (`way_pieces::RoadPieces`); for each node where pieces of given ways
 //! end, what its tags say and what leaves it; one automaton (`turn_automata`) of the words of restrictions that matter
 //! on the given ways; and its states in which contexts of two pieces or more may end, sorted by the piece that they end
-//! with. A builder for all roads keeps no lines. `build_block` makes a builder for its way alone.
+//! with. A builder for all roads keeps no lines. `build_block` finds all this for its way alone.
 //!
 //! The words that matter are those of the relations of the given ways, and of the ways on which these words have
 //! steps; each relation is judged once. Each state of the automaton is looked at once, in the time of the references

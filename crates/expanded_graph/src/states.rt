@@ -5,7 +5,10 @@ ghost use Rattle.road_base.specs.declared.ids.Step.{Step};
 ghost use Rattle.turn_automata.specs.Machines.{StandsFor};
 ghost use Rattle.road_base.specs.declared.ids.WayId.{WayId};
 ghost use Rattle.road_model.specs.Networks.{on};
+ghost use Rattle.road_model.specs.Words.{IsWord};
+ghost use Rattle.restrictions.specs.declared.word_list.Word.{Word};
 ghost use Rattle.way_pieces.specs.RoadPieces.{AreRoadPieces};
+ghost use Rattle.expanded_graph.specs.Near.{AreWordsNear};
 ghost use Rattle.expanded_graph.specs.Known.{NamesEnd, IsKnown, AreKnown, AreAllShort, IsDriven};
 ghost use Rattle.expanded_graph.specs.States.{AreStates};
 
@@ -51,14 +54,56 @@ impl States {
     {
         words_on_ways(&network.profile);
         context_steps(&network.profile);
-        let words = words_near(alloc, network, ways)?;
-        let automaton = Automaton::of(alloc, &words)?;
+        let automaton = automaton_near(alloc, network, ways)?;
         automaton.closed();
-        let others = ways_apart(alloc, pieces, &automaton)?;
-        let further = RoadPieces::of(alloc, network, others.as_slice())?;
-        let facts = facts_of(alloc, network, pieces, &further, &automaton)?;
+        let facts = state_facts(alloc, network, pieces, &automaton)?;
         Ok(States { automaton, facts })
     }
+}
+
+/// The automaton of the words near these ways.
+fn automaton_near<M: World, P: Profile>(
+    alloc: Global,
+    network: &Network<'_, M, P>,
+    ways: &[WayId],
+) -> Result<Automaton, NoMemory>
+    ensures words { IfOk result (λ a. (u : Word) → Contains a.words u
+        → on network.now IsWord u.relation u.only u.binding u.steps) }
+    ensures near { IfOk result (λ a. (w : WayId) → Contains ways.now w
+        → on network.now AreWordsNear w a.words) }
+{
+    let words = words_near(alloc, network, ways)?;
+    Automaton::of(alloc, &words)
+}
+
+/// What is known of each state. The pieces that their steps end are looked for among the given ones; the ways that
+/// have none there are cut first.
+fn state_facts<M: World, P: Profile>(
+    alloc: Global,
+    network: &Network<'_, M, P>,
+    pieces: &RoadPieces,
+    automaton: &Automaton,
+) -> Result<Vec<StateFacts>, NoMemory>
+    requires short { AreAllShort automaton.now.states }
+    requires pieces { on network.now AreRoadPieces pieces.now }
+    ensures count { IfOk result (λ v. length v.items ≡ length automaton.now.states) }
+    ensures known { IfOk result (λ v. on network.now AreKnown automaton.now v.items) }
+{
+    let further = pieces_apart(alloc, network, pieces, automaton)?;
+    facts_of(alloc, network, pieces, &further, automaton)
+}
+
+/// The ways of states' last steps that aren't found among the pieces, cut into pieces.
+fn pieces_apart<M: World, P: Profile>(
+    alloc: Global,
+    network: &Network<'_, M, P>,
+    pieces: &RoadPieces,
+    automaton: &Automaton,
+) -> Result<RoadPieces, NoMemory>
+    ensures { IfOk result (on network.now AreRoadPieces) }
+{
+    let others = ways_apart(alloc, pieces, automaton)?;
+    RoadPieces::of(alloc, network, others.as_slice())
 }
 
 /// The ways of states' last steps that aren't found among the pieces, each once, ascending.

@@ -1,9 +1,12 @@
 //! What is found once before blocks are built.
 ghost use Rattle.std.specs.Prelude.{◌≡◌, IfOk, IsTrue, Contains};
+ghost use Rattle.road_base.specs.declared.ids.WayId.{WayId};
 ghost use Rattle.road_model.specs.Networks.{on};
 ghost use Rattle.way_pieces.specs.RoadPieces.{AreRoadPieces};
-ghost use Rattle.expanded_graph.specs.Tables.{AreTables};
+ghost use Rattle.expanded_graph.specs.Contexts.{AreEndings};
 ghost use Rattle.expanded_graph.specs.Intersections.{AreIntersections};
+ghost use Rattle.expanded_graph.specs.States.{AreStates};
+ghost use Rattle.expanded_graph.specs.Tables.{AreTables};
 
 use crate::endings::{Ending, endings_of};
 use crate::intersections::Intersections;
@@ -72,12 +75,11 @@ impl Tables {
         ensures are { IfOk result (on network.now AreTables) }
         ensures ways { IfOk result (λ t. t.ways.items ≡ ways.now) }
     {
-        let states = States::of(alloc, network, &pieces, ways)?;
-        let endings = endings_of(alloc, &states)?;
-        let ways = ways.to_vec(alloc)?;
-        let ranges = Ranges::of(alloc, ways.as_slice());
+        let served = ways.to_vec(alloc)?;
+        let (states, endings) = states_with_endings(alloc, network, &pieces, ways)?;
+        let ranges = Ranges::of(alloc, served.as_slice());
         Ok(Tables {
-            ways,
+            ways: served,
             ranges,
             pieces,
             intersections,
@@ -95,6 +97,23 @@ impl Tables {
             None => false,
         }
     }
+}
+
+/// The states on these ways, and those in which contexts may end.
+fn states_with_endings<M: World, P: Profile>(
+    alloc: Global,
+    network: &Network<'_, M, P>,
+    pieces: &RoadPieces,
+    ways: &[WayId],
+) -> Result<(States, Vec<Ending>), NoMemory>
+    requires { on network.now AreRoadPieces pieces.now }
+    ensures states { IfOk result (λ r. (w : WayId) → Contains ways.now w
+        → on network.now AreStates w r.0.automaton.words r.0.automaton.states r.0.facts.items) }
+    ensures endings { IfOk result (λ r. AreEndings r.0.automaton r.0.facts.items r.1.items) }
+{
+    let states = States::of(alloc, network, pieces, ways)?;
+    let endings = endings_of(alloc, &states)?;
+    Ok((states, endings))
 }
 
 /// The ways and those that meet them at some node, each once, ascending.

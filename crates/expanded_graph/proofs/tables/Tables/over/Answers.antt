@@ -2,16 +2,13 @@
 use Rattle.std.proofs.Common.{◌≡◌, subst, Contains}
 use Rattle.expanded_graph.proofs.tables.Tables.over.Goals as goal
 
-pub endings_of-requires : goal.endings_of-requires
-endings_of-requires g c = c.in_ok-states.ensures.count
-
 pub returns-clause-are : goal.returns-clause-are
 returns-clause-are g c =
-    let same : c.in_ok-ways.ways.items ≡ c.args.ways.now =
-    c.in_ok-ways.ensures.items_if_clones_equal (λ x y is. is) in
+    let same : c.in_ok-served.served.items ≡ c.args.ways.now =
+    c.in_ok-served.ensures.items_if_clones_equal (λ x y is. is) in
     record {
       pieces = c.requires.pieces;
       intersections = c.requires.intersections;
       states = λ w has. c.in_ok-states.ensures.states w (subst (λ l. Contains l w) same has);
-      endings = c.in_ok-endings.ensures;
+      endings = c.in_ok-states.ensures.endings;
     }
