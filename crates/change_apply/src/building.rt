@@ -51,10 +51,25 @@ fn blocks_of<P: Profile, L: Ledger>(
 {
     one_block(&profile);
     let builder = GraphBuilder::of_all(alloc, world, profile, ways)?;
+    build_each(alloc, &builder, ways, steps)
+}
+
+/// The same, by what builds the blocks of these ways.
+fn build_each<P: Profile, L: Ledger>(
+    alloc: Global,
+    builder: &GraphBuilder<'_, Indexed, P>,
+    ways: &[WayId],
+    steps: &mut Steps<L>,
+) -> Result<Blocks, NoMemory>
+    requires { AreRoadWays builder.now.world (P.rules builder.now.profile) ways.now }
+    ensures blocks { IfOk result (λ blocks. OneBlock builder.now.world (P.rules builder.now.profile)
+        → AreKept builder.now.world (P.rules builder.now.profile) (get blocks.map)) }
+    ensures few { steps.new ≤ steps.old + length ways.now }
+{
     let mut blocks = Blocks::new(alloc);
     blocks.reserve(ways.len())?;
     for way in ways {
-        add_block(&builder, *way, &mut blocks, steps)?;
+        add_block(builder, *way, &mut blocks, steps)?;
     }
     Ok(blocks)
 }
@@ -96,11 +111,27 @@ pub fn rebuild<M: World, P: Profile, L: Ledger>(
     ensures each { OnOk result (steps.new ≡ steps.old + length ways.now) }
     ensures few { steps.new ≤ steps.old + length ways.now }
 {
-    name_order();
     let builder = GraphBuilder::of(alloc, world, profile, ways)?;
+    rebuild_each(alloc, &builder, ways, rebuilt, steps)
+}
+
+/// The same, by what builds the blocks of these ways.
+fn rebuild_each<M: World, P: Profile, L: Ledger>(
+    alloc: Global,
+    builder: &GraphBuilder<'_, M, P>,
+    ways: &[WayId],
+    rebuilt: &SharedMap<WayId, Block>,
+    steps: &mut Steps<L>,
+) -> Result<SharedMap<WayId, Block>, NoMemory>
+    ensures rebuilt { IfOk result (λ r. AreRebuilt (M.objects builder.now.world) (P.rules builder.now.profile) ways.now
+        rebuilt.now r) }
+    ensures each { OnOk result (steps.new ≡ steps.old + length ways.now) }
+    ensures few { steps.new ≤ steps.old + length ways.now }
+{
+    name_order();
     let mut next = rebuilt.share()?;
     for way in ways {
-        next = rebuild_one(alloc, &builder, *way, next, steps)?;
+        next = rebuild_one(alloc, builder, *way, next, steps)?;
     }
     Ok(next)
 }

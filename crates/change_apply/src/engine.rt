@@ -4,6 +4,7 @@ ghost use Rattle.std.specs.Borrow.{sem};
 ghost use Rattle.std.specs.Io.BufRead.{Rests};
 ghost use Rattle.std.specs.List.{AllByRecursion};
 ghost use Rattle.std.specs.FinMap.{empty, get, values};
+ghost use Rattle.road_base.specs.declared.event.Event.{Event as EventValue};
 ghost use Rattle.road_base.specs.declared.ids.WayId.{WayId as WayNumber};
 ghost use Rattle.road_base.specs.Objects.{Objects};
 ghost use Rattle.road_base.specs.Applying.{IsApplied};
@@ -13,13 +14,13 @@ ghost use Rattle.road_model.specs.BlockMap.{AreBlocksOf};
 ghost use Rattle.road_model.specs.Blocks.{IsRoadBlock};
 ghost use Rattle.road_model.specs.Format.{IsBlockForm};
 ghost use Rattle.road_model.specs.Orders.{Lists, way_cmp};
-ghost use Rattle.change_apply.specs.Engines.{BuildsTouched, Touches};
+ghost use Rattle.change_apply.specs.Engines.{AreKept, BuildsTouched, Touches};
 ghost use Rattle.change_apply.specs.Rebuilding.{AreAtTheirWays, block_at};
 
-use crate::building::{build, rebuild_touched};
+use crate::building::{Rebuilt, build, rebuild_touched};
 use crate::listing::list_rebuilt;
 use crate::touching::touched_by;
-use back_references::{Indexed, Next};
+use back_references::{Indexed, Next, Prepared};
 use object_store::SharedMap;
 use road_base::laws::one_map;
 use road_base::{Event, NoMemory, Steps, WayId};
@@ -122,21 +123,16 @@ impl<P: Profile> Engine<P> {
         ensures built { BuildsTouched self.old.world events.now steps.old steps.new }
     {
         one_map();
-        name_order();
         let prepared = self.graph.world.prepare(events)?;
-        let touched = touched_by(self.alloc, &self.graph.world, &prepared)?;
-        let next = Next::of(&self.graph.world, &prepared);
-        let rebuilt = rebuild_touched(
+        let (rebuilt, touched) = rebuild_after(
             self.alloc,
-            &next,
-            self.graph.profile,
-            &touched,
-            &self.graph.blocks,
+            &self.graph,
             &self.rebuilt,
+            &prepared,
             steps,
         )?;
         let report = Report {
-            touched: touched.all.items().len() as u64,
+            touched,
             rebuilt: rebuilt.count,
         };
         self.graph.world.commit(prepared);
@@ -174,6 +170,48 @@ impl<P: Profile> Engine<P> {
         let _items = self.graph.blocks.items();
         Ok(&self.graph)
     }
+}
+
+/// The blocks that were built since the others were listed, with those that the prepared change alters, and how many
+/// ways it touches.
+fn rebuild_after<P: Profile, L: Ledger>(
+    alloc: Global,
+    graph: &RoadGraph<P>,
+    rebuilt: &SharedMap<WayId, Block>,
+    prepared: &Prepared,
+    steps: &mut Steps<L>,
+) -> Result<(Rebuilt, u64), NoMemory>
+    requires { prepared.now.before ≡ graph.now.world }
+    ensures kept { IfOk result (λ r.
+        AreKept graph.now.world (P.rules graph.now.profile) (block_at rebuilt.now graph.now.blocks.map)
+        → AreKept prepared.now.after (P.rules graph.now.profile) (block_at r.0.blocks graph.now.blocks.map)) }
+    ensures at_ways { IfOk result (λ r. AreAtTheirWays rebuilt.now → AreAtTheirWays r.0.blocks) }
+    ensures touched { IfOk result (λ r. (ways : List WayNumber)
+        → AreTouched graph.now.world prepared.now.after ways
+        → r.1 ≡ length ways) }
+    ensures count { IfOk result (λ r. steps.new ≡ steps.old + r.0.count) }
+    ensures few { IfOk result (λ r. r.0.count ≤ r.1) }
+    ensures ways { OnOk result ((events : List EventValue)
+        → IsApplied graph.now.world events prepared.now.after
+        → Touches graph.now.world events) }
+    ensures built { (events : List EventValue)
+        → IsApplied graph.now.world events prepared.now.after
+        → BuildsTouched graph.now.world events steps.old steps.new }
+{
+    name_order();
+    let touched = touched_by(alloc, &graph.world, prepared)?;
+    let next = Next::of(&graph.world, prepared);
+    let profile = graph.profile;
+    let rebuilt = rebuild_touched(
+        alloc,
+        &next,
+        profile,
+        &touched,
+        &graph.blocks,
+        rebuilt,
+        steps,
+    )?;
+    Ok((rebuilt, touched.all.items().len() as u64))
 }
 
 /// Lists the blocks that were built since among the others, so that none is left. Where no memory is found nothing
