@@ -5,10 +5,10 @@ mod FollowedNodes
 mod LinkRounds
 mod WayLists
 mod SamePieces
-mod PlainWays
-mod PlainTurns
-mod PlainContexts
-mod PlainArcs
-mod PlainBlocks
+mod StillWays
+mod StillTurns
+mod StillContexts
+mod StillArcs
+mod StillBlocks
 mod NearLists
 mod MetWays

@@ -1,7 +1,7 @@
--- Ways near what a change changes, and those whose blocks it may alter.
-use Rattle.std.proofs.Common.{◌≡◌, ◌↔◌, ℕ, ◌+◌, ◌⊎◌, inl, inr, Bool, true, false, not, IsTrue, IsFalse}
-use Rattle.std.proofs.Common.{List, [], ◌∷◌, ◌++◌, ◌==◌, length, map, refl, sym, ap, ◌∙◌, subst, arith, Contains}
-use Rattle.std.proofs.Common.{Result, Ok, Err, is_ok, eqb-true}
+-- Ways near what a change changes, with those that a restriction names beside them.
+use Rattle.std.proofs.Common.{◌≡◌, ◌↔◌, ℕ, ◌+◌, ◌⊎◌, inl, inr, Bool, not, IsTrue}
+use Rattle.std.proofs.Common.{List, [], ◌∷◌, ◌++◌, length, map, refl, sym, ap, ◌∙◌, subst, arith, Contains}
+use Rattle.std.proofs.Common.{Result, Ok, Err, is_ok}
 use Rattle.std.specs.declared.cmp.Ordering.TheVariants.{Less, Greater}
 use Rattle.std.specs.Cmp.{IsTotalOrder}
 use Rattle.std.specs.FinMap.{IsAntisymmetric}
@@ -9,22 +9,18 @@ use Rattle.std.specs.List.{AllWithin}
 use Rattle.std.specs.List.Sorted.{IsSearchInRange, IsBinarySearchResult}
 use Rattle.std.proofs.lemmas.Bool.{cases_lt, false≢true}
 use Rattle.std.proofs.lemmas.Cmp.{tied_itself}
-use Rattle.std.proofs.lemmas.List.{nil_from_length}
 use Rattle.road_base.specs.declared.ids.WayId.{WayId}
-use Rattle.road_base.specs.declared.ids.RelationId.{RelationId}
 use Rattle.road_base.specs.declared.ids.Key.{Key}
 use Rattle.road_base.specs.declared.ids.Key.TheVariants.{Way as WayKey}
 use Rattle.road_base.specs.Objects.{Objects}
-use Rattle.road_base.proofs.ListMembers.{In, in_from_contains, contains_from_in, contains_none}
-use Rattle.road_model.specs.Links.{HasMember, IsTouched, AreChanged, AreTouched}
+use Rattle.road_base.proofs.ListMembers.{contains_none}
+use Rattle.road_model.specs.Links.{IsTouched, AreChanged, AreTouched}
 use Rattle.road_model.specs.Local.{IsSameWithin}
-use Rattle.road_model.specs.Orders.{Lists, rises, way_cmp, relation_cmp}
+use Rattle.road_model.specs.Orders.{Lists, rises, way_cmp}
 use Rattle.road_model.proofs.JoinedLists.{lists_same}
 use Rattle.road_model.proofs.SortedMaps.{search_below, search_behind}
-use Rattle.road_model.proofs.Decided.{Decided, some_in}
-use Rattle.road_model.proofs.Positions.{decided_way}
 use Rattle.touched_ways.specs.declared.search.Search.{Search}
-use Rattle.touched_ways.specs.Altering.{AreParted, AreWithin, IsFar, IsUnrestricted}
+use Rattle.touched_ways.specs.Altering.{AreParted, AreSplit, AreWithin, HereOrBeside, IsNearChange}
 use Rattle.touched_ways.specs.Searches.{IsWithinAny, IsRound}
 use Rattle.touched_ways.proofs.WayLists.{same, one_longer, was_or_last, still_has, last_has}
 
@@ -70,115 +66,107 @@ module _ (total : IsTotalOrder way_cmp) (ties : IsAntisymmetric way_cmp) (ways :
       (subst (λ (l : List WayId). IsBinarySearchResult (λ v. way_cmp v w) l r) e position) in
       (λ h. f.0 (sym is ∙ h), λ c. is ∙ f.1 c)
 
--- a way is in a list or it isn't
-listed : (ways : List WayId) (w : WayId) → Decided (Contains ways w)
-listed ways w = elim (some_in (λ v. v ≡ w) (λ v. decided_way v w) ways) [
-  | inl s ↦ inl (contains_from_in ways w (subst (λ v. In v ways) s.2 s.1))
-  | inr none ↦ inr (λ has. none w (in_from_contains ways w has) refl)
-]
-
--- ---- restrictions that name a way
-
-module _ (M : Objects) (w : WayId) (rules : List RelationId)
-    (lists : Lists (λ r. r) relation_cmp (λ r. HasMember M r (WayKey w)) rules) where
-  -- where those that name the way are none
-  none_listed : rules ≡ [] → IsUnrestricted M w
-  none_listed empty r h = contains_none r (subst (λ l. Contains l r) empty (lists.complete r h))
-
-  -- where a test of their list says so
-  pub unrestricted : (empty : Bool) → empty ≡ (length rules == 0) → IsFalse (not empty) → IsUnrestricted M w
-  unrestricted true same some = none_listed (nil_from_length rules (eqb-true _ _ (sym same)))
-  unrestricted false same some = absurd (false≢true (sym some))
-
 -- ---- the parts of a list
 
--- the way is near nothing that a change changes, and no restriction names it
-abbrev pub IsLeftOut : Objects → List WayId → List WayId → WayId → Type 0
-IsLeftOut N before after w = (Contains before w → ⊥) × (Contains after w → ⊥) × IsUnrestricted N w
-
--- each way of the list is in one of two others, and was left out if it isn't in the first
-pub record AreInTwo (N : Objects) (before after list near far : List WayId) : Type 0 where
-  pub count : length near + length far ≡ length list
-  pub either : (w : WayId) → Contains list w → Contains near w ⊎ (Contains far w × IsLeftOut N before after w)
-
-module _ (N : Objects) (before after : List WayId) where
+module _ (close : List WayId) where
   -- no ways have no parts
-  pub parted_none : (near far : List WayId) → near ≡ [] → far ≡ [] → AreInTwo N before after [] near far
+  pub parted_none : (near far : List WayId) → near ≡ [] → far ≡ [] → AreSplit close [] near far
   parted_none near far no_near no_far = record {
     count = cc (ap length no_near, ap length no_far);
+    first = λ w has. absurd (contains_none w (subst (λ l. Contains l w) no_near has));
+    second = λ w has. absurd (contains_none w (subst (λ l. Contains l w) no_far has));
     either = λ w has. absurd (contains_none w has);
   }
 
   module _ (list more near far : List WayId) (way : WayId) (longer : more ≡ list ++ way ∷ [])
-      (are : AreInTwo N before after list near far) where
+      (are : AreSplit close list near far) where
     -- the last way goes into the first part
-    pub parted_near : (pushed next others : List WayId) → pushed ≡ near ++ way ∷ [] → next ≡ pushed → others ≡ far
-        → AreInTwo N before after more next others
-    parted_near pushed next others last_in same alike =
-        subst (λ l. AreInTwo N before after more next l) (sym alike)
-        (subst (λ l. AreInTwo N before after more l far) (sym same) (record { count = count; either = either }))
+    pub parted_near : Contains close way → (pushed next others : List WayId) → pushed ≡ near ++ way ∷ []
+        → next ≡ pushed → others ≡ far → AreSplit close more next others
+    parted_near is pushed next others last_in same alike =
+        subst (λ l. AreSplit close more next l) (sym alike)
+        (subst (λ l. AreSplit close more l far) (sym same) (record {
+          count = count;
+          first = λ w has. elim (was_or_last near pushed way last_in w has)
+              [ inl earlier ↦ are.first w earlier | inr last ↦ subst (Contains close) (sym last) is ];
+          second = are.second;
+          either = λ w has. elim (was_or_last list more way longer w has) [
+            | inl earlier ↦ elim (are.either w earlier)
+                [ inl here ↦ inl (still_has near pushed way last_in w here) | inr there ↦ inr there ]
+            | inr last ↦ inl (last_has near pushed way last_in w last)
+          ];
+        }))
       where
         count : length pushed + length far ≡ length more
         count = let so_far = are.count in
             omega (arith, one_longer list more way longer, one_longer near pushed way last_in)
 
-        either : (w : WayId) → Contains more w → Contains pushed w ⊎ (Contains far w × IsLeftOut N before after w)
-        either w has = elim (was_or_last list more way longer w has) [
-          | inl earlier ↦ elim (are.either w earlier)
-              [ inl is ↦ inl (still_has near pushed way last_in w is) | inr out ↦ inr out ]
-          | inr last ↦ inl (last_has near pushed way last_in w last)
-        ]
-
-    -- the last way, left out, goes into the second
-    pub parted_far : IsLeftOut N before after way → (pushed next others : List WayId) → pushed ≡ far ++ way ∷ []
-        → next ≡ pushed → others ≡ near → AreInTwo N before after more others next
+    -- the last way goes into the second
+    pub parted_far : (Contains close way → ⊥) → (pushed next others : List WayId) → pushed ≡ far ++ way ∷ []
+        → next ≡ pushed → others ≡ near → AreSplit close more others next
     parted_far out pushed next others last_in same alike =
-        subst (λ l. AreInTwo N before after more l next) (sym alike)
-        (subst (λ l. AreInTwo N before after more near l) (sym same) (record { count = count; either = either }))
+        subst (λ l. AreSplit close more l next) (sym alike)
+        (subst (λ l. AreSplit close more near l) (sym same) (record {
+          count = count;
+          first = are.first;
+          second = λ w has. elim (was_or_last far pushed way last_in w has)
+              [ inl earlier ↦ are.second w earlier | inr last ↦ λ is. out (subst (Contains close) last is) ];
+          either = λ w has. elim (was_or_last list more way longer w has) [
+            | inl earlier ↦ elim (are.either w earlier)
+                [ inl here ↦ inl here | inr there ↦ inr (still_has far pushed way last_in w there) ]
+            | inr last ↦ inr (last_has far pushed way last_in w last)
+          ];
+        }))
       where
         count : length near + length pushed ≡ length more
         count = let so_far = are.count in
             omega (arith, one_longer list more way longer, one_longer far pushed way last_in)
 
-        either : (w : WayId) → Contains more w → Contains near w ⊎ (Contains pushed w × IsLeftOut N before after w)
-        either w has = elim (was_or_last list more way longer w has) [
-          | inl earlier ↦ elim (are.either w earlier)
-              [ inl is ↦ inl is | inr other ↦ inr (still_has far pushed way last_in w other.0, other.1) ]
-          | inr last ↦
-              inr (last_has far pushed way last_in w last, subst (IsLeftOut N before after) (sym last) out)
-        ]
+-- ---- the ways that a change touches, in two parts
 
-  -- the ways that a change touches, in two parts
-  module _ (M : Objects) (keys : List Key) (all near away : List WayId) (are : AreInTwo N before after all near away)
-      (changed : AreChanged M N keys) (was : AreWithin 2 M keys before) (is : AreWithin 2 N keys after)
-      (touched : AreTouched M N all) where
-    -- a way that was left out is far from what the change changes
-    same_within : (w : WayId) → IsLeftOut N before after w → IsSameWithin 2 M N w
-    same_within w out (k, differs, near_by) = elim near_by [
-      | inl here ↦ out.0 (was.complete w (k, changed.complete k differs, here))
-      | inr there ↦ out.1 (is.complete w (k, changed.complete k differs, there))
-    ]
+-- what is near a change is touched by it
+near_touched : (M N : Objects) (w : WayId) → IsNearChange M N w → IsTouched M N w
+near_touched M N w (k, differs, near_by) = (
+  k,
+  differs,
+  elim near_by
+      [ inl here ↦ inl (inl (inl (inl (inl here)))) | inr there ↦ inr (inl (inl (inl (inl there)))) ],
+)
 
-    far_by : (w : WayId) → (Contains near w → ⊥) → Decided (Contains all w) → IsFar M N w
-    far_by w not (inl has) = elim (are.either w has) [
-      | inl here ↦ absurd (not here)
-      | inr other ↦ inr (same_within w other.1, other.1.2)
-    ]
-    far_by w not (inr none) = inl (λ touches. none (touched.complete w touches))
+module _ (M N : Objects) (keys : List Key) (before after both close all near away : List WayId)
+    (are : AreSplit close all near away)
+    (lists : Lists (λ w. w) way_cmp (λ w. Contains before w ⊎ Contains after w) both)
+    (beside : Lists (λ w. w) way_cmp (HereOrBeside N (Contains both)) close) (changed : AreChanged M N keys)
+    (was : AreWithin 2 M keys before) (is : AreWithin 2 N keys after) (touched : AreTouched M N all) where
+  near_change : (w : WayId) → Contains both w → IsNearChange M N w
+  near_change w has = elim (lists.sound w has) [
+    | inl i ↦ let r = was.sound w i in (r.0, changed.sound r.0 r.1, inl r.2)
+    | inr i ↦ let r = is.sound w i in (r.0, changed.sound r.0 r.1, inr r.2)
+  ]
 
-    either_touched : (w : WayId) → (Contains near w → ⊥) → (Contains away w → ⊥) → IsTouched M N w → ⊥
-    either_touched w not none touches = elim (are.either w (touched.complete w touches))
-        [ inl here ↦ not here | inr other ↦ none other.0 ]
+  in_both : (w : WayId) → IsNearChange M N w → Contains both w
+  in_both w (k, differs, near_by) = lists.complete w (elim near_by [
+    | inl here ↦ inl (was.complete w (k, changed.complete k differs, here))
+    | inr there ↦ inr (is.complete w (k, changed.complete k differs, there))
+  ])
 
-    parted : AreParted M N all near away
-    parted = record {
-      count = are.count;
-      touched = touched;
-      far = λ w not. far_by w not (listed all w);
-      others = λ w not none. either_touched w not none;
-    }
+  close_by : (w : WayId) → Contains near w → HereOrBeside N (IsNearChange M N) w
+  close_by w has = elim (beside.sound w (are.first w has)) [
+    | inl here ↦ inl (near_change w here)
+    | inr other ↦ inr (other.0, other.1, near_change other.0 other.2)
+  ]
 
-    -- in lists made of them
-    pub parted_as : (these those : List WayId) → these ≡ near → those ≡ away → AreParted M N all these those
-    parted_as these those same alike = subst (λ l. AreParted M N all l those) (sym same)
-        (subst (λ l. AreParted M N all near l) (sym alike) parted)
+  far_by : (w : WayId) → (Contains near w → ⊥) → IsSameWithin 2 M N w
+  far_by w not change = elim (are.either w (touched.complete w (near_touched M N w change)))
+      [ inl here ↦ not here | inr there ↦ are.second w there (beside.complete w (inl (in_both w change))) ]
+
+  pub parted : AreParted M N all near away
+  parted = record {
+    count = are.count;
+    touched = touched;
+    close = close_by;
+    far = far_by;
+    beside = λ w v isaway named change. are.second w isaway (beside.complete w (inr (v, named, in_both v change)));
+    others = λ w not none touches. elim (are.either w (touched.complete w touches))
+        [ inl here ↦ not here | inr there ↦ none there ];
+  }

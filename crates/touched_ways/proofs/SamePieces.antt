@@ -1,6 +1,6 @@
 -- When a way has the same pieces before and after a change: where nothing near it differs, and where its blocks list
 -- the same ones.
-use Rattle.std.proofs.Common.{◌≡◌, ℕ, inl, inr, sym, ap, ◌∙◌, subst, Contains}
+use Rattle.std.proofs.Common.{◌≡◌, ℕ, sym, ap, ◌∙◌, subst, Contains}
 use Rattle.road_base.specs.declared.ids.WayId.{WayId}
 use Rattle.road_base.specs.declared.ids.Key.TheVariants.{Way as WayKey}
 use Rattle.road_base.specs.Objects.{Objects}
@@ -9,14 +9,15 @@ use Rattle.road_model.specs.declared.lists.Piece.{Piece}
 use Rattle.road_model.specs.declared.blocks.Block.{Block}
 use Rattle.road_model.specs.Rules.{Rules}
 use Rattle.road_model.specs.Pieces.{Span, IsPiece}
+use Rattle.road_model.specs.Local.{IsSameWithin}
 use Rattle.road_model.specs.Blocks.{IsPieceEntry, IsBlock, name_of}
 use Rattle.road_base.proofs.ListMembers.{contains_map, contains_from_map}
 use Rattle.road_model.proofs.UniqueEntries.{one_piece}
 use Rattle.road_model.proofs.FinitePieces.{IsOf}
 use Rattle.road_model.proofs.SomeGraph.{piece_entry, entry_named}
-use Rattle.road_model.proofs.LocalLinks.{IsAlike, alike_from, alike_turned, alike_less}
+use Rattle.road_model.proofs.LocalLinks.{IsAlike, alike_from, alike_turned}
 use Rattle.road_model.proofs.LocalPieces.{NeedsHighway, piece_kept}
-use Rattle.touched_ways.specs.Altering.{HasSamePieces, IsFar, listed_pieces}
+use Rattle.touched_ways.specs.Altering.{HasSamePieces, listed_pieces}
 
 -- ---- where all within two links is the same
 
@@ -26,11 +27,9 @@ alike_pieces M N P needs w near p of =
     let al : IsAlike M N 2 (WayKey p.way) = subst (λ v. IsAlike M N 2 (WayKey v)) (sym of) near in
     (piece_kept M N P needs p al, piece_kept N M P needs p (alike_turned M N 2 (WayKey p.way) al))
 
--- a way far from a change keeps its pieces
-pub far_pieces : (M N : Objects) (P : Rules) → NeedsHighway P → (w : WayId) → IsFar M N w → HasSamePieces M N P w
-far_pieces M N P needs w (inl untouched) = alike_pieces M N P needs w
-    (alike_less M N 2 4 (WayKey w) (alike_from M N 6 w untouched))
-far_pieces M N P needs w (inr near) = alike_pieces M N P needs w (alike_from M N 2 w near.0)
+pub far_pieces : (M N : Objects) (P : Rules) → NeedsHighway P → (w : WayId) → IsSameWithin 2 M N w
+    → HasSamePieces M N P w
+far_pieces M N P needs w same = alike_pieces M N P needs w (alike_from M N 2 w same)
 
 -- ---- where the blocks list the same pieces
 

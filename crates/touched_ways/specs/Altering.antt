@@ -1,6 +1,5 @@
--- Which blocks a change may alter. It may alter those of the ways near what it changes, and those of ways that share a
--- node with a way whose pieces it alters; those of other ways that it touches it alters only where a restriction names
--- them.
+-- Which blocks a change may alter. It may alter those of the ways near what it changes, those of ways that share a node
+-- with a way whose pieces it alters, and those of the ways that a restriction names beside one of these.
 use Rattle.std.specs.Prelude.{◌≡◌, ◌↔◌, ◌⊎◌, ℕ, ◌+◌, List, Contains, map, length}
 use Rattle.road_base.specs.declared.ids.NodeId.{NodeId}
 use Rattle.road_base.specs.declared.ids.WayId.{WayId}
@@ -12,7 +11,7 @@ use Rattle.road_model.specs.declared.lists.PieceName.{PieceName}
 use Rattle.road_model.specs.declared.blocks.Block.{Block}
 use Rattle.road_model.specs.Rules.{Rules}
 use Rattle.road_model.specs.Pieces.{Span, IsPiece}
-use Rattle.road_model.specs.Links.{RefersTo, HasMember, IsWithin, IsTouched, AreTouched}
+use Rattle.road_model.specs.Links.{RefersTo, HasMember, IsWithin, Differs, IsTouched, AreTouched}
 use Rattle.road_model.specs.Local.{IsSameWithin}
 use Rattle.road_model.specs.Orders.{Lists, way_cmp}
 
@@ -20,14 +19,21 @@ use Rattle.road_model.specs.Orders.{Lists, way_cmp}
 abbrev pub AreWithin : ℕ → Objects → List Key → List WayId → Type 0
 AreWithin n M keys ways = Lists (λ w. w) way_cmp (λ w. (k : Key) × Contains keys k × IsWithin M n k (WayKey w)) ways
 
--- no visible restriction has the way as a member
-abbrev pub IsUnrestricted : Objects → WayId → Type 0
-IsUnrestricted M w = (r : RelationId) → HasMember M r (WayKey w) → ⊥
+-- a key within two links of the way differs
+abbrev pub IsNearChange : Objects → Objects → WayId → Type 0
+IsNearChange M N w = (k : Key) × Differs M N k × (IsWithin M 2 k (WayKey w) ⊎ IsWithin N 2 k (WayKey w))
 
--- the change from M to N doesn't touch the way, or nothing within two links of the way differs and no restriction
--- names it
-abbrev pub IsFar : Objects → Objects → WayId → Type 0
-IsFar M N w = (IsTouched M N w → ⊥) ⊎ (IsSameWithin 2 M N w × IsUnrestricted N w)
+-- a visible restriction has both ways as members
+abbrev pub AreNamedTogether : Objects → WayId → WayId → Type 0
+AreNamedTogether M w v = (r : RelationId) × HasMember M r (WayKey w) × HasMember M r (WayKey v)
+
+-- the fact holds of the way, or of one that a restriction names beside it
+abbrev pub HereOrBeside : Objects → (WayId → Type 0) → WayId → Type 0
+HereOrBeside M Is w = Is w ⊎ ((v : WayId) × AreNamedTogether M w v × Is v)
+
+-- the way shares a node with one of these
+abbrev pub MeetsOne : Objects → List WayId → WayId → Type 0
+MeetsOne M ways w = (v : WayId) × (n : NodeId) × Contains ways v × RefersTo M w n × RefersTo M v n
 
 -- the way has the same pieces in M and in N
 abbrev pub HasSamePieces : Objects → Objects → Rules → WayId → Type 0
@@ -41,16 +47,28 @@ listed_pieces b = map (λ p. (p.name, p.end)) b.pieces
 abbrev pub MeetsSamePieces : Objects → Objects → Rules → WayId → Type 0
 MeetsSamePieces M N P w = (v : WayId) (n : NodeId) → RefersTo N w n → RefersTo N v n → HasSamePieces M N P v
 
--- the change from M to N doesn't touch the way; or nothing within two links of the way differs, no restriction names
--- it, and the ways that share a node with it have the same pieces
+-- nothing within two links of the way differs, and the ways that share a node with it have the same pieces
+abbrev pub IsStill : Objects → Objects → Rules → WayId → Type 0
+IsStill M N P w = IsSameWithin 2 M N w × MeetsSamePieces M N P w
+
+-- the change from M to N doesn't touch the way, or the way is still, and so is each that a restriction names beside it
 abbrev pub IsUnaltered : Objects → Objects → Rules → WayId → Type 0
 IsUnaltered M N P w =
-    (IsTouched M N w → ⊥) ⊎ (IsSameWithin 2 M N w × IsUnrestricted N w × MeetsSamePieces M N P w)
+    (IsTouched M N w → ⊥) ⊎ (IsStill M N P w × ((v : WayId) → AreNamedTogether N w v → IsStill M N P v))
 
--- The touched ways in two parts: those that are near what the change changes or that a restriction names, and the
--- others.
+-- The touched ways in two parts: those near what the change changes, with those that a restriction names beside one
+-- near, and the others.
 pub record AreParted (M N : Objects) (all near away : List WayId) : Type 0 where
   pub count : length near + length away ≡ length all
   pub touched : AreTouched M N all
-  pub far : (w : WayId) → (Contains near w → ⊥) → IsFar M N w
+  pub close : (w : WayId) → Contains near w → HereOrBeside N (IsNearChange M N) w
+  pub far : (w : WayId) → (Contains near w → ⊥) → IsSameWithin 2 M N w
+  pub beside : (w v : WayId) → Contains away w → AreNamedTogether N w v → IsSameWithin 2 M N v
   pub others : (w : WayId) → (Contains near w → ⊥) → (Contains away w → ⊥) → IsTouched M N w → ⊥
+
+-- each way of the list is in one of two others: in the first where it is among the close ones
+pub record AreSplit (close list near far : List WayId) : Type 0 where
+  pub count : length near + length far ≡ length list
+  pub first : (w : WayId) → Contains near w → Contains close w
+  pub second : (w : WayId) → Contains far w → Contains close w → ⊥
+  pub either : (w : WayId) → Contains list w → Contains near w ⊎ Contains far w

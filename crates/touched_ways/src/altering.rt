@@ -1,22 +1,23 @@
 //! The ways whose blocks a change may alter.
-ghost use Rattle.std.specs.Prelude.{◌≡◌, ◌↔◌, ◌+◌, ◌≤◌, List, Contains, IfOk, IsTrue, IsFalse, length};
-ghost use Rattle.road_base.specs.declared.ids.NodeId.{NodeId as NodeNumber};
+ghost use Rattle.std.specs.Prelude.{◌≡◌, ◌↔◌, ◌+◌, ◌≤◌, List, Contains, IfOk, IsTrue, length};
 ghost use Rattle.road_base.specs.declared.ids.WayId.{WayId as WayNumber};
 ghost use Rattle.road_base.specs.declared.ids.Key.{Key};
 ghost use Rattle.road_base.specs.Objects.{Objects};
-ghost use Rattle.road_model.specs.Links.{AreChanged, AreTouched, RefersTo};
-ghost use Rattle.road_model.specs.Orders.{rises, way_cmp};
-ghost use Rattle.touched_ways.specs.Altering.{AreParted, AreWithin, IsUnrestricted};
+ghost use Rattle.road_model.specs.Links.{AreChanged, AreTouched};
+ghost use Rattle.road_model.specs.Orders.{Lists, rises, way_cmp};
+ghost use Rattle.touched_ways.specs.Altering.{AreNamedTogether, AreParted, AreSplit, AreWithin, HereOrBeside, MeetsOne};
 
 use crate::found::Found;
 use crate::lists::leave_once;
-use crate::rounds::{NearWays, find_ways_of_nodes, follow_ways};
+use crate::merging::merge;
+use crate::rounds::{NearWays, find_ways_of_nodes, find_ways_of_rules, follow_ways};
 use road_base::{NoMemory, WayId, Ways};
 use road_model::World;
-use road_model::laws::name_order;
+use road_model::laws::{name_order, number_order};
 use std::alloc::Global;
 
-/// The ways that a change touches, ascending: those near what it changes or named by a restriction, and the others.
+/// The ways that a change touches, ascending: those near what it changes, with those that a restriction names beside
+/// one near, and the others.
 #[derive(Drop)]
 pub struct TouchedWays {
     pub all: Ways,
@@ -25,7 +26,8 @@ pub struct TouchedWays {
 }
 
 /// Parts the touched ways: `before` are those near what the change changes in the world that was, and `after` those in
-/// `next`, the world that it leaves. Takes the time of two searches a way.
+/// `next`, the world that it leaves. Takes the time of a search a way, and the time and memory of the members of the
+/// restrictions that name a way that is near.
 pub fn part<M: World>(
     alloc: Global,
     next: &M,
@@ -33,8 +35,6 @@ pub fn part<M: World>(
     before: &NearWays,
     after: &NearWays,
 ) -> Result<TouchedWays, NoMemory>
-    requires before { IsTrue (rises way_cmp before.now.near) }
-    requires after { IsTrue (rises way_cmp after.now.near) }
     ensures all { IfOk result (λ t. t.all ≡ touched) }
     ensures parted { IfOk result (λ t. (was : Objects) (keys : List Key)
         → AreChanged was (M.objects next.now) keys
@@ -43,31 +43,31 @@ pub fn part<M: World>(
         → AreTouched was (M.objects next.now) touched
         → AreParted was (M.objects next.now) touched t.near t.far) }
 {
+    let both = merge(alloc, &before.near, &after.near)?;
+    let close = with_beside(alloc, next, &both)?;
+    split(alloc, touched, &close)
+}
+
+/// The ways in two parts, each in their order: those among the close ones, which ascend, and the others.
+fn split(alloc: Global, ways: Ways, close: &Ways) -> Result<TouchedWays, NoMemory>
+    requires { IsTrue (rises way_cmp close.now) }
+    ensures all { IfOk result (λ t. t.all ≡ ways) }
+    ensures split { IfOk result (λ t. AreSplit close.now ways t.near t.far) }
+{
     let mut near = Vec::new(alloc);
-    let mut far = Vec::with_capacity(alloc, touched.items().len())?;
-    for way in touched.items() {
-        if may_alter(next, &before.near, &after.near, *way) {
+    let mut far = Vec::with_capacity(alloc, ways.items().len())?;
+    for way in ways.items() {
+        if is_among(close, *way) {
             near.push(*way)?;
         } else {
             far.push(*way)?;
         }
     }
     Ok(TouchedWays {
-        all: touched,
+        all: ways,
         near: Ways::from_list(near),
         far: Ways::from_list(far),
     })
-}
-
-/// Whether the way is near, or a restriction names it.
-fn may_alter<M: World>(next: &M, before: &Ways, after: &Ways, way: WayId) -> bool
-    requires before { IsTrue (rises way_cmp before.now) }
-    requires after { IsTrue (rises way_cmp after.now) }
-    ensures before { IsFalse result → Contains before.now way → ⊥ }
-    ensures after { IsFalse result → Contains after.now way → ⊥ }
-    ensures rules { IsFalse result → IsUnrestricted (M.objects next.now) way }
-{
-    is_among(before, way) || is_among(after, way) || !next.rules_of_way(way).is_empty()
 }
 
 /// Whether the way is one of these, which ascend.
@@ -79,8 +79,9 @@ fn is_among(ways: &Ways, way: WayId) -> bool
     ways.items().binary_search(&way).is_ok()
 }
 
-/// Those of the ways that share a node with one of `others`, in their order. Takes the time and memory of the ways at
-/// the nodes of `others`, and of a search for each of the ways.
+/// Those of the ways that share a node with one of `others`, and those that a restriction names beside a way that does,
+/// in their order. Takes the time and memory of the ways at the nodes of `others`, and of the members of the
+/// restrictions that name these, and of a search for each of the ways.
 pub fn meeting<M: World>(
     alloc: Global,
     world: &M,
@@ -88,14 +89,11 @@ pub fn meeting<M: World>(
     others: &[WayId],
 ) -> Result<Ways, NoMemory>
     ensures few { IfOk result (λ met. length met ≤ length ways.now) }
-    ensures all { IfOk result (λ met. (w v : WayNumber) (n : NodeNumber)
-        → Contains ways.now w
-        → Contains others.now v
-        → RefersTo (M.objects world.now) w n
-        → RefersTo (M.objects world.now) v n
-        → Contains met w) }
+    ensures exactly { IfOk result (λ met. (w : WayNumber) → Contains met w
+        ↔ (Contains ways.now w × HereOrBeside (M.objects world.now) (MeetsOne (M.objects world.now) others.now) w)) }
 {
-    let found = ways_met(alloc, world, others)?;
+    let met = ways_met(alloc, world, others)?;
+    let found = with_beside(alloc, world, &met)?;
     both_of(alloc, ways, &found)
 }
 
@@ -103,8 +101,8 @@ pub fn meeting<M: World>(
 fn both_of(alloc: Global, ways: &Ways, found: &Ways) -> Result<Ways, NoMemory>
     requires { IsTrue (rises way_cmp found.now) }
     ensures few { IfOk result (λ both. length both ≤ length ways.now) }
-    ensures all { IfOk result
-        (λ both. (w : WayNumber) → Contains ways.now w → Contains found.now w → Contains both w) }
+    ensures exactly { IfOk result
+        (λ both. (w : WayNumber) → Contains both w ↔ (Contains ways.now w × Contains found.now w)) }
 {
     let mut both = Vec::new(alloc);
     for way in ways.items() {
@@ -117,12 +115,7 @@ fn both_of(alloc: Global, ways: &Ways, found: &Ways) -> Result<Ways, NoMemory>
 
 /// The ways that share a node with one of these, ascending.
 fn ways_met<M: World>(alloc: Global, world: &M, ways: &[WayId]) -> Result<Ways, NoMemory>
-    ensures ascending { IfOk result (λ met. IsTrue (rises way_cmp met)) }
-    ensures all { IfOk result (λ met. (w v : WayNumber) (n : NodeNumber)
-        → Contains ways.now v
-        → RefersTo (M.objects world.now) w n
-        → RefersTo (M.objects world.now) v n
-        → Contains met w) }
+    ensures { IfOk result (Lists (λ w. w) way_cmp (MeetsOne (M.objects world.now) ways.now)) }
 {
     name_order();
     let mut nodes = Found::new(alloc)?;
@@ -133,4 +126,31 @@ fn ways_met<M: World>(alloc: Global, world: &M, ways: &[WayId]) -> Result<Ways, 
     let mut met = ways_found.list;
     leave_once(&mut met);
     Ok(Ways::from_list(met))
+}
+
+/// These ways, and those that a restriction names beside one of them, ascending.
+fn with_beside<M: World>(alloc: Global, world: &M, ways: &Ways) -> Result<Ways, NoMemory>
+    ensures { IfOk result (Lists (λ w. w) way_cmp (HereOrBeside (M.objects world.now) (λ v. Contains ways.now v))) }
+{
+    let beside = ways_beside(alloc, world, ways.items())?;
+    merge(alloc, ways, &beside)
+}
+
+/// The ways that a restriction names beside one of these, ascending.
+fn ways_beside<M: World>(alloc: Global, world: &M, ways: &[WayId]) -> Result<Ways, NoMemory>
+    ensures { IfOk result (Lists (λ w. w) way_cmp
+        (λ w. (v : WayNumber) × AreNamedTogether (M.objects world.now) w v × Contains ways.now v)) }
+{
+    name_order();
+    number_order();
+    let mut linked = Found::new(alloc)?;
+    follow_ways(world, ways, &mut linked)?;
+    let mut rules = linked.rules;
+    leave_once(&mut rules);
+    let mut found = Found::new(alloc)?;
+    find_ways_of_rules(world, rules.as_slice(), &mut found)?;
+    let ways_found = found.ways;
+    let mut beside = ways_found.list;
+    leave_once(&mut beside);
+    Ok(Ways::from_list(beside))
 }

@@ -5,22 +5,24 @@ ghost use Rattle.road_base.specs.Objects.{Objects};
 ghost use Rattle.road_model.specs.declared.blocks.Block.{Block};
 ghost use Rattle.road_model.specs.Blocks.{IsBlock};
 ghost use Rattle.road_model.specs.Local.{IsSameWithin};
-ghost use Rattle.touched_ways.specs.Altering.{HasSamePieces, IsFar, IsUnaltered, listed_pieces};
+ghost use Rattle.touched_ways.specs.Altering.{HasSamePieces, IsUnaltered, listed_pieces};
 
 use road_model::Profile;
 
-/// Where nothing differs within two links of a way, no restriction names it, and the ways that share a node with it
-/// have the same pieces, its block is the same before and after a change, also where the change touches it.
+/// Where nothing differs within two links of a way, and the ways that share a node with it have the same pieces, and
+/// so it is with each way that a restriction names beside it, its block is the same before and after a change, also
+/// where the change touches it.
 pub fn unaltered_blocks_stay<P: Profile>(profile: &P)
     ensures { (M N : Objects) (w : WayId) (b : Block)
         → IsUnaltered M N (P.rules profile.now) w
         → IsBlock M (P.rules profile.now) w b ↔ IsBlock N (P.rules profile.now) w b }
 {}
 
-/// Where nothing differs within two links of a way, or a change doesn't touch it, its pieces are the same before and
-/// after.
+/// Where nothing differs within two links of a way, its pieces are the same before and after a change.
 pub fn far_pieces_stay<P: Profile>(profile: &P)
-    ensures { (M N : Objects) (w : WayId) → IsFar M N w → HasSamePieces M N (P.rules profile.now) w }
+    ensures { (M N : Objects) (w : WayId)
+        → IsSameWithin 2 M N w
+        → HasSamePieces M N (P.rules profile.now) w }
 {}
 
 /// Where a way's blocks before and after list the same pieces, by names and ends, its pieces are the same.

@@ -166,7 +166,7 @@ pub fn find_ways_of_nodes<M: World>(
 }
 
 /// Finds the ways that are linked to one of the restrictions.
-fn find_ways_of_rules<M: World>(
+pub fn find_ways_of_rules<M: World>(
     world: &M,
     rules: &[RelationId],
     found: &mut Found,

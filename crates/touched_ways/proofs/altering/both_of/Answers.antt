@@ -1,4 +1,4 @@
-use Rattle.std.proofs.Common.{◌+◌, ◌≤◌, ◌∙◌, List, length, take, take_all, sym, ap, subst, Contains}
+use Rattle.std.proofs.Common.{◌↔◌, ◌+◌, ◌≤◌, ◌∙◌, List, length, take, take_all, sym, ap, subst, Contains}
 use Rattle.std.proofs.lemmas.List.{take_more}
 use Rattle.road_base.specs.declared.ids.WayId.{WayId}
 use Rattle.touched_ways.proofs.MetWays.{AreFoundOf, found_none, found_more, found_same}
@@ -18,8 +18,8 @@ loop-way-preserved c =
     elim c.if-is_among.branch [
       | then-is_among+in_ok-push w ↦
           subst (AreFoundOf found (take (i + 1) all)) (ap (λ v. v.items) (sym w.both-is))
-          (found_more found (take i all) (take (i + 1) all) both _ longer c.loop-way.invariant w.push.new.self.items
-          w.in_ok-push.ensures.items)
+          (found_more found (take i all) (take (i + 1) all) both _ longer c.loop-way.invariant
+          (c.is_among.ensures.0 w.if-is_among.true) w.push.new.self.items w.in_ok-push.ensures.items)
       | else-is_among w ↦
           subst (AreFoundOf found (take (i + 1) all)) (ap (λ v. v.items) (sym w.both-is))
           (found_same found (take i all) (take (i + 1) all) both _ longer c.loop-way.invariant
@@ -34,9 +34,13 @@ returns-clause-few c =
     (subst (λ (l : List WayId). length l ≤ length (take c.loop-way.way-index c.items-way-items.result.now))
     (sym c.from_list.ensures) c.loop-way.invariant.few)
 
-pub returns-clause-all : goal.returns-clause-all
-returns-clause-all c w own has =
+pub returns-clause-exactly : goal.returns-clause-exactly
+returns-clause-exactly c =
+    let found = c.args.found.now in
+    let both = c.loop-way.both.items in
     let all = take_all c.loop-way.way-index c.items-way-items.result.now c.loop-way-test.false
     ∙ c.items-way-items.ensures in
-    subst (λ (l : List WayId). Contains l w) (sym c.from_list.ensures)
-    (c.loop-way.invariant.all w (subst (λ (l : List WayId). Contains l w) (sym all) own) has)
+    subst (λ (m : List WayId). (w : WayId) → Contains m w ↔ (Contains c.args.ways.now w × Contains found w))
+    (sym c.from_list.ensures)
+    (subst (λ (l : List WayId). (w : WayId) → Contains both w ↔ (Contains l w × Contains found w)) all
+    c.loop-way.invariant.exactly)

@@ -1,4 +1,4 @@
-use Rattle.touched_ways.proofs.PlainBlocks.{unaltered_block}
+use Rattle.touched_ways.proofs.StillBlocks.{unaltered_block}
 use Rattle.touched_ways.proofs.laws.unaltered_blocks_stay.Goals as goal
 
 pub returns : goal.returns

@@ -1,4 +1,4 @@
--- The blocks of quiet ways are the same in both object maps.
+-- The blocks of settled ways are the same in both object maps.
 use Rattle.std.proofs.Common.{◌↔◌, inl, inr, List, [], ◌∷◌, ◌++◌, Ordering, sym, subst}
 use Rattle.road_base.specs.declared.ids.WayId.{WayId}
 use Rattle.road_base.specs.Objects.{Objects}
@@ -10,12 +10,12 @@ use Rattle.road_model.specs.Rules.{Rules}
 use Rattle.road_model.specs.Pieces.{Span, IsPiece}
 use Rattle.road_model.specs.Orders.{Lists}
 use Rattle.road_model.specs.Blocks.{IsArcEntry, IsContextEntry, IsPieceEntry, IsBlock}
-use Rattle.road_model.proofs.LocalLinks.{alike_from}
 use Rattle.road_model.proofs.LocalPieces.{NeedsHighway, piece_kept, place_kept}
 use Rattle.road_model.proofs.LocalBlocks.{same_block}
 use Rattle.touched_ways.specs.Altering.{IsUnaltered}
-use Rattle.touched_ways.proofs.PlainWays.{IsQuiet, quiet_turned, quiet_from}
-use Rattle.touched_ways.proofs.PlainArcs.{context_kept, arc_kept}
+use Rattle.touched_ways.proofs.StillWays.{IsSettled, settled_turned, settled_from}
+use Rattle.touched_ways.proofs.StillContexts.{context_kept}
+use Rattle.touched_ways.proofs.StillArcs.{arc_kept}
 
 -- a list of what is the same
 lists_kept : {A B : Type 0} {name : A → B} {R : B → B → Ordering} {Is Was : A → Type 0} (xs : List A)
@@ -27,32 +27,32 @@ lists_kept xs to from l = record {
 }
 
 module _ (M N : Objects) (P : Rules) (needs : NeedsHighway P) where
-  arc_entry : (before : List Span) (p : Span) → IsQuiet M N P p.way → IsPiece M P p → (a : TurnArc)
+  arc_entry : (before : List Span) (p : Span) → IsSettled M N P p.way → IsPiece M P p → (a : TurnArc)
       → IsArcEntry M P (before ++ p ∷ []) a → IsArcEntry N P (before ++ p ∷ []) a
   arc_entry before p q h a e = record {
     piece = e.piece;
     target = e.target;
-    arc = arc_kept M N P needs before p e.piece e.target q h e.arc;
+    arc = arc_kept M N P needs before p e.piece q h e.target e.arc;
     named = e.named;
     length_is = e.length_is;
   }
 
 module _ (M N : Objects) (P : Rules) (needs : NeedsHighway P) where
-  context_entry : (p : Span) → IsQuiet M N P p.way → IsPiece M P p → IsPiece N P p → (e : Context)
+  context_entry : (p : Span) → IsSettled M N P p.way → IsPiece M P p → IsPiece N P p → (e : Context)
       → IsContextEntry M P p e → IsContextEntry N P p e
   context_entry p q h k e c = record {
     before = c.before;
     context = context_kept M N P needs c.before p q h c.context;
     named = c.named;
     arcs = lists_kept e.arcs (arc_entry M N P needs c.before p q h)
-        (arc_entry N M P needs c.before p (quiet_turned M N P p.way q) k) c.arcs;
+        (arc_entry N M P needs c.before p (settled_turned M N P p.way q) k) c.arcs;
   }
 
 module _ (M N : Objects) (P : Rules) (needs : NeedsHighway P) where
-  piece_entry : (w : WayId) → IsQuiet M N P w → (e : Piece) → IsPieceEntry M P w e → IsPieceEntry N P w e
-  piece_entry w quiet e p =
-      let q : IsQuiet M N P p.piece.way = subst (IsQuiet M N P) (sym p.of) quiet in
-      let is = piece_kept M N P needs p.piece q.alike p.is in
+  piece_entry : (w : WayId) → IsSettled M N P w → (e : Piece) → IsPieceEntry M P w e → IsPieceEntry N P w e
+  piece_entry w settled e p =
+      let q : IsSettled M N P p.piece.way = subst (IsSettled M N P) (sym p.of) settled in
+      let is = piece_kept M N P needs p.piece q.own.alike p.is in
       record {
         piece = p.piece;
         is = is;
@@ -60,16 +60,16 @@ module _ (M N : Objects) (P : Rules) (needs : NeedsHighway P) where
         named = p.named;
         end_is = p.end_is;
         count = p.count;
-        places = λ k x at. place_kept M N P needs p.piece q.alike p.is k x (p.places k x at);
+        places = λ k x at. place_kept M N P needs p.piece q.own.alike p.is k x (p.places k x at);
         contexts = lists_kept e.contexts (context_entry M N P needs p.piece q p.is is)
-            (context_entry N M P needs p.piece (quiet_turned M N P p.piece.way q) is p.is) p.contexts;
+            (context_entry N M P needs p.piece (settled_turned M N P p.piece.way q) is p.is) p.contexts;
       }
 
-block_kept : (M N : Objects) (P : Rules) → NeedsHighway P → (w : WayId) → IsQuiet M N P w → (b : Block)
+block_kept : (M N : Objects) (P : Rules) → NeedsHighway P → (w : WayId) → IsSettled M N P w → (b : Block)
     → IsBlock M P w b → IsBlock N P w b
 block_kept M N P needs w q b h = record {
   way = h.way;
-  pieces = lists_kept b.pieces (piece_entry M N P needs w q) (piece_entry N M P needs w (quiet_turned M N P w q))
+  pieces = lists_kept b.pieces (piece_entry M N P needs w q) (piece_entry N M P needs w (settled_turned M N P w q))
       h.pieces;
 }
 
@@ -77,6 +77,6 @@ block_kept M N P needs w q b h = record {
 pub unaltered_block : (M N : Objects) (P : Rules) → NeedsHighway P → (w : WayId) (b : Block) → IsUnaltered M N P w
     → IsBlock M P w b ↔ IsBlock N P w b
 unaltered_block M N P needs w b (inl untouched) = same_block M N P needs w b untouched
-unaltered_block M N P needs w b (inr (near, free, meets)) =
-    let q = quiet_from M N P w (alike_from M N 2 w near) free meets in
-    (block_kept M N P needs w q b, block_kept N M P needs w (quiet_turned M N P w q) b)
+unaltered_block M N P needs w b (inr (own, others)) =
+    let s = settled_from M N P w own others in
+    (block_kept M N P needs w s b, block_kept N M P needs w (settled_turned M N P w s) b)

@@ -20,7 +20,7 @@ use Rattle.road_model.proofs.ReferredNodes.{road_refers, step_refers}
 use Rattle.road_model.proofs.LocalLinks.{node_same}
 use Rattle.road_model.proofs.LocalBodies.{end_same, shut_same, turning_same}
 use Rattle.road_model.proofs.LocalPieces.{NeedsHighway}
-use Rattle.touched_ways.proofs.PlainWays.{IsQuiet, quiet_turned, own_body, own_refers, met_body}
+use Rattle.touched_ways.proofs.StillWays.{IsQuiet, quiet_turned, own_body, own_refers, met_body}
 
 -- ---- steps of pieces
 
