@@ -1,21 +1,21 @@
--- What stands at each way where blocks of touched ways were built: first of those near a change, then of those that
--- meet one of them whose pieces are others than before.
+-- What stands at each way where blocks of touched ways were built: first of those near a change and beside those, then
+-- of those that meet one of them whose pieces are others than before, and beside those.
 use Rattle.std.proofs.Common.{◌≡◌, inl, inr, List, [], ◌∷◌, ◌++◌, map, Option, Some, None, Contains, refl, sym, ap}
 use Rattle.std.proofs.Common.{subst, ◌∙◌}
 use Rattle.std.specs.Prelude.{◌↔◌}
 use Rattle.std.specs.Cmp.{IsTotalOrder}
 use Rattle.std.specs.FinMap.{FinMap, IsAntisymmetric}
-use Rattle.road_base.specs.declared.ids.NodeId.{NodeId}
 use Rattle.road_base.specs.declared.ids.WayId.{WayId}
 use Rattle.road_base.specs.Objects.{Objects}
 use Rattle.road_model.specs.declared.lists.Piece.{Piece}
 use Rattle.road_model.specs.declared.blocks.Block.{Block}
 use Rattle.road_model.specs.Rules.{Rules}
 use Rattle.road_model.specs.Orders.{way_cmp}
-use Rattle.road_model.specs.Links.{RefersTo}
+use Rattle.road_model.specs.Local.{IsSameWithin}
 use Rattle.road_model.specs.Blocks.{IsBlock}
 use Rattle.road_model.specs.Naming.{OneBlock, HasBlock}
-use Rattle.touched_ways.specs.Altering.{AreParted, IsFar, IsUnaltered, HasSamePieces, MeetsSamePieces, listed_pieces}
+use Rattle.touched_ways.specs.Altering.{AreParted, IsUnaltered, HasSamePieces, HereOrBeside}
+use Rattle.touched_ways.specs.Altering.{MeetsOne, MeetsSamePieces, listed_pieces}
 use Rattle.change_apply.specs.Engines.{AreKept, IsBlockAt}
 use Rattle.change_apply.specs.Rebuilding.{AreRebuilt, block_at, pieces_in, pieces_at}
 use Rattle.road_base.proofs.ListMembers.{contains_from_in, in_from_contains, in_left, in_right}
@@ -47,14 +47,13 @@ module _ (M N : Objects) (P : Rules) (all near away altered met : List WayId)
     (before first after : List (WayId × Block)) (listed : FinMap way_cmp Block) (total : IsTotalOrder way_cmp)
     (ties : IsAntisymmetric way_cmp) (one : OneBlock N P) (has : HasBlock M P)
     (stay : (w : WayId) (b : Block) → IsUnaltered M N P w → IsBlock M P w b ↔ IsBlock N P w b)
-    (far_stay : (w : WayId) → IsFar M N w → HasSamePieces M N P w)
+    (far_stay : (w : WayId) → IsSameWithin 2 M N w → HasSamePieces M N P w)
     (listed_stay : (w : WayId) (b c : Block) → IsBlock M P w b → IsBlock N P w c → listed_pieces b ≡ listed_pieces c
     → HasSamePieces M N P w)
     (parted : AreParted M N all near away)
     (same : (w : WayId) → Contains near w → (Contains altered w → ⊥)
     → pieces_at before listed w ≡ pieces_at first listed w)
-    (meets : (w v : WayId) (n : NodeId) → Contains away w → Contains altered v → RefersTo N w n → RefersTo N v n
-    → Contains met w)
+    (meets : (w : WayId) → Contains away w → HereOrBeside N (MeetsOne N altered) w → Contains met w)
     (one_built : AreRebuilt N P near before first) (two_built : AreRebuilt N P met first after)
     (kept : AreKept M P (block_at before listed)) where
   -- the pieces of a way near the change are the same where the blocks list the same
@@ -67,15 +66,16 @@ module _ (M N : Objects) (P : Rules) (all near away altered met : List WayId)
       ap pieces_in (at_built first listed v is.0 is.2) ∙ listed_with is.0.pieces is.0 refl in
       listed_stay v was.0 is.0 was.1 is.1.block (sym was.2 ∙ e ∙ new)
 
-  -- so are those of every way that meets one whose block wasn't built
-  pieces_same : (w : WayId) → Contains away w → (Contains met w → ⊥) → MeetsSamePieces M N P w
-  pieces_same w isaway notmet v n rw rv = elim (listed_or_not total ties altered v) [
-    | inl is ↦ absurd (notmet (meets w v n isaway is rw rv))
-    | inr not ↦ elim (listed_or_not total ties near v) [
-      | inl isnear ↦ near_same v isnear (same v isnear not)
-      | inr notnear ↦ far_stay v (parted.far v notnear)
-    ]
+  -- so are those of every way, but of one whose block lists others
+  pieces_same : (v : WayId) → (Contains altered v → ⊥) → HasSamePieces M N P v
+  pieces_same v not = elim (listed_or_not total ties near v) [
+    | inl isnear ↦ near_same v isnear (same v isnear not)
+    | inr notnear ↦ far_stay v (parted.far v notnear)
   ]
+
+  -- and so those of all that meet a way that meets none of these
+  meets_same : (w : WayId) → (MeetsOne N altered w → ⊥) → MeetsSamePieces M N P w
+  meets_same w none v n rw rv = pieces_same v (λ is. none (v, n, is, rw, rv))
 
   others : (w : WayId) → (Contains (near ++ met) w → ⊥) → IsUnaltered M N P w
   others w not =
@@ -83,12 +83,13 @@ module _ (M N : Objects) (P : Rules) (all near away altered met : List WayId)
       λ h. not (contains_from_in (near ++ met) w (in_left near met w (in_from_contains near w h))) in
       let notmet : Contains met w → ⊥ =
       λ h. not (contains_from_in (near ++ met) w (in_right near met w (in_from_contains met w h))) in
-      elim (parted.far w notnear) [
-        | inl untouched ↦ inl untouched
-        | inr far ↦ elim (listed_or_not total ties away w) [
-          | inl isaway ↦ inr (far.0, far.1, pieces_same w isaway notmet)
-          | inr notaway ↦ inl (parted.others w notnear notaway)
-        ]
+      elim (listed_or_not total ties away w) [
+        | inl isaway ↦ inr (
+          (parted.far w notnear, meets_same w (λ m. notmet (meets w isaway (inl m)))),
+          λ v named.
+              (parted.beside w v isaway named, meets_same v (λ m. notmet (meets w isaway (inr (v, named, m))))),
+        )
+        | inr notaway ↦ inl (parted.others w notnear notaway)
       ]
 
   -- what stands at each way is its block

@@ -160,9 +160,10 @@ pub struct Rebuilt {
     pub count: u64,
 }
 
-/// Builds over the world that a change leaves the blocks of the touched ways that are near it or named by a
-/// restriction, and then those of the other touched ways that meet one of them whose pieces are others than before.
-/// What stands at every way is then its block, where it was before.
+/// Builds over the world that a change leaves the blocks of the touched ways that are near it or that a restriction
+/// names beside one near, and then those of the other touched ways that meet one of them whose pieces are others than
+/// before, or that a restriction names beside a way that does. What stands at every way is then its block, where it was
+/// before.
 pub fn rebuild_touched<M: World, P: Profile, L: Ledger>(
     alloc: Global,
     world: &M,

@@ -1,5 +1,6 @@
 use Rattle.std.proofs.Common.{List, Contains, subst, sym}
 use Rattle.road_base.specs.declared.ids.WayId.{WayId}
+use Rattle.touched_ways.specs.Altering.{HereOrBeside, MeetsOne}
 use Rattle.change_apply.specs.Rebuilding.{AreRebuilt}
 use Rattle.change_apply.proofs.RebuiltBlocks.{at_their_ways}
 use Rattle.change_apply.proofs.AlteredBlocks.{kept_after}
@@ -22,8 +23,10 @@ returns-clause-kept g c was parted kept =
     (c.far_pieces_stay.ensures was N) (c.listed_pieces_stay.ensures was N) parted
     (λ w isnear not. c.in_ok-altered.ensures w
     (subst (λ (l : List WayId). Contains l w) (sym c.items-near.ensures) isnear) not)
-    (λ w v n isaway isaltered rw rv. c.in_ok-met.ensures.all w v n isaway
-    (subst (λ (l : List WayId). Contains l v) (sym c.as_slice.ensures.value) isaltered) rw rv)
+    (λ w isaway met. (c.in_ok-met.ensures.exactly w).1 (
+      isaway,
+      subst (λ (l : List WayId). HereOrBeside N (MeetsOne N l) w) (sym c.as_slice.ensures.value) met,
+    ))
     near met kept
 
 pub returns-clause-at_ways : goal.returns-clause-at_ways

@@ -1,20 +1,10 @@
-use Rattle.std.proofs.Common.{◌≡◌, List, [], ◌∷◌, map, Result, Ok, Err, IfOk, IsTrue, refl, sym}
-use Rattle.std.proofs.Common.{ap, subst}
+use Rattle.std.proofs.Common.{◌≡◌, List, Result, Ok, Err, IfOk, refl, sym, subst}
 use Rattle.road_base.specs.declared.ids.Key.{Key}
 use Rattle.road_base.specs.declared.ids.WayId.{WayId}
 use Rattle.road_base.specs.Objects.{Objects}
 use Rattle.road_model.specs.Links.{AreChanged, AreReached, AreTouched}
-use Rattle.road_model.specs.Orders.{rises, way_cmp}
 use Rattle.touched_ways.specs.Altering.{AreParted, AreWithin}
 use Rattle.change_apply.proofs.touching.touched_by.Goals as goal
-
-same : (ws : List WayId) → map (λ w. w) ws ≡ ws
-same [] = refl
-same (w ∷ ws) = ap (λ (l : List WayId). w ∷ l) (same ws)
-
--- the ways near some keys ascend
-ascending : (M : Objects) (keys : List Key) (ways : List WayId) → AreWithin 2 M keys ways → IsTrue (rises way_cmp ways)
-ascending M keys ways near = subst (λ (l : List WayId). IsTrue (rises way_cmp l)) (same ways) near.ascending
 
 -- what was found from these keys in this map, of the keys and of the map as they are called elsewhere
 reached_of : (here M : Objects) (own keys : List Key) (ways : List WayId) → here ≡ M → own ≡ keys
@@ -32,14 +22,6 @@ if_both : {T E : Type 0} {A B C : T → Type 0} (r : Result T E) → ((t : T) �
     → IfOk r C
 if_both (Ok t) f a b = f t a b
 if_both (Err e) f a b = tt
-
-pub part-requires-clause-before : goal.part-requires-clause-before
-part-requires-clause-before c =
-    ascending c.args.world.now c.keys.result.now c.in_ok-before.before.near c.in_ok-before.ensures.near
-
-pub part-requires-clause-after : goal.part-requires-clause-after
-part-requires-clause-after c =
-    ascending c.of-next.result c.keys-2.result.now c.in_ok-after.after.near c.in_ok-after.ensures.near
 
 pub returns : goal.returns
 returns c =
