@@ -83,9 +83,19 @@ const CHAIN: &[u8] = b"n1 v1 x0.001 y0\nn2 v1 x0.002 y0\nn3 v1 x0.003 y0\nn4 v1 
     w7 v1 Thighway=residential Nn7,n8\nw8 v1 Thighway=residential Nn8,n9\n\
     w9 v1 Thighway=residential Nn9,n10\nw10 v1 Thighway=residential Nn10,n11\n";
 
-/// Node 2 lies elsewhere: the ways 1 and 2 are one link away, way 3 three, way 4 five, and way 5 seven. No restriction
-/// names a way, so blocks are built up to two links away, and farther on where pieces change: here none do.
+/// Node 2 lies elsewhere: the ways 1 and 2 are one link away, way 3 three, way 4 five, and way 5 seven. Where no
+/// restriction names a way, blocks are built up to two links away, and farther on where pieces change: here none do.
 const MOVED: &[u8] = b"n2 v2 x0.0025 y0\n";
+
+/// A restriction names the ways 3 and 4, neither of which is near node 2: so none of their blocks is built where it
+/// moves. Way 3 is three links away, the restriction four, and way 4 five.
+const FAR_TURN: &[u8] =
+    b"r1 v1 Ttype=restriction,restriction=no_straight_on Mw3@from,n4@via,w4@to\n";
+
+/// A restriction names the ways 2, 3 and 4. Way 2 is near node 2: so where it moves, the blocks of the ways 3 and 4 are
+/// built too, which are named beside it. The restriction is two links away, the ways 3 and 4 three, and way 5 five.
+const NEAR_TURN: &[u8] =
+    b"r1 v1 Ttype=restriction,restriction=no_straight_on Mw2@from,w3@via,w4@to\n";
 
 /// Nothing changes: the entry that stands has the same version.
 const SAME: &[u8] = b"n2 v1 x0.0025 y0\n";
@@ -106,15 +116,27 @@ const PASSED: &[u8] = b"n1 v1 x0.001 y0\nn2 v1 x0.002 y0\nn3 v1 x0.003 y0\nn4 v1
 /// away, is built too; way 3, six links away, isn't.
 const JOINED: &[u8] = b"w4 v1 Thighway=residential Nn6,n2\n";
 
+/// A restriction names way 3 beside way 2, which meets way 1: so where way 4 comes, way 3 is built too.
+const BESIDE: &[u8] = b"r1 v1 Ttype=restriction,restriction=no_straight_on Mw2@from,n4@via,w3@to\n";
+
+/// A restriction names way 3 beside way 5, where way 3 ends. Neither meets way 1: so where way 4 comes, way 3 isn't
+/// built, which is six links away; way 5 is eight.
+const BEHIND: &[u8] = b"n7 v1 x0.006 y0\nw5 v1 Thighway=residential Nn5,n7\n\
+    r1 v1 Ttype=restriction,restriction=no_straight_on Mw3@from,n5@via,w5@to\n";
+
 /// Changes, how many ways the last of them touches, and how many blocks are built behind it.
-const ROWS: [(&[&[u8]], u64, u64); 7] = [
+const ROWS: [(&[&[u8]], u64, u64); 11] = [
     (&[CHAIN], 10, 10),
     (&[CHAIN, SAME], 0, 0),
     (&[CHAIN, MOVED], 4, 2),
+    (&[CHAIN, FAR_TURN, MOVED], 4, 2),
+    (&[CHAIN, NEAR_TURN, MOVED], 5, 4),
     (&[CHAIN, MOVED, GONE], 6, 3),
     (&[CHAIN, MOVED, GONE, LONGER], 10, 5),
     (&[PASSED], 3, 3),
     (&[PASSED, JOINED], 4, 3),
+    (&[PASSED, BESIDE, JOINED], 4, 4),
+    (&[PASSED, BEHIND, JOINED], 4, 3),
 ];
 
 #[test]
