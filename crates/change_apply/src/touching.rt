@@ -5,7 +5,7 @@ ghost use Rattle.touched_ways.specs.Altering.{AreParted};
 use back_references::{Indexed, Next, Prepared};
 use road_base::NoMemory;
 use std::alloc::Global;
-use touched_ways::{TouchedWays, merge, part, surroundings};
+use touched_ways::{TouchedWays, part, surroundings};
 
 /// The ways within six links of what the change changes, in the world as it stands or in the one that it would leave,
 /// in two parts. Takes time and memory of the order of n log n in the links that are followed.
@@ -18,8 +18,6 @@ pub fn touched_by(
     ensures { IfOk result (λ t. AreParted prepared.now.before prepared.now.after t.all t.near t.far) }
 {
     let next = Next::of(world, prepared);
-    let before = surroundings(alloc, world, prepared.keys())?;
-    let after = surroundings(alloc, &next, prepared.keys())?;
-    let ways = merge(alloc, &before.all, &after.all)?;
-    part(alloc, &next, ways, &before, &after)
+    let found = surroundings(alloc, world, &next, prepared.keys())?;
+    part(alloc, &next, found.all, &found.near)
 }

@@ -3,7 +3,7 @@ use crate::makers::world_of;
 use road_base::{Key, Keys, NodeId, RelationId, WayId, Ways};
 use std::alloc::Global;
 use std::test::Fail;
-use touched_ways::{merge, reached};
+use touched_ways::{NearWays, merge, reached, surroundings};
 
 /// Way 10 over the nodes 1 and 2, way 11 over 4, 3 and 2, way 13 over 1 and 6, and way 14 over 6 and 7.
 const BEFORE: &[u8] =
@@ -70,5 +70,35 @@ fn touched(alloc: Global, changed: &[Key]) -> Result<Ways, Fail> {
 fn touched_ways(rt: HostRuntime) -> Result<(), Fail> {
     let ways = touched(rt.alloc(), &[Key::Node(NodeId(5)), Key::Way(WayId(12))])?;
     assert!(rt; are(&ways, &[10, 11, 12, 13]));
+    Ok(())
+}
+
+/// Nine ways in two rows: 10 to 14 over the nodes 1 to 6, and 20 to 23 over the nodes 7 to 11.
+const ROWS: &[u8] =
+    b"w10 Thighway=road Nn1,n2\nw11 Thighway=road Nn2,n3\nw12 Thighway=road Nn3,n4\nw13 Thighway=road Nn4,n5\n\
+    w14 Thighway=road Nn5,n6\nw20 Thighway=road Nn7,n8\nw21 Thighway=road Nn8,n9\nw22 Thighway=road Nn9,n10\n\
+    w23 Thighway=road Nn10,n11\n";
+
+/// With way 12 from node 3 to node 7, in place of node 4.
+const MOVED: &[u8] =
+    b"w10 Thighway=road Nn1,n2\nw11 Thighway=road Nn2,n3\nw12 Thighway=road Nn3,n7\nw13 Thighway=road Nn4,n5\n\
+    w14 Thighway=road Nn5,n6\nw20 Thighway=road Nn7,n8\nw21 Thighway=road Nn8,n9\nw22 Thighway=road Nn9,n10\n\
+    w23 Thighway=road Nn10,n11\n";
+
+/// The ways near a change of way 12, and those that it touches.
+fn about_way_12(alloc: Global, before: &[u8], after: &[u8]) -> Result<NearWays, Fail> {
+    let was = world_of(alloc, before)?;
+    let is = world_of(alloc, after)?;
+    let keys = Keys::from_list(Vec::from_slice(alloc, &[Key::Way(WayId(12))])?);
+    Ok(surroundings(alloc, &was, &is, &keys)?)
+}
+
+#[test]
+fn ways_about_a_moved_way(rt: HostRuntime) -> Result<(), Fail> {
+    for (before, after) in [(ROWS, MOVED), (MOVED, ROWS)] {
+        let found = about_way_12(rt.alloc(), before, after)?;
+        assert!(rt; are(&found.near, &[11, 12, 13, 20]));
+        assert!(rt; are(&found.all, &[10, 11, 12, 13, 14, 20, 21, 22]));
+    }
     Ok(())
 }

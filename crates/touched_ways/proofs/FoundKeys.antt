@@ -26,6 +26,12 @@ finds_as f g Is Other h to from = record {
   keeps = h.keeps;
 }
 
+-- each key of a list gives itself
+pub finds_given : (f g : Found) (keys : List Key) → Finds f g (GivenBy (λ x k. k ≡ x) keys)
+    → Finds f g (Contains keys)
+finds_given f g keys h = finds_as f g (GivenBy (λ x k. k ≡ x) keys) (Contains keys) h
+    (λ k i. subst (Contains keys) (sym i.2) i.1) (λ k has. (k, has, refl))
+
 pub finds_both : (f g e : Found) (Is Next More : Key → Type 0) → Finds f g Is → Finds g e Next
     → ((k : Key) → Is k → More k) → ((k : Key) → Next k → More k) → ((k : Key) → More k → Is k ⊎ Next k)
     → Finds f e More

@@ -3,6 +3,7 @@ mod FoundKeys
 mod LinkedKeys
 mod FollowedNodes
 mod LinkRounds
+mod ChangedLinks
 mod WayLists
 mod SamePieces
 mod StillWays

@@ -1,5 +1,5 @@
 -- Ways near what a change changes, with those that a restriction names beside them.
-use Rattle.std.proofs.Common.{◌≡◌, ◌↔◌, ℕ, ◌+◌, ◌⊎◌, inl, inr, Bool, not, IsTrue}
+use Rattle.std.proofs.Common.{◌≡◌, ◌↔◌, ℕ, ◌+◌, inl, inr, Bool, not, IsTrue}
 use Rattle.std.proofs.Common.{List, [], ◌∷◌, ◌++◌, length, map, refl, sym, ap, ◌∙◌, subst, arith, Contains}
 use Rattle.std.proofs.Common.{Result, Ok, Err, is_ok}
 use Rattle.std.specs.declared.cmp.Ordering.TheVariants.{Less, Greater}
@@ -10,27 +10,14 @@ use Rattle.std.specs.List.Sorted.{IsSearchInRange, IsBinarySearchResult}
 use Rattle.std.proofs.lemmas.Bool.{cases_lt, false≢true}
 use Rattle.std.proofs.lemmas.Cmp.{tied_itself}
 use Rattle.road_base.specs.declared.ids.WayId.{WayId}
-use Rattle.road_base.specs.declared.ids.Key.{Key}
-use Rattle.road_base.specs.declared.ids.Key.TheVariants.{Way as WayKey}
 use Rattle.road_base.specs.Objects.{Objects}
 use Rattle.road_base.proofs.ListMembers.{contains_none}
-use Rattle.road_model.specs.Links.{IsTouched, AreChanged, AreTouched}
+use Rattle.road_model.specs.Links.{IsTouched, AreTouched}
 use Rattle.road_model.specs.Local.{IsSameWithin}
 use Rattle.road_model.specs.Orders.{Lists, rises, way_cmp}
-use Rattle.road_model.proofs.JoinedLists.{lists_same}
 use Rattle.road_model.proofs.SortedMaps.{search_below, search_behind}
-use Rattle.touched_ways.specs.declared.search.Search.{Search}
-use Rattle.touched_ways.specs.Altering.{AreParted, AreSplit, AreWithin, HereOrBeside, IsNearChange}
-use Rattle.touched_ways.specs.Searches.{IsWithinAny, IsRound}
+use Rattle.touched_ways.specs.Altering.{AreParted, AreSplit, HereOrBeside, IsNearChange}
 use Rattle.touched_ways.proofs.WayLists.{same, one_longer, was_or_last, still_has, last_has}
-
--- ---- the ways that a search has seen
-
--- those seen in n rounds are those within n links
-pub ways_within : (M : Objects) (keys : List Key) (n : ℕ) (s : Search) (ways : List WayId) → IsRound M keys n s
-    → Lists (λ w. w) way_cmp (λ w. Contains s.ways.all.items w) ways → AreWithin n M keys ways
-ways_within M keys n s ways round lists = lists_same (λ w. w) way_cmp (λ w. Contains s.ways.all.items w)
-    (λ w. IsWithinAny M keys n (WayKey w)) ways lists (λ w h. round.seen (WayKey w) h) (λ w h. round.ways w h)
 
 -- ---- a search in ascending ways
 
@@ -133,32 +120,18 @@ near_touched M N w (k, differs, near_by) = (
       [ inl here ↦ inl (inl (inl (inl (inl here)))) | inr there ↦ inr (inl (inl (inl (inl there)))) ],
 )
 
-module _ (M N : Objects) (keys : List Key) (before after both close all near away : List WayId)
-    (are : AreSplit close all near away)
-    (lists : Lists (λ w. w) way_cmp (λ w. Contains before w ⊎ Contains after w) both)
-    (beside : Lists (λ w. w) way_cmp (HereOrBeside N (Contains both)) close) (changed : AreChanged M N keys)
-    (was : AreWithin 2 M keys before) (is : AreWithin 2 N keys after) (touched : AreTouched M N all) where
-  near_change : (w : WayId) → Contains both w → IsNearChange M N w
-  near_change w has = elim (lists.sound w has) [
-    | inl i ↦ let r = was.sound w i in (r.0, changed.sound r.0 r.1, inl r.2)
-    | inr i ↦ let r = is.sound w i in (r.0, changed.sound r.0 r.1, inr r.2)
-  ]
-
-  in_both : (w : WayId) → IsNearChange M N w → Contains both w
-  in_both w (k, differs, near_by) = lists.complete w (elim near_by [
-    | inl here ↦ inl (was.complete w (k, changed.complete k differs, here))
-    | inr there ↦ inr (is.complete w (k, changed.complete k differs, there))
-  ])
-
+module _ (M N : Objects) (ways close all near away : List WayId) (are : AreSplit close all near away)
+    (beside : Lists (λ w. w) way_cmp (HereOrBeside N (Contains ways)) close)
+    (lists : Lists (λ w. w) way_cmp (IsNearChange M N) ways) (touched : AreTouched M N all) where
   close_by : (w : WayId) → Contains near w → HereOrBeside N (IsNearChange M N) w
   close_by w has = elim (beside.sound w (are.first w has)) [
-    | inl here ↦ inl (near_change w here)
-    | inr other ↦ inr (other.0, other.1, near_change other.0 other.2)
+    | inl here ↦ inl (lists.sound w here)
+    | inr other ↦ inr (other.0, other.1, lists.sound other.0 other.2)
   ]
 
   far_by : (w : WayId) → (Contains near w → ⊥) → IsSameWithin 2 M N w
   far_by w not change = elim (are.either w (touched.complete w (near_touched M N w change)))
-      [ inl here ↦ not here | inr there ↦ are.second w there (beside.complete w (inl (in_both w change))) ]
+      [ inl here ↦ not here | inr there ↦ are.second w there (beside.complete w (inl (lists.complete w change))) ]
 
   pub parted : AreParted M N all near away
   parted = record {
@@ -166,7 +139,8 @@ module _ (M N : Objects) (keys : List Key) (before after both close all near awa
     touched = touched;
     close = close_by;
     far = far_by;
-    beside = λ w v isaway named change. are.second w isaway (beside.complete w (inr (v, named, in_both v change)));
+    beside = λ w v isaway named change.
+        are.second w isaway (beside.complete w (inr (v, named, lists.complete v change)));
     others = λ w not none touches. elim (are.either w (touched.complete w touches))
         [ inl here ↦ not here | inr there ↦ none there ];
   }

@@ -13,11 +13,6 @@ use Rattle.road_model.specs.Rules.{Rules}
 use Rattle.road_model.specs.Pieces.{Span, IsPiece}
 use Rattle.road_model.specs.Links.{RefersTo, HasMember, IsWithin, Differs, IsTouched, AreTouched}
 use Rattle.road_model.specs.Local.{IsSameWithin}
-use Rattle.road_model.specs.Orders.{Lists, way_cmp}
-
--- the ways within n links of one of the keys, ascending
-abbrev pub AreWithin : ℕ → Objects → List Key → List WayId → Type 0
-AreWithin n M keys ways = Lists (λ w. w) way_cmp (λ w. (k : Key) × Contains keys k × IsWithin M n k (WayKey w)) ways
 
 -- a key within two links of the way differs
 abbrev pub IsNearChange : Objects → Objects → WayId → Type 0

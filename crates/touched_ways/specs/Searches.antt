@@ -1,5 +1,5 @@
 -- What a round of a search over links finds, and what the search keeps of it.
-use Rattle.std.specs.Prelude.{ℕ, ◌⊎◌, IsTrue, List, Contains}
+use Rattle.std.specs.Prelude.{◌≡◌, ◌↔◌, ℕ, zero, suc, ◌⊎◌, IsTrue, List, Contains}
 use Rattle.std.specs.BTreeSet.{BTreeSet, contains}
 use Rattle.road_base.specs.declared.ids.NodeId.{NodeId}
 use Rattle.road_base.specs.declared.ids.WayId.{WayId}
@@ -7,7 +7,7 @@ use Rattle.road_base.specs.declared.ids.Key.{Key}
 use Rattle.road_base.specs.declared.ids.Key.TheVariants.{Node as NodeKey, Way as WayKey, Relation as RelationKey}
 use Rattle.road_base.specs.Objects.{Objects}
 use Rattle.road_model.specs.Orders.{node_cmp}
-use Rattle.road_model.specs.Links.{IsLink, IsWithin}
+use Rattle.road_model.specs.Links.{IsLink}
 use Rattle.touched_ways.specs.declared.found.Found.{Found}
 use Rattle.touched_ways.specs.declared.search.Search.{Search}
 
@@ -80,13 +80,17 @@ pub record IsNext (s t : Search) (Is : Key → Type 0) : Type 0 where
 abbrev pub IsFurther : Objects → Search → Key → Type 0
 IsFurther M s k = (a : Key) × IsFrontier s a × IsLink M a k
 
--- the key is within n links of one of the keys
-abbrev pub IsWithinAny : Objects → List Key → ℕ → Key → Type 0
-IsWithinAny M keys n k = (c : Key) × Contains keys c × IsWithin M n c k
+-- something on the frontier is linked to the key in M or in N
+abbrev pub IsFurtherInOne : Objects → Objects → Search → Key → Type 0
+IsFurtherInOne M N s k = IsFurther M s k ⊎ IsFurther N s k
 
--- n rounds were made: the ways within n links of the keys were seen, and all that is further is linked to the frontier
-pub record IsRound (M : Objects) (keys : List Key) (n : ℕ) (s : Search) : Type 0 where
-  pub frontier : (k : Key) → IsFrontier s k → IsWithinAny M keys n k
-  pub seen : (k : Key) → IsSeen s k → IsWithinAny M keys n k
-  pub ways : (w : WayId) → IsWithinAny M keys n (WayKey w) → IsSeen s (WayKey w)
-  pub followed : (a b : Key) → IsWithinAny M keys n a → IsLink M a b → IsWithinAny M keys n b ⊎ IsFrontier s a
+-- the search has seen the keys alone, and their links are followed next
+pub record IsBegun (keys : List Key) (s : Search) : Type 0 where
+  pub frontier : (k : Key) → IsFrontier s k ↔ Contains keys k
+  pub seen : (k : Key) → IsSeen s k → Contains keys k
+  pub ways : (w : WayId) → Contains keys (WayKey w) → IsSeen s (WayKey w)
+
+-- t is s when so many rounds more were made, each of which took in what is linked to the frontier
+abbrev pub AreRounds : Objects → ℕ → Search → Search → Type 0
+AreRounds M zero s t = s ≡ t
+AreRounds M (suc n) s t = (u : Search) × AreRounds M n s u × IsNext u t (IsFurther M u)

@@ -1,16 +1,16 @@
 //! The ways whose blocks a change may alter.
-ghost use Rattle.std.specs.Prelude.{◌≡◌, ◌↔◌, ◌+◌, ◌≤◌, List, Contains, IfOk, IsTrue, length};
+ghost use Rattle.std.specs.Prelude.{◌≡◌, ◌↔◌, ◌+◌, ◌≤◌, Contains, IfOk, IsTrue, length};
 ghost use Rattle.road_base.specs.declared.ids.WayId.{WayId as WayNumber};
-ghost use Rattle.road_base.specs.declared.ids.Key.{Key};
 ghost use Rattle.road_base.specs.Objects.{Objects};
-ghost use Rattle.road_model.specs.Links.{AreChanged, AreTouched};
+ghost use Rattle.road_model.specs.Links.{AreTouched};
 ghost use Rattle.road_model.specs.Orders.{Lists, rises, way_cmp};
-ghost use Rattle.touched_ways.specs.Altering.{AreNamedTogether, AreParted, AreSplit, AreWithin, HereOrBeside, MeetsOne};
+ghost use Rattle.touched_ways.specs.Altering.{AreNamedTogether, AreParted, AreSplit, HereOrBeside, IsNearChange};
+ghost use Rattle.touched_ways.specs.Altering.{MeetsOne};
 
 use crate::found::Found;
 use crate::lists::leave_once;
 use crate::merging::merge;
-use crate::rounds::{NearWays, find_ways_of_nodes, find_ways_of_rules, follow_ways};
+use crate::rounds::{find_ways_of_nodes, find_ways_of_rules, follow_ways};
 use road_base::{NoMemory, WayId, Ways};
 use road_model::World;
 use road_model::laws::{name_order, number_order};
@@ -25,26 +25,22 @@ pub struct TouchedWays {
     pub far: Ways,
 }
 
-/// Parts the touched ways: `before` are those near what the change changes in the world that was, and `after` those in
-/// `next`, the world that it leaves. Takes the time of a search a way, and the time and memory of the members of the
-/// restrictions that name a way that is near.
+/// Parts the touched ways: `near_change` are those near what the change changes, in the world that was or in the one
+/// that it leaves, `next`. Takes the time of a search a way, and the time and memory of the members of the restrictions
+/// that name a way that is near.
 pub fn part<M: World>(
     alloc: Global,
     next: &M,
     touched: Ways,
-    before: &NearWays,
-    after: &NearWays,
+    near_change: &Ways,
 ) -> Result<TouchedWays, NoMemory>
     ensures all { IfOk result (λ t. t.all ≡ touched) }
-    ensures parted { IfOk result (λ t. (was : Objects) (keys : List Key)
-        → AreChanged was (M.objects next.now) keys
-        → AreWithin 2 was keys before.now.near
-        → AreWithin 2 (M.objects next.now) keys after.now.near
+    ensures parted { IfOk result (λ t. (was : Objects)
+        → Lists (λ w. w) way_cmp (IsNearChange was (M.objects next.now)) near_change.now
         → AreTouched was (M.objects next.now) touched
         → AreParted was (M.objects next.now) touched t.near t.far) }
 {
-    let both = merge(alloc, &before.near, &after.near)?;
-    let close = with_beside(alloc, next, &both)?;
+    let close = with_beside(alloc, next, near_change)?;
     split(alloc, touched, &close)
 }
 

@@ -5,9 +5,13 @@
 //! of each are followed once. Nodes are followed as often as such a way or restriction names them, but one with more
 //! than eight links once a round. The last round looks for ways alone. Where n links are followed that takes time of
 //! the order of n log n, and memory for the ways and restrictions seen and for what a round finds, and nothing of the
-//! size of the map. `merge` goes along both lists once. `part` follows the links of the restrictions that name a way
-//! near the change, and takes one search a way. `meeting` follows the links of the ways to be met, finds the ways at
-//! these nodes as the last round does, and those that restrictions name beside them, and takes one search a way.
+//! size of the map.
+//!
+//! `surroundings` finds what is near a change in one such search: the links of the changed keys are followed in the
+//! world before the change and in the one behind it, and all others in the latter alone, since there they are the same.
+//! `merge` goes along both lists once. `part` follows the links of the restrictions that name a way near the change,
+//! and takes one search a way. `meeting` follows the links of the ways to be met, finds the ways at these nodes as the
+//! last round does, and those that restrictions name beside them, and takes one search a way.
 #![tactic(auto)]
 
 mod altering;

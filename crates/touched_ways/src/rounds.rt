@@ -1,11 +1,11 @@
 //! The search over links, round by round.
-ghost use Rattle.std.specs.Prelude.{◌≡◌, ℕ, ◌+◌, List, IfOk, OnOk};
-ghost use Rattle.road_base.specs.declared.ids.Key.{Key as KeyValue};
+ghost use Rattle.std.specs.Prelude.{◌≡◌, ◌⊎◌, IfOk, OnOk};
 ghost use Rattle.road_base.specs.declared.ids.Key.TheVariants.{Node as NodeKey, Way as WayKey, Relation as RelationKey};
-ghost use Rattle.road_base.specs.Objects.{Objects};
-ghost use Rattle.road_model.specs.Links.{IsLink, AreReached};
-ghost use Rattle.touched_ways.specs.Altering.{AreWithin};
-ghost use Rattle.touched_ways.specs.Searches.{Finds, GivenBy, IsWayLink, IsFurther, IsRound};
+ghost use Rattle.road_model.specs.Orders.{Lists, way_cmp};
+ghost use Rattle.road_model.specs.Links.{IsLink, AreChanged, AreReached, AreTouched};
+ghost use Rattle.touched_ways.specs.Altering.{IsNearChange};
+ghost use Rattle.touched_ways.specs.Searches.{Finds, GivenBy, IsWayLink, IsNext, IsSeen, IsFurther, IsFurtherInOne};
+ghost use Rattle.touched_ways.specs.Searches.{IsBegun, AreRounds};
 
 use crate::found::Found;
 use crate::hubs::{find_ways_once, follow_node_once};
@@ -22,7 +22,7 @@ const LINKS: u32 = 6;
 /// How many links lead at most to a way whose pieces a change may alter.
 const FEW_LINKS: u32 = 2;
 
-/// The ways near some keys, visible or not, ascending: those within two links of one of them, and those within six. A
+/// The ways near a change, visible or not, ascending: those within two links of a changed key, and those within six. A
 /// way is within zero links of itself.
 #[derive(Drop)]
 pub struct NearWays {
@@ -34,25 +34,59 @@ pub struct NearWays {
 pub fn reached<M: World>(alloc: Global, world: &M, changed: &Keys) -> Result<Ways, NoMemory>
     ensures { IfOk result (AreReached (M.objects world.now) changed.now) }
 {
-    let found = surroundings(alloc, world, changed)?;
-    Ok(found.all)
+    let mut search = begin(alloc, changed.items())?;
+    rounds(alloc, world, &mut search, LINKS - 1)?;
+    last_round(alloc, world, search)
 }
 
-/// The ways within two and those within six links of the keys, in one search.
-pub fn surroundings<M: World>(
+/// The ways within two and those within six links of the changed keys, in the world before a change or in the one
+/// behind it, in one search. A link that is in one of them alone has a changed key at an end, so those of the world
+/// before are followed from the changed keys alone. Takes the time and memory of what is reached.
+pub fn surroundings<M: World, N: World>(
     alloc: Global,
-    world: &M,
+    before: &M,
+    after: &N,
     changed: &Keys,
 ) -> Result<NearWays, NoMemory>
-    ensures near { IfOk result (λ s. AreWithin 2 (M.objects world.now) changed.now s.near) }
-    ensures all { IfOk result (λ s. AreReached (M.objects world.now) changed.now s.all) }
+    ensures near { IfOk result (λ s. AreChanged (M.objects before.now) (N.objects after.now) changed.now
+        → Lists (λ w. w) way_cmp (IsNearChange (M.objects before.now) (N.objects after.now)) s.near) }
+    ensures all { IfOk result (λ s. AreChanged (M.objects before.now) (N.objects after.now) changed.now
+        → AreTouched (M.objects before.now) (N.objects after.now) s.all) }
 {
-    let mut search = first_round(alloc, changed.items())?;
-    rounds(alloc, world, &mut search, FEW_LINKS)?;
+    let mut search = begin(alloc, changed.items())?;
+    round_in_both(alloc, before, after, &mut search)?;
+    rounds(alloc, after, &mut search, FEW_LINKS - 1)?;
     let near = search.ways(alloc)?;
-    rounds(alloc, world, &mut search, LINKS - FEW_LINKS - 1)?;
-    let all = last_round(alloc, world, search)?;
+    rounds(alloc, after, &mut search, LINKS - FEW_LINKS - 1)?;
+    let all = last_round(alloc, after, search)?;
     Ok(NearWays { near, all })
+}
+
+/// The search that has reached the keys.
+fn begin(alloc: Global, keys: &[Key]) -> Result<Search, NoMemory>
+    ensures { IfOk result (IsBegun keys.now) }
+{
+    let mut found = Found::new(alloc)?;
+    found.add_keys(keys)?;
+    let mut search = Search::new(alloc);
+    search.take_in(found)?;
+    Ok(search)
+}
+
+/// Reaches what is one link further in either world.
+fn round_in_both<M: World, N: World>(
+    alloc: Global,
+    one: &M,
+    other: &N,
+    search: &mut Search,
+) -> Result<(), NoMemory>
+    ensures { OnOk result (IsNext search.old search.new
+        (IsFurtherInOne (M.objects one.now) (N.objects other.now) search.old)) }
+{
+    let mut found = Found::new(alloc)?;
+    follow(alloc, one, search, &mut found)?;
+    follow(alloc, other, search, &mut found)?;
+    search.take_in(found)
 }
 
 /// Reaches what is so many links further.
@@ -62,8 +96,7 @@ fn rounds<M: World>(
     search: &mut Search,
     count: u32,
 ) -> Result<(), NoMemory>
-    ensures { OnOk result ((keys : List KeyValue) (n : ℕ) → IsRound (M.objects world.now) keys n search.old
-        → IsRound (M.objects world.now) keys (n + count) search.new) }
+    ensures { OnOk result (AreRounds (M.objects world.now) count search.old search.new) }
 {
     for _round in 0..count {
         next_round(alloc, world, search)?;
@@ -71,38 +104,38 @@ fn rounds<M: World>(
     Ok(())
 }
 
-/// The search that has reached the keys.
-fn first_round(alloc: Global, keys: &[Key]) -> Result<Search, NoMemory>
-    ensures { IfOk result (λ search. (M : Objects) → IsRound M keys.now 0 search) }
-{
-    let mut found = Found::new(alloc)?;
-    found.add_keys(keys)?;
-    let mut search = Search::new(alloc);
-    search.take_in(found)?;
-    Ok(search)
-}
-
 /// Reaches what is one link further.
 fn next_round<M: World>(alloc: Global, world: &M, search: &mut Search) -> Result<(), NoMemory>
-    ensures { OnOk result ((keys : List KeyValue) (n : ℕ) → IsRound (M.objects world.now) keys n search.old
-        → IsRound (M.objects world.now) keys (n + 1) search.new) }
+    ensures { OnOk result (IsNext search.old search.new (IsFurther (M.objects world.now) search.old)) }
 {
     let mut found = Found::new(alloc)?;
-    follow_nodes(alloc, world, search.nodes.as_slice(), &mut found)?;
-    follow_ways(world, search.ways.frontier.as_slice(), &mut found)?;
-    follow_rules(world, search.rules.frontier.as_slice(), &mut found)?;
+    follow(alloc, world, search, &mut found)?;
     search.take_in(found)
 }
 
 /// The ways reached, and those that are one link further.
 fn last_round<M: World>(alloc: Global, world: &M, search: Search) -> Result<Ways, NoMemory>
-    ensures { IfOk result (λ ways. (keys : List KeyValue) → IsRound (M.objects world.now) keys 5 search
-        → AreReached (M.objects world.now) keys ways) }
+    ensures { IfOk result (Lists (λ w. w) way_cmp
+        (λ w. IsSeen search (WayKey w) ⊎ IsFurther (M.objects world.now) search (WayKey w))) }
 {
     let mut found = Found::new(alloc)?;
     find_ways_of_nodes(alloc, world, search.nodes.as_slice(), &mut found)?;
     find_ways_of_rules(world, search.rules.frontier.as_slice(), &mut found)?;
     search.ways_with(found.ways.list.as_slice())
+}
+
+/// Finds what is linked to the frontier.
+fn follow<M: World>(
+    alloc: Global,
+    world: &M,
+    search: &Search,
+    found: &mut Found,
+) -> Result<(), NoMemory>
+    ensures { OnOk result (Finds found.old found.new (IsFurther (M.objects world.now) search.now)) }
+{
+    follow_nodes(alloc, world, search.nodes.as_slice(), found)?;
+    follow_ways(world, search.ways.frontier.as_slice(), found)?;
+    follow_rules(world, search.rules.frontier.as_slice(), found)
 }
 
 /// Finds what is linked to one of the nodes.

@@ -1,21 +1,18 @@
-use Rattle.std.proofs.Common.{◌≡◌, List, Result, Ok, Err, IfOk, refl, sym, subst}
+use Rattle.std.proofs.Common.{◌≡◌, List, Result, Ok, Err, IfOk, sym, subst}
 use Rattle.road_base.specs.declared.ids.Key.{Key}
 use Rattle.road_base.specs.declared.ids.WayId.{WayId}
 use Rattle.road_base.specs.Objects.{Objects}
-use Rattle.road_model.specs.Links.{AreChanged, AreReached, AreTouched}
-use Rattle.touched_ways.specs.Altering.{AreParted, AreWithin}
+use Rattle.road_model.specs.Links.{AreChanged}
+use Rattle.touched_ways.specs.Altering.{AreParted}
 use Rattle.change_apply.proofs.touching.touched_by.Goals as goal
 
--- what was found from these keys in this map, of the keys and of the map as they are called elsewhere
-reached_of : (here M : Objects) (own keys : List Key) (ways : List WayId) → here ≡ M → own ≡ keys
-    → AreReached here own ways → AreReached M keys ways
-reached_of here M own keys ways a b r =
-    subst (λ (x : Objects). AreReached x keys ways) a (subst (λ (ks : List Key). AreReached here ks ways) b r)
-
-within_of : (here M : Objects) (own keys : List Key) (ways : List WayId) → here ≡ M → own ≡ keys
-    → AreWithin 2 here own ways → AreWithin 2 M keys ways
-within_of here M own keys ways a b r =
-    subst (λ (x : Objects). AreWithin 2 x keys ways) a (subst (λ (ks : List Key). AreWithin 2 here ks ways) b r)
+-- the changed keys, of the maps as they are called elsewhere
+changed_of : (M N here next : Objects) (keys own : List Key) → M ≡ here → next ≡ N → own ≡ keys
+    → AreChanged M N keys → AreChanged here next own
+changed_of M N here next keys own a b e changed =
+    subst (λ (x : Objects). AreChanged x next own) a
+    (subst (λ (y : Objects). AreChanged M y own) (sym b)
+    (subst (λ (ks : List Key). AreChanged M N ks) (sym e) changed))
 
 -- what two facts of a value give
 if_both : {T E : Type 0} {A B C : T → Type 0} (r : Result T E) → ((t : T) → A t → B t → C t) → IfOk r A → IfOk r B
@@ -26,21 +23,14 @@ if_both (Err e) f a b = tt
 pub returns : goal.returns
 returns c =
     let M = c.args.prepared.now.before in
-    let N = c.args.prepared.now.after in
+    let here = c.args.world.now in
     let next = c.of-next.result in
-    let keys = c.args.prepared.now.keys in
-    let changed : AreChanged M next keys =
-    subst (λ (x : Objects). AreChanged M x keys) (sym c.of-next.ensures) c.keys.ensures.differ in
-    let reached : AreTouched M next c.in_ok-ways.ways =
-    c.in_ok-ways.ensures.touched M next keys changed
-    (reached_of c.args.world.now M c.keys.result.now keys c.in_ok-before.before.all (sym c.requires)
-    c.keys.ensures.keys c.in_ok-before.ensures.all)
-    (reached_of next next c.keys-2.result.now keys c.in_ok-after.after.all refl c.keys-2.ensures.keys
-    c.in_ok-after.ensures.all) in
+    let all = c.in_ok-found.found.all in
+    let changed = changed_of M c.args.prepared.now.after here next c.args.prepared.now.keys c.keys.result.now c.requires
+    c.of-next.ensures c.keys.ensures.keys c.keys.ensures.differ in
     if_both c.part.result
-    (λ t same parts. subst (λ (x : Objects). AreParted M x t.all t.near t.far) c.of-next.ensures
-    (subst (λ (l : List WayId). AreParted M next l t.near t.far) (sym same)
-    (parts M keys changed (within_of c.args.world.now M c.keys.result.now keys c.in_ok-before.before.near
-    (sym c.requires) c.keys.ensures.keys c.in_ok-before.ensures.near)
-    (within_of next next c.keys-2.result.now keys c.in_ok-after.after.near refl c.keys-2.ensures.keys
-    c.in_ok-after.ensures.near) reached))) c.part.ensures.all c.part.ensures.parted
+    (λ t same parts. subst (λ (x : Objects). AreParted x c.args.prepared.now.after t.all t.near t.far) (sym c.requires)
+    (subst (λ (x : Objects). AreParted here x t.all t.near t.far) c.of-next.ensures
+    (subst (λ (l : List WayId). AreParted here next l t.near t.far) (sym same)
+    (parts here (c.in_ok-found.ensures.near changed) (c.in_ok-found.ensures.all changed)))))
+    c.part.ensures.all c.part.ensures.parted

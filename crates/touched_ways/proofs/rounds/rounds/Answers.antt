@@ -1,22 +1,20 @@
-use Rattle.std.proofs.Common.{◌≡◌, ℕ, ◌+◌, subst, arith}
-use Rattle.touched_ways.specs.Searches.{IsRound}
+use Rattle.std.proofs.Common.{◌≡◌, ℕ, refl, sym, subst, arith}
+use Rattle.std.proofs.Math.Numerals.{add-one}
+use Rattle.touched_ways.specs.Searches.{AreRounds}
 use Rattle.touched_ways.proofs.rounds.rounds.Goals as goal
 
 pub loop-round-init : goal.loop-round-init
-loop-round-init g c keys n round =
-    let M = g.M.World.objects c.args.world.now in
-    let e : n ≡ n + 0 = omega arith in subst (λ (m : ℕ). IsRound M keys m c.args.search.now) e round
+loop-round-init g c = refl
 
 pub loop-round-preserved : goal.loop-round-preserved
-loop-round-preserved g c keys n round =
+loop-round-preserved g c =
     let M = g.M.World.objects c.args.world.now in
     let r = c.loop-round._round in
-    let e : (n + r) + 1 ≡ n + (r + 1) = omega arith in
-    subst (λ (m : ℕ). IsRound M keys m c.next_round.new.search) e
-    (c.in_ok-next_round.ensures keys (n + r) (c.loop-round.invariant keys n round))
+    subst (λ (m : ℕ). AreRounds M m c.args.search.now c.next_round.new.search) (sym (add-one r))
+    (c.loop-round.search, c.loop-round.invariant, c.in_ok-next_round.ensures)
 
 pub returns : goal.returns
-returns g c keys n round =
+returns g c =
     let M = g.M.World.objects c.args.world.now in
-    let e : n + c.loop-round._round ≡ n + c.args.count = omega arith in
-    subst (λ (m : ℕ). IsRound M keys m c.loop-round.search) e (c.loop-round.invariant keys n round)
+    let e : c.loop-round._round ≡ c.args.count = omega arith in
+    subst (λ (m : ℕ). AreRounds M m c.args.search.now c.loop-round.search) e c.loop-round.invariant
