@@ -41,6 +41,21 @@ fn follow<L: Ledger>(
     Ok(report)
 }
 
+/// Whether the graph has these bytes.
+fn is_graph(alloc: Global, engine: &mut Engine<Motorcar>, bytes: &[u8]) -> Result<bool, Fail> {
+    Ok(graph_of(alloc, engine)?.as_slice() == bytes)
+}
+
+/// Whether both graphs have the same bytes.
+fn have_same_graph(
+    alloc: Global,
+    these: &mut Engine<Motorcar>,
+    those: &mut Engine<Motorcar>,
+) -> Result<bool, Fail> {
+    let bytes = graph_of(alloc, these)?;
+    is_graph(alloc, those, &bytes)
+}
+
 /// Whether the graph is that of all these events at once.
 fn is_graph_of<L: Ledger>(
     alloc: Global,
@@ -49,11 +64,38 @@ fn is_graph_of<L: Ledger>(
     steps: &mut Steps<L>,
 ) -> Result<bool, Fail> {
     let mut whole = Engine::load(alloc, Motorcar, all, steps)?;
-    let want = graph_of(alloc, &mut whole)?;
-    Ok(graph_of(alloc, engine)?.as_slice() == want.as_slice())
+    have_same_graph(alloc, engine, &mut whole)
+}
+
+/// Follows the changes in turn, and answers what the last of them cost.
+fn follow_all<L: Ledger>(
+    alloc: Global,
+    engine: &mut Engine<Motorcar>,
+    changes: &[&[u8]],
+    all: &mut Vec<Event>,
+    steps: &mut Steps<L>,
+) -> Result<Report, Fail> {
+    let mut report = NOTHING;
+    for change in changes {
+        report = follow(alloc, engine, change, all, steps)?;
+    }
+    Ok(report)
 }
 
 /// What the last of the changes cost, and whether the graph behind all of them is that of all their events at once.
+/// The engine has followed none before.
+fn follow_and_compare<L: Ledger>(
+    alloc: Global,
+    engine: &mut Engine<Motorcar>,
+    changes: &[&[u8]],
+    steps: &mut Steps<L>,
+) -> Result<(Report, bool), Fail> {
+    let mut all = Vec::new(alloc);
+    let report = follow_all(alloc, engine, changes, &mut all, steps)?;
+    Ok((report, is_graph_of(alloc, engine, all, steps)?))
+}
+
+/// The same of an engine of no events.
 fn followed<L: Ledger>(
     alloc: Global,
     changes: &[&[u8]],
@@ -65,12 +107,7 @@ fn followed<L: Ledger>(
 {
     let mut steps = Steps::<L>::new(blank);
     let mut engine = Engine::load(alloc, Motorcar, Vec::new(alloc), &mut steps)?;
-    let mut all = Vec::new(alloc);
-    let mut report = NOTHING;
-    for change in changes {
-        report = follow(alloc, &mut engine, change, &mut all, &mut steps)?;
-    }
-    Ok((report, is_graph_of(alloc, &mut engine, all, &mut steps)?))
+    follow_and_compare(alloc, &mut engine, changes, &mut steps)
 }
 
 /// A chain: way k goes from node k to node k + 1.
