@@ -1,5 +1,6 @@
 //! The ways within six links, before and after a change.
 use crate::makers::world_of;
+use back_references::Indexed;
 use road_base::{Key, Keys, NodeId, RelationId, WayId, Ways};
 use std::alloc::Global;
 use std::test::Fail;
@@ -21,10 +22,16 @@ const RULED: &[u8] =
     w13 Thighway=road Nn1,n6\nw14 Thighway=road Nn6,n7\nr5 Ttype=restriction Mw99@from,n6@via\n\
     r6 Ttype=route Mw10@\n";
 
+/// The ways that are reached from these keys in the world.
+fn reached_from(alloc: Global, world: &Indexed, changed: &[Key]) -> Result<Ways, Fail> {
+    let keys = Keys::from_list(Vec::from_slice(alloc, changed)?);
+    Ok(reached(alloc, world, &keys)?)
+}
+
+/// The same in the world of these lines.
 fn reached_in(alloc: Global, lines: &[u8], changed: &[Key]) -> Result<Ways, Fail> {
     let world = world_of(alloc, lines)?;
-    let keys = Keys::from_list(Vec::from_slice(alloc, changed)?);
-    Ok(reached(alloc, &world, &keys)?)
+    reached_from(alloc, &world, changed)
 }
 
 fn are(ways: &Ways, want: &[i64]) -> bool {
