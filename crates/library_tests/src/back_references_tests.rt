@@ -5,6 +5,7 @@ use back_references::{Indexed, Next};
 use road_base::{Event, Key, NoMemory, NodeId, RelationId, WayId};
 use road_model::World;
 use std::alloc::Global;
+use std::process::Abort;
 use std::test::Fail;
 
 /// Way 10 over the nodes 1, 2 and 1, way 11 that is no highway, way 12 to a node that isn't there, restriction 30, and
@@ -43,37 +44,60 @@ fn rules(world: &Indexed, node: NodeId, ways: &[WayId]) -> bool {
             .all(|way| world.rules_of_way(*way) == wanted.as_slice())
 }
 
-#[test]
-fn links_are_listed(rt: HostRuntime) -> Result<(), Fail> {
-    let world = town(rt.alloc())?;
-    let cases: [(NodeId, &[WayId]); 3] = [
-        (NodeId(1), &[WayId(10)]),
-        (NodeId(2), &[WayId(10), WayId(12)]),
-        (NodeId(9), &[WayId(12)]),
-    ];
-    assert!(rt; refer(&world, &cases));
-    assert!(rt; rules(&world, NodeId(2), &[WayId(10), WayId(99)]));
+/// The nodes of the town to which ways refer.
+const REFERRED: [(NodeId, &[WayId]); 3] = [
+    (NodeId(1), &[WayId(10)]),
+    (NodeId(2), &[WayId(10), WayId(12)]),
+    (NodeId(9), &[WayId(12)]),
+];
+
+/// What the town has.
+fn check_town(rt: &impl Abort, world: &Indexed) {
+    assert!(rt; refer(world, &REFERRED));
+    assert!(rt; rules(world, NodeId(2), &[WayId(10), WayId(99)]));
     assert!(rt; world.node(NodeId(2)).is_some());
     assert!(rt; world.node(NodeId(9)).is_none());
     assert!(rt; world.way(WayId(11)).is_some());
     assert!(rt; world.relation(RelationId(31)).is_some());
+}
+
+#[test]
+fn links_are_listed(rt: HostRuntime) -> Result<(), Fail> {
+    let world = town(rt.alloc())?;
+    check_town(&rt, &world);
+    Ok(())
+}
+
+/// The same where way 10 is deleted.
+const LEFT: [(NodeId, &[WayId]); 2] = [(NodeId(1), &[]), (NodeId(2), &[WayId(12)])];
+
+/// What the town has without way 10.
+fn check_without_way_10(rt: &impl Abort, world: &Indexed) {
+    assert!(rt; world.way(WayId(10)).is_none());
+    assert!(rt; refer(world, &LEFT));
+    assert!(rt; rules(world, NodeId(2), &[WayId(10)]));
+}
+
+/// How many events the world has, and how many are listed.
+fn counts(world: &Indexed) -> Result<(usize, usize), NoMemory> {
+    let events = world.events()?.len();
+    Ok((events, world.objects().listed()?.items().len()))
+}
+
+/// Deletes way 10 of the town.
+fn check_deletion(rt: &impl Abort, world: &mut Indexed) -> Result<(), Fail> {
+    let deleted = [deletion(Key::Way(WayId(10)), 2)];
+    assert_eq!(rt; applied_alone(world, &deleted)?, Some(1));
+    check_without_way_10(rt, world);
+    let (events, listed) = counts(world)?;
+    assert_eq!(rt; events, listed);
     Ok(())
 }
 
 #[test]
 fn links_of_a_deleted_way_go(rt: HostRuntime) -> Result<(), Fail> {
     let mut world = town(rt.alloc())?;
-    let deleted = [deletion(Key::Way(WayId(10)), 2)];
-    assert_eq!(rt; applied_alone(&mut world, &deleted)?, Some(1));
-    assert!(rt; world.way(WayId(10)).is_none());
-    let cases: [(NodeId, &[WayId]); 2] = [(NodeId(1), &[]), (NodeId(2), &[WayId(12)])];
-    assert!(rt; refer(&world, &cases));
-    assert!(rt; rules(&world, NodeId(2), &[WayId(10)]));
-    assert_eq!(rt;
-        world.events()?.len(),
-        world.objects().listed()?.items().len()
-    );
-    Ok(())
+    check_deletion(&rt, &mut world)
 }
 
 #[test]

@@ -5,6 +5,7 @@ use back_references::Indexed;
 use road_base::{Dir, NoMemory, NodeId, Refs, Step, Way, WayId};
 use road_model::Network;
 use std::alloc::Global;
+use std::process::Abort;
 use std::test::Fail;
 use way_lines::{
     Road, RoadLine, Roads, add_steps, drivable, head, line, line_at, line_len, pass, tail,
@@ -208,15 +209,20 @@ fn are_open(roads: &[Road]) -> bool {
     roads.len() == OPEN.len()
 }
 
-#[test]
-fn directions_of_ways_are_asked_once(rt: HostRuntime) -> Result<(), Fail> {
-    let world = world_of(rt.alloc(), ROADS)?;
-    let network = Network::new(&world, Motorcar);
-    let roads = Roads::of(rt.alloc(), &network, ASKED.as_slice())?;
+/// What is known of the ways that are asked for, and that it is found of another one.
+fn check_asked(rt: &impl Abort, alloc: Global, world: &Indexed) -> Result<(), Fail> {
+    let network = Network::new(world, Motorcar);
+    let roads = Roads::of(alloc, &network, ASKED.as_slice())?;
     assert!(rt; are_open(roads.items()));
     assert_eq!(rt; roads.position_of(WayId(12)), None);
     assert!(rt; roads.road(&network, WayId(12)).is_open());
     Ok(())
+}
+
+#[test]
+fn directions_of_ways_are_asked_once(rt: HostRuntime) -> Result<(), Fail> {
+    let world = world_of(rt.alloc(), ROADS)?;
+    check_asked(&rt, rt.alloc(), &world)
 }
 
 /// Way 12 leads to a node that isn't there, and there is no way 13. Of each node the number, whether it has a place,
@@ -236,13 +242,30 @@ fn has_nodes(line: &RoadLine, nodes: &[(i64, bool, bool)]) -> bool {
     line.nodes.len() == nodes.len()
 }
 
+/// Whether the line of the way has these nodes.
+fn way_has_nodes(
+    alloc: Global,
+    world: &Indexed,
+    way: WayId,
+    nodes: &[(i64, bool, bool)],
+) -> Result<bool, NoMemory> {
+    let network = Network::new(world, Motorcar);
+    let line = RoadLine::of(alloc, &network, Road::of(&network, way))?;
+    Ok(has_nodes(&line, nodes))
+}
+
+fn check_nodes(rt: &impl Abort, alloc: Global, world: &Indexed) -> Result<(), Fail> {
+    for (way, nodes) in NODES {
+        assert!(rt;
+            way_has_nodes(alloc, world, WayId(way), nodes)?,
+            "at way {way}"
+        );
+    }
+    Ok(())
+}
+
 #[test]
 fn lines_of_roads_have_their_nodes(rt: HostRuntime) -> Result<(), Fail> {
     let world = world_of(rt.alloc(), ROADS)?;
-    let network = Network::new(&world, Motorcar);
-    for (way, nodes) in NODES {
-        let line = RoadLine::of(rt.alloc(), &network, Road::of(&network, WayId(way)))?;
-        assert!(rt; has_nodes(&line, nodes), "at way {way}");
-    }
-    Ok(())
+    check_nodes(&rt, rt.alloc(), &world)
 }
