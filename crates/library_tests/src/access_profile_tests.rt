@@ -306,12 +306,16 @@ const NODES: [(&str, bool, bool); 5] = [
     ("", false, true),
 ];
 
+/// Whether one may turn at a node with these tags, and whether it lets through.
+fn at_node(alloc: Global, of: &str) -> Result<(bool, bool), Fail> {
+    let tags = tags(alloc, of)?;
+    Ok((Motorcar.turns(&tags), Motorcar.node_open(&tags)))
+}
+
 #[test]
 fn nodes_turn_and_let_through(rt: HostRuntime) -> Result<(), Fail> {
     for (of, turns, open) in NODES {
-        let tags = tags(rt.alloc(), of)?;
-        assert_eq!(rt; Motorcar.turns(&tags), turns, "at {of:?}");
-        assert_eq!(rt; Motorcar.node_open(&tags), open, "at {of:?}");
+        assert_eq!(rt; at_node(rt.alloc(), of)?, (turns, open), "at {of:?}");
     }
     Ok(())
 }
@@ -347,11 +351,15 @@ const KINDS: [(&str, RuleKind); 16] = [
     ("except= restriction=no_left_turn", RuleKind::No),
 ];
 
+/// The kind of a restriction with these tags.
+fn kind_of(alloc: Global, of: &str) -> Result<RuleKind, Fail> {
+    Ok(Motorcar.rule(&tags(alloc, of)?))
+}
+
 #[test]
 fn restrictions_have_a_kind(rt: HostRuntime) -> Result<(), Fail> {
     for (of, kind) in KINDS {
-        let tags = tags(rt.alloc(), of)?;
-        assert_eq!(rt; Motorcar.rule(&tags), kind, "at {of:?}");
+        assert_eq!(rt; kind_of(rt.alloc(), of)?, kind, "at {of:?}");
     }
     Ok(())
 }
@@ -386,11 +394,15 @@ fn excepted(alloc: Global, value: &str) -> Result<Tags, Fail> {
     tags_of(list)
 }
 
+/// The kind of a restriction with that exception.
+fn kind_beside(alloc: Global, value: &str) -> Result<RuleKind, Fail> {
+    Ok(Motorcar.rule(&excepted(alloc, value)?))
+}
+
 #[test]
 fn spaces_around_an_exception_are_dropped(rt: HostRuntime) -> Result<(), Fail> {
     for (value, kind) in EXCEPTIONS {
-        let tags = excepted(rt.alloc(), value)?;
-        assert_eq!(rt; Motorcar.rule(&tags), kind, "at {value:?}");
+        assert_eq!(rt; kind_beside(rt.alloc(), value)?, kind, "at {value:?}");
     }
     Ok(())
 }
