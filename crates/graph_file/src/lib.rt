@@ -73,6 +73,3 @@ fn put_header(profile: u32, count: u64, out: &mut Vec<u8>) -> Result<(), NoMemor
     profile.put(out)?;
     count.put(out)
 }
-
-#[cfg(test)]
-mod tests;

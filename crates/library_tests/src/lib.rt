@@ -2,7 +2,7 @@
 //! path, with ample memory.
 //!
 //! A crate is proved once more with its tests, so those of most libraries stand together here. Where a test looks
-//! into a crate, or a call of it asks what is proved there alone, it stands there (`road_io`, `graph_file`); whole
+//! into a crate, or a call of it asks what is proved there alone, it stands there (`road_io`, `sample_town`); whole
 //! runs are tried in `osmroad`. `makers` makes texts, tags, events and worlds for them, in the time of what is made.
 #![tactic(auto)]
 
@@ -16,6 +16,8 @@ mod barrier_rules_tests;
 mod change_apply_tests;
 #[cfg(test)]
 mod drive_queries_tests;
+#[cfg(test)]
+mod graph_file_tests;
 pub mod makers;
 #[cfg(test)]
 mod object_codec_tests;

@@ -2,12 +2,13 @@
 ghost use Rattle.std.specs.Prelude.{◌≡◌, ◌+◌, ◌≤◌, IfOk, pos, vec_len};
 ghost use Rattle.road_model.specs.Format.{IsBlockForm, IsContextForm, IsPieceForm};
 
-use super::*;
-use road_base::{Dir, Location, NodeId, WayId};
+use graph_file::{Graph, GraphWriter, write};
+use road_base::{Dir, Location, NoMemory, NodeId, WayId};
 use road_model::{
-    Arcs, Context, Contexts, Names, Piece, PieceName, Pieces, Place, Places, TurnArc,
+    Arcs, Block, Blocks, Context, Contexts, Names, Piece, PieceName, Pieces, Place, Places, TurnArc,
 };
 use std::alloc::Global;
+use std::process::Abort;
 use std::test::Fail;
 
 /// Way 10 over the nodes 1, 2 and 3, which may be driven both ways and turned on at both ends.
@@ -202,15 +203,28 @@ fn writer_puts_blocks_in_turn(rt: HostRuntime) -> Result<(), Fail> {
     Ok(())
 }
 
+/// Puts the block 70,000 times.
+fn put_often(file: &mut GraphWriter, block: &Block) -> Result<(), NoMemory>
+    requires { IsBlockForm block.now }
+{
+    for _ in 0..70_000u32 {
+        file.put(block)?;
+    }
+    Ok(())
+}
+
+/// The bytes of a file of so many blocks.
+fn long_file(alloc: Global, block: &Block) -> Result<Vec<u8>, NoMemory>
+    requires { IsBlockForm block.now }
+{
+    let mut file = GraphWriter::new(alloc, 1, 64)?;
+    put_often(&mut file, block)?;
+    Ok(file.finish())
+}
+
 #[test]
 fn writes_more_blocks_than_two_bytes_count(rt: HostRuntime) -> Result<(), Fail> {
-    let alloc = rt.alloc();
-    let block = one_way(alloc)?;
-    let mut file = GraphWriter::new(alloc, 1, 64)?;
-    for _ in 0..70_000u32 {
-        file.put(&block)?;
-    }
-    let bytes = file.finish();
+    let bytes = long_file(rt.alloc(), &one_way(rt.alloc())?)?;
     let header = b"OSMROAD1\x01\0\0\0\x70\x11\x01\0\0\0\0\0";
     let one = &WITH_A_NAME[21..];
     assert_eq!(rt; bytes.len(), 20 + 70_000 * one.len());
@@ -345,38 +359,90 @@ fn arc(piece: PieceName, length: u32) -> TurnArc {
     TurnArc { piece, length }
 }
 
+/// The pieces of the way that is driven both ways, and some that it hasn't.
+const THERE: PieceName = PieceName {
+    way: WayId(10),
+    index: 0,
+    dir: Dir::Forward,
+};
+
+const BACK: PieceName = PieceName {
+    way: WayId(10),
+    index: 0,
+    dir: Dir::Backward,
+};
+
+const MISSING: [PieceName; 4] = [
+    PieceName {
+        way: WayId(10),
+        index: 1,
+        dir: Dir::Forward,
+    },
+    PieceName {
+        way: WayId(9),
+        index: 0,
+        dir: Dir::Forward,
+    },
+    PieceName {
+        way: WayId(11),
+        index: 0,
+        dir: Dir::Forward,
+    },
+    PieceName {
+        way: WayId(-1),
+        index: 3,
+        dir: Dir::Forward,
+    },
+];
+
+/// The piece with two contexts, and that to which its arcs lead.
+const ALONG: PieceName = PieceName {
+    way: WayId(-1),
+    index: 3,
+    dir: Dir::Backward,
+};
+
+const ON: PieceName = PieceName {
+    way: WayId(7),
+    index: 0,
+    dir: Dir::Forward,
+};
+
+fn check_missing(rt: &impl Abort, graph: &Graph) {
+    for piece in MISSING {
+        assert_eq!(rt; count_of_contexts(graph, piece), None);
+        assert_eq!(rt; first_arc(graph, piece, 0), None);
+    }
+}
+
+/// What the graph of the way that is driven both ways has.
+fn check_there_and_back(rt: &impl Abort, graph: &Graph) {
+    assert_eq!(rt; count_of_contexts(graph, THERE), Some(1));
+    assert_eq!(rt; first_arc(graph, THERE, 0), Some(arc(BACK, 1)));
+    assert_eq!(rt; first_arc(graph, BACK, 0), Some(arc(THERE, 1)));
+    assert_eq!(rt; first_arc(graph, BACK, 1), None);
+    check_missing(rt, graph);
+}
+
+/// What the graph with the piece of two contexts has.
+fn check_along(rt: &impl Abort, graph: &Graph) {
+    assert_eq!(rt; count_of_contexts(graph, ALONG), Some(2));
+    assert_eq!(rt; first_arc(graph, ALONG, 0), Some(arc(ON, 1)));
+    assert_eq!(rt; first_arc(graph, ALONG, 1), Some(arc(ON, 3)));
+    assert_eq!(rt; first_arc(graph, ALONG, 2), None);
+}
+
+/// The graph of a graph file.
+fn graph_of(alloc: Global, bytes: &[u8]) -> Result<Graph, Fail> {
+    match Graph::read(alloc, bytes)? {
+        Some(graph) => Ok(graph),
+        None => Err(Fail::from("these bytes are no graph")),
+    }
+}
+
 #[test]
 fn looks_up_what_a_piece_has(rt: HostRuntime) -> Result<(), Fail> {
-    let alloc = rt.alloc();
-    let there = name(10, 0, Dir::Forward);
-    let back = name(10, 0, Dir::Backward);
-    let along = name(-1, 3, Dir::Backward);
-    let on = name(7, 0, Dir::Forward);
-    let missing = [
-        name(10, 1, Dir::Forward),
-        name(9, 0, Dir::Forward),
-        name(11, 0, Dir::Forward),
-        name(-1, 3, Dir::Forward),
-    ];
-    let read = Graph::read(alloc, THERE_AND_BACK)?;
-    assert!(rt; read.is_some());
-    if let Some(graph) = read {
-        assert_eq!(rt; count_of_contexts(&graph, there), Some(1));
-        assert_eq!(rt; first_arc(&graph, there, 0), Some(arc(back, 1)));
-        assert_eq!(rt; first_arc(&graph, back, 0), Some(arc(there, 1)));
-        assert_eq!(rt; first_arc(&graph, back, 1), None);
-        for piece in missing {
-            assert_eq!(rt; count_of_contexts(&graph, piece), None);
-            assert_eq!(rt; first_arc(&graph, piece, 0), None);
-        }
-    }
-    let read = Graph::read(alloc, &WITH_A_NAME[1..])?;
-    assert!(rt; read.is_some());
-    if let Some(graph) = read {
-        assert_eq!(rt; count_of_contexts(&graph, along), Some(2));
-        assert_eq!(rt; first_arc(&graph, along, 0), Some(arc(on, 1)));
-        assert_eq!(rt; first_arc(&graph, along, 1), Some(arc(on, 3)));
-        assert_eq!(rt; first_arc(&graph, along, 2), None);
-    }
+    check_there_and_back(&rt, &graph_of(rt.alloc(), THERE_AND_BACK)?);
+    check_along(&rt, &graph_of(rt.alloc(), &WITH_A_NAME[1..])?);
     Ok(())
 }
