@@ -40,6 +40,8 @@ mod road_model_tests;
 #[cfg(test)]
 mod sequence_journal_tests;
 #[cfg(test)]
+mod session_input_tests;
+#[cfg(test)]
 mod touched_ways_tests;
 #[cfg(test)]
 mod turn_automata_tests;

@@ -15,6 +15,3 @@ mod received;
 
 pub use input::{Input, Taken};
 pub use received::{Change, Ending, InputStop, Received};
-
-#[cfg(test)]
-mod tests;

@@ -1,5 +1,5 @@
 use Rattle.std.proofs.Common.{length}
-use Rattle.session_input.proofs.tests.take_all.Given as goal
+use Rattle.library_tests.proofs.session_input_tests.take_all.Given as goal
 
 -- each turn takes a byte at least
 abbrev pub decreases-loop-rest : goal.decreases-loop-rest

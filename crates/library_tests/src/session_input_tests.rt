@@ -1,7 +1,10 @@
 //! Sessions, cut into parts.
-use super::*;
+ghost use Rattle.std.specs.Prelude.{◌<◌};
+
 use drive_queries::Asked;
+use session_input::{Change, Ending, Input, InputStop, Received};
 use std::alloc::{AllocError, Global};
+use std::process::Abort;
 use std::test::Fail;
 
 /// A message in a few words.
@@ -24,6 +27,11 @@ fn describe(alloc: Global, received: &Received) -> Result<String, AllocError> {
     }
 }
 
+/// Adds the message.
+fn add(alloc: Global, received: &Received, messages: &mut String) -> Result<(), AllocError> {
+    messages.push_str(describe(alloc, received)?.as_str())
+}
+
 /// Takes the part, and adds what it ends to the messages.
 fn take_all(
     alloc: Global,
@@ -35,7 +43,7 @@ fn take_all(
     while !rest.is_empty() {
         let taken = input.take(rest)?;
         if let Some(received) = &taken.received {
-            messages.push_str(describe(alloc, received)?.as_str())?;
+            add(alloc, received, messages)?;
             messages.push_str(", ")?;
         }
         rest = &rest[taken.used..];
@@ -43,24 +51,51 @@ fn take_all(
     Ok(())
 }
 
+/// Adds how the session ends.
+fn add_ending(alloc: Global, ending: &Ending, messages: &mut String) -> Result<(), AllocError> {
+    match ending {
+        Ending::Done => messages.push_str("done"),
+        Ending::Last(received) => {
+            messages.push_str("last ")?;
+            add(alloc, received, messages)
+        }
+        Ending::Unfinished(number) => {
+            messages.push_str(format!(in alloc; "unfinished {}", number.0)?.as_str())
+        }
+    }
+}
+
+/// Takes the parts in turn, and adds what they end to the messages.
+fn take_parts(
+    alloc: Global,
+    input: &mut Input,
+    parts: &[&[u8]],
+    messages: &mut String,
+) -> Result<(), Fail> {
+    for part in parts {
+        take_all(alloc, input, part, messages)?;
+    }
+    Ok(())
+}
+
+/// Adds the messages of a session that comes in these parts, and how it ends.
+fn add_session(alloc: Global, parts: &[&[u8]], messages: &mut String) -> Result<(), Fail> {
+    let mut input = Input::new(alloc);
+    take_parts(alloc, &mut input, parts, messages)?;
+    let ending = input.finish()?;
+    Ok(add_ending(alloc, &ending, messages)?)
+}
+
 /// The messages of a session that comes in these parts, and how it ends.
 fn messages(alloc: Global, parts: &[&[u8]]) -> Result<String, Fail> {
     let mut messages = String::new(alloc);
-    let mut input = Input::new(alloc);
-    for part in parts {
-        take_all(alloc, &mut input, part, &mut messages)?;
-    }
-    match input.finish()? {
-        Ending::Done => messages.push_str("done")?,
-        Ending::Last(received) => {
-            messages.push_str("last ")?;
-            messages.push_str(describe(alloc, &received)?.as_str())?;
-        }
-        Ending::Unfinished(number) => {
-            messages.push_str(format!(in alloc; "unfinished {}", number.0)?.as_str())?;
-        }
-    }
+    add_session(alloc, parts, &mut messages)?;
     Ok(messages)
+}
+
+/// Whether the session that comes in these parts has these messages.
+fn has_messages(alloc: Global, parts: &[&[u8]], wanted: &str) -> Result<bool, Fail> {
+    Ok(messages(alloc, parts)?.as_str() == wanted)
 }
 
 /// Sessions, and their messages.
@@ -107,39 +142,63 @@ fn sessions_are_cut_anywhere(rt: HostRuntime) -> Result<(), Fail> {
     for (session, wanted) in SESSIONS {
         for at in 0..session.len() + 1 {
             let (front, back) = session.split_at(at);
-            let told = messages(alloc, &[front, back])?;
-            assert_eq!(rt; told.as_str(), *wanted, "at {at}");
+            assert!(rt;
+                has_messages(alloc, &[front, back], wanted)?,
+                "{wanted:?} at {at}"
+            );
         }
     }
     Ok(())
 }
 
+/// Whether the session has these messages where each part, but for the last one, has so many bytes.
+fn has_messages_by(alloc: Global, session: &[u8], size: usize, wanted: &str) -> Result<bool, Fail>
+    requires { 0 < size }
+{
+    let mut parts = Vec::new(alloc);
+    for part in session.chunks(size) {
+        parts.push(part)?;
+    }
+    has_messages(alloc, parts.as_slice(), wanted)
+}
+
 #[test]
 fn sessions_come_in_short_parts(rt: HostRuntime) -> Result<(), Fail> {
-    let alloc = rt.alloc();
     for (session, wanted) in SESSIONS {
         for size in 1..4 {
-            let mut parts = Vec::new(alloc);
-            for part in session.chunks(size) {
-                parts.push(part)?;
-            }
-            let told = messages(alloc, parts.as_slice())?;
-            assert_eq!(rt; told.as_str(), *wanted, "by {size}");
+            assert!(rt;
+                has_messages_by(rt.alloc(), session, size, wanted)?,
+                "{wanted:?} by {size}"
+            );
         }
     }
+    Ok(())
+}
+
+/// A line of 2^24 bytes.
+fn longest_line(alloc: Global) -> Result<Vec<u8>, AllocError> {
+    let mut line = Vec::with_capacity(alloc, 16_777_218)?;
+    line.resize(16_777_216, b'a')?;
+    line.push(b'\n')?;
+    Ok(line)
+}
+
+/// Whether a session of these bytes is too long.
+fn is_too_long(alloc: Global, bytes: &[u8]) -> bool {
+    let mut input = Input::new(alloc);
+    matches!(input.take(bytes), Err(InputStop::TooLong))
+}
+
+/// The line, and the same with a byte more.
+fn check_limit(rt: &impl Abort, alloc: Global, line: &mut Vec<u8>) -> Result<(), Fail> {
+    assert!(rt; has_messages(alloc, &[line.as_slice()], "unknown, done")?);
+    line.insert(0, b'a')?;
+    assert!(rt; is_too_long(alloc, line.as_slice()));
     Ok(())
 }
 
 #[test]
 fn lines_have_a_limit(rt: HostRuntime) -> Result<(), Fail> {
-    let alloc = rt.alloc();
-    let mut line = Vec::with_capacity(alloc, 16_777_218)?;
-    line.resize(16_777_216, b'a')?;
-    line.push(b'\n')?;
-    let told = messages(alloc, &[line.as_slice()])?;
-    assert_eq!(rt; told.as_str(), "unknown, done");
-    line.insert(0, b'a')?;
-    let mut input = Input::new(alloc);
-    assert!(rt; matches!(input.take(line.as_slice()), Err(InputStop::TooLong)));
-    Ok(())
+    let mut line = longest_line(rt.alloc())?;
+    check_limit(&rt, rt.alloc(), &mut line)
 }
