@@ -21,6 +21,7 @@ use Rattle.road_model.specs.Orders.{Lists, relation_cmp}
 use Rattle.road_model.specs.Rules.{Rules, is_restriction}
 use Rattle.road_model.specs.Restrictions.{IsFirstCause, IsUsable}
 use Rattle.road_model.specs.Words.{kind_of}
+use Rattle.opl_lexer.specs.Letters.{newline}
 use Rattle.restrictions.specs.declared.word_list.Word.{Word}
 use Rattle.restrictions.specs.Words.{AreWords, IsRestriction}
 use Rattle.osmroad.specs.declared.findings.Finding.{Finding}
@@ -95,7 +96,7 @@ finding_text (Unused cause) = codes "unused " ++ cause_name cause
 -- `rN` before it, and the newline behind it
 abbrev pub rule_line : RuleLine → List ℕ
 rule_line line = codes "r"
-    ++ (signed_decimal line.relation.0 ++ (codes " " ++ (finding_text line.finding ++ 10 ∷ [])))
+    ++ (signed_decimal line.relation.0 ++ (codes " " ++ (finding_text line.finding ++ newline ∷ [])))
 
 -- the text is the line of the restriction
 pub record IsLineOf (M : Objects) (P : Rules) (r : RelationId) (text : List ℕ) : Type 0 where
@@ -133,7 +134,7 @@ conditional_count M = length (filter (λ e. carries_conditional e.1.body) (entri
 
 -- `conditional K`, with its newline
 abbrev pub conditional_line : ℕ → List ℕ
-conditional_line count = codes "conditional " ++ (decimal count ++ 10 ∷ [])
+conditional_line count = codes "conditional " ++ (decimal count ++ newline ∷ [])
 
 -- ---- the audit
 

@@ -1,5 +1,6 @@
 -- The limits of an input.
 use Rattle.std.specs.Prelude.{◌≡◌, ◌≢◌, ◌⊎◌, ◌+◌, ◌-◌, ◌≤◌, ◌<◌, ◌^◌, ℕ, List, length, slice_index}
+use Rattle.opl_lexer.specs.Letters.{newline}
 use Rattle.osmroad.specs.declared.limits.Measure.{Measure}
 
 -- there are more than 2^30 bytes: the limit of a graph file, which has no lines
@@ -8,7 +9,7 @@ HasTooManyBytes bytes = 2 ^ 30 < length bytes
 
 -- from this byte on more than 2^24 bytes come without a newline
 abbrev pub IsLongFrom : List ℕ → ℕ → Type 0
-IsLongFrom bytes i = (i + 2 ^ 24 < length bytes) × ((j : ℕ) → i ≤ j → j ≤ i + 2 ^ 24 → slice_index bytes j ≢ 10)
+IsLongFrom bytes i = (i + 2 ^ 24 < length bytes) × ((j : ℕ) → i ≤ j → j ≤ i + 2 ^ 24 → slice_index bytes j ≢ newline)
 
 -- a line has more than 2^24 bytes
 abbrev pub HasLongLine : List ℕ → Type 0
@@ -21,8 +22,8 @@ PassesLimit bytes = (2 ^ 30 < length bytes) ⊎ HasLongLine bytes
 -- the last k bytes are those behind the last newline
 pub record EndsLine (bytes : List ℕ) (k : ℕ) : Type 0 where
   pub bound : k ≤ length bytes
-  pub open_line : (j : ℕ) → length bytes - k ≤ j → j < length bytes → slice_index bytes j ≢ 10
-  pub start : (k ≡ length bytes) ⊎ ((k < length bytes) × (slice_index bytes (length bytes - k - 1) ≡ 10))
+  pub open_line : (j : ℕ) → length bytes - k ≤ j → j < length bytes → slice_index bytes j ≢ newline
+  pub start : (k ≡ length bytes) ⊎ ((k < length bytes) × (slice_index bytes (length bytes - k - 1) ≡ newline))
 
 -- the bytes pass no limit, and are that long
 pub record Measures (bytes : List ℕ) (measure : Measure) : Type 0 where
