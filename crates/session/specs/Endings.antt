@@ -11,7 +11,7 @@ use Rattle.session.specs.Conversation.{Kept, Conversed, Replied, IsFull}
 
 -- `limit`, with its newline
 abbrev pub limit_line : List ℕ
-limit_line = codes "limit" ++ 10 ∷ []
+limit_line = codes "limit" ++ newline ∷ []
 
 -- the bytes are a message whose last line has no newline
 pub record IsLast (message : Message) (bytes : List ℕ) : Type 0 where
