@@ -6,12 +6,14 @@ use Rattle.road_base.specs.declared.ids.WayId.{WayId}
 use Rattle.road_base.specs.Objects.{Objects}
 use Rattle.road_model.specs.declared.lists.PieceName.{PieceName}
 use Rattle.road_model.specs.Rules.{Rules}
+use Rattle.road_model.specs.Driving.{located}
 use Rattle.road_model.specs.Orders.{rises}
 use Rattle.road_model.specs.Pieces.{Span, IsPiece}
 use Rattle.road_model.specs.Network.{IsContext}
 use Rattle.road_model.specs.Blocks.{IsPieceEntry, IsContextEntry, name_of}
 use Rattle.drive_queries.specs.declared.ends.Start.{Start}
 use Rattle.drive_queries.specs.declared.ends.Goal.{Goal}
+use Rattle.drive_queries.specs.declared.ends.Ends.{Ends}
 use Rattle.drive_queries.specs.Searching.{BeginsAt, StopsAt}
 use Rattle.drive_queries.specs.Marks.{At, key_of, key_cmp}
 use Rattle.drive_queries.specs.Visits.{goal_in}
@@ -53,3 +55,10 @@ pub record AreGoals (M : Objects) (P : Rules) (b : NodeId) (goals : BTreeMap Pie
   pub sound : (n : PieceName) (g : Goal) → goal_in goals n ≡ Some g → IsGoalAt M P b n g
   pub complete : (p : Span) (j : ℕ) → IsPiece M P p → StopsAt M p j b
       → (g : Goal) × (goal_in goals (name_of p) ≡ Some g) × (j ≤ g.last)
+
+-- where a drive between the two nodes, which are visible with locations, may begin and end
+pub record AreEnds (M : Objects) (P : Rules) (e : Ends) : Type 0 where
+  pub starts : AreStarts M P e.a e.starts.items
+  pub goals : AreGoals M P e.b e.goals
+  pub from : IsTrue (located M (Some e.a))
+  pub to : IsTrue (located M (Some e.b))

@@ -6,13 +6,14 @@ ghost use Rattle.std.specs.FinMap.{get};
 ghost use Rattle.road_model.specs.declared.lists.Piece.{Piece};
 ghost use Rattle.road_model.specs.declared.lists.PieceName.{PieceName};
 ghost use Rattle.road_model.specs.BlockMap.{AreBlocksOf};
-ghost use Rattle.road_model.specs.Networks.{on};
+ghost use Rattle.road_model.specs.Driving.{located};
+ghost use Rattle.road_model.specs.Networks.{on, map_of};
 ghost use Rattle.road_model.specs.Orders.{name_cmp, rises};
 ghost use Rattle.drive_queries.specs.declared.ends.Start.{Start};
 ghost use Rattle.drive_queries.specs.declared.ends.Goal.{Goal};
 ghost use Rattle.drive_queries.specs.Ends.{pieces_in, BeginsBy, StopsBy, Leaves, Arrives};
 ghost use Rattle.drive_queries.specs.Visits.{goal_in};
-ghost use Rattle.drive_queries.specs.Sought.{AreStarts, AreGoals};
+ghost use Rattle.drive_queries.specs.Sought.{AreEnds, AreStarts, AreGoals};
 
 use road_base::{NoMemory, NodeId, WayId};
 use road_model::laws::{has_block, name_order, one_name, roads_refer};
@@ -34,8 +35,42 @@ pub struct Goal<'a> {
     pub last: usize,
 }
 
+/// The nodes where a drive is to begin and to end, and the pieces on which it may.
+#[derive(Drop)]
+pub struct Ends<'a> {
+    pub a: NodeId,
+    pub b: NodeId,
+    pub starts: Vec<Start<'a>>,
+    pub goals: BTreeMap<PieceName, Goal<'a>>,
+}
+
+/// Where a drive from node a to node b may begin and end.
+pub fn ends_of<'a, M: World, P: Profile>(
+    alloc: Global,
+    network: &Network<'_, M, P>,
+    blocks: &'a Blocks,
+    a: NodeId,
+    b: NodeId,
+) -> Result<Ends<'a>, NoMemory>
+    requires blocks { on network.now AreBlocksOf blocks.now.map }
+    requires from { IsTrue (located (map_of network.now) (Some a)) }
+    requires to { IsTrue (located (map_of network.now) (Some b)) }
+    ensures are { IfOk result (on network.now AreEnds) }
+    ensures a { IfOk result (λ e. e.a ≡ a) }
+    ensures b { IfOk result (λ e. e.b ≡ b) }
+{
+    let starts = starts_of(alloc, network, blocks, a)?;
+    let goals = goals_of(alloc, network, blocks, b)?;
+    Ok(Ends {
+        a,
+        b,
+        starts,
+        goals,
+    })
+}
+
 /// The pieces with a step that begins at the node, each with the first such step.
-pub fn starts_of<'a, M: World, P: Profile>(
+fn starts_of<'a, M: World, P: Profile>(
     alloc: Global,
     network: &Network<'_, M, P>,
     blocks: &'a Blocks,
@@ -101,7 +136,7 @@ fn add_start<'a>(
 }
 
 /// The pieces with a step that ends at the node, each with the last such step, by their names.
-pub fn goals_of<'a, M: World, P: Profile>(
+fn goals_of<'a, M: World, P: Profile>(
     alloc: Global,
     network: &Network<'_, M, P>,
     blocks: &'a Blocks,

@@ -8,9 +8,9 @@ ghost use Rattle.drive_queries.specs.declared.ends.Goal.{Goal};
 ghost use Rattle.drive_queries.specs.Marks.{at_of};
 ghost use Rattle.drive_queries.specs.Visits.{goal_in};
 ghost use Rattle.drive_queries.specs.Reaching.{IsFound};
-ghost use Rattle.drive_queries.specs.Sought.{AreSpots, AreStarts, AreGoals};
+ghost use Rattle.drive_queries.specs.Sought.{AreEnds, AreSpots};
 
-use crate::ends::{Goal, Start, goal_at, goals_of, starts_of};
+use crate::ends::{Ends, Goal, Start, ends_of, goal_at};
 use crate::following::{begin, run};
 use crate::found::Found;
 use crate::laws::searched_drives;
@@ -74,18 +74,53 @@ fn drive_to<M: World, P: Profile>(
     requires to { IsTrue (located (map_of network.now) (Some b)) }
     ensures { IfOk result (on network.now IsFound a b) }
 {
+    let ends = ends_of(alloc, network, blocks, a, b)?;
+    drive_between(alloc, network, blocks, &ends, to)
+}
+
+/// A drive between these ends, of which the last one lies there, or that there is none.
+fn drive_between<M: World, P: Profile>(
+    alloc: Global,
+    network: &Network<'_, M, P>,
+    blocks: &Blocks,
+    ends: &Ends<'_>,
+    to: Location,
+) -> Result<Found, NoMemory>
+    requires blocks { on network.now AreBlocksOf blocks.now.map }
+    requires ends { on network.now AreEnds ends.now }
+    ensures { IfOk result (on network.now IsFound ends.now.a ends.now.b) }
+{
     searched_drives(&network.profile);
     one_name(&network.profile);
-    let starts = starts_of(alloc, network, blocks, a)?;
-    let goals = goals_of(alloc, network, blocks, b)?;
-    if let Some((start, goal)) = inside_one(&starts, &goals) {
+    if let Some((start, goal)) = inside_one(&ends.starts, &ends.goals) {
         return Ok(Found::Drive(within(alloc, &start, &goal)?));
     }
     let spots = spots_in_order(alloc, network, blocks)?;
+    drive_over(alloc, network, &spots, ends, to)
+}
+
+/// A drive over these contexts, which are all, where none begins and ends on one piece.
+fn drive_over<M: World, P: Profile>(
+    alloc: Global,
+    network: &Network<'_, M, P>,
+    spots: &[Spot<'_>],
+    ends: &Ends<'_>,
+    to: Location,
+) -> Result<Found, NoMemory>
+    requires spots { on network.now AreSpots (map at_of spots.now) }
+    requires ends { on network.now AreEnds ends.now }
+    requires apart { (s : Start) (g : Goal) → Contains ends.now.starts.items s
+        → goal_in ends.now.goals s.piece.now.name ≡ Some g
+        → s.first ≤ g.last
+        → ⊥ }
+    ensures { IfOk result (on network.now IsFound ends.now.a ends.now.b) }
+{
+    searched_drives(&network.profile);
+    one_name(&network.profile);
     let mut search = Search::new(alloc, spots.len(), to)?;
-    begin(&mut search, &spots, &starts)?;
-    match run(alloc, &mut search, &spots, &goals)? {
-        Some(meeting) => Ok(Found::Drive(along(alloc, &spots, search.visits(), &meeting)?)),
+    begin(&mut search, spots, &ends.starts)?;
+    match run(alloc, &mut search, spots, &ends.goals)? {
+        Some(meeting) => Ok(Found::Drive(along(alloc, spots, search.visits(), &meeting)?)),
         None => Ok(Found::Nowhere),
     }
 }
