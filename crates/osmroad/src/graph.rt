@@ -3,7 +3,10 @@ ghost use Rattle.std.specs.Prelude.{◌≡◌, ◌+◌, ◌≤◌, length, IfOk}
 ghost use Rattle.std.specs.FinMap.{empty};
 ghost use Rattle.road_base.specs.Objects.{Objects};
 ghost use Rattle.road_base.specs.Applying.{IsApplied};
-ghost use Rattle.road_model.specs.Highways.{highways};
+ghost use Rattle.road_model.specs.Format.{IsGraph};
+ghost use Rattle.road_model.specs.Highways.{AreRoadWays, highways};
+ghost use Rattle.graph_file.specs.WalkedFiles.{IsWalkedFile};
+ghost use Rattle.access_profile.specs.Motorcar.{motorcar_rules};
 ghost use Rattle.osmroad.specs.Compiled.{IsGraphOf};
 
 use crate::blocks::write_blocks;
@@ -11,7 +14,7 @@ use access_profile::Motorcar;
 use back_references::Indexed;
 use expanded_graph::GraphBuilder;
 use road_base::laws::one_map;
-use road_base::{Event, NoMemory, Steps};
+use road_base::{Event, NoMemory, Steps, WayId};
 use road_model::laws::{roads_refer, walk_law};
 use std::alloc::Global;
 use std::mem::forget;
@@ -30,13 +33,42 @@ pub fn graph_of<L: Ledger>(
         → steps.new ≤ steps.old + length (highways objects) }
 {
     walk_law(&Motorcar);
-    roads_refer(&Motorcar);
     one_map();
     let world = Indexed::of(alloc, events)?;
-    let ways = world.highways()?;
-    let builder = GraphBuilder::of_all(alloc, &world, Motorcar, ways.as_slice())?;
-    let graph = write_blocks(alloc, &builder, ways.as_slice(), steps)?;
-    forget(builder);
+    let graph = graph_over(alloc, &world, steps);
     forget(world);
-    Ok(graph)
+    graph
+}
+
+/// The bytes of the graph of these objects.
+fn graph_over<L: Ledger>(
+    alloc: Global,
+    world: &Indexed,
+    steps: &mut Steps<L>,
+) -> Result<Vec<u8>, NoMemory>
+    ensures graph { IfOk result (λ out. IsGraph world.now motorcar_rules out.items) }
+    ensures file { IfOk result (λ out. IsWalkedFile world.now motorcar_rules out.items) }
+    ensures built { steps.new ≤ steps.old + length (highways world.now) }
+{
+    roads_refer(&Motorcar);
+    let ways = world.highways()?;
+    graph_of_ways(alloc, world, ways.as_slice(), steps)
+}
+
+/// The same, where these are the ways with pieces, ascending, and maybe others.
+fn graph_of_ways<L: Ledger>(
+    alloc: Global,
+    world: &Indexed,
+    ways: &[WayId],
+    steps: &mut Steps<L>,
+) -> Result<Vec<u8>, NoMemory>
+    requires { AreRoadWays world.now motorcar_rules ways.now }
+    ensures graph { IfOk result (λ out. IsGraph world.now motorcar_rules out.items) }
+    ensures file { IfOk result (λ out. IsWalkedFile world.now motorcar_rules out.items) }
+    ensures built { steps.new ≤ steps.old + length ways.now }
+{
+    let builder = GraphBuilder::of_all(alloc, world, Motorcar, ways)?;
+    let graph = write_blocks(alloc, &builder, ways, steps);
+    forget(builder);
+    graph
 }
