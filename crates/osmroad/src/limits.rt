@@ -1,6 +1,7 @@
 //! The limits of an input.
 ghost use Rattle.std.specs.Prelude.{◌≡◌, ◌≢◌, ◌≤◌, ◌<◌, ◌+◌, ◌-◌, ◌^◌, ◌++◌, ◌⊎◌, [], ℕ, List, length, slice_index};
 ghost use Rattle.std.specs.Prelude.{IfSome, IfNone};
+ghost use Rattle.opl_lexer.specs.Letters.{newline};
 
 use memchr::{memchr, memrchr};
 
@@ -22,9 +23,10 @@ pub struct Measure {
 /// How many bytes stand behind the last newline.
 fn last_line(bytes: &[u8]) -> usize
     ensures bound { result ≤ length bytes.now }
-    ensures open_line { (j : ℕ) → length bytes.now - result ≤ j → j < length bytes.now → slice_index bytes.now j ≢ 10 }
+    ensures open_line { (j : ℕ) → length bytes.now - result ≤ j → j < length bytes.now
+        → slice_index bytes.now j ≢ newline }
     ensures start { (result ≡ length bytes.now)
-        ⊎ ((result < length bytes.now) × (slice_index bytes.now (length bytes.now - result - 1) ≡ 10)) }
+        ⊎ ((result < length bytes.now) × (slice_index bytes.now (length bytes.now - result - 1) ≡ newline)) }
 {
     match memrchr(b'\n', bytes) {
         Some(at) => bytes.len() - at - 1,
