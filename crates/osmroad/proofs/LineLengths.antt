@@ -15,7 +15,7 @@ right bs ps j past = get_or-append_right bs ps (length bs) j 0 refl past
 abbrev pub IsPlainTo : List ℕ → ℕ → Type 0
 IsPlainTo ps n = (j : ℕ) → j < n → slice_index ps j ≢ 10
 
--- from the last line's first byte on to n bytes of the next piece there is no newline
+-- from the last line's first byte on to n bytes of the next part there is no newline
 plain : (bs ps : List ℕ) (k n : ℕ) → EndsLine bs k → IsPlainTo ps n → (j : ℕ) → length bs - k ≤ j → j < length bs + n
     → slice_index (bs ++ ps) j ≢ 10
 plain bs ps k n ends none j from to = λ e. elim (cases_lt j (length bs)) [
@@ -31,7 +31,7 @@ long bs ps k n ends inside none above =
     let total = length-append bs ps in
     (length bs - k, (omega arith, λ j from to. plain bs ps k n ends none j from (omega arith)))
 
--- no line that ends before n bytes of the next piece is too long
+-- no line that ends before n bytes of the next part is too long
 short_before : (bs ps : List ℕ) (k n i : ℕ) → EndsLine bs k → (HasLongLine bs → ⊥) → k + n ≤ 2 ^ 24
     → i + 2 ^ 24 < length bs + n → ((j : ℕ) → i ≤ j → j ≤ i + 2 ^ 24 → slice_index (bs ++ ps) j ≢ 10) → ⊥
 short_before bs ps k n i ends short few inside none = elim (cases_lt (i + 2 ^ 24) (length bs)) [
@@ -46,7 +46,7 @@ short_before bs ps k n i ends short few inside none = elim (cases_lt (i + 2 ^ 24
   ]
 ]
 
--- a piece without a newline makes the last line longer
+-- a part without a newline makes the last line longer
 pub grown : (bs ps : List ℕ) (k : ℕ) → EndsLine bs k → IsPlainTo ps (length ps) → EndsLine (bs ++ ps) (k + length ps)
 grown bs ps k ends none =
     let bound = ends.bound in
@@ -73,7 +73,7 @@ grown_short bs ps k ends short few l =
     let inside = l.1.0 in
     short_before bs ps k (length ps) l.0 ends short few (omega arith) l.1.1
 
--- a piece with a newline begins a line
+-- a part with a newline begins a line
 pub begun : (bs ps : List ℕ) (m f : ℕ) → EndsLine ps m → f < length ps → slice_index ps f ≡ 10 → EndsLine (bs ++ ps) m
 begun bs ps m f ends inside newline =
     let bound = ends.bound in
@@ -96,7 +96,7 @@ begun bs ps m f ends inside newline =
 
 pub begun_short : (bs ps : List ℕ) (k f : ℕ) → EndsLine bs k → (HasLongLine bs → ⊥) → k + f ≤ 2 ^ 24 → f < length ps
     → slice_index ps f ≡ 10 → length ps ≤ 2 ^ 24 → HasLongLine (bs ++ ps) → ⊥
-begun_short bs ps k f ends short few inside newline piece l =
+begun_short bs ps k f ends short few inside newline part l =
     let total = length-append bs ps in
     let whole = l.1.0 in
     elim (cases_lt (l.0 + 2 ^ 24) (length bs + f)) [

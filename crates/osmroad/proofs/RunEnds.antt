@@ -91,10 +91,10 @@ grows_nothing before now silent = told_weaker before now (λ w v. v.output ≡ w
     silent (λ w v e. e ∙ sym (append-nil w.output))
 
 -- a put changes no file
-switched_stands : (status : Status) (h : History) (w u : Outside) (piece : List ℕ)
+switched_stands : (status : Status) (h : History) (w u : Outside) (chunk : List ℕ)
     → StandAfter (Some Checkpoint) status (Some h) w u
-    → StandAfter (Some Checkpoint) status (Some h) w (extended piece u)
-switched_stands Done h w u piece s = record {
+    → StandAfter (Some Checkpoint) status (Some h) w (extended chunk u)
+switched_stands Done h w u chunk s = record {
   live = s.live;
   generation = s.generation;
   old = s.old;
@@ -102,29 +102,29 @@ switched_stands Done h w u piece s = record {
   stand = s.stand;
   small = s.small;
 }
-switched_stands Usage h w u piece s = s
-switched_stands ReadFault h w u piece s = s
-switched_stands SiteFault h w u piece s = s
-switched_stands Refused h w u piece s = s
-switched_stands OutOfSequence h w u piece s = s
-switched_stands NoStore h w u piece s = s
-switched_stands StoreExists h w u piece s = s
-switched_stands Damaged h w u piece s = s
-switched_stands Limit h w u piece s = s
-switched_stands NoMemory h w u piece s = s
+switched_stands Usage h w u chunk s = s
+switched_stands ReadFault h w u chunk s = s
+switched_stands SiteFault h w u chunk s = s
+switched_stands Refused h w u chunk s = s
+switched_stands OutOfSequence h w u chunk s = s
+switched_stands NoStore h w u chunk s = s
+switched_stands StoreExists h w u chunk s = s
+switched_stands Damaged h w u chunk s = s
+switched_stands Limit h w u chunk s = s
+switched_stands NoMemory h w u chunk s = s
 
-extended_stands : (command : Option Command) (status : Status) (after : Option History) (w u : Outside) (piece : List ℕ)
-    → StandAfter command status after w u → StandAfter command status after w (extended piece u)
-extended_stands command status None w u piece s = s
-extended_stands None status (Some h) w u piece s = s
-extended_stands (Some Compile) status (Some h) w u piece s = s
-extended_stands (Some Inspect) status (Some h) w u piece s = s
-extended_stands (Some (Sample n)) status (Some h) w u piece s = s
-extended_stands (Some (Create n)) status (Some h) w u piece s = s
-extended_stands (Some (Apply n)) status (Some h) w u piece s = s
-extended_stands (Some Graph) status (Some h) w u piece s = s
-extended_stands (Some Audit) status (Some h) w u piece s = s
-extended_stands (Some Checkpoint) status (Some h) w u piece s = switched_stands status h w u piece s
+extended_stands : (command : Option Command) (status : Status) (after : Option History) (w u : Outside) (chunk : List ℕ)
+    → StandAfter command status after w u → StandAfter command status after w (extended chunk u)
+extended_stands command status None w u chunk s = s
+extended_stands None status (Some h) w u chunk s = s
+extended_stands (Some Compile) status (Some h) w u chunk s = s
+extended_stands (Some Inspect) status (Some h) w u chunk s = s
+extended_stands (Some (Sample n)) status (Some h) w u chunk s = s
+extended_stands (Some (Create n)) status (Some h) w u chunk s = s
+extended_stands (Some (Apply n)) status (Some h) w u chunk s = s
+extended_stands (Some Graph) status (Some h) w u chunk s = s
+extended_stands (Some Audit) status (Some h) w u chunk s = s
+extended_stands (Some Checkpoint) status (Some h) w u chunk s = switched_stands status h w u chunk s
 
 module _ (command : Option Command) (out : List ℕ) where
   still_stands : (status : Status) (after : Option History) (w u v : Outside) → StandAfter command status after w u

@@ -93,16 +93,16 @@ Grows out = Told (λ before now. now.output ≡ before.output ++ out)
 abbrev pub GrowsInto : List ℕ → Option Outside → Option Outside → Type 0
 GrowsInto out = Told (λ before now. (n : ℕ) × (now.output ≡ before.output ++ take n out))
 
--- How the last put ended: the status that was wanted, all of the piece, and no fault; or a fault, a front of the piece,
+-- How the last put ended: the status that was wanted, all of the chunk, and no fault; or a fault, a front of the chunk,
 -- and a count that rose.
 abbrev pub EndsPut : List ℕ → Status → Status → Option Outside → Option Outside → ℕ → ℕ → Type 0
-EndsPut piece wanted status before now faults_before faults_now =
-    ((status ≡ wanted) × Grows piece before now × (faults_now ≡ faults_before))
-    ⊎ ((status ≡ SiteFault) × GrowsInto piece before now × Rose faults_before faults_now)
+EndsPut chunk wanted status before now faults_before faults_now =
+    ((status ≡ wanted) × Grows chunk before now × (faults_now ≡ faults_before))
+    ⊎ ((status ≡ SiteFault) × GrowsInto chunk before now × Rose faults_before faults_now)
 
--- nothing was done, or a front of the piece was put
+-- nothing was done, or a front of the chunk was put
 abbrev pub PutsSome : List ℕ → Outside → Outside → Type 0
-PutsSome piece before now = (now ≡ before) ⊎ ((n : ℕ) × (now ≡ extended (take n piece) before))
+PutsSome chunk before now = (now ≡ before) ⊎ ((n : ℕ) × (now ≡ extended (take n chunk) before))
 
 -- ---- what the files say
 

@@ -2,7 +2,7 @@
 ghost use Rattle.std.specs.Prelude.{◌≡◌, ◌<◌, IfOk, IfErr, Err};
 ghost use Rattle.osmroad.specs.Gathering.{Gathered, GatherStopped};
 
-use crate::input::{InputError, PIECE, front};
+use crate::input::{BUFFER, InputError, front};
 use crate::limits::MOST_BYTES;
 use road_io::Source;
 use std::alloc::Global;
@@ -15,18 +15,18 @@ pub fn gather<S: Source>(alloc: Global, source: &mut S) -> Result<Vec<u8>, Input
         (S.faults source.old) (S.faults source.new)) }
     ensures each_fault { S.faults source.old < S.faults source.new → result ≡ Err InputError.Failed }
 {
-    let Ok(mut piece) = vec![in alloc; 0u8; PIECE] else {
+    let Ok(mut buffer) = vec![in alloc; 0u8; BUFFER] else {
         return Err(InputError::NoMemory);
     };
     let mut bytes = Vec::new(alloc);
     loop {
-        let Ok(n) = source.read(&mut piece) else {
+        let Ok(n) = source.read(&mut buffer) else {
             return Err(InputError::Failed);
         };
         if n == 0 {
             return Ok(bytes);
         }
-        let part = front(&piece, n);
+        let part = front(&buffer, n);
         if bytes.len() + part.len() > MOST_BYTES {
             return Err(InputError::TooLong);
         }

@@ -14,7 +14,7 @@ use road_io::Source;
 use std::alloc::Global;
 
 /// How many bytes are read at once.
-pub const PIECE: usize = 1 << 16;
+pub const BUFFER: usize = 1 << 16;
 
 /// Why an input isn't read.
 #[derive(Clone, Copy, PartialEq, Eq, Debug)]
@@ -105,18 +105,18 @@ pub fn read_events<S: Source>(
         (S.faults source.old) (S.faults source.new)) }
     ensures each_fault { S.faults source.old < S.faults source.new → result ≡ Err InputError.Failed }
 {
-    let Ok(mut piece) = vec![in alloc; 0u8; PIECE] else {
+    let Ok(mut buffer) = vec![in alloc; 0u8; BUFFER] else {
         return Err(InputError::NoMemory);
     };
     let mut input = Input::new(alloc, mode);
     loop {
-        let Ok(n) = source.read(&mut piece) else {
+        let Ok(n) = source.read(&mut buffer) else {
             return Err(InputError::Failed);
         };
         if n == 0 {
             return input.finish();
         }
-        match input.take(front(&piece, n)) {
+        match input.take(front(&buffer, n)) {
             Ok(()) => {}
             Err(error) => return Err(error),
         }

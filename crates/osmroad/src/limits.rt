@@ -45,20 +45,20 @@ impl Measure {
         Measure { total: 0, line: 0 }
     }
 
-    /// With one more piece, or None exactly where a limit is passed.
-    pub fn with(self, piece: &[u8]) -> Option<Measure>
-        requires { length piece.now ≤ 2 ^ 24 }
+    /// With one more part, or None exactly where a limit is passed.
+    pub fn with(self, part: &[u8]) -> Option<Measure>
+        requires { length part.now ≤ 2 ^ 24 }
         ensures some { IfSome result (λ after. (bytes : List ℕ) → Measures bytes self
-            → Measures (bytes ++ piece.now) after) }
-        ensures total { IfSome result (λ after. after.total ≡ self.total + length piece.now) }
-        ensures none { IfNone result ((bytes : List ℕ) → Measures bytes self → PassesLimit (bytes ++ piece.now)) }
+            → Measures (bytes ++ part.now) after) }
+        ensures total { IfSome result (λ after. after.total ≡ self.total + length part.now) }
+        ensures none { IfNone result ((bytes : List ℕ) → Measures bytes self → PassesLimit (bytes ++ part.now)) }
     {
-        let total = self.total + piece.len();
+        let total = self.total + part.len();
         if total > MOST_BYTES {
             return None;
         }
-        let Some(first) = memchr(b'\n', piece) else {
-            let line = self.line + piece.len();
+        let Some(first) = memchr(b'\n', part) else {
+            let line = self.line + part.len();
             if line > MOST_LINE {
                 return None;
             }
@@ -67,7 +67,7 @@ impl Measure {
         if self.line + first > MOST_LINE {
             return None;
         }
-        let line = last_line(piece);
+        let line = last_line(part);
         Some(Measure { total, line })
     }
 }

@@ -140,12 +140,12 @@ pub fn refuse_change(
 }
 
 /// Puts what is last put, and answers the status that it stands for.
-pub fn put_last<W: Site>(site: &mut W, piece: &[u8], status: Status) -> Status
-    ensures ends { EndsPut piece.now status result (W.outside site.old) (W.outside site.new)
+pub fn put_last<W: Site>(site: &mut W, chunk: &[u8], status: Status) -> Status
+    ensures ends { EndsPut chunk.now status result (W.outside site.old) (W.outside site.new)
         (W.faults site.old) (W.faults site.new) }
-    ensures files { Told (PutsSome piece.now) (W.outside site.old) (W.outside site.new) }
+    ensures files { Told (PutsSome chunk.now) (W.outside site.old) (W.outside site.new) }
 {
-    match site.put(piece) {
+    match site.put(chunk) {
         Ok(()) => status,
         Err(_) => Status::SiteFault,
     }

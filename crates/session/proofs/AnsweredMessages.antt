@@ -39,35 +39,35 @@ use Rattle.session.proofs.KeptStores.{images_stand, kept_still}
 -- ---- a reply that changes nothing
 
 module _ (laws : StoreLaws) (P : Rules) (world : Objects) (journal : Journal) (from : Kept) (message : Message) where
-  put_leaves : (piece : List ℕ) (w : Outside) (left : Left) → IsKept world journal from w → LeavesPut piece w left
-      → LeavesReply from from w.output piece left
-  put_leaves piece w left k l =
+  put_leaves : (chunk : List ℕ) (w : Outside) (left : Left) → IsKept world journal from w → LeavesPut chunk w left
+      → LeavesReply from from w.output chunk left
+  put_leaves chunk w left k l =
       let stands = images_stand laws journal from.history w left k.on_store l.a l.b in
       record { begins = l.begins; within = l.within; files = inl stands; whole = λ all. stands }
 
-  pub put_answers : (piece : List ℕ) (result : Result (Unit {0}) Stop) (w v : Outside)
-      → IfErr result (λ e. e ≡ SiteFault) → PutsOn piece result w v → IsKept world journal from w
-      → Replied P from message piece from → Answers P from message world journal result w v
-  put_answers piece (Ok x) w v named p k r = record {
-    reply = piece;
+  pub put_answers : (chunk : List ℕ) (result : Result (Unit {0}) Stop) (w v : Outside)
+      → IfErr result (λ e. e ≡ SiteFault) → PutsOn chunk result w v → IsKept world journal from w
+      → Replied P from message chunk from → Answers P from message world journal result w v
+  put_answers chunk (Ok x) w v named p k r = record {
+    reply = chunk;
     to = from;
     replied = r;
     kept = kept_still w v p.same_a p.same_b laws world journal from k;
     grows = p.grows ∙ ap (λ (l : List ℕ). w.output ++ l) p.whole;
-    only = only_weaker w v (LeavesPut piece w) (LeavesReply from from w.output piece) p.only
-        (λ left l. put_leaves piece w left k l);
+    only = only_weaker w v (LeavesPut chunk w) (LeavesReply from from w.output chunk) p.only
+        (λ left l. put_leaves chunk w left k l);
   }
-  put_answers piece (Err SiteFault) w v named p k r = record {
-    reply = piece;
+  put_answers chunk (Err SiteFault) w v named p k r = record {
+    reply = chunk;
     to = from;
     replied = r;
     n = length p.put;
     grows = p.grows ∙ ap (λ (l : List ℕ). w.output ++ l) (sym p.front);
-    only = only_weaker w v (LeavesPut piece w) (LeavesReply from from w.output piece) p.only
-        (λ left l. put_leaves piece w left k l);
+    only = only_weaker w v (LeavesPut chunk w) (LeavesReply from from w.output chunk) p.only
+        (λ left l. put_leaves chunk w left k l);
   }
-  put_answers piece (Err Limit) w v named p k r = let e : Limit ≡ SiteFault = named in cc
-  put_answers piece (Err NoMemory) w v named p k r = let e : NoMemory ≡ SiteFault = named in cc
+  put_answers chunk (Err Limit) w v named p k r = let e : Limit ≡ SiteFault = named in cc
+  put_answers chunk (Err NoMemory) w v named p k r = let e : NoMemory ≡ SiteFault = named in cc
 
 -- ---- a change that is added
 

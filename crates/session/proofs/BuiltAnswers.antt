@@ -76,13 +76,13 @@ module _ (world : Objects) (journal : Journal) (x : Option Outside) where
       → IsKept world journal from w → TouchesNone from (Frame number.0 body) world journal v)
       (λ w from body is k. record { touches = fault_none number journal w world from k body fault next is; kept = k })
 
--- a piece is put
-module _ (laws : StoreLaws) (world : Objects) (journal : Journal) (piece : List ℕ) (result : Result (Unit {0}) Stop)
-    (x y : Option Outside) (told : Told (PutsOn piece result) x y) where
+-- a chunk is put
+module _ (laws : StoreLaws) (world : Objects) (journal : Journal) (chunk : List ℕ) (result : Result (Unit {0}) Stop)
+    (x y : Option Outside) (told : Told (PutsOn chunk result) x y) where
   pub line_builds : (asked : Asked)
       → Told (λ w v. (from : Kept) → IsKept world journal from w → TouchesNone from (Line asked) world journal v) x y
   line_builds asked =
-      told_weaker x y (PutsOn piece result) (λ w v. (from : Kept) → IsKept world journal from w
+      told_weaker x y (PutsOn chunk result) (λ w v. (from : Kept) → IsKept world journal from w
       → TouchesNone from (Line asked) world journal v) told
       (λ w v p from k. record {
         touches = (refl, refl);
@@ -93,7 +93,7 @@ module _ (laws : StoreLaws) (world : Objects) (journal : Journal) (piece : List 
       → Told (λ w v. (from : Kept) (body : List ℕ) → IsKept world journal from w
       → TouchesNone from (Frame number.0 body) world journal v) x y
   number_builds number other =
-      told_weaker x y (PutsOn piece result) (λ w v. (from : Kept) (body : List ℕ) → IsKept world journal from w
+      told_weaker x y (PutsOn chunk result) (λ w v. (from : Kept) (body : List ℕ) → IsKept world journal from w
       → TouchesNone from (Frame number.0 body) world journal v) told
       (λ w v p from body k. record {
         touches = number_none number journal w world from k body other;
@@ -104,7 +104,7 @@ module _ (laws : StoreLaws) (world : Objects) (journal : Journal) (piece : List 
       → Told (λ w v. (from : Kept) (body : List ℕ) → input_fault Change body ≡ Some fault
       → IsKept world journal from w → TouchesNone from (Frame number.0 body) world journal v) x y
   fault_builds number fault next =
-      told_weaker x y (PutsOn piece result) (λ w v. (from : Kept) (body : List ℕ)
+      told_weaker x y (PutsOn chunk result) (λ w v. (from : Kept) (body : List ℕ)
       → input_fault Change body ≡ Some fault → IsKept world journal from w
       → TouchesNone from (Frame number.0 body) world journal v) told
       (λ w v p from body is k. record {
@@ -201,12 +201,12 @@ module _ (laws : StoreLaws) (P : Rules) (number : Sequence) (events : List Event
     kept_builds (Err stop) from body w o v gives k adds same_a same_b = change_builds from body w k gives
 
     -- the change is kept, and then it is told so
-    pub change_builds_kept : (x y z : Option Outside) (piece : List ℕ) (result : Result (Unit {0}) Stop)
-        → Told (Adds old new events (Ok u)) x y → Told (PutsOn piece result) y z
+    pub change_builds_kept : (x y z : Option Outside) (chunk : List ℕ) (result : Result (Unit {0}) Stop)
+        → Told (Adds old new events (Ok u)) x y → Told (PutsOn chunk result) y z
         → Told (λ w v. (from : Kept) (body : List ℕ) → ReadAll Change body events → IsKept world old from w
         → AnswerBuilds from (Frame number.0 body) after new result was now v) x z
-    change_builds_kept x y z piece result adds puts =
-        told_then x y z (Adds old new events (Ok u)) (PutsOn piece result)
+    change_builds_kept x y z chunk result adds puts =
+        told_then x y z (Adds old new events (Ok u)) (PutsOn chunk result)
         (λ w v. (from : Kept) (body : List ℕ) → ReadAll Change body events → IsKept world old from w
         → AnswerBuilds from (Frame number.0 body) after new result was now v) adds puts
         (λ w o v a p from body gives k. kept_builds result from body w o v gives k a p.same_a p.same_b)

@@ -34,7 +34,7 @@ use Rattle.session.specs.Conversing.{IsOpening, opening_of, LeavesReply, LeavesS
 use Rattle.session.specs.Putting.{LeavesPut, PutsOn}
 use Rattle.session.specs.Answering.{IsAnswered, IsKept, Answers}
 use Rattle.session.specs.Following.{LeavesStill, Talks, Since, Goes, Closes, Breaks, Halts}
-use Rattle.session.proofs.PutPieces.{puts_nothing}
+use Rattle.session.proofs.PutChunks.{puts_nothing}
 use Rattle.session.proofs.KeptStores.{images_stand, on_still, small_still, can_be_loaded}
 
 -- ---- what is said last is put

@@ -1,5 +1,5 @@
 pub mod OutputFronts
-mod PutPieces
+mod PutChunks
 pub mod KeptStores
 mod AnsweredMessages
 mod ToldAnswers

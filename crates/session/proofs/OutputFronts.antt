@@ -13,19 +13,19 @@ starts_whole xs = starts_with_of_eq xs xs refl
 pub starts_front : (xs rest : List ℕ) → StartsWith (xs ++ rest) xs
 starts_front xs rest = starts_with_of_append (xs ++ rest) xs rest refl
 
--- a front of a piece behind some bytes
-pub starts_behind : (xs piece put : List ℕ) → StartsWith piece put → StartsWith (xs ++ piece) (xs ++ put)
-starts_behind xs piece put front =
-    ap (λ (n : ℕ). take n (xs ++ piece)) (length-append xs put)
-    ∙ (take-append-add xs piece (length put) ∙ ap (λ (l : List ℕ). xs ++ l) front)
+-- a front of a chunk behind some bytes
+pub starts_behind : (xs chunk put : List ℕ) → StartsWith chunk put → StartsWith (xs ++ chunk) (xs ++ put)
+starts_behind xs chunk put front =
+    ap (λ (n : ℕ). take n (xs ++ chunk)) (length-append xs put)
+    ∙ (take-append-add xs chunk (length put) ∙ ap (λ (l : List ℕ). xs ++ l) front)
 
 pub starts_taken : (n : ℕ) (xs : List ℕ) → StartsWith xs (take n xs)
 starts_taken n xs = starts_with_of_append xs (take n xs) (drop n xs) (sym (take-append-drop n xs))
 
-pub starts_longer : (xs piece more put : List ℕ) → StartsWith (xs ++ piece) put → StartsWith (xs ++ (piece ++ more)) put
-starts_longer xs piece more put front =
-    starts_with_trans (xs ++ (piece ++ more)) (xs ++ piece) put
-    (starts_with_of_append (xs ++ (piece ++ more)) (xs ++ piece) more (sym (append_assoc xs piece more))) front
+pub starts_longer : (xs chunk more put : List ℕ) → StartsWith (xs ++ chunk) put → StartsWith (xs ++ (chunk ++ more)) put
+starts_longer xs chunk more put front =
+    starts_with_trans (xs ++ (chunk ++ more)) (xs ++ chunk) put
+    (starts_with_of_append (xs ++ (chunk ++ more)) (xs ++ chunk) more (sym (append_assoc xs chunk more))) front
 
 -- an output that is a front of what it was holds no line behind that
 pub nothing_put : (was line put : List ℕ) → 0 < length line → StartsWith was put → StartsWith put (was ++ line) → ⊥

@@ -62,42 +62,42 @@ module _ (laws : StoreLaws) (P : Rules) (world : Objects) (journal : Journal) (r
       → number.0 ≡ kept from.history + 1 → IsNext journal number
   next_kept number w from k e = e ∙ ap (λ (n : ℕ). n + 1) (sym k.on_store.at.last)
 
-  pub number_answers : (number last : Sequence) (line piece : List ℕ)
+  pub number_answers : (number last : Sequence) (line chunk : List ℕ)
       → (IsNext journal number → ⊥) → last ≡ journal.kept
-      → line ≡ refused_sequence_line number.0 last.0 → piece ≡ line → Told (PutsOn piece result) x y
+      → line ≡ refused_sequence_line number.0 last.0 → chunk ≡ line → Told (PutsOn chunk result) x y
       → Told (λ w v. (from : Kept) (body : List ℕ) → IsKept world journal from w
       → Answers P from (Frame number.0 body) world journal result w v) x y
-  number_answers number last line piece other same is one told =
-      told_weaker x y (PutsOn piece result) (λ w v. (from : Kept) (body : List ℕ) → IsKept world journal from w
+  number_answers number last line chunk other same is one told =
+      told_weaker x y (PutsOn chunk result) (λ w v. (from : Kept) (body : List ℕ) → IsKept world journal from w
       → Answers P from (Frame number.0 body) world journal result w v) told
-      (λ w v p from body k. put_answers laws P world journal from (Frame number.0 body) piece result w v named p k
+      (λ w v p from body k. put_answers laws P world journal from (Frame number.0 body) chunk result w v named p k
       (OutOfSequence (λ e. other (next_kept number w from k e))
       (one ∙ is ∙ ap (λ (n : ℕ). refused_sequence_line number.0 n)
       (ap (λ (s : Sequence). s.0) same ∙ k.on_store.at.last)) refl))
 
-  pub fault_answers : (number : Sequence) (fault : FaultAt) (line piece : List ℕ) → IsNext journal number
-      → line ≡ refused_fault_line number.0 fault → piece ≡ line → Told (PutsOn piece result) x y
+  pub fault_answers : (number : Sequence) (fault : FaultAt) (line chunk : List ℕ) → IsNext journal number
+      → line ≡ refused_fault_line number.0 fault → chunk ≡ line → Told (PutsOn chunk result) x y
       → Told (λ w v. (from : Kept) (body : List ℕ) → input_fault Change body ≡ Some fault
       → IsKept world journal from w → Answers P from (Frame number.0 body) world journal result w v) x y
-  fault_answers number fault line piece next is one told =
-      told_weaker x y (PutsOn piece result) (λ w v. (from : Kept) (body : List ℕ)
+  fault_answers number fault line chunk next is one told =
+      told_weaker x y (PutsOn chunk result) (λ w v. (from : Kept) (body : List ℕ)
       → input_fault Change body ≡ Some fault → IsKept world journal from w
       → Answers P from (Frame number.0 body) world journal result w v) told
-      (λ w v p from body f k. put_answers laws P world journal from (Frame number.0 body) piece result w v named p k
+      (λ w v p from body f k. put_answers laws P world journal from (Frame number.0 body) chunk result w v named p k
       (Faulty (next ∙ ap (λ (n : ℕ). n + 1) k.on_store.at.last) fault f (one ∙ is) refl))
 
 -- ---- a change
 
 module _ (laws : StoreLaws) (P : Rules) (number : Sequence) (events : List Event) (old new : Journal)
     (world after : Objects) (before now : ℕ) where
-  pub change_answers : (x y z : Option Outside) (u : Unit {0}) (line piece : List ℕ) (result : Result (Unit {0}) Stop)
+  pub change_answers : (x y z : Option Outside) (u : Unit {0}) (line chunk : List ℕ) (result : Result (Unit {0}) Stop)
       → IfErr result (λ e. e ≡ SiteFault) → AddAnswer old new number events (Ok u) before now
-      → IsApplied world events after → line ≡ applied_line number.0 → piece ≡ line
-      → Told (Adds old new events (Ok u)) x y → Told (PutsOn piece result) y z
+      → IsApplied world events after → line ≡ applied_line number.0 → chunk ≡ line
+      → Told (Adds old new events (Ok u)) x y → Told (PutsOn chunk result) y z
       → Told (λ w v. (from : Kept) (body : List ℕ) → ReadAll Change body events → IsKept world old from w
       → Answers P from (Frame number.0 body) after new result w v) x z
-  change_answers x y z u line piece result named answer applied is one adds puts =
-      told_then x y z (Adds old new events (Ok u)) (PutsOn piece result)
+  change_answers x y z u line chunk result named answer applied is one adds puts =
+      told_then x y z (Adds old new events (Ok u)) (PutsOn chunk result)
       (λ w v. (from : Kept) (body : List ℕ) → ReadAll Change body events → IsKept world old from w
       → Answers P from (Frame number.0 body) after new result w v) adds puts
       (λ w o v a p from body gives k. added_answers laws P number body events old new world after from before now u

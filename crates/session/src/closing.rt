@@ -12,7 +12,7 @@ ghost use Rattle.session.specs.Following.{Goes, Since, Closes, Halts, IsHalted};
 
 use crate::end::End;
 use crate::laws::store_laws;
-use crate::putting::put_piece;
+use crate::putting::put_chunk;
 use crate::stop::Stop;
 use crate::talk::Talk;
 use road_base::Steps;
@@ -32,7 +32,7 @@ fn say_last<W: Site>(site: &mut W, line: &[u8], end: End) -> End
     ensures named { (result ≡ end) ⊎ (result ≡ End.SiteFault) }
 {
     store_laws();
-    match put_piece(site, line) {
+    match put_chunk(site, line) {
         Ok(()) => end,
         Err(_) => End::SiteFault,
     }

@@ -7,29 +7,29 @@ ghost use Rattle.session.specs.Answering.{CountsStops};
 use crate::stop::Stop;
 use road_io::Site;
 
-/// Puts a piece that has a byte; one that has none takes no call.
-pub fn put_piece<W: Site>(site: &mut W, piece: &[u8]) -> Result<(), Stop>
-    ensures told { Told (PutsOn piece.now result) (W.outside site.old) (W.outside site.new) }
+/// Puts a chunk that has a byte; one that has none takes no call.
+pub fn put_chunk<W: Site>(site: &mut W, chunk: &[u8]) -> Result<(), Stop>
+    ensures told { Told (PutsOn chunk.now result) (W.outside site.old) (W.outside site.new) }
     ensures calls { CountsStops (W.faults site.old) (W.faults site.new) result }
     ensures named { IfErr result (λ e. e ≡ Stop.SiteFault) }
 {
-    if piece.is_empty() {
+    if chunk.is_empty() {
         return Ok(());
     }
-    match site.put(piece) {
+    match site.put(chunk) {
         Ok(()) => Ok(()),
         Err(_) => Err(Stop::SiteFault),
     }
 }
 
-/// Puts a piece, and another one behind it.
+/// Puts a chunk, and another one behind it.
 pub fn put_both<W: Site>(site: &mut W, first: &[u8], second: &[u8]) -> Result<(), Stop>
     ensures told { Told (PutsOn (first.now ++ second.now) result) (W.outside site.old) (W.outside site.new) }
     ensures calls { CountsStops (W.faults site.old) (W.faults site.new) result }
     ensures named { IfErr result (λ e. e ≡ Stop.SiteFault) }
 {
-    match put_piece(site, first) {
-        Ok(()) => put_piece(site, second),
+    match put_chunk(site, first) {
+        Ok(()) => put_chunk(site, second),
         Err(error) => Err(error),
     }
 }

@@ -13,7 +13,7 @@ ghost use Rattle.session.specs.Answering.{IsReadyAt, IsKept, Answers, IsAskedAlo
 ghost use Rattle.session.specs.BuildingOn.{TouchesNone, AnswerBuilds};
 
 use crate::laws::store_laws;
-use crate::putting::{put_both, put_piece};
+use crate::putting::{put_both, put_chunk};
 use crate::stop::{Stop, stop_of};
 use change_apply::Engine;
 use drive_queries::Asked;
@@ -73,7 +73,7 @@ impl<P: Profile> Talk<P> {
         let Ok(line) = refused_sequence(self.alloc, number, self.journal.kept()) else {
             return Err(Stop::NoMemory);
         };
-        put_piece(site, &line)
+        put_chunk(site, &line)
     }
 
     /// Refuses a frame that has the next number, and a fault.
@@ -100,7 +100,7 @@ impl<P: Profile> Talk<P> {
         let Ok(line) = refused_fault(self.alloc, number, fault) else {
             return Err(Stop::NoMemory);
         };
-        put_piece(site, &line)
+        put_chunk(site, &line)
     }
 
     /// Accepts a frame that has the next number and no fault, where there is room for it: its change is applied to the
@@ -141,7 +141,7 @@ impl<P: Profile> Talk<P> {
             return Err(Stop::NoMemory);
         };
         match self.journal.append(self.alloc, site, number, events) {
-            Ok(()) => put_piece(site, &line),
+            Ok(()) => put_chunk(site, &line),
             Err(error) => Err(stop_of(error)),
         }
     }

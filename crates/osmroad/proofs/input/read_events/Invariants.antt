@@ -5,7 +5,7 @@ use Rattle.osmroad.specs.Reading.{Holds}
 use Rattle.road_io.specs.Parts.{Took}
 use Rattle.osmroad.proofs.input.read_events.Given as goal
 
--- these bytes were read so far, no read failed, and there is room for a piece
+-- these bytes were read so far, no read failed, and there is room for a part
 pub record Goes (mode : Mode) (before now : Option (List ℕ)) (input : Input)
     (faults_before faults_now len : ℕ) : Type 0 where
   pub read : List ℕ
@@ -17,7 +17,7 @@ pub record Goes (mode : Mode) (before now : Option (List ℕ)) (input : Input)
 abbrev pub invariant-loop-n : goal.invariant-loop-n
 invariant-loop-n g l =
     Goes l.fn.mode (g.S.Source.bytes_left l.fn.source) (g.S.Source.bytes_left l.source) l.input
-    (g.S.Source.faults l.fn.source) (g.S.Source.faults l.source) (vec_len l.piece)
+    (g.S.Source.faults l.fn.source) (g.S.Source.faults l.source) (vec_len l.buffer)
 
 abbrev pub decreases-loop-n : goal.decreases-loop-n
 decreases-loop-n g l = 1073741825 - l.input.measure.total

@@ -5,16 +5,16 @@ use Rattle.road_io.proofs.ToldCalls.{told_weaker}
 use Rattle.osmroad.specs.Run.{PutsSome}
 use Rattle.osmroad.proofs.reply.put_last.Goals as goal
 
--- all of a piece is a front of it
-puts_all : (piece : List ℕ) (w v : Outside) → v ≡ extended piece w → PutsSome piece w v
-puts_all piece w v is = inr (
-  length piece,
+-- all of a chunk is a front of it
+puts_all : (chunk : List ℕ) (w v : Outside) → v ≡ extended chunk w → PutsSome chunk w v
+puts_all chunk w v is = inr (
+  length chunk,
   is ∙ ap (λ (l : List ℕ). extended l w)
-      (sym (take_all (length piece) piece (le_refl (length piece)))),
+      (sym (take_all (length chunk) chunk (le_refl (length chunk)))),
 )
 
 pub returns-in-Ok-clause-files : goal.returns-in-Ok-clause-files
 returns-in-Ok-clause-files g c =
-    let piece = c.args.piece.now in
-    told_weaker (g.W.Site.outside c.args.site.now) (g.W.Site.outside c.put.new.self) (λ w v. v ≡ extended piece w)
-    (PutsSome piece) c.in-Ok.ensures.told (puts_all piece)
+    let chunk = c.args.chunk.now in
+    told_weaker (g.W.Site.outside c.args.site.now) (g.W.Site.outside c.put.new.self) (λ w v. v ≡ extended chunk w)
+    (PutsSome chunk) c.in-Ok.ensures.told (puts_all chunk)

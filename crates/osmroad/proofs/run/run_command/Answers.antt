@@ -27,20 +27,20 @@ returns-in-Ok-clause-ends g c =
     status (subst (λ (l : List ℕ). EndsPut l reply.status status mid after faults faults_after)
     c.deref.ensures.value c.put_last.ensures.ends)
 
-puts_no_file : (piece : List ℕ) (w v : Outside) → PutsSome piece w v → (v.a ≡ w.a) × (v.b ≡ w.b)
-puts_no_file piece w v (inl same) = (ap (λ (o : Outside). o.a) same, ap (λ (o : Outside). o.b) same)
-puts_no_file piece w v (inr put) = (ap (λ (o : Outside). o.a) put.1, ap (λ (o : Outside). o.b) put.1)
+puts_no_file : (chunk : List ℕ) (w v : Outside) → PutsSome chunk w v → (v.a ≡ w.a) × (v.b ≡ w.b)
+puts_no_file chunk w v (inl same) = (ap (λ (o : Outside). o.a) same, ap (λ (o : Outside). o.b) same)
+puts_no_file chunk w v (inr put) = (ap (λ (o : Outside). o.a) put.1, ap (λ (o : Outside). o.b) put.1)
 
 pub returns-in-Ok-clause-untouched : goal.returns-in-Ok-clause-untouched
 returns-in-Ok-clause-untouched g c = λ alone.
     let before = g.W.Site.outside c.args.site.now in
     let after = g.W.Site.outside c.put_last.new.site in
-    let piece = c.deref.result.now in
+    let chunk = c.deref.result.now in
     let same = c.prepare.ensures.untouched alone in
-    told_weaker before after (PutsSome piece) (λ w v. (v.a ≡ w.a) × (v.b ≡ w.b))
-    (subst (λ (o : Option Outside). Told (PutsSome piece) o after) (ap g.W.Site.outside same)
+    told_weaker before after (PutsSome chunk) (λ w v. (v.a ≡ w.a) × (v.b ≡ w.b))
+    (subst (λ (o : Option Outside). Told (PutsSome chunk) o after) (ap g.W.Site.outside same)
     c.put_last.ensures.files)
-    (puts_no_file piece)
+    (puts_no_file chunk)
 
 pub returns-in-Ok-clause-complete : goal.returns-in-Ok-clause-complete
 returns-in-Ok-clause-complete g c = λ bytes is can no_read_fault no_site_fault.

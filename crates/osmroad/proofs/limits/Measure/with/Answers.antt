@@ -11,43 +11,43 @@ plain_to ps n none j h = λ e. none j (omega arith) h ((Decides-eqb (slice_index
 pub returns-then-line-gt-MOST_LINE-clause-none : goal.returns-then-line-gt-MOST_LINE-clause-none
 returns-then-line-gt-MOST_LINE-clause-none c = λ bytes m.
     let none = rw c.in_default.is at c.memchr.ensures in
-    inr (long bytes c.args.piece.now c.args.self.line (length c.args.piece.now) m.line (omega arith)
-    (plain_to c.args.piece.now (length c.args.piece.now) none) (omega arith))
+    inr (long bytes c.args.part.now c.args.self.line (length c.args.part.now) m.line (omega arith)
+    (plain_to c.args.part.now (length c.args.part.now) none) (omega arith))
 
 pub returns-in_default-clause-some : goal.returns-in_default-clause-some
 returns-in_default-clause-some c = λ bytes m.
     let none = rw c.in_default.is at c.memchr.ensures in
-    let plain = plain_to c.args.piece.now (length c.args.piece.now) none in
+    let plain = plain_to c.args.part.now (length c.args.part.now) none in
     let total = m.total in
     record {
-      total = omega (arith, length-append bytes c.args.piece.now);
-      line = grown bytes c.args.piece.now c.args.self.line m.line plain;
-      short = grown_short bytes c.args.piece.now c.args.self.line m.line m.short (omega arith);
+      total = omega (arith, length-append bytes c.args.part.now);
+      line = grown bytes c.args.part.now c.args.self.line m.line plain;
+      short = grown_short bytes c.args.part.now c.args.self.line m.line m.short (omega arith);
     }
 
 pub returns-then-self-first-gt-MOST_LINE-clause-none : goal.returns-then-self-first-gt-MOST_LINE-clause-none
 returns-then-self-first-gt-MOST_LINE-clause-none c = λ bytes m.
     let found = rw c.in-Some.is at c.memchr.ensures in
     let inside = found.0.high in
-    inr (long bytes c.args.piece.now c.args.self.line c.in-Some.first m.line (omega arith)
-    (plain_to c.args.piece.now c.in-Some.first found.0.before) (omega arith))
+    inr (long bytes c.args.part.now c.args.self.line c.in-Some.first m.line (omega arith)
+    (plain_to c.args.part.now c.in-Some.first found.0.before) (omega arith))
 
 pub returns-clause-some : goal.returns-clause-some
 returns-clause-some c = λ bytes m.
     let found = rw c.in-Some.is at c.memchr.ensures in
     let inside = found.0.high in
-    let newline : slice_index c.args.piece.now c.in-Some.first
-    ≡ 10 = (Decides-eqb (slice_index c.args.piece.now c.in-Some.first) 10).0 found.1 in
+    let newline : slice_index c.args.part.now c.in-Some.first
+    ≡ 10 = (Decides-eqb (slice_index c.args.part.now c.in-Some.first) 10).0 found.1 in
     let total = m.total in
-    let last : EndsLine c.args.piece.now c.last_line-line.result = record {
+    let last : EndsLine c.args.part.now c.last_line-line.result = record {
       bound = c.last_line-line.ensures.bound;
       open_line = c.last_line-line.ensures.open_line;
       start
           = c.last_line-line.ensures.start;
     } in
     record {
-      total = omega (arith, length-append bytes c.args.piece.now);
-      line = begun bytes c.args.piece.now c.last_line-line.result c.in-Some.first last inside newline;
-      short = begun_short bytes c.args.piece.now c.args.self.line c.in-Some.first m.line m.short (omega arith) inside
+      total = omega (arith, length-append bytes c.args.part.now);
+      line = begun bytes c.args.part.now c.last_line-line.result c.in-Some.first last inside newline;
+      short = begun_short bytes c.args.part.now c.args.self.line c.in-Some.first m.line m.short (omega arith) inside
           newline c.requires;
     }

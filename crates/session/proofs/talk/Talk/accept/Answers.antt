@@ -44,10 +44,10 @@ returns-in-Ok-append-clause-told g c =
     let self = c.args.self.now in
     change_answers c.store_laws.ensures (g.P.Profile.rules self.engine.profile) c.args.number c.args.events.now
     self.journal c.append.new.self self.engine.world c.apply.new.self.world _ _ (g.W.Site.outside c.args.site.now)
-    (g.W.Site.outside c.append.new.site) (g.W.Site.outside c.put_piece.new.site) tt c.in-Ok.line.items
-    c.deref.result.now c.put_piece.result c.put_piece.ensures.named c.in-Ok-append.ensures.answer
+    (g.W.Site.outside c.append.new.site) (g.W.Site.outside c.put_chunk.new.site) tt c.in-Ok.line.items
+    c.deref.result.now c.put_chunk.result c.put_chunk.ensures.named c.in-Ok-append.ensures.answer
     c.in-Ok-apply.ensures.applied c.in-Ok.ensures c.deref.ensures.value c.in-Ok-append.ensures.told
-    c.put_piece.ensures.told
+    c.put_chunk.ensures.told
 
 pub returns-in-Ok-append-clause-builds : goal.returns-in-Ok-append-clause-builds
 returns-in-Ok-append-clause-builds g c =
@@ -60,8 +60,8 @@ returns-in-Ok-append-clause-builds g c =
     c.if-not-has_room.false)
     c.apply.ensures.built c.in-Ok-apply.ensures.ways _ _ tt c.in-Ok-append.ensures.answer
     c.in-Ok-apply.ensures.applied (g.W.Site.outside c.args.site.now) (g.W.Site.outside c.append.new.site)
-    (g.W.Site.outside c.put_piece.new.site) c.deref.result.now c.put_piece.result c.in-Ok-append.ensures.told
-    c.put_piece.ensures.told
+    (g.W.Site.outside c.put_chunk.new.site) c.deref.result.now c.put_chunk.result c.in-Ok-append.ensures.told
+    c.put_chunk.ensures.told
 
 -- ---- the change isn't kept
 

@@ -6,15 +6,15 @@ pub returns-clause-told : goal.returns-clause-told
 returns-clause-told g c =
     let self = c.args.self.now in
     number_answers c.store_laws.ensures (g.P.Profile.rules self.engine.profile) self.engine.world self.journal
-    c.put_piece.result c.put_piece.ensures.named (g.W.Site.outside c.args.site.now)
-    (g.W.Site.outside c.put_piece.new.site) c.args.number c.kept.result c.in-Ok.line.items c.deref.result.now c.requires
-    c.kept.ensures c.in-Ok.ensures c.deref.ensures.value c.put_piece.ensures.told
+    c.put_chunk.result c.put_chunk.ensures.named (g.W.Site.outside c.args.site.now)
+    (g.W.Site.outside c.put_chunk.new.site) c.args.number c.kept.result c.in-Ok.line.items c.deref.result.now c.requires
+    c.kept.ensures c.in-Ok.ensures c.deref.ensures.value c.put_chunk.ensures.told
 
 pub returns-clause-builds : goal.returns-clause-builds
 returns-clause-builds g c =
     let self = c.args.self.now in
-    number_builds c.store_laws.ensures self.engine.world self.journal c.deref.result.now c.put_piece.result
-    (g.W.Site.outside c.args.site.now) (g.W.Site.outside c.put_piece.new.site) c.put_piece.ensures.told c.args.number
+    number_builds c.store_laws.ensures self.engine.world self.journal c.deref.result.now c.put_chunk.result
+    (g.W.Site.outside c.args.site.now) (g.W.Site.outside c.put_chunk.new.site) c.put_chunk.ensures.told c.args.number
     c.requires
 
 pub returns-in_default-clause-builds : goal.returns-in_default-clause-builds

@@ -1,4 +1,4 @@
--- Pieces put, one behind another.
+-- Chunks put, one behind another.
 use Rattle.std.proofs.Common.{◌≡◌, inl, inr, ℕ, List, [], ◌++◌, take, Result, Ok, Err, OnOk, refl, sym, ◌∙◌, ap, subst}
 use Rattle.std.proofs.lemmas.Bool.Decides.{nat_tests}
 use Rattle.std.proofs.Common.{arith, append_assoc, ◌∷◌, ◌==◌, true, length}
@@ -13,58 +13,58 @@ use Rattle.road_io.proofs.CallRuns.{started, goes_on, then_runs, only_weaker}
 use Rattle.session.specs.Putting.{LeavesPut, PutsOn}
 use Rattle.session.proofs.OutputFronts.{starts_whole, starts_front, starts_behind, starts_taken, starts_longer}
 
--- ---- one piece
+-- ---- one chunk
 
 -- nothing was put, and nothing is left that couldn't be
-here : (piece : List ℕ) (w : Outside) (left : Left) → IsLeft (present w) left → LeavesPut piece w left
-here piece w left l = record {
+here : (chunk : List ℕ) (w : Outside) (left : Left) → IsLeft (present w) left → LeavesPut chunk w left
+here chunk w left l = record {
   a = l.a;
   b = l.b;
   begins = l.no_less;
-  within = starts_with_trans (w.output ++ piece) w.output left.out (starts_front w.output piece) l.no_more;
+  within = starts_with_trans (w.output ++ chunk) w.output left.out (starts_front w.output chunk) l.no_more;
 }
 
-pub no_byte : (piece : List ℕ) → true ≡ (length piece == 0) → [] ≡ piece
+pub no_byte : (chunk : List ℕ) → true ≡ (length chunk == 0) → [] ≡ chunk
 no_byte [] e = refl
-no_byte (x ∷ piece) e = absurd (grind (arith, nat_tests, e))
+no_byte (x ∷ chunk) e = absurd (grind (arith, nat_tests, e))
 
-pub puts_nothing : {E : Type 0} (piece : List ℕ) (result : Result (Unit {0}) E) (w : Outside)
-    → OnOk result (let n : List ℕ = [] in n ≡ piece)
-    → PutsOn piece result w w
-puts_nothing piece result w whole = record {
+pub puts_nothing : {E : Type 0} (chunk : List ℕ) (result : Result (Unit {0}) E) (w : Outside)
+    → OnOk result (let n : List ℕ = [] in n ≡ chunk)
+    → PutsOn chunk result w w
+puts_nothing chunk result w whole = record {
   same_a = refl;
   same_b = refl;
   put = [];
   front = refl;
   whole = whole;
   grows = sym (append-nil w.output);
-  only = started w (LeavesPut piece w) (here piece w);
+  only = started w (LeavesPut chunk w) (here chunk w);
 }
 
--- a front of the piece was put
-puts_front : {E : Type 0} (piece put : List ℕ) (result : Result (Unit {0}) E) (w : Outside) → StartsWith piece put
-    → OnOk result (put ≡ piece) → PutsOn piece result w (extended put w)
-puts_front piece put result w front whole = record {
+-- a front of the chunk was put
+puts_front : {E : Type 0} (chunk put : List ℕ) (result : Result (Unit {0}) E) (w : Outside) → StartsWith chunk put
+    → OnOk result (put ≡ chunk) → PutsOn chunk result w (extended put w)
+puts_front chunk put result w front whole = record {
   same_a = refl;
   same_b = refl;
   put = put;
   front = front;
   whole = whole;
   grows = refl;
-  only = goes_on w w (extended put w) (LeavesPut piece w)
+  only = goes_on w w (extended put w) (LeavesPut chunk w)
       (record { a = w.a; b = w.b; from = w.output; to = w.output ++ put })
-      (started w (LeavesPut piece w) (here piece w)) refl during after;
+      (started w (LeavesPut chunk w) (here chunk w)) refl during after;
 }
   where
-    within : (left : List ℕ) → StartsWith (w.output ++ put) left → StartsWith (w.output ++ piece) left
-    within left s = starts_with_trans (w.output ++ piece) (w.output ++ put) left
-        (starts_behind w.output piece put front) s
+    within : (left : List ℕ) → StartsWith (w.output ++ put) left → StartsWith (w.output ++ chunk) left
+    within left s = starts_with_trans (w.output ++ chunk) (w.output ++ put) left
+        (starts_behind w.output chunk put front) s
 
     during : (left : Left) → IsLeft (record { a = w.a; b = w.b; from = w.output; to = w.output ++ put }) left
-        → LeavesPut piece w left
+        → LeavesPut chunk w left
     during left l = record { a = l.a; b = l.b; begins = l.no_less; within = within left.out l.no_more }
 
-    after : (left : Left) → IsLeft (present (extended put w)) left → LeavesPut piece w left
+    after : (left : Left) → IsLeft (present (extended put w)) left → LeavesPut chunk w left
     after left l = record {
       a = l.a;
       b = l.b;
@@ -72,22 +72,22 @@ puts_front piece put result w front whole = record {
       within = within left.out l.no_more;
     }
 
-pub puts_piece : {E : Type 0} (piece : List ℕ) (x : Unit {0}) (w v : Outside) → Puts piece (Ok x) w v
-    → PutsOn {E = E} piece (Ok x) w v
-puts_piece {E} piece x w v is =
-    subst (λ (o : Outside). PutsOn {E = E} piece (Ok x) w o) (sym is)
-    (puts_front piece piece (Ok x) w (starts_whole piece) refl)
+pub puts_chunk : {E : Type 0} (chunk : List ℕ) (x : Unit {0}) (w v : Outside) → Puts chunk (Ok x) w v
+    → PutsOn {E = E} chunk (Ok x) w v
+puts_chunk {E} chunk x w v is =
+    subst (λ (o : Outside). PutsOn {E = E} chunk (Ok x) w o) (sym is)
+    (puts_front chunk chunk (Ok x) w (starts_whole chunk) refl)
 
 -- a put that failed
-pub puts_part : {E : Type 0} (piece : List ℕ) (f : Failed) (e : E) (w v : Outside) → Puts piece (Err f) w v
-    → PutsOn piece (Err e) w v
-puts_part piece f e w v (inl same) =
-    subst (λ (o : Outside). PutsOn piece (Err e) w o) (sym same) (puts_nothing piece (Err e) w tt)
-puts_part piece f e w v (inr part) =
-    subst (λ (o : Outside). PutsOn piece (Err e) w o) (sym part.1)
-    (puts_front piece (take part.0 piece) (Err e) w (starts_taken part.0 piece) tt)
+pub puts_part : {E : Type 0} (chunk : List ℕ) (f : Failed) (e : E) (w v : Outside) → Puts chunk (Err f) w v
+    → PutsOn chunk (Err e) w v
+puts_part chunk f e w v (inl same) =
+    subst (λ (o : Outside). PutsOn chunk (Err e) w o) (sym same) (puts_nothing chunk (Err e) w tt)
+puts_part chunk f e w v (inr part) =
+    subst (λ (o : Outside). PutsOn chunk (Err e) w o) (sym part.1)
+    (puts_front chunk (take part.0 chunk) (Err e) w (starts_taken part.0 chunk) tt)
 
--- ---- two pieces
+-- ---- two chunks
 
 -- the second of them isn't put
 pub puts_first : {E : Type 0} (first second : List ℕ) (e : E) (w v : Outside) → PutsOn first (Err e) w v
