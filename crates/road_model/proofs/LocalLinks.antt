@@ -29,10 +29,10 @@ decided_code (gcons a b) (gnum n) = inr (λ e. cc)
 decided_code (gcons a b) (gcons c d) = decided_like (λ e i. gcons (e.0 i) (e.1 i)) (λ e. ((cc), (cc)))
     (decided_both (decided_code a c) (decided_code b d))
 
-decided_by : {A : Type 0} → Coded A → (x y : A) → Decided (x ≡ y)
+pub decided_by : {A : Type 0} → Coded A → (x y : A) → Decided (x ≡ y)
 decided_by c x y = decided_like (c.inj x y) (λ e. ap c.code e) (decided_code (c.code x) (c.code y))
 
-coded_visible : Coded (Option Body)
+pub coded_visible : Coded (Option Body)
 coded_visible = coded_option (body.the_row).coded
 
 -- what doesn't differ is equal

@@ -1,48 +1,22 @@
 -- What is within some links of a changed key, before a change or behind it, is found along the links behind it alone,
 -- but for those of the changed keys.
 use Rattle.std.proofs.Common.{◌≡◌, ℕ, suc, ◌⊎◌, inl, inr, List, refl, sym, ap, subst, Contains}
-use Rattle.std.proofs.Common.{◌∙◌, Option}
-use base.Stored.{Gv, gnil, gnum, gcons}
-use Rattle.std.specs.Coded.{Coded, coded_option}
+use Rattle.std.proofs.Common.{◌∙◌}
 use Rattle.road_base.specs.declared.ids.NodeId.{NodeId}
 use Rattle.road_base.specs.declared.ids.WayId.{WayId}
 use Rattle.road_base.specs.declared.ids.RelationId.{RelationId}
 use Rattle.road_base.specs.declared.ids.Key.{Key}
 use Rattle.road_base.specs.declared.ids.Key.TheVariants.{Node as NodeKey, Way as WayKey, Relation as RelationKey}
-use Rattle.road_base.specs.declared.objects.Body.{Body}
-use Rattle.road_base.specs.contracts.objects.Body as body
 use Rattle.road_base.specs.Objects.{Objects, key_cmp, visible}
 use Rattle.road_model.specs.Orders.{Lists, way_cmp}
 use Rattle.road_model.specs.Links.{RefersTo, HasMember, IsLink, IsWithin, Differs, AreChanged, IsTouched}
 use Rattle.road_model.specs.Links.{AreTouched}
-use Rattle.road_model.proofs.Decided.{Decided, decided_both, decided_like}
 use Rattle.road_model.proofs.JoinedLists.{lists_same}
-use Rattle.road_model.proofs.LocalLinks.{way_same, relation_same, within_itself}
-use Rattle.road_model.proofs.Positions.{decided_number}
+use Rattle.road_model.proofs.LocalLinks.{way_same, relation_same, within_itself, decided_by, coded_visible}
 use Rattle.touched_ways.specs.declared.search.Search.{Search}
 use Rattle.touched_ways.specs.Altering.{IsNearChange}
 use Rattle.touched_ways.specs.Searches.{IsFrontier, IsNext, IsFurtherInOne, IsBegun}
 use Rattle.touched_ways.proofs.LinkRounds.{IsReach, IsRound}
-
--- ---- whether two bodies are equal is decided, since their codes are trees of numbers
-
-decided_code : (x y : Gv) → Decided (x ≡ y)
-decided_code gnil gnil = inl refl
-decided_code gnil (gnum n) = inr (λ e. cc)
-decided_code gnil (gcons c d) = inr (λ e. cc)
-decided_code (gnum m) gnil = inr (λ e. cc)
-decided_code (gnum m) (gnum n) = decided_like (λ e. ap gnum e) (λ e. cc) (decided_number m n)
-decided_code (gnum m) (gcons c d) = inr (λ e. cc)
-decided_code (gcons a b) gnil = inr (λ e. cc)
-decided_code (gcons a b) (gnum n) = inr (λ e. cc)
-decided_code (gcons a b) (gcons c d) = decided_like (λ e i. gcons (e.0 i) (e.1 i)) (λ e. ((cc), (cc)))
-    (decided_both (decided_code a c) (decided_code b d))
-
-decided_by : {A : Type 0} → Coded A → (x y : A) → Decided (x ≡ y)
-decided_by c x y = decided_like (c.inj x y) (λ e. ap c.code e) (decided_code (c.code x) (c.code y))
-
-coded_visible : Coded (Option Body)
-coded_visible = coded_option (body.the_row).coded
 
 -- ---- a link that is in one object map alone has a changed key at an end
 

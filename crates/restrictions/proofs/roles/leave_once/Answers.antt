@@ -1,25 +1,14 @@
--- A sort and the removal of repeats leave the same keys.
-use Rattle.std.proofs.Common.{◌≡◌, Bool, List, sym, ap, subst, ◌∙◌, Contains}
-use Rattle.std.specs.Cmp.{Equal-is}
-use Rattle.std.specs.List.{dedup}
-use Rattle.std.specs.Ordering.{eq_by_cmp}
-use Rattle.std.proofs.lemmas.Cmp.{eq_by_cmp_equiv}
 use Rattle.std.proofs.lemmas.List.Filters.{dedup_is}
-use Rattle.std.proofs.lemmas.List.Kept.{Contains-dedup, Contains-from_dedup}
-use Rattle.std.proofs.lemmas.List.Sorted.{Contains-permutation, IsPermutation-sym}
-use Rattle.road_base.specs.declared.ids.Key.{Key}
 use Rattle.road_base.specs.Objects.{key_cmp}
+use Rattle.road_model.proofs.SortedOnce.{dedup_keeps, dedup_from_all}
 use Rattle.restrictions.proofs.roles.leave_once.Goals as goal
 
 pub returns : goal.returns
 returns c k =
-    let sorted = c.sort_unstable.new.self.items in
-    let moved = c.sort_unstable.ensures.permutation in
-    let left : c.dedup.new.self.items ≡ dedup (eq_by_cmp key_cmp) sorted =
-    dedup_is _ _ _ c.dedup.ensures.filtered ∙ ap (λ (f : Key → Key → Bool). dedup f sorted)
-    (λ i y z. c.key_order.ensures.by_eq y z i) in (
-      λ h. Contains-permutation _ _ k (IsPermutation-sym _ _ moved)
-          (Contains-from_dedup (eq_by_cmp key_cmp) _ k (subst (λ (l : List Key). Contains l k) left h)),
-      λ h. subst (λ (l : List Key). Contains l k) (sym left) (Contains-dedup (eq_by_cmp_equiv c.key_order.ensures.total)
-          (λ y z e. c.key_order.ensures.ties y z ((Equal-is _).0 e)) _ k (Contains-permutation _ _ k moved h)),
+    let order = c.key_order.ensures in
+    let left = dedup_is _ _ _ c.dedup.ensures.filtered in (
+      dedup_from_all key_cmp order.total order.ties _ (λ y z. order.by_eq y z) c.args.keys.now.items _ _
+          c.sort_unstable.ensures.permutation left k,
+      dedup_keeps key_cmp order.total order.ties _ (λ y z. order.by_eq y z) c.args.keys.now.items _ _
+          c.sort_unstable.ensures.permutation left k,
     )
