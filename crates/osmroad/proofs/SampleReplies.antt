@@ -13,7 +13,7 @@ use Rattle.osmroad.specs.declared.reply.Reply.{Reply}
 use Rattle.osmroad.specs.declared.reply.Failure.{Failure}
 use Rattle.osmroad.specs.declared.reply.Failure.TheVariants.{NoMemory as MemoryFailure}
 use Rattle.osmroad.specs.declared.status.Status.TheVariants.{Done}
-use Rattle.osmroad.specs.Sampling.{events_of_lists, IsSampleLine, AreSampleLines, IsSample}
+use Rattle.osmroad.specs.Sampling.{events_of_lists, IsSampleLine, IsSample, Led}
 use Rattle.osmroad.specs.Replies.{Replies, IsPrepared, Prepares}
 use Rattle.session.proofs.HeldSource.{behind_of}
 use Rattle.road_io.proofs.SourceParts.{took_nothing}
@@ -44,12 +44,6 @@ module _ (number : ℕ) (held : Option (List ℕ)) (x : Option Outside) where
       (stands_still x))
 
 -- ---- one line more
-
--- this town gave so many lists, which lead to these objects, and these are their lines
-pub record Led (n count : ℕ) (town : Progress) (world : Objects) (text : List ℕ) : Type 0 where
-  pub town_is : town ≡ record { number = n; given = count }
-  pub applied : IsApplied empty (events_of_lists n count) world
-  pub lines : AreSampleLines n count text
 
 after_so_many : (n count : ℕ) → count < 11
     → after_list (record { number = n; given = count }) ≡ record { number = n; given = count + 1 }

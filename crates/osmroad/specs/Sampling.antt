@@ -9,7 +9,7 @@ use Rattle.road_model.specs.Format.{IsGraph}
 use Rattle.access_profile.specs.Motorcar.{motorcar_rules}
 use Rattle.graph_file.specs.GraphReading.{IsFile}
 use Rattle.drive_queries.specs.Counting.{totals_of}
-use Rattle.sample_town.specs.Lists.{next_list}
+use Rattle.sample_town.specs.Lists.{Progress, next_list}
 use Rattle.osmroad.specs.Texts.{sample_line}
 
 -- the events of the first so many lists of the town: its base, and then its changes
@@ -39,3 +39,9 @@ AreSampleLines n (suc count) text = (front : List ℕ) × (line : List ℕ)
 -- the lines of the base and of the ten changes
 pub record IsSample (n : ℕ) (text : List ℕ) : Type 0 where
   pub lines : AreSampleLines n 11 text
+
+-- this town gave so many lists, which lead to these objects, and these are their lines
+pub record Led (n count : ℕ) (town : Progress) (world : Objects) (text : List ℕ) : Type 0 where
+  pub town_is : town ≡ record { number = n; given = count }
+  pub applied : IsApplied empty (events_of_lists n count) world
+  pub lines : AreSampleLines n count text

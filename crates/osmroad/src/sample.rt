@@ -1,5 +1,5 @@
 //! How large the graphs of a town and of its changes are.
-ghost use Rattle.std.specs.Prelude.{◌≡◌, ℕ, List, Option, Some, IfOk, length};
+ghost use Rattle.std.specs.Prelude.{◌≡◌, ◌+◌, ◌<◌, ℕ, List, [], Option, Some, IfOk, OnOk, length};
 ghost use Rattle.std.specs.FinMap.{empty};
 ghost use Rattle.road_base.specs.declared.event.Event.{Event};
 ghost use Rattle.road_base.specs.Applying.{IsApplied};
@@ -8,9 +8,10 @@ ghost use Rattle.road_model.specs.Format.{IsGraphFile};
 ghost use Rattle.road_io.specs.Outside.{Outside};
 ghost use Rattle.graph_file.specs.GraphReading.{IsFile};
 ghost use Rattle.drive_queries.specs.Counting.{totals_of};
+ghost use Rattle.sample_town.specs.Lists.{next_list, after_list};
 ghost use Rattle.osmroad.specs.declared.command.Command.TheVariants.{Sample as SampleCommand};
 ghost use Rattle.osmroad.specs.Texts.{sample_line};
-ghost use Rattle.osmroad.specs.Sampling.{IsSampleLine, IsSample};
+ghost use Rattle.osmroad.specs.Sampling.{IsSampleLine, IsSample, Led};
 ghost use Rattle.osmroad.specs.Replies.{Prepares};
 
 use crate::reply::{Failure, Reply};
@@ -50,17 +51,59 @@ fn sample_text<L: Ledger>(
 ) -> Result<Vec<u8>, NoMemory>
     ensures { IfOk result (λ text. IsSample number text.items) }
 {
-    applied_in_turn();
     let mut town = Town::new(alloc, number);
     let mut engine = Engine::load(alloc, Motorcar, Vec::new(alloc), steps)?;
+    all_lines(alloc, &mut town, &mut engine, steps)
+}
+
+/// The lines of a town that gave no list yet, where the engine has no objects.
+fn all_lines<L: Ledger>(
+    alloc: Global,
+    town: &mut Town,
+    engine: &mut Engine<Motorcar>,
+    steps: &mut Steps<L>,
+) -> Result<Vec<u8>, NoMemory>
+    ensures { IfOk result (λ text. (n : ℕ) → Led n 0 town.old engine.old.world [] → IsSample n text.items) }
+{
     let mut text = Vec::new(alloc);
     for change in 0..LISTS {
-        let events = town.events()?;
-        engine.apply(&events, steps)?;
-        let line = line_of(alloc, change, &mut engine)?;
-        text.extend_from_slice(&line)?;
+        add_line(alloc, change, town, engine, &mut text, steps)?;
     }
     Ok(text)
+}
+
+/// Applies the town's next list, and adds the line of what the engine has come to.
+fn add_line<L: Ledger>(
+    alloc: Global,
+    change: u32,
+    town: &mut Town,
+    engine: &mut Engine<Motorcar>,
+    text: &mut Vec<u8>,
+    steps: &mut Steps<L>,
+) -> Result<(), NoMemory>
+    ensures { OnOk result ((n : ℕ) → change < 11
+        → Led n change town.old engine.old.world text.old.items
+        → Led n (change + 1) town.new engine.new.world text.new.items) }
+{
+    applied_in_turn();
+    apply_next(town, engine, steps)?;
+    let line = line_of(alloc, change, engine)?;
+    text.extend_from_slice(&line)?;
+    Ok(())
+}
+
+/// Applies the town's next list.
+fn apply_next<L: Ledger>(
+    town: &mut Town,
+    engine: &mut Engine<Motorcar>,
+    steps: &mut Steps<L>,
+) -> Result<(), NoMemory>
+    ensures town { OnOk result (town.new ≡ after_list town.old) }
+    ensures applied { OnOk result (IsApplied engine.old.world (next_list town.old) engine.new.world) }
+{
+    let events = town.events()?;
+    engine.apply(&events, steps)?;
+    Ok(())
 }
 
 /// The line of what the engine has come to.
