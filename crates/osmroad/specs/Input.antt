@@ -1,5 +1,5 @@
 -- What was read of an input, and what it gave.
-use Rattle.std.specs.Prelude.{◌≡◌, ℕ, List, [], ◌++◌, Option, Some, None}
+use Rattle.std.specs.Prelude.{◌≡◌, ℕ, List, [], Option, Some, None}
 use Rattle.road_base.specs.declared.event.Event.{Event}
 use Rattle.road_io.specs.Told.{Rose}
 use Rattle.road_io.specs.Parts.{Took}
