@@ -2,8 +2,9 @@
 //! path, with ample memory.
 //!
 //! A crate is proved once more with its tests, so those of most libraries stand together here. Where a test looks
-//! into a crate, or a call of it asks what is proved there alone, it stands there (`road_io`, `sample_town`); whole
-//! runs are tried in `osmroad`. `makers` makes texts, tags, events and worlds for them, in the time of what is made.
+//! into a crate, or a call of it asks what is proved there alone, it stands there (`road_io`, `store_switch`,
+//! `sample_town`); whole runs are tried in `osmroad`. `makers` makes texts, tags, events and worlds for them, in the
+//! time of what is made.
 #![tactic(auto)]
 
 #[cfg(test)]
