@@ -6,7 +6,7 @@ use Rattle.std.specs.Str.Parse.{digits_value}
 use Rattle.road_base.specs.declared.ids.Dir.{Dir}
 use Rattle.road_base.specs.declared.ids.Dir.TheVariants.{Forward, Backward}
 use Rattle.road_base.specs.declared.ids.Step.{Step}
-use Rattle.opl_lexer.specs.Letters.{letter_w, minus_sign, point}
+use Rattle.opl_lexer.specs.Letters.{letter_w, minus_sign, plus_sign, point}
 use Rattle.opl_lexer.specs.Parts.{parts}
 use Rattle.opl_lexer.specs.Numbers.{is_numeral, whole_of}
 use Rattle.opl_lexer.specs.Fields.{fields}
@@ -19,9 +19,6 @@ use Rattle.drive_queries.specs.declared.messages.Asked.TheVariants.{Empty, Seq, 
 abbrev pub number_below : ℕ → List ℕ → Option ℕ
 number_below limit word =
     cond (is_numeral word && nat_lt (digits_value 10 word) limit) (Some (digits_value 10 word)) None
-
-abbrev pub plus_sign : ℕ
-plus_sign = 43
 
 -- the sign behind a step
 abbrev pub dir_of : ℕ → Option Dir

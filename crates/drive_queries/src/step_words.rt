@@ -1,5 +1,5 @@
 //! Words that are numbers or steps.
-ghost use Rattle.std.specs.Prelude.{◌≡◌, ◌-◌, None, Some, IfSome, IfNone, length, take, slice_get};
+ghost use Rattle.std.specs.Prelude.{◌≡◌, ◌-◌, ◌^◌, None, Some, IfSome, IfNone, length, take, slice_get};
 ghost use Rattle.std.specs.Option.{option_and_then};
 ghost use Rattle.opl_lexer.specs.Letters.{point};
 ghost use Rattle.opl_lexer.specs.Parts.{parts};
@@ -10,7 +10,7 @@ use road_base::{Dir, Step, WayId};
 
 /// The number of 64 bits that digits alone spell.
 pub fn long_number(word: &str) -> Option<u64>
-    ensures { result ≡ number_below 18446744073709551616 word.now }
+    ensures { result ≡ number_below (2 ^ 64) word.now }
 {
     if word.starts_with('+') {
         return None;
@@ -20,7 +20,7 @@ pub fn long_number(word: &str) -> Option<u64>
 
 /// The number of 32 bits that digits alone spell.
 fn number(word: &str) -> Option<u32>
-    ensures { result ≡ number_below 4294967296 word.now }
+    ensures { result ≡ number_below (2 ^ 32) word.now }
 {
     version(word)
 }

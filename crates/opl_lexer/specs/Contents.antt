@@ -130,13 +130,13 @@ member_with None role = Bad BadMember
 member_with (Some key) (Good role) = Good (record { item = key; role = role })
 member_with (Some key) (Bad kind) = Bad kind
 
-abbrev pub is_at : ℕ → Bool
-is_at b = b == at_sign
+abbrev pub is_at_sign : ℕ → Bool
+is_at_sign b = b == at_sign
 
 -- a key, `@`, and a role, which may hold an `@` too
 abbrev pub member_of : List ℕ → Parsed Member
-member_of item = cond (nat_lt (length (before_first is_at item)) (length item))
-    (member_with (key_of (before_first is_at item)) (text_of (after_first is_at item))) (Bad BadMember)
+member_of item = cond (nat_lt (length (before_first is_at_sign item)) (length item))
+    (member_with (key_of (before_first is_at_sign item)) (text_of (after_first is_at_sign item))) (Bad BadMember)
 
 -- ---- single values
 

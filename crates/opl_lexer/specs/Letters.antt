@@ -19,6 +19,9 @@ hash_sign = 35
 abbrev pub percent_sign : ℕ
 percent_sign = 37
 
+abbrev pub plus_sign : ℕ
+plus_sign = 43
+
 abbrev pub comma : ℕ
 comma = 44
 

@@ -1,9 +1,9 @@
 //! Texts with escapes: `%h%` stands for the character whose code is h.
-ghost use Rattle.std.specs.Prelude.{◌≡◌, ◌<◌, ◌≤◌, ◌++◌, ℕ, List, [], ◌∷◌, ◌==◌, length, slice_index, Some, None};
+ghost use Rattle.std.specs.Prelude.{◌≡◌, ◌<◌, ◌≤◌, ◌++◌, ℕ, List, [], ◌==◌, length, slice_index, Some, None};
 ghost use Rattle.std.specs.Prelude.{IsErrOf, ◌⊎◌, SomeIff, IfSome, IfNone, IfErr, OnOk, OnErr, option_map, IsTrue};
 ghost use Rattle.std.specs.Str.Parse.{IsNumeral, digits_value};
 ghost use Rattle.std.specs.String.{string_bytes};
-ghost use Rattle.opl_lexer.specs.Letters.{percent_sign};
+ghost use Rattle.opl_lexer.specs.Letters.{percent_sign, plus_sign};
 ghost use Rattle.opl_lexer.specs.Parts.{Lacks, IsCutAt};
 ghost use Rattle.opl_lexer.specs.Escapes.{is_code, unescaped};
 ghost use Rattle.opl_lexer.specs.declared.fault.FaultKind.TheVariants.{BadEscape};
@@ -32,7 +32,7 @@ fn cut(text: &str) -> Option<(&str, &str)>
 
 /// Whether a plus stands in front.
 fn has_plus(bytes: &[u8]) -> bool
-    ensures { result ≡ (slice_index bytes.now 0 == 43) }
+    ensures { result ≡ (slice_index bytes.now 0 == plus_sign) }
 {
     match bytes {
         [first, ..] => *first == b'+',

@@ -1,5 +1,5 @@
 //! Numbers and coordinates, read from the text that spells them.
-ghost use Rattle.std.specs.Prelude.{◌≡◌, ◌<◌, ◌≤◌, ◌+◌, ◌-◌, ◌*◌, ◌^◌, ℕ, List, [], ◌∷◌, length, take, drop};
+ghost use Rattle.std.specs.Prelude.{◌≡◌, ◌<◌, ◌≤◌, ◌+◌, ◌-◌, ◌*◌, ◌^◌, ℕ, List, [], ◌∷◌, length, take};
 ghost use Rattle.std.specs.Prelude.{slice_index, Some, SomeIff, IfSome, IfNone, IsTrue};
 ghost use Rattle.std.specs.Char.{digit_value};
 ghost use Rattle.std.specs.Str.Parse.{IsNumeral, digits_value, starts_with_minus};
@@ -199,7 +199,7 @@ fn places(bytes: &[u8]) -> Option<u64>
 #[inline]
 fn at_point(bytes: &[u8]) -> (&[u8], Option<&[u8]>)
     ensures first { (others : List (List ℕ)) × (parts point bytes.now ≡ result.0.now ∷ others) }
-    ensures cut { IfSome result.1 (λ behind. parts 46 bytes.now ≡ result.0.now ∷ parts point behind.now) }
+    ensures cut { IfSome result.1 (λ behind. parts point bytes.now ≡ result.0.now ∷ parts point behind.now) }
     ensures whole { IfNone result.1 (parts point bytes.now ≡ result.0.now ∷ []) }
 {
     for at in 0..bytes.len() {
