@@ -4,6 +4,7 @@ ghost use Rattle.std.specs.FinMap.{IsAntisymmetric};
 ghost use Rattle.road_model.specs.Orders.{rises};
 
 use road_base::NoMemory;
+use road_model::leave_once;
 use std::alloc::Global;
 
 /// The keys of the pairs, each once, ascending.
@@ -97,14 +98,4 @@ fn add_values<V: Copy>(values: &[V], list: &mut Vec<V>) -> Result<(), NoMemory>
         list.push(*value)?;
     }
     Ok(())
-}
-
-/// Each value once, ascending.
-fn leave_once<T: Ord + Copy>(list: &mut Vec<T>)
-    requires { IsAntisymmetric T.cmp }
-    ensures ascending { IsTrue (rises T.cmp list.new.items) }
-    ensures exactly { (x : T) → Contains list.new.items x ↔ Contains list.old.items x }
-{
-    list.sort_unstable();
-    list.dedup();
 }

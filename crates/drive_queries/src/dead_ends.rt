@@ -1,5 +1,5 @@
 //! Which drivable steps leave the nodes at which a drive goes back, so that no reversal goes over the ways there.
-ghost use Rattle.std.specs.Prelude.{◌≡◌, ◌↔◌, ◌+◌, ◌&&◌, ◌∷◌, ◌++◌, [], List, Some, Contains, IfOk, OnOk};
+ghost use Rattle.std.specs.Prelude.{◌≡◌, ◌↔◌, ◌+◌, ◌&&◌, ◌∷◌, ◌++◌, [], List, Some, IfOk, OnOk};
 ghost use Rattle.std.specs.Prelude.{IsTrue};
 ghost use Rattle.road_base.specs.declared.ids.WayId.{WayId};
 ghost use Rattle.road_base.specs.declared.ids.Step.{Step};
@@ -12,10 +12,9 @@ ghost use Rattle.drive_queries.specs.DeadEnds.{Adds, AreLeaving, AreNoted, AreUn
 ghost use Rattle.drive_queries.specs.DeadEnds.{StepsBelow, StepsOf, leaving_in};
 
 use crate::drive_lines::{DriveLine, ends_in};
-use crate::word_table::leave_once;
 use road_base::{Dir, NoMemory, NodeId, Step, WayId};
 use road_model::laws::{name_order, number_order, roads_refer};
-use road_model::{Network, Profile, World};
+use road_model::{Network, Profile, World, leave_once};
 use std::alloc::Global;
 use std::collections::BTreeMap;
 use way_lines::{Road, is_located, line, pass};

@@ -1,7 +1,6 @@
 //! The words that matter on ways.
-ghost use Rattle.std.specs.Prelude.{◌≡◌, ◌<◌, ◌↔◌, ◌⊎◌, length, take, Contains, IfOk, IsTrue, OnOk, Some, slice_get};
+ghost use Rattle.std.specs.Prelude.{◌≡◌, ◌<◌, ◌⊎◌, length, take, Contains, IfOk, IsTrue, OnOk, Some, slice_get};
 ghost use Rattle.std.specs.List.{All};
-ghost use Rattle.std.specs.List.Sorted.{IsStrictlySortedBy};
 ghost use Rattle.std.specs.FinMap.{IsAntisymmetric};
 ghost use Rattle.road_base.specs.declared.ids.WayId.{WayId};
 ghost use Rattle.road_base.specs.declared.ids.Step.{Step};
@@ -15,7 +14,7 @@ ghost use Rattle.expanded_graph.specs.Known.{AreRelationsOn, AreWordsOf, GainsAp
 use restrictions::{Word, WordList, WordsError, words};
 use road_base::{NoMemory, RelationId, Step, WayId};
 use road_model::laws::{name_order, number_order, words_on_ways};
-use road_model::{Network, Profile, World};
+use road_model::{Network, Profile, World, leave_once};
 use std::alloc::Global;
 
 /// Words of the map, among them all that are near one of the ways: the words of the ways' relations, which are all
@@ -154,14 +153,4 @@ fn add_one_apart<T: Ord + Copy>(list: &mut Vec<T>, item: T, known: &[T]) -> Resu
         list.push(item)?;
     }
     Ok(())
-}
-
-/// Each value once, ascending.
-fn leave_once<T: Ord + Copy>(list: &mut Vec<T>)
-    requires { IsAntisymmetric T.cmp }
-    ensures sorted { IsStrictlySortedBy T.cmp list.new.items }
-    ensures same { (x : T) → Contains list.new.items x ↔ Contains list.old.items x }
-{
-    list.sort_unstable();
-    list.dedup();
 }

@@ -1,11 +1,12 @@
 //! The members of a relation by their roles.
-ghost use Rattle.std.specs.Prelude.{◌≡◌, ◌↔◌, ◌&&◌, Bool, Contains, IfOk, codes};
+ghost use Rattle.std.specs.Prelude.{◌≡◌, ◌&&◌, Bool, IfOk, codes};
 ghost use Rattle.std.specs.List.{list_all};
 ghost use Rattle.road_base.specs.declared.ids.Key.{Key};
 ghost use Rattle.road_model.specs.Restrictions.{in_role};
 
 use road_base::laws::key_order;
 use road_base::{Key, Member, NoMemory, Relation};
+use road_model::leave_once;
 use std::alloc::{AllocError, Global};
 
 /// A relation, and its members by role, each role's in order. Members of other roles are passed over.
@@ -51,17 +52,9 @@ fn each_once(alloc: Global, froms: &[Key], vias: &[Key], tos: &[Key]) -> Result<
     keys.extend_from_slice(froms)?;
     keys.extend_from_slice(vias)?;
     keys.extend_from_slice(tos)?;
+    key_order();
     leave_once(&mut keys);
     Ok(keys)
-}
-
-/// Each key once.
-fn leave_once(keys: &mut Vec<Key>)
-    ensures { (k : Key) → Contains keys.new.items k ↔ Contains keys.old.items k }
-{
-    key_order();
-    keys.sort_unstable();
-    keys.dedup();
 }
 
 /// The members of the role, in order.

@@ -11,6 +11,7 @@
 mod access_values;
 mod answers;
 mod blocks;
+mod each_once;
 pub mod laws;
 mod lists;
 mod network;
@@ -20,6 +21,7 @@ mod world;
 pub use access_values::has_open_value;
 pub use answers::{Access, AccessKey, ClosedBy, RuleKind, Unusable};
 pub use blocks::{Block, Blocks};
+pub use each_once::leave_once;
 pub use lists::{Arcs, Context, Contexts, Names, Piece, PieceName, Pieces, Place, Places, TurnArc};
 pub use network::Network;
 pub use profile::Profile;

@@ -1,5 +1,5 @@
 //! The ways whose blocks a change may alter.
-ghost use Rattle.std.specs.Prelude.{◌≡◌, ◌↔◌, ◌+◌, ◌≤◌, Contains, IfOk, IsTrue, length};
+ghost use Rattle.std.specs.Prelude.{◌≡◌, ◌↔◌, ◌≤◌, Contains, IfOk, IsTrue, length};
 ghost use Rattle.road_base.specs.declared.ids.WayId.{WayId as WayNumber};
 ghost use Rattle.road_base.specs.Objects.{Objects};
 ghost use Rattle.road_model.specs.Links.{AreTouched};
@@ -8,12 +8,11 @@ ghost use Rattle.touched_ways.specs.Altering.{AreNamedTogether, AreParted, AreSp
 ghost use Rattle.touched_ways.specs.Altering.{MeetsOne};
 
 use crate::found::Found;
-use crate::lists::leave_once;
 use crate::merging::merge;
 use crate::rounds::{find_ways_of_nodes, find_ways_of_rules, follow_ways};
 use road_base::{NoMemory, WayId, Ways};
-use road_model::World;
 use road_model::laws::{name_order, number_order};
+use road_model::{World, leave_once};
 use std::alloc::Global;
 
 /// The ways that a change touches, ascending: those near what it changes, with those that a restriction names beside

@@ -43,7 +43,7 @@ impl Found {
     pub fn add_ways(&mut self, ways: &[WayId]) -> Result<(), NoMemory>
         ensures { OnOk result (Finds self.old self.new (GivenBy (λ w k. k ≡ WayKey w) ways.now)) }
     {
-        self.ways.add_each(ways)
+        self.ways.add_all(ways)
     }
 
     /// Finds the restrictions.

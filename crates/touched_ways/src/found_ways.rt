@@ -31,7 +31,7 @@ impl FoundWays {
     }
 
     /// Puts the ways behind the list's, but some that stand there.
-    pub fn add_each(&mut self, ways: &[WayId]) -> Result<(), NoMemory>
+    pub fn add_all(&mut self, ways: &[WayId]) -> Result<(), NoMemory>
         ensures { OnOk result ((w : WayNumber) → Contains self.new.list.items w
             ↔ (Contains self.old.list.items w ⊎ Contains ways.now w)) }
     {

@@ -4,7 +4,6 @@ ghost use Rattle.std.specs.Prelude.{IfOk, OnOk, IsTrue, Contains};
 ghost use Rattle.std.specs.List.{AllWithin};
 ghost use Rattle.std.specs.Ordering.{is_lt};
 ghost use Rattle.std.specs.FinMap.{IsAntisymmetric};
-ghost use Rattle.road_model.specs.Orders.{rises};
 ghost use Rattle.touched_ways.specs.Searches.{IsRest};
 
 use road_base::NoMemory;
@@ -49,16 +48,6 @@ pub fn add_sorted<T: Ord + Copy>(list: &mut Vec<T>, numbers: &[T]) -> Result<(),
     list.extend_from_slice(numbers)?;
     list.sort()?;
     Ok(())
-}
-
-/// Leaves each number once, ascending.
-pub fn leave_once<T: Ord + Copy>(list: &mut Vec<T>)
-    requires { IsAntisymmetric T.cmp }
-    ensures ascending { IsTrue (rises T.cmp list.new.items) }
-    ensures exactly { (x : T) → Contains list.new.items x ↔ Contains list.old.items x }
-{
-    list.sort_unstable();
-    list.dedup();
 }
 
 /// The numbers of the list without those that are gone. Both ascend, and are gone along once.

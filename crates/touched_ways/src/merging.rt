@@ -5,9 +5,10 @@ ghost use Rattle.road_base.specs.declared.ids.Key.{Key};
 ghost use Rattle.road_model.specs.Orders.{Lists, way_cmp};
 ghost use Rattle.road_model.specs.Links.{AreChanged, AreReached, AreTouched};
 
-use crate::lists::{add_sorted, leave_once};
+use crate::lists::add_sorted;
 use road_base::{NoMemory, Ways};
 use road_model::laws::name_order;
+use road_model::leave_once;
 use std::alloc::Global;
 
 /// The ways of either list, ascending, each once. Of the ways reached before a change and those reached after it, from

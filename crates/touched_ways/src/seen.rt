@@ -2,8 +2,9 @@
 ghost use Rattle.std.specs.Prelude.{◌≡◌, ◌↔◌, ◌⊎◌, [], OnOk, Contains};
 ghost use Rattle.std.specs.FinMap.{IsAntisymmetric};
 
-use crate::lists::{add_sorted, leave_once, without};
+use crate::lists::{add_sorted, without};
 use road_base::NoMemory;
+use road_model::leave_once;
 use std::alloc::Global;
 
 /// The numbers seen, and the frontier: those among them that were new in the last round. Both ascend.

@@ -2,7 +2,7 @@
 use Rattle.std.proofs.Common.{◌≡◌, ◌+◌, [], inl, inr, length, ap, sym, ◌∙◌, arith}
 use Rattle.road_model.specs.Lines.{line_of}
 use Rattle.way_lines.specs.Left.{nodes_left}
-use Rattle.way_lines.proofs.Pairs.{no_way}
+use Rattle.way_lines.proofs.NamedPairs.{no_way}
 use Rattle.way_lines.proofs.WalkedLines.{behind_front, visible_line, node_there, before_last, no_line}
 use Rattle.drive_queries.specs.DeadEnds.{StepsOf, StepsBelow}
 use Rattle.drive_queries.proofs.NodesLeft.{closed, fewer, way_more}

@@ -18,5 +18,6 @@ loop-node-preserved g c =
 pub returns : goal.returns
 returns g c v w has refers =
     let all = take_all c.loop-node.node-index c.args.nodes.now (let past = c.loop-node-test.false in omega arith) in
-    (c.leave_once.ensures w).1 (c.loop-node.invariant v w (subst (λ (l : List NodeId). Contains l v) (sym all) has)
+    (c.leave_once.ensures.exactly w).1
+    (c.loop-node.invariant v w (subst (λ (l : List NodeId). Contains l v) (sym all) has)
     refers)

@@ -20,4 +20,4 @@ returns g c =
     let listed = subst (λ (l : List WayId). GainsApart c.args.known.now (IsOnSome M l) [] c.loop-way.list.items)
     (take_all c.loop-way.way-index c.args.ways.now (omega arith)) c.loop-way.invariant in
     relations_listed M c.args.known.now c.args.ways.now c.loop-way.list.items c.leave_once.new.list.items listed
-    c.leave_once.ensures.same
+    c.leave_once.ensures.exactly

@@ -2,7 +2,7 @@
 use Rattle.std.proofs.Common.{◌≡◌, inl, inr, sym, ap, ◌∙◌, subst}
 use Rattle.restrictions.specs.declared.word_list.Word.{Word}
 use Rattle.expanded_graph.specs.Near.{HasStepOn}
-use Rattle.expanded_graph.proofs.WordsNear.{among_more, among_all}
+use Rattle.road_base.proofs.ListFronts.{among_more, among_all}
 use Rattle.expanded_graph.proofs.words.ways_of.Goals as goal
 
 pub loop-word-preserved : goal.loop-word-preserved
@@ -24,5 +24,5 @@ returns c u w has on =
     let among = among_all c.args.words.now c.loop-word.word-index c.loop-word-test.false u has in
     elim (c.loop-word.invariant u w among on) [
       | inl k ↦ inl k
-      | inr h ↦ inr ((c.leave_once.ensures.same w).1 h)
+      | inr h ↦ inr ((c.leave_once.ensures.exactly w).1 h)
     ]

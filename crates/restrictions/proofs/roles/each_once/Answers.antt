@@ -8,5 +8,5 @@ pub returns : goal.returns
 returns c test =
     let keys = c.extend_from_slice-3.new.self.items in
     let are : keys ≡ c.args.froms.now ++ (c.args.vias.now ++ c.args.tos.now) = search (rules, append_assoc) in
-    all_once test c.leave_once.new.keys.items keys c.args.froms.now c.args.vias.now c.args.tos.now c.leave_once.ensures
-    are
+    all_once test c.leave_once.new.list.items keys c.args.froms.now c.args.vias.now c.args.tos.now
+    c.leave_once.ensures.exactly are

@@ -7,6 +7,6 @@ use Rattle.touched_ways.proofs.found.Found.add_ways.Goals as goal
 pub returns : goal.returns
 returns c =
     let f = c.args.self.now in
-    let g : Found = record f { ways = c.add_each.new.self } in
-    on_ok_weaker c.add_each.result
-    (λ added. found_ways f g (Contains c.args.ways.now) added refl refl) c.add_each.ensures
+    let g : Found = record f { ways = c.add_all.new.self } in
+    on_ok_weaker c.add_all.result
+    (λ added. found_ways f g (Contains c.args.ways.now) added refl refl) c.add_all.ensures

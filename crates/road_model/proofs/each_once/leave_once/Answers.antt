@@ -1,6 +1,6 @@
 use Rattle.std.proofs.lemmas.List.Filters.{dedup_is}
 use Rattle.road_model.proofs.SortedOnce.{dedup_rises, dedup_keeps, dedup_from_all}
-use Rattle.back_references.proofs.exchanges.leave_once.Goals as goal
+use Rattle.road_model.proofs.each_once.leave_once.Goals as goal
 
 pub returns-clause-ascending : goal.returns-clause-ascending
 returns-clause-ascending g c =

@@ -1,6 +1,6 @@
 use Rattle.std.proofs.Common.{subst, take_all, refl}
 use Rattle.touched_ways.proofs.NumberLists.{AreAdded, added_none, added_more}
-use Rattle.touched_ways.proofs.found_ways.FoundWays.add_each.Goals as goal
+use Rattle.touched_ways.proofs.found_ways.FoundWays.add_all.Goals as goal
 
 pub loop-way-init : goal.loop-way-init
 loop-way-init c = added_none c.args.self.now.list.items
