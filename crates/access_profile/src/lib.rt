@@ -1,8 +1,8 @@
 //! Where a car may drive, by the tags of ways, nodes and restrictions (OSM wiki, Key:access).
 //!
 //! A call looks up a dozen keys at most among the tags, each at the cost of `Tags::get`, goes once over the values that
-//! it finds, and takes no memory. Of few tags it looks at the first letters of the keys first: most ways carry no access
-//! key.
+//! it finds, and takes no memory. Of few tags it looks at the first letters of the keys first: most ways carry no
+//! access key.
 #![tactic(auto)]
 
 mod closing;

@@ -3,7 +3,7 @@ use Rattle.std.proofs.Common.{◌≡◌, ◌↔◌, ℕ, ◌+◌, Bool, true, fa
 use Rattle.std.proofs.Common.{IsTrue, List, [], ◌∷◌, ◌++◌, map, length, Option, Some}
 use Rattle.std.proofs.Common.{None, Result, Ok, Err, inl, inr, ◌⊎◌}
 use Rattle.std.proofs.Common.{refl, sym, ap, ◌∙◌, subst, Contains, Ordering, slice_index_or}
-use Rattle.std.proofs.Common.{arith, is_ok, IfOk}
+use Rattle.std.proofs.Common.{arith, is_ok}
 use Rattle.std.specs.declared.cmp.Ordering.TheVariants.{Less, Equal}
 use Rattle.std.specs.Ordering.{is_lt, is_eq, eq_by_cmp}
 use Rattle.std.specs.Option.{option_map}
@@ -96,13 +96,6 @@ module _ {V : Type 0} where
     ]),
   )
 
-  pub value_left : (old new : List V) (value : V) (gone : List V) → new ≡ old → Contains gone value
-      → (v : V) → Contains new v ↔ (Contains old v ⊎ ((v ≡ value) × ¬ (Contains gone value)))
-  value_left old new value gone e there v = (
-    λ c. inl (subst (λ l. Contains l v) e c),
-    λ p. subst (λ l. Contains l v) (sym e) (elim p [ inl c ↦ c | inr h ↦ absurd (h.1 there) ]),
-  )
-
   pub exchanged_lists : (values gone come kept all once : List V) → AreOthers values gone kept → all ≡ kept ++ come
       → ((v : V) → Contains once v ↔ Contains all v) → (v : V)
       → Contains once v ↔ ((Contains values v × ¬ (Contains gone v)) ⊎ Contains come v)
@@ -166,9 +159,6 @@ module _ {V : Type 0} (S : V → V → Ordering) (Else : V → Type 0) where
   pub listed_else : (o : Option (List V)) (xs : List V) → o ≡ None → Lists (λ v. v) S Else xs
       → Lists (λ v. v) S (λ v. IsAmong o v (Else v)) xs
   listed_else o xs e lists = subst (λ it. Lists (λ v. v) S (λ v. IsAmong it v (Else v)) xs) (sym e) lists
-
-  pub list_rises : (Is : V → Type 0) (xs : List V) → Lists (λ v. v) S Is xs → IsTrue (rises S xs)
-  list_rises Is xs lists = subst (λ l. IsTrue (rises S l)) (same_list xs) lists.ascending
 
 pub stays_by : {V A : Type 0} (S : V → V → Ordering) (Before : V → Type 0) (gone come : List A) (pair : V → A)
     (values out new r : List V) → Lists (λ v. v) S Before values → Lists (λ v. v) S (λ v. Contains gone (pair v)) out
@@ -307,11 +297,6 @@ link_after H P Q G C In h g c either to back = (
 
 pub chained : (A B C : Type 0) → (A ↔ B) → (B ↔ C) → A ↔ C
 chained A B C f g = (λ a. g.0 (f.0 a), λ c. f.1 (g.1 c))
-
--- what follows from a fact on an answer
-pub if_ok : {A E : Type 0} (P Q : A → Type 0) (r : Result A E) → ((a : A) → P a → Q a) → IfOk r P → IfOk r Q
-if_ok P Q (Ok a) f p = f a p
-if_ok P Q (Err e) f p = tt
 
 -- ---- an index with a list more
 

@@ -5,11 +5,7 @@ use Rattle.std.specs.Ordering.{is_eq, ordering_then}
 use Rattle.std.specs.FinMap.{IsAntisymmetric}
 use Rattle.std.specs.List.{zip}
 use Rattle.back_references.specs.Pairs.{pair_cmp}
-
-tied_parts : (r s : Ordering) → ordering_then r s ≡ Equal → (r ≡ Equal) × (s ≡ Equal)
-tied_parts Less s e = cc
-tied_parts Equal s e = (refl, e)
-tied_parts Greater s e = cc
+use Rattle.road_model.proofs.TotalOrders.{then_equal}
 
 pub both_tie : (a b : Bool) (r s : Ordering) → a ≡ is_eq r → b ≡ is_eq s → (a && b) ≡ is_eq (ordering_then r s)
 both_tie a b Less s e f = rw e refl
@@ -29,7 +25,7 @@ module _ {A B : Type 0} where
   pub pairs_exact : (R : A → A → Ordering) (S : B → B → Ordering) → IsAntisymmetric R → IsAntisymmetric S
       → IsAntisymmetric (pair_cmp R S)
   pairs_exact R S r s p q e =
-      let t = tied_parts _ _ e in
+      let t = then_equal _ _ e in
       let f = r p.0 q.0 t.0 in
       let h = s p.1 q.1 t.1 in
       λ i. (f i, h i)

@@ -27,6 +27,7 @@ use Rattle.road_model.specs.BlockMap.{entry_of}
 use Rattle.road_model.specs.Format.{IsBlockForm}
 use Rattle.change_apply.specs.Engines.{AreBlocksAmong, AreInForm}
 use Rattle.road_base.proofs.ListMembers.{In, contains_from_in, in_from_contains, contains_more, in_left, in_end}
+use Rattle.road_model.proofs.SortedMaps.{values_of}
 
 module _ (M : Objects) (P : Rules) where
   -- what is said of a block that stands at a way
@@ -123,14 +124,11 @@ all_in_form : (m : FinMap way_cmp Block) (bs : List Block)
 all_in_form m [] each all = tt
 all_in_form m (b ∷ bs) each all = (all b.way b (each b (inl refl)), all_in_form m bs (λ x i. each x (inr i)) all)
 
-values_of : (bs : List Block) → map (λ e. e.1) (map entry_of bs) ≡ bs
-values_of [] = refl
-values_of (b ∷ bs) = ap (λ l. b ∷ l) (values_of bs)
-
 pub listed_forms : (m : FinMap way_cmp Block) (bs : List Block) → entries m ≡ map entry_of bs
     → ((b : Block) → Contains bs b ↔ (get m b.way ≡ Some b)) → AreInForm (get m) → AllByRecursion IsBlockForm (values m)
 listed_forms m bs are each all =
-    subst (λ l. AllByRecursion IsBlockForm l) (sym (ap (λ l. map (λ e. e.1) l) are ∙ values_of bs))
+    subst (λ l. AllByRecursion IsBlockForm l)
+    (sym (ap (λ l. map (λ e. e.1) l) are ∙ values_of (λ (b : Block). b.way) bs))
     (all_in_form m bs (λ b i. (each b).0 (contains_from_in bs b i)) all)
 
 -- in the order of the list they are those of the graph
@@ -139,7 +137,7 @@ pub listed_blocks : (M : Objects) (P : Rules) (m : FinMap way_cmp Block) (bs : L
     → AreBlocksOf M P m → Lists (λ b. b.way) way_cmp (IsRoadBlock M P) (values m)
 listed_blocks M P m bs are up each all =
     subst (λ l. Lists (λ b. b.way) way_cmp (IsRoadBlock M P) l)
-    (sym (ap (λ l. map (λ e. e.1) l) are ∙ values_of bs)) (record {
+    (sym (ap (λ l. map (λ e. e.1) l) are ∙ values_of (λ (b : Block). b.way) bs)) (record {
       ascending = up;
       sound = λ b has. ((all b.way b).0 ((each b).0 has)).1;
       complete = λ b road. (each b).1 ((all b.way b).1 (refl, road));
@@ -147,10 +145,10 @@ listed_blocks M P m bs are up each all =
 
 -- ---- lists that are empty or not
 
-zero_by_test : (n : ℕ) (t : Bool) → t ≡ (n == 0) → t ≡ true → n ≡ 0
+pub zero_by_test : (n : ℕ) (t : Bool) → t ≡ (n == 0) → t ≡ true → n ≡ 0
 zero_by_test n t e h = grind (arith, nat_tests)
 
-some_by_test_of : (n : ℕ) (t : Bool) → t ≡ (n == 0) → t ≡ false → n ≢ 0
+pub some_by_test_of : (n : ℕ) (t : Bool) → t ≡ (n == 0) → t ≡ false → n ≢ 0
 some_by_test_of n t e h = λ z. absurd (grind (arith, nat_tests))
 
 pub empty_by_test : {A : Type 0} (l : List A) (t : Bool) → t ≡ (length l == 0) → t ≡ true → l ≡ []

@@ -1,19 +1,14 @@
 -- Ways whose pieces were compared with those of before.
-use Rattle.std.proofs.Common.{◌≡◌, inl, inr, ℕ, List, [], ◌∷◌, ◌++◌, Contains, sym, ap, subst, ◌∙◌}
-use Rattle.std.proofs.lemmas.List.{map-append}
+use Rattle.std.proofs.Common.{inl, inr, ℕ, List, [], ◌∷◌, ◌++◌, Contains, sym, subst}
 use Rattle.road_base.specs.declared.ids.WayId.{WayId}
 use Rattle.road_model.specs.declared.lists.Piece.{Piece}
 use Rattle.road_model.specs.declared.lists.PieceName.{PieceName}
-use Rattle.change_apply.specs.Rebuilding.{listed}
-use Rattle.road_base.proofs.ListMembers.{contains_from_in, in_from_contains, contains_none, contains_more}
+use Rattle.road_base.proofs.ListMembers.{contains_from_in, in_from_contains, contains_more}
 use Rattle.road_base.proofs.ListMembers.{in_left, in_end}
 
 -- what is said of each of the ways that isn't among the altered ones
 abbrev pub AreSame : (WayId → Type 0) → List WayId → List WayId → Type 0
 AreSame Same ways altered = (w : WayId) → Contains ways w → (Contains altered w → ⊥) → Same w
-
-pub none_same : (Same : WayId → Type 0) (altered : List WayId) → AreSame Same [] altered
-none_same Same altered w has not = absurd (contains_none w has)
 
 -- one way more, which is the same
 pub more_same : (Same : WayId → Type 0) (ways altered : List WayId) (way : WayId) → AreSame Same ways altered → Same way
@@ -34,11 +29,3 @@ more_altered Same ways altered way all w has not = elim (contains_more ways way 
 -- the name and the end of a piece
 abbrev named : Piece → PieceName × ℕ
 named p = (p.name, p.end)
-
--- one piece more of two lists
-pub more_listed : (was is : List Piece) (p q : Piece) → listed was ≡ listed is → p.name ≡ q.name → p.end ≡ q.end
-    → listed (was ++ p ∷ []) ≡ listed (is ++ q ∷ [])
-more_listed was is p q e f g =
-    let same : named p ≡ named q = ap (λ n. (n, p.end)) f ∙ ap (λ n. (q.name, n)) g in
-    map-append named was (p ∷ []) ∙ ap (λ l. l ++ named p ∷ []) e ∙ ap (λ x. listed is ++ x ∷ []) same
-    ∙ sym (map-append named is (q ∷ []))

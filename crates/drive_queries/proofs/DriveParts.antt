@@ -50,7 +50,7 @@ module _ (M : Objects) (P : Rules) (laws : DriveLaws M P) (a b : NodeId) where
       → spell_pieces ((p ∷ whole) ++ t ∷ [])
       ≡ take i (spell p) ++ (along_pieces p i whole t j ++ drop (j + 1) (spell t))
   cut_pieces p i whole t j =
-      ap (λ v. spell p ++ v) (spell_pieces-push M P whole t)
+      ap (λ v. spell p ++ v) (spell_pieces-push whole t)
       ∙ ap (λ v. v ++ (spell_pieces whole ++ spell t)) (sym (take-append-drop i (spell p)))
       ∙ ap (λ v. (take i (spell p) ++ drop i (spell p)) ++ (spell_pieces whole ++ v))
       (sym (take-append-drop (j + 1) (spell t)))

@@ -84,7 +84,7 @@ module _ (M : Objects) (P : Rules) (laws : DriveLaws M P) where
       → IsPiece M P q → spell_pieces (o ++ q ∷ []) ≡ m → t ≡ q
   last_of_walk m p t n h o q i e =
       let r = ends_with (spell q) (spell_pieces o) n.last n.before (ends (spell q)) ((laws.alone q i).not_empty)
-      (sym (spell_pieces-push M P o q) ∙ e ∙ n.stops) in
+      (sym (spell_pieces-push o q) ∙ e ∙ n.stops) in
       same_ending t q h i n.front r.0 n.last n.to_spelled r.1
 
   module _ (a b : NodeId) (seen : List (List Span)) (s : IsSearched M P a b seen) (d : List Step)

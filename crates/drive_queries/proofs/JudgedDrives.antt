@@ -5,14 +5,12 @@ use Rattle.std.proofs.Common.{append_assoc, append-nil}
 use Rattle.std.proofs.lemmas.Option.{slice_get_within}
 use Rattle.std.proofs.lemmas.List.{take_more, take-append-drop, length-take-le}
 use Rattle.std.proofs.lemmas.List.Elements.{Contains-append_left, Contains-append_right}
-use Rattle.road_base.specs.declared.ids.Key.{Key}
-use Rattle.road_base.specs.declared.ids.Key.TheVariants.{Node as NodeKey, Way as WayKey, Relation as RelationKey}
 use Rattle.road_base.specs.declared.ids.RelationId.{RelationId}
 use Rattle.road_base.specs.declared.ids.Step.{Step}
 use Rattle.road_base.specs.Objects.{Objects}
 use Rattle.road_model.specs.Rules.{Rules}
 use Rattle.road_model.specs.Driving.{drivable}
-use Rattle.road_model.specs.Words.{IsWord, binding_of}
+use Rattle.road_model.specs.Words.{IsWord}
 use Rattle.road_model.specs.Network.{Legal, GoesOn, Must as MustOnMap}
 use Rattle.road_model.specs.Broken.{BrokenRule, No as NoRule, Broken, IsLeast, EndsNoWord, LeavesOnlyWord}
 use Rattle.restrictions.specs.declared.word_list.Word.{Word}
@@ -30,13 +28,8 @@ use Rattle.drive_queries.specs.DriveLines.{AreLinesOn}
 use Rattle.drive_queries.specs.Verdicts.{broken_rule}
 use Rattle.drive_queries.specs.Judging.{From, Breaks, Follows, KeepsOn, HasWords, WordWith, EndsDriven}
 use Rattle.drive_queries.specs.Judging.{LeavesIn, IsWordRule}
+use Rattle.road_model.proofs.Shapes.{binding_positive}
 use Rattle.drive_queries.proofs.JudgedSteps.{from_eight}
-
-some_bound : (ks : List Key) → 1 ≤ binding_of ks
-some_bound [] = omega arith
-some_bound (NodeKey n ∷ ks) = omega arith
-some_bound (WayKey w ∷ ks) = omega arith
-some_bound (RelationKey r ∷ ks) = omega arith
 
 least_as : (Q R : RelationId → Type 0) → ((r : RelationId) → Q r → R r) → ((r : RelationId) → R r → Q r)
     → (r : RelationId) → IsLeast Q r → IsLeast R r
@@ -52,7 +45,7 @@ module _ (M : Objects) (P : Rules) where
   starts r only binding u h = (h.first, h.via ++ h.last ∷ [], h.spelled)
 
   binds : (r : RelationId) (only : Bool) (binding : ℕ) (u : List Step) → IsWord M P r only binding u → 1 ≤ binding
-  binds r only binding u h = subst (λ n. 1 ≤ n) (sym h.bound) (some_bound _)
+  binds r only binding u h = subst (λ n. 1 ≤ n) (sym h.bound) (binding_positive _)
 
   module _ (before : List Step) (s : Step) (W : List Word) (has : HasWords M P (before ++ s ∷ []) W) where
     listed : (r : RelationId) (only : Bool) (binding : ℕ) (u : List Step) → IsWord M P r only binding u

@@ -1,5 +1,5 @@
 -- The first rule that a step alone, or behind the one before it, breaks.
-use Rattle.std.proofs.Common.{◌≡◌, ℕ, ◌+◌, ◌<◌, ◌≤◌, List, [], ◌∷◌, ◌++◌, length, refl, sym, ap}
+use Rattle.std.proofs.Common.{◌≡◌, ℕ, ◌+◌, ◌<◌, List, [], ◌∷◌, ◌++◌, length, refl, sym, ap}
 use Rattle.std.proofs.Common.{◌∙◌, subst, arith, Option, Some, None, IfSome, IfNone, Bool, true, false, IsTrue, IsFalse}
 use Rattle.std.proofs.Common.{cond, not, int_eq, append_assoc}
 use Rattle.std.proofs.lemmas.Bool.{false≢true, true_from_ne_false, and_parts, and_from, ltb-true, lt-ltb}
@@ -12,7 +12,6 @@ use Rattle.road_base.specs.declared.ids.Dir.{Dir}
 use Rattle.road_base.specs.declared.ids.Dir.TheVariants.{Forward, Backward}
 use Rattle.road_base.specs.declared.objects.Way.{Way}
 use Rattle.road_base.specs.Objects.{Objects, way_of}
-use Rattle.road_base.proofs.Splits.{same_last}
 use Rattle.road_model.specs.declared.answers.Access.{Access}
 use Rattle.road_model.specs.declared.answers.Access.TheVariants.{Free, Closed as ClosedAccess}
 use Rattle.road_model.specs.declared.answers.Access.TheVariants.{WrongWay as WrongWayAccess}
@@ -21,14 +20,14 @@ use Rattle.road_model.specs.Lines.{line_of, node_at, names_pair, end_at, tail_of
 use Rattle.road_model.specs.Lines.{tail_position, head_position}
 use Rattle.road_model.specs.Driving.{is_open, open_way, located, drivable, shut, MayTurn, Passes}
 use Rattle.road_model.specs.Network.{Legal}
-use Rattle.road_model.specs.Broken.{BrokenRule, NoStep, NoNode, Closed, WrongWay, Apart, Barrier, Reversal}
-use Rattle.road_model.specs.Broken.{place, LacksNode, AtTail, AtHead, IsAnswered, IsBehind, Meets}
+use Rattle.road_model.specs.Broken.{NoStep, NoNode, Closed, WrongWay, Apart, Barrier, Reversal}
+use Rattle.road_model.specs.Broken.{AtTail, AtHead, IsAnswered, IsBehind, Meets}
 use Rattle.drive_queries.specs.Verdicts.{broken_rule}
 use Rattle.drive_queries.specs.Judging.{From, Breaks, Follows, closing}
-
-some_located : (M : Objects) (o : Option NodeId) → IsTrue (located M o) → (v : NodeId) × (o ≡ Some v)
-some_located M None h = absurd (false≢true h)
-some_located M (Some v) h = (v, refl)
+use Rattle.road_model.proofs.StepEnds.{some_located}
+use Rattle.road_model.proofs.BrokenRules.{one_before, one_answer}
+use Rattle.road_model.proofs.BrokenSteps.{one_or_more}
+use Rattle.road_model.proofs.FirstBroken.{lacks_none}
 
 not_true : (b : Bool) → not b ≡ false → b ≡ true
 not_true true h = refl
@@ -38,7 +37,7 @@ not_false : (b : Bool) → not b ≡ true → b ≡ true → ⊥
 not_false true h k = false≢true h
 not_false false h k = false≢true k
 
-node_is : (a b : NodeId) → a.0 ≡ b.0 → a ≡ b
+pub node_is : (a b : NodeId) → a.0 ≡ b.0 → a ≡ b
 node_is a b e = λ i. record { 0 = e i }
 
 pub same_node : (a b : NodeId) → not (int_eq a.0 b.0) ≡ false → a ≡ b
@@ -49,14 +48,6 @@ other_node a b h e = not_false _ h ((Decides-int_eq a.0 b.0).1 (ap (λ (n : Node
 
 pub both_some : (o p : Option NodeId) (a b v : NodeId) → o ≡ Some a → p ≡ Some b → o ≡ Some v → p ≡ Some v → a ≡ b
 both_some o p a b v e f h k = cc
-
-false_by : (b : Bool) → (b ≡ true → ⊥) → b ≡ false
-false_by true n = absurd (n refl)
-false_by false n = refl
-
-one_or_more : (o : BrokenRule) → 1 ≤ place o
-one_or_more NoStep = omega arith
-one_or_more o = omega arith
 
 if_named : (b : Bool) (o : Option NodeId) (v : NodeId) → cond b o None ≡ Some v → IsTrue b
 if_named true o v e = refl
@@ -129,14 +120,6 @@ record HasParts (M : Objects) (P : Rules) (s : Step) : Type 0 where
   head : IsTrue (located M (head_of M s))
   opens : IsTrue (is_open M P s.way s.dir)
 
-one_answer : (M : Objects) (P : Rules) (s : Step) (x y : Access) → IsAnswered M P s x → IsAnswered M P s y → x ≡ y
-one_answer M P s x y a b =
-    let e : a.way ≡ b.way = let f = a.visible in let g = b.visible in cc in
-    sym a.says ∙ ap (λ (w : Way). P.direction w.tags s.dir) e ∙ b.says
-
-one_before : (before : List Step) (x y : Step) → IsBehind before x → IsBehind before y → x ≡ y
-one_before before x y a b = (same_last a.0 x b.0 y (sym a.1 ∙ b.1)).last
-
 module _ (M : Objects) (P : Rules) where
   parts_of : (s : Step) → IsTrue (drivable M P s) → HasParts M P s
   unfolding drivable
@@ -181,22 +164,17 @@ module _ (M : Objects) (P : Rules) where
   from_two before s named NoStep h = absurd (false≢true (sym h ∙ named))
   from_two before s named o h = omega arith
 
-  lacks_none : (s : Step) (v : NodeId) → IsTrue (located M (tail_of M s)) → IsTrue (located M (head_of M s))
-      → LacksNode M s v → ⊥
-  lacks_none s v a b (AtTail e f) = false≢true (sym f ∙ ap (located M) (sym e) ∙ a)
-  lacks_none s v a b (AtHead l e f) = false≢true (sym f ∙ ap (located M) (sym e) ∙ b)
-
   module _ (before : List Step) (s : Step) where
     from_three : IsTrue (names_pair M s) → IsTrue (located M (tail_of M s)) → IsTrue (located M (head_of M s))
         → From M P before s 3
     from_three named tail head NoStep h = absurd (false≢true (sym h ∙ named))
-    from_three named tail head (NoNode v) h = absurd (lacks_none s v tail head h)
+    from_three named tail head (NoNode v) h = absurd (lacks_none M P s v tail head h)
     from_three named tail head o h = omega arith
 
     from_four : IsTrue (names_pair M s) → IsTrue (located M (tail_of M s)) → IsTrue (located M (head_of M s))
         → IsAnswered M P s WrongWayAccess → From M P before s 4
     from_four named tail head a NoStep h = absurd (false≢true (sym h ∙ named))
-    from_four named tail head a (NoNode v) h = absurd (lacks_none s v tail head h)
+    from_four named tail head a (NoNode v) h = absurd (lacks_none M P s v tail head h)
     from_four named tail head a (Closed by) h = let e = one_answer M P s _ _ h a in cc (e)
     from_four named tail head a o h = omega arith
 
@@ -205,7 +183,7 @@ module _ (M : Objects) (P : Rules) where
 
     pub from_five : IsTrue (drivable M P s) → From M P before s 5
     from_five d NoStep h = absurd (false≢true (sym h ∙ (parts_of s d).named))
-    from_five d (NoNode v) h = let p = parts_of s d in absurd (lacks_none s v p.tail p.head h)
+    from_five d (NoNode v) h = let p = parts_of s d in absurd (lacks_none M P s v p.tail p.head h)
     from_five d (Closed by) h = absurd (not_free (ClosedAccess by) refl d h)
     from_five d WrongWay h = absurd (not_free WrongWayAccess refl d h)
     from_five d o h = omega arith

@@ -14,7 +14,6 @@ use Rattle.std.proofs.lemmas.List.Elements.{Contains-push_cases, Contains-append
 use Rattle.road_base.specs.declared.ids.NodeId.{NodeId}
 use Rattle.road_base.specs.declared.ids.WayId.{WayId}
 use Rattle.road_base.specs.declared.ids.Step.{Step}
-use Rattle.road_base.specs.declared.ids.Dir.{Dir}
 use Rattle.road_base.specs.declared.ids.Dir.TheVariants.{Forward, Backward}
 use Rattle.road_base.specs.Objects.{Objects}
 use Rattle.road_model.specs.Rules.{Rules}
@@ -24,24 +23,20 @@ use Rattle.road_model.specs.Driving.{Leaves, drivable, is_open, located}
 use Rattle.road_model.specs.Links.{RefersTo}
 use Rattle.way_lines.specs.declared.roads.Road.{Road}
 use Rattle.way_lines.specs.RoadLines.{IsRoad}
-use Rattle.way_lines.proofs.Pairs.{leaves_here, leaves_no_other}
+use Rattle.way_lines.proofs.NamedPairs.{leaves_here, leaves_no_other}
 use Rattle.drive_queries.specs.declared.dead_ends.Leaving.{Leaving}
 use Rattle.drive_queries.specs.declared.dead_ends.Leaving.TheVariants.{Nothing, One, More}
 use Rattle.drive_queries.specs.DeadEnds.{Fits, AreLeaving, AreNoted, StepsOf, StepsBelow}
 use Rattle.drive_queries.specs.DeadEnds.{IsWith, Adds, AreUnknown, HasWaysAt, leaving_in}
+use Rattle.road_base.proofs.ListFronts.{among_more, among_before, among_last}
+use Rattle.road_base.proofs.ListMembers.{contains_none}
+use Rattle.road_model.proofs.TotalOrders.{dir_cases}
 use Rattle.drive_queries.proofs.SearchGoals.{eq_cases}
-use Rattle.drive_queries.proofs.WordsGathered.{among_none, among_more, among_before, among_last}
+use Rattle.drive_queries.proofs.JudgedSteps.{node_is}
 
 both : (b : Bool) → (b ≡ true) ⊎ (b ≡ false)
 both true = inl refl
 both false = inr refl
-
-node_is : (a b : NodeId) → a.0 ≡ b.0 → a ≡ b
-node_is a b e = λ i. record { 0 = e i }
-
-either : (d : Dir) → (d ≡ Forward) ⊎ (d ≡ Backward)
-either Forward = inl refl
-either Backward = inr refl
 
 -- ---- one step more
 
@@ -178,7 +173,7 @@ module _ (M : Objects) (P : Rules) where
         below u (inr (on, less)) =
             let upto : u.index ≤ i = omega arith in
             elim (eq-or-lt_of_le upto) [
-              | inl same ↦ elim (either u.dir) [
+              | inl same ↦ elim (dir_cases u.dir) [
                 | inl d ↦ inl (inr (λ x. record { way = on x; index = same x; dir = d x }))
                 | inr d ↦ inr (λ x. record { way = on x; index = same x; dir = d x })
               ]
@@ -235,7 +230,7 @@ module _ (M : Objects) (P : Rules) where
   -- a step of a way that is closed in both directions can't be driven
   pub closed : (r : Road) → IsRoad M P r → (r.forward || r.backward) ≡ false → (u : Step) → u.way ≡ r.way
       → IsTrue (drivable M P u) → ⊥
-  closed r is shut u on drives = closed_in r is shut u on (either u.dir) (opens u drives)
+  closed r is shut u on drives = closed_in r is shut u on (dir_cases u.dir) (opens u drives)
 
   -- ---- from no way to all ways
 
@@ -246,7 +241,7 @@ module _ (M : Objects) (P : Rules) where
       let k = unknown v e at in
       record {
         lie = λ u goes. have v u.way k.0 (refer v u goes);
-        fits = subst (Fits M P v (StepsOf [])) (sym k.1) (λ u c goes. among_none u.way c);
+        fits = subst (Fits M P v (StepsOf [])) (sym k.1) (λ u c goes. contains_none u.way c);
       }
 
   pub all_noted : (ways : List WayId) (known : BTreeMap NodeId Leaving) → AreNoted ways (StepsOf ways) known M P

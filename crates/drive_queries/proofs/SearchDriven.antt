@@ -111,7 +111,7 @@ module _ (M : Objects) (P : Rules) (L : List At) (visits : List Visit) (a : Node
           spells = flat_map-append (steps_at L visits) js (k ∷ [])
               ∙ ap (λ l. l ++ (steps_at L visits k ++ [])) d.spells
               ∙ ap (λ l. spell_pieces (d.piece ∷ d.whole) ++ l) (append-nil (steps_at L visits k) ∙ steps)
-              ∙ sym (spell_pieces-push M P (d.piece ∷ d.whole) r.piece);
+              ∙ sym (spell_pieces-push (d.piece ∷ d.whole) r.piece);
         }
 
     driven_more : (js : List ℕ) (j : ℕ) → (d : Driven js j) → (k : ℕ) (v : Visit) → slice_get visits k ≡ Some v

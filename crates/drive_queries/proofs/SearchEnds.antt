@@ -1,5 +1,5 @@
 -- Which steps of a piece begin and end at a node, by the places that are written of it.
-use Rattle.std.proofs.Common.{◌≡◌, ℕ, ◌+◌, ◌-◌, ◌<◌, ◌≤◌, length, Some, slice_get, IsTrue, refl, sym, ◌∙◌, ap, subst}
+use Rattle.std.proofs.Common.{◌≡◌, ℕ, ◌+◌, ◌-◌, ◌<◌, ◌≤◌, Some, slice_get, IsTrue, refl, sym, ◌∙◌, ap, subst}
 use Rattle.std.proofs.Common.{arith}
 use Rattle.std.proofs.lemmas.Option.{slice_get_within}
 use Rattle.road_base.specs.declared.ids.NodeId.{NodeId}
@@ -11,15 +11,16 @@ use Rattle.road_base.specs.Objects.{Objects}
 use Rattle.road_base.proofs.ListPlaces.{some_at, one_stands}
 use Rattle.road_model.specs.declared.lists.Piece.{Piece}
 use Rattle.road_model.specs.Rules.{Rules}
-use Rattle.road_model.specs.Lines.{node_at, tail_of, head_of, steps_from}
+use Rattle.road_model.specs.Lines.{node_at, tail_of, head_of}
 use Rattle.road_model.specs.Driving.{drivable, Leaves}
 use Rattle.road_model.specs.Links.{RefersTo}
 use Rattle.road_model.specs.Pieces.{Span, IsPiece, spell}
 use Rattle.road_model.specs.Blocks.{IsPieceEntry, place_position}
-use Rattle.road_model.proofs.StepPlaces.{length-forward, length-backward, forward_at, backward_at}
+use Rattle.road_model.proofs.StepPlaces.{forward_at, backward_at}
 use Rattle.road_model.proofs.StepEnds.{named_end, drives_named}
 use Rattle.drive_queries.specs.Searching.{BeginsAt, StopsAt}
 use Rattle.drive_queries.specs.Ends.{BeginsBy, StopsBy}
+use Rattle.road_model.proofs.FilePlaces.{length-steps}
 
 -- the step that stands at place k of the piece, and the positions between which it goes
 record StepAt (M : Objects) (P : Rules) (p : Span) (k : ℕ) : Type 0 where
@@ -29,10 +30,6 @@ record StepAt (M : Objects) (P : Rules) (p : Span) (k : ℕ) : Type 0 where
   head : head_of M step ≡ node_at M p.way (place_position p (k + 1))
   way : step.way ≡ p.way
   drives : IsTrue (drivable M P step)
-
-spell_length : (w : WayId) (i n : ℕ) (d : Dir) → length (steps_from w i n d) ≡ n
-spell_length w i n Forward = length-forward w i n
-spell_length w i n Backward = length-backward w i n
 
 module _ (M : Objects) (P : Rules) where
   step_by : (w : WayId) (i j : ℕ) (d : Dir) (k : ℕ) → k < j - i
@@ -68,7 +65,7 @@ module _ (M : Objects) (P : Rules) where
   step_at p i k l = step_by p.way p.index p.end p.dir k l i.drives
 
   within : (p : Span) (k : ℕ) (s : Step) → slice_get (spell p) k ≡ Some s → k < p.end - p.index
-  within p k s e = subst (λ n. k < n) (spell_length p.way p.index (p.end - p.index) p.dir)
+  within p k s e = subst (λ n. k < n) (length-steps p.way p.index (p.end - p.index) p.dir)
       (slice_get_within (spell p) k s e)
 
   module _ (w : WayId) (e : Piece) (listed : IsPieceEntry M P w e) where

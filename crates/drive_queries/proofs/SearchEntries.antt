@@ -16,12 +16,13 @@ use Rattle.road_model.specs.Orders.{name_cmp, names_cmp, way_cmp, rises}
 use Rattle.road_model.specs.Blocks.{IsPieceEntry, IsBlock, IsRoadBlock, name_of}
 use Rattle.road_model.specs.BlockMap.{AreBlocksOf}
 use Rattle.road_model.specs.Naming.{HasBlock, OnePiece}
-use Rattle.road_base.proofs.ListMembers.{In, in_from_contains, contains_from_in, contains_map, contains_from_map}
+use Rattle.road_base.proofs.ListMembers.{contains_from_in, contains_map, contains_from_map}
 use Rattle.road_base.proofs.ListMembers.{contains_flat, contains_from_flat}
 use Rattle.road_model.proofs.WalkLists.{context_pieces}
 use Rattle.road_model.proofs.SomeGraph.{context_of, piece_entry, entry_named}
 use Rattle.drive_queries.specs.Marks.{At, at_by, contexts_at, contexts_over, all_contexts}
 use Rattle.drive_queries.specs.Sought.{IsSpot, AreSpots}
+use Rattle.road_model.proofs.FileWalks.{context_before, some_piece}
 use Rattle.drive_queries.proofs.SearchOrder.{AreOrdered, all_rise}
 
 -- ---- what a block writes of a piece and of a context
@@ -35,14 +36,6 @@ module _ (M : Objects) (P : Rules) where
       let e = entry_of p i in
       let named : e.0.name ≡ name_of p = entry_named M P p.way p (record { is = i; way = refl }) in
       one e.1.piece p e.1.is i (sym e.1.named ∙ named)
-
-  context_before : (p : Span) (b : List Span) (c : IsContext M P (b ++ p ∷ []))
-      → (context_of M P p b c).1.before ≡ b
-  unfolding context_of
-  context_before p b c = refl
-
-  some_piece : (b : Block) (e : Piece) → Contains b.pieces e → b.pieces ≡ [] → ⊥
-  some_piece b e i n = let h : In e [] = subst (λ l. In e l) n (in_from_contains b.pieces e i) in absurd h
 
   pub entry_in : HasBlock M P → (m : FinMap way_cmp Block) → AreBlocksOf M P m → (p : Span) (i : IsPiece M P p)
       → (b : Block) × (get m p.way ≡ Some b) × Contains b.pieces (entry_of p i).0
@@ -97,7 +90,7 @@ module _ (M : Objects) (P : Rules) where
         = contains_flat contexts_at w.0.pieces e.0 x w.2 in_piece in
         let in_all : Contains (all_contexts bs) x
         = contains_flat (λ (b : Block). contexts_over b.pieces) bs w.0 x w.1 in_block in
-        let bf : front ≡ t.1.before = sym (context_before e.1.piece front q) in
+        let bf : front ≡ t.1.before = sym (context_before M P e.1.piece front q) in
         let is : front ++ p ∷ [] ≡ t.1.before ++ e.1.piece ∷ []
         = subst (λ f. front ++ p ∷ [] ≡ f ++ e.1.piece ∷ []) bf (ap (λ z. front ++ z ∷ []) same) in
         (x, in_all, record { way = p.way; listed = e.1; entry = t.1; is = is })

@@ -32,6 +32,7 @@ use Rattle.drive_queries.specs.Sought.{AreGoals, IsGoalAt}
 use Rattle.drive_queries.proofs.SearchEnds.{stops_at, stops_by}
 use Rattle.drive_queries.proofs.SearchEntries.{entry_of, entry_of_piece, entry_in}
 use Rattle.drive_queries.proofs.SearchGoals.{eq_cases}
+use Rattle.drive_queries.proofs.SearchStartsOf.{block_there}
 
 module _ (names : IsTotalOrder name_cmp) (ties : IsAntisymmetric name_cmp) where
   same_name : (a n : PieceName) → (a ≡ n) ⊎ (a ≡ n → ⊥)
@@ -54,11 +55,6 @@ module _ (names : IsTotalOrder name_cmp) (ties : IsAntisymmetric name_cmp) where
       ])
     ]
   ]
-
-block_there : (o : Option Block) (e : Piece) → Contains (pieces_in o) e
-    → (b : Block) × (o ≡ Some b) × Contains b.pieces e
-block_there None e i = absurd (contains_none e i)
-block_there (Some b) e i = (b, refl, i)
 
 module _ (M : Objects) (P : Rules) (m : FinMap way_cmp Block) (are : AreBlocksOf M P m) where
   rise : (o : Option Block) → ((b : Block) → o ≡ Some b → IsRoadBlock M P b)

@@ -1,10 +1,9 @@
 -- The order of contexts by their names, and what a search by it finds.
-use Rattle.std.proofs.Common.{◌≡◌, ℕ, ◌<◌, List, length, map, inl, inr, refl, sym, ◌∙◌, ap, subst, arith}
+use Rattle.std.proofs.Common.{◌≡◌, ℕ, ◌<◌, List, length, map, inl, inr, sym, ◌∙◌, ap, subst, arith}
 use Rattle.std.proofs.Common.{IsTrue, Contains, Ordering, Result, Ok, Err, slice_index_or}
 use Rattle.std.specs.declared.cmp.Ordering.TheVariants.{Less, Equal, Greater}
 use Rattle.std.specs.Cmp.{IsTotalOrder}
 use Rattle.std.specs.FinMap.{IsAntisymmetric}
-use Rattle.std.specs.Ordering.{ordering_then}
 use Rattle.std.specs.List.{AllWithin, HoldsAt}
 use Rattle.std.specs.List.Sorted.{IsBinarySearchResult}
 use Rattle.std.proofs.lemmas.Cmp.{on_total, then_total, tied_itself}
@@ -16,11 +15,7 @@ use Rattle.road_base.proofs.ListMembers.{contains_from_map}
 use Rattle.std.proofs.lemmas.Bool.{cases_lt}
 use Rattle.drive_queries.specs.declared.spots.Spot.{Spot}
 use Rattle.drive_queries.specs.Marks.{At, at_of, key_of, key_cmp}
-
-then_equal : (r s : Ordering) → ordering_then r s ≡ Equal → (r ≡ Equal) × (s ≡ Equal)
-then_equal Less s e = cc
-then_equal Equal s e = (refl, e)
-then_equal Greater s e = cc
+use Rattle.road_model.proofs.TotalOrders.{then_equal}
 
 abbrev Key : Type 0
 Key = PieceName × List PieceName

@@ -14,6 +14,7 @@ use Rattle.road_model.specs.declared.blocks.Block.{Block}
 use Rattle.road_model.specs.Orders.{way_cmp, name_cmp, names_cmp, rises}
 use Rattle.road_model.proofs.AscendingLists.{Climbs, Below, climbs, rises_again}
 use Rattle.drive_queries.specs.Marks.{At, at_by, key_of, key_cmp, contexts_at, contexts_over, all_contexts}
+use Rattle.road_model.proofs.TotalOrders.{less_first}
 use Rattle.drive_queries.proofs.SearchKeys.{key_total}
 
 abbrev Key : Type 0
@@ -55,9 +56,6 @@ module _ {A B N O : Type 0} (f : B → A) (name : A → N) (R : N → N → Orde
 
 -- ---- contexts
 
-first_less : (r s : Ordering) → r ≡ Less → IsTrue (is_lt (ordering_then r s))
-first_less r s e = rw e refl
-
 second_less : (r s : Ordering) → r ≡ Equal → s ≡ Less → IsTrue (is_lt (ordering_then r s))
 second_less r s e f = rw (e, f) refl
 
@@ -71,7 +69,7 @@ module _ (ways : IsTotalOrder way_cmp) (names : IsTotalOrder name_cmp) (lists : 
       let h : name_cmp x.piece.name y.piece.name ≡ Less
       = subst (λ a. name_cmp a.name y.piece.name ≡ Less) (sym e)
       (subst (λ b. name_cmp p.name b.name ≡ Less) (sym f) (less _ l)) in
-      first_less _ _ h
+      less_first _ _ h
 
   piece_rises : (p : Piece) → IsTrue (rises names_cmp (map (λ c. c.before) p.contexts)) → Rising (contexts_at p)
   piece_rises p up = climbs_map (at_by p) key_of key_cmp (key_total names lists)
@@ -109,7 +107,7 @@ module _ (ways : IsTotalOrder way_cmp) (names : IsTotalOrder name_cmp) (lists : 
       let h : way_cmp p.name.way q.name.way ≡ Less
       = subst (λ a. way_cmp a q.name.way ≡ Less) (sym e)
       (subst (λ a. way_cmp b.way a ≡ Less) (sym f) (less _ l)) in
-      first_less _ _ h
+      less_first _ _ h
 
   all_climb : (bs : List Block) → AreOrdered bs → Rising (all_contexts bs)
   all_climb bs o = climbs_flat (λ (b : Block). contexts_over b.pieces) key_of key_cmp (key_total names lists)

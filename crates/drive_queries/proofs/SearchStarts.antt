@@ -1,5 +1,5 @@
 -- The visits with which drives begin.
-use Rattle.std.proofs.Common.{◌≡◌, inl, inr, ℕ, zero, suc, ◌+◌, ◌<◌, ◌≤◌, List, [], length, map, Some, slice_get}
+use Rattle.std.proofs.Common.{◌≡◌, inl, inr, ℕ, ◌+◌, ◌<◌, ◌≤◌, List, [], length, map, Some, slice_get}
 use Rattle.std.proofs.Common.{Contains}
 use Rattle.std.proofs.Common.{sym, ◌∙◌, ap, subst, take, get_or}
 use Rattle.std.proofs.lemmas.List.{take_more, take_all}
@@ -25,10 +25,6 @@ same_begin a b e = ap begin_from e
 
 begins_not : (P : Type 0) (first j : ℕ) → Begins first ≡ Follows j → P
 begins_not P first j e = cc
-
-none_there : {A : Type 0} (P : Type 0) (k : ℕ) (v : A) → slice_get [] k ≡ Some v → P
-none_there P zero v e = cc
-none_there P (suc k) v e = cc
 
 module _ (L : List At) (start : Start) (m n : Marks) (is : IsStartMarked L start m n) where
   pub start_grows : Grows m n
@@ -87,10 +83,6 @@ pub all_started : (L : List At) (starts : List Start) (i : ℕ) (m : Marks) → 
     → ((s : Start) → Contains (take i starts) s → IsStarted L m.visits s)
     → (s : Start) → Contains starts s → IsStarted L m.visits s
 all_started L starts i m h f s has = f s (subst (λ l. Contains l s) (sym (take_all i starts h)) has)
-
-pub none_begun : (L : List At) (starts : List Start) (m : Marks) → m.visits ≡ [] → AreBegun L starts m
-none_begun L starts m none k first v e o = let f : slice_get [] k ≡ Some v
-    = subst (λ vs. slice_get vs k ≡ Some v) none e in none_there _ k v f
 
 pub start_marked : (spots : List Spot) (start : Start) (n : ℕ) (m p : Marks) → n < length spots
     → HoldsAt (λ s. key_of (at_of s) ≡ (start.piece.now.name, [])) spots n → IsMarked n (Begins start.first) m p

@@ -22,7 +22,7 @@ use Rattle.drive_queries.specs.Sought.{AreStarts, IsStartAt}
 use Rattle.drive_queries.proofs.SearchEnds.{begins_at, begins_by, begin_refers}
 use Rattle.drive_queries.proofs.SearchEntries.{entry_of, entry_of_piece, entry_in}
 
-block_there : (o : Option Block) (e : Piece) → Contains (pieces_in o) e → (b : Block) × (o ≡ Some b)
+pub block_there : (o : Option Block) (e : Piece) → Contains (pieces_in o) e → (b : Block) × (o ≡ Some b)
     × Contains b.pieces e
 block_there None e i = absurd (contains_none e i)
 block_there (Some b) e i = (b, refl, i)

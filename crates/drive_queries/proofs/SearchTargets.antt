@@ -6,23 +6,25 @@ use Rattle.std.proofs.lemmas.List.{map-append, length-map}
 use Rattle.road_base.specs.declared.ids.NodeId.{NodeId}
 use Rattle.road_base.specs.declared.ids.WayId.{WayId}
 use Rattle.road_base.specs.Objects.{Objects}
-use Rattle.road_base.proofs.Splits.{Nil, Last, ends, same_last}
+use Rattle.road_base.proofs.Splits.{same_last}
 use Rattle.road_model.specs.declared.lists.TurnArc.{TurnArc}
 use Rattle.road_model.specs.declared.lists.Piece.{Piece}
 use Rattle.road_model.specs.Rules.{Rules}
 use Rattle.road_model.specs.Lines.{steps_from}
 use Rattle.road_model.specs.Pieces.{Span, IsPiece, spell}
-use Rattle.road_model.specs.Contexts.{Every, One, Many}
+use Rattle.road_model.specs.Contexts.{Every, One}
 use Rattle.road_model.specs.Network.{IsContext}
 use Rattle.road_model.specs.Blocks.{IsPieceEntry, IsArcEntry, name_of}
 use Rattle.road_model.specs.Naming.{OnePiece}
-use Rattle.road_model.proofs.LongestContext.{Every-front, Every-tail}
+use Rattle.road_model.proofs.LongestContext.{Every-front}
 use Rattle.road_model.proofs.WalkLists.{context_pieces}
 use Rattle.drive_queries.specs.declared.ends.Start.{Start}
 use Rattle.drive_queries.specs.Marks.{At, key_of, names_behind}
 use Rattle.drive_queries.specs.Visits.{HasTargets}
 use Rattle.drive_queries.specs.Sought.{IsSpot, AreSpots, AreStarts}
 use Rattle.drive_queries.specs.Routes.{spelled}
+use Rattle.road_model.proofs.SomeGraph.{names_tell}
+use Rattle.road_model.proofs.FileWalks.{context_ends}
 
 -- what is behind a list is left when as much as the list is dropped
 dropped : {A : Type 0} (xs ys zs : List A) (n : ℕ) → zs ≡ xs ++ ys → n ≡ length xs → drop n zs ≡ ys
@@ -36,20 +38,6 @@ module _ (M : Objects) (P : Rules) where
       let p = l.piece in
       ap (λ n. steps_from n.way n.index (e.end - n.index) n.dir) l.named
       ∙ ap (λ z. steps_from p.way p.index (z - p.index) p.dir) l.end_is
-
-  context_some : IsContext M P [] → ⊥
-  context_some (One p e h) = cc
-  context_some (Many m) = let e = m.is in cc
-
-  -- the pieces before a context's last one, and that piece
-  context_ends : (c : List Span) → IsContext M P c → (b : List Span) × (q : Span) × (c ≡ b ++ q ∷ [])
-  context_ends c k = elim (ends c) [
-    | Nil e ↦ absurd (context_some (subst (λ l. IsContext M P l) e k))
-    | Last b q e ↦ (b, q, e)
-  ]
-
-  every_last : (b : List Span) (q : Span) → Every (IsPiece M P) (b ++ q ∷ []) → IsPiece M P q
-  every_last b q every = (Every-tail (IsPiece M P) b (q ∷ []) every).0
 
   -- the names of the context of the pieces b and q
   pub spot_named : (b : List Span) (q : Span) (x : At) → IsSpot M P (b ++ q ∷ []) x
@@ -85,7 +73,7 @@ module _ (M : Objects) (P : Rules) where
       → Target x a r.piece r.target
   arc_target c x s a r =
       let to = r.arc.to in
-      let d = context_ends r.target to.holds in
+      let d = context_ends M P r.target to.holds in
       let whole : c ++ r.piece ∷ [] ≡ (to.front ++ d.0) ++ d.1 ∷ []
       = to.is ∙ ap (λ l. to.front ++ l) d.2 ∙ sym (append_assoc to.front d.0 (d.1 ∷ [])) in
       let l = same_last c r.piece (to.front ++ d.0) d.1 whole in
@@ -135,18 +123,6 @@ module _ (M : Objects) (P : Rules) where
       (y.0, y.1, y.2 ∙ ap (λ n. (n, [])) (sym b.listed.named))
 
   module _ (one : OnePiece M P) where
-    names_tell : (a b : List Span) → Every (IsPiece M P) a → Every (IsPiece M P) b → map name_of a ≡ map name_of b
-        → a ≡ b
-    names_tell [] [] i j e = refl
-    names_tell [] (q ∷ b) i j e = cc
-    names_tell (p ∷ a) [] i j e = cc
-    names_tell (p ∷ a) (q ∷ b) i j e =
-        let n : name_of p ≡ name_of q = cc in
-        let f : map name_of a ≡ map name_of b = cc in
-        let g = one p q i.0 j.0 n in
-        let h = names_tell a b i.1 j.1 f in
-        cc (g, h)
-
     -- a listed context with the names of these pieces is that of these pieces
     pub same_context : (c : List Span) (x : At) → IsSpot M P c x → (b : List Span) (q : Span)
         → Every (IsPiece M P) b → IsPiece M P q → key_of x ≡ (name_of q, map name_of b) → c ≡ b ++ q ∷ []
@@ -157,5 +133,5 @@ module _ (M : Objects) (P : Rules) where
         let before = s.entry.before in
         let e = Every-front (IsPiece M P) before (s.listed.piece ∷ [])
         (context_pieces M P (before ++ s.listed.piece ∷ []) s.entry.context) in
-        let f : before ≡ b = names_tell before b e every (sym s.entry.named ∙ m) in
+        let f : before ≡ b = names_tell M P before b e every (sym s.entry.named ∙ m) in
         s.is ∙ ap (λ l. l ++ s.listed.piece ∷ []) f ∙ ap (λ z. b ++ z ∷ []) p

@@ -1,6 +1,6 @@
 -- The order of steps is total, and only equal steps tie in it.
-use Rattle.std.proofs.Common.{◌≡◌, Ordering, refl}
-use Rattle.std.specs.declared.cmp.Ordering.TheVariants.{Less, Equal, Greater}
+use Rattle.std.proofs.Common.{◌≡◌, refl}
+use Rattle.std.specs.declared.cmp.Ordering.TheVariants.{Less, Equal}
 use Rattle.std.specs.Ordering.{nat_cmp, int_cmp, ordering_reverse, ordering_then}
 use Rattle.std.specs.Cmp.{IsTotalOrder}
 use Rattle.std.specs.FinMap.{IsAntisymmetric, int_cmp-IsAntisymmetric, nat_cmp-IsAntisymmetric}
@@ -10,7 +10,9 @@ use Rattle.road_base.specs.declared.ids.Dir.TheVariants.{Forward, Backward}
 use Rattle.road_base.specs.declared.ids.Step.{Step}
 use Rattle.road_base.specs.contracts.ids.StepOrd.TheImpl.{ghosts as step_order}
 use Rattle.road_base.specs.contracts.ids.DirOrd.TheImpl.{ghosts as dir_order}
-use Rattle.drive_queries.specs.Gathering.{steps_cmp}
+use Rattle.drive_queries.specs.DriveWords.{steps_cmp}
+use Rattle.road_model.proofs.TotalOrders.{then_equal}
+use Rattle.turn_automata.proofs.Keys.{dir_exact}
 
 dir_antisymm : (a b : Dir) → dir_order.cmp a b ≡ ordering_reverse (dir_order.cmp b a)
 dir_antisymm Forward Forward = refl
@@ -38,25 +40,14 @@ pub step_total : IsTotalOrder step_order.cmp
 step_total = then_total (on_total (λ (s : Step). s.way.0) int_cmp_total)
     (then_total (on_total (λ (s : Step). s.index) nat_cmp_total) (on_total (λ (s : Step). s.dir) dir_total))
 
-both_equal : (r s : Ordering) → ordering_then r s ≡ Equal → (r ≡ Equal) × (s ≡ Equal)
-both_equal Less s h = cc
-both_equal Equal s h = (refl, h)
-both_equal Greater s h = cc
-
-dir_ties : (a b : Dir) → dir_order.cmp a b ≡ Equal → a ≡ b
-dir_ties Forward Forward h = refl
-dir_ties Forward Backward h = cc
-dir_ties Backward Forward h = cc
-dir_ties Backward Backward h = refl
-
 pub step_ties : IsAntisymmetric step_order.cmp
 step_ties a b h =
-    let p = both_equal (int_cmp a.way.0 b.way.0) (ordering_then (nat_cmp a.index b.index) (dir_order.cmp a.dir b.dir)) h
+    let p = then_equal (int_cmp a.way.0 b.way.0) (ordering_then (nat_cmp a.index b.index) (dir_order.cmp a.dir b.dir)) h
     in
-    let q = both_equal (nat_cmp a.index b.index) (dir_order.cmp a.dir b.dir) p.1 in
+    let q = then_equal (nat_cmp a.index b.index) (dir_order.cmp a.dir b.dir) p.1 in
     let w = int_cmp-IsAntisymmetric a.way.0 b.way.0 p.0 in
     let i = nat_cmp-IsAntisymmetric a.index b.index q.0 in
-    let d = dir_ties a.dir b.dir q.1 in
+    let d = dir_exact a.dir b.dir q.1 in
     λ j. record { way = record { 0 = w j }; index = i j; dir = d j }
 
 pub steps_total : IsTotalOrder steps_cmp

@@ -15,7 +15,7 @@ use Rattle.road_base.specs.contracts.ids.StepOrd.TheImpl.{ghosts as step_order}
 use Rattle.road_base.proofs.FilteredLists.{contains_filter, contains_from_filter}
 use Rattle.restrictions.specs.declared.word_list.Word.{Word}
 use Rattle.turn_automata.specs.Watched.{Must}
-use Rattle.drive_queries.specs.Gathering.{steps_cmp, AreInWordOrder}
+use Rattle.drive_queries.specs.DriveWords.{steps_cmp, AreInWordOrder}
 use Rattle.drive_queries.specs.Judging.{DemandsNext, LeavesBehind, IsLeastIf}
 use Rattle.drive_queries.proofs.WordOrder.{step_ties, steps_total}
 use Rattle.drive_queries.proofs.WordsCompared.{must_by, must_of, least_same}

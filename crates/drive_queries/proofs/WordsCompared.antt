@@ -5,9 +5,8 @@ use Rattle.std.proofs.Common.{IsTrue, refl, sym, ap, ◌∙◌, subst, arith, ap
 use Rattle.std.specs.Bool.{Decides}
 use Rattle.std.specs.Ordering.{is_le, ordering_reverse}
 use Rattle.std.specs.declared.cmp.Ordering.TheVariants.{Less, Equal, Greater}
-use Rattle.std.specs.Cmp.{IsTotalOrder}
 use Rattle.std.proofs.lemmas.Bool.{false≢true}
-use Rattle.std.proofs.lemmas.Cmp.{int_cmp_total, on_total, upto, tied_itself}
+use Rattle.std.proofs.lemmas.Cmp.{upto, tied_itself}
 use Rattle.std.proofs.lemmas.List.{take_all, take-append-drop, length-drop, length-append}
 use Rattle.std.proofs.lemmas.Option.{slice_get-get_or}
 use Rattle.std.proofs.lemmas.List.Prefix.{end_rest}
@@ -15,7 +14,6 @@ use Rattle.road_base.specs.declared.ids.RelationId.{RelationId}
 use Rattle.road_base.specs.declared.ids.Step.{Step}
 use Rattle.road_base.specs.contracts.ids.StepPartialEq.TheImpl.{ghosts as step_equality}
 use Rattle.road_base.proofs.EqualSteps.{step_same, step_itself}
-use Rattle.road_base.proofs.Comparisons.{not_above, from_not_above}
 use Rattle.road_base.proofs.Splits.{same_last}
 use Rattle.road_model.specs.Orders.{relation_cmp}
 use Rattle.road_model.specs.Broken.{IsLeast}
@@ -24,26 +22,15 @@ use Rattle.turn_automata.specs.Machines.{Machine, Watches, StandsFor}
 use Rattle.turn_automata.specs.Watched.{IsWatchable, Must, Stops}
 use Rattle.drive_queries.specs.Judging.{WordWith, EndsDriven, DemandsNext, Demands, LeavesBehind, LeavesIn, IsLeastIf}
 use Rattle.drive_queries.specs.Judging.{lesser}
-use Rattle.drive_queries.proofs.WordsGathered.{among_more, among_before, among_last, among_none}
+use Rattle.road_base.proofs.ListFronts.{among_more, among_before, among_last}
+use Rattle.road_base.proofs.ListMembers.{contains_none}
+use Rattle.road_model.proofs.TotalOrders.{relation_cmp_total}
+use Rattle.road_model.proofs.RulesDecided.{Upto, through}
 
 pub step_decides : (a b : Step) → Decides (step_equality.eq a b) (a ≡ b)
 step_decides a b = (step_same a b, λ e. subst (λ x. step_equality.eq a x ≡ true) e (step_itself a))
 
 -- ---- the order of relations
-
-relation_total : IsTotalOrder relation_cmp
-relation_total = on_total (λ (r : RelationId). r.0) int_cmp_total
-
-Upto : RelationId → RelationId → Type 0
-Upto a b = IsTrue (is_le (relation_cmp a b))
-
-through : (a b c : RelationId) → Upto a b → Upto b c → Upto a c
-unfolding Upto
-through a b c h k = from_not_above _ (upto relation_total a b c (not_above _ h) (not_above _ k))
-
-itself : (a : RelationId) → Upto a a
-unfolding Upto
-itself a = ap is_le (tied_itself relation_total a)
 
 turned : (r s : Ordering) → r ≡ ordering_reverse s → is_le r ≡ false → is_le s ≡ true
 turned Less s e h = absurd (false≢true (sym h))
@@ -54,7 +41,7 @@ turned Greater Greater e h = cc
 
 other_way : (a b : RelationId) → is_le (relation_cmp a b) ≡ false → Upto b a
 unfolding Upto
-other_way a b h = turned _ _ (relation_total.antisymm a b) h
+other_way a b h = turned _ _ (relation_cmp_total.antisymm a b) h
 
 -- ---- the least relation of which a fact holds
 
@@ -100,10 +87,10 @@ module _ (Q : Word → Type 0) where
   }
     where
       itself_le : (a : RelationId) → IsTrue (is_le (relation_cmp a a))
-      itself_le a = ap is_le (tied_itself relation_total a)
+      itself_le a = ap is_le (tied_itself relation_cmp_total a)
 
   pub no_word : IsLeastIf (WordWith [] Q) None
-  no_word r h = among_none h.word h.among
+  no_word r h = contains_none h.word h.among
 
   pub word_more : (W : List Word) (i : ℕ) (d : Word) (least one : Option RelationId) → i < length W
       → IsLeastIf (WordWith (take i W) Q) least
@@ -202,9 +189,6 @@ module _ (W : List Word) (driven : List Step) (s : Step) where
         },
       )
 
-  pub left_none : Must W driven s → IsLeastIf (LeavesBehind W driven s) None
-  left_none m r h = h.lacks m
-
   pub left_least : (Must W driven s → ⊥) → (o : Option RelationId) → IsLeastIf (WordWith W (Demands driven)) o
       → IsLeastIf (LeavesBehind W driven s) o
   left_least n o h = least_same (WordWith W (Demands driven)) (LeavesBehind W driven s)
@@ -224,9 +208,6 @@ pub record LeavesShort (W : List Word) (before : List Step) (s : Step) (n : ℕ)
   pub leaves : LeavesBehind W driven s r
 
 module _ (W : List Word) (before : List Step) (s : Step) where
-  pub short_none : IsLeastIf (LeavesShort W before s 0) None
-  short_none r h = let l = h.short in omega arith
-
   end_is : (n : ℕ) (front driven : List Step) → before ≡ front ++ driven → length driven ≡ n
       → drop (length before - n) before ≡ driven
   end_is n front driven e l =

@@ -9,51 +9,27 @@ use Rattle.std.specs.List.Retain.{IsFiltered, ReturnsInTurn}
 use Rattle.std.specs.List.{items_where_true}
 use Rattle.std.proofs.lemmas.Bool.{false≢true}
 use Rattle.std.proofs.lemmas.Cmp.{tied_itself}
-use Rattle.std.proofs.lemmas.List.{take_more}
 use Rattle.std.proofs.lemmas.List.Sorted.{searchable_from_sorted}
 use Rattle.std.proofs.lemmas.List.Elements.{Contains-push_cases, Contains-append_left, Contains-append_right}
 use Rattle.std.proofs.lemmas.List.Elements.{Contains-append_cases}
-use Rattle.road_base.specs.declared.objects.Relation.{Relation}
 use Rattle.road_base.specs.declared.ids.WayId.{WayId}
 use Rattle.road_base.specs.declared.ids.RelationId.{RelationId}
 use Rattle.road_base.specs.declared.ids.Step.{Step}
 use Rattle.road_base.specs.declared.ids.Key.TheVariants.{Way as WayKey}
 use Rattle.road_base.specs.Objects.{Objects}
 use Rattle.road_base.specs.contracts.ids.StepOrd.TheImpl.{ghosts as step_order}
-use Rattle.road_base.proofs.ListMembers.{In, in_from_contains, contains_from_in}
+use Rattle.road_base.proofs.ListMembers.{In, in_from_contains, contains_from_in, contains_none}
 use Rattle.road_model.specs.Rules.{Rules}
 use Rattle.road_model.specs.Orders.{Lists, relation_cmp}
-use Rattle.road_model.specs.declared.answers.Unusable.{Unusable}
-use Rattle.road_model.specs.Restrictions.{Holds}
 use Rattle.road_model.specs.Words.{IsWord}
 use Rattle.road_model.specs.Links.{HasMember}
 use Rattle.restrictions.specs.declared.word_list.Word.{Word}
-use Rattle.restrictions.specs.declared.relation_words.WordsError.{WordsError}
-use Rattle.restrictions.specs.declared.relation_words.WordsError.TheVariants.{Unusable as OfNoUse}
-use Rattle.restrictions.specs.Words.{IsRestriction, IsWordOf, SaysCause}
+use Rattle.restrictions.specs.Words.{IsRestriction, IsWordOf}
 use Rattle.drive_queries.proofs.WordOrder.{step_total, step_ties}
 use Rattle.drive_queries.specs.Tables.{BeginsOn, AreDriveWords}
-use Rattle.drive_queries.specs.Gathering.{AreInOrder, LiesOn, IsMemberOf, GainsWords, AreWordsOn}
-
-module _ {X : Type 0} (xs : List X) where
-  pub among_more : (i : ℕ) (d : X) → i < length xs → (x : X) → Contains (take (i + 1) xs) x
-      → Contains (take i xs) x ⊎ (get_or xs i d ≡ x)
-  among_more i d l x c = Contains-push_cases (take i xs) (get_or xs i d) x
-      (subst (λ v. Contains v x) (take_more xs i d l) c)
-
-  pub among_before : (i : ℕ) (d : X) → i < length xs → (x : X) → Contains (take i xs) x → Contains (take (i + 1) xs) x
-  among_before i d l x c = subst (λ v. Contains v x) (sym (take_more xs i d l))
-      (Contains-append_left (take i xs) (get_or xs i d ∷ []) x c)
-
-  pub among_last : (i : ℕ) (d : X) → i < length xs → Contains (take (i + 1) xs) (get_or xs i d)
-  among_last i d l = subst (λ v. Contains v (get_or xs i d)) (sym (take_more xs i d l))
-      (Contains-append_right (take i xs) (get_or xs i d ∷ []) (get_or xs i d) (0, omega arith, refl))
-
-  pub among_item : (i : ℕ) (x : X) → i < length xs → x ≡ get_or xs i x → Contains xs x
-  among_item i x l e = (i, l, sym e)
-
-pub among_none : {X : Type 0} (x : X) → Contains [] x → ⊥
-among_none x c = let l = c.1 in omega arith
+use Rattle.drive_queries.specs.DriveWords.{AreInOrder, LiesOn, IsMemberOf, GainsWords, AreWordsOn}
+use Rattle.road_base.proofs.ListFronts.{among_more, among_before, among_last}
+use Rattle.road_base.proofs.Splits.{same_head}
 
 -- ---- ways and their relations
 
@@ -132,27 +108,13 @@ module _ {X F : Type 0} (R : F → X → Bool → F → Type 0) (P : X → Type 
 
 -- ---- words
 
-some_same : (a b : Relation) → Some a ≡ Some b → a ≡ b
-some_same a b e = cc
-
 pub first_is : (steps : List Step) (a : Step) (rest : List Step) → Contains steps a → BeginsOn steps (a ∷ rest)
 first_is steps a rest c = record { first = a; rest = rest; is = refl; driven = c }
-
-same_first : (a b : Step) (xs ys : List Step) → a ∷ xs ≡ b ∷ ys → a ≡ b
-same_first a b xs ys e = cc
 
 before_or_behind : (k i : ℕ) → (k < i) ⊎ (i ≤ k)
 before_or_behind k i = grind arith
 
 module _ (M : Objects) (P : Rules) where
-  -- a restriction of no use has no words
-  pub no_words_of : (r : RelationId) (e : WordsError) (cause : Unusable) → e ≡ OfNoUse cause → SaysCause M P r e
-      → (u : Word) → IsWordOf M P r u → ⊥
-  no_words_of r e cause is says u h =
-      let s : SaysCause M P r (OfNoUse cause) = subst (SaysCause M P r) is says in
-      let w = h.is in
-      w.usable cause (subst (λ b. Holds M P b cause) (some_same s.0 w.body (sym s.1 ∙ w.visible)) s.2.holds)
-
   -- the words of one restriction more
   pub words_more : (steps : List Step) (rs : List RelationId) (i : ℕ) (d : RelationId) (old new : List Word)
       → i < length rs → AreWordsOn M P steps (take i rs) old → GainsWords M P steps (get_or rs i d) old new
@@ -174,8 +136,8 @@ module _ (M : Objects) (P : Rules) where
   -- no restrictions have no words
   pub words_none : (steps : List Step) → AreWordsOn M P steps [] []
   words_none steps = record {
-    each = λ u c. absurd (among_none u c);
-    all = λ u c w. absurd (among_none u.relation c);
+    each = λ u c. absurd (contains_none u c);
+    all = λ u c w. absurd (contains_none u.relation c);
   }
 
   pub restrict : (ways : List WayId) (r : RelationId) → IsMemberOf M ways r → IsRestriction M r
@@ -249,7 +211,7 @@ first_on steps [] s e = cc
 first_on steps (x ∷ word) s e =
     let is : x ≡ s = cc in (
       λ c. record { first = x; rest = word; is = refl; driven = subst (Contains steps) (sym is) c },
-      λ b. subst (Contains steps) (same_first b.first x b.rest word (sym b.is) ∙ is) b.driven,
+      λ b. subst (Contains steps) (same_head b.first x b.rest word (sym b.is) ∙ is) b.driven,
     )
 
 pub none_first : (steps word : List Step) → slice_get word 0 ≡ None → BeginsOn steps word → ⊥

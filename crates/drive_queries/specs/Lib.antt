@@ -1,7 +1,7 @@
 pub mod Messages
 pub mod Verdicts
 pub mod Tables
-pub mod Gathering
+pub mod DriveWords
 pub mod Judging
 pub mod Reaching
 pub mod Searching

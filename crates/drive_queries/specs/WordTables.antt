@@ -5,7 +5,7 @@ use Rattle.road_base.specs.Objects.{Objects}
 use Rattle.road_model.specs.Rules.{Rules}
 use Rattle.drive_queries.specs.declared.word_table.WordTable.{WordTable}
 use Rattle.drive_queries.specs.Tables.{AreDriveWords}
-use Rattle.drive_queries.specs.Gathering.{AreInWordOrder}
+use Rattle.drive_queries.specs.DriveWords.{AreInWordOrder}
 use Rattle.drive_queries.specs.DriveLines.{AreLinesOn}
 use Rattle.drive_queries.specs.DeadEnds.{AreLeaving}
 

@@ -4,7 +4,7 @@ ghost use Rattle.turn_automata.specs.Machines.{Watches};
 ghost use Rattle.drive_queries.specs.WordTables.{IsTableOf};
 ghost use Rattle.drive_queries.specs.DriveLines.{AreLinesOn};
 ghost use Rattle.drive_queries.specs.DeadEnds.{AreLeaving};
-ghost use Rattle.drive_queries.specs.Gathering.{AreInWordOrder};
+ghost use Rattle.drive_queries.specs.DriveWords.{AreInWordOrder};
 ghost use Rattle.drive_queries.specs.Judging.{Breaks, HasWords, KeepsOn};
 ghost use Rattle.drive_queries.specs.Verdicts.{IsVerdict, broken_rule};
 

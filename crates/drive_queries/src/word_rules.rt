@@ -5,7 +5,7 @@ ghost use Rattle.road_base.specs.declared.ids.Step.{Step};
 ghost use Rattle.restrictions.specs.declared.word_list.Word.{Word};
 ghost use Rattle.turn_automata.specs.Machines.{Watches};
 ghost use Rattle.turn_automata.specs.Watched.{Must, Stops};
-ghost use Rattle.drive_queries.specs.Gathering.{AreInWordOrder, steps_cmp};
+ghost use Rattle.drive_queries.specs.DriveWords.{AreInWordOrder, steps_cmp};
 ghost use Rattle.drive_queries.specs.Judging.{Demands, DemandsNext, EndsDriven, IsLeastIf, IsWordRule, LeavesIn};
 ghost use Rattle.drive_queries.specs.Judging.{LeavesBehind, WordWith, lesser};
 

@@ -2,7 +2,6 @@
 //! nodes at which it goes back.
 ghost use Rattle.std.specs.Prelude.{◌≡◌, ◌↔◌, IfOk, OnOk, IsTrue, Contains};
 ghost use Rattle.std.specs.List.{All};
-ghost use Rattle.std.specs.FinMap.{IsAntisymmetric};
 ghost use Rattle.road_base.specs.declared.ids.WayId.{WayId};
 ghost use Rattle.road_base.specs.declared.ids.RelationId.{RelationId};
 ghost use Rattle.road_base.specs.declared.ids.Step.{Step};
@@ -10,15 +9,15 @@ ghost use Rattle.restrictions.specs.declared.word_list.Word.{Word};
 ghost use Rattle.restrictions.specs.Words.{IsRestriction};
 ghost use Rattle.drive_queries.specs.Tables.{BeginsOn};
 ghost use Rattle.drive_queries.specs.WordTables.{IsTableOf};
-ghost use Rattle.drive_queries.specs.Gathering.{AreInOrder, AreInWordOrder, GainsWords, AreWordsOn, IsMemberOf};
-ghost use Rattle.drive_queries.specs.Gathering.{LiesOn, steps_cmp};
+ghost use Rattle.drive_queries.specs.DriveWords.{AreInOrder, AreInWordOrder, GainsWords, AreWordsOn, IsMemberOf};
+ghost use Rattle.drive_queries.specs.DriveWords.{LiesOn, steps_cmp};
 
 use crate::dead_ends::{Leaving, leaving_at_reversals};
 use crate::drive_lines::{DriveLine, lines_of};
 use restrictions::{Word, WordList, WordsError, words};
 use road_base::{NoMemory, NodeId, RelationId, Step, WayId};
 use road_model::laws::{name_order, number_order, words_on_ways};
-use road_model::{Network, Profile, World};
+use road_model::{Network, Profile, World, leave_once};
 use std::alloc::Global;
 use std::cmp::Ordering;
 use std::collections::BTreeMap;
@@ -99,15 +98,6 @@ fn relations_of<M: World>(
     }
     leave_once(&mut relations);
     Ok(relations)
-}
-
-/// Each value once.
-pub(crate) fn leave_once<T: Ord + Copy>(list: &mut Vec<T>)
-    requires { IsAntisymmetric T.cmp }
-    ensures { (x : T) → Contains list.new.items x ↔ Contains list.old.items x }
-{
-    list.sort_unstable();
-    list.dedup();
 }
 
 /// The steps, sorted.

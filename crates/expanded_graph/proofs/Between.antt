@@ -5,7 +5,7 @@ use Rattle.road_base.specs.declared.ids.Step.{Step}
 use Rattle.expanded_graph.specs.Near.{HasStepOn, HasStepBetween}
 use Rattle.road_base.proofs.ListMembers.{in_from_contains, contains_from_in, in_left, in_end}
 use Rattle.road_base.proofs.Splits.{cons_not_nil}
-use Rattle.expanded_graph.proofs.Runs.{nil_or_last}
+use Rattle.expanded_graph.proofs.TurnStepLists.{nil_or_last}
 
 module _ (w : WayId) where
   pub on_from_between : (u : List Step) → HasStepBetween w u → HasStepOn w u

@@ -57,13 +57,12 @@ use Rattle.road_base.proofs.ListMembers.{In, in_end, in_left}
 use Rattle.expanded_graph.proofs.Ends.{spell_begins, spell_ends, first_step, last_step}
 use Rattle.road_base.proofs.Splits.{cons_not_nil}
 use Rattle.road_base.proofs.ListPlaces.{some_at}
-use Rattle.expanded_graph.proofs.Runs.{
+use Rattle.road_model.proofs.WalkLists.{context_pieces}
+use Rattle.road_model.proofs.LongestContext.{Every-front, Every-tail}
+use Rattle.expanded_graph.proofs.TurnStepLists.{
   cut_last,
   nil_or_last,
-  every_left,
-  every_right,
   turn_ends,
-  context_pieces,
   turn_count,
 }
 use Rattle.expanded_graph.proofs.StopsNear.{LongWords, Tells, tells_on, begins_from, begins_to, goes_on_near}
@@ -104,7 +103,7 @@ module _ (M : Objects) (P : Rules) (laws : Laws M P) (by_turn : GoesByTurn M P) 
     (r : IsReached M P m facts n u i.node c) where
   pub last_piece : IsPiece M P r.piece
   last_piece =
-      (every_right (IsPiece M P) r.before (r.piece ∷ [])
+      (Every-tail (IsPiece M P) r.before (r.piece ∷ [])
       (subst (Every (IsPiece M P)) r.is (context_pieces M P c r.context))).0
 
   abbrev front : List Step
@@ -270,7 +269,7 @@ module _ (M : Objects) (P : Rules) (laws : Laws M P) (by_turn : GoesByTurn M P) 
                 | inr y ↦ let most = no_longer k v q (λ z. cons_not_nil y.0 y.1 [] (sym y.2 ∙ z)) w in omega arith
               ]) in
               let pieces =
-              every_left (IsPiece M P) lead.0 (t ∷ []) (context_pieces M P (lead.0 ++ t ∷ []) lead.2.holds) in
+              Every-front (IsPiece M P) lead.0 (t ∷ []) (context_pieces M P (lead.0 ++ t ∷ []) lead.2.holds) in
               let count = (r.states.each at.0 b f.0 at.1 f.1).pieces lead.0 pieces lead.1 in
               let few = turn_count M P lead.0 b pieces lead.1 in
               let short = more.short begins.word.relation begins.word.only begins.word.binding

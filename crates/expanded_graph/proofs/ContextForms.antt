@@ -36,7 +36,7 @@ use Rattle.road_model.specs.declared.lists.TurnArc.{TurnArc}
 use Rattle.road_model.specs.declared.lists.Context.{Context}
 use Rattle.road_model.specs.Rules.{Rules}
 use Rattle.road_model.specs.Pieces.{Span, IsPiece}
-use Rattle.road_model.specs.Contexts.{One, Many}
+use Rattle.road_model.specs.Contexts.{One}
 use Rattle.road_model.specs.Network.{IsContext}
 use Rattle.road_model.specs.Orders.{Lists, rises, name_cmp, names_cmp}
 use Rattle.road_model.specs.Blocks.{name_of, IsContextEntry}
@@ -45,6 +45,7 @@ use Rattle.road_model.specs.Naming.{OnePiece}
 use Rattle.expanded_graph.specs.Contexts.{HasContexts}
 use Rattle.road_base.proofs.ListMembers.{In, in_from_contains, contains_from_in}
 use Rattle.road_model.proofs.AscendingLists.{climbs}
+use Rattle.road_model.proofs.WalkLists.{some_context}
 use Rattle.expanded_graph.proofs.DistinctNames.{each_member}
 use Rattle.expanded_graph.proofs.ContextStates.{one_context}
 
@@ -82,15 +83,11 @@ module _ (M : Objects) (P : Rules) (one : OnePiece M P) (names : IsTotalOrder na
   pub first_alone : begins_alone fs
   first_alone = first_is fs up alone.0 (in_from_contains fs alone.0 alone.1) alone.2
 
-  some_pieces : (c : List Span) → IsContext M P c → 1 ≤ length c
-  some_pieces c (One q e h) = let l : length c ≡ 1 = ap length e in omega arith
-  some_pieces c (Many m) = let l : length c ≡ length m.others + 2 = ap length m.is ∙ omega arith in omega arith
-
   target : (e : Context) (h : IsContextEntry M P p e) (a : TurnArc) → In a e.arcs → (1 ≤ a.length)
       × (a.length ≤ length e.before + 2)
   target e h a i =
       let k = h.arcs.sound a (contains_from_in e.arcs a i) in
-      let low = some_pieces k.target k.arc.to.holds in
+      let low = some_context M P k.target k.arc.to.holds in
       let whole = ap length k.arc.to.is in
       let l = length-append k.arc.to.front k.target in
       let m = length-append (h.before ++ p ∷ []) (k.piece ∷ []) in

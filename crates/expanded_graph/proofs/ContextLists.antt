@@ -52,7 +52,8 @@ use Rattle.road_base.proofs.ListMembers.{In, push_cases, from_map, in_from_conta
 use Rattle.road_model.proofs.AscendingLists.{Climbs, climbs_take, below_end}
 use Rattle.road_base.proofs.Comparisons.{not_itself}
 use Rattle.road_base.proofs.ListPlaces.{one_stands}
-use Rattle.expanded_graph.proofs.Runs.{nil_or_cons, context_pieces}
+use Rattle.road_model.proofs.WalkLists.{context_pieces}
+use Rattle.expanded_graph.proofs.TurnStepLists.{nil_or_cons}
 use Rattle.expanded_graph.proofs.EndingStates.{ascends as numbers_climb}
 use Rattle.expanded_graph.proofs.DistinctNames.{apart, none_of, nothing_distinct}
 use Rattle.expanded_graph.proofs.ContextStates.{StepLaws, ends_in, one_state}

@@ -54,9 +54,11 @@ use Rattle.expanded_graph.proofs.Ends.{spell_ends, last_step}
 use Rattle.expanded_graph.proofs.LastSteps.{last_drives}
 use Rattle.road_base.proofs.Splits.{cons_not_nil}
 use Rattle.road_base.proofs.ListPlaces.{some_at, one_stands}
-use Rattle.expanded_graph.proofs.Runs.{turn_ends_long, every_left, context_pieces, one_turn}
+use Rattle.expanded_graph.proofs.TurnStepLists.{turn_ends_long, one_turn}
 use Rattle.expanded_graph.proofs.Between.{between_longer}
 use Rattle.road_model.proofs.AscendingLists.{lists_unique}
+use Rattle.road_model.proofs.WalkLists.{context_pieces}
+use Rattle.road_model.proofs.LongestContext.{Every-front}
 use Rattle.expanded_graph.proofs.StopsNear.{begins_from, begins_to}
 
 -- the laws of contexts and their steps
@@ -230,8 +232,8 @@ module _ (M : Objects) (P : Rules) (one : OnePiece M P) (p : Span) where
       → h.before ≡ k.before
   same_before e f h k same =
       same_pieces M P one h.before k.before
-      (every_left (IsPiece M P) h.before (p ∷ []) (context_pieces M P (h.before ++ p ∷ []) h.context))
-      (every_left (IsPiece M P) k.before (p ∷ []) (context_pieces M P (k.before ++ p ∷ []) k.context))
+      (Every-front (IsPiece M P) h.before (p ∷ []) (context_pieces M P (h.before ++ p ∷ []) h.context))
+      (Every-front (IsPiece M P) k.before (p ∷ []) (context_pieces M P (k.before ++ p ∷ []) k.context))
       (sym h.named ∙ (same ∙ k.named))
 
   -- a context is written in one way

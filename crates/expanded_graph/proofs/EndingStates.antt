@@ -25,7 +25,7 @@ use Rattle.road_model.proofs.AscendingLists.{Climbs, climbs, climbs_push, climbs
 use Rattle.road_base.proofs.FilteredLists.{in_filter, from_filter}
 use Rattle.road_base.proofs.SortedParts.{kept_by_sort}
 use Rattle.road_base.proofs.ListPlaces.{some_at, one_stands}
-use Rattle.expanded_graph.proofs.Runs.{nil_or_cons}
+use Rattle.expanded_graph.proofs.TurnStepLists.{nil_or_cons}
 
 some_name : (a b : PieceName) → Some a ≡ Some b → a ≡ b
 some_name a b e = cc

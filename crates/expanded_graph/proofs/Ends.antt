@@ -1,35 +1,7 @@
 -- The first and the last step of a piece, and the nodes of a drivable step.
-use Rattle.std.proofs.Common.{
-  ◌≡◌,
-  ℕ,
-  zero,
-  suc,
-  ◌+◌,
-  ◌-◌,
-  ◌<◌,
-  ◌≤◌,
-  List,
-  [],
-  ◌∷◌,
-  ◌++◌,
-  length,
-  ◌⊎◌,
-  inl,
-  inr,
-  refl,
-  sym,
-  ap,
-  ◌∙◌,
-  subst,
-  arith,
-  Option,
-  Some,
-  None,
-  cond,
-  IsTrue,
-  slice_get,
-}
-use Rattle.std.proofs.lemmas.Bool.{and_parts, false≢true, lt-ltb}
+use Rattle.std.proofs.Common.{◌≡◌, ℕ, zero, suc, ◌+◌, ◌-◌, ◌<◌, ◌≤◌, List, [], ◌∷◌, ◌++◌, length, inl, inr, refl, sym}
+use Rattle.std.proofs.Common.{ap, ◌∙◌, subst, arith, Option, Some, None, IsTrue, slice_get}
+use Rattle.std.proofs.lemmas.Bool.{and_parts, false≢true}
 use Rattle.std.proofs.lemmas.Option.{slice_get_within}
 use Rattle.road_base.specs.declared.ids.NodeId.{NodeId}
 use Rattle.road_base.specs.declared.ids.WayId.{WayId}
@@ -38,20 +10,13 @@ use Rattle.road_base.specs.declared.ids.Dir.{Dir}
 use Rattle.road_base.specs.declared.ids.Dir.TheVariants.{Forward, Backward}
 use Rattle.road_base.specs.Objects.{Objects}
 use Rattle.road_model.specs.Rules.{Rules}
-use Rattle.road_model.specs.Lines.{
-  line_of,
-  node_at,
-  names_pair,
-  end_at,
-  head_of,
-  head_position,
-  forward_steps,
-  backward_steps,
-  steps_from,
-}
+use Rattle.road_model.specs.Lines.{line_of, node_at, head_of, head_position, forward_steps, backward_steps, steps_from}
 use Rattle.road_model.specs.Driving.{located, drivable}
 use Rattle.road_model.specs.Pieces.{IsPlain, Span, IsPiece, spell}
 use Rattle.road_model.specs.Blocks.{name_of}
+use Rattle.road_model.proofs.Decided.{order}
+use Rattle.road_model.proofs.FinitePieces.{piece_located}
+use Rattle.way_pieces.proofs.DrivenSteps.{named_end}
 
 abbrev pub step : WayId → ℕ → Dir → Step
 step w i d = record { way = w; index = i; dir = d }
@@ -70,13 +35,6 @@ first_step p = step p.way (first_index p.dir p.index p.end) p.dir
 
 abbrev pub last_step : Span → Step
 last_step p = step p.way (last_index p.dir p.index p.end) p.dir
-
--- where a step that names a pair begins and ends
-pub named_end : (M : Objects) (s : Step) (i : ℕ) → s.index + 1 < length (line_of M s.way)
-    → end_at M s i ≡ node_at M s.way i
-unfolding end_at names_pair
-named_end M s i within =
-    ap (λ b. cond b (node_at M s.way i) None) (lt-ltb (s.index + 1) (length (line_of M s.way)) within)
 
 pub record BeginsWith (s : Step) (l : List Step) : Type 0 where
   pub rest : List Step
@@ -132,9 +90,6 @@ spell_ends p h =
     (ends_by p.way p.index (p.end - p.index - 1) p.end p.dir (omega arith))
 
 -- ---- the first step names the piece
-
-order : (i j : ℕ) → (i < j) ⊎ ((i ≡ j) ⊎ (j < i))
-order i j = grind arith
 
 module _ (M : Objects) (P : Rules) where
   same_index : (p q : Span) → IsPiece M P p → IsPiece M P q → p.way ≡ q.way → p.end ≡ q.end → p.index ≡ q.index
@@ -209,19 +164,6 @@ module _ (M : Objects) (P : Rules) where
       let within = first_within p.dir p.index p.end a.ascends in
       subst (λ t. IsTrue (drivable M P t)) first (a.drives (first_index p.dir p.index p.end) within.0 within.1)
 
-  -- all nodes of a piece are visible with locations
-  pub piece_located : (p : Span) → IsPiece M P p → (k : ℕ) → p.index ≤ k → k ≤ p.end
-      → IsTrue (located M (node_at M p.way k))
-  piece_located p a k low high =
-      let up = a.ascends in
-      elim (order k p.end) [
-        | inl l ↦ (both_located (step p.way k p.dir) (a.drives k low l)).0
-        | inr o ↦
-            let same : p.end - 1 + 1 ≡ k =
-            omega (arith, elim o as (λ _. k ≡ p.end) [ inl e ↦ e | inr l ↦ absurd (omega arith) ]) in
-            subst (λ j. IsTrue (located M (node_at M p.way j))) same
-            (both_located (step p.way (p.end - 1) p.dir) (a.drives (p.end - 1) (omega arith) (omega arith))).1
-      ]
-
   pub piece_on_line : (p : Span) → IsPiece M P p → p.end < length (line_of M p.way)
-  piece_on_line p a = let up = a.ascends in on_line p.way p.end (piece_located p a p.end (omega arith) (omega arith))
+  piece_on_line p a = let up = a.ascends in
+      on_line p.way p.end (piece_located M P p a p.end (omega arith) (omega arith))

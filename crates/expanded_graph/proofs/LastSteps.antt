@@ -33,6 +33,7 @@ use Rattle.way_pieces.specs.declared.spans.PieceSpan.{PieceSpan}
 use Rattle.way_pieces.specs.Names.{IsSpanOn, piece_of}
 use Rattle.way_pieces.specs.RoadPieces.{AreSpans}
 use Rattle.expanded_graph.specs.Known.{NamesEnd, IsLastOf}
+use Rattle.road_model.proofs.Decided.{order}
 use Rattle.expanded_graph.proofs.Ends.{step, last_index, last_step, spell_ends}
 
 -- ---- last steps
@@ -113,9 +114,6 @@ module _ (M : Objects) (P : Rules) where
       λ j. record { way = w j; index = i j; dir = t j }
 
 -- ---- names of one way that ascend
-
-order : (i j : ℕ) → (i < j) ⊎ ((i ≡ j) ⊎ (j < i))
-order i j = grind arith
 
 then_second : (r s : Ordering) → r ≡ Equal → IsTrue (is_lt (ordering_then r s)) → IsTrue (is_lt s)
 then_second r s e h = subst (λ o. IsTrue (is_lt (ordering_then o s))) e h

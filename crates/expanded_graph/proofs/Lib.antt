@@ -1,6 +1,6 @@
 pub mod PlaceOrder
 pub mod Ends
-pub mod Runs
+pub mod TurnStepLists
 pub mod Between
 pub mod WordsNear
 pub mod StopsNear

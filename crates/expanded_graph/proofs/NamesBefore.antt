@@ -23,7 +23,8 @@ use Rattle.road_base.proofs.ListMembers.{In, in_from_contains}
 use Rattle.expanded_graph.proofs.Ends.{spell_ends, last_step}
 use Rattle.road_base.proofs.Splits.{cons_not_nil}
 use Rattle.road_base.proofs.ListPlaces.{some_at, one_stands}
-use Rattle.expanded_graph.proofs.Runs.{nil_or_last, every_right, turn_ends}
+use Rattle.road_model.proofs.LongestContext.{Every-tail}
+use Rattle.expanded_graph.proofs.TurnStepLists.{nil_or_last, turn_ends}
 use Rattle.expanded_graph.proofs.StopsNear.{same_or_not}
 
 abbrev pub Ends : List Step → Step → Type 0
@@ -177,7 +178,7 @@ module _ (M : Objects) (P : Rules) where
         → Every (IsPiece M P) (before ++ p ∷ []) → HasTurnSteps (before ++ p ∷ []) q → StandsFor m k q → q ≡ b ++ x ∷ []
         → Path b 0 names → reverse names ≡ map name_of before
     names_along law before p q b x k names pieces turn at e path =
-        let is = (every_right (IsPiece M P) before (p ∷ []) pieces).0 in
+        let is = (Every-tail (IsPiece M P) before (p ∷ []) pieces).0 in
         let last = spell_ends p is.ascends in
         let ends = turn_ends before p q last.front (last_step p) turn last.is in
         let same = same_from_push b ends.0 x (last_step p) (sym e ∙ ends.1) in

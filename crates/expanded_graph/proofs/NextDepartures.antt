@@ -33,7 +33,6 @@ use Rattle.std.proofs.lemmas.Bool.{
   eqb-true,
   eq-eqb,
 }
-use Rattle.std.proofs.lemmas.Bool.Decides.{Decides-int_eq}
 use Rattle.std.proofs.lemmas.Option.{same_Some}
 use Rattle.road_base.specs.declared.ids.NodeId.{NodeId}
 use Rattle.road_base.specs.declared.ids.Step.{Step}
@@ -52,6 +51,7 @@ use Rattle.expanded_graph.specs.Travel.{Arrives}
 use Rattle.expanded_graph.specs.Intersections.{IsIntersection, may_follow}
 use Rattle.road_base.proofs.ListMembers.{In, in_from_contains, contains_from_in, all_one}
 use Rattle.road_model.proofs.AscendingLists.{one_name_alone}
+use Rattle.road_model.proofs.SameNodes.{node_from_same, same_from_node}
 use Rattle.expanded_graph.proofs.Ends.{one_first, first_drives, has_head}
 
 -- the laws of the model on which it stands which departures may follow
@@ -60,12 +60,6 @@ pub record Laws (M : Objects) (P : Rules) : Type 0 where
   pub one : OnePiece M P
   pub depart : (p : Span) (front : List Step) (last u : Step) (v : NodeId) → IsPiece M P p
       → spell p ≡ front ++ last ∷ [] → head_of M last ≡ Some v → Leaves M P v u → BeginsPiece M P u
-
-same_from_test : (a b : NodeId) → same_node a b ≡ true → a ≡ b
-same_from_test a b e = let same : a.0 ≡ b.0 = (Decides-int_eq a.0 b.0).0 e in λ i. record { 0 = same i }
-
-test_from_same : (a b : NodeId) → a ≡ b → same_node a b ≡ true
-test_from_same a b e = (Decides-int_eq a.0 b.0).1 (ap (λ n. n.0) e)
 
 -- a departure that begins with the step
 pub record Departs (M : Objects) (P : Rules) (v : NodeId) (q : Span) (s : Step) : Type 0 where
@@ -141,10 +135,10 @@ module _ (M : Objects) (P : Rules) (laws : Laws M P) (p : Span) (is : IsPiece M 
         from = ends.head;
         to = a.leaves;
         back = λ e.
-            let same = test_from_same d.toward u (same_Some _ _ (sym a.toward ∙ (e ∙ ends.tail))) in
+            let same = same_from_node d.toward u (same_Some _ _ (sym a.toward ∙ (e ∙ ends.tail))) in
             turn_allowed d j (sym (ap (λ b. cond b turns (not i.is_shut)) same) ∙ h);
         on = λ n. elim (cases_Bool (same_node d.toward u)) [
-          | inl same ↦ absurd (n (a.toward ∙ (ap Some (same_from_test d.toward u same) ∙ sym ends.tail)))
+          | inl same ↦ absurd (n (a.toward ∙ (ap Some (node_from_same d.toward u same) ∙ sym ends.tail)))
           | inr other ↦ sym known.shut_is ∙ not-true _ (sym (ap (λ b. cond b turns (not i.is_shut)) other) ∙ h)
         ];
       }
@@ -158,12 +152,12 @@ module _ (M : Objects) (P : Rules) (laws : Laws M P) (p : Span) (is : IsPiece M 
             ap (λ b. cond b turns (not i.is_shut)) same
             ∙ turns_by d j
             (subst (λ v. MayTurn M P v d.first) here
-            (h.back (a.toward ∙ (ap Some (same_from_test d.toward u same) ∙ sym ends.tail))))
+            (h.back (a.toward ∙ (ap Some (node_from_same d.toward u same) ∙ sym ends.tail))))
         | inr other ↦
             ap (λ b. cond b turns (not i.is_shut)) other
             ∙ not_from_false _
             (known.shut_is
             ∙ (ap (shut M P) (sym here)
             ∙ h.on (λ e. false≢true
-            (sym other ∙ test_from_same d.toward u (same_Some _ _ (sym a.toward ∙ (e ∙ ends.tail)))))))
+            (sym other ∙ same_from_node d.toward u (same_Some _ _ (sym a.toward ∙ (e ∙ ends.tail)))))))
       ]

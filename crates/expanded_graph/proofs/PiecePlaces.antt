@@ -65,7 +65,9 @@ use Rattle.way_lines.specs.declared.road_line.LineNode.{LineNode}
 use Rattle.way_lines.specs.RoadLines.{location_in, location_of, line_node}
 use Rattle.expanded_graph.specs.Travel.{Arrives, place_of, nodes_on, travelled}
 use Rattle.road_base.proofs.ListMembers.{In, at_in}
-use Rattle.expanded_graph.proofs.Ends.{last_index, last_step, named_end, spell_ends, piece_located, piece_on_line}
+use Rattle.road_model.proofs.FinitePieces.{piece_located}
+use Rattle.way_pieces.proofs.DrivenSteps.{named_end}
+use Rattle.expanded_graph.proofs.Ends.{last_index, last_step, spell_ends, piece_on_line}
 
 -- ---- lists of those that lie somewhere
 

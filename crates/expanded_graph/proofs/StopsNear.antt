@@ -5,8 +5,6 @@ use Rattle.std.specs.Ordering.{int_eq}
 use Rattle.std.proofs.lemmas.Bool.{false≢true, cases_Bool, cases_eq}
 use Rattle.std.proofs.lemmas.Bool.Decides.{Decides-int_eq}
 use Rattle.std.proofs.lemmas.List.{same_from_push}
-use Rattle.road_base.specs.declared.ids.Key.{Key}
-use Rattle.road_base.specs.declared.ids.Key.TheVariants.{Node as NodeKey, Way as WayKey, Relation as RelationKey}
 use Rattle.road_base.specs.declared.ids.WayId.{WayId}
 use Rattle.road_base.specs.declared.ids.RelationId.{RelationId}
 use Rattle.road_base.specs.declared.ids.Dir.{Dir}
@@ -24,7 +22,8 @@ use Rattle.turn_automata.specs.Watched.{IsProperPrefix, NoIn, Must as MustIn, St
 use Rattle.expanded_graph.specs.Near.{IsStepNear, AreWordsNear}
 use Rattle.road_base.proofs.ListMembers.{In, in_from_contains, contains_from_in, in_end, in_left, in_right}
 use Rattle.road_base.proofs.Splits.{cons_not_nil}
-use Rattle.expanded_graph.proofs.Runs.{cut_last}
+use Rattle.road_model.proofs.Shapes.{binding_positive}
+use Rattle.expanded_graph.proofs.TurnStepLists.{cut_last}
 
 -- ---- steps and words can be told apart
 
@@ -122,12 +121,6 @@ must_or_not W p x = elim (found_or_not W p x) [
 ]
 
 -- ---- words near a way
-
-binds : (ks : List Key) → 1 ≤ binding_of ks
-binds [] = omega arith
-binds (NodeKey n ∷ ks) = omega arith
-binds (WayKey w ∷ ks) = omega arith
-binds (RelationKey r ∷ ks) = omega arith
 
 -- that words have two steps or more
 abbrev pub LongWords : Objects → Rules → Type 0
@@ -251,7 +244,7 @@ module _ (M : Objects) (P : Rules) (w : WayId) (W : List Word) (near : AreWordsN
   must_behind p x m e =
       let h = m.word.word in
       let b = m.bound in
-      let one = binds (vias h.body) in
+      let one = binding_positive (vias h.body) in
       let same : m.binding ≡ binding_of (vias h.body) = h.bound in
       let none : length p ≡ 0 = ap length e in
       omega (arith, one)

@@ -1,16 +1,14 @@
 -- The words of the relations of ways, and of the ways on which these have steps, are those near the ways.
-use Rattle.std.proofs.Common.{◌≡◌, ℕ, ◌+◌, ◌<◌, ◌≤◌, ◌⊎◌, ◌↔◌, inl, inr, List, [], ◌∷◌, ◌++◌, length, get_or, take}
+use Rattle.std.proofs.Common.{◌≡◌, ℕ, ◌+◌, ◌<◌, ◌⊎◌, ◌↔◌, inl, inr, List, [], ◌∷◌, ◌++◌, length, get_or, take}
 use Rattle.std.proofs.Common.{Contains, Some, Bool, false, Result, Ok, Err, Ordering, slice_get, refl, sym, ap, subst}
 use Rattle.std.proofs.Common.{◌∙◌, arith}
 use Rattle.std.specs.Result.{is_err}
 use Rattle.std.specs.FinMap.{IsAntisymmetric}
 use Rattle.std.specs.List.Sorted.{IsBinarySearchResult, IsSearchInRange}
 use Rattle.std.proofs.lemmas.Bool.{false≢true}
-use Rattle.std.proofs.lemmas.List.{take_more, take_all}
 use Rattle.std.proofs.lemmas.Option.{get_or_from_slice_get}
-use Rattle.std.proofs.lemmas.List.Elements.{Contains-get_or, Contains-push_cases, Contains-append_left}
+use Rattle.std.proofs.lemmas.List.Elements.{Contains-get_or, Contains-append_left}
 use Rattle.std.proofs.lemmas.List.Elements.{Contains-append_right, Contains-append_cases}
-use Rattle.road_base.specs.declared.objects.Relation.{Relation}
 use Rattle.road_base.specs.declared.ids.WayId.{WayId}
 use Rattle.road_base.specs.declared.ids.RelationId.{RelationId}
 use Rattle.road_base.specs.declared.ids.Step.{Step}
@@ -18,54 +16,22 @@ use Rattle.road_base.specs.declared.ids.Key.TheVariants.{Way as WayKey}
 use Rattle.road_base.specs.Objects.{Objects}
 use Rattle.road_model.specs.Rules.{Rules}
 use Rattle.road_model.specs.Orders.{Lists, relation_cmp}
-use Rattle.road_model.specs.declared.answers.Unusable.{Unusable}
-use Rattle.road_model.specs.Restrictions.{Holds}
 use Rattle.road_model.specs.Words.{IsWord}
 use Rattle.road_model.specs.Links.{HasMember}
 use Rattle.restrictions.specs.declared.word_list.Word.{Word}
-use Rattle.restrictions.specs.declared.relation_words.WordsError.{WordsError}
-use Rattle.restrictions.specs.declared.relation_words.WordsError.TheVariants.{Unusable as OfNoUse}
-use Rattle.restrictions.specs.Words.{IsRestriction, IsWordOf, SaysCause}
+use Rattle.restrictions.specs.Words.{IsRestriction, IsWordOf}
 use Rattle.expanded_graph.specs.Near.{OnIt, Shares, HasStepOn, AreWordsNear}
 use Rattle.expanded_graph.specs.Known.{AreRelationsOn, AreWordsOf, GainsApart, GainsWords, IsOn, IsOnSome}
 use Rattle.road_base.proofs.ListPlaces.{some_at}
+use Rattle.road_base.proofs.ListFronts.{among_more, among_before, among_last}
+use Rattle.road_base.proofs.ListMembers.{contains_none}
 use Rattle.expanded_graph.proofs.Between.{on_from_between}
-
-module _ {X : Type 0} (xs : List X) where
-  pub among_more : (i : ℕ) (d : X) → i < length xs → (x : X) → Contains (take (i + 1) xs) x
-      → Contains (take i xs) x ⊎ (get_or xs i d ≡ x)
-  among_more i d l x c = Contains-push_cases (take i xs) (get_or xs i d) x
-      (subst (λ v. Contains v x) (take_more xs i d l) c)
-
-  pub among_before : (i : ℕ) (d : X) → i < length xs → (x : X) → Contains (take i xs) x → Contains (take (i + 1) xs) x
-  among_before i d l x c = subst (λ v. Contains v x) (sym (take_more xs i d l))
-      (Contains-append_left (take i xs) (get_or xs i d ∷ []) x c)
-
-  pub among_last : (i : ℕ) (d : X) → i < length xs → Contains (take (i + 1) xs) (get_or xs i d)
-  among_last i d l = subst (λ v. Contains v (get_or xs i d)) (sym (take_more xs i d l))
-      (Contains-append_right (take i xs) (get_or xs i d ∷ []) (get_or xs i d) (0, omega arith, refl))
-
-  pub among_all : (i : ℕ) → length xs ≤ i → (x : X) → Contains xs x → Contains (take i xs) x
-  among_all i l x c = subst (λ v. Contains v x) (sym (take_all i xs l)) c
-
-pub among_none : {X : Type 0} (x : X) → Contains [] x → ⊥
-among_none x c = let l = c.1 in omega arith
 
 pub restrict : (M : Objects) (v : WayId) (r : RelationId) → IsOn M v r → IsRestriction M r
 restrict M v r h = record { body = h.body; visible = h.is; restriction = h.restriction }
 
-some_same : (a b : Relation) → Some a ≡ Some b → a ≡ b
-some_same a b e = cc
-
 -- a list gains what is asked for in two parts
 module _ {X : Type 0} (known : List X) where
-  pub apart_none : (old : List X) → GainsApart known (Contains []) old old
-  apart_none old = record {
-    kept = λ x c. c;
-    apart = λ x none. absurd (among_none x none);
-    others = λ x c. inl c;
-  }
-
   pub apart_then : (A B C : X → Type 0) (first old new : List X) → ((x : X) → C x ↔ (A x ⊎ B x))
       → GainsApart known A first old → GainsApart known B old new → GainsApart known C first new
   apart_then A B C first old new both g h = record {
@@ -174,7 +140,7 @@ pub relations_listed : (M : Objects) (known : List RelationId) (ways : List WayI
     → AreRelationsOn M ways known new
 relations_listed M known ways old new g same = record {
   sound = λ k d l. elim (g.others _ ((same _).0 (Contains-get_or new k d l))) [
-    | inl none ↦ absurd (among_none _ none)
+    | inl none ↦ absurd (contains_none _ none)
     | inr on ↦ restrict M on.0 _ on.2
   ];
   complete = λ w r c on. elim (g.apart r (w, c, on)) [
@@ -187,14 +153,6 @@ first_among : (u : List Step) (first : Step) (rest : List Step) → u ≡ first 
 first_among u first rest e = subst (λ l. Contains l first) (sym e) (0, omega arith, refl)
 
 module _ (M : Objects) (P : Rules) where
-  -- a restriction of no use has no words
-  pub no_words_of : (r : RelationId) (e : WordsError) (cause : Unusable) → e ≡ OfNoUse cause → SaysCause M P r e
-      → (u : Word) → IsWordOf M P r u → ⊥
-  no_words_of r e cause is says u h =
-      let s : SaysCause M P r (OfNoUse cause) = subst (SaysCause M P r) is says in
-      let w = h.is in
-      w.usable cause (subst (λ b. Holds M P b cause) (some_same s.0 w.body (sym s.1 ∙ w.visible)) s.2.holds)
-
   -- the words of one restriction more
   pub words_more : (rs : List RelationId) (i : ℕ) (d : RelationId) (old new : List Word) → i < length rs
       → AreWordsOf M P (take i rs) old → GainsWords M P (get_or rs i d) old new → AreWordsOf M P (take (i + 1) rs) new
@@ -240,7 +198,7 @@ module _ (M : Objects) (P : Rules) where
       own_word : (w : WayId) → Contains ways w → (u : Word) → IsWord M P u.relation u.only u.binding u.steps
           → HasStepOn w u.steps → Contains words u
       own_word w c u is on = elim (owns.complete w u.relation c (member w u is on)) [
-        | inl none ↦ absurd (among_none u.relation none)
+        | inl none ↦ absurd (contains_none u.relation none)
         | inr k ↦ are.all u k (record { of = refl; is = is })
       ]
 

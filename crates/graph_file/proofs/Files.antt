@@ -1,5 +1,5 @@
 -- The bytes of blocks are a graph file.
-use Rattle.std.proofs.Common.{◌≡◌, ℕ, ◌<◌, ◌^◌, List, [], ◌∷◌, length, map, IsTrue, refl, ap, subst, sym, ◌∙◌}
+use Rattle.std.proofs.Common.{◌≡◌, ℕ, ◌<◌, ◌^◌, List, [], ◌∷◌, length, map, IsTrue, ap, subst, sym, ◌∙◌}
 use Rattle.std.specs.List.{AllByRecursion}
 use Rattle.std.specs.FinMap.{FinMap, entries, values, empty, insert, entries-insert, put, len-entries, len-empty}
 use Rattle.std.specs.Cmp.{IsTotalOrder}
@@ -9,14 +9,11 @@ use Rattle.road_model.specs.declared.blocks.Block.{Block}
 use Rattle.road_model.specs.Orders.{way_cmp, rises}
 use Rattle.road_model.specs.BlockMap.{entry_of}
 use Rattle.road_model.specs.Format.{graph_bytes, BlockFits, IsBlockForm, IsGraphFile}
-
-blocks_of_entries : (bs : List Block) → map (λ e. e.1) (map entry_of bs) ≡ bs
-blocks_of_entries [] = refl
-blocks_of_entries (b ∷ bs) = ap (λ l. b ∷ l) (blocks_of_entries bs)
+use Rattle.road_model.proofs.SortedMaps.{values_of}
 
 -- the values of a map whose entries are those of the blocks
 pub values_are : (m : FinMap way_cmp Block) (bs : List Block) → entries m ≡ map entry_of bs → values m ≡ bs
-values_are m bs is = ap (map (λ e. e.1)) is ∙ blocks_of_entries bs
+values_are m bs is = ap (map (λ e. e.1)) is ∙ values_of (λ (b : Block). b.way) bs
 
 -- what the map's blocks spell is a graph file, if each number fits
 pub is_graph_file : (profile : ℕ) (m : FinMap way_cmp Block) (bs : List Block) → profile ≡ 1

@@ -1,23 +1,12 @@
 -- Blocks that are written one after another.
-use Rattle.std.proofs.Common.{◌≡◌, ℕ, ◌+◌, List, [], ◌∷◌, ◌++◌, codes, sym, ap, ◌∙◌, append_assoc, append-nil}
+use Rattle.std.proofs.Common.{◌≡◌, ℕ, ◌+◌, List, [], ◌∷◌, ◌++◌, codes, sym, ap, ◌∙◌, append_assoc}
 use Rattle.std.proofs.Common.{length-append, arith}
-use Rattle.std.specs.List.{AllByRecursion}
 use Rattle.road_base.specs.Bytes.{u32_bytes, u64_bytes, joined}
 use Rattle.road_model.specs.declared.blocks.Block.{Block}
 use Rattle.road_model.specs.Format.{block_bytes, BlockFits, IsBlockForm}
 use Rattle.graph_file.specs.declared.writer.GraphWriter.{GraphWriter}
 use Rattle.graph_file.specs.Writing.{HasWritten}
-
-joined_more : {A : Type 0} (spell : A → List ℕ) (xs : List A) (x : A)
-    → joined spell (xs ++ x ∷ []) ≡ joined spell xs ++ spell x
-joined_more spell [] x = append-nil (spell x)
-joined_more spell (y ∷ xs) x = ap (λ l. spell y ++ l) (joined_more spell xs x)
-    ∙ sym (append_assoc (spell y) (joined spell xs) (spell x))
-
-all_more : {A : Type 0} (P : A → Type 0) (xs : List A) (x : A) → AllByRecursion P xs → P x
-    → AllByRecursion P (xs ++ x ∷ [])
-all_more P [] x so_far next = (next, tt)
-all_more P (y ∷ xs) x so_far next = (so_far.0, all_more P xs x so_far.1 next)
+use Rattle.road_base.proofs.Appends.{joined_more, all_more}
 
 -- behind a head in two parts
 appended : (magic profile count body block : List ℕ)

@@ -4,21 +4,15 @@ use Rattle.std.proofs.Common.{false, cond, List, [], ◌∷◌, ◌++◌, slice_
 use Rattle.std.proofs.Common.{add-one, add-zero, zero-add}
 use Rattle.std.proofs.Math.ListN.{drop_of_length-le}
 use Rattle.std.specs.BTreeMap.{BTreeMap, get}
-use Rattle.std.specs.Cmp.{int_eq_equiv, signed_Decides}
+use Rattle.std.specs.Cmp.{int_eq_equiv}
 use Rattle.std.proofs.lemmas.Bool.{false≢true}
 use Rattle.std.proofs.lemmas.List.{map_more}
-use Rattle.std.proofs.lemmas.Bool.Decides.{Decides-int_eq}
 use Rattle.road_base.specs.declared.ids.NodeId.{NodeId}
 use Rattle.road_model.specs.Lines.{same_node}
 use Rattle.road_model.specs.Orders.{node_cmp}
 use Rattle.way_lines.specs.declared.road_line.LineNode.{LineNode}
 use Rattle.junctions.specs.Repeats.{times, mark, nodes_of, AreMarks}
-
-pub node_from_same : (a b : NodeId) → same_node a b ≡ true → a ≡ b
-node_from_same a b e = let same : a.0 ≡ b.0 = (signed_Decides a.0 b.0).0 e in λ i. record { 0 = same i }
-
-pub same_from_node : (a b : NodeId) → a ≡ b → same_node a b ≡ true
-same_from_node a b e = (Decides-int_eq a.0 b.0).1 (ap (λ n. n.0) e)
+use Rattle.road_model.proofs.SameNodes.{node_from_same, same_from_node}
 
 pub same_node_flips : (a b : NodeId) → same_node a b ≡ same_node b a
 same_node_flips a b = int_eq_equiv.symm a.0 b.0

@@ -19,11 +19,11 @@ use Rattle.way_lines.specs.declared.road_line.RoadLine.{RoadLine}
 use Rattle.way_lines.specs.declared.roads.Road.{Road}
 use Rattle.way_lines.specs.RoadLines.{IsRoad, IsRoadLine, line_node, location_in, goes_through}
 use Rattle.junctions.specs.declared.plain.Neighbours.{Neighbours}
-use Rattle.junctions.specs.Passing.{AreNeighbours, IsPassed}
+use Rattle.junctions.specs.PlainPositions.{AreNeighbours, IsPassed}
 use Rattle.junctions.specs.Repeats.{times, is_repeated, nodes_of}
 use Rattle.junctions.proofs.NodeCounts.{few, once_at}
 
-some_same : (a b : NodeId) → Some a ≡ Some b → a ≡ b
+pub some_same : (a b : NodeId) → Some a ≡ Some b → a ≡ b
 some_same a b e = cc
 
 pub is_not : (b : Bool) → IsTrue (not b) → IsFalse b
@@ -34,7 +34,7 @@ pub not_is : (b : Bool) → IsFalse b → IsTrue (not b)
 not_is true h = absurd (false≢true (sym h))
 not_is false h = refl
 
-located_in : (o : Option Node) → is_some (location_in o) ≡ node_located o
+pub located_in : (o : Option Node) → is_some (location_in o) ≡ node_located o
 located_in None = refl
 located_in (Some body) = refl
 

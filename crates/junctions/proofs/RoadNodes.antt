@@ -13,7 +13,7 @@ use Rattle.road_model.specs.Rules.{Rules}
 use Rattle.road_model.specs.Lines.{same_node, changes, changes_from, refs_of, line_of, node_at}
 use Rattle.road_model.specs.Driving.{open_way, is_open, is_road}
 use Rattle.road_model.specs.Links.{RefersTo}
-use Rattle.junctions.proofs.NodeCounts.{node_from_same}
+use Rattle.road_model.proofs.SameNodes.{node_from_same}
 
 -- ---- references and lines
 

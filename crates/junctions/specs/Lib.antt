@@ -1,3 +1,3 @@
 pub mod Junctions
-pub mod Passing
+pub mod PlainPositions
 pub mod Repeats

@@ -5,7 +5,7 @@ ghost use Rattle.road_model.specs.Driving.{is_road};
 ghost use Rattle.road_model.specs.Networks.{made_on, on};
 ghost use Rattle.road_model.specs.Pieces.{IsPlain};
 ghost use Rattle.way_lines.specs.RoadLines.{AreRoads, IsRoad, line_node};
-ghost use Rattle.junctions.specs.Passing.{AreNeighbours, IsOnNoOther, IsPassed, MayPass};
+ghost use Rattle.junctions.specs.PlainPositions.{AreNeighbours, IsOnNoOther, IsPassed, MayPass};
 
 use crate::repeats::stands_again;
 use road_base::{NodeId, Way, WayId};

@@ -2,7 +2,7 @@
 use Rattle.std.proofs.Common.{◌≡◌, ℕ, zero, suc, true, false, IsTrue, List, [], ◌∷◌, ◌++◌, map, filter, take, Option}
 use Rattle.std.proofs.Common.{Some, None, inl, inr, refl, sym, ap, ◌∙◌, subst}
 use Rattle.std.specs.declared.cmp.Ordering.TheVariants.{Less}
-use Rattle.std.specs.Ordering.{is_lt, is_eq}
+use Rattle.std.specs.Ordering.{is_eq}
 use Rattle.std.specs.Option.{option_to_list}
 use Rattle.std.specs.Cmp.{IsTotalOrder, Equal-is}
 use Rattle.std.specs.FinMap.{IsAntisymmetric, get}
@@ -19,6 +19,7 @@ use Rattle.object_store.specs.Changes.{Alters}
 use Rattle.road_base.proofs.ListMembers.{In, in_from_contains, contains_from_in, in_end, in_left, push_cases}
 use Rattle.road_model.proofs.AscendingLists.{rest_rises}
 use Rattle.road_base.proofs.Comparisons.{turned}
+use Rattle.road_model.proofs.RisingLists.{one_more_rises}
 use Rattle.object_store.proofs.InOrder.{above, other_above, none_kept, one_or_none}
 
 same_list : (keys : List Key) → map (λ k. k) keys ≡ keys
@@ -37,17 +38,6 @@ pub take_in_order : (m : ℕ) (xs : List Event) → IsInOrder xs → IsInOrder (
 take_in_order zero xs h = refl
 take_in_order (suc m) [] h = refl
 take_in_order (suc m) (x ∷ xs) h = take_above x.key m xs h
-
-push_above : (n : Key) (l : List Key) (k : Key) → IsTrue (rises_from key_cmp n l) → key_cmp n k ≡ Less
-    → ((j : Key) → In j l → key_cmp j k ≡ Less) → IsTrue (rises_from key_cmp n (l ++ k ∷ []))
-push_above n [] k h low all = and_from _ _ (ap is_lt low) refl
-push_above n (j ∷ l) k h low all = let p = and_parts _ _ h in and_from _ _ p.0
-    (push_above j l k p.1 (all j (inl refl)) (λ i w. all i (inr w)))
-
-push_rises : (l : List Key) (k : Key) → IsTrue (rises key_cmp l) → ((j : Key) → In j l → key_cmp j k ≡ Less)
-    → IsTrue (rises key_cmp (l ++ k ∷ []))
-push_rises [] k h all = refl
-push_rises (j ∷ l) k h all = push_above j l k h (all j (inl refl)) (λ i w. all i (inr w))
 
 -- ---- the keys that are picked from the events
 
@@ -82,7 +72,7 @@ module _ (total : IsTotalOrder key_cmp) where
   pub picked_one : (P : Event → Type 0) (xs : List Event) (e : Event) (keys : List Key) → IsInOrder (xs ++ e ∷ [])
       → IsPicked P xs keys → P e → IsPicked P (xs ++ e ∷ []) (keys ++ e.key ∷ [])
   picked_one P xs e keys up picked here = record {
-    ascending = push_rises keys e.key picked.ascending
+    ascending = one_more_rises key_cmp keys e.key picked.ascending
         (λ j i. let s = picked.sound j i in subst (λ k. key_cmp k e.key ≡ Less) s.2 (below_last xs e s.0 up s.1));
     sound = λ k i. elim (push_cases keys e.key k i) [
       | inl j ↦ let s = picked.sound k j in (s.0, in_left xs (e ∷ []) s.0 s.1, s.2, s.3)

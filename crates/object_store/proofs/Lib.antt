@@ -5,9 +5,8 @@ pub mod KindsInOrder
 pub mod KindEntries
 pub mod ChangedKeys
 mod SplitPairs
-mod Trees
+pub mod Trees
 mod Overlays
-mod AppliedOnes
 mod MergedEvents
 mod SameBodies
 mod Marks

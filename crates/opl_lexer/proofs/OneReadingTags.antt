@@ -1,17 +1,14 @@
 -- Ascending tags are determined by the values of all keys.
 use Rattle.std.proofs.Common.{◌≡◌, ℕ, true, false, cond, IsTrue, List, [], ◌∷◌, Some, None, refl, sym, ap, subst, ◌∙◌}
-use Rattle.std.specs.Ordering.{nat_cmp, is_eq, ordering_reverse}
-use Rattle.std.specs.declared.cmp.Ordering.{Ordering}
+use Rattle.std.specs.Ordering.{is_eq, ordering_reverse}
 use Rattle.std.specs.declared.cmp.Ordering.TheVariants.{Less, Equal, Greater}
 use Rattle.std.specs.Cmp.{first_so, second_so}
-use Rattle.std.specs.Cmp.Lexicographic.{slice_cmp, nat_list_cmp_total, texts_ties}
+use Rattle.std.specs.Cmp.Lexicographic.{nat_list_cmp_total, texts_ties}
 use Rattle.std.specs.Str.{bytes_eq}
 use Rattle.std.proofs.lemmas.Slice.Eq.{bytes_eq-Decides}
 use Rattle.road_base.specs.Tags.{TagList, is_above, IsAscending, value_of}
 use Rattle.road_base.proofs.Comparisons.{less}
-
-abbrev text_cmp : List ℕ → List ℕ → Ordering
-text_cmp = slice_cmp nat_cmp
+use Rattle.road_base.proofs.TagSearch.{text_cmp}
 
 -- a text below all keys is below those above one of them
 above_more : (k j : List ℕ) (ts : TagList) → text_cmp k j ≡ Less → IsTrue (is_above j ts) → IsTrue (is_above k ts)

@@ -55,7 +55,7 @@ bad_more mode front line number p count good bad =
 
 -- ---- bytes that go on
 
-none_lacks : Lacks 10 []
+pub none_lacks : Lacks 10 []
 none_lacks = All-nil (λ b. (b == 10) ≡ false)
 
 lacks_append : (front line : List ℕ) → Lacks 10 front → Lacks 10 line → Lacks 10 (front ++ line)

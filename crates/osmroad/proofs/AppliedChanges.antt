@@ -1,9 +1,7 @@
 -- What is prepared to apply a change to a store.
-use Rattle.std.proofs.Common.{◌≡◌, inl, inr, ⊎_elim, ℕ, ◌+◌, ◌<◌, ◌≤◌, ◌^◌, List, [], ◌∷◌, ◌++◌, length, get_or}
+use Rattle.std.proofs.Common.{◌≡◌, inl, inr, ⊎_elim, ℕ, ◌+◌, ◌<◌, ◌≤◌, ◌^◌, List, [], ◌++◌, length, get_or}
 use Rattle.std.proofs.Common.{Option, None, Some, Result, Ok, Err, true, false, refl, sym, ◌∙◌, ap, subst, arith}
-use Rattle.std.proofs.Common.{codes, length-append}
 use Rattle.std.specs.Io.{StartsWith}
-use Rattle.std.specs.Fmt.{decimal}
 use Rattle.road_base.specs.declared.event.Event.{Event}
 use Rattle.road_base.specs.declared.ids.Sequence.{Sequence}
 use Rattle.road_base.specs.History.{History, kept, with_change}
@@ -59,9 +57,7 @@ use Rattle.osmroad.proofs.LoadedStores.{LeavesKept, stored_weaker, same_history,
 use Rattle.osmroad.proofs.LoadedStores.{loaded_now, loaded_store, loaded_as_before, left_unput, stand_unput}
 use Rattle.session.proofs.KeptStores.{unput}
 use Rattle.osmroad.proofs.LoadedStores.{NotLoaded, could_leave, IsRefusal, load_refused}
-
-line_some : (n : ℕ) → 0 < length (applied_line n)
-line_some n = omega (arith, length-append (codes "applied ") (decimal n ++ 10 ∷ []))
+use Rattle.session.proofs.AnsweredMessages.{line_some}
 
 -- a store loaded, and a change added to it
 pub record Applies (l : Loaded) (new : Journal) (change : List Event) (result : Result (Unit {0}) JournalError)

@@ -15,15 +15,12 @@ use Rattle.object_store.specs.Listed.{pair_of}
 use Rattle.restrictions.specs.Words.{IsRestriction}
 use Rattle.osmroad.specs.Audit.{RuleLine, IsRuleLine, IsLineOf, AreRuleLines, IsAudit, rule_line, carries_conditional}
 use Rattle.osmroad.specs.Audit.{conditional_count, conditional_line}
-use Rattle.road_base.proofs.ListMembers.{In, contains_none, contains_more, contains_from_in, from_map}
+use Rattle.road_base.proofs.ListMembers.{In, contains_more, contains_from_in, from_map}
 use Rattle.osmroad.proofs.OneFinding.{one_finding}
 
 -- ---- one line after another
 
 module _ (M : Objects) (P : Rules) where
-  pub no_lines : AreRuleLines M P [] []
-  no_lines = record { lines = []; of = refl; each = λ line has. absurd (contains_none line has); spelled = refl }
-
   pub one_more_line : (rules : List RelationId) (r : RelationId) (text more : List ℕ)
       → AreRuleLines M P rules text → IsLineOf M P r more → AreRuleLines M P (rules ++ r ∷ []) (text ++ more)
   one_more_line rules r text more before last = record {

@@ -1,12 +1,10 @@
 -- The blocks of ways, one way after another.
-use Rattle.std.proofs.Common.{◌≡◌, ◌≢◌, ℕ, Bool, true, false, IsTrue, List, [], ◌∷◌, ◌++◌, map, length}
-use Rattle.std.proofs.Common.{inl, inr, sym, ap, subst, ◌∙◌, arith}
-use Rattle.std.specs.Bool.{◌==◌}
+use Rattle.std.proofs.Common.{◌≡◌, ℕ, IsTrue, List, [], ◌∷◌, ◌++◌, map}
+use Rattle.std.proofs.Common.{inl, inr, sym, ap, subst, ◌∙◌}
 use Rattle.std.specs.Cmp.{IsTotalOrder}
 use Rattle.std.specs.declared.cmp.Ordering.TheVariants.{Less}
 use Rattle.std.specs.List.{AllByRecursion}
-use Rattle.std.proofs.lemmas.Bool.Decides.{nat_tests}
-use Rattle.std.proofs.lemmas.List.{nil_from_length, map-append}
+use Rattle.std.proofs.lemmas.List.{map-append}
 use Rattle.road_base.specs.declared.ids.WayId.{WayId}
 use Rattle.road_base.specs.Objects.{Objects}
 use Rattle.road_model.specs.declared.blocks.Block.{Block}
@@ -23,7 +21,7 @@ use Rattle.road_model.specs.Highways.{AreRoadWays}
 use Rattle.osmroad.specs.Building.{HasBlocksOf, IsBlockAmong}
 use Rattle.road_base.proofs.ListMembers.{In, contains_from_in, in_from_contains, contains_more, in_left, in_end}
 use Rattle.road_base.proofs.ListMembers.{from_map, all_from}
-use Rattle.osmroad.proofs.RisingWays.{one_more_rises, below_last}
+use Rattle.road_model.proofs.RisingLists.{one_more_rises, below_last}
 
 module _ (M : Objects) (P : Rules) where
   -- a way without pieces has no block
@@ -137,18 +135,6 @@ module _ (M : Objects) (P : Rules) where
       (all_from IsOfItsWay has.blocks (λ b i. of_its_way b (has.listed.sound b i).road)))
 
 -- ---- lists that are empty or not
-
-zero_by_test : (n : ℕ) (t : Bool) → t ≡ (n == 0) → t ≡ true → n ≡ 0
-zero_by_test n t e h = grind (arith, nat_tests)
-
-some_by_test_of : (n : ℕ) (t : Bool) → t ≡ (n == 0) → t ≡ false → n ≢ 0
-some_by_test_of n t e h = λ z. absurd (grind (arith, nat_tests))
-
-pub empty_by_test : {A : Type 0} (l : List A) (t : Bool) → t ≡ (length l == 0) → t ≡ true → l ≡ []
-empty_by_test l t e h = nil_from_length l (zero_by_test (length l) t e h)
-
-pub some_by_test : {A : Type 0} (l : List A) (t : Bool) → t ≡ (length l == 0) → t ≡ false → l ≡ [] → ⊥
-some_by_test l t e h none = some_by_test_of (length l) t e h (ap length none)
 
 -- a block with pieces has the form that is written
 pub block_form : (b : Block) → (b.pieces ≡ [] → ⊥) → AllByRecursion IsPieceForm b.pieces

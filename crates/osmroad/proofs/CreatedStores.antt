@@ -51,6 +51,7 @@ use Rattle.session.proofs.HeldSource.{behind_of}
 use Rattle.osmroad.proofs.Replied.{replied}
 use Rattle.osmroad.proofs.PassedLimits.{still_passes}
 use Rattle.road_io.proofs.SourceParts.{took_nothing}
+use Rattle.road_io.proofs.QuietRuns.{quiet_left}
 use Rattle.session.proofs.OutputFronts.{starts_whole, nothing_put}
 use Rattle.osmroad.proofs.OutputFronts.{other_put}
 use Rattle.osmroad.proofs.Prepared.{will_put, by_failure, prepares, prepares_whole}
@@ -68,14 +69,6 @@ could_leave : (w v : Outside) → Quiet w v → (left : Left) → IsImage v.a le
 could_leave w v q left a b = record {
   a = subst (λ (d : Disk). IsImage d left.a) q.same_a a;
   b = subst (λ (d : Disk). IsImage d left.b) q.same_b b;
-}
-
-quiet_left : (w u : Outside) → Quiet w u → (left : Left) → IsLeft (present u) left → IsLeft (present w) left
-quiet_left w u q left l = record {
-  a = subst (λ (d : Disk). IsImage d left.a) q.same_a l.a;
-  b = subst (λ (d : Disk). IsImage d left.b) q.same_b l.b;
-  no_less = subst (λ (o : List ℕ). StartsWith left.out o) q.output l.no_less;
-  no_more = subst (λ (o : List ℕ). StartsWith o left.out) q.output l.no_more;
 }
 
 -- neither file is live where none has an open base

@@ -16,7 +16,7 @@ use Rattle.osmroad.specs.declared.reply.Failure.TheVariants.{ReadFault, NoMemory
 use Rattle.osmroad.specs.declared.status.Status.TheVariants.{Done, Limit}
 use Rattle.osmroad.specs.declared.status.Status.TheVariants.{Refused as RefusedStatus}
 use Rattle.osmroad.specs.Limits.{HasTooManyBytes}
-use Rattle.osmroad.specs.Gathering.{Gathered, GatherStopped, GatherCause}
+use Rattle.osmroad.specs.SourceBytes.{Gathered, GatherStopped, GatherCause}
 use Rattle.osmroad.specs.Texts.{limit_line, refused_graph_line, counts_line}
 use Rattle.osmroad.specs.Outcomes.{InspectGives}
 use Rattle.osmroad.specs.Replies.{Replies, RefusesInput, CountsReads, IsPrepared, Prepares}

@@ -1,4 +1,3 @@
-pub mod RisingWays
 pub mod VisibleRestrictions
 pub mod DistinctLists
 pub mod OneFinding
@@ -20,7 +19,6 @@ pub mod Refusals
 pub mod CompleteRuns
 pub mod OneAudit
 pub mod Entries
-pub mod OneGraphFile
 pub mod OneSample
 pub mod OneAnswer
 pub mod OutputFronts

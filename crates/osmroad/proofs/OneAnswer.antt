@@ -28,10 +28,10 @@ use Rattle.osmroad.specs.Outcomes.{AreInput, IsCompiled, CompileGives, InspectGi
 use Rattle.osmroad.specs.Outcomes.{ShowGives, Gives}
 use Rattle.osmroad.specs.Run.{IsStored}
 use Rattle.osmroad.specs.StoreLaws.{OneLive, HasLive, NoDamage, OneStore}
+use Rattle.graph_file.proofs.GraphFiles.{one_file}
 use Rattle.osmroad.proofs.CitedLaws.{OneMap, OneReading, OneDamage}
 use Rattle.osmroad.proofs.OneAudit.{one_audit}
 use Rattle.osmroad.proofs.Entries.{entries_of_one}
-use Rattle.osmroad.proofs.OneGraphFile.{one_file}
 use Rattle.osmroad.proofs.OneSample.{one_sample}
 use Rattle.osmroad.proofs.Refusals.{Same, both, no_fault, one_fault}
 use Rattle.osmroad.proofs.Refusals.{not_refused, one_refusal, store_not_refused, one_store_refusal}

@@ -11,8 +11,8 @@ use Rattle.graph_file.specs.GraphReading.{IsFile}
 use Rattle.drive_queries.specs.Counting.{totals_of}
 use Rattle.osmroad.specs.Texts.{sample_line}
 use Rattle.osmroad.specs.Sampling.{events_of_lists, IsSampleLine, AreSampleLines, IsSample}
+use Rattle.graph_file.proofs.GraphFiles.{one_file}
 use Rattle.osmroad.proofs.CitedLaws.{OneMap}
-use Rattle.osmroad.proofs.OneGraphFile.{one_file}
 
 module _ (map : OneMap) (graph : (M : Objects) → OneGraph M motorcar_rules) where
   one_line : (q : ℕ) (events : List Event) (line other : List ℕ) → IsSampleLine q events line

@@ -6,7 +6,7 @@ pub mod Limits
 pub mod Texts
 pub mod Input
 pub mod Reading
-pub mod Gathering
+pub mod SourceBytes
 pub mod Sampling
 pub mod Status
 pub mod Commands

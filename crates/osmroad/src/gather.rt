@@ -1,6 +1,6 @@
 //! The bytes of a source that are kept as they are, as a graph file's.
 ghost use Rattle.std.specs.Prelude.{◌≡◌, ◌<◌, IfOk, IfErr, Err};
-ghost use Rattle.osmroad.specs.Gathering.{Gathered, GatherStopped};
+ghost use Rattle.osmroad.specs.SourceBytes.{Gathered, GatherStopped};
 
 use crate::input::{BUFFER, InputError, front};
 use crate::limits::MOST_BYTES;

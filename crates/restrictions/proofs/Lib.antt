@@ -4,3 +4,4 @@ pub mod OneRun
 pub mod DistinctLists
 pub mod EndLists
 pub mod AllWords
+pub mod UselessRelations

@@ -2,20 +2,18 @@
 use Rattle.std.specs.Prelude.{slice_get}
 use Rattle.std.proofs.Common.{◌≡◌, ℕ, ◌-◌, ◌<◌, ◌≤◌, get_or, List, [], ◌∷◌, Some, is_some, nat_le, Bool, true, false}
 use Rattle.std.proofs.Common.{cond, length, refl, sym, ap, ◌∙◌, arith}
-use Rattle.std.proofs.lemmas.Bool.Decides.{Decides-int_eq, nat_tests}
+use Rattle.std.proofs.lemmas.Bool.Decides.{nat_tests}
 use Rattle.std.proofs.lemmas.Option.{slice_get-get_or}
 use Rattle.road_base.specs.declared.ids.NodeId.{NodeId}
 use Rattle.road_base.specs.declared.ids.Key.{Key}
 use Rattle.road_model.specs.Lines.{changes, changes_from, same_node}
 use Rattle.road_model.specs.Restrictions.{last_of}
+use Rattle.road_model.proofs.SameNodes.{node_from_same}
 
 -- the last of the list, or x where it is empty
 abbrev pub last_or : NodeId → List NodeId → NodeId
 last_or x [] = x
 last_or x (y ∷ ys) = last_or y ys
-
-pub node_from_same : (a b : NodeId) → same_node a b ≡ true → a ≡ b
-node_from_same a b same = let numbers : a.0 ≡ b.0 = (Decides-int_eq a.0 b.0).0 same in λ i. record { 0 = numbers i }
 
 pub last_at : (x : NodeId) (ys : List NodeId) → slice_get (x ∷ ys) (length ys) ≡ Some (last_or x ys)
 last_at x [] = refl

@@ -20,7 +20,7 @@ use Rattle.road_model.specs.Restrictions.{IsRun, Connects, begin_position, end_p
 use Rattle.road_model.specs.Restrictions.{whole_way, vias, froms, tos, some_ends_at}
 use Rattle.restrictions.specs.Runs.{across, arrives, dir_between, dir_from, end_in, first_node, last_node, first_enter}
 use Rattle.restrictions.specs.Runs.{last_enter, leads, leave_of, out_of, steps_in, steps_of}
-use Rattle.restrictions.proofs.LineEnds.{node_from_same}
+use Rattle.road_model.proofs.SameNodes.{node_from_same}
 
 same_self : (v : NodeId) → same_node v v ≡ true
 same_self v = (Decides-int_eq v.0 v.0).1 refl

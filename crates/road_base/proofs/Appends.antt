@@ -17,7 +17,7 @@ item_more : {A : Type 0} (xs : List A) (i : ℕ) (x : A) → i < length xs → x
     → take (i + 1) xs ≡ take i xs ++ x ∷ []
 item_more xs i x within is = take_more xs i x within ∙ ap (λ y. take i xs ++ y ∷ []) (sym is)
 
-joined_more : {A : Type 0} (spell : A → List ℕ) (xs : List A) (x : A)
+pub joined_more : {A : Type 0} (spell : A → List ℕ) (xs : List A) (x : A)
     → joined spell (xs ++ x ∷ []) ≡ joined spell xs ++ spell x
 joined_more spell [] x = append-nil (spell x)
 joined_more spell (y ∷ xs) x = ap (λ l. spell y ++ l) (joined_more spell xs x)
@@ -31,7 +31,7 @@ one_more spell xs i x old mid new within is so_far next =
     next ∙ ap (λ l. l ++ spell x) so_far ∙ append_assoc old (joined spell (take i xs)) (spell x)
     ∙ ap (λ l. old ++ l) (sym (joined_more spell (take i xs) x) ∙ ap (joined spell) (sym (item_more xs i x within is)))
 
-all_more : {A : Type 0} (P : A → Type 0) (xs : List A) (x : A) → AllByRecursion P xs → P x
+pub all_more : {A : Type 0} (P : A → Type 0) (xs : List A) (x : A) → AllByRecursion P xs → P x
     → AllByRecursion P (xs ++ x ∷ [])
 all_more P [] x so_far next = (next, tt)
 all_more P (y ∷ xs) x so_far next = (so_far.0, all_more P xs x so_far.1 next)

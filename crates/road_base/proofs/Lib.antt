@@ -3,6 +3,7 @@ pub mod FilteredLists
 pub mod Comparisons
 pub mod SortedParts
 pub mod ListPlaces
+pub mod ListFronts
 pub mod Splits
 mod Ascents
 pub mod TagSearch

@@ -19,6 +19,9 @@ pub cons_not_nil : {S : Type 0} (a : List S) (x : S) (b : List S) → a ++ x ∷
 cons_not_nil [] x b e = cc
 cons_not_nil (y ∷ a) x b e = cc
 
+pub same_head : {S : Type 0} (x y : S) (xs ys : List S) → x ∷ xs ≡ y ∷ ys → x ≡ y
+same_head x y xs ys e = cc
+
 -- a list is empty, or has a last element
 pub data Ends {S : Type 0} (xs : List S) : Type 0 where
   Nil : xs ≡ [] → Ends xs

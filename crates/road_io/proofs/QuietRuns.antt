@@ -16,7 +16,7 @@ same_present o u q =
     ∙ ap (λ b. record { a = o.a; b = b; from = u.output; to = u.output }) q.same_b
     ∙ ap (λ (out : List ℕ). record { a = o.a; b = o.b; from = out; to = out }) q.output
 
-quiet_left : (o u : Outside) → Quiet o u → (left : Left) → IsLeft (present u) left → IsLeft (present o) left
+pub quiet_left : (o u : Outside) → Quiet o u → (left : Left) → IsLeft (present u) left → IsLeft (present o) left
 quiet_left o u q left l = subst (λ (m : Moment). IsLeft m left) (same_present o u q) l
 
 pub quiet_stay : (o u v : Outside) → Quiet o u → v ≡ stays u → Quiet o v

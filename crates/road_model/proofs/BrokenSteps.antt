@@ -16,7 +16,7 @@ use Rattle.road_model.proofs.WalkLists.{inner_legal, step_legal}
 use Rattle.road_model.proofs.BrokenRules.{one_answer, one_before}
 use Rattle.road_model.proofs.FirstBroken.{lacks_none, none_applies}
 
-one_or_more : (o : BrokenRule) → 1 ≤ place o
+pub one_or_more : (o : BrokenRule) → 1 ≤ place o
 one_or_more NoStep = omega arith
 one_or_more o = omega arith
 

@@ -66,7 +66,7 @@ module _ (M : Objects) (P : Rules) where
       let o : h.others ≡ d ++ e = cc (u, g) in (
         h.last ∷ (spell_pieces d ++ k.front),
         h.steps
-            ∙ ap (λ v. h.last ∷ v) (ap spell_pieces o ∙ spell_pieces-append M P d e
+            ∙ ap (λ v. h.last ∷ v) (ap spell_pieces o ∙ spell_pieces-append d e
             ∙ ap (λ v. spell_pieces d ++ v) (whole_spelling e b k) ∙ sym (append_assoc (spell_pieces d) k.front b)),
       )
 
@@ -87,7 +87,7 @@ module _ (M : Objects) (P : Rules) where
       let o : m.second ∷ m.others ≡ e ++ t ∷ [] = cc (u) in
       let behind : spell_pieces (m.second ∷ m.others) ++ m.next ∷ m.rest
       ≡ spell_pieces e ++ x ∷ (more ++ m.next ∷ m.rest) =
-      ap (λ v. v ++ m.next ∷ m.rest) (ap spell_pieces o ∙ spell_pieces-push M P e t ∙ ap (λ v. spell_pieces e ++ v) g)
+      ap (λ v. v ++ m.next ∷ m.rest) (ap spell_pieces o ∙ spell_pieces-push e t ∙ ap (λ v. spell_pieces e ++ v) g)
       ∙ append_assoc (spell_pieces e) (x ∷ more) (m.next ∷ m.rest) in
       record {
         steps = m.last ∷ spell_pieces e;
@@ -201,7 +201,7 @@ module _ (M : Objects) (P : Rules) where
       let u = k.is in
       let o : k.others ≡ c ++ e = cc (u, g) in
       let steps : v ≡ k.last ∷ (spell_pieces c ++ (h.front ++ b)) = k.steps
-      ∙ ap (λ w. k.last ∷ w) (ap spell_pieces o ∙ spell_pieces-append M P c e
+      ∙ ap (λ w. k.last ∷ w) (ap spell_pieces o ∙ spell_pieces-append c e
       ∙ ap (λ w. spell_pieces c ++ w) (whole_spelling e b h)) in
       let n = ap length steps in let m = length-append (spell_pieces c) (h.front ++ b) in let r = length-append h.front
       b in
@@ -233,19 +233,19 @@ module _ (M : Objects) (P : Rules) where
       let every = Every-append (IsPiece M P) e.pieces (t ∷ []) j' (i, tt) in
       let pieces : e.pieces ++ t ∷ [] ≡ k.first ∷ (k.others ++ t ∷ []) = ap (λ v. v ++ t ∷ []) k.is in
       let whole : spell_pieces c ++ spell t ≡ spell_pieces e.front ++ (spell_pieces (e.pieces ++ t ∷ []) ++ []) =
-      ap (λ v. v ++ spell t) (ap spell_pieces e.is ∙ spell_pieces-append M P e.front e.pieces)
+      ap (λ v. v ++ spell t) (ap spell_pieces e.is ∙ spell_pieces-append e.front e.pieces)
       ∙ append_assoc (spell_pieces e.front) (spell_pieces e.pieces) (spell t)
-      ∙ ap (λ v. spell_pieces e.front ++ v) (sym (spell_pieces-push M P e.pieces t)
+      ∙ ap (λ v. spell_pieces e.front ++ v) (sym (spell_pieces-push e.pieces t)
       ∙ sym (append-nil (spell_pieces (e.pieces ++ t ∷ [])))) in
       let ne : spell_pieces (e.pieces ++ t ∷ []) ≡ []
       → ⊥ = λ z. cons_not_nil (spell_pieces e.pieces) x more
-      (ap (λ v. spell_pieces e.pieces ++ v) (sym g) ∙ sym (spell_pieces-push M P e.pieces t) ∙ z) in
+      (ap (λ v. spell_pieces e.pieces ++ v) (sym g) ∙ sym (spell_pieces-push e.pieces t) ∙ z) in
       let legal = inner_legal M P (spell_pieces e.front) (spell_pieces (e.pieces ++ t ∷ [])) [] ne
       (subst (Legal M P) whole l) in
       let on = beyond t i b [] x more w.next w.more g w.word in
       let steps : b ++ x ∷ more ≡ k.last ∷ spell_pieces (k.others ++ t ∷ []) =
       ap (λ v. b ++ v) (sym g) ∙ ap (λ v. v ++ spell t) k.steps
-      ∙ ap (λ v. k.last ∷ v) (sym (spell_pieces-push M P k.others t)) in
+      ∙ ap (λ v. k.last ∷ v) (sym (spell_pieces-push k.others t)) in
       subst (IsContext M P) (sym pieces)
       (many spell (IsPiece M P) (Legal M P) (AnyWord M P) k.first k.others t []
       (subst (Every (IsPiece M P)) pieces every) (subst (λ v. Legal M P (spell_pieces v)) pieces legal) k.front

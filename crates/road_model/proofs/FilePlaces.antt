@@ -17,7 +17,7 @@ use Rattle.road_model.specs.FileWalks.{IsPlaceAt, ArePassed, piece_steps}
 use Rattle.road_model.proofs.StepPlaces.{InsideAt, place_in, place, stands_inside, length-forward, length-backward}
 use Rattle.road_model.proofs.StepEnds.{named_end, drives_named}
 
-length-steps : (w : WayId) (i n : ℕ) (d : Dir) → length (steps_from w i n d) ≡ n
+pub length-steps : (w : WayId) (i n : ℕ) (d : Dir) → length (steps_from w i n d) ≡ n
 length-steps w i n Forward = length-forward w i n
 length-steps w i n Backward = length-backward w i n
 

@@ -38,6 +38,10 @@ last_of xs ys n e =
     let l = length-append xs ys in
     behind_dropped xs ys (length (xs ++ ys) - n) (omega arith)
 
+-- a block that holds a piece has pieces
+pub some_piece : (b : Block) (e : Piece) → Contains b.pieces e → b.pieces ≡ [] → ⊥
+some_piece b e i n = let h : In e [] = subst (In e) n (in_from_contains b.pieces e i) in absurd h
+
 module _ (M : Objects) (P : Rules) where
   -- ---- from what stands in the blocks to the object map
 
@@ -49,7 +53,7 @@ module _ (M : Objects) (P : Rules) where
   context_some (Many m) = let e = m.is in cc
 
   -- the pieces before a context's last one, and that piece
-  context_ends : (c : List Span) → IsContext M P c → (b : List Span) × (q : Span) × (c ≡ b ++ q ∷ [])
+  pub context_ends : (c : List Span) → IsContext M P c → (b : List Span) × (q : Span) × (c ≡ b ++ q ∷ [])
   context_ends c k = elim (ends c) [
     | Nil e ↦ absurd (context_some (subst (IsContext M P) e k))
     | Last b q e ↦ (b, q, e)
@@ -68,6 +72,11 @@ module _ (M : Objects) (P : Rules) where
       ∙ map-append name_of to.front k.target in
       ap (last_names a.length) whole
       ∙ last_of (map name_of to.front) (map name_of k.target) a.length (k.length_is ∙ sym (length-map k.target name_of))
+
+  pub context_before : (p : Span) (b : List Span) (c : IsContext M P (b ++ p ∷ [])) →
+      (context_of M P p b c).1.before ≡ b
+  unfolding context_of
+  context_before p b c = refl
 
   module _ (bs : List Block) (listed : Lists (λ (b : Block). b.way) way_cmp (IsRoadBlock M P) bs) where
     entry_is : (p : Piece) (h : HasPiece bs p) → IsPieceEntry M P h.block.way p
@@ -100,9 +109,6 @@ module _ (M : Objects) (P : Rules) where
       way_entry : IsPieceEntry M P p.way entry
       same : way_entry.piece ≡ p
 
-    some_piece : (b : Block) (e : Piece) → Contains b.pieces e → b.pieces ≡ [] → ⊥
-    some_piece b e i n = let h : In e [] = subst (In e) n (in_from_contains b.pieces e i) in absurd h
-
     written : (p : Span) → IsPiece M P p → Written p
     written p i =
         let h = has_block M P p.way in
@@ -120,11 +126,6 @@ module _ (M : Objects) (P : Rules) where
 
     written_name : (p : Span) (w : Written p) → w.entry.name ≡ name_of p
     written_name p w = w.way_entry.named ∙ ap name_of w.same
-
-    context_before : (p : Span) (b : List Span) (c : IsContext M P (b ++ p ∷ [])) →
-        (context_of M P p b c).1.before ≡ b
-    unfolding context_of
-    context_before p b c = refl
 
     stands_by : (b : List Span) (q : Span) → IsContext M P (b ++ q ∷ []) → (w : Written q) →
         HasContext bs (map name_of (b ++ q ∷ []))

@@ -118,7 +118,7 @@ module _ (M : Objects) (P : Rules) where
     target t g =
         longest_of_any M P (continues M P) (c ++ t ∷ []) (cons_not_nil c t [])
         (Every-append (IsPiece M P) c (t ∷ []) (context_pieces M P c g.from) (g.by, tt))
-        (subst (Legal M P) (sym (spell_pieces-push M P c t)) g.legal)
+        (subst (Legal M P) (sym (spell_pieces-push c t)) g.legal)
 
     arc_entry : Span → List Span → TurnArc
     arc_entry t e = record { piece = name_of t; length = length e }

@@ -1,5 +1,7 @@
 pub mod TotalOrders
+pub mod SameNodes
 pub mod AscendingLists
+pub mod RisingLists
 pub mod SortedOnce
 pub mod JoinedLists
 pub mod UniqueEntries

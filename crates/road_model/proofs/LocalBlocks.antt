@@ -20,7 +20,7 @@ two_of_six : (M N : Objects) (w : WayId) → IsAlike M N 6 (WayKey w) → IsAlik
 two_of_six M N w al = alike_less M N 2 4 (WayKey w) al
 
 -- a list of what is the same
-lists_kept : {A B : Type 0} {name : A → B} {R : B → B → Ordering} {Is Was : A → Type 0} (xs : List A)
+pub lists_kept : {A B : Type 0} {name : A → B} {R : B → B → Ordering} {Is Was : A → Type 0} (xs : List A)
     → ((x : A) → Is x → Was x) → ((x : A) → Was x → Is x) → Lists name R Is xs → Lists name R Was xs
 lists_kept xs to from l = record {
   ascending = l.ascending;

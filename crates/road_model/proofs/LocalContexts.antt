@@ -28,43 +28,42 @@ use Rattle.road_model.proofs.LocalDrives.{AllAlike, two_of_three, legal_kept}
 
 -- ---- the steps of pieces
 
-spelled_way : (p : Span) (s : Step) → In s (spell p) → s.way ≡ p.way
+pub spelled_way : (p : Span) (s : Step) → In s (spell p) → s.way ≡ p.way
 spelled_way p s i = on_way p.way p.index (p.end - p.index) p.dir s i
 
-steps_of : (c : List Span) (s : Step) → In s (spell_pieces c) → (p : Span) × In p c × In s (spell p)
+pub steps_of : (c : List Span) (s : Step) → In s (spell_pieces c) → (p : Span) × In p c × In s (spell p)
 steps_of [] s i = absurd i
 steps_of (p ∷ c) s i = elim (in_cases (spell p) (spell_pieces c) s i) [
   | inl a ↦ (p, inl refl, a)
   | inr b ↦ let r = steps_of c s b in (r.0, inr r.1, r.2)
 ]
 
-of_piece : (c : List Span) (p : Span) → In p c → (s : Step) → In s (spell p) → In s (spell_pieces c)
+pub of_piece : (c : List Span) (p : Span) → In p c → (s : Step) → In s (spell p) → In s (spell_pieces c)
 of_piece [] p i s j = absurd i
 of_piece (q ∷ c) p (inl e) s j = in_left (spell q) (spell_pieces c) s (subst (λ x. In s (spell x)) e j)
 of_piece (q ∷ c) p (inr i) s j = in_right (spell q) (spell_pieces c) s (of_piece c p i s j)
 
-every_in : (Q : Span → Type 0) (c : List Span) (p : Span) → Every Q c → In p c → Q p
+pub every_in : (Q : Span → Type 0) (c : List Span) (p : Span) → Every Q c → In p c → Q p
 every_in Q [] p h i = absurd i
 every_in Q (q ∷ c) p h (inl e) = subst Q (sym e) h.0
 every_in Q (q ∷ c) p h (inr i) = every_in Q c p h.1 i
 
-every_map : (Q R : Span → Type 0) (c : List Span) → ((p : Span) → In p c → Q p → R p) → Every Q c → Every R c
+pub every_map : (Q R : Span → Type 0) (c : List Span) → ((p : Span) → In p c → Q p → R p) → Every Q c → Every R c
 every_map Q R [] f h = tt
 every_map Q R (q ∷ c) f h = (f q (inl refl) h.0, every_map Q R c (λ p i. f p (inr i)) h.1)
 
 -- ---- the ways of a context lie within two links of each other
 
 module _ (M : Objects) (P : Rules) where
-  first_step : (p : Span) → IsPiece M P p → (s : Step) × In s (spell p)
+  pub first_step : (p : Span) → IsPiece M P p → (s : Step) × In s (spell p)
   first_step p h = let f = piece_shape M P p h in (f.begin, subst (In f.begin) (sym f.is) (inl refl))
 
   module _ (c : List Span) (m : IsMany spell (IsPiece M P) (Legal M P) (AnyWord M P) c) where
-    the_word : List Step
+    abbrev pub the_word : List Step
     the_word = m.last ∷ (spell_all spell (m.second ∷ m.others) ++ m.next ∷ m.rest)
 
     -- a piece of the context has a step of its word
-    shared : (p : Span) → In p c → (s : Step) × (s.way ≡ p.way) × In s the_word
-    unfolding the_word
+    pub shared : (p : Span) → In p c → (s : Step) × (s.way ≡ p.way) × In s the_word
     shared p i = elim (subst (In p) m.is i) [
       | inl e ↦ (
         m.last,
@@ -82,7 +81,6 @@ module _ (M : Objects) (P : Rules) where
     ]
 
     together : (p q : Span) → In p c → In q c → IsWithin M 2 (WayKey p.way) (WayKey q.way)
-    unfolding the_word
     together p q i j =
         let s = shared p i in let t = shared q j in
         subst (λ w. IsWithin M 2 (WayKey w) (WayKey q.way)) s.1
@@ -108,7 +106,7 @@ pieces_turned M N c near q i = alike_turned M N 3 (WayKey q.way) (near q i)
 pieces_end : (M N : Objects) (d a b : List Span) → d ≡ a ++ b → PiecesAlike M N d → PiecesAlike M N b
 pieces_end M N d a b e near q i = near q (subst (In q) (sym e) (in_right a b q i))
 
-only_one : (p q : Span) → In p (q ∷ []) → p ≡ q
+pub only_one : (p q : Span) → In p (q ∷ []) → p ≡ q
 only_one p q (inl e) = e
 only_one p q (inr i) = absurd i
 
@@ -228,7 +226,7 @@ module _ (M : Objects) (P : Rules) (needs : NeedsHighway P) where
       let f = piece_shape M P t ht in
       let front : List Step = spell_pieces before ++ r.0 in
       let whole : spell_pieces (before ++ p ∷ []) ++ spell t ≡ front ++ r.1 ∷ f.begin ∷ f.others =
-      ap (λ v. v ++ spell t) (spell_pieces-push M P before p ∙ ap (λ v. spell_pieces before ++ v) r.2
+      ap (λ v. v ++ spell t) (spell_pieces-push before p ∙ ap (λ v. spell_pieces before ++ v) r.2
       ∙ sym (append_assoc (spell_pieces before) r.0 (r.1 ∷ [])))
       ∙ append_assoc front (r.1 ∷ []) (spell t) ∙ ap (λ v. front ++ r.1 ∷ v) f.is in
       let from = l.drives front r.1 (f.begin ∷ f.others) whole in

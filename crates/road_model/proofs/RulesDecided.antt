@@ -117,7 +117,7 @@ goes_decided (s ∷ v) x (t ∷ u) = goes_more s v x t u (decided_step s t) (goe
 
 -- ---- the least relation
 
-Upto : RelationId → RelationId → Type 0
+unfoldable pub Upto : RelationId → RelationId → Type 0
 Upto a b = IsTrue (is_le (relation_cmp a b))
 
 -- of two relations one isn't above the other
@@ -140,11 +140,11 @@ from_not_above Less h = refl
 from_not_above Equal h = refl
 from_not_above Greater h = absurd (false≢true (sym h))
 
-through : (a b c : RelationId) → Upto a b → Upto b c → Upto a c
+pub through : (a b c : RelationId) → Upto a b → Upto b c → Upto a c
 unfolding Upto
 through a b c h k = from_not_above _ (upto relation_cmp_total a b c (not_above _ h) (not_above _ k))
 
-itself : (a : RelationId) → Upto a a
+pub itself : (a : RelationId) → Upto a a
 unfolding Upto
 itself a = ap is_le (tied_itself relation_cmp_total a)
 

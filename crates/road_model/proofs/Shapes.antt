@@ -171,6 +171,12 @@ straight_on M P w d a b p e =
       on = λ h. p.not_shut;
     }
 
+pub binding_positive : (ks : List Key) → 1 ≤ binding_of ks
+binding_positive [] = omega arith
+binding_positive (NodeKey n ∷ ks) = omega arith
+binding_positive (WayKey w ∷ ks) = omega arith
+binding_positive (RelationKey r ∷ ks) = omega arith
+
 module _ (M : Objects) (P : Rules) where
   abbrev pub LinkOf : Step → Step → Type 0
   LinkOf = Link (Passes M P) (Mid M P) (Inner M P) Next
@@ -334,12 +340,6 @@ module _ (M : Objects) (P : Rules) where
     straight = λ p x y q e m. word_pairs w.first w.via w.last (into_end w.from_way w.enter w.first w.first_ends)
         (straight_via _ w.enter w.via w.leave w.via_is) p x y q (sym w.spelled ∙ e) m;
   }
-
-  binding_positive : (ks : List Key) → 1 ≤ binding_of ks
-  binding_positive [] = omega arith
-  binding_positive (NodeKey n ∷ ks) = omega arith
-  binding_positive (WayKey w ∷ ks) = omega arith
-  binding_positive (RelationKey r ∷ ks) = omega arith
 
   pub bound_positive : (n : ℕ) (u : List Step) → OnlyWord M P n u → 1 ≤ n
   bound_positive n u w = let e = w.word.bound in let b = binding_positive _ in rw e b

@@ -20,6 +20,11 @@ use Rattle.road_base.proofs.ListMembers.{In, in_get, in_from_contains, contains_
 use Rattle.road_base.proofs.Comparisons.{less, turned}
 use Rattle.road_model.proofs.AscendingLists.{rest_rises, above, behind_next}
 
+-- what stands in a list of entries are the named things
+pub values_of : {A N : Type 0} (name : A → N) (xs : List A) → map (λ (e : N × A). e.1) (map (λ a. (name a, a)) xs) ≡ xs
+values_of name [] = refl
+values_of name (x ∷ xs) = ap (λ l. x ∷ l) (values_of name xs)
+
 module _ {A N : Type 0} (name : A → N) (R : N → N → Ordering) (total : IsTotalOrder R) where
   abbrev entry : A → N × A
   entry a = (name a, a)

@@ -1,7 +1,7 @@
 -- The orders of ways, names and lists of names are total.
-use Rattle.std.proofs.Common.{Ordering, ◌⊎◌, inl, inr, ◌≡◌, length, refl}
+use Rattle.std.proofs.Common.{IsTrue, Ordering, ◌⊎◌, inl, inr, ◌≡◌, length, refl}
 use Rattle.std.specs.declared.cmp.Ordering.TheVariants.{Less, Equal, Greater}
-use Rattle.std.specs.Ordering.{ordering_reverse, ordering_then}
+use Rattle.std.specs.Ordering.{ordering_reverse, ordering_then, is_lt}
 use Rattle.std.specs.Cmp.{IsTotalOrder}
 use Rattle.std.specs.FinMap.{IsAntisymmetric, int_cmp-IsAntisymmetric, nat_cmp-IsAntisymmetric}
 use Rattle.std.specs.FinMap.{slice_cmp-IsAntisymmetric}
@@ -66,10 +66,13 @@ relation_cmp_exact a b e = let f = int_cmp-IsAntisymmetric a.0 b.0 e in λ i. re
 pub way_cmp_exact : IsAntisymmetric way_cmp
 way_cmp_exact a b e = let f = int_cmp-IsAntisymmetric a.0 b.0 e in λ i. record { 0 = f i }
 
-then_equal : (r s : Ordering) → ordering_then r s ≡ Equal → (r ≡ Equal) × (s ≡ Equal)
+pub then_equal : (r s : Ordering) → ordering_then r s ≡ Equal → (r ≡ Equal) × (s ≡ Equal)
 then_equal Less s e = cc
 then_equal Equal s e = (refl, e)
 then_equal Greater s e = cc
+
+pub less_first : (r s : Ordering) → r ≡ Less → IsTrue (is_lt (ordering_then r s))
+less_first r s e = rw e refl
 
 dir_cmp_exact : IsAntisymmetric dir_cmp
 dir_cmp_exact Forward Forward e = refl

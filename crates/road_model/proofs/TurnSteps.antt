@@ -114,7 +114,7 @@ module _ (M : Objects) (P : Rules) where
       let y = ends_of M P z iz (ends (spell z)) in
       let whole : (spell_pieces b ++ y.0) ++ y.1 ∷ [] ≡ u ++ t ∷ [] =
       append_assoc (spell_pieces b) y.0 (y.1 ∷ []) ∙ ap (λ v. spell_pieces b ++ v) (sym y.2)
-      ∙ sym (spell_pieces-push M P b z) ∙ ap spell_pieces (sym n) ∙ e in
+      ∙ sym (spell_pieces-push b z) ∙ ap spell_pieces (sym n) ∙ e in
       let s = same_last (spell_pieces b ++ y.0) y.1 u t whole in
       let r = same_stand M P z p iz i y.0 t [] front [] (y.2 ∙ ap (λ v. y.0 ++ v ∷ []) s.last) f in
       (b, n ∙ ap (λ v. b ++ v ∷ []) r.0)

@@ -46,7 +46,7 @@ last_piece M P d (Last a q e) some i l p o g =
       last = t.1;
       to_spelled = t.2;
       before = spell_pieces a ++ t.0;
-      stops = ap spell_pieces e ∙ spell_pieces-push M P a q ∙ ap (λ v. spell_pieces a ++ v) t.2
+      stops = ap spell_pieces e ∙ spell_pieces-push a q ∙ ap (λ v. spell_pieces a ++ v) t.2
           ∙ sym (append_assoc (spell_pieces a) t.0 (t.1 ∷ []));
     }
 
@@ -159,7 +159,7 @@ module _ (M : Objects) (P : Rules) (s : List Step) (l : Legal M P s) (w : Whole 
       let k = (Every-tail (IsPiece M P) b.before (b.piece ∷ b.behind) j).0 in
       let same = same_stand M P b.piece w.q k w.iq b.front w.x b.back w.before w.behind b.spelled w.q_spelled in
       let spelled : spell_pieces (b.before ++ b.piece ∷ []) ≡ w.front ++ (s ++ w.behind) =
-      spell_pieces-push M P b.before b.piece ∙ ap (λ v. spell_pieces b.before ++ v) b.spelled
+      spell_pieces-push b.before b.piece ∙ ap (λ v. spell_pieces b.before ++ v) b.spelled
       ∙ sym (append_assoc (spell_pieces b.before) b.front (w.x ∷ b.back))
       ∙ ap (λ v. v ++ w.x ∷ b.back) (sym b.left) ∙ ap (λ v. (w.front ++ w.most) ++ w.x ∷ v) same.2 ∙ sym stops_long in
       let each = Every-append (IsPiece M P) b.before (b.piece ∷ [])
@@ -214,8 +214,8 @@ module _ (M : Objects) (P : Rules) (s : List Step) (l : Legal M P s) (w : Whole 
       → length (spell_pieces e) ≡ length (spell_pieces a.left) +
       (length (spell_pieces pieces_around.list) + length (spell_pieces a.right))
   among_steps e a =
-      let f = spell_pieces-append M P a.left (pieces_around.list ++ a.right)
-      ∙ ap (λ v. spell_pieces a.left ++ v) (spell_pieces-append M P pieces_around.list a.right) in
+      let f = spell_pieces-append a.left (pieces_around.list ++ a.right)
+      ∙ ap (λ v. spell_pieces a.left ++ v) (spell_pieces-append pieces_around.list a.right) in
       let g = length-append (spell_pieces a.left) (spell_pieces pieces_around.list ++ spell_pieces a.right) in
       let h = length-append (spell_pieces pieces_around.list) (spell_pieces a.right) in
       ap (λ v. length (spell_pieces v)) a.is ∙ ap length f ∙ g ∙ ap (λ v. length (spell_pieces a.left) + v) h

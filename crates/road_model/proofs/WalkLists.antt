@@ -39,6 +39,12 @@ same_end (z ∷ a) b [] y e l = let f : suc (length (a ++ b))
     ≡ length y = ap length e in let g = length-append a b in absurd (omega arith)
 same_end (z ∷ a) b (w ∷ x) y e l = same_end a b x y (cc) l
 
+pub spell_pieces-append : (a b : List Span) → spell_pieces (a ++ b) ≡ spell_pieces a ++ spell_pieces b
+spell_pieces-append a b = spell_all-append spell a b
+
+pub spell_pieces-push : (a : List Span) (t : Span) → spell_pieces (a ++ t ∷ []) ≡ spell_pieces a ++ spell t
+spell_pieces-push a t = spell_pieces-append a (t ∷ []) ∙ ap (λ v. spell_pieces a ++ v) (append-nil (spell t))
+
 module _ (M : Objects) (P : Rules) where
   pub inner_legal : (x d y : List Step) → (d ≡ [] → ⊥) → Legal M P (x ++ (d ++ y)) → Legal M P d
   inner_legal x d y n l = infix_legal (Drives M P) (Passes M P) (NoWord M P) (OnlyWord M P) x d y n l
@@ -74,12 +80,6 @@ module _ (M : Objects) (P : Rules) where
 
   pub one_context : (p : Span) → IsPiece M P p → IsContextOf M P (p ∷ []) (p ∷ [])
   one_context p h = record { front = []; is = refl; holds = One p refl h; longest = λ a b e k. longest_one p a b e }
-
-  pub spell_pieces-append : (a b : List Span) → spell_pieces (a ++ b) ≡ spell_pieces a ++ spell_pieces b
-  spell_pieces-append a b = spell_all-append spell a b
-
-  pub spell_pieces-push : (a : List Span) (t : Span) → spell_pieces (a ++ t ∷ []) ≡ spell_pieces a ++ spell t
-  spell_pieces-push a t = spell_pieces-append a (t ∷ []) ∙ ap (λ v. spell_pieces a ++ v) (append-nil (spell t))
 
   pub some_steps : (p : Span) (ps : List Span) → IsPiece M P p → spell_pieces (p ∷ ps) ≡ [] → ⊥
   some_steps p ps h e = let f = piece_shape M P p h in cc (f.is, e)

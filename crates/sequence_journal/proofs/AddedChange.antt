@@ -16,7 +16,7 @@ use Rattle.sequence_journal.specs.declared.journal.Journal.{Journal}
 use Rattle.sequence_journal.specs.Layout.{IsClosed, fields}
 use Rattle.sequence_journal.specs.Standing.{EventsFit, HistoryFits, BeginsWith, Stands, record_of, history_bytes}
 use Rattle.sequence_journal.specs.Ends.{IsGated, Opened, Opens}
-use Rattle.sequence_journal.specs.Journal.{IsAt, IsReady}
+use Rattle.sequence_journal.specs.Journal.{IsAt}
 use Rattle.sequence_journal.specs.Adding.{Added, Adds}
 use Rattle.sequence_journal.proofs.HistoryFronts.{begins_push, gate_push}
 
@@ -36,19 +36,6 @@ shape : (old : Journal) (h : History) (w : Outside) → old.gate < 2 ^ 40 → Is
 shape old h w room at = ⊎_elim
     (λ one. at.reads ∙ ap (λ (l : List ℕ). history_bytes old.generation h ++ l) one)
     (λ none. absurd (omega (arith, none.1, room))) at.ends
-
--- the gate is the file's last byte
-pub gate_last : (old : Journal) (w : Outside) → old.gate < 2 ^ 40 → IsReady old w
-    → length (disk w old.file).reads ≡ old.gate + 1
-gate_last old w room ready =
-    let h = ready.0 in
-    let at = ready.1 in
-    omega (
-      arith,
-      at.gate,
-      ap (λ (l : List ℕ). length l) (shape old h w room at),
-      length-append (history_bytes old.generation h) (0 ∷ []),
-    )
 
 module _ (old : Journal) (seq : Sequence) (change : List Event) (chunk : List ℕ)
     (n : IsNextChunk old seq change chunk)

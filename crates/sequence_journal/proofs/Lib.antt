@@ -1,4 +1,4 @@
-mod Fronts
+mod HeadFields
 mod OpenGates
 mod GateReturns
 mod EndReturns
@@ -12,7 +12,7 @@ mod FoundParts
 mod PartAnswers
 mod ReadSoFar
 pub mod SettledFile
-mod SoundEnds
+pub mod SoundEnds
 pub mod MendedFile
 mod AddedChange
 mod WrittenBase

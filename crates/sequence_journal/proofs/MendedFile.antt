@@ -310,16 +310,6 @@ module _ (file : Which) (r : ReadHistory) (whole : Bool) (w u : Outside) (k : Lo
         output = p.output ∙ k.quiet.output;
       }
 
-  -- the file reaches to the gate that is repaired
-  pub gate_there : r.gate ≤ length (disk u file).reads
-  gate_there = omega (
-    arith,
-    k.read.so_far.gate,
-    ap (λ (d : Disk). length d.reads) same,
-    gate_within (disk w file).reads r.generation k.read.so_far.history (drop r.gate (disk w file).reads)
-        k.read.so_far.begins,
-  )
-
 -- ---- a sync, and then that
 
 abbrev IsOldOrAlike : Which → Outside → List ℕ → Type 0

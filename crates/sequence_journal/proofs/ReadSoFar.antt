@@ -9,7 +9,6 @@ use Rattle.std.specs.declared.alloc.Global.{Global}
 use Rattle.road_base.specs.declared.event.Event.{Event}
 use Rattle.road_base.specs.History.{History, kept, with_change}
 use Rattle.object_codec.specs.Spelling.{events_bytes, AreEvents}
-use Rattle.road_io.specs.declared.outside.Failed.{Failed}
 use Rattle.road_io.specs.declared.outside.Which.{Which}
 use Rattle.road_io.specs.Disk.{Disk}
 use Rattle.road_io.specs.Outside.{Outside, Quiet, disk}
@@ -191,9 +190,6 @@ module _ (file : Which) (window : Window) (old : ReadHistory) where
         → ReadsNext file old old (Err (Damaged file old.gate)) w v
     next_damaged fault = record { quiet = read.quiet; answer = λ is small. (refl, damaged is fault, small) }
 
-    pub next_no_memory : (new : ReadHistory) → ReadsNext file old new (Err NoMemory) w v
-    next_no_memory new = record { quiet = read.quiet; answer = λ is small. tt }
-
     pub next_read : (new : ReadHistory) (more : List Event) → r.number ≡ old.kept + 1 → AreEvents more
         → events_bytes more ≡ (seen window (old.gate + 17) r.size) → new.len ≡ old.len
         → new.generation ≡ old.generation
@@ -246,17 +242,6 @@ pub record Reading (file : Which) (r : ReadHistory) (w u : Outside) : Type 0 whe
   pub small : length (disk w file).reads ≤ 2 ^ 40
 
 module _ (file : Which) where
-  pub judge_unfound : (e : JournalError) (x : Failed) (w v : Outside) → e ≡ SiteFault → FindsBase file (Err x) w v
-      → Judges file (Err e) w v
-  judge_unfound e x w v is finds = record {
-    quiet = finds.quiet;
-    answer = refused_free file (disk w file).reads e
-        (inl is);
-  }
-
-  pub judge_no_base : (w v : Outside) → FindsBase file (Ok None) w v → Judges file (Err NoStore) w v
-  judge_no_base w v finds = record { quiet = finds.quiet; answer = finds.answer }
-
   module _ (f : FoundBase) (w u : Outside) (finds : FindsBase file (Ok (Some f)) w u) where
     same : (disk u file).reads ≡ (disk w file).reads
     same = ap (λ (d : Disk). d.reads) (quiet_disk file w u finds.quiet)

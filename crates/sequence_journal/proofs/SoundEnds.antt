@@ -7,7 +7,7 @@ use Rattle.road_io.specs.declared.outside.Which.TheVariants.{A, B}
 use Rattle.road_io.specs.Told.{Told}
 use Rattle.road_io.specs.Outside.{Outside, Left, IsLeft, IsSound, LeavesOnly, LeavesFile, disk, present}
 
-starts_all : (x : List ℕ) → StartsWith x x
+pub starts_all : (x : List ℕ) → StartsWith x x
 starts_all x = take_all (length x) x (omega arith)
 
 abbrev as_read : Outside → Left

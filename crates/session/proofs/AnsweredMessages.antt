@@ -71,7 +71,7 @@ module _ (laws : StoreLaws) (P : Rules) (world : Objects) (journal : Journal) (f
 
 -- ---- a change that is added
 
-line_some : (n : ℕ) → 0 < length (applied_line n)
+pub line_some : (n : ℕ) → 0 < length (applied_line n)
 line_some n = omega (arith, length-append (codes "applied ") (decimal n ++ 10 ∷ []))
 
 pub room_enough : (gate size room : ℕ) → room ≡ room_at gate → gate + (18 + size) ≤ 2 ^ 40 → 17 + size ≤ room

@@ -1,7 +1,7 @@
 pub mod OutputFronts
 mod PutChunks
 pub mod KeptStores
-mod AnsweredMessages
+pub mod AnsweredMessages
 mod ToldAnswers
 mod Optional
 mod AskedAlone

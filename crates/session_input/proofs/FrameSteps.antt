@@ -74,22 +74,6 @@ no_number (Drive steps) none = refl
 no_number (Reach a b) none = refl
 no_number Unknown none = refl
 
--- a line that begins a frame
-pub frame_begun : (line : List ℕ) (number : Sequence) (frame : OpenFrame) → Lacks 10 line
-    → Seq number ≡ asked_line line → frame.number ≡ number → HasLines [] frame → HasFrame (line ++ (10 ∷ [])) frame
-frame_begun line number frame lacks asks same lines = record {
-  body = [];
-  begins = record {
-    first = line;
-    one = lacks;
-    begins = ap frame_number (sym asks) ∙ ap (λ (n : Sequence). Some n.0) (sym same);
-    inner = inner_none;
-    spelled = refl;
-  };
-  lines = lines;
-  ended = refl;
-}
-
 -- a line that ends no frame
 pub frame_grown : (front line whole : List ℕ) (old new : OpenFrame) → HasFrame front old → Lacks 10 line
     → (IsFrameEnd line → ⊥) → whole ≡ line ++ (10 ∷ []) → new.number ≡ old.number

@@ -13,7 +13,8 @@ use Rattle.session_input.specs.Sizes.{frame_size}
 use Rattle.session_input.specs.Reading.{Receives}
 use Rattle.session_input.specs.Holding.{Holds, HasFrame, HasRoom, IsFront, IsReceived, IsWholeLine, IsFirstLine}
 use Rattle.session_input.specs.Holding.{LeadsTo}
-use Rattle.session_input.proofs.LineBytes.{lacks_none, lacks_both}
+use Rattle.opl_objects.proofs.StreamSteps.{none_lacks}
+use Rattle.session_input.proofs.LineBytes.{lacks_both}
 use Rattle.session_input.proofs.LimitSteps.{IsInBounds, front_whole, within_part, within_line, within_none, open_bytes}
 use Rattle.session_input.proofs.StopSteps.{stop_part, stop_line}
 
@@ -36,12 +37,12 @@ pub holds_none : (before : ℕ) (input : Input) → input.frame ≡ None → inp
     → Holds before [] input
 holds_none before input no_frame no_line total = record {
   pending = record {
-    open_bytes = open_bytes None [] [] refl lacks_none;
+    open_bytes = open_bytes None [] [] refl none_lacks;
     within = within_none before (omega (arith, input.session_fits, total));
   };
   front = [];
   frame = subst (λ o. IsFront o []) (sym no_frame) refl;
-  open_line = subst (Lacks 10) (sym no_line) lacks_none;
+  open_line = subst (Lacks 10) (sym no_line) none_lacks;
   held = sym no_line;
   total = omega (arith, total);
 }
@@ -106,12 +107,12 @@ holds_line before bytes line old new frame holds whole room has opened no_line t
     let step : bytes ++ line ≡ front = ap (λ bs. bs ++ line) holds.held
     ∙ append_assoc holds.front old.held.items line in
     let all : bytes ++ line ≡ front ++ [] = step ∙ sym (append-nil front) in
-    let opens = open_bytes (Some frame) front [] has lacks_none in
+    let opens = open_bytes (Some frame) front [] has none_lacks in
     record {
       pending = record { open_bytes = rw all opens; within = line_within before bytes line old holds whole room };
       front = front;
       frame = subst (λ o. IsFront o front) (sym opened) has;
-      open_line = subst (Lacks 10) (sym no_line) lacks_none;
+      open_line = subst (Lacks 10) (sym no_line) none_lacks;
       held = all ∙ ap (λ bs. front ++ bs) (sym no_line);
       total = omega (arith, total, holds.total, length-append bytes line);
     }

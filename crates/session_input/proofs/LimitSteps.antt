@@ -11,8 +11,9 @@ use Rattle.session_input.specs.Messages.{IsOpen, InLine, InFrame}
 use Rattle.session_input.specs.Limits.{PassesLimit, OfLine, OfFrame, OfSession, IsWithin}
 use Rattle.session_input.specs.Sizes.{frame_size}
 use Rattle.session_input.specs.Holding.{IsFront}
+use Rattle.opl_objects.proofs.StreamSteps.{none_lacks}
 use Rattle.session_input.proofs.FrameSteps.{inner_none}
-use Rattle.session_input.proofs.LineBytes.{lacks_none, lacks_both, lacks_front, lacks_back, lacks_not, head_same}
+use Rattle.session_input.proofs.LineBytes.{lacks_both, lacks_front, lacks_back, lacks_not, head_same}
 use Rattle.session_input.proofs.LineBytes.{tail_same}
 use Rattle.session_input.proofs.LineBytes.{two_cuts, first_newline, last_line, nil_of}
 
@@ -147,7 +148,7 @@ within_line before size front held line whole open_line lacks within in_line in_
     let size_all : length ((front ++ ((held ++ line) ++ (10 ∷ []))) ++ []) ≡ length (front ++ held) + length line + 1 =
     ap length (sym all) ∙ omega (arith, length-append bytes (10 ∷ []), length-append (front ++ held) line) in
     let fits : PassesLimit before (bytes ++ (10 ∷ [])) → ⊥ = λ passes.
-    not_passed before more.0 (front ++ ((held ++ line) ++ (10 ∷ []))) [] more.1 lacks_none (omega arith) (omega
+    not_passed before more.0 (front ++ ((held ++ line) ++ (10 ∷ []))) [] more.1 none_lacks (omega arith) (omega
     (arith, more.2))
     (omega arith) (subst (PassesLimit before) all passes) in
     subst (IsWithin before) (append_assoc (front ++ held) line (10 ∷ [])) (within_byte before 10 bytes part fits)
@@ -155,7 +156,7 @@ within_line before size front held line whole open_line lacks within in_line in_
 pub within_none : (before : ℕ) → before ≤ 2 ^ 40 → IsWithin before []
 within_none before few = λ front rest e passes.
     let none : front ≡ [] = nil_of front (omega (arith, length-append front rest, ap length e)) in
-    not_passed before 0 [] [] (Nothing refl) lacks_none (omega arith) (omega arith) (omega arith)
+    not_passed before 0 [] [] (Nothing refl) none_lacks (omega arith) (omega arith) (omega arith)
     (subst (PassesLimit before) none passes)
 
 -- ---- what is pending

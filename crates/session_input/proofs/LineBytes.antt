@@ -2,17 +2,15 @@
 use Rattle.std.specs.Prelude.{◌≡◌, ◌==◌, ◌≤◌, ◌++◌, ◌⊎◌, ℕ, List, [], ◌∷◌, false, length, refl}
 use Rattle.std.proofs.Common.{arith, sym, ◌∙◌, ap, subst, inl, inr, length-append}
 use Rattle.std.proofs.lemmas.Bool.Decides.{nat_tests}
-use Rattle.std.proofs.lemmas.List.Elements.{All-nil, All-cons, All-head, All-tail, All-append}
+use Rattle.std.proofs.lemmas.List.Elements.{All-cons, All-head, All-tail, All-append}
 use Rattle.opl_lexer.specs.Parts.{Lacks}
-
-pub lacks_none : Lacks 10 []
-lacks_none = All-nil (λ b. (b == 10) ≡ false)
+use Rattle.opl_objects.proofs.StreamSteps.{none_lacks}
 
 pub lacks_both : (xs ys : List ℕ) → Lacks 10 xs → Lacks 10 ys → Lacks 10 (xs ++ ys)
 lacks_both xs ys p q = All-append (λ b. (b == 10) ≡ false) xs ys p q
 
 pub lacks_front : (xs ys : List ℕ) → Lacks 10 (xs ++ ys) → Lacks 10 xs
-lacks_front [] ys p = lacks_none
+lacks_front [] ys p = none_lacks
 lacks_front (x ∷ xs) ys p = All-cons (λ b. (b == 10) ≡ false) x xs (All-head (λ b. (b == 10) ≡ false) x (xs ++ ys) p)
     (lacks_front xs ys (All-tail (λ b. (b == 10) ≡ false) x (xs ++ ys) p))
 

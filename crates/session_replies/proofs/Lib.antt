@@ -1,1 +1,1 @@
-mod AskedLines
+mod RepliesAsked

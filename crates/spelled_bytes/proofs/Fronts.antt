@@ -1,6 +1,6 @@
 -- What bytes begin with, part by part.
 use Rattle.std.proofs.Common.{◌≡◌, ℕ, ◌+◌, ◌<◌, Bool, true, false, List, [], ◌∷◌, ◌++◌, length, refl, sym, ap, subst}
-use Rattle.std.proofs.Common.{◌∙◌, arith, append_assoc, append-nil, length-append}
+use Rattle.std.proofs.Common.{◌∙◌, arith, append_assoc, length-append}
 use Rattle.std.proofs.lemmas.Bool.{false≢true}
 use Rattle.std.specs.List.{AllByRecursion}
 use Rattle.road_base.specs.Bytes.{joined}
@@ -8,6 +8,7 @@ use Rattle.spelled_bytes.specs.declared.unread.Unread.{Unread}
 use Rattle.spelled_bytes.specs.declared.unread.Unread.TheVariants.{Malformed, Memory}
 use Rattle.spelled_bytes.specs.Spelling.{AreSoMany}
 use Rattle.spelled_bytes.specs.Reading.{Begins, NoneBegins, IfMalformed, IsOneSpelling}
+use Rattle.road_base.proofs.Appends.{joined_more, all_more}
 
 pub malformed_weaker : {P Q : Type 0} (e : Unread) → (P → Q) → IfMalformed e P → IfMalformed e Q
 malformed_weaker Malformed weaker h = weaker h
@@ -37,15 +38,6 @@ both_begin f F g G bytes x mid y rest first second =
     first.parts ∙ ap (λ l. f x ++ l) second.parts ∙ sym (append_assoc (f x) (g y) rest)
 
 -- ---- lists
-
-pub joined_more : {A : Type 0} (f : A → List ℕ) (xs : List A) (x : A) → joined f (xs ++ x ∷ []) ≡ joined f xs ++ f x
-joined_more f [] x = append-nil (f x)
-joined_more f (y ∷ xs) x = ap (λ l. f y ++ l) (joined_more f xs x) ∙ sym (append_assoc (f y) (joined f xs) (f x))
-
-pub all_more : {A : Type 0} (F : A → Type 0) (xs : List A) (x : A) → AllByRecursion F xs → F x
-    → AllByRecursion F (xs ++ x ∷ [])
-all_more F [] x fits next = (next, tt)
-all_more F (y ∷ xs) x fits next = (fits.0, all_more F xs x fits.1 next)
 
 -- one more was read
 pub one_more_begins : {A : Type 0} (f : A → List ℕ) (F : A → Type 0) (i : ℕ) (bytes : List ℕ) (items more : List A)

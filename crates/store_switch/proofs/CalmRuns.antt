@@ -1,31 +1,16 @@
 -- Calls after which all reads as before, one behind another.
-use Rattle.std.proofs.Common.{◌≡◌, ℕ, List, Option, None, Some, false, Result, Ok, Err, sym, subst}
+use Rattle.std.proofs.Common.{◌≡◌, ℕ, List, Option, None, Some, false, Ok, sym, subst}
 use Rattle.std.specs.Option.{is_some}
-use Rattle.road_io.specs.declared.outside.Failed.{Failed}
 use Rattle.road_io.specs.declared.outside.Which.{Which}
-use Rattle.road_io.specs.declared.outside.Which.TheVariants.{A, B}
-use Rattle.road_io.specs.Disk.{IsDurable}
-use Rattle.road_io.specs.Outside.{Outside, disk, other}
+use Rattle.road_io.specs.Outside.{Outside, other}
 use Rattle.road_io.specs.Told.{Told}
 use Rattle.road_io.proofs.ToldCalls.{told_then, told_weaker}
 use Rattle.sequence_journal.specs.Layout.{BaseIsOpen, NoBase}
-use Rattle.sequence_journal.specs.Loading.{Calm, Settles}
+use Rattle.sequence_journal.specs.Loading.{Calm}
 use Rattle.sequence_journal.proofs.SettledFile.{calm_quiet, calm_then}
 use Rattle.store_switch.specs.LiveFile.{LiveAnswer, FindsLive, BothDurable, SettlesBoth, reads_of}
 
 -- ---- both files synced
-
-pub settled_both : (result : Result (Unit {0}) Failed) (x : Unit {0}) (w u v : Outside) → Settles A (Ok x) w u
-    → Settles B result u v → SettlesBoth result w v
-settled_both (Err y) x w u v a b = record { calm = calm_then w u v a.calm b.calm; done = tt }
-settled_both (Ok y) x w u v a b = record { calm = calm_then w u v a.calm b.calm; done = both }
-  where
-    both : (file : Which) → IsDurable (disk v file)
-    both A = b.calm.durable A a.done
-    both B = b.done
-
-pub settled_one : (x : Failed) (w u : Outside) → Settles A (Err x) w u → SettlesBoth (Err x) w u
-settled_one x w u a = record { calm = a.calm; done = tt }
 
 -- ---- synced, and the live file found
 

@@ -20,6 +20,7 @@ use Rattle.store_switch.specs.LiveFile.{IsLive, NoBases, BothDurable, reads_of}
 use Rattle.store_switch.specs.TwoFiles.{StandOn, StandFor, CanBeLoaded, AreIntact, LeavesStore}
 use Rattle.store_switch.specs.StoreLoading.{LeavesAlike, LoadsStore}
 use Rattle.store_switch.specs.StoreCreating.{LeavesNewOrNone, CreatesStore}
+use Rattle.sequence_journal.proofs.MendedFile.{StandsOnce}
 use Rattle.store_switch.proofs.LiveFiles.{live_once}
 
 live_of : (files : Which → List ℕ) (f : Which) (g : ℕ) (h : History) → StandOn f g files h → IsLive f files
@@ -30,10 +31,7 @@ live_of files f g h s = record {
   over = s.over;
 }
 
-abbrev pub OneHistory : Type 0
-OneHistory = (file : List ℕ) (g k : ℕ) (h i : History) → Stands file g h → Stands file k i → (g ≡ k) × (h ≡ i)
-
-pub store_once : OneHistory → (files : Which → List ℕ) (f k : Which) (g n : ℕ) (h i : History)
+pub store_once : StandsOnce → (files : Which → List ℕ) (f k : Which) (g n : ℕ) (h i : History)
     → StandOn f g files h → StandOn k n files i → (f ≡ k) × (g ≡ n) × (h ≡ i)
 store_once one files f k g n h i s t =
     let live : f ≡ k = live_once files f k (live_of files f g h s) (live_of files k n i t) in
@@ -85,7 +83,7 @@ left_there w left file durable l = (leaves_now file (λ c. c ≡ reads_of w file
 -- ---- what a stop leaves
 
 module _ (result : Result Loaded JournalError) (w v : Outside) where
-  pub load_leaves_history : OneHistory → (h : History) → StandFor (reads_of w) h → LoadsStore result w v
+  pub load_leaves_history : StandsOnce → (h : History) → StandFor (reads_of w) h → LoadsStore result w v
       → LeavesOnly w v (λ left. IsLeft (present w) left ⊎ LeavesStore h w.output left)
   load_leaves_history one h s l = only_weaker w v (λ left. IsLeft (present w) left ⊎ LeavesAlike w left)
       (λ left. IsLeft (present w) left ⊎ LeavesStore h w.output left) l.any_moment (λ left. ⊎_elim

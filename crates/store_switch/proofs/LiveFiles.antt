@@ -1,6 +1,6 @@
 -- A file has one open base at most, and one of two files at most is live.
 use Rattle.std.proofs.Common.{◌≡◌, inl, inr, ℕ, ◌<◌, ◌≤◌, List, ◌++◌, Option, None, Some}
-use Rattle.std.proofs.Common.{Ok, Err, refl, sym, ap, subst, arith}
+use Rattle.std.proofs.Common.{Ok, refl, sym, ap, subst, arith}
 use Rattle.road_base.specs.History.{History}
 use Rattle.road_io.specs.declared.outside.Which.{Which}
 use Rattle.road_io.specs.declared.outside.Which.TheVariants.{A, B}
@@ -8,7 +8,6 @@ use Rattle.road_io.specs.Disk.{Disk}
 use Rattle.road_io.specs.Outside.{Outside, other}
 use Rattle.road_io.proofs.QuietRuns.{quiet_then, quiet_disk}
 use Rattle.sequence_journal.specs.declared.heads.BaseHead.{BaseHead}
-use Rattle.sequence_journal.specs.declared.error.JournalError.{JournalError}
 use Rattle.sequence_journal.specs.Layout.{Base, BaseIsOpen, NoBase}
 use Rattle.sequence_journal.specs.Standing.{Stands, base_of, changes_bytes}
 use Rattle.sequence_journal.specs.Reading.{IsHead, Heads}
@@ -94,10 +93,3 @@ found_live a b live w u v is h k = record {
   answer = choice (reads_of w) a b live h.answer
       (subst (λ (d : Disk). IsHead d.reads (Ok b)) (quiet_disk B w u h.quiet) k.answer) is;
 }
-
-pub no_head_a : (e : JournalError) (w u : Outside) → Heads A (Err e) w u → FindsLive (Err e) w u
-no_head_a e w u h = record { quiet = h.quiet; answer = h.answer }
-
-pub no_head_b : (a : Option BaseHead) (e : JournalError) (w u v : Outside) → Heads A (Ok a) w u
-    → Heads B (Err e) u v → FindsLive (Err e) w v
-no_head_b a e w u v h k = record { quiet = quiet_then w u v h.quiet k.quiet; answer = k.answer }

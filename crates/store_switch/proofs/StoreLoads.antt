@@ -1,7 +1,6 @@
 -- What loading both files leaves, from what loading the live one leaves.
 use Rattle.std.proofs.Common.{◌≡◌, ◌⊎◌, inl, inr, ⊎_elim, ℕ, ◌≤◌, ◌^◌, List, length, Option, None, Some}
-use Rattle.std.proofs.Common.{Result, Ok, Err, refl, sym, ◌∙◌, ap, subst, arith}
-use Rattle.std.proofs.lemmas.List.{take_all}
+use Rattle.std.proofs.Common.{Result, Ok, Err, refl, sym, ◌∙◌, ap, subst}
 use Rattle.std.specs.Io.{StartsWith}
 use Rattle.road_base.specs.History.{History}
 use Rattle.road_io.specs.declared.outside.Failed.{Failed}
@@ -26,6 +25,7 @@ use Rattle.store_switch.specs.LiveFile.{IsOver, IsLive, LiveAnswer, FindsLive, S
 use Rattle.store_switch.specs.TwoFiles.{StandOn}
 use Rattle.store_switch.specs.StoreLoading.{StoreLoaded, StoreRefused, StoreAnswer, StillRead, StillStands}
 use Rattle.store_switch.specs.StoreLoading.{LeavesAlike, LoadsStore}
+use Rattle.sequence_journal.proofs.SoundEnds.{starts_all}
 use Rattle.store_switch.proofs.CalmRuns.{Found}
 use Rattle.store_switch.proofs.LiveFiles.{stands_over, live_once}
 
@@ -34,9 +34,6 @@ each_file A P x y A = x
 each_file A P x y B = y
 each_file B P x y A = y
 each_file B P x y B = x
-
-starts_all : (x : List ℕ) → StartsWith x x
-starts_all x = take_all (length x) x (omega arith)
 
 -- a stop that leaves these two images and this output
 left_of : (f : Which) (u : Outside) (left : Left) → IsImage (disk u f) (image_of left f)

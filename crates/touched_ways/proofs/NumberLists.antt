@@ -1,5 +1,5 @@
 -- Lists of numbers that a search gathers.
-use Rattle.std.proofs.Common.{◌≡◌, ◌↔◌, ℕ, ◌+◌, ◌<◌, ◌⊎◌, inl, inr, List, [], ◌∷◌, ◌++◌, length, take, get_or, refl}
+use Rattle.std.proofs.Common.{◌≡◌, ◌↔◌, ℕ, ◌+◌, ◌<◌, ◌⊎◌, inl, inr, List, [], ◌++◌, length, take, get_or, refl}
 use Rattle.std.proofs.Common.{sym, ◌∙◌, subst, Contains}
 use Rattle.std.specs.List.Sorted.{IsPermutation}
 use Rattle.std.proofs.lemmas.List.Elements.{Contains-append_left, Contains-append_right, Contains-append_cases}
@@ -63,9 +63,6 @@ module _ {T : Type 0} where
     sound = λ x has. subst (λ l. Contains l x) empty has;
     complete = λ x has. absurd (contains_none x has);
   }
-
-  pub rest_all : (list gone : List T) → IsRest list gone list
-  rest_all list gone = record { sound = λ x has. has; complete = λ x has. inl has }
 
   pub rest_more : (list gone rest next : List T) (i : ℕ) (x : T) → i < length list → x ≡ get_or list i x
       → IsRest (take i list) gone rest → ((y : T) → Contains next y → Contains rest y ⊎ (y ≡ x))

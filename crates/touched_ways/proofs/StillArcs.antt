@@ -11,9 +11,10 @@ use Rattle.road_base.proofs.Splits.{Ends, Nil, Last, ends, cons_not_nil}
 use Rattle.road_model.proofs.Shapes.{piece_shape}
 use Rattle.road_model.proofs.WalkLists.{piece_legal, inner_legal, spell_pieces-push, context_pieces}
 use Rattle.road_model.proofs.LocalPieces.{NeedsHighway}
+use Rattle.road_model.proofs.LocalContexts.{spelled_way, only_one}
 use Rattle.touched_ways.proofs.StillWays.{IsQuiet, IsSettled, quiet_turned}
 use Rattle.touched_ways.proofs.StillTurns.{AreMet, pass_meets}
-use Rattle.touched_ways.proofs.StillContexts.{AreQuiet, spelled_way, only_one, pieces_behind, end_kept}
+use Rattle.touched_ways.proofs.StillContexts.{AreQuiet, pieces_behind, end_kept}
 use Rattle.touched_ways.proofs.StillContexts.{before_quiet, context_kept}
 
 -- ---- where a piece stands behind another one
@@ -63,7 +64,7 @@ last_two : (M : Objects) (P : Rules) (before : List Span) (p t : Span) → IsPie
 last_two M P before p t h l =
     let f = piece_shape M P p h in
     let whole : spell_pieces (before ++ p ∷ []) ++ spell t ≡ spell_pieces before ++ ((spell p ++ spell t) ++ []) =
-    ap (λ v. v ++ spell t) (spell_pieces-push M P before p) ∙ append_assoc (spell_pieces before) (spell p) (spell t)
+    ap (λ v. v ++ spell t) (spell_pieces-push before p) ∙ append_assoc (spell_pieces before) (spell p) (spell t)
     ∙ ap (λ v. spell_pieces before ++ v) (sym (append-nil (spell p ++ spell t))) in
     inner_legal M P (spell_pieces before) (spell p ++ spell t) []
     (λ none. cons_not_nil [] f.begin (f.others ++ spell t) (ap (λ v. v ++ spell t) (sym f.is) ∙ none))

@@ -1,5 +1,5 @@
 -- The blocks of settled ways are the same in both object maps.
-use Rattle.std.proofs.Common.{◌↔◌, inl, inr, List, [], ◌∷◌, ◌++◌, Ordering, sym, subst}
+use Rattle.std.proofs.Common.{◌↔◌, inl, inr, List, [], ◌∷◌, ◌++◌, sym, subst}
 use Rattle.road_base.specs.declared.ids.WayId.{WayId}
 use Rattle.road_base.specs.Objects.{Objects}
 use Rattle.road_model.specs.declared.lists.TurnArc.{TurnArc}
@@ -8,23 +8,13 @@ use Rattle.road_model.specs.declared.lists.Piece.{Piece}
 use Rattle.road_model.specs.declared.blocks.Block.{Block}
 use Rattle.road_model.specs.Rules.{Rules}
 use Rattle.road_model.specs.Pieces.{Span, IsPiece}
-use Rattle.road_model.specs.Orders.{Lists}
 use Rattle.road_model.specs.Blocks.{IsArcEntry, IsContextEntry, IsPieceEntry, IsBlock}
 use Rattle.road_model.proofs.LocalPieces.{NeedsHighway, piece_kept, place_kept}
-use Rattle.road_model.proofs.LocalBlocks.{same_block}
+use Rattle.road_model.proofs.LocalBlocks.{same_block, lists_kept}
 use Rattle.touched_ways.specs.Altering.{IsUnaltered}
 use Rattle.touched_ways.proofs.StillWays.{IsSettled, settled_turned, settled_from}
 use Rattle.touched_ways.proofs.StillContexts.{context_kept}
 use Rattle.touched_ways.proofs.StillArcs.{arc_kept}
-
--- a list of what is the same
-lists_kept : {A B : Type 0} {name : A → B} {R : B → B → Ordering} {Is Was : A → Type 0} (xs : List A)
-    → ((x : A) → Is x → Was x) → ((x : A) → Was x → Is x) → Lists name R Is xs → Lists name R Was xs
-lists_kept xs to from l = record {
-  ascending = l.ascending;
-  sound = λ x i. to x (l.sound x i);
-  complete = λ x h. l.complete x (from x h);
-}
 
 module _ (M N : Objects) (P : Rules) (needs : NeedsHighway P) where
   arc_entry : (before : List Span) (p : Span) → IsSettled M N P p.way → IsPiece M P p → (a : TurnArc)

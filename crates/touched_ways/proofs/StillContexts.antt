@@ -13,53 +13,26 @@ use Rattle.road_model.specs.Links.{HasMember}
 use Rattle.road_model.specs.Network.{Drives, NoWord, OnlyWord, AnyWord, Legal, IsContext, spell_pieces}
 use Rattle.road_base.proofs.ListMembers.{In, in_end, in_left, in_right, in_cases, contains_from_in}
 use Rattle.road_base.proofs.Splits.{Cut, Behind, Before, cut}
-use Rattle.road_model.proofs.Shapes.{piece_shape, bound_positive}
+use Rattle.road_model.proofs.Shapes.{bound_positive}
 use Rattle.road_model.proofs.LongestContext.{Every-front}
 use Rattle.road_model.proofs.WalkLists.{piece_legal, spell_pieces-push}
-use Rattle.road_model.proofs.WordMembers.{on_way, on_members}
+use Rattle.road_model.proofs.WordMembers.{on_members}
 use Rattle.road_model.proofs.LocalLinks.{IsAlike, alike_turned}
 use Rattle.road_model.proofs.LocalPieces.{NeedsHighway, piece_kept}
 use Rattle.road_model.proofs.LocalWords.{word_kept}
 use Rattle.touched_ways.specs.Altering.{AreNamedTogether}
+use Rattle.road_model.proofs.LocalContexts.{spelled_way, steps_of, every_in, every_map, only_one}
+use Rattle.road_model.proofs.LocalContexts.{the_word, shared}
 use Rattle.touched_ways.proofs.StillWays.{IsQuiet, IsSettled}
 use Rattle.touched_ways.proofs.StillTurns.{pass_kept}
 
 -- ---- the steps of pieces
-
--- the steps of a piece lie on its way
-pub spelled_way : (p : Span) (s : Step) → In s (spell p) → s.way ≡ p.way
-spelled_way p s i = on_way p.way p.index _ p.dir s i
-
-steps_of : (c : List Span) (s : Step) → In s (spell_pieces c) → (p : Span) × In p c × In s (spell p)
-steps_of [] s i = absurd i
-steps_of (p ∷ c) s i = elim (in_cases (spell p) (spell_pieces c) s i) [
-  | inl a ↦ (p, inl refl, a)
-  | inr b ↦ let r = steps_of c s b in (r.0, inr r.1, r.2)
-]
-
-of_piece : (c : List Span) (p : Span) → In p c → (s : Step) → In s (spell p) → In s (spell_pieces c)
-of_piece [] p i s j = absurd i
-of_piece (q ∷ c) p (inl e) s j = in_left (spell q) (spell_pieces c) s (subst (λ x. In s (spell x)) e j)
-of_piece (q ∷ c) p (inr i) s j = in_right (spell q) (spell_pieces c) s (of_piece c p i s j)
-
-every_in : (Q : Span → Type 0) (c : List Span) (p : Span) → Every Q c → In p c → Q p
-every_in Q [] p h i = absurd i
-every_in Q (q ∷ c) p h (inl e) = subst Q (sym e) h.0
-every_in Q (q ∷ c) p h (inr i) = every_in Q c p h.1 i
-
-every_map : (Q R : Span → Type 0) (c : List Span) → ((p : Span) → In p c → Q p → R p) → Every Q c → Every R c
-every_map Q R [] f h = tt
-every_map Q R (q ∷ c) f h = (f q (inl refl) h.0, every_map Q R c (λ p i. f p (inr i)) h.1)
 
 -- where a step stands
 place_of : (d : List Step) (s : Step) → In s d → (a : List Step) × (b : List Step) × (d ≡ a ++ s ∷ b)
 place_of [] s i = absurd i
 place_of (x ∷ d) s (inl e) = ([], d, ap (λ z. z ∷ d) (sym e))
 place_of (x ∷ d) s (inr i) = let r = place_of d s i in (x ∷ r.0, r.1, ap (λ l. x ∷ l) r.2)
-
-pub only_one : (p q : Span) → In p (q ∷ []) → p ≡ q
-only_one p q (inl e) = e
-only_one p q (inr i) = absurd i
 
 -- the first of two or more pieces is not the last one
 first_in : (c : List Span) (t first second : Span) (others : List Span) → c ++ t ∷ [] ≡ first ∷ second ∷ others
@@ -193,7 +166,7 @@ module _ (M N : Objects) (P : Rules) (needs : NeedsHighway P) where
         spelled_way m.first m.last (subst (In m.last) (sym m.ends) (in_end m.front m.last [])) in
         let al : IsAlike M N 2 (WayKey m.last.way) =
         subst (λ w. IsAlike M N 2 (WayKey w)) (sym way) (quiet m.first first).alike in
-        let whole = spell_pieces-push M P c t in
+        let whole = spell_pieces-push c t in
         record {
           first = m.first;
           second = m.second;
@@ -242,39 +215,13 @@ module _ (M N : Objects) (P : Rules) (needs : NeedsHighway P) where
 -- ---- the pieces before the last one of a context lie on ways that a restriction names beside the last one's
 
 module _ (M : Objects) (P : Rules) where
-  first_step : (p : Span) → IsPiece M P p → (s : Step) × In s (spell p)
-  first_step p h = let f = piece_shape M P p h in (f.begin, subst (In f.begin) (sym f.is) (inl refl))
-
   module _ (c : List Span) (m : IsMany spell (IsPiece M P) (Legal M P) (AnyWord M P) c) where
-    the_word : List Step
-    the_word = m.last ∷ (spell_pieces (m.second ∷ m.others) ++ m.next ∷ m.rest)
-
-    -- a piece of the context has a step of its word
-    shared : (p : Span) → In p c → (s : Step) × (s.way ≡ p.way) × In s the_word
-    unfolding the_word
-    shared p i = elim (subst (In p) m.is i) [
-      | inl e ↦ (
-        m.last,
-        spelled_way m.first m.last (subst (In m.last) (sym m.ends) (in_end m.front m.last []))
-            ∙ ap (λ q. q.way) (sym e),
-        inl refl,
-      )
-      | inr j ↦
-          let f = first_step p (every_in (IsPiece M P) c p m.pieces i) in (
-            f.0,
-            spelled_way p f.0 f.1,
-            inr (in_left (spell_pieces (m.second ∷ m.others)) (m.next ∷ m.rest) f.0
-                (of_piece (m.second ∷ m.others) p j f.0 f.1)),
-          )
-    ]
-
     member : (p : Span) → In p c → HasMember M m.word.relation (WayKey p.way)
-    unfolding the_word
     member p i =
-        let s = shared p i in
+        let s = shared M P c m p i in
         subst (λ w. HasMember M m.word.relation (WayKey w)) s.1
-        (on_members M P m.word.relation m.word.only m.word.binding the_word m.word.word s.0
-        (contains_from_in the_word s.0 s.2))
+        (on_members M P m.word.relation m.word.only m.word.binding (the_word M P c m) m.word.word s.0
+        (contains_from_in (the_word M P c m) s.0 s.2))
 
   pub before_named : (before : List Span) (p q : Span) → In q before → IsContext M P (before ++ p ∷ [])
       → AreNamedTogether M p.way q.way

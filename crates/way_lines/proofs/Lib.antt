@@ -1,4 +1,4 @@
 pub mod Short
 pub mod AddedSteps
-pub mod Pairs
+pub mod NamedPairs
 pub mod WalkedLines

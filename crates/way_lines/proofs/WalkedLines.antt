@@ -10,7 +10,7 @@ use Rattle.road_base.specs.Objects.{Objects, way_of}
 use Rattle.road_model.specs.Rules.{Rules}
 use Rattle.road_model.specs.Lines.{changes, refs_of, line_of, node_at}
 use Rattle.road_model.specs.Driving.{drivable, Leaves}
-use Rattle.way_lines.proofs.Pairs.{on_line}
+use Rattle.way_lines.proofs.NamedPairs.{drivable_within}
 
 -- ---- lists
 
@@ -55,7 +55,7 @@ node_there M w i x ys left = at_front (line_of M w) i x ys left
 pub before_last : (M : Objects) (P : Rules) (w : WayId) (i : ℕ) (x : NodeId) (ys : List NodeId)
     → drop i (line_of M w) ≡ x ∷ ys → ys ≡ [] → (u : Step) → u.way ≡ w → IsTrue (drivable M P u) → u.index < i
 before_last M P w i x ys left none u on drives =
-    let within = on_line M P u drives in
+    let within = drivable_within M P u drives in
     let same : length (line_of M u.way) ≡ length (line_of M w) = ap (λ v. length (line_of M v)) on in
     let whole = length_front (line_of M w) i x ys left in
     let end : length ys ≡ 0 = ap length none in
@@ -65,7 +65,7 @@ before_last M P w i x ys left none u on drives =
 pub no_line : (M : Objects) (P : Rules) (w : WayId) → line_of M w ≡ [] → (u : Step) → u.way ≡ w
     → IsTrue (drivable M P u) → ⊥
 no_line M P w none u on drives =
-    let within = on_line M P u drives in
+    let within = drivable_within M P u drives in
     let empty : length (line_of M u.way) ≡ 0 = ap (λ v. length (line_of M v)) on ∙ ap length none in
     omega arith
 

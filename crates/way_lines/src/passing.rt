@@ -41,7 +41,7 @@ pub fn pass<M: World, P: Profile>(world: &M, profile: &P, s: Step, t: Step) -> b
 }
 
 /// Whether step t may follow step s.
-#[tactic(auto, using(crate::proofs::Pairs::no_end))]
+#[tactic(auto, using(crate::proofs::NamedPairs::no_end))]
 fn passes<M: World, P: Profile>(network: &Network<'_, M, P>, s: Step, t: Step) -> bool
     ensures { IsTrue result ↔ on network.now Passes s t }
 {

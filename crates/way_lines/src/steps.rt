@@ -38,7 +38,7 @@ pub fn is_located<M: World>(world: &M, node: NodeId) -> bool
 
 /// Whether the step may be driven: its way is visible and open in its direction, and both its nodes are visible with
 /// locations.
-#[tactic(auto, using(crate::proofs::Pairs::undrivable))]
+#[tactic(auto, using(crate::proofs::NamedPairs::undrivable))]
 pub fn drivable<M: World, P: Profile>(world: &M, profile: &P, step: Step) -> bool
     ensures { result ≡ drivable (M.objects world.now) (P.rules profile.now) step }
 {
@@ -67,7 +67,7 @@ pub(crate) fn is_drivable_between<M: World, P: Profile>(
 }
 
 /// The node where the step begins, None exactly where the step names no pair of a visible way's line.
-#[tactic(auto, using(crate::proofs::Pairs::no_end))]
+#[tactic(auto, using(crate::proofs::NamedPairs::no_end))]
 pub fn tail<M: World>(world: &M, step: Step) -> Option<NodeId>
     ensures { result ≡ tail_of (M.objects world.now) step }
 {
@@ -78,7 +78,7 @@ pub fn tail<M: World>(world: &M, step: Step) -> Option<NodeId>
 }
 
 /// The node where the step ends, None exactly where the step names no pair of a visible way's line.
-#[tactic(auto, using(crate::proofs::Pairs::no_end))]
+#[tactic(auto, using(crate::proofs::NamedPairs::no_end))]
 pub fn head<M: World>(world: &M, step: Step) -> Option<NodeId>
     ensures { result ≡ head_of (M.objects world.now) step }
 {

@@ -36,13 +36,11 @@ use Rattle.way_pieces.specs.declared.departures.Departure.{Departure}
 use Rattle.way_pieces.specs.Names.{IsNameFrom, IsDeparture}
 use Rattle.way_pieces.specs.Departures.{IsOver, Gains}
 use Rattle.road_model.proofs.JoinedLists.{lists_extended, has_before, has_last, one_more}
+use Rattle.road_model.proofs.TotalOrders.{way_cmp_total}
 use Rattle.way_pieces.proofs.FirstSteps.{stands, step_drives, head_there, front}
 use Rattle.way_pieces.proofs.AscendingLists.{taken_below}
 use Rattle.way_pieces.proofs.DrivenSteps.{drivable_parts, end_node, open_road}
-use Rattle.way_pieces.proofs.NameOrder.{way_first, way_cmp_total}
-
-pub some_node : (a b : NodeId) → Some a ≡ Some b → a ≡ b
-some_node a b e = cc
+use Rattle.way_pieces.proofs.NameOrder.{way_first}
 
 module _ (M : Objects) (P : Rules) (v : NodeId) where
   module _ (d : Departure) (dep : IsDeparture M P v d) where

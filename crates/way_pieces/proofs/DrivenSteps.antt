@@ -1,38 +1,7 @@
 -- What may be driven: steps, roads and pieces.
-use Rattle.std.proofs.Common.{
-  map,
-  is_some,
-  option_map,
-  ◌≡◌,
-  ℕ,
-  ◌+◌,
-  ◌-◌,
-  ◌<◌,
-  ◌≤◌,
-  ◌&&◌,
-  ◌⊎◌,
-  List,
-  length,
-  get_or,
-  slice_get,
-  Option,
-  Some,
-  None,
-  Bool,
-  true,
-  false,
-  cond,
-  IsTrue,
-  inl,
-  inr,
-  refl,
-  sym,
-  ap,
-  subst,
-  ◌∙◌,
-  arith,
-}
-use Rattle.std.proofs.lemmas.Bool.{and_parts, and_from, or_left, or_right, false≢true, lt-ltb}
+use Rattle.std.proofs.Common.{map, option_map, ◌≡◌, ℕ, ◌+◌, ◌-◌, ◌<◌, ◌≤◌, ◌&&◌, ◌⊎◌, List, length, get_or, slice_get}
+use Rattle.std.proofs.Common.{Option, Some, None, true, cond, IsTrue, inl, inr, refl, sym, ap, subst, ◌∙◌, arith}
+use Rattle.std.proofs.lemmas.Bool.{and_parts, and_from, or_left, or_right, lt-ltb}
 use Rattle.std.proofs.lemmas.List.{length-map}
 use Rattle.std.proofs.lemmas.Option.{none-some, same_Some, slice_get_within, slice_get-get_or, slice_get-map}
 use Rattle.road_base.specs.declared.ids.NodeId.{NodeId}
@@ -40,17 +9,19 @@ use Rattle.road_base.specs.declared.ids.WayId.{WayId}
 use Rattle.road_base.specs.declared.ids.Step.{Step}
 use Rattle.road_base.specs.declared.ids.Dir.{Dir}
 use Rattle.road_base.specs.declared.ids.Dir.TheVariants.{Forward, Backward}
-use Rattle.road_base.specs.declared.objects.Node.{Node}
 use Rattle.road_base.specs.Objects.{Objects, node_of}
 use Rattle.road_model.specs.Rules.{Rules}
 use Rattle.road_model.specs.Lines.{line_of, node_at, names_pair, end_at}
-use Rattle.road_model.specs.Driving.{is_open, is_road, located, node_located, drivable}
+use Rattle.road_model.specs.Driving.{is_open, is_road, located, drivable}
 use Rattle.road_model.specs.Pieces.{Span, IsPiece}
 use Rattle.junctions.specs.Junctions.{IsJunction}
 use Rattle.way_lines.specs.declared.road_line.LineNode.{LineNode}
-use Rattle.way_lines.specs.RoadLines.{line_node, location_in}
+use Rattle.way_lines.specs.RoadLines.{line_node}
 use Rattle.way_pieces.specs.declared.stretches.Stretch.{Stretch}
 use Rattle.way_pieces.specs.Stretches.{IsStretch, piece_on, is_located}
+use Rattle.road_model.proofs.StepEnds.{some_located}
+use Rattle.way_lines.proofs.NamedPairs.{if_named}
+use Rattle.junctions.proofs.Positions.{located_in}
 
 pub open_road : (M : Objects) (P : Rules) (w : WayId) (d : Dir) → is_open M P w d ≡ true → IsTrue (is_road M P w)
 open_road M P w Forward is = or_left _ _ is
@@ -58,21 +29,13 @@ open_road M P w Backward is = or_right _ _ is
 
 -- ---- nodes
 
-pub located_some : (M : Objects) (o : Option NodeId) → IsTrue (located M o) → (v : NodeId) × (o ≡ Some v)
-located_some M None h = absurd (false≢true h)
-located_some M (Some v) h = (v, refl)
-
 pub on_line : (M : Objects) (w : WayId) (k : ℕ) → IsTrue (located M (node_at M w k)) → k < length (line_of M w)
 unfolding node_at
-on_line M w k h = let n = located_some M (slice_get (line_of M w) k) h in slice_get_within (line_of M w) k n.0 n.1
-
-node_lies : (o : Option Node) → is_some (location_in o) ≡ node_located o
-node_lies None = refl
-node_lies (Some body) = refl
+on_line M w k h = let n = some_located M (slice_get (line_of M w) k) h in slice_get_within (line_of M w) k n.0 n.1
 
 line_node_lies : (M : Objects) (P : Rules) (o : Option NodeId) → is_located (option_map (line_node M P) o) ≡ located M o
 line_node_lies M P None = refl
-line_node_lies M P (Some v) = node_lies (node_of M v)
+line_node_lies M P (Some v) = located_in (node_of M v)
 
 module _ (M : Objects) (P : Rules) (w : WayId) (nodes : List LineNode)
     (line : nodes ≡ map (line_node M P) (line_of M w)) where
@@ -110,21 +73,12 @@ pub drivable_from : (M : Objects) (P : Rules) (s : Step) → IsTrue (is_open M P
 unfolding drivable
 drivable_from M P s a b c = and_from _ _ a (and_from _ _ b c)
 
--- a step that may be driven has two neighbouring positions of the line
-pub drivable_within : (M : Objects) (P : Rules) (s : Step) → IsTrue (drivable M P s)
-    → s.index + 1 < length (line_of M s.way)
-drivable_within M P s h = on_line M s.way (s.index + 1) ((drivable_parts M P s h).1).1
-
 -- where a step begins and ends, by the nodes at its positions
 pub named_end : (M : Objects) (s : Step) (i : ℕ) → s.index + 1 < length (line_of M s.way)
     → end_at M s i ≡ node_at M s.way i
 unfolding end_at names_pair
 named_end M s i within = ap (λ b. cond b (node_at M s.way i) None)
     (lt-ltb (s.index + 1) (length (line_of M s.way)) within)
-
-if_named : (b : Bool) (o : Option NodeId) (v : NodeId) → cond b o None ≡ Some v → o ≡ Some v
-if_named true o v is = is
-if_named false o v is = cc
 
 pub end_node : (M : Objects) (s : Step) (i : ℕ) (v : NodeId) → end_at M s i ≡ Some v → node_at M s.way i ≡ Some v
 unfolding end_at

@@ -39,10 +39,10 @@ use Rattle.road_model.specs.Lines.{
 }
 use Rattle.road_model.specs.Driving.{located, drivable}
 use Rattle.road_model.specs.Pieces.{Span, IsPiece, spell}
-use Rattle.way_pieces.proofs.DrivenSteps.{drivable_parts, drivable_within, located_some, named_end}
-
-some_step : (a b : Step) → Some a ≡ Some b → a ≡ b
-some_step a b e = cc
+use Rattle.road_model.proofs.StepEnds.{some_located}
+use Rattle.road_model.proofs.StepPlaces.{some_step}
+use Rattle.way_lines.proofs.NamedPairs.{drivable_within}
+use Rattle.way_pieces.proofs.DrivenSteps.{drivable_parts, named_end}
 
 -- the position where one is after k of n steps
 abbrev pub place_after : Dir → ℕ → ℕ → ℕ → ℕ
@@ -117,8 +117,8 @@ module _ (M : Objects) (P : Rules) where
     head_by : (d : Dir) → IsTrue (located M (node_at M s.way s.index))
         → IsTrue (located M (node_at M s.way (s.index + 1)))
         → (v : NodeId) × (node_at M s.way (head_position d s.index) ≡ Some v)
-    head_by Forward low high = located_some M _ high
-    head_by Backward low high = located_some M _ low
+    head_by Forward low high = some_located M _ high
+    head_by Backward low high = some_located M _ low
 
     -- a drivable step leads to a node
     pub head_there : (v : NodeId) × (head_of M s ≡ Some v)

@@ -2,27 +2,17 @@
 use Rattle.std.proofs.Common.{◌≡◌, ℕ, ◌<◌, true, nat_lt, IsTrue, refl, subst, Ordering}
 use Rattle.std.specs.declared.cmp.Ordering.TheVariants.{Less, Equal}
 use Rattle.std.specs.Ordering.{nat_cmp, is_lt, ordering_then}
-use Rattle.std.specs.Cmp.{IsTotalOrder}
 use Rattle.std.proofs.lemmas.Bool.{lt-ltb}
-use Rattle.std.proofs.lemmas.Cmp.{nat_cmp_total, int_cmp_total, on_total, tied_itself}
-use Rattle.road_base.specs.declared.ids.NodeId.{NodeId}
+use Rattle.std.proofs.lemmas.Cmp.{nat_cmp_total, tied_itself}
 use Rattle.road_base.specs.declared.ids.WayId.{WayId}
 use Rattle.road_base.specs.declared.ids.Dir.TheVariants.{Forward, Backward}
 use Rattle.road_model.specs.declared.lists.PieceName.{PieceName}
-use Rattle.road_model.specs.Orders.{node_cmp, way_cmp, dir_cmp, name_cmp}
+use Rattle.road_model.specs.Orders.{way_cmp, dir_cmp, name_cmp}
 use Rattle.road_base.proofs.Comparisons.{less}
-
-pub node_cmp_total : IsTotalOrder node_cmp
-node_cmp_total = on_total (λ (n : NodeId). n.0) int_cmp_total
-
-pub way_cmp_total : IsTotalOrder way_cmp
-way_cmp_total = on_total (λ (w : WayId). w.0) int_cmp_total
+use Rattle.road_model.proofs.TotalOrders.{way_cmp_total, less_first}
 
 below_less : (i j : ℕ) → i < j → nat_cmp i j ≡ Less
 below_less i j h = let e : nat_lt i j ≡ true = lt-ltb i j h in rw e refl
-
-less_first : (r s : Ordering) → r ≡ Less → IsTrue (is_lt (ordering_then r s))
-less_first r s e = rw e refl
 
 less_second : (r s : Ordering) → r ≡ Equal → IsTrue (is_lt s) → IsTrue (is_lt (ordering_then r s))
 less_second r s e h = rw e h

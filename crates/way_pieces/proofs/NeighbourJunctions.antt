@@ -1,24 +1,6 @@
 -- Neighbours in the list of junctions, and pieces.
-use Rattle.std.proofs.Common.{
-  ◌≡◌,
-  ℕ,
-  ◌+◌,
-  ◌-◌,
-  ◌<◌,
-  ◌≤◌,
-  ◌⊎◌,
-  inl,
-  inr,
-  List,
-  length,
-  get_or,
-  Contains,
-  sym,
-  ap,
-  subst,
-  ◌∙◌,
-  arith,
-}
+use Rattle.std.proofs.Common.{◌≡◌, ℕ, ◌+◌, ◌-◌, ◌<◌, ◌≤◌, inl, inr, List, length, get_or, Contains, sym, ap, subst, ◌∙◌}
+use Rattle.std.proofs.Common.{arith}
 use Rattle.std.proofs.lemmas.List.{get_or_default}
 use Rattle.std.proofs.lemmas.List.Elements.{Contains-get_or}
 use Rattle.road_base.specs.declared.ids.WayId.{WayId}
@@ -28,11 +10,9 @@ use Rattle.road_model.specs.Pieces.{Span, IsPlain, IsPiece}
 use Rattle.junctions.specs.Junctions.{IsJunction, AreJunctions}
 use Rattle.way_pieces.specs.declared.stretches.Stretch.{Stretch}
 use Rattle.way_pieces.specs.Stretches.{IsStretch, piece_on}
+use Rattle.road_model.proofs.Decided.{order}
 use Rattle.way_pieces.proofs.AscendingLists.{climbs}
 use Rattle.way_pieces.proofs.DrivenSteps.{piece_first, piece_last}
-
-pub order : (i j : ℕ) → (i < j) ⊎ ((i ≡ j) ⊎ (j < i))
-order i j = grind arith
 
 module _ (M : Objects) (P : Rules) (w : WayId) (xs : List ℕ) (are : AreJunctions M P w xs) where
   junction_at : (k : ℕ) → k < length xs → IsJunction M P w (get_or xs k 0)

@@ -39,17 +39,11 @@ use Rattle.way_pieces.specs.declared.stretches.Stretch.{Stretch}
 use Rattle.way_pieces.specs.Names.{piece_of, IsSpanOn}
 use Rattle.way_pieces.specs.Stretches.{IsStretch, IsSpanBelow, added, piece_on, span_on}
 use Rattle.road_model.proofs.JoinedLists.{lists_added}
+use Rattle.road_model.proofs.Decided.{order}
 use Rattle.way_pieces.proofs.DrivenSteps.{piece_from, piece_parts}
 use Rattle.way_pieces.proofs.NameOrder.{index_next, dir_last}
-use Rattle.way_pieces.proofs.NeighbourJunctions.{
-  order,
-  none_inside,
-  same_piece,
-  not_below_first,
-  not_above_last,
-  first_listed,
-  last_listed,
-}
+use Rattle.way_pieces.proofs.NeighbourJunctions.{none_inside, same_piece, not_below_first, not_above_last, first_listed}
+use Rattle.way_pieces.proofs.NeighbourJunctions.{last_listed}
 
 abbrev pub span_of : Span → PieceSpan
 span_of p = record { name = record { way = p.way; index = p.index; dir = p.dir }; end = p.end }

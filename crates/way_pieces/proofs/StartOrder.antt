@@ -64,9 +64,11 @@ use Rattle.way_pieces.proofs.SpanOrder.{span_of}
 use Rattle.road_base.proofs.ListMembers.{contains_map, contains_from_map}
 use Rattle.road_base.proofs.FilteredLists.{contains_filter, contains_from_filter}
 use Rattle.road_base.proofs.SortedParts.{kept_by_sort}
-use Rattle.way_pieces.proofs.DepartureLists.{some_node, name_way}
+use Rattle.road_base.proofs.Splits.{same_head}
+use Rattle.way_pieces.proofs.DepartureLists.{name_way}
 use Rattle.way_pieces.proofs.DrivenSteps.{as_long, named_end, node_there, piece_last, piece_road}
 use Rattle.road_model.proofs.AscendingLists.{rises_kept}
+use Rattle.junctions.proofs.Positions.{some_same}
 
 -- ---- what a start has of its piece
 
@@ -125,9 +127,6 @@ module _ (M : Objects) (P : Rules) (nodes : List LineNode) (w : WayId)
       named_end M (record { way = w; index = j - 1; dir = Backward }) (j - 1) (line_within (j - 1 + 1) (omega arith))
       ∙ there (j - 1) (omega arith)
 
-heads : (x y : Step) (xs ys : List Step) → x ∷ xs ≡ y ∷ ys → x ≡ y
-heads x y xs ys e = cc
-
 module _ (M : Objects) (P : Rules) (w : WayId) (nodes : List LineNode)
     (line : IsTrue (is_road M P w) → nodes ≡ map (line_node M P) (line_of M w)) where
   line_by : (s : PieceSpan) → IsSpanOn M P w s → nodes ≡ map (line_node M P) (line_of M s.name.way)
@@ -181,16 +180,16 @@ module _ (M : Objects) (P : Rules) (w : WayId) (nodes : List LineNode)
     same_first : (start_on nodes own).departure.first ≡ z.first
     same_first =
         let opening = begins_with nodes own.name.way own.name.index own.end own.name.dir ((is_over.1).is).ascends in
-        heads (start_on nodes own).departure.first z.first opening.0 (is_over.1).more
+        same_head (start_on nodes own).departure.first z.first opening.0 (is_over.1).more
         (sym opening.1 ∙ (is_over.1).begins)
 
     same_start_node : (start_on nodes own).node ≡ v
-    same_start_node = some_node (start_on nodes own).node v
+    same_start_node = some_same (start_on nodes own).node v
         (sym (start_departs own own_span).leaves ∙ (ap (tail_of M) same_first ∙ (is_over.1).leaves))
 
     same_departure : (start_on nodes own).departure ≡ z
     same_departure =
-        let toward = some_node (start_on nodes own).departure.toward z.toward
+        let toward = some_same (start_on nodes own).departure.toward z.toward
         (sym (start_departs own own_span).toward ∙ (ap (head_of M) same_first ∙ (is_over.1).toward)) in
         let name : (start_on nodes own).departure.piece ≡ z.piece = name_is nodes own own.name.dir
         ∙ sym (is_over.1).named in

@@ -1,7 +1,8 @@
 use Rattle.std.proofs.Common.{◌↔◌, Contains, sym, subst}
 use Rattle.road_base.specs.declared.ids.Key.TheVariants.{Way as WayKey}
 use Rattle.road_model.specs.Links.{HasMember}
-use Rattle.back_references.proofs.IndexLists.{if_ok, chained}
+use Rattle.object_store.proofs.Trees.{if_ok}
+use Rattle.back_references.proofs.IndexLists.{chained}
 use Rattle.back_references.proofs.NamedObjects.{rule_links}
 use Rattle.back_references.proofs.references.way_rules_of.Goals as goal
 

@@ -1,6 +1,7 @@
 use Rattle.std.proofs.Common.{◌↔◌, Contains, sym, subst}
 use Rattle.road_model.specs.Links.{RefersTo}
-use Rattle.back_references.proofs.IndexLists.{if_ok, chained}
+use Rattle.object_store.proofs.Trees.{if_ok}
+use Rattle.back_references.proofs.IndexLists.{chained}
 use Rattle.back_references.proofs.NamedObjects.{way_links}
 use Rattle.back_references.proofs.references.ways_of.Goals as goal
 

@@ -4,7 +4,7 @@ use Rattle.std.specs.Ordering.{is_lt, is_le}
 use Rattle.std.proofs.lemmas.List.Sorted.{IsPartitionPoint-from_clause}
 use Rattle.road_base.proofs.SortedParts.{below_parted, upto_parted, low_first, part_together}
 use Rattle.restrictions.specs.declared.word_list.Word.{Word}
-use Rattle.drive_queries.specs.Gathering.{steps_cmp}
+use Rattle.drive_queries.specs.DriveWords.{steps_cmp}
 use Rattle.drive_queries.proofs.WordOrder.{steps_total}
 use Rattle.drive_queries.proofs.WordsBegun.{front_of, fronts_sorted, begun, some_word}
 use Rattle.drive_queries.proofs.word_rules.beginning_with.Goals as goal

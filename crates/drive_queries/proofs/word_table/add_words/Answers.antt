@@ -3,7 +3,9 @@ use Rattle.std.proofs.Common.{[], sym, subst, append-nil, rules}
 use Rattle.restrictions.specs.Words.{AreWords}
 use Rattle.restrictions.specs.declared.word_list.Word.{Word}
 use Rattle.drive_queries.specs.Tables.{BeginsOn}
-use Rattle.drive_queries.proofs.WordsGathered.{among_none, no_words_of, kept}
+use Rattle.road_base.proofs.ListMembers.{contains_none}
+use Rattle.restrictions.proofs.UselessRelations.{no_words_of}
+use Rattle.drive_queries.proofs.WordsGathered.{kept}
 use Rattle.drive_queries.proofs.word_table.add_words.Goals as goal
 
 pub returns-in_ok-append-in-Ok : goal.returns-in_ok-append-in-Ok
@@ -34,7 +36,7 @@ returns-in-Err-Unusable g c =
       more = [];
       appended = sym (append-nil c.args.list.now.items);
       exactly = λ u. (
-        λ h. absurd (among_none u h),
+        λ h. absurd (contains_none u h),
         λ h. absurd (no_words_of M P c.args.relation _ _ c.in-Err-Unusable.field-0-is
             c.in-Err-Unusable.ensures.cause u h.0),
       );

@@ -3,7 +3,7 @@ use Rattle.std.proofs.Common.{rules}
 use Rattle.std.specs.Ordering.{is_lt}
 use Rattle.std.proofs.lemmas.List.Sorted.{answers_always, ranks_by, Contains-permutation, IsPermutation-sym}
 use Rattle.restrictions.specs.declared.word_list.Word.{Word}
-use Rattle.drive_queries.specs.Gathering.{steps_cmp}
+use Rattle.drive_queries.specs.DriveWords.{steps_cmp}
 use Rattle.drive_queries.proofs.WordOrder.{steps_total}
 use Rattle.drive_queries.proofs.word_table.put_in_order.Goals as goal
 

@@ -3,7 +3,7 @@ use Rattle.std.proofs.Common.{◌≡◌, ◌↔◌, ◌+◌, List, sym, subst, a
 use Rattle.std.proofs.lemmas.List.{take_all}
 use Rattle.road_base.specs.declared.ids.WayId.{WayId}
 use Rattle.road_base.specs.declared.ids.RelationId.{RelationId}
-use Rattle.drive_queries.specs.Gathering.{IsMemberOf}
+use Rattle.drive_queries.specs.DriveWords.{IsMemberOf}
 use Rattle.drive_queries.proofs.WordsGathered.{relations_more}
 use Rattle.drive_queries.proofs.word_table.relations_of.Goals as goal
 
@@ -21,7 +21,7 @@ returns g c r =
     let all : take c.loop-way.way-index c.args.ways.now ≡ c.args.ways.now =
     take_all c.loop-way.way-index c.args.ways.now (let past = c.loop-way-test.false in omega arith) in
     let are = c.loop-way.invariant r in
-    let kept = c.leave_once.ensures r in (
+    let kept = c.leave_once.ensures.exactly r in (
       λ h. subst (λ (l : List WayId). IsMemberOf M l r) all (are.0 (kept.0 h)),
       λ h. kept.1 (are.1 (subst (λ (l : List WayId). IsMemberOf M l r) (sym all) h)),
     )

@@ -1,6 +1,6 @@
 use Rattle.std.proofs.Common.{◌↔◌, Contains, take}
 use Rattle.road_base.specs.declared.ids.RelationId.{RelationId}
-use Rattle.drive_queries.specs.Gathering.{IsMemberOf}
+use Rattle.drive_queries.specs.DriveWords.{IsMemberOf}
 use Rattle.drive_queries.proofs.word_table.relations_of.Given as goal
 
 -- the restrictions of the ways so far

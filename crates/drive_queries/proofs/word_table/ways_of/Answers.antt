@@ -3,7 +3,7 @@ use Rattle.std.proofs.Common.{◌≡◌, ◌↔◌, ◌+◌, List, sym, subst, a
 use Rattle.std.proofs.lemmas.List.{take_all}
 use Rattle.road_base.specs.declared.ids.WayId.{WayId}
 use Rattle.road_base.specs.declared.ids.Step.{Step}
-use Rattle.drive_queries.specs.Gathering.{LiesOn}
+use Rattle.drive_queries.specs.DriveWords.{LiesOn}
 use Rattle.drive_queries.proofs.WordsGathered.{ways_more}
 use Rattle.drive_queries.proofs.word_table.ways_of.Goals as goal
 
@@ -19,7 +19,7 @@ returns c w =
     let all : take c.loop-step.step-index c.args.steps.now ≡ c.args.steps.now =
     take_all c.loop-step.step-index c.args.steps.now (let past = c.loop-step-test.false in omega arith) in
     let are = c.loop-step.invariant w in
-    let kept = c.leave_once.ensures w in (
+    let kept = c.leave_once.ensures.exactly w in (
       λ h. subst (λ (l : List Step). LiesOn l w) all (are.0 (kept.0 h)),
       λ h. kept.1 (are.1 (subst (λ (l : List Step). LiesOn l w) (sym all) h)),
     )

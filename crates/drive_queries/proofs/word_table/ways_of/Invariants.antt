@@ -1,6 +1,6 @@
 use Rattle.std.proofs.Common.{◌↔◌, Contains, take}
 use Rattle.road_base.specs.declared.ids.WayId.{WayId}
-use Rattle.drive_queries.specs.Gathering.{LiesOn}
+use Rattle.drive_queries.specs.DriveWords.{LiesOn}
 use Rattle.drive_queries.proofs.word_table.ways_of.Given as goal
 
 -- the ways of the steps so far

@@ -2,7 +2,7 @@
 use Rattle.std.proofs.Common.{List, [], sym, subst, arith}
 use Rattle.std.proofs.lemmas.List.{take_all}
 use Rattle.road_base.specs.declared.ids.RelationId.{RelationId}
-use Rattle.drive_queries.specs.Gathering.{AreWordsOn}
+use Rattle.drive_queries.specs.DriveWords.{AreWordsOn}
 use Rattle.drive_queries.proofs.WordsGathered.{words_more, words_none}
 use Rattle.drive_queries.proofs.word_table.words_of.Goals as goal
 

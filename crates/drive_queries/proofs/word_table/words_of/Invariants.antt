@@ -1,5 +1,5 @@
 use Rattle.std.proofs.Common.{take}
-use Rattle.drive_queries.specs.Gathering.{AreWordsOn}
+use Rattle.drive_queries.specs.DriveWords.{AreWordsOn}
 use Rattle.drive_queries.proofs.word_table.words_of.Given as goal
 
 -- the words of the restrictions so far

@@ -5,7 +5,7 @@ use Rattle.road_model.specs.declared.lists.TurnArc.{TurnArc}
 use Rattle.road_model.specs.Orders.{Lists, name_cmp}
 use Rattle.road_model.specs.Blocks.{IsArcEntry}
 use Rattle.way_pieces.specs.Names.{piece_of}
-use Rattle.expanded_graph.proofs.Runs.{context_pieces}
+use Rattle.road_model.proofs.WalkLists.{context_pieces}
 use Rattle.expanded_graph.proofs.ContextStates.{StepLaws, context_there, reached_there, context_in}
 use Rattle.expanded_graph.proofs.contexts.context_in.Goals as goal
 

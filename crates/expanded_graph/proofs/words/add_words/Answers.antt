@@ -1,8 +1,9 @@
 -- The words of the restriction are added, which are none where it is of no use.
 use Rattle.std.proofs.Common.{[], sym, subst, append-nil}
 use Rattle.restrictions.specs.Words.{AreWords}
-use Rattle.expanded_graph.proofs.WordsNear.{among_none, no_words_of}
+use Rattle.road_base.proofs.ListMembers.{contains_none}
 use Rattle.expanded_graph.proofs.words.add_words.Goals as goal
+use Rattle.restrictions.proofs.UselessRelations.{no_words_of}
 
 pub returns-in_ok-append-in-Ok : goal.returns-in_ok-append-in-Ok
 returns-in_ok-append-in-Ok g c =
@@ -21,7 +22,7 @@ returns-in-Err-Unusable g c =
       more = [];
       appended = sym (append-nil c.args.list.now.items);
       exactly = λ u. (
-        λ h. absurd (among_none u h),
+        λ h. absurd (contains_none u h),
         λ h. absurd (no_words_of M P c.args.relation _ _ c.in-Err-Unusable.field-0-is
             c.in-Err-Unusable.ensures.cause u h),
       );

@@ -2,7 +2,7 @@
 use Rattle.std.proofs.Common.{List, sym, subst, ◌∙◌}
 use Rattle.std.proofs.lemmas.Bool.{false≢true}
 use Rattle.way_lines.specs.declared.road_line.LineNode.{LineNode}
-use Rattle.junctions.specs.Passing.{AreNeighbours}
+use Rattle.junctions.specs.PlainPositions.{AreNeighbours}
 use Rattle.junctions.proofs.Positions.{plain_once, once_plain}
 use Rattle.junctions.proofs.junction_list.is_plain_at.Goals as goal
 

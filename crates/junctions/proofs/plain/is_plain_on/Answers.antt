@@ -5,7 +5,7 @@ use Rattle.road_base.specs.declared.ids.NodeId.{NodeId}
 use Rattle.road_model.specs.Lines.{changes, line_of}
 use Rattle.road_model.specs.Driving.{is_road}
 use Rattle.way_lines.specs.RoadLines.{line_node}
-use Rattle.junctions.specs.Passing.{AreNeighbours}
+use Rattle.junctions.specs.PlainPositions.{AreNeighbours}
 use Rattle.junctions.specs.Repeats.{is_repeated}
 use Rattle.junctions.proofs.Positions.{open_road, plain_from, passed, once}
 use Rattle.junctions.proofs.RoadNodes.{no_road, visible_line}

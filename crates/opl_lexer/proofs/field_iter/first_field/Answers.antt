@@ -1,6 +1,6 @@
 use Rattle.std.proofs.Common.{rules, ◌≡◌, ◌<◌, ◌≤◌, ℕ, length, slice_index, true, false, sym, ◌∙◌}
 use Rattle.opl_lexer.specs.Fields.{is_blank}
-use Rattle.opl_lexer.proofs.Runs.{first_field, boundary_before_blank, some_run}
+use Rattle.opl_lexer.proofs.FieldRuns.{first_field, boundary_before_blank, some_run}
 use Rattle.opl_lexer.proofs.field_iter.first_field.Goals as goal
 
 pub split_at-requires : goal.split_at-requires

@@ -1,5 +1,5 @@
 use Rattle.std.proofs.Common.{arith, ap, ◌∙◌, ◌≡◌, ◌≤◌, ◌+◌, ◌-◌, length, drop, length-drop}
-use Rattle.opl_lexer.proofs.Runs.{solid_more}
+use Rattle.opl_lexer.proofs.FieldRuns.{solid_more}
 use Rattle.opl_lexer.proofs.field_iter.run_from.Goals as goal
 
 pub loop-at-preserved : goal.loop-at-preserved

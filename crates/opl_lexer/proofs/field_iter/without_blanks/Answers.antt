@@ -1,6 +1,6 @@
 use Rattle.std.proofs.Common.{◌≡◌, ◌<◌, ◌≤◌, ℕ, length, slice_index, true, ◌∙◌, ap}
 use Rattle.opl_lexer.specs.Fields.{is_blank, fields}
-use Rattle.opl_lexer.proofs.Runs.{fields_behind_blanks, boundary_behind_blanks}
+use Rattle.opl_lexer.proofs.FieldRuns.{fields_behind_blanks, boundary_behind_blanks}
 use Rattle.opl_lexer.proofs.field_iter.without_blanks.Goals as goal
 
 pub split_at-requires : goal.split_at-requires

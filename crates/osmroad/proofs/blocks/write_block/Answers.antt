@@ -4,8 +4,9 @@ use Rattle.road_model.specs.Orders.{rises, way_cmp}
 use Rattle.road_model.specs.Blocks.{IsBlock, IsRoadBlock}
 use Rattle.access_profile.specs.Motorcar.{motorcar_rules}
 use Rattle.osmroad.specs.Building.{HasBlocksOf}
-use Rattle.osmroad.proofs.Built.{empty_by_test, some_by_test, same_blocks, no_pieces, one_more, block_form}
+use Rattle.osmroad.proofs.Built.{same_blocks, no_pieces, one_more, block_form}
 use Rattle.osmroad.proofs.blocks.write_block.Goals as goal
+use Rattle.change_apply.proofs.BuiltBlocks.{some_by_test, empty_by_test}
 
 on_ok : {T E : Type 0} {A B : Type 0} (r : Result T E) → OnOk r A → (A → B) → OnOk r B
 on_ok (Ok x) a f = f a

@@ -4,8 +4,8 @@ use Rattle.road_base.specs.declared.ids.WayId.{WayId}
 use Rattle.road_model.specs.Orders.{rises, way_cmp}
 use Rattle.access_profile.specs.Motorcar.{motorcar_rules}
 use Rattle.osmroad.specs.Building.{HasBlocksOf}
+use Rattle.road_model.proofs.RisingLists.{take_rises}
 use Rattle.osmroad.proofs.Built.{whole_graph, whole_file}
-use Rattle.osmroad.proofs.RisingWays.{take_rises}
 use Rattle.osmroad.proofs.blocks.write_blocks.Goals as goal
 
 pub loop-way-preserved : goal.loop-way-preserved

@@ -12,7 +12,8 @@ both (Err e) a b f = tt
 pub returns-clause-graph : goal.returns-clause-graph
 returns-clause-graph g c =
     let M = c.in_ok-world.world in
-    both c.graph_over-graph.result c.graph_over-graph.ensures.graph c.graph_over-graph.ensures.file (λ out graph file. record {
+    both c.graph_over-graph.result c.graph_over-graph.ensures.graph c.graph_over-graph.ensures.file
+    (λ out graph file. record {
       objects = M;
       applied = c.in_ok-world.ensures;
       graph = graph;

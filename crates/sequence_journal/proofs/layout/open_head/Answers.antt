@@ -1,4 +1,4 @@
-use Rattle.sequence_journal.proofs.Fronts.{head_found}
+use Rattle.sequence_journal.proofs.HeadFields.{head_found}
 use Rattle.sequence_journal.proofs.layout.open_head.Goals as goal
 
 pub returns-clause-found : goal.returns-clause-found

@@ -1,5 +1,5 @@
 use Rattle.drive_queries.specs.declared.messages.Asked.TheVariants.{Reach}
-use Rattle.session_replies.proofs.AskedLines.{reply_as}
+use Rattle.session_replies.proofs.RepliesAsked.{reply_as}
 use Rattle.session_replies.proofs.queries.reply_to.Goals as goal
 
 pub returns-in-Reach-clause-reply : goal.returns-in-Reach-clause-reply

@@ -1,7 +1,7 @@
 -- A step that names no pair can't be driven.
 use Rattle.std.proofs.Common.{◌∙◌}
 use Rattle.std.proofs.lemmas.Bool.{false≢true}
-use Rattle.way_lines.proofs.Pairs.{undrivable}
+use Rattle.way_lines.proofs.NamedPairs.{undrivable}
 use Rattle.way_lines.proofs.passing.leaves.Goals as goal
 
 pub returns-in-None : goal.returns-in-None

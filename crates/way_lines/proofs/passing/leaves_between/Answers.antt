@@ -1,7 +1,7 @@
 -- The step's tail is one of the two nodes.
 use Rattle.std.proofs.Common.{inl, inr, sym, ◌∙◌}
 use Rattle.std.proofs.lemmas.Bool.{false≢true}
-use Rattle.way_lines.proofs.Pairs.{tail_between, leaves_here, leaves_no_other}
+use Rattle.way_lines.proofs.NamedPairs.{tail_between, leaves_here, leaves_no_other}
 use Rattle.way_lines.proofs.passing.leaves_between.Goals as goal
 use Rattle.way_lines.proofs.passing.leaves_between.Goals.{in-Forward, in-Backward}
 

@@ -2,7 +2,7 @@
 use Rattle.std.proofs.Common.{◌≡◌, ◌+◌, [], length, ap, refl, sym, ◌∙◌, arith}
 use Rattle.road_model.specs.Lines.{line_of}
 use Rattle.way_lines.specs.Left.{nodes_left}
-use Rattle.way_lines.proofs.Pairs.{no_way}
+use Rattle.way_lines.proofs.NamedPairs.{no_way}
 use Rattle.way_lines.proofs.WalkedLines.{behind_front, visible_line, node_there, before_last, no_line, one_more}
 use Rattle.way_lines.proofs.passing.none_but.Goals as goal
 

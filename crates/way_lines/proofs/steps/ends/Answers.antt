@@ -1,7 +1,7 @@
 -- The step names a pair, so the nodes at its positions are its ends.
 use Rattle.std.proofs.Common.{sym}
 use Rattle.road_base.specs.declared.ids.Dir.TheVariants.{Forward, Backward}
-use Rattle.way_lines.proofs.Pairs.{ends_are}
+use Rattle.way_lines.proofs.NamedPairs.{ends_are}
 use Rattle.way_lines.proofs.steps.ends.Goals as goal
 
 pub returns-in-Forward-clause-some : goal.returns-in-Forward-clause-some

@@ -1,5 +1,6 @@
-use Rattle.back_references.proofs.IndexLists.{if_ok, exchanged_all}
+use Rattle.back_references.proofs.IndexLists.{exchanged_all}
 use Rattle.back_references.proofs.index.Index.exchanged_among.Goals as goal
+use Rattle.object_store.proofs.Trees.{if_ok}
 
 pub returns : goal.returns
 returns g c =

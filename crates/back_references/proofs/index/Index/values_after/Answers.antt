@@ -1,5 +1,6 @@
 use Rattle.back_references.specs.Indexes.{Has}
-use Rattle.back_references.proofs.IndexLists.{if_ok, stays_by}
+use Rattle.object_store.proofs.Trees.{if_ok}
+use Rattle.back_references.proofs.IndexLists.{stays_by}
 use Rattle.back_references.proofs.index.Index.values_after.Goals as goal
 
 pub returns-clause-exactly : goal.returns-clause-exactly

@@ -4,7 +4,8 @@ use Rattle.road_base.specs.Objects.{key_cmp}
 use Rattle.road_model.specs.Links.{HasMember}
 use Rattle.road_model.specs.Orders.{node_cmp}
 use Rattle.back_references.specs.Indexes.{Has}
-use Rattle.back_references.proofs.IndexLists.{if_ok, chained, link_after, in_or_out}
+use Rattle.object_store.proofs.Trees.{if_ok}
+use Rattle.back_references.proofs.IndexLists.{chained, link_after, in_or_out}
 use Rattle.back_references.proofs.NamedObjects.{node_links_at, member_same}
 use Rattle.back_references.proofs.references.References.node_rules_after.Goals as goal
 

@@ -9,7 +9,7 @@ use Rattle.road_base.specs.Objects.{Objects}
 use Rattle.road_model.specs.Rules.{Rules}
 use Rattle.drive_queries.specs.DeadEnds.{AreLeaving}
 use Rattle.drive_queries.specs.Tables.{AreDriveWords}
-use Rattle.drive_queries.specs.Gathering.{AreWordsOn, AreInWordOrder, IsMemberOf}
+use Rattle.drive_queries.specs.DriveWords.{AreWordsOn, AreInWordOrder, IsMemberOf}
 use Rattle.drive_queries.proofs.WordsGathered.{restrict, table, table_again}
 use Rattle.drive_queries.proofs.word_table.WordTable.of.Goals as goal
 

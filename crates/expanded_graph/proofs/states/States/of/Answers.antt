@@ -7,7 +7,8 @@ state_facts-requires-clause-short g c =
     let M = g.M.World.objects c.args.network.now.world.now in
     let P = g.P.Profile.rules c.args.network.now.profile in
     let m = c.in_ok-automaton.automaton in
-    all_short M P m.words m.states c.in_ok-automaton.ensures.words c.closed.ensures.lists (c.words_on_ways.ensures.short M)
+    all_short M P m.words m.states c.in_ok-automaton.ensures.words c.closed.ensures.lists
+    (c.words_on_ways.ensures.short M)
 
 pub returns-clause-states : goal.returns-clause-states
 returns-clause-states g c w has =

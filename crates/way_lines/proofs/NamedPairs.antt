@@ -42,16 +42,17 @@ pub named : (M : Objects) (P : Rules) (s : Step) → IsTrue (drivable M P s) →
 named M P s drives = true_of_not_false (names_pair M s) (λ unnamed. false≢true (undrivable M P s unnamed ∙ drives))
 
 -- and lies on its way's line
-pub on_line : (M : Objects) (P : Rules) (s : Step) → IsTrue (drivable M P s) → s.index + 1 < length (line_of M s.way)
+pub drivable_within : (M : Objects) (P : Rules) (s : Step) → IsTrue (drivable M P s)
+    → s.index + 1 < length (line_of M s.way)
 unfolding names_pair
-on_line M P s drives = let below = named M P s drives in grind (arith, nat_tests)
+drivable_within M P s drives = let below = named M P s drives in grind (arith, nat_tests)
 
 -- a way that isn't visible has no step that can be driven
 pub no_way : (M : Objects) (P : Rules) (w : WayId) → None ≡ way_of M w → (u : Step) → u.way ≡ w
     → IsTrue (drivable M P u) → ⊥
 unfolding line_of
 no_way M P w hidden u on drives =
-    let within : u.index + 1 < length (changes (refs_of (way_of M u.way))) = on_line M P u drives in
+    let within : u.index + 1 < length (changes (refs_of (way_of M u.way))) = drivable_within M P u drives in
     let none : way_of M u.way ≡ None = ap (way_of M) on ∙ sym hidden in
     let empty : u.index + 1 < length (changes (refs_of None)) = subst
     (λ (o : Option Way). u.index + 1 < length (changes (refs_of o))) none within in
@@ -64,7 +65,7 @@ at_named : (M : Objects) (s : Step) (i : ℕ) (v : NodeId) → names_pair M s �
 unfolding end_at
 at_named M s i v named there = ap (λ b. cond b (node_at M s.way i) None) named ∙ there
 
-if_named : (b : Bool) (o : Option NodeId) (v : NodeId) → cond b o None ≡ Some v → o ≡ Some v
+pub if_named : (b : Bool) (o : Option NodeId) (v : NodeId) → cond b o None ≡ Some v → o ≡ Some v
 if_named true o v is = is
 if_named false o v is = cc
 

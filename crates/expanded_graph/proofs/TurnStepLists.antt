@@ -1,14 +1,16 @@
 -- Where lists of steps end, and their turn steps.
 use Rattle.std.proofs.Common.{◌≡◌, ◌+◌, ◌≤◌, List, [], ◌∷◌, ◌++◌, length, ◌⊎◌, inl, inr, refl, sym, ap, ◌∙◌}
-use Rattle.std.proofs.Common.{subst, arith, append_assoc, append-nil, length-append}
+use Rattle.std.proofs.Common.{subst, arith, append_assoc, length-append}
 use Rattle.std.proofs.lemmas.List.{same_from_push}
 use Rattle.road_base.specs.declared.ids.Step.{Step}
 use Rattle.road_base.specs.Objects.{Objects}
 use Rattle.road_model.specs.Rules.{Rules}
 use Rattle.road_model.specs.Pieces.{Span, IsPiece, spell}
-use Rattle.road_model.specs.Contexts.{Every, One, Many}
-use Rattle.road_model.specs.Network.{IsContext, spell_pieces}
+use Rattle.road_model.specs.Contexts.{Every}
+use Rattle.road_model.specs.Network.{spell_pieces}
 use Rattle.road_model.specs.Turning.{HasTurnSteps}
+use Rattle.road_model.proofs.WalkLists.{spell_pieces-push}
+use Rattle.road_model.proofs.LongestContext.{Every-tail}
 use Rattle.expanded_graph.proofs.Ends.{spell_begins}
 
 pub nil_right : {A : Type 0} (a u : List A) → [] ≡ a ++ u → u ≡ []
@@ -47,19 +49,7 @@ nil_or_last (x ∷ xs) = inr (elim (nil_or_last xs) [
 
 -- ---- members with a property
 
-pub every_left : {A : Type 0} (Q : A → Type 0) (a b : List A) → Every Q (a ++ b) → Every Q a
-every_left Q [] b e = tt
-every_left Q (x ∷ a) b e = (e.0, every_left Q a b e.1)
-
-pub every_right : {A : Type 0} (Q : A → Type 0) (a b : List A) → Every Q (a ++ b) → Every Q b
-every_right Q [] b e = e
-every_right Q (x ∷ a) b e = every_right Q a b e.1
-
 -- ---- turn steps
-
-pub spell_push : (a : List Span) (p : Span) → spell_pieces (a ++ p ∷ []) ≡ spell_pieces a ++ spell p
-spell_push [] p = append-nil (spell p)
-spell_push (x ∷ a) p = ap (λ l. spell x ++ l) (spell_push a p) ∙ sym (append_assoc (spell x) (spell_pieces a) (spell p))
 
 -- turn steps end with the last step of the last piece, and are two or more where there are other pieces before
 pub turn_ends_long : (before : List Span) (p : Span) (q front : List Step) (last : Step) → (before ≡ [] → ⊥)
@@ -72,7 +62,7 @@ turn_ends_long (x ∷ before) p q front last some h e =
       spell_pieces before ++ front,
       h.steps
           ∙ ap (λ l. h.last ∷ l) (ap spell_pieces others
-          ∙ (spell_push before p ∙ (ap (λ l. spell_pieces before ++ l) e
+          ∙ (spell_pieces-push before p ∙ (ap (λ l. spell_pieces before ++ l) e
           ∙ sym (append_assoc (spell_pieces before) front (last ∷ []))))),
     )
 
@@ -96,10 +86,6 @@ one_turn c q r h k =
     h.steps ∙ (ap (λ l. h.last ∷ spell_pieces l) others ∙ (ap (λ s. s ∷ spell_pieces k.others) same.1 ∙ sym k.steps))
 
 module _ (M : Objects) (P : Rules) where
-  pub context_pieces : (c : List Span) → IsContext M P c → Every (IsPiece M P) c
-  context_pieces c (One p e h) = subst (Every (IsPiece M P)) (sym e) (h, tt)
-  context_pieces c (Many m) = m.pieces
-
   spelled_count : (c : List Span) → Every (IsPiece M P) c → length c ≤ length (spell_pieces c)
   spelled_count [] e = omega arith
   spelled_count (p ∷ c) e =
@@ -112,7 +98,7 @@ module _ (M : Objects) (P : Rules) where
   -- there are no more pieces than turn steps
   pub turn_count : (c : List Span) (q : List Step) → Every (IsPiece M P) c → HasTurnSteps c q → length c ≤ length q
   turn_count c q e h =
-      let others = every_right (IsPiece M P) (h.first ∷ []) h.others (subst (Every (IsPiece M P)) h.is e) in
+      let others = Every-tail (IsPiece M P) (h.first ∷ []) h.others (subst (Every (IsPiece M P)) h.is e) in
       let k = spelled_count h.others others in
       let a : length c ≡ length h.others + 1 = ap length h.is ∙ omega arith in
       let b : length q ≡ length (spell_pieces h.others) + 1 = ap length h.steps ∙ omega arith in
