@@ -1,5 +1,5 @@
 -- What a line of a session asks, where it stands outside a frame.
-use Rattle.std.specs.Prelude.{◌==◌, ◌-◌, ◌&&◌, ℕ, ℤ, List, [], ◌∷◌, Option, Some, None, cond, if◌then◌else◌}
+use Rattle.std.specs.Prelude.{◌==◌, ◌-◌, ◌^◌, ◌&&◌, ℕ, ℤ, List, [], ◌∷◌, Option, Some, None, cond, if◌then◌else◌}
 use Rattle.std.specs.Prelude.{length, take, slice_get, bytes_eq, codes, nat_lt}
 use Rattle.std.specs.Option.{option_and_then, option_map}
 use Rattle.std.specs.Str.Parse.{digits_value}
@@ -29,7 +29,7 @@ abbrev pub step_along : Dir → List (List ℕ) → Option Step
 step_along dir [] = None
 step_along dir (one ∷ []) = None
 step_along dir (way ∷ index ∷ []) = option_and_then (λ w. option_map
-    (λ i. record { way = record { 0 = w }; index = i; dir = dir }) (number_below 4294967296 index)) (whole_of way)
+    (λ i. record { way = record { 0 = w }; index = i; dir = dir }) (number_below (2 ^ 32) index)) (whole_of way)
 step_along dir (one ∷ two ∷ three ∷ more) = None
 
 -- what stands behind the letter of a step: the last byte is its sign
@@ -57,7 +57,7 @@ frame_of (Some n) = Seq (record { 0 = n })
 -- the number of a frame: digits, a value of 64 bits
 abbrev pub asked_frame : List (List ℕ) → Asked
 asked_frame [] = Unknown
-asked_frame (word ∷ []) = frame_of (number_below 18446744073709551616 word)
+asked_frame (word ∷ []) = frame_of (number_below (2 ^ 64) word)
 asked_frame (one ∷ two ∷ more) = Unknown
 
 -- a message of one word alone

@@ -46,11 +46,20 @@ letter_V = 86
 abbrev pub letter_c : ℕ
 letter_c = 99
 
+abbrev pub letter_i : ℕ
+letter_i = 105
+
 abbrev pub letter_n : ℕ
 letter_n = 110
 
 abbrev pub letter_r : ℕ
 letter_r = 114
+
+abbrev pub letter_t : ℕ
+letter_t = 116
+
+abbrev pub letter_u : ℕ
+letter_u = 117
 
 abbrev pub letter_w : ℕ
 letter_w = 119

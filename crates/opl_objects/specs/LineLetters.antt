@@ -1,5 +1,6 @@
 -- The letters that fields begin with, and which of them stood.
 use Rattle.std.specs.Prelude.{◌≡◌, ℕ, List, Bool, false, length, count_by, slice_index_or}
+use Rattle.opl_lexer.specs.Letters.{letter_c, letter_i, letter_t, letter_u}
 use Rattle.opl_lexer.specs.Faults.{stands, version_letter, deletion_letter, tags_letter, lon_letter, lat_letter}
 use Rattle.opl_lexer.specs.Faults.{refs_letter, members_letter}
 use Rattle.opl_objects.specs.declared.letters.Letter.{Letter}
@@ -10,10 +11,10 @@ use Rattle.opl_objects.specs.declared.letters.Letter.TheVariants.{Tags, Lon, Lat
 abbrev pub byte_of : Letter → ℕ
 byte_of Version = version_letter
 byte_of Deletion = deletion_letter
-byte_of Changeset = 99  -- c
-byte_of Timestamp = 116  -- t
-byte_of UserId = 105  -- i
-byte_of User = 117  -- u
+byte_of Changeset = letter_c
+byte_of Timestamp = letter_t
+byte_of UserId = letter_i
+byte_of User = letter_u
 byte_of Tags = tags_letter
 byte_of Lon = lon_letter
 byte_of Lat = lat_letter

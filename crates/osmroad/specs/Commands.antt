@@ -1,6 +1,6 @@
 -- What the words of a run ask.
 use Rattle.std.specs.Prelude.{ℕ, List, [], ◌∷◌, Option, Some, None, Bool, false, cond, ◌&&◌, not, ◌==◌, nat_lt}
-use Rattle.std.specs.Prelude.{bytes_eq, codes, if◌then◌else◌}
+use Rattle.std.specs.Prelude.{bytes_eq, codes, if◌then◌else◌, ◌^◌, ◌-◌}
 use Rattle.std.specs.Option.{option_and_then}
 use Rattle.opl_lexer.specs.Letters.{minus_sign}
 use Rattle.drive_queries.specs.Messages.{number_below}
@@ -17,11 +17,11 @@ is_store (c ∷ cs) = not (c == minus_sign)
 
 -- a number is one digit or more, a value of 64 bits
 abbrev pub number_of : List ℕ → Option ℕ
-number_of word = number_below 18446744073709551616 word
+number_of word = number_below (2 ^ 64) word
 
 -- a base isn't numbered by the last number of 64 bits, which no change could follow
 abbrev pub asked_base : ℕ → Option Command
-asked_base n = cond (nat_lt n 18446744073709551615) (Some (Create (record { 0 = n }))) None
+asked_base n = cond (nat_lt n (2 ^ 64 - 1)) (Some (Create (record { 0 = n }))) None
 
 abbrev pub asked_numbered : List ℕ → ℕ → Option Command
 asked_numbered name n =
