@@ -10,7 +10,7 @@ use road_model::{Access, AccessKey, ClosedBy, has_open_value};
 
 /// Whether a way with these tags may be driven in the direction.
 #[tactic(auto, unfolding(crate::specs::Closing::direction))]
-pub(crate) fn direction(tags: &Tags, dir: Dir) -> Access
+pub fn direction(tags: &Tags, dir: Dir) -> Access
     ensures { result ≡ direction tags.now dir }
 {
     if let Some(by) = closed_by(tags, dir) {

@@ -6,14 +6,14 @@ use road_base::Tags;
 
 /// Open to cars unless a key closes it, or closed to them unless a key for motor vehicles opens it.
 #[derive(Clone, Copy)]
-pub(crate) enum RoadClass {
+pub enum RoadClass {
     ForCars,
     ForOthers,
 }
 
 /// The class of a way, None where `highway` is missing or has a value of neither class.
 #[tactic(auto, unfolding(crate::specs::Highways::road_class))]
-pub(crate) fn road_class(tags: &Tags) -> Option<RoadClass>
+pub fn road_class(tags: &Tags) -> Option<RoadClass>
     ensures { result ≡ road_class tags.now }
 {
     let Some(value) = tags.get("highway") else {
@@ -57,7 +57,7 @@ fn class_of(value: &str) -> Option<RoadClass>
 
 /// Whether a node with these tags is a place to turn round.
 #[tactic(auto, unfolding(crate::specs::Highways::is_turning_place))]
-pub(crate) fn is_turning_place(tags: &Tags) -> bool
+pub fn is_turning_place(tags: &Tags) -> bool
     ensures { result ≡ is_turning_place tags.now }
 {
     matches!(tags.get("highway"), Some("turning_circle" | "turning_loop"))

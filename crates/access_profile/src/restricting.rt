@@ -9,7 +9,7 @@ use road_model::RuleKind;
 
 /// What a restriction with these tags says to a car (OSM wiki, Relation:restriction).
 #[tactic(auto, unfolding(crate::specs::Restricting::rule))]
-pub(crate) fn rule(tags: &Tags) -> RuleKind
+pub fn rule(tags: &Tags) -> RuleKind
     ensures { result ≡ rule tags.now }
 {
     if is_excepted(tags) {

@@ -9,7 +9,7 @@ use road_model::laws::name_order;
 use road_model::{Block, Context, Piece, TurnArc};
 
 /// What ascends in a graph file.
-pub(crate) trait Ascending {
+pub trait Ascending {
     ghost order: { Self → Self → Ordering };
 
     /// This one comes before the other.
@@ -59,7 +59,7 @@ impl Ascending for Block {
 }
 
 /// Each comes before the next.
-pub(crate) fn do_ascend<T: Ascending>(items: &[T]) -> bool
+pub fn do_ascend<T: Ascending>(items: &[T]) -> bool
     ensures { result ≡ rises T.order items.now }
 {
     for at in 1..items.len() {

@@ -9,10 +9,10 @@ use std::alloc::Global;
 
 /// The lower and the upper position of a piece on its way's line, and its direction.
 #[derive(Clone, Copy)]
-pub(crate) struct Extent {
-    pub(crate) index: u32,
-    pub(crate) end: u32,
-    pub(crate) dir: Dir,
+pub struct Extent {
+    pub index: u32,
+    pub end: u32,
+    pub dir: Dir,
 }
 
 /// The highest position on a line.

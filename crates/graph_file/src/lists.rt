@@ -8,7 +8,7 @@ use spelled_bytes::{Spell, Unread, read_all};
 use std::alloc::Global;
 
 /// Reads how many there are, and these.
-pub(crate) fn read_list<T: Spell<GraphFile> + Drop>(
+pub fn read_list<T: Spell<GraphFile> + Drop>(
     alloc: Global,
     bytes: &[u8],
 ) -> Result<(Vec<T>, &[u8]), Unread>

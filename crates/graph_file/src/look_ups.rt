@@ -12,7 +12,7 @@ use road_model::{Block, Piece, PieceName};
 use std::cmp::Ordering;
 
 /// The piece of this name, and None exactly where no block has one. Blocks ascend by way, and a block's pieces by name.
-pub(crate) fn piece_named(blocks: &[Block], name: PieceName) -> Option<&Piece>
+pub fn piece_named(blocks: &[Block], name: PieceName) -> Option<&Piece>
     requires ascend { IsTrue (rises way_cmp (map (λ b. b.way) blocks.now)) }
     requires ordered { AreOrdered blocks.now }
     ensures some { IfSome result (λ p. HasNamed blocks.now name p.now) }

@@ -9,7 +9,7 @@ use road_base::{Dir, Format, LittleEndian, NoMemory, put_all};
 use road_model::{Block, Context, Piece, PieceName, Place, TurnArc};
 
 /// The format of a graph file.
-pub(crate) struct GraphFile;
+pub struct GraphFile;
 
 /// Appends the direction's byte. Where no memory is found nothing is appended.
 fn put_dir(dir: Dir, out: &mut Vec<u8>) -> Result<(), NoMemory>

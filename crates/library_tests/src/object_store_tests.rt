@@ -21,7 +21,7 @@ fn first_node(objects: &Objects) -> Known {
     Some((event.version, lon))
 }
 
-pub(crate) fn are_same(these: &[Event], those: &[Event]) -> bool {
+pub fn are_same(these: &[Event], those: &[Event]) -> bool {
     if these.len() != those.len() {
         return false;
     }

@@ -13,7 +13,7 @@ use std::alloc::Global;
 const MOST: u32 = 65_535;
 
 /// Appends how many there are, and the spelling of each.
-pub(crate) fn put_list<T: Put>(items: &[T], out: &mut Vec<u8>) -> Result<(), NoMemory>
+pub fn put_list<T: Put>(items: &[T], out: &mut Vec<u8>) -> Result<(), NoMemory>
     requires { length items.now ≤ 65535 }
     ensures ok { OnOk result (out.new.items ≡ out.old.items ++ list_bytes T.spelling items.now) }
     ensures fit { OnOk result (ListFits T.fits items.now) }
@@ -24,7 +24,7 @@ pub(crate) fn put_list<T: Put>(items: &[T], out: &mut Vec<u8>) -> Result<(), NoM
 }
 
 /// Reads how many there are, at most 65,535, and then these.
-pub(crate) fn read_list<T: Spell<EventFormat> + Drop>(
+pub fn read_list<T: Spell<EventFormat> + Drop>(
     alloc: Global,
     bytes: &[u8],
 ) -> Result<(Vec<T>, &[u8]), Unread>

@@ -6,7 +6,7 @@ use road_base::{Format, NoMemory};
 use spelled_bytes::Spell;
 
 /// What is appended by its spelling.
-pub(crate) trait Put: Spell<EventFormat> {
+pub trait Put: Spell<EventFormat> {
     /// Appends the spelling. Where no memory is found, a part of it may stand there.
     fn put(&self, out: &mut Vec<u8>) -> Result<(), NoMemory>
         ensures ok { OnOk result (out.new.items ≡ out.old.items ++ Self.spelling self.now) }
@@ -15,7 +15,7 @@ pub(crate) trait Put: Spell<EventFormat> {
 }
 
 /// The format of events.
-pub(crate) struct EventFormat;
+pub struct EventFormat;
 
 impl<T: Put> Format<T> for EventFormat {
     ghost spelling = { T.spelling };

@@ -10,16 +10,16 @@ use road_base::{Event, NoMemory};
 use std::alloc::Global;
 
 /// How many nodes a town has.
-pub(crate) const NODES: u32 = ROWS * COLUMNS;
+pub const NODES: u32 = ROWS * COLUMNS;
 
 /// How many ways to the east it has.
-pub(crate) const WAYS_EAST: u32 = ROWS * EAST_WAYS;
+pub const WAYS_EAST: u32 = ROWS * EAST_WAYS;
 
 /// How many ways to the north it has.
 const WAYS_NORTH: u32 = (ROWS - 1) * COLUMNS;
 
 /// How many restrictions it has.
-pub(crate) const RESTRICTIONS: u32 = 600;
+pub const RESTRICTIONS: u32 = 600;
 
 /// How many events the base has.
 const EVENTS: u32 = NODES + WAYS_EAST + WAYS_NORTH + RESTRICTIONS;
@@ -102,7 +102,7 @@ fn add_restrictions(alloc: Global, list: &mut Vec<Event>, draws: &mut Draws) -> 
 }
 
 /// The base of the town with the number at which the generator stands.
-pub(crate) fn base_events(alloc: Global, draws: &mut Draws) -> Result<Vec<Event>, NoMemory>
+pub fn base_events(alloc: Global, draws: &mut Draws) -> Result<Vec<Event>, NoMemory>
     ensures items { IfOk result (λ list. list.items ≡ base draws.old.state) }
     ensures state { OnOk result (draws.new.state ≡ after_draws 8880 draws.old.state) }
 {

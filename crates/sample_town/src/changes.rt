@@ -46,11 +46,7 @@ fn draw_event(alloc: Global, change: u32, draws: &mut Draws) -> Result<Event, No
 }
 
 /// The events of a change.
-pub(crate) fn change_events(
-    alloc: Global,
-    change: u32,
-    draws: &mut Draws,
-) -> Result<Vec<Event>, NoMemory>
+pub fn change_events(alloc: Global, change: u32, draws: &mut Draws) -> Result<Vec<Event>, NoMemory>
     requires { change ≤ 10 }
     ensures items { IfOk result (λ list. list.items ≡ change_from change draws.old.state) }
     ensures state { OnOk result (draws.new.state ≡ iterate after_event 20 draws.old.state) }

@@ -13,14 +13,14 @@ const LEFT_OUT: u32 = 33;
 
 /// A generator, and the state that it has come to.
 #[derive(Clone, Copy)]
-pub(crate) struct Draws {
-    pub(crate) state: u64,
+pub struct Draws {
+    pub state: u64,
 }
 
 impl Draws {
     /// The next number.
     #[tactic(auto, unfolding(crate::specs::Draws::after_draw, crate::specs::Draws::drawn))]
-    pub(crate) fn draw(&mut self) -> u32
+    pub fn draw(&mut self) -> u32
         ensures value { result ≡ drawn self.old.state }
         ensures state { self.new.state ≡ after_draw self.old.state }
     {
@@ -30,7 +30,7 @@ impl Draws {
 
     /// The next number, modulo the count.
     #[tactic(auto, unfolding(crate::specs::Draws::drawn_below))]
-    pub(crate) fn below(&mut self, count: u32) -> u32
+    pub fn below(&mut self, count: u32) -> u32
         requires { 0 < count }
         ensures value { result ≡ drawn_below count self.old.state }
         ensures bound { result < count }

@@ -10,13 +10,13 @@ use road_base::{
 use std::alloc::Global;
 
 /// How many rows of crossings there are.
-pub(crate) const ROWS: u32 = 60;
+pub const ROWS: u32 = 60;
 
 /// How many crossings there are in a row.
-pub(crate) const COLUMNS: u32 = 60;
+pub const COLUMNS: u32 = 60;
 
 /// How many ways to the east there are in a row.
-pub(crate) const EAST_WAYS: u32 = 59;
+pub const EAST_WAYS: u32 = 59;
 
 /// The number of the first way to the north.
 const FIRST_NORTH_WAY: u32 = 100_001;
@@ -29,16 +29,16 @@ const FIRST_VERSION: u32 = 1;
 
 /// A crossing of the grid. Rows are counted from the south, and columns from the west.
 #[derive(Clone, Copy)]
-pub(crate) struct Crossing {
-    pub(crate) row: u32,
-    pub(crate) column: u32,
+pub struct Crossing {
+    pub row: u32,
+    pub column: u32,
     ghost row_within: { row < 60 },
     ghost column_within: { column < 60 },
 }
 
 impl Crossing {
     /// The crossing with this place among all of them, row by row.
-    pub(crate) fn nth(place: u32) -> Crossing
+    pub fn nth(place: u32) -> Crossing
         requires { place < 3600 }
         ensures row { result.row ≡ place / 60 }
         ensures column { result.column ≡ place % 60 }
@@ -50,7 +50,7 @@ impl Crossing {
     }
 
     /// The crossing from which the way with this place among those to the east begins, row by row.
-    pub(crate) fn nth_way_east(place: u32) -> Crossing
+    pub fn nth_way_east(place: u32) -> Crossing
         requires { place < 3540 }
         ensures row { result.row ≡ place / 59 }
         ensures column { result.column ≡ place % 59 }
@@ -117,7 +117,7 @@ fn tag(alloc: Global, key: &str, value: &str) -> Result<(Text, Text), NoMemory>
 
 /// The node of a crossing in the version of a change, which moves it to the east. The base is change 0. Takes no
 /// memory.
-pub(crate) fn node(alloc: Global, change: u32, at: Crossing) -> Event
+pub fn node(alloc: Global, change: u32, at: Crossing) -> Event
     requires { change ≤ 10 }
     ensures { result ≡ node change at.row at.column }
 {
@@ -170,12 +170,7 @@ fn way(
 }
 
 /// The way from a crossing to the next one to the east, in the version of a change.
-pub(crate) fn east_way(
-    alloc: Global,
-    change: u32,
-    at: Crossing,
-    oneway: bool,
-) -> Result<Event, NoMemory>
+pub fn east_way(alloc: Global, change: u32, at: Crossing, oneway: bool) -> Result<Event, NoMemory>
     requires change { change ≤ 10 }
     requires column { at.column < 59 }
     ensures { IfOk result (λ e. e ≡ east_way change at.row at.column oneway) }
@@ -191,12 +186,7 @@ pub(crate) fn east_way(
 }
 
 /// The way from a crossing to the next one to the north, in the version of a change.
-pub(crate) fn north_way(
-    alloc: Global,
-    change: u32,
-    at: Crossing,
-    oneway: bool,
-) -> Result<Event, NoMemory>
+pub fn north_way(alloc: Global, change: u32, at: Crossing, oneway: bool) -> Result<Event, NoMemory>
     requires change { change ≤ 10 }
     requires row { at.row < 59 }
     ensures { IfOk result (λ e. e ≡ north_way change at.row at.column oneway) }
@@ -268,12 +258,7 @@ fn restriction_members(alloc: Global, from: Crossing, kind: u32) -> Result<Membe
 
 /// The restriction of this kind from a crossing.
 #[tactic(auto, unfolding(crate::specs::Streets::restriction))]
-pub(crate) fn restriction(
-    alloc: Global,
-    number: u32,
-    from: Crossing,
-    kind: u32,
-) -> Result<Event, NoMemory>
+pub fn restriction(alloc: Global, number: u32, from: Crossing, kind: u32) -> Result<Event, NoMemory>
     requires { from.column < 57 }
     ensures { IfOk result (λ e. e ≡ restriction number from.row from.column kind) }
 {
@@ -288,7 +273,7 @@ pub(crate) fn restriction(
 
 /// The deletion of a relation by a change.
 #[tactic(auto, unfolding(crate::specs::Streets::deletion))]
-pub(crate) fn deletion(change: u32, number: u32) -> Event
+pub fn deletion(change: u32, number: u32) -> Event
     requires { change ≤ 10 }
     ensures { result ≡ deletion change number }
 {

@@ -66,7 +66,7 @@ impl Journal {
 }
 
 /// Whether a file whose next gate stands at a place keeps within its limit, with so many bytes behind that gate.
-pub(crate) fn has_room(gate: u64, size: u64) -> bool
+pub fn has_room(gate: u64, size: u64) -> bool
     ensures yes { result ≡ true → gate + (size + 1) ≤ 2 ^ 40 }
     ensures no { result ≡ false → 2 ^ 40 < gate + (size + 1) }
 {

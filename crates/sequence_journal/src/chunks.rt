@@ -11,11 +11,7 @@ use road_base::{Event, LittleEndian, NoMemory, Sequence};
 use std::alloc::Global;
 
 /// What stands behind the gate of a change's record: its fields and bytes, and the next gate, closed.
-pub(crate) fn record_chunk(
-    alloc: Global,
-    seq: Sequence,
-    events: &[Event],
-) -> Result<Vec<u8>, NoMemory>
+pub fn record_chunk(alloc: Global, seq: Sequence, events: &[Event]) -> Result<Vec<u8>, NoMemory>
     ensures bytes { IfOk result (λ chunk. chunk.items ≡ fields (record_of seq.0 events.now) ++ 0 ∷ []) }
     ensures fit { IfOk result (λ chunk. EventsFit events.now) }
     ensures number_fits { IfOk result (λ chunk. seq.0 < 2 ^ 64) }
@@ -27,7 +23,7 @@ pub(crate) fn record_chunk(
 }
 
 /// What stands behind the gate of a base: the magic, its fields and bytes, and the next gate, closed.
-pub(crate) fn base_chunk(
+pub fn base_chunk(
     alloc: Global,
     generation: u64,
     number: Sequence,

@@ -8,13 +8,13 @@ ghost use Rattle.sequence_journal.specs.Ends.{Opens, Repairs, Replaces};
 use road_io::{Failed, Site, Which};
 
 /// A gate that is closed.
-pub(crate) const CLOSED: u8 = 0;
+pub const CLOSED: u8 = 0;
 
 /// A gate that is open.
-pub(crate) const OPEN: u8 = 1;
+pub const OPEN: u8 = 1;
 
 /// Writes a chunk behind the closed gate at the end of a file, and opens the gate once the chunk is on the disk.
-pub(crate) fn open_behind<W: Site>(
+pub fn open_behind<W: Site>(
     site: &mut W,
     file: Which,
     gate: u64,
@@ -32,7 +32,7 @@ pub(crate) fn open_behind<W: Site>(
 }
 
 /// Cuts a file at the place of a gate, and closes the gate there.
-pub(crate) fn repair_end<W: Site>(site: &mut W, file: Which, gate: u64) -> Result<(), Failed>
+pub fn repair_end<W: Site>(site: &mut W, file: Which, gate: u64) -> Result<(), Failed>
     requires place { IfSome (W.outside site.old) (λ w. gate ≤ length (disk w file).reads) }
     ensures told { Told (Repairs file gate result) (W.outside site.old) (W.outside site.new) }
     ensures counts { Counts (W.faults site.old) (W.faults site.new) result }
@@ -44,7 +44,7 @@ pub(crate) fn repair_end<W: Site>(site: &mut W, file: Which, gate: u64) -> Resul
 }
 
 /// Empties a file, and writes an open gate and a chunk behind it.
-pub(crate) fn replace<W: Site>(site: &mut W, file: Which, chunk: &[u8]) -> Result<(), Failed>
+pub fn replace<W: Site>(site: &mut W, file: Which, chunk: &[u8]) -> Result<(), Failed>
     requires { IfSome (W.outside site.old) (λ w. IsDurable (disk w file)) }
     ensures told { Told (Replaces file chunk.now result) (W.outside site.old) (W.outside site.new) }
     ensures counts { Counts (W.faults site.old) (W.faults site.new) result }

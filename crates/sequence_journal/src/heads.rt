@@ -20,7 +20,7 @@ pub struct BaseHead {
 
 /// An open base, of which the head is read, and the length of its file.
 #[derive(Clone, Copy)]
-pub(crate) struct FoundBase {
+pub struct FoundBase {
     pub len: u64,
     pub head: Head,
 }
@@ -41,7 +41,7 @@ pub fn head<W: Site>(site: &mut W, file: Which) -> Result<Option<BaseHead>, Jour
 }
 
 /// The head of a file's open base, None exactly where it has none.
-pub(crate) fn find_base<W: Site>(site: &mut W, file: Which) -> Result<Option<FoundBase>, Failed>
+pub fn find_base<W: Site>(site: &mut W, file: Which) -> Result<Option<FoundBase>, Failed>
     ensures told { Told (FindsBase file result) (W.outside site.old) (W.outside site.new) }
     ensures within { IfOk result (λ r. IfSome r (λ f. 37 + f.head.size ≤ f.len)) }
     ensures counts { Counts (W.faults site.old) (W.faults site.new) result }
@@ -59,7 +59,7 @@ pub(crate) fn find_base<W: Site>(site: &mut W, file: Which) -> Result<Option<Fou
 }
 
 /// Whether so many bytes hold some fields, and as many bytes as these announce.
-pub(crate) fn reaches(len: u64, fields: u64, size: u64) -> bool
+pub fn reaches(len: u64, fields: u64, size: u64) -> bool
     ensures yes { result ≡ true → fields + size ≤ len }
     ensures no { result ≡ false → len < fields + size }
 {

@@ -72,7 +72,7 @@ impl Journal {
 }
 
 /// Whether a number is the one behind another. None is behind the last u64.
-pub(crate) fn follows(before: u64, number: u64) -> bool
+pub fn follows(before: u64, number: u64) -> bool
     ensures yes { result ≡ true → number ≡ before + 1 }
     ensures no { result ≡ false → number ≢ before + 1 }
 {

@@ -5,14 +5,14 @@ ghost use Rattle.sequence_journal.specs.Layout.{magic, head_bytes};
 ghost use Rattle.sequence_journal.specs.Fields.{HeadFits, NoHead, fields_bytes, NoFields};
 
 /// How many bytes the gate, the magic and the fields of a base take.
-pub(crate) const HEAD: usize = 37;
+pub const HEAD: usize = 37;
 
 /// How many bytes the gate and the fields of a record take.
-pub(crate) const FIELDS: usize = 17;
+pub const FIELDS: usize = 17;
 
 /// What the head of an open base says.
 #[derive(Clone, Copy)]
-pub(crate) struct Head {
+pub struct Head {
     pub profile: u32,
     pub generation: u64,
     pub number: u64,
@@ -21,7 +21,7 @@ pub(crate) struct Head {
 }
 
 /// The head of an open base, and what is behind it.
-pub(crate) fn open_head(bytes: &[u8]) -> Option<(Head, &[u8])>
+pub fn open_head(bytes: &[u8]) -> Option<(Head, &[u8])>
     ensures found { IfSome result (λ r.
         bytes.now ≡ head_bytes r.0.profile r.0.generation r.0.number r.0.size ++ r.1.now) }
     ensures fits { IfSome result (λ r. HeadFits r.0.profile r.0.generation r.0.number r.0.size) }
@@ -43,14 +43,14 @@ pub(crate) fn open_head(bytes: &[u8]) -> Option<(Head, &[u8])>
 
 /// The fields of an open record.
 #[derive(Clone, Copy)]
-pub(crate) struct Fields {
+pub struct Fields {
     pub number: u64,
     /// How many bytes follow the fields.
     pub size: u64,
 }
 
 /// The fields of an open record, and what is behind them.
-pub(crate) fn open_fields(bytes: &[u8]) -> Option<(Fields, &[u8])>
+pub fn open_fields(bytes: &[u8]) -> Option<(Fields, &[u8])>
     ensures found { IfSome result (λ r. bytes.now ≡ fields_bytes r.0.number r.0.size ++ r.1.now) }
     ensures number_fits { IfSome result (λ r. r.0.number < 2 ^ 64) }
     ensures size_fits { IfSome result (λ r. r.0.size < 2 ^ 64) }

@@ -7,12 +7,7 @@ use crate::ends::CLOSED;
 use road_io::{Failed, Site, Which};
 
 /// Fills a buffer with the bytes of a file from a place on, as far as the file reaches, and answers how many there are.
-pub(crate) fn fill<W: Site>(
-    site: &mut W,
-    file: Which,
-    from: u64,
-    buf: &mut [u8],
-) -> Result<usize, Failed>
+pub fn fill<W: Site>(site: &mut W, file: Which, from: u64, buf: &mut [u8]) -> Result<usize, Failed>
     requires { from ≤ 2 ^ 41 }
     ensures fits { IfOk result (λ n. n ≤ length buf.old) }
     ensures told { Told (Fills file from buf.new result) (W.outside site.old) (W.outside site.new) }
@@ -30,12 +25,7 @@ pub(crate) fn fill<W: Site>(
 }
 
 /// Whether a closed gate stands at a place of a file of this length, as its last byte.
-pub(crate) fn ends_there<W: Site>(
-    site: &mut W,
-    file: Which,
-    len: u64,
-    gate: u64,
-) -> Result<bool, Failed>
+pub fn ends_there<W: Site>(site: &mut W, file: Which, len: u64, gate: u64) -> Result<bool, Failed>
     requires within { gate ≤ len }
     requires small { len ≤ 2 ^ 40 }
     ensures told { Told (TestsEnd file len gate result) (W.outside site.old) (W.outside site.new) }

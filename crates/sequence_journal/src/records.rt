@@ -15,7 +15,7 @@ use std::alloc::Global;
 
 /// The fields of the open record whose gate stands at a place of a file of this length, None exactly where no record is
 /// open there. The window then shows its bytes.
-pub(crate) fn open_record<W: Site>(
+pub fn open_record<W: Site>(
     alloc: Global,
     site: &mut W,
     file: Which,

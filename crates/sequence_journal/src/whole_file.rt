@@ -17,14 +17,14 @@ use road_io::{Site, Which};
 use std::alloc::Global;
 
 /// The greatest length of a file that is read or added to, in bytes.
-pub(crate) const LARGEST: u64 = 1 << 40;
+pub const LARGEST: u64 = 1 << 40;
 
 /// The profile that a base has to have.
 const PROFILE: u32 = 1;
 
 /// What is read of a file's history, up to a gate.
 #[derive(Drop)]
-pub(crate) struct ReadHistory {
+pub struct ReadHistory {
     /// The length of the file.
     pub len: u64,
     pub generation: u64,
@@ -36,11 +36,7 @@ pub(crate) struct ReadHistory {
 
 /// Reads a file and judges it: NoStore, TooLarge and Damaged in this order. At no time more than one part of the file,
 /// the base or a record, stands in memory beside the events, and nothing behind that part is read.
-pub(crate) fn judge<W: Site>(
-    alloc: Global,
-    site: &mut W,
-    file: Which,
-) -> Result<ReadHistory, JournalError>
+pub fn judge<W: Site>(alloc: Global, site: &mut W, file: Which) -> Result<ReadHistory, JournalError>
     ensures told { Told (Judges file result) (W.outside site.old) (W.outside site.new) }
     ensures within { IfOk result (λ r. (r.gate ≤ r.len) × (r.len ≤ 2 ^ 40)) }
     ensures named { IfErr result (IsReadError file) }

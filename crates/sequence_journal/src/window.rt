@@ -12,7 +12,7 @@ use std::alloc::Global;
 
 /// Bytes of a file from a place on.
 #[derive(Drop)]
-pub(crate) struct Window {
+pub struct Window {
     from: u64,
     bytes: Vec<u8>,
 }

@@ -43,7 +43,7 @@ fn newer(a: BaseHead, b: BaseHead) -> Which
 }
 
 /// Syncs both files, after which nothing is pending on either, and a stop leaves nothing new.
-pub(crate) fn settle_both<W: Site>(site: &mut W) -> Result<(), Failed>
+pub fn settle_both<W: Site>(site: &mut W) -> Result<(), Failed>
     ensures told { Told (SettlesBoth result) (W.outside site.old) (W.outside site.new) }
     ensures counts { Counts (W.faults site.old) (W.faults site.new) result }
 {

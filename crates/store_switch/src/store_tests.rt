@@ -7,13 +7,13 @@ use std::alloc::{AllocError, Global};
 use std::test::Fail;
 
 /// A base of generation 1 with the number 5 and no events, and the gate behind it.
-pub(crate) const BASE: [u8; 46] = *b"\x01OSMJRNL1\x01\0\0\0\x01\0\0\0\0\0\0\0\x05\0\0\0\0\0\0\0\
+pub const BASE: [u8; 46] = *b"\x01OSMJRNL1\x01\0\0\0\x01\0\0\0\0\0\0\0\x05\0\0\0\0\0\0\0\
     \x08\0\0\0\0\0\0\0\0\0\0\0\0\0\0\0\0";
 
 /// The file, the generation and the kept number of a journal.
-pub(crate) type Told = (Which, u64, u64);
+pub type Told = (Which, u64, u64);
 
-pub(crate) type Answer = Result<Told, JournalError>;
+pub type Answer = Result<Told, JournalError>;
 
 /// The store that is made.
 const MADE: Answer = Ok((Which::A, 1, 5));
@@ -70,7 +70,7 @@ const LOADS: [(&str, Head, Head, Answer); 9] = [
     ),
 ];
 
-pub(crate) fn file([gate, profile, generation, number]: Head) -> [u8; 46] {
+pub fn file([gate, profile, generation, number]: Head) -> [u8; 46] {
     let mut bytes = BASE;
     bytes[0] = gate;
     bytes[9] = profile;
@@ -80,19 +80,14 @@ pub(crate) fn file([gate, profile, generation, number]: Head) -> [u8; 46] {
 }
 
 /// A site of these two files, on which the calls with these numbers fail.
-pub(crate) fn site_of(
-    alloc: Global,
-    a: &[u8],
-    b: &[u8],
-    fails: &[u64],
-) -> Result<MemorySite, AllocError> {
+pub fn site_of(alloc: Global, a: &[u8], b: &[u8], fails: &[u64]) -> Result<MemorySite, AllocError> {
     let a = a.to_vec(alloc)?;
     let b = b.to_vec(alloc)?;
     let fails = fails.to_vec(alloc)?;
     Ok(MemorySite::new(alloc, a, b, fails))
 }
 
-pub(crate) fn told(journal: &Journal) -> Told {
+pub fn told(journal: &Journal) -> Told {
     (journal.file(), journal.generation(), journal.kept().0)
 }
 
@@ -101,12 +96,12 @@ fn create(alloc: Global, site: &mut MemorySite) -> Answer {
     Ok(told(&journal))
 }
 
-pub(crate) fn load(alloc: Global, site: &mut MemorySite) -> Answer {
+pub fn load(alloc: Global, site: &mut MemorySite) -> Answer {
     let loaded = load_store(alloc, site)?;
     Ok(told(&loaded.journal))
 }
 
-pub(crate) fn load_of(alloc: Global, a: &[u8], b: &[u8]) -> Result<Answer, AllocError> {
+pub fn load_of(alloc: Global, a: &[u8], b: &[u8]) -> Result<Answer, AllocError> {
     let mut site = site_of(alloc, a, b, &[])?;
     Ok(load(alloc, &mut site))
 }
@@ -189,7 +184,7 @@ fn changes_a_file(call: &Call) -> bool {
 }
 
 /// Whether none of these calls changes a file.
-pub(crate) fn change_no_file(calls: &[Entry]) -> bool {
+pub fn change_no_file(calls: &[Entry]) -> bool {
     calls.iter().all(|entry| !changes_a_file(&entry.call))
 }
 
@@ -227,12 +222,7 @@ fn torn(alloc: Global, chunk: &[u8], way: u8) -> Result<Vec<u8>, AllocError> {
 
 /// What a stop in a call on a file leaves of it, of which these bytes were on the disk, and for 0 what the call leads
 /// to.
-pub(crate) fn left_by(
-    alloc: Global,
-    bytes: &[u8],
-    call: &Call,
-    way: u8,
-) -> Result<Vec<u8>, AllocError> {
+pub fn left_by(alloc: Global, bytes: &[u8], call: &Call, way: u8) -> Result<Vec<u8>, AllocError> {
     match call {
         Call::WriteAt { at, chunk, .. } => {
             let written = torn(alloc, chunk.items(), way)?;
@@ -244,7 +234,7 @@ pub(crate) fn left_by(
 }
 
 /// A call made on a file with these bytes.
-pub(crate) fn make_call(alloc: Global, bytes: &mut Vec<u8>, call: &Call) -> Result<(), AllocError> {
+pub fn make_call(alloc: Global, bytes: &mut Vec<u8>, call: &Call) -> Result<(), AllocError> {
     *bytes = left_by(alloc, bytes, call, 0)?;
     Ok(())
 }

@@ -123,7 +123,7 @@ impl Roads {
 }
 
 /// Whether one may drive there.
-pub(crate) fn is_free(access: Access) -> bool
+pub fn is_free(access: Access) -> bool
     ensures { result ≡ is_free access }
 {
     matches!(access, Access::Free)

@@ -50,7 +50,7 @@ pub fn drivable<M: World, P: Profile>(world: &M, profile: &P, step: Step) -> boo
 
 /// Whether the step, whose nodes are known, may be driven.
 #[tactic(auto, unfolding(road_model::specs::Driving::drivable))]
-pub(crate) fn is_drivable_between<M: World, P: Profile>(
+pub fn is_drivable_between<M: World, P: Profile>(
     world: &M,
     profile: &P,
     step: Step,
