@@ -153,17 +153,36 @@ fn is_same(these: &Indexed, those: &Indexed) -> Result<bool, NoMemory> {
     Ok(have_same_links(these, those) && are_same(&events, &those.events()?))
 }
 
-/// Whether a world that follows the events, one by one, has the links and entries of one that is made of them.
-fn is_followed(alloc: Global, events: &[Event]) -> Result<bool, NoMemory> {
-    let mut world = Indexed::new(alloc);
+/// Whether the links of the other world are foreseen behind these events, and the world then has its links and entries.
+fn becomes(world: &mut Indexed, events: &[Event], made: &Indexed) -> Result<bool, NoMemory> {
+    Ok(foresees(world, events, made)? && is_same(world, made)?)
+}
+
+/// Whether the world, which has followed these events but for the last ones, becomes the world that is made of all.
+fn follows_last(
+    alloc: Global,
+    world: &mut Indexed,
+    events: &[Event],
+    last: &[Event],
+) -> Result<bool, NoMemory> {
+    let made = made_of(alloc, events)?;
+    becomes(world, last, &made)
+}
+
+/// Whether the world, which has followed none before, becomes at each of these events the one that is made so far.
+fn follows_each(alloc: Global, world: &mut Indexed, events: &[Event]) -> Result<bool, NoMemory> {
     for at in 0..events.len() {
-        let made = made_of(alloc, &events[..at + 1])?;
-        let foreseen = foresees(&mut world, &events[at..at + 1], &made)?;
-        if !foreseen || !is_same(&world, &made)? {
+        if !follows_last(alloc, world, &events[..at + 1], &events[at..at + 1])? {
             return Ok(false);
         }
     }
     Ok(true)
+}
+
+/// Whether a world that follows the events, one by one, has the links and entries of one that is made of them.
+fn is_followed(alloc: Global, events: &[Event]) -> Result<bool, NoMemory> {
+    let mut world = Indexed::new(alloc);
+    follows_each(alloc, &mut world, events)
 }
 
 #[test]

@@ -92,12 +92,22 @@ const MOVED: &[u8] =
     w14 Thighway=road Nn5,n6\nw20 Thighway=road Nn7,n8\nw21 Thighway=road Nn8,n9\nw22 Thighway=road Nn9,n10\n\
     w23 Thighway=road Nn10,n11\n";
 
-/// The ways near a change of way 12, and those that it touches.
+/// The ways near a change of way 12 from the one world to the other, and those that it touches.
+fn about_between(alloc: Global, was: &Indexed, is: &Indexed) -> Result<NearWays, Fail> {
+    let keys = Keys::from_list(Vec::from_slice(alloc, &[Key::Way(WayId(12))])?);
+    Ok(surroundings(alloc, was, is, &keys)?)
+}
+
+/// The same, from that world to the one of these lines.
+fn about_since(alloc: Global, was: &Indexed, after: &[u8]) -> Result<NearWays, Fail> {
+    let is = world_of(alloc, after)?;
+    about_between(alloc, was, &is)
+}
+
+/// The same, from the world of the lines before to that of the lines after.
 fn about_way_12(alloc: Global, before: &[u8], after: &[u8]) -> Result<NearWays, Fail> {
     let was = world_of(alloc, before)?;
-    let is = world_of(alloc, after)?;
-    let keys = Keys::from_list(Vec::from_slice(alloc, &[Key::Way(WayId(12))])?);
-    Ok(surroundings(alloc, &was, &is, &keys)?)
+    about_since(alloc, &was, after)
 }
 
 #[test]
