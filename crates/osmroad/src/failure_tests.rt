@@ -1,6 +1,7 @@
 //! Reads and calls that fail, and stops between two calls: how a run ends, and what the store then keeps.
 use crate::session_tests::{
-    REFUSED_FRAMES, REFUSED_MESSAGES, SESSION, Session, VILLAGE_FOLLOWED, empty_site, ended, run_on,
+    REFUSED_FRAMES, REFUSED_MESSAGES, SESSION, Session, VILLAGE_FOLLOWED, check_output, empty_site,
+    ended, run_on,
 };
 use crate::status::Status;
 use crate::store_tests::{APPLY, CHECKPOINT, Case, MADE, RECORD, SPELLED, check, joined};
@@ -137,11 +138,26 @@ fn check_call(
     n: u64,
 ) -> Result<(), NoMemory> {
     let mut site = anew(alloc, store, &[n])?;
-    let status = run_on(alloc, run.words, run.input, &mut site)?;
+    check_fault(rt, alloc, run, &mut site)
+}
+
+/// The run on a site of which a call fails.
+fn check_fault(
+    rt: &impl Abort,
+    alloc: Global,
+    run: &Run,
+    site: &mut MemorySite,
+) -> Result<(), NoMemory> {
+    let status = run_on(alloc, run.words, run.input, site)?;
     assert_eq!(rt; status, Status::SiteFault);
-    let kept = kept(alloc, &site)?;
-    assert!(rt; may_keep(run, site.output(), &kept));
-    check_stop(rt, alloc, run, &site)
+    assert!(rt; keeps_what_it_may(alloc, run, site)?);
+    check_stop(rt, alloc, run, site)
+}
+
+/// Whether the store may keep what it keeps on the site where the run ended.
+fn keeps_what_it_may(alloc: Global, run: &Run, site: &MemorySite) -> Result<bool, NoMemory> {
+    let kept = kept(alloc, site)?;
+    Ok(may_keep(run, site.output(), &kept))
 }
 
 /// The run on the store, with a fault at each of its calls, and with a stop before it.
@@ -239,10 +255,33 @@ fn check_file(
     let tails: [&[u8]; 2] = [&[], &[0xff; 32]];
     for tail in tails {
         let left = joined(alloc, &[file, tail])?;
-        let stopped = with_file(alloc, site, run.file, left)?;
-        let kept = kept(alloc, &stopped)?;
-        assert_eq!(rt; kept.as_slice(), number);
+        check_left(rt, alloc, run, site, left, number)?;
     }
+    Ok(())
+}
+
+/// What the store keeps where the run's file has these bytes.
+fn check_left(
+    rt: &impl Abort,
+    alloc: Global,
+    run: &Run,
+    site: &MemorySite,
+    left: Vec<u8>,
+    number: &[u8],
+) -> Result<(), NoMemory> {
+    let stopped = with_file(alloc, site, run.file, left)?;
+    check_kept(rt, alloc, &stopped, number)
+}
+
+/// What the store says of its number.
+fn check_kept(
+    rt: &impl Abort,
+    alloc: Global,
+    site: &MemorySite,
+    number: &[u8],
+) -> Result<(), NoMemory> {
+    let kept = kept(alloc, site)?;
+    assert_eq!(rt; kept.as_slice(), number);
     Ok(())
 }
 
@@ -302,15 +341,22 @@ struct Reads<'a> {
 
 fn check_read(rt: &impl Abort, alloc: Global, reads: &Reads) -> Result<(), NoMemory> {
     let mut site = created(alloc, &reads.session)?;
+    check_read_on(rt, alloc, reads, &mut site)
+}
+
+/// The session on the store of its extract.
+fn check_read_on(
+    rt: &impl Abort,
+    alloc: Global,
+    reads: &Reads,
+    site: &mut MemorySite,
+) -> Result<(), NoMemory> {
     let input = reads.session.input;
     let fails = [reads.fails];
-    let status = ended::<Brand>(alloc, SESSION, input, &fails, &mut site, Blank::new(1))?;
+    let status = ended::<Brand>(alloc, SESSION, input, &fails, site, Blank::new(1))?;
     assert_eq!(rt; status, reads.status);
-    let output = joined(alloc, reads.output)?;
-    assert_eq!(rt; site.output(), output.as_slice());
-    let kept = kept(alloc, &site)?;
-    assert_eq!(rt; kept.as_slice(), reads.kept);
-    Ok(())
+    check_output(rt, alloc, site, reads.output)?;
+    check_kept(rt, alloc, site, reads.kept)
 }
 
 /// Each of two reads: the first one gives all messages, and the second one the end. What was read before a read that

@@ -1,7 +1,8 @@
 //! The longest restrictions that have words, and the last numbers of a store.
-use crate::session_tests::{empty_site, run_on};
+use crate::session_tests::{check_status, empty_site};
 use crate::status::Status;
 use road_base::NoMemory;
+use road_io::MemorySite;
 use std::alloc::Global;
 use std::process::Abort;
 use std::test::Fail;
@@ -9,17 +10,38 @@ use std::test::Fail;
 /// A run of which the input is empty: its words, how it ends, and what it puts.
 type Run<'a> = (&'a [&'a str], Status, &'a [u8]);
 
-/// These runs, one after another on one site, whose files are empty at first.
-fn check_runs(rt: &impl Abort, alloc: Global, runs: &[Run]) -> Result<(), NoMemory> {
-    let mut site = empty_site(alloc);
+/// A run on the site, which puts what it puts behind this output.
+fn check_run(
+    rt: &impl Abort,
+    alloc: Global,
+    (words, status, put): &Run,
+    site: &mut MemorySite,
+    output: &mut Vec<u8>,
+) -> Result<(), NoMemory> {
+    check_status(rt, alloc, words, b"", site, *status)?;
+    output.extend_from_slice(put)?;
+    assert_eq!(rt; site.output(), output.as_slice());
+    Ok(())
+}
+
+/// These runs, one after another on one site.
+fn check_each(
+    rt: &impl Abort,
+    alloc: Global,
+    runs: &[Run],
+    site: &mut MemorySite,
+) -> Result<(), NoMemory> {
     let mut output = Vec::new(alloc);
-    for (words, status, put) in runs {
-        let ended = run_on(alloc, words, b"", &mut site)?;
-        assert_eq!(rt; ended, *status);
-        output.extend_from_slice(put)?;
-        assert_eq!(rt; site.output(), output.as_slice());
+    for run in runs {
+        check_run(rt, alloc, run, site, &mut output)?;
     }
     Ok(())
+}
+
+/// The same on a site whose files are empty at first.
+fn check_runs(rt: &impl Abort, alloc: Global, runs: &[Run]) -> Result<(), NoMemory> {
+    let mut site = empty_site(alloc);
+    check_each(rt, alloc, runs, &mut site)
 }
 
 /// Behind the last number of 64 bits no change comes.
@@ -145,16 +167,32 @@ fn restricted(alloc: Global, chain: &Chain) -> Result<Vec<u8>, NoMemory> {
     Ok(text)
 }
 
+/// Makes a store of the extract on the site, and audits it.
+fn check_audit(
+    rt: &impl Abort,
+    alloc: Global,
+    extract: &[u8],
+    output: &[u8],
+    site: &mut MemorySite,
+) -> Result<(), NoMemory> {
+    check_status(
+        rt,
+        alloc,
+        &["town", "create", "5"],
+        extract,
+        site,
+        Status::Done,
+    )?;
+    check_status(rt, alloc, &["town", "audit"], b"", site, Status::Done)?;
+    assert_eq!(rt; site.output(), output);
+    Ok(())
+}
+
 /// Makes a store of the chain and its restriction, and audits it.
 fn check_chain(rt: &impl Abort, alloc: Global, chain: &Chain) -> Result<(), NoMemory> {
     let extract = restricted(alloc, chain)?;
     let mut site = empty_site(alloc);
-    let made = run_on(alloc, &["town", "create", "5"], &extract, &mut site)?;
-    assert_eq!(rt; made, Status::Done);
-    let audited = run_on(alloc, &["town", "audit"], b"", &mut site)?;
-    assert_eq!(rt; audited, Status::Done);
-    assert_eq!(rt; site.output(), chain.output);
-    Ok(())
+    check_audit(rt, alloc, &extract, chain.output, &mut site)
 }
 
 #[test]

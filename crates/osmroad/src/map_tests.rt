@@ -72,7 +72,23 @@ fn counts(block: &Block) -> (usize, usize, usize) {
     (pieces.len(), contexts, arcs)
 }
 
-/// How many pieces, contexts and arcs one way of the map has, whose block is built by itself.
+/// How many pieces, contexts and arcs one way of the world has, whose block is built by itself.
+fn block_counts_in<L: Ledger>(
+    alloc: Global,
+    world: &Indexed,
+    way: WayId,
+    blank: Blank,
+) -> Result<(usize, usize, usize), Fail>
+    requires name { blank.name ≡ L.name }
+    requires parts { blank.parts ≡ L.parts }
+    requires some { 0 < L.parts }
+{
+    let mut steps = Steps::<L>::new(blank);
+    let block = build_block(alloc, world, &Motorcar, way, &mut steps)?;
+    Ok(counts(&block))
+}
+
+/// The same of one way of the map.
 fn block_counts<L: Ledger>(
     alloc: Global,
     lines: &[u8],
@@ -84,9 +100,7 @@ fn block_counts<L: Ledger>(
     requires some { 0 < L.parts }
 {
     let world = world_of(alloc, lines)?;
-    let mut steps = Steps::<L>::new(blank);
-    let block = build_block(alloc, &world, &Motorcar, way, &mut steps)?;
-    Ok(counts(&block))
+    block_counts_in::<L>(alloc, &world, way, blank)
 }
 
 /// Way 1 from node 1 to 2, way 2 from 2 to 3, and so on, with ways 4 and 5 both from node 4:

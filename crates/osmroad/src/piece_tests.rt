@@ -70,14 +70,23 @@ fn add_pieces(alloc: Global, out: &mut String, world: &Indexed) -> Result<(), Fa
     Ok(())
 }
 
+/// All that is found in the world.
+fn add_found(alloc: Global, out: &mut String, world: &Indexed) -> Result<(), Fail> {
+    add_positions(alloc, out, world)?;
+    add_leaving(alloc, out, world)?;
+    add_pieces(alloc, out, world)
+}
+
+fn found_in(alloc: Global, world: &Indexed) -> Result<String, Fail> {
+    let mut out = String::new(alloc);
+    add_found(alloc, &mut out, world)?;
+    Ok(out)
+}
+
 /// All that is found on the map.
 fn found(alloc: Global, lines: &[u8]) -> Result<String, Fail> {
     let world = world_of(alloc, lines)?;
-    let mut out = String::new(alloc);
-    add_positions(alloc, &mut out, &world)?;
-    add_leaving(alloc, &mut out, &world)?;
-    add_pieces(alloc, &mut out, &world)?;
-    Ok(out)
+    found_in(alloc, &world)
 }
 
 #[test]

@@ -58,17 +58,49 @@ pub fn empty_site(alloc: Global) -> MemorySite {
 
 pub const SESSION: &[&str] = &["town", "session"];
 
-/// Makes the store, runs the session on it, and compares what is put.
-fn check(rt: &impl Abort, alloc: Global, session: &Session) -> Result<(), NoMemory> {
-    let mut site = empty_site(alloc);
-    let create = ["town", "create", session.number];
-    let made = run_on(alloc, &create, session.extract, &mut site)?;
-    assert_eq!(rt; made, Status::Done);
-    let status = run_on(alloc, SESSION, session.input, &mut site)?;
-    assert_eq!(rt; status, session.status);
-    let output = joined(alloc, session.output)?;
+/// What was put on the site, in parts.
+pub fn check_output(
+    rt: &impl Abort,
+    alloc: Global,
+    site: &MemorySite,
+    parts: &[&[u8]],
+) -> Result<(), NoMemory> {
+    let output = joined(alloc, parts)?;
     assert_eq!(rt; site.output(), output.as_slice());
     Ok(())
+}
+
+/// Runs the words on the site, and compares how they end.
+pub fn check_status(
+    rt: &impl Abort,
+    alloc: Global,
+    words: &[&str],
+    input: &[u8],
+    site: &mut MemorySite,
+    status: Status,
+) -> Result<(), NoMemory> {
+    let ended = run_on(alloc, words, input, site)?;
+    assert_eq!(rt; ended, status);
+    Ok(())
+}
+
+/// Makes the store on the site, runs the session on it, and compares what is put.
+fn check_on(
+    rt: &impl Abort,
+    alloc: Global,
+    session: &Session,
+    site: &mut MemorySite,
+) -> Result<(), NoMemory> {
+    let create = ["town", "create", session.number];
+    check_status(rt, alloc, &create, session.extract, site, Status::Done)?;
+    check_status(rt, alloc, SESSION, session.input, site, session.status)?;
+    check_output(rt, alloc, site, session.output)
+}
+
+/// The same on a new site.
+fn check(rt: &impl Abort, alloc: Global, session: &Session) -> Result<(), NoMemory> {
+    let mut site = empty_site(alloc);
+    check_on(rt, alloc, session, &mut site)
 }
 
 /// The graph follows the change that brings the street's middle node.
@@ -257,6 +289,27 @@ fn lines_of_a_session_have_a_limit(rt: HostRuntime) -> Result<(), Fail> {
     Ok(())
 }
 
+/// A session where there is no store of this name.
+fn check_alone(
+    rt: &impl Abort,
+    alloc: Global,
+    store: &str,
+    status: Status,
+    output: &[u8],
+) -> Result<(), NoMemory> {
+    let mut site = empty_site(alloc);
+    check_status(
+        rt,
+        alloc,
+        &[store, "session"],
+        b"state\n",
+        &mut site,
+        status,
+    )?;
+    assert_eq!(rt; site.output(), output);
+    Ok(())
+}
+
 #[test]
 fn a_session_needs_a_store(rt: HostRuntime) -> Result<(), Fail> {
     let cases: [(&str, Status, &[u8]); 2] = [
@@ -264,11 +317,7 @@ fn a_session_needs_a_store(rt: HostRuntime) -> Result<(), Fail> {
         ("-x", Status::Usage, USAGE),
     ];
     for (store, status, output) in cases {
-        let mut site = empty_site(rt.alloc());
-        let words = [store, "session"];
-        let ended = run_on(rt.alloc(), &words, b"state\n", &mut site)?;
-        assert_eq!(rt; ended, status);
-        assert_eq!(rt; site.output(), output);
+        check_alone(&rt, rt.alloc(), store, status, output)?;
     }
     Ok(())
 }

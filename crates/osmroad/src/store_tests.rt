@@ -202,118 +202,130 @@ const RECORD_OF_ONE: &[u8] = b"\x06\0\0\0\0\0\0\0\x08\0\0\0\0\0\0\0\x01\0\0\0\0\
 /// `RECORD` under the number 8.
 const RECORD_OF_EIGHT: &[u8] = b"\x08\0\0\0\0\0\0\0\x08\0\0\0\0\0\0\0\0\0\0\0\0\0\0\0\0";
 
+/// A run that leaves file A as it is: its words and its input, both files in parts, how it ends, and what it puts.
+type Refusal = (
+    &'static [&'static str],
+    &'static [u8],
+    &'static [&'static [u8]],
+    &'static [&'static [u8]],
+    Status,
+    &'static [u8],
+);
+
+/// The files are looked at before the source, and the number before the change.
+const REFUSALS: [Refusal; 14] = [
+    (
+        &["town", "create", "9"],
+        b"z",
+        &[MADE],
+        &[],
+        Status::StoreExists,
+        b"store exists\n",
+    ),
+    (
+        CREATE,
+        b"",
+        &[],
+        &[MADE],
+        Status::StoreExists,
+        b"store exists\n",
+    ),
+    (
+        CREATE,
+        b"n1 x0\nz",
+        &[],
+        &[],
+        Status::Refused,
+        b"refused line 2 field 1 UnknownLine\n",
+    ),
+    (
+        &["town", "apply", "8"],
+        b"z",
+        &[MADE],
+        &[],
+        Status::OutOfSequence,
+        b"sequence 8 kept 5\n",
+    ),
+    (
+        &["town", "apply", "5"],
+        b"",
+        &[MADE],
+        &[],
+        Status::OutOfSequence,
+        b"sequence 5 kept 5\n",
+    ),
+    (
+        APPLY,
+        b"n1 v1 Ta=b Tc=d x0 y0",
+        &[MADE],
+        &[],
+        Status::Refused,
+        b"refused line 1 field 4 Repeated\n",
+    ),
+    (
+        APPLY,
+        b"n1 x0 y0",
+        &[MADE],
+        &[],
+        Status::Refused,
+        b"refused line 1 field 0 NoVersion\n",
+    ),
+    (
+        APPLY,
+        b"n1 v1 Ta=%d800%",
+        &[MADE],
+        &[],
+        Status::Refused,
+        b"refused line 1 field 3 BadEscape\n",
+    ),
+    (
+        GRAPH,
+        b"",
+        &[b"\x07OSMJRNL1"],
+        &[],
+        Status::NoStore,
+        b"no store\n",
+    ),
+    (APPLY, b"", &[], &[], Status::NoStore, b"no store\n"),
+    (
+        GRAPH,
+        b"",
+        &[SPELLED, b"\x01", RECORD_OF_ONE],
+        &[],
+        Status::Damaged,
+        b"damaged a 45\n",
+    ),
+    (
+        GRAPH,
+        b"",
+        &[],
+        &[SPELLED, b"\x01", RECORD_OF_EIGHT],
+        Status::Damaged,
+        b"damaged b 45\n",
+    ),
+    (
+        CHECKPOINT,
+        b"",
+        &[SPELLED, b"\x01", RECORD_OF_ONE],
+        &[],
+        Status::Damaged,
+        b"damaged a 45\n",
+    ),
+    (
+        CHECKPOINT,
+        b"",
+        &[LAST_MADE],
+        &[],
+        Status::Limit,
+        b"limit\n",
+    ),
+];
+
 #[test]
 fn stores_refuse(rt: HostRuntime) -> Result<(), Fail> {
-    // The files are looked at before the source, and the number before the change.
-    let cases = [
-        refuses(
-            &["town", "create", "9"],
-            b"z",
-            &[MADE],
-            &[],
-            Status::StoreExists,
-            b"store exists\n",
-        ),
-        refuses(
-            CREATE,
-            b"",
-            &[],
-            &[MADE],
-            Status::StoreExists,
-            b"store exists\n",
-        ),
-        refuses(
-            CREATE,
-            b"n1 x0\nz",
-            &[],
-            &[],
-            Status::Refused,
-            b"refused line 2 field 1 UnknownLine\n",
-        ),
-        refuses(
-            &["town", "apply", "8"],
-            b"z",
-            &[MADE],
-            &[],
-            Status::OutOfSequence,
-            b"sequence 8 kept 5\n",
-        ),
-        refuses(
-            &["town", "apply", "5"],
-            b"",
-            &[MADE],
-            &[],
-            Status::OutOfSequence,
-            b"sequence 5 kept 5\n",
-        ),
-        refuses(
-            APPLY,
-            b"n1 v1 Ta=b Tc=d x0 y0",
-            &[MADE],
-            &[],
-            Status::Refused,
-            b"refused line 1 field 4 Repeated\n",
-        ),
-        refuses(
-            APPLY,
-            b"n1 x0 y0",
-            &[MADE],
-            &[],
-            Status::Refused,
-            b"refused line 1 field 0 NoVersion\n",
-        ),
-        refuses(
-            APPLY,
-            b"n1 v1 Ta=%d800%",
-            &[MADE],
-            &[],
-            Status::Refused,
-            b"refused line 1 field 3 BadEscape\n",
-        ),
-        refuses(
-            GRAPH,
-            b"",
-            &[b"\x07OSMJRNL1"],
-            &[],
-            Status::NoStore,
-            b"no store\n",
-        ),
-        refuses(APPLY, b"", &[], &[], Status::NoStore, b"no store\n"),
-        refuses(
-            GRAPH,
-            b"",
-            &[SPELLED, b"\x01", RECORD_OF_ONE],
-            &[],
-            Status::Damaged,
-            b"damaged a 45\n",
-        ),
-        refuses(
-            GRAPH,
-            b"",
-            &[],
-            &[SPELLED, b"\x01", RECORD_OF_EIGHT],
-            Status::Damaged,
-            b"damaged b 45\n",
-        ),
-        refuses(
-            CHECKPOINT,
-            b"",
-            &[SPELLED, b"\x01", RECORD_OF_ONE],
-            &[],
-            Status::Damaged,
-            b"damaged a 45\n",
-        ),
-        refuses(
-            CHECKPOINT,
-            b"",
-            &[LAST_MADE],
-            &[],
-            Status::Limit,
-            b"limit\n",
-        ),
-    ];
-    for case in &cases {
-        check(&rt, rt.alloc(), case, &[])?;
+    for (words, input, a, b, status, output) in REFUSALS.iter() {
+        let case = refuses(words, input, a, b, *status, output);
+        check(&rt, rt.alloc(), &case, &[])?;
     }
     Ok(())
 }

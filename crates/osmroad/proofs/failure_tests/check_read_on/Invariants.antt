@@ -1,4 +1,4 @@
-use Rattle.osmroad.proofs.failure_tests.check_read.Given as goal
+use Rattle.osmroad.proofs.failure_tests.check_read_on.Given as goal
 
 -- the ledger that was just made
 abbrev pub ghosts-ended : goal.ghosts-ended
