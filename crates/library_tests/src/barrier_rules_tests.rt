@@ -2,6 +2,7 @@
 use crate::makers::tags;
 use barrier_rules::barrier_open;
 use std::alloc::Global;
+use std::process::Abort;
 use std::test::Fail;
 
 const OPEN: [&str; 10] = [
@@ -50,6 +51,25 @@ fn first_other<'a>(
     Ok(None)
 }
 
+/// All of these kinds of barriers answer so beside the tags.
+fn check_kinds(
+    rt: &impl Abort,
+    alloc: Global,
+    kinds: &[&str],
+    rest: &str,
+    open: bool,
+) -> Result<(), Fail> {
+    let other = first_other(alloc, kinds, rest, open)?;
+    assert_eq!(rt; other, None, "at {rest:?}");
+    Ok(())
+}
+
+/// One may pass by these tags.
+fn check_passable(rt: &impl Abort, alloc: Global, of: &str) -> Result<(), Fail> {
+    assert!(rt; barrier_open(&tags(alloc, of)?), "at {of:?}");
+    Ok(())
+}
+
 /// Tags that decide nothing.
 const RESTS: [&str; 5] = [
     "",
@@ -63,11 +83,9 @@ const RESTS: [&str; 5] = [
 fn barriers_decide_without_a_key(rt: HostRuntime) -> Result<(), Fail> {
     for rest in RESTS {
         let bare = format!(in rt.alloc(); "highway=crossing {rest}")?;
-        assert!(rt; barrier_open(&tags(rt.alloc(), &bare)?), "at {bare:?}");
-        let shut = first_other(rt.alloc(), &OPEN, rest, true)?;
-        assert_eq!(rt; shut, None, "at {rest:?}");
-        let open = first_other(rt.alloc(), &SHUT, rest, false)?;
-        assert_eq!(rt; open, None, "at {rest:?}");
+        check_passable(&rt, rt.alloc(), &bare)?;
+        check_kinds(&rt, rt.alloc(), &OPEN, rest, true)?;
+        check_kinds(&rt, rt.alloc(), &SHUT, rest, false)?;
     }
     Ok(())
 }
@@ -98,11 +116,9 @@ const KEYS: [(&str, bool); 20] = [
 #[test]
 fn first_key_decides_at_a_barrier(rt: HostRuntime) -> Result<(), Fail> {
     for (keys, open) in KEYS {
-        let other = first_other(rt.alloc(), &OPEN, keys, open)?;
-        assert_eq!(rt; other, None, "at {keys:?}");
-        let other = first_other(rt.alloc(), &SHUT, keys, open)?;
-        assert_eq!(rt; other, None, "at {keys:?}");
-        assert!(rt; barrier_open(&tags(rt.alloc(), keys)?), "at {keys:?}");
+        check_kinds(&rt, rt.alloc(), &OPEN, keys, open)?;
+        check_kinds(&rt, rt.alloc(), &SHUT, keys, open)?;
+        check_passable(&rt, rt.alloc(), keys)?;
     }
     Ok(())
 }

@@ -96,6 +96,16 @@ fn follow_and_compare<L: Ledger>(
 }
 
 /// The same of an engine of no events.
+fn follow_from_nothing<L: Ledger>(
+    alloc: Global,
+    changes: &[&[u8]],
+    steps: &mut Steps<L>,
+) -> Result<(Report, bool), Fail> {
+    let mut engine = Engine::load(alloc, Motorcar, Vec::new(alloc), steps)?;
+    follow_and_compare(alloc, &mut engine, changes, steps)
+}
+
+/// The same with a ledger of its own.
 fn followed<L: Ledger>(
     alloc: Global,
     changes: &[&[u8]],
@@ -106,8 +116,7 @@ fn followed<L: Ledger>(
     requires some { 0 < L.parts }
 {
     let mut steps = Steps::<L>::new(blank);
-    let mut engine = Engine::load(alloc, Motorcar, Vec::new(alloc), &mut steps)?;
-    follow_and_compare(alloc, &mut engine, changes, &mut steps)
+    follow_from_nothing(alloc, changes, &mut steps)
 }
 
 /// A chain: way k goes from node k to node k + 1.

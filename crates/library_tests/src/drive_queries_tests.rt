@@ -6,7 +6,7 @@ use access_profile::Motorcar;
 use change_apply::Engine;
 use drive_queries::{Asked, Found, WordTable, judge, message, reach};
 use reply_lines::verdict_text;
-use road_base::{NoMemory, NodeId, Step, Steps};
+use road_base::{Event, NoMemory, NodeId, Step, Steps};
 use std::alloc::Global;
 use std::marker::Brand;
 use std::sync::ledger::{Blank, Ledger};
@@ -114,6 +114,17 @@ fn first_other<'a>(
     Ok(None)
 }
 
+/// The same on the map of these events.
+fn first_other_among<'a, L: Ledger>(
+    alloc: Global,
+    events: Vec<Event>,
+    rows: &[(&'a str, &str)],
+    steps: &mut Steps<L>,
+) -> Result<Option<&'a str>, Fail> {
+    let mut engine = Engine::load(alloc, Motorcar, events, steps)?;
+    first_other(alloc, &mut engine, rows)
+}
+
 /// The same on the map of an extract.
 fn first_other_on<'a, L: Ledger>(
     alloc: Global,
@@ -126,8 +137,7 @@ fn first_other_on<'a, L: Ledger>(
     requires some { 0 < L.parts }
 {
     let mut steps = Steps::<L>::new(blank);
-    let mut engine = Engine::load(alloc, Motorcar, extract_of(alloc, lines)?, &mut steps)?;
-    first_other(alloc, &mut engine, rows)
+    first_other_among(alloc, extract_of(alloc, lines)?, rows, &mut steps)
 }
 
 /// A roundabout that is driven against its line.

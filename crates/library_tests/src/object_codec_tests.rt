@@ -1,8 +1,9 @@
 //! Lists of events whose bytes were spelled by hand.
 use crate::makers::{deletion, events_of};
 use object_codec::{decode, encode};
-use road_base::{Body, Key, NoMemory, NodeId};
+use road_base::{Body, Event, Key, NoMemory, NodeId};
 use std::alloc::Global;
+use std::process::Abort;
 use std::test::Fail;
 
 /// The deletion of node 1 in version 4.
@@ -87,19 +88,29 @@ fn is_refused_or_same(alloc: Global, bytes: &[u8]) -> Result<bool, NoMemory> {
     Ok(out.as_slice() == bytes)
 }
 
-#[test]
-fn one_deletion(rt: HostRuntime) -> Result<(), Fail> {
-    let alloc = rt.alloc();
+/// The deletion is spelled behind a byte that stands there.
+fn check_spelling(rt: &impl Abort, alloc: Global) -> Result<(), Fail> {
     let mut out = vec![in alloc; 7]?;
     encode(&[deletion(Key::Node(NodeId(1)), 4)], &mut out)?;
     assert_eq!(rt; out.len(), 23);
     assert_eq!(rt; out[0], 7);
     assert_eq!(rt; &out[1..], DELETED);
-    let events = decode(alloc, DELETED)?.ok_or("it spells a deletion")?;
+    Ok(())
+}
+
+/// The events are the deletion alone.
+fn check_events(rt: &impl Abort, events: &[Event]) {
     assert_eq!(rt; events.len(), 1);
     assert_eq!(rt; events[0].key, Key::Node(NodeId(1)));
     assert_eq!(rt; events[0].version, 4);
     assert!(rt; matches!(events[0].body, Body::Deleted));
+}
+
+#[test]
+fn one_deletion(rt: HostRuntime) -> Result<(), Fail> {
+    check_spelling(&rt, rt.alloc())?;
+    let events = decode(rt.alloc(), DELETED)?.ok_or("it spells a deletion")?;
+    check_events(&rt, &events);
     Ok(())
 }
 

@@ -5,6 +5,7 @@ use crate::makers::{event_of, events_of};
 use object_store::Objects;
 use road_base::{Body, Event, Key, NoMemory, NodeId, Ranges};
 use std::alloc::Global;
+use std::process::Abort;
 use std::test::Fail;
 
 const FIRST: Key = Key::Node(NodeId(1));
@@ -63,18 +64,35 @@ fn is_copied(objects: &Objects) -> Result<bool, NoMemory> {
     Ok(lists(objects, &events)? && lists(&objects.copy()?, &events)?)
 }
 
+/// Makes a change, which changes so many keys, and leaves this of node 1.
+fn check_change(
+    rt: &impl Abort,
+    alloc: Global,
+    objects: &mut Objects,
+    change: &[u8],
+    keys: usize,
+    known: Known,
+) -> Result<(), Fail> {
+    let events = events_of(alloc, change)?;
+    assert_eq!(rt; applied_alone(objects, &events)?, Some(keys));
+    assert_eq!(rt; first_node(objects), known);
+    Ok(())
+}
+
+/// Makes the changes of the extract, one after another.
+fn check_changes(rt: &impl Abort, alloc: Global, objects: &mut Objects) -> Result<(), Fail> {
+    assert_eq!(rt; first_node(objects), Some((3, Some(20_000_000))));
+    for (change, keys, known) in CHANGES.iter() {
+        check_change(rt, alloc, objects, change, *keys, *known)?;
+    }
+    assert!(rt; is_copied(objects)?);
+    Ok(())
+}
+
 #[test]
 fn the_first_of_the_greatest_version_stands(rt: HostRuntime) -> Result<(), Fail> {
-    let alloc = rt.alloc();
-    let mut objects = Objects::of(events_of(alloc, EXTRACT)?)?;
-    assert_eq!(rt; first_node(&objects), Some((3, Some(20_000_000))));
-    for (change, keys, known) in CHANGES.iter() {
-        let events = events_of(alloc, change)?;
-        assert_eq!(rt; applied_alone(&mut objects, &events)?, Some(*keys));
-        assert_eq!(rt; first_node(&objects), *known);
-    }
-    assert!(rt; is_copied(&objects)?);
-    Ok(())
+    let mut objects = Objects::of(events_of(rt.alloc(), EXTRACT)?)?;
+    check_changes(&rt, rt.alloc(), &mut objects)
 }
 
 /// A change, and the version of node 1 that it brings; None where it brings none.
