@@ -1,10 +1,9 @@
 //! Tests of the libraries: tables and vectors from outside, and each public call that takes memory once on its happy
 //! path, with ample memory.
 //!
-//! A crate is proved once more with its tests, so those of most libraries stand together here. Where a test looks
-//! into a crate, or a call of it asks what is proved there alone, it stands there (`road_io`, `store_switch`,
-//! `sample_town`); whole runs are tried in `osmroad`. `makers` makes texts, tags, events and worlds for them, in the
-//! time of what is made.
+//! A crate is proved once more with its tests, so those of the libraries stand together here. `road_io` alone has tests
+//! of its own, which look into it; whole runs are tried in `osmroad`. `makers` makes texts, tags, events and worlds for
+//! them, in the time of what is made.
 #![tactic(auto)]
 
 #[cfg(test)]
@@ -15,6 +14,8 @@ mod back_references_tests;
 mod barrier_rules_tests;
 #[cfg(test)]
 mod change_apply_tests;
+#[cfg(test)]
+mod checkpoint_tests;
 #[cfg(test)]
 mod drive_queries_tests;
 #[cfg(test)]
@@ -39,9 +40,13 @@ mod road_base_tests;
 #[cfg(test)]
 mod road_model_tests;
 #[cfg(test)]
+mod sample_town_tests;
+#[cfg(test)]
 mod sequence_journal_tests;
 #[cfg(test)]
 mod session_input_tests;
+#[cfg(test)]
+mod store_switch_tests;
 #[cfg(test)]
 mod touched_ways_tests;
 #[cfg(test)]

@@ -13,8 +13,7 @@ mod base;
 mod changes;
 mod draws;
 mod streets;
-#[cfg(test)]
-mod tests;
 mod town;
 
+pub use draws::Draws;
 pub use town::Town;

@@ -10,15 +10,11 @@
 //! made.
 #![tactic(auto)]
 
-#[cfg(test)]
-mod checkpoint_tests;
 mod checkpointing;
 mod creating;
 pub mod laws;
 mod live;
 mod loading;
-#[cfg(test)]
-mod store_tests;
 
 pub use checkpointing::checkpoint;
 pub use creating::create_store;

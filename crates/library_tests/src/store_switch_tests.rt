@@ -1,10 +1,10 @@
 //! Stores in memory: made, loaded, with a fault at each call, and stopped at each call.
-use crate::{create_store, load_store};
 use road_base::Sequence;
 use road_io::{Call, Entry, MemorySite, Which};
-use sequence_journal::{Journal, JournalError, Loaded};
+use sequence_journal::{Journal, JournalError};
 use std::alloc::{AllocError, Global};
 use std::test::Fail;
+use store_switch::{create_store, load_store};
 
 /// A base of generation 1 with the number 5 and no events, and the gate behind it.
 pub const BASE: [u8; 46] = *b"\x01OSMJRNL1\x01\0\0\0\x01\0\0\0\0\0\0\0\x05\0\0\0\0\0\0\0\

@@ -1,8 +1,9 @@
 //! Towns against values that were computed elsewhere, from the rules alone.
-use super::*;
-use crate::draws::Draws;
+use crate::object_store_tests::are_same;
 use road_base::{Body, Event, Key, NoMemory, Node, Relation, Tags, Way};
+use sample_town::{Draws, Town};
 use std::alloc::Global;
+use std::process::Abort;
 use std::test::Fail;
 
 fn key_text(alloc: Global, key: Key) -> Result<String, NoMemory> {
@@ -75,13 +76,19 @@ fn event_text(alloc: Global, event: &Event) -> Result<String, NoMemory> {
     Ok(text)
 }
 
+/// Adds the lists of the next twelve calls.
+fn add_lists(town: &mut Town, lists: &mut Vec<Vec<Event>>) -> Result<(), NoMemory> {
+    for _ in 0..12 {
+        lists.push(town.events()?)?;
+    }
+    Ok(())
+}
+
 /// The lists of the first twelve calls.
 fn twelve_lists(alloc: Global, number: u64) -> Result<Vec<Vec<Event>>, NoMemory> {
     let mut town = Town::new(alloc, number);
     let mut lists = Vec::new(alloc);
-    for _ in 0..12 {
-        lists.push(town.events()?)?;
-    }
+    add_lists(&mut town, &mut lists)?;
     Ok(lists)
 }
 
@@ -100,18 +107,6 @@ fn text_at(
 
 fn have_version(events: &[Event], version: u32) -> bool {
     events.iter().all(|event| event.version == version)
-}
-
-fn are_same(these: &[Event], those: &[Event]) -> bool {
-    if these.len() != those.len() {
-        return false;
-    }
-    for (this, that) in these.iter().zip(those) {
-        if this.key != that.key || this.version != that.version || !this.body.same(&that.body) {
-            return false;
-        }
-    }
-    true
 }
 
 #[test]
@@ -153,13 +148,28 @@ fn the_lists_and_their_versions(rt: HostRuntime) -> Result<(), Fail> {
     Ok(())
 }
 
+fn check_same(rt: &impl Abort, these: &[Vec<Event>], those: &[Vec<Event>]) {
+    for (this, that) in these.iter().zip(those) {
+        assert!(rt; are_same(this, that));
+    }
+}
+
+/// The town of the number gives these lists.
+fn check_lists(
+    rt: &impl Abort,
+    alloc: Global,
+    number: u64,
+    these: &[Vec<Event>],
+) -> Result<(), NoMemory> {
+    let those = twelve_lists(alloc, number)?;
+    check_same(rt, these, &those);
+    Ok(())
+}
+
 #[test]
 fn equal_numbers_give_equal_lists(rt: HostRuntime) -> Result<(), Fail> {
     let these = twelve_lists(rt.alloc(), 20_261_128)?;
-    let those = twelve_lists(rt.alloc(), 20_261_128)?;
-    for (this, that) in these.iter().zip(&those) {
-        assert!(rt; are_same(this, that));
-    }
+    check_lists(&rt, rt.alloc(), 20_261_128, &these)?;
     Ok(())
 }
 

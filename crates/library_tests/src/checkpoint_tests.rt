@@ -1,14 +1,14 @@
 //! A store that goes on in its other file: the bytes, the calls, and what faults and stops leave. And which parts of a
 //! file are read to load it.
-use crate::store_tests::{
+use crate::store_switch_tests::{
     Answer, BASE, change_no_file, file, left_by, load, load_of, make_call, site_of, told,
 };
-use crate::{checkpoint, create_store, load_store};
 use road_base::{Body, Event, Key, Node, NodeId, Sequence, Tags};
 use road_io::{Call, Entry, MemorySite, Which};
 use sequence_journal::JournalError;
 use std::alloc::{AllocError, Global};
 use std::test::Fail;
+use store_switch::{checkpoint, create_store, load_store};
 
 /// File A with change 6, which has no events: an open gate stands before the base and the change, and a closed one
 /// behind them.

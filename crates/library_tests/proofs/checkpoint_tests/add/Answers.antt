@@ -1,4 +1,4 @@
-use Rattle.store_switch.proofs.checkpoint_tests.add.Goals as goal
+use Rattle.library_tests.proofs.checkpoint_tests.add.Goals as goal
 
 pub append-requires : goal.append-requires
 append-requires c = λ not_closed.

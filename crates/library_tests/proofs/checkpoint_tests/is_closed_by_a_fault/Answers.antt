@@ -1,4 +1,4 @@
-use Rattle.store_switch.proofs.checkpoint_tests.is_closed_by_a_fault.Goals as goal
+use Rattle.library_tests.proofs.checkpoint_tests.is_closed_by_a_fault.Goals as goal
 
 pub checkpoint-answer-requires : goal.checkpoint-answer-requires
 checkpoint-answer-requires c = λ not_closed.

@@ -1,4 +1,4 @@
-use Rattle.store_switch.proofs.checkpoint_tests.go_on.Goals as goal
+use Rattle.library_tests.proofs.checkpoint_tests.go_on.Goals as goal
 
 pub checkpoint-requires : goal.checkpoint-requires
 checkpoint-requires c = λ not_closed.

@@ -1,6 +1,6 @@
 use Rattle.std.proofs.Common.{[]}
 use Rattle.store_switch.specs.Checkpointing.{checkpoint_of}
-use Rattle.store_switch.proofs.checkpoint_tests.go_on_and_add.Goals as goal
+use Rattle.library_tests.proofs.checkpoint_tests.go_on_and_add.Goals as goal
 
 pub checkpoint-requires : goal.checkpoint-requires
 checkpoint-requires c = λ not_closed.
