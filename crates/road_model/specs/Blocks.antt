@@ -1,5 +1,5 @@
 -- What the block of a way lists.
-use Rattle.std.specs.Prelude.{◌≡◌, ℕ, ◌+◌, ◌-◌, List, [], ◌∷◌, ◌++◌, length, map, Some, slice_get}
+use Rattle.std.specs.Prelude.{◌≡◌, ℕ, ◌+◌, ◌-◌, List, [], ◌∷◌, ◌++◌, length, map, Some, slice_get, IsTrue, Contains}
 use Rattle.road_base.specs.declared.ids.WayId.{WayId}
 use Rattle.road_base.specs.declared.ids.Dir.TheVariants.{Forward, Backward}
 use Rattle.road_base.specs.declared.objects.Node.{Node}
@@ -14,7 +14,7 @@ use Rattle.road_model.specs.Rules.{Rules}
 use Rattle.road_model.specs.Lines.{node_at}
 use Rattle.road_model.specs.Pieces.{Span, IsPiece}
 use Rattle.road_model.specs.Network.{IsContext, IsArc}
-use Rattle.road_model.specs.Orders.{Lists, name_cmp, names_cmp}
+use Rattle.road_model.specs.Orders.{Lists, name_cmp, names_cmp, rises}
 
 abbrev pub name_of : Span → PieceName
 name_of p = record { way = p.way; index = p.index; dir = p.dir }
@@ -65,3 +65,21 @@ pub record IsBlock (M : Objects) (P : Rules) (w : WayId) (b : Block) : Type 0 wh
 pub record IsRoadBlock (M : Objects) (P : Rules) (b : Block) : Type 0 where
   pub block : IsBlock M P b.way b
   pub some : b.pieces ≡ [] → ⊥
+
+-- a piece of the way as a block lists it: its name and end, and all its nodes in order of travel
+pub record IsListedPiece (M : Objects) (P : Rules) (w : WayId) (e : Piece) : Type 0 where
+  pub piece : Span
+  pub is : IsPiece M P piece
+  pub of : piece.way ≡ w
+  pub named : e.name ≡ name_of piece
+  pub end_is : e.end ≡ piece.end
+  pub count : length e.places ≡ piece.end - piece.index + 1
+  pub nodes : (k : ℕ) (x : Place) → slice_get e.places k ≡ Some x
+      → node_at M piece.way (place_position piece k) ≡ Some x.node
+
+-- the block lists exactly the pieces of the way, whatever it says of locations and of what may follow
+pub record ListsPieces (M : Objects) (P : Rules) (w : WayId) (b : Block) : Type 0 where
+  pub way : b.way ≡ w
+  pub ascending : IsTrue (rises name_cmp (map (λ p. p.name) b.pieces))
+  pub sound : (e : Piece) → Contains b.pieces e → IsListedPiece M P w e
+  pub complete : (p : Span) → IsPiece M P p → p.way ≡ w → (e : Piece) × Contains b.pieces e × (e.name ≡ name_of p)
