@@ -10,6 +10,7 @@ ghost use Rattle.way_lines.specs.RoadLines.{line_node};
 ghost use Rattle.way_pieces.specs.RoadPieces.{AreSpans};
 ghost use Rattle.expanded_graph.specs.Tables.{AreTables};
 
+use crate::none_known::NoneKnown;
 use crate::pieces::pieces_along;
 use crate::tables::Tables;
 use road_base::{NoMemory, Steps, WayId};
@@ -48,7 +49,7 @@ pub fn block_alone<M: World, P: Profile>(
     ensures form { IfOk result (λ b. AllByRecursion IsPieceForm b.pieces
         × IsTrue (rises place_cmp (map (λ p. p.name) b.pieces))) }
 {
-    let tables = Tables::of(alloc, network, &[way])?;
+    let tables = Tables::of(alloc, network, &[way], &NoneKnown)?;
     block_of(alloc, network, &tables, way)
 }
 

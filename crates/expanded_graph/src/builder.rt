@@ -3,13 +3,14 @@ ghost use Rattle.std.specs.Prelude.{◌≡◌, ◌+◌, map, IfOk, IsTrue};
 ghost use Rattle.std.specs.List.{AllByRecursion};
 ghost use Rattle.road_model.specs.Orders.{rises};
 ghost use Rattle.road_model.specs.Blocks.{IsBlock};
+ghost use Rattle.road_model.specs.Known.{AreKnown};
 ghost use Rattle.road_model.specs.Format.{IsPieceForm, place_cmp};
 ghost use Rattle.road_model.specs.Networks.{on};
 
 use crate::block::{block_alone, block_of};
 use crate::tables::Tables;
 use road_base::{NoMemory, Steps, WayId};
-use road_model::{Block, Network, Profile, World};
+use road_model::{Block, KnownBlocks, Network, Profile, World};
 use std::alloc::Global;
 use std::marker::Model;
 use std::sync::ledger::Ledger;
@@ -35,18 +36,21 @@ impl<'a, M: World, P: Profile> Model for GraphBuilder<'a, M, P> {
 }
 
 impl<'a, M: World, P: Profile> GraphBuilder<'a, M, P> {
-    /// For the blocks of these ways, ascending. They and all ways that meet them are cut into pieces, each once, and
-    /// their lines are kept. A block of any other way is built as well, but what it needs is then found for it alone.
-    pub fn of(
+    /// For the blocks of these ways, ascending. They are cut into pieces, each once, and their lines are kept. So are
+    /// the ways that meet them cut, without their lines, but for those whose blocks are known: their pieces are those
+    /// that the blocks list. A block of any other way is built as well, but what it needs is then found for it alone.
+    pub fn of<K: KnownBlocks>(
         alloc: Global,
         world: &'a M,
         profile: P,
         ways: &[WayId],
+        known: &K,
     ) -> Result<GraphBuilder<'a, M, P>, NoMemory>
+        requires known { AreKnown (M.objects world.now) (P.rules profile) (K.blocks known.now) }
         ensures { IfOk result (λ b. b ≡ record { world = world.now; profile = profile }) }
     {
         let network = Network::new(world, profile);
-        let tables = Tables::of(alloc, &network, ways)?;
+        let tables = Tables::of(alloc, &network, ways, known)?;
         Ok(GraphBuilder {
             alloc,
             network,

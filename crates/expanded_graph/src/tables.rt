@@ -1,6 +1,7 @@
 //! What is found once before blocks are built.
 ghost use Rattle.std.specs.Prelude.{◌≡◌, IfOk, IsTrue, Contains};
 ghost use Rattle.road_base.specs.declared.ids.WayId.{WayId};
+ghost use Rattle.road_model.specs.Known.{AreKnown};
 ghost use Rattle.road_model.specs.Networks.{on};
 ghost use Rattle.way_pieces.specs.RoadPieces.{AreRoadPieces};
 ghost use Rattle.expanded_graph.specs.Contexts.{AreEndings};
@@ -12,11 +13,11 @@ use crate::endings::{Ending, endings_of};
 use crate::intersections::Intersections;
 use crate::states::States;
 use road_base::{NoMemory, NodeId, Ranges, WayId};
-use road_model::{Network, Profile, World};
+use road_model::{KnownBlocks, Network, Profile, World};
 use std::alloc::Global;
 use way_pieces::RoadPieces;
 
-/// What the blocks of ways are built from: ways cut into pieces, the nodes where these end, the automaton of the words
+/// What the blocks of ways are built from: the pieces of ways, the nodes where these end, the automaton of the words
 /// near the ways, and the states in which contexts may end. Nothing is added while blocks are built: a way that isn't
 /// among those that were cut is cut whenever it is met.
 #[derive(Drop)]
@@ -30,20 +31,21 @@ pub struct Tables {
 }
 
 impl Tables {
-    /// For blocks of these ways. They and all ways that meet them are cut into pieces, each of them once and its line
-    /// kept, and the nodes where their own pieces end are asked what leaves them.
-    pub fn of<M: World, P: Profile>(
+    /// For blocks of these ways, ascending. They are cut into pieces, each of them once and its line kept, the ways that
+    /// meet them where no block of theirs is known, and the nodes where their own pieces end are asked what leaves them.
+    pub fn of<M: World, P: Profile, K: KnownBlocks>(
         alloc: Global,
         network: &Network<'_, M, P>,
         ways: &[WayId],
+        known: &K,
     ) -> Result<Tables, NoMemory>
+        requires known { on network.now AreKnown (K.blocks known.now) }
         ensures are { IfOk result (on network.now AreTables) }
         ensures ways { IfOk result (λ t. t.ways.items ≡ ways.now) }
     {
         let met = ways_met(alloc, network, ways)?;
-        let pieces = RoadPieces::with_lines(alloc, network, met.as_slice())?;
-        let ends = pieces.ends_on(alloc, ways)?;
-        let intersections = Intersections::of(alloc, network, &pieces, ends.as_slice())?;
+        let pieces = RoadPieces::around(alloc, network, met.as_slice(), ways, known)?;
+        let intersections = Intersections::of(alloc, network, &pieces, pieces.ends())?;
         Tables::over(alloc, network, ways, pieces, intersections)
     }
 

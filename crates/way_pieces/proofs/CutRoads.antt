@@ -6,11 +6,7 @@ use Rattle.std.proofs.Common.{
   suc,
   ◌<◌,
   ◌+◌,
-  Bool,
-  true,
   false,
-  cond,
-  IsTrue,
   List,
   [],
   ◌∷◌,
@@ -19,6 +15,7 @@ use Rattle.std.proofs.Common.{
   get_or,
   slice_get,
   Some,
+  pos,
   ◌⊎◌,
   inl,
   inr,
@@ -29,7 +26,6 @@ use Rattle.std.proofs.Common.{
   ◌∙◌,
   arith,
 }
-use Rattle.std.proofs.lemmas.Bool.{false≢true}
 use Rattle.std.proofs.lemmas.List.{length_push}
 use Rattle.std.proofs.lemmas.Option.{same_Some, none-some, slice_get-get_or}
 use Rattle.road_base.specs.declared.ids.WayId.{WayId}
@@ -68,22 +64,15 @@ module _ {A : Type 0} (Is : WayId → A → Type 0) where
             subst (λ (r : Road). Is r.way z) here (subst (Is (get_or roads i d).way) (sym same ∙ last.1) is)
       ]
 
-  -- one road more, of which this is kept or not
-  pub kept_known : (keeps : Bool) (roads : List Road) (i : ℕ) (d : Road) (old new : List A) (x : A) → i < length roads
-      → (IsTrue keeps → length old ≡ i)
-      → new ≡ cond keeps (old ++ x ∷ []) old → Is (get_or roads i d).way x → AreKnown roads old → AreKnown roads new
-  kept_known true roads i d old new x within count kept is known =
-      more_known roads i d old new x x within (count refl) kept refl is known
-  kept_known false roads i d old new x within count kept is known =
-      subst (λ (l : List A). AreKnown roads l) (sym kept) known
-
   pub known_of : (ways : List Road) (roads : List Road) (known : List A) → ways ≡ roads → AreKnown ways known
       → AreKnown roads known
   known_of ways roads known same each = subst (λ (l : List Road). AreKnown l known) same each
 
--- so many are kept, where they are
-pub kept_count : {A : Type 0} (keeps : Bool) (old new : List A) (x : A) (i : ℕ) → (IsTrue keeps → length old ≡ i)
-    → new ≡ cond keeps (old ++ x ∷ []) old → IsTrue keeps → length new ≡ i + 1
-kept_count true old new x i count kept keeps =
-    ap length kept ∙ (length_push old x ∙ ap (λ k. k + 1) (count keeps))
-kept_count false old new x i count kept keeps = absurd (false≢true keeps)
+-- one is added to as many
+pub one_longer : {A : Type 0} (old new : List A) (x : A) (i : ℕ) → length old ≡ i → new ≡ old ++ x ∷ []
+    → length new ≡ i + 1
+one_longer old new x i count pushed = ap length pushed ∙ (length_push old x ∙ ap (λ k. k + 1) count)
+
+-- no road
+abbrev pub nowhere : Road
+nowhere = record { way = record { 0 = pos 0 }; forward = false; backward = false }

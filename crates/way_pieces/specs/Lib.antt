@@ -1,4 +1,5 @@
 pub mod Departures
+pub mod Listed
 pub mod Names
 pub mod RoadPieces
 pub mod Starts

@@ -1,5 +1,5 @@
 -- The pieces of a way, its line, and the departures over it by the node that they leave.
-use Rattle.std.specs.Prelude.{◌≡◌, ◌≤◌, ℕ, List, Some, length, slice_get}
+use Rattle.std.specs.Prelude.{◌≡◌, ◌≤◌, ℕ, List, Option, Some, IfSome, length, slice_get}
 use Rattle.std.specs.List.Sorted.{IsSortedByKey}
 use Rattle.road_base.specs.declared.ids.NodeId.{NodeId}
 use Rattle.road_base.specs.declared.ids.WayId.{WayId}
@@ -12,6 +12,7 @@ use Rattle.way_lines.specs.RoadLines.{AreRoads, IsRoadLine}
 use Rattle.way_pieces.specs.declared.spans.PieceSpan.{PieceSpan}
 use Rattle.way_pieces.specs.declared.starts.Start.{Start}
 use Rattle.way_pieces.specs.declared.road_pieces.WayPieces.{WayPieces}
+use Rattle.way_pieces.specs.declared.road_pieces.CutRoad.{CutRoad}
 use Rattle.way_pieces.specs.declared.road_pieces.RoadPieces.{RoadPieces}
 use Rattle.way_pieces.specs.Names.{IsSpanOn}
 use Rattle.way_pieces.specs.Departures.{IsOver}
@@ -37,7 +38,16 @@ pub record IsLineOf (M : Objects) (P : Rules) (w : WayId) (l : RoadLine) : Type 
   pub line : IsRoadLine M P l
   pub short : length l.nodes.items ≤ 65535
 
--- the pieces of each road, where they start as far as that is kept, and its line as far as it is kept
+-- the line of the way, where one is kept
+abbrev pub IsKeptLineOf : Objects → Rules → WayId → Option RoadLine → Type 0
+IsKeptLineOf M P w line = IfSome line (IsLineOf M P w)
+
+-- the pieces of the way, where they start, and its line, where it is kept
+pub record IsCutRoad (M : Objects) (P : Rules) (w : WayId) (c : CutRoad) : Type 0 where
+  pub pieces : AreWayPieces M P w c.pieces
+  pub line : IsKeptLineOf M P w c.line
+
+-- the pieces of each road, where they start as far as that is kept, and its line where it is kept
 pub record AreRoadPieces (M : Objects) (P : Rules) (p : RoadPieces) : Type 0 where
   pub roads : AreRoads M P p.roads
   pub span_count : length p.spans ≡ length p.roads.roads.items
@@ -49,7 +59,7 @@ pub record AreRoadPieces (M : Objects) (P : Rules) (p : RoadPieces) : Type 0 whe
       → slice_get p.roads.roads.items k ≡ Some road
       → slice_get p.starts k ≡ Some starts
       → AreStarts M P road.way starts
-  pub lines : (k : ℕ) (road : Road) (line : RoadLine)
+  pub lines : (k : ℕ) (road : Road) (line : Option RoadLine)
       → slice_get p.roads.roads.items k ≡ Some road
       → slice_get p.lines.items k ≡ Some line
-      → IsLineOf M P road.way line
+      → IsKeptLineOf M P road.way line

@@ -1,21 +1,26 @@
 //! Roads cut into pieces.
-ghost use Rattle.std.specs.Prelude.{◌≡◌, ◌≤◌, ◌++◌, ◌∷◌, [], cond, length, map, IfOk, IfSome, OnOk};
+ghost use Rattle.std.specs.Prelude.{◌≡◌, ◌≤◌, length, map, IfOk, IfSome, OnOk};
+ghost use Rattle.road_base.specs.declared.ids.WayId.{WayId};
 ghost use Rattle.road_base.specs.Objects.{Objects};
 ghost use Rattle.road_model.specs.Rules.{Rules};
+ghost use Rattle.road_model.specs.Blocks.{ListsPieces};
+ghost use Rattle.road_model.specs.Known.{AreKnown};
 ghost use Rattle.road_model.specs.Orders.{Lists, name_cmp};
 ghost use Rattle.road_model.specs.Networks.{on};
 ghost use Rattle.way_lines.specs.RoadLines.{AreRoads, IsRoad, IsRoadLine};
 ghost use Rattle.way_pieces.specs.Names.{IsDeparture};
 ghost use Rattle.way_pieces.specs.Departures.{IsOver, Gains};
-ghost use Rattle.way_pieces.specs.RoadPieces.{AreSpans, AreStarts, AreWayPieces, IsLineOf, AreRoadPieces};
+ghost use Rattle.way_pieces.specs.RoadPieces.{AreSpans, AreStarts, AreWayPieces, IsLineOf};
+ghost use Rattle.way_pieces.specs.RoadPieces.{IsCutRoad, AreRoadPieces};
 
 use crate::departures::Departure;
+use crate::listed::{spans_in, starts_in};
 use crate::spans::{PieceSpan, spans_along};
 use crate::starts::{Start, add_starts, leaving, put_in_order, starts_of};
 use junctions::junctions_along;
 use road_base::{Dir, Groups, NoMemory, NodeId, WayId};
 use road_model::laws::{name_order, number_order, roads_refer};
-use road_model::{Network, Profile, World};
+use road_model::{Block, KnownBlocks, Network, Profile, World};
 use std::alloc::Global;
 use way_lines::{LineNode, Road, RoadLine, Roads};
 
@@ -62,6 +67,17 @@ impl WayPieces {
         put_in_order(&mut starts)?;
         Ok(WayPieces { spans, starts })
     }
+
+    /// The pieces of the way that the block lists.
+    pub fn listed(alloc: Global, block: &Block) -> Result<WayPieces, NoMemory>
+        ensures { IfOk result (λ p. (M : Objects) (P : Rules) (w : WayId)
+            → ListsPieces M P w block.now
+            → AreWayPieces M P w p) }
+    {
+        let spans = spans_in(alloc, block)?;
+        let starts = starts_in(alloc, block)?;
+        Ok(WayPieces { spans, starts })
+    }
 }
 
 /// The pieces of the way, each once, by position and forward before backward.
@@ -97,15 +113,80 @@ fn add_ends(
     Ok(())
 }
 
-/// Adds the line where lines are kept.
-fn keep_line(lines: &mut Vec<RoadLine>, line: RoadLine, keeps: bool) -> Result<(), NoMemory>
-    ensures { OnOk result (lines.new.items ≡ cond keeps (lines.old.items ++ line ∷ []) lines.old.items) }
-{
-    if !keeps {
-        return Ok(());
+/// A way that was cut into pieces, and its line, where that is kept.
+#[derive(Drop)]
+struct CutRoad {
+    pieces: WayPieces,
+    line: Option<RoadLine>,
+}
+
+impl CutRoad {
+    /// The way whose directions these are: one of the own ways, whose line is kept, or a neighbour.
+    fn of<M: World, P: Profile, K: KnownBlocks>(
+        alloc: Global,
+        network: &Network<'_, M, P>,
+        roads: &Roads,
+        road: Road,
+        own: &[WayId],
+        known: &K,
+    ) -> Result<CutRoad, NoMemory>
+        requires roads { on network.now AreRoads roads.now }
+        requires road { on network.now IsRoad road }
+        requires known { on network.now AreKnown (K.blocks known.now) }
+        ensures { IfOk result (on network.now IsCutRoad road.way) }
+    {
+        if own.binary_search(&road.way).is_ok() {
+            return CutRoad::own(alloc, network, roads, road);
+        }
+        let pieces = pieces_beside(alloc, network, roads, road, known)?;
+        Ok(CutRoad { pieces, line: None })
     }
-    lines.push(line)?;
-    Ok(())
+
+    /// The way whose directions these are, with its line.
+    fn own<M: World, P: Profile>(
+        alloc: Global,
+        network: &Network<'_, M, P>,
+        roads: &Roads,
+        road: Road,
+    ) -> Result<CutRoad, NoMemory>
+        requires roads { on network.now AreRoads roads.now }
+        requires road { on network.now IsRoad road }
+        ensures { IfOk result (on network.now IsCutRoad road.way) }
+    {
+        let line = RoadLine::of(alloc, network, road)?;
+        let pieces = WayPieces::along(alloc, network, roads, &line)?;
+        Ok(CutRoad {
+            pieces,
+            line: Some(line),
+        })
+    }
+
+    /// Adds the nodes where the pieces of the way end, where its line is kept.
+    fn add_own_ends(&self, ends: &mut Vec<NodeId>) -> Result<(), NoMemory> {
+        match &self.line {
+            Some(line) => add_ends(ends, line.nodes.as_slice(), self.pieces.spans.as_slice()),
+            None => Ok(()),
+        }
+    }
+}
+
+/// The pieces of the way whose directions these are: those that its block lists, where that is known.
+fn pieces_beside<M: World, P: Profile, K: KnownBlocks>(
+    alloc: Global,
+    network: &Network<'_, M, P>,
+    roads: &Roads,
+    road: Road,
+    known: &K,
+) -> Result<WayPieces, NoMemory>
+    requires roads { on network.now AreRoads roads.now }
+    requires road { on network.now IsRoad road }
+    requires known { on network.now AreKnown (K.blocks known.now) }
+    ensures { IfOk result (on network.now AreWayPieces road.way) }
+{
+    match known.known(road.way) {
+        Some(block) => WayPieces::listed(alloc, block),
+        None => WayPieces::of(alloc, network, roads, road),
+    }
 }
 
 /// Roads that were cut into pieces, each once. The pieces of one of them are found in the time of a short search, where
@@ -116,11 +197,11 @@ pub struct RoadPieces {
     spans: Groups<PieceSpan>,
     starts: Groups<Start>,
     ends: Vec<NodeId>,
-    lines: Vec<RoadLine>,
+    lines: Vec<Option<RoadLine>>,
 }
 
 impl RoadPieces {
-    /// These ways, cut into pieces. One that isn't visible or is no road has none.
+    /// These ways, cut into pieces. One that isn't visible or is no road has none. No lines are kept.
     pub fn of<M: World, P: Profile>(
         alloc: Global,
         network: &Network<'_, M, P>,
@@ -129,43 +210,51 @@ impl RoadPieces {
         ensures are { IfOk result (on network.now AreRoadPieces) }
         ensures ways { IfOk result (λ p. map (λ x. x.way) p.roads.roads.items ≡ ways.now) }
     {
-        RoadPieces::cut(alloc, network, ways, false)
-    }
-
-    /// The same, with the lines of all these ways kept.
-    pub fn with_lines<M: World, P: Profile>(
-        alloc: Global,
-        network: &Network<'_, M, P>,
-        ways: &[WayId],
-    ) -> Result<RoadPieces, NoMemory>
-        ensures are { IfOk result (on network.now AreRoadPieces) }
-        ensures ways { IfOk result (λ p. map (λ x. x.way) p.roads.roads.items ≡ ways.now) }
-    {
-        RoadPieces::cut(alloc, network, ways, true)
-    }
-
-    /// These ways, cut into pieces, each along its line, which is kept or let go.
-    fn cut<M: World, P: Profile>(
-        alloc: Global,
-        network: &Network<'_, M, P>,
-        ways: &[WayId],
-        keeps_lines: bool,
-    ) -> Result<RoadPieces, NoMemory>
-        ensures are { IfOk result (on network.now AreRoadPieces) }
-        ensures ways { IfOk result (λ p. map (λ x. x.way) p.roads.roads.items ≡ ways.now) }
-    {
         let roads = Roads::of(alloc, network, ways)?;
         let mut spans = Groups::new(alloc);
         let mut starts = Groups::new(alloc);
         let mut ends = Vec::new(alloc);
-        let mut lines = Vec::new(alloc);
         for road in roads.items() {
             let line = RoadLine::of(alloc, network, *road)?;
             let pieces = WayPieces::along(alloc, network, &roads, &line)?;
             spans.push(pieces.spans.as_slice())?;
             starts.push(pieces.starts.as_slice())?;
             add_ends(&mut ends, line.nodes.as_slice(), pieces.spans.as_slice())?;
-            keep_line(&mut lines, line, keeps_lines)?;
+        }
+        Ok(RoadPieces {
+            roads,
+            spans,
+            starts,
+            ends,
+            lines: Vec::new(alloc),
+        })
+    }
+
+    /// The own ways, ascending, and the ways that they meet, which these are all together. The own ways are cut, and
+    /// their lines kept. Of a neighbour no line is kept, and where its block is known it isn't cut: its pieces are those
+    /// that the block lists.
+    pub fn around<M: World, P: Profile, K: KnownBlocks>(
+        alloc: Global,
+        network: &Network<'_, M, P>,
+        met: &[WayId],
+        own: &[WayId],
+        known: &K,
+    ) -> Result<RoadPieces, NoMemory>
+        requires known { on network.now AreKnown (K.blocks known.now) }
+        ensures are { IfOk result (on network.now AreRoadPieces) }
+        ensures ways { IfOk result (λ p. map (λ x. x.way) p.roads.roads.items ≡ met.now) }
+    {
+        let roads = Roads::of(alloc, network, met)?;
+        let mut spans = Groups::new(alloc);
+        let mut starts = Groups::new(alloc);
+        let mut ends = Vec::new(alloc);
+        let mut lines = Vec::with_capacity(alloc, met.len())?;
+        for road in roads.items() {
+            let cut = CutRoad::of(alloc, network, &roads, *road, own, known)?;
+            spans.push(cut.pieces.spans.as_slice())?;
+            starts.push(cut.pieces.starts.as_slice())?;
+            cut.add_own_ends(&mut ends)?;
+            lines.push(cut.line)?;
         }
         Ok(RoadPieces {
             roads,
@@ -183,20 +272,10 @@ impl RoadPieces {
         &self.roads
     }
 
-    /// The nodes where the pieces end, in no order, some more than once.
+    /// The nodes where the pieces of the own ways end, or of all ways where none are told from others; in no order, some
+    /// more than once.
     pub fn ends(&self) -> &[NodeId] {
         self.ends.as_slice()
-    }
-
-    /// The nodes where the pieces of these ways end, of those whose lines were kept; in no order, some more than once.
-    pub fn ends_on(&self, alloc: Global, ways: &[WayId]) -> Result<Vec<NodeId>, NoMemory> {
-        let mut ends = Vec::new(alloc);
-        for way in ways {
-            if let (Some(line), Some(spans)) = (self.line_of(*way), self.spans_of(*way)) {
-                add_ends(&mut ends, line.nodes.as_slice(), spans)?;
-            }
-        }
-        Ok(ends)
     }
 
     /// The same roads and pieces, where these start and end, and the lines, let go: what leaves a node is then cut for
@@ -238,7 +317,7 @@ impl RoadPieces {
         if at >= self.lines.len() {
             return None;
         }
-        Some(&self.lines[at])
+        self.lines[at].as_ref()
     }
 
     /// Where the pieces of the way start, by node, if it is found among those that were cut.

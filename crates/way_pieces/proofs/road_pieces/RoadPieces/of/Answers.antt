@@ -1,11 +1,10 @@
 -- The pieces of one road more, and where they start.
-use Rattle.std.proofs.Common.{◌≡◌, ℕ, ◌+◌, List, [], ◌∷◌, ◌++◌, length, get_or, pos, false, ap, subst, ◌∙◌, arith}
-use Rattle.std.proofs.lemmas.List.{length_push}
+use Rattle.std.proofs.Common.{◌≡◌, length, get_or, ap, subst, arith}
 use Rattle.road_base.specs.declared.ids.WayId.{WayId}
 use Rattle.way_lines.specs.declared.roads.Road.{Road}
-use Rattle.way_pieces.specs.RoadPieces.{AreSpans, AreStarts, IsLineOf}
-use Rattle.way_pieces.proofs.CutRoads.{none_known, more_known, kept_known, kept_count, known_of}
-use Rattle.way_pieces.proofs.road_pieces.RoadPieces.cut.Goals as goal
+use Rattle.way_pieces.specs.RoadPieces.{AreSpans, AreStarts, IsKeptLineOf}
+use Rattle.way_pieces.proofs.CutRoads.{none_known, more_known, known_of, one_longer, nowhere}
+use Rattle.way_pieces.proofs.road_pieces.RoadPieces.of.Goals as goal
 
 pub loop-road-init : goal.loop-road-init
 loop-road-init g c =
@@ -16,16 +15,7 @@ loop-road-init g c =
       start_count = ap length c.new-starts.ensures;
       spans = none_known (AreSpans M P) c.items-road-items.result.now c.new-spans.result c.new-spans.ensures;
       starts = none_known (AreStarts M P) c.items-road-items.result.now c.new-starts.result c.new-starts.ensures;
-      line_count = λ kept. ap length c.new-lines.ensures.items;
-      lines = none_known (IsLineOf M P) c.items-road-items.result.now c.new-lines.result.items
-          c.new-lines.ensures.items;
     }
-
-one_longer : {A : Type 0} (old new : List A) (x : A) (i : ℕ) → length old ≡ i → new ≡ old ++ x ∷ [] → length new ≡ i + 1
-one_longer old new x i count pushed = ap length pushed ∙ (length_push old x ∙ ap (λ k. k + 1) count)
-
-abbrev nowhere : Road
-nowhere = record { way = record { 0 = pos 0 }; forward = false; backward = false }
 
 pub loop-road-preserved : goal.loop-road-preserved
 loop-road-preserved g c =
@@ -34,8 +24,6 @@ loop-road-preserved g c =
     let i = c.loop-road.road-index in
     let way : c.in_ok-line.line.road.way ≡ (get_or c.items-road-items.result.now i nowhere).way =
     ap (λ (r : Road). r.way) c.in_ok-line.ensures.road in
-    let line : IsLineOf M P (get_or c.items-road-items.result.now i nowhere).way c.in_ok-line.line =
-    record { of = way; line = c.in_ok-line.ensures.line; short = c.in_ok-line.ensures.short } in
     record {
       span_count = one_longer c.loop-road.spans c.push.new.self c.as_slice.result.now i
           c.loop-road.invariant.span_count c.in_ok-push.ensures.ok;
@@ -52,11 +40,6 @@ loop-road-preserved g c =
           c.as_slice-in-loop-road.ensures.value
           (subst (λ (w : WayId). AreStarts M P w c.in_ok-pieces.pieces.starts.items) way c.in_ok-pieces.ensures.starts)
           c.loop-road.invariant.starts;
-      line_count = kept_count c.args.keeps_lines c.loop-road.lines.items c.keep_line.new.lines.items
-          c.in_ok-line.line i c.loop-road.invariant.line_count c.in_ok-keep_line.ensures;
-      lines = kept_known (IsLineOf M P) c.args.keeps_lines c.items-road-items.result.now i nowhere
-          c.loop-road.lines.items c.keep_line.new.lines.items c.in_ok-line.line c.loop-road-test.true
-          c.loop-road.invariant.line_count c.in_ok-keep_line.ensures line c.loop-road.invariant.lines;
     }
 
 pub returns-clause-are : goal.returns-clause-are
@@ -75,6 +58,5 @@ returns-clause-are g c =
           c.loop-road.invariant.spans;
       starts = known_of (AreStarts M P) c.items-road-items.result.now roads c.loop-road.starts
           c.items-road-items.ensures c.loop-road.invariant.starts;
-      lines = known_of (IsLineOf M P) c.items-road-items.result.now roads c.loop-road.lines.items
-          c.items-road-items.ensures c.loop-road.invariant.lines;
+      lines = none_known (IsKeptLineOf M P) roads _ c.new.ensures.items;
     }

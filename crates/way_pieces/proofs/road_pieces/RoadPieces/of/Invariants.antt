@@ -1,7 +1,7 @@
-use Rattle.std.proofs.Common.{◌≡◌, IsTrue, length}
-use Rattle.way_pieces.specs.RoadPieces.{AreSpans, AreStarts, IsLineOf}
+use Rattle.std.proofs.Common.{◌≡◌, length}
+use Rattle.way_pieces.specs.RoadPieces.{AreSpans, AreStarts}
 use Rattle.way_pieces.proofs.CutRoads.{AreKnown}
-use Rattle.way_pieces.proofs.road_pieces.RoadPieces.cut.Given as goal
+use Rattle.way_pieces.proofs.road_pieces.RoadPieces.of.Given as goal
 
 -- the roads so far were cut
 abbrev pub invariant-loop-road : goal.invariant-loop-road
@@ -13,6 +13,4 @@ invariant-loop-road g l =
       start_count : length l.starts ≡ l.road-index;
       spans : AreKnown (AreSpans M P) l.road-items l.spans;
       starts : AreKnown (AreStarts M P) l.road-items l.starts;
-      line_count : IsTrue l.keeps_lines → length l.lines.items ≡ l.road-index;
-      lines : AreKnown (IsLineOf M P) l.road-items l.lines.items;
     }

@@ -1,0 +1,33 @@
+-- What is read of a piece as a block lists it.
+use Rattle.std.specs.Prelude.{◌≡◌, ℕ, ◌-◌, List, [], ◌∷◌, Option, None, Some}
+use Rattle.road_base.specs.declared.ids.Dir.{Dir}
+use Rattle.road_base.specs.declared.ids.Dir.TheVariants.{Forward, Backward}
+use Rattle.road_model.specs.declared.lists.Place.{Place}
+use Rattle.road_model.specs.declared.lists.Piece.{Piece}
+use Rattle.way_pieces.specs.declared.spans.PieceSpan.{PieceSpan}
+use Rattle.way_pieces.specs.declared.starts.Start.{Start}
+
+-- its name and its end
+abbrev pub listed_span : Piece → PieceSpan
+listed_span e = record { name = e.name; end = e.end }
+
+-- the position of its first step, in this direction
+abbrev pub first_index : PieceSpan → Dir → ℕ
+first_index s Forward = s.name.index
+first_index s Backward = s.end - 1
+
+-- its start, where it passes these places in order of travel: it leaves the first one toward the second one
+abbrev pub start_along : PieceSpan → List Place → Option Start
+start_along s [] = None
+start_along s (from ∷ []) = None
+start_along s (from ∷ to ∷ more) = Some (record {
+  node = from.node;
+  departure = record {
+    piece = s.name;
+    first = record { way = s.name.way; index = first_index s s.name.dir; dir = s.name.dir };
+    toward = to.node;
+  };
+})
+
+abbrev pub listed_start : Piece → Option Start
+listed_start e = start_along (listed_span e) e.places

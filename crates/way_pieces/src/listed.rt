@@ -1,0 +1,96 @@
+//! The pieces of a way as its block lists them, and where they start.
+ghost use Rattle.std.specs.Prelude.{◌≡◌, IfOk, map};
+ghost use Rattle.std.specs.List.{filter_map};
+ghost use Rattle.road_base.specs.declared.ids.WayId.{WayId};
+ghost use Rattle.road_base.specs.Objects.{Objects};
+ghost use Rattle.road_model.specs.Rules.{Rules};
+ghost use Rattle.road_model.specs.Blocks.{ListsPieces};
+ghost use Rattle.way_pieces.specs.Listed.{first_index, listed_span, start_along, listed_start};
+ghost use Rattle.way_pieces.specs.RoadPieces.{AreSpans, AreStarts};
+
+use crate::departures::Departure;
+use crate::spans::PieceSpan;
+use crate::starts::{Start, put_in_order};
+use road_base::{Dir, NoMemory, Step};
+use road_model::{Block, Piece, Place};
+use std::alloc::{AllocError, Global};
+
+/// The pieces that the block lists, in its order.
+pub fn spans_in(alloc: Global, block: &Block) -> Result<Vec<PieceSpan>, NoMemory>
+    ensures { IfOk result (λ v. (M : Objects) (P : Rules) (w : WayId)
+        → ListsPieces M P w block.now
+        → AreSpans M P w v.items) }
+{
+    Ok(listed_spans(alloc, block.pieces.items())?)
+}
+
+fn listed_spans(alloc: Global, pieces: &[Piece]) -> Result<Vec<PieceSpan>, AllocError>
+    ensures { IfOk result (λ v. v.items ≡ map listed_span pieces.now) }
+{
+    pieces.iter().map(|piece| listed_span(piece)).collect(alloc)
+}
+
+/// The piece's name, and its end.
+fn listed_span(piece: &Piece) -> PieceSpan
+    ensures { result ≡ listed_span piece.now }
+{
+    PieceSpan {
+        name: piece.name,
+        end: piece.end,
+    }
+}
+
+/// Where the pieces start that the block lists, by node.
+pub fn starts_in(alloc: Global, block: &Block) -> Result<Vec<Start>, NoMemory>
+    ensures { IfOk result (λ v. (M : Objects) (P : Rules) (w : WayId)
+        → ListsPieces M P w block.now
+        → AreStarts M P w v.items) }
+{
+    let mut starts = listed_starts(alloc, block.pieces.items())?;
+    put_in_order(&mut starts)?;
+    Ok(starts)
+}
+
+/// Where each of the pieces starts that passes two nodes or more: all of them, in a graph.
+fn listed_starts(alloc: Global, pieces: &[Piece]) -> Result<Vec<Start>, NoMemory>
+    ensures { IfOk result (λ v. v.items ≡ filter_map listed_start pieces.now) }
+{
+    let mut starts = Vec::with_capacity(alloc, pieces.len())?;
+    for piece in pieces {
+        if let Some(start) = start_along(listed_span(piece), piece.places.items()) {
+            starts.push(start)?;
+        }
+    }
+    Ok(starts)
+}
+
+/// The start of the piece that passes these places, in order of travel.
+fn start_along(span: PieceSpan, places: &[Place]) -> Option<Start>
+    ensures { result ≡ start_along span places.now }
+{
+    let [from, to, ..] = places else {
+        return None;
+    };
+    Some(Start {
+        node: from.node,
+        departure: Departure {
+            piece: span.name,
+            first: Step {
+                way: span.name.way,
+                index: first_index(span),
+                dir: span.name.dir,
+            },
+            toward: to.node,
+        },
+    })
+}
+
+/// The position of the piece's first step.
+fn first_index(span: PieceSpan) -> u32
+    ensures { result ≡ first_index span span.name.dir }
+{
+    match span.name.dir {
+        Dir::Forward => span.name.index,
+        Dir::Backward => span.end.saturating_sub(1),
+    }
+}
