@@ -36,9 +36,9 @@ impl<'a, M: World, P: Profile> Model for GraphBuilder<'a, M, P> {
 }
 
 impl<'a, M: World, P: Profile> GraphBuilder<'a, M, P> {
-    /// For the blocks of these ways, ascending. They are cut into pieces, each once, and their lines are kept. So are
-    /// the ways that meet them cut, without their lines, but for those whose blocks are known: their pieces are those
-    /// that the blocks list. A block of any other way is built as well, but what it needs is then found for it alone.
+    /// For the blocks of these ways, ascending. They are cut into pieces, each once, and their lines are kept. The ways
+    /// that meet them are cut where their blocks aren't known; else their pieces are those that the blocks list. A block
+    /// of any other way is built as well, but what it needs is then found for it alone.
     pub fn of<K: KnownBlocks>(
         alloc: Global,
         world: &'a M,

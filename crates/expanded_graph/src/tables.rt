@@ -31,8 +31,9 @@ pub struct Tables {
 }
 
 impl Tables {
-    /// For blocks of these ways, ascending. They are cut into pieces, each of them once and its line kept, the ways that
-    /// meet them where no block of theirs is known, and the nodes where their own pieces end are asked what leaves them.
+    /// For blocks of these ways, ascending. They are cut into pieces, each of them once and its line kept, and the nodes
+    /// where these pieces end are asked what leaves them. Of the ways that meet them those are cut whose blocks aren't
+    /// known.
     pub fn of<M: World, P: Profile, K: KnownBlocks>(
         alloc: Global,
         network: &Network<'_, M, P>,

@@ -7,3 +7,5 @@ pub mod FirstSteps
 pub mod DepartureLists
 pub mod StartOrder
 pub mod CutRoads
+pub mod KeptLists
+pub mod ListedPieces

@@ -72,7 +72,7 @@ use Rattle.junctions.proofs.Positions.{some_same}
 
 -- ---- what a start has of its piece
 
-abbrev span : WayId → ℕ → ℕ → Dir → PieceSpan
+abbrev pub span : WayId → ℕ → ℕ → Dir → PieceSpan
 span w i j d = record { name = record { way = w; index = i; dir = d }; end = j }
 
 name_is : (nodes : List LineNode) (s : PieceSpan) (d : Dir) → (start_toward nodes s d).departure.piece ≡ s.name
@@ -103,7 +103,7 @@ module _ (M : Objects) (P : Rules) (nodes : List LineNode) (w : WayId)
   line_within : (k : ℕ) → k < length nodes → k < length (line_of M w)
   line_within k within = let same = as_long M P w nodes line in omega arith
 
-  there : (k : ℕ) → k < length nodes → node_at M w k ≡ Some (node_in nodes k)
+  pub there : (k : ℕ) → k < length nodes → node_at M w k ≡ Some (node_in nodes k)
   there k within = node_there M P w nodes line k no_node within
 
   leaves : (i j : ℕ) (d : Dir) → i < j → j < length nodes
@@ -129,7 +129,7 @@ module _ (M : Objects) (P : Rules) (nodes : List LineNode) (w : WayId)
 
 module _ (M : Objects) (P : Rules) (w : WayId) (nodes : List LineNode)
     (line : IsTrue (is_road M P w) → nodes ≡ map (line_node M P) (line_of M w)) where
-  line_by : (s : PieceSpan) → IsSpanOn M P w s → nodes ≡ map (line_node M P) (line_of M s.name.way)
+  pub line_by : (s : PieceSpan) → IsSpanOn M P w s → nodes ≡ map (line_node M P) (line_of M s.name.way)
   line_by s on =
       line (subst (λ v. IsTrue (is_road M P v)) on.of (piece_road M P (piece_of s) on.is))
       ∙ ap (λ v. map (line_node M P) (line_of M v)) (sym on.of)

@@ -183,14 +183,14 @@ fn pieces_beside<M: World, P: Profile, K: KnownBlocks>(
     requires known { on network.now AreKnown (K.blocks known.now) }
     ensures { IfOk result (on network.now AreWayPieces road.way) }
 {
-    match known.known(road.way) {
-        Some(block) => WayPieces::listed(alloc, block),
-        None => WayPieces::of(alloc, network, roads, road),
+    if let Some(block) = known.known(road.way) {
+        return WayPieces::listed(alloc, block);
     }
+    WayPieces::of(alloc, network, roads, road)
 }
 
-/// Roads that were cut into pieces, each once. The pieces of one of them are found in the time of a short search, where
-/// they were given in ascending order.
+/// Roads with their pieces, each once. The pieces of one of them are found in the time of a short search, where they
+/// were given in ascending order.
 #[derive(Drop)]
 pub struct RoadPieces {
     roads: Roads,
@@ -230,9 +230,9 @@ impl RoadPieces {
         })
     }
 
-    /// The own ways, ascending, and the ways that they meet, which these are all together. The own ways are cut, and
-    /// their lines kept. Of a neighbour no line is kept, and where its block is known it isn't cut: its pieces are those
-    /// that the block lists.
+    /// Own ways, ascending, and those that meet them, their neighbours; `met` has them all. The own ways are cut, and
+    /// their lines are kept. A neighbour whose block is known isn't cut: its pieces are those that the block lists. The
+    /// others are cut, but their lines let go.
     pub fn around<M: World, P: Profile, K: KnownBlocks>(
         alloc: Global,
         network: &Network<'_, M, P>,
@@ -265,14 +265,14 @@ impl RoadPieces {
         })
     }
 
-    /// The directions of the ways that were cut.
+    /// The directions of these ways.
     pub fn roads(&self) -> &Roads
         ensures { result.now ≡ self.now.roads }
     {
         &self.roads
     }
 
-    /// The nodes where the pieces of the own ways end, or of all ways where none are told from others; in no order, some
+    /// The nodes where the pieces of the own ways end, or those of all ways where none are told apart; in no order, some
     /// more than once.
     pub fn ends(&self) -> &[NodeId] {
         self.ends.as_slice()
@@ -294,7 +294,7 @@ impl RoadPieces {
         }
     }
 
-    /// The pieces of the way, if it is found among those that were cut.
+    /// The pieces of the way, if it is found among these.
     pub fn spans_of(&self, way: WayId) -> Option<&[PieceSpan]>
         ensures { IfSome result (λ spans. (M : Objects) (P : Rules)
             → AreRoadPieces M P self.now
@@ -320,7 +320,7 @@ impl RoadPieces {
         self.lines[at].as_ref()
     }
 
-    /// Where the pieces of the way start, by node, if it is found among those that were cut.
+    /// Where the pieces of the way start, by node, if it is found among these.
     fn starts_of(&self, way: WayId) -> Option<&[Start]>
         ensures { IfSome result (λ starts. (M : Objects) (P : Rules)
             → AreRoadPieces M P self.now
@@ -334,7 +334,7 @@ impl RoadPieces {
     }
 
     /// The pieces whose first step leaves the node, each once, ascending by name. A way at the node that isn't found
-    /// among those that were cut is cut for this call alone.
+    /// among these is cut for this call alone.
     pub fn departures<M: World, P: Profile>(
         &self,
         alloc: Global,

@@ -40,10 +40,10 @@ loop-road-preserved g c =
           c.as_slice-in-loop-road.ensures.value
           c.in_ok-cut.ensures.pieces.starts
           c.loop-road.invariant.starts;
-      line_count = one_longer c.loop-road.lines.items c.push-3.new.self.items cut.line i
+      line_count = one_longer c.loop-road.lines.items c.push-in-loop-road-2.new.self.items cut.line i
           c.loop-road.invariant.line_count c.in_ok-push-3.ensures.items;
       lines = more_known (IsKeptLineOf M P) c.items-road-items.result.now i nowhere c.loop-road.lines.items
-          c.push-3.new.self.items cut.line cut.line c.loop-road-test.true c.loop-road.invariant.line_count
+          c.push-in-loop-road-2.new.self.items cut.line cut.line c.loop-road-test.true c.loop-road.invariant.line_count
           c.in_ok-push-3.ensures.items refl c.in_ok-cut.ensures.line c.loop-road.invariant.lines;
     }
 
