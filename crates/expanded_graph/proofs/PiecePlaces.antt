@@ -43,7 +43,7 @@ use Rattle.std.proofs.Common.{
 }
 use Rattle.std.specs.List.{cons_option}
 use Rattle.std.proofs.lemmas.Bool.{false≢true}
-use Rattle.std.proofs.lemmas.List.{get_or-reverse, length-reverse, take_more, reverse-append, length-map}
+use Rattle.std.proofs.lemmas.List.{get_or-reverse, length-reverse, reverse-append, length-map}
 use Rattle.std.proofs.lemmas.List.Elements.{filter_map-append}
 use Rattle.std.proofs.lemmas.Option.{same_Some, slice_get_within, slice_get-get_or, get_or_from_slice_get}
 use Rattle.road_base.specs.declared.ids.NodeId.{NodeId}
@@ -70,16 +70,6 @@ use Rattle.way_pieces.proofs.DrivenSteps.{named_end}
 use Rattle.expanded_graph.proofs.Ends.{last_index, last_step, spell_ends, piece_on_line}
 
 -- ---- lists of those that lie somewhere
-
--- one node more
-pub located_more : (nodes : List LineNode) (i : ℕ) (s : LineNode) (o : Option Place) → i < length nodes
-    → s ≡ get_or nodes i s → place_of s ≡ o
-    → filter_map place_of (take (i + 1) nodes) ≡ filter_map place_of (take i nodes) ++ cons_option o []
-located_more nodes i s o within at is =
-    ap (filter_map place_of) (take_more nodes i s within)
-    ∙ filter_map-append place_of (take i nodes) (get_or nodes i s ∷ [])
-    ∙ ap (λ t. filter_map place_of (take i nodes) ++ cons_option (place_of t) []) (sym at)
-    ∙ ap (λ p. filter_map place_of (take i nodes) ++ cons_option p []) is
 
 reverse_option : {A : Type 0} (o : Option A) → reverse (cons_option o []) ≡ cons_option o []
 reverse_option None = refl

@@ -37,8 +37,8 @@ impl<'a, M: World, P: Profile> Model for GraphBuilder<'a, M, P> {
 
 impl<'a, M: World, P: Profile> GraphBuilder<'a, M, P> {
     /// For the blocks of these ways, ascending. They are cut into pieces, each once, and their lines are kept. The ways
-    /// that meet them are cut where their blocks aren't known; else their pieces are those that the blocks list. A block
-    /// of any other way is built as well, but what it needs is then found for it alone.
+    /// that meet them are cut where their blocks aren't known; else their pieces are those that the blocks list. A
+    /// block of any other way is built as well, but what it needs is then found for it alone.
     pub fn of<K: KnownBlocks>(
         alloc: Global,
         world: &'a M,

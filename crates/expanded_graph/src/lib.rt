@@ -1,13 +1,13 @@
 //! The block of a way: its pieces with the nodes that they pass, their contexts, and the arcs by which one drives on.
 //!
-//! `build_block` has the block of one way, `GraphBuilder` those of many. What blocks have in common is found once,
-//! when the builder is made, and nothing is added while blocks are built: the given ways cut into pieces, each once,
-//! with their lines (`way_pieces::RoadPieces`), and the pieces of the ways that meet them; for each node where pieces
-//! of given ways end, what its tags say and what leaves it; one automaton (`turn_automata`) of the words of
-//! restrictions that matter on the given ways; and its states in which contexts of two pieces or more may end, sorted
-//! by the piece that they end with. A way that meets given ones is cut as well, but not where its block is known
-//! (`KnownBlocks`): that lists its pieces. So where few blocks of a graph are built anew, their neighbours' lines aren't
-//! read. A builder for all roads keeps no lines. `build_block` finds all this for its way alone, and knows no blocks.
+//! `build_block` has the block of one way, `GraphBuilder` those of many. What blocks have in common is found once, when
+//! the builder is made, and nothing is added while blocks are built: the given ways cut into pieces, each once, with
+//! their lines (`way_pieces::RoadPieces`), and the pieces of the ways that meet them; for each node where pieces of
+//! given ways end, what its tags say and what leaves it; one automaton (`turn_automata`) of the words of restrictions
+//! that matter on the given ways; and its states in which contexts of two pieces or more may end, sorted by the piece
+//! that they end with. A way that meets given ones is cut as well, but not where its block is known (`KnownBlocks`):
+//! that lists its pieces. So where few blocks of a graph are built anew, their neighbours' lines aren't read. A builder
+//! for all roads keeps no lines. `build_block` finds all this for its way alone, and knows no blocks.
 //!
 //! The words that matter are those of the relations of the given ways, and of the ways on which these words have
 //! steps; each relation is judged once. Each state of the automaton is looked at once, in the time of the references

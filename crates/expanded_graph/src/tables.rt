@@ -19,7 +19,7 @@ use way_pieces::RoadPieces;
 
 /// What the blocks of ways are built from: the pieces of ways, the nodes where these end, the automaton of the words
 /// near the ways, and the states in which contexts may end. Nothing is added while blocks are built: a way that isn't
-/// among those that were cut is cut whenever it is met.
+/// among those whose pieces are known is cut whenever it is met.
 #[derive(Drop)]
 pub struct Tables {
     pub ways: Vec<WayId>,
@@ -31,9 +31,9 @@ pub struct Tables {
 }
 
 impl Tables {
-    /// For blocks of these ways, ascending. They are cut into pieces, each of them once and its line kept, and the nodes
-    /// where these pieces end are asked what leaves them. Of the ways that meet them those are cut whose blocks aren't
-    /// known.
+    /// For blocks of these ways, ascending. They are cut into pieces, each of them once and its line kept, and the
+    /// nodes where these pieces end are asked what leaves them. Of the ways that meet them those are cut whose blocks
+    /// aren't known.
     pub fn of<M: World, P: Profile, K: KnownBlocks>(
         alloc: Global,
         network: &Network<'_, M, P>,

@@ -3,10 +3,10 @@
 //! A way is cut from its line (`way_lines::RoadLine`), which is read once, and its junctions: with n references and w
 //! ways at their nodes in time of the order of n log n + w, and memory of the order of n. `RoadPieces` keeps the pieces
 //! of many ways, each cut once, and where they start, in flat lists: then a node's departures take, for each way there,
-//! a short search, the logarithm of the number of its pieces, and one step for each departure. Made by `around` it tells
-//! own ways from the neighbours that these meet: it keeps the lines of the own ones, in memory of the order of their
-//! references, and takes the pieces of a neighbour whose block is known from there, in the time that it takes to read
-//! and sort them, however long the neighbour's line. `departures_from` and `pieces_from` cut all ways at the node,
+//! a short search, the logarithm of the number of its pieces, and one step for each departure. Made by `around` it
+//! tells own ways from the neighbours that these meet: it keeps the lines of the own ones, in memory of the order of
+//! their references, and takes the pieces of a neighbour whose block is known from there, in the time that it takes to
+//! read and sort them, however long the neighbour's line. `departures_from` and `pieces_from` cut all ways at the node,
 //! `pieces_of`, `spans_of` and `spell` the way alone.
 #![tactic(auto)]
 

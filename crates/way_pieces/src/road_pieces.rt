@@ -272,8 +272,8 @@ impl RoadPieces {
         &self.roads
     }
 
-    /// The nodes where the pieces of the own ways end, or those of all ways where none are told apart; in no order, some
-    /// more than once.
+    /// The nodes where the pieces of the own ways end, or those of all ways where none are told apart; in no order,
+    /// some more than once.
     pub fn ends(&self) -> &[NodeId] {
         self.ends.as_slice()
     }
