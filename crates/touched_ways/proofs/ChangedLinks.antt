@@ -1,6 +1,6 @@
 -- What is within some links of a changed key, before a change or behind it, is found along the links behind it alone,
 -- but for those of the changed keys.
-use Rattle.std.proofs.Common.{◌≡◌, ℕ, suc, ◌⊎◌, inl, inr, List, refl, sym, ap, subst, Contains}
+use Rattle.std.proofs.Common.{◌≡◌, ℕ, suc, ◌⊎◌, inl, inr, List, sym, subst, Contains}
 use Rattle.std.proofs.Common.{◌∙◌}
 use Rattle.road_base.specs.declared.ids.NodeId.{NodeId}
 use Rattle.road_base.specs.declared.ids.WayId.{WayId}

@@ -6,6 +6,7 @@ mod LinkRounds
 mod ChangedLinks
 mod WayLists
 mod SamePieces
+mod ListedPieces
 mod StillWays
 mod StillTurns
 mod StillContexts

@@ -9,13 +9,15 @@ use Rattle.std.specs.List.{AllWithin}
 use Rattle.std.specs.List.Sorted.{IsSearchInRange, IsBinarySearchResult}
 use Rattle.std.proofs.lemmas.Bool.{cases_lt, false≢true}
 use Rattle.std.proofs.lemmas.Cmp.{tied_itself}
+use Rattle.std.proofs.Math.Seq.{take-append_seam}
 use Rattle.road_base.specs.declared.ids.WayId.{WayId}
 use Rattle.road_base.specs.Objects.{Objects}
-use Rattle.road_base.proofs.ListMembers.{contains_none}
+use Rattle.road_base.proofs.ListMembers.{contains_none, contains_from_in, in_from_contains}
 use Rattle.road_model.specs.Links.{IsTouched, AreTouched}
 use Rattle.road_model.specs.Local.{IsSameWithin}
 use Rattle.road_model.specs.Orders.{Lists, rises, way_cmp}
 use Rattle.road_model.proofs.SortedMaps.{search_below, search_behind}
+use Rattle.road_model.proofs.RisingLists.{take_rises, one_more_rises, below_last}
 use Rattle.touched_ways.specs.Altering.{AreParted, AreSplit, HereOrBeside, IsNearChange}
 use Rattle.touched_ways.proofs.WayLists.{same, one_longer, was_or_last, still_has, last_has}
 
@@ -60,6 +62,8 @@ module _ (close : List WayId) where
   pub parted_none : (near far : List WayId) → near ≡ [] → far ≡ [] → AreSplit close [] near far
   parted_none near far no_near no_far = record {
     count = cc (ap length no_near, ap length no_far);
+    within = λ w has. absurd (contains_none w (subst (λ l. Contains l w) no_near has));
+    ascending = λ up. subst (λ l. IsTrue (rises way_cmp l)) (sym no_near) refl;
     first = λ w has. absurd (contains_none w (subst (λ l. Contains l w) no_near has));
     second = λ w has. absurd (contains_none w (subst (λ l. Contains l w) no_far has));
     either = λ w has. absurd (contains_none w has);
@@ -67,13 +71,29 @@ module _ (close : List WayId) where
 
   module _ (list more near far : List WayId) (way : WayId) (longer : more ≡ list ++ way ∷ [])
       (are : AreSplit close list near far) where
+    -- the others ascend where all do
+    front : IsTrue (rises way_cmp more) → IsTrue (rises way_cmp list)
+    front up = subst (λ l. IsTrue (rises way_cmp l)) (take-append_seam list (way ∷ []))
+        (take_rises way_cmp (length list) (list ++ way ∷ []) (subst (λ l. IsTrue (rises way_cmp l)) longer up))
+
+    -- so do those in the first part, with the last way behind them
+    near_and_last : IsTotalOrder way_cmp → IsTrue (rises way_cmp more) → IsTrue (rises way_cmp (near ++ way ∷ []))
+    near_and_last total up = one_more_rises way_cmp near way (are.ascending (front up))
+        (λ w has. below_last way_cmp total list way (subst (λ l. IsTrue (rises way_cmp l)) longer up) w
+        (in_from_contains list w (are.within w (contains_from_in near w has))))
+
     -- the last way goes into the first part
-    pub parted_near : Contains close way → (pushed next others : List WayId) → pushed ≡ near ++ way ∷ []
-        → next ≡ pushed → others ≡ far → AreSplit close more next others
-    parted_near is pushed next others last_in same alike =
+    pub parted_near : IsTotalOrder way_cmp → Contains close way → (pushed next others : List WayId)
+        → pushed ≡ near ++ way ∷ [] → next ≡ pushed → others ≡ far → AreSplit close more next others
+    parted_near total is pushed next others last_in same alike =
         subst (λ l. AreSplit close more next l) (sym alike)
         (subst (λ l. AreSplit close more l far) (sym same) (record {
           count = count;
+          within = λ w has. elim (was_or_last near pushed way last_in w has) [
+            | inl earlier ↦ still_has list more way longer w (are.within w earlier)
+            | inr last ↦ last_has list more way longer w last
+          ];
+          ascending = λ up. subst (λ l. IsTrue (rises way_cmp l)) (sym last_in) (near_and_last total up);
           first = λ w has. elim (was_or_last near pushed way last_in w has)
               [ inl earlier ↦ are.first w earlier | inr last ↦ subst (Contains close) (sym last) is ];
           second = are.second;
@@ -95,6 +115,8 @@ module _ (close : List WayId) where
         subst (λ l. AreSplit close more l next) (sym alike)
         (subst (λ l. AreSplit close more near l) (sym same) (record {
           count = count;
+          within = λ w has. still_has list more way longer w (are.within w has);
+          ascending = λ up. are.ascending (front up);
           first = are.first;
           second = λ w has. elim (was_or_last far pushed way last_in w has)
               [ inl earlier ↦ are.second w earlier | inr last ↦ λ is. out (subst (Contains close) last is) ];
@@ -137,6 +159,7 @@ module _ (M N : Objects) (ways close all near away : List WayId) (are : AreSplit
   parted = record {
     count = are.count;
     touched = touched;
+    ascending = are.ascending (subst (λ l. IsTrue (rises way_cmp l)) (same all) touched.ascending);
     close = close_by;
     far = far_by;
     beside = λ w v isaway named change.

@@ -1,6 +1,6 @@
 -- Which blocks a change may alter. It may alter those of the ways near what it changes, those of ways that share a node
 -- with a way whose pieces it alters, and those of the ways that a restriction names beside one of these.
-use Rattle.std.specs.Prelude.{◌≡◌, ◌↔◌, ◌⊎◌, ℕ, ◌+◌, List, Contains, map, length}
+use Rattle.std.specs.Prelude.{◌≡◌, ◌↔◌, ◌⊎◌, ℕ, ◌+◌, List, Contains, map, length, IsTrue}
 use Rattle.road_base.specs.declared.ids.NodeId.{NodeId}
 use Rattle.road_base.specs.declared.ids.WayId.{WayId}
 use Rattle.road_base.specs.declared.ids.RelationId.{RelationId}
@@ -10,6 +10,7 @@ use Rattle.road_base.specs.Objects.{Objects}
 use Rattle.road_model.specs.declared.lists.PieceName.{PieceName}
 use Rattle.road_model.specs.declared.blocks.Block.{Block}
 use Rattle.road_model.specs.Rules.{Rules}
+use Rattle.road_model.specs.Orders.{rises, way_cmp}
 use Rattle.road_model.specs.Pieces.{Span, IsPiece}
 use Rattle.road_model.specs.Links.{RefersTo, HasMember, IsWithin, Differs, IsTouched, AreTouched}
 use Rattle.road_model.specs.Local.{IsSameWithin}
@@ -52,18 +53,21 @@ IsUnaltered M N P w =
     (IsTouched M N w → ⊥) ⊎ (IsStill M N P w × ((v : WayId) → AreNamedTogether N w v → IsStill M N P v))
 
 -- The touched ways in two parts: those near what the change changes, with those that a restriction names beside one
--- near, and the others.
+-- near, ascending, and the others.
 pub record AreParted (M N : Objects) (all near away : List WayId) : Type 0 where
   pub count : length near + length away ≡ length all
   pub touched : AreTouched M N all
+  pub ascending : IsTrue (rises way_cmp near)
   pub close : (w : WayId) → Contains near w → HereOrBeside N (IsNearChange M N) w
   pub far : (w : WayId) → (Contains near w → ⊥) → IsSameWithin 2 M N w
   pub beside : (w v : WayId) → Contains away w → AreNamedTogether N w v → IsSameWithin 2 M N v
   pub others : (w : WayId) → (Contains near w → ⊥) → (Contains away w → ⊥) → IsTouched M N w → ⊥
 
--- each way of the list is in one of two others: in the first where it is among the close ones
+-- each way of the list is in one of two others: in the first where it is among the close ones, in the list's order
 pub record AreSplit (close list near far : List WayId) : Type 0 where
   pub count : length near + length far ≡ length list
+  pub within : (w : WayId) → Contains near w → Contains list w
+  pub ascending : IsTrue (rises way_cmp list) → IsTrue (rises way_cmp near)
   pub first : (w : WayId) → Contains near w → Contains close w
   pub second : (w : WayId) → Contains far w → Contains close w → ⊥
   pub either : (w : WayId) → Contains list w → Contains near w ⊎ Contains far w

@@ -49,6 +49,7 @@ fn split(alloc: Global, ways: Ways, close: &Ways) -> Result<TouchedWays, NoMemor
     ensures all { IfOk result (λ t. t.all ≡ ways) }
     ensures split { IfOk result (λ t. AreSplit close.now ways t.near t.far) }
 {
+    name_order();
     let mut near = Vec::new(alloc);
     let mut far = Vec::with_capacity(alloc, ways.items().len())?;
     for way in ways.items() {
@@ -65,8 +66,8 @@ fn split(alloc: Global, ways: Ways, close: &Ways) -> Result<TouchedWays, NoMemor
     })
 }
 
-/// Whether the way is one of these, which ascend.
-fn is_among(ways: &Ways, way: WayId) -> bool
+/// Whether the way is one of these, which ascend. Takes no memory.
+pub fn is_among(ways: &Ways, way: WayId) -> bool
     requires { IsTrue (rises way_cmp ways.now) }
     ensures { IsTrue result ↔ Contains ways.now way }
 {

@@ -3,7 +3,7 @@ ghost use Rattle.std.specs.Prelude.{◌≡◌, ◌↔◌};
 ghost use Rattle.road_base.specs.declared.ids.WayId.{WayId};
 ghost use Rattle.road_base.specs.Objects.{Objects};
 ghost use Rattle.road_model.specs.declared.blocks.Block.{Block};
-ghost use Rattle.road_model.specs.Blocks.{IsBlock};
+ghost use Rattle.road_model.specs.Blocks.{IsBlock, ListsPieces};
 ghost use Rattle.road_model.specs.Local.{IsSameWithin};
 ghost use Rattle.touched_ways.specs.Altering.{HasSamePieces, IsUnaltered, listed_pieces};
 
@@ -32,4 +32,19 @@ pub fn listed_pieces_stay<P: Profile>(profile: &P)
         → IsBlock N (P.rules profile.now) w c
         → listed_pieces b ≡ listed_pieces c
         → HasSamePieces M N (P.rules profile.now) w }
+{}
+
+/// The block of a way lists its pieces.
+pub fn block_lists_pieces<P: Profile>(profile: &P)
+    ensures { (M : Objects) (w : WayId) (b : Block)
+        → IsBlock M (P.rules profile.now) w b
+        → ListsPieces M (P.rules profile.now) w b }
+{}
+
+/// Where nothing differs within two links of a way, its block before a change lists its pieces behind the change.
+pub fn far_blocks_list_pieces<P: Profile>(profile: &P)
+    ensures { (M N : Objects) (w : WayId) (b : Block)
+        → IsSameWithin 2 M N w
+        → IsBlock M (P.rules profile.now) w b
+        → ListsPieces N (P.rules profile.now) w b }
 {}

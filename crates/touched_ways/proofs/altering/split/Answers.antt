@@ -22,8 +22,8 @@ loop-way-preserved c =
     elim c.if-is_among.branch [
       | then-is_among+in_ok-push w ↦
           parted_near close (take i all) (take (i + 1) all) near far _ longer c.loop-way.invariant
-          (c.is_among.ensures.0 w.if-is_among.true) w.push.new.self.items c.if-is_among.near.items
-          c.if-is_among.far.items w.in_ok-push.ensures.items
+          c.name_order.ensures.ways (c.is_among.ensures.0 w.if-is_among.true) w.push.new.self.items
+          c.if-is_among.near.items c.if-is_among.far.items w.in_ok-push.ensures.items
           (ap (λ v. v.items) w.near-is) (ap (λ v. v.items) w.far-is)
       | else-is_among+in_ok-push-2 w ↦
           parted_far close (take i all) (take (i + 1) all) near far _ longer c.loop-way.invariant
