@@ -4,3 +4,4 @@ pub mod ListedBlocks
 pub mod RebuiltBlocks
 pub mod ComparedPieces
 pub mod AlteredBlocks
+mod KnownBlocks

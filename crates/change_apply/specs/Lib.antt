@@ -1,3 +1,4 @@
 pub mod Engines
 pub mod Rebuilding
+pub mod Standing
 pub mod Listing

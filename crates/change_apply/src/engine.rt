@@ -181,11 +181,12 @@ fn rebuild_after<P: Profile, L: Ledger>(
     prepared: &Prepared,
     steps: &mut Steps<L>,
 ) -> Result<(Rebuilt, u64), NoMemory>
-    requires { prepared.now.before ≡ graph.now.world }
+    requires before { prepared.now.before ≡ graph.now.world }
+    requires kept { AreKept graph.now.world (P.rules graph.now.profile) (block_at rebuilt.now graph.now.blocks.map) }
+    requires at_ways { AreAtTheirWays rebuilt.now }
     ensures kept { IfOk result (λ r.
-        AreKept graph.now.world (P.rules graph.now.profile) (block_at rebuilt.now graph.now.blocks.map)
-        → AreKept prepared.now.after (P.rules graph.now.profile) (block_at r.0.blocks graph.now.blocks.map)) }
-    ensures at_ways { IfOk result (λ r. AreAtTheirWays rebuilt.now → AreAtTheirWays r.0.blocks) }
+        AreKept prepared.now.after (P.rules graph.now.profile) (block_at r.0.blocks graph.now.blocks.map)) }
+    ensures at_ways { IfOk result (λ r. AreAtTheirWays r.0.blocks) }
     ensures touched { IfOk result (λ r. (ways : List WayNumber)
         → AreTouched graph.now.world prepared.now.after ways
         → r.1 ≡ length ways) }
@@ -201,16 +202,7 @@ fn rebuild_after<P: Profile, L: Ledger>(
     name_order();
     let touched = touched_by(alloc, &graph.world, prepared)?;
     let next = Next::of(&graph.world, prepared);
-    let profile = graph.profile;
-    let rebuilt = rebuild_touched(
-        alloc,
-        &next,
-        profile,
-        &touched,
-        &graph.blocks,
-        rebuilt,
-        steps,
-    )?;
+    let rebuilt = rebuild_touched(alloc, graph, &next, &touched, rebuilt, steps)?;
     Ok((rebuilt, touched.all.items().len() as u64))
 }
 

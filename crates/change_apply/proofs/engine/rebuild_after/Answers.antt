@@ -24,10 +24,10 @@ builds M after events ways old new applied touched few =
     inr (record { after = after; applied = applied; ways = ways; touched = touched }, few)
 
 pub touched_by-requires : goal.touched_by-requires
-touched_by-requires g c = c.requires
+touched_by-requires g c = c.requires.before
 
 pub of-next-requires : goal.of-next-requires
-of-next-requires g c = c.requires
+of-next-requires g c = c.requires.before
 
 pub returns-in_err-touched-clause-built : goal.returns-in_err-touched-clause-built
 returns-in_err-touched-clause-built g c = λ events applied. inl refl
@@ -37,8 +37,8 @@ returns-in_err-rebuilt-clause-built g c = λ events applied.
     let M = c.args.graph.now.world in
     let after = c.args.prepared.now.after in
     let touched = c.in_ok-touched.touched in
-    let parted = parted_of M c.args.prepared.now.before after after touched.all touched.near touched.far c.requires refl
-    c.in_ok-touched.ensures in
+    let parted = parted_of M c.args.prepared.now.before after after touched.all touched.near touched.far
+    c.requires.before refl c.in_ok-touched.ensures in
     builds M after events touched.all c.args.steps.now c.rebuild_touched.new.steps applied parted.touched
     (omega (arith, c.rebuild_touched.ensures.few, parted.count))
 
@@ -47,27 +47,34 @@ returns-clause-built g c = λ events applied.
     let M = c.args.graph.now.world in
     let after = c.args.prepared.now.after in
     let touched = c.in_ok-touched.touched in
-    let parted = parted_of M c.args.prepared.now.before after after touched.all touched.near touched.far c.requires refl
-    c.in_ok-touched.ensures in
+    let parted = parted_of M c.args.prepared.now.before after after touched.all touched.near touched.far
+    c.requires.before refl c.in_ok-touched.ensures in
     builds M after events touched.all c.args.steps.now c.rebuild_touched.new.steps applied parted.touched
     (omega (arith, c.rebuild_touched.ensures.few, parted.count))
 
-pub returns-clause-kept : goal.returns-clause-kept
-returns-clause-kept g c = λ kept.
-    let M = c.args.graph.now.world in
-    let P = g.P.Profile.rules c.args.graph.now.profile in
+-- the world before is that of the graph
+pub rebuild_touched-requires : goal.rebuild_touched-requires
+rebuild_touched-requires g c =
     let touched = c.in_ok-touched.touched in
+    record {
+      parted = parted_of c.args.graph.now.world c.args.prepared.now.before c.of-next.result c.args.prepared.now.after
+          touched.all touched.near touched.far c.requires.before c.of-next.ensures c.in_ok-touched.ensures;
+      kept = c.requires.kept;
+      at_ways = c.requires.at_ways;
+    }
+
+pub returns-clause-kept : goal.returns-clause-kept
+returns-clause-kept g c =
+    let P = g.P.Profile.rules c.args.graph.now.profile in
     let at = block_at c.in_ok-rebuilt.rebuilt.blocks c.args.graph.now.blocks.map in
-    let parted = parted_of M c.args.prepared.now.before c.of-next.result c.args.prepared.now.after touched.all
-    touched.near touched.far c.requires c.of-next.ensures c.in_ok-touched.ensures in
-    subst (λ (x : Objects). AreKept x P at) c.of-next.ensures (c.in_ok-rebuilt.ensures.kept M parted kept)
+    subst (λ (x : Objects). AreKept x P at) c.of-next.ensures c.in_ok-rebuilt.ensures.kept
 
 pub returns-clause-touched : goal.returns-clause-touched
 returns-clause-touched g c = λ ways are.
     let M = c.args.graph.now.world in
     let N = c.args.prepared.now.after in
     let touched = c.in_ok-touched.touched in
-    let parted = parted_of M c.args.prepared.now.before N N touched.all touched.near touched.far c.requires refl
+    let parted = parted_of M c.args.prepared.now.before N N touched.all touched.near touched.far c.requires.before refl
     c.in_ok-touched.ensures in
     ap length c.items.ensures ∙ ap length
     (lists_unique (λ (w : WayId). w) way_cmp c.name_order.ensures.ways (IsTouched M N) touched.all ways parted.touched
@@ -87,6 +94,6 @@ returns-clause-ways g c = λ events applied.
     let M = c.args.graph.now.world in
     let after = c.args.prepared.now.after in
     let touched = c.in_ok-touched.touched in
-    let parted = parted_of M c.args.prepared.now.before after after touched.all touched.near touched.far c.requires refl
-    c.in_ok-touched.ensures in
+    let parted = parted_of M c.args.prepared.now.before after after touched.all touched.near touched.far
+    c.requires.before refl c.in_ok-touched.ensures in
     record { after = after; applied = applied; ways = touched.all; touched = parted.touched }

@@ -40,7 +40,14 @@ pub returns-in_err-prepared-clause-built : goal.returns-in_err-prepared-clause-b
 returns-in_err-prepared-clause-built g c = inl refl
 
 pub rebuild_after-requires : goal.rebuild_after-requires
-rebuild_after-requires g c = c.in_ok-prepared.ensures.before ∙ sym c.prepare.ensures.same
+rebuild_after-requires g c =
+    let P = g.P.Profile.rules c.self.inside.graph.profile in
+    let at = block_at c.self.inside.rebuilt c.self.inside.graph.blocks.map in
+    record {
+      before = c.in_ok-prepared.ensures.before ∙ sym c.prepare.ensures.same;
+      kept = subst (λ (M : Objects). AreKept M P at) (sym c.prepare.ensures.same) c.self.invariant.0;
+      at_ways = c.self.invariant.1;
+    }
 
 pub commit-requires : goal.commit-requires
 commit-requires g c = c.in_ok-prepared.ensures.before ∙ sym c.prepare.ensures.same
@@ -71,12 +78,9 @@ returns-clause-built g c =
 pub invariant_of-self-2 : goal.invariant_of-self-2
 invariant_of-self-2 g c =
     let P = g.P.Profile.rules c.self.inside.graph.profile in
-    let blocks = c.self.inside.graph.blocks.map in
-    let was = subst (λ (M : Objects). AreKept M P (block_at c.self.inside.rebuilt blocks)) (sym c.prepare.ensures.same)
-    c.self.invariant.0 in (
-      subst (λ (M : Objects). AreKept M P (block_at c.in_ok-rebuilt.rebuilt.blocks blocks)) (sym c.commit.ensures)
-          (c.in_ok-rebuilt.ensures.kept was),
-      c.in_ok-rebuilt.ensures.at_ways c.self.invariant.1,
+    let at = block_at c.in_ok-rebuilt.rebuilt.blocks c.self.inside.graph.blocks.map in (
+      subst (λ (M : Objects). AreKept M P at) (sym c.commit.ensures) c.in_ok-rebuilt.ensures.kept,
+      c.in_ok-rebuilt.ensures.at_ways,
     )
 
 pub returns-clause-applied : goal.returns-clause-applied
