@@ -103,7 +103,7 @@ fn block_counts<L: Ledger>(
     block_counts_in::<L>(alloc, &world, way, blank)
 }
 
-/// Way 1 from node 1 to 2, way 2 from 2 to 3, and so on, with ways 4 and 5 both from node 4:
+/// The map of examples/overlapping_rules, without its restrictions:
 ///
 /// ```text
 ///                                        5
@@ -115,14 +115,14 @@ fn block_counts<L: Ledger>(
 const CHAIN: &[u8] = b"w1 Thighway=road Nn1,n2\nw2 Thighway=road Nn2,n3\nw3 Thighway=road Nn3,n4\n\
     w4 Thighway=road Nn4,n5\nw5 Thighway=road Nn4,n6\n";
 
-/// Ways 10 to 12, which meet at node 2:
+/// The map of examples/no_left_turn, without its restriction:
 ///
 /// ```text
-/// 1 --- w10 --- 2 --- w11 --- 3
+///               4
 ///               |
 ///              w12
 ///               |
-///               4
+/// 1 --- w10 --- 2 --- w11 --- 3
 /// ```
 const FORK: &[u8] =
     b"w10 Thighway=road Nn1,n2\nw11 Thighway=road Nn2,n3\nw12 Thighway=road Nn2,n4\n";
@@ -294,33 +294,28 @@ fn contexts_remember_where_one_came_from(rt: HostRuntime) -> Result<(), Fail> {
              2.0+ 3.0+ > 4.0+\n1.0+ 2.0+ 3.0+ >\n\
              3.0- > 2.0-\n4.0+ > 4.0-\n4.0- > 3.0- 5.0+\n5.0+ > 5.0-\n5.0- > 3.0- 4.0+\n",
         ),
-        // An Only rule over a via way binds once that way was entered, and not before:
+        // An Only rule over a via way binds once that way was entered, and not before; the map of
+        // examples/only_over_via_way:
         //
-        // 1 --- w1 --- 2 --- w2 --- 3 --- w3 --- 4
-        //              |            |
-        //             w4           w5
-        //              |            |
-        //              5            6
+        // 1 --- w10 --- 2 --- w11 --- 3 --- w12 --- 4
+        //               |             |
+        //              w13           w14
+        //               |             |
+        //               5             6
         (
-            b"w1 Thighway=road Nn1,n2\nw2 Thighway=road Nn2,n3\nw3 Thighway=road Nn3,n4\nw4 Thighway=road Nn2,n5\n\
-              w5 Thighway=road Nn3,n6\n",
-            b"r1 Ttype=restriction,restriction=only_straight_on Mw1@from,w2@via,w3@to",
-            "1.0+ > 2.0+/2 4.0+\n1.0- > 1.0+\n2.0+ > 3.0+ 5.0+\n1.0+ 2.0+ > 3.0+\n2.0- > 1.0- 4.0+\n3.0+ > 3.0-\n\
-             3.0- > 2.0- 5.0+\n4.0+ > 4.0-\n\
-             4.0- > 1.0- 2.0+\n5.0+ > 5.0-\n5.0- > 2.0- 3.0+\n",
+            b"w10 Thighway=road Nn1,n2\nw11 Thighway=road Nn2,n3\nw12 Thighway=road Nn3,n4\n\
+              w13 Thighway=road Nn2,n5\nw14 Thighway=road Nn3,n6\n",
+            b"r20 Ttype=restriction,restriction=only_straight_on Mw10@from,w11@via,w12@to",
+            "10.0+ > 11.0+/2 13.0+\n10.0- > 10.0+\n11.0+ > 12.0+ 14.0+\n10.0+ 11.0+ > 12.0+\n\
+             11.0- > 10.0- 13.0+\n12.0+ > 12.0-\n12.0- > 11.0- 14.0+\n13.0+ > 13.0-\n\
+             13.0- > 10.0- 11.0+\n14.0+ > 14.0-\n14.0- > 11.0- 12.0+\n",
         ),
-        // A via way that is a dead end: who came by way 1 may not turn round at its end.
-        //
-        // 1 --- w1 --- 2 --- w2 --- 3
-        //              |
-        //             w3
-        //              |
-        //              4
+        // A via way that is a dead end: who came by way 10 may not turn round at its end.
         (
-            b"w1 Thighway=road Nn1,n2\nw2 Thighway=road Nn2,n3\nw3 Thighway=road Nn2,n4\n",
-            b"r1 Ttype=restriction,restriction=no_u_turn Mw1@from,w2@via,w2@to",
-            "1.0+ > 2.0+/2 3.0+\n1.0- > 1.0+\n2.0+ > 2.0-\n1.0+ 2.0+ >\n2.0- > 1.0- 3.0+\n3.0+ > 3.0-\n\
-             3.0- > 1.0- 2.0+\n",
+            FORK,
+            b"r20 Ttype=restriction,restriction=no_u_turn Mw10@from,w11@via,w11@to",
+            "10.0+ > 11.0+/2 12.0+\n10.0- > 10.0+\n11.0+ > 11.0-\n10.0+ 11.0+ >\n11.0- > 10.0- 12.0+\n\
+             12.0+ > 12.0-\n12.0- > 10.0- 11.0+\n",
         ),
     ];
     for (map, rules, want) in cases {
