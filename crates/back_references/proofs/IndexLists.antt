@@ -18,7 +18,7 @@ use Rattle.road_model.specs.Orders.{rises, Lists}
 use Rattle.road_base.proofs.ListMembers.{In, in_from_contains, contains_from_in}
 use Rattle.road_base.proofs.ListMembers.{in_left, in_right, in_cases, contains_map}
 use Rattle.road_base.proofs.Comparisons.{turned}
-use Rattle.back_references.specs.Indexes.{Held, Has, Ascend, IsAmong, Stays, IsChosen}
+use Rattle.back_references.specs.Indexes.{Held, Has, Ascend, IsAmong, Stays, IsChosen, IsExchangedAt}
 use mathlib.Core.Bool.{false≢true}
 use Rattle.back_references.proofs.Lookups.{far}
 
@@ -204,12 +204,6 @@ module _ {K : Type 0} where
         ]),
       )
 
--- the exchange is made at the keys of the list and at no others
-abbrev pub IsUpTo : {K V : Type 0} → (K → K → Ordering) → List K → Held K V → List (K × V) → List (K × V) → Held K V
-    → Type 0
-IsUpTo {K} {V} R keys held gone come next = (k : K) (v : V) → Has R next k v
-    ↔ IsChosen (Contains keys k) (Stays (Has R held k v) gone come (k, v)) (Has R held k v)
-
 module _ {K : Type 0} (R : K → K → Ordering) (total : IsTotalOrder R) (exact : IsAntisymmetric R) where
   pub in_or_out : (keys : List K) (k : K) → Contains keys k ⊎ (¬ (Contains keys k))
   in_or_out [] k = inr (λ c. in_from_contains [] k c)
@@ -226,7 +220,7 @@ module _ {K : Type 0} (R : K → K → Ordering) (total : IsTotalOrder R) (exact
       ] refl
 
 module _ {K V : Type 0} (R : K → K → Ordering) (total : IsTotalOrder R) (exact : IsAntisymmetric R) where
-  pub up_none : (held next : Held K V) (gone come : List (K × V)) → next ≡ held → IsUpTo R [] held gone come next
+  pub up_none : (held next : Held K V) (gone come : List (K × V)) → next ≡ held → IsExchangedAt R [] held gone come next
   up_none held next gone come e k v = (
     λ h. inr (λ c. in_from_contains [] k c, subst (λ (it : Held K V). Has R it k v) e h),
     λ h. elim h [
@@ -236,10 +230,10 @@ module _ {K V : Type 0} (R : K → K → Ordering) (total : IsTotalOrder R) (exa
   )
 
   pub up_more : (front : List K) (key : K) (values : List V) (held next after : Held K V) (gone come : List (K × V))
-      → IsUpTo R front held gone come next → after.0 ≡ next.0
+      → IsExchangedAt R front held gone come next → after.0 ≡ next.0
       → ((k : K) → find R k after.1 ≡ cond (eq_by_cmp R k key) (Some values) (find R k next.1))
       → ((v : V) → Contains values v ↔ Stays (Has R held key v) gone come (key, v))
-      → IsUpTo R (front ++ key ∷ []) held gone come after
+      → IsExchangedAt R (front ++ key ∷ []) held gone come after
   up_more front key values held next after gone come upto base lists exactly k v =
       let A : Type 0 = Stays (Has R held k v) gone come (k, v) in
       let B : Type 0 = Has R held k v in
@@ -257,8 +251,44 @@ module _ {K V : Type 0} (R : K → K → Ordering) (total : IsTotalOrder R) (exa
             (upto k v)
       ] refl))
 
+  -- values that stay as they are leave the index as it is
+  pub up_same : (S : V → V → Ordering) (front : List K) (key : K) (values at : List V) (held next : Held K V) (gone come : List (K × V))
+      → IsExchangedAt R front held gone come next → values ≡ at → Lists (λ v. v) S (λ v. Has R held key v) at
+      → ((v : V) → Contains values v ↔ Stays (Has R held key v) gone come (key, v))
+      → IsExchangedAt R (front ++ key ∷ []) held gone come next
+  up_same S front key values at held next gone come upto same lists exactly k v =
+      let all : List K = front ++ key ∷ [] in
+      let A : Type 0 = Stays (Has R held k v) gone come (k, v) in
+      let B : Type 0 = Has R held k v in
+      let stays : Has R held key v → Stays (Has R held key v) gone come (key, v)
+      = λ h. (exactly v).0 (subst (λ l. Contains l v) (sym same) (lists.complete v h)) in
+      let has : Stays (Has R held key v) gone come (key, v) → Has R held key v
+      = λ s. lists.sound v (subst (λ l. Contains l v) same ((exactly v).1 s)) in
+      let last : Contains all k → ¬ (Contains front k) → k ≡ key
+      = λ c out. elim (contains_either front (key ∷ []) k c) [
+        | inl i ↦ absurd (out i)
+        | inr i ↦ elim (in_from_contains (key ∷ []) k i) [ inl e ↦ e | inr none ↦ absurd none ]
+      ] in (
+        λ h. elim ((upto k v).0 h) [
+          | inl p ↦ inl (contains_left front (key ∷ []) k p.0, p.1)
+          | inr p ↦ elim (in_or_out R total exact all k) [
+            | inl c ↦ let e : k ≡ key = last c p.0 in
+                inl (c, subst (λ n. Has R held n v → Stays (Has R held n v) gone come (n, v)) (sym e) stays p.1)
+            | inr out ↦ inr (out, p.1)
+          ]
+        ],
+        λ h. (upto k v).1 (elim h [
+          | inl p ↦ elim (in_or_out R total exact front k) [
+            | inl c ↦ inl (c, p.1)
+            | inr out ↦ let e : k ≡ key = last p.0 out in
+                inr (out, subst (λ n. Stays (Has R held n v) gone come (n, v) → Has R held n v) (sym e) has p.1)
+          ]
+          | inr p ↦ inr (λ c. p.0 (contains_left front (key ∷ []) k c), p.1)
+        ]),
+      )
+
   pub exchanged_all : (keys : List K) (held new : Held K V) (gone come out more : List (K × V))
-      → IsUpTo R keys held out more new → ((p : K × V) → Contains out p ↔ Contains gone p)
+      → IsExchangedAt R keys held out more new → ((p : K × V) → Contains out p ↔ Contains gone p)
       → ((p : K × V) → Contains more p ↔ Contains come p) → ((p : K × V) → Contains gone p → Contains keys p.0)
       → ((p : K × V) → Contains come p → Contains keys p.0) → (k : K) (v : V)
       → Has R new k v ↔ Stays (Has R held k v) gone come (k, v)

@@ -29,6 +29,13 @@ Stays Before gone come p = (Before × ¬ (Contains gone p)) ⊎ Contains come p
 abbrev pub IsChosen : Type 0 → Type 0 → Type 0 → Type 0
 IsChosen Condition This That = (Condition × This) ⊎ ((¬ Condition) × That)
 
+-- the second has at these keys what the first has, without the pairs that are gone and with those that came, and at all
+-- others what the first has
+abbrev pub IsExchangedAt : {K V : Type 0} → (K → K → Ordering) → List K → Held K V → List (K × V) → List (K × V)
+    → Held K V → Type 0
+IsExchangedAt {K} {V} R keys old gone come new = (k : K) (v : V) → Has R new k v
+    ↔ IsChosen (Contains keys k) (Stays (Has R old k v) gone come (k, v)) (Has R old k v)
+
 -- the second has what the first has, without the pairs that are gone and with those that came
 abbrev pub IsExchanged : {K V : Type 0} → (K → K → Ordering) → Held K V → List (K × V) → List (K × V) → Held K V
     → Type 0

@@ -1,13 +1,13 @@
 //! The values of each key, which changes follow.
-ghost use Rattle.std.specs.Prelude.{◌≡◌, ◌↔◌, [], IfOk, IsTrue, Contains, Some};
+ghost use Rattle.std.specs.Prelude.{◌≡◌, ◌↔◌, ◌++◌, ◌∷◌, [], List, IfOk, IsTrue, Contains, Some};
 ghost use Rattle.std.specs.Prelude.{if◌then◌else◌};
 ghost use Rattle.std.specs.FinMap.{IsAntisymmetric, find};
 ghost use Rattle.std.specs.Ordering.{eq_by_cmp};
 ghost use Rattle.road_model.specs.Orders.{Lists, rises};
-ghost use Rattle.back_references.specs.Indexes.{Has, IsExchanged, IsChosen, Stays};
+ghost use Rattle.back_references.specs.Indexes.{Has, IsExchanged, IsExchangedAt, Stays};
 ghost use Rattle.back_references.specs.Holding.{base_pairs};
 
-use crate::exchanges::{exchanged_values, keys_of};
+use crate::exchanges::{exchanged_values, keys_of, same_values};
 use crate::pair_list::PairList;
 use object_store::{SharedMap, Slotted};
 use road_base::{NoMemory, Numbered};
@@ -89,7 +89,8 @@ impl<K: Ord + Copy + Numbered + Slotted, V: Ord + Copy> Index<K, V> {
     }
 
     /// What is left without the pairs that are gone, with those that came. Takes the time of the pairs' sort, and of
-    /// the lists of their keys, each gone through once.
+    /// the lists of their keys, each gone through once. A pair that is gone and came as well takes no memory that
+    /// stays.
     pub fn exchanged(&self, gone: Vec<(K, V)>, come: Vec<(K, V)>) -> Result<Index<K, V>, NoMemory>
         requires keys { IsAntisymmetric K.cmp }
         requires values { IsAntisymmetric V.cmp }
@@ -126,16 +127,36 @@ impl<K: Ord + Copy + Numbered + Slotted, V: Ord + Copy> Index<K, V> {
     ) -> Result<Index<K, V>, NoMemory>
         requires keys { IsAntisymmetric K.cmp }
         requires values { IsAntisymmetric V.cmp }
-        ensures { IfOk result (λ i. (k : K) (v : V) → Has K.cmp i k v
-            ↔ IsChosen (Contains keys.now k) (Stays (Has K.cmp self.now k v) gone.now come.now (k, v))
-            (Has K.cmp self.now k v)) }
+        ensures { IfOk result (IsExchangedAt K.cmp keys.now self.now gone.now come.now) }
     {
         let mut next = self.share()?;
         for key in keys {
-            let values = self.values_after(*key, gone, come)?;
-            next = next.with_values(*key, values)?;
+            next = self.exchanged_more(next, *key, gone, come)?;
         }
         Ok(next)
+    }
+
+    /// The same at one key more, where `next` is what it comes to at some. Where the values of the key stay, so does
+    /// what is kept.
+    fn exchanged_more(
+        &self,
+        next: Index<K, V>,
+        key: K,
+        gone: &PairList<K, V>,
+        come: &PairList<K, V>,
+    ) -> Result<Index<K, V>, NoMemory>
+        requires keys { IsAntisymmetric K.cmp }
+        requires values { IsAntisymmetric V.cmp }
+        ensures { IfOk result (λ i. (keys : List K)
+            → IsExchangedAt K.cmp keys self.now gone.now come.now next
+            → IsExchangedAt K.cmp (keys ++ key ∷ []) self.now gone.now come.now i) }
+    {
+        let values = self.values_after(key, gone, come)?;
+        if same_values(values.as_slice(), self.at(key)) {
+            return Ok(next);
+        }
+        let more = next.with_values(key, values)?;
+        Ok(more)
     }
 
     /// The values of the key without those that are gone, with those that came, ascending.
