@@ -15,7 +15,11 @@ use crate::states::States;
 use road_base::{NoMemory, NodeId, Ranges, WayId};
 use road_model::{KnownBlocks, Network, Profile, World};
 use std::alloc::Global;
+use std::collections::BTreeSet;
 use way_pieces::RoadPieces;
+
+/// A node at which more ways meet is a hub.
+const FEW: usize = 8;
 
 /// What the blocks of ways are built from: the pieces of ways, the nodes where these end, the automaton of the words
 /// near the ways, and the states in which contexts may end. Nothing is added while blocks are built: a way that isn't
@@ -119,35 +123,47 @@ fn states_with_endings<M: World, P: Profile>(
     Ok((states, endings))
 }
 
-/// The ways and those that meet them at some node, each once, ascending.
+/// The ways and those that meet them at some node, each once, ascending. The ways at a node with many are taken once.
 fn ways_met<M: World, P: Profile>(
     alloc: Global,
     network: &Network<'_, M, P>,
     ways: &[WayId],
 ) -> Result<Vec<WayId>, NoMemory> {
-    let nodes = nodes_of(alloc, network, ways)?;
+    let mut hubs = BTreeSet::new(alloc);
     let mut met = ways.to_vec(alloc)?;
-    for node in nodes.as_slice() {
-        met.extend_from_slice(network.world.ways_at(*node))?;
+    for way in ways {
+        add_ways_met(network, *way, &mut hubs, &mut met)?;
     }
     met.sort_unstable();
     met.dedup();
     Ok(met)
 }
 
-/// The nodes to which the ways refer, each once: many ways may meet at one.
-fn nodes_of<M: World, P: Profile>(
-    alloc: Global,
+/// Adds the ways that meet this one at some node, but at none of the hubs, whose ways were added.
+fn add_ways_met<M: World, P: Profile>(
     network: &Network<'_, M, P>,
-    ways: &[WayId],
-) -> Result<Vec<NodeId>, NoMemory> {
-    let mut nodes = Vec::new(alloc);
-    for way in ways {
-        if let Some(body) = network.world.way(*way) {
-            nodes.extend_from_slice(body.refs.items())?;
+    way: WayId,
+    hubs: &mut BTreeSet<NodeId>,
+    met: &mut Vec<WayId>,
+) -> Result<(), NoMemory> {
+    let Some(body) = network.world.way(way) else {
+        return Ok(());
+    };
+    for node in body.refs.items() {
+        let ways = network.world.ways_at(*node);
+        if ways.len() <= FEW || hubs.insert(*node)? {
+            add_others(ways, way, met)?;
         }
     }
-    nodes.sort_unstable();
-    nodes.dedup();
-    Ok(nodes)
+    Ok(())
+}
+
+/// Adds the ways at a node but this one.
+fn add_others(ways: &[WayId], way: WayId, met: &mut Vec<WayId>) -> Result<(), NoMemory> {
+    for other in ways {
+        if *other != way {
+            met.push(*other)?;
+        }
+    }
+    Ok(())
 }
