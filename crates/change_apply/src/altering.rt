@@ -3,17 +3,19 @@ ghost use Rattle.std.specs.Prelude.{◌≡◌, Contains, IfOk, IsTrue};
 ghost use Rattle.road_base.specs.declared.ids.WayId.{WayId as WayNumber};
 ghost use Rattle.change_apply.specs.Rebuilding.{listed, pieces_at};
 
+use crate::known::listed_at;
 use object_store::SharedMap;
-use road_base::{NoMemory, WayId};
+use road_base::{NoMemory, Ranges, WayId};
 use road_model::laws::name_order;
 use road_model::{Block, Blocks, Piece};
 use std::alloc::Global;
 
-/// Those of the ways that list other pieces, by names and ends, than before, in their order. Takes two look-ups a way,
-/// and the time of their pieces.
+/// Those of the ways that list other pieces, by names and ends, than before, in their order. The ranges are
+/// hints where the listed block of a way may stand. Takes two look-ups a way, and the time of their pieces.
 pub fn altered(
     alloc: Global,
     blocks: &Blocks,
+    ranges: &Ranges,
     before: &SharedMap<WayId, Block>,
     after: &SharedMap<WayId, Block>,
     ways: &[WayId],
@@ -25,8 +27,8 @@ pub fn altered(
 {
     let mut altered = Vec::new(alloc);
     for way in ways {
-        let was = pieces_at(blocks, before, *way);
-        let is = pieces_at(blocks, after, *way);
+        let was = pieces_at(blocks, ranges, before, *way);
+        let is = pieces_at(blocks, ranges, after, *way);
         if !same_pieces(was, is) {
             altered.push(*way)?;
         }
@@ -37,6 +39,7 @@ pub fn altered(
 /// The pieces of the way: those of the block that was built since, if one was, and else of the listed one.
 fn pieces_at<'a>(
     blocks: &'a Blocks,
+    ranges: &Ranges,
     rebuilt: &'a SharedMap<WayId, Block>,
     way: WayId,
 ) -> &'a [Piece]
@@ -45,7 +48,7 @@ fn pieces_at<'a>(
     name_order();
     match rebuilt.get(way) {
         Some(block) => block.pieces.items(),
-        None => match blocks.get(way) {
+        None => match listed_at(blocks, ranges, way) {
             Some(block) => block.pieces.items(),
             None => &[],
         },

@@ -200,18 +200,21 @@ pub fn rebuild_touched<M: World, P: Profile, L: Ledger>(
     block_lists_pieces(&profile);
     far_blocks_list_pieces(&profile);
     let listed = &graph.blocks;
+    let ranges = &graph.ranges;
     let near = touched.near.items();
     let standing = Standing {
         listed,
+        ranges,
         rebuilt,
         but: &touched.near,
     };
     let first = rebuild(alloc, next, profile, near, &standing, rebuilt, steps)?;
-    let altered = altered(alloc, listed, rebuilt, &first, near)?;
+    let altered = altered(alloc, listed, ranges, rebuilt, &first, near)?;
     let met = meeting(alloc, next, &touched.far, altered.as_slice())?;
     let none = Ways::from_list(Vec::new(alloc));
     let standing = Standing {
         listed,
+        ranges,
         rebuilt: &first,
         but: &none,
     };

@@ -23,7 +23,7 @@ use crate::touching::touched_by;
 use back_references::{Indexed, Next, Prepared};
 use object_store::SharedMap;
 use road_base::laws::one_map;
-use road_base::{Event, NoMemory, Steps, WayId};
+use road_base::{Event, NoMemory, Ranges, Steps, WayId};
 use road_model::laws::name_order;
 use road_model::{Block, Blocks, Profile};
 use std::alloc::Global;
@@ -45,6 +45,8 @@ pub struct RoadGraph<P: Profile> {
     pub profile: P,
     pub world: Indexed,
     pub blocks: Blocks,
+    /// Where the block of a way may stand among these: hints.
+    pub ranges: Ranges,
 }
 
 /// A world with the blocks of all its ways with pieces.
@@ -92,12 +94,14 @@ impl<P: Profile> Engine<P> {
         one_map();
         let world = Indexed::of(alloc, events)?;
         let blocks = build(alloc, &world, profile, steps)?;
+        let ranges = Ranges::of(alloc, blocks.items());
         Ok(Engine {
             alloc,
             graph: RoadGraph {
                 profile,
                 world,
                 blocks,
+                ranges,
             },
             rebuilt: SharedMap::new(),
         })
@@ -166,7 +170,12 @@ impl<P: Profile> Engine<P> {
             (IsRoadBlock self.old.world (P.rules self.old.profile)) (values g.now.blocks.map)) }
         ensures forms { IfOk result (λ g. AllByRecursion IsBlockForm (values g.now.blocks.map)) }
     {
-        list_all(self.alloc, &mut self.rebuilt, &mut self.graph.blocks)?;
+        list_all(
+            self.alloc,
+            &mut self.rebuilt,
+            &mut self.graph.blocks,
+            &mut self.graph.ranges,
+        )?;
         let _items = self.graph.blocks.items();
         Ok(&self.graph)
     }
@@ -212,6 +221,7 @@ fn list_all(
     alloc: Global,
     rebuilt: &mut SharedMap<WayId, Block>,
     blocks: &mut Blocks,
+    ranges: &mut Ranges,
 ) -> Result<(), NoMemory>
     requires { AreAtTheirWays rebuilt.old }
     ensures none { OnOk result (rebuilt.new ≡ []) }
@@ -224,5 +234,6 @@ fn list_all(
     }
     list_rebuilt(alloc, rebuilt, blocks)?;
     *rebuilt = SharedMap::new();
+    *ranges = Ranges::of(alloc, blocks.items());
     Ok(())
 }

@@ -9,7 +9,7 @@ ghost use Rattle.road_model.specs.Orders.{way_cmp, rises};
 ghost use Rattle.road_model.specs.declared.blocks.Block.{Block};
 
 use crate::Pieces;
-use road_base::{NoMemory, WayId};
+use road_base::{NoMemory, Numbered, WayId};
 use std::alloc::Global;
 use std::marker::Model;
 
@@ -30,6 +30,13 @@ impl Block {
             way: self.way,
             pieces,
         })
+    }
+}
+
+impl Numbered for Block {
+    /// That of its way.
+    fn number(&self) -> i64 {
+        self.way.0
     }
 }
 

@@ -17,4 +17,4 @@ returns-in-None c =
     let known = known_newest c.name_order.ensures.way_ties s.but.now s.rebuilt.now s.listed.now.map c.args.way
     c.is_among.result c.is_among.ensures c.if-is_among.false in
     let found = sym c.get.ensures ∙ ap option_copied c.in-None.is in
-    c.get-in-None.ensures ∙ sym (known ∙ newest_as s.rebuilt.now s.listed.now.map c.args.way None found)
+    c.listed_at.ensures ∙ sym (known ∙ newest_as s.rebuilt.now s.listed.now.map c.args.way None found)
