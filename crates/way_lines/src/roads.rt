@@ -84,8 +84,15 @@ impl Roads {
         for way in ways {
             roads.push(Road::of(network, *way))?;
         }
+        Ok(Roads::from_list(alloc, roads))
+    }
+
+    /// These, in their order. Nothing is asked.
+    pub fn from_list(alloc: Global, roads: Vec<Road>) -> Roads
+        ensures { result.roads.items ≡ roads.items }
+    {
         let ranges = Ranges::of(alloc, roads.as_slice());
-        Ok(Roads { roads, ranges })
+        Roads { roads, ranges }
     }
 
     /// All of them, in the order of the ways that were asked.

@@ -12,6 +12,7 @@ use Rattle.std.proofs.Common.{
   ◌∷◌,
   ◌++◌,
   length,
+  map,
   get_or,
   slice_get,
   Some,
@@ -26,10 +27,11 @@ use Rattle.std.proofs.Common.{
   ◌∙◌,
   arith,
 }
-use Rattle.std.proofs.lemmas.List.{length_push}
+use Rattle.std.proofs.lemmas.List.{length_push, length-map, get_or-map}
 use Rattle.std.proofs.lemmas.Option.{same_Some, none-some, slice_get-get_or}
 use Rattle.road_base.specs.declared.ids.WayId.{WayId}
 use Rattle.way_lines.specs.declared.roads.Road.{Road}
+use Rattle.way_pieces.specs.declared.met_ways.MetWay.{MetWay}
 
 -- the last one, or one of those before
 pushed_cases : {A : Type 0} (xs : List A) (x y : A) (k : ℕ) → slice_get (xs ++ x ∷ []) k ≡ Some y
@@ -76,3 +78,22 @@ one_longer old new x i count pushed = ap length pushed ∙ (length_push old x �
 -- no road
 abbrev pub nowhere : Road
 nowhere = record { way = record { 0 = pos 0 }; forward = false; backward = false }
+
+-- ---- ways that are met
+
+abbrev pub roads_in : List MetWay → List Road
+roads_in ms = map (λ (m : MetWay). m.road) ms
+
+pub ways_in : (ms : List MetWay) → map (λ (r : Road). r.way) (roads_in ms) ≡ map (λ (m : MetWay). m.road.way) ms
+ways_in [] = refl
+ways_in (m ∷ ms) = ap (λ (l : List WayId). m.road.way ∷ l) (ways_in ms)
+
+-- one of them more
+pub one_met : {A : Type 0} (Is : WayId → A → Type 0) (ms : List MetWay) (i : ℕ) (m : MetWay) (old new : List A)
+    (x y : A) → i < length ms → m ≡ get_or ms i m → length old ≡ i → new ≡ old ++ y ∷ [] → y ≡ x → Is m.road.way x
+    → AreKnown Is (roads_in ms) old → AreKnown Is (roads_in ms) new
+one_met Is ms i m old new x y within at count pushed same is known =
+    let road = λ (m : MetWay). m.road in
+    let here : get_or (roads_in ms) i nowhere ≡ m.road = get_or-map road ms i m nowhere within ∙ ap road (sym at) in
+    more_known Is (roads_in ms) i nowhere old new x y (subst (λ n. i < n) (sym (length-map ms road)) within) count
+    pushed same (subst (λ (r : Road). Is r.way x) (sym here) is) known

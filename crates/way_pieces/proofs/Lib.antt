@@ -8,4 +8,5 @@ pub mod DepartureLists
 pub mod StartOrder
 pub mod CutRoads
 pub mod KeptLists
+pub mod ListedDirections
 pub mod ListedPieces

@@ -1,16 +1,20 @@
 -- The pieces of a way, its line, and the departures over it by the node that they leave.
-use Rattle.std.specs.Prelude.{◌≡◌, ◌≤◌, ℕ, List, Option, Some, IfSome, length, slice_get}
+use Rattle.std.specs.Prelude.{◌≡◌, ◌≤◌, ℕ, ⊤, List, Option, Some, IfSome, length, slice_get}
 use Rattle.std.specs.List.Sorted.{IsSortedByKey}
 use Rattle.road_base.specs.declared.ids.NodeId.{NodeId}
 use Rattle.road_base.specs.declared.ids.WayId.{WayId}
 use Rattle.road_base.specs.Objects.{Objects}
 use Rattle.road_model.specs.Rules.{Rules}
+use Rattle.road_model.specs.Blocks.{ListsPieces}
 use Rattle.road_model.specs.Orders.{Lists, node_cmp, name_cmp}
 use Rattle.way_lines.specs.declared.roads.Road.{Road}
 use Rattle.way_lines.specs.declared.road_line.RoadLine.{RoadLine}
-use Rattle.way_lines.specs.RoadLines.{AreRoads, IsRoadLine}
+use Rattle.way_lines.specs.RoadLines.{AreRoads, IsRoad, IsRoadLine}
 use Rattle.way_pieces.specs.declared.spans.PieceSpan.{PieceSpan}
 use Rattle.way_pieces.specs.declared.starts.Start.{Start}
+use Rattle.way_pieces.specs.declared.met_ways.Source.{Source}
+use Rattle.way_pieces.specs.declared.met_ways.Source.TheVariants.{Own, Listed, Cut}
+use Rattle.way_pieces.specs.declared.met_ways.MetWay.{MetWay}
 use Rattle.way_pieces.specs.declared.road_pieces.WayPieces.{WayPieces}
 use Rattle.way_pieces.specs.declared.road_pieces.CutRoad.{CutRoad}
 use Rattle.way_pieces.specs.declared.road_pieces.RoadPieces.{RoadPieces}
@@ -31,6 +35,17 @@ pub record AreStarts (M : Objects) (P : Rules) (w : WayId) (starts : List Start)
 pub record AreWayPieces (M : Objects) (P : Rules) (w : WayId) (t : WayPieces) : Type 0 where
   pub spans : AreSpans M P w t.spans.items
   pub starts : AreStarts M P w t.starts.items
+
+-- where the pieces of the way are those that a block lists, it does list them
+abbrev pub IsSource : Objects → Rules → WayId → Source → Type 0
+IsSource M P w Own = ⊤
+IsSource M P w (Listed block) = ListsPieces M P w block.now
+IsSource M P w Cut = ⊤
+
+-- the directions of the way, and where its pieces come from
+pub record IsMetWay (M : Objects) (P : Rules) (m : MetWay) : Type 0 where
+  pub road : IsRoad M P m.road
+  pub source : IsSource M P m.road.way m.source
 
 -- the line of the way
 pub record IsLineOf (M : Objects) (P : Rules) (w : WayId) (l : RoadLine) : Type 0 where

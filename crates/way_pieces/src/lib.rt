@@ -6,12 +6,14 @@
 //! a short search, the logarithm of the number of its pieces, and one step for each departure. Made by `around` it
 //! tells own ways from the neighbours that these meet: it keeps the lines of the own ones, in memory of the order of
 //! their references, and takes the pieces of a neighbour whose block is known from there, in the time that it takes to
-//! read and sort them, however long the neighbour's line. `departures_from` and `pieces_from` cut all ways at the node,
-//! `pieces_of`, `spans_of` and `spell` the way alone.
+//! read and sort them, however long the neighbour's line; where the block lists any, the neighbour isn't looked up, nor
+//! its tags asked. `departures_from` and `pieces_from` cut all ways at the node, `pieces_of`, `spans_of` and `spell`
+//! the way alone.
 #![tactic(auto)]
 
 mod departures;
 mod listed;
+mod met_ways;
 mod names;
 mod road_pieces;
 mod spans;

@@ -1,19 +1,54 @@
-//! The pieces of a way as its block lists them, and where they start.
-ghost use Rattle.std.specs.Prelude.{◌≡◌, IfOk, map};
-ghost use Rattle.std.specs.List.{filter_map};
+//! The pieces of a way as its block lists them, where they start, and the directions in which the way is open.
+ghost use Rattle.std.specs.Prelude.{◌≡◌, IfOk, IfSome, map};
+ghost use Rattle.std.specs.List.{filter_map, list_any};
 ghost use Rattle.road_base.specs.declared.ids.WayId.{WayId};
 ghost use Rattle.road_base.specs.Objects.{Objects};
 ghost use Rattle.road_model.specs.Rules.{Rules};
 ghost use Rattle.road_model.specs.Blocks.{ListsPieces};
-ghost use Rattle.way_pieces.specs.Listed.{first_index, listed_span, start_along, listed_start};
+ghost use Rattle.way_lines.specs.RoadLines.{IsRoad};
+ghost use Rattle.way_pieces.specs.Listed.{first_index, goes, listed_span, start_along, listed_start};
 ghost use Rattle.way_pieces.specs.RoadPieces.{AreSpans, AreStarts};
 
 use crate::departures::Departure;
 use crate::spans::PieceSpan;
 use crate::starts::{Start, put_in_order};
-use road_base::{Dir, NoMemory, Step};
+use road_base::{Dir, NoMemory, Step, WayId};
 use road_model::{Block, Piece, Place};
 use std::alloc::{AllocError, Global};
+use way_lines::Road;
+
+/// The directions in which the way is open whose pieces the block lists: each in which one of them goes. None where it
+/// lists no piece: then nothing is known of them.
+pub fn listed_road(way: WayId, block: &Block) -> Option<Road>
+    ensures way { IfSome result (λ r. r.way ≡ way) }
+    ensures directions { IfSome result (λ r. (M : Objects) (P : Rules)
+        → ListsPieces M P way block.now
+        → IsRoad M P r) }
+{
+    let pieces = block.pieces.items();
+    if pieces.is_empty() {
+        return None;
+    }
+    Some(Road {
+        way,
+        forward: some_goes(pieces, Dir::Forward),
+        backward: some_goes(pieces, Dir::Backward),
+    })
+}
+
+/// Whether some of the pieces goes in the direction.
+fn some_goes(pieces: &[Piece], dir: Dir) -> bool
+    ensures { result ≡ list_any (goes dir) pieces.now }
+{
+    pieces.iter().any(|piece| goes(piece, dir))
+}
+
+/// Whether the piece goes in the direction.
+fn goes(piece: &Piece, dir: Dir) -> bool
+    ensures { result ≡ goes dir piece.now }
+{
+    piece.name.dir == dir
+}
 
 /// The pieces that the block lists, in its order.
 pub fn spans_in(alloc: Global, block: &Block) -> Result<Vec<PieceSpan>, NoMemory>

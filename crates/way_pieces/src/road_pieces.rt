@@ -11,10 +11,11 @@ ghost use Rattle.way_lines.specs.RoadLines.{AreRoads, IsRoad, IsRoadLine};
 ghost use Rattle.way_pieces.specs.Names.{IsDeparture};
 ghost use Rattle.way_pieces.specs.Departures.{IsOver, Gains};
 ghost use Rattle.way_pieces.specs.RoadPieces.{AreSpans, AreStarts, AreWayPieces, IsLineOf};
-ghost use Rattle.way_pieces.specs.RoadPieces.{IsCutRoad, AreRoadPieces};
+ghost use Rattle.way_pieces.specs.RoadPieces.{IsCutRoad, IsMetWay, AreRoadPieces};
 
 use crate::departures::Departure;
 use crate::listed::{spans_in, starts_in};
+use crate::met_ways::{MetWay, Source, met_ways, roads_of};
 use crate::spans::{PieceSpan, spans_along};
 use crate::starts::{Start, add_starts, leaving, put_in_order, starts_of};
 use junctions::junctions_along;
@@ -121,24 +122,22 @@ struct CutRoad {
 }
 
 impl CutRoad {
-    /// The way whose directions these are: one of the own ways, whose line is kept, or a neighbour.
-    fn of<M: World, P: Profile, K: KnownBlocks>(
+    /// The way, and its line where it is one of the own ways.
+    fn of<M: World, P: Profile>(
         alloc: Global,
         network: &Network<'_, M, P>,
         roads: &Roads,
-        road: Road,
-        own: &[WayId],
-        known: &K,
+        met: &MetWay<'_>,
     ) -> Result<CutRoad, NoMemory>
         requires roads { on network.now AreRoads roads.now }
-        requires road { on network.now IsRoad road }
-        requires known { on network.now AreKnown (K.blocks known.now) }
-        ensures { IfOk result (on network.now IsCutRoad road.way) }
+        requires met { on network.now IsMetWay met.now }
+        ensures { IfOk result (on network.now IsCutRoad met.now.road.way) }
     {
-        if own.binary_search(&road.way).is_ok() {
-            return CutRoad::own(alloc, network, roads, road);
-        }
-        let pieces = pieces_beside(alloc, network, roads, road, known)?;
+        let pieces = match met.source {
+            Source::Own => return CutRoad::own(alloc, network, roads, met.road),
+            Source::Listed(block) => WayPieces::listed(alloc, block)?,
+            Source::Cut => WayPieces::of(alloc, network, roads, met.road)?,
+        };
         Ok(CutRoad { pieces, line: None })
     }
 
@@ -168,25 +167,6 @@ impl CutRoad {
             None => Ok(()),
         }
     }
-}
-
-/// The pieces of the way whose directions these are: those that its block lists, where that is known.
-fn pieces_beside<M: World, P: Profile, K: KnownBlocks>(
-    alloc: Global,
-    network: &Network<'_, M, P>,
-    roads: &Roads,
-    road: Road,
-    known: &K,
-) -> Result<WayPieces, NoMemory>
-    requires roads { on network.now AreRoads roads.now }
-    requires road { on network.now IsRoad road }
-    requires known { on network.now AreKnown (K.blocks known.now) }
-    ensures { IfOk result (on network.now AreWayPieces road.way) }
-{
-    if let Some(block) = known.known(road.way) {
-        return WayPieces::listed(alloc, block);
-    }
-    WayPieces::of(alloc, network, roads, road)
 }
 
 /// Roads with their pieces, each once. The pieces of one of them are found in the time of a short search, where they
@@ -230,9 +210,10 @@ impl RoadPieces {
         })
     }
 
-    /// Own ways, ascending, and those that meet them, their neighbours; `met` has them all. The own ways are cut, and
-    /// their lines are kept. A neighbour whose block is known isn't cut: its pieces are those that the block lists. The
-    /// others are cut, but their lines let go.
+    /// Own ways, and those that meet them, their neighbours; both lists ascend, and `met` has them all. The own ways
+    /// are cut, and their lines are kept. A neighbour whose block is known isn't cut: its pieces are those that the
+    /// block lists, and where it lists any, they tell in which directions it is open. The others are cut, but their
+    /// lines let go.
     pub fn around<M: World, P: Profile, K: KnownBlocks>(
         alloc: Global,
         network: &Network<'_, M, P>,
@@ -244,13 +225,14 @@ impl RoadPieces {
         ensures are { IfOk result (on network.now AreRoadPieces) }
         ensures ways { IfOk result (λ p. map (λ x. x.way) p.roads.roads.items ≡ met.now) }
     {
-        let roads = Roads::of(alloc, network, met)?;
+        let ways = met_ways(alloc, network, met, own, known)?;
+        let roads = roads_of(alloc, ways.as_slice())?;
         let mut spans = Groups::new(alloc);
         let mut starts = Groups::new(alloc);
         let mut ends = Vec::new(alloc);
         let mut lines = Vec::with_capacity(alloc, met.len())?;
-        for road in roads.items() {
-            let cut = CutRoad::of(alloc, network, &roads, *road, own, known)?;
+        for way in ways.as_slice() {
+            let cut = CutRoad::of(alloc, network, &roads, way)?;
             spans.push(cut.pieces.spans.as_slice())?;
             starts.push(cut.pieces.starts.as_slice())?;
             cut.add_own_ends(&mut ends)?;
