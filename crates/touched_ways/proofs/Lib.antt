@@ -12,5 +12,6 @@ mod StillTurns
 mod StillContexts
 mod StillArcs
 mod StillBlocks
+mod WayGaps
 mod NearLists
 mod MetWays

@@ -1,5 +1,7 @@
 //! The ways whose blocks a change may alter.
 ghost use Rattle.std.specs.Prelude.{◌≡◌, ◌↔◌, ◌≤◌, Contains, IfOk, IsTrue, length};
+ghost use Rattle.std.specs.List.{AllWithin};
+ghost use Rattle.std.specs.declared.cmp.Ordering.TheVariants.{Less, Greater};
 ghost use Rattle.road_base.specs.declared.ids.WayId.{WayId as WayNumber};
 ghost use Rattle.road_base.specs.Objects.{Objects};
 ghost use Rattle.road_model.specs.Links.{AreTouched};
@@ -25,8 +27,8 @@ pub struct TouchedWays {
 }
 
 /// Parts the touched ways: `near_change` are those near what the change changes, in the world that was or in the one
-/// that it leaves, `next`. Takes the time of a search a way, and the time and memory of the members of the restrictions
-/// that name a way that is near.
+/// that it leaves, `next`. Goes along the ways once, with a search for each that is near, and takes the time and memory
+/// of the members of the restrictions that name a way that is near.
 pub fn part<M: World>(
     alloc: Global,
     next: &M,
@@ -52,8 +54,9 @@ fn split(alloc: Global, ways: Ways, close: &Ways) -> Result<TouchedWays, NoMemor
     name_order();
     let mut near = Vec::new(alloc);
     let mut far = Vec::with_capacity(alloc, ways.items().len())?;
+    let mut gap = 0;
     for way in ways.items() {
-        if is_among(close, *way) {
+        if is_among_next(close, *way, &mut gap) {
             near.push(*way)?;
         } else {
             far.push(*way)?;
@@ -75,9 +78,68 @@ pub fn is_among(ways: &Ways, way: WayId) -> bool
     ways.items().binary_search(&way).is_ok()
 }
 
+/// Whether the way is one of these, which ascend. A way in the gap, before which so many of these stand, needs no
+/// search, and after one the gap is the next that a way above this one can be in. So where ways that ascend are asked
+/// for in turn, beginning with the gap before all, there is one search at most for each of these.
+fn is_among_next(ways: &Ways, way: WayId, gap: &mut usize) -> bool
+    requires { IsTrue (rises way_cmp ways.now) }
+    ensures { IsTrue result ↔ Contains ways.now way }
+{
+    name_order();
+    if is_in_gap(ways.items(), *gap, way) {
+        return false;
+    }
+    match ways.items().binary_search(&way) {
+        Ok(place) => {
+            *gap = place + 1;
+            true
+        }
+        Err(place) => {
+            *gap = place;
+            false
+        }
+    }
+}
+
+/// Whether so many of these, which ascend, stand before the way, and the others behind it.
+fn is_in_gap(ways: &[WayId], gap: usize, way: WayId) -> bool
+    requires { IsTrue (rises way_cmp ways.now) }
+    ensures { IsTrue result → Contains ways.now way → ⊥ }
+{
+    name_order();
+    are_below(ways, gap, way) && are_above(ways, gap, way)
+}
+
+/// Whether so many of these, which ascend, stand before the way.
+fn are_below(ways: &[WayId], count: usize, way: WayId) -> bool
+    requires { IsTrue (rises way_cmp ways.now) }
+    ensures { IsTrue result → AllWithin (λ v. way_cmp v way ≡ Less) ways.now 0 count }
+{
+    name_order();
+    if count == 0 {
+        return true;
+    }
+    match ways.get(count - 1) {
+        Some(last) => last.cmp(&way).is_lt(),
+        None => false,
+    }
+}
+
+/// Whether those of these from the position on, which ascend, stand behind the way.
+fn are_above(ways: &[WayId], from: usize, way: WayId) -> bool
+    requires { IsTrue (rises way_cmp ways.now) }
+    ensures { IsTrue result → AllWithin (λ v. way_cmp v way ≡ Greater) ways.now from (length ways.now) }
+{
+    name_order();
+    match ways.get(from) {
+        Some(first) => first.cmp(&way).is_gt(),
+        None => true,
+    }
+}
+
 /// Those of the ways that share a node with one of `others`, and those that a restriction names beside a way that does,
 /// in their order. Takes the time and memory of the ways at the nodes of `others`, and of the members of the
-/// restrictions that name these, and of a search for each of the ways.
+/// restrictions that name these, and goes along the ways once, with a search for each that was found so.
 pub fn meeting<M: World>(
     alloc: Global,
     world: &M,
@@ -101,8 +163,9 @@ fn both_of(alloc: Global, ways: &Ways, found: &Ways) -> Result<Ways, NoMemory>
         (λ both. (w : WayNumber) → Contains both w ↔ (Contains ways.now w × Contains found.now w)) }
 {
     let mut both = Vec::new(alloc);
+    let mut gap = 0;
     for way in ways.items() {
-        if is_among(found, *way) {
+        if is_among_next(found, *way, &mut gap) {
             both.push(*way)?;
         }
     }

@@ -10,8 +10,9 @@
 //! `surroundings` finds what is near a change in one such search: the links of the changed keys are followed in the
 //! world before the change and in the one behind it, and all others in the latter alone, since there they are the same.
 //! `merge` goes along both lists once. `part` follows the links of the restrictions that name a way near the change,
-//! and takes one search a way. `meeting` follows the links of the ways to be met, finds the ways at these nodes as the
-//! last round does, and those that restrictions name beside them, and takes one search a way.
+//! and goes along the touched ways once. `meeting` follows the links of the ways to be met, finds the ways at these
+//! nodes as the last round does, and those that restrictions name beside them, and goes along its ways once. Both take
+//! one search at most for each way that they look for.
 #![tactic(auto)]
 
 mod altering;

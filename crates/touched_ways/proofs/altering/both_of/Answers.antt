@@ -3,7 +3,7 @@ use Rattle.std.proofs.lemmas.List.{take_more}
 use Rattle.road_base.specs.declared.ids.WayId.{WayId}
 use Rattle.touched_ways.proofs.MetWays.{AreFoundOf, found_none, found_more, found_same}
 use Rattle.touched_ways.proofs.altering.both_of.Goals as goal
-use Rattle.touched_ways.proofs.altering.both_of.Goals.{then-is_among+in_ok-push, else-is_among}
+use Rattle.touched_ways.proofs.altering.both_of.Goals.{then-is_among_next+in_ok-push, else-is_among_next}
 
 pub loop-way-init : goal.loop-way-init
 loop-way-init c = found_none c.args.found.now c.new-both.result.items c.new-both.ensures.items
@@ -15,15 +15,15 @@ loop-way-preserved c =
     let i = c.loop-way.way-index in
     let both = c.loop-way.both.items in
     let longer = take_more all i _ c.loop-way-test.true in
-    elim c.if-is_among.branch [
-      | then-is_among+in_ok-push w ↦
+    elim c.if-is_among_next.branch [
+      | then-is_among_next+in_ok-push w ↦
           subst (AreFoundOf found (take (i + 1) all)) (ap (λ v. v.items) (sym w.both-is))
           (found_more found (take i all) (take (i + 1) all) both _ longer c.loop-way.invariant
-          (c.is_among.ensures.0 w.if-is_among.true) w.push.new.self.items w.in_ok-push.ensures.items)
-      | else-is_among w ↦
+          (c.is_among_next.ensures.0 w.if-is_among_next.true) w.push.new.self.items w.in_ok-push.ensures.items)
+      | else-is_among_next w ↦
           subst (AreFoundOf found (take (i + 1) all)) (ap (λ v. v.items) (sym w.both-is))
           (found_same found (take i all) (take (i + 1) all) both _ longer c.loop-way.invariant
-          (λ has. let is = c.is_among.ensures.1 has in let no = w.if-is_among.false in cc))
+          (λ has. let is = c.is_among_next.ensures.1 has in let no = w.if-is_among_next.false in cc))
     ]
 
 pub returns-clause-few : goal.returns-clause-few

@@ -4,7 +4,7 @@ use Rattle.road_base.specs.declared.ids.WayId.{WayId}
 use Rattle.touched_ways.specs.Altering.{AreSplit}
 use Rattle.touched_ways.proofs.NearLists.{parted_none, parted_near, parted_far}
 use Rattle.touched_ways.proofs.altering.split.Goals as goal
-use Rattle.touched_ways.proofs.altering.split.Goals.{then-is_among+in_ok-push, else-is_among+in_ok-push-2}
+use Rattle.touched_ways.proofs.altering.split.Goals.{then-is_among_next+in_ok-push, else-is_among_next+in_ok-push-2}
 
 pub loop-way-init : goal.loop-way-init
 loop-way-init c =
@@ -19,16 +19,16 @@ loop-way-preserved c =
     let near = c.loop-way.near.items in
     let far = c.loop-way.far.items in
     let longer = take_more all i _ c.loop-way-test.true in
-    elim c.if-is_among.branch [
-      | then-is_among+in_ok-push w ↦
+    elim c.if-is_among_next.branch [
+      | then-is_among_next+in_ok-push w ↦
           parted_near close (take i all) (take (i + 1) all) near far _ longer c.loop-way.invariant
-          c.name_order.ensures.ways (c.is_among.ensures.0 w.if-is_among.true) w.push.new.self.items
-          c.if-is_among.near.items c.if-is_among.far.items w.in_ok-push.ensures.items
+          c.name_order.ensures.ways (c.is_among_next.ensures.0 w.if-is_among_next.true) w.push.new.self.items
+          c.if-is_among_next.near.items c.if-is_among_next.far.items w.in_ok-push.ensures.items
           (ap (λ v. v.items) w.near-is) (ap (λ v. v.items) w.far-is)
-      | else-is_among+in_ok-push-2 w ↦
+      | else-is_among_next+in_ok-push-2 w ↦
           parted_far close (take i all) (take (i + 1) all) near far _ longer c.loop-way.invariant
-          (λ has. let is = c.is_among.ensures.1 has in let no = w.if-is_among.false in cc)
-          w.push-else-is_among.new.self.items c.if-is_among.far.items c.if-is_among.near.items
+          (λ has. let is = c.is_among_next.ensures.1 has in let no = w.if-is_among_next.false in cc)
+          w.push-else-is_among_next.new.self.items c.if-is_among_next.far.items c.if-is_among_next.near.items
           w.in_ok-push-2.ensures.items (ap (λ v. v.items) w.far-is) (ap (λ v. v.items) w.near-is)
     ]
 
