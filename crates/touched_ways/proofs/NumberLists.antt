@@ -103,3 +103,12 @@ module _ {T : Type 0} where
         λ has. behind.0 (Contains-permutation sorted new x (IsPermutation-sym new sorted moves) has),
         λ has. Contains-permutation new sorted x moves (behind.1 has),
       )
+
+  -- what was put behind a list, of which each was then left once
+  pub contains_once : (old new once numbers : List T) → new ≡ old ++ numbers
+      → ((x : T) → Contains once x ↔ Contains new x) → AreAdded old once numbers
+  contains_once old new once numbers e exactly x =
+      let behind = contains_behind new old numbers numbers e refl x in (
+        λ has. behind.0 ((exactly x).0 has),
+        λ has. (exactly x).1 (behind.1 has),
+      )

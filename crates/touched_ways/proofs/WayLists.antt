@@ -50,6 +50,16 @@ ways_of_both ways all one other up exactly are = record {
   complete = λ w has. (exactly w).1 ((are w).1 has);
 }
 
+-- where those of one list were put into another, which then ascends
+pub ways_with_new : (ways one new other : List WayId) → IsTrue (rises way_cmp ways) → AreAdded one ways new
+    → ((w : WayId) → Contains new w ↔ Contains other w)
+    → Lists (λ w. w) way_cmp (λ w. Contains one w ⊎ Contains other w) ways
+ways_with_new ways one new other up are exactly = record {
+  ascending = subst (λ l. IsTrue (rises way_cmp l)) (sym (same ways)) up;
+  sound = λ w has. elim ((are w).0 has) [ inl here ↦ inl here | inr added ↦ inr ((exactly w).0 added) ];
+  complete = λ w has. (are w).1 (elim has [ inl here ↦ inl here | inr added ↦ inr ((exactly w).1 added) ]);
+}
+
 -- ---- those reached before and after a change are those that it touches
 
 pub touched_ways : (M N : Objects) (keys : List Key) (before after ways : List WayId) → AreChanged M N keys

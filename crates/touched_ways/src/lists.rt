@@ -4,6 +4,7 @@ ghost use Rattle.std.specs.Prelude.{IfOk, OnOk, IsTrue, Contains};
 ghost use Rattle.std.specs.List.{AllWithin};
 ghost use Rattle.std.specs.Ordering.{is_lt};
 ghost use Rattle.std.specs.FinMap.{IsAntisymmetric};
+ghost use Rattle.road_model.specs.Orders.{rises};
 ghost use Rattle.touched_ways.specs.Searches.{IsRest};
 
 use road_base::NoMemory;
@@ -47,6 +48,19 @@ pub fn add_sorted<T: Ord + Copy>(list: &mut Vec<T>, numbers: &[T]) -> Result<(),
 {
     list.extend_from_slice(numbers)?;
     list.sort()?;
+    Ok(())
+}
+
+/// Puts the numbers into the list, sorts it, and leaves each once. Where both ascend they are gone along once.
+pub fn add_once<T: Ord + Copy>(list: &mut Vec<T>, numbers: &[T]) -> Result<(), NoMemory>
+    requires { IsAntisymmetric T.cmp }
+    ensures ascending { OnOk result (IsTrue (rises T.cmp list.new.items)) }
+    ensures exactly { OnOk result ((x : T) → Contains list.new.items x
+        ↔ (Contains list.old.items x ⊎ Contains numbers.now x)) }
+{
+    list.extend_from_slice(numbers)?;
+    list.sort()?;
+    list.dedup();
     Ok(())
 }
 

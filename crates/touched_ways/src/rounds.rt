@@ -121,7 +121,8 @@ fn last_round<M: World>(alloc: Global, world: &M, search: Search) -> Result<Ways
     let mut found = Found::new(alloc)?;
     find_ways_of_nodes(alloc, world, search.nodes.as_slice(), &mut found)?;
     find_ways_of_rules(world, search.rules.frontier.as_slice(), &mut found)?;
-    search.ways_with(found.ways.list.as_slice())
+    let ways_found = found.ways;
+    search.ways_with(ways_found.list)
 }
 
 /// Finds what is linked to the frontier.

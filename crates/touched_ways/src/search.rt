@@ -5,6 +5,7 @@ ghost use Rattle.road_model.specs.Orders.{Lists, way_cmp};
 ghost use Rattle.touched_ways.specs.Searches.{IsFound, IsFrontier, IsSeen, IsNext};
 
 use crate::found::Found;
+use crate::lists::add_once;
 use crate::seen::Seen;
 use road_base::{NoMemory, NodeId, RelationId, WayId, Ways};
 use road_model::laws::{name_order, number_order};
@@ -56,16 +57,17 @@ impl Search {
         Ok(Ways::from_list(ways))
     }
 
-    /// The ways seen and those given, ascending.
-    pub fn ways_with(self, last: &[WayId]) -> Result<Ways, NoMemory>
+    /// The ways seen and those given, ascending. Only the latter are to be sorted.
+    pub fn ways_with(self, last: Vec<WayId>) -> Result<Ways, NoMemory>
         ensures { IfOk result
-            (Lists (λ w. w) way_cmp (λ w. Contains self.ways.all.items w ⊎ Contains last.now w)) }
+            (Lists (λ w. w) way_cmp (λ w. Contains self.ways.all.items w ⊎ Contains last.items w)) }
     {
+        name_order();
         let seen = self.ways;
         let mut ways = seen.all;
-        ways.extend_from_slice(last)?;
-        name_order();
-        leave_once(&mut ways);
+        let mut new = last;
+        leave_once(&mut new);
+        add_once(&mut ways, new.as_slice())?;
         Ok(Ways::from_list(ways))
     }
 }

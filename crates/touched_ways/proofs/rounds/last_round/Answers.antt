@@ -1,4 +1,4 @@
-use Rattle.std.proofs.Common.{◌⊎◌, Contains}
+use Rattle.std.proofs.Common.{◌⊎◌, Contains, refl}
 use Rattle.std.proofs.lemmas.Result.{IfOk-weaker}
 use Rattle.road_base.specs.declared.ids.Key.TheVariants.{Way as WayKey}
 use Rattle.road_model.specs.Orders.{Lists, way_cmp}
@@ -10,11 +10,11 @@ pub returns : goal.returns
 returns g c =
     let M = g.M.World.objects c.args.world.now in
     let s = c.args.search in
+    let last = c.find_ways_of_rules.new.found.ways.list.items in
     IfOk-weaker c.ways_with.result
-    (Lists (λ w. w) way_cmp (λ w. Contains s.ways.all.items w ⊎ Contains c.as_slice-3.result.now w))
+    (Lists (λ w. w) way_cmp (λ w. Contains s.ways.all.items w ⊎ Contains last w))
     (Lists (λ w. w) way_cmp (λ w. IsSeen s (WayKey w) ⊎ IsFurther M s (WayKey w)))
     (λ ways lists. last_ways M s c.as_slice.result.now c.as_slice-2.result.now c.as_slice.ensures.value
     c.as_slice-2.ensures.value c.in_ok-found.found c.find_ways_of_nodes.new.found c.find_ways_of_rules.new.found
-    c.in_ok-found.ensures c.in_ok-find_ways_of_nodes.ensures c.in_ok-find_ways_of_rules.ensures c.as_slice-3.result.now
-    ways c.as_slice-3.ensures.value lists)
+    c.in_ok-found.ensures c.in_ok-find_ways_of_nodes.ensures c.in_ok-find_ways_of_rules.ensures last ways refl lists)
     c.ways_with.ensures
