@@ -68,6 +68,24 @@ fn streets(alloc: Global) -> Result<Vec<u8>, NoMemory> {
 }
 
 /// How often the profile is asked for a direction in a session over the store on the site. `None` where it isn't done.
+fn asked_by<L: Ledger>(
+    alloc: Global,
+    source: &mut MemorySource,
+    site: &mut MemorySite,
+    steps: &mut Steps<L>,
+) -> Option<u64> {
+    let asked = Cell::new(0);
+    let profile = Counting { asked: &asked };
+    let Ok(loaded) = load_store(alloc, site) else {
+        return None;
+    };
+    match serve(alloc, profile, loaded, source, site, steps) {
+        Status::Done => Some(asked.get()),
+        _ => None,
+    }
+}
+
+/// The same where the session has this input.
 fn asked_in<L: Ledger>(
     alloc: Global,
     input: &[u8],
@@ -78,25 +96,27 @@ fn asked_in<L: Ledger>(
     requires parts { blank.parts ≡ L.parts }
     requires some { 0 < L.parts }
 {
-    let asked = Cell::new(0);
-    let profile = Counting { asked: &asked };
     let mut source = MemorySource::new(input.to_vec(alloc)?, Vec::new(alloc));
     let mut steps = Steps::<L>::new(blank);
-    let Ok(loaded) = load_store(alloc, site) else {
-        return Ok(None);
-    };
-    match serve(alloc, profile, loaded, &mut source, site, &mut steps) {
-        Status::Done => Ok(Some(asked.get())),
-        _ => Ok(None),
-    }
+    Ok(asked_by(alloc, &mut source, site, &mut steps))
 }
 
-/// The same over the store of an extract, and all that was put.
+/// The same over the store of an extract, which is made on the site, and all that was put.
+fn asked_on(
+    alloc: Global,
+    extract: &[u8],
+    input: &[u8],
+    site: &mut MemorySite,
+) -> Result<(Option<u64>, Vec<u8>), NoMemory> {
+    run_on(alloc, &["town", "create", "4"], extract, site)?;
+    let count = asked_in::<Brand>(alloc, input, site, Blank::new(1))?;
+    Ok((count, site.output().to_vec(alloc)?))
+}
+
+/// The same on a new site.
 fn asked(alloc: Global, extract: &[u8], input: &[u8]) -> Result<(Option<u64>, Vec<u8>), NoMemory> {
     let mut site = empty_site(alloc);
-    run_on(alloc, &["town", "create", "4"], extract, &mut site)?;
-    let count = asked_in::<Brand>(alloc, input, &mut site, Blank::new(1))?;
-    Ok((count, site.output().to_vec(alloc)?))
+    asked_on(alloc, extract, input, &mut site)
 }
 
 /// What `create` and a session that asks for the graph put.
@@ -108,18 +128,38 @@ fn shown(alloc: Global, graph: &[u8]) -> Result<Vec<u8>, NoMemory> {
     Ok(text)
 }
 
+/// Beside a session that asks so often for all streets, one with a change of a street doesn't ask for the others again.
+fn check_asked(
+    rt: &impl Abort,
+    alloc: Global,
+    extract: &[u8],
+    all: Option<u64>,
+) -> Result<(), NoMemory> {
+    let change = b"graph\n#seq 5\nn1 v2 x1 y0\n#end\ngraph\n";
+    let (more, _) = asked(alloc, extract, change)?;
+    assert!(rt;
+        matches!((all, more), (Some(all), Some(more)) if all >= 1000 && more.abs_diff(all) < 1000)
+    );
+    Ok(())
+}
+
+/// The graph of the extract was put.
+fn check_shown(rt: &impl Abort, alloc: Global, extract: &[u8], output: &[u8]) -> Result<(), Fail> {
+    let graph = compiled::<Brand>(alloc, extract, Blank::new(1))?;
+    let expected = shown(alloc, &graph)?;
+    assert_eq!(rt; output, expected.as_slice());
+    Ok(())
+}
+
+fn check_streets(rt: &impl Abort, alloc: Global, extract: &[u8]) -> Result<(), Fail> {
+    let (all, output) = asked(alloc, extract, b"graph\n")?;
+    check_asked(rt, alloc, extract, all)?;
+    check_shown(rt, alloc, extract, &output)
+}
+
 /// After a change of one street the profile isn't asked for the others again.
 #[test]
 fn a_small_change_asks_little(rt: HostRuntime) -> Result<(), Fail> {
     let extract = streets(rt.alloc())?;
-    let (all, output) = asked(rt.alloc(), &extract, b"graph\n")?;
-    let change = b"graph\n#seq 5\nn1 v2 x1 y0\n#end\ngraph\n";
-    let (more, _) = asked(rt.alloc(), &extract, change)?;
-    assert!(rt;
-        matches!((all, more), (Some(all), Some(more)) if all >= 1000 && more.abs_diff(all) < 1000)
-    );
-    let graph = compiled::<Brand>(rt.alloc(), &extract, Blank::new(1))?;
-    let expected = shown(rt.alloc(), &graph)?;
-    assert_eq!(rt; output.as_slice(), expected.as_slice());
-    Ok(())
+    check_streets(&rt, rt.alloc(), &extract)
 }

@@ -1,7 +1,7 @@
 //! Reads and calls that fail, and stops between two calls: how a run ends, and what the store then keeps.
 use crate::session_tests::{
-    REFUSED_FRAMES, REFUSED_MESSAGES, SESSION, Session, VILLAGE_FOLLOWED, check_output, empty_site,
-    ended, run_on,
+    REFUSED_FRAMES, REFUSED_MESSAGES, SESSION, Session, VILLAGE_FOLLOWED, check_output,
+    check_status, empty_site, ended, run_on,
 };
 use crate::status::Status;
 use crate::store_tests::{APPLY, CHECKPOINT, Case, MADE, RECORD, SPELLED, check, joined};
@@ -103,11 +103,16 @@ fn store_of(alloc: Global, a: &[&[u8]]) -> Result<MemorySite, NoMemory> {
     Ok(MemorySite::new(alloc, file, Vec::new(alloc), Vec::new(alloc)))
 }
 
-/// What a run says that asks for no change of the store on these files, and so says which number it keeps.
+/// What a run on the site says that asks for no change of the store, and so says which number it keeps.
+fn kept_on(alloc: Global, site: &mut MemorySite) -> Result<Vec<u8>, NoMemory> {
+    run_on(alloc, &["town", "apply", "0"], b"", site)?;
+    Ok(site.output().to_vec(alloc)?)
+}
+
+/// The same on a new site of these files.
 fn kept(alloc: Global, site: &MemorySite) -> Result<Vec<u8>, NoMemory> {
     let mut after = anew(alloc, site, &[])?;
-    run_on(alloc, &["town", "apply", "0"], b"", &mut after)?;
-    Ok(after.output().to_vec(alloc)?)
+    kept_on(alloc, &mut after)
 }
 
 /// Whether the store may keep this where the run put this: what was told is kept.
@@ -115,7 +120,19 @@ fn may_keep(run: &Run, output: &[u8], kept: &[u8]) -> bool {
     kept == run.later || kept == run.earlier && !output.starts_with(run.told)
 }
 
-/// How many calls the run makes of its site, where none fails.
+/// How many calls the run makes of this site, where none fails.
+fn calls_on(
+    rt: &impl Abort,
+    alloc: Global,
+    run: &Run,
+    site: &mut MemorySite,
+) -> Result<u64, NoMemory> {
+    check_status(rt, alloc, run.words, run.input, site, Status::Done)?;
+    assert_eq!(rt; site.output(), run.output);
+    Ok(site.calls().len() as u64)
+}
+
+/// The same on a new site of the store's files.
 fn calls_of(
     rt: &impl Abort,
     alloc: Global,
@@ -123,10 +140,7 @@ fn calls_of(
     store: &MemorySite,
 ) -> Result<u64, NoMemory> {
     let mut site = anew(alloc, store, &[])?;
-    let status = run_on(alloc, run.words, run.input, &mut site)?;
-    assert_eq!(rt; status, Status::Done);
-    assert_eq!(rt; site.output(), run.output);
-    Ok(site.calls().len() as u64)
+    calls_on(rt, alloc, run, &mut site)
 }
 
 /// The run whose call with this number fails.
@@ -305,13 +319,19 @@ fn with_file(
     }
 }
 
+/// Both sessions on the store of refused frames.
+fn check_sessions(rt: &impl Abort, alloc: Global, store: &MemorySite) -> Result<(), NoMemory> {
+    for run in [FRAMES, NODE_ADDED] {
+        check_calls(rt, alloc, &run, store)?;
+    }
+    Ok(())
+}
+
 /// A fault at any call ends a session, and the store keeps each change that the output names.
 #[test]
 fn a_failing_call_ends_a_session(rt: HostRuntime) -> Result<(), Fail> {
     let store = created(rt.alloc(), &REFUSED_FRAMES)?;
-    for run in [FRAMES, NODE_ADDED] {
-        check_calls(&rt, rt.alloc(), &run, &store)?;
-    }
+    check_sessions(&rt, rt.alloc(), &store)?;
     Ok(())
 }
 

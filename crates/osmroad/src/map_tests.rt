@@ -13,6 +13,7 @@ use road_io::MemorySource;
 use road_model::{Block, Piece};
 use std::alloc::Global;
 use std::marker::Brand;
+use std::process::Abort;
 use std::sync::ledger::{Blank, Ledger};
 use std::test::Fail;
 
@@ -51,6 +52,25 @@ fn compiled_text<L: Ledger>(alloc: Global, lines: &[u8], blank: Blank) -> Result
     let input = with_nodes(alloc, lines)?;
     let graph = compiled::<L>(alloc, &input, blank)?;
     graph_text(alloc, graph)
+}
+
+/// The map's graph has these contexts and arcs.
+fn check_text(rt: &impl Abort, alloc: Global, lines: &[u8], want: &str) -> Result<(), Fail> {
+    let text = compiled_text::<Brand>(alloc, lines, Blank::new(1))?;
+    assert_eq!(rt; text.as_str(), want);
+    Ok(())
+}
+
+/// The same of a map and its restrictions.
+fn check_ruled(
+    rt: &impl Abort,
+    alloc: Global,
+    map: &[u8],
+    rules: &[u8],
+    want: &str,
+) -> Result<(), Fail> {
+    let lines = with_lines(alloc, map, rules)?;
+    check_text(rt, alloc, &lines, want)
 }
 
 fn arc_count(piece: &Piece) -> usize {
@@ -180,8 +200,7 @@ fn pieces_follow_where_one_may_pass(rt: HostRuntime) -> Result<(), Fail> {
         ),
     ];
     for (lines, want) in cases {
-        let text = compiled_text::<Brand>(rt.alloc(), lines, Blank::new(1))?;
-        assert_eq!(rt; text.as_str(), want);
+        check_text(&rt, rt.alloc(), lines, want)?;
     }
     Ok(())
 }
@@ -257,9 +276,7 @@ fn restrictions_take_turns_away(rt: HostRuntime) -> Result<(), Fail> {
         ),
     ];
     for (map, rules, want) in cases {
-        let lines = with_lines(rt.alloc(), map, rules)?;
-        let text = compiled_text::<Brand>(rt.alloc(), &lines, Blank::new(1))?;
-        assert_eq!(rt; text.as_str(), want);
+        check_ruled(&rt, rt.alloc(), map, rules, want)?;
     }
     Ok(())
 }
@@ -319,9 +336,7 @@ fn contexts_remember_where_one_came_from(rt: HostRuntime) -> Result<(), Fail> {
         ),
     ];
     for (map, rules, want) in cases {
-        let lines = with_lines(rt.alloc(), map, rules)?;
-        let text = compiled_text::<Brand>(rt.alloc(), &lines, Blank::new(1))?;
-        assert_eq!(rt; text.as_str(), want);
+        check_ruled(&rt, rt.alloc(), map, rules, want)?;
     }
     Ok(())
 }

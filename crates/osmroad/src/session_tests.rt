@@ -289,6 +289,20 @@ fn lines_of_a_session_have_a_limit(rt: HostRuntime) -> Result<(), Fail> {
     Ok(())
 }
 
+/// Runs the words on the site, with the message `state`, and compares how they end and what was put.
+fn check_put(
+    rt: &impl Abort,
+    alloc: Global,
+    words: &[&str],
+    site: &mut MemorySite,
+    status: Status,
+    output: &[u8],
+) -> Result<(), NoMemory> {
+    check_status(rt, alloc, words, b"state\n", site, status)?;
+    assert_eq!(rt; site.output(), output);
+    Ok(())
+}
+
 /// A session where there is no store of this name.
 fn check_alone(
     rt: &impl Abort,
@@ -298,16 +312,8 @@ fn check_alone(
     output: &[u8],
 ) -> Result<(), NoMemory> {
     let mut site = empty_site(alloc);
-    check_status(
-        rt,
-        alloc,
-        &[store, "session"],
-        b"state\n",
-        &mut site,
-        status,
-    )?;
-    assert_eq!(rt; site.output(), output);
-    Ok(())
+    let words = [store, "session"];
+    check_put(rt, alloc, &words, &mut site, status, output)
 }
 
 #[test]
@@ -322,12 +328,22 @@ fn a_session_needs_a_store(rt: HostRuntime) -> Result<(), Fail> {
     Ok(())
 }
 
-/// What a change of the street leaves in file A: `apply` of it, or a session with it.
+/// What a change of the street leaves in file A of the site: `apply` of it, or a session with it.
+fn changed_on(
+    alloc: Global,
+    words: &[&str],
+    input: &[u8],
+    site: &mut MemorySite,
+) -> Result<Vec<u8>, NoMemory> {
+    run_on(alloc, &["town", "create", "4"], STREET_CUT, site)?;
+    run_on(alloc, words, input, site)?;
+    Ok(site.file(Which::A).to_vec(alloc)?)
+}
+
+/// The same on a new site.
 fn changed(alloc: Global, words: &[&str], input: &[u8]) -> Result<Vec<u8>, NoMemory> {
     let mut site = empty_site(alloc);
-    run_on(alloc, &["town", "create", "4"], STREET_CUT, &mut site)?;
-    run_on(alloc, words, input, &mut site)?;
-    Ok(site.file(Which::A).to_vec(alloc)?)
+    changed_on(alloc, words, input, &mut site)
 }
 
 #[test]

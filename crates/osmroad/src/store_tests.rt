@@ -70,14 +70,24 @@ fn ended<L: Ledger>(
     Ok(Outcome { status, site })
 }
 
-/// Runs the case, with faults at the calls with these numbers, and compares what is expected of it.
-pub fn check(rt: &impl Abort, alloc: Global, case: &Case, fails: &[u64]) -> Result<(), NoMemory> {
-    let ended = ended::<Brand>(alloc, case, fails, Blank::new(1))?;
+/// Compares how the run ended, what was put, and file A with what the case expects.
+fn check_outcome(
+    rt: &impl Abort,
+    alloc: Global,
+    case: &Case,
+    ended: &Outcome,
+) -> Result<(), NoMemory> {
     assert_eq!(rt; ended.status, case.status);
     assert_eq!(rt; ended.site.output(), case.output);
     let after = joined(alloc, case.after)?;
     assert_eq!(rt; ended.site.file(Which::A), after.as_slice());
     Ok(())
+}
+
+/// Runs the case, with faults at the calls with these numbers, and compares what is expected of it.
+pub fn check(rt: &impl Abort, alloc: Global, case: &Case, fails: &[u64]) -> Result<(), NoMemory> {
+    let ended = ended::<Brand>(alloc, case, fails, Blank::new(1))?;
+    check_outcome(rt, alloc, case, &ended)
 }
 
 /// `create 5` of nothing.
@@ -330,20 +340,29 @@ fn stores_refuse(rt: HostRuntime) -> Result<(), Fail> {
     Ok(())
 }
 
+/// `checkpoint` of that store with the change.
+const CHECKPOINTS: Case = Case {
+    words: CHECKPOINT,
+    output: b"checkpoint 6\n",
+    ..SHOWS
+};
+
+/// File B has the new base.
+fn check_rebased(
+    rt: &impl Abort,
+    alloc: Global,
+    case: &Case,
+    ended: &Outcome,
+) -> Result<(), NoMemory> {
+    assert_eq!(rt; ended.site.file(Which::B), REBASED);
+    check_outcome(rt, alloc, case, ended)
+}
+
 /// The file that was live stays as it is.
 #[test]
 fn a_checkpoint_goes_into_the_other_file(rt: HostRuntime) -> Result<(), Fail> {
-    let case = Case {
-        words: CHECKPOINT,
-        output: b"checkpoint 6\n",
-        ..SHOWS
-    };
-    let ended = ended::<Brand>(rt.alloc(), &case, &[], Blank::new(1))?;
-    assert_eq!(rt; ended.status, Status::Done);
-    assert_eq!(rt; ended.site.output(), case.output);
-    assert_eq!(rt; ended.site.file(Which::B), REBASED);
-    let before = joined(rt.alloc(), case.a)?;
-    assert_eq!(rt; ended.site.file(Which::A), before.as_slice());
+    let ended = ended::<Brand>(rt.alloc(), &CHECKPOINTS, &[], Blank::new(1))?;
+    check_rebased(&rt, rt.alloc(), &CHECKPOINTS, &ended)?;
     Ok(())
 }
 

@@ -1,11 +1,11 @@
 //! Whole runs, over sources and sites in memory.
 ghost use Rattle.std.specs.Prelude.{◌≡◌, ◌<◌};
 
-use crate::run::run;
+use crate::session_tests;
 use crate::status::Status;
 use crate::store_tests::joined;
-use road_base::{NoMemory, Steps};
-use road_io::{MemorySite, MemorySource};
+use road_base::NoMemory;
+use road_io::MemorySite;
 use std::alloc::Global;
 use std::marker::Brand;
 use std::process::Abort;
@@ -144,18 +144,44 @@ const fn compiles<'a>(input: &'a [u8], status: Status, output: &'a [u8]) -> Case
     }
 }
 
+/// A site whose files are empty, and whose calls with these numbers fail.
+fn site_of(alloc: Global, fails: &[u64]) -> Result<MemorySite, NoMemory> {
+    let fails = fails.to_vec(alloc)?;
+    Ok(MemorySite::new(alloc, Vec::new(alloc), Vec::new(alloc), fails))
+}
+
+/// The case run on the site, and all that was put.
+fn ended_on<L: Ledger>(
+    alloc: Global,
+    case: &Case,
+    site: &mut MemorySite,
+    blank: Blank,
+) -> Result<(Status, Vec<u8>), NoMemory>
+    requires name { blank.name ≡ L.name }
+    requires parts { blank.parts ≡ L.parts }
+    requires some { 0 < L.parts }
+{
+    let (words, input, fails) = (case.words, case.input, case.read_fails);
+    let status = session_tests::ended::<L>(alloc, words, input, fails, site, blank)?;
+    Ok((status, site.output().to_vec(alloc)?))
+}
+
+/// The same on a new site.
 fn ended<L: Ledger>(alloc: Global, case: &Case, blank: Blank) -> Result<(Status, Vec<u8>), NoMemory>
     requires name { blank.name ≡ L.name }
     requires parts { blank.parts ≡ L.parts }
     requires some { 0 < L.parts }
 {
-    let input = case.input.to_vec(alloc)?;
-    let mut source = MemorySource::new(input, case.read_fails.to_vec(alloc)?);
-    let put_fails = case.put_fails.to_vec(alloc)?;
-    let mut site = MemorySite::new(alloc, Vec::new(alloc), Vec::new(alloc), put_fails);
-    let mut steps = Steps::<L>::new(blank);
-    let status = run(alloc, case.words, &mut source, &mut site, &mut steps);
-    Ok((status, site.output().to_vec(alloc)?))
+    let mut site = site_of(alloc, case.put_fails)?;
+    ended_on::<L>(alloc, case, &mut site, blank)
+}
+
+/// Runs the case, and compares what is expected of it.
+fn check(rt: &impl Abort, alloc: Global, case: &Case) -> Result<(), NoMemory> {
+    let (status, output) = ended::<Brand>(alloc, case, Blank::new(1))?;
+    assert_eq!(rt; status, case.status);
+    assert_eq!(rt; output.as_slice(), case.output);
+    Ok(())
 }
 
 /// The graph of the extract, by a whole run.
@@ -197,9 +223,7 @@ fn extracts_are_compiled(rt: HostRuntime) -> Result<(), Fail> {
         compiles(STREET_MENDED, Status::Done, STREET_GRAPH),
     ];
     for case in &cases {
-        let (status, output) = ended::<Brand>(rt.alloc(), case, Blank::new(1))?;
-        assert_eq!(rt; status, case.status);
-        assert_eq!(rt; output.as_slice(), case.output);
+        check(&rt, rt.alloc(), case)?;
     }
     Ok(())
 }
@@ -234,10 +258,7 @@ fn faults_of_extracts_are_named(rt: HostRuntime) -> Result<(), Fail> {
         ),
     ];
     for (input, output) in cases {
-        let case = compiles(input, Status::Refused, output);
-        let (status, put) = ended::<Brand>(rt.alloc(), &case, Blank::new(1))?;
-        assert_eq!(rt; status, Status::Refused);
-        assert_eq!(rt; put.as_slice(), output);
+        check(&rt, rt.alloc(), &compiles(input, Status::Refused, output))?;
     }
     Ok(())
 }
@@ -255,10 +276,7 @@ fn inspected(
         words: &["-", "inspect"],
         ..compiles(file.as_slice(), status, output)
     };
-    let (ended, put) = ended::<Brand>(alloc, &case, Blank::new(1))?;
-    assert_eq!(rt; ended, status);
-    assert_eq!(rt; put.as_slice(), output);
-    Ok(())
+    check(rt, alloc, &case)
 }
 
 /// A byte more, or pieces in another order are no graph.
@@ -322,10 +340,7 @@ fn lines_have_a_limit(rt: HostRuntime) -> Result<(), Fail> {
     ];
     for (bytes, status, output) in cases {
         let text = long_note(rt.alloc(), bytes)?;
-        let case = compiles(text.as_slice(), status, output);
-        let (ended, put) = ended::<Brand>(rt.alloc(), &case, Blank::new(1))?;
-        assert_eq!(rt; ended, status);
-        assert_eq!(rt; put.as_slice(), output);
+        check(&rt, rt.alloc(), &compiles(text.as_slice(), status, output))?;
     }
     Ok(())
 }
@@ -384,9 +399,7 @@ fn words_and_faults_are_answered(rt: HostRuntime) -> Result<(), Fail> {
         },
     ];
     for case in &cases {
-        let (status, output) = ended::<Brand>(rt.alloc(), case, Blank::new(1))?;
-        assert_eq!(rt; status, case.status);
-        assert_eq!(rt; output.as_slice(), case.output);
+        check(&rt, rt.alloc(), case)?;
     }
     Ok(())
 }

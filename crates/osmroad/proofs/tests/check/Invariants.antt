@@ -1,4 +1,4 @@
-use Rattle.osmroad.proofs.tests.faults_of_extracts_are_named.Given as goal
+use Rattle.osmroad.proofs.tests.check.Given as goal
 
 -- the ledger that was just made
 abbrev pub ghosts-ended : goal.ghosts-ended

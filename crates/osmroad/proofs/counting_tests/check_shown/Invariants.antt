@@ -1,4 +1,4 @@
-use Rattle.osmroad.proofs.counting_tests.a_small_change_asks_little.Given as goal
+use Rattle.osmroad.proofs.counting_tests.check_shown.Given as goal
 
 -- the ledger that was just made
 abbrev pub ghosts-compiled : goal.ghosts-compiled

@@ -1,4 +1,4 @@
-use Rattle.osmroad.proofs.map_tests.pieces_follow_where_one_may_pass.Given as goal
+use Rattle.osmroad.proofs.map_tests.check_text.Given as goal
 
 -- the ledger that was just made
 abbrev pub ghosts-compiled_text : goal.ghosts-compiled_text

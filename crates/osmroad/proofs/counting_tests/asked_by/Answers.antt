@@ -1,7 +1,7 @@
 use Rattle.std.proofs.Common.{Some, refl}
 use Rattle.road_io.specs.Memory.{outside_of}
 use Rattle.osmroad.proofs.ServedSessions.{store_opens}
-use Rattle.osmroad.proofs.counting_tests.asked_in.Goals as goal
+use Rattle.osmroad.proofs.counting_tests.asked_by.Goals as goal
 
 pub serve-requires-clause-number : goal.serve-requires-clause-number
 serve-requires-clause-number g c = refl

@@ -1,4 +1,4 @@
-use Rattle.osmroad.proofs.counting_tests.asked.Given as goal
+use Rattle.osmroad.proofs.counting_tests.asked_on.Given as goal
 
 -- the ledger that was just made
 abbrev pub ghosts-asked_in : goal.ghosts-asked_in

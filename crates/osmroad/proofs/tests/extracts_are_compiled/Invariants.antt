@@ -1,5 +1,0 @@
-use Rattle.osmroad.proofs.tests.extracts_are_compiled.Given as goal
-
--- the ledger that was just made
-abbrev pub ghosts-ended : goal.ghosts-ended
-ghosts-ended g a = record { name = a.blank.name; parts = a.blank.parts }
