@@ -14,6 +14,7 @@ use Rattle.std.specs.FinMap.{remove as removed, get-remove, same_map}
 use Rattle.std.proofs.lemmas.Bool.{and_parts, and_from}
 use Rattle.std.proofs.lemmas.Cmp.{tied_itself}
 use Rattle.std.proofs.lemmas.List.{nil_from_length}
+use Rattle.std.proofs.lemmas.Option.{get_or_from_slice_get}
 use Rattle.std.proofs.lemmas.List.Sorted.{searchable_from_sorted}
 use Rattle.road_model.specs.Orders.{rises, rises_from}
 use Rattle.road_base.proofs.ListMembers.{In, in_get, in_from_contains, contains_from_in}
@@ -96,6 +97,38 @@ module _ {A N : Type 0} (name : A → N) (R : N → N → Ordering) (total : IsT
       → slice_get xs (length xs - 1) ≡ Some x → R (name x) n ≡ Less
       → AllWithin (λ y. R (name y) n ≡ Less) xs 0 (length xs)
   below_last n xs x h some e l k d z w = all_below n xs x (length xs - 1) h (omega arith) e l k d w
+
+  later_above : (y x : A) (ys : List A) (i : ℕ) → IsTrue (rises R (map name (y ∷ ys))) → i < length ys
+      → slice_get ys i ≡ Some x → R (name y) (name x) ≡ Less
+  later_above y x ys i h w e =
+      let at : slice_index_or ys i x ≡ x = get_or_from_slice_get ys i x x e in
+      less _ (above name R total (name y) ys h x (subst (λ z. In z ys) at (in_get ys i x w)))
+
+  -- an ascending list is below n up to a place where it is
+  pub below_to : (n : N) (xs : List A) (x : A) (i : ℕ) → IsTrue (rises R (map name xs)) → i < length xs
+      → slice_get xs i ≡ Some x → R (name x) n ≡ Less → (k : ℕ) (d : A) → k < i + 1
+      → R (name (slice_index_or xs k d)) n ≡ Less
+  below_to n [] x i h w e l k d b = absurd (omega arith)
+  below_to n (y ∷ ys) x zero h w e l zero d b = let f : x ≡ y = cc in subst (λ z. R (name z) n ≡ Less) f l
+  below_to n (y ∷ ys) x zero h w e l (suc k) d b = absurd (omega arith)
+  below_to n (y ∷ ys) x (suc i) h w e l zero d b =
+      total.trans (name y) (name x) n (later_above y x ys i h (omega arith) e) l
+  below_to n (y ∷ ys) x (suc i) h w e l (suc k) d b =
+      below_to n ys x i (rest_rises R (name y) (map name ys) h) (omega arith) e l k d (omega arith)
+
+  -- and above n from a place where it is
+  pub above_from : (n : N) (xs : List A) (x : A) (i : ℕ) → IsTrue (rises R (map name xs))
+      → slice_get xs i ≡ Some x → R (name x) n ≡ Greater → AllWithin (λ y. R (name y) n ≡ Greater) xs i (length xs)
+  above_from n [] x i h e g k d b w = absurd (omega arith)
+  above_from n (y ∷ ys) x zero h e g zero d b w = let f : x ≡ y = cc in subst (λ z. R (name z) n ≡ Greater) f g
+  above_from n (y ∷ ys) x zero h e g (suc k) d b w =
+      let f : x ≡ y = cc in
+      let up : R n (name y) ≡ Less = turned R total _ _ _ (subst (λ z. R (name z) n ≡ Greater) f g) in
+      let later = above name R total (name y) ys h (slice_index_or ys k d) (in_get ys k d (omega arith)) in
+      turned R total _ _ _ (total.trans n (name y) (name (slice_index_or ys k d)) up (less _ later))
+  above_from n (y ∷ ys) x (suc i) h e g zero d b w = absurd (omega arith)
+  above_from n (y ∷ ys) x (suc i) h e g (suc k) d b w =
+      above_from n ys x i (rest_rises R (name y) (map name ys) h) e g k d (omega arith) (omega arith)
 
   -- ---- a list whose names below a place are below n, and from there on above
 

@@ -1,14 +1,13 @@
 //! Blocks of the graph, one for each way with pieces.
-ghost use Rattle.std.specs.Prelude.{◌≡◌, ◌+◌, ◌≤◌, ◌↔◌, length, map, option_copied, None, Some, IfOk, IfErr, OnOk};
-ghost use Rattle.std.specs.Prelude.{OnErr, IsTrue, Contains};
-ghost use Rattle.std.specs.List.{HoldsAt, AllWithin};
-ghost use Rattle.std.specs.List.Sorted.{IsSearchInRange};
-ghost use Rattle.std.specs.declared.cmp.Ordering.TheVariants.{Less, Greater};
+ghost use Rattle.std.specs.Prelude.{◌≡◌, ◌+◌, ◌≤◌, ◌↔◌, map, option_copied, None, IfOk, OnOk, OnErr, IsTrue, Contains};
+ghost use Rattle.std.specs.Prelude.{Some};
 ghost use Rattle.std.specs.FinMap.{empty, get, entries, insert as inserted, remove as removed};
 ghost use Rattle.road_model.specs.Orders.{way_cmp, rises};
+ghost use Rattle.road_model.specs.BlockMap.{replaced};
 ghost use Rattle.road_model.specs.declared.blocks.Block.{Block};
 
 use crate::Pieces;
+use crate::block_search::{find_near, find_way};
 use road_base::{NoMemory, Numbered, WayId};
 use std::alloc::Global;
 use std::marker::Model;
@@ -85,6 +84,18 @@ impl Blocks {
         }
     }
 
+    /// The way's block, and None exactly where the way has none. It is looked for at this position first: this takes no
+    /// search where it stands there, nor where there is none and it would. Takes no memory.
+    pub fn get_near(&self, way: WayId, at: usize) -> Option<&Block>
+        ensures { option_copied result ≡ get self.now.map way }
+    {
+        let list = self.list.as_slice();
+        match find_near(list, way, at) {
+            Ok(at) => Some(&list[at]),
+            Err(_) => None,
+        }
+    }
+
     /// Makes room to spare for as many further blocks. Where no memory is found nothing changes.
     pub fn reserve(&mut self, more: usize) -> Result<(), NoMemory>
         ensures map { self.new.map ≡ self.old.map }
@@ -112,6 +123,17 @@ impl Blocks {
                 self.list.reserve(1)?;
                 Ok(self.list.insert(at, block)?)
             }
+        }
+    }
+
+    /// Puts the block in the place of its way's, which is looked for at this position first. Where the way has none,
+    /// nothing changes and the block is dropped. Takes no memory.
+    pub fn replace_near(&mut self, block: Block, at: usize)
+        ensures map { self.new.map ≡ replaced self.old.map block }
+        ensures spare { self.new.spare ≡ self.old.spare }
+    {
+        if let Ok(place) = find_near(self.list.as_slice(), block.way, at) {
+            self.list[place] = block;
         }
     }
 
@@ -156,20 +178,5 @@ impl Blocks {
             list.push_reserved(block.copy()?);
         }
         Ok(Blocks { list })
-    }
-}
-
-/// Where the way's block stands in the list, or else where it would stand: behind all blocks of lower ways. Behind all
-/// others is looked at first.
-fn find_way(list: &[Block], way: WayId) -> Result<usize, usize>
-    requires { IsTrue (rises way_cmp (map (λ b. b.way) list.now)) }
-    ensures within { IsSearchInRange result (length list.now) }
-    ensures found { IfOk result (HoldsAt (λ b. b.way ≡ way) list.now) }
-    ensures below { IfErr result (AllWithin (λ b. way_cmp b.way way ≡ Less) list.now 0) }
-    ensures behind { IfErr result (λ at. AllWithin (λ b. way_cmp b.way way ≡ Greater) list.now at (length list.now)) }
-{
-    match list.last() {
-        Some(last) if last.way >= way => list.binary_search_by_key(&way, |block| block.way),
-        _ => Err(list.len()),
     }
 }
