@@ -129,7 +129,7 @@ same_some None None to from = refl
 same_some (Some x) b to from = sym (to x refl)
 same_some None (Some x) to from = from x refl
 
-abbrev if_some : List Piece → Block → Option Block
+abbrev pub if_some : List Piece → Block → Option Block
 if_some ps b = elim ps [ [] ↦ None | p ∷ more ↦ Some b ]
 
 same_by_pieces : (ps : List Piece) (x b : Block) → if_some ps x ≡ Some b → x ≡ b
@@ -138,6 +138,15 @@ same_by_pieces (p ∷ ps) x b got = cc
 
 same_with_pieces : (x b : Block) → with_pieces x ≡ Some b → x ≡ b
 same_with_pieces x b got = same_by_pieces x.pieces x b got
+
+-- a block that a list's map has stands at its way
+pub way_of : (m : FinMap way_cmp Block) → IsAntisymmetric way_cmp → (list : List Block) → entries m ≡ map entry_of list
+    → (w : WayId) (b : Block) → get m w ≡ Some b → b.way ≡ w
+way_of m ties list are w b got =
+    let r = found_in w (map entry_of list) b (sym (get-entries m w ∙ ap (find way_cmp w) are) ∙ got) in
+    let e = from_map entry_of list r.0 r.1 in
+    let same : e.0 ≡ b = ap (λ (x : WayId × Block). x.1) (sym e.2) ∙ r.3 in
+    sym (ties w r.0.0 r.2 ∙ ap (λ (x : WayId × Block). x.0) e.2 ∙ ap (λ (x : Block). x.way) same)
 
 -- exactly those of the blocks that were built since which have pieces
 abbrev pub AreBuilt : List (WayId × Block) → List Block → Type 0
@@ -157,19 +166,12 @@ module _ (rebuilt : List (WayId × Block)) (old : FinMap way_cmp Block) where
 
   module _ (ties : IsAntisymmetric way_cmp) (older : List Block) (are : entries old ≡ map entry_of older)
       (each : (b : Block) → Contains older b ↔ (get old b.way ≡ Some b)) where
-    way_of : (w : WayId) (b : Block) → get old w ≡ Some b → b.way ≡ w
-    way_of w b got =
-        let r = found_in w (map entry_of older) b (sym (get-entries old w ∙ ap (find way_cmp w) are) ∙ got) in
-        let m = from_map entry_of older r.0 r.1 in
-        let same : m.0 ≡ b = ap (λ (e : WayId × Block). e.1) (sym m.2) ∙ r.3 in
-        sym (ties w r.0.0 r.2 ∙ ap (λ (e : WayId × Block). e.0) m.2 ∙ ap (λ (x : Block). x.way) same)
-
     module _ (newer : List Block) (built : AreBuilt rebuilt newer) (ways : AreAtTheirWays rebuilt)
         (n : FinMap way_cmp Block) (put : IsPutFrom older newer rebuilt (block_at rebuilt old) n) where
       by_found : (w : WayId) (b : Block) (o : Option Block) → find way_cmp w rebuilt ≡ o → at_found w o ≡ Some b
           → get n w ≡ Some b
       by_found w b None none got =
-          let way = way_of w b got in
+          let way = way_of old ties older are w b got in
           let has = (each b).1 (subst (λ v. get old v ≡ Some b) (sym way) got) in
           let free = subst (λ v. find way_cmp v rebuilt ≡ None) (sym way) none in
           subst (λ v. get n v ≡ Some b) way (put.kept b has free)

@@ -3,8 +3,7 @@ use Rattle.std.proofs.Common.{◌≡◌, ◌⊎◌, inl, inr, Bool, true, false,
 use Rattle.std.proofs.Common.{Option, Some, None, Contains, refl, sym, ap, subst, ◌∙◌}
 use Rattle.std.specs.Prelude.{◌↔◌}
 use Rattle.std.specs.Cmp.{IsTotalOrder, Equal-is}
-use Rattle.std.specs.FinMap.{FinMap, IsAntisymmetric, get, find, put}
-use Rattle.std.specs.FinMap.Entries.{find-put}
+use Rattle.std.specs.FinMap.{FinMap, IsAntisymmetric, get, find}
 use Rattle.std.specs.Ordering.{is_eq, eq_by_cmp}
 use Rattle.std.proofs.lemmas.Cmp.{tied_itself}
 use Rattle.road_base.specs.declared.ids.WayId.{WayId}
@@ -25,7 +24,7 @@ use Rattle.road_base.proofs.ListMembers.{in_end}
 
 -- ---- whether two ways are one, and whether a way is in a list
 
-itself : IsTotalOrder way_cmp → (w v : WayId) → w ≡ v → eq_by_cmp way_cmp w v ≡ true
+pub itself : IsTotalOrder way_cmp → (w v : WayId) → w ≡ v → eq_by_cmp way_cmp w v ≡ true
 itself total w v same = ap (λ x. eq_by_cmp way_cmp x v) same ∙ ap is_eq (tied_itself total v)
 
 apart : (w v : WayId) → IsTotalOrder way_cmp → eq_by_cmp way_cmp w v ≡ false → w ≡ v → ⊥
@@ -36,14 +35,14 @@ module _ (total : IsTotalOrder way_cmp) (ties : IsAntisymmetric way_cmp) where
   same_by w v true e = inl (ties w v ((Equal-is (way_cmp w v)).0 e))
   same_by w v false e = inr (apart w v total e)
 
-  same_or_not : (w v : WayId) → (w ≡ v) ⊎ (w ≡ v → ⊥)
+  pub same_or_not : (w v : WayId) → (w ≡ v) ⊎ (w ≡ v → ⊥)
   same_or_not w v = same_by w v (eq_by_cmp way_cmp w v) refl
 
   other_by : (w v : WayId) (t : Bool) → eq_by_cmp way_cmp w v ≡ t → (w ≡ v → ⊥) → eq_by_cmp way_cmp w v ≡ false
   other_by w v true e other = absurd (other (ties w v ((Equal-is (way_cmp w v)).0 e)))
   other_by w v false e other = e
 
-  other_way : (w v : WayId) → (w ≡ v → ⊥) → eq_by_cmp way_cmp w v ≡ false
+  pub other_way : (w v : WayId) → (w ≡ v → ⊥) → eq_by_cmp way_cmp w v ≡ false
   other_way w v other = other_by w v (eq_by_cmp way_cmp w v) refl other
 
   abbrev pub Listed : List WayId → WayId → Type 0
@@ -63,12 +62,10 @@ module _ (total : IsTotalOrder way_cmp) (ties : IsAntisymmetric way_cmp) where
 
   module _ (M : Objects) (P : Rules) where
     pub rebuilt_with : (way : WayId) (b : Block) (before after : List (WayId × Block)) → IsBuilt M P way b
-        → after ≡ put way_cmp way b before → IsRebuiltWith M P way before after
-    rebuilt_with way b before after is puts = record { built = (b, is, here); stays = there }
+        → ((w : WayId) → find way_cmp w after ≡ cond (eq_by_cmp way_cmp w way) (Some b) (find way_cmp w before))
+        → IsRebuiltWith M P way before after
+    rebuilt_with way b before after is got = record { built = (b, is, here); stays = there }
       where
-        got : (w : WayId) → find way_cmp w after ≡ cond (eq_by_cmp way_cmp w way) (Some b) (find way_cmp w before)
-        got w = ap (λ l. find way_cmp w l) puts ∙ find-put way_cmp total w way b before
-
         here : find way_cmp way after ≡ Some b
         here = got way ∙ ap (λ t. cond t (Some b) (find way_cmp way before)) (itself total way way refl)
 
@@ -154,7 +151,7 @@ at_built rebuilt listed w b found =
     ap (λ (o : Option Block). elim o [ None ↦ get listed w | Some x ↦ with_pieces x ]) found
 
 -- where the same was built since, the same stands there
-at_other : (before after : List (WayId × Block)) (listed : FinMap way_cmp Block) (w : WayId)
+pub at_other : (before after : List (WayId × Block)) (listed : FinMap way_cmp Block) (w : WayId)
     → find way_cmp w after ≡ find way_cmp w before → block_at after listed w ≡ block_at before listed w
 at_other before after listed w same =
     ap (λ (o : Option Block). elim o [ None ↦ get listed w | Some x ↦ with_pieces x ]) same

@@ -1,4 +1,5 @@
 pub mod Engines
 pub mod Rebuilding
 pub mod Standing
+pub mod Placing
 pub mod Listing

@@ -1,7 +1,7 @@
 -- Blocks that were built since the others were listed.
-use Rattle.std.specs.Prelude.{◌≡◌, ℕ, List, [], ◌∷◌, Option, Some, None, Contains, IsTrue, map}
+use Rattle.std.specs.Prelude.{◌≡◌, ℕ, List, [], ◌∷◌, ◌++◌, Option, Some, None, Contains, IsTrue, map}
 use Rattle.std.specs.List.{AllByRecursion}
-use Rattle.std.specs.FinMap.{FinMap, find, get}
+use Rattle.std.specs.FinMap.{FinMap, entries, find, get}
 use Rattle.road_base.specs.declared.ids.WayId.{WayId}
 use Rattle.road_base.specs.Objects.{Objects}
 use Rattle.road_model.specs.declared.lists.Piece.{Piece}
@@ -16,6 +16,10 @@ use Rattle.touched_ways.specs.Altering.{listed_pieces}
 -- the block, if it has pieces
 abbrev pub with_pieces : Block → Option Block
 with_pieces b = elim b.pieces [ [] ↦ None | p ∷ ps ↦ Some b ]
+
+-- fresh blocks before those that were built since the others were listed
+abbrev pub over : FinMap way_cmp Block → List (WayId × Block) → List (WayId × Block)
+over fresh rebuilt = entries fresh ++ rebuilt
 
 -- the block of the way: that which was built since, if one was, and else that of the list
 abbrev pub block_at : List (WayId × Block) → FinMap way_cmp Block → WayId → Option Block

@@ -6,6 +6,12 @@ use Rattle.std.specs.Ordering.{eq_by_cmp}
 use Rattle.road_base.specs.declared.ids.WayId.{WayId}
 use Rattle.road_model.specs.declared.blocks.Block.{Block}
 use Rattle.road_model.specs.Orders.{way_cmp}
+use Rattle.change_apply.specs.declared.known.Standing.{Standing}
+use Rattle.change_apply.specs.Rebuilding.{over}
+
+-- all that were built since the others were listed, the fresh ones first
+abbrev pub built_in : Standing → List (WayId × Block)
+built_in s = over s.fresh.now.map s.rebuilt.now
 
 -- the newest block of the way: that which was built since, also where it has no pieces, and else that of the list
 abbrev pub newest : List (WayId × Block) → FinMap way_cmp Block → WayId → Option Block

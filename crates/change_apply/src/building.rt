@@ -7,12 +7,13 @@ ghost use Rattle.road_model.specs.Known.{AreKnown};
 ghost use Rattle.road_model.specs.Naming.{OneBlock};
 ghost use Rattle.road_model.specs.Orders.{way_cmp};
 ghost use Rattle.change_apply.specs.Engines.{AreBlocksAmong, AreInForm, AreKept};
-ghost use Rattle.change_apply.specs.Rebuilding.{AreAtTheirWays, AreRebuilt, IsRebuiltWith, block_at};
+ghost use Rattle.road_model.specs.declared.blocks.Block.{Block as BlockValue};
+ghost use Rattle.change_apply.specs.Rebuilding.{AreAtTheirWays, AreRebuilt, IsRebuiltWith, block_at, over};
 ghost use Rattle.touched_ways.specs.Altering.{AreParted};
 
 use crate::altering::altered;
 use crate::engine::RoadGraph;
-use crate::known::Standing;
+use crate::known::{Standing, StandingBut};
 use back_references::Indexed;
 use expanded_graph::GraphBuilder;
 use object_store::SharedMap;
@@ -101,25 +102,24 @@ fn add_block<P: Profile, L: Ledger>(
     blocks.insert(block)
 }
 
-/// Builds the blocks of these ways, ascending, and puts them in the place of what was built of them before: one is
-/// built for each, also where a way has no pieces. Of ways that meet them the pieces are taken from the known blocks.
+/// The blocks of these ways, ascending: one is built for each, also where a way has no pieces. Of ways that meet them the
+/// pieces are taken from the known blocks.
 pub fn rebuild<M: World, P: Profile, K: KnownBlocks, L: Ledger>(
     alloc: Global,
     world: &M,
     profile: P,
     ways: &[WayId],
     known: &K,
-    rebuilt: &SharedMap<WayId, Block>,
     steps: &mut Steps<L>,
-) -> Result<SharedMap<WayId, Block>, NoMemory>
+) -> Result<Blocks, NoMemory>
     requires { AreKnown (M.objects world.now) (P.rules profile) (K.blocks known.now) }
-    ensures rebuilt { IfOk result (λ r.
-        AreRebuilt (M.objects world.now) (P.rules profile) ways.now rebuilt.now r) }
+    ensures rebuilt { IfOk result (λ r. (before : List (WayId × BlockValue))
+        → AreRebuilt (M.objects world.now) (P.rules profile) ways.now before (over r.map before)) }
     ensures each { OnOk result (steps.new ≡ steps.old + length ways.now) }
     ensures few { steps.new ≤ steps.old + length ways.now }
 {
     let builder = GraphBuilder::of(alloc, world, profile, ways, known)?;
-    rebuild_each(alloc, &builder, ways, rebuilt, steps)
+    rebuild_each(alloc, &builder, ways, steps)
 }
 
 /// The same, by what builds the blocks of these ways.
@@ -127,66 +127,68 @@ fn rebuild_each<M: World, P: Profile, L: Ledger>(
     alloc: Global,
     builder: &GraphBuilder<'_, M, P>,
     ways: &[WayId],
-    rebuilt: &SharedMap<WayId, Block>,
     steps: &mut Steps<L>,
-) -> Result<SharedMap<WayId, Block>, NoMemory>
-    ensures rebuilt { IfOk result (λ r. AreRebuilt (M.objects builder.now.world) (P.rules builder.now.profile) ways.now
-        rebuilt.now r) }
+) -> Result<Blocks, NoMemory>
+    ensures rebuilt { IfOk result (λ r. (before : List (WayId × BlockValue))
+        → AreRebuilt (M.objects builder.now.world) (P.rules builder.now.profile) ways.now before (over r.map before)) }
     ensures each { OnOk result (steps.new ≡ steps.old + length ways.now) }
     ensures few { steps.new ≤ steps.old + length ways.now }
 {
     name_order();
-    let mut next = rebuilt.share()?;
+    let mut blocks = Blocks::new(alloc);
+    blocks.reserve(ways.len())?;
     for way in ways {
-        next = rebuild_one(alloc, builder, *way, next, steps)?;
+        rebuild_one(builder, *way, &mut blocks, steps)?;
     }
-    Ok(next)
+    Ok(blocks)
 }
 
-/// Builds the block of the way, and puts it in the place of what was built of it before.
+/// Builds the block of the way, and puts it at its way.
 fn rebuild_one<M: World, P: Profile, L: Ledger>(
-    alloc: Global,
     builder: &GraphBuilder<'_, M, P>,
     way: WayId,
-    rebuilt: SharedMap<WayId, Block>,
+    blocks: &mut Blocks,
     steps: &mut Steps<L>,
-) -> Result<SharedMap<WayId, Block>, NoMemory>
-    ensures rebuilt { IfOk result (λ r. IsRebuiltWith (M.objects builder.now.world) (P.rules builder.now.profile) way
-        rebuilt r) }
+) -> Result<(), NoMemory>
+    ensures rebuilt { OnOk result ((before : List (WayId × BlockValue))
+        → IsRebuiltWith (M.objects builder.now.world) (P.rules builder.now.profile) way
+        (over blocks.old.map before) (over blocks.new.map before)) }
     ensures built { steps.new ≡ steps.old + 1 }
 {
     name_order();
     let block = builder.block(way, steps)?;
-    rebuilt.with(alloc, way, block)
+    blocks.insert(block)
 }
 
-/// Blocks with those that a change altered, and how many were built.
+/// The blocks that a change altered, and how many were built.
 #[derive(Drop)]
 pub struct Rebuilt {
-    pub blocks: SharedMap<WayId, Block>,
+    /// Those of ways near the change, or named beside one near.
+    pub near: Blocks,
+    /// Those of ways that meet one of these with other pieces than before, or are named beside one that does.
+    pub met: Blocks,
     pub count: u64,
 }
 
 /// Builds over the world that a change leaves, `next`, the blocks of the touched ways that are near it or that a
 /// restriction names beside one near, and then those of the other touched ways that meet one of them whose pieces are
-/// others than before, or that a restriction names beside a way that does. What stands at every way is then its block,
-/// as it was in the world before, the graph's. The pieces of the ways that they meet are taken from the blocks that
-/// stand: before the first step from those of ways that aren't built in it, since the pieces of these are the same, and
-/// before the second from all.
-pub fn rebuild_touched<M: World, P: Profile, L: Ledger>(
+/// others than before, or that a restriction names beside a way that does. With them, what stands at every way is its
+/// block, as it was in the world before, the graph's. The pieces of the ways that they meet are taken from the blocks
+/// that stand: before the first step from those of ways that aren't built in it, since the pieces of these are the same,
+/// and before the second from all.
+pub fn rebuild_touched<'a, M: World, P: Profile, L: Ledger>(
     alloc: Global,
-    graph: &RoadGraph<P>,
+    graph: &'a RoadGraph<P>,
     next: &M,
-    touched: &TouchedWays,
-    rebuilt: &SharedMap<WayId, Block>,
+    touched: &'a TouchedWays,
+    rebuilt: &'a SharedMap<WayId, Block>,
     steps: &mut Steps<L>,
 ) -> Result<Rebuilt, NoMemory>
     requires parted { AreParted graph.now.world (M.objects next.now) touched.now.all touched.now.near touched.now.far }
     requires kept { AreKept graph.now.world (P.rules graph.now.profile) (block_at rebuilt.now graph.now.blocks.map) }
     requires at_ways { AreAtTheirWays rebuilt.now }
-    ensures kept { IfOk result (λ r.
-        AreKept (M.objects next.now) (P.rules graph.now.profile) (block_at r.blocks graph.now.blocks.map)) }
-    ensures at_ways { IfOk result (λ r. AreAtTheirWays r.blocks) }
+    ensures kept { IfOk result (λ r. AreKept (M.objects next.now) (P.rules graph.now.profile)
+        (block_at (over r.met.map (over r.near.map rebuilt.now)) graph.now.blocks.map)) }
     ensures count { IfOk result (λ r. steps.new ≡ steps.old + r.count) }
     ensures few { steps.new ≤ steps.old + (length touched.now.near + length touched.now.far) }
 {
@@ -199,26 +201,41 @@ pub fn rebuild_touched<M: World, P: Profile, L: Ledger>(
     listed_pieces_stay(&profile);
     block_lists_pieces(&profile);
     far_blocks_list_pieces(&profile);
-    let listed = &graph.blocks;
-    let ranges = &graph.ranges;
-    let near = touched.near.items();
-    let standing = Standing {
-        listed,
-        ranges,
-        rebuilt,
+    let none = Blocks::new(alloc);
+    let before = standing(graph, rebuilt, &none);
+    let near_ways = touched.near.items();
+    let known = StandingBut {
+        standing: before,
         but: &touched.near,
     };
-    let first = rebuild(alloc, next, profile, near, &standing, rebuilt, steps)?;
-    let altered = altered(alloc, listed, ranges, rebuilt, &first, near)?;
-    let met = meeting(alloc, next, &touched.far, altered.as_slice())?;
-    let none = Ways::from_list(Vec::new(alloc));
-    let standing = Standing {
-        listed,
-        ranges,
-        rebuilt: &first,
-        but: &none,
+    let near = rebuild(alloc, next, profile, near_ways, &known, steps)?;
+    let after = standing(graph, rebuilt, &near);
+    let altered = altered(alloc, &before, &after, near_ways)?;
+    let met_ways = meeting(alloc, next, &touched.far, altered.as_slice())?;
+    let no_ways = Ways::from_list(Vec::new(alloc));
+    let known = StandingBut {
+        standing: after,
+        but: &no_ways,
     };
-    let blocks = rebuild(alloc, next, profile, met.items(), &standing, &first, steps)?;
-    let count = near.len() as u64 + met.items().len() as u64;
-    Ok(Rebuilt { blocks, count })
+    let met = rebuild(alloc, next, profile, met_ways.items(), &known, steps)?;
+    let count = near_ways.len() as u64 + met_ways.items().len() as u64;
+    Ok(Rebuilt { near, met, count })
+}
+
+/// The blocks that stand in the graph, with those that were built since they were listed, and these fresh ones.
+fn standing<'a, P: Profile>(
+    graph: &'a RoadGraph<P>,
+    rebuilt: &'a SharedMap<WayId, Block>,
+    fresh: &'a Blocks,
+) -> Standing<'a>
+    ensures listed { result.listed.now ≡ graph.now.blocks }
+    ensures rebuilt { result.rebuilt.now ≡ rebuilt.now }
+    ensures fresh { result.fresh.now ≡ fresh.now }
+{
+    Standing {
+        listed: &graph.blocks,
+        ranges: &graph.ranges,
+        rebuilt,
+        fresh,
+    }
 }

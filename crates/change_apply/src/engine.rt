@@ -16,9 +16,11 @@ ghost use Rattle.road_model.specs.Format.{IsBlockForm};
 ghost use Rattle.road_model.specs.Orders.{Lists, way_cmp};
 ghost use Rattle.change_apply.specs.Engines.{AreKept, BuildsTouched, Touches};
 ghost use Rattle.change_apply.specs.Rebuilding.{AreAtTheirWays, block_at};
+ghost use Rattle.change_apply.specs.Placing.{placed_at};
 
-use crate::building::{Rebuilt, build, rebuild_touched};
+use crate::building::{build, rebuild_touched};
 use crate::listing::list_rebuilt;
+use crate::placing::{Placed, place, replace_listed};
 use crate::touching::touched_by;
 use back_references::{Indexed, Next, Prepared};
 use object_store::SharedMap;
@@ -53,10 +55,10 @@ pub struct RoadGraph<P: Profile> {
 #[derive(Drop)]
 pub struct Engine<P: Profile> {
     alloc: Global,
-    /// The world, with the blocks as they were listed last.
+    /// The world, with the listed blocks. Most blocks that are built come in the place of listed ones.
     graph: RoadGraph<P>,
-    /// The blocks that were built since, each in the place of the one listed at its way; one without pieces stands for
-    /// none.
+    /// The others that were built since they were listed: of ways that have none there, and those without pieces. Each
+    /// stands in the place of the one listed at its way; one without pieces stands for none.
     rebuilt: SharedMap<WayId, Block>,
 }
 
@@ -128,19 +130,16 @@ impl<P: Profile> Engine<P> {
     {
         one_map();
         let prepared = self.graph.world.prepare(events)?;
-        let (rebuilt, touched) = rebuild_after(
+        let (placed, report) = rebuild_after(
             self.alloc,
             &self.graph,
             &self.rebuilt,
             &prepared,
             steps,
         )?;
-        let report = Report {
-            touched,
-            rebuilt: rebuilt.count,
-        };
         self.graph.world.commit(prepared);
-        self.rebuilt = rebuilt.blocks;
+        self.rebuilt = placed.rebuilt;
+        replace_listed(placed.replacing, &self.graph.ranges, &mut self.graph.blocks);
         Ok(report)
     }
 
@@ -181,26 +180,25 @@ impl<P: Profile> Engine<P> {
     }
 }
 
-/// The blocks that were built since the others were listed, with those that the prepared change alters, and how many
-/// ways it touches.
+/// Builds the blocks that the prepared change alters, and finds where they go.
 fn rebuild_after<P: Profile, L: Ledger>(
     alloc: Global,
     graph: &RoadGraph<P>,
     rebuilt: &SharedMap<WayId, Block>,
     prepared: &Prepared,
     steps: &mut Steps<L>,
-) -> Result<(Rebuilt, u64), NoMemory>
+) -> Result<(Placed, Report), NoMemory>
     requires before { prepared.now.before ≡ graph.now.world }
     requires kept { AreKept graph.now.world (P.rules graph.now.profile) (block_at rebuilt.now graph.now.blocks.map) }
     requires at_ways { AreAtTheirWays rebuilt.now }
-    ensures kept { IfOk result (λ r.
-        AreKept prepared.now.after (P.rules graph.now.profile) (block_at r.0.blocks graph.now.blocks.map)) }
-    ensures at_ways { IfOk result (λ r. AreAtTheirWays r.0.blocks) }
+    ensures kept { IfOk result (λ r. AreKept prepared.now.after (P.rules graph.now.profile)
+        (placed_at r.0.rebuilt r.0.replacing.items graph.now.blocks.map)) }
+    ensures at_ways { IfOk result (λ r. AreAtTheirWays r.0.rebuilt) }
     ensures touched { IfOk result (λ r. (ways : List WayNumber)
         → AreTouched graph.now.world prepared.now.after ways
-        → r.1 ≡ length ways) }
-    ensures count { IfOk result (λ r. steps.new ≡ steps.old + r.0.count) }
-    ensures few { IfOk result (λ r. r.0.count ≤ r.1) }
+        → r.1.touched ≡ length ways) }
+    ensures count { IfOk result (λ r. steps.new ≡ steps.old + r.1.rebuilt) }
+    ensures few { IfOk result (λ r. r.1.rebuilt ≤ r.1.touched) }
     ensures ways { OnOk result ((events : List EventValue)
         → IsApplied graph.now.world events prepared.now.after
         → Touches graph.now.world events) }
@@ -211,8 +209,13 @@ fn rebuild_after<P: Profile, L: Ledger>(
     name_order();
     let touched = touched_by(alloc, &graph.world, prepared)?;
     let next = Next::of(&graph.world, prepared);
-    let rebuilt = rebuild_touched(alloc, graph, &next, &touched, rebuilt, steps)?;
-    Ok((rebuilt, touched.all.items().len() as u64))
+    let fresh = rebuild_touched(alloc, graph, &next, &touched, rebuilt, steps)?;
+    let report = Report {
+        touched: touched.all.items().len() as u64,
+        rebuilt: fresh.count,
+    };
+    let placed = place(alloc, &graph.blocks, &graph.ranges, rebuilt, fresh)?;
+    Ok((placed, report))
 }
 
 /// Lists the blocks that were built since among the others, so that none is left. Where no memory is found nothing

@@ -3,13 +3,14 @@
 //! `Engine::load` costs what a compilation costs: it holds the objects, their references, and the block of each way
 //! with pieces, in one list. `Engine::apply` finds the ways that a change touches, and over the world that the change
 //! would leave builds the blocks of those near it, or named by a restriction beside one near, and then of those that
-//! meet a way whose pieces it altered, or are named beside one that does, beside what stands; then it exchanges the
-//! worlds and keeps the new blocks beside the list, in a map of which a changed one shares all but a path
-//! (`object_store::SharedMap`). The pieces of the ways that these meet it takes from the blocks that stand. Where no
-//! memory is found nothing changes. So a change costs what it touches: the look-ups of the touched ways, the blocks
-//! that are built, and for each of these the logarithm of the number of blocks that were built since they were listed;
-//! nothing of the size of the world. `Engine::graph` lists them: it takes no time where no block was built since, and
-//! else one pass over the list, which costs less than to read it once.
+//! meet a way whose pieces it altered, or are named beside one that does, beside what stands. The pieces of the ways
+//! that these meet it takes from the blocks that stand. It finds where each new block goes: where its way has one in
+//! the list, in the place of that; blocks of ways that have none there, and those without pieces, beside the list, in
+//! a map of which a changed one shares all but a path (`object_store::SharedMap`). Only then, and without taking memory,
+//! it exchanges the worlds and the blocks; where no memory is found nothing changes. So a change costs what it touches:
+//! the look-ups of the touched ways, the blocks that are built, and for each that goes beside the list the logarithm of
+//! their number; nothing of the size of the world. `Engine::graph` lists these: it takes no time where there are none,
+//! and else one pass over the list, which costs less than to read it once.
 #![tactic(auto)]
 
 mod altering;
@@ -17,6 +18,7 @@ mod building;
 mod engine;
 mod known;
 mod listing;
+mod placing;
 mod touching;
 
 pub use engine::{Engine, Report, RoadGraph};

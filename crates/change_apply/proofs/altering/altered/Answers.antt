@@ -2,6 +2,7 @@ use Rattle.std.proofs.Common.{◌≡◌, take, slice_index_or, pos, sym, ap, sub
 use Rattle.std.proofs.lemmas.List.{take_all, take_more}
 use Rattle.road_base.specs.declared.ids.WayId.{WayId}
 use Rattle.change_apply.specs.Rebuilding.{pieces_at}
+use Rattle.change_apply.specs.Standing.{built_in}
 use Rattle.change_apply.proofs.ComparedPieces.{AreSame, more_same, more_altered}
 use Rattle.change_apply.proofs.altering.altered.Goals as goal
 use Rattle.change_apply.proofs.altering.altered.Goals.{then-not-same_pieces+in_ok-push, else-not-same_pieces}
@@ -13,8 +14,8 @@ loop-way-preserved c =
     let way = slice_index_or ways i (record { 0 = pos 0 }) in
     let before = c.args.before.now in
     let after = c.args.after.now in
-    let blocks = c.args.blocks.now.map in
-    let Same : WayId → Type 0 = λ w. pieces_at before blocks w ≡ pieces_at after blocks w in
+    let Same : WayId → Type 0 = λ w. pieces_at (built_in before) before.listed.now.map w
+    ≡ pieces_at (built_in after) after.listed.now.map w in
     let more = take_more ways i (record { 0 = pos 0 }) c.loop-way-test.true in
     elim c.if-not-same_pieces.branch [
       | then-not-same_pieces+in_ok-push w ↦
@@ -32,6 +33,7 @@ pub returns : goal.returns
 returns c =
     let before = c.args.before.now in
     let after = c.args.after.now in
-    let blocks = c.args.blocks.now.map in
-    subst (λ l. AreSame (λ w. pieces_at before blocks w ≡ pieces_at after blocks w) l c.loop-way.altered.items)
+    let Same : WayId → Type 0 = λ w. pieces_at (built_in before) before.listed.now.map w
+    ≡ pieces_at (built_in after) after.listed.now.map w in
+    subst (λ l. AreSame Same l c.loop-way.altered.items)
     (take_all c.loop-way.way-index c.args.ways.now c.loop-way-test.false) c.loop-way.invariant

@@ -1,4 +1,4 @@
-use Rattle.std.proofs.Common.{◌≡◌, ℕ, ◌+◌, ◌≤◌, List, length, inl, inr, refl, ap, sym, subst, ◌∙◌, arith}
+use Rattle.std.proofs.Common.{◌≡◌, ℕ, ◌+◌, ◌≤◌, List, length, inr, refl, ap, sym, subst, ◌∙◌, arith}
 use Rattle.road_base.specs.declared.ids.WayId.{WayId}
 use Rattle.road_base.specs.declared.event.Event.{Event}
 use Rattle.road_base.specs.Objects.{Objects}
@@ -8,7 +8,9 @@ use Rattle.road_model.specs.Links.{IsTouched, AreTouched}
 use Rattle.touched_ways.specs.Altering.{AreParted}
 use Rattle.road_model.proofs.AscendingLists.{lists_unique}
 use Rattle.change_apply.specs.Engines.{AreKept, BuildsTouched}
-use Rattle.change_apply.specs.Rebuilding.{block_at}
+use Rattle.change_apply.specs.Placing.{placed_at}
+use Rattle.change_apply.specs.Rebuilding.{block_at, over}
+use Rattle.change_apply.proofs.RebuiltBlocks.{kept_as}
 use Rattle.change_apply.proofs.engine.rebuild_after.Goals as goal
 
 -- the parts of the touched ways, of the objects as they are called elsewhere
@@ -23,17 +25,18 @@ builds : (M after : Objects) (events : List Event) (ways : List WayId) (old new 
 builds M after events ways old new applied touched few =
     inr (record { after = after; applied = applied; ways = ways; touched = touched }, few)
 
-pub touched_by-requires : goal.touched_by-requires
-touched_by-requires g c = c.requires.before
+pub returns-in_err-fresh-clause-built : goal.returns-in_err-fresh-clause-built
+returns-in_err-fresh-clause-built g c = λ events applied.
+    let M = c.args.graph.now.world in
+    let after = c.args.prepared.now.after in
+    let touched = c.in_ok-touched.touched in
+    let parted = parted_of M c.args.prepared.now.before after after touched.all touched.near touched.far
+    c.requires.before refl c.in_ok-touched.ensures in
+    builds M after events touched.all c.args.steps.now c.rebuild_touched.new.steps applied parted.touched
+    (omega (arith, c.rebuild_touched.ensures.few, parted.count))
 
-pub of-next-requires : goal.of-next-requires
-of-next-requires g c = c.requires.before
-
-pub returns-in_err-touched-clause-built : goal.returns-in_err-touched-clause-built
-returns-in_err-touched-clause-built g c = λ events applied. inl refl
-
-pub returns-in_err-rebuilt-clause-built : goal.returns-in_err-rebuilt-clause-built
-returns-in_err-rebuilt-clause-built g c = λ events applied.
+pub returns-in_err-placed-clause-built : goal.returns-in_err-placed-clause-built
+returns-in_err-placed-clause-built g c = λ events applied.
     let M = c.args.graph.now.world in
     let after = c.args.prepared.now.after in
     let touched = c.in_ok-touched.touched in
@@ -52,22 +55,16 @@ returns-clause-built g c = λ events applied.
     builds M after events touched.all c.args.steps.now c.rebuild_touched.new.steps applied parted.touched
     (omega (arith, c.rebuild_touched.ensures.few, parted.count))
 
--- the world before is that of the graph
-pub rebuild_touched-requires : goal.rebuild_touched-requires
-rebuild_touched-requires g c =
-    let touched = c.in_ok-touched.touched in
-    record {
-      parted = parted_of c.args.graph.now.world c.args.prepared.now.before c.of-next.result c.args.prepared.now.after
-          touched.all touched.near touched.far c.requires.before c.of-next.ensures c.in_ok-touched.ensures;
-      kept = c.requires.kept;
-      at_ways = c.requires.at_ways;
-    }
-
 pub returns-clause-kept : goal.returns-clause-kept
 returns-clause-kept g c =
     let P = g.P.Profile.rules c.args.graph.now.profile in
-    let at = block_at c.in_ok-rebuilt.rebuilt.blocks c.args.graph.now.blocks.map in
-    subst (λ (x : Objects). AreKept x P at) c.of-next.ensures c.in_ok-rebuilt.ensures.kept
+    let placed = c.in_ok-placed.placed in
+    let listed = c.args.graph.now.blocks.map in
+    let fresh = c.in_ok-fresh.fresh in
+    let at = block_at (over fresh.met.map (over fresh.near.map c.args.rebuilt.now)) listed in
+    kept_as c.args.prepared.now.after P at (placed_at placed.rebuilt placed.replacing.items listed)
+    c.in_ok-placed.ensures.placed
+    (subst (λ (x : Objects). AreKept x P at) c.of-next.ensures c.in_ok-fresh.ensures.kept)
 
 pub returns-clause-touched : goal.returns-clause-touched
 returns-clause-touched g c = λ ways are.
@@ -79,15 +76,6 @@ returns-clause-touched g c = λ ways are.
     ap length c.items.ensures ∙ ap length
     (lists_unique (λ (w : WayId). w) way_cmp c.name_order.ensures.ways (IsTouched M N) touched.all ways parted.touched
     are)
-
-pub returns-clause-few : goal.returns-clause-few
-returns-clause-few g c = omega (
-  arith,
-  ap (λ (l : List WayId). length l) c.items.ensures,
-  c.in_ok-touched.ensures.count,
-  c.in_ok-rebuilt.ensures.count,
-  c.rebuild_touched.ensures.few,
-)
 
 pub returns-clause-ways : goal.returns-clause-ways
 returns-clause-ways g c = λ events applied.

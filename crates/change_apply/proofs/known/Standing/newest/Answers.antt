@@ -1,0 +1,34 @@
+use Rattle.std.proofs.Common.{◌≡◌, Some, None, sym, ap, ◌∙◌}
+use Rattle.std.specs.FinMap.{get}
+use Rattle.std.specs.Option.{option_copied}
+use Rattle.change_apply.specs.Standing.{built_in}
+use Rattle.change_apply.proofs.FreshBlocks.{over_fresh, over_none}
+use Rattle.change_apply.proofs.KnownBlocks.{newest_as}
+use Rattle.change_apply.proofs.known.Standing.newest.Goals as goal
+
+pub returns-in-Some : goal.returns-in-Some
+returns-in-Some c =
+    let s = c.args.self.now in
+    let way = c.args.way in
+    let block = c.in-Some.block.now in
+    let fresh = over_fresh s.fresh.now.map s.rebuilt.now way block (sym c.get.ensures ∙ ap option_copied c.in-Some.is) in
+    sym (newest_as (built_in s) s.listed.now.map way (Some block) fresh)
+
+pub returns-in-Some-get : goal.returns-in-Some-get
+returns-in-Some-get c =
+    let s = c.args.self.now in
+    let way = c.args.way in
+    let block = c.in-Some-get.block.now in
+    let none : get s.fresh.now.map way ≡ None = sym c.get.ensures ∙ ap option_copied c.in_default.is in
+    let found = over_none s.fresh.now.map s.rebuilt.now way none
+    ∙ (sym c.get-2.ensures ∙ ap option_copied c.in-Some-get.is) in
+    sym (newest_as (built_in s) s.listed.now.map way (Some block) found)
+
+pub returns-in-None : goal.returns-in-None
+returns-in-None c =
+    let s = c.args.self.now in
+    let way = c.args.way in
+    let none : get s.fresh.now.map way ≡ None = sym c.get.ensures ∙ ap option_copied c.in_default.is in
+    let found = over_none s.fresh.now.map s.rebuilt.now way none
+    ∙ (sym c.get-2.ensures ∙ ap option_copied c.in-None.is) in
+    c.listed_at.ensures ∙ sym (newest_as (built_in s) s.listed.now.map way None found)

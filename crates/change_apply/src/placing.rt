@@ -1,0 +1,114 @@
+//! Where the blocks go that a change altered: in the place of listed ones, or beside them.
+ghost use Rattle.std.specs.Prelude.{◌≡◌, IfOk};
+ghost use Rattle.road_base.specs.declared.ids.WayId.{WayId as WayNumber};
+ghost use Rattle.change_apply.specs.Rebuilding.{AreAtTheirWays, block_at, over};
+ghost use Rattle.change_apply.specs.Placing.{IsPlaced, placed_at, replaced_by, with_fresh};
+
+use crate::building::Rebuilt;
+use crate::known::listed_at;
+use object_store::SharedMap;
+use road_base::{NoMemory, Ranges, WayId};
+use road_model::laws::name_order;
+use road_model::{Block, Blocks};
+use std::alloc::Global;
+
+/// Where blocks go that a change altered, found and not done yet.
+#[derive(Drop)]
+pub struct Placed {
+    /// The blocks that stand beside the listed ones behind the change.
+    pub rebuilt: SharedMap<WayId, Block>,
+    /// Those that come in the place of listed ones: most of them, since most ways that a change touches are listed.
+    pub replacing: Vec<Block>,
+}
+
+/// Finds where the blocks go. Where nothing of a way stands beside the list, its block with pieces comes in the place of
+/// the listed one, if that is there, and one without pieces goes nowhere if none is; every other block is to stand
+/// beside the list. Takes two look-ups for each, and for each that stands beside the list the logarithm of their
+/// number.
+pub fn place(
+    alloc: Global,
+    listed: &Blocks,
+    ranges: &Ranges,
+    rebuilt: &SharedMap<WayId, Block>,
+    fresh: Rebuilt,
+) -> Result<Placed, NoMemory>
+    requires { AreAtTheirWays rebuilt.now }
+    ensures placed { IfOk result (λ p. (w : WayNumber)
+        → placed_at p.rebuilt p.replacing.items listed.now.map w
+        ≡ block_at (over fresh.met.map (over fresh.near.map rebuilt.now)) listed.now.map w) }
+    ensures at_ways { IfOk result (λ p. AreAtTheirWays p.rebuilt) }
+{
+    let count = fresh
+        .near
+        .items()
+        .len()
+        .saturating_add(fresh.met.items().len());
+    let none_placed = Placed {
+        rebuilt: rebuilt.share()?,
+        replacing: Vec::with_capacity(alloc, count)?,
+    };
+    let near_placed = place_each(alloc, listed, ranges, fresh.near, none_placed)?;
+    place_each(alloc, listed, ranges, fresh.met, near_placed)
+}
+
+/// Finds where these blocks go as well.
+fn place_each(
+    alloc: Global,
+    listed: &Blocks,
+    ranges: &Ranges,
+    fresh: Blocks,
+    placed: Placed,
+) -> Result<Placed, NoMemory>
+    requires { AreAtTheirWays placed.rebuilt }
+    ensures placed { IfOk result (λ p. (w : WayNumber)
+        → placed_at p.rebuilt p.replacing.items listed.now.map w
+        ≡ with_fresh fresh.map (placed_at placed.rebuilt placed.replacing.items listed.now.map) w) }
+    ensures at_ways { IfOk result (λ p. AreAtTheirWays p.rebuilt) }
+{
+    name_order();
+    let mut placed = placed;
+    for block in fresh.into_list() {
+        placed = place_one(alloc, listed, ranges, block, placed)?;
+    }
+    Ok(placed)
+}
+
+/// Finds where the block goes as well.
+fn place_one(
+    alloc: Global,
+    listed: &Blocks,
+    ranges: &Ranges,
+    block: Block,
+    placed: Placed,
+) -> Result<Placed, NoMemory>
+    requires { AreAtTheirWays placed.rebuilt }
+    ensures placed { IfOk result (λ p. IsPlaced block
+        (placed_at placed.rebuilt placed.replacing.items listed.now.map)
+        (placed_at p.rebuilt p.replacing.items listed.now.map)) }
+    ensures at_ways { IfOk result (λ p. AreAtTheirWays p.rebuilt) }
+{
+    name_order();
+    let Placed { rebuilt, replacing } = placed;
+    let is_listed = listed_at(listed, ranges, block.way).is_some();
+    let has_pieces = !block.pieces.items().is_empty();
+    if is_listed != has_pieces || rebuilt.get(block.way).is_some() {
+        let rebuilt = rebuilt.with(alloc, block.way, block)?;
+        return Ok(Placed { rebuilt, replacing });
+    }
+    if !has_pieces {
+        return Ok(Placed { rebuilt, replacing });
+    }
+    let mut replacing = replacing;
+    replacing.push(block)?;
+    Ok(Placed { rebuilt, replacing })
+}
+
+/// Puts each of the blocks in the place of its way's listed one, if that is there. Takes no memory.
+pub fn replace_listed(replacing: Vec<Block>, ranges: &Ranges, listed: &mut Blocks)
+    ensures { listed.new.map ≡ replaced_by replacing.items listed.old.map }
+{
+    for block in replacing {
+        let at = ranges.place(listed.items(), block.way.0);
+        listed.replace_near(block, at);
+    }
+}
