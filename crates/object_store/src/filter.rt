@@ -1,10 +1,13 @@
 //! Filters: marks at the numbers of a map's keys, by which it tells most keys that it doesn't have without a search.
 //!
-//! A filter is that of B. H. Bloom (1970), with one slot for each number.
+//! A filter is that of B. H. Bloom (1970), with two slots for each number. A number is marked where both are. The first
+//! ones of neighbouring numbers are neighbours, so that look-ups of these touch little memory. The other ones are
+//! scattered by Fibonacci hashing (D. E. Knuth, The Art of Computer Programming 3, 6.4): they are asked only where the
+//! first one is marked, and tell most of the numbers apart that share it.
 ghost use Rattle.std.specs.Prelude.{◌≡◌, ◌≢◌, ◌↔◌, ◌<◌, ℕ, ℤ, IfOk, IsTrue};
 ghost use Rattle.std.specs.Int.{bit_at};
 ghost use Rattle.std.specs.declared.cmp.Ordering.TheVariants.{Equal};
-ghost use Rattle.object_store.specs.Filters.{slot_of, slots_in, IsMarked};
+ghost use Rattle.object_store.specs.Filters.{slot_of, other_slot_of, slots_in, IsSlotMarked, IsMarked};
 ghost use Rattle.object_store.specs.Numbers.{key_number, key_tied, node_tied, way_tied};
 
 use road_base::{Key, NoMemory, NodeId, WayId};
@@ -20,6 +23,12 @@ const SLOTS_OF_WORD: usize = 64;
 
 /// How many slots a filter has.
 const SLOTS: u64 = 262_144;
+
+/// By what Fibonacci hashing multiplies: 2^64 divided by the golden ratio.
+const FIBONACCI: u64 = 0x9E37_79B9_7F4A_7C15;
+
+/// By how many bits a product is shifted so that a slot is left of it.
+const SLOT_SHIFT: u32 = 46;
 
 /// What has a number. Keys that tie have the same one.
 pub trait Slotted: Ord {
@@ -103,31 +112,55 @@ impl Filter {
         Ok(Filter { words })
     }
 
-    /// Whether the number's slot is marked.
+    /// Whether the number is marked. Its other slot is asked only where the first one is marked.
     fn has(&self, number: i64) -> bool
         ensures { IsTrue result ↔ IsMarked self.now number }
     {
-        let slot = slot_of(number);
+        self.has_slot(slot_of(number)) && self.has_slot(other_slot_of(number))
+    }
+
+    /// Whether the slot is marked.
+    fn has_slot(&self, slot: usize) -> bool
+        requires { slot < 262144 }
+        ensures { IsTrue result ↔ IsSlotMarked self.now slot }
+    {
         has_bit(self.words[slot / SLOTS_OF_WORD], slot % SLOTS_OF_WORD)
     }
 
-    /// Marks the number's slot.
+    /// Marks the number, in both its slots.
     fn mark(&mut self, number: i64)
         ensures own { IsMarked self.new number }
         ensures others { (other : ℤ) → IsMarked self.old other → IsMarked self.new other }
     {
-        let slot = slot_of(number);
+        self.mark_slot(slot_of(number));
+        self.mark_slot(other_slot_of(number));
+    }
+
+    /// Marks the slot.
+    fn mark_slot(&mut self, slot: usize)
+        requires { slot < 262144 }
+        ensures own { IsSlotMarked self.new slot }
+        ensures others { (other : ℕ) → IsSlotMarked self.old other → IsSlotMarked self.new other }
+    {
         let place = slot / SLOTS_OF_WORD;
         self.words[place] = with_bit(self.words[place], slot % SLOTS_OF_WORD);
     }
 }
 
-/// The slot of a number. Neighbouring numbers have different ones.
+/// The first slot of a number. Neighbouring numbers have neighbouring ones.
 fn slot_of(number: i64) -> usize
     ensures slot { result ≡ slot_of number }
     ensures within { result < 262144 }
 {
     (number.cast_unsigned() % SLOTS) as usize
+}
+
+/// The other slot of a number. Numbers that share a first slot mostly have different ones.
+fn other_slot_of(number: i64) -> usize
+    ensures slot { result ≡ other_slot_of number }
+    ensures within { result < 262144 }
+{
+    (number.cast_unsigned().wrapping_mul(FIBONACCI) >> SLOT_SHIFT) as usize
 }
 
 /// Whether the word has the bit.
@@ -147,7 +180,7 @@ fn with_bit(word: u64, bit: usize) -> u64
     word | (1 << bit)
 }
 
-/// Whether the number's slot is marked. Without a filter none is.
+/// Whether the number is marked. Without a filter none is.
 pub fn is_marked(filter: &Option<Rc<Filter>>, number: i64) -> bool
     ensures { IsTrue result ↔ IsMarked (slots_in filter.now) number }
 {
@@ -157,7 +190,7 @@ pub fn is_marked(filter: &Option<Rc<Filter>>, number: i64) -> bool
     }
 }
 
-/// The filter with the number's slot marked. A filter that others share is copied first.
+/// The filter with the number marked. A filter that others share is copied first.
 pub fn marked(
     alloc: Global,
     filter: Option<Rc<Filter>>,

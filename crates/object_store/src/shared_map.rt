@@ -52,8 +52,9 @@ impl<K: Ord + Copy + Slotted, V: Drop> SharedMap<K, V> {
         self.root.is_empty()
     }
 
-    /// The value of the key, and None exactly where the key has none. Where it has none this takes one test, unless
-    /// another key of the map has the same slot; else the logarithm of the map's length. Takes no memory.
+    /// The value of the key, and None exactly where the key has none. Where it has none this takes one or two tests,
+    /// unless both slots of its number are marked for other keys; else the logarithm of the map's length. Takes no
+    /// memory.
     pub fn get(&self, key: K) -> Option<&V>
         ensures { option_copied result ≡ find K.cmp key self.now }
     {
@@ -64,7 +65,7 @@ impl<K: Ord + Copy + Slotted, V: Drop> SharedMap<K, V> {
         }
     }
 
-    /// Whether the slot of the key's number is marked, as it is where the key has a value.
+    /// Whether the key's number is marked, as it is where the key has a value.
     fn may_have(&self, key: K) -> bool
         ensures { IsTrue (is_some (find K.cmp key self.now)) → IsTrue result }
     {
