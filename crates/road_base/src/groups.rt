@@ -1,6 +1,6 @@
 //! Groups of items in one list.
 ghost use Rattle.std.specs.Prelude.{◌≡◌, ◌<◌, ◌≤◌, ◌-◌, ◌++◌, ◌∷◌, [], length, take, drop, slice_get, Some, OnOk};
-ghost use Rattle.std.specs.Prelude.{OnErr};
+ghost use Rattle.std.specs.Prelude.{OnErr, IfOk};
 ghost use Rattle.road_base.specs.Groups.{groups_of, AreEnds, start_at};
 
 use crate::NoMemory;
@@ -34,6 +34,15 @@ impl<T: Copy + Drop> Groups<T> {
             items: Vec::new(alloc),
             ends: Vec::new(alloc),
         }
+    }
+
+    /// No groups. The memory for so many groups, and so many items in all, is taken at once.
+    pub fn with_capacity(alloc: Global, groups: usize, items: usize) -> Result<Groups<T>, NoMemory>
+        ensures { IfOk result (λ g. g ≡ []) }
+    {
+        let items = Vec::with_capacity(alloc, items)?;
+        let ends = Vec::with_capacity(alloc, groups)?;
+        Ok(Groups { items, ends })
     }
 
     /// How many groups there are.
