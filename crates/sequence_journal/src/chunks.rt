@@ -10,13 +10,16 @@ use object_codec::encode;
 use road_base::{Event, LittleEndian, NoMemory, Sequence};
 use std::alloc::Global;
 
+/// How many bytes spell an event, as a guess.
+const EVENT_BYTES: usize = 128;
+
 /// What stands behind the gate of a change's record: its fields and bytes, and the next gate, closed.
 pub fn record_chunk(alloc: Global, seq: Sequence, events: &[Event]) -> Result<Vec<u8>, NoMemory>
     ensures bytes { IfOk result (λ chunk. chunk.items ≡ fields (record_of seq.0 events.now) ++ 0 ∷ []) }
     ensures fit { IfOk result (λ chunk. EventsFit events.now) }
     ensures number_fits { IfOk result (λ chunk. seq.0 < 2 ^ 64) }
 {
-    let mut chunk = Vec::new(alloc);
+    let mut chunk = Vec::with_capacity(alloc, events.len().saturating_mul(EVENT_BYTES))?;
     seq.0.put(&mut chunk)?;
     put_events(events, &mut chunk)?;
     Ok(chunk)
