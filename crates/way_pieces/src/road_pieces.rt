@@ -114,6 +114,22 @@ fn add_ends(
     Ok(())
 }
 
+/// How many pieces a way has that is yet to be cut, as a guess.
+const PIECES: usize = 8;
+
+/// How many pieces the ways have: those that blocks list, and a guess for each way that is yet to be cut.
+fn guessed_pieces(ways: &[MetWay<'_>]) -> usize {
+    let mut count: usize = 0;
+    for way in ways {
+        let pieces = match way.source {
+            Source::Listed(block) => block.pieces.items().len(),
+            Source::Own | Source::Cut => PIECES,
+        };
+        count = count.saturating_add(pieces);
+    }
+    count
+}
+
 /// A way that was cut into pieces, and its line, where that is kept.
 #[derive(Drop)]
 struct CutRoad {
@@ -227,9 +243,10 @@ impl RoadPieces {
     {
         let ways = met_ways(alloc, network, met, own, known)?;
         let roads = roads_of(alloc, ways.as_slice())?;
-        let mut spans = Groups::new(alloc);
-        let mut starts = Groups::new(alloc);
-        let mut ends = Vec::new(alloc);
+        let pieces = guessed_pieces(ways.as_slice());
+        let mut spans = Groups::with_capacity(alloc, met.len(), pieces)?;
+        let mut starts = Groups::with_capacity(alloc, met.len(), pieces)?;
+        let mut ends = Vec::with_capacity(alloc, own.len().saturating_mul(PIECES))?;
         let mut lines = Vec::with_capacity(alloc, met.len())?;
         for way in ways.as_slice() {
             let cut = CutRoad::of(alloc, network, &roads, way)?;
