@@ -14,6 +14,13 @@ use road_model::{Network, Profile, World};
 use std::alloc::Global;
 use way_pieces::{Departure, RoadPieces};
 
+/// How many pieces leave a node, as a guess.
+const DEPARTURES: usize = 4;
+
+/// Memory for so many departures at most is taken at once. Where there are more it doubles, so that the departures of a
+/// whole map take no more than without the guess.
+const MOST_ROOM: usize = 4096;
+
 /// A node where pieces end: whether it is shut, whether it is a place to turn round, and what leaves it.
 #[derive(Clone, Copy)]
 pub struct Intersection<'a> {
@@ -98,7 +105,8 @@ impl Intersections {
         nodes.sort_unstable();
         nodes.dedup();
         let mut rules = Vec::with_capacity(alloc, nodes.len())?;
-        let mut departures = Groups::new(alloc);
+        let room = nodes.len().saturating_mul(DEPARTURES).min(MOST_ROOM);
+        let mut departures = Groups::with_capacity(alloc, nodes.len(), room)?;
         for node in nodes.as_slice() {
             rules.push(NodeRules::of(network, *node))?;
             let leaving = pieces.departures(alloc, network, *node)?;

@@ -13,8 +13,8 @@ loop-node-init g c =
     let P = g.P.Profile.rules c.args.network.now.profile in
     let rules = c.in_ok-rules.rules.items in
     record {
-      count = ap length c.in_ok-rules.ensures.items ∙ sym (ap length c.new-departures.ensures);
-      known = none_together (AreKnownAt M P) rules c.new-departures.result c.in_ok-rules.ensures.items;
+      count = ap length c.in_ok-rules.ensures.items ∙ sym (ap length c.in_ok-departures.ensures);
+      known = none_together (AreKnownAt M P) rules c.in_ok-departures.departures c.in_ok-rules.ensures.items;
     }
 
 pub loop-node-preserved : goal.loop-node-preserved
