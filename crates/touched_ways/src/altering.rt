@@ -177,9 +177,9 @@ fn ways_met<M: World>(alloc: Global, world: &M, ways: &[WayId]) -> Result<Ways, 
     ensures { IfOk result (Lists (λ w. w) way_cmp (MeetsOne (M.objects world.now) ways.now)) }
 {
     name_order();
-    let mut nodes = Found::new(alloc)?;
+    let mut nodes = Found::with_room(alloc, 0, ways.len())?;
     follow_ways(world, ways, &mut nodes)?;
-    let mut found = Found::new(alloc)?;
+    let mut found = Found::with_room(alloc, nodes.nodes.len(), 0)?;
     find_ways_of_nodes(alloc, world, nodes.nodes.as_slice(), &mut found)?;
     let ways_found = found.ways;
     let mut met = ways_found.list;
@@ -202,7 +202,7 @@ fn ways_beside<M: World>(alloc: Global, world: &M, ways: &[WayId]) -> Result<Way
 {
     name_order();
     number_order();
-    let mut linked = Found::new(alloc)?;
+    let mut linked = Found::with_room(alloc, 0, ways.len())?;
     follow_ways(world, ways, &mut linked)?;
     let mut rules = linked.rules;
     leave_once(&mut rules);

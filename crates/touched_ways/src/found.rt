@@ -10,6 +10,9 @@ use road_base::{Key, Member, NoMemory, NodeId, RelationId, WayId};
 use road_model::laws::number_order;
 use std::alloc::Global;
 
+/// How many nodes a way has, as a guess.
+const NODES: usize = 12;
+
 /// The numbers found, by kind, in no order. One may stand there more than once.
 #[derive(Drop)]
 pub struct Found {
@@ -26,6 +29,20 @@ impl Found {
         let ways = FoundWays::new(alloc)?;
         Ok(Found {
             nodes: Vec::new(alloc),
+            ways,
+            rules: Vec::new(alloc),
+        })
+    }
+
+    /// Nothing was found. There is room for about what is linked to so many nodes and ways.
+    pub fn with_room(alloc: Global, nodes: usize, ways: usize) -> Result<Found, NoMemory>
+        ensures { IfOk result (λ f. (k : KeyValue) → IsFound f k → ⊥) }
+    {
+        let nodes_of_ways = ways.saturating_mul(NODES);
+        let ways = FoundWays::with_capacity(alloc, nodes)?;
+        let nodes = Vec::with_capacity(alloc, nodes_of_ways)?;
+        Ok(Found {
+            nodes,
             ways,
             rules: Vec::new(alloc),
         })

@@ -15,7 +15,7 @@ const PLACES: u64 = 1024;
 #[derive(Drop)]
 pub struct FoundWays {
     pub list: Vec<WayId>,
-    places: Vec<usize>,
+    places: Vec<u32>,
 }
 
 impl FoundWays {
@@ -28,6 +28,16 @@ impl FoundWays {
             list: Vec::new(alloc),
             places,
         })
+    }
+
+    /// No ways. There is room for so many; where that is none, no places are kept, and it takes no memory.
+    pub fn with_capacity(alloc: Global, ways: usize) -> Result<FoundWays, NoMemory>
+        ensures { IfOk result (λ f. f.list.items ≡ []) }
+    {
+        let count = if ways == 0 { 0 } else { PLACES as usize };
+        let places = vec![in alloc; 0; count]?;
+        let list = Vec::with_capacity(alloc, ways)?;
+        Ok(FoundWays { list, places })
     }
 
     /// Puts the ways behind the list's, but some that stand there.
@@ -62,16 +72,16 @@ impl FoundWays {
 }
 
 /// The place that is kept for the remainder.
-fn place_at(places: &[usize], remainder: usize) -> usize {
+fn place_at(places: &[u32], remainder: usize) -> usize {
     match places.get(remainder) {
-        Some(place) => *place,
+        Some(place) => *place as usize,
         None => 0,
     }
 }
 
-/// Keeps another place for the remainder.
-fn keep_place(places: &mut [usize], remainder: usize, place: usize) {
+/// Keeps another place for the remainder, where that is below 2^32.
+fn keep_place(places: &mut [u32], remainder: usize, place: usize) {
     if let Some(kept) = places.get_mut(remainder) {
-        *kept = place;
+        *kept = u32::try_from(place).unwrap_or(*kept);
     }
 }

@@ -1,11 +1,12 @@
 //! The ways that a change touches: those within six links of what changed.
 //!
 //! A search over links goes round by round, over what the last round found. What a round finds is listed by kind,
-//! without a look-up. Ways and restrictions are then sorted and gone along beside those seen before, so that the links
-//! of each are followed once. Nodes are followed as often as such a way or restriction names them, but one with more
-//! than eight links once a round. The last round looks for ways alone, and only those that it finds are sorted. Where n
-//! links are followed that takes time of the order of n log n, and memory for the ways and restrictions seen and for
-//! what a round finds, and nothing of the size of the map.
+//! without a look-up, in lists whose memory is guessed from the nodes and ways that are followed, and taken at once.
+//! Ways and restrictions are then sorted and gone along beside those seen before, so that the links of each are
+//! followed once. Nodes are followed as often as such a way or restriction names them, but one with more than eight
+//! links once a round. The last round looks for ways alone, and only those that it finds are sorted. Where n links are
+//! followed that takes time of the order of n log n, and memory for the ways and restrictions seen and for what a round
+//! finds, and nothing of the size of the map.
 //!
 //! `surroundings` finds what is near a change in one such search: the links of the changed keys are followed in the
 //! world before the change and in the one behind it, and all others in the latter alone, since there they are the same.

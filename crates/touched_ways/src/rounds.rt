@@ -83,7 +83,7 @@ fn round_in_both<M: World, N: World>(
     ensures { OnOk result (IsNext search.old search.new
         (IsFurtherInOne (M.objects one.now) (N.objects other.now) search.old)) }
 {
-    let mut found = Found::new(alloc)?;
+    let mut found = Found::with_room(alloc, search.nodes.len(), search.ways.frontier.len())?;
     follow(alloc, one, search, &mut found)?;
     follow(alloc, other, search, &mut found)?;
     search.take_in(found)
@@ -108,7 +108,7 @@ fn rounds<M: World>(
 fn next_round<M: World>(alloc: Global, world: &M, search: &mut Search) -> Result<(), NoMemory>
     ensures { OnOk result (IsNext search.old search.new (IsFurther (M.objects world.now) search.old)) }
 {
-    let mut found = Found::new(alloc)?;
+    let mut found = Found::with_room(alloc, search.nodes.len(), search.ways.frontier.len())?;
     follow(alloc, world, search, &mut found)?;
     search.take_in(found)
 }
@@ -118,7 +118,7 @@ fn last_round<M: World>(alloc: Global, world: &M, search: Search) -> Result<Ways
     ensures { IfOk result (Lists (λ w. w) way_cmp
         (λ w. IsSeen search (WayKey w) ⊎ IsFurther (M.objects world.now) search (WayKey w))) }
 {
-    let mut found = Found::new(alloc)?;
+    let mut found = Found::with_room(alloc, search.nodes.len(), 0)?;
     find_ways_of_nodes(alloc, world, search.nodes.as_slice(), &mut found)?;
     find_ways_of_rules(world, search.rules.frontier.as_slice(), &mut found)?;
     let ways_found = found.ways;
