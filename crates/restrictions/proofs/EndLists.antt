@@ -15,15 +15,16 @@ use Rattle.road_base.specs.declared.ids.WayId.{WayId}
 use Rattle.road_base.specs.declared.ids.Key.{Key}
 use Rattle.road_base.specs.declared.ids.Key.TheVariants.{Node as NodeKey, Way as WayKey, Relation as RelationKey}
 use Rattle.road_base.specs.declared.ids.Step.{Step}
-use Rattle.road_base.specs.declared.ids.Dir.{Dir}
 use Rattle.road_base.specs.declared.ids.Dir.TheVariants.{Forward, Backward}
 use Rattle.road_base.specs.Objects.{Objects}
 use Rattle.road_model.specs.Lines.{line_of, node_at, names_pair, end_at, head_position, tail_position}
+use Rattle.road_model.specs.Orders.{same_dir}
 use Rattle.road_model.specs.Restrictions.{same_end}
+use Rattle.road_model.proofs.Directions.{dir_is, dir_self}
 use Rattle.restrictions.specs.declared.end_steps.Side.{Side}
 use Rattle.restrictions.specs.declared.end_steps.Side.TheVariants.{Into, OutOf}
 use Rattle.restrictions.specs.Runs.{first_node, last_node}
-use Rattle.restrictions.specs.Ends.{IsEnd, added, ends_of, first_dir, first_end, last_dir, last_end, same_dir}
+use Rattle.restrictions.specs.Ends.{IsEnd, added, ends_of, first_dir, first_end, last_dir, last_end}
 use Rattle.restrictions.specs.Ends.{same_step, with_ends}
 use Rattle.restrictions.specs.Words.{AreDistinct}
 use Rattle.road_base.proofs.ListMembers.{contains_head, contains_later, contains_cases, contains_none, contains_one}
@@ -31,16 +32,6 @@ use Rattle.restrictions.proofs.DistinctLists.{distinct_push}
 use Rattle.restrictions.proofs.OneRun.{end_there, there_end}
 
 -- ---- equal steps
-
-dir_is : (a b : Dir) → same_dir a b ≡ true → a ≡ b
-dir_is Forward Forward same = refl
-dir_is Forward Backward same = absurd (false≢true same)
-dir_is Backward Forward same = absurd (false≢true same)
-dir_is Backward Backward same = refl
-
-dir_self : (a : Dir) → same_dir a a ≡ true
-dir_self Forward = refl
-dir_self Backward = refl
 
 make_step : (a b : Step) → a.way ≡ b.way → a.index ≡ b.index → a.dir ≡ b.dir → a ≡ b
 make_step a b ways indexes dirs = λ i. record { way = ways i; index = indexes i; dir = dirs i }

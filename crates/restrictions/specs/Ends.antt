@@ -1,5 +1,5 @@
 -- The end steps of ways into a node or out of it, as lists.
-use Rattle.std.specs.Prelude.{◌-◌, nat_eq, nat_le, Bool, true, false, cond, ◌&&◌, List, [], ◌∷◌, ◌++◌, length, Option}
+use Rattle.std.specs.Prelude.{◌-◌, nat_eq, nat_le, Bool, cond, ◌&&◌, List, [], ◌∷◌, ◌++◌, length, Option}
 use Rattle.std.specs.Prelude.{Some, None}
 use Rattle.std.specs.Ordering.{int_eq}
 use Rattle.std.specs.List.{list_any}
@@ -12,6 +12,7 @@ use Rattle.road_base.specs.declared.ids.Dir.{Dir}
 use Rattle.road_base.specs.declared.ids.Dir.TheVariants.{Forward, Backward}
 use Rattle.road_base.specs.Objects.{Objects}
 use Rattle.road_model.specs.Lines.{line_of}
+use Rattle.road_model.specs.Orders.{same_dir}
 use Rattle.road_model.specs.Restrictions.{same_end}
 use Rattle.road_model.specs.Words.{IsEndInto, IsEndFrom}
 use Rattle.restrictions.specs.declared.end_steps.Side.{Side}
@@ -42,12 +43,6 @@ first_end M side w v =
 abbrev pub last_end : Objects → Side → WayId → NodeId → Option Step
 last_end M side w v = cond (nat_le 2 (length (line_of M w)) && same_end (last_node M w) (Some v))
     (Some (record { way = w; index = length (line_of M w) - 2; dir = last_dir side })) None
-
-abbrev pub same_dir : Dir → Dir → Bool
-same_dir Forward Forward = true
-same_dir Forward Backward = false
-same_dir Backward Forward = false
-same_dir Backward Backward = true
 
 abbrev pub same_step : Step → Step → Bool
 same_step a b = int_eq a.way.0 b.way.0 && (nat_eq a.index b.index && same_dir a.dir b.dir)

@@ -53,3 +53,4 @@ pub mod LocalContexts
 pub mod LocalBlocks
 pub mod FilePlaces
 pub mod FileWalks
+pub mod Directions

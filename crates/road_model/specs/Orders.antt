@@ -1,5 +1,5 @@
 -- The orders of names, and strictly ascending lists that have exactly what is asked for.
-use Rattle.std.specs.Prelude.{List, [], ◌∷◌, length, map, Bool, true, ◌&&◌, IsTrue, Contains}
+use Rattle.std.specs.Prelude.{List, [], ◌∷◌, length, map, Bool, true, false, ◌&&◌, IsTrue, Contains}
 use Rattle.std.specs.Ordering.{nat_cmp, int_cmp, is_lt, ordering_then}
 use Rattle.std.specs.declared.cmp.Ordering.{Ordering}
 use Rattle.std.specs.declared.cmp.Ordering.TheVariants.{Less, Equal, Greater}
@@ -25,6 +25,13 @@ dir_cmp Forward Forward = Equal
 dir_cmp Forward Backward = Less
 dir_cmp Backward Forward = Greater
 dir_cmp Backward Backward = Equal
+
+-- the two directions are one
+abbrev pub same_dir : Dir → Dir → Bool
+same_dir Forward Forward = true
+same_dir Forward Backward = false
+same_dir Backward Forward = false
+same_dir Backward Backward = true
 
 -- by way, then position, then direction
 abbrev pub name_cmp : PieceName → PieceName → Ordering

@@ -1,12 +1,12 @@
 -- The pieces that a block lists go in the directions in which its way is open.
-use Rattle.std.proofs.Common.{◌≡◌, ◌==◌, Bool, true, false, List, [], ◌∷◌, length, Contains, IsTrue, refl, sym, ap, subst}
+use Rattle.std.proofs.Common.{◌≡◌, ◌==◌, Bool, true, false, List, [], ◌∷◌, length, Contains, IsTrue}
+use Rattle.std.proofs.Common.{refl, sym, ap, subst}
 use Rattle.std.proofs.Common.{◌∙◌, arith}
 use Rattle.std.specs.List.{list_any}
 use Rattle.std.proofs.lemmas.Bool.{and_parts, false≢true}
 use Rattle.std.proofs.lemmas.List.Folds.{Any-from_list_any, list_any-from_Any}
 use Rattle.road_base.specs.declared.ids.WayId.{WayId}
 use Rattle.road_base.specs.declared.ids.Dir.{Dir}
-use Rattle.road_base.specs.declared.ids.Dir.TheVariants.{Forward, Backward}
 use Rattle.road_base.specs.Objects.{Objects}
 use Rattle.road_model.specs.declared.lists.Piece.{Piece}
 use Rattle.road_model.specs.declared.blocks.Block.{Block}
@@ -14,18 +14,10 @@ use Rattle.road_model.specs.Rules.{Rules}
 use Rattle.road_model.specs.Driving.{is_open}
 use Rattle.road_model.specs.Pieces.{Span, IsPiece}
 use Rattle.road_model.specs.Blocks.{ListsPieces}
-use Rattle.way_pieces.specs.Listed.{same_dir, goes}
+use Rattle.road_model.specs.Orders.{same_dir}
+use Rattle.road_model.proofs.Directions.{dir_is, dir_self}
+use Rattle.way_pieces.specs.Listed.{goes}
 use Rattle.way_pieces.proofs.DrivenSteps.{drivable_parts, drivable_from, piece_parts}
-
-dir_is : (a b : Dir) → same_dir a b ≡ true → a ≡ b
-dir_is Forward Forward same = refl
-dir_is Forward Backward same = absurd (false≢true same)
-dir_is Backward Forward same = absurd (false≢true same)
-dir_is Backward Backward same = refl
-
-dir_self : (a : Dir) → same_dir a a ≡ true
-dir_self Forward = refl
-dir_self Backward = refl
 
 same_truth : (a b : Bool) → (a ≡ true → b ≡ true) → (b ≡ true → a ≡ true) → a ≡ b
 same_truth true b to from = sym (to refl)

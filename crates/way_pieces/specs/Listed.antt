@@ -1,18 +1,12 @@
 -- What is read of a piece as a block lists it.
-use Rattle.std.specs.Prelude.{ℕ, ◌-◌, Bool, true, false, List, [], ◌∷◌, Option, None, Some}
+use Rattle.std.specs.Prelude.{ℕ, ◌-◌, Bool, List, [], ◌∷◌, Option, None, Some}
 use Rattle.road_base.specs.declared.ids.Dir.{Dir}
 use Rattle.road_base.specs.declared.ids.Dir.TheVariants.{Forward, Backward}
 use Rattle.road_model.specs.declared.lists.Place.{Place}
 use Rattle.road_model.specs.declared.lists.Piece.{Piece}
+use Rattle.road_model.specs.Orders.{same_dir}
 use Rattle.way_pieces.specs.declared.spans.PieceSpan.{PieceSpan}
 use Rattle.way_pieces.specs.declared.starts.Start.{Start}
-
--- the two directions are one
-abbrev pub same_dir : Dir → Dir → Bool
-same_dir Forward Forward = true
-same_dir Forward Backward = false
-same_dir Backward Forward = false
-same_dir Backward Backward = true
 
 -- the piece goes in the direction
 abbrev pub goes : Dir → Piece → Bool

@@ -1,5 +1,5 @@
 -- One way more, or one that stands before and adds none.
-use Rattle.std.proofs.Common.{◌≡◌, refl, ap, ◌∙◌}
+use Rattle.std.proofs.Common.{refl, ap, ◌∙◌}
 use Rattle.restrictions.proofs.EndLists.{ends_again, ends_more}
 use Rattle.restrictions.proofs.end_steps.ends_of.Goals as goal
 use Rattle.restrictions.proofs.end_steps.ends_of.Goals.{then-not-stands_before+in_ok-add_ends, else-not-stands_before}
