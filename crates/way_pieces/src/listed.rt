@@ -1,5 +1,5 @@
 //! The pieces of a way as its block lists them, where they start, and the directions in which the way is open.
-ghost use Rattle.std.specs.Prelude.{◌≡◌, IfOk, IfSome, map};
+ghost use Rattle.std.specs.Prelude.{◌≡◌, ◌↔◌, [], None, IfOk, IfSome, map};
 ghost use Rattle.std.specs.List.{filter_map, list_any};
 ghost use Rattle.road_base.specs.declared.ids.WayId.{WayId};
 ghost use Rattle.road_base.specs.Objects.{Objects};
@@ -20,6 +20,7 @@ use way_lines::Road;
 /// The directions in which the way is open whose pieces the block lists: each in which one of them goes. None where it
 /// lists no piece: then nothing is known of them.
 pub fn listed_road(way: WayId, block: &Block) -> Option<Road>
+    ensures none { (result ≡ None) ↔ (block.now.pieces ≡ []) }
     ensures way { IfSome result (λ r. r.way ≡ way) }
     ensures directions { IfSome result (λ r. (M : Objects) (P : Rules)
         → ListsPieces M P way block.now
