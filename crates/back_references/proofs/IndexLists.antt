@@ -252,7 +252,8 @@ module _ {K V : Type 0} (R : K → K → Ordering) (total : IsTotalOrder R) (exa
       ] refl))
 
   -- values that stay as they are leave the index as it is
-  pub up_same : (S : V → V → Ordering) (front : List K) (key : K) (values at : List V) (held next : Held K V) (gone come : List (K × V))
+  pub up_same : (S : V → V → Ordering) (front : List K) (key : K) (values at : List V) (held next : Held K V)
+      (gone come : List (K × V))
       → IsExchangedAt R front held gone come next → values ≡ at → Lists (λ v. v) S (λ v. Has R held key v) at
       → ((v : V) → Contains values v ↔ Stays (Has R held key v) gone come (key, v))
       → IsExchangedAt R (front ++ key ∷ []) held gone come next

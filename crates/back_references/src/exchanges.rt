@@ -103,7 +103,7 @@ fn add_values<V: Copy>(values: &[V], list: &mut Vec<V>) -> Result<(), NoMemory>
 /// Whether both lists have the same values, in the same order.
 pub fn same_values<V: Ord>(these: &[V], those: &[V]) -> bool
     requires { IsAntisymmetric V.cmp }
-    ensures { IsTrue result → these.now ≡ those.now }
+    ensures { IsTrue result ↔ (these.now ≡ those.now) }
 {
     if these.len() != those.len() {
         return false;
