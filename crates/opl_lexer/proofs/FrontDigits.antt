@@ -1,7 +1,6 @@
 -- The digits in front of a text, read one by one.
 use Rattle.std.specs.Prelude.{◌≡◌, ◌≤◌, ◌<◌, ◌+◌, ◌-◌, ◌*◌, ◌^◌, ◌==◌, ◌++◌, ℕ, pos, List, [], ◌∷◌, false, true, IsTrue}
-use Rattle.std.specs.Prelude.{Some, FitsSigned, take, drop, length, slice_index, refl}
-use Rattle.std.specs.Int.{w64}
+use Rattle.std.specs.Prelude.{Some, take, drop, length, slice_index, refl}
 use Rattle.std.specs.Char.{digit_value}
 use Rattle.std.specs.Str.Parse.{AllDigits, IsNumeral, digits_value, digits_value_after}
 use Rattle.std.proofs.Common.{arith, add-one, sym, ◌∙◌, ap, subst}

@@ -1,8 +1,8 @@
-use Rattle.std.proofs.Common.{◌≡◌, eqb, false, leb, w8, take, arith}
+use Rattle.std.proofs.Common.{leb, w8, take, arith}
 use Rattle.std.proofs.lemmas.Bool.Decides.{nat_tests}
 use Rattle.std.proofs.lemmas.List.{length-take-le}
 use Rattle.std.proofs.lemmas.Simd.{bitmask_splat}
-use Rattle.opl_lexer.proofs.LowBytes.{IsMask, all_above, first_within, above_first}
+use Rattle.opl_lexer.proofs.LowBytes.{all_above, first_within, above_first}
 use Rattle.opl_lexer.proofs.field_iter.above_space.Goals as goal
 
 pub returns-then-low-eq0-clause-above : goal.returns-then-low-eq0-clause-above

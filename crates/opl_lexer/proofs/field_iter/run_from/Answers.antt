@@ -1,4 +1,4 @@
-use Rattle.std.proofs.Common.{arith, ap, ◌∙◌, ◌≡◌, ◌≤◌, ◌+◌, ◌-◌, length, drop, length-drop}
+use Rattle.std.proofs.Common.{arith, ap, ◌∙◌, ◌≡◌, ◌-◌, length, length-drop}
 use Rattle.opl_lexer.proofs.FieldRuns.{solid_more}
 use Rattle.opl_lexer.proofs.field_iter.run_from.Goals as goal
 

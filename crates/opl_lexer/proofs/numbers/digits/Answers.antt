@@ -1,4 +1,4 @@
-use Rattle.std.proofs.Common.{arith, rules, ◌<◌, ◌^◌, length}
+use Rattle.std.proofs.Common.{arith, rules, ◌<◌, length}
 use Rattle.opl_lexer.proofs.Decimals.{AllDigits-at}
 use Rattle.opl_lexer.proofs.FrontDigits.{front_whole, front_small}
 use Rattle.opl_lexer.proofs.numbers.digits.Goals as goal

@@ -1,4 +1,4 @@
-use Rattle.std.proofs.Common.{arith, ◌<◌, ◌≤◌, length}
+use Rattle.std.proofs.Common.{arith, ◌<◌, length}
 use Rattle.opl_lexer.proofs.FrontDigits.{front_start, front_more, front_below}
 use Rattle.opl_lexer.proofs.numbers.digits_in_front.Goals as goal
 

@@ -1,7 +1,6 @@
 use mir.Val.{to_z}
-use Rattle.std.proofs.Common.{arith, w64, pos, Some, ap, sym, ◌∙◌, ◌≡◌, ◌<◌, ◌≤◌, length}
+use Rattle.std.proofs.Common.{arith, w64, pos, Some, ap, sym, ◌∙◌, ◌≡◌, ◌≤◌, length}
 use Rattle.std.proofs.lemmas.Int.{ints}
-use Rattle.opl_lexer.specs.Numbers.{IsFront}
 use Rattle.opl_lexer.proofs.FrontDigits.{front_is_numeral, front_is_whole, front_small}
 use Rattle.opl_lexer.proofs.numbers.front_number.Goals as goal
 

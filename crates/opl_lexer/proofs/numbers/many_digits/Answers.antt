@@ -1,4 +1,4 @@
-use Rattle.std.proofs.Common.{arith, rules, ◌<◌, ◌^◌, length}
+use Rattle.std.proofs.Common.{arith, ◌<◌, ◌^◌, length}
 use Rattle.std.specs.Str.Parse.{digits_value}
 use Rattle.opl_lexer.proofs.DigitSteps.{HasRead-digit, HasRead-least, HasRead-end}
 use Rattle.opl_lexer.proofs.numbers.many_digits.Goals as goal
