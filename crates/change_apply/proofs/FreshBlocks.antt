@@ -45,8 +45,9 @@ over_none fresh rebuilt w got =
 pub over_empty : (fresh : FinMap way_cmp Block) (rebuilt : List (WayId × Block)) → fresh ≡ empty
     → over fresh rebuilt ≡ rebuilt
 over_empty fresh rebuilt bare =
-    ap (λ m. entries m ++ rebuilt) bare
-    ∙ ap (λ es. es ++ rebuilt) (nil_from_length _ (sym (len-entries (empty {X = Block} {R = way_cmp})) ∙ len-empty way_cmp Block))
+    let none : entries (empty {X = Block} {R = way_cmp}) ≡ [] =
+    nil_from_length _ (sym (len-entries empty) ∙ len-empty way_cmp Block) in
+    ap (λ m. entries m ++ rebuilt) bare ∙ ap (λ es. es ++ rebuilt) none
 
 -- with a fresh block more
 pub over_insert : IsTotalOrder way_cmp → (fresh : FinMap way_cmp Block) (rebuilt : List (WayId × Block)) (way : WayId)

@@ -102,8 +102,8 @@ fn add_block<P: Profile, L: Ledger>(
     blocks.insert(block)
 }
 
-/// The blocks of these ways, ascending: one is built for each, also where a way has no pieces. Of ways that meet them the
-/// pieces are taken from the known blocks.
+/// The blocks of these ways, ascending: one is built for each, also where a way has no pieces. Of ways that meet them
+/// the pieces are taken from the known blocks.
 pub fn rebuild<M: World, P: Profile, K: KnownBlocks, L: Ledger>(
     alloc: Global,
     world: &M,
@@ -174,8 +174,8 @@ pub struct Rebuilt {
 /// restriction names beside one near, and then those of the other touched ways that meet one of them whose pieces are
 /// others than before, or that a restriction names beside a way that does. With them, what stands at every way is its
 /// block, as it was in the world before, the graph's. The pieces of the ways that they meet are taken from the blocks
-/// that stand: before the first step from those of ways that aren't built in it, since the pieces of these are the same,
-/// and before the second from all.
+/// that stand: before the first step from those of ways that aren't built in it, since the pieces of these are the
+/// same, and before the second from all.
 pub fn rebuild_touched<'a, M: World, P: Profile, L: Ledger>(
     alloc: Global,
     graph: &'a RoadGraph<P>,

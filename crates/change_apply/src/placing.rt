@@ -21,8 +21,8 @@ pub struct Placed {
     pub replacing: Vec<Block>,
 }
 
-/// Finds where the blocks go. Where nothing of a way stands beside the list, its block with pieces comes in the place of
-/// the listed one, if that is there, and one without pieces goes nowhere if none is; every other block is to stand
+/// Finds where the blocks go. Where nothing of a way stands beside the list, its block with pieces comes in the place
+/// of the listed one, if that is there, and one without pieces goes nowhere if none is; every other block is to stand
 /// beside the list. Takes two look-ups for each, and for each that stands beside the list the logarithm of their
 /// number.
 pub fn place(

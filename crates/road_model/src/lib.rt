@@ -3,8 +3,8 @@
 //!
 //! `specs/` has the definitions, over any object map and any profile. They know no index, automaton or search: they
 //! judge whole lists of steps against tags and members. The types here are what a profile answers and what a graph is
-//! made of. A graph's blocks lie in one list in the order of their ways: to find one is a binary search, or a look at two
-//! places where the caller knows where it may stand. One behind all others is put at the cost of a push; to put any
+//! made of. A graph's blocks lie in one list in the order of their ways: to find one is a binary search, or a look at
+//! two places where the caller knows where it may stand. One behind all others is put at the cost of a push; to put any
 //! other whose way is new, and to take one out, moves the blocks behind it. A copy costs the size of what is copied,
 //! and everything else a constant.
 #![tactic(auto)]

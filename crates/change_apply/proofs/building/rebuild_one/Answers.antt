@@ -26,8 +26,10 @@ returns-clause-rebuilt g c = on_ok c.insert.result c.insert.ensures.ok (λ put b
       pieces = c.in_ok-block.ensures.form.0;
       ascend = c.in_ok-block.ensures.form.1;
     } in
-    let got : (w : WayId) → find way_cmp w new ≡ cond (eq_by_cmp way_cmp w block.way) (Some block) (find way_cmp w old) =
-    λ w. ap (λ m. find way_cmp w (over m before)) put ∙ over_insert total c.args.blocks.now.map before block.way block w in
+    let Got : WayId → Type 0 = λ x. (w : WayId)
+    → find way_cmp w new ≡ cond (eq_by_cmp way_cmp w x) (Some block) (find way_cmp w old) in
+    let got : Got block.way = λ w.
+    ap (λ m. find way_cmp w (over m before)) put
+    ∙ over_insert total c.args.blocks.now.map before block.way block w in
     rebuilt_with total c.name_order.ensures.way_ties M P way block old new is
-    (subst (λ (x : WayId). (w : WayId)
-    → find way_cmp w new ≡ cond (eq_by_cmp way_cmp w x) (Some block) (find way_cmp w old)) is.block.way got))
+    (subst Got is.block.way got))

@@ -27,8 +27,8 @@ loop-block-preserved c =
           c.loop-block.invariant.all ∙ ap (λ l. c.loop-block.yielded ++ l) c.in-Some.ensures.steps.0
           ∙ sym (append_assoc c.loop-block.yielded (c.in-Some.block ∷ []) rest);
       placed =
-          more_placed c.name_order.ensures.ways c.name_order.ensures.way_ties c.loop-block.yielded c.in-Some.block before
-          mid after c.loop-block.invariant.placed c.in_ok-placed.ensures.placed;
+          more_placed c.name_order.ensures.ways c.name_order.ensures.way_ties c.loop-block.yielded c.in-Some.block
+          before mid after c.loop-block.invariant.placed c.in_ok-placed.ensures.placed;
       at_ways = c.in_ok-placed.ensures.at_ways;
     }
 

@@ -11,7 +11,8 @@ returns-in-Some c =
     let s = c.args.self.now in
     let way = c.args.way in
     let block = c.in-Some.block.now in
-    let fresh = over_fresh s.fresh.now.map s.rebuilt.now way block (sym c.get.ensures ∙ ap option_copied c.in-Some.is) in
+    let found = sym c.get.ensures ∙ ap option_copied c.in-Some.is in
+    let fresh = over_fresh s.fresh.now.map s.rebuilt.now way block found in
     sym (newest_as (built_in s) s.listed.now.map way (Some block) fresh)
 
 pub returns-in-Some-get : goal.returns-in-Some-get

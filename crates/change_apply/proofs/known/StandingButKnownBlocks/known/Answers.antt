@@ -6,6 +6,8 @@ use Rattle.change_apply.proofs.known.StandingButKnownBlocks.known.Goals as goal
 pub returns : goal.returns
 returns c =
     let s = c.args.self.now in
+    let ties = c.name_order.ensures.way_ties in
+    let listed = s.standing.listed.now.map in
     c.newest.ensures
-    ∙ sym (known_newest c.name_order.ensures.way_ties s.but.now (built_in s.standing) s.standing.listed.now.map c.args.way
-    c.is_among.result c.is_among.ensures c.if-is_among.false)
+    ∙ sym (known_newest ties s.but.now (built_in s.standing) listed c.args.way c.is_among.result c.is_among.ensures
+    c.if-is_among.false)
