@@ -10,3 +10,4 @@ mod Overlays
 mod MergedEvents
 mod SameBodies
 mod Marks
+pub mod ReplacedEvents

@@ -4,16 +4,17 @@ ghost use Rattle.std.specs.FinMap.{empty, entries, get};
 ghost use Rattle.std.specs.Option.{option_map};
 ghost use Rattle.road_base.specs.Applying.{IsApplied, entry_of};
 ghost use Rattle.road_base.specs.Objects.{Objects as ObjectMap};
+ghost use Rattle.object_store.specs.Overlay.{replaced, replaced_by};
 
 use crate::key_ranges::KeyRanges;
 use crate::kinds::{relations_in, ways_in};
-use crate::standing::{copies, event_at, settle};
+use crate::standing::{copies, event_at, place_of, put_at, settle};
 use road_base::laws::key_order;
 use road_base::{Event, Key, NoMemory};
 use std::marker::Model;
 
-/// An object map, listed in key order: to each key that was named its version, and its visible body or a deletion. It
-/// never changes.
+/// An object map, listed in key order: to each key that was named its version, and its visible body or a deletion.
+/// While it is shared it never changes; where nobody shares it, entries may come in the places of those of their keys.
 #[derive(Drop)]
 pub struct Base {
     list: Vec<Event>,
@@ -93,5 +94,28 @@ impl Base {
         key_order();
         let list = copies(*self.list.allocator(), self.list.as_slice())?;
         Ok(list)
+    }
+
+    /// Puts the event's entry in the place of its key's, where it has one of the key; else nothing changes and the
+    /// event is dropped. Takes the time of a look-up, and no memory.
+    pub fn replace(&mut self, event: Event)
+        ensures { self.new ≡ replaced self.old event }
+    {
+        key_order();
+        let list = self.list.as_slice();
+        let at = self.ranges.place(list, event.key);
+        if let Some(place) = place_of(list, event.key, at) {
+            put_at(&mut self.list, place, event);
+        }
+    }
+
+    /// Puts the entry of each of the events in turn in the place of its key's, where it has one of the key. Takes no
+    /// memory.
+    pub fn replace_all(&mut self, events: Vec<Event>)
+        ensures { self.new ≡ replaced_by events.items self.old }
+    {
+        for event in events {
+            self.replace(event);
+        }
     }
 }

@@ -1,11 +1,11 @@
 //! The objects of a map, one event for each entry, which changes follow.
 //!
-//! Contracts see the object map of `road_base/specs/Objects.antt`. `Base` is a list of the entries in key order that
-//! never changes. `Objects` is a base, shared, with the entries that have changed since beside it in a `SharedMap`: a
-//! balanced search tree that never changes either, of which a changed one shares all but a path, and a filter of
-//! 262,144 slots, two of which are marked for the number of each changed key. So `copy` takes a moment, and `commit`
-//! only exchanges two values, whatever their size. `prepare` finds what events leave, beside the objects, which stay as
-//! they are.
+//! Contracts see the object map of `road_base/specs/Objects.antt`. `Base` is a list of the entries in key order. One
+//! that is shared never changes; one that nobody shares may have entries put in the places of those of their keys.
+//! `Objects` is a base, shared, with the entries that have changed since beside it in a `SharedMap`: a balanced search
+//! tree that never changes, of which a changed one shares all but a path, and a filter of 262,144 slots, two of which
+//! are marked for the number of each changed key. So `copy` takes a moment, and `commit` only exchanges two values,
+//! whatever their size. `prepare` finds what events leave, beside the objects, which stay as they are.
 //!
 //! Cost. `of` sorts, in time of the order of n log n, and of n where events come in key order. A look-up asks the
 //! changed entries first: up to some tens of thousands of them, one or two tests in the filter tell of most keys where
@@ -13,10 +13,11 @@
 //! numbers by which all slots are marked, or such as share their slots with marked ones: then each look-up asks the
 //! tree. Then the base is asked, in the logarithm of its length: where the numbers of nodes, of ways and of relations
 //! are spread evenly, tables of ranges of them leave it a few steps for a key that has an entry. The tables take at
-//! most about two bytes an entry. `changed`, `prepare` and `apply` copy and sort their n events, and look each one up;
-//! for each that stands they take the time and the memory of the logarithm of the number of changed entries, and for
-//! all of them together one copy of the filter, of 32 KiB. `listed` and `events` merge: of a base beside which nothing
-//! has changed `listed` takes nothing, and else both copy and sort all entries.
+//! most about two bytes an entry. To replace an entry takes the time of a look-up in the base, and no memory.
+//! `changed`, `prepare` and `apply` copy and sort their n events, and look each one up; for each that stands they take
+//! the time and the memory of the logarithm of the number of changed entries, and for all of them together one copy of
+//! the filter, of 32 KiB. `listed` and `events` merge: of a base beside which nothing has changed `listed` takes
+//! nothing, and else both copy and sort all entries.
 #![tactic(auto)]
 
 mod base;
