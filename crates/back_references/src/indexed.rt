@@ -8,6 +8,7 @@ ghost use Rattle.road_base.specs.declared.ids.WayId.{WayId};
 ghost use Rattle.road_model.specs.Links.{AreChanged};
 ghost use Rattle.road_model.specs.Highways.{IsHighway, highways};
 ghost use Rattle.road_model.specs.Orders.{rises, way_cmp};
+ghost use Rattle.back_references.specs.Indexing.{IsIndexed};
 
 use crate::highways::highways_among;
 use crate::prepared::Prepared;
@@ -77,6 +78,13 @@ impl Indexed {
         &self.objects
     }
 
+    /// The references alone. Takes no memory: the objects are dropped.
+    pub(crate) fn into_references(self) -> References
+        ensures { IsIndexed self result }
+    {
+        self.references
+    }
+
     /// The keys whose visible body the events would change, ascending.
     pub fn changed(&self, events: &[Event]) -> Result<Keys, NoMemory>
         ensures { IfOk result (λ keys. (N : ObjectMap)
@@ -118,12 +126,15 @@ impl Indexed {
         })
     }
 
-    /// Leaves what the events leave for which the change was prepared. Takes no memory.
+    /// Leaves what the events leave for which the change was prepared. Takes no memory: the copy of the objects after
+    /// the change is dropped before the change is made.
     pub fn commit(&mut self, prepared: Prepared)
         requires { prepared.before ≡ self.now }
         ensures { self.new ≡ prepared.after }
     {
-        *self = prepared.into_next();
+        let (fresh, references) = prepared.into_parts();
+        self.objects.commit(fresh);
+        self.references = references;
     }
 
     /// Applies the events: of each key the first one of the greatest version stands, its entry here before all of

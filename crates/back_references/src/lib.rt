@@ -4,7 +4,8 @@
 //! restrictions. Each is a list of pairs in order and without repeats, which never changes and is shared, at 16 bytes a
 //! reference; and beside it, for the keys where something has changed since, the whole list that stands in place of the
 //! pairs. `prepare` finds what events leave, with the lists that change, beside the world, which stays as it is; `Next`
-//! is the world that it would be; `commit` only exchanges.
+//! is the world that it would be. `commit` drops that world but for its references, which it takes, and hands the
+//! change to the objects.
 //!
 //! Cost. A look-up copies nothing. It asks the replaced lists first: up to some tens of thousands of them, one test
 //! tells of most keys where nothing has changed, and of all others the logarithm of their number is taken. Then it asks

@@ -1,8 +1,10 @@
 //! A change of objects with the references to each, found and not made yet.
 ghost use Rattle.std.specs.Prelude.{◌≡◌};
 ghost use Rattle.road_model.specs.Links.{AreChanged};
+ghost use Rattle.back_references.specs.Indexing.{IsIndexed};
 
 use crate::indexed::Indexed;
+use crate::references::References;
 use object_store::Fresh;
 use road_base::Keys;
 use std::marker::Model;
@@ -58,10 +60,12 @@ impl Prepared {
         &self.next
     }
 
-    /// The objects after, alone.
-    pub(crate) fn into_next(self) -> Indexed
-        ensures { result ≡ self.after }
+    /// The change of the objects, and the references behind it. Takes no memory: the objects after are dropped, so that
+    /// they share nothing with those that change.
+    pub(crate) fn into_parts(self) -> (Fresh, References)
+        ensures fresh { result.0 ≡ self }
+        ensures references { IsIndexed self.after result.1 }
     {
-        self.next
+        (self.fresh, self.next.into_references())
     }
 }
