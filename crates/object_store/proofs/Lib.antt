@@ -10,4 +10,5 @@ mod Overlays
 mod MergedEvents
 mod SameBodies
 mod Marks
+mod SettledEntries
 pub mod ReplacedEvents

@@ -6,3 +6,4 @@ pub mod Overlay
 pub mod Following
 pub mod Filters
 pub mod Numbers
+pub mod Settling

@@ -27,6 +27,7 @@ mod fresh;
 mod key_ranges;
 mod kinds;
 mod objects;
+mod settling;
 mod shared_map;
 mod standing;
 mod tree;

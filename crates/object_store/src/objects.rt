@@ -13,6 +13,7 @@ ghost use Rattle.object_store.specs.Overlay.{base_objects};
 use crate::base::Base;
 use crate::changes::changed_keys;
 use crate::fresh::Fresh;
+use crate::settling::{Settling, begun, entry_in, settle};
 use crate::shared_map::SharedMap;
 use crate::standing::standing;
 use road_base::laws::{applied_in_turn, key_order};
@@ -27,6 +28,9 @@ pub struct Objects {
     alloc: Global,
     base: Option<Rc<Base>>,
     changed: SharedMap<Key, Event>,
+    /// What `commit` makes of the base and of the changed entries where nobody else shares the base. None where that is
+    /// what they are.
+    settling: Option<Settling>,
 }
 
 impl Model for Objects {
@@ -38,10 +42,11 @@ impl Model for Objects {
     ghost coded = { coded_objects };
 
     ghost use Rattle.object_store.specs.Overlay.{over, AreKeyed, base_objects};
+    ghost use Rattle.object_store.specs.Settling.{IsSettling};
 
     ghost view = { λ o. over o.changed (base_objects o.base) };
 
-    ghost invariant = { λ o. AreKeyed o.changed };
+    ghost invariant = { λ o. AreKeyed o.changed × IsSettling o.settling o.changed (base_objects o.base) };
 }
 
 impl Objects {
@@ -55,6 +60,7 @@ impl Objects {
             alloc,
             base: None,
             changed: SharedMap::new(),
+            settling: None,
         }
     }
 
@@ -68,6 +74,7 @@ impl Objects {
             alloc,
             base: Some(base),
             changed: SharedMap::new(),
+            settling: None,
         })
     }
 
@@ -110,7 +117,8 @@ impl Objects {
         requires { fresh.before ≡ self.now }
         ensures { self.new ≡ fresh.after }
     {
-        *self = fresh.into_objects();
+        *self = Objects::new(self.alloc);
+        *self = fresh.into_objects().settled();
     }
 
     /// Applies the events: of each key the first one of the greatest version stands, its entry here before all of
@@ -136,6 +144,7 @@ impl Objects {
             alloc: self.alloc,
             base,
             changed,
+            settling: None,
         })
     }
 
@@ -211,12 +220,42 @@ impl Objects {
             → get o k ≡ (if eq_by_cmp key_cmp k event.key then Some (entry_of event) else get self k)) }
     {
         key_order();
-        let changed = self.changed.with(self.alloc, event.key, event)?;
-        Ok(Objects {
-            alloc: self.alloc,
-            base: self.base,
+        let Objects {
+            alloc,
+            base,
             changed,
+            settling,
+        } = self;
+        let begun = begun(alloc, &changed, settling)?;
+        let settling = begun.with(alloc, &base, event.copy()?)?;
+        let changed = changed.with(alloc, event.key, event)?;
+        Ok(Objects {
+            alloc,
+            base,
+            changed,
+            settling: Some(settling),
         })
+    }
+
+    /// The same objects. Where nobody else shares the base, the entries that have changed since it was listed come in the
+    /// place of its own, and only those of other keys stay beside it. Takes no memory.
+    fn settled(self) -> Objects
+        ensures { result ≡ self }
+    {
+        key_order();
+        let Objects {
+            alloc,
+            base,
+            changed,
+            settling,
+        } = self;
+        let (base, changed) = settle(base, changed, settling);
+        Objects {
+            alloc,
+            base,
+            changed,
+            settling: None,
+        }
     }
 
     /// All entries, listed anew.
@@ -228,17 +267,6 @@ impl Objects {
         let changed = self.changed.values(self.alloc)?;
         add_copies(changed.as_slice(), &mut list)?;
         Base::of(list)
-    }
-}
-
-/// The key's entry in the base, as an event.
-fn entry_in(base: &Option<Rc<Base>>, key: Key) -> Option<&Event>
-    ensures entry { option_map entry_of (option_copied result) ≡ get (base_objects base.now) key }
-    ensures key { IfSome (option_copied result) (λ e. e.key ≡ key) }
-{
-    match base {
-        None => None,
-        Some(base) => base.get(key),
     }
 }
 

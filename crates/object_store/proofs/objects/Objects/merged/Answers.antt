@@ -16,6 +16,6 @@ returns c =
     (λ i a b. c.key_order.ensures.by_cmp a b i) c.in_ok-changed.ensures.ascending in
     if_ok _ _ c.of.result (λ b applied. same_map c.key_order.ensures.total c.key_order.ensures.ties b (over ps B)
     (λ k. applied k ∙ merged_at c.key_order.ensures.total c.key_order.ensures.ties B c.in_ok-list.list.items _ _ ps
-    c.self.invariant up c.in_ok-list.ensures
+    c.self.invariant.0 up c.in_ok-list.ensures
     (ap (map (λ e. e.now)) c.as_slice.ensures.value ∙ c.in_ok-changed.ensures.values) c.in_ok-add_copies.ensures k)
     ∙ c.self.view_is) c.of.ensures
