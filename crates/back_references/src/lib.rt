@@ -7,8 +7,8 @@
 //! is the world that it would be. `commit` drops that world but for its references, which it takes, and hands the
 //! change to the objects.
 //!
-//! Cost. A look-up copies nothing. It asks the replaced lists first: up to some tens of thousands of them, one test
-//! tells of most keys where nothing has changed, and of all others the logarithm of their number is taken. Then it asks
+//! Cost. A look-up copies nothing. It asks the replaced lists first: up to some tens of thousands of them, a test or two
+//! tell of most keys where nothing has changed, and of all others the logarithm of their number is taken. Then it asks
 //! the pairs, in the logarithm of their number and a step for each reference that it finds: where the numbers are
 //! spread evenly, a table of ranges of them leaves a few steps of the logarithm. Each look-up compares the keys around
 //! the place that the table tells, and where that isn't the one, or no memory was found for the table, all pairs are

@@ -112,7 +112,8 @@ impl Objects {
         self.following(events)
     }
 
-    /// Leaves what the events leave for which the change was prepared. Takes no memory.
+    /// Leaves what the events leave for which the change was prepared. Takes a look-up for each entry that changes, and
+    /// no memory: where nobody else shares the base, they come in the place of its own.
     pub fn commit(&mut self, fresh: Fresh)
         requires { fresh.before ≡ self.now }
         ensures { self.new ≡ fresh.after }
@@ -237,8 +238,8 @@ impl Objects {
         })
     }
 
-    /// The same objects. Where nobody else shares the base, the entries that have changed since it was listed come in the
-    /// place of its own, and only those of other keys stay beside it. Takes no memory.
+    /// The same objects. Where nobody else shares the base, the entries that have changed since it was listed come in
+    /// the place of its own, and only those of other keys stay beside it. Takes no memory.
     fn settled(self) -> Objects
         ensures { result ≡ self }
     {

@@ -21,7 +21,8 @@ returns-in-Some-clause-key c =
     let changed = c.self.inside.changed in
     let found : find key_cmp k changed ≡ Some c.in-Some.event.now =
     sym (find_by _ c.key_order.ensures.by_cmp k changed) ∙ sym c.get.ensures ∙ ap option_copied c.in-Some.is in
-    found_keyed c.key_order.ensures.total c.key_order.ensures.ties k changed c.in-Some.event.now c.self.invariant.0 found
+    found_keyed c.key_order.ensures.total c.key_order.ensures.ties k changed c.in-Some.event.now c.self.invariant.0
+    found
 
 pub returns-in-None-clause-entry : goal.returns-in-None-clause-entry
 returns-in-None-clause-entry c =
