@@ -9,6 +9,6 @@ pub mod Trees
 mod Overlays
 mod MergedEvents
 mod SameBodies
-mod Marks
+mod MarkedPairs
 mod SettledEntries
 pub mod ReplacedEvents

@@ -78,7 +78,7 @@ impl Slotted for WayId {
 
 /// For each slot whether it is marked, in a bit.
 #[derive(Drop)]
-pub struct Filter {
+struct Filter {
     /// Each has 64 slots, the lowest bit first.
     words: Vec<u64>,
 }
@@ -180,31 +180,68 @@ fn with_bit(word: u64, bit: usize) -> u64
     word | (1 << bit)
 }
 
-/// Whether the number is marked. Without a filter none is.
-pub fn is_marked(filter: &Option<Rc<Filter>>, number: i64) -> bool
-    ensures { IsTrue result ↔ IsMarked (slots_in filter.now) number }
-{
-    match filter {
-        None => false,
-        Some(filter) => filter.has(number),
-    }
+/// Marks at numbers, by which most others are told apart. They never change: what marks a number makes others in their
+/// place. The marks of no numbers take no memory, all others 32 KiB, which are shared until a number is marked.
+#[derive(Drop)]
+pub struct Marks {
+    /// None only where no number is marked.
+    filter: Option<Rc<Filter>>,
 }
 
-/// The filter with the number marked. A filter that others share is copied first.
-pub fn marked(
-    alloc: Global,
-    filter: Option<Rc<Filter>>,
-    number: i64,
-) -> Result<Rc<Filter>, NoMemory>
-    ensures own { IfOk result (λ f. IsMarked f.value number) }
-    ensures others { IfOk result (λ f. (other : ℤ) → IsMarked (slots_in filter) other → IsMarked f.value other) }
-{
-    let mut own = match filter {
-        None => Filter::new(alloc)?,
-        Some(shared) => unshared(shared)?,
-    };
-    own.mark(number);
-    Ok(Rc::new(alloc, own)?)
+impl Model for Marks {
+    ghost use Rattle.std.specs.Prelude.{List, ℕ};
+    ghost use Rattle.object_store.specs.Filters.{slots_in};
+
+    ghost Value = { List ℕ };
+
+    ghost view = { λ m. slots_in m.filter };
+}
+
+impl Marks {
+    /// Those of no numbers.
+    pub fn new() -> Marks
+        ensures { (number : ℤ) → ¬ (IsMarked result number) }
+    {
+        Marks { filter: None }
+    }
+
+    /// Whether the number is marked.
+    pub fn has(&self, number: i64) -> bool
+        ensures { IsTrue result ↔ IsMarked self.now number }
+    {
+        match &self.filter {
+            None => false,
+            Some(filter) => filter.has(number),
+        }
+    }
+
+    /// These with the number marked. What others share is copied first.
+    pub fn with(self, alloc: Global, number: i64) -> Result<Marks, NoMemory>
+        ensures own { IfOk result (λ m. IsMarked m number) }
+        ensures others { IfOk result (λ m. (other : ℤ) → IsMarked self other → IsMarked m other) }
+    {
+        let mut own = match self.filter {
+            None => Filter::new(alloc)?,
+            Some(shared) => unshared(shared)?,
+        };
+        own.mark(number);
+        let filter = Rc::new(alloc, own)?;
+        Ok(Marks {
+            filter: Some(filter),
+        })
+    }
+
+    /// The same marks, shared.
+    pub fn share(&self) -> Result<Marks, NoMemory>
+        ensures { IfOk result (λ m. m ≡ self.now) }
+    {
+        match &self.filter {
+            None => Ok(Marks { filter: None }),
+            Some(filter) => Ok(Marks {
+                filter: Some(filter.clone()?),
+            }),
+        }
+    }
 }
 
 /// The filter itself where nobody shares it, else a copy.
@@ -214,15 +251,5 @@ fn unshared(filter: Rc<Filter>) -> Result<Filter, NoMemory>
     match Rc::try_unwrap(filter) {
         Ok(own) => Ok(own),
         Err(shared) => shared.copy(),
-    }
-}
-
-/// The same filter, shared.
-pub fn shared(filter: &Option<Rc<Filter>>) -> Result<Option<Rc<Filter>>, NoMemory>
-    ensures { IfOk result (λ f. slots_in f ≡ slots_in filter.now) }
-{
-    match filter {
-        None => Ok(None),
-        Some(filter) => Ok(Some(filter.clone()?)),
     }
 }

@@ -3,12 +3,12 @@
 //! Contracts see the object map of `road_base/specs/Objects.antt`. `Base` is a list of the entries in key order. One
 //! that is shared never changes; one that nobody shares may have entries put in the places of those of their keys.
 //! `Objects` is a base with the entries that have changed since beside it in a `SharedMap`: a balanced search tree that
-//! never changes, of which a changed one shares all but a path, and a filter of 262,144 slots, two of which are marked
-//! for the number of each changed key. So `copy` takes a moment, whatever their size, and shares the base. `prepare`
-//! finds what events leave, beside the objects, which stay as they are, and how it settles: which entries can come in
-//! the place of the base's. `commit` exchanges the objects, and where nobody else shares the base, as where the copies
-//! made of these objects are gone, it settles what was prepared: then only entries of keys that the base never had stay
-//! beside it.
+//! never changes, of which a changed one shares all but a path, and `Marks`, a filter of 262,144 slots, two of which
+//! are marked for the number of each changed key. So `copy` takes a moment, whatever their size, and shares the base.
+//! `prepare` finds what events leave, beside the objects, which stay as they are, and how it settles: which entries can
+//! come in the place of the base's. `commit` exchanges the objects, and where nobody else shares the base, as where the
+//! copies made of these objects are gone, it settles what was prepared: then only entries of keys that the base never
+//! had stay beside it.
 //!
 //! Cost. `of` sorts, in time of the order of n log n, and of n where events come in key order. A look-up asks the
 //! changed entries first: up to some tens of thousands of them, one or two tests in the filter tell of most keys where
@@ -20,8 +20,8 @@
 //! `changed`, `prepare` and `apply` copy and sort their n events, and look each one up; for each that stands they take
 //! the time and the memory of the logarithm of the number of changed entries, and for all of them together one copy of
 //! the filter, of 32 KiB, or two. `commit` takes a look-up for each entry that comes in the place of the base's, and no
-//! memory. `listed` and `events` merge: of a base beside which nothing has changed `listed` takes
-//! nothing, and else both copy and sort all entries.
+//! memory. `listed` and `events` merge: of a base beside which nothing has changed `listed` takes nothing, and else
+//! both copy and sort all entries.
 #![tactic(auto)]
 
 mod base;
@@ -37,7 +37,7 @@ mod standing;
 mod tree;
 
 pub use base::Base;
-pub use filter::Slotted;
+pub use filter::{Marks, Slotted};
 pub use fresh::Fresh;
 pub use objects::Objects;
 pub use shared_map::SharedMap;

@@ -2,7 +2,7 @@
 ghost use Rattle.std.specs.Prelude.{◌≡◌, ◌↔◌, [], IfOk, IsTrue, is_some, map, option_copied};
 ghost use Rattle.std.specs.FinMap.{find, put};
 
-use crate::filter::{Filter, Slotted, is_marked, marked, shared};
+use crate::filter::{Marks, Slotted};
 use crate::tree::{Tree, add_values, with_entry};
 use road_base::NoMemory;
 use std::alloc::Global;
@@ -15,21 +15,21 @@ use std::rc::Rc;
 #[derive(Drop)]
 pub struct SharedMap<K: Ord + Copy + Slotted, V: Drop> {
     root: Tree<K, V>,
-    /// None only where there are no entries.
-    filter: Option<Rc<Filter>>,
+    /// At the numbers of the keys.
+    marks: Marks,
 }
 
 impl<K: Ord + Copy + Slotted, V: Drop> Model for SharedMap<K, V> {
     ghost use Rattle.std.specs.Prelude.{List};
     ghost use Rattle.object_store.specs.Trees.{in_order, Rise};
-    ghost use Rattle.object_store.specs.Filters.{AreMarked, slots_in};
+    ghost use Rattle.object_store.specs.Filters.{AreMarked};
 
     ghost Value = { List (K × V) };
 
     ghost view = { λ m. in_order m.root };
 
     ghost invariant = { λ m. Rise K.cmp (in_order m.root)
-        × AreMarked K.cmp K.number (in_order m.root) (slots_in m.filter) };
+        × AreMarked K.cmp K.number (in_order m.root) m.marks };
 }
 
 impl<K: Ord + Copy + Slotted, V: Drop> SharedMap<K, V> {
@@ -41,7 +41,7 @@ impl<K: Ord + Copy + Slotted, V: Drop> SharedMap<K, V> {
     {
         SharedMap {
             root: Tree::Empty,
-            filter: None,
+            marks: Marks::new(),
         }
     }
 
@@ -69,19 +69,16 @@ impl<K: Ord + Copy + Slotted, V: Drop> SharedMap<K, V> {
     fn may_have(&self, key: K) -> bool
         ensures { IsTrue (is_some (find K.cmp key self.now)) → IsTrue result }
     {
-        is_marked(&self.filter, key.number())
+        self.marks.has(key.number())
     }
 
     /// The map with the value at the key.
     pub fn with(self, alloc: Global, key: K, value: V) -> Result<SharedMap<K, V>, NoMemory>
         ensures { IfOk result (λ m. m ≡ put K.cmp key value self) }
     {
-        let filter = marked(alloc, self.filter, key.number())?;
+        let marks = self.marks.with(alloc, key.number())?;
         let root = with_entry(alloc, &self.root, key, Rc::new(alloc, value)?)?;
-        Ok(SharedMap {
-            root,
-            filter: Some(filter),
-        })
+        Ok(SharedMap { root, marks })
     }
 
     /// The same map, shared.
@@ -89,8 +86,8 @@ impl<K: Ord + Copy + Slotted, V: Drop> SharedMap<K, V> {
         ensures { IfOk result (λ m. m ≡ self.now) }
     {
         let root = self.root.share()?;
-        let filter = shared(&self.filter)?;
-        Ok(SharedMap { root, filter })
+        let marks = self.marks.share()?;
+        Ok(SharedMap { root, marks })
     }
 
     /// The values, ascending by key.
