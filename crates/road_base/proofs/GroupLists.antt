@@ -1,8 +1,10 @@
 -- Groups that lie one behind the other in one list: which one stands where, and one more.
 use Rattle.std.proofs.Common.{◌≡◌, ℕ, zero, suc, ◌-◌, ◌<◌, ◌≤◌, List, [], ◌∷◌, ◌++◌, length, get_or, take, drop, Some}
 use Rattle.std.proofs.Common.{refl, sym, ap, ◌∙◌, arith, length-append, slice_get}
-use Rattle.std.proofs.Math.Seq.{drop-append_seam}
-use Rattle.std.proofs.lemmas.List.{take-append-le, drop-append-le, length-drop, take_all}
+use Rattle.std.proofs.Math.Seq.{drop-append_seam, drop-length}
+use Rattle.std.proofs.Common.{drop-drop}
+use Rattle.std.proofs.lemmas.List.{take-append-drop, take-append-le, drop-append-le, length-drop, take_all}
+use Rattle.std.specs.List.{flat_map}
 use Rattle.road_base.specs.Groups.{groups_of, AreEnds, start_at}
 
 pub length_groups : {T : Type 0} (from : ℕ) (items : List T) (ends : List ℕ)
@@ -39,6 +41,16 @@ pub group_at : {T : Type 0} (from : ℕ) (items : List T) (ends : List ℕ) (pla
 group_at from items [] place d within = absurd (omega arith)
 group_at from items (end ∷ ends) zero d within = refl
 group_at from items (end ∷ ends) (suc place) d within = group_at end items ends place d (omega arith)
+
+-- the groups joined are what lies behind the place where the first one begins
+pub groups_joined : {T : Type 0} (from : ℕ) (items : List T) (ends : List ℕ) → AreEnds from items ends
+    → flat_map (λ group. group) (groups_of from items ends) ≡ drop from items
+groups_joined from items [] are = sym (ap (λ n. drop n items) are ∙ drop-length items)
+groups_joined from items (end ∷ ends) are =
+    let after : drop end items ≡ drop (end - from) (drop from items)
+    = ap (λ n. drop n items) (omega (arith, are.0)) ∙ sym (drop-drop (end - from) from items) in
+    ap (λ l. take (end - from) (drop from items) ++ l) (groups_joined end items ends are.1 ∙ after)
+    ∙ take-append-drop (end - from) (drop from items)
 
 -- one group more
 pub ends_more : {T : Type 0} (from : ℕ) (items group : List T) (ends : List ℕ) (end : ℕ) → AreEnds from items ends

@@ -1,6 +1,7 @@
 //! Groups of items in one list.
 ghost use Rattle.std.specs.Prelude.{◌≡◌, ◌<◌, ◌≤◌, ◌-◌, ◌++◌, ◌∷◌, [], length, take, drop, slice_get, Some, OnOk};
 ghost use Rattle.std.specs.Prelude.{OnErr, IfOk};
+ghost use Rattle.std.specs.List.{flat_map};
 ghost use Rattle.road_base.specs.Groups.{groups_of, AreEnds, start_at};
 
 use crate::NoMemory;
@@ -50,6 +51,13 @@ impl<T: Copy + Drop> Groups<T> {
         ensures { result ≡ length self.now }
     {
         self.ends.len()
+    }
+
+    /// The items of all groups, one group behind the other.
+    pub fn items(&self) -> &[T]
+        ensures { result.now ≡ flat_map (λ group. group) self.now }
+    {
+        self.items.as_slice()
     }
 
     /// The items of the group at this place.
