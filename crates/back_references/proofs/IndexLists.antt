@@ -1,15 +1,14 @@
 -- Lists of values that are exchanged, and what an index holds then.
 use Rattle.std.proofs.Common.{◌≡◌, ◌↔◌, ℕ, ◌+◌, Bool, true, false, cond}
 use Rattle.std.proofs.Common.{IsTrue, List, [], ◌∷◌, ◌++◌, map, length, Option, Some}
-use Rattle.std.proofs.Common.{None, Result, Ok, Err, inl, inr, ◌⊎◌}
+use Rattle.std.proofs.Common.{None, Result, Ok, Err, IfOk, OnOk, inl, inr, ◌⊎◌}
 use Rattle.std.proofs.Common.{refl, sym, ap, ◌∙◌, subst, Contains, Ordering, slice_index_or}
 use Rattle.std.proofs.Common.{arith, is_ok}
 use Rattle.std.specs.declared.cmp.Ordering.TheVariants.{Less, Equal}
+use Rattle.std.specs.Option.{option_or}
 use Rattle.std.specs.Ordering.{is_lt, is_eq, eq_by_cmp}
-use Rattle.std.specs.Option.{option_map}
 use Rattle.std.specs.Cmp.{IsTotalOrder, Equal-is}
-use Rattle.std.specs.FinMap.{IsAntisymmetric, find, put}
-use Rattle.std.specs.FinMap.Entries.{find-put}
+use Rattle.std.specs.FinMap.{IsAntisymmetric, find}
 use Rattle.std.specs.List.Sorted.{IsSearchInRange, IsBinarySearchResult, IsSortedBy}
 use Rattle.std.proofs.lemmas.Bool.{cases_lt}
 use Rattle.std.proofs.lemmas.Cmp.{tied_itself}
@@ -21,6 +20,7 @@ use Rattle.road_base.proofs.Comparisons.{turned}
 use Rattle.back_references.specs.Indexes.{Held, Has, Ascend, IsAmong, Stays, IsChosen, IsExchangedAt}
 use mathlib.Core.Bool.{false≢true}
 use Rattle.back_references.proofs.Lookups.{far}
+use Rattle.back_references.proofs.ReplacedLists.{find_both}
 
 pub same_list : {A : Type 0} (xs : List A) → map (λ x. x) xs ≡ xs
 same_list [] = refl
@@ -29,7 +29,7 @@ same_list (x ∷ xs) = ap (λ l. x ∷ l) (same_list xs)
 pub contains_left : {A : Type 0} (a b : List A) (x : A) → Contains a x → Contains (a ++ b) x
 contains_left a b x c = contains_from_in (a ++ b) x (in_left a b x (in_from_contains a x c))
 
-contains_right : {A : Type 0} (a b : List A) (x : A) → Contains b x → Contains (a ++ b) x
+pub contains_right : {A : Type 0} (a b : List A) (x : A) → Contains b x → Contains (a ++ b) x
 contains_right a b x c = contains_from_in (a ++ b) x (in_right a b x (in_from_contains b x c))
 
 contains_either : {A : Type 0} (a b : List A) (x : A) → Contains (a ++ b) x → Contains a x ⊎ Contains b x
@@ -137,13 +137,6 @@ module _ {V : Type 0} where
         let f = searched xs x up r bound position in (λ h. f.0 (sym same ∙ h), λ c. same ∙ f.1 c)
 
 -- ---- what an index holds
-
-pub lists_found : {K V W : Type 0} (R : K → K → Ordering) (f : W → List V) (k : K) (ps : List (K × W))
-    → find R k (map (λ p. (p.0, f p.1)) ps) ≡ option_map f (find R k ps)
-lists_found R f k [] = refl
-lists_found R f k (p ∷ ps) =
-    elim (eq_by_cmp R k p.0) as (λ b. cond b (Some (f p.1)) (find R k (map (λ q. (q.0, f q.1)) ps))
-    ≡ option_map f (cond b (Some p.1) (find R k ps))) [ true ↦ refl | false ↦ lists_found R f k ps ]
 
 module _ {V : Type 0} (S : V → V → Ordering) (Else : V → Type 0) where
   pub listed_some : (o : Option (List V)) (values xs : List V) → o ≡ Some values → IsTrue (rises S values) → xs ≡ values
@@ -329,39 +322,65 @@ link_after H P Q G C In h g c either to back = (
 pub chained : (A B C : Type 0) → (A ↔ B) → (B ↔ C) → A ↔ C
 chained A B C f g = (λ a. g.0 (f.0 a), λ c. f.1 (g.1 c))
 
--- ---- an index with a list more
+-- ---- an index with lists more
 
-module _ {K V W : Type 0} (R : K → K → Ordering) (f : W → List V) where
-  abbrev lists : List (K × W) → List (K × List V)
-  lists ps = map (λ p. (p.0, f p.1)) ps
+-- what follows from two facts on an answer
+pub if_both : {A E : Type 0} (P Q T : A → Type 0) (r : Result A E) → ((a : A) → P a → Q a → T a) → IfOk r P → IfOk r Q
+    → IfOk r T
+if_both P Q T (Ok a) f p q = f a p q
+if_both P Q T (Err e) f p q = tt
 
-  mapped : (b : Bool) (w : W) (o : Option W) → option_map f (cond b (Some w) o) ≡ cond b (Some (f w)) (option_map f o)
-  mapped true w o = refl
-  mapped false w o = refl
+-- what holds by what is found in the lists holds of an index that finds the same
+pub same_held : {K V : Type 0} (R : K → K → Ordering) (keys : List K) (held mid new : Held K V)
+    (gone come : List (K × V)) → IsExchangedAt R keys held gone come mid → new.0 ≡ mid.0
+    → ((k : K) → find R k new.1 ≡ find R k mid.1) → IsExchangedAt R keys held gone come new
+same_held {K} {V} R keys held mid new gone come upto base lists k v =
+    let C : Type 0 = IsChosen (Contains keys k) (Stays (Has R held k v) gone come (k, v)) (Has R held k v) in
+    subst (λ (o : Option (List V)). IsAmong o v (Contains new.0 (k, v)) ↔ C) (sym (lists k))
+    (subst (λ (ps : List (K × V)). IsAmong (find R k mid.1) v (Contains ps (k, v)) ↔ C) (sym base) (upto k v))
 
-  pub lists_put : IsTotalOrder R → (key : K) (w : W) (ps : List (K × W)) (k : K)
-      → find R k (lists (put R key w ps)) ≡ cond (eq_by_cmp R k key) (Some (f w)) (find R k (lists ps))
-  lists_put total key w ps k =
-      lists_found R f k (put R key w ps) ∙ ap (option_map f) (find-put R total k key w ps)
-      ∙ mapped (eq_by_cmp R k key) w (find R k ps)
-      ∙ ap (cond (eq_by_cmp R k key) (Some (f w))) (sym (lists_found R f k ps))
+-- what follows where an answer is good
+pub on_ok : {A E P Q : Type 0} (r : Result A E) → (P → Q) → OnOk r P → OnOk r Q
+on_ok (Ok a) f p = f p
+on_ok (Err e) f p = tt
 
-  pub ascend_put : (S : V → V → Ordering) → IsTotalOrder R → (key : K) (w : W) (ps : List (K × W))
-      → IsTrue (rises S (f w)) → Ascend R S (lists ps) → Ascend R S (lists (put R key w ps))
-  ascend_put S total key w ps up old k values e =
-      elim (eq_by_cmp R k key) as (λ b. cond b (Some (f w)) (find R k (lists ps)) ≡ Some values
-      → IsTrue (rises S values)) [
-        | true ↦ λ h. let same : f w ≡ values = cc in subst (λ l. IsTrue (rises S l)) same up
-        | false ↦ λ h. old k values h
-      ] (sym (lists_put total key w ps k) ∙ e)
+pub of_base : {K V : Type 0} (R : K → K → Ordering) (lists : List (K × List V)) (pairs list base : List (K × V))
+    → lists ≡ [] → base ≡ list → ((p : K × V) → Contains list p ↔ Contains pairs p) → (k : K) (v : V)
+    → IsAmong (find R k lists) v (Contains base (k, v)) ↔ Contains pairs (k, v)
+of_base {K} {V} R lists pairs list base e same is k v =
+    subst (λ (ls : List (K × List V)). IsAmong (find R k ls) v (Contains base (k, v)) ↔ Contains pairs (k, v)) (sym e)
+    (subst (λ (l : List (K × V)). Contains l (k, v) ↔ Contains pairs (k, v)) (sym same) (is (k, v)))
 
-  pub of_base : (ps : List (K × W)) (pairs list base : List (K × V)) → ps ≡ [] → base ≡ list
-      → ((p : K × V) → Contains list p ↔ Contains pairs p) → (k : K) (v : V)
-      → IsAmong (find R k (lists ps)) v (Contains base (k, v)) ↔ Contains pairs (k, v)
-  of_base ps pairs list base e same is k v =
-      subst (λ (qs : List (K × W)). IsAmong (find R k (lists qs)) v (Contains base (k, v)) ↔ Contains pairs (k, v))
-      (sym e)
-      (subst (λ (l : List (K × V)). Contains l (k, v) ↔ Contains pairs (k, v)) (sym same) (is (k, v)))
+module _ {K V : Type 0} (R : K → K → Ordering) where
+  -- what both lists of lists have ascends
+  pub ascend_both : (S : V → V → Ordering) (a b : List (K × List V)) → Ascend R S a → Ascend R S b → Ascend R S (a ++ b)
+  ascend_both S a b up low k values e =
+      elim (find R k a) as (λ o. find R k a ≡ o → option_or o (find R k b) ≡ Some values → IsTrue (rises S values)) [
+        | None ↦ λ is h. low k values h
+        | Some l ↦ λ is h. up k values (is ∙ h)
+      ] refl (sym (find_both R k a b) ∙ e)
+
+  -- a list in order alone ascends
+  pub ascend_one : (S : V → V → Ordering) (key : K) (values : List V) → IsTrue (rises S values)
+      → Ascend R S ((key, values) ∷ [])
+  ascend_one S key values up k other e =
+      elim (eq_by_cmp R k key) as (λ b. cond b (Some values) None ≡ Some other → IsTrue (rises S other)) [
+        | true ↦ λ h. let same : values ≡ other = cc in subst (λ l. IsTrue (rises S l)) same up
+        | false ↦ λ h. cc
+      ] e
+
+  pub added : IsTotalOrder R → (old h : List (K × List V)) (key : K) (values : List V)
+      → ((p : K × List V) → In p old → R p.0 key ≡ Less) → (k : K)
+      → find R k ((old ++ (key, values) ∷ []) ++ h) ≡ cond (eq_by_cmp R k key) (Some values) (find R k (old ++ h))
+  added total [] h key values above k = refl
+  added total (p ∷ old) h key values above k =
+      ap (cond (eq_by_cmp R k p.0) (Some p.1)) (added total old h key values (λ q i. above q (inr i)) k)
+      ∙ elim (eq_by_cmp R k p.0) as (λ c. eq_by_cmp R k p.0 ≡ c
+      → cond c (Some p.1) (cond (eq_by_cmp R k key) (Some values) (find R k (old ++ h)))
+      ≡ cond (eq_by_cmp R k key) (Some values) (cond c (Some p.1) (find R k (old ++ h)))) [
+        | true ↦ λ t. rw (ap is_eq (total.congr k p.0 key ((Equal-is _).0 t) ∙ above p (inl refl))) refl
+        | false ↦ λ t. refl
+      ] refl
 
 pub none_added : {A : Type 0} (xs more : List A) → more ≡ [] → xs ≡ xs ++ more
 none_added [] more e = sym e

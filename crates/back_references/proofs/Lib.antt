@@ -5,3 +5,5 @@ pub mod NamedObjects
 pub mod ToldNames
 pub mod HighwayLists
 mod IndexLists
+mod KeyedLists
+mod ReplacedLists

@@ -3,3 +3,4 @@ pub mod References
 pub mod Indexes
 pub mod Holding
 pub mod Indexing
+pub mod Replacing

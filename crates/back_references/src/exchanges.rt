@@ -16,6 +16,7 @@ pub fn keys_of<K: Ord + Copy, V: Copy>(
     requires { IsAntisymmetric K.cmp }
     ensures gone { IfOk result (λ keys. (p : K × V) → Contains gone.now p → Contains keys.items p.0) }
     ensures come { IfOk result (λ keys. (p : K × V) → Contains come.now p → Contains keys.items p.0) }
+    ensures ascending { IfOk result (λ keys. IsTrue (rises K.cmp keys.items)) }
 {
     let mut keys = Vec::new(alloc);
     add_keys(gone, &mut keys)?;

@@ -1,15 +1,16 @@
 //! The values of each key, which changes follow.
-ghost use Rattle.std.specs.Prelude.{◌≡◌, ◌↔◌, ◌++◌, ◌∷◌, [], List, IfOk, IsTrue, Contains, Some};
-ghost use Rattle.std.specs.Prelude.{if◌then◌else◌};
+ghost use Rattle.std.specs.Prelude.{◌≡◌, ◌↔◌, ◌⊎◌, ◌++◌, ◌∷◌, [], List, IfOk, OnOk, IsTrue, Contains};
 ghost use Rattle.std.specs.FinMap.{IsAntisymmetric, find};
-ghost use Rattle.std.specs.Ordering.{eq_by_cmp};
+ghost use Rattle.std.specs.declared.cmp.Ordering.TheVariants.{Less};
 ghost use Rattle.road_model.specs.Orders.{Lists, rises};
-ghost use Rattle.back_references.specs.Indexes.{Has, IsExchanged, IsExchangedAt, Stays};
+ghost use Rattle.back_references.specs.Indexes.{Ascend, Has, IsExchanged, IsExchangedAt, Stays};
 ghost use Rattle.back_references.specs.Holding.{base_pairs};
 
 use crate::exchanges::{exchanged_values, keys_of, same_values};
+use crate::key_lists::KeyLists;
 use crate::pair_list::PairList;
-use object_store::{SharedMap, Slotted};
+use crate::replaced::Replaced;
+use object_store::Slotted;
 use road_base::{NoMemory, Numbered};
 use std::alloc::Global;
 use std::marker::Model;
@@ -18,25 +19,24 @@ use std::rc::Rc;
 /// Keys with values. Contracts see the pairs as they were made, and the lists that stand in their place at the keys
 /// where something has changed since.
 #[derive(Drop)]
-pub struct Index<K: Ord + Copy + Numbered + Slotted, V: Ord + Copy> {
+pub struct Index<K: Ord + Copy + Numbered + Slotted, V: Ord + Copy + Drop> {
     alloc: Global,
     base: Option<Rc<PairList<K, V>>>,
-    replaced: SharedMap<K, Vec<V>>,
+    replaced: Replaced<K, V>,
 }
 
-impl<K: Ord + Copy + Numbered + Slotted, V: Ord + Copy> Model for Index<K, V> {
+impl<K: Ord + Copy + Numbered + Slotted, V: Ord + Copy + Drop> Model for Index<K, V> {
     ghost use Rattle.back_references.specs.Indexes.{Held, Ascend};
-    ghost use Rattle.std.specs.Prelude.{map};
     ghost use Rattle.back_references.specs.Holding.{base_pairs};
 
     ghost Value = { Held K V };
 
-    ghost view = { λ i. (base_pairs i.base, map (λ p. (p.0, p.1.items)) i.replaced) };
+    ghost view = { λ i. (base_pairs i.base, i.replaced) };
 
-    ghost invariant = { λ i. Ascend K.cmp V.cmp (map (λ p. (p.0, p.1.items)) i.replaced) };
+    ghost invariant = { λ i. Ascend K.cmp V.cmp i.replaced };
 }
 
-impl<K: Ord + Copy + Numbered + Slotted, V: Ord + Copy> Index<K, V> {
+impl<K: Ord + Copy + Numbered + Slotted, V: Ord + Copy + Drop> Index<K, V> {
     /// No values. Takes no memory.
     pub fn new(alloc: Global) -> Index<K, V>
         ensures { result ≡ ([], []) }
@@ -44,7 +44,7 @@ impl<K: Ord + Copy + Numbered + Slotted, V: Ord + Copy> Index<K, V> {
         Index {
             alloc,
             base: None,
-            replaced: SharedMap::new(),
+            replaced: Replaced::new(alloc),
         }
     }
 
@@ -56,7 +56,7 @@ impl<K: Ord + Copy + Numbered + Slotted, V: Ord + Copy> Index<K, V> {
     {
         let list = PairList::of(alloc, pairs)?;
         let base = Rc::new(alloc, list)?;
-        let replaced = SharedMap::new();
+        let replaced = Replaced::new(alloc);
         Ok(Index {
             alloc,
             base: Some(base),
@@ -70,7 +70,7 @@ impl<K: Ord + Copy + Numbered + Slotted, V: Ord + Copy> Index<K, V> {
         ensures { Lists (λ v. v) V.cmp (λ v. Has K.cmp self.now key v) result.now }
     {
         match self.replaced.get(key) {
-            Some(values) => values.as_slice(),
+            Some(values) => values,
             None => values_in(&self.base, key),
         }
     }
@@ -80,7 +80,7 @@ impl<K: Ord + Copy + Numbered + Slotted, V: Ord + Copy> Index<K, V> {
         ensures { IfOk result (λ i. i ≡ self.now) }
     {
         let base = shared_base(&self.base)?;
-        let replaced = self.replaced.share()?;
+        let replaced = self.replaced.share(self.alloc)?;
         Ok(Index {
             alloc: self.alloc,
             base,
@@ -89,8 +89,8 @@ impl<K: Ord + Copy + Numbered + Slotted, V: Ord + Copy> Index<K, V> {
     }
 
     /// What is left without the pairs that are gone, with those that came. Takes the time of the pairs' sort, and of
-    /// the lists of their keys, each gone through once. A pair that is gone and came as well takes no memory that
-    /// stays.
+    /// the lists of their keys, each gone through once; and where any of these lists change, that of a merge with the
+    /// lists that changed before.
     pub fn exchanged(&self, gone: Vec<(K, V)>, come: Vec<(K, V)>) -> Result<Index<K, V>, NoMemory>
         requires keys { IsAntisymmetric K.cmp }
         requires values { IsAntisymmetric V.cmp }
@@ -100,7 +100,7 @@ impl<K: Ord + Copy + Numbered + Slotted, V: Ord + Copy> Index<K, V> {
         self.exchanged_among(keys.as_slice(), gone, come)
     }
 
-    /// The same, where the keys of the pairs are among these, each of which comes once.
+    /// The same, where the keys of the pairs are among these, which ascend.
     fn exchanged_among(
         &self,
         keys: &[K],
@@ -109,54 +109,61 @@ impl<K: Ord + Copy + Numbered + Slotted, V: Ord + Copy> Index<K, V> {
     ) -> Result<Index<K, V>, NoMemory>
         requires keys { IsAntisymmetric K.cmp }
         requires values { IsAntisymmetric V.cmp }
+        requires ascending { IsTrue (rises K.cmp keys.now) }
         requires gone { (p : K × V) → Contains gone.items p → Contains keys.now p.0 }
         requires come { (p : K × V) → Contains come.items p → Contains keys.now p.0 }
         ensures { IfOk result (λ i. IsExchanged K.cmp self.now gone.items come.items i) }
     {
         let gone = PairList::of(self.alloc, gone)?;
         let come = PairList::of(self.alloc, come)?;
-        self.exchanged_at(keys, &gone, &come)
+        let lists = self.lists_after(keys, &gone, &come)?;
+        self.with_lists(lists)
     }
 
-    /// The same at the keys, each of which comes once.
-    fn exchanged_at(
+    /// The lists of the keys at which values go or come, as they are then.
+    fn lists_after(
         &self,
         keys: &[K],
         gone: &PairList<K, V>,
         come: &PairList<K, V>,
-    ) -> Result<Index<K, V>, NoMemory>
+    ) -> Result<KeyLists<K, V>, NoMemory>
         requires keys { IsAntisymmetric K.cmp }
         requires values { IsAntisymmetric V.cmp }
-        ensures { IfOk result (IsExchangedAt K.cmp keys.now self.now gone.now come.now) }
+        requires ascending { IsTrue (rises K.cmp keys.now) }
+        ensures ascend { IfOk result (λ l. Ascend K.cmp V.cmp l) }
+        ensures exactly { IfOk result (λ l.
+            IsExchangedAt K.cmp keys.now self.now gone.now come.now (self.now.0, l ++ self.now.1)) }
     {
-        let mut next = self.share()?;
+        let mut lists = KeyLists::new(self.alloc);
         for key in keys {
-            next = self.exchanged_more(next, *key, gone, come)?;
+            self.add_list(*key, gone, come, &mut lists)?;
         }
-        Ok(next)
+        Ok(lists)
     }
 
-    /// The same at one key more, where `next` is what it comes to at some. Where the values of the key stay, so does
-    /// what is kept.
-    fn exchanged_more(
+    /// Adds the list of the key as well, if values go or come there. The key is above those of the other lists.
+    fn add_list(
         &self,
-        next: Index<K, V>,
         key: K,
         gone: &PairList<K, V>,
         come: &PairList<K, V>,
-    ) -> Result<Index<K, V>, NoMemory>
+        lists: &mut KeyLists<K, V>,
+    ) -> Result<(), NoMemory>
         requires keys { IsAntisymmetric K.cmp }
         requires values { IsAntisymmetric V.cmp }
-        ensures { IfOk result (λ i. (keys : List K)
-            → IsExchangedAt K.cmp keys self.now gone.now come.now next
-            → IsExchangedAt K.cmp (keys ++ key ∷ []) self.now gone.now come.now i) }
+        requires above { (p : K × List V) → Contains lists.old p → K.cmp p.0 key ≡ Less }
+        ensures ascend { OnOk result (Ascend K.cmp V.cmp lists.old → Ascend K.cmp V.cmp lists.new) }
+        ensures keys { OnOk result ((p : K × List V) → Contains lists.new p → Contains lists.old p ⊎ (p.0 ≡ key)) }
+        ensures exactly { OnOk result ((keys : List K)
+            → IsExchangedAt K.cmp keys self.now gone.now come.now (self.now.0, lists.old ++ self.now.1)
+            → IsExchangedAt K.cmp (keys ++ key ∷ []) self.now gone.now come.now
+            (self.now.0, lists.new ++ self.now.1)) }
     {
         let values = self.values_after(key, gone, come)?;
         if same_values(values.as_slice(), self.at(key)) {
-            return Ok(next);
+            return Ok(());
         }
-        let more = next.with_values(key, values)?;
-        Ok(more)
+        lists.push(key, values.as_slice())
     }
 
     /// The values of the key without those that are gone, with those that came, ascending.
@@ -175,25 +182,28 @@ impl<K: Ord + Copy + Numbered + Slotted, V: Ord + Copy> Index<K, V> {
         exchanged_values(self.alloc, self.at(key), gone.at(key), come.at(key))
     }
 
-    /// With these values at the key.
-    fn with_values(self, key: K, values: Vec<V>) -> Result<Index<K, V>, NoMemory>
+    /// With these lists in the place of those of their keys.
+    fn with_lists(&self, lists: KeyLists<K, V>) -> Result<Index<K, V>, NoMemory>
         requires keys { IsAntisymmetric K.cmp }
-        requires ascending { IsTrue (rises V.cmp values.items) }
-        ensures base { IfOk result (λ i. i.0 ≡ self.0) }
-        ensures lists { IfOk result (λ i. (k : K)
-            → find K.cmp k i.1 ≡ (if eq_by_cmp K.cmp k key then Some values.items else find K.cmp k self.1)) }
+        requires ascend { Ascend K.cmp V.cmp lists }
+        ensures base { IfOk result (λ i. i.0 ≡ self.now.0) }
+        ensures lists { IfOk result (λ i. (k : K) → find K.cmp k i.1 ≡ find K.cmp k (lists ++ self.now.1)) }
     {
-        let replaced = self.replaced.with(self.alloc, key, values)?;
+        if lists.len() == 0 {
+            return self.share();
+        }
+        let base = shared_base(&self.base)?;
+        let replaced = self.replaced.with(self.alloc, lists)?;
         Ok(Index {
             alloc: self.alloc,
-            base: self.base,
+            base,
             replaced,
         })
     }
 }
 
 /// The values of a key in the base, ascending.
-fn values_in<K: Ord + Copy + Numbered, V: Ord + Copy>(
+fn values_in<K: Ord + Copy + Numbered, V: Ord + Copy + Drop>(
     base: &Option<Rc<PairList<K, V>>>,
     key: K,
 ) -> &[V]
@@ -207,7 +217,7 @@ fn values_in<K: Ord + Copy + Numbered, V: Ord + Copy>(
 }
 
 /// The same base, shared.
-fn shared_base<K: Ord + Copy + Numbered, V: Ord + Copy>(
+fn shared_base<K: Ord + Copy + Numbered, V: Ord + Copy + Drop>(
     base: &Option<Rc<PairList<K, V>>>,
 ) -> Result<Option<Rc<PairList<K, V>>>, NoMemory>
     ensures { IfOk result (λ b. base_pairs b ≡ base_pairs base.now) }

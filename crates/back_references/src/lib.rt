@@ -2,23 +2,26 @@
 //!
 //! Beside the objects stand three indexes, from nodes to ways, from nodes to restrictions and from ways to
 //! restrictions. Each is a list of pairs in order and without repeats, which never changes and is shared, at 16 bytes a
-//! reference; and beside it, for the keys where something has changed since, the whole list that stands in place of the
-//! pairs. `prepare` finds what events leave, with the lists that change, beside the world, which stays as it is; `Next`
-//! is the world that it would be. `commit` drops that world but for its references, which it takes, and hands the
-//! change to the objects.
+//! reference; and beside it, for the keys where something has changed since, the whole list that stands in the place of
+//! the pairs. These lists lie side by side in memory, in a few levels of which each is many times as large as the one
+//! before it: those that a change brings are merged with the first levels. `prepare` finds what events leave, with the
+//! lists that change, beside the world, which stays as it is; `Next` is the world that it would be. `commit` drops that
+//! world but for its references, which it takes, and hands the change to the objects.
 //!
-//! Cost. A look-up copies nothing. It asks the replaced lists first: up to some tens of thousands of them, a test or two
-//! tell of most keys where nothing has changed, and of all others the logarithm of their number is taken. Then it asks
-//! the pairs, in the logarithm of their number and a step for each reference that it finds: where the numbers are
-//! spread evenly, a table of ranges of them leaves a few steps of the logarithm. Each look-up compares the keys around
-//! the place that the table tells, and where that isn't the one, or no memory was found for the table, all pairs are
-//! searched. The table takes at most about two bytes a reference. `of` makes the lists from the entries of ways and of
-//! relations alone: with m entries and r references it takes time of the order of (m + r) log (m + r). `prepare` and
-//! `apply` take what the objects take, sort the references of the changed ways and relations as they were and as they
-//! are, and make the list of each key among them once, in the time of its length times the logarithm of what is gone
-//! from it; an index of which lists change takes 32 KiB for the marks of their keys. `copy` takes a moment, since all
-//! is shared; `with` is `apply` on a copy. `highways` looks at each entry of a way once, and copies all entries first
-//! where something has changed.
+//! Cost. A look-up copies nothing. It asks the replaced lists first: up to some tens of thousands of them, a test or
+//! two tell of most keys where nothing has changed, and for all others each level is searched. Then it asks the pairs,
+//! with a step for each reference that it finds. A search takes the logarithm of what is searched: where the numbers
+//! are spread evenly, a table of ranges of them leaves a few steps of it. The keys around the place that the table
+//! tells are compared, and where that isn't the one, or no memory was found for the table, all keys are searched. A
+//! table takes at most about two bytes a reference, or a byte a replaced list. `of` makes the lists from the entries of
+//! ways and of relations alone: with m entries and r references it takes time of the order of (m + r) log (m + r).
+//! `prepare` and `apply` take what the objects take, sort the references of the changed ways and relations as they were
+//! and as they are, and make the list of each key among them once, in the time of its length times the logarithm of
+//! what is gone from it. An index of which lists change copies the first level, where that has no more than 1,024 keys
+//! and values, and 32 KiB for the marks of the keys; and it copies a level that has at most eight times what comes to
+//! it. So each of n keys and values that have come since the objects were made is copied, with eight others, at most
+//! once a level, which is of the order of log n times. `copy` takes a moment, since all is shared; `with` is `apply` on
+//! a copy. `highways` looks at each entry of a way once, and copies all entries first where something has changed.
 #![tactic(auto)]
 
 mod collecting;
@@ -26,10 +29,12 @@ mod exchanges;
 mod highways;
 mod index;
 mod indexed;
+mod key_lists;
 mod next;
 mod pair_list;
 mod prepared;
 mod references;
+mod replaced;
 
 pub use indexed::Indexed;
 pub use next::Next;

@@ -78,7 +78,7 @@ fn first_from<K: Ord + Copy>(keys: &[K], key: K) -> usize
 
 /// The first position at which a key stands that isn't below this one. Where it is the one given, the keys around it
 /// show so, and no search is made.
-fn first_near<K: Ord + Copy>(keys: &[K], key: K, at: usize) -> usize
+pub fn first_near<K: Ord + Copy>(keys: &[K], key: K, at: usize) -> usize
     requires parted { IsPartitionedBy (λ a. is_lt (K.cmp a key)) keys.now }
     requires at { at ≤ length keys.now }
     ensures point { IsPartitionPoint (λ a. is_lt (K.cmp a key) ≡ true) (λ a. is_lt (K.cmp a key) ≡ false) keys.now

@@ -1,0 +1,38 @@
+use Rattle.std.proofs.Common.{◌↔◌, ◌++◌, ◌∷◌, [], Contains, IsTrue, refl, sym, ap, ◌∙◌, subst}
+use Rattle.std.specs.FinMap.{find}
+use Rattle.road_model.specs.Orders.{rises}
+use Rattle.road_base.proofs.ListMembers.{contains_from_in}
+use Rattle.back_references.specs.Indexes.{Ascend, Has, Stays}
+use Rattle.back_references.proofs.IndexLists.{on_ok, added, ascend_both, ascend_one, up_more, up_same}
+use Rattle.back_references.proofs.index.Index.add_list.Goals as goal
+
+pub returns-then-same_values-clause-exactly : goal.returns-then-same_values-clause-exactly
+returns-then-same_values-clause-exactly g c = λ keys upto.
+    up_same g.K.Ord.cmp g.met.K.Ord.total c.requires.keys g.V.Ord.cmp keys c.args.key c.in_ok-values.values.items
+    c.at.result.now c.args.self.now (c.args.self.now.0, c.args.lists.now ++ c.args.self.now.1) c.args.gone.now
+    c.args.come.now upto (sym c.as_slice.ensures.value ∙ c.same_values.ensures.0 c.if-same_values.true) c.at.ensures
+    c.in_ok-values.ensures.exactly
+
+pub returns-clause-ascend : goal.returns-clause-ascend
+returns-clause-ascend g c =
+    let R = g.K.Ord.cmp in
+    let S = g.V.Ord.cmp in
+    let values = c.as_slice-2.result.now in
+    let up = subst (λ l. IsTrue (rises S l)) (sym c.as_slice-2.ensures.value) c.in_ok-values.ensures.ascending in
+    on_ok c.push.result (λ is old. subst (Ascend R S) (sym is)
+    (ascend_both R S c.args.lists.now ((c.args.key, values) ∷ []) old (ascend_one R S c.args.key values up)))
+    c.push.ensures
+
+pub returns-clause-exactly : goal.returns-clause-exactly
+returns-clause-exactly g c =
+    let R = g.K.Ord.cmp in
+    let held = c.args.self.now in
+    let old = c.args.lists.now in
+    let values = c.as_slice-2.result.now in
+    let exactly = subst (λ l. (v : g.row.V.Denot) → Contains l v
+    ↔ Stays (Has R held c.args.key v) c.args.gone.now c.args.come.now (c.args.key, v)) (sym c.as_slice-2.ensures.value)
+    c.in_ok-values.ensures.exactly in
+    on_ok c.push.result (λ is keys upto. up_more R g.met.K.Ord.total c.requires.keys keys c.args.key values held
+    (held.0, old ++ held.1) (held.0, c.push.new.self ++ held.1) c.args.gone.now c.args.come.now upto refl
+    (λ k. ap (λ l. find R k (l ++ held.1)) is ∙ added R g.met.K.Ord.total old held.1 c.args.key values
+    (λ p i. c.requires.above p (contains_from_in old p i)) k) exactly) c.push.ensures

@@ -1,0 +1,26 @@
+use Rattle.std.proofs.Common.{◌≡◌, ◌+◌, ◌++◌, ◌∷◌, [], take, sym, ap, ◌∙◌, take_all, append-nil}
+use Rattle.std.proofs.lemmas.List.{take_more}
+use Rattle.back_references.specs.Replacing.{lists_in}
+use Rattle.back_references.proofs.ReplacedLists.{level_more}
+use Rattle.back_references.proofs.replaced.add_shared.Goals as goal
+
+pub loop-level-init : goal.loop-level-init
+loop-level-init g c = sym (append-nil (lists_in c.args.all.now.items))
+
+pub loop-level-preserved : goal.loop-level-preserved
+loop-level-preserved g c =
+    let levels = c.args.levels.now in
+    let level = c.level-item.result in
+    let front = take c.loop-level.level-index levels in
+    let step : take (c.loop-level.level-index + 1) levels ≡ front ++ level ∷ []
+    = take_more levels c.loop-level.level-index level c.loop-level-test.true
+    ∙ ap (λ z. front ++ z ∷ []) (sym c.level-item.is) in
+    level_more (λ l. l.value) (lists_in c.args.all.now.items) front level c.in_ok-clone.field-0
+    c.loop-level.all.items c.push.new.self.items (take (c.loop-level.level-index + 1) levels)
+    c.loop-level.invariant c.in_ok-push.ensures.items c.in_ok-clone.ensures.cases step
+
+pub returns : goal.returns
+returns g c =
+    c.loop-level.invariant
+    ∙ ap (λ l. lists_in c.args.all.now.items ++ lists_in l)
+    (take_all c.loop-level.level-index c.args.levels.now c.loop-level-test.false)
