@@ -183,4 +183,5 @@ def main():
     os.write(1, f'  {kind:8} the graph that was followed is the one that is compiled: {len(anew)} bytes\n'.encode())
 
 
-main()
+if __name__ == '__main__':
+    main()
