@@ -119,7 +119,7 @@ const CHANGES: &[u8] = b"r31 v1 Ttype=multipolygon Mw10@,n2@,w99@,r30@,n2@\n\
 
 /// Whether both worlds have the same links at the first numbers.
 fn have_same_links<A: World, B: World>(these: &A, those: &B) -> bool {
-    (0..100).all(|id| {
+    (0..1_100).all(|id| {
         these.ways_at(NodeId(id)) == those.ways_at(NodeId(id))
             && these.rules_at(NodeId(id)) == those.rules_at(NodeId(id))
             && these.rules_of_way(WayId(id)) == those.rules_of_way(WayId(id))
@@ -190,5 +190,121 @@ fn a_world_that_follows_is_the_one_that_is_made(rt: HostRuntime) -> Result<(), F
     let alloc = rt.alloc();
     let events = events_of(alloc, CHANGES)?;
     assert!(rt; is_followed(alloc, &events)?);
+    Ok(())
+}
+
+/// Ways, each from a node to one that they share.
+struct Drawn {
+    /// The number of the first way.
+    first: i64,
+    /// The number behind that of the last way.
+    end: i64,
+    version: u32,
+    /// How far the number of a way's own node is above its own.
+    shift: i64,
+    shared: i64,
+}
+
+/// The ways of a town.
+const FIRST: Drawn = Drawn {
+    first: 1,
+    end: 700,
+    version: 1,
+    shift: 0,
+    shared: 1_000,
+};
+
+/// Changes of the town. The first one replaces more lists than are merged with whatever comes; the lists of the second
+/// one stand before these, and those of the third one are merged with the latter. The fourth one replaces many lists
+/// once more, and the last one the longest list.
+const REDRAWN: [Drawn; 5] = [
+    Drawn {
+        first: 1,
+        end: 600,
+        version: 2,
+        shift: 1,
+        shared: 1_000,
+    },
+    Drawn {
+        first: 600,
+        end: 603,
+        version: 2,
+        shift: 1,
+        shared: 1_000,
+    },
+    Drawn {
+        first: 603,
+        end: 605,
+        version: 2,
+        shift: 1,
+        shared: 1_000,
+    },
+    Drawn {
+        first: 1,
+        end: 300,
+        version: 3,
+        shift: 2,
+        shared: 1_000,
+    },
+    Drawn {
+        first: 650,
+        end: 651,
+        version: 2,
+        shift: 1,
+        shared: 1_001,
+    },
+];
+
+fn add_drawn(alloc: Global, ways: &Drawn, id: i64, text: &mut String) -> Result<(), NoMemory> {
+    let own = id.saturating_add(ways.shift);
+    let line = format!(in alloc;
+        "w{id} v{} Thighway=yes Nn{own},n{}\n",
+        ways.version, ways.shared
+    )?;
+    text.push_str(line.as_str())?;
+    Ok(())
+}
+
+/// The events that draw the ways.
+fn drawn_events(alloc: Global, ways: &Drawn) -> Result<Vec<Event>, Fail> {
+    let mut text = String::new(alloc);
+    for id in ways.first..ways.end {
+        add_drawn(alloc, ways, id, &mut text)?;
+    }
+    events_of(alloc, text.as_bytes())
+}
+
+/// Whether the world becomes the one of all events, these ways' among them.
+fn follows_drawn(
+    alloc: Global,
+    world: &mut Indexed,
+    all: &mut Vec<Event>,
+    ways: &Drawn,
+) -> Result<bool, Fail> {
+    let events = drawn_events(alloc, ways)?;
+    let mut more = copies(alloc, &events)?;
+    all.append(&mut more)?;
+    Ok(follows_last(alloc, world, all, &events)?)
+}
+
+/// Whether the world of these events becomes, at each of these changes, the one of all events so far.
+fn all_drawn_are_followed(
+    alloc: Global,
+    mut all: Vec<Event>,
+    changes: &[Drawn],
+) -> Result<bool, Fail> {
+    let mut world = made_of(alloc, &all)?;
+    for ways in changes {
+        if !follows_drawn(alloc, &mut world, &mut all, ways)? {
+            return Ok(false);
+        }
+    }
+    Ok(true)
+}
+
+#[test]
+fn many_lists_are_followed(rt: HostRuntime) -> Result<(), Fail> {
+    let alloc = rt.alloc();
+    assert!(rt; all_drawn_are_followed(alloc, drawn_events(alloc, &FIRST)?, &REDRAWN)?);
     Ok(())
 }

@@ -121,6 +121,33 @@ fn a_change_is_found_before_it_is_made(rt: HostRuntime) -> Result<(), Fail> {
     Ok(())
 }
 
+/// Whether objects that a reader shares stay as they are, where these follow the events.
+fn are_kept(objects: &mut Objects, events: &[Event]) -> Result<bool, NoMemory> {
+    let shared = objects.copy()?;
+    let before = objects.events()?;
+    let fresh = objects.prepare(events)?;
+    objects.commit(fresh);
+    lists(&shared, &before)
+}
+
+/// Whether a reader keeps its objects behind each of the changes.
+fn readers_keep_their_objects(alloc: Global, objects: &mut Objects) -> Result<bool, Fail> {
+    for (change, _, known) in CHANGES.iter() {
+        let events = events_of(alloc, change)?;
+        if !are_kept(objects, &events)? || first_node(objects) != *known {
+            return Ok(false);
+        }
+    }
+    Ok(true)
+}
+
+#[test]
+fn a_reader_keeps_its_objects(rt: HostRuntime) -> Result<(), Fail> {
+    let mut objects = Objects::of(events_of(rt.alloc(), EXTRACT)?)?;
+    assert!(rt; readers_keep_their_objects(rt.alloc(), &mut objects)?);
+    Ok(())
+}
+
 /// Versions of way 1 and of node 1, and their deletions.
 const EVENTS: &[u8] =
     b"w1 v2 Nn7\nn1 v1 x1 y0\nw1 v3 dD\nn1 v1 x2 y0\nw1 v3 Nn8\nn1 v5 x3 y0\nn1 v5 dD\n";
