@@ -1,6 +1,6 @@
 -- What is found in lists that stand one before the other, and the marks of their keys.
-use Rattle.std.proofs.Common.{◌≡◌, ℕ, ℤ, Bool, true, false, cond, IsTrue, List, [], ◌∷◌, ◌++◌, map}
-use Rattle.std.proofs.Common.{Option, Some, None, is_some, refl, sym, ap, ◌∙◌, subst, append_assoc, Contains}
+use Rattle.std.proofs.Common.{◌≡◌, ℕ, ℤ, true, false, cond, IsTrue, List, [], ◌∷◌, ◌++◌, map}
+use Rattle.std.proofs.Common.{Some, None, is_some, refl, sym, ap, ◌∙◌, subst, append_assoc, Contains}
 use Rattle.std.proofs.Common.{Ordering, inl, inr}
 use Rattle.std.specs.declared.cmp.Ordering.TheVariants.{Equal}
 use Rattle.std.specs.Option.{option_or}
@@ -10,15 +10,11 @@ use Rattle.std.specs.FinMap.{find}
 use Rattle.std.specs.List.{flat_map}
 use Rattle.std.proofs.lemmas.Grind.{flat_map-append}
 use Rattle.object_store.specs.Filters.{IsMarked, AreMarked}
+use Rattle.object_store.proofs.LevelPairs.{or_cond}
 use Rattle.road_base.proofs.ListMembers.{contains_head, contains_later, contains_more, contains_none}
 use mathlib.Core.Bool.{false≢true}
 
 -- ---- what is found in lists that stand one before the other
-
-or_cond : {V : Type 0} (b : Bool) (v : V) (o p r : Option V) → r ≡ option_or o p
-    → cond b (Some v) r ≡ option_or (cond b (Some v) o) p
-or_cond true v o p r e = refl
-or_cond false v o p r e = e
 
 module _ {K V : Type 0} (R : K → K → Ordering) where
   pub find_both : (k : K) (a b : List (K × V)) → find R k (a ++ b) ≡ option_or (find R k a) (find R k b)

@@ -11,8 +11,8 @@ use road_base::{Groups, NoMemory, Numbered, Ranges};
 use std::alloc::Global;
 use std::marker::Model;
 
-/// Lists of values, each at its key. Contracts see the keys with their lists, ascending. The ranges of the keys' numbers
-/// tell where a search begins, if anything: they are no part of what the lists are.
+/// Lists of values, each at its key. Contracts see the keys with their lists, ascending. The ranges of the keys'
+/// numbers tell where a search begins, if anything: they are no part of what the lists are.
 #[derive(Drop)]
 pub struct KeyLists<K: Ord + Copy + Numbered, V: Copy + Drop> {
     /// Each once, ascending.

@@ -109,7 +109,8 @@ fn over<K: Ord + Copy + Numbered, V: Copy + Drop>(
     levels: &[Rc<KeyLists<K, V>>],
 ) -> Result<Vec<Rc<KeyLists<K, V>>>, NoMemory>
     requires { IsAntisymmetric K.cmp }
-    ensures { IfOk result (λ l. (k : K) → find K.cmp k (lists_in l.items) ≡ find K.cmp k (later ++ lists_in levels.now)) }
+    ensures { IfOk result (λ l. (k : K)
+        → find K.cmp k (lists_in l.items) ≡ find K.cmp k (later ++ lists_in levels.now)) }
 {
     match levels.split_first() {
         Some((first, rest)) if first.size() <= SMALL.max(later.size().saturating_mul(RATIO)) => {

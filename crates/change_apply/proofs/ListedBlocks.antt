@@ -17,7 +17,7 @@ use Rattle.road_model.specs.declared.blocks.Block.{Block}
 use Rattle.road_model.specs.declared.lists.Piece.{Piece}
 use Rattle.road_model.specs.BlockMap.{entry_of}
 use Rattle.road_model.specs.Orders.{way_cmp}
-use Rattle.object_store.specs.Trees.{Rise}
+use Rattle.object_store.specs.Levels.{Rise}
 use Rattle.change_apply.specs.Listing.{AreAt, IsKept, IsPutFrom}
 use Rattle.change_apply.specs.Rebuilding.{AreAtTheirWays, block_at, with_pieces}
 use Rattle.change_apply.proofs.ListedPuts.{in_front}

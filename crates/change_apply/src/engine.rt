@@ -105,7 +105,7 @@ impl<P: Profile> Engine<P> {
                 blocks,
                 ranges,
             },
-            rebuilt: SharedMap::new(),
+            rebuilt: SharedMap::new(alloc),
         })
     }
 
@@ -236,7 +236,7 @@ fn list_all(
         return Ok(());
     }
     list_rebuilt(alloc, rebuilt, blocks)?;
-    *rebuilt = SharedMap::new();
+    *rebuilt = SharedMap::new(alloc);
     *ranges = Ranges::of(alloc, blocks.items());
     Ok(())
 }

@@ -5,12 +5,12 @@
 //! would leave builds the blocks of those near it, or named by a restriction beside one near, and then of those that
 //! meet a way whose pieces it altered, or are named beside one that does, beside what stands. The pieces of the ways
 //! that these meet it takes from the blocks that stand. It finds where each new block goes: where its way has one in
-//! the list, in the place of that; blocks of ways that have none there, and those without pieces, beside the list, in
-//! a map of which a changed one shares all but a path (`object_store::SharedMap`). Only then, and without taking
-//! memory, it exchanges the worlds and the blocks; where no memory is found nothing changes. So a change costs what it
-//! touches: the look-ups of the touched ways, the blocks that are built, and for each that goes beside the list the
-//! logarithm of their number; nothing of the size of the world. `Engine::graph` lists these: it takes no time where
-//! there are none, and else one pass over the list, which costs less than to read it once.
+//! the list, in the place of that; blocks of ways that have none there, and those without pieces, beside the list, in a
+//! map that shares most of what it has with the one before it (`object_store::SharedMap`). Only then, and without
+//! taking memory, it exchanges the worlds and the blocks; where no memory is found nothing changes. So a change costs
+//! what it touches: the look-ups of the touched ways, the blocks that are built, and for each that goes beside the list
+//! in the long run the logarithm of their number; nothing of the size of the world. `Engine::graph` lists these: it
+//! takes no time where there are none, and else one pass over the list, which costs less than to read it once.
 #![tactic(auto)]
 
 mod altering;

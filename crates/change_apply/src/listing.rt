@@ -47,7 +47,7 @@ fn newer_blocks(alloc: Global, rebuilt: &SharedMap<WayId, Block>) -> Result<Vec<
     let mut all = rebuilt.values(alloc)?;
     let mut list = Vec::with_capacity(alloc, all.len())?;
     while let Some(block) = all.pop() {
-        add_copy(block, &mut list)?;
+        add_copy(&block, &mut list)?;
     }
     Ok(list)
 }

@@ -44,7 +44,7 @@ pub fn place(
         .len()
         .saturating_add(fresh.met.items().len());
     let none_placed = Placed {
-        rebuilt: rebuilt.share()?,
+        rebuilt: rebuilt.share(alloc)?,
         replacing: Vec::with_capacity(alloc, count)?,
     };
     let near_placed = place_each(alloc, listed, ranges, fresh.near, none_placed)?;

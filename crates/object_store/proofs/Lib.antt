@@ -5,7 +5,9 @@ pub mod KindsInOrder
 pub mod KindEntries
 pub mod ChangedKeys
 mod SplitPairs
-pub mod Trees
+mod EntryLists
+mod MergedPairs
+pub mod LevelPairs
 mod Overlays
 mod MergedEvents
 mod SameBodies

@@ -16,7 +16,7 @@ use Rattle.road_base.specs.Applying.{entry_of, is_of, first_greatest, entries_fo
 use Rattle.road_base.proofs.ListMembers.{In, contains_head, contains_later}
 use Rattle.object_store.specs.Listed.{IsInOrder, pair_of}
 use Rattle.object_store.specs.Overlay.{over, AreKeyed}
-use Rattle.object_store.specs.Trees.{Rise}
+use Rattle.object_store.specs.Levels.{Rise}
 use Rattle.object_store.proofs.InOrder.{own}
 use Rattle.object_store.proofs.StandingEvents.{entries_in, of_nothing}
 use Rattle.object_store.proofs.SplitPairs.{above_first, right_rises}

@@ -5,16 +5,11 @@ use Rattle.std.specs.declared.cmp.Ordering.TheVariants.{Less, Equal, Greater}
 use Rattle.std.specs.Ordering.{is_eq}
 use Rattle.std.specs.Cmp.{IsTotalOrder}
 use Rattle.std.specs.FinMap.{find, put}
-use Rattle.std.specs.FinMap.Entries.{below_all, by_order, is_sorted-put}
-use Rattle.std.proofs.lemmas.Bool.{and_parts, and_from}
+use Rattle.std.specs.FinMap.Entries.{below_all, is_sorted-put}
+use Rattle.std.proofs.lemmas.Bool.{and_parts}
 use Rattle.road_base.proofs.ListMembers.{In}
 use Rattle.road_base.proofs.Comparisons.{less, turned}
-use Rattle.object_store.specs.Trees.{Rise}
-
--- a list that holds something isn't empty
-pub not_nil : {A : Type 0} (l : List A) (x : A) (m : List A) → l ++ x ∷ m ≡ [] → IsTrue false
-not_nil [] x m e = cc
-not_nil (y ∷ l) x m e = cc
+use Rattle.object_store.specs.Levels.{Rise}
 
 told : (b : Bool) → T b → IsTrue b
 told true t = refl
@@ -31,17 +26,9 @@ module _ {K V : Type 0} (R : K → K → Ordering) where
   below_each k (x ∷ l) h y (inl e) = subst (λ (z : K × V). R k z.0 ≡ Less) (sym e) (less _ (and_parts _ _ h).0)
   below_each k (x ∷ l) h y (inr i) = below_each k l (and_parts _ _ h).1 y i
 
-  below_left : (k : K) (l m : List (K × V)) → IsTrue (below_all R k (l ++ m)) → IsTrue (below_all R k l)
-  below_left k [] m h = refl
-  below_left k (x ∷ l) m h = let p = and_parts _ _ h in and_from _ _ p.0 (below_left k l m p.1)
-
   below_right : (k : K) (l m : List (K × V)) → IsTrue (below_all R k (l ++ m)) → IsTrue (below_all R k m)
   below_right k [] m h = h
   below_right k (x ∷ l) m h = below_right k l m (and_parts _ _ h).1
-
-  pub left_rises : (l m : List (K × V)) → Rise R (l ++ m) → Rise R l
-  left_rises [] m h = refl
-  left_rises (x ∷ l) m h = let p = and_parts _ _ h in and_from _ _ (below_left x.0 l m p.0) (left_rises l m p.1)
 
   pub right_rises : (l m : List (K × V)) → Rise R (l ++ m) → Rise R m
   right_rises [] m h = h
@@ -60,50 +47,21 @@ module _ {K V : Type 0} (R : K → K → Ordering) where
       (less _ (and_parts _ _ (below_right z.0 l (x ∷ m) (and_parts _ _ h).0)).0)
   before_entry (z ∷ l) x m h y (inr i) = before_entry l x m (and_parts _ _ h).1 y i
 
-  find_behind : (q : K) (l m : List (K × V)) → ((y : K × V) → In y l → is_eq (R q y.0) ≡ false)
+  pub find_behind : (q : K) (l m : List (K × V)) → ((y : K × V) → In y l → is_eq (R q y.0) ≡ false)
       → find R q (l ++ m) ≡ find R q m
   find_behind q [] m h = refl
   find_behind q (x ∷ l) m h = rw (h x (inl refl)) (find_behind q l m (λ y i. h y (inr i)))
 
-  find_none : (q : K) (l : List (K × V)) → ((y : K × V) → In y l → is_eq (R q y.0) ≡ false) → find R q l ≡ None
+  pub find_none : (q : K) (l : List (K × V)) → ((y : K × V) → In y l → is_eq (R q y.0) ≡ false) → find R q l ≡ None
   find_none q [] h = refl
   find_none q (x ∷ l) h = rw (h x (inl refl)) (find_none q l (λ y i. h y (inr i)))
 
-  find_before : (q : K) (l m : List (K × V)) → find R q m ≡ None → find R q (l ++ m) ≡ find R q l
-  find_before q [] m h = h
-  find_before q (x ∷ l) m h = rw (find_before q l m h) refl
-
-  pub put_low : (k : K) (v : V) (l : List (K × V)) (x : K × V) (m : List (K × V)) → R k x.0 ≡ Less
-      → put R k v (l ++ x ∷ m) ≡ put R k v l ++ x ∷ m
-  put_low k v [] x m h = rw h refl
-  put_low k v (y ∷ l) x m h =
-      elim (R k y.0) as (λ r. by_order r ((k, v) ∷ y ∷ (l ++ x ∷ m)) ((y.0, v) ∷ (l ++ x ∷ m))
-      (y ∷ put R k v (l ++ x ∷ m)) ≡ by_order r ((k, v) ∷ y ∷ l) ((y.0, v) ∷ l) (y ∷ put R k v l) ++ x ∷ m) [
-        | Less ↦ refl
-        | Equal ↦ refl
-        | Greater ↦ ap (λ w. y ∷ w) (put_low k v l x m h)
-      ]
-
-  put_behind : (k : K) (v : V) (l m : List (K × V)) → ((y : K × V) → In y l → R k y.0 ≡ Greater)
+  pub put_behind : (k : K) (v : V) (l m : List (K × V)) → ((y : K × V) → In y l → R k y.0 ≡ Greater)
       → put R k v (l ++ m) ≡ l ++ put R k v m
   put_behind k v [] m h = refl
   put_behind k v (x ∷ l) m h = rw (h x (inl refl)) (ap (λ w. x ∷ w) (put_behind k v l m (λ y i. h y (inr i))))
 
   module _ (total : IsTotalOrder R) where
-    -- a key above an entry is above all before it
-    high_before : (k : K) (l : List (K × V)) (x : K × V) (m : List (K × V)) → Rise R (l ++ x ∷ m) → R k x.0 ≡ Greater
-        → (y : K × V) → In y l → R k y.0 ≡ Greater
-    high_before k l x m h g y i =
-        turned R total y.0 k Less (total.trans y.0 x.0 k (before_entry l x m h y i) (turned R total k x.0 Greater g))
-
-    pub find_low : (q : K) (l : List (K × V)) (x : K × V) (m : List (K × V)) → Rise R (l ++ x ∷ m) → R q x.0 ≡ Less
-        → find R q (l ++ x ∷ m) ≡ find R q l
-    find_low q l x m h low =
-        find_before q l (x ∷ m) (find_none q (x ∷ m) (λ y. elim [
-          | inl e ↦ subst (λ (w : K × V). is_eq (R q w.0) ≡ false) (sym e) (ap is_eq low)
-          | inr i ↦ ap is_eq (total.trans q x.0 y.0 low (above_first x m (right_rises l (x ∷ m) h) y i))
-        ]))
-
     pub find_here : (q : K) (l : List (K × V)) (x : K × V) (m : List (K × V)) → Rise R (l ++ x ∷ m) → R q x.0 ≡ Equal
         → find R q (l ++ x ∷ m) ≡ Some x.1
     find_here q l x m h e =
@@ -111,18 +69,9 @@ module _ {K V : Type 0} (R : K → K → Ordering) where
         ∙ turned R total y.0 x.0 Less (before_entry l x m h y i)))
         ∙ rw e refl
 
-    pub find_high : (q : K) (l : List (K × V)) (x : K × V) (m : List (K × V)) → Rise R (l ++ x ∷ m) → R q x.0 ≡ Greater
-        → find R q (l ++ x ∷ m) ≡ find R q m
-    find_high q l x m h g =
-        find_behind q l (x ∷ m) (λ y i. ap is_eq (high_before q l x m h g y i)) ∙ rw g refl
-
     pub put_here : (k : K) (v : V) (l : List (K × V)) (x : K × V) (m : List (K × V)) → Rise R (l ++ x ∷ m)
         → R k x.0 ≡ Equal → put R k v (l ++ x ∷ m) ≡ l ++ (x.0, v) ∷ m
     put_here k v l x m h e =
         put_behind k v l (x ∷ m) (λ y i. total.congr k x.0 y.0 e
         ∙ turned R total y.0 x.0 Less (before_entry l x m h y i))
         ∙ rw e refl
-
-    pub put_high : (k : K) (v : V) (l : List (K × V)) (x : K × V) (m : List (K × V)) → Rise R (l ++ x ∷ m)
-        → R k x.0 ≡ Greater → put R k v (l ++ x ∷ m) ≡ l ++ x ∷ put R k v m
-    put_high k v l x m h g = put_behind k v l (x ∷ m) (high_before k l x m h g) ∙ rw g refl

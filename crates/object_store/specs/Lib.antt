@@ -1,7 +1,7 @@
 pub mod Codes
 pub mod Listed
 pub mod Changes
-pub mod Trees
+pub mod Levels
 pub mod Overlay
 pub mod Following
 pub mod Filters

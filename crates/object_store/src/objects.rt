@@ -8,6 +8,7 @@ ghost use Rattle.road_base.specs.Applying.{IsApplied, entry_of, entries_for, fir
 ghost use Rattle.road_base.specs.Objects.{Objects as ObjectMap, key_cmp};
 ghost use Rattle.road_base.specs.declared.ids.Key.{Key};
 ghost use Rattle.road_model.specs.Links.{AreChanged};
+ghost use Rattle.object_store.specs.Levels.{values_of};
 ghost use Rattle.object_store.specs.Overlay.{base_objects};
 
 use crate::base::Base;
@@ -59,7 +60,7 @@ impl Objects {
         Objects {
             alloc,
             base: None,
-            changed: SharedMap::new(),
+            changed: SharedMap::new(alloc),
             settling: None,
         }
     }
@@ -73,7 +74,7 @@ impl Objects {
         Ok(Objects {
             alloc,
             base: Some(base),
-            changed: SharedMap::new(),
+            changed: SharedMap::new(alloc),
             settling: None,
         })
     }
@@ -140,7 +141,7 @@ impl Objects {
         ensures { IfOk result (λ o. o ≡ self.now) }
     {
         let base = shared_base(&self.base)?;
-        let changed = self.changed.share()?;
+        let changed = self.changed.share(self.alloc)?;
         Ok(Objects {
             alloc: self.alloc,
             base,
@@ -324,8 +325,8 @@ fn has_entry(map: &SharedMap<Key, Event>, key: Key) -> bool
 }
 
 /// Puts copies of the events behind the list's.
-fn add_copies(events: &[&Event], list: &mut Vec<Event>) -> Result<(), NoMemory>
-    ensures { OnOk result (list.new.items ≡ list.old.items ++ map (λ e. e.now) events.now) }
+fn add_copies(events: &[Rc<Event>], list: &mut Vec<Event>) -> Result<(), NoMemory>
+    ensures { OnOk result (list.new.items ≡ list.old.items ++ values_of events.now) }
 {
     for event in events {
         list.push(event.copy()?)?;

@@ -32,7 +32,7 @@ impl Settling {
         ensures changed { IfOk result (λ s. s.changed ≡ changed.now) }
         ensures replacing { IfOk result (λ s. s.replacing.items ≡ []) }
     {
-        let changed = changed.share()?;
+        let changed = changed.share(alloc)?;
         Ok(Settling {
             changed,
             replacing: Vec::new(alloc),

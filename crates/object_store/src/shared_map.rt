@@ -1,46 +1,54 @@
 //! Maps that never change and share what they have in common.
-ghost use Rattle.std.specs.Prelude.{◌≡◌, ◌↔◌, [], IfOk, IsTrue, is_some, map, option_copied};
-ghost use Rattle.std.specs.FinMap.{find, put};
+ghost use Rattle.std.specs.Prelude.{◌≡◌, ◌↔◌, ◌<◌, [], IfOk, IsTrue, length, map, option_copied};
+ghost use Rattle.std.specs.FinMap.{IsAntisymmetric, find, put};
+ghost use Rattle.object_store.specs.Levels.{laid, put_all, values_of};
 
 use crate::filter::{Marks, Slotted};
-use crate::tree::{Tree, add_values, with_entry};
+use crate::level::Level;
 use road_base::NoMemory;
 use std::alloc::Global;
 use std::marker::Model;
 use std::rc::Rc;
 
-/// A map from keys to values. It never changes: what puts an entry makes another map in its place, in the time and the
-/// memory of the logarithm of its length, and shares all else with those that share it. A filter of 32 KiB, by which it
-/// tells most keys that it doesn't have, is copied at the first entry that is put into a map that was shared.
+/// Entries are put into the first level until there are so many.
+const SMALL: usize = 64;
+/// Such a level is merged with the one behind it, if that is at most so many times as large.
+const RATIO: usize = 8;
+
+/// A map from keys to values. It never changes: what puts an entry makes another map in its place, which shares with it
+/// all levels that weren't altered. The first level is small; behind each other one stands one that is more than eight
+/// times as large, as of when the former was made, so that there are few, and an entry is seldom copied. A filter of 32
+/// KiB, by which the map tells most keys that it doesn't have, is copied at the first entry that is put into a map that
+/// was shared.
 #[derive(Drop)]
 pub struct SharedMap<K: Ord + Copy + Slotted, V: Drop> {
-    root: Tree<K, V>,
+    /// The entries of a level stand in the place of those behind it.
+    levels: Vec<Rc<Level<K, V>>>,
     /// At the numbers of the keys.
     marks: Marks,
 }
 
 impl<K: Ord + Copy + Slotted, V: Drop> Model for SharedMap<K, V> {
     ghost use Rattle.std.specs.Prelude.{List};
-    ghost use Rattle.object_store.specs.Trees.{in_order, Rise};
+    ghost use Rattle.object_store.specs.Levels.{laid};
     ghost use Rattle.object_store.specs.Filters.{AreMarked};
 
     ghost Value = { List (K × V) };
 
-    ghost view = { λ m. in_order m.root };
+    ghost view = { λ m. laid K.cmp m.levels.items };
 
-    ghost invariant = { λ m. Rise K.cmp (in_order m.root)
-        × AreMarked K.cmp K.number (in_order m.root) m.marks };
+    ghost invariant = { λ m. AreMarked K.cmp K.number (laid K.cmp m.levels.items) m.marks };
 }
 
 impl<K: Ord + Copy + Slotted, V: Drop> SharedMap<K, V> {
-    ghost use Rattle.object_store.specs.Trees.{Rise};
+    ghost use Rattle.object_store.specs.Levels.{Rise};
 
     /// No entries. Takes no memory.
-    pub fn new() -> SharedMap<K, V>
+    pub fn new(alloc: Global) -> SharedMap<K, V>
         ensures { result ≡ [] }
     {
         SharedMap {
-            root: Tree::Empty,
+            levels: Vec::new(alloc),
             marks: Marks::new(),
         }
     }
@@ -49,54 +57,161 @@ impl<K: Ord + Copy + Slotted, V: Drop> SharedMap<K, V> {
     pub fn is_empty(&self) -> bool
         ensures { IsTrue result ↔ (self.now ≡ []) }
     {
-        self.root.is_empty()
+        are_empty(self.levels.as_slice())
     }
 
     /// The value of the key, and None exactly where the key has none. Where it has none this takes one or two tests,
-    /// unless both slots of its number are marked for other keys; else the logarithm of the map's length. Takes no
+    /// unless both slots of its number are marked for other keys; else the time of a search in each level. Takes no
     /// memory.
     pub fn get(&self, key: K) -> Option<&V>
         ensures { option_copied result ≡ find K.cmp key self.now }
     {
-        if self.may_have(key) {
-            self.root.get(key)
+        if self.marks.has(key.number()) {
+            found(self.levels.as_slice(), key)
         } else {
             None
         }
     }
 
-    /// Whether the key's number is marked, as it is where the key has a value.
-    fn may_have(&self, key: K) -> bool
-        ensures { IsTrue (is_some (find K.cmp key self.now)) → IsTrue result }
-    {
-        self.marks.has(key.number())
-    }
-
-    /// The map with the value at the key.
+    /// The map with the value at the key. Takes the time of copying a small level, if that is shared; and in the long
+    /// run that of eight steps for each level.
     pub fn with(self, alloc: Global, key: K, value: V) -> Result<SharedMap<K, V>, NoMemory>
+        requires { IsAntisymmetric K.cmp }
         ensures { IfOk result (λ m. m ≡ put K.cmp key value self) }
     {
-        let marks = self.marks.with(alloc, key.number())?;
-        let root = with_entry(alloc, &self.root, key, Rc::new(alloc, value)?)?;
-        Ok(SharedMap { root, marks })
+        let SharedMap { levels, marks } = self;
+        let marks = marks.with(alloc, key.number())?;
+        let value = Rc::new(alloc, value)?;
+        let (first, behind) = parted(alloc, levels)?;
+        let first = first.with(key, value)?;
+        let levels = stacked(alloc, first, behind)?;
+        Ok(SharedMap { levels, marks })
     }
 
     /// The same map, shared.
-    pub fn share(&self) -> Result<SharedMap<K, V>, NoMemory>
+    pub fn share(&self, alloc: Global) -> Result<SharedMap<K, V>, NoMemory>
         ensures { IfOk result (λ m. m ≡ self.now) }
     {
-        let root = self.root.share()?;
+        let levels = shared(alloc, self.levels.as_slice())?;
         let marks = self.marks.share()?;
-        Ok(SharedMap { root, marks })
+        Ok(SharedMap { levels, marks })
     }
 
-    /// The values, ascending by key.
-    pub fn values(&self, alloc: Global) -> Result<Vec<&V>, NoMemory>
-        ensures values { IfOk result (λ v. map (λ r. r.now) v.items ≡ map (λ p. p.1) self.now) }
+    /// The values, ascending by key. Takes the time of a run over all levels.
+    pub fn values(&self, alloc: Global) -> Result<Vec<Rc<V>>, NoMemory>
+        ensures values { IfOk result (λ v. values_of v.items ≡ map (λ p. p.1) self.now) }
         ensures ascending { Rise K.cmp self.now }
     {
-        let mut list = Vec::new(alloc);
-        add_values(&self.root, &mut list)?;
-        Ok(list)
+        let level = all_merged(alloc, self.levels.as_slice())?;
+        level.values(alloc)
     }
+}
+
+/// The same levels, shared.
+fn shared<K: Ord + Copy, V: Drop>(
+    alloc: Global,
+    levels: &[Rc<Level<K, V>>],
+) -> Result<Vec<Rc<Level<K, V>>>, NoMemory>
+    ensures { IfOk result (λ l. values_of l.items ≡ values_of levels.now) }
+{
+    let mut list = Vec::with_capacity(alloc, levels.len())?;
+    for level in levels {
+        list.push(level.clone()?)?;
+    }
+    Ok(list)
+}
+
+/// Whether no level has entries.
+fn are_empty<K: Ord + Copy, V: Drop>(levels: &[Rc<Level<K, V>>]) -> bool
+    ensures { IsTrue result ↔ (laid K.cmp levels.now ≡ []) }
+{
+    match levels.split_first() {
+        None => true,
+        Some((first, behind)) => first.len() == 0 && are_empty(behind),
+    }
+}
+
+/// The value of the key in the first level that has one.
+fn found<K: Ord + Copy, V: Drop>(levels: &[Rc<Level<K, V>>], key: K) -> Option<&V>
+    ensures { option_copied result ≡ find K.cmp key (laid K.cmp levels.now) }
+{
+    match levels.split_first() {
+        None => None,
+        Some((first, behind)) => match first.get(key) {
+            Some(value) => Some(value),
+            None => found(behind, key),
+        },
+    }
+}
+
+/// All levels as one.
+fn all_merged<K: Ord + Copy, V: Drop>(
+    alloc: Global,
+    levels: &[Rc<Level<K, V>>],
+) -> Result<Level<K, V>, NoMemory>
+    ensures { IfOk result (λ l. l ≡ laid K.cmp levels.now) }
+{
+    match levels.split_first() {
+        None => Ok(Level::new(alloc)),
+        Some((first, behind)) => {
+            let below = all_merged(alloc, behind)?;
+            first.merged(alloc, &below)
+        }
+    }
+}
+
+/// The first level, if it is small, as one that nobody shares; else one of no entries. And the levels behind it.
+fn parted<K: Ord + Copy, V: Drop>(
+    alloc: Global,
+    levels: Vec<Rc<Level<K, V>>>,
+) -> Result<(Level<K, V>, Vec<Rc<Level<K, V>>>), NoMemory>
+    ensures { IfOk result (λ r. put_all K.cmp r.0 (laid K.cmp r.1.items) ≡ laid K.cmp levels.items) }
+{
+    let mut levels = levels;
+    if levels.is_empty() || levels[0].len() >= SMALL {
+        return Ok((Level::new(alloc), levels));
+    }
+    let first = unshared(alloc, levels.remove(0))?;
+    Ok((first, levels))
+}
+
+/// The level itself where nobody shares it, else a copy.
+fn unshared<K: Ord + Copy, V: Drop>(
+    alloc: Global,
+    level: Rc<Level<K, V>>,
+) -> Result<Level<K, V>, NoMemory>
+    ensures { IfOk result (λ l. l ≡ level.value) }
+{
+    match Rc::try_unwrap(level) {
+        Ok(own) => Ok(own),
+        Err(shared) => shared.copy(alloc),
+    }
+}
+
+/// The first level before the others. It is merged with these as long as it isn't small, and they aren't much larger.
+fn stacked<K: Ord + Copy, V: Drop>(
+    alloc: Global,
+    first: Level<K, V>,
+    behind: Vec<Rc<Level<K, V>>>,
+) -> Result<Vec<Rc<Level<K, V>>>, NoMemory>
+    requires { IsAntisymmetric K.cmp }
+    ensures { IfOk result (λ l. laid K.cmp l.items ≡ put_all K.cmp first (laid K.cmp behind.items)) }
+{
+    let mut behind = behind;
+    if takes_in(&first, behind.as_slice()) {
+        let below = behind.remove(0);
+        let merged = first.merged(alloc, &below)?;
+        return stacked(alloc, merged, behind);
+    }
+    behind.insert(0, Rc::new(alloc, first)?)?;
+    Ok(behind)
+}
+
+/// Whether there is a level behind the first one, with which that is to be merged.
+fn takes_in<K: Ord + Copy, V: Drop>(first: &Level<K, V>, behind: &[Rc<Level<K, V>>]) -> bool
+    ensures { IsTrue result → 0 < length behind.now }
+{
+    !behind.is_empty()
+        && first.len() >= SMALL
+        && behind[0].len() <= first.len().saturating_mul(RATIO)
 }

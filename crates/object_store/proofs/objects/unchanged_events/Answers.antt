@@ -3,7 +3,7 @@ use Rattle.std.specs.Option.{option_to_list}
 use Rattle.std.specs.FinMap.{get, find, get-empty}
 use Rattle.road_base.specs.Objects.{Objects, key_cmp}
 use Rattle.object_store.specs.Overlay.{base_objects}
-use Rattle.object_store.proofs.Trees.{if_ok}
+use Rattle.std.proofs.lemmas.Result.{IfOk-weaker}
 use Rattle.object_store.proofs.MergedEvents.{none_stay, some_stay}
 use Rattle.object_store.proofs.objects.unchanged_events.Goals as goal
 
@@ -16,7 +16,8 @@ returns-in-None c = λ k.
 pub returns-in-Some : goal.returns-in-Some
 returns-in-Some c =
     let base : Objects = c.deref.result.now in
-    if_ok _ _ c.unchanged_among.result (λ v is k. some_stay c.key_order.ensures.total c.key_order.ensures.ties base
+    IfOk-weaker c.unchanged_among.result _ _ (λ v is k.
+    some_stay c.key_order.ensures.total c.key_order.ensures.ties base
     c.items.result.now v.items c.args.changed.now c.items.ensures.entries c.items.ensures.in_order is k
     ∙ ap (λ (M : Objects). cond (is_some (find key_cmp k c.args.changed.now)) [] (option_to_list (get M k)))
     (c.deref.ensures ∙ ap base_objects (sym c.in-Some.is))) c.unchanged_among.ensures

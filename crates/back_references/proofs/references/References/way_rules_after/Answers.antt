@@ -4,7 +4,7 @@ use Rattle.road_base.specs.Objects.{key_cmp}
 use Rattle.road_model.specs.Links.{HasMember}
 use Rattle.road_model.specs.Orders.{way_cmp}
 use Rattle.back_references.specs.Indexes.{Has}
-use Rattle.object_store.proofs.Trees.{if_ok}
+use Rattle.std.proofs.lemmas.Result.{IfOk-weaker}
 use Rattle.back_references.proofs.IndexLists.{chained, link_after, in_or_out}
 use Rattle.back_references.proofs.NamedObjects.{rule_links_at, member_same}
 use Rattle.back_references.proofs.references.References.way_rules_after.Goals as goal
@@ -14,7 +14,7 @@ returns c =
     let M = c.args.before.now in
     let N = c.args.after.now in
     let keys = c.args.keys.now in
-    if_ok _ _ c.exchanged.result (λ i is w r. chained _ _ _ (is w r)
+    IfOk-weaker c.exchanged.result _ _ (λ i is w r. chained _ _ _ (is w r)
     (link_after (Has way_cmp c.args.self.now.way_rules w r) (HasMember M r (WayKey w)) (HasMember N r (WayKey w))
     (Contains c.in_ok-gone.gone.items (w, r)) (Contains c.in_ok-come.come.items (w, r)) (Contains keys (RelationKey r))
     (c.requires.held.way_rules w r)

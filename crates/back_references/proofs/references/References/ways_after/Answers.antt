@@ -4,7 +4,7 @@ use Rattle.road_base.specs.Objects.{key_cmp}
 use Rattle.road_model.specs.Links.{RefersTo}
 use Rattle.road_model.specs.Orders.{node_cmp}
 use Rattle.back_references.specs.Indexes.{Has}
-use Rattle.object_store.proofs.Trees.{if_ok}
+use Rattle.std.proofs.lemmas.Result.{IfOk-weaker}
 use Rattle.back_references.proofs.IndexLists.{chained, link_after, in_or_out}
 use Rattle.back_references.proofs.NamedObjects.{way_links_at, refers_same}
 use Rattle.back_references.proofs.references.References.ways_after.Goals as goal
@@ -14,7 +14,7 @@ returns c =
     let M = c.args.before.now in
     let N = c.args.after.now in
     let keys = c.args.keys.now in
-    if_ok _ _ c.exchanged.result (λ i is n w. chained _ _ _ (is n w)
+    IfOk-weaker c.exchanged.result _ _ (λ i is n w. chained _ _ _ (is n w)
     (link_after (Has node_cmp c.args.self.now.ways n w) (RefersTo M w n) (RefersTo N w n)
     (Contains c.in_ok-gone.gone.items (n, w)) (Contains c.in_ok-come.come.items (n, w)) (Contains keys (WayKey w))
     (c.requires.held.ways n w)

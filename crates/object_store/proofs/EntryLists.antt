@@ -1,0 +1,145 @@
+-- Entries side by side, ascending by key: what a search tells of them, what is found, and where one is put.
+use Rattle.std.proofs.Common.{◌≡◌, ℕ, zero, suc, ◌<◌, ◌+◌, List, [], ◌∷◌, ◌++◌, length, map, take, drop}
+use Rattle.std.proofs.Common.{set, get_or, Some, None, inl, inr, refl, sym, ap, ◌∙◌, subst, arith, Ordering}
+use Rattle.std.specs.declared.cmp.Ordering.TheVariants.{Less, Equal, Greater}
+use Rattle.std.specs.declared.rc.Rc.{Rc}
+use Rattle.std.specs.Ordering.{is_lt, is_eq, ordering_index}
+use Rattle.std.specs.Cmp.{IsTotalOrder}
+use Rattle.std.specs.FinMap.{find, put}
+use Rattle.std.specs.List.{AllWithin, insert}
+use Rattle.std.specs.List.Sorted.{IsSortedBy, IsNonDecreasingBy, IsPartitionPoint}
+use Rattle.std.proofs.Math.Seq.{split_at}
+use Rattle.std.proofs.lemmas.Bool.{and_parts}
+use Rattle.std.proofs.lemmas.List.{set_split, take-append-drop}
+use Rattle.std.proofs.lemmas.List.Sorted.{searchable_from_sorted}
+use Rattle.road_base.proofs.ListMembers.{In}
+use Rattle.road_base.proofs.Comparisons.{less, turned}
+use Rattle.object_store.specs.declared.level.Entry.{Entry}
+use Rattle.object_store.specs.Levels.{pair, Rise, values_of}
+use Rattle.object_store.proofs.SplitPairs.{find_here, find_behind, find_none, put_here, put_behind}
+
+module _ {A B : Type 0} (f : A → B) where
+  map_joined : (xs ys : List A) → map f (xs ++ ys) ≡ map f xs ++ map f ys
+  map_joined [] ys = refl
+  map_joined (x ∷ xs) ys = ap (λ l. f x ∷ l) (map_joined xs ys)
+
+joined_again : {A : Type 0} (a b c : List A) → (a ++ b) ++ c ≡ a ++ (b ++ c)
+joined_again [] b c = refl
+joined_again (x ∷ a) b c = ap (λ l. x ∷ l) (joined_again a b c)
+
+module _ {K V : Type 0} where
+  -- one more entry is added
+  pub pairs_more : (start front all old new : List (Entry K V)) (x y : Entry K V) → all ≡ front ++ x ∷ []
+      → map pair old ≡ map pair start ++ map pair front → pair y ≡ pair x → new ≡ old ++ y ∷ []
+      → map pair new ≡ map pair start ++ map pair all
+  pairs_more start front all old new x y split before here after =
+      ap (map pair) after ∙ map_joined pair old (y ∷ [])
+      ∙ ap (λ l. l ++ pair y ∷ []) before ∙ ap (λ z. (map pair start ++ map pair front) ++ z ∷ []) here
+      ∙ joined_again (map pair start) (map pair front) (pair x ∷ [])
+      ∙ ap (λ l. map pair start ++ l) (sym (ap (map pair) split ∙ map_joined pair front (x ∷ [])))
+
+  -- one more value is added
+  pub values_more : {Z : Type 0} (front all : List (Entry K V)) (old new : List (Rc V Z)) (x : Entry K V) (y : Rc V Z)
+      → all ≡ front ++ x ∷ [] → values_of old ≡ map (λ p. p.1) (map pair front) → y.value ≡ x.value.value
+      → new ≡ old ++ y ∷ [] → values_of new ≡ map (λ p. p.1) (map pair all)
+  values_more front all old new x y split before here after =
+      ap values_of after ∙ map_joined (λ v. v.value) old (y ∷ [])
+      ∙ ap (λ l. l ++ y.value ∷ []) before ∙ ap (λ z. map (λ p. p.1) (map pair front) ++ z ∷ []) here
+      ∙ sym (ap (λ l. map (λ p. p.1) (map pair l)) split ∙ ap (map (λ p. p.1)) (map_joined pair front (x ∷ []))
+      ∙ map_joined (λ p. p.1) (map pair front) (pair x ∷ []))
+
+  -- the pairs, split at an entry
+  pairs_at : (es : List (Entry K V)) (i : ℕ) (d : Entry K V) → i < length es
+      → map pair es ≡ map pair (take i es) ++ pair (get_or es i d) ∷ map pair (drop (suc i) es)
+  pairs_at es i d within =
+      ap (map pair) (split_at es i d within) ∙ map_joined pair (take i es) (get_or es i d ∷ drop (suc i) es)
+
+  -- the pairs, split at a place
+  pairs_parted : (es : List (Entry K V)) (i : ℕ) → map pair es ≡ map pair (take i es) ++ map pair (drop i es)
+  pairs_parted es i =
+      ap (map pair) (sym (take-append-drop i es)) ∙ map_joined pair (take i es) (drop i es)
+
+  module _ (R : K → K → Ordering) (total : IsTotalOrder R) where
+    -- ---- where a search meets the key
+
+    pub found_entry : (es : List (Entry K V)) → Rise R (map pair es) → (k : K) (i : ℕ) (d : Entry K V) → i < length es
+        → R (get_or es i d).key k ≡ Equal → find R k (map pair es) ≡ Some (get_or es i d).value.value
+    found_entry es up k i d within e =
+        let split = pairs_at es i d within in
+        ap (find R k) split
+        ∙ find_here R total k (map pair (take i es)) (pair (get_or es i d)) (map pair (drop (suc i) es))
+        (subst (Rise R) split up) (turned R total (get_or es i d).key k Equal e)
+
+    pub put_found : (es : List (Entry K V)) → Rise R (map pair es) → (k : K) (v : V) (i : ℕ) (d x : Entry K V)
+        → i < length es → R (get_or es i d).key k ≡ Equal → pair x ≡ ((get_or es i d).key, v)
+        → map pair (set es i x) ≡ put R k v (map pair es)
+    put_found es up k v i d x within e is =
+        let split = pairs_at es i d within in
+        ap (map pair) (set_split es i x within) ∙ map_joined pair (take i es) (x ∷ drop (suc i) es)
+        ∙ ap (λ p. map pair (take i es) ++ p ∷ map pair (drop (suc i) es)) is
+        ∙ sym (ap (put R k v) split
+        ∙ put_here R total k v (map pair (take i es)) (pair (get_or es i d)) (map pair (drop (suc i) es))
+        (subst (Rise R) split up) (turned R total (get_or es i d).key k Equal e))
+
+    -- ---- where it meets none
+
+    neighbours : (es : List (Entry K V)) → Rise R (map pair es) → (j : ℕ) (d : Entry K V) → suc j < length es
+        → R (get_or es j d).key (get_or es (suc j) d).key ≡ Less
+    neighbours [] up j d l = absurd (omega arith)
+    neighbours (x ∷ []) up j d l = absurd (omega arith)
+    neighbours (x ∷ y ∷ es) up zero d l = less _ (and_parts _ _ (and_parts _ _ up).0).0
+    neighbours (x ∷ y ∷ es) up (suc j) d l = neighbours (y ∷ es) (and_parts _ _ up).1 j d (omega arith)
+
+    sorted : (es : List (Entry K V)) → Rise R (map pair es) → IsSortedBy (λ a b. is_lt (R a.key b.key)) es
+    sorted es up j d z l = let e : j + 1 ≡ suc j = omega arith in rw e
+        (ap is_lt (turned R total (get_or es j d).key (get_or es (suc j) d).key Less
+        (neighbours es up j d (omega arith))))
+
+    pub searchable : (es : List (Entry K V)) → Rise R (map pair es) → (k : K)
+        → IsNonDecreasingBy (λ e. ordering_index (R e.key k)) es
+    searchable es up k = searchable_from_sorted total (λ (e : Entry K V). e.key) es k (sorted es up)
+
+    low_member : (k : K) (es : List (Entry K V)) (i : ℕ) → AllWithin (λ e. R e.key k ≡ Less) es 0 i → (y : K × V)
+        → In y (map pair (take i es)) → R k y.0 ≡ Greater
+    low_member k es zero low y m = absurd m
+    low_member k [] (suc i) low y m = absurd m
+    low_member k (x ∷ es) (suc i) low y (inl e) =
+        turned R total y.0 k Less (subst (λ (w : K × V). R w.0 k ≡ Less) (sym e) (low 0 x (omega arith) (omega arith)))
+    low_member k (x ∷ es) (suc i) low y (inr m) =
+        low_member k es i (λ j d a b. low (suc j) d (omega arith) (omega arith)) y m
+
+    high_member : (k : K) (es : List (Entry K V)) (i : ℕ) → AllWithin (λ e. R e.key k ≡ Greater) es i (length es)
+        → (y : K × V) → In y (map pair (drop i es)) → R k y.0 ≡ Less
+    high_member k [] zero high y m = absurd m
+    high_member k [] (suc i) high y m = absurd m
+    high_member k (x ∷ es) zero high y (inl e) =
+        turned R total y.0 k Greater
+        (subst (λ (w : K × V). R w.0 k ≡ Greater) (sym e) (high 0 x (omega arith) (omega arith)))
+    high_member k (x ∷ es) zero high y (inr m) =
+        high_member k es zero (λ j d a b. high (suc j) d (omega arith) (omega arith)) y m
+    high_member k (x ∷ es) (suc i) high y m =
+        high_member k es i (λ j d a b. high (suc j) d (omega arith) (omega arith)) y m
+
+    pub none_there : (es : List (Entry K V)) (k : K) (i : ℕ)
+        → IsPartitionPoint (λ e. R e.key k ≡ Less) (λ e. R e.key k ≡ Greater) es i → find R k (map pair es) ≡ None
+    none_there es k i point =
+        ap (find R k) (pairs_parted es i)
+        ∙ find_behind R k (map pair (take i es)) (map pair (drop i es))
+        (λ y m. ap is_eq (low_member k es i point.0 y m))
+        ∙ find_none R k (map pair (drop i es)) (λ y m. ap is_eq (high_member k es i point.1 y m))
+
+    put_front : (k : K) (v : V) (l : List (K × V)) → ((y : K × V) → In y l → R k y.0 ≡ Less)
+        → put R k v l ≡ (k, v) ∷ l
+    put_front k v [] h = refl
+    put_front k v (x ∷ l) h = rw (h x (inl refl)) refl
+
+    pub put_new : (es : List (Entry K V)) (k : K) (v : V) (i : ℕ) (x : Entry K V)
+        → IsPartitionPoint (λ e. R e.key k ≡ Less) (λ e. R e.key k ≡ Greater) es i → pair x ≡ (k, v)
+        → map pair (insert es i x) ≡ put R k v (map pair es)
+    put_new es k v i x point is =
+        map_joined pair (take i es) (x ∷ drop i es)
+        ∙ ap (λ p. map pair (take i es) ++ p ∷ map pair (drop i es)) is
+        ∙ sym (ap (put R k v) (pairs_parted es i)
+        ∙ put_behind R k v (map pair (take i es)) (map pair (drop i es)) (low_member k es i point.0)
+        ∙ ap (λ l. map pair (take i es) ++ l)
+        (put_front k v (map pair (drop i es)) (high_member k es i point.1)))
