@@ -60,7 +60,7 @@ stands "a closed pipe" "$room/pipe" "$room/replies"
 
 "$program" "$room/memory" create 1 <"$here/../examples/village/extract.opl" >/dev/null
 status=0
-frames 2 400 500 >"$room/input"
+frames 2 800 500 >"$room/input"
 (ulimit -v 40000; exec "$program" "$room/memory" session <"$room/input" >"$room/replies") || status=$?
 [ "$status" -eq 10 ] || fail "a session whose memory ends has status $status"
 stands "memory that ends" "$room/memory" "$room/replies"

@@ -11,6 +11,7 @@ import re
 import shutil
 import subprocess
 import sys
+import tempfile
 from collections import Counter
 
 program, shim, folder, *extracts = sys.argv[1:]
@@ -22,8 +23,12 @@ BASE = 7
 def run(words, given=b'', **refusals):
     """The status and the output; a signal is a status below 0."""
     environment = dict(os.environ, LD_PRELOAD=shim, REFUSE_COUNT=counted, **refusals) if refusals else None
-    done = subprocess.run([program, *words], input=given, stdout=subprocess.PIPE, stderr=subprocess.PIPE,
-                          env=environment, check=False)
+    # a pipe would give the input in other parts each time, and the run would ask for memory another number of times
+    with tempfile.TemporaryFile() as source:
+        source.write(given)
+        source.seek(0)
+        done = subprocess.run([program, *words], stdin=source, stdout=subprocess.PIPE, stderr=subprocess.PIPE,
+                              env=environment, check=False)
     return done.returncode, done.stdout
 
 
