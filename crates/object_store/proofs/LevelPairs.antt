@@ -1,14 +1,15 @@
 -- Pairs that are put into others, and the entries of levels.
 use Rattle.std.proofs.Common.{◌≡◌, Bool, true, false, cond, List, [], ◌∷◌, ◌++◌, Option, Some, None}
-use Rattle.std.proofs.Common.{refl, sym, ap, ◌∙◌, subst, arith, Ordering, T, ◌<◌, ◌+◌, length}
+use Rattle.std.proofs.Common.{refl, sym, ap, ◌∙◌, arith, Ordering, ◌<◌, ◌+◌, length}
 use Rattle.std.proofs.Common.{take, drop, slice_index_or}
 use Rattle.std.specs.declared.cmp.Ordering.TheVariants.{Less, Equal, Greater}
 use Rattle.std.specs.declared.rc.Rc.{Rc}
 use Rattle.std.specs.Ordering.{eq_by_cmp}
 use Rattle.std.specs.Option.{option_or}
 use Rattle.std.specs.Cmp.{IsTotalOrder}
-use Rattle.std.specs.FinMap.{IsAntisymmetric, find, put}
-use Rattle.std.specs.FinMap.Entries.{by_order, find-put, same_entries}
+use Rattle.std.specs.FinMap.{find, put}
+use Rattle.std.specs.FinMap.Entries.{by_order, find-put}
+use Rattle.road_base.proofs.Comparisons.{turned}
 use Rattle.object_store.specs.Levels.{Rise, put_all, laid, values_of}
 use Rattle.object_store.proofs.SplitPairs.{put_rises}
 
@@ -50,34 +51,86 @@ module _ {K V : Type 0} (R : K → K → Ordering) (total : IsTotalOrder R) wher
   laid_rises [] = refl
   laid_rises (level ∷ levels) = put_all_rises level.value (laid R levels) (laid_rises levels)
 
-  or_twice : (o p q : Option V) → option_or (option_or o p) q ≡ option_or o (option_or p q)
-  or_twice None p q = refl
-  or_twice (Some v) p q = refl
+  put_less : (k : K) (v : V) (x : K × V) (l : List (K × V)) → R k x.0 ≡ Less → put R k v (x ∷ l) ≡ (k, v) ∷ x ∷ l
+  put_less k v x l e = ap (λ r. by_order r ((k, v) ∷ x ∷ l) ((x.0, v) ∷ l) (x ∷ put R k v l)) e
 
-  -- two levels may stand in one
-  pub put_merged : IsAntisymmetric R → (first below pairs : List (K × V)) → Rise R pairs
-      → put_all R (put_all R first below) pairs ≡ put_all R first (put_all R below pairs)
-  put_merged same first below pairs up =
-      same_entries R total same (put_all R (put_all R first below) pairs) (put_all R first (put_all R below pairs))
-      (subst T (sym (put_all_rises (put_all R first below) pairs up)) tt)
-      (subst T (sym (put_all_rises first (put_all R below pairs) (put_all_rises below pairs up))) tt)
-      (λ k. find_put_all k (put_all R first below) pairs
-      ∙ ap (λ o. option_or o (find R k pairs)) (find_put_all k first below)
-      ∙ or_twice (find R k first) (find R k below) (find R k pairs)
-      ∙ sym (find_put_all k first (put_all R below pairs)
-      ∙ ap (option_or (find R k first)) (find_put_all k below pairs)))
+  put_equal : (k : K) (v : V) (x : K × V) (l : List (K × V)) → R k x.0 ≡ Equal → put R k v (x ∷ l) ≡ (x.0, v) ∷ l
+  put_equal k v x l e = ap (λ r. by_order r ((k, v) ∷ x ∷ l) ((x.0, v) ∷ l) (x ∷ put R k v l)) e
+
+  put_greater : (k : K) (v : V) (x : K × V) (l : List (K × V)) → R k x.0 ≡ Greater
+      → put R k v (x ∷ l) ≡ x ∷ put R k v l
+  put_greater k v x l e = ap (λ r. by_order r ((k, v) ∷ x ∷ l) ((x.0, v) ∷ l) (x ∷ put R k v l)) e
+
+  -- what is put where a tied key was put stands in its place
+  put_tied : (k q : K) (v w : V) (l : List (K × V)) → R k q ≡ Equal → put R k v (put R q w l) ≡ put R q v l
+  put_tied k q v w [] e = put_equal k v (q, w) [] e
+  put_tied k q v w (x ∷ l) e =
+      elim (R q x.0) as (λ r. R q x.0 ≡ r → put R k v (put R q w (x ∷ l)) ≡ put R q v (x ∷ l)) [
+        | Less ↦ λ h. ap (put R k v) (put_less q w x l h) ∙ put_equal k v (q, w) (x ∷ l) e ∙ sym (put_less q v x l h)
+        | Equal ↦ λ h. ap (put R k v) (put_equal q w x l h) ∙ put_equal k v (x.0, w) l (total.congr k q x.0 e ∙ h)
+            ∙ sym (put_equal q v x l h)
+        | Greater ↦ λ h. ap (put R k v) (put_greater q w x l h)
+            ∙ put_greater k v x (put R q w l) (total.congr k q x.0 e ∙ h)
+            ∙ ap (λ m. x ∷ m) (put_tied k q v w l e) ∙ sym (put_greater q v x l h)
+      ] refl
+
+  -- a key below another one and below the first of a list is put before both
+  put_below : (k q : K) (v w : V) (x : K × V) (l : List (K × V)) → R q k ≡ Less → R q x.0 ≡ Less
+      → put R q w (put R k v (x ∷ l)) ≡ (q, w) ∷ put R k v (x ∷ l)
+  put_below k q v w x l low e =
+      elim (R k x.0) as (λ r. R k x.0 ≡ r → put R q w (put R k v (x ∷ l)) ≡ (q, w) ∷ put R k v (x ∷ l)) [
+        | Less ↦ λ h. ap (put R q w) (put_less k v x l h) ∙ put_less q w (k, v) (x ∷ l) low
+            ∙ ap (λ m. (q, w) ∷ m) (sym (put_less k v x l h))
+        | Equal ↦ λ h. ap (put R q w) (put_equal k v x l h) ∙ put_less q w (x.0, v) l e
+            ∙ ap (λ m. (q, w) ∷ m) (sym (put_equal k v x l h))
+        | Greater ↦ λ h. ap (put R q w) (put_greater k v x l h) ∙ put_less q w x (put R k v l) e
+            ∙ ap (λ m. (q, w) ∷ m) (sym (put_greater k v x l h))
+      ] refl
+
+  -- keys that don't tie may be put in either order
+  put_turned : (k q : K) (v w : V) (l : List (K × V)) → R q k ≡ Less
+      → put R q w (put R k v l) ≡ put R k v (put R q w l)
+  put_turned k q v w [] low =
+      put_less q w (k, v) [] low ∙ sym (put_greater k v (q, w) [] (turned R total q k Less low))
+  put_turned k q v w (x ∷ l) low =
+      elim (R q x.0) as (λ r. R q x.0 ≡ r
+      → put R q w (put R k v (x ∷ l)) ≡ put R k v (put R q w (x ∷ l))) [
+        | Less ↦ λ h. put_below k q v w x l low h
+            ∙ sym (ap (put R k v) (put_less q w x l h)
+            ∙ put_greater k v (q, w) (x ∷ l) (turned R total q k Less low))
+        | Equal ↦ λ h.
+            let above : R k x.0 ≡ Greater = turned R total x.0 k Less (sym (total.congr q x.0 k h) ∙ low) in
+            ap (put R q w) (put_greater k v x l above) ∙ put_equal q w x (put R k v l) h
+            ∙ sym (ap (put R k v) (put_equal q w x l h) ∙ put_greater k v (x.0, w) l above)
+        | Greater ↦ λ h.
+            let above : R k x.0 ≡ Greater
+            = turned R total x.0 k Less (total.trans x.0 q k (turned R total q x.0 Greater h) low) in
+            ap (put R q w) (put_greater k v x l above) ∙ put_greater q w x (put R k v l) h
+            ∙ ap (λ m. x ∷ m) (put_turned k q v w l low)
+            ∙ sym (ap (put R k v) (put_greater q w x l h) ∙ put_greater k v x (put R q w l) above)
+      ] refl
 
   -- what is put into the first level is put before all
-  pub put_first : IsAntisymmetric R → (k : K) (v : V) (first pairs : List (K × V)) → Rise R pairs
+  pub put_first : (k : K) (v : V) (first pairs : List (K × V))
       → put_all R (put R k v first) pairs ≡ put R k v (put_all R first pairs)
-  put_first same k v first pairs up =
-      same_entries R total same (put_all R (put R k v first) pairs) (put R k v (put_all R first pairs))
-      (subst T (sym (put_all_rises (put R k v first) pairs up)) tt)
-      (subst T (sym (put_rises R total k v (put_all R first pairs) (put_all_rises first pairs up))) tt)
-      (λ q. find_put_all q (put R k v first) pairs
-      ∙ ap (λ o. option_or o (find R q pairs)) (find-put R total q k v first)
-      ∙ sym (or_cond (eq_by_cmp R q k) v (find R q first) (find R q pairs) _ (find_put_all q first pairs))
-      ∙ sym (find-put R total q k v (put_all R first pairs)))
+  put_first k v [] pairs = refl
+  put_first k v (x ∷ first) pairs =
+      let all = put_all R first pairs in
+      elim (R k x.0) as (λ r. R k x.0 ≡ r
+      → put_all R (put R k v (x ∷ first)) pairs ≡ put R k v (put_all R (x ∷ first) pairs)) [
+        | Less ↦ λ h. ap (λ m. put_all R m pairs) (put_less k v x first h)
+        | Equal ↦ λ h. ap (λ m. put_all R m pairs) (put_equal k v x first h) ∙ sym (put_tied k x.0 v x.1 all h)
+        | Greater ↦ λ h. ap (λ m. put_all R m pairs) (put_greater k v x first h)
+            ∙ ap (put R x.0 x.1) (put_first k v first pairs)
+            ∙ put_turned k x.0 v x.1 all (turned R total k x.0 Greater h)
+      ] refl
+
+  -- two levels may stand in one
+  pub put_merged : (first below pairs : List (K × V))
+      → put_all R (put_all R first below) pairs ≡ put_all R first (put_all R below pairs)
+  put_merged [] below pairs = refl
+  put_merged (p ∷ first) below pairs =
+      put_first p.0 p.1 (put_all R first below) pairs ∙ ap (put R p.0 p.1) (put_merged first below pairs)
 
   -- where the first level has it
   pub laid_first : {Z : Type 0} (k : K) (level : Rc (List (K × V)) Z) (levels : List (Rc (List (K × V)) Z)) (v : V)

@@ -1,6 +1,6 @@
 //! Maps that never change and share what they have in common.
 ghost use Rattle.std.specs.Prelude.{◌≡◌, ◌↔◌, ◌<◌, [], IfOk, IsTrue, length, map, option_copied};
-ghost use Rattle.std.specs.FinMap.{IsAntisymmetric, find, put};
+ghost use Rattle.std.specs.FinMap.{find, put};
 ghost use Rattle.object_store.specs.Levels.{laid, put_all, values_of};
 
 use crate::filter::{Marks, Slotted};
@@ -76,7 +76,6 @@ impl<K: Ord + Copy + Slotted, V: Drop> SharedMap<K, V> {
     /// The map with the value at the key. Takes the time of copying a small level, if that is shared; and in the long
     /// run that of eight steps for each level.
     pub fn with(self, alloc: Global, key: K, value: V) -> Result<SharedMap<K, V>, NoMemory>
-        requires { IsAntisymmetric K.cmp }
         ensures { IfOk result (λ m. m ≡ put K.cmp key value self) }
     {
         let SharedMap { levels, marks } = self;
@@ -194,7 +193,6 @@ fn stacked<K: Ord + Copy, V: Drop>(
     first: Level<K, V>,
     behind: Vec<Rc<Level<K, V>>>,
 ) -> Result<Vec<Rc<Level<K, V>>>, NoMemory>
-    requires { IsAntisymmetric K.cmp }
     ensures { IfOk result (λ l. laid K.cmp l.items ≡ put_all K.cmp first (laid K.cmp behind.items)) }
 {
     let mut behind = behind;

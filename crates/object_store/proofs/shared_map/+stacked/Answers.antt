@@ -1,7 +1,7 @@
 use Rattle.std.proofs.Common.{◌≡◌, ◌<◌, ◌∷◌, length, sym, ap, ◌∙◌, subst}
 use Rattle.std.proofs.lemmas.Result.{IfOk-weaker}
 use Rattle.object_store.specs.Levels.{laid, put_all}
-use Rattle.object_store.proofs.LevelPairs.{laid_rises, put_merged, taken_first}
+use Rattle.object_store.proofs.LevelPairs.{put_merged, taken_first}
 use Rattle.object_store.proofs.shared_map.+stacked.Goals as goal
 
 pub returns-then-takes_in : goal.returns-then-takes_in
@@ -18,5 +18,5 @@ returns-then-takes_in g t c =
     let merged : c.in_ok-merged.merged ≡ put_all R first below.value = c.in_ok-merged.ensures
     ∙ ap (put_all R first) c.deref.ensures in
     IfOk-weaker c.stacked.result _ _ (λ l is. is ∙ ap (λ m. put_all R m (laid R rest)) merged
-    ∙ put_merged R total c.requires first below.value (laid R rest) (laid_rises R total rest)
+    ∙ put_merged R total first below.value (laid R rest)
     ∙ sym (ap (λ l. put_all R first (laid R l)) split)) c.stacked.ensures

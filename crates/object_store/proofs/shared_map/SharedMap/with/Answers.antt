@@ -3,7 +3,7 @@ use Rattle.std.proofs.lemmas.Int.{to_z-of_z}
 use Rattle.std.specs.FinMap.{put}
 use Rattle.object_store.specs.Levels.{laid, put_all}
 use Rattle.object_store.specs.Filters.{IsMarked, AreMarked}
-use Rattle.object_store.proofs.LevelPairs.{laid_rises, put_first}
+use Rattle.object_store.proofs.LevelPairs.{put_first}
 use Rattle.object_store.proofs.MarkedPairs.{put_marked}
 use Rattle.object_store.proofs.shared_map.SharedMap.with.Given.{Over}
 use Rattle.object_store.proofs.shared_map.SharedMap.with.Goals as goal
@@ -17,8 +17,7 @@ put_in g c =
     let behind = laid R c.in_ok-first.behind.items in
     let here = c.in_ok-first-2.ensures ∙ ap (λ v. put R k v first) c.in_ok-value.ensures.ok in
     c.in_ok-levels.ensures ∙ ap (λ l. put_all R l behind) here
-    ∙ put_first R g.met.K.Ord.total c.requires k c.args.value first behind
-    (laid_rises R g.met.K.Ord.total c.in_ok-first.behind.items)
+    ∙ put_first R g.met.K.Ord.total k c.args.value first behind
     ∙ ap (put R k c.args.value) c.in_ok-first.ensures
 
 pub invariant_of-result : goal.invariant_of-result
