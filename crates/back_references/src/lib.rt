@@ -17,7 +17,7 @@
 //! ways and of relations alone: with m entries and r references it takes time of the order of (m + r) log (m + r).
 //! `prepare` and `apply` take what the objects take, sort the references of the changed ways and relations as they were
 //! and as they are, and make the list of each key among them once, in the time of its length times the logarithm of
-//! what is gone from it. An index of which lists change copies the first level, where that has no more than 1,024 keys
+//! what is gone from it. An index of which lists change copies the first level, where that has no more than 256 keys
 //! and values, and 32 KiB for the marks of the keys; and it copies a level that has at most eight times what comes to
 //! it. So each of n keys and values that have come since the objects were made is copied, with eight others, at most
 //! once a level, which is of the order of log n times. `copy` takes a moment, since all is shared; `with` is `apply` on

@@ -12,7 +12,7 @@ use std::marker::Model;
 use std::rc::Rc;
 
 /// What is put is merged with a level that has at most so many keys and values,
-const SMALL: usize = 1024;
+const SMALL: usize = 256;
 /// or at most so many times as many as what is put.
 const RATIO: usize = 8;
 
