@@ -7,3 +7,4 @@ pub mod FreshBlocks
 pub mod PlacedBlocks
 pub mod AlteredBlocks
 mod KnownBlocks
+mod EqualBlocks

@@ -3,7 +3,7 @@ use Rattle.std.proofs.Common.{◌≡◌, inl, inr, Bool, true, false, cond, List
 use Rattle.std.proofs.Common.{Option, Some, None, Contains, refl, sym, ap, subst, ◌∙◌}
 use Rattle.std.specs.Prelude.{◌↔◌, is_some}
 use Rattle.std.specs.Cmp.{IsTotalOrder, Equal-is}
-use Rattle.std.specs.FinMap.{FinMap, IsAntisymmetric, entries, find, get, insert, put, get-insert}
+use Rattle.std.specs.FinMap.{FinMap, IsAntisymmetric, entries, find, get, insert, put, get-insert, same_map}
 use Rattle.std.specs.FinMap.Entries.{find-put}
 use Rattle.std.specs.Ordering.{eq_by_cmp}
 use Rattle.std.specs.Option.{option_copied}
@@ -88,6 +88,21 @@ module _ (total : IsTotalOrder way_cmp) (ties : IsAntisymmetric way_cmp) where
       ∙ ap (λ t. get (cond t (insert m b.way b) m) w) (has_same bs listed b.way ∙ has)
       ∙ get-insert total m b.way b w
 
+  -- a block that stands there already replaces nothing
+  pub replaced_same : (listed : FinMap way_cmp Block) (block : Block) → get listed block.way ≡ Some block
+      → listed ≡ replaced listed block
+  replaced_same listed block got = same_map total ties listed (replaced listed block) (λ w. sym (by w))
+    where
+      own : (w : WayId) (t : Bool) → eq_by_cmp way_cmp w block.way ≡ t
+          → cond t (Some block) (get listed w) ≡ get listed w
+      own w true e = sym (ap (get listed) (ties w block.way ((Equal-is (way_cmp w block.way)).0 e)) ∙ got)
+      own w false e = refl
+
+      by : (w : WayId) → get (replaced listed block) w ≡ get listed w
+      by w =
+          ap (λ t. get (cond t (insert listed block.way block) listed) w) (ap is_some got)
+          ∙ get-insert total listed block.way block w ∙ own w (eq_by_cmp way_cmp w block.way) refl
+
   -- ---- one block
 
   module _ (rebuilt : List (WayId × Block)) (bs : List Block) (block : Block) (listed : FinMap way_cmp Block) where
@@ -127,6 +142,13 @@ module _ (total : IsTotalOrder way_cmp) (ties : IsAntisymmetric way_cmp) where
       own =
           alone (replaced_by bs listed) none
           ∙ none_got (get (replaced_by bs listed) block.way) (has_same bs listed block.way ∙ has) ∙ sym bare;
+      others = λ w other. refl;
+    }
+
+    -- nowhere: it stands beside the list
+    pub placed_already : find way_cmp block.way rebuilt ≡ Some block → IsPlaced block was was
+    placed_already found = record {
+      own = at_built rebuilt (replaced_by bs listed) block.way block found;
       others = λ w other. refl;
     }
 

@@ -7,7 +7,8 @@
 //! that these meet it takes from the blocks that stand. It finds where each new block goes: where its way has one in
 //! the list, in the place of that; blocks of ways that have none there, and those without pieces, beside the list, in a
 //! map that shares most of what it has with the one before it (`object_store::SharedMap`). Only then, and without
-//! taking memory, it exchanges the worlds and the blocks; where no memory is found nothing changes. So a change costs
+//! taking memory, it exchanges the worlds and the blocks; where no memory is found nothing changes. A block that is
+//! equal to the one that stands is dropped, so that what stands stays where it lies in memory. So a change costs
 //! what it touches: the look-ups of the touched ways, the blocks that are built, and for each that goes beside the list
 //! in the long run the logarithm of their number; nothing of the size of the world. `Engine::graph` lists these: it
 //! takes no time where there are none, and else one pass over the list, which costs less than to read it once.
@@ -19,6 +20,7 @@ mod engine;
 mod known;
 mod listing;
 mod placing;
+mod sameness;
 mod touching;
 
 pub use engine::{Engine, Report, RoadGraph};

@@ -1,11 +1,15 @@
 //! Where the blocks go that a change altered: in the place of listed ones, or beside them.
-ghost use Rattle.std.specs.Prelude.{◌≡◌, IfOk};
+ghost use Rattle.std.specs.Prelude.{◌≡◌, ◌↔◌, Some, IfOk, IsTrue};
+ghost use Rattle.std.specs.FinMap.{find, get};
 ghost use Rattle.road_base.specs.declared.ids.WayId.{WayId as WayNumber};
+ghost use Rattle.road_model.specs.BlockMap.{replaced};
+ghost use Rattle.road_model.specs.Orders.{way_cmp};
 ghost use Rattle.change_apply.specs.Rebuilding.{AreAtTheirWays, block_at, over};
 ghost use Rattle.change_apply.specs.Placing.{IsPlaced, placed_at, replaced_by, with_fresh};
 
 use crate::building::Rebuilt;
 use crate::known::listed_at;
+use crate::sameness::same_block;
 use object_store::SharedMap;
 use road_base::{NoMemory, Ranges, WayId};
 use road_model::laws::name_order;
@@ -17,14 +21,15 @@ use std::alloc::Global;
 pub struct Placed {
     /// The blocks that stand beside the listed ones behind the change.
     pub rebuilt: SharedMap<WayId, Block>,
-    /// Those that come in the place of listed ones: most of them, since most ways that a change touches are listed.
+    /// Those that come in the place of listed ones, if they aren't equal: most of them, since most ways that a change
+    /// touches are listed.
     pub replacing: Vec<Block>,
 }
 
-/// Finds where the blocks go. Where nothing of a way stands beside the list, its block with pieces comes in the place
-/// of the listed one, if that is there, and one without pieces goes nowhere if none is; every other block is to stand
-/// beside the list. Takes two look-ups for each, and for each that stands beside the list the logarithm of their
-/// number.
+/// Finds where the blocks go. One that stands beside the list already goes nowhere. Where nothing of a way stands
+/// beside the list, its block with pieces comes in the place of the listed one, if that is there, and one without pieces
+/// goes nowhere if none is; every other block is to stand beside the list. Takes two look-ups for each, and for each
+/// that stands beside the list the logarithm of their number.
 pub fn place(
     alloc: Global,
     listed: &Blocks,
@@ -89,6 +94,9 @@ fn place_one(
 {
     name_order();
     let Placed { rebuilt, replacing } = placed;
+    if is_rebuilt(&rebuilt, &block) {
+        return Ok(Placed { rebuilt, replacing });
+    }
     let is_listed = listed_at(listed, ranges, block.way).is_some();
     let has_pieces = !block.pieces.items().is_empty();
     if is_listed != has_pieces || rebuilt.get(block.way).is_some() {
@@ -103,12 +111,43 @@ fn place_one(
     Ok(Placed { rebuilt, replacing })
 }
 
-/// Puts each of the blocks in the place of its way's listed one, if that is there. Takes no memory.
+/// Whether the block stands beside the listed ones.
+fn is_rebuilt(rebuilt: &SharedMap<WayId, Block>, block: &Block) -> bool
+    ensures { IsTrue result ↔ (find way_cmp block.now.way rebuilt.now ≡ Some block.now) }
+{
+    name_order();
+    match rebuilt.get(block.way) {
+        Some(other) => same_block(other, block),
+        None => false,
+    }
+}
+
+/// Puts each of the blocks in the place of its way's listed one, if that is there and another. Takes no memory.
 pub fn replace_listed(replacing: Vec<Block>, ranges: &Ranges, listed: &mut Blocks)
     ensures { listed.new.map ≡ replaced_by replacing.items listed.old.map }
 {
     for block in replacing {
-        let at = ranges.place(listed.items(), block.way.0);
+        replace_one(block, ranges, listed);
+    }
+}
+
+/// Puts the block in the place of its way's listed one, if that is there and another. Takes no memory.
+fn replace_one(block: Block, ranges: &Ranges, listed: &mut Blocks)
+    ensures { listed.new.map ≡ replaced listed.old.map block }
+{
+    name_order();
+    let at = ranges.place(listed.items(), block.way.0);
+    if !stands(listed, &block, at) {
         listed.replace_near(block, at);
+    }
+}
+
+/// Whether the block is the listed one of its way, which is looked for at this position first.
+fn stands(listed: &Blocks, block: &Block, at: usize) -> bool
+    ensures { IsTrue result ↔ (get listed.now.map block.now.way ≡ Some block.now) }
+{
+    match listed.get_near(block.way, at) {
+        Some(other) => same_block(other, block),
+        None => false,
     }
 }

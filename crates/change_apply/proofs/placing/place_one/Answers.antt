@@ -6,7 +6,7 @@ use Rattle.road_model.specs.declared.blocks.Block.{Block}
 use Rattle.change_apply.specs.Placing.{IsPlaced, placed_at}
 use Rattle.change_apply.proofs.BuiltBlocks.{empty_by_test, some_by_test}
 use Rattle.change_apply.proofs.RebuiltBlocks.{some_pieces}
-use Rattle.change_apply.proofs.PlacedBlocks.{placed_in, placed_nowhere, placed_beside, beside_at_ways}
+use Rattle.change_apply.proofs.PlacedBlocks.{placed_in, placed_nowhere, placed_already, placed_beside, beside_at_ways}
 use Rattle.change_apply.proofs.PlacedBlocks.{is_some_copied, none_copied, no_pieces}
 use Rattle.change_apply.proofs.placing.place_one.Goals as goal
 
@@ -16,6 +16,11 @@ same_by_test true true e = cc
 same_by_test true false e = refl
 same_by_test false true e = refl
 same_by_test false false e = cc
+
+pub returns-then-is_rebuilt-clause-placed : goal.returns-then-is_rebuilt-clause-placed
+returns-then-is_rebuilt-clause-placed c =
+    placed_already c.name_order.ensures.ways c.name_order.ensures.way_ties c.args.placed.rebuilt
+    c.args.placed.replacing.items c.args.block c.args.listed.now.map (c.is_rebuilt.ensures.0 c.if-is_rebuilt.true)
 
 pub returns-then-is_listed-has_pieces-clause-placed : goal.returns-then-is_listed-has_pieces-clause-placed
 returns-then-is_listed-has_pieces-clause-placed c =

@@ -9,7 +9,7 @@ loop-block-init c =
 
 pub loop-block-preserved : goal.loop-block-preserved
 loop-block-preserved c =
-    ap (λ m. replaced_by c.next.new.self.rest.items m) c.replace_near.ensures.map
+    ap (λ m. replaced_by c.next.new.self.rest.items m) c.replace_one.ensures
     ∙ sym (ap (λ bs. replaced_by bs c.loop-block.listed.map) c.in-Some.ensures.steps.0) ∙ c.loop-block.invariant
 
 pub returns : goal.returns
