@@ -5,14 +5,14 @@ use Rattle.std.specs.FinMap.{find}
 use Rattle.std.specs.declared.cmp.Ordering.{Ordering}
 use Rattle.std.specs.declared.rc.Rc.{Rc}
 
--- the first slot of a number: the number modulo 262,144
+-- the first slot of a number: the number modulo 1,048,576
 unfoldable pub slot_of : ℤ → ℕ
-slot_of number = cast_unsigned w64 number % 262144
+slot_of number = cast_unsigned w64 number % 1048576
 
--- the other slot of a number, by Fibonacci hashing (D. E. Knuth, The Art of Computer Programming 3, 6.4): the upper 18
+-- the other slot of a number, by Fibonacci hashing (D. E. Knuth, The Art of Computer Programming 3, 6.4): the upper 20
 -- of the 64 bits of the number times 2^64 divided by the golden ratio
 unfoldable pub other_slot_of : ℤ → ℕ
-other_slot_of number = cast_unsigned w64 number * 0x9E37_79B9_7F4A_7C15 % 2 ^ 64 / 2 ^ 46
+other_slot_of number = cast_unsigned w64 number * 0x9E37_79B9_7F4A_7C15 % 2 ^ 64 / 2 ^ 44
 
 -- the slot is marked, where each word has 64 slots
 abbrev pub IsSlotMarked : List ℕ → ℕ → Type 0

@@ -4,7 +4,7 @@
 //! ones of neighbouring numbers are neighbours, so that look-ups of these touch little memory. The other ones are
 //! scattered by Fibonacci hashing (D. E. Knuth, The Art of Computer Programming 3, 6.4): they are asked only where the
 //! first one is marked, and tell most of the numbers apart that share it.
-ghost use Rattle.std.specs.Prelude.{◌≡◌, ◌≢◌, ◌↔◌, ◌<◌, ℕ, ℤ, IfOk, IsTrue};
+ghost use Rattle.std.specs.Prelude.{◌≡◌, ◌≢◌, ◌↔◌, ◌<◌, ℕ, ℤ, IfOk, OnOk, IsTrue};
 ghost use Rattle.std.specs.Int.{bit_at};
 ghost use Rattle.std.specs.declared.cmp.Ordering.TheVariants.{Equal};
 ghost use Rattle.object_store.specs.Filters.{slot_of, other_slot_of, slots_in, IsSlotMarked, IsMarked};
@@ -16,19 +16,19 @@ use std::marker::Model;
 use std::rc::Rc;
 
 /// How many words a filter has.
-const WORDS: usize = 4_096;
+const WORDS: usize = 16_384;
 
 /// How many slots a word has.
 const SLOTS_OF_WORD: usize = 64;
 
 /// How many slots a filter has.
-const SLOTS: u64 = 262_144;
+const SLOTS: u64 = 1_048_576;
 
 /// By what Fibonacci hashing multiplies: 2^64 divided by the golden ratio.
 const FIBONACCI: u64 = 0x9E37_79B9_7F4A_7C15;
 
 /// By how many bits a product is shifted so that a slot is left of it.
-const SLOT_SHIFT: u32 = 46;
+const SLOT_SHIFT: u32 = 44;
 
 /// What has a number. Keys that tie have the same one.
 pub trait Slotted: Ord {
@@ -90,7 +90,7 @@ impl Model for Filter {
 
     ghost view = { λ f. f.words.items };
 
-    ghost invariant = { λ f. length f.words.items ≡ 4096 };
+    ghost invariant = { λ f. length f.words.items ≡ 16384 };
 }
 
 impl Filter {
@@ -121,7 +121,7 @@ impl Filter {
 
     /// Whether the slot is marked.
     fn has_slot(&self, slot: usize) -> bool
-        requires { slot < 262144 }
+        requires { slot < 1048576 }
         ensures { IsTrue result ↔ IsSlotMarked self.now slot }
     {
         has_bit(self.words[slot / SLOTS_OF_WORD], slot % SLOTS_OF_WORD)
@@ -138,7 +138,7 @@ impl Filter {
 
     /// Marks the slot.
     fn mark_slot(&mut self, slot: usize)
-        requires { slot < 262144 }
+        requires { slot < 1048576 }
         ensures own { IsSlotMarked self.new slot }
         ensures others { (other : ℕ) → IsSlotMarked self.old other → IsSlotMarked self.new other }
     {
@@ -150,7 +150,7 @@ impl Filter {
 /// The first slot of a number. Neighbouring numbers have neighbouring ones.
 fn slot_of(number: i64) -> usize
     ensures slot { result ≡ slot_of number }
-    ensures within { result < 262144 }
+    ensures within { result < 1048576 }
 {
     (number.cast_unsigned() % SLOTS) as usize
 }
@@ -158,7 +158,7 @@ fn slot_of(number: i64) -> usize
 /// The other slot of a number. Numbers that share a first slot mostly have different ones.
 fn other_slot_of(number: i64) -> usize
     ensures slot { result ≡ other_slot_of number }
-    ensures within { result < 262144 }
+    ensures within { result < 1048576 }
 {
     (number.cast_unsigned().wrapping_mul(FIBONACCI) >> SLOT_SHIFT) as usize
 }
@@ -180,12 +180,14 @@ fn with_bit(word: u64, bit: usize) -> u64
     word | (1 << bit)
 }
 
-/// Marks at numbers, by which most others are told apart. They never change: what marks a number makes others in their
-/// place. The marks of no numbers take no memory, all others 32 KiB, which are shared until a number is marked.
+/// Marks at numbers, by which most others are told apart. No mark is ever taken away. The marks of no numbers take no
+/// memory, all others 128 KiB, which are shared until a number is marked.
 #[derive(Drop)]
 pub struct Marks {
     /// None only where no number is marked.
     filter: Option<Rc<Filter>>,
+    /// About how many numbers were marked.
+    count: usize,
 }
 
 impl Model for Marks {
@@ -202,7 +204,15 @@ impl Marks {
     pub fn new() -> Marks
         ensures { (number : ℤ) → ¬ (IsMarked result number) }
     {
-        Marks { filter: None }
+        Marks {
+            filter: None,
+            count: 0,
+        }
+    }
+
+    /// About how many numbers were marked.
+    pub fn count(&self) -> usize {
+        self.count
     }
 
     /// Whether the number is marked.
@@ -215,12 +225,56 @@ impl Marks {
         }
     }
 
-    /// These with the number marked. What others share is copied first.
+    /// Marks the number in these marks themselves, unless others share them: then in a copy, which comes in their
+    /// place. Where no memory is found nothing changes.
+    pub fn mark(&mut self, alloc: Global, number: i64) -> Result<(), NoMemory>
+        ensures own { OnOk result (IsMarked self.new number) }
+        ensures others { (other : ℤ) → IsMarked self.old other → IsMarked self.new other }
+    {
+        if self.has(number) || self.mark_own(number) {
+            return Ok(());
+        }
+        *self = self.share()?.with(alloc, number)?;
+        Ok(())
+    }
+
+    /// Marks the number where there are marks that nobody shares, and else none; and tells which of both.
+    fn mark_own(&mut self, number: i64) -> bool
+        ensures own { IsTrue result → IsMarked self.new number }
+        ensures others { (other : ℤ) → IsMarked self.old other → IsMarked self.new other }
+    {
+        let Some(filter) = &mut self.filter else {
+            return false;
+        };
+        match Rc::get_mut(filter) {
+            None => false,
+            Some(own) => {
+                own.mark(number);
+                self.count = self.count.saturating_add(1);
+                true
+            }
+        }
+    }
+
+    /// These with the number marked. What others share is copied first, unless the number is marked.
     pub fn with(self, alloc: Global, number: i64) -> Result<Marks, NoMemory>
         ensures own { IfOk result (λ m. IsMarked m number) }
         ensures others { IfOk result (λ m. (other : ℤ) → IsMarked self other → IsMarked m other) }
     {
-        let mut own = match self.filter {
+        if self.has(number) {
+            Ok(self)
+        } else {
+            self.with_new(alloc, number)
+        }
+    }
+
+    /// These with the number marked, which isn't.
+    fn with_new(self, alloc: Global, number: i64) -> Result<Marks, NoMemory>
+        ensures own { IfOk result (λ m. IsMarked m number) }
+        ensures others { IfOk result (λ m. (other : ℤ) → IsMarked self other → IsMarked m other) }
+    {
+        let Marks { filter, count } = self;
+        let mut own = match filter {
             None => Filter::new(alloc)?,
             Some(shared) => unshared(shared)?,
         };
@@ -228,6 +282,7 @@ impl Marks {
         let filter = Rc::new(alloc, own)?;
         Ok(Marks {
             filter: Some(filter),
+            count: count.saturating_add(1),
         })
     }
 
@@ -235,12 +290,14 @@ impl Marks {
     pub fn share(&self) -> Result<Marks, NoMemory>
         ensures { IfOk result (λ m. m ≡ self.now) }
     {
-        match &self.filter {
-            None => Ok(Marks { filter: None }),
-            Some(filter) => Ok(Marks {
-                filter: Some(filter.clone()?),
-            }),
-        }
+        let filter = match &self.filter {
+            None => None,
+            Some(filter) => Some(filter.clone()?),
+        };
+        Ok(Marks {
+            filter,
+            count: self.count,
+        })
     }
 }
 

@@ -1,9 +1,11 @@
 //! Entries that lie side by side in memory.
-ghost use Rattle.std.specs.Prelude.{◌≡◌, ◌<◌, ◌+◌, ◌++◌, [], IfOk, OnOk, length, map, option_copied};
+ghost use Rattle.std.specs.Prelude.{◌≡◌, ◌<◌, ◌+◌, ◌++◌, [], ℤ, IfOk, OnOk, length, map, option_copied};
 ghost use Rattle.std.specs.List.Sorted.{IsBinarySearchResult, IsSearchInRange};
 ghost use Rattle.std.specs.FinMap.{find, put};
+ghost use Rattle.object_store.specs.Filters.{AreMarked, IsMarked};
 ghost use Rattle.object_store.specs.Levels.{pair, put_all, values_of, Rise};
 
+use crate::filter::{Marks, Slotted};
 use road_base::NoMemory;
 use std::alloc::Global;
 use std::cmp::Ordering;
@@ -120,6 +122,20 @@ impl<K: Ord + Copy, V: Drop> Level<K, V> {
             list.push(entry.value.clone()?)?;
         }
         Ok(list)
+    }
+}
+
+impl<K: Ord + Copy + Slotted, V: Drop> Level<K, V> {
+    /// These marks, at the numbers of all keys as well.
+    pub fn marked(&self, alloc: Global, marks: Marks) -> Result<Marks, NoMemory>
+        ensures own { IfOk result (λ m. AreMarked K.cmp K.number self.now m) }
+        ensures others { IfOk result (λ m. (number : ℤ) → IsMarked marks number → IsMarked m number) }
+    {
+        let mut all = marks;
+        for entry in &self.entries {
+            all = all.with(alloc, entry.key.number())?;
+        }
+        Ok(all)
     }
 }
 

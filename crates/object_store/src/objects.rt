@@ -110,6 +110,7 @@ impl Objects {
         ensures before { IfOk result (λ f. f.before ≡ self.old) }
         ensures after { IfOk result (λ f. IsApplied self.old events.now f.after) }
     {
+        mark(self.alloc, events, &mut self.changed)?;
         self.following(events)
     }
 
@@ -270,6 +271,22 @@ impl Objects {
         add_copies(changed.as_slice(), &mut list)?;
         Base::of(list)
     }
+}
+
+/// Marks the keys of the events in the map's filter, so that it needn't be copied for the objects that they leave. The
+/// map stays the same.
+fn mark(
+    alloc: Global,
+    events: &[Event],
+    changed: &mut SharedMap<Key, Event>,
+) -> Result<(), NoMemory>
+    ensures { changed.new ≡ changed.old }
+{
+    changed.clean(alloc)?;
+    for event in events {
+        changed.mark(alloc, event.key)?;
+    }
+    Ok(())
 }
 
 /// The same base, shared.

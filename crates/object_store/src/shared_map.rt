@@ -1,6 +1,7 @@
 //! Maps that never change and share what they have in common.
 ghost use Rattle.std.specs.Prelude.{◌≡◌, ◌↔◌, ◌<◌, [], IfOk, IsTrue, length, map, option_copied};
 ghost use Rattle.std.specs.FinMap.{find, put};
+ghost use Rattle.object_store.specs.Filters.{AreMarked};
 ghost use Rattle.object_store.specs.Levels.{laid, put_all, values_of};
 
 use crate::filter::{Marks, Slotted};
@@ -14,12 +15,16 @@ use std::rc::Rc;
 const SMALL: usize = 64;
 /// Such a level is merged with the one behind it, if that is at most so many times as large.
 const RATIO: usize = 8;
+/// The filter is made anew where so many keys are marked beside those of the entries,
+const FEW: usize = 2_048;
+/// and where there are many entries, such a share of their number.
+const SHARE: usize = 8;
 
-/// A map from keys to values. It never changes: what puts an entry makes another map in its place, which shares with it
-/// all levels that weren't altered. The first level is small; behind each other one stands one that is more than eight
-/// times as large, as of when the former was made, so that there are few, and an entry is seldom copied. A filter of 32
-/// KiB, by which the map tells most keys that it doesn't have, is copied at the first entry that is put into a map that
-/// was shared.
+/// A map from keys to values. What puts an entry makes another map in its place, which shares with it all levels that
+/// weren't altered. The first level is small; behind each other one stands one that is more than eight times as large,
+/// as of when the former was made, so that there are few, and an entry is seldom copied. A filter of 128 KiB, by which
+/// the map tells most keys that it doesn't have, is shared by the maps of which one was made from the other: it is
+/// copied at the first entry that is put whose key isn't marked in it.
 #[derive(Drop)]
 pub struct SharedMap<K: Ord + Copy + Slotted, V: Drop> {
     /// The entries of a level stand in the place of those behind it.
@@ -71,6 +76,27 @@ impl<K: Ord + Copy + Slotted, V: Drop> SharedMap<K, V> {
         } else {
             None
         }
+    }
+
+    /// Marks the key in the filter of this map itself, if no other map shares it: maps that are made of this one then
+    /// share it also where they have an entry of the key. The map stays the same.
+    pub fn mark(&mut self, alloc: Global, key: K) -> Result<(), NoMemory>
+        ensures { self.new ≡ self.old }
+    {
+        self.marks.mark(alloc, key.number())
+    }
+
+    /// Makes the filter anew, of the keys of the entries alone, where many others are marked in it. The map stays the
+    /// same. Takes the time of a run over the entries, in the long run that of a few steps for each key that is marked.
+    pub fn clean(&mut self, alloc: Global) -> Result<(), NoMemory>
+        ensures { self.new ≡ self.old }
+    {
+        let entries = count(self.levels.as_slice());
+        let others = self.marks.count().saturating_sub(entries);
+        if others > FEW.max(entries / SHARE) {
+            self.marks = marked(alloc, self.levels.as_slice())?;
+        }
+        Ok(())
     }
 
     /// The map with the value at the key. Takes the time of copying a small level, if that is shared; and in the long
@@ -127,6 +153,28 @@ fn are_empty<K: Ord + Copy, V: Drop>(levels: &[Rc<Level<K, V>>]) -> bool
     match levels.split_first() {
         None => true,
         Some((first, behind)) => first.len() == 0 && are_empty(behind),
+    }
+}
+
+/// How many entries the levels have.
+fn count<K: Ord + Copy, V: Drop>(levels: &[Rc<Level<K, V>>]) -> usize {
+    let mut all: usize = 0;
+    for level in levels {
+        all = all.saturating_add(level.len());
+    }
+    all
+}
+
+/// Marks at the numbers of the keys of all levels.
+fn marked<K: Ord + Copy + Slotted, V: Drop>(
+    alloc: Global,
+    levels: &[Rc<Level<K, V>>],
+) -> Result<Marks, NoMemory>
+    ensures { IfOk result (λ m. AreMarked K.cmp K.number (laid K.cmp levels.now) m) }
+{
+    match levels.split_first() {
+        None => Ok(Marks::new()),
+        Some((first, behind)) => first.marked(alloc, marked(alloc, behind)?),
     }
 }
 

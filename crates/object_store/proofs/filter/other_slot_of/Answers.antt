@@ -7,5 +7,5 @@ use Rattle.object_store.proofs.filter.other_slot_of.Goals as goal
 pub returns-clause-slot : goal.returns-clause-slot
 unfolding other_slot_of
 returns-clause-slot c =
-    ap (λ n. n * 0x9E37_79B9_7F4A_7C15 % 2 ^ 64 / 2 ^ 46) (c.cast_unsigned.ensures
+    ap (λ n. n * 0x9E37_79B9_7F4A_7C15 % 2 ^ 64 / 2 ^ 44) (c.cast_unsigned.ensures
     ∙ ap (cast_unsigned w64) (to_z-of_z w64 c.args.number c.ranges.number))

@@ -7,5 +7,5 @@ use Rattle.object_store.proofs.filter.slot_of.Goals as goal
 pub returns-clause-slot : goal.returns-clause-slot
 unfolding slot_of
 returns-clause-slot c =
-    ap (λ n. n % 262144) (c.cast_unsigned.ensures
+    ap (λ n. n % 1048576) (c.cast_unsigned.ensures
     ∙ ap (cast_unsigned w64) (to_z-of_z w64 c.args.number c.ranges.number))
