@@ -90,11 +90,16 @@ impl<K: Ord + Copy + Numbered + Slotted, V: Ord + Copy + Drop> Index<K, V> {
 
     /// What is left without the pairs that are gone, with those that came. Takes the time of the pairs' sort, and of
     /// the lists of their keys, each gone through once; and where any of these lists change, that of a merge with the
-    /// lists that changed before.
-    pub fn exchanged(&self, gone: Vec<(K, V)>, come: Vec<(K, V)>) -> Result<Index<K, V>, NoMemory>
+    /// lists that changed before. This index stays the same; the keys of the lists that change are marked in it.
+    pub fn exchanged(
+        &mut self,
+        gone: Vec<(K, V)>,
+        come: Vec<(K, V)>,
+    ) -> Result<Index<K, V>, NoMemory>
         requires keys { IsAntisymmetric K.cmp }
         requires values { IsAntisymmetric V.cmp }
-        ensures { IfOk result (λ i. IsExchanged K.cmp self.now gone.items come.items i) }
+        ensures same { self.new ≡ self.old }
+        ensures exchanged { IfOk result (λ i. IsExchanged K.cmp self.old gone.items come.items i) }
     {
         let keys = keys_of(self.alloc, gone.as_slice(), come.as_slice())?;
         self.exchanged_among(keys.as_slice(), gone, come)
@@ -102,7 +107,7 @@ impl<K: Ord + Copy + Numbered + Slotted, V: Ord + Copy + Drop> Index<K, V> {
 
     /// The same, where the keys of the pairs are among these, which ascend.
     fn exchanged_among(
-        &self,
+        &mut self,
         keys: &[K],
         gone: Vec<(K, V)>,
         come: Vec<(K, V)>,
@@ -112,7 +117,8 @@ impl<K: Ord + Copy + Numbered + Slotted, V: Ord + Copy + Drop> Index<K, V> {
         requires ascending { IsTrue (rises K.cmp keys.now) }
         requires gone { (p : K × V) → Contains gone.items p → Contains keys.now p.0 }
         requires come { (p : K × V) → Contains come.items p → Contains keys.now p.0 }
-        ensures { IfOk result (λ i. IsExchanged K.cmp self.now gone.items come.items i) }
+        ensures same { self.new ≡ self.old }
+        ensures exchanged { IfOk result (λ i. IsExchanged K.cmp self.old gone.items come.items i) }
     {
         let gone = PairList::of(self.alloc, gone)?;
         let come = PairList::of(self.alloc, come)?;
@@ -182,16 +188,18 @@ impl<K: Ord + Copy + Numbered + Slotted, V: Ord + Copy + Drop> Index<K, V> {
         exchanged_values(self.alloc, self.at(key), gone.at(key), come.at(key))
     }
 
-    /// With these lists in the place of those of their keys.
-    fn with_lists(&self, lists: KeyLists<K, V>) -> Result<Index<K, V>, NoMemory>
+    /// With these lists in the place of those of their keys, which are marked here first.
+    fn with_lists(&mut self, lists: KeyLists<K, V>) -> Result<Index<K, V>, NoMemory>
         requires keys { IsAntisymmetric K.cmp }
         requires ascend { Ascend K.cmp V.cmp lists }
-        ensures base { IfOk result (λ i. i.0 ≡ self.now.0) }
-        ensures lists { IfOk result (λ i. (k : K) → find K.cmp k i.1 ≡ find K.cmp k (lists ++ self.now.1)) }
+        ensures same { self.new ≡ self.old }
+        ensures base { IfOk result (λ i. i.0 ≡ self.old.0) }
+        ensures lists { IfOk result (λ i. (k : K) → find K.cmp k i.1 ≡ find K.cmp k (lists ++ self.old.1)) }
     {
         if lists.len() == 0 {
             return self.share();
         }
+        self.replaced.mark(self.alloc, lists.keys())?;
         let base = shared_base(&self.base)?;
         let replaced = self.replaced.with(self.alloc, lists)?;
         Ok(Index {

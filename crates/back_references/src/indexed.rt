@@ -108,9 +108,10 @@ impl Indexed {
     }
 
     /// The objects after the change, which was found for these.
-    fn after(&self, fresh: &Fresh) -> Result<Indexed, NoMemory>
-        requires { fresh.now.before ≡ self.now }
-        ensures { IfOk result (λ i. i ≡ fresh.now.after) }
+    fn after(&mut self, fresh: &Fresh) -> Result<Indexed, NoMemory>
+        requires { fresh.now.before ≡ self.old }
+        ensures same { self.new ≡ self.old }
+        ensures after { IfOk result (λ i. i ≡ fresh.now.after) }
     {
         let objects = fresh.after().copy()?;
         let references = self.references.exchanged(

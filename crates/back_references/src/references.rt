@@ -74,15 +74,16 @@ impl References {
     /// Those of objects after a change, where these are those of the objects before it, and the visible bodies of other
     /// keys are the same.
     pub fn exchanged(
-        &self,
+        &mut self,
         alloc: Global,
         before: &Objects,
         after: &Objects,
         keys: &[Key],
     ) -> Result<References, NoMemory>
-        requires held { IsIndexed before.now self.now }
+        requires held { IsIndexed before.now self.old }
         requires same { (k : Key) → ¬ (Contains keys.now k) → visible before.now k ≡ visible after.now k }
-        ensures { IfOk result (λ r. IsIndexed after.now r) }
+        ensures same { self.new ≡ self.old }
+        ensures exchanged { IfOk result (λ r. IsIndexed after.now r) }
     {
         let ways = self.ways_after(alloc, before, after, keys)?;
         let node_rules = self.node_rules_after(alloc, before, after, keys)?;
@@ -96,15 +97,16 @@ impl References {
 
     /// The ways that refer to each node after the change.
     fn ways_after(
-        &self,
+        &mut self,
         alloc: Global,
         before: &Objects,
         after: &Objects,
         keys: &[Key],
     ) -> Result<Index<NodeId, WayId>, NoMemory>
-        requires held { IsIndexed before.now self.now }
+        requires held { IsIndexed before.now self.old }
         requires same { (k : Key) → ¬ (Contains keys.now k) → visible before.now k ≡ visible after.now k }
-        ensures { IfOk result (λ i. (n : NodeId) (w : WayId) → Has node_cmp i n w ↔ RefersTo after.now w n) }
+        ensures same { self.new ≡ self.old }
+        ensures exactly { IfOk result (λ i. (n : NodeId) (w : WayId) → Has node_cmp i n w ↔ RefersTo after.now w n) }
     {
         key_order();
         name_order();
@@ -116,15 +118,16 @@ impl References {
 
     /// The restrictions that name each node after the change.
     fn node_rules_after(
-        &self,
+        &mut self,
         alloc: Global,
         before: &Objects,
         after: &Objects,
         keys: &[Key],
     ) -> Result<Index<NodeId, RelationId>, NoMemory>
-        requires held { IsIndexed before.now self.now }
+        requires held { IsIndexed before.now self.old }
         requires same { (k : Key) → ¬ (Contains keys.now k) → visible before.now k ≡ visible after.now k }
-        ensures { IfOk result (λ i. (n : NodeId) (r : RelationId)
+        ensures same { self.new ≡ self.old }
+        ensures exactly { IfOk result (λ i. (n : NodeId) (r : RelationId)
             → Has node_cmp i n r ↔ HasMember after.now r (NodeKey n)) }
     {
         key_order();
@@ -137,15 +140,16 @@ impl References {
 
     /// The restrictions that name each way after the change.
     fn way_rules_after(
-        &self,
+        &mut self,
         alloc: Global,
         before: &Objects,
         after: &Objects,
         keys: &[Key],
     ) -> Result<Index<WayId, RelationId>, NoMemory>
-        requires held { IsIndexed before.now self.now }
+        requires held { IsIndexed before.now self.old }
         requires same { (k : Key) → ¬ (Contains keys.now k) → visible before.now k ≡ visible after.now k }
-        ensures { IfOk result (λ i. (w : WayId) (r : RelationId)
+        ensures same { self.new ≡ self.old }
+        ensures exactly { IfOk result (λ i. (w : WayId) (r : RelationId)
             → Has way_cmp i w r ↔ HasMember after.now r (WayKey w)) }
     {
         key_order();

@@ -73,6 +73,14 @@ impl<K: Ord + Copy + Numbered + Slotted, V: Copy + Drop> Replaced<K, V> {
         Ok(Replaced { levels, marks })
     }
 
+    /// Marks the keys in the filter of this map itself, if no other map shares it, so that `with` copies none for lists
+    /// of these keys. The map stays the same.
+    pub fn mark(&mut self, alloc: Global, keys: &[K]) -> Result<(), NoMemory>
+        ensures { self.new ≡ self.old }
+    {
+        mark(alloc, keys, &mut self.marks)
+    }
+
     /// The later lists, and these at all other keys. Takes the time of a merge of small lists; and in the long run, for
     /// each value that is put, that of eight steps a level.
     pub fn with(&self, alloc: Global, later: KeyLists<K, V>) -> Result<Replaced<K, V>, NoMemory>
@@ -149,7 +157,17 @@ fn add_shared<K: Ord + Copy + Numbered, V: Copy + Drop>(
     Ok(())
 }
 
-/// The marks, at the numbers of these keys as well.
+/// Marks the numbers of these keys as well.
+fn mark<K: Copy + Slotted>(alloc: Global, keys: &[K], marks: &mut Marks) -> Result<(), NoMemory>
+    ensures { (number : ℤ) → IsMarked marks.old number → IsMarked marks.new number }
+{
+    for key in keys {
+        marks.mark(alloc, key.number())?;
+    }
+    Ok(())
+}
+
+/// These marks, at the numbers of these keys as well.
 fn marked<K: Copy + Slotted>(alloc: Global, marks: &Marks, keys: &[K]) -> Result<Marks, NoMemory>
     ensures own { IfOk result (λ m. (k : K) → Contains keys.now k → IsMarked m (K.number k)) }
     ensures others { IfOk result (λ m. (number : ℤ) → IsMarked marks.now number → IsMarked m number) }

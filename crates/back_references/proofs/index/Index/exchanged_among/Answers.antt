@@ -2,8 +2,8 @@ use Rattle.std.proofs.Common.{◌++◌}
 use Rattle.back_references.proofs.IndexLists.{exchanged_all, if_both, same_held}
 use Rattle.back_references.proofs.index.Index.exchanged_among.Goals as goal
 
-pub returns : goal.returns
-returns g c =
+pub returns-clause-exchanged : goal.returns-clause-exchanged
+returns-clause-exchanged g c =
     let R = g.K.Ord.cmp in
     let keys = c.args.keys.now in
     let held = c.args.self.now in

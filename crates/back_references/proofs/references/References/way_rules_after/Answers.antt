@@ -9,8 +9,8 @@ use Rattle.back_references.proofs.IndexLists.{chained, link_after, in_or_out}
 use Rattle.back_references.proofs.NamedObjects.{rule_links_at, member_same}
 use Rattle.back_references.proofs.references.References.way_rules_after.Goals as goal
 
-pub returns : goal.returns
-returns c =
+pub returns-clause-exactly : goal.returns-clause-exactly
+returns-clause-exactly c =
     let M = c.args.before.now in
     let N = c.args.after.now in
     let keys = c.args.keys.now in
@@ -26,4 +26,4 @@ returns c =
     (rule_links_at N keys w r))
     (in_or_out key_cmp c.key_order.ensures.total c.key_order.ensures.ties keys (RelationKey r))
     (λ out. member_same M N r (WayKey w) (c.requires.same (RelationKey r) out))
-    (λ out. member_same N M r (WayKey w) (sym (c.requires.same (RelationKey r) out))))) c.exchanged.ensures
+    (λ out. member_same N M r (WayKey w) (sym (c.requires.same (RelationKey r) out))))) c.exchanged.ensures.exchanged

@@ -9,8 +9,8 @@ use Rattle.back_references.proofs.IndexLists.{chained, link_after, in_or_out}
 use Rattle.back_references.proofs.NamedObjects.{way_links_at, refers_same}
 use Rattle.back_references.proofs.references.References.ways_after.Goals as goal
 
-pub returns : goal.returns
-returns c =
+pub returns-clause-exactly : goal.returns-clause-exactly
+returns-clause-exactly c =
     let M = c.args.before.now in
     let N = c.args.after.now in
     let keys = c.args.keys.now in
@@ -24,4 +24,4 @@ returns c =
     (way_links_at N keys n w))
     (in_or_out key_cmp c.key_order.ensures.total c.key_order.ensures.ties keys (WayKey w))
     (λ out. refers_same M N w n (c.requires.same (WayKey w) out))
-    (λ out. refers_same N M w n (sym (c.requires.same (WayKey w) out))))) c.exchanged.ensures
+    (λ out. refers_same N M w n (sym (c.requires.same (WayKey w) out))))) c.exchanged.ensures.exchanged
