@@ -133,7 +133,7 @@ impl<P: Profile> Engine<P> {
         let (placed, report) = rebuild_after(
             self.alloc,
             &self.graph,
-            &self.rebuilt,
+            &mut self.rebuilt,
             &prepared,
             steps,
         )?;
@@ -180,17 +180,19 @@ impl<P: Profile> Engine<P> {
     }
 }
 
-/// Builds the blocks that the prepared change alters, and finds where they go.
+/// Builds the blocks that the prepared change alters, and finds where they go. Those that stand beside the listed ones
+/// stay the same; the ways of those that will are marked among them.
 fn rebuild_after<P: Profile, L: Ledger>(
     alloc: Global,
     graph: &RoadGraph<P>,
-    rebuilt: &SharedMap<WayId, Block>,
+    rebuilt: &mut SharedMap<WayId, Block>,
     prepared: &Prepared,
     steps: &mut Steps<L>,
 ) -> Result<(Placed, Report), NoMemory>
     requires before { prepared.now.before ≡ graph.now.world }
-    requires kept { AreKept graph.now.world (P.rules graph.now.profile) (block_at rebuilt.now graph.now.blocks.map) }
-    requires at_ways { AreAtTheirWays rebuilt.now }
+    requires kept { AreKept graph.now.world (P.rules graph.now.profile) (block_at rebuilt.old graph.now.blocks.map) }
+    requires at_ways { AreAtTheirWays rebuilt.old }
+    ensures same { rebuilt.new ≡ rebuilt.old }
     ensures kept { IfOk result (λ r. AreKept prepared.now.after (P.rules graph.now.profile)
         (placed_at r.0.rebuilt r.0.replacing.items graph.now.blocks.map)) }
     ensures at_ways { IfOk result (λ r. AreAtTheirWays r.0.rebuilt) }

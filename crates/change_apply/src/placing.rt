@@ -27,10 +27,31 @@ pub struct Placed {
 }
 
 /// Finds where the blocks go. One that stands beside the list already goes nowhere. Where nothing of a way stands
-/// beside the list, its block with pieces comes in the place of the listed one, if that is there, and one without pieces
-/// goes nowhere if none is; every other block is to stand beside the list. Takes two look-ups for each, and for each
-/// that stands beside the list the logarithm of their number.
+/// beside the list, its block with pieces comes in the place of the listed one, if that is there, and one without
+/// pieces goes nowhere if none is; every other block is to stand beside the list, and its way is marked there. Takes a
+/// few look-ups for each, for each of a way that has a block beside the list the time of one run over both, and for
+/// each that is to stand there the logarithm of their number.
 pub fn place(
+    alloc: Global,
+    listed: &Blocks,
+    ranges: &Ranges,
+    rebuilt: &mut SharedMap<WayId, Block>,
+    fresh: Rebuilt,
+) -> Result<Placed, NoMemory>
+    requires { AreAtTheirWays rebuilt.old }
+    ensures same { rebuilt.new ≡ rebuilt.old }
+    ensures placed { IfOk result (λ p. (w : WayNumber)
+        → placed_at p.rebuilt p.replacing.items listed.now.map w
+        ≡ block_at (over fresh.met.map (over fresh.near.map rebuilt.old)) listed.now.map w) }
+    ensures at_ways { IfOk result (λ p. AreAtTheirWays p.rebuilt) }
+{
+    mark(alloc, listed, ranges, fresh.near.items(), rebuilt)?;
+    mark(alloc, listed, ranges, fresh.met.items(), rebuilt)?;
+    place_all(alloc, listed, ranges, rebuilt, fresh)
+}
+
+/// The same, once the ways are marked.
+fn place_all(
     alloc: Global,
     listed: &Blocks,
     ranges: &Ranges,
@@ -54,6 +75,25 @@ pub fn place(
     };
     let near_placed = place_each(alloc, listed, ranges, fresh.near, none_placed)?;
     place_each(alloc, listed, ranges, fresh.met, near_placed)
+}
+
+/// Marks the ways of those of the blocks that are to stand beside the list, which is no change of what stands there: so
+/// that they are put there without a copy of the filter.
+fn mark(
+    alloc: Global,
+    listed: &Blocks,
+    ranges: &Ranges,
+    fresh: &[Block],
+    rebuilt: &mut SharedMap<WayId, Block>,
+) -> Result<(), NoMemory>
+    ensures { rebuilt.new ≡ rebuilt.old }
+{
+    for block in fresh {
+        if listed_at(listed, ranges, block.way).is_some() == block.pieces.items().is_empty() {
+            rebuilt.mark(alloc, block.way)?;
+        }
+    }
+    Ok(())
 }
 
 /// Finds where these blocks go as well.
@@ -122,7 +162,8 @@ fn is_rebuilt(rebuilt: &SharedMap<WayId, Block>, block: &Block) -> bool
     }
 }
 
-/// Puts each of the blocks in the place of its way's listed one, if that is there and another. Takes no memory.
+/// Puts each of the blocks in the place of its way's listed one, if that is there and another. Takes a look-up for each
+/// and the time of one run over it and the listed one, and no memory.
 pub fn replace_listed(replacing: Vec<Block>, ranges: &Ranges, listed: &mut Blocks)
     ensures { listed.new.map ≡ replaced_by replacing.items listed.old.map }
 {

@@ -7,7 +7,7 @@ use Rattle.road_model.specs.Orders.{way_cmp}
 use Rattle.road_base.specs.Applying.{IsApplied}
 use Rattle.change_apply.specs.Engines.{AreKept, BuildsTouched, Touches}
 use Rattle.change_apply.specs.Placing.{placed_at}
-use Rattle.change_apply.specs.Rebuilding.{block_at}
+use Rattle.change_apply.specs.Rebuilding.{AreAtTheirWays, block_at}
 use Rattle.change_apply.proofs.engine.Engine.apply.Goals as goal
 
 -- where no memory is found, what comes at Ok doesn't
@@ -50,6 +50,16 @@ returns-in_err-placed-clause-built g c =
     subst (λ (M : Objects). IsApplied M events after
     → BuildsTouched M events c.args.steps.now c.rebuild_after.new.steps) (c.prepare.ensures.same ∙ here)
     (c.rebuild_after.ensures.built events) applied
+
+pub invariant_of-self-in_err-placed : goal.invariant_of-self-in_err-placed
+invariant_of-self-in_err-placed g c =
+    let P = g.P.Profile.rules c.self.inside.graph.profile in
+    let blocks = c.self.inside.graph.blocks.map in (
+      subst (λ (M : Objects). AreKept M P (block_at c.rebuild_after.new.rebuilt blocks)) (sym c.prepare.ensures.same)
+          (subst (λ r. AreKept c.self.inside.graph.world P (block_at r blocks)) (sym c.rebuild_after.ensures.same)
+          c.self.invariant.0),
+      subst (λ r. AreAtTheirWays r) (sym c.rebuild_after.ensures.same) c.self.invariant.1,
+    )
 
 pub invariant_of-self-2 : goal.invariant_of-self-2
 invariant_of-self-2 g c =

@@ -4,7 +4,7 @@ use Rattle.change_apply.specs.declared.placing.Placed.{Placed}
 use Rattle.change_apply.specs.Placing.{placed_at, with_fresh}
 use Rattle.change_apply.specs.Rebuilding.{block_at, over}
 use Rattle.change_apply.proofs.PlacedBlocks.{at_fresh, with_fresh_as}
-use Rattle.change_apply.proofs.placing.place.Goals as goal
+use Rattle.change_apply.proofs.placing.place_all.Goals as goal
 
 on_ok : {T E : Type 0} {A B : T → Type 0} (r : Result T E) → IfOk r A → ((x : T) → A x → B x) → IfOk r B
 on_ok (Ok x) a f = f x a
