@@ -1,10 +1,11 @@
 //! Which ways have other pieces than before.
-ghost use Rattle.std.specs.Prelude.{◌≡◌, Contains, IfOk, IsTrue};
+ghost use Rattle.std.specs.Prelude.{◌≡◌, Contains, IfOk};
 ghost use Rattle.road_base.specs.declared.ids.WayId.{WayId as WayNumber};
 ghost use Rattle.change_apply.specs.Rebuilding.{listed, pieces_at};
 ghost use Rattle.change_apply.specs.Standing.{built_in};
 
 use crate::known::Standing;
+use crate::sameness::same_spans;
 use road_base::{NoMemory, WayId};
 use road_model::Piece;
 use std::alloc::Global;
@@ -27,7 +28,7 @@ pub fn altered(
     for way in ways {
         let was = pieces_at(before, *way);
         let is = pieces_at(after, *way);
-        if !same_pieces(was, is) {
+        if !same_spans(was, is) {
             altered.push(*way)?;
         }
     }
@@ -43,19 +44,4 @@ fn pieces_at<'a>(standing: &'a Standing<'_>, way: WayId) -> &'a [Piece]
         Some(block) => block.pieces.items(),
         None => &[],
     }
-}
-
-/// Whether both lists have the same names and ends.
-fn same_pieces(was: &[Piece], is: &[Piece]) -> bool
-    ensures { IsTrue result → listed was.now ≡ listed is.now }
-{
-    if was.len() != is.len() {
-        return false;
-    }
-    for at in 0..was.len() {
-        if was[at].name != is[at].name || was[at].end != is[at].end {
-            return false;
-        }
-    }
-    true
 }

@@ -1,5 +1,6 @@
-//! Whether blocks are equal.
+//! Whether blocks are equal, and whether they list the same pieces.
 ghost use Rattle.std.specs.Prelude.{◌≡◌, ◌↔◌, IsTrue};
+ghost use Rattle.change_apply.specs.Rebuilding.{listed};
 
 use road_model::{Block, Context, Piece, PieceName, Place, TurnArc};
 
@@ -19,6 +20,22 @@ fn same_pieces(a: &[Piece], b: &[Piece]) -> bool
     }
     for at in 0..a.len() {
         if !same_piece(&a[at], &b[at]) {
+            return false;
+        }
+    }
+    true
+}
+
+/// Whether both lists have pieces of the same names and ends, in the same order. Takes the time of one run over both,
+/// up to the first difference.
+pub fn same_spans(a: &[Piece], b: &[Piece]) -> bool
+    ensures { IsTrue result ↔ (listed a.now ≡ listed b.now) }
+{
+    if a.len() != b.len() {
+        return false;
+    }
+    for at in 0..a.len() {
+        if !same_span(&a[at], &b[at]) {
             return false;
         }
     }

@@ -5,7 +5,7 @@ use Rattle.change_apply.specs.Rebuilding.{pieces_at}
 use Rattle.change_apply.specs.Standing.{built_in}
 use Rattle.change_apply.proofs.ComparedPieces.{AreSame, more_same, more_altered}
 use Rattle.change_apply.proofs.altering.altered.Goals as goal
-use Rattle.change_apply.proofs.altering.altered.Goals.{then-not-same_pieces+in_ok-push, else-not-same_pieces}
+use Rattle.change_apply.proofs.altering.altered.Goals.{then-not-same_spans+in_ok-push, else-not-same_spans}
 
 pub loop-way-preserved : goal.loop-way-preserved
 loop-way-preserved c =
@@ -17,16 +17,16 @@ loop-way-preserved c =
     let Same : WayId → Type 0 = λ w. pieces_at (built_in before) before.listed.now.map w
     ≡ pieces_at (built_in after) after.listed.now.map w in
     let more = take_more ways i (record { 0 = pos 0 }) c.loop-way-test.true in
-    elim c.if-not-same_pieces.branch [
-      | then-not-same_pieces+in_ok-push w ↦
-          subst (λ l. AreSame Same l c.if-not-same_pieces.altered.items) (sym more)
+    elim c.if-not-same_spans.branch [
+      | then-not-same_spans+in_ok-push w ↦
+          subst (λ l. AreSame Same l c.if-not-same_spans.altered.items) (sym more)
           (subst (AreSame Same _) (sym (ap (λ v. v.items) w.altered-is ∙ w.in_ok-push.ensures.items))
           (more_altered Same (take i ways) c.loop-way.altered.items way c.loop-way.invariant))
-      | else-not-same_pieces w ↦
-          subst (λ l. AreSame Same l c.if-not-same_pieces.altered.items) (sym more)
+      | else-not-same_spans w ↦
+          subst (λ l. AreSame Same l c.if-not-same_spans.altered.items) (sym more)
           (subst (AreSame Same _) (sym (ap (λ v. v.items) w.altered-is))
           (more_same Same (take i ways) c.loop-way.altered.items way c.loop-way.invariant
-          (sym c.pieces_at-was.ensures ∙ c.same_pieces.ensures w.if-not-same_pieces.false ∙ c.pieces_at-is.ensures)))
+          (sym c.pieces_at-was.ensures ∙ c.same_spans.ensures.0 w.if-not-same_spans.false ∙ c.pieces_at-is.ensures)))
     ]
 
 pub returns : goal.returns
