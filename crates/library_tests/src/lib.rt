@@ -1,30 +1,22 @@
-//! Tests of the libraries: tables and vectors from outside, and each public call that takes memory once on its happy
-//! path, with ample memory.
+//! Tests of the libraries that know no world: tables and vectors from outside, and each public call that takes memory
+//! once on its happy path, with ample memory.
 //!
-//! A crate is proved once more with its tests, so those of the libraries stand together here. `road_io` alone has tests
-//! of its own, which look into it; whole runs are tried in `osmroad`. `makers` makes texts, tags, events and worlds for
-//! them, in the time of what is made.
+//! A crate is proved once more with its tests, so those of the libraries stand together here, and those of the libraries
+//! that look at a world in `world_tests`. `road_io` alone has tests of its own, which look into it; whole runs are tried
+//! in `osmroad`. `makers` makes texts, tags and events for them, in the time of what is made.
 #![tactic(auto)]
 
 #[cfg(test)]
 mod access_profile_tests;
 #[cfg(test)]
-mod back_references_tests;
-#[cfg(test)]
 mod barrier_rules_tests;
 #[cfg(test)]
-mod change_apply_tests;
-#[cfg(test)]
 mod checkpoint_tests;
-#[cfg(test)]
-mod drive_queries_tests;
 #[cfg(test)]
 mod graph_file_tests;
 pub mod makers;
 #[cfg(test)]
 mod object_codec_tests;
-#[cfg(test)]
-mod object_store_tests;
 #[cfg(test)]
 mod oneway_rules_tests;
 #[cfg(test)]
@@ -48,8 +40,4 @@ mod session_input_tests;
 #[cfg(test)]
 mod store_switch_tests;
 #[cfg(test)]
-mod touched_ways_tests;
-#[cfg(test)]
 mod turn_automata_tests;
-#[cfg(test)]
-mod way_lines_tests;

@@ -1,8 +1,7 @@
-//! Texts, tags, events and worlds for tests.
+//! Texts, tags and events for tests, and their comparison.
 ghost use Rattle.std.specs.Prelude.{◌≡◌, [], IfOk};
 ghost use Rattle.road_base.specs.declared.objects.Body.TheVariants.{Deleted};
 
-use back_references::Indexed;
 use opl_objects::{Mode, ReadError, Reader};
 use road_base::{Body, Event, Key, NoMemory, Tags, Text};
 use std::alloc::Global;
@@ -87,7 +86,16 @@ pub fn extract_of(alloc: Global, lines: &[u8]) -> Result<Vec<Event>, Fail> {
     }
 }
 
-/// The world of an extract.
-pub fn world_of(alloc: Global, lines: &[u8]) -> Result<Indexed, Fail> {
-    Ok(Indexed::of(alloc, extract_of(alloc, lines)?)?)
+/// Whether both lists have the same events.
+pub fn are_same(these: &[Event], those: &[Event]) -> bool {
+    if these.len() != those.len() {
+        return false;
+    }
+    for at in 0..these.len() {
+        let (this, that) = (&these[at], &those[at]);
+        if this.key != that.key || this.version != that.version || !this.body.same(&that.body) {
+            return false;
+        }
+    }
+    true
 }

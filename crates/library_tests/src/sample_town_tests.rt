@@ -1,5 +1,5 @@
 //! Towns against values that were computed elsewhere, from the rules alone.
-use crate::object_store_tests::are_same;
+use crate::makers::are_same;
 use road_base::{Body, Event, Key, NoMemory, Node, Relation, Tags, Way};
 use sample_town::{Draws, Town};
 use std::alloc::Global;

@@ -1,7 +1,6 @@
 //! A small world, with ample memory.
-use crate::makers::{deletion, events_of};
-use crate::object_store_tests::are_same;
 use back_references::{Indexed, Next};
+use library_tests::makers::{are_same, deletion, events_of};
 use road_base::{Event, Key, NoMemory, NodeId, RelationId, WayId};
 use road_model::World;
 use std::alloc::Global;

@@ -1,7 +1,7 @@
 //! The happy path of each public call, with ample memory.
 ghost use Rattle.std.specs.Prelude.{◌≤◌, length};
 
-use crate::makers::{event_of, events_of};
+use library_tests::makers::{are_same, event_of, events_of};
 use object_store::Objects;
 use road_base::{Body, Event, Key, NoMemory, NodeId, Ranges};
 use std::alloc::Global;
@@ -20,19 +20,6 @@ fn first_node(objects: &Objects) -> Known {
         _ => None,
     };
     Some((event.version, lon))
-}
-
-pub fn are_same(these: &[Event], those: &[Event]) -> bool {
-    if these.len() != those.len() {
-        return false;
-    }
-    for at in 0..these.len() {
-        let (this, that) = (&these[at], &those[at]);
-        if this.key != that.key || this.version != that.version || !this.body.same(&that.body) {
-            return false;
-        }
-    }
-    true
 }
 
 /// Versions of node 1, of which two are the greatest.

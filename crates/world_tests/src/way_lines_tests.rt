@@ -1,7 +1,8 @@
 //! Lines, with repeats and returns, and steps over them.
-use crate::makers::{no_tags, world_of};
+use crate::worlds::world_of;
 use access_profile::Motorcar;
 use back_references::Indexed;
+use library_tests::makers::no_tags;
 use road_base::{Dir, NoMemory, NodeId, Refs, Step, Way, WayId};
 use road_model::Network;
 use std::alloc::Global;

@@ -2,7 +2,7 @@
 use Rattle.std.proofs.Common.{sym, subst}
 use Rattle.road_base.specs.Objects.{Objects}
 use Rattle.road_model.specs.BlockMap.{AreBlocksOf}
-use Rattle.library_tests.proofs.drive_queries_tests.found.Goals as goal
+use Rattle.world_tests.proofs.drive_queries_tests.found.Goals as goal
 
 pub reach-requires : goal.reach-requires
 reach-requires c =

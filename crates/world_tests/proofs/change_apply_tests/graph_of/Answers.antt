@@ -1,4 +1,4 @@
-use Rattle.library_tests.proofs.change_apply_tests.graph_of.Goals as goal
+use Rattle.world_tests.proofs.change_apply_tests.graph_of.Goals as goal
 
 pub write-requires-clause-profile : goal.write-requires-clause-profile
 write-requires-clause-profile c = c.number.ensures

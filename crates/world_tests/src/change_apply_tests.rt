@@ -1,10 +1,10 @@
 //! What a change costs, and that the graph behind changes is that of all their events.
 ghost use Rattle.std.specs.Prelude.{◌≡◌, ◌<◌};
 
-use crate::makers::events_of;
 use access_profile::Motorcar;
 use change_apply::{Engine, Report};
 use graph_file::write;
+use library_tests::makers::events_of;
 use road_base::{Event, Steps};
 use road_model::Profile;
 use std::alloc::Global;

@@ -1,10 +1,10 @@
 //! What is replied of drives and pairs of nodes, on drawn maps and on a village.
 ghost use Rattle.std.specs.Prelude.{◌≡◌, ◌<◌};
 
-use crate::makers::extract_of;
 use access_profile::Motorcar;
 use change_apply::Engine;
 use drive_queries::{Asked, Found, WordTable, judge, message, reach};
+use library_tests::makers::extract_of;
 use reply_lines::verdict_text;
 use road_base::{Event, NoMemory, NodeId, Step, Steps};
 use std::alloc::Global;

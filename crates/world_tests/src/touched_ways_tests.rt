@@ -1,5 +1,5 @@
 //! The ways within six links, before and after a change.
-use crate::makers::world_of;
+use crate::worlds::world_of;
 use back_references::Indexed;
 use road_base::{Key, Keys, NodeId, RelationId, WayId, Ways};
 use std::alloc::Global;
