@@ -1,11 +1,12 @@
 #!/usr/bin/env python3
 """Sends frames to a session on a store of a town, and prints how long each takes, from its first byte sent to the last
 byte of its reply: by the clock, and as the session's own processor time. Use:
-frames.py PROGRAM STORE TOWN.opl KIND FRAMES; bench/frames.sh calls it. The kinds are
+frames.py PROGRAM STORE TOWN.opl KIND FRAMES [EVENTS]; bench/frames.sh calls it. A frame has 20 events, or as many as
+is told. The kinds are
 
-  changed   20 events of objects that are there: nodes moved, tagged and deleted, ways tagged, cut short and deleted,
+  changed   events of objects that are there: nodes moved, tagged and deleted, ways tagged, cut short and deleted,
             restrictions changed and deleted
-  new       20 events, half of them new: nodes, ways between distant nodes, short ways, restrictions; half as above
+  new       half of the events are new: nodes, ways between distant nodes, short ways, restrictions; half as above
 
 The number of a new way or node is above all others or below them, in turn.
 """
@@ -130,9 +131,9 @@ def new(town, draws):
     return f'w{number} v1 dV {town.ways[number][1]} N{",".join(refs)}'
 
 
-def frame(kind, town, draws):
+def frame(kind, town, draws, count=EVENTS):
     events = []
-    while len(events) < EVENTS:
+    while len(events) < count:
         event = new(town, draws) if kind == 'new' and draws.randrange(2) else changed(town, draws)
         if event:
             events.append(event)
@@ -146,7 +147,8 @@ def processor_time(process):
 
 
 def main():
-    program, store, path, kind, count = sys.argv[1:]
+    program, store, path, kind, count, *more = sys.argv[1:]
+    events = int(more[0]) if more else EVENTS
     town, draws = Town(path), random.Random(3)
     session = subprocess.Popen([program, store, 'session'], stdin=subprocess.PIPE, stdout=subprocess.PIPE)
 
@@ -158,7 +160,7 @@ def main():
     kept = int(re.match(rb'state sequence (\d+) ', ask(b'state\n')).group(1))
     clock, own = [], []
     for number in range(kept + 1, kept + 1 + int(count)):
-        message = f'#seq {number}\n' + '\n'.join(frame(kind, town, draws)) + '\n#end\n'
+        message = f'#seq {number}\n' + '\n'.join(frame(kind, town, draws, events)) + '\n#end\n'
         before, start = processor_time(session), time.perf_counter()
         reply = ask(message.encode())
         clock.append(1000 * (time.perf_counter() - start))
@@ -169,7 +171,7 @@ def main():
         peak = next(line.split()[1] for line in it if line.startswith('VmHWM'))
     tenth = max(1, len(clock) // 10)
     mean = lambda times: sum(times) / len(times)
-    print(f'  {kind:8} {len(clock)} frames: mean {mean(clock):.2f} ms, longest {max(clock):.2f} ms, processor time '
+    print(f'  {kind:8} {len(clock)} frames of {events}: mean {mean(clock):.2f} ms, longest {max(clock):.2f} ms, processor time '
           f'{mean(own):.2f} ms; the first tenth {mean(clock[:tenth]):.2f} ms, the last {mean(clock[-tenth:]):.2f} ms; '
           f'{peak} KB')
     # the graph that was followed is the one that is compiled from what is kept

@@ -1,8 +1,9 @@
 #!/usr/bin/env python3
 """Sends hostile frames to sessions, and prints how long each takes by the clock beside what `- compile` of the same map
-takes: a node of 10,000 ways that is deleted; a restriction of 65,535 members that comes, and goes; a change that
-touches every way; one object two thousand times; a hundred thousand nodes moved. Behind each the graph that was
-followed is compared with the one that is compiled. Use: hostile_frames.py PROGRAM FOLDER; bench/frames.sh calls it.
+takes, and the greatest memory of the session before and behind them: a node of 10,000 ways that is deleted; a
+restriction of 65,535 members that comes, and goes; a change that touches every way; one object two thousand times; a
+hundred thousand nodes moved. Behind each the graph that was followed is compared with the one that is compiled. Use:
+hostile_frames.py PROGRAM FOLDER; bench/frames.sh calls it.
 """
 import os
 import subprocess
@@ -42,6 +43,12 @@ def run(words, given):
     return done.stdout, time.perf_counter() - start
 
 
+def peak_of(session):
+    """The greatest amount of memory that the session held, in KB."""
+    with open(f'/proc/{session.pid}/status', encoding='ascii') as it:
+        return next(int(line.split()[1]) for line in it if line.startswith('VmHWM'))
+
+
 def tries(name, lines, frames):
     store, extract = os.path.join(folder, 'store'), ''.join(lines).encode()
     for end in '.a', '.b':
@@ -58,12 +65,14 @@ def tries(name, lines, frames):
         return session.stdout.readline(), time.perf_counter() - start
 
     ask(b'state\n')
+    opened = peak_of(session)
     took = []
     for number, lines in enumerate(frames, 2):
         reply, clock = ask(f'#seq {number}\n{"".join(lines)}#end\n'.encode())
         if reply != b'applied %d\n' % number:
             sys.exit(f'{name}: {reply}')
         took.append(clock)
+    peak = peak_of(session)
     head, _ = ask(b'graph\n')
     graph = session.stdout.read(int(head.split()[1]))
     session.stdin.close()
@@ -71,7 +80,7 @@ def tries(name, lines, frames):
     if graph != run([store, 'graph'], b'')[0]:
         sys.exit(f'{name}: the graph that was followed is not the one that is compiled')
     print(f'  {name}: compiled in {1000 * compiled:.0f} ms; frames '
-          + ', '.join(f'{1000 * clock:.1f}' for clock in took) + ' ms')
+          + ', '.join(f'{1000 * clock:.1f}' for clock in took) + f' ms; {opened} KB opened, {peak} KB behind them')
 
 
 tries('a node of 10,000 ways, deleted', star(10000), [['n1 v2 dD\n']])

@@ -140,6 +140,18 @@ def frames_of(texts, first):
     return ''.join(f'#seq {n}\n{text}#end\n' for n, text in enumerate(texts, first))
 
 
+def hostile(extract):
+    """The node that most ways name is deleted; every way comes anew; and one node is moved a hundred times."""
+    ways = [line.split() for line in extract.splitlines() if line.startswith('w')]
+    named = Counter(node for way in ways for node in set(way[-1][1:].split(',')))
+    hub = max(named, key=lambda node: (named[node], node))
+    return [
+        f'{hub} v99 dD\n',
+        ''.join(f'{way[0]} v150 Thighway=service {way[-1]}\n' for way in ways),
+        ''.join(f'n37 v{version} x8.0001 y50.{version:07}\n' for version in range(100, 200)),
+    ]
+
+
 def main():
     extract = ''
     for path in extracts:
@@ -158,6 +170,7 @@ def main():
         f'#{" a long comment" * 5000}\n'
         'r303 v2 dD\n'
         'r304 v1 Ttype=restriction,restriction=only_straight_on Mw201@from,w203@via,w205@to\n',
+        *hostile(extract),
     ]
     graphs = {}
     for behind in range(len(changes) + 1):
