@@ -171,9 +171,9 @@ def main():
         peak = next(line.split()[1] for line in it if line.startswith('VmHWM'))
     tenth = max(1, len(clock) // 10)
     mean = lambda times: sum(times) / len(times)
-    print(f'  {kind:8} {len(clock)} frames of {events}: mean {mean(clock):.2f} ms, longest {max(clock):.2f} ms, processor time '
-          f'{mean(own):.2f} ms; the first tenth {mean(clock[:tenth]):.2f} ms, the last {mean(clock[-tenth:]):.2f} ms; '
-          f'{peak} KB')
+    print(f'  {kind:8} {len(clock)} frames of {events}: mean {mean(clock):.2f} ms, longest {max(clock):.2f} ms, '
+          f'processor time {mean(own):.2f} ms; the first tenth {mean(clock[:tenth]):.2f} ms, '
+          f'the last {mean(clock[-tenth:]):.2f} ms; {peak} KB')
     # the graph that was followed is the one that is compiled from what is kept
     head = ask(b'graph\n')
     graph = session.stdout.read(int(head.split()[1]))

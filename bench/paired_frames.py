@@ -63,8 +63,8 @@ def main():
         for session in sessions:
             session.close()
     old, new = (sum(session.took) / len(session.took) for session in sessions)
-    print(f'  {kind:8} {count} frames behind {before}: {old:.2f} ms in the session that followed these, {new:.2f} ms in '
-          f'one that was opened then: {old / new:.2f} times')
+    print(f'  {kind:8} {count} frames behind {before}: {old:.2f} ms in the session that followed these, '
+          f'{new:.2f} ms in one that was opened then: {old / new:.2f} times')
 
 
 main()
