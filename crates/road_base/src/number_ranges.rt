@@ -5,7 +5,7 @@ use crate::{Event, Key, NoMemory, NodeId, WayId};
 use std::alloc::Global;
 
 /// About how many numbers one range is to hold.
-const NUMBERS_A_RANGE: usize = 4;
+const NUMBERS_A_RANGE: usize = 2;
 
 /// What has a number of its own, by which a list of them is in order.
 pub trait Numbered {
@@ -59,7 +59,7 @@ impl Ranges {
     }
 
     /// The ranges of the items' numbers, which don't fall; and no ranges where there are no items or no memory is
-    /// found. Takes about a byte an item, and the time of one run over them.
+    /// found. Takes about two bytes an item, and the time of one run over them.
     pub fn of<T: Numbered>(alloc: Global, items: &[T]) -> Ranges {
         let Some((first, last)) = ends_of(items) else {
             return Ranges::new(alloc);

@@ -205,7 +205,7 @@ fn parts_have_their_numbers(rt: HostRuntime) {
     assert!(rt; parts_fit(alloc, &wide));
     assert!(rt; parts_fit(alloc, &dense));
     assert!(rt; parts_fit(alloc, &[NodeId(4)]));
-    assert!(rt; Ranges::of(alloc, &dense).part_of(9) == Some((0, 4)));
+    assert!(rt; Ranges::of(alloc, &dense).part_of(8) == Some((0, 4)));
     assert!(rt; Ranges::of(alloc, &dense).part_of(100).is_none());
     assert!(rt; Ranges::of::<NodeId>(alloc, &[]).part_of(0).is_none());
 }
