@@ -5,8 +5,9 @@
 //! judge whole lists of steps against tags and members. The types here are what a profile answers and what a graph is
 //! made of. A graph's blocks lie in one list in the order of their ways: to find one is a binary search, or a look at
 //! two places where the caller knows where it may stand. One behind all others is put at the cost of a push; to put any
-//! other whose way is new, and to take one out, moves the blocks behind it. A copy costs the size of what is copied,
-//! and everything else a constant.
+//! other whose way is new, and to take one out, moves the blocks behind it. A piece with one context, from which three
+//! arcs or fewer lead, as most pieces have, takes the memory of one list beside its own place: that of its nodes. A
+//! copy costs the size of what is copied, and everything else a constant.
 #![tactic(auto)]
 
 mod access_values;

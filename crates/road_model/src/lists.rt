@@ -1,8 +1,14 @@
 //! Pieces, contexts and arcs of the turn-expanded graph, and lists of them.
-ghost use Rattle.std.specs.Prelude.{◌≡◌, IfOk};
+ghost use Rattle.std.specs.Prelude.{◌≡◌, IfOk, IfSome};
 
 use road_base::{Dir, Location, NoMemory, NodeId, WayId};
+use smallvec::SmallVec;
+use std::alloc::Global;
+use std::default::MadeWith;
 use std::marker::Model;
+
+/// Most contexts have so many arcs or fewer: at a crossing one to each side, and one straight on.
+const FEW_ARCS: usize = 3;
 
 /// What names a piece: its way, its lower position on the way's line, and its direction. Names are compared in this
 /// order.
@@ -53,6 +59,30 @@ impl Context {
         let before = self.before.copy()?;
         let arcs = self.arcs.copy()?;
         Ok(Context { before, arcs })
+    }
+}
+
+impl Default for TurnArc {
+    /// What stands where a short list has room for an arc.
+    fn default() -> TurnArc {
+        TurnArc {
+            piece: PieceName {
+                way: WayId(0),
+                index: 0,
+                dir: Dir::Forward,
+            },
+            length: 0,
+        }
+    }
+}
+
+impl MadeWith<Global> for Context {
+    /// What stands where a short list has room for a context.
+    fn made_with(alloc: Global) -> Context {
+        Context {
+            before: Names::from_list(Vec::new(alloc)),
+            arcs: Arcs::from_list(Vec::new(alloc)),
+        }
     }
 }
 
@@ -111,10 +141,10 @@ impl Names {
     }
 }
 
-/// Arcs from a context.
+/// Arcs from a context. Three or fewer take no memory of their own.
 #[derive(Drop)]
 pub struct Arcs {
-    list: Vec<TurnArc>,
+    list: SmallVec<TurnArc, FEW_ARCS>,
 }
 
 impl Model for Arcs {
@@ -131,7 +161,12 @@ impl Arcs {
     pub fn from_list(list: Vec<TurnArc>) -> Arcs
         ensures { result ≡ list.items }
     {
-        Arcs { list }
+        match few_arcs(&list) {
+            Some(list) => Arcs { list },
+            None => Arcs {
+                list: SmallVec::from_vec(list),
+            },
+        }
     }
 
     /// Ascending by name, in a graph.
@@ -145,9 +180,19 @@ impl Arcs {
     pub fn copy(&self) -> Result<Arcs, NoMemory>
         ensures { IfOk result (λ l. l ≡ self.now) }
     {
-        let list = self.list.clone()?;
+        let list = SmallVec::from_slice(*self.list.allocator(), self.list.as_slice())?;
         Ok(Arcs { list })
     }
+}
+
+/// The arcs without memory of their own, if they are few.
+fn few_arcs(list: &Vec<TurnArc>) -> Option<SmallVec<TurnArc, FEW_ARCS>>
+    ensures { IfSome result (λ few. few.items ≡ list.now.items) }
+{
+    if list.len() > FEW_ARCS {
+        return None;
+    }
+    SmallVec::from_slice(*list.allocator(), list.as_slice()).ok()
 }
 
 /// The nodes that a piece passes.
@@ -189,10 +234,10 @@ impl Places {
     }
 }
 
-/// The contexts of a piece.
+/// The contexts of a piece. Where there is one alone, as for most pieces, it takes no memory of its own.
 #[derive(Drop)]
 pub struct Contexts {
-    list: Vec<Context>,
+    list: SmallVec<Context, 1>,
 }
 
 impl Model for Contexts {
@@ -209,7 +254,17 @@ impl Contexts {
     pub fn from_list(list: Vec<Context>) -> Contexts
         ensures { result ≡ list.items }
     {
-        Contexts { list }
+        let mut list = list;
+        if list.len() == 1 {
+            if let Some(context) = list.pop() {
+                return Contexts {
+                    list: SmallVec::from_buf(*list.allocator(), [context]),
+                };
+            }
+        }
+        Contexts {
+            list: SmallVec::from_vec(list),
+        }
     }
 
     /// By length and then by names, in a graph.
@@ -224,7 +279,7 @@ impl Contexts {
         ensures { IfOk result (λ l. l ≡ self.now) }
     {
         let from = self.list.as_slice();
-        let mut list = Vec::with_capacity(*self.list.allocator(), from.len())?;
+        let mut list = SmallVec::with_capacity(*self.list.allocator(), from.len())?;
         for item in from {
             list.push(item.copy()?)?;
         }

@@ -14,7 +14,7 @@ use crate::spans::PieceSpan;
 use crate::starts::{Start, put_in_order};
 use road_base::{Dir, NoMemory, Step, WayId};
 use road_model::{Block, Piece, Place};
-use std::alloc::{AllocError, Global};
+use std::alloc::Global;
 use way_lines::Road;
 
 /// The directions in which the way is open whose pieces the block lists: each in which one of them goes. None where it
@@ -57,13 +57,19 @@ pub fn spans_in(alloc: Global, block: &Block) -> Result<Vec<PieceSpan>, NoMemory
         → ListsPieces M P w block.now
         → AreSpans M P w v.items) }
 {
-    Ok(listed_spans(alloc, block.pieces.items())?)
+    let spans = listed_spans(alloc, block.pieces.items())?;
+    Ok(spans)
 }
 
-fn listed_spans(alloc: Global, pieces: &[Piece]) -> Result<Vec<PieceSpan>, AllocError>
+/// Each of the pieces' names, with its end.
+fn listed_spans(alloc: Global, pieces: &[Piece]) -> Result<Vec<PieceSpan>, NoMemory>
     ensures { IfOk result (λ v. v.items ≡ map listed_span pieces.now) }
 {
-    pieces.iter().map(|piece| listed_span(piece)).collect(alloc)
+    let mut spans = Vec::with_capacity(alloc, pieces.len())?;
+    for piece in pieces {
+        spans.push(listed_span(piece))?;
+    }
+    Ok(spans)
 }
 
 /// The piece's name, and its end.

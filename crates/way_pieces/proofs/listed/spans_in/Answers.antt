@@ -8,6 +8,6 @@ use Rattle.way_pieces.proofs.listed.spans_in.Goals as goal
 
 pub returns : goal.returns
 returns c = λ M P w lists.
-    let read : c.in_ok-listed_spans.field-0.items ≡ map listed_span c.args.block.now.pieces =
-    c.in_ok-listed_spans.ensures ∙ ap (map listed_span) c.items.ensures in
+    let read : c.in_ok-spans.spans.items ≡ map listed_span c.args.block.now.pieces =
+    c.in_ok-spans.ensures ∙ ap (map listed_span) c.items.ensures in
     subst (λ (l : List PieceSpan). AreSpans M P w l) (sym read) (are_listed M P w c.args.block.now lists)
