@@ -98,7 +98,7 @@ impl Base {
 
     /// Puts the event's entry in the place of its key's, where it has one of the key; else nothing changes and the
     /// event is dropped. Takes the time of a look-up, and no memory.
-    pub fn replace(&mut self, event: Event)
+    fn replace(&mut self, event: Event)
         ensures { self.new ≡ replaced self.old event }
     {
         key_order();
@@ -111,7 +111,7 @@ impl Base {
 
     /// Puts the entry of each of the events in turn in the place of its key's, where it has one of the key. Takes no
     /// memory.
-    pub fn replace_all(&mut self, events: Vec<Event>)
+    pub(crate) fn replace_all(&mut self, events: Vec<Event>)
         ensures { self.new ≡ replaced_by events.items self.old }
     {
         for event in events {

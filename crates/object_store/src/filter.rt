@@ -4,7 +4,7 @@
 //! ones of neighbouring numbers are neighbours, so that look-ups of these touch little memory. The other ones are
 //! scattered by Fibonacci hashing (D. E. Knuth, The Art of Computer Programming 3, 6.4): they are asked only where the
 //! first one is marked, and tell most of the numbers apart that share it.
-ghost use Rattle.std.specs.Prelude.{◌≡◌, ◌≢◌, ◌↔◌, ◌<◌, ℕ, ℤ, IfOk, OnOk, IsTrue};
+ghost use Rattle.std.specs.Prelude.{◌≡◌, ◌≢◌, ◌↔◌, ◌<◌, ℕ, ℤ, IfOk, OnOk, OnErr, IsTrue, IsFalse};
 ghost use Rattle.std.specs.Int.{bit_at};
 ghost use Rattle.std.specs.declared.cmp.Ordering.TheVariants.{Equal};
 ghost use Rattle.object_store.specs.Filters.{slot_of, other_slot_of, slots_in, IsSlotMarked, IsMarked};
@@ -30,7 +30,8 @@ const FIBONACCI: u64 = 0x9E37_79B9_7F4A_7C15;
 /// By how many bits a product is shifted so that a slot is left of it.
 const SLOT_SHIFT: u32 = 44;
 
-/// What has a number. Keys that tie have the same one.
+/// What has a number, at which a filter marks it. Keys that tie have the same one; `Numbered` of `road_base`, which
+/// tells where in a list a number stands, says nothing of ties.
 pub trait Slotted: Ord {
     ghost number: { Self → ℤ };
 
@@ -230,6 +231,7 @@ impl Marks {
     pub fn mark(&mut self, alloc: Global, number: i64) -> Result<(), NoMemory>
         ensures own { OnOk result (IsMarked self.new number) }
         ensures others { (other : ℤ) → IsMarked self.old other → IsMarked self.new other }
+        ensures err { OnErr result (self.new ≡ self.old) }
     {
         if self.has(number) || self.mark_own(number) {
             return Ok(());
@@ -242,6 +244,7 @@ impl Marks {
     fn mark_own(&mut self, number: i64) -> bool
         ensures own { IsTrue result → IsMarked self.new number }
         ensures others { (other : ℤ) → IsMarked self.old other → IsMarked self.new other }
+        ensures none { IsFalse result → self.new ≡ self.old }
     {
         let Some(filter) = &mut self.filter else {
             return false;

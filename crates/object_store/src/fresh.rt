@@ -86,7 +86,7 @@ impl Fresh {
     }
 
     /// The objects after, alone.
-    pub fn into_objects(self) -> Objects
+    pub(crate) fn into_objects(self) -> Objects
         ensures { result ≡ self.after }
     {
         self.after

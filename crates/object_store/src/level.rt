@@ -133,7 +133,7 @@ impl<K: Ord + Copy + Slotted, V: Drop> Level<K, V> {
     {
         let mut all = marks;
         for entry in &self.entries {
-            all = all.with(alloc, entry.key.number())?;
+            all.mark(alloc, entry.key.number())?;
         }
         Ok(all)
     }

@@ -19,14 +19,14 @@ loop-entry-preserved g c =
     let step : take (c.loop-entry.entry-index + 1) entries ≡ front ++ entry ∷ []
     = take_more entries c.loop-entry.entry-index entry c.loop-entry-test.true
     ∙ ap (λ z. front ++ z ∷ []) (sym c.entry-item.is) in
-    let words = c.in_ok-all.all in
+    let words = c.mark.new.self in
     let same : to_z w64 (of_z w64 c.number.result) ≡ c.number.result = search (rules, to_z-of_z) in
     let own : IsMarked words (number entry.key)
-    = subst (IsMarked words) (same ∙ c.number.ensures) c.in_ok-all.ensures.own in (
+    = subst (IsMarked words) (same ∙ c.number.ensures) c.in_ok-mark.ensures.own in (
       subst (λ l. AreMarked R number (map pair l) words) (sym step)
           (more_marked R g.met.K.Ord.total number g.met.K.Slotted.tied pair front entry c.loop-entry.all words
-          c.loop-entry.invariant.0 own c.in_ok-all.ensures.others),
-      λ n is. c.in_ok-all.ensures.others n (c.loop-entry.invariant.1 n is),
+          c.loop-entry.invariant.0 own c.in_ok-mark.ensures.others),
+      λ n is. c.in_ok-mark.ensures.others n (c.loop-entry.invariant.1 n is),
     )
 
 pub returns-clause-own : goal.returns-clause-own
