@@ -161,29 +161,6 @@ impl Indexed {
         Ok(keys)
     }
 
-    /// What the events leave of these objects, beside them: of each key the first one of the greatest version stands,
-    /// its entry here before all of them.
-    pub fn with(&self, events: &[Event]) -> Result<Indexed, NoMemory>
-        ensures { IfOk result (λ i. IsApplied self.now events.now i) }
-    {
-        let mut next = self.copy()?;
-        next.apply(events)?;
-        Ok(next)
-    }
-
-    /// An equal value. Takes little time, since all is shared.
-    pub fn copy(&self) -> Result<Indexed, NoMemory>
-        ensures { IfOk result (λ i. i ≡ self.now) }
-    {
-        let objects = self.objects.copy()?;
-        let references = self.references.share()?;
-        Ok(Indexed {
-            alloc: self.alloc,
-            objects,
-            references,
-        })
-    }
-
     /// The visible ways with the key `highway`, ascending.
     pub fn highways(&self) -> Result<Vec<WayId>, NoMemory>
         ensures exactly { IfOk result (λ ways. ways.items ≡ highways self.now) }

@@ -13,16 +13,15 @@
 //! with a step for each reference that it finds. A search takes the logarithm of what is searched: where the numbers
 //! are spread evenly, a table of ranges of them leaves a few steps of it. The keys around the place that the table
 //! tells are compared, and where that isn't the one, or no memory was found for the table, all keys are searched. A
-//! table takes at most about two bytes a reference, or a byte a replaced list. `of` makes the lists from the entries of
-//! ways and of relations alone: with m entries and r references it takes time of the order of (m + r) log (m + r).
-//! `prepare` and `apply` take what the objects take, sort the references of the changed ways and relations as they were
-//! and as they are, and make the list of each key among them once, in the time of its length times the logarithm of
-//! what is gone from it. An index of which lists change copies the first level, where that has no more than 256 keys
-//! and values, and a level that has at most eight times what comes to it; and, where a copy of it shares them, the marks
-//! of the keys, of 128 KiB. So each of n keys and values that have come since the objects were made is copied, with
-//! eight others, at most once a level, which is of the order of log n times. `copy` takes a moment, since all is shared;
-//! `with` is `apply` on a copy. `highways` looks at each entry of a way once, and copies all entries first where
-//! something has changed.
+//! table takes about two bytes a reference, or a replaced list. `of` makes the lists from the entries of ways and of
+//! relations alone: with m entries and r references it takes time of the order of (m + r) log (m + r). `prepare` and
+//! `apply` take what the objects take, sort the references of the changed ways and relations as they were and as they
+//! are, and make the list of each key among them once, in the time of its length times the logarithm of what is gone
+//! from it. An index of which lists change copies the first level, where that has no more than 256 keys and values, and
+//! a level that has at most eight times what comes to it; and, where a copy of it shares them, the marks of the keys,
+//! of 128 KiB. So each of n keys and values that have come since the objects were made is copied, with eight others, at
+//! most once a level, which is of the order of log n times. `highways` looks at each entry of a way once, and copies
+//! all entries first where something has changed.
 #![tactic(auto)]
 
 mod collecting;

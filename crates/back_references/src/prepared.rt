@@ -38,13 +38,6 @@ impl Prepared {
         Prepared { fresh, next }
     }
 
-    /// The changed entries.
-    pub fn fresh(&self) -> &Fresh
-        ensures { result.now ≡ self.now }
-    {
-        &self.fresh
-    }
-
     /// The keys whose visible body differs, ascending.
     pub fn keys(&self) -> &Keys
         ensures keys { result.now ≡ self.now.keys }

@@ -57,20 +57,6 @@ impl References {
         })
     }
 
-    /// The same references, shared.
-    pub fn share(&self) -> Result<References, NoMemory>
-        ensures { IfOk result (λ r. (M : ObjectMap) → IsIndexed M self.now → IsIndexed M r) }
-    {
-        let ways = self.ways.share()?;
-        let node_rules = self.node_rules.share()?;
-        let way_rules = self.way_rules.share()?;
-        Ok(References {
-            ways,
-            node_rules,
-            way_rules,
-        })
-    }
-
     /// Those of objects after a change, where these are those of the objects before it, and the visible bodies of other
     /// keys are the same.
     pub fn exchanged(
