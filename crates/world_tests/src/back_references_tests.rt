@@ -99,6 +99,19 @@ fn links_of_a_deleted_way_go(rt: HostRuntime) -> Result<(), Fail> {
     check_deletion(&rt, &mut world)
 }
 
+/// Whether these are the visible ways with the key `highway`.
+fn has_highways(world: &Indexed, ways: &[WayId]) -> Result<bool, NoMemory> {
+    let found = world.highways()?;
+    Ok(found.as_slice() == ways)
+}
+
+#[test]
+fn highways_are_listed(rt: HostRuntime) -> Result<(), Fail> {
+    let world = town(rt.alloc())?;
+    assert!(rt; has_highways(&world, &[WayId(10), WayId(12)])?);
+    Ok(())
+}
+
 #[test]
 fn no_objects_have_no_links(rt: HostRuntime) {
     let world = Indexed::new(rt.alloc());

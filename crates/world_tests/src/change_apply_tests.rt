@@ -5,8 +5,8 @@ use access_profile::Motorcar;
 use change_apply::{Engine, Report};
 use graph_file::write;
 use library_tests::makers::events_of;
-use road_base::{Event, Steps};
-use road_model::Profile;
+use road_base::{Dir, Event, NoMemory, Steps, WayId};
+use road_model::{Piece, PieceName, Profile};
 use std::alloc::Global;
 use std::marker::Brand;
 use std::sync::ledger::{Blank, Ledger};
@@ -170,8 +170,18 @@ const BESIDE: &[u8] = b"r1 v1 Ttype=restriction,restriction=no_straight_on Mw2@f
 const BEHIND: &[u8] = b"n7 v1 x0.006 y0\nw5 v1 Thighway=residential Nn5,n7\n\
     r1 v1 Ttype=restriction,restriction=no_straight_on Mw3@from,n5@via,w5@to\n";
 
+/// Way 11 passes node 3. Way 10 leaves where it ends, then the ways 13 and 14.
+const PLAIN: &[u8] = b"n1 v1 x0.001 y0\nn2 v1 x0.002 y0\nn3 v1 x0.003 y0\nn4 v1 x0.004 y0\n\
+    n6 v1 x0.006 y0\nn7 v1 x0.007 y0\nw10 v1 Thighway=residential Nn1,n2\n\
+    w11 v1 Thighway=residential Nn4,n3,n2\nw13 v1 Thighway=residential Nn1,n6\n\
+    w14 v1 Thighway=residential Nn6,n7\n";
+
+/// Way 12 comes to node 3, with its other node. Way 11 is two links away, way 10 four: it is built, since way 11 gets
+/// other pieces. Way 13 is six links away, and way 14 eight, which is too far to be touched.
+const JUNCTION_MADE: &[u8] = b"n5 v1 x0.005 y0\nw12 v1 Thighway=residential Nn3,n5\n";
+
 /// Changes, how many ways the last of them touches, and how many blocks are built behind it.
-const ROWS: [(&[&[u8]], u64, u64); 11] = [
+const ROWS: [(&[&[u8]], u64, u64); 12] = [
     (&[CHAIN], 10, 10),
     (&[CHAIN, SAME], 0, 0),
     (&[CHAIN, MOVED], 4, 2),
@@ -183,6 +193,7 @@ const ROWS: [(&[&[u8]], u64, u64); 11] = [
     (&[PASSED, JOINED], 4, 3),
     (&[PASSED, BESIDE, JOINED], 4, 4),
     (&[PASSED, BEHIND, JOINED], 4, 3),
+    (&[PLAIN, JUNCTION_MADE], 4, 3),
 ];
 
 #[test]
@@ -193,5 +204,67 @@ fn changes_touch_what_is_near(rt: HostRuntime) -> Result<(), Fail> {
         assert_eq!(rt; report.rebuilt, rebuilt);
         assert!(rt; same);
     }
+    Ok(())
+}
+
+/// Whether one arc alone leads from the piece, by this position of way 11, backward.
+fn leads_by(piece: &Piece, index: u32) -> bool {
+    let by = PieceName {
+        way: WayId(11),
+        index,
+        dir: Dir::Backward,
+    };
+    match piece.contexts.items() {
+        [context] => match context.arcs.items() {
+            [arc] => arc.piece == by,
+            _ => false,
+        },
+        _ => false,
+    }
+}
+
+/// Whether one arc alone leads from way 10 along its line, by this position of way 11.
+fn way_10_leads_by(engine: &mut Engine<Motorcar>, index: u32) -> Result<bool, NoMemory> {
+    let graph = engine.graph()?;
+    let Some(block) = graph.blocks.get(WayId(10)) else {
+        return Ok(false);
+    };
+    Ok(match block.pieces.items() {
+        [forward, _] => forward.name.dir == Dir::Forward && leads_by(forward, index),
+        _ => false,
+    })
+}
+
+/// Whether way 10 leads by all of way 11 before node 3 is a junction, and by its last step behind that.
+fn leads_by_less<L: Ledger>(
+    alloc: Global,
+    engine: &mut Engine<Motorcar>,
+    steps: &mut Steps<L>,
+) -> Result<bool, Fail> {
+    let before = way_10_leads_by(engine, 0)?;
+    let change = events_of(alloc, JUNCTION_MADE)?;
+    let _ = engine.apply(&change, steps)?;
+    Ok(before && way_10_leads_by(engine, 1)?)
+}
+
+fn way_10_leads_by_less<L: Ledger>(alloc: Global, steps: &mut Steps<L>) -> Result<bool, Fail> {
+    let events = events_of(alloc, PLAIN)?;
+    let mut engine = Engine::load(alloc, Motorcar, events, steps)?;
+    leads_by_less(alloc, &mut engine, steps)
+}
+
+/// The same with a ledger of its own.
+fn junction_is_made<L: Ledger>(alloc: Global, blank: Blank) -> Result<bool, Fail>
+    requires name { blank.name ≡ L.name }
+    requires parts { blank.parts ≡ L.parts }
+    requires some { 0 < L.parts }
+{
+    let mut steps = Steps::<L>::new(blank);
+    way_10_leads_by_less(alloc, &mut steps)
+}
+
+#[test]
+fn arcs_lead_to_the_junction_that_is_made(rt: HostRuntime) -> Result<(), Fail> {
+    assert!(rt; junction_is_made::<Brand>(rt.alloc(), Blank::new(1))?);
     Ok(())
 }

@@ -1,10 +1,10 @@
 //! The ways within six links, before and after a change.
 use crate::worlds::world_of;
 use back_references::Indexed;
-use road_base::{Key, Keys, NodeId, RelationId, WayId, Ways};
+use road_base::{Key, Keys, NoMemory, NodeId, RelationId, WayId, Ways};
 use std::alloc::Global;
 use std::test::Fail;
-use touched_ways::{NearWays, merge, reached, surroundings};
+use touched_ways::{NearWays, TouchedWays, meeting, merge, part, reached, surroundings};
 
 /// Way 10 over the nodes 1 and 2, way 11 over 4, 3 and 2, way 13 over 1 and 6, and way 14 over 6 and 7.
 const BEFORE: &[u8] =
@@ -117,5 +117,57 @@ fn ways_about_a_moved_way(rt: HostRuntime) -> Result<(), Fail> {
         assert!(rt; are(&found.near, &[11, 12, 13, 20]));
         assert!(rt; are(&found.all, &[10, 11, 12, 13, 14, 20, 21, 22]));
     }
+    Ok(())
+}
+
+/// Whether the far ones of the ways that meet the way are this one alone.
+fn meets(
+    alloc: Global,
+    world: &Indexed,
+    touched: &TouchedWays,
+    way: i64,
+    met: i64,
+) -> Result<bool, NoMemory> {
+    let ways = meeting(alloc, world, &touched.far, &[WayId(way)])?;
+    Ok(are(&ways, &[met]))
+}
+
+/// Ways at the ends of those that are near the change, and the far ones that they meet.
+const MET: [(i64, i64); 4] = [(11, 10), (13, 14), (20, 21), (23, 22)];
+
+fn all_meet(alloc: Global, world: &Indexed, touched: &TouchedWays) -> Result<bool, NoMemory> {
+    for (way, met) in MET {
+        if !meets(alloc, world, touched, way, met)? {
+            return Ok(false);
+        }
+    }
+    Ok(true)
+}
+
+/// Whether the ways that a change of way 12 touches come in the parts that they should in the world behind it.
+fn come_in_parts(alloc: Global, world: &Indexed, found: NearWays) -> Result<bool, NoMemory> {
+    let touched = part(alloc, world, found.all, &found.near)?;
+    Ok(
+        are(&touched.near, &[11, 12, 13, 20])
+            && are(&touched.far, &[10, 14, 21, 22])
+            && are(&touched.all, &[10, 11, 12, 13, 14, 20, 21, 22])
+            && all_meet(alloc, world, &touched)?,
+    )
+}
+
+fn parts_between(alloc: Global, was: &Indexed, is: &Indexed) -> Result<bool, Fail> {
+    let found = about_between(alloc, was, is)?;
+    Ok(come_in_parts(alloc, is, found)?)
+}
+
+fn parts_since(alloc: Global, was: &Indexed) -> Result<bool, Fail> {
+    let is = world_of(alloc, MOVED)?;
+    parts_between(alloc, was, &is)
+}
+
+#[test]
+fn touched_ways_in_two_parts(rt: HostRuntime) -> Result<(), Fail> {
+    let was = world_of(rt.alloc(), ROWS)?;
+    assert!(rt; parts_since(rt.alloc(), &was)?);
     Ok(())
 }
