@@ -1,5 +1,5 @@
 -- What was built while a session goes on, and where it doesn't.
-use Rattle.std.proofs.Common.{◌≡◌, inl, inr, ⊎_elim, ℕ, ◌+◌, List, [], ◌++◌, length, Result, Ok, Err}
+use Rattle.std.proofs.Common.{◌≡◌, ◌⊎◌, inl, inr, ⊎_elim, ℕ, ◌+◌, List, [], ◌++◌, length, Result, Ok, Err}
 use Rattle.std.proofs.Common.{refl, sym, ◌∙◌, ap, subst, append_assoc, length-append, arith}
 use Rattle.std.proofs.lemmas.List.{append-nil}
 use Rattle.road_base.specs.Objects.{Objects}
@@ -13,7 +13,7 @@ use Rattle.session_input.specs.Holding.{Holds}
 use Rattle.session_input.specs.Reading.{Receives, IsEnding}
 use Rattle.session.specs.declared.stop.Stop.{Stop}
 use Rattle.session.specs.Conversation.{Kept}
-use Rattle.session.specs.Building.{Go, BuildsFew}
+use Rattle.session.specs.Building.{Go, BuildsFew, BuildsLast}
 use Rattle.session.specs.BuildingOn.{MessageBuilds, IsBuiltFor, AnswerBuilds, BuildsOn}
 
 -- one that was answered, too
@@ -50,9 +50,7 @@ module _ (opening : Kept) (read : List ℕ) (input : Input) (world : Objects) (j
     from = b.from;
     n = b.n;
     touched = b.touched;
-    last = 0;
-    ends = inl refl;
-    few = omega (arith, b.few);
+    few = b.few;
   }
 
   pub builds_all : BuildsFew opening read first was
@@ -103,8 +101,6 @@ module _ (opening : Kept) (read : List ℕ) (input : Input) (world : Objects) (j
           n = b.n + some.1;
           touched = Go b.front (b.pending ++ taken) (b.front ++ (b.pending ++ taken)) b.from some.0 got.message b.n
               some.1 b.touched got.taken some.2 refl;
-          last = 0;
-          ends = inl refl;
           few = omega (arith, b.few, some.3);
         })
         builds
@@ -112,18 +108,22 @@ module _ (opening : Kept) (read : List ℕ) (input : Input) (world : Objects) (j
   -- ---- the last message
 
   pub builds_last : (received : Received) (e : IsEnding b.pending (Last received)) (now : ℕ)
-      → MessageBuilds b.from e.1.0 was now → BuildsFew opening read first now
+      → MessageBuilds b.from e.1.0 was now → BuildsFew opening read first now ⊎ BuildsLast opening read first now
   builds_last received e now builds = ⊎_elim
-      (λ none. subst (λ (n : ℕ). BuildsFew opening read first n) (sym none) builds_all)
-      (λ some. record {
+      (λ none. inl (subst (λ (n : ℕ). BuildsFew opening read first n) (sym none) builds_all))
+      (λ some. inr record {
         front = b.front;
         rest = b.pending;
         is = b.is;
         from = b.from;
         n = b.n;
         touched = b.touched;
+        message = e.1.0;
+        to = some.0;
+        pending = b.holds.pending;
+        ends = record { some = e.0; is = e.1.1 };
         last = some.1;
-        ends = inr (e.1.0, some.0, record { some = e.0; is = e.1.1 }, some.2);
+        touches = some.2;
         few = omega (arith, b.few, some.3);
       })
       builds

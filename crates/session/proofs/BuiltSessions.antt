@@ -1,6 +1,6 @@
 -- What was built while a session goes on, as far as the site tells.
-use Rattle.std.proofs.Common.{◌≡◌, ℕ, ◌+◌, ◌≤◌, List, [], ◌++◌, length, Option, None, Some, IfSome, Result, Ok, Err}
-use Rattle.std.proofs.Common.{refl, sym, ◌∙◌, ap, subst, append_assoc, arith, inl, take, drop}
+use Rattle.std.proofs.Common.{◌≡◌, ◌⊎◌, ℕ, ◌+◌, ◌≤◌, List, [], ◌++◌, length, Option, None, Some, IfSome}
+use Rattle.std.proofs.Common.{Result, Ok, Err, refl, sym, ◌∙◌, ap, subst, append_assoc, arith, inl, inr, ⊎_elim, take, drop}
 use Rattle.std.proofs.lemmas.List.{append-nil, take-append-drop}
 use Rattle.std.proofs.Math.Seq.{take-add}
 use Rattle.std.specs.FinMap.{empty}
@@ -23,10 +23,11 @@ use Rattle.session_input.specs.Reading.{Means, Receives, IsEnding}
 use Rattle.session.specs.declared.stop.Stop.{Stop}
 use Rattle.session.specs.Conversation.{Kept}
 use Rattle.session.specs.Conversing.{IsOpening, opening_of}
-use Rattle.session.specs.Building.{Start, BuildsFew}
+use Rattle.session.specs.Building.{Start, BuildsFew, BuildsLast, BuildsOf}
 use Rattle.session.specs.BuildingOn.{AnswerBuilds, BuildsOn}
 use Rattle.session.specs.Answering.{IsKept}
 use Rattle.road_io.specs.Parts.{Took}
+use Rattle.session.proofs.HeldSource.{behind_of}
 use Rattle.session.proofs.BuiltMessages.{message_builds, builds_more, builds_few, builds_all, builds_on, builds_until}
 use Rattle.session.proofs.BuiltMessages.{builds_last}
 
@@ -69,11 +70,13 @@ module _ (input : Input) (world : Objects) (journal : Journal) (was : ℕ) (x : 
       (λ w opening read first b. builds_few opening read input world journal first was w b more)
 
   pub ends_building : IfSome x (λ w. (opening : Kept) (read : List ℕ) (first : ℕ)
-      → BuildsOn opening read input world journal first was w → BuildsFew opening read first was)
+      → BuildsOn opening read input world journal first was w
+      → BuildsFew opening read first was ⊎ BuildsLast opening read first was)
   ends_building =
       if_each x (λ w. (opening : Kept) (read : List ℕ) (first : ℕ)
-      → BuildsOn opening read input world journal first was w → BuildsFew opening read first was)
-      (λ w opening read first b. builds_all opening read input world journal first was w b)
+      → BuildsOn opening read input world journal first was w
+      → BuildsFew opening read first was ⊎ BuildsLast opening read first was)
+      (λ w opening read first b. inl (builds_all opening read input world journal first was w b))
 
   module _ (received : Received) (after : Objects) (new : Journal) (now : ℕ) (y : Option Outside) where
     module _ (taken : List ℕ) (next : Input)
@@ -119,16 +122,27 @@ module _ (input : Input) (world : Objects) (journal : Journal) (was : ℕ) (x : 
         → Told (λ w v. (from : Kept) (message : Message) → Means message received → IsKept world journal from w
         → AnswerBuilds from message after new result was now v) x y
         → IfSome x (λ w. (opening : Kept) (read : List ℕ) (first : ℕ)
-        → BuildsOn opening read input world journal first was w → BuildsFew opening read first now)
+        → BuildsOn opening read input world journal first was w
+        → BuildsFew opening read first now ⊎ BuildsLast opening read first now)
     last_building result ended told =
         told_before x y (λ w v. (from : Kept) (message : Message) → Means message received
         → IsKept world journal from w → AnswerBuilds from message after new result was now v)
         (λ w. (opening : Kept) (read : List ℕ) (first : ℕ)
-        → BuildsOn opening read input world journal first was w → BuildsFew opening read first now) told
+        → BuildsOn opening read input world journal first was w
+        → BuildsFew opening read first now ⊎ BuildsLast opening read first now) told
         (λ w v a opening read first b.
         let e = ended (length b.front) b.pending b.holds in
         builds_last opening read input world journal first was w b received e now
         (message_builds b.from e.1.0 after new result was now v (a b.from e.1.0 e.1.2 b.kept)))
+
+-- the source ended, and no read failed
+pub builds_at_end : (opening : Kept) (read behind : List ℕ) (left : Option (List ℕ)) (calm : Type 0) (old new : ℕ)
+    → behind_of left ≡ [] → left ≡ Some behind → calm
+    → BuildsFew opening read old new ⊎ BuildsLast opening read old new → BuildsOf opening read behind calm old new
+builds_at_end opening read behind left calm old new nothing is no_fault builds = ⊎_elim
+    (λ few. inl few)
+    (λ last. inr (sym (ap behind_of is) ∙ nothing, no_fault, last))
+    builds
 
 -- ---- one call behind another
 
@@ -282,7 +296,5 @@ module _ (loaded : Loaded) (h : History) (w : Outside) (o : IsOpening loaded h w
       from = opening_of loaded h;
       n = 0;
       touched = Start;
-      last = 0;
-      ends = inl refl;
       few = omega (arith, built M (of_history M has));
     }

@@ -1,5 +1,5 @@
 -- What a source held, and what was read of it.
-use Rattle.std.proofs.Common.{◌≡◌, ℕ, List, [], ◌++◌, Option, None, Some, refl}
+use Rattle.std.proofs.Common.{ℕ, List, [], ◌++◌, Option, None, Some, refl}
 use Rattle.std.specs.Prelude.{unwrap_or}
 use Rattle.road_io.specs.Parts.{Took}
 use Rattle.session.specs.Conversing.{HeldBytes}

@@ -6,7 +6,7 @@ use Rattle.road_model.specs.Highways.{highways}
 use Rattle.road_io.specs.Outside.{Outside}
 use Rattle.sequence_journal.specs.declared.load.Loaded.{Loaded}
 use Rattle.session_input.specs.Messages.{Message, Line, Frame}
-use Rattle.session_input.specs.Limits.{IsTaken}
+use Rattle.session_input.specs.Limits.{IsTaken, IsPending}
 use Rattle.change_apply.specs.Engines.{Touches}
 use Rattle.session.specs.Conversation.{Kept, FrameReplied, Accepted, OutOfSequence, Faulty}
 use Rattle.session.specs.Conversing.{IsOpening, opening_of}
@@ -34,12 +34,7 @@ pub data Touched (opening : Kept) : List ℕ → Kept → ℕ → Type 0 where
       → IsTaken (length front) message taken → MessageTouches from message to more → bytes ≡ front ++ taken
       → Touched opening bytes to (n + more)
 
--- a message at the end of the input, whose last line has no newline, touches so many ways; or there is none
-abbrev pub LastTouches : Kept → List ℕ → ℕ → Type 0
-LastTouches from rest n =
-    (n ≡ 0) ⊎ ((message : Message) × (to : Kept) × IsLast message rest × MessageTouches from message to n)
-
--- from one count to the other it rose by no more than the ways that the messages of what was read touch
+-- from one count to the other it rose by no more than the ways that the messages of a front of what was read touch
 pub record BuildsFew (opening : Kept) (read : List ℕ) (old new : ℕ) : Type 0 where
   pub front : List ℕ
   pub rest : List ℕ
@@ -47,14 +42,36 @@ pub record BuildsFew (opening : Kept) (read : List ℕ) (old new : ℕ) : Type 0
   pub from : Kept
   pub n : ℕ
   pub touched : Touched opening front from n
+  pub few : new ≤ old + n
+
+-- The same where one message more ends what was read, within the limits, whose last line has no newline.
+pub record BuildsLast (opening : Kept) (read : List ℕ) (old new : ℕ) : Type 0 where
+  pub front : List ℕ
+  pub rest : List ℕ
+  pub is : read ≡ front ++ rest
+  pub from : Kept
+  pub n : ℕ
+  pub touched : Touched opening front from n
+  pub message : Message
+  pub to : Kept
+  pub pending : IsPending (length front) rest
+  pub ends : IsLast message rest
   pub last : ℕ
-  pub ends : LastTouches from rest last
+  pub touches : MessageTouches from message to last
   pub few : new ≤ old + (n + last)
+
+-- What is built for the bytes that were read. A last line without a newline ends a message only where the source ended
+-- there: none of its bytes is left, and no read failed.
+abbrev pub BuildsOf : Kept → List ℕ → (behind : List ℕ) → (no_read_failed : Type 0) → ℕ → ℕ → Type 0
+BuildsOf opening read behind no_read_failed old new =
+    BuildsFew opening read old new ⊎ ((behind ≡ []) × no_read_failed × BuildsLast opening read old new)
 
 -- A session builds no more blocks than the opening objects have visible ways with the key `highway`, and for each
 -- accepted frame whole in what was read the ways that it touches. It is said where source and site tell.
-abbrev pub SessionBuilds : Loaded → Option (List ℕ) → Option (List ℕ) → Option Outside → ℕ → ℕ → Type 0
-SessionBuilds loaded held remaining before old new = (bytes behind : List ℕ) (w : Outside) (h : History) (M : Objects)
+abbrev pub SessionBuilds : Loaded → (no_read_failed : Type 0) → Option (List ℕ) → Option (List ℕ) → Option Outside
+    → ℕ → ℕ → Type 0
+SessionBuilds loaded no_read_failed held remaining before old new =
+    (bytes behind : List ℕ) (w : Outside) (h : History) (M : Objects)
     → held ≡ Some bytes → remaining ≡ Some behind → before ≡ Some w → IsOpening loaded h w → HasObjects h M
     → (read : List ℕ) × (bytes ≡ read ++ behind)
-    × BuildsFew (opening_of loaded h) read (old + length (highways M)) new
+    × BuildsOf (opening_of loaded h) read behind no_read_failed (old + length (highways M)) new

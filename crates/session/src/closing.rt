@@ -5,7 +5,7 @@ ghost use Rattle.road_io.specs.Outside.{Outside};
 ghost use Rattle.sequence_journal.specs.declared.load.Loaded.{Loaded};
 ghost use Rattle.session.specs.Conversing.{SessionEnds, CountsCalls};
 ghost use Rattle.session.specs.Conversation.{Kept};
-ghost use Rattle.session.specs.Building.{BuildsFew};
+ghost use Rattle.session.specs.Building.{BuildsFew, BuildsLast};
 ghost use Rattle.session.specs.BuildingOn.{BuildsOn};
 ghost use Rattle.session.specs.Answering.{CountsStops};
 ghost use Rattle.session.specs.Following.{Goes, Since, Closes, Halts, IsHalted};
@@ -74,7 +74,7 @@ pub fn finish<P: Profile, W: Site, L: Ledger>(
         (W.outside site.new) }
     ensures builds { IfSome (W.outside site.old) (λ w. (opening : Kept) (read : List ℕ) (first : ℕ)
         → BuildsOn opening read input talk.old.engine.world talk.old.journal first steps.old w
-        → BuildsFew opening read first steps.new) }
+        → BuildsFew opening read first steps.new ⊎ BuildsLast opening read first steps.new) }
     ensures calls { CountsCalls (W.faults site.old) (W.faults site.new) result }
     ensures named { result ≢ End.ReadFault }
 {

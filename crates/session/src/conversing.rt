@@ -1,11 +1,11 @@
 //! A session, from its first read to its end.
-ghost use Rattle.std.specs.Prelude.{◌≡◌, ◌≤◌, ◌++◌, ℕ, List, [], Option, Some, false, IfSome, length, take};
+ghost use Rattle.std.specs.Prelude.{◌≡◌, ◌≢◌, ◌≤◌, ◌++◌, ℕ, List, [], Option, Some, false, IfSome, length, take};
 ghost use Rattle.road_base.specs.History.{History};
 ghost use Rattle.road_io.specs.Outside.{Outside};
 ghost use Rattle.sequence_journal.specs.declared.load.Loaded.{Loaded as LoadedStore};
 ghost use Rattle.session.specs.Conversing.{IsOpening, Converses, CountsReads, CountsCalls};
 ghost use Rattle.session.specs.Conversation.{Kept};
-ghost use Rattle.session.specs.Building.{BuildsFew, SessionBuilds};
+ghost use Rattle.session.specs.Building.{BuildsOf, SessionBuilds};
 ghost use Rattle.session.specs.BuildingOn.{BuildsOn};
 ghost use Rattle.session.specs.Following.{Goes};
 
@@ -58,7 +58,8 @@ fn follow<P: Profile, S: Source, W: Site, L: Ledger>(
         → S.bytes_left source.new ≡ Some behind
         → W.outside site.old ≡ Some w
         → BuildsOn opening [] input talk.old.engine.world talk.old.journal first steps.old w
-        → (read : List ℕ) × (bytes ≡ read ++ behind) × BuildsFew opening read first steps.new }
+        → (read : List ℕ) × (bytes ≡ read ++ behind)
+        × BuildsOf opening read behind (result ≢ End.ReadFault) first steps.new }
     ensures reads { CountsReads (S.faults source.old) (S.faults source.new) result }
     ensures calls { CountsCalls (W.faults site.old) (W.faults site.new) result }
 {
@@ -98,8 +99,8 @@ pub fn converse<P: Profile, S: Source, W: Site, L: Ledger>(
     requires opens { IfSome (W.outside site.old) (λ w. (h : History) × IsOpening loaded h w) }
     ensures converses { Converses (P.rules profile) loaded result (S.bytes_left source.old) (S.bytes_left source.new)
         (W.outside site.old) (W.outside site.new) }
-    ensures builds { SessionBuilds loaded (S.bytes_left source.old) (S.bytes_left source.new) (W.outside site.old)
-        steps.old steps.new }
+    ensures builds { SessionBuilds loaded (result ≢ End.ReadFault) (S.bytes_left source.old) (S.bytes_left source.new)
+        (W.outside site.old) steps.old steps.new }
     ensures reads { CountsReads (S.faults source.old) (S.faults source.new) result }
     ensures calls { CountsCalls (W.faults site.old) (W.faults site.new) result }
 {

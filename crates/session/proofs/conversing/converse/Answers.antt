@@ -1,4 +1,4 @@
-use Rattle.std.proofs.Common.{◌+◌, [], length, refl, subst}
+use Rattle.std.proofs.Common.{◌+◌, [], length, refl, subst, inl}
 use Rattle.road_model.specs.Highways.{highways}
 use Rattle.session.specs.Conversing.{Converses, opening_of}
 use Rattle.session.proofs.OpenedSessions.{converses_nothing}
@@ -35,7 +35,7 @@ returns-in_default-clause-builds g c = λ bytes behind w h M was is tells o has.
     let held = g.S.Source.bytes_left c.args.source.now in (
       [],
       read_of [] bytes behind held held (took_nothing held) was is,
-      builds_nothing c.args.loaded h w o M has c.args.steps.now c.load.new.steps c.load.ensures.built,
+      inl (builds_nothing c.args.loaded h w o M has c.args.steps.now c.load.new.steps c.load.ensures.built),
     )
 
 pub returns-clause-builds : goal.returns-clause-builds

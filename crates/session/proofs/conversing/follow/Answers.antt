@@ -1,5 +1,5 @@
-use Rattle.std.proofs.Common.{◌≡◌, ◌<◌, ◌∙◌, ◌++◌, ℕ, List, [], Err, length, take, refl, sym, ap, subst, arith}
-use Rattle.std.proofs.Common.{length-append}
+use Rattle.std.proofs.Common.{◌≡◌, ◌≢◌, ◌<◌, ◌∙◌, ◌++◌, ℕ, List, [], Err, length, take, refl, sym, ap, subst, arith}
+use Rattle.std.proofs.Common.{inl, length-append}
 use Rattle.std.proofs.lemmas.Grind.{common_steps}
 use Rattle.session.specs.declared.end.End.TheVariants.{NoMemory, ReadFault}
 use Rattle.session.specs.Conversing.{SessionEnds, CountsCalls}
@@ -12,7 +12,7 @@ use Rattle.session.proofs.ReadSessions.{conversed, took_whole, behind_nothing, n
 use Rattle.session.proofs.ReadSessions.{reads_calm, calls_calm, read_fault_inside}
 use Rattle.session.proofs.Optional.{at_some}
 use Rattle.session.proofs.BuiltMessages.{builds_all}
-use Rattle.session.proofs.BuiltSessions.{read_begins, read_building, read_of, told_at}
+use Rattle.session.proofs.BuiltSessions.{read_begins, read_building, read_of, told_at, builds_at_end}
 use Rattle.session.proofs.conversing.follow.Goals as goal
 
 pub returns-in_default-clause-converses : goal.returns-in_default-clause-converses
@@ -49,7 +49,7 @@ returns-in_default-clause-builds g c = λ bytes behind w opening first was is te
     let held = g.S.Source.bytes_left c.args.source.now in (
       [],
       read_of [] bytes behind held held (took_nothing held) was is,
-      builds_all opening [] c.args.input talk.engine.world talk.journal first c.args.steps.now w b,
+      inl (builds_all opening [] c.args.input talk.engine.world talk.journal first c.args.steps.now w b),
     )
 
 -- ---- a read failed
@@ -96,8 +96,8 @@ returns-in_default-read-clause-builds g c = λ bytes behind w opening first was 
       i.read,
       read_of i.read bytes behind held after (took_still i.read c.deref_mut.result.now c.read.new.buf failed.field-0
           held left after i.took failed.ensures.told) was is,
-      builds_all opening i.read c.loop-n.input talk.engine.world talk.journal first c.loop-n.steps now.0
-          (now.2 opening first b),
+      inl (builds_all opening i.read c.loop-n.input talk.engine.world talk.journal first c.loop-n.steps now.0
+          (now.2 opening first b)),
     )
 
 -- ---- all was read
@@ -155,7 +155,9 @@ returns-then-n-eq0-clause-builds g c = λ bytes behind w opening first was is te
     let now = told_at (g.W.Site.outside c.args.site.now) here _ w i.builds tells in (
       i.read,
       read_of i.read bytes behind held after (took_whole i.read held after told) was is,
-      at_some here now.0 _ now.1 c.finish.ensures.builds opening i.read first (now.2 opening first b),
+      builds_at_end opening i.read behind after (c.finish.result ≢ ReadFault) first c.finish.new.steps
+          (behind_nothing i.read held after told) is c.finish.ensures.named
+          (at_some here now.0 _ now.1 c.finish.ensures.builds opening i.read first (now.2 opening first b)),
     )
 
 pub returns-then-n-eq0-clause-reads : goal.returns-then-n-eq0-clause-reads
@@ -295,7 +297,7 @@ returns-in-Err-clause-builds g c = λ bytes behind w opening first was is tells 
           (subst (λ (l : List ℕ). Took (i.read ++ l) held after) (sym taken)
           (took_more i.read c.deref_mut.result.now c.read.new.buf n held left after i.took c.in-Ok-read.ensures.told))
           was is,
-      at_some here now.0 _ now.1 c.in-Err.ensures.few opening i.read first (now.2 opening first b),
+      inl (at_some here now.0 _ now.1 c.in-Err.ensures.few opening i.read first (now.2 opening first b)),
     )
 
 pub returns-in-Err-clause-reads : goal.returns-in-Err-clause-reads
