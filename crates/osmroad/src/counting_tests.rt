@@ -3,12 +3,15 @@ ghost use Rattle.std.specs.Prelude.{◌≡◌, ◌<◌};
 ghost use Rattle.access_profile.specs.Motorcar.{motorcar_rules};
 ghost use Rattle.access_profile.specs.NeedsHighway.{highway_of_free};
 
+use crate::input::read_events;
 use crate::serve::serve;
 use crate::session_tests::{empty_site, run_on};
 use crate::status::Status;
 use crate::tests::compiled;
 use access_profile::Motorcar;
-use road_base::{Dir, NoMemory, Steps, Tags};
+use change_apply::Engine;
+use opl_lexer::Mode;
+use road_base::{Dir, Event, NoMemory, Steps, Tags};
 use road_io::{MemorySite, MemorySource};
 use road_model::{Access, Profile, RuleKind};
 use std::alloc::Global;
@@ -51,6 +54,9 @@ impl<'a> Profile for Counting<'a> {
 
     ghost free_needs_highway = { λ p tags dir free. highway_of_free tags dir free };
 }
+
+/// A node of the first street is moved.
+const CHANGE: &[u8] = b"n1 v2 x1 y0\n";
 
 /// A thousand streets of two nodes each, apart from each other.
 fn streets(alloc: Global) -> Result<Vec<u8>, NoMemory> {
@@ -119,47 +125,100 @@ fn asked(alloc: Global, extract: &[u8], input: &[u8]) -> Result<(Option<u64>, Ve
     asked_on(alloc, extract, input, &mut site)
 }
 
-/// What `create` and a session that asks for the graph put.
-fn shown(alloc: Global, graph: &[u8]) -> Result<Vec<u8>, NoMemory> {
+/// The graph of the extract, behind a line that says so and tells its length.
+fn shown(alloc: Global, extract: &[u8]) -> Result<Vec<u8>, Fail> {
+    let graph = compiled::<Brand>(alloc, extract, Blank::new(1))?;
     let mut text = Vec::new(alloc);
-    let line = format!(in alloc; "created 4\ngraph {}\n", graph.len())?;
+    let line = format!(in alloc; "graph {}\n", graph.len())?;
     text.extend_from_slice(line.as_bytes())?;
-    text.extend_from_slice(graph)?;
+    text.extend_from_slice(&graph)?;
     Ok(text)
 }
 
-/// Beside a session that asks so often for all streets, one with a change of a street doesn't ask for the others again.
+/// What `create` and a session put that asks for the graph of the extract.
+fn shown_once(alloc: Global, extract: &[u8]) -> Result<Vec<u8>, Fail> {
+    let mut text = b"created 4\n".to_vec(alloc)?;
+    text.append(&mut shown(alloc, extract)?)?;
+    Ok(text)
+}
+
+/// The same where the session then follows the change, and asks again.
+fn shown_twice(alloc: Global, extract: &[u8]) -> Result<Vec<u8>, Fail> {
+    let mut changed = extract.to_vec(alloc)?;
+    changed.extend_from_slice(CHANGE)?;
+    let mut text = shown_once(alloc, extract)?;
+    text.extend_from_slice(b"applied 5\n")?;
+    text.append(&mut shown(alloc, &changed)?)?;
+    Ok(text)
+}
+
+/// Beside a session that asks so often for all streets, one with the change of a street doesn't ask for the others
+/// again; and it shows the graph behind the change.
 fn check_asked(
     rt: &impl Abort,
     alloc: Global,
     extract: &[u8],
     all: Option<u64>,
-) -> Result<(), NoMemory> {
-    let change = b"graph\n#seq 5\nn1 v2 x1 y0\n#end\ngraph\n";
-    let (more, _) = asked(alloc, extract, change)?;
+) -> Result<(), Fail> {
+    let (more, output) = asked(alloc, extract, b"graph\n#seq 5\nn1 v2 x1 y0\n#end\ngraph\n")?;
     assert!(rt;
         matches!((all, more), (Some(all), Some(more)) if all >= 1000 && more.abs_diff(all) < 1000)
     );
+    assert_eq!(rt; output, shown_twice(alloc, extract)?);
     Ok(())
 }
 
-/// The graph of the extract was put.
-fn check_shown(rt: &impl Abort, alloc: Global, extract: &[u8], output: &[u8]) -> Result<(), Fail> {
-    let graph = compiled::<Brand>(alloc, extract, Blank::new(1))?;
-    let expected = shown(alloc, &graph)?;
-    assert_eq!(rt; output, expected.as_slice());
-    Ok(())
-}
-
-fn check_streets(rt: &impl Abort, alloc: Global, extract: &[u8]) -> Result<(), Fail> {
-    let (all, output) = asked(alloc, extract, b"graph\n")?;
-    check_asked(rt, alloc, extract, all)?;
-    check_shown(rt, alloc, extract, &output)
-}
-
-/// After a change of one street the profile isn't asked for the others again.
+/// After a change of one street a session doesn't ask the profile for the others again.
 #[test]
 fn a_small_change_asks_little(rt: HostRuntime) -> Result<(), Fail> {
     let extract = streets(rt.alloc())?;
-    check_streets(&rt, rt.alloc(), &extract)
+    let (all, output) = asked(rt.alloc(), &extract, b"graph\n")?;
+    assert_eq!(rt; output, shown_once(rt.alloc(), &extract)?);
+    check_asked(&rt, rt.alloc(), &extract, all)
+}
+
+/// How many ways the change touches where these events came before, and how often the profile is then asked for a
+/// direction.
+fn asked_to_apply<L: Ledger>(
+    alloc: Global,
+    before: Vec<Event>,
+    change: &[Event],
+    steps: &mut Steps<L>,
+) -> Result<(u64, u64), NoMemory> {
+    let asked = Cell::new(0);
+    let profile = Counting { asked: &asked };
+    let mut engine = Engine::load(alloc, profile, before, steps)?;
+    let first = asked.get();
+    let report = engine.apply(change, steps)?;
+    Ok((report.touched, asked.get().abs_diff(first)))
+}
+
+/// The events of these lines.
+fn read(alloc: Global, mode: Mode, lines: &[u8]) -> Result<Vec<Event>, Fail> {
+    let mut source = MemorySource::new(lines.to_vec(alloc)?, Vec::new(alloc));
+    match read_events(alloc, mode, &mut source) {
+        Ok(events) => Ok(events),
+        Err(_) => Err(Fail::from("the lines aren't read")),
+    }
+}
+
+/// The same for the streets, with a ledger of its own.
+fn asked_for_a_street<L: Ledger>(alloc: Global, blank: Blank) -> Result<(u64, u64), Fail>
+    requires name { blank.name ≡ L.name }
+    requires parts { blank.parts ≡ L.parts }
+    requires some { 0 < L.parts }
+{
+    let before = read(alloc, Mode::Extract, &streets(alloc)?)?;
+    let change = read(alloc, Mode::Change, CHANGE)?;
+    let mut steps = Steps::<L>::new(blank);
+    Ok(asked_to_apply(alloc, before, &change, &mut steps)?)
+}
+
+/// Where one street changes, the profile isn't asked for the others.
+#[test]
+fn to_apply_a_small_change_asks_little(rt: HostRuntime) -> Result<(), Fail> {
+    let (touched, asked) = asked_for_a_street::<Brand>(rt.alloc(), Blank::new(1))?;
+    assert_eq!(rt; touched, 1);
+    assert!(rt; asked < 1000);
+    Ok(())
 }
