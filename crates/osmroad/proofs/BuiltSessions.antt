@@ -1,6 +1,6 @@
 -- How many blocks a session over the two files builds.
-use Rattle.std.proofs.Common.{◌≡◌, inl, ℕ, ◌+◌, List, [], ◌++◌, length, Option, None, Some, Ok, refl, sym}
-use Rattle.std.proofs.Common.{ap, ◌∙◌, subst, arith}
+use Rattle.std.proofs.Common.{◌≡◌, ◌≢◌, inl, inr, ⊎_elim, ℕ, ◌+◌, List, [], ◌++◌, length, Option, None, Some, Ok}
+use Rattle.std.proofs.Common.{refl, sym, ap, ◌∙◌, subst, arith}
 use Rattle.road_base.specs.History.{History, HasObjects}
 use Rattle.road_base.specs.Objects.{Objects}
 use Rattle.road_model.specs.Highways.{highways}
@@ -10,28 +10,59 @@ use Rattle.sequence_journal.specs.declared.load.Loaded.{Loaded}
 use Rattle.store_switch.specs.LiveFile.{reads_of}
 use Rattle.store_switch.specs.StoreLoading.{StoreLoaded, LoadsStore}
 use Rattle.session.specs.Conversation.{Kept}
-use Rattle.session.specs.Building.{Start, BuildsFew, SessionBuilds}
+use Rattle.session.specs.Building.{Start, BuildsOf, SessionBuilds}
+use Rattle.session.specs.declared.end.End.{End}
+use Rattle.session.specs.declared.end.End.TheVariants.{Done, Unfinished, SiteFault, Limit, NoMemory}
+use Rattle.session.specs.declared.end.End.TheVariants.{ReadFault as ReadFaultEnd}
+use Rattle.osmroad.specs.declared.status.Status.{Status}
+use Rattle.osmroad.specs.declared.status.Status.TheVariants.{ReadFault}
 use Rattle.osmroad.specs.Opening.{IsStore}
 use Rattle.osmroad.specs.StoreLaws.{StoreLaws}
-use Rattle.osmroad.specs.Sessions.{SessionRunBuilds, opening}
+use Rattle.osmroad.specs.Sessions.{SessionRunBuilds, opening, end_status}
 use Rattle.osmroad.proofs.LoadedStores.{loaded_store}
 use Rattle.osmroad.proofs.ServedSessions.{opened, opening_is, same_opening}
+
+-- ---- over a store that was loaded
+
+-- the session's end is a failed read where the status is
+read_failed : (end : End) → end_status end ≡ ReadFault → end ≡ ReadFaultEnd
+read_failed Done is = (cc)
+read_failed Unfinished is = (cc)
+read_failed ReadFaultEnd is = refl
+read_failed SiteFault is = (cc)
+read_failed Limit is = (cc)
+read_failed NoMemory is = (cc)
+
+pub served_builds : (l : Loaded) (end : End) (status : Status) → status ≡ end_status end
+    → (held remaining : Option (List ℕ)) (x : Option Outside) (old new : ℕ)
+    → SessionBuilds l (end ≢ ReadFaultEnd) held remaining x old new
+    → SessionBuilds l (status ≢ ReadFault) held remaining x old new
+served_builds l end status is held remaining x old new builds = λ bytes behind w h M has left tells opens objects.
+    let b = builds bytes behind w h M has left tells opens objects in (
+      b.0,
+      b.1,
+      ⊎_elim
+          (λ few. inl few)
+          (λ last. inr (last.0, λ failed. last.1 (read_failed end (sym is ∙ failed)), last.2))
+          b.2,
+    )
 
 -- ---- the store is loaded
 
 -- the blocks of the loaded store's session are those of the session that opens with the files
-module _ (laws : StoreLaws) (l : Loaded) (old new : ℕ) where
+module _ (laws : StoreLaws) (l : Loaded) (status : Status) (old new : ℕ) where
   -- so many blocks are built over these files
   abbrev BuildsOver : Outside → List ℕ → List ℕ → Type 0
   BuildsOver w bytes behind =
       ((s : IsStore (reads_of w)) (M : Objects) → HasObjects s.history M
       → (read : List ℕ) × (bytes ≡ read ++ behind)
-      × BuildsFew (opening s) read (old + length (highways M)) new)
+      × BuildsOf (opening s) read behind (status ≢ ReadFault) (old + length (highways M)) new)
       × ((IsStore (reads_of w) → ⊥) → new ≡ old)
 
   -- where the site tells
   builds_on : (held remaining : Option (List ℕ)) (w u : Outside) → LoadsStore (Ok l) w u
-      → SessionBuilds l held remaining (Some u) old new → SessionRunBuilds held remaining (Some w) old new
+      → SessionBuilds l (status ≢ ReadFault) held remaining (Some u) old new
+      → SessionRunBuilds status held remaining (Some w) old new
   builds_on held remaining w u load builds = λ bytes behind x has left is.
       let k : StoreLoaded l w u = load.answer in
       let mine = loaded_store l w u k in
@@ -44,13 +75,15 @@ module _ (laws : StoreLaws) (l : Loaded) (old new : ℕ) where
             (subst (λ (h : History). HasObjects h M) (sym history) objects) in (
               b.0,
               b.1,
-              subst (λ (o : Kept). BuildsFew o b.0 (old + length (highways M)) new) (opening_is l w u k ∙ same) b.2,
+              subst (λ (o : Kept). BuildsOf o b.0 behind (status ≢ ReadFault) (old + length (highways M)) new)
+                  (opening_is l w u k ∙ same) b.2,
             ),
         λ never. absurd (never mine),
       )
 
   pub store_builds : (held remaining : Option (List ℕ)) (x y : Option Outside) → Told (LoadsStore (Ok l)) x y
-      → SessionBuilds l held remaining y old new → SessionRunBuilds held remaining x old new
+      → SessionBuilds l (status ≢ ReadFault) held remaining y old new
+      → SessionRunBuilds status held remaining x old new
   store_builds held remaining None None told builds = λ bytes behind w has left is. (cc)
   store_builds held remaining None (Some u) told builds = absurd told
   store_builds held remaining (Some w) None told builds = absurd told
@@ -59,20 +92,19 @@ module _ (laws : StoreLaws) (l : Loaded) (old new : ℕ) where
 -- ---- it isn't
 
 -- nothing is read, and no block is built
-pub none_built : (held : Option (List ℕ)) (x : Option Outside) (built : ℕ) → SessionRunBuilds held held x built built
-none_built held x built = λ bytes behind w has left is. (
+pub none_built : (status : Status) (held : Option (List ℕ)) (x : Option Outside) (built : ℕ)
+    → SessionRunBuilds status held held x built built
+none_built status held x built = λ bytes behind w has left is. (
   λ s M objects. (
     [],
     whole bytes behind has left,
-    record {
+    inl record {
       front = [];
       rest = [];
       is = refl;
       from = opening s;
       n = 0;
       touched = Start;
-      last = 0;
-      ends = inl refl;
       few = omega arith;
     },
   ),

@@ -36,7 +36,8 @@ RunCanBeDone (Some Session) None bytes = ⊥
 RunCanBeDone (Some Session) (Some files) bytes = IsReadable files × EndsWell files bytes
 
 -- how many blocks are built
-abbrev pub RunBuilds : Option Request → Option (List ℕ) → Option (List ℕ) → Option Outside → ℕ → ℕ → Type 0
-RunBuilds None held remaining before old new = Builds None held before old new
-RunBuilds (Some (CommandRequest command)) held remaining before old new = Builds (Some command) held before old new
-RunBuilds (Some Session) held remaining before old new = SessionRunBuilds held remaining before old new
+abbrev pub RunBuilds : Option Request → Status → Option (List ℕ) → Option (List ℕ) → Option Outside → ℕ → ℕ → Type 0
+RunBuilds None status held remaining before old new = Builds None held before old new
+RunBuilds (Some (CommandRequest command)) status held remaining before old new =
+    Builds (Some command) held before old new
+RunBuilds (Some Session) status held remaining before old new = SessionRunBuilds status held remaining before old new

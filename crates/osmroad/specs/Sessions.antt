@@ -1,6 +1,6 @@
 -- How a run ends that is asked for a session: what was read and put, for what the files then stand, and what a stop
 -- leaves.
-use Rattle.std.specs.Prelude.{◌≡◌, ◌⊎◌, ℕ, ◌+◌, ◌<◌, List, [], ◌++◌, length, take, Option, Some}
+use Rattle.std.specs.Prelude.{◌≡◌, ◌≢◌, ◌⊎◌, ℕ, ◌+◌, ◌<◌, List, [], ◌++◌, length, take, Option, Some}
 use Rattle.road_base.specs.History.{HasObjects}
 use Rattle.road_base.specs.Objects.{Objects}
 use Rattle.road_model.specs.Rules.{Rules}
@@ -19,7 +19,7 @@ use Rattle.session.specs.declared.end.End.TheVariants.{NoMemory as NoMemoryEnd}
 use Rattle.session.specs.Conversation.{Kept, room_at}
 use Rattle.session.specs.Conversing.{LeavesSession, EndsWith, Converses, HeldBytes}
 use Rattle.session.specs.Endings.{SessionGives}
-use Rattle.session.specs.Building.{BuildsFew}
+use Rattle.session.specs.Building.{BuildsOf}
 use Rattle.osmroad.specs.declared.status.Status.{Status}
 use Rattle.osmroad.specs.declared.status.Status.TheVariants.{Done, ReadFault, SiteFault, Refused, Limit}
 use Rattle.osmroad.specs.declared.status.Status.TheVariants.{NoMemory, NoStore, Damaged}
@@ -140,10 +140,10 @@ pub record EndsWell (files : Files) (bytes : List ℕ) : Type 0 where
 
 -- Over a store no more than its objects have visible ways with the key `highway`, and for each accepted frame whole in
 -- what was read the ways that it touches; else none. It is said where source and site tell.
-abbrev pub SessionRunBuilds : Option (List ℕ) → Option (List ℕ) → Option Outside → ℕ → ℕ → Type 0
-SessionRunBuilds held remaining before old new = (bytes behind : List ℕ) (w : Outside)
+abbrev pub SessionRunBuilds : Status → Option (List ℕ) → Option (List ℕ) → Option Outside → ℕ → ℕ → Type 0
+SessionRunBuilds status held remaining before old new = (bytes behind : List ℕ) (w : Outside)
     → held ≡ Some bytes → remaining ≡ Some behind → before ≡ Some w
     → ((s : IsStore (reads_of w)) (M : Objects) → HasObjects s.history M
     → (read : List ℕ) × (bytes ≡ read ++ behind)
-    × BuildsFew (opening s) read (old + length (highways M)) new)
+    × BuildsOf (opening s) read behind (status ≢ ReadFault) (old + length (highways M)) new)
     × ((IsStore (reads_of w) → ⊥) → new ≡ old)

@@ -143,7 +143,7 @@ pub fn run<S: Source, W: Site, L: Ledger>(
 
     // No more blocks are built than the graph's objects have visible ways with the key `highway`; in a session, for
     // each accepted frame no more than the ways that it touches.
-    ensures built { RunBuilds (asked (map (λ w. w.now) words.now)) (S.bytes_left source.old)
+    ensures built { RunBuilds (asked (map (λ w. w.now) words.now)) result (S.bytes_left source.old)
         (S.bytes_left source.new) (W.outside site.old) steps.old steps.new }
 {
     store_laws();

@@ -1,5 +1,5 @@
 //! A session over the store on the site.
-ghost use Rattle.std.specs.Prelude.{◌≡◌, ◌⊎◌, ℕ, [], Option, Err, false, IfSome};
+ghost use Rattle.std.specs.Prelude.{◌≡◌, ◌≢◌, ◌⊎◌, ℕ, [], Option, Err, false, IfSome};
 ghost use Rattle.road_base.specs.History.{History};
 ghost use Rattle.access_profile.specs.Motorcar.{motorcar_rules};
 ghost use Rattle.road_io.specs.Told.{Told};
@@ -54,8 +54,8 @@ pub fn serve<P: Profile, S: Source, W: Site, L: Ledger>(
     requires opens { IfSome (W.outside site.old) (λ w. (h : History) × IsOpening loaded h w) }
     ensures serves { Serves (P.rules profile) loaded result (S.bytes_left source.old) (S.bytes_left source.new)
         (W.outside site.old) (W.outside site.new) }
-    ensures builds { SessionBuilds loaded (S.bytes_left source.old) (S.bytes_left source.new) (W.outside site.old)
-        steps.old steps.new }
+    ensures builds { SessionBuilds loaded (result ≢ Status.ReadFault) (S.bytes_left source.old)
+        (S.bytes_left source.new) (W.outside site.old) steps.old steps.new }
     ensures reads { AnswersFaults Status.ReadFault result (S.faults source.old) (S.faults source.new) }
     ensures calls { AnswersFaults Status.SiteFault result (W.faults site.old) (W.faults site.new) }
     ensures named { IsServed result }
@@ -88,7 +88,7 @@ pub fn serve_store<S: Source, W: Site, L: Ledger>(
 ) -> Status
     ensures ends { EndsSession result (S.bytes_left source.old) (S.bytes_left source.new)
         (W.outside site.old) (W.outside site.new) }
-    ensures built { SessionRunBuilds (S.bytes_left source.old) (S.bytes_left source.new) (W.outside site.old)
+    ensures built { SessionRunBuilds result (S.bytes_left source.old) (S.bytes_left source.new) (W.outside site.old)
         steps.old steps.new }
     ensures reads { AnswersFaults Status.ReadFault result (S.faults source.old) (S.faults source.new) }
     ensures calls { AnswersFaults Status.SiteFault result (W.faults site.old) (W.faults site.new) }

@@ -24,7 +24,7 @@ returns-in-Ok-clause-ends g c =
 
 pub returns-in-Ok-clause-built : goal.returns-in-Ok-clause-built
 returns-in-Ok-clause-built g c =
-    store_builds c.store_laws.ensures.store c.in-Ok.loaded c.args.steps.now c.serve.new.steps
+    store_builds c.store_laws.ensures.store c.in-Ok.loaded c.serve.result c.args.steps.now c.serve.new.steps
     (g.S.Source.bytes_left c.args.source.now) (g.S.Source.bytes_left c.serve.new.source)
     (g.W.Site.outside c.args.site.now) (g.W.Site.outside c.load_store.new.site)
     c.in-Ok.ensures.told c.serve.ensures.builds
@@ -46,8 +46,8 @@ returns-in-Err-clause-ends g c =
     (c.refuse.ensures.runs (g.W.Site.outside c.args.site.now) c.in-Err.ensures.told)
 
 pub returns-in-Err-clause-built : goal.returns-in-Err-clause-built
-returns-in-Err-clause-built g c = none_built (g.S.Source.bytes_left c.args.source.now)
-    (g.W.Site.outside c.args.site.now) c.args.steps.now
+returns-in-Err-clause-built g c = none_built c.refuse.result
+    (g.S.Source.bytes_left c.args.source.now) (g.W.Site.outside c.args.site.now) c.args.steps.now
 
 pub returns-in-Err-clause-reads : goal.returns-in-Err-clause-reads
 returns-in-Err-clause-reads g c =
