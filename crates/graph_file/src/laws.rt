@@ -1,10 +1,11 @@
 //! What the bytes of a graph file leave no choice of, each the contract of a function that does nothing.
 ghost use Rattle.std.specs.Prelude.{◌≡◌, ℕ, List};
+ghost use Rattle.std.specs.List.{AllByRecursion};
 ghost use Rattle.road_base.specs.Objects.{Objects};
 ghost use Rattle.road_model.specs.declared.blocks.Block.{Block};
 ghost use Rattle.road_model.specs.Orders.{Lists, way_cmp};
 ghost use Rattle.road_model.specs.Blocks.{IsRoadBlock};
-ghost use Rattle.graph_file.specs.GraphReading.{IsFile};
+ghost use Rattle.graph_file.specs.GraphReading.{IsFile, IsOfItsWay};
 ghost use Rattle.graph_file.specs.WalkedFiles.{IsWalkedFile};
 
 use road_model::Profile;
@@ -15,10 +16,13 @@ pub fn one_file()
     ensures { (bytes : List ℕ) (a b : List Block) → IsFile bytes a → IsFile bytes b → a ≡ b }
 {}
 
-/// Whoever reads the graph file of an object map by the grammar, and walks over the blocks that it spells, makes the
-/// object map's walks.
+/// The blocks of an object map's roads are named by their ways. Whoever reads its graph file by the grammar, and walks
+/// over the blocks that it spells, makes the object map's walks.
 pub fn walked_file<P: Profile>(profile: &P)
-    ensures { (M : Objects) (bytes : List ℕ) (blocks : List Block)
+    ensures own { (M : Objects) (blocks : List Block)
+        → Lists (λ b. b.way) way_cmp (IsRoadBlock M (P.rules profile.now)) blocks
+        → AllByRecursion IsOfItsWay blocks }
+    ensures walks { (M : Objects) (bytes : List ℕ) (blocks : List Block)
         → Lists (λ b. b.way) way_cmp (IsRoadBlock M (P.rules profile.now)) blocks
         → IsFile bytes blocks
         → IsWalkedFile M (P.rules profile.now) bytes }

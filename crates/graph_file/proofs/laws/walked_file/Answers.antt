@@ -1,7 +1,23 @@
+use Rattle.std.proofs.Common.{◌≡◌, ◌∙◌, ap}
+use Rattle.road_base.specs.Objects.{Objects}
+use Rattle.road_base.proofs.ListMembers.{all_from}
+use Rattle.road_model.specs.declared.blocks.Block.{Block}
+use Rattle.road_model.specs.Rules.{Rules}
+use Rattle.road_model.specs.Blocks.{IsRoadBlock}
+use Rattle.graph_file.specs.GraphReading.{IsOfItsWay}
 use Rattle.graph_file.proofs.laws.walked_file.Goals as goal
 
-pub returns : goal.returns
-returns g c = λ M bytes blocks listed file. record {
+-- the pieces of a road's block are named by its way
+of_its_way : (M : Objects) (P : Rules) (b : Block) → IsRoadBlock M P b → IsOfItsWay b
+of_its_way M P b road = all_from (λ p. p.name.way ≡ b.way) b.pieces (λ p i.
+    let e = road.block.pieces.sound p i in ap (λ n. n.way) e.named ∙ e.of)
+
+pub returns-clause-own : goal.returns-clause-own
+returns-clause-own g c = λ M blocks listed.
+    all_from IsOfItsWay blocks (λ b i. of_its_way M (g.P.Profile.rules c.args.profile.now) b (listed.sound b i))
+
+pub returns-clause-walks : goal.returns-clause-walks
+returns-clause-walks g c = λ M bytes blocks listed file. record {
   blocks = blocks;
   file = file;
   only = λ others is. c.one_file.ensures bytes others blocks is file;
