@@ -70,8 +70,8 @@ fn is_call(entry: &Entry, wanted: &Wanted) -> bool {
     match (&entry.call, wanted) {
         (Call::Cut { file, len }, Wanted::Cut) => *file == Which::B && *len == 0,
         (Call::Sync(file), Wanted::Sync) => *file == Which::B,
-        (Call::WriteAt { file, at, chunk }, Wanted::Write(place, bytes)) => {
-            *file == Which::B && *at == *place && chunk.items() == *bytes
+        (Call::WriteAt { file, at, piece }, Wanted::Write(place, bytes)) => {
+            *file == Which::B && *at == *place && piece.items() == *bytes
         }
         _ => false,
     }

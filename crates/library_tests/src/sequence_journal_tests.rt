@@ -174,7 +174,7 @@ fn write_and_add(alloc: Global, site: &mut MemorySite) -> Result<(), JournalErro
 /// The last calls of an addition: where a chunk is written and how long it is, or a sync.
 fn shape(entry: &Entry) -> Option<(u64, usize)> {
     match &entry.call {
-        Call::WriteAt { file: _, at, chunk } => Some((*at, chunk.items().len())),
+        Call::WriteAt { file: _, at, piece } => Some((*at, piece.items().len())),
         _ => None,
     }
 }

@@ -224,8 +224,8 @@ fn torn(alloc: Global, chunk: &[u8], way: u8) -> Result<Vec<u8>, AllocError> {
 /// to.
 pub fn left_by(alloc: Global, bytes: &[u8], call: &Call, way: u8) -> Result<Vec<u8>, AllocError> {
     match call {
-        Call::WriteAt { at, chunk, .. } => {
-            let written = torn(alloc, chunk.items(), way)?;
+        Call::WriteAt { at, piece, .. } => {
+            let written = torn(alloc, piece.items(), way)?;
             overwritten(alloc, bytes, *at, &written)
         }
         Call::Cut { len, .. } => bytes[..bytes.len().min(*len as usize)].to_vec(alloc),

@@ -205,7 +205,7 @@ impl Gate {
     /// The gate of this file behind one call more.
     fn after(self, file: Which, call: &Call) -> Gate {
         match (self, call) {
-            (_, Call::WriteAt { at, chunk, .. }) if chunk.items().len() == 1 => Gate::Pending(*at),
+            (_, Call::WriteAt { at, piece, .. }) if piece.items().len() == 1 => Gate::Pending(*at),
             (_, Call::WriteAt { .. } | Call::Cut { .. }) => Gate::Unwritten,
             (Gate::Pending(_), Call::Sync(synced)) if *synced == file => Gate::Synced,
             (gate, _) => gate,

@@ -413,8 +413,8 @@ fn each_fault_of_the_site_ends_a_run(rt: HostRuntime) -> Result<(), Fail> {
 /// Whether a call writes these bytes at this place of file A.
 fn is_write(entry: &Entry, place: u64, bytes: &[u8]) -> bool {
     match &entry.call {
-        Call::WriteAt { file, at, chunk } => {
-            *file == Which::A && *at == place && chunk.items() == bytes
+        Call::WriteAt { file, at, piece } => {
+            *file == Which::A && *at == place && piece.items() == bytes
         }
         _ => false,
     }

@@ -42,7 +42,7 @@ pub enum Call {
     Put(Bytes),
     FileLen(Which),
     ReadAt { file: Which, at: u64, len: u64 },
-    WriteAt { file: Which, at: u64, chunk: Bytes },
+    WriteAt { file: Which, at: u64, piece: Bytes },
     Cut { file: Which, len: u64 },
     Sync(Which),
 }

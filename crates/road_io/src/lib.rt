@@ -22,6 +22,7 @@ mod memory_files;
 mod memory_site;
 mod memory_source;
 mod outside;
+mod reading;
 mod real;
 mod real_file;
 

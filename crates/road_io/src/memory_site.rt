@@ -161,7 +161,7 @@ impl Site for MemorySite {
         let call = Call::WriteAt {
             file,
             at,
-            chunk: copy,
+            piece: copy,
         };
         if self.log.make_room()? {
             return Err(self.log.enter_failed(call));
@@ -317,10 +317,10 @@ mod tests {
                 Call::WriteAt {
                     file: of,
                     at,
-                    chunk,
+                    piece,
                 },
                 Step::Write(file, from, text),
-            ) => *of == file && *at == from && chunk.items() == text.as_bytes(),
+            ) => *of == file && *at == from && piece.items() == text.as_bytes(),
             (Call::Cut { file: of, len }, Step::Cut(file, to)) => *of == file && *len == to,
             (Call::Sync(of), Step::Sync(file)) => *of == file,
             _ => false,

@@ -3,6 +3,7 @@ ghost use Rattle.std.specs.Prelude.{◌≡◌, ◌≤◌, Ok, IfOk, OnOk, IsErr,
 ghost use Rattle.std.specs.Io.KnownBytes.{ReadConsumes, Appends};
 ghost use Rattle.road_io.specs.Told.{Counts, faults_after};
 
+use crate::reading::read_again;
 use crate::real_file::RealFile;
 use crate::{Failed, Site, Source, Which};
 use std::fs::File;
@@ -42,7 +43,7 @@ impl<R: Read> Source for RealSource<R> {
 
     ghost faults = { λ s. s.faults };
 
-    /// One read of the reader beneath. Every error is a fault, also where a signal came in between.
+    /// One read of the reader beneath, made again where a signal interrupted it. Every other error is a fault.
     fn read(&mut self, buf: &mut [u8]) -> Result<usize, Failed>
         ensures fits { IfOk result (λ n. n ≤ length buf.old) }
         ensures counts { Counts self.old.faults self.new.faults result }
@@ -51,13 +52,17 @@ impl<R: Read> Source for RealSource<R> {
         ensures beneath { ReadConsumes (R.remaining self.old.beneath) (R.remaining self.new.beneath)
             result buf.new }
     {
-        let answer = self.reader.read(buf);
+        let answer = read_again(&mut self.reader, buf);
         counted(answer, &mut self.faults)
     }
 }
 
-/// A writer of the system, as standard output, and two files of the system. A file is opened at the first call on it.
-/// A new file's name stands on the disk once its folder does, so the first sync of a file also syncs the folder.
+/// A writer of the system, as standard output, and two files of the system. A file is looked for at the first call on
+/// it. From then on it is held open under an exclusive advisory lock until the site is dropped, and where another site,
+/// of this program or another one, holds that lock, the call is a fault, and reads and changes nothing. A file that is
+/// missing then is made by the first write or cut, which is a fault where another program has made it since. A file
+/// that may not be written is opened for reading, and a write or cut on it is a fault. A new file's name stands on the
+/// disk once its folder does, so the first sync of a file also syncs the folder.
 #[derive(Drop)]
 pub struct RealSite<R: Files<File = File>, W: Write> {
     files: R,
@@ -123,7 +128,7 @@ impl<R: Files<File = File>, W: Write> Site for RealSite<R, W> {
         counted(answer, &mut self.faults)
     }
 
-    /// One read of the system. Every error is a fault, also where a signal came in between.
+    /// One read of the system, made again where a signal interrupted it. Every other error is a fault.
     fn read_at(&mut self, file: Which, at: u64, buf: &mut [u8]) -> Result<usize, Failed>
         ensures fits { IfOk result (λ n. n ≤ length buf.old) }
         ensures counts { Counts self.old.faults self.new.faults result }
@@ -206,7 +211,7 @@ mod tests {
     use std::test::Fail;
     use std::{env, fs, process};
 
-    // Bytes whose second read a signal interrupts.
+    // Bytes whose second and third read a signal interrupts, and whose fifth one fails.
     #[derive(Drop)]
     struct Interrupted<'a> {
         bytes: &'a [u8],
@@ -216,10 +221,11 @@ mod tests {
     impl Read for Interrupted<'_> {
         fn read(&mut self, buf: &mut [u8]) -> io::Result<usize> {
             self.reads = self.reads.saturating_add(1);
-            if self.reads == 2 {
-                return Err(ErrorKind::Interrupted.into());
+            match self.reads {
+                2 | 3 => Err(ErrorKind::Interrupted.into()),
+                5 => Err(ErrorKind::Other.into()),
+                _ => self.bytes.read(buf),
             }
-            self.bytes.read(buf)
         }
     }
 
@@ -232,9 +238,10 @@ mod tests {
         let mut buf = *b"....";
         assert_eq!(rt; source.read(&mut buf), Ok(4));
         assert_eq!(rt; buf, *b"abcd");
-        assert_eq!(rt; source.read(&mut buf), Err(Failed));
         assert_eq!(rt; source.read(&mut buf), Ok(1));
         assert_eq!(rt; buf, *b"ebcd");
+        assert_eq!(rt; source.faults, 0);
+        assert_eq!(rt; source.read(&mut buf), Err(Failed));
         assert_eq!(rt; source.read(&mut buf), Ok(0));
         assert_eq!(rt; source.faults, 1);
     }

@@ -1,60 +1,81 @@
-//! A file of the system by its name.
+//! A file of the system by its name, under a lock.
 ghost use Rattle.std.specs.Prelude.{◌≤◌, IfOk, length};
 
+use crate::reading::{Place, read_again};
 use std::fs::{File, OpenOptions};
 use std::io;
 use std::io::ErrorKind;
 use std::os::unix::fs::FileExt;
 use std::rt::Files;
 
-/// A file that is opened at the first call on it, if it is there by then.
+/// A file that is looked for at the first call on it. One that is there is then held open under an exclusive lock; one
+/// that is missing stays so until this run makes it, also where another program has made it since.
 #[derive(Drop)]
 pub struct RealFile {
     name: String,
-    open: Option<File>,
-    // Its folder was synced since it was opened.
+    state: State,
+    // Its folder was synced since it was opened for writing.
     is_named: bool,
+}
+
+#[derive(Drop)]
+enum State {
+    // It wasn't looked for.
+    Unseen,
+    // It wasn't there.
+    Missing,
+    // It is open for reading and writing.
+    Open(File),
+    // It is open for reading, since it may not be written.
+    ReadOnly(File),
 }
 
 impl RealFile {
     pub fn new(name: String) -> RealFile {
         RealFile {
             name,
-            open: None,
+            state: State::Unseen,
             is_named: false,
         }
     }
 
-    // The file, opened. One that isn't there is made, or there is none.
-    fn opened<R: Files<File = File>>(
-        &mut self,
-        files: &R,
-        makes: bool,
-    ) -> io::Result<Option<&File>> {
-        if self.open.is_none() {
-            match OpenOptions::new()
-                .read(true)
-                .write(true)
-                .create(makes)
-                .open(files, self.name.as_str())
-            {
-                Ok(file) => self.open = Some(file),
-                Err(error) if error.kind() == ErrorKind::NotFound && !makes => return Ok(None),
-                Err(error) => return Err(error),
-            }
+    fn look<R: Files<File = File>>(&mut self, files: &R) -> io::Result<()> {
+        if let State::Unseen = self.state {
+            self.state = find(files, self.name.as_str())?;
         }
-        Ok(self.open.as_ref())
+        Ok(())
     }
 
-    /// A file that isn't there has length 0.
+    // The file, to be read, or None where it is missing.
+    fn found<R: Files<File = File>>(&mut self, files: &R) -> io::Result<Option<&File>> {
+        self.look(files)?;
+        match &self.state {
+            State::Open(file) | State::ReadOnly(file) => Ok(Some(file)),
+            State::Unseen | State::Missing => Ok(None),
+        }
+    }
+
+    // The file, to be written. A missing one is made.
+    fn writable<R: Files<File = File>>(&mut self, files: &R) -> io::Result<&File> {
+        self.look(files)?;
+        if let State::Missing = self.state {
+            self.state = State::Open(make(files, self.name.as_str())?);
+        }
+        match &self.state {
+            State::Open(file) => Ok(file),
+            _ => Err(ErrorKind::PermissionDenied.into()),
+        }
+    }
+
+    /// A missing file has length 0.
     pub fn len<R: Files<File = File>>(&mut self, files: &R) -> io::Result<u64> {
-        match self.opened(files, false)? {
+        match self.found(files)? {
             Some(file) => Ok(file.metadata()?.len()),
             None => Ok(0),
         }
     }
 
-    /// A file that isn't there gives nothing.
+    /// A missing file gives nothing.
     pub fn read_at<R: Files<File = File>>(
         &mut self,
         files: &R,
@@ -63,47 +84,88 @@ impl RealFile {
     ) -> io::Result<usize>
         ensures { IfOk result (λ n. n ≤ length buf.old) }
     {
-        match self.opened(files, false)? {
-            Some(file) => file.read_at(buf, at),
+        match self.found(files)? {
+            Some(file) => read_again(&mut Place { file, at }, buf),
             None => Ok(0),
         }
     }
 
-    /// Makes a file that isn't there.
+    /// Makes a missing file.
     pub fn write_at<R: Files<File = File>>(
         &mut self,
         files: &R,
         at: u64,
         chunk: &[u8],
     ) -> io::Result<()> {
-        match self.opened(files, true)? {
-            Some(file) => file.write_all_at(chunk, at),
-            None => Err(ErrorKind::NotFound.into()),
-        }
+        self.writable(files)?.write_all_at(chunk, at)
     }
 
-    /// Makes a file that isn't there.
+    /// Makes a missing file.
     pub fn cut<R: Files<File = File>>(&mut self, files: &R, len: u64) -> io::Result<()> {
-        match self.opened(files, true)? {
-            Some(file) => file.set_len(len),
-            None => Err(ErrorKind::NotFound.into()),
-        }
+        self.writable(files)?.set_len(len)
     }
 
-    /// The first time also the folder. On a file that isn't there it does nothing.
+    /// The first time also the folder. On a missing file it does nothing.
     pub fn sync<R: Files<File = File>>(&mut self, files: &R) -> io::Result<()> {
-        match self.opened(files, false)? {
-            Some(file) => file.sync_all()?,
-            None => return Ok(()),
+        self.look(files)?;
+        match &self.state {
+            State::Unseen | State::Missing => return Ok(()),
+            // This run neither made nor wrote it. What is pending of other runs is synced where this one may do so.
+            State::ReadOnly(file) => {
+                where_allowed(file.sync_all())?;
+                return where_allowed(sync_folder(files, self.name.as_str()));
+            }
+            State::Open(file) => file.sync_all()?,
         }
         if !self.is_named {
-            let folder = OpenOptions::new()
-                .read(true)
-                .open(files, folder_of(&self.name))?;
-            folder.sync_all()?;
+            sync_folder(files, self.name.as_str())?;
             self.is_named = true;
         }
         Ok(())
+    }
+}
+
+// Opens and locks the file if it is there. It changes nothing.
+fn find<R: Files<File = File>>(files: &R, name: &str) -> io::Result<State> {
+    match OpenOptions::new().read(true).write(true).open(files, name) {
+        Ok(file) => Ok(State::Open(locked(file)?)),
+        Err(error) => match error.kind() {
+            ErrorKind::NotFound => Ok(State::Missing),
+            ErrorKind::PermissionDenied | ErrorKind::ReadOnlyFilesystem => {
+                Ok(State::ReadOnly(locked(File::open(files, name)?)?))
+            }
+            _ => Err(error),
+        },
+    }
+}
+
+// Makes and locks a file that was missing. One that came in between is another program's, and an error.
+fn make<R: Files<File = File>>(files: &R, name: &str) -> io::Result<File> {
+    locked(File::create_new(files, name)?)
+}
+
+// The file under an exclusive lock, which ends where the file is closed, as by the end of this program of any kind. An
+// error where another open of the file holds a lock.
+fn locked(file: File) -> io::Result<File> {
+    file.try_lock()?;
+    Ok(file)
+}
+
+fn sync_folder<R: Files<File = File>>(files: &R, name: &str) -> io::Result<()> {
+    File::open(files, folder_of(name))?.sync_all()
+}
+
+// What a sync answered, and Ok where none is to be had: of a folder that may be entered but not read, or in a file
+// system that is never written, which has nothing pending.
+fn where_allowed(answer: io::Result<()>) -> io::Result<()> {
+    match answer {
+        Ok(()) => Ok(()),
+        Err(error) => match error.kind() {
+            ErrorKind::PermissionDenied
+            | ErrorKind::ReadOnlyFilesystem
+            | ErrorKind::InvalidInput => Ok(()),
+            _ => Err(error),
+        },
     }
 }
 
