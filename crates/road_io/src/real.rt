@@ -298,11 +298,11 @@ mod tests {
         assert_eq!(rt; room, *b"abcd");
     }
 
-    // The name of a folder of this process's own.
-    fn folder_name(rt: &HostRuntime) -> Result<String, Fail> {
+    // The name of a folder of this process's own, for one test.
+    fn folder_name(rt: &HostRuntime, test: &str) -> Result<String, Fail> {
         let parent = env::temp_dir(rt)?;
         let id = process::id(rt.process());
-        Ok(format!(in rt.alloc(); "{}/road_io_{id}", parent.as_str())?)
+        Ok(format!(in rt.alloc(); "{}/road_io_{test}_{id}", parent.as_str())?)
     }
 
     // Makes the folder, without what an earlier process may have left there.
@@ -413,8 +413,76 @@ mod tests {
 
     #[test]
     fn files(rt: HostRuntime) -> Result<(), Fail> {
-        let folder = folder_name(&rt)?;
+        let folder = folder_name(&rt, "files")?;
         assert_eq!(rt; calls_in(&rt, &rt, &folder)?, (0, 2));
+        Ok(())
+    }
+
+    const MAKES_A: [(Step, Result<u64, Failed>); 1] = [(Step::Write(Which::A, 0, "hello"), Ok(0))];
+
+    // While another site holds file A.
+    const STEPS_BESIDE: [(Step, Result<u64, Failed>); 6] = [
+        (Step::Len(Which::A), Err(Failed)),
+        (Step::Read(Which::A, 0, "...."), Err(Failed)),
+        (Step::Write(Which::A, 0, "x"), Err(Failed)),
+        (Step::Cut(Which::A, 0), Err(Failed)),
+        (Step::Sync(Which::A), Err(Failed)),
+        (Step::Len(Which::B), Ok(0)),
+    ];
+
+    // When it is let go.
+    const STEPS_BEHIND: [(Step, Result<u64, Failed>); 2] = [
+        (Step::Read(Which::A, 0, "hello..."), Ok(5)),
+        (Step::Write(Which::A, 0, "j"), Ok(0)),
+    ];
+
+    // The faults of a site beside another one, and when that one is dropped.
+    fn faults_beside(abort: &impl Abort, rt: &HostRuntime, folder: &str) -> Result<u64, Fail> {
+        let mut holder = site_in(rt, folder)?;
+        check_answers(abort, &mut holder, &MAKES_A);
+        let mut site = site_in(rt, folder)?;
+        check_answers(abort, &mut site, &STEPS_BESIDE);
+        drop(holder);
+        check_answers(abort, &mut site, &STEPS_BEHIND);
+        Ok(site.faults)
+    }
+
+    #[test]
+    fn locked(rt: HostRuntime) -> Result<(), Fail> {
+        let folder = folder_name(&rt, "locked")?;
+        make_empty(&rt, &folder)?;
+        assert_eq!(rt; faults_beside(&rt, &rt, &folder)?, 5);
+        fs::remove_dir_all(&rt, &folder)?;
+        Ok(())
+    }
+
+    const MISSING_A: [(Step, Result<u64, Failed>); 1] = [(Step::Len(Which::A), Ok(0))];
+
+    // Where file A was missing, and another site has made it since.
+    const STEPS_MADE_SINCE: [(Step, Result<u64, Failed>); 5] = [
+        (Step::Len(Which::A), Ok(0)),
+        (Step::Read(Which::A, 0, "...."), Ok(0)),
+        (Step::Sync(Which::A), Ok(0)),
+        (Step::Write(Which::A, 0, "x"), Err(Failed)),
+        (Step::Cut(Which::A, 0), Err(Failed)),
+    ];
+
+    // The faults of a site that found a file missing, when the site that made the file is dropped.
+    fn faults_late(abort: &impl Abort, rt: &HostRuntime, folder: &str) -> Result<u64, Fail> {
+        let mut late = site_in(rt, folder)?;
+        check_answers(abort, &mut late, &MISSING_A);
+        faults_in(abort, rt, folder, &MAKES_A)?;
+        check_answers(abort, &mut late, &STEPS_MADE_SINCE);
+        faults_in(abort, rt, folder, &STEPS_BEHIND)?;
+        Ok(late.faults)
+    }
+
+    #[test]
+    fn made_since(rt: HostRuntime) -> Result<(), Fail> {
+        let folder = folder_name(&rt, "made_since")?;
+        make_empty(&rt, &folder)?;
+        assert_eq!(rt; faults_late(&rt, &rt, &folder)?, 2);
+        fs::remove_dir_all(&rt, &folder)?;
         Ok(())
     }
 

@@ -161,9 +161,8 @@ fn where_allowed(answer: io::Result<()>) -> io::Result<()> {
     match answer {
         Ok(()) => Ok(()),
         Err(error) => match error.kind() {
-            ErrorKind::PermissionDenied
-            | ErrorKind::ReadOnlyFilesystem
-            | ErrorKind::InvalidInput => Ok(()),
+            ErrorKind::PermissionDenied | ErrorKind::ReadOnlyFilesystem | ErrorKind::InvalidInput =>
+                Ok(()),
             _ => Err(error),
         },
     }
