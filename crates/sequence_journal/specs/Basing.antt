@@ -43,12 +43,6 @@ WritesBase file generation h (Err SiteFault) w v = IsDurable (disk w file) → B
 WritesBase file generation h (Err NoMemory) w v = v ≡ w
 WritesBase file generation h (Err e) w v = ⊥
 
--- ---- within the limit
-
--- how many bytes a file has with a base of these events, and the gate behind it
-abbrev pub base_size : List Event → ℕ
-base_size events = 38 + length (events_bytes events)
-
 -- the journal on a file with this base, and no change
 abbrev pub journal_of_base : Which → ℕ → Sequence → List Event → Journal
 journal_of_base file generation base events = record {
@@ -58,6 +52,12 @@ journal_of_base file generation base events = record {
   kept = base;
   closed = false;
 }
+
+-- ---- within the limit
+
+-- how many bytes a file has with a base of these events, and the gate behind it
+abbrev pub base_size : List Event → ℕ
+base_size events = 38 + length (events_bytes events)
 
 -- Each answer of `write_base_within` with what it means. TooLarge comes exactly where the file would pass 2^40 bytes,
 -- and SiteFault only where the count of the site's faults rose.

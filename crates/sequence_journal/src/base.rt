@@ -1,11 +1,11 @@
 //! A base in the place of all that a file holds.
-ghost use Rattle.std.specs.Prelude.{◌≡◌, ◌⊎◌, ◌+◌, ◌≤◌, ◌^◌, IfSome, IfErr, length};
+ghost use Rattle.std.specs.Prelude.{◌≡◌, ◌⊎◌, ◌+◌, ◌≤◌, ◌^◌, IfOk, IfSome, IfErr, length};
 ghost use Rattle.sequence_journal.specs.declared.error.JournalError.TheVariants.{SiteFault, NoMemory as NoMemoryError};
 ghost use Rattle.road_io.specs.Told.{Told};
 ghost use Rattle.road_io.specs.Disk.{IsDurable};
 ghost use Rattle.road_io.specs.Outside.{disk};
 ghost use Rattle.sequence_journal.specs.Journal.{CountsFaults};
-ghost use Rattle.sequence_journal.specs.Basing.{WritesBase, WritesWithin, WithinAnswer, base_alone};
+ghost use Rattle.sequence_journal.specs.Basing.{WritesBase, WritesWithin, WithinAnswer, base_alone, journal_of_base};
 
 use crate::append::has_room;
 use crate::chunks::base_chunk;
@@ -18,8 +18,8 @@ use std::alloc::Global;
 
 /// Writes a base in the place of all that a file holds, on which nothing is pending: empties the file and closes its
 /// first gate, writes all that follows, and opens the gate, with a sync behind each. All memory is taken before the
-/// first call on the site. After a SiteFault nothing may be written to the file before it is synced (`settle`), or the
-/// store loaded.
+/// first call on the site. The journal is that of the base, on this file, whatever the site tells. After a SiteFault
+/// nothing may be written to the file before it is synced (`settle`), or the store loaded.
 pub fn write_base<W: Site>(
     alloc: Global,
     site: &mut W,
@@ -31,6 +31,7 @@ pub fn write_base<W: Site>(
     requires { IfSome (W.outside site.old) (λ w. IsDurable (disk w file)) }
     ensures told { Told (WritesBase file generation (base_alone base.0 events.now) result)
         (W.outside site.old) (W.outside site.new) }
+    ensures journal { IfOk result (λ j. j ≡ journal_of_base file generation base events.now) }
     ensures named { IfErr result (λ e. (e ≡ SiteFault) ⊎ (e ≡ NoMemoryError)) }
     ensures counts { CountsFaults (W.faults site.old) (W.faults site.new) result }
 {

@@ -31,6 +31,7 @@ impl Journal {
     /// would stand at 2^40. A SiteFault may have repaired.
     pub fn load<W: Site>(alloc: Global, site: &mut W, file: Which) -> Result<Loaded, JournalError>
         ensures told { Told (Loads file result) (W.outside site.old) (W.outside site.new) }
+        ensures on { IfOk result (λ loaded. loaded.journal.file ≡ file) }
         ensures not_closed { IfOk result (λ loaded. loaded.journal.closed ≡ false) }
         ensures named { IfErr result (IsReadError file) }
         ensures counts { CountsFaults (W.faults site.old) (W.faults site.new) result }
@@ -52,6 +53,7 @@ pub fn settle<W: Site>(site: &mut W, file: Which) -> Result<(), Failed>
 pub fn mend<W: Site>(alloc: Global, site: &mut W, file: Which) -> Result<Loaded, JournalError>
     requires { IfSome (W.outside site.old) (λ w. IsDurable (disk w file)) }
     ensures told { Told (Mends file result) (W.outside site.old) (W.outside site.new) }
+    ensures on { IfOk result (λ loaded. loaded.journal.file ≡ file) }
     ensures not_closed { IfOk result (λ loaded. loaded.journal.closed ≡ false) }
     ensures named { IfErr result (IsReadError file) }
     ensures counts { CountsFaults (W.faults site.old) (W.faults site.new) result }

@@ -1,7 +1,8 @@
 //! A store made where there is none.
-ghost use Rattle.std.specs.Prelude.{IfErr};
+ghost use Rattle.std.specs.Prelude.{◌≡◌, IfOk, IfErr};
 ghost use Rattle.road_io.specs.Told.{Told};
 ghost use Rattle.sequence_journal.specs.Journal.{CountsFaults};
+ghost use Rattle.sequence_journal.specs.Basing.{journal_of_base};
 ghost use Rattle.store_switch.specs.StoreCreating.{CreatesStore, IsCreateError};
 
 use crate::live::{find_live, settle_both};
@@ -11,8 +12,9 @@ use sequence_journal::{Journal, JournalError, write_base};
 use std::alloc::Global;
 
 /// Makes a store of a base: its number, that before the first change's, and the events that come before all changes.
-/// It syncs both files, and writes file A, of generation 1. StoreExists exactly where some file has an open base. All
-/// memory is taken before it writes; file B is never written. After a SiteFault create the store again, or load it.
+/// It syncs both files, and writes file A, of generation 1: the journal is that of the base there, whatever the site
+/// tells. StoreExists exactly where some file has an open base. All memory is taken before it writes; file B is never
+/// written. After a SiteFault create the store again, or load it.
 pub fn create_store<W: Site>(
     alloc: Global,
     site: &mut W,
@@ -20,6 +22,7 @@ pub fn create_store<W: Site>(
     events: &[Event],
 ) -> Result<Journal, JournalError>
     ensures told { Told (CreatesStore base.0 events.now result) (W.outside site.old) (W.outside site.new) }
+    ensures journal { IfOk result (λ j. j ≡ journal_of_base Which.A 1 base events.now) }
     ensures named { IfErr result IsCreateError }
     ensures counts { CountsFaults (W.faults site.old) (W.faults site.new) result }
 {
