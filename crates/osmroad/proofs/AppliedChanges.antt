@@ -34,7 +34,7 @@ use Rattle.osmroad.specs.declared.reply.Failure.TheVariants.{NoMemory as NoMemor
 use Rattle.osmroad.specs.declared.status.Status.{Status}
 use Rattle.osmroad.specs.declared.status.Status.TheVariants.{Done, Refused, Limit, OutOfSequence as OutOfSequenceStatus}
 use Rattle.osmroad.specs.Texts.{applied_line, limit_line, refused_line, sequence_line}
-use Rattle.osmroad.specs.Limits.{PassesLimit}
+use Rattle.osmroad.specs.Limits.{PassesLimit, PassesAtLast}
 use Rattle.osmroad.specs.Input.{Ended, ReadWhole, Stopped}
 use Rattle.road_io.specs.Parts.{Took}
 use Rattle.osmroad.specs.Opening.{Files}
@@ -182,11 +182,12 @@ module _ (laws : StoreLaws) (n : Sequence) where
         (λ e. other (e ∙ ap (λ (m : ℕ). m + 1) (sym k.ready.at.last)))
         refl (ap (λ (m : ℕ). sequence_line n.0 m) k.ready.at.last) refl)
 
-    too_much : (read behind : List ℕ) → PassesLimit read → WillPut command (read ++ behind) read Limit limit_line x y
+    too_much : (read behind : List ℕ) → PassesAtLast PassesLimit read
+        → WillPut command (read ++ behind) read Limit limit_line x y
     too_much read behind passes =
         not_applied (read ++ behind) read Limit limit_line (inr (inr (inr (inr (inr refl)))))
         (λ files. inl passes) (λ e. let k : 108 ≡ 97 = e in omega arith)
-        (λ w v k. OfTooMuch (loaded_store l w v k) (still_passes read behind passes) refl refl refl)
+        (λ w v k. OfTooMuch (loaded_store l w v k) (still_passes read behind passes.passes) refl refl refl)
 
     module _ (held left : Option (List ℕ)) (faults_before faults_now : ℕ) where
       -- the change is in fault: its number is looked at first

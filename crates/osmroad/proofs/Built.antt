@@ -20,7 +20,7 @@ use Rattle.graph_file.specs.WalkedFiles.{IsWalkedFile}
 use Rattle.road_model.specs.Highways.{AreRoadWays}
 use Rattle.osmroad.specs.Building.{HasBlocksOf, IsBlockAmong}
 use Rattle.road_base.proofs.ListMembers.{In, contains_from_in, in_from_contains, contains_more, in_left, in_end}
-use Rattle.road_base.proofs.ListMembers.{from_map, all_from}
+use Rattle.road_base.proofs.ListMembers.{from_map}
 use Rattle.road_model.proofs.RisingLists.{one_more_rises, below_last}
 
 module _ (M : Objects) (P : Rules) where
@@ -116,23 +116,21 @@ module _ (M : Objects) (P : Rules) where
     spelled = spelled has.blocks has.written;
   }
 
-  -- the pieces of a road's block are named by its way
-  of_its_way : (b : Block) → IsRoadBlock M P b → IsOfItsWay b
-  of_its_way b road = all_from (λ p. p.name.way ≡ b.way) b.pieces (λ p i.
-      let e = road.block.pieces.sound p i in ap (λ n. n.way) e.named ∙ e.of)
-
   -- the file of all roads is walked as the object map
   pub whole_file : P.number ≡ 1 → (ways : List WayId) (writer : GraphWriter) (bytes : List ℕ)
       → AreRoadWays M P ways → HasBlocksOf M P ways writer
       → ((blocks : List Block) → HasWritten 1 blocks writer → IsTrue (rises way_cmp (map (λ b. b.way) blocks))
       → AllByRecursion IsOfItsWay blocks → IsFile bytes blocks)
+      → ((blocks : List Block) → Lists (λ b. b.way) way_cmp (IsRoadBlock M P) blocks
+      → AllByRecursion IsOfItsWay blocks)
       → ((file : List ℕ) (blocks : List Block) → Lists (λ b. b.way) way_cmp (IsRoadBlock M P) blocks
       → IsFile file blocks → IsWalkedFile M P file)
       → IsWalkedFile M P bytes
-  whole_file one ways writer bytes all has file law =
-      law bytes has.blocks (all_listed ways writer all has)
+  whole_file one ways writer bytes all has file own law =
+      let listed = all_listed ways writer all has in
+      law bytes has.blocks listed
       (file has.blocks (subst (λ n. HasWritten n has.blocks writer) one has.written) has.listed.ascending
-      (all_from IsOfItsWay has.blocks (λ b i. of_its_way b (has.listed.sound b i).road)))
+      (own has.blocks listed))
 
 -- ---- lists that are empty or not
 

@@ -39,7 +39,7 @@ module _ (held left : Option (List ℕ)) (x : Option Outside) where
       let bytes = read ++ behind_of left in
       replied compile bytes read Limit limit_line result x x is
       (will_put_alone compile read (λ stored. stored) bytes Limit limit_line x (inr (inr refl)) cause
-      (CompileGives.OfInput (InputRefusal.OfTooMuch (still_passes read (behind_of left) cause) refl refl), refl))
+      (CompileGives.OfInput (InputRefusal.OfTooMuch (still_passes read (behind_of left) cause.passes) refl refl), refl))
       (stands_still x)
   refused_answer fb fn (Refused fault) result read cause is =
       let whole = all_read read left cause.0 in

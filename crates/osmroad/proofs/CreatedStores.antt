@@ -178,7 +178,8 @@ module _ (n : Sequence) where
         prepares command result s.read held left x y s.took
         (replied command (s.read ++ behind_of left) s.read Limit limit_line result x y says
         (not_taken (s.read ++ behind_of left) s.read Limit limit_line (inr (inr (inl refl))) (λ files. s.cause)
-        (λ e. let k : 108 ≡ 99 = e in omega arith) (OfTooMuch (still_passes s.read (behind_of left) s.cause) refl refl))
+        (λ e. let k : 108 ≡ 99 = e in omega arith)
+        (OfTooMuch (still_passes s.read (behind_of left) s.cause.passes) refl refl))
         (as_before None x y told))
         (looked_silent None x y told) (looked_only None x y told s.read)
     extract_unread held left faults_before faults_now (RefusedInput fault) result s says =

@@ -43,7 +43,7 @@ module _ (held left : Option (List ℕ)) (x : Option Outside) where
       let bytes = read ++ behind_of left in
       replied inspect bytes read Limit limit_line result x x is
       (will_put_alone inspect read (λ stored. stored) bytes Limit limit_line x (inr (inr refl)) cause
-      (InspectGives.OfTooMuch (still_too_many read (behind_of left) cause) refl refl, refl))
+      (InspectGives.OfTooMuch (still_too_many read (behind_of left) cause.passes) refl refl, refl))
       (stands_still x)
   stopped_answer fb fn (Refused fault) result read cause is = absurd cause
   stopped_answer fb fn NoMemory result read cause is =

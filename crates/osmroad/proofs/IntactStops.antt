@@ -1,6 +1,6 @@
 -- A stop at any moment of a run leaves files that stand for a history, or that hold no store, where nothing was pending
 -- on such files when the run began.
-use Rattle.std.proofs.Common.{◌≡◌, ◌⊎◌, inl, inr, ⊎_elim, ℕ, ◌<◌, ◌≤◌, ◌^◌, List, length, Option, None, Some}
+use Rattle.std.proofs.Common.{◌≡◌, ◌⊎◌, inl, inr, ⊎_elim, ℕ, ◌<◌, ◌≤◌, ◌^◌, List, length, Option, None, Some, Bool}
 use Rattle.std.proofs.Common.{sym, subst, arith}
 use Rattle.std.proofs.lemmas.Bool.{cases_lt}
 use Rattle.road_base.specs.History.{History, with_change}
@@ -138,13 +138,14 @@ module _ (laws : StoreLaws) (w : Outside) (durable : BothDurable w) (intact : Ar
 
     -- ---- a session
 
-    served_intact : (read : List ℕ) → LeavesServed read w left → AreIntact (image_of left)
-    served_intact read l = ⊎_elim
+    served_intact : (read : List ℕ) (ended : Bool) → LeavesServed read ended w left → AreIntact (image_of left)
+    served_intact read ended l = ⊎_elim
         (λ s. ⊎_elim (first_intact s.history) (λ k. session_intact (opening s) k) (l.stored s))
         (λ never. could_intact (l.otherwise (λ s. never s.history (s.live, s.generation, s.stands, s.small))))
         store_or_none
       where
-        session_intact : (from : Kept) → LeavesSession motorcar_rules from read w left → AreIntact (image_of left)
+        session_intact : (from : Kept) → LeavesSession motorcar_rules from read ended w left
+            → AreIntact (image_of left)
         session_intact from k = ⊎_elim
             (intact_for left k.from.history) (intact_for left k.to.history) k.leaves.files
 
@@ -158,9 +159,9 @@ module _ (laws : StoreLaws) (status : Status) (held remaining : Option (List ℕ
       (λ left. left_intact laws w durable intact left command e.read))
 
   session_intact : EndsSession status held remaining x y → Told StaysIntact x y
-  session_intact e = told_weaker x y (SessionRuns e.read status) StaysIntact e.runs
-      (λ w v runs durable intact. only_weaker w v (LeavesServed e.read w) (λ left. AreIntact (image_of left)) runs.stops
-      (λ left. served_intact laws w durable intact left e.read))
+  session_intact e = told_weaker x y (SessionRuns e.read e.ended status) StaysIntact e.runs
+      (λ w v runs durable intact. only_weaker w v (LeavesServed e.read e.ended w) (λ left. AreIntact (image_of left))
+      runs.stops (λ left. served_intact laws w durable intact left e.read e.ended))
 
   pub run_intact : (request : Option Request) → RunEnds request status held remaining x y → Told StaysIntact x y
   run_intact None e = command_intact None e

@@ -1,5 +1,5 @@
 -- A session whose store isn't loaded: what is put, how the run ends, and what a stop leaves.
-use Rattle.std.proofs.Common.{◌≡◌, inl, inr, ℕ, ◌<◌, List, [], ◌++◌, take, Option, None, Some}
+use Rattle.std.proofs.Common.{◌≡◌, inl, inr, ℕ, ◌<◌, List, [], ◌++◌, take, Option, None, Some, false}
 use Rattle.std.proofs.Common.{Result, Ok, Err, refl, sym, ◌∙◌, ap, subst, arith}
 use Rattle.road_io.specs.Told.{Told, Rose}
 use Rattle.road_io.specs.Outside.{Outside, LeavesOnly}
@@ -69,11 +69,11 @@ module _ (laws : StoreLaws) where
     still_read (inr put) =
         subst (λ (x : Outside). StillRead w x) (sym put.1) (λ file. n.still file)
 
-    line_stops : PutsSome line u v → LeavesOnly w v (LeavesServed [] w)
-    line_stops (inl same) = subst (λ (x : Outside). LeavesOnly w x (LeavesServed [] w)) (sym same)
-        (load_leaves laws [] w u n.only)
+    line_stops : PutsSome line u v → LeavesOnly w v (LeavesServed [] false w)
+    line_stops (inl same) = subst (λ (x : Outside). LeavesOnly w x (LeavesServed [] false w)) (sym same)
+        (load_leaves laws [] false w u n.only)
     line_stops (inr put) =
-        put_goes_on w u v (LeavesServed [] w) (take put.0 line) (load_leaves laws [] w u n.only) put.1
+        put_goes_on w u v (LeavesServed [] false w) (take put.0 line) (load_leaves laws [] false w u n.only) put.1
         (λ left a b front. record {
           stored = λ s. absurd (n.never s.history (s.live, s.generation, s.stands, s.small));
           otherwise = λ never. could_leave w u why line n left a b;
@@ -83,7 +83,8 @@ module _ (laws : StoreLaws) where
     put_since same (inl p) = inl (p.0, p.1 ∙ ap (λ (l : List ℕ). l ++ line) same)
     put_since same (inr p) = inr (p.0, p.1, p.2 ∙ ap (λ (l : List ℕ). l ++ take p.1 line) same)
 
-    line_runs : u.output ≡ w.output → PutsSome line u v → PutsLine line why status u v → SessionRuns [] status w v
+    line_runs : u.output ≡ w.output → PutsSome line u v → PutsLine line why status u v
+        → SessionRuns [] false status w v
     line_runs same some put = record {
       puts = OfRefusal refl why line n.refusal (put_since same put) (still_read some);
       stops = line_stops some;
@@ -102,12 +103,12 @@ module _ (laws : StoreLaws) where
   pub refusal_runs : (e : JournalError) (reply : Reply) (status : Status) (x y z : Option Outside) (before now : ℕ)
       → IsLoadError e → RefusesStore e (Ok reply) → Told (LoadsStore (Err e)) x y
       → Told (PutsSome reply.out.items) y z → EndsPut reply.out.items reply.status status y z before now
-      → Told (SessionRuns [] status) x z
+      → Told (SessionRuns [] false status) x z
   refusal_runs e reply status x y z before now named says told files ends =
       let line = reply.out.items in
       let why = reply.status in
       told_then x y z (LoadsStore (Err e)) (λ u v. PutsSome line u v × PutsLine line why status u v)
-      (SessionRuns [] status) told
+      (SessionRuns [] false status) told
       (told_both y z (PutsSome line) (PutsLine line why status) files
       (put_line line why status y z before now ends))
       (λ w u v l p. line_runs why status line w u v (not_loaded_for e reply w u named says l) l.output p.0 p.1)
@@ -116,19 +117,19 @@ module _ (laws : StoreLaws) where
 
 module _ (laws : StoreLaws) (w u : Outside) where
   memory_runs : (status : Status) (e : JournalError) → status ≡ NoMemory → LoadsStore (Err e) w u → StillRead w u
-      → SessionRuns [] status w u
+      → SessionRuns [] false status w u
   memory_runs status e is l still = record {
     puts = OfMemory refl is l.output still;
-    stops = load_leaves laws [] w u l.any_moment;
+    stops = load_leaves laws [] false w u l.any_moment;
   }
 
   failure_runs : (e : JournalError) (failure : Failure) → IsLoadError e → RefusesStore e (Err failure)
-      → LoadsStore (Err e) w u → SessionRuns [] (failure_status failure) w u
+      → LoadsStore (Err e) w u → SessionRuns [] false (failure_status failure) w u
   failure_runs SiteFaultError failure named is l =
       let k : failure ≡ SiteFailure = cc in
       record {
         puts = OfFault refl (ap failure_status k) l.output l.files;
-        stops = load_leaves laws [] w u l.any_moment;
+        stops = load_leaves laws [] false w u l.any_moment;
       }
   failure_runs NoMemoryError failure named is l =
       let k : failure ≡ MemoryFailure = cc in
@@ -143,9 +144,10 @@ module _ (laws : StoreLaws) (w u : Outside) where
   failure_runs (OutOfSequence kept got) failure named is l = absurd named
 
 pub failed_runs : StoreLaws → (e : JournalError) (failure : Failure) (x y : Option Outside) → IsLoadError e
-    → RefusesStore e (Err failure) → Told (LoadsStore (Err e)) x y → Told (SessionRuns [] (failure_status failure)) x y
+    → RefusesStore e (Err failure) → Told (LoadsStore (Err e)) x y
+    → Told (SessionRuns [] false (failure_status failure)) x y
 failed_runs laws e failure x y named refuses told =
-    told_weaker x y (LoadsStore (Err e)) (SessionRuns [] (failure_status failure)) told
+    told_weaker x y (LoadsStore (Err e)) (SessionRuns [] false (failure_status failure)) told
     (λ w u l. failure_runs laws w u e failure named refuses l)
 
 -- ---- statuses
@@ -251,13 +253,15 @@ refused_reads Limit bytes is = tt
 refused_reads NoMemory bytes is = tt
 
 pub store_is_refused : (status : Status) (held : Option (List ℕ)) (x z : Option Outside) → IsNotServed status
-    → Told (SessionRuns [] status) x z → EndsSession status held held x z
+    → Told (SessionRuns [] false status) x z → EndsSession status held held x z
 store_is_refused status held x z named runs = record {
   bytes = behind_of held;
   read = [];
   behind = behind_of held;
   all = refl;
   holds = held_still held;
+  ended = false;
+  source = λ at_end. absurd (cc);
   reads = refused_reads status (behind_of held) named;
   runs = runs;
 }

@@ -1,5 +1,5 @@
 -- A session over the two files: how it ends, and what a stop leaves.
-use Rattle.std.proofs.Common.{◌≡◌, ◌⊎◌, inl, inr, ℕ, List, [], ◌++◌, length, take, Option, IfSome}
+use Rattle.std.proofs.Common.{◌≡◌, ◌⊎◌, inl, inr, ℕ, List, [], ◌++◌, length, take, Option, Bool, IfSome}
 use Rattle.std.proofs.Common.{Ok, refl, sym, ◌∙◌, ap, subst}
 use Rattle.std.proofs.lemmas.List.{append-nil}
 use Rattle.std.specs.Io.{StartsWith}
@@ -76,8 +76,8 @@ is_served end status is = subst IsServed (sym is) (ended_served end)
 
 -- ---- what was put by a session, since the run began
 
-module _ (P : Rules) (from : Kept) (read : List ℕ) (w u : Outside) (same : u.output ≡ w.output) where
-  all_put_since : (end : End) (v : Outside) → PutsAll P from read end u v → PutsAll P from read end w v
+module _ (P : Rules) (from : Kept) (read : List ℕ) (ended : Bool) (w u : Outside) (same : u.output ≡ w.output) where
+  all_put_since : (end : End) (v : Outside) → PutsAll P from read ended end u v → PutsAll P from read ended end w v
   all_put_since end v p = record {
     out = p.out;
     to = p.to;
@@ -86,7 +86,7 @@ module _ (P : Rules) (from : Kept) (read : List ℕ) (w u : Outside) (same : u.o
     stand = p.stand;
   }
 
-  front_put_since : (v : Outside) → PutsFront P from read u v → PutsFront P from read w v
+  front_put_since : (v : Outside) → PutsFront P from read ended u v → PutsFront P from read ended w v
   front_put_since v p = record {
     said = p.said;
     reply = p.reply;
@@ -97,7 +97,7 @@ module _ (P : Rules) (from : Kept) (read : List ℕ) (w u : Outside) (same : u.o
     grows = p.grows ∙ ap (λ (l : List ℕ). l ++ (p.said ++ take p.n p.reply)) same;
   }
 
-  ends_since : (end : End) (v : Outside) → EndsWith P from read end u v → EndsWith P from read end w v
+  ends_since : (end : End) (v : Outside) → EndsWith P from read ended end u v → EndsWith P from read ended end w v
   ends_since DoneEnd v p = all_put_since DoneEnd v p
   ends_since Unfinished v p = all_put_since Unfinished v p
   ends_since ReadFaultEnd v p = all_put_since ReadFaultEnd v p
@@ -105,7 +105,7 @@ module _ (P : Rules) (from : Kept) (read : List ℕ) (w u : Outside) (same : u.o
   ends_since LimitEnd v p = all_put_since LimitEnd v p
   ends_since NoMemoryEnd v p = front_put_since v p
 
-  leaves_since : (left : Left) → LeavesSession P from read u left → LeavesSession P from read w left
+  leaves_since : (left : Left) → LeavesSession P from read ended u left → LeavesSession P from read ended w left
   leaves_since left l = record {
     said = l.said;
     reply = l.reply;
@@ -118,9 +118,9 @@ module _ (P : Rules) (from : Kept) (read : List ℕ) (w u : Outside) (same : u.o
 -- ---- each moment of the load
 
 -- a session that has said nothing yet
-silent_session : (P : Rules) (from : Kept) (read : List ℕ) (w : Outside) (left : Left)
-    → LeavesStore from.history w.output left → LeavesSession P from read w left
-silent_session P from read w left store =
+silent_session : (P : Rules) (from : Kept) (read : List ℕ) (ended : Bool) (w : Outside) (left : Left)
+    → LeavesStore from.history w.output left → LeavesSession P from read ended w left
+silent_session P from read ended w left store =
     let one : w.output ++ [] ≡ w.output = append-nil w.output in
     let two : (w.output ++ []) ++ [] ≡ w.output = append-nil (w.output ++ []) ∙ one in
     record {
@@ -140,17 +140,18 @@ silent_session P from read w left store =
     }
 
 module _ (laws : StoreLaws) where
-  load_served : (read : List ℕ) (w : Outside) (left : Left) → IsLeft (present w) left ⊎ LeavesAlike w left
-      → LeavesServed read w left
-  load_served read w left (inl there) = record {
+  load_served : (read : List ℕ) (ended : Bool) (w : Outside) (left : Left)
+      → IsLeft (present w) left ⊎ LeavesAlike w left
+      → LeavesServed read ended w left
+  load_served read ended w left (inl there) = record {
     stored = λ s. inl (record {
       could = there;
       durable = λ d. laws.still w left s.history d there (s.live, s.generation, s.stands);
     });
     otherwise = λ never. record { a = there.a; b = there.b };
   }
-  load_served read w left (inr alike) = record {
-    stored = λ s. inr (silent_session motorcar_rules (opening s) read w left
+  load_served read ended w left (inr alike) = record {
+    stored = λ s. inr (silent_session motorcar_rules (opening s) read ended w left
         (subst (λ (h : History). LeavesStore h w.output left)
         (same_history laws (reads_of w) alike.0 s.history alike.1 (s.live, s.generation, s.stands, s.small)) alike.2));
     otherwise = λ never. absurd (never (record {
@@ -162,10 +163,11 @@ module _ (laws : StoreLaws) where
     }));
   }
 
-  pub load_leaves : (read : List ℕ) (w v : Outside)
-      → LeavesOnly w v (λ left. IsLeft (present w) left ⊎ LeavesAlike w left) → LeavesOnly w v (LeavesServed read w)
-  load_leaves read w v only = only_weaker w v (λ left. IsLeft (present w) left ⊎ LeavesAlike w left)
-      (LeavesServed read w) only (load_served read w)
+  pub load_leaves : (read : List ℕ) (ended : Bool) (w v : Outside)
+      → LeavesOnly w v (λ left. IsLeft (present w) left ⊎ LeavesAlike w left)
+      → LeavesOnly w v (LeavesServed read ended w)
+  load_leaves read ended w v only = only_weaker w v (λ left. IsLeft (present w) left ⊎ LeavesAlike w left)
+      (LeavesServed read ended w) only (load_served read ended w)
 
 -- ---- the session behind it
 
@@ -188,30 +190,32 @@ module _ (laws : StoreLaws) where
       let same = laws.one_store files s.live t.live s.generation t.generation s.history t.history s.stands t.stands in
       ap (λ (g : ℕ). opening_at g s.history) same.1 ∙ ap (λ (h : History). opening_at t.generation h) same.2
 
-  session_leaves : (read : List ℕ) (w u : Outside) → u.output ≡ w.output → (s : IsStore (reads_of w)) → (left : Left)
-      → LeavesSession motorcar_rules (opening s) read u left → LeavesServed read w left
-  session_leaves read w u same s left l = record {
-    stored = λ t. inr (subst (λ (o : Kept). LeavesSession motorcar_rules o read w left)
-        (same_opening (reads_of w) s t) (leaves_since motorcar_rules (opening s) read w u same left l));
+  session_leaves : (read : List ℕ) (ended : Bool) (w u : Outside) → u.output ≡ w.output → (s : IsStore (reads_of w))
+      → (left : Left)
+      → LeavesSession motorcar_rules (opening s) read ended u left → LeavesServed read ended w left
+  session_leaves read ended w u same s left l = record {
+    stored = λ t. inr (subst (λ (o : Kept). LeavesSession motorcar_rules o read ended w left)
+        (same_opening (reads_of w) s t) (leaves_since motorcar_rules (opening s) read ended w u same left l));
     otherwise = λ never. absurd (never s);
   }
 
-  module _ (l : Loaded) (read : List ℕ) (end : End) (status : Status) (is : status ≡ end_status end) where
-    session_runs : (w u v : Outside) → LoadsStore (Ok l) w u
-        → ((h : History) → IsOpening l h u → SessionEnds motorcar_rules (opening_of l h) read end u v)
-        → SessionRuns read status w v
-    session_runs w u v load ends =
-        let k : StoreLoaded l w u = load.answer in
-        let s = loaded_store l w u k in
-        let e : SessionEnds motorcar_rules (opening s) read end u v =
-        subst (λ (o : Kept). SessionEnds motorcar_rules o read end u v) (opening_is l w u k)
-        (ends k.history (opened l w u k)) in
-        record {
-          puts = OfStore s end is (ends_since motorcar_rules (opening s) read w u load.output end v e.puts);
-          stops = then_runs w u v (LeavesServed read w) (LeavesSession motorcar_rules (opening s) read u)
-              (load_leaves laws read w u load.any_moment) e.stops
-              (λ left. session_leaves read w u load.output s left);
-        }
+  module _ (l : Loaded) (read : List ℕ) (ended : Bool) (end : End) (status : Status) (is : status ≡ end_status end)
+    where
+      session_runs : (w u v : Outside) → LoadsStore (Ok l) w u
+          → ((h : History) → IsOpening l h u → SessionEnds motorcar_rules (opening_of l h) read ended end u v)
+          → SessionRuns read ended status w v
+      session_runs w u v load ends =
+          let k : StoreLoaded l w u = load.answer in
+          let s = loaded_store l w u k in
+          let e : SessionEnds motorcar_rules (opening s) read ended end u v =
+          subst (λ (o : Kept). SessionEnds motorcar_rules o read ended end u v) (opening_is l w u k)
+          (ends k.history (opened l w u k)) in
+          record {
+            puts = OfStore s end is (ends_since motorcar_rules (opening s) read ended w u load.output end v e.puts);
+            stops = then_runs w u v (LeavesServed read ended w) (LeavesSession motorcar_rules (opening s) read ended u)
+                (load_leaves laws read ended w u load.any_moment) e.stops
+                (λ left. session_leaves read ended w u load.output s left);
+          }
 
   reads_whole : (bytes read behind : List ℕ) → bytes ≡ read ++ behind → behind ≡ [] → read ≡ bytes
   reads_whole bytes read behind all none =
@@ -237,13 +241,19 @@ module _ (laws : StoreLaws) where
         behind = c.behind;
         all = c.all;
         holds = c.holds;
+        ended = c.ended;
+        source = λ at_end. (
+          (c.source at_end).0,
+          λ fault. (c.source at_end).1 (ended_reading serves.end
+              (sym serves.is ∙ fault)),
+        );
         reads = subst (λ (s : Status). ReadsSession s c.bytes c.read) (sym serves.is)
-            (session_reads serves.end c.bytes c.read c.behind c.all c.whole);
+            (session_reads serves.end c.bytes c.read c.behind c.all (λ at. (c.source (c.whole at)).0));
         runs = told_then x y z (LoadsStore (Ok l))
             (λ u v. (h : History) → IsOpening l h u
-            → SessionEnds motorcar_rules (opening_of l h) c.read serves.end u v)
-            (SessionRuns c.read status) told c.ends
-            (λ w u v load ends. session_runs l c.read serves.end status serves.is w u v load ends);
+            → SessionEnds motorcar_rules (opening_of l h) c.read c.ended serves.end u v)
+            (SessionRuns c.read c.ended status) told c.ends
+            (λ w u v load ends. session_runs l c.read c.ended serves.end status serves.is w u v load ends);
       }
 
 pub store_opens : (l : Loaded) (x y : Option Outside) → Told (LoadsStore (Ok l)) x y

@@ -1,5 +1,6 @@
 -- A session that must be done is done.
-use Rattle.std.proofs.Common.{◌≡◌, ◌⊎◌, ℕ, List, ◌++◌, Option, None, Some, inl, inr, subst}
+use Rattle.std.proofs.Common.{◌≡◌, ◌⊎◌, ℕ, List, [], ◌++◌, Option, None, Some, Bool, true, length}
+use Rattle.std.proofs.Common.{inl, inr, refl, subst}
 use Rattle.road_io.specs.Told.{Rose}
 use Rattle.road_io.specs.Outside.{Outside}
 use Rattle.store_switch.specs.LiveFile.{reads_of}
@@ -9,6 +10,8 @@ use Rattle.session.specs.declared.end.End.TheVariants.{Done as DoneEnd, Unfinish
 use Rattle.session.specs.declared.end.End.TheVariants.{SiteFault as SiteFaultEnd, Limit as LimitEnd}
 use Rattle.session.specs.declared.end.End.TheVariants.{NoMemory as NoMemoryEnd}
 use Rattle.session.specs.Conversing.{EndsWith}
+use Rattle.session.specs.Conversation.{Kept}
+use Rattle.session.specs.Endings.{EndsSaying, OfEnd, OfLast, OfUnfinished, OfTooMuch, OfFull, OfFullLast, OfReadFault}
 use Rattle.session.specs.Endings.{SessionGives}
 use Rattle.osmroad.specs.declared.command.Request.TheVariants.{Session}
 use Rattle.osmroad.specs.declared.status.Status.{Status}
@@ -26,23 +29,42 @@ use Rattle.osmroad.proofs.Refusals.{readable_not_refused}
 abbrev pub IsDone : Status → Type 0
 IsDone status = (status ≡ Done) ⊎ (status ≡ NoMemory)
 
-module _ (bytes read behind : List ℕ) (all : bytes ≡ read ++ behind) (status : Status)
-    (reads : ReadsSession status bytes read)
+-- a session ends inside a frame only where its source ended
+unfinished_saying : (from : Kept) (before : ℕ) (rest : List ℕ) (ended : Bool) (end : End) (out : List ℕ) (to : Kept)
+    → EndsSaying motorcar_rules from before rest ended end out to → end ≡ Unfinished → ended ≡ true
+unfinished_saying from before rest ended end out to (OfEnd at_end none is o t) same = at_end
+unfinished_saying from before rest ended end out to (OfLast at_end p m l r is) same = at_end
+unfinished_saying from before rest ended end out to (OfUnfinished at_end p n u is o t) same = at_end
+unfinished_saying from before rest ended end out to (OfTooMuch s is o t) same = absurd (cc)
+unfinished_saying from before rest ended end out to (OfFull m taken more a b small full is o t) same = absurd (cc)
+unfinished_saying from before rest ended end out to (OfFullLast at_end p m l full is o t) same = at_end
+unfinished_saying from before rest ended end out to (OfReadFault p is o t) same = absurd (cc)
+
+unfinished_at_end : (opening : Kept) (read : List ℕ) (ended : Bool) (out : List ℕ) (to : Kept)
+    → SessionGives motorcar_rules opening read ended Unfinished out to → ended ≡ true
+unfinished_at_end opening read ended out to g =
+    unfinished_saying g.from (length g.front) g.rest ended Unfinished g.last to g.ends refl
+
+module _ (bytes read behind : List ℕ) (all : bytes ≡ read ++ behind) (ended : Bool)
+    (source : ended ≡ true → behind ≡ []) (status : Status) (reads : ReadsSession status bytes read)
     (no_read_fault : status ≡ ReadFault → ⊥) (no_site_fault : status ≡ SiteFault → ⊥) (w v : Outside) where
   -- a session over a store passes no limit, and doesn't end inside a frame
   served_done : EndsWell (reads_of w) bytes → (s : IsStore (reads_of w)) (end : End) → status ≡ end_status end
-      → EndsWith motorcar_rules (opening s) read end w v → IsDone status
+      → EndsWith motorcar_rules (opening s) read ended end w v → IsDone status
   served_done well s DoneEnd is ends = inl is
   served_done well s Unfinished is ends =
       let whole : read ≡ bytes = subst (λ (x : Status). ReadsSession x bytes read) is reads in
+      let sound : ended ≡ true = unfinished_at_end (opening s) read ended ends.out ends.to ends.gives in
       absurd (well.finished s ends.out ends.to
-      (subst (λ (l : List ℕ). SessionGives motorcar_rules (opening s) l Unfinished ends.out ends.to) whole ends.gives))
+      (subst (λ (b : Bool). SessionGives motorcar_rules (opening s) bytes b Unfinished ends.out ends.to) sound
+      (subst (λ (l : List ℕ). SessionGives motorcar_rules (opening s) l ended Unfinished ends.out ends.to) whole
+      ends.gives)))
   served_done well s ReadFaultEnd is ends = absurd (no_read_fault is)
   served_done well s SiteFaultEnd is ends = absurd (no_site_fault is)
-  served_done well s LimitEnd is ends = absurd (well.within s read behind ends.out ends.to all ends.gives)
+  served_done well s LimitEnd is ends = absurd (well.within s read behind ended ends.out ends.to all source ends.gives)
   served_done well s NoMemoryEnd is ends = inr is
 
-  put_done : OneLive → IsReadable (reads_of w) → EndsWell (reads_of w) bytes → SessionPuts read status w v
+  put_done : OneLive → IsReadable (reads_of w) → EndsWell (reads_of w) bytes → SessionPuts read ended status w v
       → IsDone status
   put_done live readable well (SessionPuts.OfStore s end is ends) = served_done well s end is ends
   put_done live readable well (SessionPuts.OfRefusal none why line refusal put still) =
@@ -62,6 +84,7 @@ session_done live status held remaining (Some w) None bytes rb rn cb cn e reads 
     absurd e.runs
 session_done live status held remaining (Some w) (Some v) bytes rb rn cb cn e reads calls is can no_read no_call =
     let same : bytes ≡ e.bytes = same_held bytes e.bytes e.behind held remaining is e.holds in
-    put_done e.bytes e.read e.behind e.all status e.reads (λ fault. no_read (reads.cause fault))
+    put_done e.bytes e.read e.behind e.all e.ended (λ at_end. (e.source at_end).0) status e.reads
+    (λ fault. no_read (reads.cause fault))
     (λ fault. no_call (calls.cause fault)) w v live can.0
     (subst (λ (l : List ℕ). EndsWell (reads_of w) l) same can.1) e.runs.puts

@@ -6,7 +6,7 @@ use Rattle.road_io.specs.Parts.{Took}
 use Rattle.opl_lexer.specs.declared.mode.Mode.{Mode}
 use Rattle.opl_lexer.specs.Reading.{ReadAll, input_fault}
 use Rattle.opl_objects.specs.StreamLines.{fault_at}
-use Rattle.osmroad.specs.Limits.{PassesLimit}
+use Rattle.osmroad.specs.Limits.{PassesLimit, PassesAtLast}
 use Rattle.osmroad.specs.declared.input.InputError.{InputError}
 use Rattle.osmroad.specs.declared.input.InputError.TheVariants.{Failed, TooLong, Refused, NoMemory}
 
@@ -23,11 +23,11 @@ pub record ReadWhole (mode : Mode) (events : List Event) (before now : Option (L
   pub within : PassesLimit bytes → ⊥
   pub gives : ReadAll mode bytes events
 
--- Why an input isn't read: the source failed, and no limit is passed; a limit is passed; all was read, no limit is
+-- Why an input isn't read: the source failed, and no limit is passed; the last part passes a limit; all was read, no limit is
 -- passed, and this is the first fault; memory ended.
 abbrev pub Cause : Mode → InputError → List ℕ → Option (List ℕ) → ℕ → ℕ → Type 0
 Cause mode Failed read now faults_before faults_now = Rose faults_before faults_now × (PassesLimit read → ⊥)
-Cause mode TooLong read now faults_before faults_now = PassesLimit read
+Cause mode TooLong read now faults_before faults_now = PassesAtLast PassesLimit read
 Cause mode (Refused fault) read now faults_before faults_now =
     Ended now × (PassesLimit read → ⊥) × (input_fault mode read ≡ Some (fault_at fault))
 Cause mode NoMemory read now faults_before faults_now = Unit {0}

@@ -1,5 +1,5 @@
 -- The limits of an input.
-use Rattle.std.specs.Prelude.{◌≡◌, ◌≢◌, ◌⊎◌, ◌+◌, ◌-◌, ◌≤◌, ◌<◌, ◌^◌, ℕ, List, length, slice_index}
+use Rattle.std.specs.Prelude.{◌≡◌, ◌≢◌, ◌⊎◌, ◌+◌, ◌-◌, ◌≤◌, ◌<◌, ◌^◌, ℕ, List, ◌++◌, length, slice_index}
 use Rattle.opl_lexer.specs.Letters.{newline}
 use Rattle.osmroad.specs.declared.limits.Measure.{Measure}
 
@@ -18,6 +18,15 @@ HasLongLine bytes = (i : ℕ) × IsLongFrom bytes i
 -- there are more than 2^30 bytes, or a line has more than 2^24
 abbrev pub PassesLimit : List ℕ → Type 0
 PassesLimit bytes = (2 ^ 30 < length bytes) ⊎ HasLongLine bytes
+
+-- the bytes pass a limit in their last part, which has at most 2^16 of them; those before it pass none
+pub record PassesAtLast (Passes : List ℕ → Type 0) (bytes : List ℕ) : Type 0 where
+  pub front : List ℕ
+  pub part : List ℕ
+  pub is : bytes ≡ front ++ part
+  pub small : length part ≤ 2 ^ 16
+  pub within : Passes front → ⊥
+  pub passes : Passes bytes
 
 -- the last k bytes are those behind the last newline
 pub record EndsLine (bytes : List ℕ) (k : ℕ) : Type 0 where

@@ -2,7 +2,7 @@
 use Rattle.std.specs.Prelude.{ℕ, List}
 use Rattle.opl_lexer.specs.declared.mode.Mode.{Mode}
 use Rattle.opl_objects.specs.Feeding.{HasRead}
-use Rattle.osmroad.specs.Limits.{PassesLimit, Measures}
+use Rattle.osmroad.specs.Limits.{PassesLimit, PassesAtLast, Measures}
 use Rattle.osmroad.specs.declared.input.Input.{Input}
 use Rattle.osmroad.specs.declared.input.InputError.{InputError}
 use Rattle.osmroad.specs.declared.input.InputError.TheVariants.{Failed, TooLong, Refused, NoMemory}
@@ -12,9 +12,9 @@ pub record Holds (mode : Mode) (read : List ℕ) (input : Input) : Type 0 where
   pub measures : Measures read input.measure
   pub has_read : HasRead mode read input.reader
 
--- a limit is passed, or memory ended
+-- the last part passes a limit, or memory ended
 abbrev pub Stops : InputError → List ℕ → Type 0
 Stops Failed read = ⊥
-Stops TooLong read = PassesLimit read
+Stops TooLong read = PassesAtLast PassesLimit read
 Stops (Refused fault) read = ⊥
 Stops NoMemory read = Unit {0}

@@ -24,7 +24,7 @@ use Rattle.osmroad.specs.declared.command.Command.TheVariants.{Graph, Audit, Che
 use Rattle.osmroad.specs.declared.status.Status.{Status}
 use Rattle.osmroad.specs.declared.status.Status.TheVariants.{Done, Usage, ReadFault, SiteFault, Refused, Limit}
 use Rattle.osmroad.specs.declared.status.Status.TheVariants.{NoMemory, OutOfSequence, NoStore, StoreExists, Damaged}
-use Rattle.osmroad.specs.Limits.{PassesLimit, HasTooManyBytes}
+use Rattle.osmroad.specs.Limits.{PassesLimit, PassesAtLast, HasTooManyBytes}
 use Rattle.osmroad.specs.Opening.{Files, IsStore, size_with_change}
 use Rattle.osmroad.specs.Checkpoints.{AreItsEntries, HasNoRoom}
 use Rattle.osmroad.specs.Outcomes.{Gives, AreInput}
@@ -139,11 +139,11 @@ abbrev pub PassesFor : Option Command → List ℕ → Type 0
 PassesFor (Some Inspect) read = HasTooManyBytes read
 PassesFor command read = PassesLimit read
 
--- What was read at a limit: more than is allowed; with a change also all of it, where the store has no room for it, or
--- nothing, where the live file is too large already.
+-- What was read at a limit: more than is allowed, and nothing behind the part in which the limit was passed; with a
+-- change also all of it, where the store has no room for it, or nothing, where the live file is too large already.
 abbrev pub ReadsToLimit : Option Command → List ℕ → List ℕ → Type 0
-ReadsToLimit (Some (Apply n)) bytes read = PassesLimit read ⊎ (read ≡ bytes) ⊎ (read ≡ [])
-ReadsToLimit command bytes read = PassesFor command read
+ReadsToLimit (Some (Apply n)) bytes read = PassesAtLast PassesLimit read ⊎ (read ≡ bytes) ⊎ (read ≡ [])
+ReadsToLimit command bytes read = PassesAtLast (PassesFor command) read
 
 -- What was read by a command that reads its source: all of the bytes, no more than the limits allow, or nothing, where
 -- the files are looked at first. Where they aren't told, a store may appear while the source is read.

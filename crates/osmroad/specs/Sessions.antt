@@ -1,6 +1,6 @@
 -- How a run ends that is asked for a session: what was read and put, for what the files then stand, and what a stop
 -- leaves.
-use Rattle.std.specs.Prelude.{◌≡◌, ◌≢◌, ◌⊎◌, ℕ, ◌+◌, ◌<◌, List, [], ◌++◌, length, take, Option, Some}
+use Rattle.std.specs.Prelude.{◌≡◌, ◌≢◌, ◌⊎◌, ℕ, ◌+◌, ◌<◌, List, [], ◌++◌, length, take, Option, Some, Bool, true}
 use Rattle.road_base.specs.History.{HasObjects}
 use Rattle.road_base.specs.Objects.{Objects}
 use Rattle.road_model.specs.Rules.{Rules}
@@ -17,7 +17,7 @@ use Rattle.session.specs.declared.end.End.TheVariants.{Done as DoneEnd, Unfinish
 use Rattle.session.specs.declared.end.End.TheVariants.{SiteFault as SiteFaultEnd, Limit as LimitEnd}
 use Rattle.session.specs.declared.end.End.TheVariants.{NoMemory as NoMemoryEnd}
 use Rattle.session.specs.Conversation.{Kept, room_at}
-use Rattle.session.specs.Conversing.{LeavesSession, EndsWith, Converses, HeldBytes}
+use Rattle.session.specs.Conversing.{LeavesSession, EndsWith, EndsSource, Converses, HeldBytes}
 use Rattle.session.specs.Endings.{SessionGives}
 use Rattle.session.specs.Building.{BuildsOf}
 use Rattle.osmroad.specs.declared.status.Status.{Status}
@@ -85,26 +85,26 @@ PutsLine line why status w v = ((status ≡ why) × (v.output ≡ w.output ++ li
 -- What was put, and for what the files then stand. Where they are a store, all is as the session says that opens with
 -- it. Where they aren't, nothing was read, and they read as before. Nothing was read or put where the store couldn't be
 -- loaded, for a fault of the site or for want of memory.
-pub data SessionPuts (read : List ℕ) (status : Status) (w v : Outside) : Type 0 where
+pub data SessionPuts (read : List ℕ) (ended : Bool) (status : Status) (w v : Outside) : Type 0 where
   OfStore : (s : IsStore (reads_of w)) → (end : End) → status ≡ end_status end
-      → EndsWith motorcar_rules (opening s) read end w v → SessionPuts read status w v
+      → EndsWith motorcar_rules (opening s) read ended end w v → SessionPuts read ended status w v
   OfRefusal : read ≡ [] → (why : Status) (line : List ℕ) → StoreRefusal (reads_of w) why line
-      → PutsLine line why status w v → StillRead w v → SessionPuts read status w v
+      → PutsLine line why status w v → StillRead w v → SessionPuts read ended status w v
   OfFault : read ≡ [] → status ≡ SiteFault → v.output ≡ w.output → StillRead w v ⊎ StillStands w v
-      → SessionPuts read status w v
-  OfMemory : read ≡ [] → status ≡ NoMemory → v.output ≡ w.output → StillRead w v → SessionPuts read status w v
+      → SessionPuts read ended status w v
+  OfMemory : read ≡ [] → status ≡ NoMemory → v.output ≡ w.output → StillRead w v → SessionPuts read ended status w v
 
 -- A stop leaves of a store what it could leave when the run began, with nothing put, or what it leaves in the session
 -- that opens with it. Other files are left as they could be when the run began.
-pub record LeavesServed (read : List ℕ) (w : Outside) (left : Left) : Type 0 where
+pub record LeavesServed (read : List ℕ) (ended : Bool) (w : Outside) (left : Left) : Type 0 where
   pub stored : (s : IsStore (reads_of w))
-      → LeavesFirst w left s.history ⊎ LeavesSession motorcar_rules (opening s) read w left
+      → LeavesFirst w left s.history ⊎ LeavesSession motorcar_rules (opening s) read ended w left
   pub otherwise : (IsStore (reads_of w) → ⊥) → CouldLeave w left
 
 -- what was put, and what a stop at any moment of the run leaves
-pub record SessionRuns (read : List ℕ) (status : Status) (w v : Outside) : Type 0 where
-  pub puts : SessionPuts read status w v
-  pub stops : LeavesOnly w v (LeavesServed read w)
+pub record SessionRuns (read : List ℕ) (ended : Bool) (status : Status) (w v : Outside) : Type 0 where
+  pub puts : SessionPuts read ended status w v
+  pub stops : LeavesOnly w v (LeavesServed read ended w)
 
 -- All was read where the session ended with its input, and nothing where there is no store or a damaged one.
 abbrev pub ReadsSession : Status → List ℕ → List ℕ → Type 0
@@ -114,8 +114,9 @@ ReadsSession NoStore bytes read = read ≡ []
 ReadsSession Damaged bytes read = read ≡ []
 ReadsSession status bytes read = Unit {0}
 
--- How such a run ends: the bytes that the source held, those of them that were read, what was put, and what a stop
--- leaves. Where the source tells nothing, these are some bytes that begin with those that were read.
+-- How such a run ends: the bytes that the source held, those of them that were read, whether it ended behind them, what
+-- was put, and what a stop leaves. Where the source tells nothing, these are some bytes that begin with those that were
+-- read.
 pub record EndsSession (status : Status) (held remaining : Option (List ℕ)) (before now : Option Outside) : Type 0
   where
     pub bytes : List ℕ
@@ -123,18 +124,21 @@ pub record EndsSession (status : Status) (held remaining : Option (List ℕ)) (b
     pub behind : List ℕ
     pub all : bytes ≡ read ++ behind
     pub holds : HeldBytes bytes behind held remaining
+    pub ended : Bool
+    pub source : EndsSource ended behind (status ≢ ReadFault)
     pub reads : ReadsSession status bytes read
-    pub runs : Told (SessionRuns read status) before now
+    pub runs : Told (SessionRuns read ended status) before now
 
 -- ---- what must be done
 
--- No front of the bytes passes a limit in the session that opens with the store, and the bytes don't end inside a
--- frame.
+-- No front of the bytes passes a limit in the session that opens with the store, of which only all of them end with the
+-- source, and the bytes don't end inside a frame.
 pub record EndsWell (files : Files) (bytes : List ℕ) : Type 0 where
-  pub within : (s : IsStore files) (read behind out : List ℕ) (to : Kept) → bytes ≡ read ++ behind
-      → SessionGives motorcar_rules (opening s) read LimitEnd out to → ⊥
+  pub within : (s : IsStore files) (read behind : List ℕ) (ended : Bool) (out : List ℕ) (to : Kept)
+      → bytes ≡ read ++ behind → (ended ≡ true → behind ≡ [])
+      → SessionGives motorcar_rules (opening s) read ended LimitEnd out to → ⊥
   pub finished : (s : IsStore files) (out : List ℕ) (to : Kept)
-      → SessionGives motorcar_rules (opening s) bytes Unfinished out to → ⊥
+      → SessionGives motorcar_rules (opening s) bytes true Unfinished out to → ⊥
 
 -- ---- how many blocks are built
 

@@ -3,7 +3,7 @@ use Rattle.std.specs.Prelude.{ℕ, List, Option}
 use Rattle.road_io.specs.Told.{Rose}
 use Rattle.osmroad.specs.Input.{Ended}
 use Rattle.road_io.specs.Parts.{Took}
-use Rattle.osmroad.specs.Limits.{HasTooManyBytes}
+use Rattle.osmroad.specs.Limits.{HasTooManyBytes, PassesAtLast}
 use Rattle.osmroad.specs.declared.input.InputError.{InputError}
 use Rattle.osmroad.specs.declared.input.InputError.TheVariants.{Failed, TooLong, Refused, NoMemory}
 
@@ -13,10 +13,11 @@ pub record Gathered (bytes : List ℕ) (before now : Option (List ℕ)) : Type 0
   pub ended : Ended now
   pub within : HasTooManyBytes bytes → ⊥
 
--- why they aren't read: the source failed, and there aren't too many; there are too many; memory ended
+-- why they aren't read: the source failed, and there aren't too many; with the last part there are
+-- too many; memory ended
 abbrev pub GatherCause : InputError → List ℕ → ℕ → ℕ → Type 0
 GatherCause Failed read faults_before faults_now = Rose faults_before faults_now × (HasTooManyBytes read → ⊥)
-GatherCause TooLong read faults_before faults_now = HasTooManyBytes read
+GatherCause TooLong read faults_before faults_now = PassesAtLast HasTooManyBytes read
 GatherCause (Refused fault) read faults_before faults_now = ⊥
 GatherCause NoMemory read faults_before faults_now = Unit {0}
 

@@ -60,7 +60,7 @@ impl Input {
 
     /// Takes the next part. It is refused where a limit is passed, or where memory ends.
     fn take(&mut self, part: &[u8]) -> Result<(), InputError>
-        requires { length part.now ≤ 2 ^ 24 }
+        requires { length part.now ≤ 2 ^ 16 }
         ensures ok { OnOk result ((mode : ReadMode) (read : List ℕ) → Holds mode read self.old
             → Holds mode (read ++ part.now) self.new) }
         ensures total { OnOk result (self.new.measure.total ≡ self.old.measure.total + length part.now) }

@@ -1,10 +1,12 @@
-//! The longest restrictions that have words, and the last numbers of a store.
-use crate::session_tests::{check_status, empty_site};
+//! The longest restrictions that have words, the last numbers of a store, and lines that are too long.
+use crate::session_tests::{SESSION, check_status, empty_site, ended};
 use crate::status::Status;
 use road_base::NoMemory;
 use road_io::MemorySite;
 use std::alloc::Global;
+use std::marker::Brand;
 use std::process::Abort;
+use std::sync::ledger::Blank;
 use std::test::Fail;
 
 /// A run of which the input is empty: its words, how it ends, and what it puts.
@@ -199,6 +201,37 @@ fn check_chain(rt: &impl Abort, alloc: Global, chain: &Chain) -> Result<(), NoMe
 fn restrictions_have_a_length(rt: HostRuntime) -> Result<(), Fail> {
     for chain in &CHAINS {
         check_chain(&rt, rt.alloc(), chain)?;
+    }
+    Ok(())
+}
+
+/// A line without a newline, of 2^24 bytes and two parts of 2^16: the byte too many is the first one of the part that
+/// read 256 gives, counted from 0, and there is one more part behind it.
+const LONG_LINE: usize = (1 << 24) + (1 << 17);
+
+/// Makes a store on the site, and a run on it whose line is too long, and of which read 257 would fail.
+fn check_long(
+    rt: &impl Abort,
+    alloc: Global,
+    words: &[&str],
+    line: &[u8],
+    site: &mut MemorySite,
+) -> Result<(), NoMemory> {
+    check_status(rt, alloc, &["town", "create", "5"], b"", site, Status::Done)?;
+    let status = ended::<Brand>(alloc, words, line, &[257], site, Blank::new(1))?;
+    assert_eq!(rt; status, Status::Limit);
+    Ok(())
+}
+
+/// A limit ends the run with the part in which it is passed: the read behind that part isn't made, also where it would
+/// fail.
+#[test]
+fn nothing_is_read_behind_a_limit(rt: HostRuntime) -> Result<(), Fail> {
+    let line = vec![in rt.alloc(); b'a'; LONG_LINE]?;
+    let runs: [&[&str]; 2] = [&["-", "compile"], SESSION];
+    for words in runs {
+        let mut site = empty_site(rt.alloc());
+        check_long(&rt, rt.alloc(), words, &line, &mut site)?;
     }
     Ok(())
 }

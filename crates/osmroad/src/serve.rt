@@ -67,7 +67,7 @@ pub fn serve<P: Profile, S: Source, W: Site, L: Ledger>(
 fn refuse<W: Site>(alloc: Global, site: &mut W, error: JournalError) -> Status
     requires named { IsLoadError error }
     ensures runs { (x : Option Outside) → Told (LoadsStore (Err error)) x (W.outside site.old)
-        → Told (SessionRuns [] result) x (W.outside site.new) }
+        → Told (SessionRuns [] false result) x (W.outside site.new) }
     ensures calls { (before : ℕ) → CountsFaults {T = LoadedStore} before (W.faults site.old) (Err error)
         → AnswersFaults Status.SiteFault result before (W.faults site.new) }
     ensures named { IsNotServed result }

@@ -1,5 +1,5 @@
 -- How a session ends, by what it says last.
-use Rattle.std.proofs.Common.{◌≡◌, ◌⊎◌, inl, inr, ℕ, List, [], ◌++◌, length, take, Option, Ok, Err}
+use Rattle.std.proofs.Common.{◌≡◌, ◌⊎◌, inl, inr, ℕ, List, [], ◌++◌, length, take, Option, Bool, true, Ok, Err}
 use Rattle.std.proofs.Common.{refl, sym, ◌∙◌, ap, subst, append_assoc}
 use Rattle.std.proofs.lemmas.List.{append-nil}
 use Rattle.std.specs.Io.{StartsWith}
@@ -48,18 +48,18 @@ IsWhole SiteFault = ⊥
 IsWhole Limit = Unit {0}
 IsWhole NoMemory = ⊥
 
-pub all_put : (P : Rules) (opening : Kept) (read : List ℕ) (end : End) (w v : Outside) → IsWhole end
-    → PutsAll P opening read end w v → EndsWith P opening read end w v
-all_put P opening read Done w v is p = p
-all_put P opening read Unfinished w v is p = p
-all_put P opening read ReadFault w v is p = p
-all_put P opening read SiteFault w v is p = absurd is
-all_put P opening read Limit w v is p = p
-all_put P opening read NoMemory w v is p = absurd is
+pub all_put : (P : Rules) (opening : Kept) (read : List ℕ) (ended : Bool) (end : End) (w v : Outside) → IsWhole end
+    → PutsAll P opening read ended end w v → EndsWith P opening read ended end w v
+all_put P opening read ended Done w v is p = p
+all_put P opening read ended Unfinished w v is p = p
+all_put P opening read ended ReadFault w v is p = p
+all_put P opening read ended SiteFault w v is p = absurd is
+all_put P opening read ended Limit w v is p = p
+all_put P opening read ended NoMemory w v is p = absurd is
 
-module _ (laws : StoreLaws) (P : Rules) (opening : Kept) (read : List ℕ) (end : End) (last : List ℕ) (w u v : Outside)
-    (c : Closes P opening read end last w u) where
-  comes_last : Comes P opening read c.said c.from last c.from
+module _ (laws : StoreLaws) (P : Rules) (opening : Kept) (read : List ℕ) (ended : Bool) (end : End) (last : List ℕ)
+    (w u v : Outside) (c : Closes P opening read ended end last w u) where
+  comes_last : Comes P opening read ended c.said c.from last c.from
   comes_last = record {
     front = c.front;
     rest = c.rest;
@@ -68,8 +68,8 @@ module _ (laws : StoreLaws) (P : Rules) (opening : Kept) (read : List ℕ) (end 
     next = OfEnding end c.ends;
   }
 
-  moments : LeavesOnly u v (LeavesPut last u) → LeavesOnly w v (LeavesSession P opening read w)
-  moments only = then_runs w u v (LeavesSession P opening read w) (LeavesPut last u) c.only only
+  moments : LeavesOnly u v (LeavesPut last u) → LeavesOnly w v (LeavesSession P opening read ended w)
+  moments only = then_runs w u v (LeavesSession P opening read ended w) (LeavesPut last u) c.only only
       (λ left l. let stands = images_stand laws c.journal c.from.history u left c.on_store l.a l.b in record {
         said = c.said;
         reply = last;
@@ -87,9 +87,10 @@ module _ (laws : StoreLaws) (P : Rules) (opening : Kept) (read : List ℕ) (end 
   grown : (put : List ℕ) → v.output ≡ u.output ++ put → v.output ≡ w.output ++ (c.said ++ put)
   grown put is = is ∙ ap (λ (l : List ℕ). l ++ put) c.grows ∙ append_assoc w.output c.said put
 
-  pub said_all : (x : Unit {0}) → IsWhole end → PutsOn {E = Stop} last (Ok x) u v → SessionEnds P opening read end w v
+  pub said_all : (x : Unit {0}) → IsWhole end → PutsOn {E = Stop} last (Ok x) u v
+      → SessionEnds P opening read ended end w v
   said_all x is p = record {
-    puts = all_put P opening read end w v is (record {
+    puts = all_put P opening read ended end w v is (record {
       out = c.said ++ last;
       to = c.from;
       gives = record {
@@ -111,7 +112,7 @@ module _ (laws : StoreLaws) (P : Rules) (opening : Kept) (read : List ℕ) (end 
     stops = moments p.only;
   }
 
-  pub said_part : (e : Stop) → PutsOn last (Err e) u v → SessionEnds P opening read SiteFault w v
+  pub said_part : (e : Stop) → PutsOn last (Err e) u v → SessionEnds P opening read ended SiteFault w v
   said_part e p = record {
     puts = record {
       said = c.said;
@@ -126,30 +127,31 @@ module _ (laws : StoreLaws) (P : Rules) (opening : Kept) (read : List ℕ) (end 
   }
 
 -- nothing is said last
-pub closed_silently : StoreLaws → (P : Rules) (opening : Kept) (read : List ℕ) (end : End) (w v : Outside)
-    → IsWhole end → Closes P opening read end [] w v → SessionEnds P opening read end w v
-closed_silently laws P opening read end w v is c =
-    said_all laws P opening read end [] w v v c tt is (puts_nothing [] (Ok tt) v refl)
+pub closed_silently : StoreLaws → (P : Rules) (opening : Kept) (read : List ℕ) (ended : Bool) (end : End)
+    (w v : Outside) → IsWhole end → Closes P opening read ended end [] w v → SessionEnds P opening read ended end w v
+closed_silently laws P opening read ended end w v is c =
+    said_all laws P opening read ended end [] w v v c tt is (puts_nothing [] (Ok tt) v refl)
 
-pub broken : (P : Rules) (opening : Kept) (read : List ℕ) (w v : Outside) → Breaks P opening read w v
-    → SessionEnds P opening read SiteFault w v
-broken P opening read w v b = record { puts = b.puts; stops = b.only }
+pub broken : (P : Rules) (opening : Kept) (read : List ℕ) (ended : Bool) (w v : Outside)
+    → Breaks P opening read ended w v → SessionEnds P opening read ended SiteFault w v
+broken P opening read ended w v b = record { puts = b.puts; stops = b.only }
 
-pub out_of_memory : (P : Rules) (opening : Kept) (read : List ℕ) (w v : Outside) → Breaks P opening read w v
-    → SessionEnds P opening read NoMemory w v
-out_of_memory P opening read w v b = record { puts = b.puts; stops = b.only }
+pub out_of_memory : (P : Rules) (opening : Kept) (read : List ℕ) (ended : Bool) (w v : Outside)
+    → Breaks P opening read ended w v → SessionEnds P opening read ended NoMemory w v
+out_of_memory P opening read ended w v b = record { puts = b.puts; stops = b.only }
 
 -- ---- the last message
 
-session_now : (P : Rules) (opening : Kept) (read : List ℕ) (w v : Outside)
-    → LeavesOnly w v (LeavesStill P opening read w) → LeavesOnly w v (LeavesSession P opening read w)
-session_now P opening read w v only = only_weaker w v (LeavesStill P opening read w) (LeavesSession P opening read w)
-    only (λ left still. subst (λ (l : List ℕ). LeavesSession P opening l w left) (append-nil read) (still []))
+session_now : (P : Rules) (opening : Kept) (read : List ℕ) (ended : Bool) (w v : Outside)
+    → LeavesOnly w v (LeavesStill P opening read w) → LeavesOnly w v (LeavesSession P opening read ended w)
+session_now P opening read ended w v only =
+    only_weaker w v (LeavesStill P opening read w) (LeavesSession P opening read ended w) only
+    (λ left still. subst (λ (l : List ℕ). LeavesSession P opening l ended w left) (append-nil read) (still [] ended))
 
-module _ (P : Rules) (opening : Kept) (front pending read : List ℕ) (is : read ≡ front ++ pending) (world : Objects)
-    (journal : Journal) (w u : Outside) (k : Talks P opening front read world journal w u) where
-  pub closes_now : (end : End) (last : List ℕ) → EndsSaying P k.from (length front) pending end last k.from
-      → Closes P opening read end last w u
+module _ (P : Rules) (opening : Kept) (front pending read : List ℕ) (is : read ≡ front ++ pending) (ended : Bool)
+    (world : Objects) (journal : Journal) (w u : Outside) (k : Talks P opening front read world journal w u) where
+  pub closes_now : (end : End) (last : List ℕ) → EndsSaying P k.from (length front) pending ended end last k.from
+      → Closes P opening read ended end last w u
   closes_now end last ends = record {
     front = front;
     rest = pending;
@@ -162,10 +164,10 @@ module _ (P : Rules) (opening : Kept) (front pending read : List ℕ) (is : read
     on_store = k.kept.on_store;
     small = k.kept.small;
     grows = k.grows;
-    only = session_now P opening read w u k.only;
+    only = session_now P opening read ended w u k.only;
   }
 
-  breaks_now : Breaks P opening read w u
+  breaks_now : Breaks P opening read ended w u
   breaks_now = record {
     puts = record {
       said = k.said;
@@ -176,26 +178,27 @@ module _ (P : Rules) (opening : Kept) (front pending read : List ℕ) (is : read
       n = 0;
       grows = k.grows ∙ ap (λ (l : List ℕ). w.output ++ l) (sym (append-nil k.said));
     };
-    only = session_now P opening read w u k.only;
+    only = session_now P opening read ended w u k.only;
   }
 
-  module _ (laws : StoreLaws) (open_bytes : IsPending (length front) pending) (message : Message)
-      (last : IsLast message pending) where
+  module _ (laws : StoreLaws) (at_end : ended ≡ true) (open_bytes : IsPending (length front) pending)
+      (message : Message) (last : IsLast message pending) where
     last_comes : (reply : List ℕ) (to : Kept) → Replied P k.from message reply to
-        → Comes P opening read k.said k.from reply to
+        → Comes P opening read ended k.said k.from reply to
     last_comes reply to replied = record {
       front = front;
       rest = pending;
       is = is;
       so_far = k.so_far;
-      next = OfEnding Done (OfLast open_bytes message last replied refl);
+      next = OfEnding Done (OfLast at_end open_bytes message last replied refl);
     }
 
     last_moments : (reply : List ℕ) (to : Kept) (v : Outside) → Replied P k.from message reply to
-        → LeavesOnly u v (LeavesReply k.from to u.output reply) → LeavesOnly w v (LeavesSession P opening read w)
+        → LeavesOnly u v (LeavesReply k.from to u.output reply)
+        → LeavesOnly w v (LeavesSession P opening read ended w)
     last_moments reply to v replied only =
-        then_runs w u v (LeavesSession P opening read w) (LeavesReply k.from to u.output reply)
-        (session_now P opening read w u k.only) only
+        then_runs w u v (LeavesSession P opening read ended w) (LeavesReply k.from to u.output reply)
+        (session_now P opening read ended w u k.only) only
         (λ left l. record {
           said = k.said;
           reply = reply;
@@ -206,7 +209,7 @@ module _ (P : Rules) (opening : Kept) (front pending read : List ℕ) (is : read
         })
 
     last_answered : (after : Objects) (new : Journal) (v : Outside) → IsAnswered P k.from message after new u v
-        → SessionEnds P opening read Done w v
+        → SessionEnds P opening read ended Done w v
     last_answered after new v a = record {
       puts = record {
         out = k.said ++ a.reply;
@@ -219,7 +222,7 @@ module _ (P : Rules) (opening : Kept) (front pending read : List ℕ) (is : read
           from = k.from;
           so_far = k.so_far;
           last = a.reply;
-          ends = OfLast open_bytes message last a.replied refl;
+          ends = OfLast at_end open_bytes message last a.replied refl;
           all = refl;
         };
         grows = a.grows ∙ ap (λ (l : List ℕ). l ++ a.reply) k.grows ∙ append_assoc w.output k.said a.reply;
@@ -229,7 +232,7 @@ module _ (P : Rules) (opening : Kept) (front pending read : List ℕ) (is : read
     }
 
     last_halts : (stop : Stop) (after : Objects) (new : Journal) (v : Outside)
-        → Answers P k.from message after new (Err stop) u v → Halts P opening read stop w v
+        → Answers P k.from message after new (Err stop) u v → Halts P opening read ended stop w v
     last_halts SiteFaultStop after new v a = record {
       puts = record {
         said = k.said;
@@ -244,9 +247,9 @@ module _ (P : Rules) (opening : Kept) (front pending read : List ℕ) (is : read
       only = last_moments a.reply a.to v a.replied a.only;
     }
     last_halts LimitStop after new v a =
-        subst (λ (o : Outside). Closes P opening read Limit limit_line w o) (sym a.1)
-        (closes_now Limit limit_line (OfFullLast open_bytes message last a.0 refl refl refl))
-    last_halts NoMemoryStop after new v a = subst (λ (o : Outside). Breaks P opening read w o) (sym a) breaks_now
+        subst (λ (o : Outside). Closes P opening read ended Limit limit_line w o) (sym a.1)
+        (closes_now Limit limit_line (OfFullLast at_end open_bytes message last a.0 refl refl refl))
+    last_halts NoMemoryStop after new v a = subst (λ (o : Outside). Breaks P opening read ended w o) (sym a) breaks_now
 
 -- ---- as far as the site tells
 
@@ -267,85 +270,87 @@ since_then loaded R S T x y z told next f = told_then x y z
     (λ w v. (h : History) → IsOpening loaded h w → S (opening_of loaded h) w v) told next
     (λ w u v r t h o. f (opening_of loaded h) w u v (r h o) t)
 
-module _ (laws : StoreLaws) (P : Rules) (loaded : Loaded) (read : List ℕ) (input : Input) (world : Objects)
-    (journal : Journal) (x y : Option Outside) (g : Goes P loaded read input world journal x y) where
+module _ (laws : StoreLaws) (P : Rules) (loaded : Loaded) (read : List ℕ) (ended : Bool) (input : Input)
+    (world : Objects) (journal : Journal) (x y : Option Outside) (g : Goes P loaded read input world journal x y) where
   pub ends_silently : (end : End) → IsWhole end
-      → ((from : Kept) → EndsSaying P from (length g.front) g.pending end [] from)
-      → Since loaded (λ opening w v. SessionEnds P opening read end w v) x y
+      → ((from : Kept) → EndsSaying P from (length g.front) g.pending ended end [] from)
+      → Since loaded (λ opening w v. SessionEnds P opening read ended end w v) x y
   ends_silently end is ends =
       since_weaker loaded (λ opening w v. Talks P opening g.front read world journal w v)
-      (λ opening w v. SessionEnds P opening read end w v) x y g.talks
-      (λ opening w v k. closed_silently laws P opening read end w v is
-      (closes_now P opening g.front g.pending read g.is world journal w v k end [] (ends k.from)))
+      (λ opening w v. SessionEnds P opening read ended end w v) x y g.talks
+      (λ opening w v k. closed_silently laws P opening read ended end w v is
+      (closes_now P opening g.front g.pending read g.is ended world journal w v k end [] (ends k.from)))
 
-  pub ends_read : Since loaded (λ opening w v. SessionEnds P opening read ReadFault w v) x y
+  pub ends_read : Since loaded (λ opening w v. SessionEnds P opening read ended ReadFault w v) x y
   ends_read = ends_silently ReadFault tt (λ from. OfReadFault g.holds.pending refl refl refl)
 
-  pub ends_done : IsEnding g.pending DoneEnding
-      → Since loaded (λ opening w v. SessionEnds P opening read Done w v) x y
-  ends_done none = ends_silently Done tt (λ from. OfEnd none refl refl refl)
+  pub ends_done : ended ≡ true → IsEnding g.pending DoneEnding
+      → Since loaded (λ opening w v. SessionEnds P opening read ended Done w v) x y
+  ends_done at_end none = ends_silently Done tt (λ from. OfEnd at_end none refl refl refl)
 
-  pub ends_memory : Since loaded (λ opening w v. SessionEnds P opening read NoMemory w v) x y
+  pub ends_memory : Since loaded (λ opening w v. SessionEnds P opening read ended NoMemory w v) x y
   ends_memory = since_weaker loaded (λ opening w v. Talks P opening g.front read world journal w v)
-      (λ opening w v. SessionEnds P opening read NoMemory w v) x y g.talks
-      (λ opening w v k. out_of_memory P opening read w v
-      (breaks_now P opening g.front g.pending read g.is world journal w v k))
+      (λ opening w v. SessionEnds P opening read ended NoMemory w v) x y g.talks
+      (λ opening w v k. out_of_memory P opening read ended w v
+      (breaks_now P opening g.front g.pending read g.is ended world journal w v k))
 
-  pub closes_unfinished : (number : Sequence) (line : List ℕ) → IsEnding g.pending (UnfinishedEnding number)
+  pub closes_unfinished : ended ≡ true → (number : Sequence) (line : List ℕ)
+      → IsEnding g.pending (UnfinishedEnding number)
       → line ≡ unfinished_line number.0
-      → Since loaded (λ opening w v. Closes P opening read Unfinished line w v) x y
-  closes_unfinished number line e is =
+      → Since loaded (λ opening w v. Closes P opening read ended Unfinished line w v) x y
+  closes_unfinished at_end number line e is =
       since_weaker loaded (λ opening w v. Talks P opening g.front read world journal w v)
-      (λ opening w v. Closes P opening read Unfinished line w v) x y g.talks
-      (λ opening w v k. closes_now P opening g.front g.pending read g.is world journal w v k Unfinished line
-      (OfUnfinished g.holds.pending number.0 (record { body = e.0; front = e.1; begins = e.2; all = e.3 })
+      (λ opening w v. Closes P opening read ended Unfinished line w v) x y g.talks
+      (λ opening w v k. closes_now P opening g.front g.pending read g.is ended world journal w v k Unfinished line
+      (OfUnfinished at_end g.holds.pending number.0 (record { body = e.0; front = e.1; begins = e.2; all = e.3 })
       refl is refl))
 
-  module _ (received : Received) (e : IsEnding g.pending (Last received)) (after : Objects) (new : Journal)
-      (z : Option Outside) where
+  module _ (at_end : ended ≡ true) (received : Received) (e : IsEnding g.pending (Last received)) (after : Objects)
+      (new : Journal) (z : Option Outside) where
     pub ends_answered : (n : Unit {0})
         → Told (λ w v. (from : Kept) (message : Message) → Means message received → IsKept world journal from w
         → Answers P from message after new (Ok n) w v) y z
-        → Since loaded (λ opening w v. SessionEnds P opening read Done w v) x z
+        → Since loaded (λ opening w v. SessionEnds P opening read ended Done w v) x z
     ends_answered n answers =
         since_then loaded (λ opening w v. Talks P opening g.front read world journal w v)
-        (λ opening w v. SessionEnds P opening read Done w v)
+        (λ opening w v. SessionEnds P opening read ended Done w v)
         (λ w v. (from : Kept) (message : Message) → Means message received → IsKept world journal from w
         → Answers P from message after new (Ok n) w v) x y z g.talks answers
-        (λ opening w u v k a. last_answered P opening g.front g.pending read g.is world journal w u k laws
-        g.holds.pending e.1.0 (record { some = e.0; is = e.1.1 }) after new v (a k.from e.1.0 e.1.2 k.kept))
+        (λ opening w u v k a. last_answered P opening g.front g.pending read g.is ended world journal w u k
+        laws at_end g.holds.pending e.1.0 (record { some = e.0; is = e.1.1 }) after new v (a k.from e.1.0 e.1.2 k.kept))
 
     pub halts_last : (stop : Stop)
         → Told (λ w v. (from : Kept) (message : Message) → Means message received → IsKept world journal from w
         → Answers P from message after new (Err stop) w v) y z
-        → Since loaded (λ opening w v. Halts P opening read stop w v) x z
+        → Since loaded (λ opening w v. Halts P opening read ended stop w v) x z
     halts_last stop answers =
         since_then loaded (λ opening w v. Talks P opening g.front read world journal w v)
-        (λ opening w v. Halts P opening read stop w v)
+        (λ opening w v. Halts P opening read ended stop w v)
         (λ w v. (from : Kept) (message : Message) → Means message received → IsKept world journal from w
         → Answers P from message after new (Err stop) w v) x y z g.talks answers
-        (λ opening w u v k a. last_halts P opening g.front g.pending read g.is world journal w u k laws
-        g.holds.pending e.1.0 (record { some = e.0; is = e.1.1 }) stop after new v (a k.from e.1.0 e.1.2 k.kept))
+        (λ opening w u v k a. last_halts P opening g.front g.pending read g.is ended world journal w u k laws
+        at_end g.holds.pending e.1.0 (record { some = e.0; is = e.1.1 }) stop after new v (a k.from e.1.0 e.1.2 k.kept))
 
 -- ---- a line that is said last
 
-pub ends_said : StoreLaws → (P : Rules) (loaded : Loaded) (read : List ℕ) (end : End) (line : List ℕ) (n : Unit {0})
-    (x y z : Option Outside) → IsWhole end
-    → Since loaded (λ opening w v. Closes P opening read end line w v) x y → Told (PutsOn {E = Stop} line (Ok n)) y z
-    → Since loaded (λ opening w v. SessionEnds P opening read end w v) x z
-ends_said laws P loaded read end line n x y z is closes put =
-    since_then loaded (λ opening w v. Closes P opening read end line w v)
-    (λ opening w v. SessionEnds P opening read end w v) (PutsOn {E = Stop} line (Ok n)) x y z closes put
-    (λ opening w u v c p. said_all laws P opening read end line w u v c n is p)
+pub ends_said : StoreLaws → (P : Rules) (loaded : Loaded) (read : List ℕ) (ended : Bool) (end : End) (line : List ℕ)
+    (n : Unit {0}) (x y z : Option Outside) → IsWhole end
+    → Since loaded (λ opening w v. Closes P opening read ended end line w v) x y
+    → Told (PutsOn {E = Stop} line (Ok n)) y z
+    → Since loaded (λ opening w v. SessionEnds P opening read ended end w v) x z
+ends_said laws P loaded read ended end line n x y z is closes put =
+    since_then loaded (λ opening w v. Closes P opening read ended end line w v)
+    (λ opening w v. SessionEnds P opening read ended end w v) (PutsOn {E = Stop} line (Ok n)) x y z closes put
+    (λ opening w u v c p. said_all laws P opening read ended end line w u v c n is p)
 
-pub ends_unsaid : StoreLaws → (P : Rules) (loaded : Loaded) (read : List ℕ) (end : End) (line : List ℕ) (e : Stop)
-    (x y z : Option Outside)
-    → Since loaded (λ opening w v. Closes P opening read end line w v) x y → Told (PutsOn line (Err e)) y z
-    → Since loaded (λ opening w v. SessionEnds P opening read SiteFault w v) x z
-ends_unsaid laws P loaded read end line e x y z closes put =
-    since_then loaded (λ opening w v. Closes P opening read end line w v)
-    (λ opening w v. SessionEnds P opening read SiteFault w v) (PutsOn line (Err e)) x y z closes put
-    (λ opening w u v c p. said_part laws P opening read end line w u v c e p)
+pub ends_unsaid : StoreLaws → (P : Rules) (loaded : Loaded) (read : List ℕ) (ended : Bool) (end : End) (line : List ℕ)
+    (e : Stop) (x y z : Option Outside)
+    → Since loaded (λ opening w v. Closes P opening read ended end line w v) x y → Told (PutsOn line (Err e)) y z
+    → Since loaded (λ opening w v. SessionEnds P opening read ended SiteFault w v) x z
+ends_unsaid laws P loaded read ended end line e x y z closes put =
+    since_then loaded (λ opening w v. Closes P opening read ended end line w v)
+    (λ opening w v. SessionEnds P opening read ended SiteFault w v) (PutsOn line (Err e)) x y z closes put
+    (λ opening w u v c p. said_part laws P opening read ended end line w u v c e p)
 
 pub is_whole : (end : End) → (end ≡ Unfinished) ⊎ (end ≡ Limit) → IsWhole end
 is_whole end (inl is) = subst IsWhole (sym is) tt

@@ -1,5 +1,5 @@
 -- One message more, and what stands where the session doesn't go on.
-use Rattle.std.proofs.Common.{◌≡◌, ℕ, ◌+◌, List, [], ◌++◌, length, take, Option, IfSome, Ok, Err}
+use Rattle.std.proofs.Common.{◌≡◌, ℕ, ◌+◌, ◌≤◌, ◌^◌, List, [], ◌++◌, length, take, Option, Bool, false, IfSome, Ok, Err}
 use Rattle.std.proofs.Common.{refl, sym, ◌∙◌, ap, subst, append_assoc, length-append}
 use Rattle.std.proofs.lemmas.List.{append-nil}
 use Rattle.road_base.specs.History.{History}
@@ -38,15 +38,15 @@ wider P opening front read more world journal w v k = record {
   kept = k.kept;
   grows = k.grows;
   only = only_weaker w v (LeavesStill P opening read w) (LeavesStill P opening (read ++ more) w) k.only
-      (λ left still rest. subst (λ (l : List ℕ). LeavesSession P opening l w left)
-      (sym (append_assoc read more rest)) (still (more ++ rest)));
+      (λ left still rest ended. subst (λ (l : List ℕ). LeavesSession P opening l ended w left)
+      (sym (append_assoc read more rest)) (still (more ++ rest) ended));
 }
 
 still_session : (P : Rules) (opening : Kept) (read more : List ℕ) (w v : Outside)
-    → LeavesOnly w v (LeavesStill P opening read w) → LeavesOnly w v (LeavesSession P opening (read ++ more) w)
+    → LeavesOnly w v (LeavesStill P opening read w) → LeavesOnly w v (LeavesSession P opening (read ++ more) false w)
 still_session P opening read more w v only =
-    only_weaker w v (LeavesStill P opening read w) (LeavesSession P opening (read ++ more) w) only
-    (λ left still. still more)
+    only_weaker w v (LeavesStill P opening read w) (LeavesSession P opening (read ++ more) false w) only
+    (λ left still. still more false)
 
 -- ---- nothing more is said
 
@@ -55,7 +55,7 @@ module _ (P : Rules) (opening : Kept) (front pending read more : List ℕ) (is :
   all_is : read ++ more ≡ front ++ (pending ++ more)
   all_is = ap (λ (l : List ℕ). l ++ more) is ∙ append_assoc front pending more
 
-  pub breaks_here : Breaks P opening (read ++ more) w v
+  pub breaks_here : Breaks P opening (read ++ more) false w v
   breaks_here = record {
     puts = record {
       said = k.said;
@@ -75,8 +75,8 @@ module _ (P : Rules) (opening : Kept) (front pending read more : List ℕ) (is :
     only = still_session P opening read more w v k.only;
   }
 
-  pub closes_with : EndsSaying P k.from (length front) (pending ++ more) LimitEnd limit_line k.from
-      → Closes P opening (read ++ more) LimitEnd limit_line w v
+  pub closes_with : EndsSaying P k.from (length front) (pending ++ more) false LimitEnd limit_line k.from
+      → Closes P opening (read ++ more) false LimitEnd limit_line w v
   closes_with ends = record {
     front = front;
     rest = pending ++ more;
@@ -107,9 +107,9 @@ module _ (P : Rules) (opening : Kept) (front pending read taken : List ℕ) (is 
       ∙ append_assoc front (pending ++ taken) more
 
   module _ (w u : Outside) (k : Talks P opening front read world journal w u) where
-    comes_next : (more reply : List ℕ) (to : Kept) → Replied P k.from message reply to
-        → Comes P opening ((read ++ taken) ++ more) k.said k.from reply to
-    comes_next more reply to replied = record {
+    comes_next : (more : List ℕ) (ended : Bool) (reply : List ℕ) (to : Kept) → Replied P k.from message reply to
+        → Comes P opening ((read ++ taken) ++ more) ended k.said k.from reply to
+    comes_next more ended reply to replied = record {
       front = front;
       rest = (pending ++ taken) ++ more;
       is = rest_is more;
@@ -117,14 +117,15 @@ module _ (P : Rules) (opening : Kept) (front pending read taken : List ℕ) (is 
       next = OfMessage message (pending ++ taken) more refl whole replied;
     }
 
-    left_next : (more reply : List ℕ) (to : Kept) → Replied P k.from message reply to → (left : Left)
-        → LeavesReply k.from to u.output reply left → LeavesSession P opening ((read ++ taken) ++ more) w left
-    left_next more reply to replied left l = record {
+    left_next : (more : List ℕ) (ended : Bool) (reply : List ℕ) (to : Kept) → Replied P k.from message reply to
+        → (left : Left) → LeavesReply k.from to u.output reply left
+        → LeavesSession P opening ((read ++ taken) ++ more) ended w left
+    left_next more ended reply to replied left l = record {
       said = k.said;
       reply = reply;
       from = k.from;
       to = to;
-      comes = comes_next more reply to replied;
+      comes = comes_next more ended reply to replied;
       leaves = subst (λ (o : List ℕ). LeavesReply k.from to o reply left) k.grows l;
     }
 
@@ -134,7 +135,7 @@ module _ (P : Rules) (opening : Kept) (front pending read taken : List ℕ) (is 
     only_next reply to v replied only =
         then_runs w u v (LeavesStill P opening (read ++ taken) w) (LeavesReply k.from to u.output reply)
         (wider P opening front read taken world journal w u k).only only
-        (λ left l more. left_next more reply to replied left l)
+        (λ left l more ended. left_next more ended reply to replied left l)
 
     pub talks_on : (after : Objects) (new : Journal) (v : Outside) → IsAnswered P k.from message after new u v
         → Talks P opening then_front (read ++ taken) after new w v
@@ -149,14 +150,14 @@ module _ (P : Rules) (opening : Kept) (front pending read taken : List ℕ) (is 
     }
 
     cut_short : (more : List ℕ) (v : Outside) → IsCutShort P k.from message u v
-        → Breaks P opening ((read ++ taken) ++ more) w v
+        → Breaks P opening ((read ++ taken) ++ more) false w v
     cut_short more v a = record {
       puts = record {
         said = k.said;
         reply = a.reply;
         from = k.from;
         to = a.to;
-        comes = comes_next more a.reply a.to a.replied;
+        comes = comes_next more false a.reply a.to a.replied;
         n = a.n;
         grows = a.grows ∙ ap (λ (l : List ℕ). l ++ take a.n a.reply) k.grows
             ∙ append_assoc w.output k.said (take a.n a.reply);
@@ -167,16 +168,17 @@ module _ (P : Rules) (opening : Kept) (front pending read taken : List ℕ) (is 
     together : (more : List ℕ) → (read ++ taken) ++ more ≡ read ++ (taken ++ more)
     together more = append_assoc read taken more
 
-    pub halts_at : (stop : Stop) (more : List ℕ) (after : Objects) (new : Journal) (v : Outside)
-        → Answers P k.from message after new (Err stop) u v → Halts P opening (read ++ (taken ++ more)) stop w v
-    halts_at SiteFault more after new v a =
-        subst (λ (l : List ℕ). Breaks P opening l w v) (together more) (cut_short more v a)
-    halts_at Limit more after new v a =
-        subst (λ (o : Outside). Closes P opening (read ++ (taken ++ more)) LimitEnd limit_line w o) (sym a.1)
+    pub halts_at : (stop : Stop) (more : List ℕ) → length more ≤ 2 ^ 16 → (after : Objects) (new : Journal)
+        (v : Outside) → Answers P k.from message after new (Err stop) u v
+        → Halts P opening (read ++ (taken ++ more)) false stop w v
+    halts_at SiteFault more small after new v a =
+        subst (λ (l : List ℕ). Breaks P opening l false w v) (together more) (cut_short more v a)
+    halts_at Limit more small after new v a =
+        subst (λ (o : Outside). Closes P opening (read ++ (taken ++ more)) false LimitEnd limit_line w o) (sym a.1)
         (closes_with P opening front pending read (taken ++ more) is world journal w u k
-        (OfFull message (pending ++ taken) more (sym (append_assoc pending taken more)) whole a.0 refl refl refl))
-    halts_at NoMemory more after new v a =
-        subst (λ (o : Outside). Breaks P opening (read ++ (taken ++ more)) w o) (sym a)
+        (OfFull message (pending ++ taken) more (sym (append_assoc pending taken more)) whole small a.0 refl refl refl))
+    halts_at NoMemory more small after new v a =
+        subst (λ (o : Outside). Breaks P opening (read ++ (taken ++ more)) false w o) (sym a)
         (breaks_here P opening front pending read (taken ++ more) is world journal w u k)
 
 -- ---- as far as the site tells
@@ -207,21 +209,29 @@ module _ (P : Rules) (loaded : Loaded) (read : List ℕ) (input : Input) (world 
         (λ w v k h o. wider P (opening_of loaded h) g.front read taken world journal w v (k h o));
   }
 
-  pub halts_long : (part : List ℕ) → ((before : ℕ) (bytes : List ℕ) → Holds before bytes input
-      → IsStopped before (bytes ++ part))
-      → Since loaded (λ opening w v. Halts P opening (read ++ part) Limit w v) x y
-  halts_long part stopped = told_weaker x y
+  pub halts_long : (part : List ℕ) → length part ≤ 2 ^ 16
+      → ((before : ℕ) (bytes : List ℕ) → Holds before bytes input → IsStopped before (bytes ++ part))
+      → Since loaded (λ opening w v. Halts P opening (read ++ part) false Limit w v) x y
+  halts_long part small stopped = told_weaker x y
       (λ w v. (h : History) → IsOpening loaded h w
       → Talks P (opening_of loaded h) g.front read world journal w v)
-      (λ w v. (h : History) → IsOpening loaded h w → Halts P (opening_of loaded h) (read ++ part) Limit w v) g.talks
+      (λ w v. (h : History) → IsOpening loaded h w → Halts P (opening_of loaded h) (read ++ part) false Limit w v)
+      g.talks
       (λ w v k h o. closes_with P (opening_of loaded h) g.front g.pending read part g.is world journal w v (k h o)
-      (OfTooMuch (stopped (length g.front) g.pending g.holds) refl refl refl))
+      (OfTooMuch (record {
+        pending = g.pending;
+        part = part;
+        is = refl;
+        open_bytes = g.holds.pending;
+        small = small;
+        stopped = stopped (length g.front) g.pending g.holds;
+      }) refl refl refl))
 
-  pub breaks_more : (part : List ℕ) → Since loaded (λ opening w v. Breaks P opening (read ++ part) w v) x y
+  pub breaks_more : (part : List ℕ) → Since loaded (λ opening w v. Breaks P opening (read ++ part) false w v) x y
   breaks_more part = told_weaker x y
       (λ w v. (h : History) → IsOpening loaded h w
       → Talks P (opening_of loaded h) g.front read world journal w v)
-      (λ w v. (h : History) → IsOpening loaded h w → Breaks P (opening_of loaded h) (read ++ part) w v) g.talks
+      (λ w v. (h : History) → IsOpening loaded h w → Breaks P (opening_of loaded h) (read ++ part) false w v) g.talks
       (λ w v k h o. breaks_here P (opening_of loaded h) g.front g.pending read part g.is world journal w v (k h o))
 
   -- a message that was received is answered, or isn't
@@ -257,18 +267,18 @@ module _ (P : Rules) (loaded : Loaded) (read : List ℕ) (input : Input) (world 
           after new v (a t.from got.message got.means t.kept));
     }
 
-    pub halts : (stop : Stop) (more : List ℕ)
+    pub halts : (stop : Stop) (more : List ℕ) → length more ≤ 2 ^ 16
         → Told (λ w v. (from : Kept) (message : Message) → Means message received → IsKept world journal from w
         → Answers P from message after new (Err stop) w v) y z
-        → Since loaded (λ opening w v. Halts P opening (read ++ (taken ++ more)) stop w v) x z
-    halts stop more answers = told_then x y z
+        → Since loaded (λ opening w v. Halts P opening (read ++ (taken ++ more)) false stop w v) x z
+    halts stop more small answers = told_then x y z
         (λ w v. (h : History) → IsOpening loaded h w
         → Talks P (opening_of loaded h) g.front read world journal w v)
         (λ w v. (from : Kept) (message : Message) → Means message received → IsKept world journal from w
         → Answers P from message after new (Err stop) w v)
         (λ w v. (h : History) → IsOpening loaded h w
-        → Halts P (opening_of loaded h) (read ++ (taken ++ more)) stop w v)
+        → Halts P (opening_of loaded h) (read ++ (taken ++ more)) false stop w v)
         g.talks answers
         (λ w o v k a h opens. let t = k h opens in
         halts_at P (opening_of loaded h) g.front g.pending read taken g.is world journal got.message got.taken w o t
-        stop more after new v (a t.from got.message got.means t.kept))
+        stop more small after new v (a t.from got.message got.means t.kept))

@@ -1,5 +1,6 @@
 -- How a session ends, by what it read.
-use Rattle.std.proofs.Common.{◌≡◌, ⊎_elim, ℕ, List, [], ◌++◌, length, Option, None, Some, IfSome}
+use Rattle.std.proofs.Common.{◌≡◌, ◌≢◌, ⊎_elim, ℕ, List, [], ◌++◌, length, Option, None, Some, IfSome}
+use Rattle.std.proofs.Common.{Bool, true, false}
 use Rattle.std.proofs.Common.{refl, sym, ◌∙◌, ap, subst, length-append, arith}
 use Rattle.std.proofs.lemmas.List.{append-nil}
 use Rattle.std.specs.FinMap.{empty}
@@ -20,7 +21,7 @@ use Rattle.session.specs.declared.end.End.{End}
 use Rattle.session.specs.declared.end.End.TheVariants.{Done, Unfinished, ReadFault, SiteFault, Limit, NoMemory}
 use Rattle.session.specs.StoreLaws.{StoreLaws}
 use Rattle.session.specs.Conversation.{Start}
-use Rattle.session.specs.Conversing.{IsOpening, opening_of, SessionEnds, IsAtEnd, Converses}
+use Rattle.session.specs.Conversing.{IsOpening, opening_of, SessionEnds, IsAtEnd, EndsSource, Converses}
 use Rattle.session.specs.Conversing.{CountsReads, CountsCalls}
 use Rattle.session.specs.Following.{LeavesStill, Talks, Since, Goes, IsHalted}
 use Rattle.road_io.specs.Parts.{Took}
@@ -47,14 +48,17 @@ took_whole read (Some x) (Some y) t =
     t.0 ∙ sym (append-nil read) ∙ ap (λ (l : List ℕ). read ++ l) (sym t.1)
 
 pub conversed : (P : Rules) (loaded : Loaded) (end : End) (held left : Option (List ℕ)) (x y : Option Outside)
-    (read : List ℕ) → Took read held left → (IsAtEnd end → behind_of left ≡ [])
-    → Since loaded (λ opening w v. SessionEnds P opening read end w v) x y → Converses P loaded end held left x y
-conversed P loaded end held left x y read took whole ends = record {
+    (read : List ℕ) (ended : Bool) → Took read held left → EndsSource ended (behind_of left) (end ≢ ReadFault)
+    → (IsAtEnd end → ended ≡ true) → Since loaded (λ opening w v. SessionEnds P opening read ended end w v) x y
+    → Converses P loaded end held left x y
+conversed P loaded end held left x y read ended took source whole ends = record {
   bytes = read ++ behind_of left;
   read = read;
   behind = behind_of left;
   all = refl;
   holds = held_by read held left took;
+  ended = ended;
+  source = source;
   whole = whole;
   ends = ends;
 }
@@ -75,6 +79,10 @@ pub total_read : (P : Rules) (loaded : Loaded) (read : List ℕ) (input : Input)
     (x y : Option Outside) → Goes P loaded read input world journal x y → input.total ≡ length read
 total_read P loaded read input world journal x y g =
     g.holds.total ∙ sym (ap (λ (l : List ℕ). length l) g.is ∙ length-append g.front g.pending)
+
+-- nothing says that the source ended
+pub goes_still : (behind : List ℕ) (no_read_failed : Type 0) → EndsSource false behind no_read_failed
+goes_still behind no_read_failed at_end = absurd (cc)
 
 -- ---- faults
 
@@ -120,7 +128,7 @@ goes_first laws P loaded input world journal x holds applied same opens = record
       };
       grows = sym (append-nil w.output);
       only = started w (LeavesStill P (opening_of loaded h) [] w)
-          (λ left l more. first_left laws P loaded h w more o left l);
+          (λ left l more ended. first_left laws P loaded h w more ended o left l);
     }
 
 pub read_fault_inside : IsAtEnd ReadFault → ⊥

@@ -1,5 +1,5 @@
 -- What stands while a session goes on, and what stands where it doesn't.
-use Rattle.std.specs.Prelude.{◌≡◌, ℕ, ◌≤◌, ◌^◌, List, ◌++◌, length, Option, IfSome}
+use Rattle.std.specs.Prelude.{◌≡◌, ℕ, ◌≤◌, ◌^◌, List, ◌++◌, length, Option, IfSome, Bool}
 use Rattle.road_base.specs.History.{History}
 use Rattle.road_base.specs.Objects.{Objects}
 use Rattle.road_model.specs.Rules.{Rules}
@@ -21,9 +21,11 @@ use Rattle.session.specs.Endings.{EndsSaying, limit_line}
 use Rattle.session.specs.Conversing.{IsOpening, opening_of, LeavesSession, PutsFront}
 use Rattle.session.specs.Answering.{IsKept}
 
--- a stop leaves what it leaves in a session that read these bytes, whatever it reads behind them
+-- a stop leaves what it leaves in a session that read these bytes, whatever it reads behind them, and wherever its
+-- source ends
 abbrev pub LeavesStill : Rules → Kept → List ℕ → Outside → Left → Type 0
-LeavesStill P opening read w left = (more : List ℕ) → LeavesSession P opening (read ++ more) w left
+LeavesStill P opening read w left =
+    (more : List ℕ) (ended : Bool) → LeavesSession P opening (read ++ more) ended w left
 
 -- The front of the bytes that were read is whole messages. All of them are answered.
 pub record Talks (P : Rules) (opening : Kept) (front read : List ℕ) (world : Objects) (journal : Journal)
@@ -50,31 +52,31 @@ pub record Goes (P : Rules) (loaded : Loaded) (read : List ℕ) (input : Input) 
   pub talks : Since loaded (λ opening w v. Talks P opening front read world journal w v) before now
 
 -- All messages of a front are answered, and this is to be said last.
-pub record Closes (P : Rules) (opening : Kept) (read : List ℕ) (end : End) (last : List ℕ) (w v : Outside) : Type 0
-  where
-    pub front : List ℕ
-    pub rest : List ℕ
-    pub is : read ≡ front ++ rest
-    pub said : List ℕ
-    pub from : Kept
-    pub so_far : Conversed P opening front said from
-    pub ends : EndsSaying P from (length front) rest end last from
-    pub journal : Journal
-    pub on_store : IsOnStore journal from.history v
-    pub small : length (reads_of v journal.file) ≤ 2 ^ 40
-    pub grows : v.output ≡ w.output ++ said
-    pub only : LeavesOnly w v (LeavesSession P opening read w)
+pub record Closes (P : Rules) (opening : Kept) (read : List ℕ) (ended : Bool) (end : End) (last : List ℕ)
+    (w v : Outside) : Type 0 where
+  pub front : List ℕ
+  pub rest : List ℕ
+  pub is : read ≡ front ++ rest
+  pub said : List ℕ
+  pub from : Kept
+  pub so_far : Conversed P opening front said from
+  pub ends : EndsSaying P from (length front) rest ended end last from
+  pub journal : Journal
+  pub on_store : IsOnStore journal from.history v
+  pub small : length (reads_of v journal.file) ≤ 2 ^ 40
+  pub grows : v.output ≡ w.output ++ said
+  pub only : LeavesOnly w v (LeavesSession P opening read ended w)
 
 -- a front of what is given was put
-pub record Breaks (P : Rules) (opening : Kept) (read : List ℕ) (w v : Outside) : Type 0 where
-  pub puts : PutsFront P opening read w v
-  pub only : LeavesOnly w v (LeavesSession P opening read w)
+pub record Breaks (P : Rules) (opening : Kept) (read : List ℕ) (ended : Bool) (w v : Outside) : Type 0 where
+  pub puts : PutsFront P opening read ended w v
+  pub only : LeavesOnly w v (LeavesSession P opening read ended w)
 
 -- why the session doesn't go on
-abbrev pub Halts : Rules → Kept → List ℕ → Stop → Outside → Outside → Type 0
-Halts P opening read SiteFault w v = Breaks P opening read w v
-Halts P opening read Limit w v = Closes P opening read LimitEnd limit_line w v
-Halts P opening read NoMemory w v = Breaks P opening read w v
+abbrev pub Halts : Rules → Kept → List ℕ → Bool → Stop → Outside → Outside → Type 0
+Halts P opening read ended SiteFault w v = Breaks P opening read ended w v
+Halts P opening read ended Limit w v = Closes P opening read ended LimitEnd limit_line w v
+Halts P opening read ended NoMemory w v = Breaks P opening read ended w v
 
 -- an end that comes before all bytes were read, though no read failed
 abbrev pub IsHalted : End → Type 0

@@ -1,5 +1,5 @@
 //! How a session ends.
-ghost use Rattle.std.specs.Prelude.{◌≡◌, ◌≢◌, ◌⊎◌, ℕ, List, Option, Err, IfSome, false};
+ghost use Rattle.std.specs.Prelude.{◌≡◌, ◌≢◌, ◌⊎◌, ℕ, List, Option, Bool, Err, IfSome, false, true};
 ghost use Rattle.road_model.specs.Rules.{Rules};
 ghost use Rattle.road_io.specs.Outside.{Outside};
 ghost use Rattle.sequence_journal.specs.declared.load.Loaded.{Loaded};
@@ -25,9 +25,9 @@ use std::sync::ledger::Ledger;
 /// Puts what is said last.
 fn say_last<W: Site>(site: &mut W, line: &[u8], end: End) -> End
     requires { (end ≡ End.Unfinished) ⊎ (end ≡ End.Limit) }
-    ensures ends { (P : Rules) (loaded : Loaded) (read : List ℕ) (x : Option Outside)
-        → Since loaded (λ opening w v. Closes P opening read end line.now w v) x (W.outside site.old)
-        → Since loaded (λ opening w v. SessionEnds P opening read result w v) x (W.outside site.new) }
+    ensures ends { (P : Rules) (loaded : Loaded) (read : List ℕ) (ended : Bool) (x : Option Outside)
+        → Since loaded (λ opening w v. Closes P opening read ended end line.now w v) x (W.outside site.old)
+        → Since loaded (λ opening w v. SessionEnds P opening read ended result w v) x (W.outside site.new) }
     ensures calls { CountsCalls (W.faults site.old) (W.faults site.new) result }
     ensures named { (result ≡ end) ⊎ (result ≡ End.SiteFault) }
 {
@@ -40,9 +40,9 @@ fn say_last<W: Site>(site: &mut W, line: &[u8], end: End) -> End
 
 /// Ends a session that doesn't go on.
 pub fn close<W: Site>(site: &mut W, stop: Stop) -> End
-    ensures ends { (P : Rules) (loaded : Loaded) (read : List ℕ) (x : Option Outside)
-        → Since loaded (λ opening w v. Halts P opening read stop w v) x (W.outside site.old)
-        → Since loaded (λ opening w v. SessionEnds P opening read result w v) x (W.outside site.new) }
+    ensures ends { (P : Rules) (loaded : Loaded) (read : List ℕ) (ended : Bool) (x : Option Outside)
+        → Since loaded (λ opening w v. Halts P opening read ended stop w v) x (W.outside site.old)
+        → Since loaded (λ opening w v. SessionEnds P opening read ended result w v) x (W.outside site.new) }
     ensures calls { (before : ℕ)
         → CountsStops {T = Unit {0}} before (W.faults site.old) (Err stop)
         → CountsCalls before (W.faults site.new) result }
@@ -70,7 +70,7 @@ pub fn finish<P: Profile, W: Site, L: Ledger>(
     ensures ends { (loaded : Loaded) (read : List ℕ) (x : Option Outside)
         → Goes (P.rules talk.old.engine.profile) loaded read input talk.old.engine.world talk.old.journal x
         (W.outside site.old)
-        → Since loaded (λ opening w v. SessionEnds (P.rules talk.old.engine.profile) opening read result w v) x
+        → Since loaded (λ opening w v. SessionEnds (P.rules talk.old.engine.profile) opening read true result w v) x
         (W.outside site.new) }
     ensures builds { IfSome (W.outside site.old) (λ w. (opening : Kept) (read : List ℕ) (first : ℕ)
         → BuildsOn opening read input talk.old.engine.world talk.old.journal first steps.old w

@@ -1,5 +1,5 @@
 //! A session's messages, as they come.
-ghost use Rattle.std.specs.Prelude.{◌≡◌, ◌≢◌, ◌≤◌, ◌++◌, ℕ, List, [], Option, false, length, take, drop};
+ghost use Rattle.std.specs.Prelude.{◌≡◌, ◌≢◌, ◌≤◌, ◌^◌, ◌++◌, ℕ, List, [], Option, false, length, take, drop};
 ghost use Rattle.std.specs.Prelude.{IfOk, IfErr, IfSome, OnOk};
 ghost use Rattle.road_io.specs.Outside.{Outside};
 ghost use Rattle.road_io.specs.Told.{Told};
@@ -28,6 +28,7 @@ pub fn take_next<P: Profile, W: Site, L: Ledger>(
 ) -> Result<usize, Stop>
     requires number { (P.rules talk.old.engine.profile).number ≡ 1 }
     requires not_closed { talk.old.journal.closed ≡ false }
+    requires small { length part.now ≤ 2 ^ 16 }
     requires goes { (loaded : Loaded) × (read : List ℕ) × (x : Option Outside)
         × Goes (P.rules talk.old.engine.profile) loaded read input.old talk.old.engine.world talk.old.journal x
         (W.outside site.old) }
@@ -41,7 +42,7 @@ pub fn take_next<P: Profile, W: Site, L: Ledger>(
     ensures halts { IfErr result (λ e. (loaded : Loaded) (read : List ℕ) (x : Option Outside)
         → Goes (P.rules talk.old.engine.profile) loaded read input.old talk.old.engine.world talk.old.journal x
         (W.outside site.old)
-        → Since loaded (λ opening w v. Halts (P.rules talk.old.engine.profile) opening (read ++ part.now) e w v) x
+        → Since loaded (λ opening w v. Halts (P.rules talk.old.engine.profile) opening (read ++ part.now) false e w v) x
         (W.outside site.new)) }
     ensures builds { IfOk result (λ n. Told (λ w v. (opening : Kept) (read : List ℕ) (first : ℕ)
         → BuildsOn opening read input.old talk.old.engine.world talk.old.journal first steps.old w
@@ -85,6 +86,7 @@ pub fn take_part<P: Profile, W: Site, L: Ledger>(
 ) -> Result<(), Stop>
     requires number { (P.rules talk.old.engine.profile).number ≡ 1 }
     requires not_closed { talk.old.journal.closed ≡ false }
+    requires small { length part.now ≤ 2 ^ 16 }
     requires goes { (loaded : Loaded) × (read : List ℕ) × (x : Option Outside)
         × Goes (P.rules talk.old.engine.profile) loaded read input.old talk.old.engine.world talk.old.journal x
         (W.outside site.old) }
@@ -96,7 +98,7 @@ pub fn take_part<P: Profile, W: Site, L: Ledger>(
     ensures halts { IfErr result (λ e. (loaded : Loaded) (read : List ℕ) (x : Option Outside)
         → Goes (P.rules talk.old.engine.profile) loaded read input.old talk.old.engine.world talk.old.journal x
         (W.outside site.old)
-        → Since loaded (λ opening w v. Halts (P.rules talk.old.engine.profile) opening (read ++ part.now) e w v) x
+        → Since loaded (λ opening w v. Halts (P.rules talk.old.engine.profile) opening (read ++ part.now) false e w v) x
         (W.outside site.new)) }
     ensures builds { OnOk result (Told (λ w v. (opening : Kept) (read : List ℕ) (first : ℕ)
         → BuildsOn opening read input.old talk.old.engine.world talk.old.journal first steps.old w

@@ -8,6 +8,7 @@ use Rattle.road_model.specs.Orders.{way_cmp}
 use Rattle.road_model.specs.BlockMap.{AreBlocksOf}
 use Rattle.road_model.specs.Format.{IsGraph}
 use Rattle.road_model.specs.Walks.{AreWalked}
+use Rattle.graph_file.specs.WalkedFiles.{IsWalkedFile}
 use Rattle.drive_queries.specs.declared.messages.Asked.{Asked}
 use Rattle.drive_queries.specs.declared.messages.Asked.TheVariants.{Empty, Seq, Graph, State, Drive, Reach, Unknown}
 use Rattle.drive_queries.specs.declared.verdict.Verdict.{Verdict}
@@ -22,11 +23,13 @@ use Rattle.session_replies.specs.Texts.{unknown_line, state_line, verdict_line, 
 abbrev pub said : Reply → List ℕ
 said r = r.line.items ++ r.graph.items
 
--- the graph of the objects, whose walks are the drives that may be driven there
+-- The graph of the objects: its walks are the drives that may be driven there, and whoever walks over its bytes by the
+-- grammar makes these walks.
 pub record IsGraphReply (M : Objects) (P : Rules) (out : List ℕ) : Type 0 where
   pub graph : List ℕ
   pub is : IsGraph M P graph
   pub walks : AreWalked M P
+  pub file : IsWalkedFile M P graph
   pub spelled : out ≡ graph_line graph ++ graph
 
 -- the kept number, and how large the graph of the objects is

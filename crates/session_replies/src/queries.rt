@@ -9,6 +9,7 @@ use crate::reply::Reply;
 use crate::texts::{found_reply, graph_head, state, unknown, verdict_reply};
 use change_apply::Engine;
 use drive_queries::{Asked, WordTable, counts, judge, reach};
+use graph_file::laws::walked_file;
 use graph_file::write;
 use road_base::{NoMemory, NodeId, Sequence, Step};
 use road_model::Profile;
@@ -58,6 +59,7 @@ fn graph_reply<P: Profile>(alloc: Global, engine: &mut Engine<P>) -> Result<Repl
 {
     let profile = engine.profile();
     walk_law(&profile);
+    walked_file(&profile);
     let road_graph = engine.graph()?;
     let mut graph = Vec::new(alloc);
     write(profile.number(), &road_graph.blocks, &mut graph)?;

@@ -41,4 +41,4 @@ returns-clause-file g c =
     let writer = c.loop-way.writer in
     let has = subst (λ (l : List WayId). HasBlocksOf M motorcar_rules l writer) whole c.loop-way.invariant.written in
     whole_file M motorcar_rules refl ways writer c.finish.result.items c.requires has c.finish.ensures.file
-    (c.walked_file.ensures M)
+    (c.walked_file.ensures.own M) (c.walked_file.ensures.walks M)

@@ -104,7 +104,14 @@ returns-then-len-part-gt-MOST_BYTES-clause-err g c =
       took = subst (λ (l : List ℕ). Took (bytes ++ l) held after) (sym value)
           (took_more bytes c.deref_mut.result.now c.read.new.buf c.in-Ok-read.n held left after
           i.took c.in-Ok-read.ensures.told);
-      cause = omega (arith, length-append bytes part, c.len.ensures, c.if-len-part-gt-MOST_BYTES.true);
+      cause = record {
+        front = bytes;
+        part = part;
+        is = refl;
+        small = omega (arith, i.room, c.front-part.ensures.len, c.in-Ok-read.ensures.fits, c.deref_mut.ensures.len);
+        within = λ more. omega (arith, i.few, more);
+        passes = omega (arith, length-append bytes part, c.len.ensures, c.if-len-part-gt-MOST_BYTES.true);
+      };
     }
 
 pub returns-then-len-part-gt-MOST_BYTES-clause-each_fault : goal.returns-then-len-part-gt-MOST_BYTES-clause-each_fault

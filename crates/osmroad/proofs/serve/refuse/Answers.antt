@@ -1,4 +1,4 @@
-use Rattle.std.proofs.Common.{List, [], ℕ, subst, sym}
+use Rattle.std.proofs.Common.{List, [], ℕ, false, subst, sym}
 use Rattle.road_io.specs.Told.{Told}
 use Rattle.osmroad.specs.declared.status.Status.{Status}
 use Rattle.osmroad.specs.Run.{EndsPut, PutsSome}
@@ -52,7 +52,7 @@ returns-in-Ok-clause-named g c =
 pub returns-in-Err-clause-runs : goal.returns-in-Err-clause-runs
 returns-in-Err-clause-runs g c = λ x told.
     let now = g.W.Site.outside c.args.site.now in
-    subst (λ (status : Status). Told (SessionRuns [] status) x now) (sym c.status.ensures)
+    subst (λ (status : Status). Told (SessionRuns [] false status) x now) (sym c.status.ensures)
     (failed_runs c.store_laws.ensures.store c.args.error c.in-Err.failure x now c.requires.named c.in-Err.ensures told)
 
 pub returns-in-Err-clause-calls : goal.returns-in-Err-clause-calls

@@ -1,4 +1,4 @@
-use Rattle.std.proofs.Common.{◌++◌, ◌∷◌, [], Ok, Err, length, subst, ◌∙◌}
+use Rattle.std.proofs.Common.{◌++◌, ◌∷◌, [], Ok, Err, length, true, refl, subst, ◌∙◌}
 use Rattle.opl_lexer.specs.Letters.{newline}
 use Rattle.session_input.specs.declared.received.Ending.{Ending}
 use Rattle.session_input.specs.Reading.{IsEnding}
@@ -10,15 +10,15 @@ use Rattle.session.proofs.closing.finish.Goals as goal
 pub returns-in-Err-clause-ends : goal.returns-in-Err-clause-ends
 returns-in-Err-clause-ends g c = λ loaded read x goes.
     let talk = c.args.talk.now in
-    ends_memory c.store_laws.ensures (g.P.Profile.rules talk.engine.profile) loaded read c.args.input talk.engine.world
-    talk.journal x (g.W.Site.outside c.args.site.now) goes
+    ends_memory c.store_laws.ensures (g.P.Profile.rules talk.engine.profile) loaded read true c.args.input
+    talk.engine.world talk.journal x (g.W.Site.outside c.args.site.now) goes
 
 pub returns-in-Ok-Done-clause-ends : goal.returns-in-Ok-Done-clause-ends
 returns-in-Ok-Done-clause-ends g c = λ loaded read x goes.
     let talk = c.args.talk.now in
     let ended = c.in-Ok-Done in
-    ends_done c.store_laws.ensures (g.P.Profile.rules talk.engine.profile) loaded read c.args.input talk.engine.world
-    talk.journal x (g.W.Site.outside c.args.site.now) goes
+    ends_done c.store_laws.ensures (g.P.Profile.rules talk.engine.profile) loaded read true c.args.input
+    talk.engine.world talk.journal x (g.W.Site.outside c.args.site.now) goes refl
     (subst (λ (e : Ending). IsEnding goes.pending e) ended.field-0-is
     (ended.ensures.ended (length goes.front) goes.pending goes.holds))
 
@@ -29,9 +29,9 @@ returns-in-Ok-clause-ends g c = λ loaded read x goes.
     let talk = c.args.talk.now in
     let P = g.P.Profile.rules talk.engine.profile in
     let ended = c.in-Ok-Unfinished in
-    c.say_last.ensures.ends P loaded read x
-    (closes_unfinished c.store_laws.ensures P loaded read c.args.input talk.engine.world talk.journal x
-    (g.W.Site.outside c.args.site.now) goes ended.number c.deref.result.now
+    c.say_last.ensures.ends P loaded read true x
+    (closes_unfinished c.store_laws.ensures P loaded read true c.args.input talk.engine.world talk.journal x
+    (g.W.Site.outside c.args.site.now) goes refl ended.number c.deref.result.now
     (subst (λ (e : Ending). IsEnding goes.pending e) ended.field-0-is
     (ended.ensures.ended (length goes.front) goes.pending goes.holds))
     (c.deref.ensures.value ∙ c.in-Ok.ensures))
@@ -39,8 +39,8 @@ returns-in-Ok-clause-ends g c = λ loaded read x goes.
 pub returns-in-Ok-Unfinished-clause-ends : goal.returns-in-Ok-Unfinished-clause-ends
 returns-in-Ok-Unfinished-clause-ends g c = λ loaded read x goes.
     let talk = c.args.talk.now in
-    ends_memory c.store_laws.ensures (g.P.Profile.rules talk.engine.profile) loaded read c.args.input talk.engine.world
-    talk.journal x (g.W.Site.outside c.args.site.now) goes
+    ends_memory c.store_laws.ensures (g.P.Profile.rules talk.engine.profile) loaded read true c.args.input
+    talk.engine.world talk.journal x (g.W.Site.outside c.args.site.now) goes
 
 -- ---- behind a last message
 
@@ -57,8 +57,8 @@ returns-in-Ok-answer-clause-ends g c = λ loaded read x goes.
     let talk = c.args.talk.now in
     let ended = c.in-Ok-Last in
     let after = c.answer.new.self in
-    ends_answered c.store_laws.ensures (g.P.Profile.rules talk.engine.profile) loaded read c.args.input
-    talk.engine.world talk.journal x (g.W.Site.outside c.args.site.now) goes ended.received
+    ends_answered c.store_laws.ensures (g.P.Profile.rules talk.engine.profile) loaded read true c.args.input
+    talk.engine.world talk.journal x (g.W.Site.outside c.args.site.now) goes refl ended.received
     (subst (λ (e : Ending). IsEnding goes.pending e) ended.field-0-is
     (ended.ensures.ended (length goes.front) goes.pending goes.holds))
     after.engine.world after.journal (g.W.Site.outside c.answer.new.site) tt c.in-Ok-answer.ensures.told
@@ -69,9 +69,9 @@ returns-clause-ends g c = λ loaded read x goes.
     let P = g.P.Profile.rules talk.engine.profile in
     let ended = c.in-Ok-Last in
     let after = c.answer.new.self in
-    c.close.ensures.ends P loaded read x
-    (halts_last c.store_laws.ensures P loaded read c.args.input talk.engine.world talk.journal x
-    (g.W.Site.outside c.args.site.now) goes ended.received
+    c.close.ensures.ends P loaded read true x
+    (halts_last c.store_laws.ensures P loaded read true c.args.input talk.engine.world talk.journal x
+    (g.W.Site.outside c.args.site.now) goes refl ended.received
     (subst (λ (e : Ending). IsEnding goes.pending e) ended.field-0-is
     (ended.ensures.ended (length goes.front) goes.pending goes.holds))
     after.engine.world after.journal (g.W.Site.outside c.answer.new.site) c.in-Err-answer.stop

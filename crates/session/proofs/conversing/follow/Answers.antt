@@ -1,5 +1,5 @@
 use Rattle.std.proofs.Common.{◌≡◌, ◌≢◌, ◌<◌, ◌∙◌, ◌++◌, ℕ, List, [], Err, length, take, refl, sym, ap, subst, arith}
-use Rattle.std.proofs.Common.{inl, length-append}
+use Rattle.std.proofs.Common.{inl, length-append, true, false}
 use Rattle.std.proofs.lemmas.Grind.{common_steps}
 use Rattle.session.specs.declared.end.End.TheVariants.{NoMemory, ReadFault}
 use Rattle.session.specs.Conversing.{SessionEnds, CountsCalls}
@@ -9,7 +9,8 @@ use Rattle.road_io.specs.Parts.{Took}
 use Rattle.road_io.proofs.SourceParts.{took_nothing, took_more, took_still, took_all, rose_since}
 use Rattle.session.proofs.ClosedSessions.{ends_memory, ends_read}
 use Rattle.session.proofs.ReadSessions.{conversed, took_whole, behind_nothing, not_at_end, not_read_fault, total_read}
-use Rattle.session.proofs.ReadSessions.{reads_calm, calls_calm, read_fault_inside}
+use Rattle.session.proofs.ReadSessions.{reads_calm, calls_calm, read_fault_inside, goes_still}
+use Rattle.session.proofs.HeldSource.{behind_of}
 use Rattle.session.proofs.Optional.{at_some}
 use Rattle.session.proofs.BuiltMessages.{builds_all}
 use Rattle.session.proofs.BuiltSessions.{read_begins, read_building, read_of, told_at, builds_at_end}
@@ -21,8 +22,9 @@ returns-in_default-clause-converses g c = λ loaded x goes.
     let P = g.P.Profile.rules talk.engine.profile in
     let held = g.S.Source.bytes_left c.args.source.now in
     let before = g.W.Site.outside c.args.site.now in
-    conversed P loaded NoMemory held held x before [] (took_nothing held) (λ at. absurd (not_at_end NoMemory tt at))
-    (ends_memory c.store_laws.ensures P loaded [] c.args.input talk.engine.world talk.journal x before goes)
+    conversed P loaded NoMemory held held x before [] false (took_nothing held)
+    (goes_still (behind_of held) (NoMemory ≢ ReadFault)) (λ at. absurd (not_at_end NoMemory tt at))
+    (ends_memory c.store_laws.ensures P loaded [] false c.args.input talk.engine.world talk.journal x before goes)
 
 pub loop-n-init : goal.loop-n-init
 loop-n-init g c = (
@@ -64,12 +66,11 @@ returns-in_default-read-clause-converses g c = λ loaded x goes.
     let after = g.S.Source.bytes_left c.read.new.self in
     let now = g.W.Site.outside c.loop-n.site in
     let failed = c.in_default-read in
-    conversed P loaded ReadFault held after x now i.read
+    conversed P loaded ReadFault held after x now i.read false
     (took_still i.read c.deref_mut.result.now c.read.new.buf failed.field-0 held left after i.took failed.ensures.told)
-    (λ at. absurd (read_fault_inside at))
-    (ends_read c.store_laws.ensures P loaded i.read c.loop-n.input c.loop-n.talk.engine.world c.loop-n.talk.journal x
-    now
-    (i.goes loaded x goes))
+    (goes_still (behind_of after) (ReadFault ≢ ReadFault)) (λ at. absurd (read_fault_inside at))
+    (ends_read c.store_laws.ensures P loaded i.read false c.loop-n.input c.loop-n.talk.engine.world
+    c.loop-n.talk.journal x now (i.goes loaded x goes))
 
 pub returns-in_default-read-clause-reads : goal.returns-in_default-read-clause-reads
 returns-in_default-read-clause-reads g c =
@@ -132,11 +133,10 @@ returns-then-n-eq0-clause-converses g c = λ loaded x goes.
     let room : 0 < length c.deref_mut.result.now = omega (arith, c.deref_mut.ensures.len, i.room) in
     let told = took_all i.read c.deref_mut.result.now c.read.new.buf c.in-Ok-read.n held left after room c.if-n-eq0.true
     i.took c.in-Ok-read.ensures.told in
-    conversed P loaded c.finish.result held after x now i.read (took_whole i.read held after told)
-    (λ at. behind_nothing i.read held after told)
-    (subst (λ p. Since loaded (λ opening w v. SessionEnds (g.P.Profile.rules p) opening i.read c.finish.result w v) x
-    now)
-    c.loop-n.invariant.1
+    conversed P loaded c.finish.result held after x now i.read true (took_whole i.read held after told)
+    (λ at_end. (behind_nothing i.read held after told, c.finish.ensures.named)) (λ at. refl)
+    (subst (λ p. Since loaded (λ opening w v. SessionEnds (g.P.Profile.rules p) opening i.read true c.finish.result w
+    v) x now) c.loop-n.invariant.1
     (c.finish.ensures.ends loaded i.read x (subst (λ p. Goes (g.P.Profile.rules p) loaded i.read c.loop-n.input
     talk.engine.world talk.journal x (g.W.Site.outside c.loop-n.site)) (sym c.loop-n.invariant.1)
     (i.goes loaded x goes))))
@@ -189,6 +189,11 @@ take_part-requires-clause-goes g c =
           c.loop-n.talk.engine.world c.loop-n.talk.journal was.1 (g.W.Site.outside c.loop-n.site))
           (sym c.loop-n.invariant.1) (i.goes was.0 was.1 was.2),
     )
+
+pub take_part-requires-clause-small : goal.take_part-requires-clause-small
+take_part-requires-clause-small g c =
+    let i = c.loop-n.invariant.0 in
+    omega (arith, c.front.ensures.len, c.in-Ok-read.ensures.fits, c.deref_mut.ensures.len, i.room)
 
 pub loop-n-smaller : goal.loop-n-smaller
 loop-n-smaller g c =
@@ -270,13 +275,14 @@ returns-in-Err-clause-converses g c = λ loaded x goes.
     let n = c.in-Ok-read.n in
     let here : c.deref.result.now ≡ c.read.new.buf = grind (arith, common_steps) in
     let taken : part ≡ take n c.read.new.buf = c.front.ensures.value ∙ ap (λ (l : List ℕ). take n l) here in
-    conversed P loaded c.close.result held after x (g.W.Site.outside c.close.new.site) (i.read ++ part)
+    conversed P loaded c.close.result held after x (g.W.Site.outside c.close.new.site) (i.read ++ part) false
     (subst (λ (l : List ℕ). Took (i.read ++ l) held after) (sym taken)
     (took_more i.read c.deref_mut.result.now c.read.new.buf n held left after i.took c.in-Ok-read.ensures.told))
+    (goes_still (behind_of after) (c.close.result ≢ ReadFault))
     (λ at. absurd (not_at_end c.close.result c.close.ensures.named at))
-    (c.close.ensures.ends P loaded (i.read ++ part) x
-    (subst (λ p. Since loaded (λ opening w v. Halts (g.P.Profile.rules p) opening (i.read ++ part) c.in-Err.stop w v) x
-    (g.W.Site.outside c.take_part.new.site)) same
+    (c.close.ensures.ends P loaded (i.read ++ part) false x
+    (subst (λ p. Since loaded (λ opening w v. Halts (g.P.Profile.rules p) opening (i.read ++ part) false c.in-Err.stop
+    w v) x (g.W.Site.outside c.take_part.new.site)) same
     (c.in-Err.ensures.halts loaded i.read x (subst (λ p. Goes (g.P.Profile.rules p) loaded i.read c.loop-n.input
     old.engine.world old.journal x (g.W.Site.outside c.loop-n.site)) (sym same) (i.goes loaded x goes)))))
 

@@ -1,5 +1,5 @@
-use Rattle.std.proofs.Common.{◌++◌, ◌+◌, ℕ, List, [], IfSome, length, take, drop, subst}
-use Rattle.std.proofs.lemmas.List.{take-append-drop}
+use Rattle.std.proofs.Common.{◌++◌, ◌+◌, ◌≤◌, ◌^◌, ℕ, List, [], IfSome, length, take, drop, subst, false, arith}
+use Rattle.std.proofs.lemmas.List.{take-append-drop, length-drop}
 use Rattle.session_input.specs.declared.received.InputStop.{InputStop}
 use Rattle.session_input.specs.Holding.{Holds}
 use Rattle.session_input.specs.Reading.{Receives, StopsAt}
@@ -20,7 +20,7 @@ returns-in-Err-TooLong-clause-halts g c = λ loaded read x goes.
     let talk = c.args.talk.now in
     let stop = c.in-Err-TooLong in
     halts_long (g.P.Profile.rules talk.engine.profile) loaded read c.args.input.now talk.engine.world talk.journal x
-    (g.W.Site.outside c.args.site.now) goes c.args.part.now
+    (g.W.Site.outside c.args.site.now) goes c.args.part.now c.requires.small
     (λ before bytes holds. subst (λ (e : InputStop). StopsAt e before (bytes ++ c.args.part.now)) stop.field-0-is
     (stop.ensures.stopped before bytes holds))
 
@@ -64,6 +64,9 @@ returns-in-None-clause-builds g c =
 
 -- ---- a message ended
 
+small_rest : (used : ℕ) (part : List ℕ) → length part ≤ 2 ^ 16 → length (drop used part) ≤ 2 ^ 16
+small_rest used part small = omega (arith, small, length-drop used part)
+
 pub answer-requires-clause-query : goal.answer-requires-clause-query
 answer-requires-clause-query g c =
     let goes = c.requires.goes.3 in
@@ -102,11 +105,12 @@ returns-clause-halts g c = λ loaded read x goes.
     → Receives before r (bytes ++ take taken.used part)
     × Holds (before + length (bytes ++ take taken.used part)) [] c.take.new.self)
     c.in-Some.is c.in-Ok.ensures.received in
-    subst (λ (l : List ℕ). Since loaded (λ opening w v. Halts P opening (read ++ l) c.in-Err.stop w v) x
+    subst (λ (l : List ℕ). Since loaded (λ opening w v. Halts P opening (read ++ l) false c.in-Err.stop w v) x
     (g.W.Site.outside c.answer.new.site)) (take-append-drop taken.used part)
     (halts P loaded read c.args.input.now talk.engine.world talk.journal x (g.W.Site.outside c.args.site.now) goes
     (take taken.used part) c.take.new.self c.in-Some.received receives after.engine.world after.journal
-    (g.W.Site.outside c.answer.new.site) c.in-Err.stop (drop taken.used part) c.in-Err.ensures.told)
+    (g.W.Site.outside c.answer.new.site) c.in-Err.stop (drop taken.used part)
+    (small_rest taken.used part c.requires.small) c.in-Err.ensures.told)
 
 pub returns-in-Ok-answer-clause-builds : goal.returns-in-Ok-answer-clause-builds
 returns-in-Ok-answer-clause-builds g c =

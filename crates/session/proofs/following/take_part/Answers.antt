@@ -1,4 +1,4 @@
-use Rattle.std.proofs.Common.{◌≡◌, ◌+◌, ◌≤◌, ◌++◌, ℕ, List, Err, length, take, drop, refl, sym, ◌∙◌}
+use Rattle.std.proofs.Common.{◌≡◌, ◌+◌, ◌≤◌, ◌++◌, ℕ, List, Err, length, take, drop, refl, sym, ◌∙◌, false, ◌^◌}
 use Rattle.std.proofs.Common.{ap, subst, append_assoc, arith}
 use Rattle.std.proofs.lemmas.List.{append-nil, take-append-drop, take_all, length-drop}
 use Rattle.std.proofs.Math.Seq.{take-add}
@@ -14,6 +14,11 @@ within_then : (used more : ℕ) (part rest : List ℕ) → used ≤ length part 
     → used + more ≤ length part
 within_then used more part rest within is fits =
     omega (arith, within, fits, ap (λ (l : List ℕ). length l) is, length-drop used part)
+
+small_still : (used : ℕ) (part rest : List ℕ) → rest ≡ drop used part → length part ≤ 2 ^ 16
+    → length rest ≤ 2 ^ 16
+small_still used part rest is small =
+    omega (arith, small, ap (λ (l : List ℕ). length l) is, length-drop used part)
 
 pub loop-used-init : goal.loop-used-init
 loop-used-init g c = (
@@ -49,6 +54,10 @@ take_next-requires-clause-goes g c =
           talk.journal was.2 (g.W.Site.outside c.loop-used.site)) (sym c.loop-used.invariant.1)
           (c.loop-used.invariant.0.goes was.0 was.1 was.2 was.3),
     )
+
+pub take_next-requires-clause-small : goal.take_next-requires-clause-small
+take_next-requires-clause-small g c =
+    small_still c.loop-used.used c.args.part.now c.behind.result.now c.behind.ensures c.requires.small
 
 pub loop-used-preserved : goal.loop-used-preserved
 loop-used-preserved g c =
@@ -90,14 +99,15 @@ returns-in-Err-clause-halts g c = λ loaded read x goes.
     let used = c.loop-used.used in
     let i = c.loop-used.invariant in
     let old = c.loop-used.talk in
-    subst (λ p. Since loaded (λ opening w v. Halts (g.P.Profile.rules p) opening (read ++ part) c.in-Err.stop w v) x
-    (g.W.Site.outside c.take_next.new.site)) i.1
-    (subst (λ (l : List ℕ). Since loaded (λ opening w v. Halts (g.P.Profile.rules old.engine.profile) opening l
+    subst (λ p. Since loaded (λ opening w v. Halts (g.P.Profile.rules p) opening (read ++ part) false c.in-Err.stop w
+    v) x (g.W.Site.outside c.take_next.new.site)) i.1
+    (subst (λ (l : List ℕ). Since loaded (λ opening w v. Halts (g.P.Profile.rules old.engine.profile) opening l false
     c.in-Err.stop w v) x (g.W.Site.outside c.take_next.new.site))
     (append_assoc read (take used part) (drop used part)
     ∙ ap (λ (l : List ℕ). read ++ l) (take-append-drop used part))
     (subst (λ (l : List ℕ). Since loaded (λ opening w v. Halts (g.P.Profile.rules old.engine.profile) opening
-    ((read ++ take used part) ++ l) c.in-Err.stop w v) x (g.W.Site.outside c.take_next.new.site)) c.behind.ensures
+    ((read ++ take used part) ++ l) false c.in-Err.stop w v) x (g.W.Site.outside c.take_next.new.site))
+    c.behind.ensures
     (c.in-Err.ensures.halts loaded (read ++ take used part) x
     (subst (λ p. Goes (g.P.Profile.rules p) loaded (read ++ take used part) c.loop-used.input old.engine.world
     old.journal x (g.W.Site.outside c.loop-used.site)) (sym i.1) (i.0.goes loaded read x goes)))))

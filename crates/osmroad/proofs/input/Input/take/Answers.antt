@@ -1,4 +1,16 @@
+use Rattle.std.proofs.Common.{refl}
+use Rattle.osmroad.proofs.InputEnds.{within}
 use Rattle.osmroad.proofs.input.Input.take.Goals as goal
+
+pub returns-in_default-clause-err : goal.returns-in_default-clause-err
+returns-in_default-clause-err c = λ mode read holds. record {
+  front = read;
+  part = c.args.part.now;
+  is = refl;
+  small = c.requires;
+  within = within read c.args.self.now.measure holds.measures;
+  passes = c.in_default.ensures read holds.measures;
+}
 
 pub returns-in_default-feed-clause-ok : goal.returns-in_default-feed-clause-ok
 returns-in_default-feed-clause-ok c = λ mode read holds. record {
