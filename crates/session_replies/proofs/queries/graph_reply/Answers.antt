@@ -1,0 +1,40 @@
+use Rattle.std.proofs.Common.{◌≡◌, ◌++◌, ◌∙◌, ℕ, List, ap, sym, subst}
+use Rattle.std.specs.FinMap.{values}
+use Rattle.road_model.specs.declared.blocks.Block.{Block}
+use Rattle.road_model.specs.Orders.{Lists, way_cmp}
+use Rattle.road_model.specs.Blocks.{IsRoadBlock}
+use Rattle.road_model.specs.Format.{graph_bytes}
+use Rattle.road_model.specs.Walks.{AreWalked}
+use Rattle.graph_file.specs.WalkedFiles.{IsWalkedFile}
+use Rattle.session_replies.specs.Texts.{graph_line}
+use Rattle.session_replies.proofs.queries.graph_reply.Goals as goal
+
+pub returns-clause-reply : goal.returns-clause-reply
+returns-clause-reply g c =
+    let M = c.args.engine.now.world in
+    let R = g.P.Profile.rules in
+    let profile = c.args.engine.now.profile in
+    let same : c.profile-profile.result ≡ profile = c.profile-profile.ensures in
+    let blocks = values c.in_ok-road_graph.road_graph.now.blocks.map in
+    let listed = c.in_ok-road_graph.ensures.listed in
+    let mine = subst (λ p. Lists (λ (b : Block). b.way) way_cmp (IsRoadBlock M (R p)) blocks) (sym same) listed in
+    let number = c.number.result in
+    let bytes = c.write.new.out.items in
+    let spelled : bytes ≡ graph_bytes number blocks =
+    c.in_ok-write.ensures.bytes ∙ ap (λ (l : List ℕ). l ++ graph_bytes number blocks) c.new-graph.ensures.items in
+    record {
+      graph = bytes;
+      is = record {
+        blocks = blocks;
+        listed = listed;
+        spelled = spelled
+            ∙ ap (λ (n : ℕ). graph_bytes n blocks) (c.number.ensures ∙ ap (λ p. (R p).number) same);
+      };
+      walks = subst (λ p. AreWalked M (R p)) same (c.walk_law.ensures M);
+      file = subst (λ p. IsWalkedFile M (R p) bytes) same
+          (subst (λ (l : List ℕ). IsWalkedFile M (R c.profile-profile.result) l) (sym spelled)
+          (c.walked_file.ensures.walks M (graph_bytes number blocks) blocks mine
+          (c.in_ok-write.ensures.file (c.walked_file.ensures.own M blocks mine))));
+      spelled = ap (λ (l : List ℕ). l ++ bytes)
+          (c.in_ok-line.ensures ∙ ap (λ (l : List ℕ). graph_line l) c.deref.ensures.value);
+    }
