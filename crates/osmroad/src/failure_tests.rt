@@ -4,7 +4,11 @@ use crate::session_tests::{
     check_status, empty_site, ended, run_on,
 };
 use crate::status::Status;
-use crate::store_tests::{APPLY, CHECKPOINT, Case, MADE, RECORD, SPELLED, check, joined};
+use crate::store_tests::{
+    APPLY, AUDIT, CHECKPOINT, CREATE, Case, GRAPH, MADE, RECORD, SPELLED, check, is_cut, is_put,
+    is_sync, is_write, joined,
+};
+use crate::tests::{NO_GRAPH, STREET_CUT, STREET_GRAPH};
 use road_base::NoMemory;
 use road_io::{Call, Entry, MemorySite, Which};
 use std::alloc::Global;
@@ -17,11 +21,55 @@ const KEPT_5: &[u8] = b"sequence 0 kept 5\n";
 
 const KEPT_6: &[u8] = b"sequence 0 kept 6\n";
 
-const KEPT_12: &[u8] = b"sequence 0 kept 12\n";
+/// What a store holds: what `graph` and then `checkpoint` put, and which file is live.
+#[derive(Clone, Copy)]
+struct Holds<'a> {
+    output: &'a [&'a [u8]],
+    live: Option<Which>,
+}
 
-const KEPT_13: &[u8] = b"sequence 0 kept 13\n";
+const NO_STORE: Holds = Holds {
+    output: &[b"no store\nno store\n"],
+    live: None,
+};
 
-/// A run that writes to a store.
+const EMPTY_5: Holds = Holds {
+    output: &[NO_GRAPH, b"checkpoint 5\n"],
+    live: Some(Which::A),
+};
+
+const EMPTY_6: Holds = Holds {
+    output: &[NO_GRAPH, b"checkpoint 6\n"],
+    live: Some(Which::A),
+};
+
+const EMPTY_6_IN_B: Holds = Holds {
+    live: Some(Which::B),
+    ..EMPTY_6
+};
+
+const EMPTY_12: Holds = Holds {
+    output: &[NO_GRAPH, b"checkpoint 12\n"],
+    live: Some(Which::A),
+};
+
+const EMPTY_13: Holds = Holds {
+    output: &[NO_GRAPH, b"checkpoint 13\n"],
+    live: Some(Which::A),
+};
+
+/// The street without its middle node, and with it.
+const STREET_4: Holds = Holds {
+    output: &[NO_GRAPH, b"checkpoint 4\n"],
+    live: Some(Which::A),
+};
+
+const STREET_5: Holds = Holds {
+    output: &[STREET_GRAPH, b"checkpoint 5\n"],
+    live: Some(Which::A),
+};
+
+/// A run over a store.
 #[derive(Clone, Copy)]
 struct Run<'a> {
     words: &'a [&'a str],
@@ -31,9 +79,9 @@ struct Run<'a> {
     output: &'a [u8],
     /// The front of the output up to the line that names what was written.
     told: &'a [u8],
-    /// What the store says of its number, without what is written and with it.
-    earlier: &'a [u8],
-    later: &'a [u8],
+    /// What the store holds without what is written, and with it.
+    earlier: Holds<'a>,
+    later: Holds<'a>,
 }
 
 /// A session of refused frames, and one that is accepted at its end.
@@ -43,22 +91,29 @@ const FRAMES: Run = Run {
     file: Which::A,
     output: FRAMES_REPLIES,
     told: FRAMES_REPLIES,
-    earlier: KEPT_12,
-    later: KEPT_13,
+    earlier: EMPTY_12,
+    later: EMPTY_13,
 };
 
 const FRAMES_REPLIES: &[u8] = b"refused 14 sequence 12\nrefused 13 line 2 field 1 UnknownLine\n\
     state sequence 12 ways 0 pieces 0 contexts 0 arcs 0\napplied 13\n";
 
 /// A session that goes on behind the change, so that calls also fail after it was told.
-const NODE_ADDED: Run = Run {
+const STREET_FOLLOWED: Run = Run {
     words: SESSION,
-    input: b"#seq 13\nn1 v2 x0 y0\n#end\nstate\n",
+    input: b"#seq 5\nn2 v1 x0.001 y0\n#end\nstate\n",
     file: Which::A,
-    output: b"applied 13\nstate sequence 13 ways 0 pieces 0 contexts 0 arcs 0\n",
-    told: b"applied 13\n",
-    earlier: KEPT_12,
-    later: KEPT_13,
+    output: b"applied 5\nstate sequence 5 ways 1 pieces 2 contexts 2 arcs 2\n",
+    told: b"applied 5\n",
+    earlier: STREET_4,
+    later: STREET_5,
+};
+
+const STREET_APPLIED: Run = Run {
+    words: &["town", "apply", "5"],
+    input: b"n2 v1 x0.001 y0\n",
+    output: b"applied 5\n",
+    ..STREET_FOLLOWED
 };
 
 const EMPTY_APPLIED: Run = Run {
@@ -67,19 +122,46 @@ const EMPTY_APPLIED: Run = Run {
     file: Which::A,
     output: b"applied 6\n",
     told: b"applied 6\n",
-    earlier: KEPT_5,
-    later: KEPT_6,
+    earlier: EMPTY_5,
+    later: EMPTY_6,
 };
 
-/// A checkpoint changes no number.
+const EMPTY_CREATED: Run = Run {
+    words: CREATE,
+    input: b"",
+    file: Which::A,
+    output: b"created 5\n",
+    told: b"created 5\n",
+    earlier: NO_STORE,
+    later: EMPTY_5,
+};
+
+/// A checkpoint changes no number, but the file that is live.
 const REBASED: Run = Run {
     words: CHECKPOINT,
     input: b"",
     file: Which::B,
     output: b"checkpoint 6\n",
     told: b"checkpoint 6\n",
-    earlier: KEPT_6,
-    later: KEPT_6,
+    earlier: EMPTY_6,
+    later: EMPTY_6_IN_B,
+};
+
+/// What only looks at a store changes nothing.
+const GRAPH_SHOWN: Run = Run {
+    words: GRAPH,
+    input: b"",
+    file: Which::A,
+    output: NO_GRAPH,
+    told: NO_GRAPH,
+    earlier: EMPTY_6,
+    later: EMPTY_6,
+};
+
+const AUDITED: Run = Run {
+    words: AUDIT,
+    output: b"conditional 0\n",
+    ..GRAPH_SHOWN
 };
 
 /// The files of a site on a new one, which has put nothing, and whose calls with these numbers fail.
@@ -89,11 +171,11 @@ fn anew(alloc: Global, site: &MemorySite, fails: &[u64]) -> Result<MemorySite, N
     Ok(MemorySite::new(alloc, a, b, fails.to_vec(alloc)?))
 }
 
-/// The store of the session's extract, as it is made.
-fn created(alloc: Global, session: &Session) -> Result<MemorySite, NoMemory> {
+/// The store of an extract, as it is made under this number.
+fn created(alloc: Global, number: &str, extract: &[u8]) -> Result<MemorySite, NoMemory> {
     let mut site = empty_site(alloc);
-    let create = ["town", "create", session.number];
-    run_on(alloc, &create, session.extract, &mut site)?;
+    let create = ["town", "create", number];
+    run_on(alloc, &create, extract, &mut site)?;
     Ok(site)
 }
 
@@ -115,12 +197,92 @@ fn kept(alloc: Global, site: &MemorySite) -> Result<Vec<u8>, NoMemory> {
     kept_on(alloc, &mut after)
 }
 
-/// Whether the store may keep this where the run put this: what was told is kept.
-fn may_keep(run: &Run, output: &[u8], kept: &[u8]) -> bool {
-    kept == run.later || kept == run.earlier && !output.starts_with(run.told)
+/// The file that a checkpoint leaves as it is: it empties the other one first.
+fn live_by(calls: &[Entry]) -> Option<Which> {
+    for entry in calls {
+        match &entry.call {
+            Call::Cut {
+                file: Which::A,
+                len: 0,
+            } => return Some(Which::B),
+            Call::Cut {
+                file: Which::B,
+                len: 0,
+            } => return Some(Which::A),
+            _ => {}
+        }
+    }
+    None
 }
 
-/// How many calls the run makes of this site, where none fails.
+/// What a store on the site shows.
+#[derive(Drop)]
+struct Shown {
+    output: Vec<u8>,
+    live: Option<Which>,
+}
+
+/// What the store on the site holds, as it shows it.
+fn shown_on(alloc: Global, site: &mut MemorySite) -> Result<Shown, NoMemory> {
+    run_on(alloc, GRAPH, b"", site)?;
+    run_on(alloc, CHECKPOINT, b"", site)?;
+    Ok(Shown {
+        output: site.output().to_vec(alloc)?,
+        live: live_by(site.calls()),
+    })
+}
+
+/// The same on a new site of these files.
+fn shown(alloc: Global, site: &MemorySite) -> Result<Shown, NoMemory> {
+    let mut after = anew(alloc, site, &[])?;
+    shown_on(alloc, &mut after)
+}
+
+fn is_shown(alloc: Global, shown: &Shown, wanted: &Holds) -> Result<bool, NoMemory> {
+    let output = joined(alloc, wanted.output)?;
+    Ok(shown.output.as_slice() == output.as_slice() && shown.live == wanted.live)
+}
+
+/// Whether the store may show this where the run put this: what was told is kept.
+fn may_show(alloc: Global, run: &Run, output: &[u8], shown: &Shown) -> Result<bool, NoMemory> {
+    if is_shown(alloc, shown, &run.later)? {
+        return Ok(true);
+    }
+    let earlier = is_shown(alloc, shown, &run.earlier)?;
+    Ok(earlier && !output.starts_with(run.told))
+}
+
+/// What a store shows that is to hold this, where the run put this.
+fn check_shown(
+    rt: &impl Abort,
+    alloc: Global,
+    run: &Run,
+    output: &[u8],
+    shown: &Shown,
+    wanted: &Holds,
+) -> Result<(), NoMemory> {
+    let all = joined(alloc, wanted.output)?;
+    assert_eq!(rt; shown.output.as_slice(), all.as_slice());
+    assert_eq!(rt; shown.live, wanted.live);
+    assert!(rt; may_show(alloc, run, output, shown)?);
+    Ok(())
+}
+
+/// Whether both files are synced before one of them is changed, or anything is put.
+fn settles_both(calls: &[Entry]) -> bool {
+    let (mut a, mut b) = (false, false);
+    for entry in calls {
+        match &entry.call {
+            Call::Sync(Which::A) => a = true,
+            Call::Sync(Which::B) => b = true,
+            Call::FileLen(_) | Call::ReadAt { .. } => {}
+            _ => return a && b,
+        }
+    }
+    a && b
+}
+
+/// How many calls the run makes of this site, where none fails. A stop behind the last one leaves what it may, too.
 fn calls_on(
     rt: &impl Abort,
     alloc: Global,
@@ -129,6 +291,8 @@ fn calls_on(
 ) -> Result<u64, NoMemory> {
     check_status(rt, alloc, run.words, run.input, site, Status::Done)?;
     assert_eq!(rt; site.output(), run.output);
+    assert!(rt; settles_both(site.calls()));
+    check_stop(rt, alloc, run, site)?;
     Ok(site.calls().len() as u64)
 }
 
@@ -152,29 +316,18 @@ fn check_call(
     n: u64,
 ) -> Result<(), NoMemory> {
     let mut site = anew(alloc, store, &[n])?;
-    check_fault(rt, alloc, run, &mut site)
+    check_status(
+        rt,
+        alloc,
+        run.words,
+        run.input,
+        &mut site,
+        Status::SiteFault,
+    )?;
+    check_stop(rt, alloc, run, &site)
 }
 
-/// The run on a site of which a call fails.
-fn check_fault(
-    rt: &impl Abort,
-    alloc: Global,
-    run: &Run,
-    site: &mut MemorySite,
-) -> Result<(), NoMemory> {
-    let status = run_on(alloc, run.words, run.input, site)?;
-    assert_eq!(rt; status, Status::SiteFault);
-    assert!(rt; keeps_what_it_may(alloc, run, site)?);
-    check_stop(rt, alloc, run, site)
-}
-
-/// Whether the store may keep what it keeps on the site where the run ended.
-fn keeps_what_it_may(alloc: Global, run: &Run, site: &MemorySite) -> Result<bool, NoMemory> {
-    let kept = kept(alloc, site)?;
-    Ok(may_keep(run, site.output(), &kept))
-}
-
-/// The run on the store, with a fault at each of its calls, and with a stop before it.
+/// The run on the store, with a fault at each of its calls, and with a stop before and behind each.
 fn check_calls(
     rt: &impl Abort,
     alloc: Global,
@@ -190,14 +343,17 @@ fn check_calls(
 }
 
 /// How far a gate is on its way to the disk. The gate is the byte in front of a record or a base: that of the next
-/// record is the last byte of the live file, so that the record is written behind it. It is written alone, and last.
+/// record is the last byte of the live file, so that the record is written behind it. It is opened alone, and last.
 #[derive(Clone, Copy)]
 enum Gate {
-    /// It isn't written, or something else was written since.
-    Unwritten,
-    /// It was written at this place, and reads as anything after a stop.
+    /// It isn't opened, and nothing is pending.
+    Closed,
+    /// It isn't opened, and other bytes were written, the last of which stands at this place and reads as anything after
+    /// a stop: the next gate behind a record, or a gate that was closed.
+    Behind(u64),
+    /// It was opened at this place, and reads as anything after a stop.
     Pending(u64),
-    /// It is on the disk.
+    /// It is open on the disk.
     Synced,
 }
 
@@ -205,17 +361,25 @@ impl Gate {
     /// The gate of this file behind one call more.
     fn after(self, file: Which, call: &Call) -> Gate {
         match (self, call) {
-            (_, Call::WriteAt { at, piece, .. }) if piece.items().len() == 1 => Gate::Pending(*at),
-            (_, Call::WriteAt { .. } | Call::Cut { .. }) => Gate::Unwritten,
+            (_, Call::WriteAt { at, piece, .. }) if piece.items() == b"\x01".as_slice() =>
+                Gate::Pending(*at),
+            (_, Call::WriteAt { at, piece, .. }) => Gate::Behind(last_place(*at, piece.items())),
+            (_, Call::Cut { .. }) => Gate::Closed,
             (Gate::Pending(_), Call::Sync(synced)) if *synced == file => Gate::Synced,
+            (Gate::Behind(_), Call::Sync(synced)) if *synced == file => Gate::Closed,
             (gate, _) => gate,
         }
     }
 }
 
+/// Where the last of these bytes stands, the first of which stands here.
+fn last_place(at: u64, bytes: &[u8]) -> u64 {
+    at.saturating_add(bytes.len() as u64).saturating_sub(1)
+}
+
 /// The gate of the file that is written to, behind these calls, of which those that failed did nothing.
 fn gate_behind(file: Which, calls: &[Entry]) -> Gate {
-    let mut gate = Gate::Unwritten;
+    let mut gate = Gate::Closed;
     for entry in calls {
         if !entry.failed {
             gate = gate.after(file, &entry.call);
@@ -224,7 +388,7 @@ fn gate_behind(file: Which, calls: &[Entry]) -> Gate {
     gate
 }
 
-/// A stop where the run left the site: the gate that it wrote reads as any byte until it is synced.
+/// A stop where the run left the site: the last byte that it wrote reads as any byte until it is synced.
 fn check_stop(
     rt: &impl Abort,
     alloc: Global,
@@ -232,17 +396,30 @@ fn check_stop(
     site: &MemorySite,
 ) -> Result<(), NoMemory> {
     let file = site.file(run.file);
+    let (earlier, later) = (&run.earlier, &run.later);
     match gate_behind(run.file, site.calls()) {
-        Gate::Unwritten => check_file(rt, alloc, run, site, file, run.earlier),
-        Gate::Synced => check_file(rt, alloc, run, site, file, run.later),
-        Gate::Pending(at) => {
-            for (byte, kept) in [(0, run.earlier), (1, run.later), (7, run.earlier)] {
-                let left = with_byte(alloc, file, at, byte)?;
-                check_file(rt, alloc, run, site, &left, kept)?;
-            }
-            Ok(())
-        }
+        Gate::Closed => check_file(rt, alloc, run, site, file, earlier),
+        Gate::Synced => check_file(rt, alloc, run, site, file, later),
+        Gate::Behind(at) => check_bytes(rt, alloc, run, site, at, [earlier, earlier, earlier]),
+        Gate::Pending(at) => check_bytes(rt, alloc, run, site, at, [earlier, later, earlier]),
     }
+}
+
+/// What the store holds where the byte in this place of the run's file is 0, 1 and 7.
+fn check_bytes(
+    rt: &impl Abort,
+    alloc: Global,
+    run: &Run,
+    site: &MemorySite,
+    at: u64,
+    [closed, open, other]: [&Holds; 3],
+) -> Result<(), NoMemory> {
+    let file = site.file(run.file);
+    for (byte, wanted) in [(0, closed), (1, open), (7, other)] {
+        let left = with_byte(alloc, file, at, byte)?;
+        check_file(rt, alloc, run, site, &left, wanted)?;
+    }
+    Ok(())
 }
 
 /// These bytes with another one in this place.
@@ -256,7 +433,7 @@ fn with_byte(alloc: Global, bytes: &[u8], at: u64, byte: u8) -> Result<Vec<u8>, 
     Ok(changed)
 }
 
-/// What the store keeps where the run's file reads so after a stop, and so with more bytes behind its end. It is never
+/// What the store holds where the run's file reads so after a stop, and so with more bytes behind its end. It is never
 /// damaged.
 fn check_file(
     rt: &impl Abort,
@@ -264,27 +441,29 @@ fn check_file(
     run: &Run,
     site: &MemorySite,
     file: &[u8],
-    number: &[u8],
+    wanted: &Holds,
 ) -> Result<(), NoMemory> {
     let tails: [&[u8]; 2] = [&[], &[0xff; 32]];
     for tail in tails {
         let left = joined(alloc, &[file, tail])?;
-        check_left(rt, alloc, run, site, left, number)?;
+        check_left(rt, alloc, run, site, left, wanted)?;
     }
     Ok(())
 }
 
-/// What the store keeps where the run's file has these bytes.
+/// What the store holds where the run's file has these bytes, and whether it may hold this where the run put what it
+/// put.
 fn check_left(
     rt: &impl Abort,
     alloc: Global,
     run: &Run,
     site: &MemorySite,
     left: Vec<u8>,
-    number: &[u8],
+    wanted: &Holds,
 ) -> Result<(), NoMemory> {
     let stopped = with_file(alloc, site, run.file, left)?;
-    check_kept(rt, alloc, &stopped, number)
+    let shown = shown(alloc, &stopped)?;
+    check_shown(rt, alloc, run, site.output(), &shown, wanted)
 }
 
 /// What the store says of its number.
@@ -319,10 +498,15 @@ fn with_file(
     }
 }
 
-/// Both sessions on the store of refused frames.
-fn check_sessions(rt: &impl Abort, alloc: Global, store: &MemorySite) -> Result<(), NoMemory> {
-    for run in [FRAMES, NODE_ADDED] {
-        check_calls(rt, alloc, &run, store)?;
+/// These runs, each on the same store.
+fn check_runs(
+    rt: &impl Abort,
+    alloc: Global,
+    runs: &[Run],
+    store: &MemorySite,
+) -> Result<(), NoMemory> {
+    for run in runs {
+        check_calls(rt, alloc, run, store)?;
     }
     Ok(())
 }
@@ -330,8 +514,16 @@ fn check_sessions(rt: &impl Abort, alloc: Global, store: &MemorySite) -> Result<
 /// A fault at any call ends a session, and the store keeps each change that the output names.
 #[test]
 fn a_failing_call_ends_a_session(rt: HostRuntime) -> Result<(), Fail> {
-    let store = created(rt.alloc(), &REFUSED_FRAMES)?;
-    check_sessions(&rt, rt.alloc(), &store)?;
+    let store = created(rt.alloc(), REFUSED_FRAMES.number, REFUSED_FRAMES.extract)?;
+    check_calls(&rt, rt.alloc(), &FRAMES, &store)?;
+    Ok(())
+}
+
+/// The same where the change brings a street.
+#[test]
+fn a_failing_call_ends_what_changes_a_street(rt: HostRuntime) -> Result<(), Fail> {
+    let store = created(rt.alloc(), "4", STREET_CUT)?;
+    check_runs(&rt, rt.alloc(), &[STREET_FOLLOWED, STREET_APPLIED], &store)?;
     Ok(())
 }
 
@@ -342,10 +534,19 @@ fn a_failing_call_ends_a_change(rt: HostRuntime) -> Result<(), Fail> {
     Ok(())
 }
 
+/// What makes a store.
+#[test]
+fn a_failing_call_ends_a_creation(rt: HostRuntime) -> Result<(), Fail> {
+    let none = empty_site(rt.alloc());
+    check_calls(&rt, rt.alloc(), &EMPTY_CREATED, &none)?;
+    Ok(())
+}
+
+/// What changes no number, or nothing at all.
 #[test]
 fn a_failing_call_ends_a_checkpoint(rt: HostRuntime) -> Result<(), Fail> {
     let store = store_of(rt.alloc(), &[SPELLED, b"\x01", RECORD])?;
-    check_calls(&rt, rt.alloc(), &REBASED, &store)?;
+    check_runs(&rt, rt.alloc(), &[REBASED, GRAPH_SHOWN, AUDITED], &store)?;
     Ok(())
 }
 
@@ -360,7 +561,8 @@ struct Reads<'a> {
 }
 
 fn check_read(rt: &impl Abort, alloc: Global, reads: &Reads) -> Result<(), NoMemory> {
-    let mut site = created(alloc, &reads.session)?;
+    let (number, extract) = (reads.session.number, reads.session.extract);
+    let mut site = created(alloc, number, extract)?;
     check_read_on(rt, alloc, reads, &mut site)
 }
 
@@ -421,18 +623,38 @@ type Stop = (
     &'static [&'static [u8]],
 );
 
-const STOPS: [Stop; 9] = [
+/// `RECORD` without its last gate.
+const RECORD_SPELLED: &[u8] = b"\x06\0\0\0\0\0\0\0\x08\0\0\0\0\0\0\0\0\0\0\0\0\0\0\0";
+
+/// File A with that change.
+const APPLIED: &[&[u8]] = &[SPELLED, b"\x01", RECORD];
+
+const STOPS: [Stop; 14] = [
     // Nothing was written, or the write of the record has begun: any bytes, also further ones than were written.
     (&[SPELLED, b"\0"], KEPT_5, &[MADE]),
     (&[SPELLED, b"\0", b"\x06\0\0"], KEPT_5, &[MADE]),
     (&[SPELLED, b"\0", b"\xff\xff\xff\xff\xff"], KEPT_5, &[MADE]),
     (&[SPELLED, b"\0", RECORD], KEPT_5, &[MADE]),
+    (&[SPELLED, b"\0", RECORD_SPELLED, b"\x01"], KEPT_5, &[MADE]),
     // The gate was written.
     (&[SPELLED, b"\x07", RECORD], KEPT_5, &[MADE]),
     (
-        &[SPELLED, b"\x01", RECORD],
+        &[SPELLED, b"\x07", RECORD_SPELLED, b"\x01"],
+        KEPT_5,
+        &[MADE],
+    ),
+    (&[SPELLED, b"\x01", RECORD], KEPT_6, APPLIED),
+    // So, and the next gate, at the end of the record's bytes, isn't there, or reads as another byte.
+    (&[SPELLED, b"\x01", RECORD_SPELLED], KEPT_6, APPLIED),
+    (
+        &[SPELLED, b"\x01", RECORD_SPELLED, b"\x01"],
         KEPT_6,
-        &[SPELLED, b"\x01", RECORD],
+        APPLIED,
+    ),
+    (
+        &[SPELLED, b"\x01", RECORD_SPELLED, b"\x07"],
+        KEPT_6,
+        APPLIED,
     ),
     // A stop while the store is loaded: it is cut at the gate, or the gate isn't there yet.
     (&[SPELLED], KEPT_5, &[MADE]),
@@ -454,5 +676,28 @@ fn stops_leave_a_change_or_none(rt: HostRuntime) -> Result<(), Fail> {
         };
         check(&rt, rt.alloc(), &case, &[])?;
     }
+    Ok(())
+}
+
+/// Whether the last of these calls repair file A behind the base and show the graph: the file is cut at the gate,
+/// synced, the gate closed, and the file synced.
+fn repair_the_end(calls: &[Entry]) -> bool {
+    match calls {
+        [.., cut, first, gate, second, graph] => {
+            is_cut(cut, 45)
+                && is_sync(first)
+                && is_write(gate, 45, b"\0")
+                && is_sync(second)
+                && is_put(graph, NO_GRAPH)
+        }
+        _ => false,
+    }
+}
+
+#[test]
+fn an_end_is_cut_and_closed(rt: HostRuntime) -> Result<(), Fail> {
+    let mut site = store_of(rt.alloc(), &[SPELLED, b"\x07", RECORD])?;
+    check_status(&rt, rt.alloc(), GRAPH, b"", &mut site, Status::Done)?;
+    assert!(rt; repair_the_end(site.calls()));
     Ok(())
 }

@@ -118,21 +118,26 @@ const STREET_FOLLOWED: Session = Session {
     ],
 };
 
+const FORK_LINES: &[u8] =
+    b"n1 v1 x0.001 y0\nn2 v1 x0.002 y0\nn3 v1 x0.003 y0\nn4 v1 x0.004 y0\nn5 v1 x0.005 y0\n\
+    n6 v1 x0.006 y0\nw1 v1 Thighway=residential Nn1,n2\nw2 v1 Thighway=residential Nn2,n3\n\
+    w3 v1 Thighway=residential Nn3,n4\nw4 v1 Thighway=residential Nn4,n5\n\
+    w5 v1 Thighway=residential Nn4,n6\n\
+    r20 v1 Ttype=restriction,restriction=no_u_turn Mw1@from,w2@via,w3@via,w4@to\n\
+    r21 v1 Ttype=restriction,restriction=only_right_turn Mw2@from,w3@via,w5@to\n";
+
 /// Two restrictions over several ways, of which the change deletes one.
 const FORK: Session = Session {
     number: "6",
-    extract: b"n1 v1 x0.001 y0\nn2 v1 x0.002 y0\nn3 v1 x0.003 y0\nn4 v1 x0.004 y0\nn5 v1 x0.005 y0\n\
-        n6 v1 x0.006 y0\nw1 v1 Thighway=residential Nn1,n2\nw2 v1 Thighway=residential Nn2,n3\n\
-        w3 v1 Thighway=residential Nn3,n4\nw4 v1 Thighway=residential Nn4,n5\n\
-        w5 v1 Thighway=residential Nn4,n6\n\
-        r20 v1 Ttype=restriction,restriction=no_u_turn Mw1@from,w2@via,w3@via,w4@to\n\
-        r21 v1 Ttype=restriction,restriction=only_right_turn Mw2@from,w3@via,w5@to\n",
+    extract: FORK_LINES,
     input: b"state\ndrive w1.0+ w2.0+ w3.0+ w4.0+\ndrive w2.0+ w3.0+ w4.0+\n\
-        #seq 7\nr21 v2 dD\n#end\nstate\ndrive w2.0+ w3.0+ w4.0+\n",
+        reach 1 5\n#seq 7\nr21 v2 dD\n#end\nstate\ndrive w2.0+ w3.0+ w4.0+\nreach 1 5\n",
     status: Status::Done,
     output: &[
         b"created 6\nstate sequence 6 ways 5 pieces 10 contexts 13 arcs 16\nbroken 4 no 20\n\
-        broken 3 only 21\napplied 7\nstate sequence 7 ways 5 pieces 10 contexts 12 arcs 15\nlegal\n",
+        broken 3 only 21\ndrive w1.0+ w2.0+ w3.0+ w5.0+ w5.0- w4.0+\napplied 7\n\
+        state sequence 7 ways 5 pieces 10 contexts 12 arcs 15\nlegal\n\
+        drive w1.0+ w2.0+ w3.0+ w5.0+ w5.0- w4.0+\n",
     ],
 };
 
@@ -163,6 +168,19 @@ pub const REFUSED_FRAMES: Session = Session {
     output: &[
         b"created 12\nrefused 14 sequence 12\nrefused 13 line 2 field 1 UnknownLine\n\
         state sequence 12 ways 0 pieces 0 contexts 0 arcs 0\napplied 13\n",
+    ],
+};
+
+/// The good line in front of a line in fault would bring the street.
+const STREET_REFUSED: Session = Session {
+    number: "4",
+    extract: STREET_CUT,
+    input: b"#seq 5\nn2 v1 x0.001 y0\nq1 v1\n#end\nstate\ngraph\n",
+    status: Status::Done,
+    output: &[
+        b"created 4\nrefused 5 line 2 field 1 UnknownLine\n\
+        state sequence 4 ways 0 pieces 0 contexts 0 arcs 0\ngraph 20\n",
+        NO_GRAPH,
     ],
 };
 
@@ -228,12 +246,15 @@ const VILLAGE_DRIVES: Session = Session {
     ],
 };
 
+const JUNCTION_LINES: &[u8] =
+    b"n1 v1 x0.001 y0\nn2 v1 x0.002 y0\nn3 v1 x0.003 y0\nn4 v1 x0.004 y0\nn6 v1 x0.006 y0\n\
+    n7 v1 x0.007 y0\nw10 v1 Thighway=residential Nn1,n2\nw11 v1 Thighway=residential Nn4,n3,n2\n\
+    w13 v1 Thighway=residential Nn1,n6\nw14 v1 Thighway=residential Nn6,n7\n";
+
 /// The change brings a way to a plain node, which is a junction from then on.
 const JUNCTION_MADE: Session = Session {
     number: "4",
-    extract: b"n1 v1 x0.001 y0\nn2 v1 x0.002 y0\nn3 v1 x0.003 y0\nn4 v1 x0.004 y0\nn6 v1 x0.006 y0\n\
-        n7 v1 x0.007 y0\nw10 v1 Thighway=residential Nn1,n2\nw11 v1 Thighway=residential Nn4,n3,n2\n\
-        w13 v1 Thighway=residential Nn1,n6\nw14 v1 Thighway=residential Nn6,n7\n",
+    extract: JUNCTION_LINES,
     input: b"state\n#seq 5\nn5 v1 x0.005 y0\nw12 v1 Thighway=residential Nn3,n5\n#end\nstate\n\
         drive w10.0+ w11.1- w12.0+\n",
     status: Status::Done,
@@ -250,6 +271,7 @@ fn sessions_answer(rt: HostRuntime) -> Result<(), Fail> {
         FORK,
         FORK_STRAIGHT,
         REFUSED_FRAMES,
+        STREET_REFUSED,
         UNFINISHED,
         VILLAGE_FOLLOWED,
         VILLAGE_DRIVES,
@@ -257,6 +279,73 @@ fn sessions_answer(rt: HostRuntime) -> Result<(), Fail> {
     ];
     for session in sessions {
         check(&rt, rt.alloc(), &session)?;
+    }
+    Ok(())
+}
+
+/// The graph of these lines, all together.
+fn graph_of(alloc: Global, lines: &[u8], site: &mut MemorySite) -> Result<Vec<u8>, NoMemory> {
+    run_on(alloc, &["-", "compile"], lines, site)?;
+    Ok(site.output().to_vec(alloc)?)
+}
+
+/// A session on the extract that is given the change and then asks for the graph, and what it puts in front of the
+/// graph.
+fn check_followed(
+    rt: &impl Abort,
+    alloc: Global,
+    extract: &[u8],
+    change: &[u8],
+    head: &[u8],
+    graph: &[u8],
+) -> Result<(), NoMemory> {
+    let input = joined(alloc, &[b"#seq 5\n", change, b"#end\ngraph\n"])?;
+    let session = Session {
+        number: "4",
+        extract,
+        input: &input,
+        status: Status::Done,
+        output: &[head, graph],
+    };
+    check(rt, alloc, &session)
+}
+
+/// The same, where the graph is that of all lines together.
+fn check_following(
+    rt: &impl Abort,
+    alloc: Global,
+    extract: &[u8],
+    change: &[u8],
+    head: &[u8],
+) -> Result<(), NoMemory> {
+    let lines = joined(alloc, &[extract, change])?;
+    let mut site = empty_site(alloc);
+    let graph = graph_of(alloc, &lines, &mut site)?;
+    check_followed(rt, alloc, extract, change, head, &graph)
+}
+
+/// A block that a change would leave as it was is noticed by its bytes.
+#[test]
+fn a_session_follows_to_what_compiles(rt: HostRuntime) -> Result<(), Fail> {
+    let cases: [(&[u8], &[u8], &[u8]); 3] = [
+        (
+            STREET_CUT,
+            b"n2 v1 x0.001 y0\n",
+            b"created 4\napplied 5\ngraph 220\n",
+        ),
+        (
+            JUNCTION_LINES,
+            b"n5 v1 x0.005 y0\nw12 v1 Thighway=residential Nn3,n5\n",
+            b"created 4\napplied 5\ngraph 1067\n",
+        ),
+        (
+            FORK_LINES,
+            b"r21 v2 dD\n",
+            b"created 4\napplied 5\ngraph 1008\n",
+        ),
+    ];
+    for (extract, change, head) in cases {
+        check_following(&rt, rt.alloc(), extract, change, head)?;
     }
     Ok(())
 }

@@ -188,13 +188,13 @@ const fn refuses<'a>(
     }
 }
 
-const CREATE: &[&str] = &["town", "create", "5"];
+pub const CREATE: &[&str] = &["town", "create", "5"];
 
 pub const APPLY: &[&str] = &["town", "apply", "6"];
 
-const GRAPH: &[&str] = &["town", "graph"];
+pub const GRAPH: &[&str] = &["town", "graph"];
 
-const AUDIT: &[&str] = &["town", "audit"];
+pub const AUDIT: &[&str] = &["town", "audit"];
 
 pub const CHECKPOINT: &[&str] = &["town", "checkpoint"];
 
@@ -205,6 +205,12 @@ const REBASED: &[u8] = b"\x01OSMJRNL1\x01\0\0\0\x02\0\0\0\0\0\0\0\x06\0\0\0\0\0\
 /// `MADE` of the last generation, which no other one follows.
 const LAST_MADE: &[u8] = b"\x01OSMJRNL1\x01\0\0\0\xff\xff\xff\xff\xff\xff\xff\xff\x05\0\0\0\0\0\0\0\
     \x08\0\0\0\0\0\0\0\0\0\0\0\0\0\0\0\0";
+
+/// `MADE` under the number 12, to which change 13 is the next one.
+const MADE_OF_TWELVE: &[u8] = b"\x01OSMJRNL1\x01\0\0\0\x01\0\0\0\0\0\0\0\x0c\0\0\0\0\0\0\0\
+    \x08\0\0\0\0\0\0\0\0\0\0\0\0\0\0\0\0";
+
+const NEXT_OF_TWELVE: &[&str] = &["town", "apply", "13"];
 
 /// `RECORD`, of one event of which no byte is there.
 const RECORD_OF_ONE: &[u8] = b"\x06\0\0\0\0\0\0\0\x08\0\0\0\0\0\0\0\x01\0\0\0\0\0\0\0\0";
@@ -265,25 +271,25 @@ const REFUSALS: [Refusal; 14] = [
         b"sequence 5 kept 5\n",
     ),
     (
-        APPLY,
+        NEXT_OF_TWELVE,
         b"n1 v1 Ta=b Tc=d x0 y0",
-        &[MADE],
+        &[MADE_OF_TWELVE],
         &[],
         Status::Refused,
         b"refused line 1 field 4 Repeated\n",
     ),
     (
-        APPLY,
+        NEXT_OF_TWELVE,
         b"n1 x0 y0",
-        &[MADE],
+        &[MADE_OF_TWELVE],
         &[],
         Status::Refused,
         b"refused line 1 field 0 NoVersion\n",
     ),
     (
-        APPLY,
+        NEXT_OF_TWELVE,
         b"n1 v1 Ta=%d800%",
-        &[MADE],
+        &[MADE_OF_TWELVE],
         &[],
         Status::Refused,
         b"refused line 1 field 3 BadEscape\n",
@@ -411,7 +417,7 @@ fn each_fault_of_the_site_ends_a_run(rt: HostRuntime) -> Result<(), Fail> {
 }
 
 /// Whether a call writes these bytes at this place of file A.
-fn is_write(entry: &Entry, place: u64, bytes: &[u8]) -> bool {
+pub fn is_write(entry: &Entry, place: u64, bytes: &[u8]) -> bool {
     match &entry.call {
         Call::WriteAt { file, at, piece } => {
             *file == Which::A && *at == place && piece.items() == bytes
@@ -420,11 +426,19 @@ fn is_write(entry: &Entry, place: u64, bytes: &[u8]) -> bool {
     }
 }
 
-fn is_sync(entry: &Entry) -> bool {
+/// Whether a call cuts file A to this length.
+pub fn is_cut(entry: &Entry, place: u64) -> bool {
+    match &entry.call {
+        Call::Cut { file, len } => *file == Which::A && *len == place,
+        _ => false,
+    }
+}
+
+pub fn is_sync(entry: &Entry) -> bool {
     matches!(&entry.call, Call::Sync(Which::A))
 }
 
-fn is_put(entry: &Entry, bytes: &[u8]) -> bool {
+pub fn is_put(entry: &Entry, bytes: &[u8]) -> bool {
     match &entry.call {
         Call::Put(chunk) => chunk.items() == bytes,
         _ => false,
@@ -534,6 +548,17 @@ const REJUDGED_AUDIT: &[u8] = b"\
     r38 unused Members\n\
     conditional 1\n";
 
+/// A turn that is forbidden, but not for motorcars.
+const EXCEPTED: &[u8] = b"\
+    n1 v1 x0.001 y0\n\
+    n2 v1 x0.002 y0\n\
+    n3 v1 x0.003 y0\n\
+    n4 v1 x0.004 y0\n\
+    w10 v1 Thighway=residential Nn1,n2\n\
+    w11 v1 Thighway=residential Nn2,n3\n\
+    w12 v1 Thighway=residential Nn2,n4\n\
+    r5 v1 Ttype=restriction,restriction=no_left_turn,except=psv;motorcar Mw10@from,n2@via,w11@to\n";
+
 /// File A after a run on this one.
 fn file_after(
     alloc: Global,
@@ -576,9 +601,13 @@ fn stores_show_what_compiles(rt: HostRuntime) -> Result<(), Fail> {
 
 #[test]
 fn restrictions_are_audited(rt: HostRuntime) -> Result<(), Fail> {
-    let cases: [(&[u8], &[u8]); 2] = [(b"", JUDGED_AUDIT), (REJUDGED, REJUDGED_AUDIT)];
-    for (change, audit) in cases {
-        check_stored(&rt, rt.alloc(), JUDGED, change, AUDIT, audit)?;
+    let cases: [(&[u8], &[u8], &[u8]); 3] = [
+        (JUDGED, b"", JUDGED_AUDIT),
+        (JUDGED, REJUDGED, REJUDGED_AUDIT),
+        (EXCEPTED, b"", b"r5 unused NotThisVehicle\nconditional 0\n"),
+    ];
+    for (extract, change, audit) in cases {
+        check_stored(&rt, rt.alloc(), extract, change, AUDIT, audit)?;
     }
     Ok(())
 }

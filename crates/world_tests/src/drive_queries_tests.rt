@@ -248,6 +248,7 @@ const MAPS: [(&[u8], &[(&str, &str)]); 11] = [
         &[
             ("drive w1.0+ w2.0+ w3.0+ w4.0+", "broken 4 no 20"),
             ("drive w2.0+ w3.0+ w4.0+", "broken 3 only 21"),
+            ("reach 1 5", "legal"),
         ],
     ),
     (
