@@ -316,15 +316,18 @@ fn check_call(
     n: u64,
 ) -> Result<(), NoMemory> {
     let mut site = anew(alloc, store, &[n])?;
-    check_status(
-        rt,
-        alloc,
-        run.words,
-        run.input,
-        &mut site,
-        Status::SiteFault,
-    )?;
-    check_stop(rt, alloc, run, &site)
+    check_fault(rt, alloc, run, &mut site)
+}
+
+/// The run on a site of which a call fails.
+fn check_fault(
+    rt: &impl Abort,
+    alloc: Global,
+    run: &Run,
+    site: &mut MemorySite,
+) -> Result<(), NoMemory> {
+    check_status(rt, alloc, run.words, run.input, site, Status::SiteFault)?;
+    check_stop(rt, alloc, run, site)
 }
 
 /// The run on the store, with a fault at each of its calls, and with a stop before and behind each.
@@ -451,8 +454,7 @@ fn check_file(
     Ok(())
 }
 
-/// What the store holds where the run's file has these bytes, and whether it may hold this where the run put what it
-/// put.
+/// What the store holds where the run's file has these bytes.
 fn check_left(
     rt: &impl Abort,
     alloc: Global,
@@ -462,8 +464,20 @@ fn check_left(
     wanted: &Holds,
 ) -> Result<(), NoMemory> {
     let stopped = with_file(alloc, site, run.file, left)?;
-    let shown = shown(alloc, &stopped)?;
-    check_shown(rt, alloc, run, site.output(), &shown, wanted)
+    check_stopped(rt, alloc, run, site.output(), &stopped, wanted)
+}
+
+/// What the store on this site is to hold, where the run put this.
+fn check_stopped(
+    rt: &impl Abort,
+    alloc: Global,
+    run: &Run,
+    output: &[u8],
+    stopped: &MemorySite,
+    wanted: &Holds,
+) -> Result<(), NoMemory> {
+    let shown = shown(alloc, stopped)?;
+    check_shown(rt, alloc, run, output, &shown, wanted)
 }
 
 /// What the store says of its number.

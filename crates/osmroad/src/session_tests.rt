@@ -283,10 +283,16 @@ fn sessions_answer(rt: HostRuntime) -> Result<(), Fail> {
     Ok(())
 }
 
-/// The graph of these lines, all together.
-fn graph_of(alloc: Global, lines: &[u8], site: &mut MemorySite) -> Result<Vec<u8>, NoMemory> {
+/// The graph of these lines together, which is put on the site.
+fn graph_on(alloc: Global, lines: &[u8], site: &mut MemorySite) -> Result<Vec<u8>, NoMemory> {
     run_on(alloc, &["-", "compile"], lines, site)?;
     Ok(site.output().to_vec(alloc)?)
+}
+
+/// The same on a new site.
+fn graph_of(alloc: Global, lines: &[u8]) -> Result<Vec<u8>, NoMemory> {
+    let mut site = empty_site(alloc);
+    graph_on(alloc, lines, &mut site)
 }
 
 /// A session on the extract that is given the change and then asks for the graph, and what it puts in front of the
@@ -319,8 +325,7 @@ fn check_following(
     head: &[u8],
 ) -> Result<(), NoMemory> {
     let lines = joined(alloc, &[extract, change])?;
-    let mut site = empty_site(alloc);
-    let graph = graph_of(alloc, &lines, &mut site)?;
+    let graph = graph_of(alloc, &lines)?;
     check_followed(rt, alloc, extract, change, head, &graph)
 }
 
