@@ -123,7 +123,7 @@ def end_text(status, said=''):
     return f'{text} ({said})' if status == 8 and said else text
 
 
-# ---------------------------------------------------------------------------------------------------------- the messages
+# --------------------------------------------------------------------------------------------------------- the messages
 
 
 def words_of(line):
@@ -299,7 +299,7 @@ class Session:
         return reply
 
 
-# ----------------------------------------------------------------------------------------------------------- the command
+# ---------------------------------------------------------------------------------------------------------- the command
 
 
 class Trouble(Exception):
@@ -447,13 +447,18 @@ def main(words):
         raise Trouble(exit_status(error), error) from None
 
 
-if __name__ == '__main__':
+def end_command(name, run_main):
+    """Ends the process with the status of a command's main; where it raised, with one line on standard error too."""
     try:
-        code = main(sys.argv[1:])
+        status = run_main(sys.argv[1:])
     except Trouble as trouble:
-        code = trouble.status
-        print(f'session.py: {trouble}', file=sys.stderr)
+        status = trouble.status
+        print(f'{name}: {trouble}', file=sys.stderr)
     except KeyboardInterrupt:
-        code = 128 + signal.SIGINT
+        status = 128 + signal.SIGINT
     sys.stderr.flush()
-    os._exit(code)      # without a second try to flush a standard output that is closed or full
+    os._exit(status)    # without a second try to flush a standard output that is closed or full
+
+
+if __name__ == '__main__':
+    end_command('session.py', main)
