@@ -45,6 +45,10 @@ LOOK_SECONDS = 1        # between two looks for a file
 TOLD_DELETIONS = 20     # how many of them have a line of their own
 
 
+def warn(text):
+    print(f'follow.py: {text}', file=sys.stderr, flush=True)
+
+
 class NotYet(Trouble):
     """What may change by waiting."""
 
@@ -142,40 +146,47 @@ DELETED = re.compile(rb'[ \t]dD(?=[ \t\r\n]|$)')
 
 
 class Versions:
-    """The greatest version of each object in the lines that were seen, and the deletions that were no newer."""
+    """The greatest version of each object in the lines that were seen, and the deletions that don't seem newer."""
 
     def __init__(self):
         self.known = {}         # an object's name to its version, negative where that is a deletion
-        self.stale = []         # pairs of a name and the two versions, of the last change
-        self.count = 0
+        self.stale = 0          # deletions that are no newer than what they delete
+        self.doubtful = 0       # deletions of version 1 of what is not known, since objects begin with version 1
 
     def see(self, line):
+        """Sees a line, and returns what is to be told of it."""
         found = OBJECT.match(line)
         if not found:
-            return
+            return None
         name = found.group(1)
         version = VERSION.search(line)
         version = int(version.group(1)) if version else 0
         deleted = DELETED.search(line) is not None
         before = self.known.get(name)
-        if deleted and (version <= 1 if before is None else version <= before):
-            self.stale.append((name, version, before))
         if before is None or version > abs(before):
             self.known[name] = -version if deleted else version
+        return self.deletion(name.decode(), version, before) if deleted else None
+
+    def deletion(self, name, version, before):
+        """What is to be told of a deletion, of an object that had the version `before`."""
+        if before is None and version == 1:
+            self.doubtful += 1
+            return f'{name} is deleted with version 1, with which objects begin: maybe it stays'
+        if version <= (before or 0):
+            self.stale += 1
+            return f'{name} is deleted with version {version}, and has version {before or 0}: it stays'
+        return None
 
     def see_change(self, lines):
-        """Sees the lines of a change, and returns what is to be told of each deletion that is no newer."""
-        self.stale = []
-        for line in lines:
-            self.see(line)
-        first = self.count
-        self.count += len(self.stale)
-        return [stale_text(*deletion) for deletion in self.stale[:max(0, TOLD_DELETIONS - first)]]
+        """Sees the lines of a change, and returns what is to be told, as far as there wasn't much before."""
+        room = max(0, TOLD_DELETIONS - self.stale - self.doubtful)
+        return [text for text in map(self.see, lines) if text][:room]
 
-
-def stale_text(name, version, before):
-    text = f'{name.decode()} is deleted with version {version}'
-    return text + (f', and has version {before}' if before is not None else ', which no deletion has')
+    def summary(self):
+        if not self.stale and not self.doubtful:
+            return None
+        return (f'{self.stale} deletions are no newer than what they delete, and {self.doubtful} more may be none: such'
+                ' an object stays; osmium derive-changes needs --increment-version')
 
 
 # ---------------------------------------------------------------------------------------------------------- the follower
@@ -222,9 +233,9 @@ class Follower:
         if self.kept + 1 != number:
             return              # another program has applied it, while no session was open
         self.send(number, opl, name)
-        lines = opl.splitlines()
+        lines = opl.split(b'\n')[:-1]
         for text in self.versions.see_change(lines):
-            print(f'follow.py: {name}: {text}', file=sys.stderr, flush=True)
+            warn(f'{name}: {text}')
         say(f'applied {number} lines {len(lines)} deletions {sum(1 for line in lines if DELETED.search(line))}')
         if self.every and number % self.every == 0:
             self.checkpoint()
@@ -299,8 +310,7 @@ def known_versions(name):
     if name is not None:
         for line in lines_of_map(name):
             versions.see(line)
-        versions.count = 0
-        versions.stale = []
+        versions.stale = versions.doubtful = 0
     return versions
 
 
@@ -311,9 +321,8 @@ def run(given):
         follow(follower, given.wait)
     finally:
         follower.close()
-        if versions.count:
-            print(f'follow.py: {versions.count} deletions whose version is not greater than that of the object, which'
-                  f' therefore stays; osmium derive-changes needs --increment-version', file=sys.stderr, flush=True)
+        if versions.summary():
+            warn(versions.summary())
 
 
 def main(words):
@@ -327,7 +336,7 @@ def main(words):
         say(end)
     except session.SessionError as error:
         raise Trouble(session.exit_status(error), error) from None
-    except FileNotFoundError as error:
+    except (FileNotFoundError, PermissionError) as error:
         raise Trouble(127, f'{error.filename}: {error.strerror}: install osmium-tool') from None
     return 0
 
