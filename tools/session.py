@@ -132,9 +132,8 @@ def words_of(line):
     return [word for word in re.split('[ \t]', text) if word]
 
 
-def frame_number(line):
-    """The number of the frame that this line begins; None where it begins none."""
-    words = words_of(line)
+def number_of_frame(words):
+    """The number of the frame that a line of these words begins; None where it begins none."""
     if len(words) == 2 and words[0] == '#seq' and re.fullmatch('[0-9]+', words[1]) and int(words[1]) <= LARGEST:
         return int(words[1])
     return None
@@ -241,7 +240,8 @@ class Session:
 
     def ask(self, line):
         """The reply to one line, which begins no frame and isn't `graph`."""
-        if '\n' in line or not words_of(line) or words_of(line) == ['graph'] or frame_number(line) is not None:
+        words = words_of(line)
+        if '\n' in line or not words or words == ['graph'] or number_of_frame(words) is not None:
             raise ValueError('not one line with a reply of one line')
         with self.turn:
             return self._exchange(encoded(line) + b'\n')
@@ -374,7 +374,7 @@ def talk(session, graph_file):
     for line in lines:
         text = decoded(line)
         words = words_of(text)
-        if frame_number(text) is not None:
+        if number_of_frame(words) is not None:
             talk_frame(session, line, lines)
         elif words == ['graph'] and graph_file is not None:
             save_graph(session, graph_file)
@@ -412,7 +412,7 @@ def is_command(words):
     wanted = {'state': 1, 'reach': 3, 'graph': 2, 'frame': 3, '--graph': 2}
     if not words or words[0] == 'drive':
         return len(words) != 1
-    if words[0] == 'frame' and (len(words) < 2 or frame_number(f'#seq {words[1]}') is None):
+    if words[0] == 'frame' and (len(words) < 2 or number_of_frame(['#seq', words[1]]) is None):
         return False
     return wanted.get(words[0]) == len(words)
 
