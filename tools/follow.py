@@ -42,7 +42,7 @@ status:
 """
 BUSY_SECONDS = 3        # how long a store may be held by the session of a follower that was killed
 LOOK_SECONDS = 1        # between two looks for a file
-TOLD_DELETIONS = 20     # how many of them have a line of their own
+TOLD_LINES = 20         # how many of those that are passed over are told
 
 
 def warn(text):
@@ -110,8 +110,8 @@ def read_change(folder, number):
 # ---------------------------------------------------------------------------------------------------- osmium and versions
 
 
-def osmium_failed(name, said):
-    lines = said.decode('utf-8', 'replace').strip().splitlines() or ['it says nothing']
+def osmium_failed(name, status, said):
+    lines = said.decode('utf-8', 'replace').strip().splitlines() or [f'status {status}']
     return NotYet(11, f'{name}: osmium: {lines[-1]}')
 
 
@@ -119,7 +119,7 @@ def opl_of_change(xml, name):
     """The lines of a change. They come from memory, so that what was found whole is what is read."""
     done = subprocess.run(['osmium', 'cat', '-F', 'osc', '-f', 'opl', '-'], input=xml, capture_output=True, check=False)
     if done.returncode != 0:
-        raise osmium_failed(name, done.stderr)
+        raise osmium_failed(name, done.returncode, done.stderr)
     return done.stdout
 
 
@@ -137,7 +137,7 @@ def lines_of_map(name):
         yield from osmium.stdout
         said = osmium.stderr.read()
     if osmium.returncode != 0:
-        raise osmium_failed(name, said)
+        raise osmium_failed(name, osmium.returncode, said)
 
 
 OBJECT = re.compile(rb'^[ \t]*([nwr]-?[0-9]+)(?=[ \t\r\n])')
@@ -146,11 +146,12 @@ DELETED = re.compile(rb'[ \t]dD(?=[ \t\r\n]|$)')
 
 
 class Versions:
-    """The greatest version of each object in the lines that were seen, and the deletions that don't seem newer."""
+    """The greatest version of each object in the lines that were seen, and the lines that are passed over: deletions no
+    newer than what they delete, and objects that come again no newer than their deletion."""
 
     def __init__(self):
         self.known = {}         # an object's name to its version, negative where that is a deletion
-        self.stale = 0          # deletions that are no newer than what they delete
+        self.stale = 0          # lines that are passed over
         self.doubtful = 0       # deletions of version 1 of what is not known, since objects begin with version 1
 
     def see(self, line):
@@ -165,7 +166,8 @@ class Versions:
         before = self.known.get(name)
         if before is None or version > abs(before):
             self.known[name] = -version if deleted else version
-        return self.deletion(name.decode(), version, before) if deleted else None
+        judge = self.deletion if deleted else self.object
+        return judge(name.decode(), version, before)
 
     def deletion(self, name, version, before):
         """What is to be told of a deletion, of an object that had the version `before`."""
@@ -177,16 +179,23 @@ class Versions:
             return f'{name} is deleted with version {version}, and has version {before or 0}: it stays'
         return None
 
+    def object(self, name, version, before):
+        if before is not None and before < 0 and version <= -before:
+            self.stale += 1
+            return f'{name} comes with version {version}, and was deleted with version {-before}: it stays deleted'
+        return None
+
     def see_change(self, lines):
         """Sees the lines of a change, and returns what is to be told, as far as there wasn't much before."""
-        room = max(0, TOLD_DELETIONS - self.stale - self.doubtful)
+        room = max(0, TOLD_LINES - self.stale - self.doubtful)
         return [text for text in map(self.see, lines) if text][:room]
 
     def summary(self):
+        """How many lines were passed over; None where none was."""
         if not self.stale and not self.doubtful:
             return None
-        return (f'{self.stale} deletions are no newer than what they delete, and {self.doubtful} more may be none: such'
-                ' an object stays; osmium derive-changes needs --increment-version')
+        return (f'passed over for their version: {self.stale} lines, and maybe {self.doubtful} deletions of version 1'
+                f' (osmium derive-changes needs --increment-version)')
 
 
 # ---------------------------------------------------------------------------------------------------------- the follower
@@ -245,6 +254,8 @@ class Follower:
             self.session.frame(number, opl)
         except session.OutOfSequence as error:
             raise Trouble(5, error) from None
+        except ValueError as error:
+            raise Trouble(4, f'{name} is refused: {error}') from None
         except session.Faulty as error:
             line = opl.split(b'\n', error.line)[error.line - 1][:200].decode('utf-8', 'replace')
             raise Trouble(4, f'{name} is refused: line {error.line} field {error.field} {error.kind}: {line}') from None
