@@ -21,6 +21,7 @@ sys.dont_write_bytecode = True      # the import below leaves no folder beside t
 import session      # noqa: E402
 from session import Trouble, say    # noqa: E402
 
+USAGE = 'follow.py [--wait SECONDS] [--checkpoint N] [--map FILE] NAME FOLDER'
 EXAMPLES = """
 examples:
   osmroad town create 4711 < town.opl         a store of the whole extract, under the number of its last change
@@ -46,7 +47,7 @@ TOLD_LINES = 20         # how many of those that are passed over are told
 
 
 def warn(text):
-    print(f'follow.py: {text}', file=sys.stderr, flush=True)
+    session.tell(f'follow.py: {text}')
 
 
 class NotYet(Trouble):
@@ -296,8 +297,8 @@ class Parser(argparse.ArgumentParser):
         raise Trouble(1, f'{message}: follow.py --help tells what is wanted')
 
 
-def arguments(words):
-    parser = Parser(prog='follow.py', description=__doc__, epilog=EXAMPLES,
+def make_parser():
+    parser = Parser(prog='follow.py', description=__doc__, epilog=EXAMPLES, add_help=False, usage=USAGE,
                     formatter_class=argparse.RawDescriptionHelpFormatter)
     parser.add_argument('store', metavar='NAME', help='the store, as osmroad takes it')
     parser.add_argument('folder', metavar='FOLDER', help='the folder of the change files')
@@ -310,7 +311,11 @@ def arguments(words):
     parser.add_argument('--map', metavar='FILE',
                         help='the extract of which the store was made (OPL, or what osmium reads): its versions are'
                              ' compared with those of deletions; takes some 150 bytes of memory an object')
-    given = parser.parse_args(words)
+    return parser
+
+
+def arguments(words):
+    given = make_parser().parse_args(words)
     if not given.wait >= 0 or given.checkpoint < 0:
         raise Trouble(1, '--wait and --checkpoint take numbers of 0 and more')
     return given
@@ -339,6 +344,9 @@ def run(given):
 def main(words):
     if sys.stdout is None:
         raise Trouble(3, 'standard output is closed')
+    if '--help' in words or '-h' in words:
+        say(make_parser().format_help().rstrip())
+        return 0
     try:
         run(arguments(words))
     except NotYet as end:

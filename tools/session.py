@@ -317,6 +317,15 @@ def say(text):
         raise Trouble(3, f'standard output: {error.strerror}') from None
 
 
+def tell(text):
+    """A line on standard error, where there is one."""
+    try:
+        if sys.stderr is not None:
+            print(text, file=sys.stderr, flush=True)
+    except OSError:
+        pass            # the status tells that there was something
+
+
 def write_file(name, data):
     try:
         with open(name, 'wb') as file:
@@ -379,7 +388,7 @@ def talk(session, graph_file):
         elif words == ['graph'] and graph_file is not None:
             save_graph(session, graph_file)
         elif words == ['graph']:
-            print('session.py: name a file for the graph: --graph FILE', file=sys.stderr, flush=True)
+            tell('session.py: name a file for the graph: --graph FILE')
             status = 1
         elif words:
             say(session.ask(text))
@@ -453,10 +462,9 @@ def end_command(name, run_main):
         status = run_main(sys.argv[1:])
     except Trouble as trouble:
         status = trouble.status
-        print(f'{name}: {trouble}', file=sys.stderr)
+        tell(f'{name}: {trouble}')
     except KeyboardInterrupt:
         status = 128 + signal.SIGINT
-    sys.stderr.flush()
     os._exit(status)    # without a second try to flush a standard output that is closed or full
 
 
