@@ -310,7 +310,7 @@ def make_parser():
                              ' 0: never)')
     parser.add_argument('--map', metavar='FILE',
                         help='the extract of which the store was made (OPL, or what osmium reads): its versions are'
-                             ' compared with those of deletions; takes some 150 bytes of memory an object')
+                             ' compared with those of deletions; takes some 100 bytes of memory an object')
     return parser
 
 
