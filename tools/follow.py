@@ -41,7 +41,7 @@ status:
   11 a file is cut short, or osmium can't read it
   127  there is no osmium or no osmroad; 128 and a signal's number: osmroad was killed by it
 """
-BUSY_SECONDS = 3        # how long a store may be held by the session of a follower that was killed
+BUSY_SECONDS = 3        # how long a store is tried that another program holds
 LOOK_SECONDS = 1        # between two looks for a file
 TOLD_LINES = 20         # how many of those that are passed over are told
 
@@ -202,6 +202,21 @@ class Versions:
 # --------------------------------------------------------------------------------------------------------- the follower
 
 
+def patiently(call):
+    """Calls again, for some seconds, while another program may hold the store: the session of a follower that was
+    killed, for example."""
+    until = time.monotonic() + BUSY_SECONDS
+    while True:
+        try:
+            return call()
+        except session.SessionError as error:
+            if error.status != 3:
+                raise
+            if time.monotonic() >= until:
+                raise NotYet(3, error) from None
+        time.sleep(0.1)
+
+
 class Follower:
     """A store, the folder that it follows, and the session where one is open."""
 
@@ -214,17 +229,9 @@ class Follower:
         self.kept = None        # as it was when the session last told
 
     def open(self):
-        """Opens a session, where none is open. The session of a follower that was killed may still hold the store."""
-        until = time.monotonic() + BUSY_SECONDS
-        while self.session is None:
-            try:
-                self.session = session.Session(self.store)
-            except session.SessionError as error:
-                if error.status != 3:
-                    raise
-                if time.monotonic() >= until:
-                    raise NotYet(3, error) from None
-                time.sleep(0.1)
+        """Opens a session, where none is open."""
+        if self.session is None:
+            self.session = patiently(lambda: session.Session(self.store))
         self.kept = self.session.kept()
 
     def close(self):
@@ -265,13 +272,15 @@ class Follower:
     def checkpoint(self):
         """Writes the store anew, between two sessions."""
         self.close()
+        say(patiently(self.write_checkpoint))
+
+    def write_checkpoint(self):
         done = subprocess.run([session.default_program(), self.store, 'checkpoint'], stdin=subprocess.DEVNULL,
                               capture_output=True, check=False)
         said = done.stdout.decode('utf-8', 'replace').strip()
         if done.returncode != 0:
-            error = session.SessionError(done.returncode, session.end_text(done.returncode, said))
-            raise Trouble(session.exit_status(error), f'checkpoint: {error}')
-        say(said)
+            raise session.SessionError(done.returncode, f'checkpoint: {session.end_text(done.returncode, said)}')
+        return said
 
 
 def follow(follower, wait):
