@@ -1,282 +1,200 @@
 #!/usr/bin/env python3
-"""Reads a graph that osmroad wrote, by its written format alone (docs/FORMATS.md), and needs nothing but Python.
+"""Asks a graph that osmroad wrote, draws it, and writes it for other programs; needs nothing but Python.
 
-Use: graph.py counts   < GRAPH    how many ways, pieces, contexts and arcs it has
-     graph.py text     < GRAPH    a line for each piece, context and arc
-     graph.py geojson  < GRAPH    the pieces as lines, to be dropped onto a map
-     graph.py svg      < GRAPH    the network drawn, with the turns that restrictions take away in red
-     graph.py route A B < GRAPH   the shortest drive from node A to node B, in metres
-
-The bytes of the graph stay as they are read, and beside them stand arrays of numbers: a piece, a context and an arc is
-a number, counted from 0 in the order of the file.
+docs/GRAPH.md tells what each command does, with examples, and graph.py COMMAND --help tells it in short.
 """
+import csv
 import heapq
 import json
 import math
+import os
+import re
 import signal
-import struct
 import sys
 from array import array
-from bisect import bisect_left
+from collections import namedtuple
+from contextlib import contextmanager
+from inspect import cleandoc
+
+sys.dont_write_bytecode = True      # the import below leaves no folder beside the tools
+from graph_file import Graph, Network, Refusal, spelled     # noqa: E402
 
 
-class Refusal(Exception):
-    """What is asked for can't be done; the text says why, in a line."""
+# ------------------------------------------------------------------------------------------------------- places, metres
+
+RADIANS = math.pi / 1800000000      # in a unit of places
+RADIUS = 6371000                    # of the sphere, in metres
+HALF, TURN = 1800000000, 3600000000
 
 
-class NotAGraph(Refusal):
-    """The bytes don't follow the format."""
-
-    def __init__(self, what):
-        super().__init__(f'not a graph: {what}')
-
-
-# ----------------------------------------------------------------------------------------------------------- the reader
-
-HEAD, BLOCK, PIECE = struct.Struct('<8sIQ'), struct.Struct('<qI'), struct.Struct('<IIB')
-PLACE, NAME, ARC = struct.Struct('<qii'), struct.Struct('<qIB'), struct.Struct('<qIBI')
-LENGTH, COUNT = struct.Struct('<I'), struct.Struct('<Q')
+def metres(places):
+    """The length of a line of places, on a sphere."""
+    total, (_, x, y) = 0.0, places[0]
+    x, y = x * RADIANS, y * RADIANS
+    for _, u, v in places[1:]:
+        u, v = u * RADIANS, v * RADIANS
+        chord = math.sin((v - y) / 2) ** 2 + math.cos(y) * math.cos(v) * math.sin((u - x) / 2) ** 2
+        total += 2 * RADIUS * math.asin(math.sqrt(min(1.0, chord)))
+        x, y = u, v
+    return total
 
 
-class Reader:
-    """The bytes of a graph, and how many of them were read."""
-
-    def __init__(self, data):
-        self.data, self.at = data, 0
-
-    def need(self, holds, what):
-        if not holds:
-            raise NotAGraph(f'{what} at byte {self.at}')
-
-    def part(self, size):
-        """Where the next so many bytes begin."""
-        at = self.at
-        self.at += size
-        if self.at > len(self.data):
-            self.at = at
-            self.need(False, 'the bytes end early')
-        return at
-
-    def one(self, form):
-        return form.unpack_from(self.data, self.part(form.size))
-
-    def many(self, form, count):
-        """So many records of one form, as tuples."""
-        at = self.part(form.size * count)
-        return form.iter_unpack(self.data[at:self.at])
-
-    def context(self):
-        """The names of the next context without its last, and its arcs."""
-        (length,) = self.one(LENGTH)
-        self.need(length >= 1, 'a context without pieces')
-        names = tuple(self.many(NAME, length - 1)) if length > 1 else ()
-        (count,) = self.one(COUNT)
-        return names, self.many(ARC, count)
+def shorter_way(lon):
+    """A difference of longitudes, as the shorter way round the world."""
+    return lon if -HALF <= lon < HALF else (lon + HALF) % TURN - HALF
 
 
-def check_arcs(reader, arcs, most):
-    """How many arcs these are. They must ascend, and lead to contexts of so many pieces at most."""
-    before, count = (), 0
-    for way, index, direction, target in arcs:
-        name = (way, index, direction)
-        reader.need(before < name, 'arcs out of order')
-        reader.need(1 <= target <= most, 'a target out of range')
-        reader.need(direction < 2, 'no such direction')
-        before = name
-        count += 1
-    return count
+def place_at(places, position):
+    """The place at a position, which may lie between two places: then it is no node's."""
+    index = int(position)
+    if position == index:
+        return places[index]
+    (_, x, y), (_, u, v) = places[index:index + 2]
+    part = position - index
+    return None, shorter_way(round(x + part * shorter_way(u - x))), round(y + part * (v - y))
 
 
-def extremes(data, at, end):
-    """The least and greatest longitude and latitude of the places between two bytes."""
-    numbers = array('i', data[at:end])
-    if sys.byteorder == 'big':
-        numbers.byteswap()
-    lons, lats = numbers[2::4], numbers[3::4]
-    return min(lons), max(lons), min(lats), max(lats)
+def cut(places, first, last):
+    """The part of a line of places between two positions."""
+    if first == last:
+        return [place_at(places, first)]
+    between = places[int(first) + 1:math.ceil(last)]
+    return [place_at(places, first)] + between + [place_at(places, last)]
 
 
-class Graph:
-    """A graph file as arrays, each with a number for each way, piece or context; whatever begins at a number of one
-    array ends where the next one begins, so such an array has one number more at its end."""
-
-    def __init__(self, data):
-        self.data = data
-        self.ways, self.blocks, self.first_pieces = array('q'), array('Q'), array('I')
-        self.piece_ways, self.keys, self.ends, self.places_at = array('q'), array('I'), array('H'), array('Q')
-        self.first_contexts, self.contexts_at, self.first_arcs = array('I'), array('Q'), array('I')
-        self.arcs = 0
-        self.box = None
-        self.read(Reader(data))
-        self.first_pieces.append(len(self.keys))
-        self.first_contexts.append(len(self.contexts_at))
-        self.first_arcs.append(self.arcs)
-
-    def read(self, reader):
-        reader.need(self.data[:8] == b'OSMROAD1', 'no OSMROAD1')
-        _, profile, blocks = reader.one(HEAD)
-        reader.need(profile == 1, 'an unknown profile')
-        for _ in range(blocks):
-            self.blocks.append(reader.at)
-            way, count = reader.one(BLOCK)
-            reader.need((not self.ways or self.ways[-1] < way) and count >= 1, 'blocks out of order')
-            self.ways.append(way)
-            self.first_pieces.append(len(self.keys))
-            before = -1
-            for _ in range(count):
-                self.read_piece(reader, way)
-                reader.need(before < self.keys[-1], 'pieces out of order')
-                before = self.keys[-1]
-        self.blocks.append(reader.at)
-        reader.need(reader.at == len(self.data), 'bytes behind the last block')
-
-    def read_piece(self, reader, way):
-        index, end, direction = reader.one(PIECE)
-        reader.need(index < end <= 65534 and direction < 2, 'no such piece')
-        at = reader.part(PLACE.size * (end - index + 1))
-        west, east, south, north = extremes(self.data, at, reader.at)
-        inside = -1800000000 <= west and east <= 1800000000 and -900000000 <= south and north <= 900000000
-        reader.need(inside, 'a place outside the world')
-        if self.box:
-            a, b, c, d = self.box
-            west, east, south, north = min(west, a), max(east, b), min(south, c), max(north, d)
-        self.box = west, east, south, north
-        self.piece_ways.append(way)
-        self.keys.append(2 * index + direction)
-        self.ends.append(end)
-        self.places_at.append(at)
-        self.first_contexts.append(len(self.contexts_at))
-        (count,) = reader.one(COUNT)
-        reader.need(count >= 1, 'a piece without a context')
-        before = (0,)
-        for _ in range(count):
-            before = self.read_context(reader, before)
-
-    def read_context(self, reader, before):
-        """The context's length and names, which must come after those of the context before."""
-        self.contexts_at.append(reader.at)
-        self.first_arcs.append(self.arcs)
-        names, arcs = reader.context()
-        key = (len(names) + 1, names)
-        reader.need(before < key and (before != (0,) or not names), 'contexts out of order')
-        reader.need(all(direction < 2 for _, _, direction in names), 'no such direction')
-        self.arcs += check_arcs(reader, arcs, len(names) + 2)
-        return key
-
-    # a piece by its number
-
-    def name(self, piece):
-        return self.piece_ways[piece], self.keys[piece] >> 1, self.keys[piece] & 1
-
-    def places(self, piece):
-        """The places of a piece in order of travel: (node, lon, lat), in units of 1e-7 degree."""
-        at, count = self.places_at[piece], self.ends[piece] - (self.keys[piece] >> 1) + 1
-        return list(PLACE.iter_unpack(self.data[at:at + PLACE.size * count]))
-
-    def places_at_ends(self, piece):
-        """The first two and the last two places of a piece."""
-        at, count = self.places_at[piece], self.ends[piece] - (self.keys[piece] >> 1) + 1
-        last = at + PLACE.size * (count - 1)
-        return [PLACE.unpack_from(self.data, there) for there in (at, at + PLACE.size, last - PLACE.size, last)]
-
-    def contexts(self, piece):
-        return range(self.first_contexts[piece], self.first_contexts[piece + 1])
-
-    def arc_count(self, piece):
-        return self.first_arcs[self.first_contexts[piece + 1]] - self.first_arcs[self.first_contexts[piece]]
-
-    def find(self, way, index, direction):
-        """The number of the piece of this name, or -1."""
-        block = bisect_left(self.ways, way)
-        if block == len(self.ways) or self.ways[block] != way:
-            return -1
-        key, end = 2 * index + direction, self.first_pieces[block + 1]
-        piece = bisect_left(self.keys, key, self.first_pieces[block], end)
-        return piece if piece < end and self.keys[piece] == key else -1
-
-    def twin(self, piece):
-        """Whether the piece the other way is there."""
-        other = piece - 1 if self.keys[piece] & 1 else piece + 1
-        inside = 0 <= other < len(self.keys)
-        return inside and self.piece_ways[other] == self.piece_ways[piece] and self.keys[other] ^ 1 == self.keys[piece]
+def degrees(place):
+    return f'{place[1] / 1e7:.7f},{place[2] / 1e7:.7f}'
 
 
-class Network(Graph):
-    """A graph with its contexts and arcs by number: a context's pieces, and the contexts to which its arcs lead."""
-
-    def __init__(self, data):
-        super().__init__(data)
-        self.owners, self.targets = array('I'), array('I')
-        for piece in range(len(self.keys)):
-            self.owners.extend([piece] * len(self.contexts(piece)))
-        # of the contexts of several pieces alone: their pieces, their own last, and their numbers by these
-        self.longer, self.by_pieces = {}, {}
-        reader = Reader(data)
-        for context, at in enumerate(self.contexts_at):
-            if LENGTH.unpack_from(data, at)[0] > 1:
-                reader.at = at
-                pieces = tuple(self.find(*name) for name in reader.context()[0]) + (self.owners[context],)
-                reader.need(min(pieces) >= 0, 'a context over a piece that is not there')
-                self.longer[context], self.by_pieces[pieces] = pieces, context
-        for context, at in enumerate(self.contexts_at):
-            reader.at = at
-            self.targets.extend(self.leads(reader, self.pieces(context), reader.context()[1]))
-
-    def leads(self, reader, pieces, arcs):
-        """The contexts to which the arcs of a context of these pieces lead."""
-        for way, index, direction, length in arcs:
-            piece = target = self.find(way, index, direction)
-            if piece >= 0 and length == 1:
-                target = self.first_contexts[piece]
-            elif piece >= 0:
-                target = self.by_pieces.get(pieces[1 - length:] + (piece,), -1)
-            reader.need(target >= 0, 'an arc to a piece or context that is not there')
-            yield target
-
-    def pieces(self, context):
-        """The pieces of a context, its own last."""
-        return self.longer.get(context) or (self.owners[context],)
-
-    def arcs_of(self, context):
-        """The contexts to which the arcs of a context lead, in the order of the arcs."""
-        return self.targets[self.first_arcs[context]:self.first_arcs[context + 1]]
+def nearest_on(places, place):
+    """How far a line of places is from a place, in metres on a plane, and the position that is nearest."""
+    _, lon, lat = place
+    squeeze, least, nearest = math.cos(lat * RADIANS), math.inf, 0.0
+    _, x, y = places[0]
+    a, b = shorter_way(x - lon) * squeeze, y - lat
+    for index, (_, u, v) in enumerate(places[1:]):
+        east, north = shorter_way(u - x) * squeeze, v - y
+        length = east * east + north * north
+        part = min(1.0, max(0.0, -(a * east + b * north) / length)) if length else 0.0
+        away = math.hypot(a + part * east, b + part * north)
+        if away < least:
+            least, nearest = away, index + part
+        x, y, a, b = u, v, a + east, b + north
+    return least * RADIANS * RADIUS, nearest
 
 
-def spelled(graph, *pieces):
-    """Names as text: 10.0+ is the piece that begins along way 10 at its position 0, 10.0- the one against the way."""
-    names = (graph.name(piece) for piece in pieces)
-    return ' '.join(f'{way}.{index}{"+-"[direction]}' for way, index, direction in names)
+def nearest_spots(graph, place):
+    """The pieces that come as near to a place as any, within a millimetre, each with its nearest position; and how many
+    metres that is from the place."""
+    near, least = [], math.inf
+    for piece in range(len(graph.keys)):
+        away, position = nearest_on(graph.places(piece), place)
+        if away <= least + 0.001:
+            near.append((away, piece, position))
+            least = min(least, away)
+    if not near:
+        raise Refusal('the graph has no piece')
+    spots = {piece: position for away, piece, position in near if away <= least + 0.001}
+    return spots, min(metres([place, place_at(graph.places(piece), at)]) for piece, at in spots.items())
 
 
-# ------------------------------------------------------------------------------------------------ counts, text, geojson
+# ---------------------------------------------------------------------------------------------------- the tags of ways
+
+KEYS = ('name', 'highway', 'maxspeed', 'ref')
+WAY = re.compile(rb'[ \t]*w(-?)0*([0-9]{1,19})(?=[ \t\r\n]|$)')
+
+
+def text_of(spelled_bytes):
+    """What a key or a value of an OPL line says: %h% stands for the character of this code."""
+    return re.sub('%([0-9a-fA-F]{1,6})%', lambda found: chr(int(found[1], 16)), spelled_bytes.decode())
+
+
+def tags_of(field):
+    """The values of KEYS in a field of tags; where a key stands twice the first one counts."""
+    found = {}
+    for tag in field.split(b',') if field else []:
+        key, _, value = tag.partition(b'=')
+        found.setdefault(text_of(key), text_of(value))
+    return tuple(found.get(key, '') for key in KEYS)
+
+
+def way_line(line):
+    """The version and the tags of a way's line; no tags where it deletes the way."""
+    fields = {field[:1]: field[1:] for field in line.replace(b'\t', b' ').rstrip(b'\r\n').split(b' ')[1:] if field}
+    tags = tags_of(fields.get(b'T', b''))
+    tags[0].encode()            # a code may be that of no character
+    return int(fields.get(b'v') or 0), None if fields.get(b'd') == b'D' else tags
+
+
+def read_tags(graph, files):
+    """The tags that OPL files leave to the ways of a graph: for each way a value for each of KEYS, maybe empty. Of the
+    lines of a way the one with the greatest version counts, and of several with that version the first one."""
+    ways, found = set(graph.ways), {}
+    for name in files:
+        with naming(name), open(name, 'rb') as lines:
+            for number, line in enumerate(lines, 1):
+                begin = WAY.match(line)
+                if begin and int(begin[1] + begin[2]) in ways:
+                    keep_tags(found, int(begin[1] + begin[2]), line.strip(b' \t'), f'{name}: line {number}')
+    missing = [way for way in graph.ways if found.get(way, (0, None))[1] is None]
+    if files and missing:
+        raise Refusal(f'of the {len(graph.ways)} ways of the graph {len(missing)} do not stand in the OPL, first way '
+                      f'{missing[0]}')
+    return {way: tags for way, (_, tags) in found.items()}
+
+
+def keep_tags(found, way, line, where):
+    try:
+        version, tags = way_line(line)
+    except ValueError as fault:         # also of bytes that are no UTF-8
+        raise Refusal(f'{where} is no line of OPL: {fault}') from None
+    if way not in found or found[way][0] < version:
+        found[way] = version, tags
+
+
+# ------------------------------------------------------------------------------------------- counts, text, geojson, csv
 
 
 def print_counts(graph):
+    """How many ways, pieces, contexts and arcs the graph has."""
     print(f'ways {len(graph.ways)} pieces {len(graph.keys)} contexts {len(graph.contexts_at)} arcs {graph.arcs}')
 
 
-def print_text(graph):
-    for piece in range(len(graph.keys)):
-        print('piece', spelled(graph, piece), 'over', *[node for node, _, _ in graph.places(piece)])
-        for context in graph.contexts(piece):
-            print('  context', spelled(graph, *graph.pieces(context)))
-            for target in graph.arcs_of(context):
-                print('    arc to', spelled(graph, *graph.pieces(target)))
+def print_text(network):
+    """A line for each piece with its nodes, for each of its contexts, and for each of their arcs.
+
+    10.0+ is the piece that begins along way 10 at its position 0, and 10.0- the one against the way that ends there.
+    """
+    for piece in range(len(network.keys)):
+        lines = [f'piece {spelled(network, piece)} over']
+        lines[0] += ''.join([f' {node}' for node, _, _ in network.places(piece)])
+        for context in network.contexts(piece):
+            lines.append('  context ' + spelled(network, *network.pieces(context)))
+            for target in network.arcs_of(context):
+                lines.append('    arc to ' + spelled(network, *network.pieces(target)))
+        print('\n'.join(lines))
 
 
-def print_geojson(graph):
+def print_geojson(graph, options):
+    """The pieces as lines with properties, among them their metres, to be dropped onto a map.
+
+    With --opl also the tags name, highway, maxspeed and ref of their ways, where these have them. It may stand several
+    times, as for an extract and its changes: of each way the line with the greatest version counts.
+    """
+    tags = read_tags(graph, options['--opl'])
     print('{"type": "FeatureCollection", "features": [')
     between = ''
     for piece in range(len(graph.keys)):
         way, index, direction = graph.name(piece)
         places = graph.places(piece)
+        arcs = graph.first_arcs[graph.first_contexts[piece + 1]] - graph.first_arcs[graph.first_contexts[piece]]
         properties = {
             'piece': spelled(graph, piece), 'way': way, 'index': index, 'end': graph.ends[piece],
             'direction': ('forward', 'backward')[direction],
             'from_node': places[0][0], 'to_node': places[-1][0],
-            'contexts': len(graph.contexts(piece)), 'arcs': graph.arc_count(piece),
-            'metres': round(metres(places), 3),
+            'contexts': len(graph.contexts(piece)), 'arcs': arcs, 'metres': round(metres(places), 3),
         }
+        properties.update((key, value) for key, value in zip(KEYS, tags.get(way, ())) if value)
         line = ', '.join([f'[{lon / 1e7}, {lat / 1e7}]' for _, lon, lat in places])
         print(f'{between}{{"type": "Feature", "properties": {json.dumps(properties)}, '
               f'"geometry": {{"type": "LineString", "coordinates": [{line}]}}}}', end='')
@@ -284,18 +202,117 @@ def print_geojson(graph):
     print('\n]}')
 
 
+def write_table(folder, name, head, rows):
+    """Writes a file of a folder, whole or not at all."""
+    path = os.path.join(folder, name)
+    with naming(path):
+        try:
+            with open(path + '.part', 'w', encoding='utf-8', newline='') as file:
+                table = csv.writer(file, lineterminator='\n')
+                table.writerow(head)
+                table.writerows(rows)
+            os.replace(path + '.part', path)
+        finally:
+            if os.path.exists(path + '.part'):
+                os.remove(path + '.part')
+
+
+def vertices(network, lengths, tags):
+    """The rows of vertices.csv."""
+    for vertex, piece in enumerate(network.owners):
+        way, index, direction = network.name(piece)
+        pieces = network.pieces(vertex)
+        from_node, *begin = network.place(piece, 0)
+        to_node, *end = network.place(piece, network.last(piece))
+        at = [f'{number / 1e7:.7f}' for number in begin + end]
+        yield [vertex, spelled(network, *pieces), len(pieces), way, index, network.ends[piece], '+-'[direction],
+               from_node, to_node, *at, f'{lengths[piece]:.3f}', *tags.get(way, ())]
+
+
+def edges(network, lengths, tags):
+    """The rows of edges.csv."""
+    for source in range(len(network.owners)):
+        for edge in range(network.first_arcs[source], network.first_arcs[source + 1]):
+            target = network.targets[edge]
+            piece = network.owners[target]
+            ends = network.place(piece, 0)[0], network.place(piece, network.last(piece))[0]
+            yield [edge, source, target, spelled(network, piece), *ends, f'{lengths[piece]:.3f}',
+                   *tags.get(network.piece_ways[piece], ())]
+
+
+def write_csv(network, options, folder):
+    """Writes a directed graph for any router: contexts are its vertices, and arcs its edges.
+
+    Into the folder come vertices.csv and edges.csv, whose columns docs/GRAPH.md tells. An edge has the metres of the piece that it leads over; a drive that begins with a vertex of one piece is as long as
+    that vertex and its edges together. With --opl both files have the tags name, highway, maxspeed and ref of the way.
+    It may stand several times, as for an extract and its changes: of each way the line with the greatest version
+    counts.
+    """
+    tags = read_tags(network, options['--opl'])
+    lengths = array('d', (metres(network.places(piece)) for piece in range(len(network.keys))))
+    with naming(folder):
+        os.makedirs(folder, exist_ok=True)
+    keys = KEYS if options['--opl'] else ()
+    head = ['vertex', 'names', 'pieces', 'way', 'index', 'end', 'direction', 'from_node', 'to_node',
+            'from_lon', 'from_lat', 'to_lon', 'to_lat', 'metres', *keys]
+    write_table(folder, 'vertices.csv', head, vertices(network, lengths, tags))
+    head = ['edge', 'source', 'target', 'piece', 'from_node', 'to_node', 'metres', *keys]
+    write_table(folder, 'edges.csv', head, edges(network, lengths, tags))
+
+
+# ----------------------------------------------------------------------------------------------------------------- diff
+
+
+def shape(graph, block):
+    """The names of the pieces of a way, and their places."""
+    pieces = range(graph.first_pieces[block], graph.first_pieces[block + 1])
+    return [(graph.keys[piece], graph.ends[piece]) for piece in pieces], [graph.places(piece) for piece in pieces]
+
+
+def altered(old, new, block, other):
+    """What differs first between a way's blocks in two graphs, or nothing."""
+    was, now = [graph.data[graph.blocks[at]:graph.blocks[at + 1]] for graph, at in ((old, block), (new, other))]
+    if was == now:
+        return None
+    (pieces, places), (other_pieces, other_places) = shape(old, block), shape(new, other)
+    return 'pieces' if pieces != other_pieces else 'places' if places != other_places else 'turns'
+
+
+def print_diff(old, new):
+    """Which ways are gone, new and altered from one graph to another, and how many.
+
+    A line for each, in the order of their numbers. Of an altered way it is said what differs first: where its pieces begin and end, their nodes and locations
+    (`places`), or which piece may follow which (`turns`). The status is 0 also where there is nothing to say.
+    """
+    counts = {'gone': 0, 'new': 0, 'altered': 0, 'as before': 0}
+    block = other = 0
+    while block < len(old.ways) or other < len(new.ways):
+        way = min(list(old.ways[block:block + 1]) + list(new.ways[other:other + 1]))
+        was = block < len(old.ways) and old.ways[block] == way
+        now = other < len(new.ways) and new.ways[other] == way
+        what = altered(old, new, block, other) if was and now else None
+        kind = 'gone' if not now else 'new' if not was else 'altered' if what else 'as before'
+        counts[kind] += 1
+        if kind != 'as before':
+            print(kind, way, *[what] if what else [])
+        block += was
+        other += now
+    print('ways: ' + ', '.join(f'{count} {kind}' for kind, count in counts.items()))
+
+
 # ------------------------------------------------------------------------------------------------------------------ svg
 
 WIDTH = 4000    # of the picture, in the units in which its lines are written
 REACH = 70      # how far a turn is drawn before and behind its nodes, in the same units
-MOST = 100      # where more pieces begin no turns are looked for, nor are turns over more pieces drawn
+MOST = 100      # where more pieces meet no turns are looked for, nor are turns over more pieces drawn
+STEPS = 1024    # over this many steps a turn is drawn: a restriction whose via ways have more is of no use
 
 
 class Picture:
     """Where places stand in the picture: longitude and latitude, shrunk to the width, with north above."""
 
     def __init__(self, box):
-        self.west, east, south, self.north = box
+        self.west, south, east, self.north = box
         self.squeeze = math.cos(math.radians((south + self.north) / 2e7))
         wide, high = (east - self.west) * self.squeeze, self.north - south
         self.scale = WIDTH / max(wide, high, 1)
@@ -305,8 +322,11 @@ class Picture:
         x = (place[1] - self.west) * self.squeeze * self.scale
         return round(x) + 80, round((self.north - place[2]) * self.scale) + 80
 
+    def points(self, places):
+        return [self.point(place) for place in places]
 
-def svg_path(line):
+
+def path(line):
     """A line of points in the words of svg, each point relative to the one before."""
     (x, y), words = line[0], []
     words.append(f'M{x} {y}')
@@ -317,33 +337,52 @@ def svg_path(line):
     return ''.join(words) if len(words) > 1 else ''
 
 
-def missing_turns(network):
-    """The turns that no arc takes, as lists of pieces, and the nodes at which no turn is left but ways back.
+def pieces_at(network, shown, box):
+    """The pieces that end at each node in the box, or anywhere where there is none; and those that begin there."""
+    coming, leaving = {}, {}
+    for piece in shown:
+        for at, found in ((network.last(piece), coming), (0, leaving)):
+            node, lon, lat = network.place(piece, at)
+            if box is None or meets(box, (lon, lat, lon, lat)):
+                found.setdefault(node, []).append(piece)
+    return coming, leaving
+
+
+def missing_turns(network, shown, box):
+    """The turns between pieces that no arc takes, as tuples of pieces, and the nodes at which no turn is left but ways
+    back.
 
     A turn is missing where a piece begins at a context's end, is no way back, and has no arc; and where a context of
     several pieces lacks an arc that its last piece has alone. At a node where none is left a barrier stands.
     """
-    leaving = {}
-    for piece in range(len(network.keys)):
-        leaving.setdefault(network.places_at_ends(piece)[0][0], []).append(piece)
-    found, tried, passed = [], set(), set()
-    for piece in range(len(network.keys)):
-        _, _, (back, _, _), (node, _, _) = network.places_at_ends(piece)
+    coming, leaving = pieces_at(network, shown, box)
+    turns, closed = set(), set()
+    for node, pieces in coming.items():
         here = leaving.get(node, [])
-        first, *others = network.contexts(piece)
-        alone = {network.owners[target] for target in network.arcs_of(first)}
-        if max(len(here), len(alone)) > MOST:
-            continue
-        onward = {other for other in here if network.places_at_ends(other)[1][0] != back}
-        tried |= {node} if onward else set()
-        passed |= {node} if onward & alone else set()
-        found += [(node, (piece, other)) for other in onward - alone]
-        for context in others:
-            lacking = alone - {network.owners[target] for target in network.arcs_of(context)}
-            found += [(node, network.pieces(context) + (other,)) for other in lacking]
-    turns = {pieces for node, pieces in found if node in passed and len(pieces) <= MOST}
+        if max(len(here), len(pieces)) <= MOST:
+            found, tried, passed = turns_at(network, pieces, here)
+            turns |= found if passed else set()
+            closed |= {node} if tried and not passed else set()
     # a longer turn that ends with a shorter one says nothing new
-    return sorted(t for t in turns if not any(t[i:] in turns for i in range(1, len(t) - 1))), tried - passed
+    return sorted(t for t in turns if not any(t[i:] in turns for i in range(1, len(t) - 1))), closed
+
+
+def turns_at(network, coming, leaving):
+    """The turns at a node that are missing, whether there are any but ways back, and whether any of these is left."""
+    found, tried, passed = set(), False, False
+    for piece in coming:
+        first, *others = network.contexts(piece)
+        back = network.place(piece, network.last(piece) - 1)[0]
+        onward = {other for other in leaving if network.place(other, 1)[0] != back}
+        alone = {network.owners[target] for target in network.arcs_of(first)}
+        tried, passed = tried or bool(onward), passed or bool(onward & alone)
+        found |= {(piece, other) for other in onward - alone}
+        for context in others:
+            turn = network.pieces(context)
+            if len(turn) < MOST and sum(network.last(between) for between in turn[1:]) <= STEPS:
+                lacking = alone.intersection(leaving) - {network.owners[target] for target in network.arcs_of(context)}
+                found |= {turn + (other,) for other in lacking}
+    return found, tried, passed
 
 
 def clipped(line, most):
@@ -361,145 +400,332 @@ def clipped(line, most):
 
 def turn_line(network, picture, turn):
     """The end of a turn's first piece, the pieces between, and the beginning of its last one."""
-    lines = [[picture.point(place) for place in network.places(piece)] for piece in turn]
-    line = clipped(lines[0][::-1], REACH)[::-1]
-    for between in lines[1:-1]:
-        line += between[1:]
-    return line + clipped(lines[-1], REACH)[1:]
+    begin = network.places(turn[0], max(0, network.last(turn[0]) - STEPS))
+    line = clipped(picture.points(begin)[::-1], REACH)[::-1]
+    for between in turn[1:-1]:
+        line += picture.points(network.places(between))[1:]
+    return line + clipped(picture.points(network.places(turn[-1], 0, STEPS)), REACH)[1:]
 
 
-def street_lines(graph, picture):
+def street_lines(graph, picture, shown):
     """The lines of the pieces that are driven both ways, and of those that are driven one way."""
     both, one = [], []
-    for piece, key in enumerate(graph.keys):
-        twin = graph.twin(piece)
-        if not (twin and key & 1):
-            line = svg_path([picture.point(place) for place in graph.places(piece)])
-            (both if twin else one).append(line)
+    for piece in shown:
+        twin = graph.has_twin(piece)
+        if not (twin and graph.keys[piece] & 1):
+            (both if twin else one).append(path(picture.points(graph.places(piece))))
     return '\n'.join(both), '\n'.join(one)
 
 
+def around(boxes):
+    """The box round all of these, or round nothing."""
+    west, south, east, north = next(boxes, (0, 0, 0, 0))
+    for a, b, c, d in boxes:
+        west, south, east, north = min(west, a), min(south, b), max(east, c), max(north, d)
+    return west, south, east, north
+
+
+def meets(box, other):
+    return box[0] <= other[2] and other[0] <= box[2] and box[1] <= other[3] and other[1] <= box[3]
+
+
 CREDIT = '© OpenStreetMap contributors, ODbL'     # whoever shows a map of this data has to name it
-HEADS = ('<marker id="head" viewBox="0 0 4 4" refX="2" refY="2" markerWidth="4" markerHeight="4" orient="auto">'
+ARROW = ('<marker id="head" viewBox="0 0 4 4" refX="2" refY="2" markerWidth="4" markerHeight="4" orient="auto">'
          '<path stroke="none" fill="#d02" d="M0 0l4 2l-4 2z"/></marker>')
 
 
-def print_svg(network):
-    picture = Picture(network.box or (0, 0, 0, 0))
-    both, one = street_lines(network, picture)
-    turns, closed = missing_turns(network)
-    points = {}
-    for piece in range(len(network.keys)):
-        place = network.places_at_ends(piece)[0]
-        if place[0] in closed:
-            points[place[0]] = picture.point(place)
+def print_svg(network, options):
+    """The network drawn, with the turns that restrictions take away.
+
+    Grey is driven both ways, blue one way; red arrows are turns that restrictions take away, and orange dots are closed
+    by barriers. With --box W,S,E,N, in degrees, only this part is drawn. At a node where more than 100 pieces meet no turns are
+    looked for.
+    """
+    shown, box = range(len(network.keys)), options['--box']
+    if box:
+        shown = [piece for piece in shown if meets(network.box(piece), box)]
+        if not shown:
+            raise Refusal('no piece is in this box: --box takes west, south, east and north')
+    picture = Picture(box or around(network.box(piece) for piece in shown))
+    both, one = street_lines(network, picture, shown)
+    turns, closed = missing_turns(network, shown, box)
+    begins = (network.place(piece, 0) for piece in shown)
+    points = {place[0]: picture.point(place) for place in begins if place[0] in closed}
     dots = ''.join('M{} {}h0'.format(*points[node]) for node in sorted(points))
     width, height = picture.size
     print(f'<svg xmlns="http://www.w3.org/2000/svg" viewBox="0 0 {width} {height}" width="{width // 4}" '
           f'height="{height // 4}" fill="none" stroke-linecap="round" stroke-linejoin="round">')
-    print(HEADS)
+    print(ARROW)
     print(f'<path stroke="none" fill="#fff" d="M0 0h{width}v{height}h-{width}z"/>')
     print(f'<path stroke="#666" stroke-width="7" d="{both}"/>')
     print(f'<path stroke="#28c" stroke-width="7" d="{one}"/>')
     print(f'<path stroke="#f90" stroke-width="22" d="{dots}"/>')
     for turn in turns:
-        line = svg_path(turn_line(network, picture, turn))
+        line = path(turn_line(network, picture, turn))
         print(f'<path stroke="#d02" stroke-width="9" marker-end="url(#head)" d="{line}"/>')
     print(f'<text x="40" y="{height - 30}" font-size="44" font-family="sans-serif" fill="#666">{CREDIT}</text>')
     print('</svg>')
 
 
-# ---------------------------------------------------------------------------------------------------------------- route
+# ------------------------------------------------------------------------------------------------------- nearest, route
 
 
-def metres(places):
-    """The length of a line of places, on a sphere."""
-    total = 0.0
-    for (_, a, b), (_, c, d) in zip(places, places[1:]):
-        west, south, east, north = (math.radians(x / 1e7) for x in (a, b, c, d))
-        chord = (math.sin((north - south) / 2) ** 2
-                 + math.cos(south) * math.cos(north) * math.sin((east - west) / 2) ** 2)
-        total += 2 * 6371000 * math.asin(math.sqrt(min(1.0, chord)))
-    return total
+def print_nearest(graph, lon, lat):
+    """What of the network is nearest to a place in degrees.
 
-
-def position(places, node, first):
-    """The first position from one on at which the node stands among the places; None where there is none."""
-    for at in range(first, len(places)):
-        if places[at][0] == node:
-            return at
-    return None
-
-
-def shortest_drive(network, start, goal):
-    """The metres of the shortest legal drive from a node to another, and the pieces that it goes over.
-
-    This is Dijkstra's algorithm with contexts in the place of nodes: a context tells all that restrictions ask of the
-    drive so far. A walk begins at a context of one piece. A drive may begin and end inside a piece. None where there is
-    no such drive.
+    How far it is, and where; the pieces there, each with the metres from its beginning and its length; and that node of
+    these pieces that is nearest to the spot.
     """
-    best, came = array('d', [math.inf]) * len(network.owners), array('q', [-1]) * len(network.owners)
-    ended, last = math.inf, None
-    queue = []
+    place = place_of(f'{lon},{lat}')
+    spots, away = nearest_spots(graph, place)
+    nodes = []
+    for piece, position in spots.items():
+        places = graph.places(piece)
+        spot = place_at(places, position)
+        nodes.append(min((metres([spot, other]), other[0]) for other in places))
+        if len(nodes) == 1:
+            print(f'{away:.1f} m away at {degrees(spot)}')
+        print(f'piece {spelled(graph, piece)} from node {places[0][0]} to node {places[-1][0]}, '
+              f'{metres(cut(places, 0, position)):.1f} of {metres(places):.1f} m')
+    far, node = min(nodes)
+    print(f'node {node} is {far:.1f} m from there')
 
-    def go(length, context, before, first):
-        nonlocal ended, last
-        places = network.places(network.owners[context])
-        end = position(places, goal, first + 1)
-        if end is not None and length + metres(places[first:end + 1]) < ended:
-            ended, last = length + metres(places[first:end + 1]), (context, before)
-        length += metres(places[first:])
-        if length < best[context]:
-            best[context], came[context] = length, before
-            heapq.heappush(queue, (length, context))
 
-    for piece in range(len(network.keys)):
-        places = network.places(piece)
-        first = position(places[:-1], start, 0)
-        if first is not None:
-            go(0.0, network.first_contexts[piece], -1, first)
-    while queue and queue[0][0] < ended:
-        length, context = heapq.heappop(queue)
-        if length == best[context]:
-            for target in network.arcs_of(context):
-                go(length, target, context, 0)
-    if last is None:
-        return None
-    context, before = last
-    walk = [network.owners[context]]
-    while before >= 0:
-        walk.append(network.owners[before])
-        before = came[before]
-    return ended, walk[::-1]
+def ends_of_drive(graph, word):
+    """The pieces over which a node stands, or that are nearest to a place, each with the positions there; and what the
+    node or the place is called."""
+    if ',' in word:
+        spots, away = nearest_spots(graph, place_of(word))
+        return {piece: [position] for piece, position in spots.items()}, f'{word}, {away:.0f} m from the road,'
+    node = whole_number(word)
+    found = {}
+    for piece in range(len(graph.keys)):
+        positions = [position for position, place in enumerate(graph.places(piece)) if place[0] == node]
+        if positions:
+            found[piece] = positions
+    if not found:
+        raise Refusal(f'the graph has no node {node}')
+    return found, f'node {node}'
+
+
+class Search:
+    """Dijkstra's algorithm with contexts in the place of nodes: a context tells all that restrictions ask of the drive
+    so far. A walk begins at a context of one piece. A drive may begin and end inside a piece."""
+
+    def __init__(self, network, starts, goals, still):
+        self.network, self.goals = network, goals
+        self.lengths = array('d', [-1.0]) * len(network.keys)
+        self.best, self.came = array('d', [math.inf]) * len(network.owners), array('q', [-1]) * len(network.owners)
+        self.queue = []
+        self.length, self.end = math.inf, None      # of the shortest drive that was found, and its last context
+        self.starts = {piece: at[0] for piece, at in starts.items() if at[0] < network.last(piece)}
+        for piece, first in self.starts.items():
+            self.go_on(0.0, network.first_contexts[piece], -1, first, still)
+
+    def whole(self, piece):
+        if self.lengths[piece] < 0:
+            self.lengths[piece] = metres(self.network.places(piece))
+        return self.lengths[piece]
+
+    def go_on(self, length, context, before, first, still=False):
+        """A drive of this length so far goes on from a position of a context's piece, to a goal and to the piece's end.
+        Whether a goal may lie where the drive begins is said by `still`."""
+        piece = self.network.owners[context]
+        for goal in self.goals.get(piece, ()):
+            if goal > first or still and goal == first:
+                end = length + metres(cut(self.network.places(piece), first, goal))
+                if end < self.length:
+                    self.length, self.end = end, (context, before, goal)
+                break
+        rest = metres(cut(self.network.places(piece), first, self.network.last(piece))) if first else self.whole(piece)
+        if length + rest < self.best[context]:
+            self.best[context], self.came[context] = length + rest, before
+            heapq.heappush(self.queue, (length + rest, context))
+
+    def run(self):
+        """The shortest drive: each piece with the positions between which it is driven. None where there is none."""
+        while self.queue and self.queue[0][0] < self.length:
+            length, context = heapq.heappop(self.queue)
+            if length == self.best[context]:
+                for target in self.network.arcs_of(context):
+                    self.go_on(length, target, context, 0)
+        if self.end is None:
+            return None
+        context, before, last = self.end
+        walk = []
+        while True:
+            piece = self.network.owners[context]
+            walk.append((piece, self.starts[piece] if before < 0 else 0, last))
+            if before < 0:
+                return walk[::-1]
+            context, before = before, self.came[before]
+            last = self.network.last(self.network.owners[context])
 
 
 def print_route(network, start, goal):
-    found = shortest_drive(network, start, goal)
-    if found is None:
-        raise Refusal(f'no drive leads from node {start} to node {goal}')
-    print(f'{found[0]:.0f} m from node {start} to node {goal}')
-    for piece in found[1]:
-        print('piece', spelled(network, piece), 'over', *[node for node, _, _ in network.places(piece)])
+    """The shortest drive from one end to another: its metres, and its pieces with the nodes that it passes.
+
+    An end is the number of a node, or a place, LON,LAT in degrees. From a place a drive begins at the spot on the
+    network that is nearest to it, in either direction where both are driven, and to a place it ends at such a spot.
+    """
+    (starts, from_there), (goals, to_there) = (ends_of_drive(network, word) for word in (start, goal))
+    search = Search(network, starts, goals, ',' in start + goal)
+    walk = search.run()
+    if walk is None:
+        raise Refusal(f'no drive leads from {from_there} to {to_there}'.rstrip(','))
+    print(f'{search.length:.0f} m from {from_there} to {to_there}'.rstrip(','))
+    for piece, first, last in walk:
+        part = cut(network.places(piece), first, last)
+        print('piece', spelled(network, piece), 'over', *[degrees(at) if at[0] is None else at[0] for at in part])
 
 
 # ----------------------------------------------------------------------------------------------------------------- main
 
-COMMANDS = {'counts': (Graph, print_counts), 'text': (Network, print_text), 'geojson': (Graph, print_geojson),
-            'svg': (Network, print_svg), 'route': (Network, print_route)}
+
+def whole_number(word):
+    digits = re.fullmatch('(-?)0*([0-9]{1,19})', word)
+    if not digits or not -2 ** 63 <= int(digits[1] + digits[2]) < 2 ** 63:
+        raise Refusal(f'no number of a node: {word[:40]}')
+    return int(digits[1] + digits[2])
+
+
+def units(word, most):
+    """A coordinate in units of 1e-7 degree."""
+    if not re.fullmatch(r'-?[0-9]{1,9}(\.[0-9]{1,40})?', word) or abs(float(word)) > most:
+        raise Refusal(f'no number of degrees from -{most} to {most}: {word[:40]}')
+    return round(float(word) * 1e7)
+
+
+def place_of(word):
+    """A place that is spelled LON,LAT, without a node."""
+    lon, comma, lat = word.partition(',')
+    if not comma:
+        raise Refusal(f'no place, which is LON,LAT in degrees: {word[:40]}')
+    return None, units(lon, 180), units(lat, 90)
+
+
+def box_of(word):
+    """Four sides that are spelled W,S,E,N."""
+    sides = word.split(',')
+    if len(sides) != 4:
+        raise Refusal(f'no box, which is W,S,E,N in degrees: {word[:40]}')
+    west, south, east, north = (units(side, most) for side, most in zip(sides, (180, 90, 180, 90)))
+    if west >= east or south >= north:
+        raise Refusal(f'no box: west must be less than east, and south than north: {word[:80]}')
+    return west, south, east, north
+
+
+@contextmanager
+def naming(what):
+    """Says of what it is that can't be read or written."""
+    try:
+        yield
+    except OSError as fault:
+        raise Refusal(f'{what}: {fault.strerror or fault}') from None
+
+
+def standard_input():
+    if sys.stdin is None:
+        raise Refusal('standard input is closed')
+    if sys.stdin.isatty():
+        raise Refusal('a graph is wanted on standard input: graph.py COMMAND .. < GRAPH')
+    with naming('standard input'):
+        return sys.stdin.buffer.read()
+
+
+def bytes_of(name):
+    with naming(name), open(name, 'rb') as file:
+        return file.read()
+
+
+# the form in which a command wants its graph, the command, its words and its options
+Command = namedtuple('Command', 'form run words options')
+COMMANDS = {
+    'counts': Command(Graph, print_counts, [], []),
+    'text': Command(Network, print_text, [], []),
+    'geojson': Command(Graph, print_geojson, [], ['--opl']),
+    'csv': Command(Network, write_csv, ['FOLDER'], ['--opl']),
+    'svg': Command(Network, print_svg, [], ['--box']),
+    'nearest': Command(Graph, print_nearest, ['LON', 'LAT'], []),
+    'route': Command(Network, print_route, ['FROM', 'TO'], []),
+    'diff': Command(Graph, print_diff, ['OLD', 'NEW'], []),
+}
+VALUES = {'--opl': '[--opl FILE]..', '--box': '[--box W,S,E,N]'}
+
+
+def use(name):
+    command = COMMANDS[name]
+    words = [name, *command.words, *[VALUES[option] for option in command.options]]
+    return 'graph.py ' + ' '.join(words) + (' < GRAPH' if name != 'diff' else '')
+
+
+def help_of(words):
+    """What --help prints."""
+    if words[0] in COMMANDS:
+        return f'{use(words[0])}\n\n{cleandoc(COMMANDS[words[0]].run.__doc__)}'
+    lines = [cleandoc(__doc__), '']
+    for name, command in COMMANDS.items():
+        lines += [use(name), '    ' + command.run.__doc__.split('\n')[0]]
+    return '\n'.join(lines)
+
+
+def read_words(name, words):
+    """The plain words behind a command, and the values of its options."""
+    command, plain, options = COMMANDS[name], [], {'--opl': [], '--box': None}
+    words = iter(words)
+    for word in words:
+        value = next(words, None) if word in command.options else None
+        if value is None and word.startswith('--'):
+            raise Refusal(f'use: {use(name)}')
+        if word == '--box':
+            options['--box'] = box_of(value)
+        elif word == '--opl':
+            options['--opl'].append(value)
+        else:
+            plain.append(word)
+    if len(plain) != len(command.words):
+        raise Refusal(f'use: {use(name)}')
+    return plain, options
+
+
+def run(words):
+    if sys.stdout is None:
+        raise Refusal('standard output is closed')
+    sys.stdout.reconfigure(encoding='utf-8')
+    if '--help' in words or '-h' in words:
+        print(help_of(words))
+    elif not words or words[0] not in COMMANDS:
+        raise Refusal(f'use: graph.py COMMAND .. < GRAPH; graph.py --help tells the commands: {", ".join(COMMANDS)}')
+    else:
+        command = COMMANDS[words[0]]
+        plain, options = read_words(words[0], words[1:])
+        if words[0] == 'diff':
+            command.run(*[command.form(bytes_of(name)) for name in plain])
+        else:
+            given = [options] if command.options else []
+            command.run(command.form(standard_input()), *given, *plain)
+    sys.stdout.flush()
 
 
 def main(words):
-    if words and words[0] in COMMANDS and len(words) == (3 if words[0] == 'route' else 1):
-        form, command = COMMANDS[words[0]]
-    else:
-        sys.exit(__doc__)
-    signal.signal(signal.SIGPIPE, signal.SIG_DFL)
-    sys.stdout.reconfigure(encoding='utf-8')
+    """Runs the command, and returns the status; whatever ends it is told in a line."""
     try:
-        command(form(sys.stdin.buffer.read()), *[int(word) for word in words[1:]])
+        with naming('standard output'):
+            run(words)
+        return 0
     except Refusal as fault:
-        sys.exit(str(fault))
+        said, status = str(fault), 1
+    except MemoryError:
+        said, status = 'memory ends', 1
+    except KeyboardInterrupt:
+        said, status = 'interrupted', 128 + signal.SIGINT
+    signal.signal(signal.SIGINT, signal.SIG_IGN)
+    if sys.stdout is not None:      # what is left to be put would be tried once more, and fail once more
+        os.dup2(os.open(os.devnull, os.O_WRONLY), 1)
+    if sys.stderr is not None:
+        print(said, file=sys.stderr)
+    return status
 
 
 if __name__ == '__main__':
-    main(sys.argv[1:])
+    sys.exit(main(sys.argv[1:]))
