@@ -37,7 +37,10 @@ class Reader:
         return at
 
     def one(self, form):
-        return form.unpack_from(self.data, self.skip(form.size))
+        """The next record of a form; the struct module says where it isn't all there."""
+        record = form.unpack_from(self.data, self.at)
+        self.at += form.size
+        return record
 
     def many(self, form, count):
         """So many records of one form, one behind another."""
@@ -47,7 +50,8 @@ class Reader:
     def context(self):
         """The names of the next context but its last, and its arcs."""
         (length,) = self.one(LENGTH)
-        self.need(length >= 1, 'a context without pieces')
+        if length == 0:
+            self.need(False, 'a context without pieces')
         names = tuple(self.many(NAME, length - 1)) if length > 1 else ()
         (count,) = self.one(COUNT)
         return names, self.many(ARC, count)
@@ -58,9 +62,10 @@ def check_arcs(reader, arcs, longest):
     before, count = (), 0
     for way, index, direction, length in arcs:
         name = (way, index, direction)
-        reader.need(before < name, 'arcs out of order')
-        reader.need(direction < 2, 'no such direction')
-        reader.need(1 <= length <= longest, 'a target out of range')
+        if not before < name:
+            reader.need(False, 'arcs out of order')
+        if direction > 1 or not 1 <= length <= longest:
+            reader.need(False, 'no such direction, or a target out of range')
         before = name
         count += 1
     return count
@@ -76,7 +81,11 @@ class Graph:
         self.piece_ways, self.keys, self.ends, self.places_at = array('q'), array('I'), array('H'), array('Q')
         self.first_contexts, self.contexts_at, self.first_arcs = array('I'), array('Q'), array('I')
         self.arcs = 0
-        self.read(Reader(data))
+        reader = Reader(data)
+        try:
+            self.read(reader)
+        except struct.error:
+            reader.need(False, 'the bytes end early')
         self.first_pieces.append(len(self.keys))
         self.first_contexts.append(len(self.contexts_at))
         self.first_arcs.append(self.arcs)
@@ -107,8 +116,8 @@ class Graph:
         self.ends.append(end)
         self.places_at.append(reader.skip(PLACE.size * (end - index + 1)))
         west, south, east, north = self.box(len(self.keys) - 1)
-        inside = -1800000000 <= west and east <= 1800000000 and -900000000 <= south and north <= 900000000
-        reader.need(inside, 'a place outside the world')
+        if west < -1800000000 or east > 1800000000 or south < -900000000 or north > 900000000:
+            reader.need(False, 'a place outside the world')
         self.first_contexts.append(len(self.contexts_at))
         (count,) = reader.one(COUNT)
         reader.need(count >= 1, 'a piece without a context')
@@ -122,8 +131,10 @@ class Graph:
         self.first_arcs.append(self.arcs)
         names, arcs = reader.context()
         key = (len(names) + 1, names)
-        reader.need(before < key and (len(before) > 1 or not names), 'contexts out of order')
-        reader.need(all(direction < 2 for _, _, direction in names), 'no such direction')
+        if not before < key or names and len(before) == 1:
+            reader.need(False, 'contexts out of order')
+        if names and max(direction for _, _, direction in names) > 1:
+            reader.need(False, 'no such direction')
         self.arcs += check_arcs(reader, arcs, len(names) + 2)
         return key
 
