@@ -106,7 +106,9 @@ WAY = re.compile(rb'[ \t]*w(-?)0*([0-9]{1,19})(?=[ \t\r\n]|$)')
 
 def text_of(spelled_bytes):
     """What a key or a value of an OPL line says: %h% stands for the character of this code."""
-    return re.sub('%([0-9a-fA-F]{1,6})%', lambda found: chr(int(found[1], 16)), spelled_bytes.decode())
+    text = re.sub('%([0-9a-fA-F]{1,6})%', lambda found: chr(int(found[1], 16)), spelled_bytes.decode())
+    text.encode()       # fails where a code is that of no character
+    return text
 
 
 def tags_of(field):
@@ -122,7 +124,6 @@ def way_line(line):
     """The version and the tags of a way's line; no tags where it deletes the way."""
     fields = {field[:1]: field[1:] for field in line.replace(b'\t', b' ').rstrip(b'\r\n').split(b' ')[1:] if field}
     tags = tags_of(fields.get(b'T', b''))
-    tags[0].encode()            # a code may be that of no character
     return int(fields.get(b'v') or 0), None if fields.get(b'd') == b'D' else tags
 
 
@@ -243,10 +244,10 @@ def edges(network, lengths, tags):
 def write_csv(network, options, folder):
     """Writes a directed graph for any router: contexts are its vertices, and arcs its edges.
 
-    Into the folder come vertices.csv and edges.csv, whose columns docs/GRAPH.md tells. An edge has the metres of the piece that it leads over; a drive that begins with a vertex of one piece is as long as
-    that vertex and its edges together. With --opl both files have the tags name, highway, maxspeed and ref of the way.
-    It may stand several times, as for an extract and its changes: of each way the line with the greatest version
-    counts.
+    Into the folder come vertices.csv and edges.csv, whose columns docs/GRAPH.md tells. An edge has the metres of the
+    piece that it leads over; a drive that begins with a vertex of one piece is as long as that vertex and its edges
+    together. With --opl both files have the tags name, highway, maxspeed and ref of the way. It may stand several
+    times, as for an extract and its changes: of each way the line with the greatest version counts.
     """
     tags = read_tags(network, options['--opl'])
     lengths = array('d', (metres(network.places(piece)) for piece in range(len(network.keys))))
@@ -281,8 +282,9 @@ def altered(old, new, block, other):
 def print_diff(old, new):
     """Which ways are gone, new and altered from one graph to another, and how many.
 
-    A line for each, in the order of their numbers. Of an altered way it is said what differs first: where its pieces begin and end, their nodes and locations
-    (`places`), or which piece may follow which (`turns`). The status is 0 also where there is nothing to say.
+    A line for each, in the order of their numbers. Of an altered way it is said what differs first: where its pieces
+    begin and end (`pieces`), their nodes and locations (`places`), or which piece may follow which (`turns`). The
+    status is 0 also where there is nothing to say.
     """
     counts = {'gone': 0, 'new': 0, 'altered': 0, 'as before': 0}
     block = other = 0
@@ -438,8 +440,8 @@ def print_svg(network, options):
     """The network drawn, with the turns that restrictions take away.
 
     Grey is driven both ways, blue one way; red arrows are turns that restrictions take away, and orange dots are closed
-    by barriers. With --box W,S,E,N, in degrees, only this part is drawn. At a node where more than 100 pieces meet no turns are
-    looked for.
+    by barriers. With --box W,S,E,N, in degrees, only this part is drawn. At a node where more than 100 pieces meet no
+    turns are looked for.
     """
     shown, box = range(len(network.keys)), options['--box']
     if box:
