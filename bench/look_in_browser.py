@@ -21,7 +21,7 @@ import tempfile
 import time
 
 TOP = os.path.join(os.path.dirname(os.path.realpath(__file__)), '..')
-SECONDS = 120
+SECONDS = 30
 
 
 class Wrong(Exception):
@@ -291,6 +291,7 @@ class Trial:
         data = {'items': [], 'files': [os.path.realpath(self.change)], 'dragOperationsMask': 1}
         for kind in ('dragEnter', 'dragOver', 'drop'):
             browser.tell('Input.dispatchDragEvent', type=kind, x=300, y=300, data=data)
+            time.sleep(0.2)
         browser.wait('byId("lines").value.length > 20', 'a dropped file is taken')
         begun = time.monotonic()
         browser.value('shown.changes = null')

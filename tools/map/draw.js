@@ -65,20 +65,21 @@ const latAt = y => view.y - (y - height / 2) / view.scale;
 const metresAPixel = () => METRES / view.scale;
 
 function zoom(factor, x = width / 2, y = height / 2) {
-  const scale = Math.min(20 / METRES, Math.max(1e-6, view.scale * factor));
+  const scale = Math.min(20 * METRES, Math.max(1e-6, view.scale * factor));
   view.x += (x - width / 2) * (1 / view.scale - 1 / scale);
   view.y -= (y - height / 2) * (1 / view.scale - 1 / scale);
   view.scale = scale;
   refresh();
 }
 
-function fit(box, closest = 3) {
+/** Brings a box into view, with at most so many pixels a metre. */
+function fit(box, closest = 2) {
   const [west, south, east, north] = box;
   if (west > east) return;
   view.x = (west + east) / 2 * squeeze;
   view.y = (south + north) / 2;
   const across = Math.max((east - west) * squeeze, 1), up = Math.max(north - south, 1);
-  view.scale = Math.min(closest / METRES, 0.9 * width / across, 0.9 * height / up);
+  view.scale = Math.min(closest * METRES, 0.9 * width / across, 0.9 * height / up);
   refresh();
 }
 
@@ -357,7 +358,7 @@ function paintSteps(steps, colourOf, wide = roadWidth() + 3) {
   let points = [], stroke = null;
   const put = () => {
     if (points.length < 2) return;
-    strip(pen, points, stroke, wide, 0.8);
+    strip(pen, points, stroke, wide);
     pen.fillStyle = '#fff';
     pen.beginPath();
     heads(pen, points, Math.max(3.5, wide * 0.55), 18, 60);

@@ -75,9 +75,10 @@ function rows(list, row) {
     more > 0 ? make('div', { className: 'row' }, make('small', {}, `and ${more} more`)) : null);
 }
 
-function goRow(code, text, box, more = '') {
+/** A row that brings a box into view: a name as the program writes it, what it is called, and maybe a number. */
+function goRow(code, text, box, more = '', number = '') {
   const row = make('div', { className: `row go ${more}`, tabIndex: 0 }, make('span', {}, make('code', {}, code), ' ',
-    make('small', {}, text)));
+    make('small', {}, text)), make('small', { className: 'number' }, number));
   row.onclick = () => fit(box());
   row.onkeydown = event => { if (event.key === 'Enter') fit(box()); };
   return row;
@@ -243,8 +244,8 @@ function tellFound(steps) {
       `${steps.length} steps, ${found.length} stretches of way`),
     make('div', { className: 'line' }, make('button', { onclick: () => { openTab('drive'); setSteps(steps); } }, 'Drive it'),
       make('button', { onclick: () => fit(stepsBox(steps)) }, 'Show all of it')),
-    rows(found, run => goRow(runName(run.steps), `${nameOf(run.key)} ${rounded(stepsMetres(run.steps))}`,
-      () => stepsBox(run.steps))));
+    rows(found, run => goRow(runName(run.steps), nameOf(run.key), () => stepsBox(run.steps), '',
+      rounded(stepsMetres(run.steps)))));
 }
 
 const runName = steps => (steps.length > 1 ? `${steps[0]} … ${steps.at(-1).split('.')[1]}` : steps[0]);
