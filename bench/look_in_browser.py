@@ -200,10 +200,9 @@ class Trial:
     def look(self):
         browser = self.browser
         browser.click_on('[data-tab=look]')
-        at = browser.value('''(() => { const line = shown.lines.within(lonAt(60), latAt(height - 60), lonAt(width - 60),
-            latAt(60)).next().value; fit(boxOf(shown.graph, [shown.lines.piece[line]]), 1);
-            const points = linePoints(line), at = Math.floor(points.length / 2) - (points.length > 2 ? 0 : 1);
-            return [(points[at][0] + points[at + 1]?.[0]) / 2, (points[at][1] + points[at + 1]?.[1]) / 2]; })()''')
+        at = browser.value('''(() => { const line = shown.lines.count >> 1; fit(boxOf(shown.graph, [shown.lines.piece[line]]), 1);
+            const p = linePoints(line), at = (p.length >> 1) - 1, [u, v] = [p[at], p[at + 1]];
+            return [(u[0] + v[0]) / 2, (u[1] + v[1]) / 2]; })()''')
         browser.drawn()
         browser.click(*at)
         browser.wait('byId("seen").innerText.includes("piece")', 'a click on a road tells its piece')

@@ -100,14 +100,21 @@ const piecesOf = (graph, block) =>
 
 // The network is drawn on a sheet of its own, a part in each frame; until it is done, the one before is shown, moved.
 let sheet = null, next = null, quota = 20000, lastFrame = 0, wanted = false;
+const spare = [];               // canvases of sheets that are no longer shown
 
 function refresh() {
   if (!wanted) requestAnimationFrame(draw);
   wanted = true;
 }
 
+/** Begins the network anew, as after a change of the graph. */
+function redraw() {
+  sheet = next = null;
+  refresh();
+}
+
 function newSheet() {
-  const own = document.createElement('canvas');
+  const own = spare.pop() ?? document.createElement('canvas');
   own.width = canvas.width;
   own.height = canvas.height;
   const work = own.getContext('2d');
@@ -123,11 +130,17 @@ function draw(now) {
   wanted = false;
   fitCanvas();
   if (!shown.lines) return;
-  if (!isCurrent(sheet) && !isCurrent(next)) next = newSheet();
+  if (!isCurrent(sheet) && !isCurrent(next)) {
+    if (next) spare.push(next.own);
+    next = newSheet();
+  }
   if (next) {
     quota = Math.min(200000, Math.max(4000, quota * (now - lastFrame > 40 ? 0.7 : 1.3)));
     next.done = next.parts.next(quota).done;
-    if (next.done) [sheet, next] = [next, null];
+    if (next.done) {
+      if (sheet) spare.push(sheet.own);
+      [sheet, next] = [next, null];
+    }
   }
   lastFrame = now;
   pen.setTransform(devicePixelRatio, 0, 0, devicePixelRatio, 0, 0);
@@ -341,8 +354,20 @@ function paintChanges() {
   }
 }
 
+/** The piece that was clicked, and where one may go on from it and its twin. */
 function paintSeen() {
-  const points = piecePoints(shown.graph, shown.seen);
+  const { graph, seen } = shown, twin = graph.twin(seen), points = piecePoints(graph, seen);
+  for (const piece of twin < 0 ? [seen] : [seen, twin]) {
+    for (const arc of graph.contexts(piece)[0].arcs) {
+      const part = clipped(piecePoints(graph, arc), 45);
+      strip(pen, part, COLOURS.good, roadWidth() + 2);
+      pen.fillStyle = COLOURS.good;
+      pen.beginPath();
+      const [x, y] = part.at(-2), [u, v] = part.at(-1);
+      arrowHead(pen, u, v, u - x, v - y, roadWidth() + 5);
+      pen.fill();
+    }
+  }
   strip(pen, points, COLOURS.ink, roadWidth() + 3);
   dots(pen, [points[0], points.at(-1)], COLOURS.ink, roadWidth() / 2 + 3);
 }

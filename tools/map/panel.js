@@ -137,18 +137,20 @@ async function look(x, y) {
     setSteps(closed.flatMap(piece => shown.graph.steps(piece, false)));
     return;
   }
-  const road = roadAt(x, y);
-  shown.seen = road ? road.piece : null;
-  if (road) await learn([`w${shown.graph.way(road.piece)}`]);
-  tellSeen();
-  refresh();
+  await see(roadAt(x, y)?.piece ?? null);
 }
 
-function tellSeen() {
-  const { graph, seen: piece } = shown;
+/** Shows a piece, or none, with what is known of it. */
+async function see(piece) {
+  const { graph } = shown;
+  shown.seen = piece;
+  refresh();
   byId('seen').replaceChildren();
   if (piece === null) return;
   const twin = graph.twin(piece), last = graph.places(piece) - 1, key = `w${graph.way(piece)}`;
+  const arcs = [piece, ...(twin < 0 ? [] : [twin])].flatMap(one => graph.contexts(one).flatMap(context => context.arcs));
+  await learn([key, ...arcs.map(arc => `w${graph.way(arc)}`)]);
+  if (shown.seen !== piece) return;
   byId('seen').append(table([
     ['way', `${key} ${nameOf(key)}`],
     ['piece', twin < 0 ? `${pieceName(piece)}, one way` : `${pieceName(piece)} and ${pieceName(twin)}, both ways`],
@@ -168,20 +170,19 @@ function pieceName(piece) {
 function onward(piece) {
   const { graph } = shown;
   return graph.contexts(piece).flatMap(({ before, arcs }) => [
-    make('p', { className: 'hint' }, `From ${[...before, piece].map(pieceName).join(' ')} one may go on by`
-      + (arcs.length ? '' : ' nothing')),
-    rows(arcs, arc => goRow(pieceName(arc), nameOf(`w${graph.way(arc)}`), () => boxOf(graph, [arc]))),
+    make('h2', {}, `From ${[...before, piece].map(pieceName).join(' ')} one may go on by`),
+    arcs.length ? rows(arcs, arc => goRow(pieceName(arc), nameOf(`w${graph.way(arc)}`), () => boxOf(graph, [arc])))
+      : 'no piece',
   ]);
 }
 
-function find(text) {
+async function find(text) {
   const words = text.trim().split(/[\s,]+/), { graph } = shown;
   if (/^w-?\d{1,19}$/.test(words[0])) {
     const block = graph.block(BigInt(words[0].slice(1)));
     if (block < 0) throw new Error(`${words[0]} has no piece: it is no road, or closed to cars`);
-    shown.seen = graph.firstPiece[block];
-    tellSeen();
     fit(boxOf(graph, piecesOf(graph, block)));
+    await see(graph.firstPiece[block]);
   } else if (/^n-?\d{1,19}$/.test(words[0])) {
     const node = nodeCalled(BigInt(words[0].slice(1)));
     if (!node) throw new Error(`${words[0]} is on no road of the graph`);
@@ -581,15 +582,13 @@ async function load() {
   byId('counts').textContent = `change ${state.sequence} · ${number(state.ways)} ways · ${number(state.pieces)} pieces · `
     + `${number(state.arcs)} arcs`;
   byId('seen').replaceChildren();
-  sheet = next = null;
   setTimeout(findClosed, 50);
-  refresh();
+  redraw();
 }
 
 function findClosed() {
   Object.assign(shown, missingTurns(shown.graph), { isSearched: true });
-  sheet = next = null;
-  refresh();
+  redraw();
 }
 
 async function start() {
