@@ -21,7 +21,7 @@ import tempfile
 import time
 
 TOP = os.path.join(os.path.dirname(os.path.realpath(__file__)), '..')
-SECONDS = 30
+SECONDS = 120
 
 
 class Wrong(Exception):
@@ -48,6 +48,7 @@ class Browser:
         targets = self.tell('Target.getTargets')['targetInfos']
         target = next(one['targetId'] for one in targets if one['type'] == 'page')
         self.session = self.tell('Target.attachToTarget', targetId=target, flatten=True)['sessionId']
+        self.tell('Performance.enable', timeDomain='threadTicks')
         for domain in ('Page', 'Runtime', 'Network', 'Log'):
             self.tell(f'{domain}.enable')
 
@@ -83,6 +84,11 @@ class Browser:
         if 'exceptionDetails' in got:
             raise Wrong(f'{code}: {got["exceptionDetails"]["exception"].get("description", "fails")}')
         return got['result'].get('value')
+
+    def busy(self):
+        """The processor seconds that the page's thread took so far, whatever else the machine did."""
+        metrics = self.tell('Performance.getMetrics')['metrics']
+        return next(one['value'] for one in metrics if one['name'] == 'TaskDuration')
 
     def wait(self, code, what):
         until = time.monotonic() + SECONDS
@@ -159,43 +165,53 @@ class Trial:
     def text(self, selector):
         return self.browser.value(f'document.querySelector({json.dumps(selector)}).innerText').split('\n')[0]
 
-    def timed(self, code, what):
-        begun = time.monotonic()
+    def timed(self, what, work):
+        """Does some work, and tells how long it took, and how long the page's own thread was busy with it."""
+        begun, busy = time.monotonic(), self.browser.busy()
+        work()
+        print(f'  {what}: {time.monotonic() - begun:.2f} s, {self.browser.busy() - busy:.2f} s of them busy')
+
+    def draw(self, code):
         self.browser.value(code)
         self.browser.drawn()
-        print(f'  {what}: {time.monotonic() - begun:.2f} s')
 
     def open(self, address):
-        begun = time.monotonic()
         self.browser.tell('Page.navigate', url=address)
-        self.browser.wait('typeof byId === "function" && byId("busy").hidden', 'the page has the graph')
-        self.browser.drawn()
-        print(f'  from the address to a drawn map: {time.monotonic() - begun:.2f} s')
-        self.browser.wait('shown.isSearched', 'closed turns are found')
-        print(f'  {self.text("#counts")}; and to its closed turns: {time.monotonic() - begun:.2f} s')
+        self.timed('from the address to a drawn map', self.opened)
+        self.timed('its closed turns', lambda: self.browser.wait('shown.isSearched', 'closed turns are found'))
+        print(f'  {self.text("#counts")}')
         self.must('shown.lines.count > 0', 'there are lines')
         self.picture('whole')
+
+    def opened(self):
+        self.browser.wait('typeof byId === "function" && byId("busy").hidden', 'the page has the graph')
+        self.browser.drawn()
 
     def move(self):
         browser = self.browser
         x, y = browser.value('[width / 2, height / 2]')
-        self.timed('fit(shown.lines.extent)', 'all of it drawn')
+        self.timed('all of it drawn', lambda: self.draw('fit(shown.lines.extent); redraw()'))
         before = browser.value('view.scale')
         for _ in range(6):
             browser.mouse('mouseWheel', x, y, deltaX=0, deltaY=-120)
         browser.drawn()
         self.must(f'view.scale > 3 * {before}', 'the wheel zooms')
+        self.timed('a part of it drawn', lambda: self.draw('redraw()'))
         before = browser.value('view.x')
         browser.value('globalThis.ticks = []; (function tick(now) { ticks.push(now); requestAnimationFrame(tick); })(0); 1')
+        self.timed('a drag of 60 moves', lambda: self.drag(x, y))
+        self.must(f'Math.abs((view.x - {before}) * view.scale - 236) < 8', 'a drag moves the map')
+        gaps = browser.value('ticks.slice(2).map((t, at) => t - ticks[at + 1]).sort((a, b) => a - b)')
+        print(f'  frames while it is dragged: median {gaps[len(gaps) // 2]:.0f} ms, longest {gaps[-1]:.0f} ms')
+        self.picture('near')
+
+    def drag(self, x, y):
+        browser = self.browser
         browser.mouse('mousePressed', x, y, button='left', buttons=1, clickCount=1)
         for step in range(60):
             browser.mouse('mouseMoved', x - 4 * step, y + 2 * step, button='left', buttons=1)
         browser.mouse('mouseReleased', x - 240, y + 120, button='left', clickCount=1)
-        self.must(f'Math.abs((view.x - {before}) * view.scale - 236) < 8', 'a drag moves the map')
-        gaps = browser.value('ticks.slice(2).map((t, at) => t - ticks[at + 1]).sort((a, b) => a - b)')
-        print(f'  frames while it is dragged: median {gaps[len(gaps) // 2]:.0f} ms, longest {gaps[-1]:.0f} ms')
         browser.drawn()
-        self.picture('near')
 
     def look(self):
         browser = self.browser
@@ -212,7 +228,7 @@ class Trial:
     def closed_turn(self):
         browser = self.browser
         at = browser.value('''(() => { const turn = shown.turns[0]; if (!turn) return null; const place = shown.graph;
-            const p = [place.lon(turn.at(-1), 0), place.lat(turn.at(-1), 0)]; fit([...p, ...p], 0.6);
+            const p = [place.lon(turn.at(-1), 0), place.lat(turn.at(-1), 0)]; fit([...p, ...p], 1.5);
             return turnPoints(turn).at(-1); })()''')
         if at is None:
             print('  there is no closed turn')

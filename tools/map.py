@@ -11,9 +11,9 @@ whether a drive is legal, and sends changes, which the store keeps (docs/LOOK.md
 --opl FILE      the lines of which the store was made: the page then shows names and tags of ways and restrictions
 --program FILE  the program osmroad; where none is given, the one that tools/session.py takes
 
-Status 0: it was ended by Ctrl-C or SIGTERM, and the session ended well. 1: other arguments, or no such port. 2: the
-OPL can't be read. 3 to 10, 127, and from 129 on: the session did not begin or did not end well, as tools/session.py
-tells. Each but 0 comes with one line on standard error.
+Status 0: it was ended by Ctrl-C or SIGTERM, and the session ended well. 1: other arguments, or a port that isn't free.
+2: the OPL can't be read. 3 to 10, 127, and from 129 on: the session did not begin or did not end well, as
+tools/session.py tells. Each but 0 comes with one line on standard error.
 """
 import argparse
 import html
@@ -27,7 +27,9 @@ import sys
 import threading
 from http.server import BaseHTTPRequestHandler
 
-import session as client
+sys.dont_write_bytecode = True      # the import below leaves no folder beside the tools
+import session as client            # noqa: E402
+from session import Trouble, say    # noqa: E402
 
 HERE = os.path.dirname(os.path.realpath(__file__))
 LARGEST_CHANGE = 2 ** 26        # bytes of a change that the page sends
@@ -37,14 +39,6 @@ NODE = re.compile(r'-?[0-9]{1,19}')
 KEY = re.compile(r'[wr]-?[0-9]{1,19}')
 POLICY = ("default-src 'none'; script-src 'nonce-{0}'; style-src 'nonce-{0}'; connect-src 'self'; img-src data:; "
           "base-uri 'none'; form-action 'none'; frame-ancestors 'none'")
-
-
-class Trouble(Exception):
-    """What ends the command, in one line, and its status."""
-
-    def __init__(self, status, text):
-        super().__init__(text)
-        self.status = status
 
 
 class NoAnswer(Exception):
@@ -218,7 +212,8 @@ class Server(socketserver.ThreadingMixIn, socketserver.TCPServer):
 
     def __init__(self, port, store, answers):
         super().__init__(('127.0.0.1', port), Request)
-        self.hosts = [f'{name}:{self.server_address[1]}' for name in ('127.0.0.1', 'localhost')]
+        port = self.server_address[1]
+        self.hosts = [name + (f':{port}' if port != 80 else '') for name in ('127.0.0.1', 'localhost')]
         self.token = secrets.token_urlsafe(24)
         self.answers = answers
         self.page = whole_page().replace('{{token}}', self.token)
@@ -334,7 +329,7 @@ def serve(options, session, tags):
     except OSError as error:
         raise Trouble(1, f'port {options.port}: {error.strerror}') from None
     with server:
-        print(f'http://127.0.0.1:{server.server_address[1]}/', flush=True)
+        say(f'http://127.0.0.1:{server.server_address[1]}/')
         try:
             server.serve_forever()
         except KeyboardInterrupt:
@@ -347,8 +342,8 @@ def interrupt(number, frame):
 
 def main(words):
     if '--help' in words or '-h' in words:
-        print(__doc__.strip())
-        return
+        say(__doc__.strip())
+        return 0
     options = arguments(words)
     signal.signal(signal.SIGTERM, interrupt)
     tags = Tags()
@@ -359,13 +354,8 @@ def main(words):
             serve(options, session, tags)
     except client.SessionError as error:
         raise Trouble(client.exit_status(error), error) from None
+    return 0
 
 
 if __name__ == '__main__':
-    try:
-        main(sys.argv[1:])
-    except Trouble as trouble:
-        print(f'map.py: {trouble}', file=sys.stderr)
-        sys.exit(trouble.status)
-    except KeyboardInterrupt:
-        sys.exit(0)
+    client.end_command('map.py', main)

@@ -23,7 +23,7 @@ async function call(path, body) {
   } catch {
     throw new Error('map.py does not answer: was it stopped?');
   }
-  if (!reply.ok) throw new Error((await reply.text()).trim());
+  if (!reply.ok) throw Object.assign(new Error((await reply.text()).trim()), { status: reply.status });
   return reply;
 }
 
@@ -287,10 +287,11 @@ const turnNode = turn => [xOf(shown.graph.lon(turn.at(-1), 0)), yOf(shown.graph.
 const inSight = ([x, y]) => x > -30 && y > -30 && x < width + 30 && y < height + 30;
 
 function paintClosed(work) {
-  dots(work, shown.shut.map(turnNode).filter(inSight), COLOURS.shut, metresAPixel() < 6 ? 4.5 : 2);
+  const metres = metresAPixel();
+  dots(work, shown.shut.map(turnNode).filter(inSight), COLOURS.shut, metres < 6 ? 4.5 : metres < 20 ? 2 : 1);
   const turns = shown.turns.filter(turn => inSight(turnNode(turn)));
-  if (metresAPixel() > 3) {
-    dots(work, turns.map(turnNode), COLOURS.bad, 2);
+  if (metres > 3) {
+    dots(work, turns.map(turnNode), COLOURS.bad, metres < 20 ? 2 : 1);
     return;
   }
   for (const turn of turns) {

@@ -334,8 +334,9 @@ function tellVerdict(steps, verdict, key) {
     ? make('div', { className: 'verdict good' }, make('b', {}, 'legal'), `${steps.length} steps, ${rounded(stepsMetres(steps))}`)
     : make('div', { className: 'verdict bad' }, make('b', {}, `broken at step ${verdict.step}: ${verdict.rule}`),
       RULES[rule]?.(named) ?? '');
+  const first = Math.max(0, (verdict.step ?? 0) - ROWS / 2);      // so that the broken step is in the list
   byId('verdict').replaceChildren(said, ...(key ? restriction(key, steps, verdict) : []),
-    rows(steps, (step, at) => stepRow(step, at, verdict)));
+    rows(steps.slice(first), (step, at) => stepRow(step, first + at, verdict)));
 }
 
 function restriction(key, steps, verdict) {
@@ -371,16 +372,30 @@ async function takeFile(file) {
   byId('changed').replaceChildren();
 }
 
+/** Sends the change under the next number, and shows what became of the graph. */
 async function apply() {
-  const text = shown.text ?? byId('lines').value, number = BigInt(shown.sequence) + 1n;
+  const text = shown.text ?? byId('lines').value, number = BigInt(shown.sequence) + 1n, button = actButton('apply');
   if (!text.trim()) throw new Error('there are no lines');
-  byId('changed').replaceChildren(make('p', { className: 'hint' }, 'The change is being applied …'));
+  tellChange('The change is being applied …');
+  button.disabled = true;
   try {
     await ask(`/change?${number}`, text);
+    await showChanged(number);
   } catch (error) {
-    tellRefused(error.message);
-    return;
+    if (error.status < 500) tellRefused(error.message);
+    else {
+      tellChange(`It is not known whether change ${number} was kept: when the page is loaded again, its number tells.`);
+      throw error;
+    }
+  } finally {
+    button.disabled = false;
   }
+}
+
+const actButton = name => document.querySelector(`[data-act=${name}]`);
+const tellChange = text => byId('changed').replaceChildren(make('p', { className: 'hint' }, text));
+
+async function showChanged(number) {
   byId('lines').value = '';
   byId('lines').readOnly = false;
   shown.text = null;
@@ -388,7 +403,7 @@ async function apply() {
   await load();
   tags.clear();
   shown.changes = { old, ...compared(old, shown.graph) };
-  byId('body').querySelector('[data-act=hide]').disabled = false;
+  actButton('hide').disabled = false;
   await tellChanged(number);
 }
 
@@ -433,7 +448,7 @@ function showChanges() {
 function hideChanges() {
   shown.changes = null;
   byId('changed').replaceChildren();
-  byId('body').querySelector('[data-act=hide]').disabled = true;
+  actButton('hide').disabled = true;
   refresh();
 }
 
@@ -454,6 +469,7 @@ function openTab(name) {
   for (const tab of document.querySelectorAll('[data-tab]')) tab.setAttribute('aria-selected', tab.dataset.tab === name);
   for (const part of document.querySelectorAll('[data-of]')) part.hidden = part.dataset.of !== name;
   byId('said').textContent = '';
+  if (name === 'drive' && shown.lines && !shown.verdict) attempt(judge);
   refresh();
 }
 
@@ -561,6 +577,7 @@ function hover(event) {
   const key = road ? `w${shown.graph.way(road.piece)}` : '';
   tip.hidden = !node && !road;
   tip.textContent = node ? `n${node.id}` : `${key} ${nameOf(key)}`;
+  if (road && !tags.has(key)) learn([key]).then(() => { if (!tip.hidden) hover(event); }, () => {});
   tip.style.left = `${Math.min(x + 14, width - tip.offsetWidth - 4)}px`;
   tip.style.top = `${Math.min(y + 14, height - tip.offsetHeight - 4)}px`;
 }
@@ -581,7 +598,7 @@ async function load() {
   const number = count => count.toLocaleString('en');
   byId('counts').textContent = `change ${state.sequence} · ${number(state.ways)} ways · ${number(state.pieces)} pieces · `
     + `${number(state.arcs)} arcs`;
-  byId('seen').replaceChildren();
+  for (const part of ['seen', 'found', 'verdict']) byId(part).replaceChildren();
   setTimeout(findClosed, 50);
   redraw();
 }
