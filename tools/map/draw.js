@@ -423,20 +423,41 @@ function paintPin(node, letter, fill) {
   pen.fillText(letter, x, y - 16);
 }
 
-function paintDrive() {
-  const steps = drivenSteps(), verdict = shown.verdict;
-  for (const [key] of shown.members) {
-    const block = key[0] === 'w' ? shown.graph.block(BigInt(key.slice(1))) : -1;
-    if (block < 0) continue;
+/** The ways of the broken restriction that are roads of the graph, each with its roles. */
+function paintMembers() {
+  const roles = new Map();
+  for (const [key, role] of shown.members) roles.set(key, [...roles.get(key) ?? [], role]);
+  const blocks = [...roles].filter(([key]) => key[0] === 'w')
+    .map(([key, own]) => [shown.graph.block(BigInt(key.slice(1))), own.join(', ')]).filter(([block]) => block >= 0);
+  for (const [block] of blocks) {
     for (const piece of piecesOf(shown.graph, block)) {
       strip(pen, piecePoints(shown.graph, piece), COLOURS.word, roadWidth() + 9, 0.28);
     }
   }
+  return blocks;
+}
+
+function label([x, y], text) {
+  pen.font = '600 12px system-ui, sans-serif';
+  pen.textAlign = 'left';
+  pen.lineWidth = 4;
+  pen.strokeStyle = '#fff';
+  pen.fillStyle = COLOURS.word;
+  pen.strokeText(text, x + 10, y + 4);
+  pen.fillText(text, x + 10, y + 4);
+}
+
+function paintDrive() {
+  const steps = drivenSteps(), verdict = shown.verdict, members = paintMembers();
   if (verdict?.first) paintSteps(steps.slice(verdict.first - 1, verdict.step), () => COLOURS.word, roadWidth() + 9);
   const broken = verdict && !verdict.legal ? verdict.step - 1 : Infinity;
   paintSteps(steps, at => (at < broken ? COLOURS.good : at === broken ? COLOURS.bad : '#9aa3ad'));
   const last = steps.length ? stepPoints(steps.at(-1)) : null;
   if (last) dots(pen, [last[1]], COLOURS.ink, 4);
+  for (const [block, role] of members) {
+    const pieces = piecesOf(shown.graph, block), points = piecePoints(shown.graph, pieces[pieces.length >> 1]);
+    label(points[points.length >> 1], role);
+  }
 }
 
 function putScale() {
