@@ -94,7 +94,8 @@ class Browser:
         until = time.monotonic() + SECONDS
         while not (got := self.value(code)):
             if time.monotonic() > until:
-                raise Wrong(f'{what}: not after {SECONDS} seconds; the page says: {self.value("byId(`said`).textContent")}')
+                said = self.value('byId("said").textContent')
+                raise Wrong(f'{what}: not after {SECONDS} seconds; the page says: {said!r}')
             time.sleep(0.05)
         return got
 
@@ -119,6 +120,11 @@ class Browser:
         self.tell('Emulation.setDeviceMetricsOverride', width=width, height=height, mobile=phone,
                   deviceScaleFactor=2 if phone else 1)
         self.tell('Emulation.setTouchEmulationEnabled', enabled=phone, maxTouchPoints=2)
+
+    def megabytes(self):
+        """What the page's scripts hold."""
+        usage = self.tell('Runtime.getHeapUsage')
+        return (usage['usedSize'] + usage.get('backingStorageSize', 0)) / 1e6
 
     def picture(self, name):
         self.drawn()
@@ -179,7 +185,7 @@ class Trial:
         self.browser.tell('Page.navigate', url=address)
         self.timed('from the address to a drawn map', self.opened)
         self.timed('its closed turns', lambda: self.browser.wait('shown.isSearched', 'closed turns are found'))
-        print(f'  {self.text("#counts")}')
+        print(f'  {self.text("#counts")}; the scripts hold {self.browser.megabytes():.0f} MB')
         self.must('shown.lines.count > 0', 'there are lines')
         self.picture('whole')
 
@@ -198,7 +204,8 @@ class Trial:
         self.must(f'view.scale > 3 * {before}', 'the wheel zooms')
         self.timed('a part of it drawn', lambda: self.draw('redraw()'))
         before = browser.value('view.x')
-        browser.value('globalThis.ticks = []; (function tick(now) { ticks.push(now); requestAnimationFrame(tick); })(0); 1')
+        browser.value('''globalThis.ticks = [];
+            (function tick(now) { ticks.push(now); requestAnimationFrame(tick); })(0); 1''')
         self.timed('a drag of 60 moves', lambda: self.drag(x, y))
         self.must(f'Math.abs((view.x - {before}) * view.scale - 236) < 8', 'a drag moves the map')
         gaps = browser.value('ticks.slice(2).map((t, at) => t - ticks[at + 1]).sort((a, b) => a - b)')
@@ -216,7 +223,8 @@ class Trial:
     def look(self):
         browser = self.browser
         browser.click_on('[data-tab=look]')
-        at = browser.value('''(() => { const line = shown.lines.count >> 1; fit(boxOf(shown.graph, [shown.lines.piece[line]]), 1);
+        at = browser.value('''(() => { const line = shown.lines.count >> 1;
+            fit(boxOf(shown.graph, [shown.lines.piece[line]]), 1);
             const p = linePoints(line), at = (p.length >> 1) - 1, [u, v] = [p[at], p[at + 1]];
             return [(u[0] + v[0]) / 2, (u[1] + v[1]) / 2]; })()''')
         browser.drawn()
@@ -251,13 +259,15 @@ class Trial:
                 && g.contexts(l.piece[at])[0].arcs.length > 0);
             const piece = l.piece[line], arc = g.contexts(piece)[0].arcs[0]; fit(boxOf(g, [piece, arc]), 0.5);
             const p = piecePoints(g, piece), q = piecePoints(g, arc);
-            return [p.at(-2).map((c, at) => 0.3 * c + 0.7 * p.at(-1)[at]), q[0].map((c, at) => 0.5 * c + 0.5 * q[1][at])]; })()''')
+            return [p.at(-2).map((c, at) => 0.3 * c + 0.7 * p.at(-1)[at]),
+                q[0].map((c, at) => 0.5 * c + 0.5 * q[1][at])]; })()''')
         browser.drawn()
         browser.click(*points[0])
         browser.wait('shown.verdict !== null', 'a drive of one click is judged')
         first = browser.value('byId("steps").value')
         browser.click(*points[1])
-        browser.wait(f'byId("steps").value !== {json.dumps(first)} && shown.verdict !== null', 'a second click adds steps')
+        browser.wait(f'byId("steps").value !== {json.dumps(first)} && shown.verdict !== null',
+                     'a second click adds steps')
         print(f'  {browser.value("drivenSteps().length")} steps by two clicks: {self.text("#verdict b")}')
         self.picture('drive')
         browser.click_on('[data-act=undo]')
@@ -289,17 +299,21 @@ class Trial:
         browser.click_on('[data-act=apply]')
         browser.wait('byId("changed").innerText.includes("refused")', 'a faulty change is refused')
         self.must('getSelection().toString() === "q1 v2"', 'the line in fault is marked')
-        way = browser.value('(() => { const g = shown.graph; return String(g.way(g.firstPiece[g.blockCount >> 1])); })()')
+        way = browser.value('String(shown.graph.way(shown.graph.pieceCount >> 1))')
         begun = time.monotonic()
         browser.write_into('#lines', f'w{way} v4000000000 dD\n')
         browser.click_on('[data-act=apply]')
         browser.wait('shown.changes && byId("changed").innerText.includes("kept")', 'a change is kept')
-        self.must(f'shown.changes.gone.length === 1 && shown.graph.block({way}n) === -1', f'a deletion of w{way} takes it away')
-        print(f'  {self.browser.value("byId(`changed`).innerText").splitlines()[1]} {time.monotonic() - begun:.2f} s')
+        self.must(f'shown.changes.gone.length === 1 && shown.graph.block({way}n) === -1',
+                  f'a deletion of w{way} takes it away')
+        print(f'  {self.told_changes()} {time.monotonic() - begun:.2f} s')
         browser.click_on('#changed button')
         self.picture('change')
         if self.change:
             self.drop()
+
+    def told_changes(self):
+        return self.browser.value('byId("changed").innerText').splitlines()[1]
 
     def drop(self):
         browser = self.browser
@@ -312,7 +326,7 @@ class Trial:
         browser.value('shown.changes = null')
         browser.click_on('[data-act=apply]')
         browser.wait('shown.changes && byId("changed").innerText.includes("kept")', 'the dropped change is kept')
-        print(f'  dropped: {self.browser.value("byId(`changed`).innerText").splitlines()[1]} {time.monotonic() - begun:.2f} s')
+        print(f'  dropped: {self.told_changes()} {time.monotonic() - begun:.2f} s')
         browser.wait('shown.isSearched', 'closed turns are found again')
         browser.click_on('#changed button')
         self.picture('dropped')
@@ -337,39 +351,72 @@ class Trial:
         self.picture('phone')
 
 
-def served(program, store, extract):
-    """tools/map.py on this store, and its address."""
-    words = [sys.executable, os.path.join(TOP, 'tools/map.py'), store, '--program', program, '--opl', extract]
-    process = subprocess.Popen(words, stdout=subprocess.PIPE)
-    address = process.stdout.readline().decode().strip()
-    if not address.startswith('http://127.0.0.1:'):
-        raise Wrong(f'map.py gives no address, but {address!r}')
-    return process, address
+class Served:
+    """tools/map.py over a new store of these lines, and its page in a browser; both end with the block."""
+
+    def __init__(self, room, name, program, lines, *words):
+        store = os.path.join(room, name)
+        subprocess.run([program, store, 'create', '1'], stdin=lines, check=True, stdout=subprocess.DEVNULL)
+        begun = time.monotonic()
+        tool = os.path.join(TOP, 'tools/map.py')
+        self.server = subprocess.Popen([sys.executable, tool, store, '--program', program, *words],
+                                       stdout=subprocess.PIPE)
+        self.address = self.server.stdout.readline().decode().strip()
+        if not self.address.startswith('http://127.0.0.1:'):
+            raise Wrong(f'map.py gives no address, but {self.address!r}')
+        print(f'  map.py is ready after {time.monotonic() - begun:.2f} s')
+        self.browser = Browser(os.path.join(room, f'browser-{name}'))
+
+    def __enter__(self):
+        return self
+
+    def stop(self):
+        """Ends map.py as Ctrl-C does."""
+        self.server.send_signal(signal.SIGINT)
+        if self.server.wait(SECONDS) != 0:
+            raise Wrong(f'map.py ends with status {self.server.returncode}')
+
+    def __exit__(self, *_):
+        self.browser.close()
+        if self.server.poll() is None:
+            self.server.kill()
+            self.server.wait()
+
+    def end(self):
+        """Stops map.py, which a click then tells; and looks for complaints of the browser."""
+        complaints = list(self.browser.complaints(self.address))
+        if complaints:
+            raise Wrong(f'{len(complaints)} complaints, the first: {complaints[0]}')
+        self.stop()
+        self.browser.click_on('[data-tab=drive]')
+        self.browser.value('setSteps(["w1.0+"]), 1')
+        self.browser.wait('byId("said").textContent.includes("does not answer")',
+                          'the page tells that map.py was stopped')
 
 
 def trial(program, extract, folder, change, room):
-    store = os.path.join(room, os.path.basename(extract).split('.')[0])
-    with open(extract, 'rb') as lines:
-        subprocess.run([program, store, 'create', '1'], stdin=lines, check=True, stdout=subprocess.DEVNULL)
-    begun = time.monotonic()
-    server, address = served(program, store, extract)
-    print(f'  map.py is ready after {time.monotonic() - begun:.2f} s')
-    browser = Browser(os.path.join(room, 'browser'))
-    try:
-        browser.size(1280, 800)
-        tried = Trial(browser, folder, change)
-        tried.open(address)
+    name = os.path.basename(extract).split('.')[0]
+    with open(extract, 'rb') as lines, Served(room, name, program, lines, '--opl', extract) as served:
+        served.browser.size(1280, 800)
+        tried = Trial(served.browser, folder, change)
+        tried.open(served.address)
         for part in (tried.move, tried.look, tried.closed_turn, tried.drive, tried.reach, tried.changes, tried.phone):
             part()
-        complaints = list(browser.complaints(address))
-        if complaints:
-            raise Wrong(f'{len(complaints)} complaints, the first: {complaints[0]}')
-    finally:
-        browser.close()
-        server.send_signal(signal.SIGINT)
-        status = server.wait(SECONDS)
-    if status != 0:
-        raise Wrong(f'map.py ends with status {status}')
+        served.end()
+
+
+def trial_of_nothing(program, room):
+    """The page over a store that holds no road."""
+    with Served(room, 'nothing', program, subprocess.DEVNULL) as served:
+        served.browser.size(1280, 800)
+        browser = served.browser
+        browser.tell('Page.navigate', url=served.address)
+        browser.wait('typeof byId === "function" && byId("busy").hidden && shown.isSearched', 'an empty map is shown')
+        browser.click(400, 400)
+        browser.value('ACTS.whole(), ACTS.closer(), 1')
+        browser.wait('byId("counts").textContent.includes("0 ways") && !byId("said").textContent', 'all is well')
+        served.end()
+        print('  a store without a road has a page too')
 
 
 def main(words):
@@ -377,9 +424,12 @@ def main(words):
         sys.exit(__doc__)
     program, extract, folder = words[:3]
     os.makedirs(folder, exist_ok=True)
+    signal.signal(signal.SIGTERM, lambda *_: sys.exit('look_in_browser: it was told to end'))
+    program = os.path.realpath(program)
     with tempfile.TemporaryDirectory(ignore_cleanup_errors=True) as room:
         try:
-            trial(os.path.realpath(program), extract, folder, words[3] if len(words) > 3 else None, room)
+            trial(program, extract, folder, words[3] if len(words) > 3 else None, room)
+            trial_of_nothing(program, room)
         except Wrong as wrong:
             sys.exit(f'look_in_browser: {wrong}')
 

@@ -61,7 +61,7 @@ def unescaped(text):
 
 
 class Tags:
-    """What lines of OPL tell of roads and restrictions: of each the line with the greatest version, first of several."""
+    """What lines of OPL tell of roads and restrictions: of each the first line with the greatest version."""
 
     def __init__(self):
         self.entries = {}       # the key of an object, as b'w201', to its version, and its fields T and M
@@ -289,7 +289,7 @@ class Request(BaseHTTPRequestHandler):
         """Nothing is logged."""
 
 
-# ----------------------------------------------------------------------------------------------------------- the command
+# ---------------------------------------------------------------------------------------------------------- the command
 
 
 def port_number(text):

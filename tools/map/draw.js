@@ -4,8 +4,8 @@
 const byId = name => document.getElementById(name);
 const TOKEN = document.querySelector('meta[name=token]').content;
 const colour = name => getComputedStyle(document.documentElement).getPropertyValue(`--${name}`).trim();
-const COLOURS = Object.fromEntries(['both', 'one', 'bad', 'shut', 'good', 'new', 'gone', 'altered', 'word', 'soft', 'ink']
-  .map(name => [name, colour(name)]));
+const NAMES = ['both', 'one', 'bad', 'shut', 'good', 'new', 'gone', 'altered', 'word', 'ink', 'start', 'goal'];
+const COLOURS = Object.fromEntries(NAMES.map(name => [name, colour(name)]));
 const METRES = 0.0111195;       // a unit of 1e-7 degree of latitude, in metres
 const TYPED = 300000;           // a change of at most so many characters is shown in full
 const ROWS = 200;               // and a list of at most so many rows
@@ -14,7 +14,7 @@ const shown = { graph: null, lines: null, turns: [], shut: [], sequence: '0', ta
   start: null, goal: null, found: null, verdict: null, members: [], text: null };
 const tags = new Map();         // what is known of ways and restrictions, by their keys
 
-// ------------------------------------------------------------------------------------------------------------- requests
+// ------------------------------------------------------------------------------------------------------------ requests
 
 async function call(path, body) {
   let reply;
@@ -50,7 +50,7 @@ async function learn(keys) {
 
 const nameOf = key => tags.get(key)?.tags.name ?? tags.get(key)?.tags.ref ?? tags.get(key)?.tags.highway ?? '';
 
-// ----------------------------------------------------------------------------------------------------------------- view
+// ---------------------------------------------------------------------------------------------------------------- view
 
 const canvas = document.querySelector('canvas');
 const pen = canvas.getContext('2d');
@@ -83,20 +83,26 @@ function fit(box, closest = 2) {
   refresh();
 }
 
+/** Widens a box so that a place of a piece is in it. */
+function include(box, graph, piece, place) {
+  const lon = graph.lon(piece, place), lat = graph.lat(piece, place);
+  widen(box, 0, lon, lat, lon, lat);
+}
+
 function boxOf(graph, pieces) {
   const box = [Infinity, Infinity, -Infinity, -Infinity];
   for (const piece of pieces) {
-    for (let place = 0; place < graph.places(piece); place++) {
-      widen(box, 0, graph.lon(piece, place), graph.lat(piece, place), graph.lon(piece, place), graph.lat(piece, place));
-    }
+    for (let place = 0; place < graph.places(piece); place++) include(box, graph, piece, place);
   }
   return box;
 }
 
-const piecesOf = (graph, block) =>
-  Array.from({ length: graph.firstPiece[block + 1] - graph.firstPiece[block] }, (_, at) => graph.firstPiece[block] + at);
+function piecesOf(graph, block) {
+  const first = graph.firstPiece[block];
+  return Array.from({ length: graph.firstPiece[block + 1] - first }, (_, at) => first + at);
+}
 
-// --------------------------------------------------------------------------------------------------- the network, drawn
+// -------------------------------------------------------------------------------------------------- the network, drawn
 
 // The network is drawn on a sheet of its own, a part in each frame; until it is done, the one before is shown, moved.
 let sheet = null, next = null, quota = 20000, lastFrame = 0, wanted = false;
@@ -328,15 +334,15 @@ function strip(work, points, stroke, wide, alpha = 1, dash = []) {
   work.globalAlpha = 1;
 }
 
-// ---------------------------------------------------------------------------------------------------- the answers, drawn
+// -------------------------------------------------------------------------------------------------- the answers, drawn
 
 function paintAnswers() {
   paintChanges();
   if (shown.tab === 'look' && shown.seen !== null) paintSeen();
   if (shown.tab === 'reach') {
     if (shown.found) paintSteps(shown.found, () => COLOURS.good);
-    paintPin(shown.start, 'A', '#0f766e');
-    paintPin(shown.goal, 'B', '#9f1239');
+    paintPin(shown.start, 'A', COLOURS.start);
+    paintPin(shown.goal, 'B', COLOURS.goal);
   }
   if (shown.tab === 'drive') paintDrive();
 }
@@ -344,14 +350,15 @@ function paintAnswers() {
 function paintChanges() {
   if (!shown.changes) return;
   const { old, gone, altered, new: fresh } = shown.changes, wide = roadWidth();
-  for (const [graph, blocks, stroke, dash] of [[shown.graph, altered, COLOURS.altered, []],
-    [shown.graph, fresh, COLOURS.new, []], [old, gone, COLOURS.gone, [7, 5]]]) {
-    for (const block of blocks) {
-      for (const piece of piecesOf(graph, block)) {
-        const points = piecePoints(graph, piece);
-        if (points.some(inSight)) strip(pen, points, stroke, wide + (dash.length ? 1 : 3), dash.length ? 1 : 0.75, dash);
-      }
-    }
+  paintBlocks(shown.graph, altered, points => strip(pen, points, COLOURS.altered, wide + 3, 0.75));
+  paintBlocks(shown.graph, fresh, points => strip(pen, points, COLOURS.new, wide + 3, 0.75));
+  paintBlocks(old, gone, points => strip(pen, points, COLOURS.gone, wide + 1, 1, [7, 5]));
+}
+
+function paintBlocks(graph, blocks, paint) {
+  for (const piece of blocks.flatMap(block => piecesOf(graph, block))) {
+    const points = piecePoints(graph, piece);
+    if (points.some(inSight)) paint(points);
   }
 }
 
@@ -429,11 +436,8 @@ function paintMembers() {
   for (const [key, role] of shown.members) roles.set(key, [...roles.get(key) ?? [], role]);
   const blocks = [...roles].filter(([key]) => key[0] === 'w')
     .map(([key, own]) => [shown.graph.block(BigInt(key.slice(1))), own.join(', ')]).filter(([block]) => block >= 0);
-  for (const [block] of blocks) {
-    for (const piece of piecesOf(shown.graph, block)) {
-      strip(pen, piecePoints(shown.graph, piece), COLOURS.word, roadWidth() + 9, 0.28);
-    }
-  }
+  const band = points => strip(pen, points, COLOURS.word, roadWidth() + 9, 0.28);
+  paintBlocks(shown.graph, blocks.map(([block]) => block), band);
   return blocks;
 }
 

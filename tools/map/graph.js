@@ -2,7 +2,8 @@
 // The bytes of a graph (docs/FORMATS.md), read in place: tables tell where its blocks and pieces stand. A piece and a
 // block are known by their place in these tables. Numbers of 64 bits are compared as two halves, so none is rounded.
 
-const RECORD = 16, NAME = 13, ARC = 17;   // bytes of a place, of a name and of an arc
+const RECORD = 16, NAME = 13, ARC = 17;     // bytes of a place, of a name and of an arc
+const FAR = 2 ** 31 - 1;                    // farther than any longitude or latitude
 
 /** A list of numbers that grows. */
 class Column {
@@ -109,6 +110,10 @@ class Graph {
   way(piece) { return this.bytes.getBigInt64(this.blockAt[this.blockOf[piece]], true); }
   /** The place at which a position of the way stands. */
   placeOf(piece, position) { return this.direction(piece) ? this.end(piece) - position : position - this.index(piece); }
+  /** The metres between two places of a piece. */
+  metres(piece, from, to) {
+    return metresBetween(this.lon(piece, from), this.lat(piece, from), this.lon(piece, to), this.lat(piece, to));
+  }
   /** The piece over the same positions in the other direction, or -1. */
   twin(piece) {
     const other = piece + (this.direction(piece) ? -1 : 1);
@@ -239,10 +244,15 @@ function missingTurns(graph) {
   for (const turn of found) if (open[nodeOf(turn)]) known.add(turn.join());
   for (const turn of found) {
     if (!open[nodeOf(turn)]) shut.set(nodeOf(turn), shut.get(nodeOf(turn)) ?? turn);
-    // a longer turn that ends with a shorter one says nothing new
-    else if (!turn.some((_, at) => at > 0 && at < turn.length - 1 && known.has(turn.slice(at).join()))) turns.push(turn);
+    else if (!endsWithOne(turn, known)) turns.push(turn);
   }
   return { turns, shut: [...shut.values()] };
+}
+
+/** Whether a turn ends with a shorter one of these, so that it says nothing new. */
+function endsWithOne(turn, known) {
+  for (let at = 1; at < turn.length - 1; at++) if (known.has(turn.slice(at).join())) return true;
+  return false;
 }
 
 /** Which blocks of two graphs differ: those of the old one that are gone, those of the new one that are new, and
@@ -337,17 +347,12 @@ class Lines {
     this.groupSize = size;
     this.boxes = new Int32Array(4 * this.count);
     this.groups = new Int32Array(4 * Math.ceil(this.count / size));
-    for (let at = 0; at < this.groups.length; at += 4) this.groups.set([2 ** 31 - 1, 2 ** 31 - 1, -(2 ** 31), -(2 ** 31)], at);
+    for (const boxes of [this.boxes, this.groups]) boxes.forEach((_, at) => { boxes[at] = at % 4 < 2 ? FAR : -FAR; });
     for (let line = 0; line < this.count; line++) {
-      let west = 2 ** 31 - 1, south = west, east = -west, north = -west;
       for (let at = this.first[line]; at < this.first[line + 1]; at++) {
-        west = Math.min(west, this.lons[at]);
-        east = Math.max(east, this.lons[at]);
-        south = Math.min(south, this.lats[at]);
-        north = Math.max(north, this.lats[at]);
+        widen(this.boxes, 4 * line, this.lons[at], this.lats[at], this.lons[at], this.lats[at]);
       }
-      this.boxes.set([west, south, east, north], 4 * line);
-      widen(this.groups, 4 * Math.floor(line / size), west, south, east, north);
+      widen(this.groups, 4 * Math.floor(line / size), ...this.boxes.subarray(4 * line, 4 * line + 4));
     }
   }
 

@@ -1,7 +1,7 @@
 'use strict';
 // What clicks, words and files ask, and the lists beside the map.
 
-// -------------------------------------------------------------------------------------------------- what a point is near
+// ------------------------------------------------------------------------------------------------ what a point is near
 
 function nearLines(x, y, most) {
   return shown.lines.within(lonAt(x - most), latAt(y + most), lonAt(x + most), latAt(y - most));
@@ -16,7 +16,7 @@ function roadAt(x, y, most = 14) {
       const [u, v] = points[at - 1], dx = points[at][0] - u, dy = points[at][1] - v;
       const part = Math.min(1, Math.max(0, ((x - u) * dx + (y - v) * dy) / (dx * dx + dy * dy || 1)));
       const distance = Math.hypot(x - u - part * dx, y - v - part * dy);
-      if (distance < most && (!best || distance < best.distance)) {
+      if (distance < (best?.distance ?? most)) {
         best = { piece: shown.lines.piece[line], place: at - 1, part, distance };
       }
     }
@@ -30,12 +30,15 @@ function nodeAt(x, y, most = 24) {
   for (const line of nearLines(x, y, most)) {
     linePoints(line).forEach(([u, v], place) => {
       const distance = Math.hypot(x - u, y - v);
-      if (distance < most && (!best || distance < best.distance)) best = { piece: shown.lines.piece[line], place, distance };
+      if (distance < (best?.distance ?? most)) best = { piece: shown.lines.piece[line], place, distance };
     });
   }
-  if (!best) return null;
+  return best && placedNode(best.piece, best.place);
+}
+
+function placedNode(piece, place) {
   const { graph } = shown;
-  return { id: graph.node(best.piece, best.place), at: [graph.lon(best.piece, best.place), graph.lat(best.piece, best.place)] };
+  return { id: graph.node(piece, place), at: [graph.lon(piece, place), graph.lat(piece, place)] };
 }
 
 /** The closed turn that is drawn at a point, or one over a node that a barrier closes. */
@@ -51,17 +54,16 @@ function closedAt(x, y) {
 function nodeCalled(number) {
   const { graph, lines } = shown, wanted = BigInt.asIntN(64, number);
   const low = Number(BigInt.asIntN(32, wanted)), high = Number(BigInt.asIntN(32, wanted >> 32n));
+  const isThere = at => graph.bytes.getInt32(at, true) === low && graph.bytes.getInt32(at + 4, true) === high;
   for (const piece of lines.piece) {
-    for (let place = 0, at = graph.placeAt(piece, 0); place < graph.places(piece); place++, at += RECORD) {
-      if (graph.bytes.getInt32(at, true) === low && graph.bytes.getInt32(at + 4, true) === high) {
-        return { id: number, at: [graph.lon(piece, place), graph.lat(piece, place)] };
-      }
+    for (let place = 0; place < graph.places(piece); place++) {
+      if (isThere(graph.placeAt(piece, place))) return placedNode(piece, place);
     }
   }
   return null;
 }
 
-// ------------------------------------------------------------------------------------------------------ parts of a panel
+// ---------------------------------------------------------------------------------------------------- parts of a panel
 
 function make(tag, given, ...children) {
   const element = Object.assign(document.createElement(tag), given);
@@ -85,16 +87,15 @@ function goRow(code, text, box, more = '', number = '') {
 }
 
 function table(pairs) {
-  return make('table', {}, ...pairs.map(([name, value]) => make('tr', {}, make('td', {}, name), make('td', {}, value))));
+  const row = ([name, value]) => make('tr', {}, make('td', {}, name), make('td', {}, value));
+  return make('table', {}, ...pairs.map(row));
 }
 
 function rounded(metres) { return metres < 1000 ? `${metres.toFixed(0)} m` : `${(metres / 1000).toFixed(2)} km`; }
 
 function pieceMetres(graph, piece) {
   let sum = 0;
-  for (let at = 1; at < graph.places(piece); at++) {
-    sum += metresBetween(graph.lon(piece, at - 1), graph.lat(piece, at - 1), graph.lon(piece, at), graph.lat(piece, at));
-  }
+  for (let at = 1; at < graph.places(piece); at++) sum += graph.metres(piece, at - 1, at);
   return sum;
 }
 
@@ -102,8 +103,7 @@ function stepsMetres(steps) {
   const { graph } = shown;
   return steps.reduce((sum, step) => {
     const at = graph.stepPlaces(step);
-    return at ? sum + metresBetween(graph.lon(at.piece, at.from), graph.lat(at.piece, at.from),
-      graph.lon(at.piece, at.to), graph.lat(at.piece, at.to)) : sum;
+    return at ? sum + graph.metres(at.piece, at.from, at.to) : sum;
   }, 0);
 }
 
@@ -111,9 +111,7 @@ function stepsBox(steps) {
   const box = [Infinity, Infinity, -Infinity, -Infinity], { graph } = shown;
   for (const step of steps) {
     const at = graph.stepPlaces(step);
-    for (const place of at ? [at.from, at.to] : []) {
-      widen(box, 0, graph.lon(at.piece, place), graph.lat(at.piece, place), graph.lon(at.piece, place), graph.lat(at.piece, place));
-    }
+    for (const place of at ? [at.from, at.to] : []) include(box, graph, at.piece, place);
   }
   return box;
 }
@@ -123,12 +121,13 @@ function runs(steps) {
   const found = [];
   for (const step of steps) {
     const key = step.slice(0, step.indexOf('.')), sign = step.at(-1), last = found.at(-1);
-    if (last && last.key === key && last.sign === sign) last.steps.push(step); else found.push({ key, sign, steps: [step] });
+    if (last?.key === key && last.sign === sign) last.steps.push(step);
+    else found.push({ key, sign, steps: [step] });
   }
   return found;
 }
 
-// -------------------------------------------------------------------------------------------------------------- looking
+// ------------------------------------------------------------------------------------------------------------- looking
 
 async function look(x, y) {
   const closed = closedAt(x, y);
@@ -148,7 +147,8 @@ async function see(piece) {
   byId('seen').replaceChildren();
   if (piece === null) return;
   const twin = graph.twin(piece), last = graph.places(piece) - 1, key = `w${graph.way(piece)}`;
-  const arcs = [piece, ...(twin < 0 ? [] : [twin])].flatMap(one => graph.contexts(one).flatMap(context => context.arcs));
+  const both = twin < 0 ? [piece] : [piece, twin];
+  const arcs = both.flatMap(one => graph.contexts(one).flatMap(context => context.arcs));
   await learn([key, ...arcs.map(arc => `w${graph.way(arc)}`)]);
   if (shown.seen !== piece) return;
   byId('seen').append(table([
@@ -158,7 +158,7 @@ async function see(piece) {
     ['length', rounded(pieceMetres(graph, piece))],
     ...Object.entries(tags.get(key)?.tags ?? {}),
   ]));
-  for (const one of twin < 0 ? [piece] : [piece, twin]) byId('seen').append(...onward(one));
+  for (const one of both) byId('seen').append(...onward(one));
 }
 
 function pieceName(piece) {
@@ -189,12 +189,13 @@ async function find(text) {
     fit([node.at[0], node.at[1], node.at[0], node.at[1]]);
   } else {
     const [lon, lat] = words.map(Number);
-    if (words.length !== 2 || !(Math.abs(lon) <= 180 && Math.abs(lat) <= 90)) throw new Error('type n101, w201, or lon lat');
+    const isPlace = words.length === 2 && Math.abs(lon) <= 180 && Math.abs(lat) <= 90;
+    if (!isPlace) throw new Error('type a node as n101, a way as w201, or a longitude and a latitude');
     fit([lon * 1e7, lat * 1e7, lon * 1e7, lat * 1e7]);
   }
 }
 
-// ------------------------------------------------------------------------------------------------------------- reaching
+// ------------------------------------------------------------------------------------------------------------ reaching
 
 function pickNode(x, y) {
   const node = nodeAt(x, y);
@@ -239,11 +240,14 @@ function tellFound(steps) {
       'No legal drive leads from A to B.'));
     return;
   }
-  const found = runs(steps);
+  const found = runs(steps), over = () => {
+    openTab('drive');
+    setSteps(steps);
+  };
   byId('found').replaceChildren(
     make('div', { className: 'verdict good' }, make('b', {}, `a drive of ${rounded(stepsMetres(steps))}`),
       `${steps.length} steps, ${found.length} stretches of way`),
-    make('div', { className: 'line' }, make('button', { onclick: () => { openTab('drive'); setSteps(steps); } }, 'Drive it'),
+    make('div', { className: 'line' }, make('button', { onclick: over }, 'Drive it'),
       make('button', { onclick: () => fit(stepsBox(steps)) }, 'Show all of it')),
     rows(found, run => goRow(runName(run.steps), nameOf(run.key), () => stepsBox(run.steps), '',
       rounded(stepsMetres(run.steps)))));
@@ -251,7 +255,7 @@ function tellFound(steps) {
 
 const runName = steps => (steps.length > 1 ? `${steps[0]} … ${steps.at(-1).split('.')[1]}` : steps[0]);
 
-// -------------------------------------------------------------------------------------------------------------- driving
+// ------------------------------------------------------------------------------------------------------------- driving
 
 const RULES = {
   'no-step': () => 'It names no two neighbouring positions of a way.',
@@ -319,8 +323,8 @@ async function judge() {
   const key = rule === 'no' || rule === 'only' ? `r${relation}` : null;
   if (key) await learn([key]);
   const members = key ? tags.get(key)?.members ?? [] : [];
-  await learn([...steps.map(step => step.split('.')[0]), ...members.map(([name]) => name).filter(name => name[0] === 'w')]
-    .filter(name => /^w-?\d+$/.test(name)));
+  const named = [...steps.map(step => step.split('.')[0]), ...members.map(([name]) => name)];
+  await learn(named.filter(name => /^w-?\d+$/.test(name)));
   if (own !== asked) return;
   shown.verdict = verdict;
   shown.members = members;
@@ -331,7 +335,8 @@ async function judge() {
 function tellVerdict(steps, verdict, key) {
   const [rule, named] = verdict.legal ? [] : verdict.rule.split(' ');
   const said = verdict.legal
-    ? make('div', { className: 'verdict good' }, make('b', {}, 'legal'), `${steps.length} steps, ${rounded(stepsMetres(steps))}`)
+    ? make('div', { className: 'verdict good' }, make('b', {}, 'legal'),
+      `${steps.length} steps, ${rounded(stepsMetres(steps))}`)
     : make('div', { className: 'verdict bad' }, make('b', {}, `broken at step ${verdict.step}: ${verdict.rule}`),
       RULES[rule]?.(named) ?? '');
   const first = Math.max(0, (verdict.step ?? 0) - ROWS / 2);      // so that the broken step is in the list
@@ -343,8 +348,8 @@ function restriction(key, steps, verdict) {
   const { first, step } = verdict, told = tags.get(key);
   const parts = [make('p', { className: 'hint' }, `It speaks of the steps ${first} to ${step}, in violet.`)];
   if (!told) return parts;
-  parts.push(table([...Object.entries(told.tags), ...told.members.map(([name, role]) => [role || 'member', memberName(name)])]));
-  return parts;
+  const members = told.members.map(([name, role]) => [role || 'member', memberName(name)]);
+  return [...parts, table([...Object.entries(told.tags), ...members])];
 }
 
 function memberName(key) {
@@ -354,13 +359,14 @@ function memberName(key) {
 
 function stepRow(step, at, verdict) {
   const number = at + 1, broken = !verdict.legal && number === verdict.step;
+  const later = !verdict.legal && number > verdict.step;
   const word = verdict.first && number >= verdict.first && number <= verdict.step;
-  const kind = [broken ? 'bad' : '', !verdict.legal && number > verdict.step ? 'later' : '', word ? 'word' : ''].join(' ');
-  const isDrawn = shown.graph.stepPlaces(step) !== null;
-  return goRow(`${number}. ${step}`, isDrawn ? nameOf(step.split('.')[0]) : 'not in the graph', () => stepsBox([step]), kind);
+  const kind = [broken ? 'bad' : '', later ? 'later' : '', word ? 'word' : ''].join(' ');
+  const said = shown.graph.stepPlaces(step) ? nameOf(step.split('.')[0]) : 'not in the graph';
+  return goRow(`${number}. ${step}`, said, () => stepsBox([step]), kind);
 }
 
-// ------------------------------------------------------------------------------------------------------------- changing
+// ------------------------------------------------------------------------------------------------------------ changing
 
 /** Takes a change from a file. A large one isn't shown. */
 async function takeFile(file) {
@@ -452,7 +458,7 @@ function hideChanges() {
   refresh();
 }
 
-// ----------------------------------------------------------------------------------------------- buttons and the pointer
+// --------------------------------------------------------------------------------------------- buttons and the pointer
 
 const ACTS = {
   closer: () => zoom(1.6), farther: () => zoom(1 / 1.6), whole: () => fit(shown.lines.extent),
@@ -466,8 +472,9 @@ const CLICKS = { look, reach: pickNode, drive: addRoad, change: look };
 
 function openTab(name) {
   shown.tab = name;
-  for (const tab of document.querySelectorAll('[data-tab]')) tab.setAttribute('aria-selected', tab.dataset.tab === name);
-  for (const part of document.querySelectorAll('[data-of]')) part.hidden = part.dataset.of !== name;
+  const every = selector => document.querySelectorAll(selector);
+  for (const tab of every('[data-tab]')) tab.setAttribute('aria-selected', tab.dataset.tab === name);
+  for (const part of every('[data-of]')) part.hidden = part.dataset.of !== name;
   byId('said').textContent = '';
   if (name === 'drive' && shown.lines && !shown.verdict) attempt(judge);
   refresh();
@@ -582,7 +589,7 @@ function hover(event) {
   tip.style.top = `${Math.min(y + 14, height - tip.offsetHeight - 4)}px`;
 }
 
-// ------------------------------------------------------------------------------------------------------------- the start
+// ----------------------------------------------------------------------------------------------------------- the start
 
 const pause = () => new Promise(done => { setTimeout(done, 0); });
 
@@ -595,9 +602,8 @@ async function load() {
     members: [], isSearched: false });
   const [west, south, east, north] = shown.lines.extent;
   squeeze = west <= east ? Math.cos((south + north) / 2 * Math.PI / 1.8e9) : 1;
-  const number = count => count.toLocaleString('en');
-  byId('counts').textContent = `change ${state.sequence} · ${number(state.ways)} ways · ${number(state.pieces)} pieces · `
-    + `${number(state.arcs)} arcs`;
+  const counts = ['ways', 'pieces', 'arcs'].map(name => `${state[name].toLocaleString('en')} ${name}`);
+  byId('counts').textContent = [`change ${state.sequence}`, ...counts].join(' · ');
   for (const part of ['seen', 'found', 'verdict']) byId(part).replaceChildren();
   setTimeout(findClosed, 50);
   redraw();
