@@ -9,7 +9,7 @@ returns-in_default-clause-err c = λ mode read holds. record {
   is = refl;
   small = c.requires;
   within = within read c.args.self.now.measure holds.measures;
-  passes = c.in_default.ensures read holds.measures;
+  passes = c.in_default.ensures.none read holds.measures;
 }
 
 pub returns-in_default-feed-clause-ok : goal.returns-in_default-feed-clause-ok
