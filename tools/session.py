@@ -292,8 +292,7 @@ class Session:
         if words[0] == 'applied':
             self.number = int(words[1])
         elif words[2] == 'sequence':
-            self.number = int(words[3])
-            raise OutOfSequence(int(words[1]), self.number)
+            raise OutOfSequence(int(words[1]), int(words[3]))
         else:
             raise Faulty(int(words[1]), int(words[3]), int(words[5]), words[6])
         return reply
