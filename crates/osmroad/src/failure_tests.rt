@@ -351,8 +351,8 @@ fn check_calls(
 enum Gate {
     /// It isn't opened, and nothing is pending.
     Closed,
-    /// It isn't opened, and other bytes were written, the last of which stands at this place and reads as anything after
-    /// a stop: the next gate behind a record, or a gate that was closed.
+    /// It isn't opened, and other bytes were written, the last of which stands at this place and reads as anything
+    /// after a stop: the next gate behind a record, or a gate that was closed.
     Behind(u64),
     /// It was opened at this place, and reads as anything after a stop.
     Pending(u64),
