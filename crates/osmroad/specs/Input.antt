@@ -23,8 +23,8 @@ pub record ReadWhole (mode : Mode) (events : List Event) (before now : Option (L
   pub within : PassesLimit bytes → ⊥
   pub gives : ReadAll mode bytes events
 
--- Why an input isn't read: the source failed, and no limit is passed; the last part passes a limit; all was read, no limit is
--- passed, and this is the first fault; memory ended.
+-- Why an input isn't read: the source failed, and no limit is passed; the last part passes a limit; all was read, no
+-- limit is passed, and this is the first fault; memory ended.
 abbrev pub Cause : Mode → InputError → List ℕ → Option (List ℕ) → ℕ → ℕ → Type 0
 Cause mode Failed read now faults_before faults_now = Rose faults_before faults_now × (PassesLimit read → ⊥)
 Cause mode TooLong read now faults_before faults_now = PassesAtLast PassesLimit read

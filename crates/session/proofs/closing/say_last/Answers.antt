@@ -4,7 +4,8 @@ use Rattle.session.proofs.closing.say_last.Goals as goal
 pub returns-in-Ok-clause-ends : goal.returns-in-Ok-clause-ends
 returns-in-Ok-clause-ends g c = λ P loaded read ended x closes.
     ends_said c.store_laws.ensures P loaded read ended c.args.end c.args.line.now tt x
-    (g.W.Site.outside c.args.site.now) (g.W.Site.outside c.put_chunk.new.site) (is_whole c.args.end c.requires) closes c.in-Ok.ensures.told
+    (g.W.Site.outside c.args.site.now) (g.W.Site.outside c.put_chunk.new.site) (is_whole c.args.end c.requires) closes
+    c.in-Ok.ensures.told
 
 pub returns-in-Err-clause-ends : goal.returns-in-Err-clause-ends
 returns-in-Err-clause-ends g c = λ P loaded read ended x closes.
