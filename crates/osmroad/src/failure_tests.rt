@@ -233,7 +233,7 @@ fn shown_on(alloc: Global, site: &mut MemorySite) -> Result<Shown, NoMemory> {
 }
 
 /// The same on a new site of these files.
-fn shown(alloc: Global, site: &MemorySite) -> Result<Shown, NoMemory> {
+fn show_anew(alloc: Global, site: &MemorySite) -> Result<Shown, NoMemory> {
     let mut after = anew(alloc, site, &[])?;
     shown_on(alloc, &mut after)
 }
@@ -476,7 +476,7 @@ fn check_stopped(
     stopped: &MemorySite,
     wanted: &Holds,
 ) -> Result<(), NoMemory> {
-    let shown = shown(alloc, stopped)?;
+    let shown = show_anew(alloc, stopped)?;
     check_shown(rt, alloc, run, output, &shown, wanted)
 }
 
