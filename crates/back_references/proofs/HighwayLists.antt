@@ -16,9 +16,10 @@ use Rattle.road_base.specs.declared.event.Event.{Event}
 use Rattle.road_base.specs.Objects.{Objects, Entry, key_cmp, body_in, way_in, visible, way_of}
 use Rattle.road_model.specs.Rules.{has_highway}
 use Rattle.road_model.specs.Highways.{IsHighway, highway_of, highways, visible_highway}
-use Rattle.road_model.specs.Orders.{rises, way_cmp}
+use Rattle.ordered_lists.specs.Orders.{rises}
+use Rattle.road_model.specs.Orders.{way_cmp}
 use Rattle.object_store.specs.Listed.{AreEntriesOf, IsInOrder, is_way, pair_of}
-use Rattle.road_base.proofs.ListMembers.{In, contains_from_in, in_from_contains}
+use Rattle.ordered_lists.proofs.ListMembers.{In, contains_from_in, in_from_contains}
 use Rattle.back_references.proofs.ToldNames.{in_told, told_rise}
 
 -- ---- they are told from the entries of ways alone

@@ -13,10 +13,10 @@ use Rattle.std.specs.List.Sorted.{IsSearchInRange, IsBinarySearchResult, IsSorte
 use Rattle.std.proofs.lemmas.Bool.{cases_lt}
 use Rattle.std.proofs.lemmas.Cmp.{tied_itself}
 use Rattle.std.proofs.lemmas.List.Sorted.{searchable_from_sorted}
-use Rattle.road_model.specs.Orders.{rises, Lists}
-use Rattle.road_base.proofs.ListMembers.{In, in_from_contains, contains_from_in}
-use Rattle.road_base.proofs.ListMembers.{in_left, in_right, in_cases, contains_map}
-use Rattle.road_base.proofs.Comparisons.{turned}
+use Rattle.ordered_lists.specs.Orders.{rises, Lists}
+use Rattle.ordered_lists.proofs.ListMembers.{In, in_from_contains, contains_from_in}
+use Rattle.ordered_lists.proofs.ListMembers.{in_left, in_right, in_cases, contains_map}
+use Rattle.ordered_lists.proofs.Comparisons.{turned}
 use Rattle.back_references.specs.Indexes.{Held, Has, Ascend, IsAmong, Stays, IsChosen, IsExchangedAt}
 use mathlib.Core.Bool.{false≢true}
 use Rattle.back_references.proofs.Lookups.{far}

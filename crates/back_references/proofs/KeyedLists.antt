@@ -12,9 +12,9 @@ use Rattle.std.proofs.lemmas.Bool.{cases_lt}
 use Rattle.std.proofs.lemmas.Cmp.{tied_itself}
 use Rattle.std.proofs.lemmas.Slice.Zip.{firsts-zip, length-zip}
 use mathlib.Core.Bool.{false≢true}
-use Rattle.road_model.specs.Orders.{rises}
-use Rattle.road_base.proofs.ListMembers.{In, in_from_contains, contains_from_in, in_left, in_right, in_cases}
-use Rattle.road_base.proofs.Comparisons.{less, turned}
+use Rattle.ordered_lists.specs.Orders.{rises}
+use Rattle.ordered_lists.proofs.ListMembers.{In, in_from_contains, contains_from_in, in_left, in_right, in_cases}
+use Rattle.ordered_lists.proofs.Comparisons.{less, turned}
 use Rattle.back_references.specs.Replacing.{list_or_none}
 use Rattle.back_references.proofs.Lookups.{far}
 use Rattle.back_references.proofs.IndexLists.{in_or_out}

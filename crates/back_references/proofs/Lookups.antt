@@ -12,9 +12,9 @@ use Rattle.std.proofs.lemmas.Bool.{and_parts, and_from, cases_lt}
 use Rattle.std.proofs.lemmas.Cmp.{tied_itself, on_total, then_total, upto}
 use Rattle.std.proofs.lemmas.List.{length-take, length-drop, get_or-take, get_or-drop}
 use Rattle.std.proofs.lemmas.Slice.Zip.{length-zip, get_or-zip}
-use Rattle.road_model.specs.Orders.{rises, rises_from, Lists}
-use Rattle.road_model.proofs.AscendingLists.{rest_rises}
-use Rattle.road_base.proofs.Comparisons.{less, below_upto, not_above, from_not_above, between}
+use Rattle.ordered_lists.specs.Orders.{rises, rises_from, Lists}
+use Rattle.ordered_lists.proofs.AscendingLists.{rest_rises}
+use Rattle.ordered_lists.proofs.Comparisons.{less, below_upto, not_above, from_not_above, between}
 use Rattle.back_references.specs.Pairs.{pair_cmp}
 
 -- ---- ascending lists by places

@@ -11,7 +11,7 @@ use Rattle.std.specs.List.{flat_map}
 use Rattle.std.proofs.lemmas.Grind.{flat_map-append}
 use Rattle.object_store.specs.Filters.{IsMarked, AreMarked}
 use Rattle.object_store.proofs.LevelPairs.{or_cond}
-use Rattle.road_base.proofs.ListMembers.{contains_head, contains_later, contains_more, contains_none}
+use Rattle.ordered_lists.proofs.ListMembers.{contains_head, contains_later, contains_more, contains_none}
 use mathlib.Core.Bool.{false≢true}
 
 -- ---- what is found in lists that stand one before the other

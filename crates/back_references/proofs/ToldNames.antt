@@ -10,10 +10,10 @@ use Rattle.std.proofs.lemmas.Bool.{and_parts}
 use Rattle.road_base.specs.declared.ids.Key.{Key}
 use Rattle.road_base.specs.declared.event.Event.{Event}
 use Rattle.road_base.specs.Objects.{key_cmp}
-use Rattle.road_model.specs.Orders.{rises, rises_from}
+use Rattle.ordered_lists.specs.Orders.{rises, rises_from}
 use Rattle.object_store.specs.Listed.{IsInOrder, key_of}
-use Rattle.road_base.proofs.ListMembers.{In}
-use Rattle.road_model.proofs.AscendingLists.{rest_rises, behind_next}
+use Rattle.ordered_lists.proofs.ListMembers.{In}
+use Rattle.ordered_lists.proofs.AscendingLists.{rest_rises, behind_next}
 
 -- ---- the members of what a list tells
 

@@ -2,7 +2,7 @@
 use Rattle.std.specs.Prelude.{◌≡◌, ◌↔◌, ◌⊎◌, List, Option, Some, None, Contains, IsTrue}
 use Rattle.std.specs.FinMap.{find}
 use Rattle.std.specs.declared.cmp.Ordering.{Ordering}
-use Rattle.road_model.specs.Orders.{rises}
+use Rattle.ordered_lists.specs.Orders.{rises}
 
 -- pairs of a key and a value, and for some keys the list that stands in their place
 abbrev pub Held : Type 0 → Type 0 → Type 0

@@ -1,10 +1,10 @@
 //! Lists of values without those that are gone, and with those that came.
 ghost use Rattle.std.specs.Prelude.{◌≡◌, ◌↔◌, ◌⊎◌, ◌++◌, IfOk, OnOk, IsTrue, Contains, map};
 ghost use Rattle.std.specs.FinMap.{IsAntisymmetric};
-ghost use Rattle.road_model.specs.Orders.{rises};
+ghost use Rattle.ordered_lists.specs.Orders.{rises};
 
+use ordered_lists::leave_once;
 use road_base::NoMemory;
-use road_model::leave_once;
 use std::alloc::Global;
 
 /// The keys of the pairs, each once, ascending.

@@ -2,7 +2,7 @@
 ghost use Rattle.std.specs.Prelude.{◌≡◌, ◌↔◌, ◌⊎◌, ◌++◌, ◌∷◌, [], List, IfOk, OnOk, IsTrue, Contains};
 ghost use Rattle.std.specs.FinMap.{IsAntisymmetric, find};
 ghost use Rattle.std.specs.declared.cmp.Ordering.TheVariants.{Less};
-ghost use Rattle.road_model.specs.Orders.{Lists, rises};
+ghost use Rattle.ordered_lists.specs.Orders.{Lists, rises};
 ghost use Rattle.back_references.specs.Indexes.{Ascend, Has, IsExchanged, IsExchangedAt, Stays};
 ghost use Rattle.back_references.specs.Holding.{base_pairs};
 
@@ -11,7 +11,8 @@ use crate::key_lists::KeyLists;
 use crate::pair_list::PairList;
 use crate::replaced::Replaced;
 use object_store::Slotted;
-use road_base::{NoMemory, Numbered};
+use ordered_lists::Numbered;
+use road_base::NoMemory;
 use std::alloc::Global;
 use std::marker::Model;
 use std::rc::Rc;

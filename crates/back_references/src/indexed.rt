@@ -7,7 +7,8 @@ ghost use Rattle.road_base.specs.Objects.{Objects as ObjectMap, body_in, node_in
 ghost use Rattle.road_base.specs.declared.ids.WayId.{WayId};
 ghost use Rattle.road_model.specs.Links.{AreChanged};
 ghost use Rattle.road_model.specs.Highways.{IsHighway, highways};
-ghost use Rattle.road_model.specs.Orders.{rises, way_cmp};
+ghost use Rattle.ordered_lists.specs.Orders.{rises};
+ghost use Rattle.road_model.specs.Orders.{way_cmp};
 ghost use Rattle.back_references.specs.Indexing.{IsIndexed};
 
 use crate::highways::highways_among;

@@ -3,11 +3,12 @@ ghost use Rattle.std.specs.Prelude.{◌≡◌, ◌↔◌, ◌⊎◌, ◌++◌, �
 ghost use Rattle.std.specs.Prelude.{option_copied};
 ghost use Rattle.std.specs.FinMap.{IsAntisymmetric, find};
 ghost use Rattle.std.specs.declared.cmp.Ordering.TheVariants.{Less};
-ghost use Rattle.road_model.specs.Orders.{rises};
+ghost use Rattle.ordered_lists.specs.Orders.{rises};
 ghost use Rattle.back_references.specs.Replacing.{list_or_none};
 
 use crate::pair_list::first_near;
-use road_base::{Groups, NoMemory, Numbered, Ranges};
+use ordered_lists::{Groups, Numbered, Ranges};
+use road_base::NoMemory;
 use std::alloc::Global;
 use std::marker::Model;
 
@@ -25,7 +26,7 @@ pub struct KeyLists<K: Ord + Copy + Numbered, V: Copy + Drop> {
 impl<K: Ord + Copy + Numbered, V: Copy + Drop> Model for KeyLists<K, V> {
     ghost use Rattle.std.specs.Prelude.{◌≡◌, List, length, IsTrue};
     ghost use Rattle.std.specs.List.{zip};
-    ghost use Rattle.road_model.specs.Orders.{rises};
+    ghost use Rattle.ordered_lists.specs.Orders.{rises};
 
     ghost Value = { List (K × List V) };
 

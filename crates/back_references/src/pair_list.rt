@@ -5,10 +5,11 @@ ghost use Rattle.std.specs.List.{AllWithin};
 ghost use Rattle.std.specs.List.Sorted.{IsPartitionedBy, IsPartitionPoint};
 ghost use Rattle.std.specs.Ordering.{is_le, is_lt};
 ghost use Rattle.std.specs.FinMap.{IsAntisymmetric};
-ghost use Rattle.road_model.specs.Orders.{Lists, rises};
+ghost use Rattle.ordered_lists.specs.Orders.{Lists, rises};
 ghost use Rattle.back_references.specs.Pairs.{pair_cmp};
 
-use road_base::{NoMemory, Numbered, Ranges};
+use ordered_lists::{Numbered, Ranges};
+use road_base::NoMemory;
 use std::alloc::{AllocError, Global};
 use std::marker::Model;
 
@@ -24,7 +25,7 @@ pub struct PairList<K: Ord + Copy + Numbered, V: Ord + Copy> {
 impl<K: Ord + Copy + Numbered, V: Ord + Copy> Model for PairList<K, V> {
     ghost use Rattle.std.specs.Prelude.{◌≡◌, List, length, IsTrue};
     ghost use Rattle.std.specs.List.{zip};
-    ghost use Rattle.road_model.specs.Orders.{rises};
+    ghost use Rattle.ordered_lists.specs.Orders.{rises};
     ghost use Rattle.back_references.specs.Pairs.{pair_cmp};
 
     ghost Value = { List (K × V) };

@@ -8,7 +8,8 @@ ghost use Rattle.road_base.specs.declared.ids.NodeId.{NodeId};
 ghost use Rattle.road_base.specs.declared.ids.WayId.{WayId};
 ghost use Rattle.road_base.specs.declared.ids.RelationId.{RelationId};
 ghost use Rattle.road_model.specs.Links.{RefersTo, HasMember};
-ghost use Rattle.road_model.specs.Orders.{Lists, node_cmp, way_cmp, relation_cmp};
+ghost use Rattle.ordered_lists.specs.Orders.{Lists};
+ghost use Rattle.road_model.specs.Orders.{node_cmp, way_cmp, relation_cmp};
 ghost use Rattle.back_references.specs.Indexes.{Has};
 
 use crate::collecting::{

@@ -6,7 +6,8 @@ ghost use Rattle.back_references.specs.Replacing.{lists_in};
 
 use crate::key_lists::KeyLists;
 use object_store::{Marks, Slotted};
-use road_base::{NoMemory, Numbered};
+use ordered_lists::Numbered;
+use road_base::NoMemory;
 use std::alloc::Global;
 use std::marker::Model;
 use std::rc::Rc;

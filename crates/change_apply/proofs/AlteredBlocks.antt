@@ -18,7 +18,7 @@ use Rattle.touched_ways.specs.Altering.{AreParted, IsUnaltered, HasSamePieces, H
 use Rattle.touched_ways.specs.Altering.{MeetsOne, MeetsSamePieces, listed_pieces}
 use Rattle.change_apply.specs.Engines.{AreKept, IsBlockAt}
 use Rattle.change_apply.specs.Rebuilding.{AreRebuilt, block_at, pieces_in, pieces_at}
-use Rattle.road_base.proofs.ListMembers.{contains_from_in, in_from_contains, in_left, in_right}
+use Rattle.ordered_lists.proofs.ListMembers.{contains_from_in, in_from_contains, in_left, in_right}
 use Rattle.change_apply.proofs.RebuiltBlocks.{listed_or_not, both_rebuilt, kept_behind, at_built}
 
 -- the block lists its pieces, and where it has none, so does no block

@@ -18,7 +18,8 @@ use Rattle.road_base.specs.Objects.{Objects}
 use Rattle.road_base.specs.Applying.{IsApplied}
 use Rattle.road_model.specs.declared.blocks.Block.{Block}
 use Rattle.road_model.specs.Rules.{Rules}
-use Rattle.road_model.specs.Orders.{Lists, rises, way_cmp}
+use Rattle.ordered_lists.specs.Orders.{Lists, rises}
+use Rattle.road_model.specs.Orders.{way_cmp}
 use Rattle.road_model.specs.Blocks.{IsBlock, IsRoadBlock}
 use Rattle.road_model.specs.BlockMap.{AreBlocksOf}
 use Rattle.road_model.specs.Highways.{AreRoadWays, highways}
@@ -26,8 +27,8 @@ use Rattle.road_model.specs.Naming.{OneBlock}
 use Rattle.road_model.specs.BlockMap.{entry_of}
 use Rattle.road_model.specs.Format.{IsBlockForm}
 use Rattle.change_apply.specs.Engines.{AreBlocksAmong, AreInForm}
-use Rattle.road_base.proofs.ListMembers.{In, contains_from_in, in_from_contains, contains_more, in_left, in_end}
-use Rattle.road_model.proofs.SortedMaps.{values_of}
+use Rattle.ordered_lists.proofs.ListMembers.{In, contains_from_in, in_from_contains, contains_more, in_left, in_end}
+use Rattle.ordered_lists.proofs.SortedMaps.{values_of}
 
 module _ (M : Objects) (P : Rules) where
   -- what is said of a block that stands at a way

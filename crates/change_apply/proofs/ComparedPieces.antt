@@ -3,8 +3,8 @@ use Rattle.std.proofs.Common.{inl, inr, ℕ, List, [], ◌∷◌, ◌++◌, Cont
 use Rattle.road_base.specs.declared.ids.WayId.{WayId}
 use Rattle.road_model.specs.declared.lists.Piece.{Piece}
 use Rattle.road_model.specs.declared.lists.PieceName.{PieceName}
-use Rattle.road_base.proofs.ListMembers.{contains_from_in, in_from_contains, contains_more}
-use Rattle.road_base.proofs.ListMembers.{in_left, in_end}
+use Rattle.ordered_lists.proofs.ListMembers.{contains_from_in, in_from_contains, contains_more}
+use Rattle.ordered_lists.proofs.ListMembers.{in_left, in_end}
 
 -- what is said of each of the ways that isn't among the altered ones
 abbrev pub AreSame : (WayId → Type 0) → List WayId → List WayId → Type 0

@@ -10,9 +10,9 @@ use Rattle.std.specs.declared.cmp.Ordering.TheVariants.{Less, Equal}
 use Rattle.std.proofs.lemmas.Bool.{and_parts}
 use Rattle.std.proofs.lemmas.Cmp.{tied_itself}
 use Rattle.road_base.specs.declared.ids.WayId.{WayId}
-use Rattle.road_base.proofs.Comparisons.{less, turned}
-use Rattle.road_base.proofs.ListMembers.{In, contains_from_in, in_from_contains, contains_more, contains_none, in_end}
-use Rattle.road_base.proofs.ListMembers.{in_map, from_map}
+use Rattle.ordered_lists.proofs.Comparisons.{less, turned}
+use Rattle.ordered_lists.proofs.ListMembers.{In, contains_from_in, in_from_contains, contains_more, contains_none, in_end}
+use Rattle.ordered_lists.proofs.ListMembers.{in_map, from_map}
 use Rattle.road_model.specs.declared.blocks.Block.{Block}
 use Rattle.road_model.specs.declared.lists.Piece.{Piece}
 use Rattle.road_model.specs.BlockMap.{entry_of}

@@ -6,8 +6,8 @@ use Rattle.std.specs.FinMap.{FinMap, IsAntisymmetric, empty, find, get, insert, 
 use Rattle.std.specs.Ordering.{is_eq, eq_by_cmp}
 use Rattle.std.proofs.lemmas.Cmp.{tied_itself}
 use Rattle.road_base.specs.declared.ids.WayId.{WayId}
-use Rattle.road_base.proofs.ListMembers.{contains_from_in, in_from_contains, contains_more, contains_none}
-use Rattle.road_base.proofs.ListMembers.{in_left, in_end}
+use Rattle.ordered_lists.proofs.ListMembers.{contains_from_in, in_from_contains, contains_more, contains_none}
+use Rattle.ordered_lists.proofs.ListMembers.{in_left, in_end}
 use Rattle.road_model.specs.declared.blocks.Block.{Block}
 use Rattle.road_model.specs.Orders.{way_cmp}
 use Rattle.change_apply.specs.Listing.{AreAt, AreOf, ArePutFrom, Grows, IsKept, IsPutFrom, with_kept}

@@ -8,7 +8,7 @@ use Rattle.std.specs.FinMap.Entries.{find-put}
 use Rattle.std.specs.Ordering.{eq_by_cmp}
 use Rattle.std.specs.Option.{option_copied}
 use Rattle.road_base.specs.declared.ids.WayId.{WayId}
-use Rattle.road_base.proofs.ListMembers.{contains_from_in, contains_more, contains_none, in_end}
+use Rattle.ordered_lists.proofs.ListMembers.{contains_from_in, contains_more, contains_none, in_end}
 use Rattle.road_model.specs.declared.blocks.Block.{Block}
 use Rattle.road_model.specs.declared.lists.Piece.{Piece}
 use Rattle.road_model.specs.Orders.{way_cmp}

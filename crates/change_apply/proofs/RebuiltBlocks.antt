@@ -18,9 +18,9 @@ use Rattle.road_model.specs.Format.{IsBlockForm}
 use Rattle.touched_ways.specs.Altering.{IsUnaltered}
 use Rattle.change_apply.specs.Engines.{AreInForm, AreKept, IsBlockAt}
 use Rattle.change_apply.specs.Rebuilding.{with_pieces, block_at, IsBuilt, IsRebuiltWith, AreRebuilt, AreAtTheirWays}
-use Rattle.road_base.proofs.ListMembers.{contains_from_in, in_from_contains, contains_head, contains_later}
-use Rattle.road_base.proofs.ListMembers.{contains_cases, contains_none, contains_more, in_left, in_right, in_cases}
-use Rattle.road_base.proofs.ListMembers.{in_end}
+use Rattle.ordered_lists.proofs.ListMembers.{contains_from_in, in_from_contains, contains_head, contains_later}
+use Rattle.ordered_lists.proofs.ListMembers.{contains_cases, contains_none, contains_more, in_left, in_right, in_cases}
+use Rattle.ordered_lists.proofs.ListMembers.{in_end}
 
 -- ---- whether two ways are one, and whether a way is in a list
 

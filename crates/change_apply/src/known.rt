@@ -1,11 +1,13 @@
 //! The blocks that stand before others are built.
 ghost use Rattle.std.specs.Prelude.{◌≡◌, IsTrue, option_copied};
 ghost use Rattle.std.specs.FinMap.{get};
-ghost use Rattle.road_model.specs.Orders.{rises, way_cmp};
+ghost use Rattle.ordered_lists.specs.Orders.{rises};
+ghost use Rattle.road_model.specs.Orders.{way_cmp};
 ghost use Rattle.change_apply.specs.Standing.{built_in, newest, newest_but};
 
 use object_store::SharedMap;
-use road_base::{Ranges, WayId, Ways};
+use ordered_lists::Ranges;
+use road_base::{WayId, Ways};
 use road_model::laws::name_order;
 use road_model::{Block, Blocks, KnownBlocks};
 use touched_ways::is_among;

@@ -4,7 +4,7 @@ use Rattle.std.proofs.Common.{Some, refl, sym, ap, ◌∙◌, arith, append_asso
 use Rattle.std.proofs.lemmas.Option.{slice_get_within, get_or_from_slice_get}
 use Rattle.std.proofs.lemmas.List.{drop_more, take_more, take-append-drop, drop-take, drop-append-le, length-take-le}
 use Rattle.std.proofs.lemmas.List.{length-drop}
-use Rattle.road_base.proofs.Splits.{Ends, Nil, Last, same_last}
+use Rattle.ordered_lists.proofs.Splits.{Ends, Nil, Last, same_last}
 
 module _ {X : Type 0} where
   pub drop_place : (xs : List X) (i : ℕ) (x : X) → slice_get xs i ≡ Some x → drop i xs ≡ x ∷ drop (i + 1) xs

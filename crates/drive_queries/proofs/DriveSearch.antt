@@ -9,8 +9,8 @@ use Rattle.road_model.specs.Rules.{Rules}
 use Rattle.road_model.specs.Pieces.{Span, IsPiece, StandsAt, spell}
 use Rattle.road_model.specs.Network.{Legal, IsArc, spell_pieces}
 use Rattle.road_model.specs.Walks.{WalksTo, Start, Go, IsJunctionDrive}
-use Rattle.road_base.proofs.ListPlaces.{stands_last}
-use Rattle.road_base.proofs.Splits.{cons_not_nil, ends}
+use Rattle.ordered_lists.proofs.ListPlaces.{stands_last}
+use Rattle.ordered_lists.proofs.Splits.{cons_not_nil, ends}
 use Rattle.road_model.proofs.WalkLists.{spell_pieces-push}
 use Rattle.drive_queries.specs.Reaching.{LeadsTo}
 use Rattle.drive_queries.specs.Searching.{BeginsAt, StopsAt, IsSearched}

@@ -17,7 +17,8 @@ use Rattle.road_base.specs.declared.ids.Step.{Step}
 use Rattle.road_base.specs.declared.ids.Dir.TheVariants.{Forward, Backward}
 use Rattle.road_base.specs.Objects.{Objects}
 use Rattle.road_model.specs.Rules.{Rules}
-use Rattle.road_model.specs.Orders.{Lists, node_cmp, way_cmp}
+use Rattle.ordered_lists.specs.Orders.{Lists}
+use Rattle.road_model.specs.Orders.{node_cmp, way_cmp}
 use Rattle.road_model.specs.Lines.{node_at, tail_position}
 use Rattle.road_model.specs.Driving.{Leaves, drivable, is_open, located}
 use Rattle.road_model.specs.Links.{RefersTo}
@@ -28,8 +29,8 @@ use Rattle.drive_queries.specs.declared.dead_ends.Leaving.{Leaving}
 use Rattle.drive_queries.specs.declared.dead_ends.Leaving.TheVariants.{Nothing, One, More}
 use Rattle.drive_queries.specs.DeadEnds.{Fits, AreLeaving, AreNoted, StepsOf, StepsBelow}
 use Rattle.drive_queries.specs.DeadEnds.{IsWith, Adds, AreUnknown, HasWaysAt, leaving_in}
-use Rattle.road_base.proofs.ListFronts.{among_more, among_before, among_last}
-use Rattle.road_base.proofs.ListMembers.{contains_none}
+use Rattle.ordered_lists.proofs.ListFronts.{among_more, among_before, among_last}
+use Rattle.ordered_lists.proofs.ListMembers.{contains_none}
 use Rattle.road_model.proofs.TotalOrders.{dir_cases}
 use Rattle.drive_queries.proofs.SearchGoals.{eq_cases}
 use Rattle.drive_queries.proofs.JudgedSteps.{node_is}

@@ -8,7 +8,7 @@ use Rattle.road_base.specs.declared.ids.Step.{Step}
 use Rattle.road_base.specs.declared.ids.Dir.{Dir}
 use Rattle.road_base.specs.declared.ids.Dir.TheVariants.{Forward, Backward}
 use Rattle.road_base.specs.Objects.{Objects}
-use Rattle.road_base.proofs.ListPlaces.{some_at, one_stands}
+use Rattle.ordered_lists.proofs.ListPlaces.{some_at, one_stands}
 use Rattle.road_model.specs.declared.lists.Piece.{Piece}
 use Rattle.road_model.specs.Rules.{Rules}
 use Rattle.road_model.specs.Lines.{node_at, tail_of, head_of}

@@ -12,12 +12,13 @@ use Rattle.road_model.specs.Rules.{Rules}
 use Rattle.road_model.specs.Pieces.{Span, IsPiece}
 use Rattle.road_model.specs.Contexts.{Every, One, Many}
 use Rattle.road_model.specs.Network.{IsContext}
-use Rattle.road_model.specs.Orders.{name_cmp, names_cmp, way_cmp, rises}
+use Rattle.ordered_lists.specs.Orders.{rises}
+use Rattle.road_model.specs.Orders.{name_cmp, names_cmp, way_cmp}
 use Rattle.road_model.specs.Blocks.{IsPieceEntry, IsBlock, IsRoadBlock, name_of}
 use Rattle.road_model.specs.BlockMap.{AreBlocksOf}
 use Rattle.road_model.specs.Naming.{HasBlock, OnePiece}
-use Rattle.road_base.proofs.ListMembers.{contains_from_in, contains_map, contains_from_map}
-use Rattle.road_base.proofs.ListMembers.{contains_flat, contains_from_flat}
+use Rattle.ordered_lists.proofs.ListMembers.{contains_from_in, contains_map, contains_from_map}
+use Rattle.ordered_lists.proofs.ListMembers.{contains_flat, contains_from_flat}
 use Rattle.road_model.proofs.WalkLists.{context_pieces}
 use Rattle.road_model.proofs.SomeGraph.{context_of, piece_entry, entry_named}
 use Rattle.drive_queries.specs.Marks.{At, at_by, contexts_at, contexts_over, all_contexts}

@@ -4,11 +4,11 @@ use Rattle.std.specs.declared.cmp.Ordering.TheVariants.{Less, Equal, Greater}
 use Rattle.std.proofs.Common.{ℕ, ◌+◌, ◌<◌, List, length, map, take, get_or, IsTrue, Contains}
 use Rattle.std.specs.Ordering.{is_eq, is_lt}
 use Rattle.std.proofs.lemmas.List.{take_more}
-use Rattle.road_base.proofs.ListMembers.{in_from_contains}
-use Rattle.road_base.proofs.Comparisons.{not_itself}
+use Rattle.ordered_lists.proofs.ListMembers.{in_from_contains}
+use Rattle.ordered_lists.proofs.Comparisons.{not_itself}
 use Rattle.road_model.specs.declared.lists.Piece.{Piece}
-use Rattle.road_model.specs.Orders.{rises}
-use Rattle.road_model.proofs.AscendingLists.{Climbs, climbs, climbs_take, below_end}
+use Rattle.ordered_lists.specs.Orders.{rises}
+use Rattle.ordered_lists.proofs.AscendingLists.{Climbs, climbs, climbs_take, below_end}
 use Rattle.std.specs.Cmp.{IsTotalOrder}
 use Rattle.std.specs.FinMap.{IsAntisymmetric}
 use Rattle.std.specs.BTreeMap.{BTreeMap, Updates}

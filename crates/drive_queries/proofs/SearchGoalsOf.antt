@@ -11,7 +11,7 @@ use Rattle.std.proofs.lemmas.Cmp.{tied_itself}
 use Rattle.road_base.specs.declared.ids.NodeId.{NodeId}
 use Rattle.road_base.specs.declared.ids.WayId.{WayId}
 use Rattle.road_base.specs.Objects.{Objects}
-use Rattle.road_base.proofs.ListMembers.{in_from_contains, contains_from_in, contains_none}
+use Rattle.ordered_lists.proofs.ListMembers.{in_from_contains, contains_from_in, contains_none}
 use Rattle.road_model.specs.declared.lists.Piece.{Piece}
 use Rattle.road_model.specs.declared.lists.PieceName.{PieceName}
 use Rattle.road_model.specs.declared.blocks.Block.{Block}
@@ -19,7 +19,8 @@ use Rattle.road_model.specs.Rules.{Rules}
 use Rattle.road_model.specs.Lines.{node_at}
 use Rattle.road_model.specs.Driving.{is_road}
 use Rattle.road_model.specs.Links.{RefersTo}
-use Rattle.road_model.specs.Orders.{way_cmp, name_cmp, rises}
+use Rattle.ordered_lists.specs.Orders.{rises}
+use Rattle.road_model.specs.Orders.{way_cmp, name_cmp}
 use Rattle.road_model.specs.Blocks.{IsPieceEntry, IsRoadBlock, name_of, place_position}
 use Rattle.road_model.specs.BlockMap.{AreBlocksOf}
 use Rattle.road_model.specs.Naming.{HasBlock, OnePiece}

@@ -9,9 +9,10 @@ use Rattle.std.specs.List.Sorted.{IsBinarySearchResult}
 use Rattle.std.proofs.lemmas.Cmp.{on_total, then_total, tied_itself}
 use Rattle.std.proofs.lemmas.Simd.{map-map}
 use Rattle.road_model.specs.declared.lists.PieceName.{PieceName}
-use Rattle.road_model.specs.Orders.{name_cmp, names_cmp, rises}
-use Rattle.road_model.proofs.SortedMaps.{search_found, search_below, search_behind}
-use Rattle.road_base.proofs.ListMembers.{contains_from_map}
+use Rattle.ordered_lists.specs.Orders.{rises}
+use Rattle.road_model.specs.Orders.{name_cmp, names_cmp}
+use Rattle.ordered_lists.proofs.SortedMaps.{search_found, search_below, search_behind}
+use Rattle.ordered_lists.proofs.ListMembers.{contains_from_map}
 use Rattle.std.proofs.lemmas.Bool.{cases_lt}
 use Rattle.drive_queries.specs.declared.spots.Spot.{Spot}
 use Rattle.drive_queries.specs.Marks.{At, at_of, key_of, key_cmp}

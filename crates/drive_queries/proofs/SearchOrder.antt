@@ -5,14 +5,15 @@ use Rattle.std.specs.Ordering.{is_lt, ordering_then}
 use Rattle.std.specs.Cmp.{IsTotalOrder}
 use Rattle.std.specs.List.{flat_map}
 use Rattle.std.proofs.lemmas.Cmp.{tied_itself}
-use Rattle.road_base.proofs.ListMembers.{In, in_cases, from_map, from_flat}
-use Rattle.road_base.proofs.Comparisons.{less}
+use Rattle.ordered_lists.proofs.ListMembers.{In, in_cases, from_map, from_flat}
+use Rattle.ordered_lists.proofs.Comparisons.{less}
 use Rattle.road_model.specs.declared.lists.PieceName.{PieceName}
 use Rattle.road_model.specs.declared.lists.Context.{Context}
 use Rattle.road_model.specs.declared.lists.Piece.{Piece}
 use Rattle.road_model.specs.declared.blocks.Block.{Block}
-use Rattle.road_model.specs.Orders.{way_cmp, name_cmp, names_cmp, rises}
-use Rattle.road_model.proofs.AscendingLists.{Climbs, Below, climbs, rises_again}
+use Rattle.ordered_lists.specs.Orders.{rises}
+use Rattle.road_model.specs.Orders.{way_cmp, name_cmp, names_cmp}
+use Rattle.ordered_lists.proofs.AscendingLists.{Climbs, Below, climbs, rises_again}
 use Rattle.drive_queries.specs.Marks.{At, at_by, key_of, key_cmp, contexts_at, contexts_over, all_contexts}
 use Rattle.road_model.proofs.TotalOrders.{less_first}
 use Rattle.drive_queries.proofs.SearchKeys.{key_total}

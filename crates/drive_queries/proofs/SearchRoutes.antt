@@ -4,7 +4,7 @@ use Rattle.std.proofs.Common.{Some, slice_get, Contains, refl, sym, ◌∙◌, a
 use Rattle.std.proofs.Common.{append_assoc, Result, OnOk}
 use Rattle.std.proofs.lemmas.List.{reverse-append}
 use Rattle.std.proofs.lemmas.Option.{slice_get_within}
-use Rattle.road_base.proofs.ListMembers.{contains_more, contains_one}
+use Rattle.ordered_lists.proofs.ListMembers.{contains_more, contains_one}
 use Rattle.road_base.specs.declared.ids.Step.{Step}
 use Rattle.drive_queries.specs.declared.marks.Origin.TheVariants.{Begins, Follows}
 use Rattle.drive_queries.specs.declared.marks.Visit.{Visit}

@@ -2,8 +2,8 @@
 use Rattle.std.proofs.Common.{◌≡◌, inl, inr, ℕ, ◌<◌, ◌≤◌, List, [], ◌∷◌, ◌++◌, length, map, Some, None, slice_get}
 use Rattle.std.proofs.Common.{Contains, refl, sym, ◌∙◌, ap, subst, arith}
 use Rattle.std.specs.BTreeMap.{BTreeMap}
-use Rattle.road_base.proofs.ListMembers.{In, in_at, at_in, in_from_contains, contains_from_in}
-use Rattle.road_base.proofs.ListPlaces.{contains_at, one_stands, some_at}
+use Rattle.ordered_lists.proofs.ListMembers.{In, in_at, at_in, in_from_contains, contains_from_in}
+use Rattle.ordered_lists.proofs.ListPlaces.{contains_at, one_stands, some_at}
 use Rattle.road_base.specs.declared.ids.NodeId.{NodeId}
 use Rattle.road_base.specs.Objects.{Objects}
 use Rattle.road_model.specs.declared.lists.PieceName.{PieceName}

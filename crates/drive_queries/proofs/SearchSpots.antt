@@ -3,7 +3,7 @@ use Rattle.std.proofs.Common.{◌≡◌, ℕ, zero, suc, ◌-◌, ◌<◌, List,
 use Rattle.std.proofs.Common.{◌∙◌, ap, subst, arith, get_or}
 use Rattle.std.specs.List.{HoldsAt}
 use Rattle.std.proofs.lemmas.Option.{get_or_from_slice_get}
-use Rattle.road_base.proofs.ListPlaces.{some_at, read_at, one_stands, contains_at}
+use Rattle.ordered_lists.proofs.ListPlaces.{some_at, read_at, one_stands, contains_at}
 use Rattle.road_model.specs.declared.lists.PieceName.{PieceName}
 use Rattle.road_model.specs.declared.lists.TurnArc.{TurnArc}
 use Rattle.drive_queries.specs.declared.spots.Spot.{Spot}

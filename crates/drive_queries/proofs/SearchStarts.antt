@@ -3,7 +3,7 @@ use Rattle.std.proofs.Common.{◌≡◌, inl, inr, ℕ, ◌+◌, ◌<◌, ◌≤
 use Rattle.std.proofs.Common.{Contains}
 use Rattle.std.proofs.Common.{sym, ◌∙◌, ap, subst, take, get_or}
 use Rattle.std.proofs.lemmas.List.{take_more, take_all}
-use Rattle.road_base.proofs.ListMembers.{contains_more}
+use Rattle.ordered_lists.proofs.ListMembers.{contains_more}
 use Rattle.drive_queries.specs.declared.ends.Start.{Start}
 use Rattle.drive_queries.specs.declared.marks.Origin.{Origin}
 use Rattle.drive_queries.specs.declared.marks.Origin.TheVariants.{Begins, Follows}

@@ -4,8 +4,8 @@ use Rattle.std.proofs.Common.{slice_get, Contains}
 use Rattle.std.proofs.Common.{sym, ◌∙◌, ap, subst, arith, take, drop}
 use Rattle.std.specs.BTreeMap.{BTreeMap}
 use Rattle.std.proofs.lemmas.Option.{slice_get_within}
-use Rattle.road_base.proofs.ListMembers.{contains_none}
-use Rattle.road_base.proofs.ListPlaces.{contains_at}
+use Rattle.ordered_lists.proofs.ListMembers.{contains_none}
+use Rattle.ordered_lists.proofs.ListPlaces.{contains_at}
 use Rattle.road_base.specs.declared.ids.NodeId.{NodeId}
 use Rattle.road_base.specs.declared.ids.WayId.{WayId}
 use Rattle.road_base.specs.Objects.{Objects}

@@ -12,7 +12,7 @@ use Rattle.std.proofs.lemmas.List.{take-append-drop}
 use Rattle.road_base.specs.declared.ids.RelationId.{RelationId}
 use Rattle.road_base.specs.declared.ids.Step.{Step}
 use Rattle.road_base.specs.contracts.ids.StepOrd.TheImpl.{ghosts as step_order}
-use Rattle.road_base.proofs.FilteredLists.{contains_filter, contains_from_filter}
+use Rattle.ordered_lists.proofs.FilteredLists.{contains_filter, contains_from_filter}
 use Rattle.restrictions.specs.declared.word_list.Word.{Word}
 use Rattle.turn_automata.specs.Watched.{Must}
 use Rattle.drive_queries.specs.DriveWords.{steps_cmp, AreInWordOrder}

@@ -14,7 +14,7 @@ use Rattle.road_base.specs.declared.ids.RelationId.{RelationId}
 use Rattle.road_base.specs.declared.ids.Step.{Step}
 use Rattle.road_base.specs.contracts.ids.StepPartialEq.TheImpl.{ghosts as step_equality}
 use Rattle.road_base.proofs.EqualSteps.{step_same, step_itself}
-use Rattle.road_base.proofs.Splits.{same_last}
+use Rattle.ordered_lists.proofs.Splits.{same_last}
 use Rattle.road_model.specs.Orders.{relation_cmp}
 use Rattle.road_model.specs.Broken.{IsLeast}
 use Rattle.restrictions.specs.declared.word_list.Word.{Word}
@@ -22,8 +22,8 @@ use Rattle.turn_automata.specs.Machines.{Machine, Watches, StandsFor}
 use Rattle.turn_automata.specs.Watched.{IsWatchable, Must, Stops}
 use Rattle.drive_queries.specs.Judging.{WordWith, EndsDriven, DemandsNext, Demands, LeavesBehind, LeavesIn, IsLeastIf}
 use Rattle.drive_queries.specs.Judging.{lesser}
-use Rattle.road_base.proofs.ListFronts.{among_more, among_before, among_last}
-use Rattle.road_base.proofs.ListMembers.{contains_none}
+use Rattle.ordered_lists.proofs.ListFronts.{among_more, among_before, among_last}
+use Rattle.ordered_lists.proofs.ListMembers.{contains_none}
 use Rattle.road_model.proofs.TotalOrders.{relation_cmp_total}
 use Rattle.road_model.proofs.RulesDecided.{Upto, through}
 

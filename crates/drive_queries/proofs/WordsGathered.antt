@@ -18,9 +18,10 @@ use Rattle.road_base.specs.declared.ids.Step.{Step}
 use Rattle.road_base.specs.declared.ids.Key.TheVariants.{Way as WayKey}
 use Rattle.road_base.specs.Objects.{Objects}
 use Rattle.road_base.specs.contracts.ids.StepOrd.TheImpl.{ghosts as step_order}
-use Rattle.road_base.proofs.ListMembers.{In, in_from_contains, contains_from_in, contains_none}
+use Rattle.ordered_lists.proofs.ListMembers.{In, in_from_contains, contains_from_in, contains_none}
 use Rattle.road_model.specs.Rules.{Rules}
-use Rattle.road_model.specs.Orders.{Lists, relation_cmp}
+use Rattle.ordered_lists.specs.Orders.{Lists}
+use Rattle.road_model.specs.Orders.{relation_cmp}
 use Rattle.road_model.specs.Words.{IsWord}
 use Rattle.road_model.specs.Links.{HasMember}
 use Rattle.restrictions.specs.declared.word_list.Word.{Word}
@@ -28,8 +29,8 @@ use Rattle.restrictions.specs.Words.{IsRestriction, IsWordOf}
 use Rattle.drive_queries.proofs.WordOrder.{step_total, step_ties}
 use Rattle.drive_queries.specs.Tables.{BeginsOn, AreDriveWords}
 use Rattle.drive_queries.specs.DriveWords.{AreInOrder, LiesOn, IsMemberOf, GainsWords, AreWordsOn}
-use Rattle.road_base.proofs.ListFronts.{among_more, among_before, among_last}
-use Rattle.road_base.proofs.Splits.{same_head}
+use Rattle.ordered_lists.proofs.ListFronts.{among_more, among_before, among_last}
+use Rattle.ordered_lists.proofs.Splits.{same_head}
 
 -- ---- ways and their relations
 

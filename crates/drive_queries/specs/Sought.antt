@@ -7,7 +7,7 @@ use Rattle.road_base.specs.Objects.{Objects}
 use Rattle.road_model.specs.declared.lists.PieceName.{PieceName}
 use Rattle.road_model.specs.Rules.{Rules}
 use Rattle.road_model.specs.Driving.{located}
-use Rattle.road_model.specs.Orders.{rises}
+use Rattle.ordered_lists.specs.Orders.{rises}
 use Rattle.road_model.specs.Pieces.{Span, IsPiece}
 use Rattle.road_model.specs.Network.{IsContext}
 use Rattle.road_model.specs.Blocks.{IsPieceEntry, IsContextEntry, name_of}

@@ -12,9 +12,10 @@ ghost use Rattle.drive_queries.specs.DeadEnds.{Adds, AreLeaving, AreNoted, AreUn
 ghost use Rattle.drive_queries.specs.DeadEnds.{StepsBelow, StepsOf, leaving_in};
 
 use crate::drive_lines::{DriveLine, ends_in};
+use ordered_lists::leave_once;
 use road_base::{Dir, NoMemory, NodeId, Step, WayId};
 use road_model::laws::{name_order, number_order, roads_refer};
-use road_model::{Network, Profile, World, leave_once};
+use road_model::{Network, Profile, World};
 use std::alloc::Global;
 use std::collections::BTreeMap;
 use way_lines::{Road, is_located, line, pass};

@@ -1,7 +1,7 @@
 //! The search over contexts and arcs.
 ghost use Rattle.std.specs.Prelude.{◌≡◌, ◌<◌, [], length, map, IfOk, OnOk, MatchOption, Some, Contains, IsTrue};
 ghost use Rattle.std.specs.Prelude.{slice_get, ℕ};
-ghost use Rattle.road_model.specs.Orders.{rises};
+ghost use Rattle.ordered_lists.specs.Orders.{rises};
 ghost use Rattle.drive_queries.specs.declared.ends.Start.{Start};
 ghost use Rattle.drive_queries.specs.declared.marks.Visit.{Visit};
 ghost use Rattle.drive_queries.specs.Marks.{At, at_of, key_of, key_cmp, names_behind};

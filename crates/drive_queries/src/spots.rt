@@ -1,7 +1,8 @@
 //! All contexts of a graph in their order, found by their names.
 ghost use Rattle.std.specs.Prelude.{◌≡◌, ◌<◌, ◌++◌, length, map, IfOk, OnOk, IfSome, IfNone, IsTrue, Contains};
 ghost use Rattle.std.specs.List.{HoldsAt};
-ghost use Rattle.road_model.specs.Orders.{rises, names_cmp};
+ghost use Rattle.ordered_lists.specs.Orders.{rises};
+ghost use Rattle.road_model.specs.Orders.{names_cmp};
 ghost use Rattle.drive_queries.specs.Marks.{At, at_of, key_of, key_cmp, contexts_at, contexts_over, all_contexts};
 ghost use Rattle.drive_queries.specs.Marks.{names_behind};
 

@@ -14,10 +14,11 @@ ghost use Rattle.drive_queries.specs.DriveWords.{LiesOn, steps_cmp};
 
 use crate::dead_ends::{Leaving, leaving_at_reversals};
 use crate::drive_lines::{DriveLine, lines_of};
+use ordered_lists::leave_once;
 use restrictions::{Word, WordList, WordsError, words};
 use road_base::{NoMemory, NodeId, RelationId, Step, WayId};
 use road_model::laws::{name_order, number_order, words_on_ways};
-use road_model::{Network, Profile, World, leave_once};
+use road_model::{Network, Profile, World};
 use std::alloc::Global;
 use std::cmp::Ordering;
 use std::collections::BTreeMap;

@@ -3,8 +3,8 @@ use Rattle.std.proofs.Common.{◌≡◌, List, [], ◌∷◌, ◌++◌, inl, inr
 use Rattle.road_base.specs.declared.ids.WayId.{WayId}
 use Rattle.road_base.specs.declared.ids.Step.{Step}
 use Rattle.expanded_graph.specs.Near.{HasStepOn, HasStepBetween}
-use Rattle.road_base.proofs.ListMembers.{in_from_contains, contains_from_in, in_left, in_end}
-use Rattle.road_base.proofs.Splits.{cons_not_nil}
+use Rattle.ordered_lists.proofs.ListMembers.{in_from_contains, contains_from_in, in_left, in_end}
+use Rattle.ordered_lists.proofs.Splits.{cons_not_nil}
 use Rattle.expanded_graph.proofs.TurnStepLists.{nil_or_last}
 
 module _ (w : WayId) where

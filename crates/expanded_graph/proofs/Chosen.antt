@@ -25,9 +25,9 @@ use Rattle.std.specs.Cmp.{IsTotalOrder}
 use Rattle.std.specs.Ordering.{is_lt}
 use Rattle.std.specs.declared.cmp.Ordering.{Ordering}
 use Rattle.std.proofs.lemmas.List.{take_more}
-use Rattle.road_model.specs.Orders.{rises, Lists}
-use Rattle.road_base.proofs.ListMembers.{In, push_cases, in_from_contains, contains_from_in, in_end, in_left}
-use Rattle.road_model.proofs.AscendingLists.{Climbs, climbs, rises_again, climbs_push, below_end, climbs_take}
+use Rattle.ordered_lists.specs.Orders.{rises, Lists}
+use Rattle.ordered_lists.proofs.ListMembers.{In, push_cases, in_from_contains, contains_from_in, in_end, in_left}
+use Rattle.ordered_lists.proofs.AscendingLists.{Climbs, climbs, rises_again, climbs_push, below_end, climbs_take}
 
 -- the list as has one of each that there is for a member of ds, by their names
 pub record Chosen {A D N : Type 0} (name : A → N) (key : D → N) (R : N → N → Ordering) (Is : A → Type 0) (ds : List D)

@@ -53,10 +53,10 @@ use Rattle.expanded_graph.specs.declared.intersections.Intersection.{Intersectio
 use Rattle.expanded_graph.specs.declared.states.StateFacts.{StateFacts}
 use Rattle.expanded_graph.specs.Contexts.{IsReached}
 use Rattle.expanded_graph.specs.Intersections.{IsIntersection, may_follow}
-use Rattle.road_base.proofs.ListMembers.{In, in_end, in_left}
+use Rattle.ordered_lists.proofs.ListMembers.{In, in_end, in_left}
 use Rattle.expanded_graph.proofs.Ends.{spell_begins, spell_ends, first_step, last_step}
-use Rattle.road_base.proofs.Splits.{cons_not_nil}
-use Rattle.road_base.proofs.ListPlaces.{some_at}
+use Rattle.ordered_lists.proofs.Splits.{cons_not_nil}
+use Rattle.ordered_lists.proofs.ListPlaces.{some_at}
 use Rattle.road_model.proofs.WalkLists.{context_pieces}
 use Rattle.road_model.proofs.LongestContext.{Every-front, Every-tail}
 use Rattle.expanded_graph.proofs.TurnStepLists.{

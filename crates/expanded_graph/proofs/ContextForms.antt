@@ -38,13 +38,14 @@ use Rattle.road_model.specs.Rules.{Rules}
 use Rattle.road_model.specs.Pieces.{Span, IsPiece}
 use Rattle.road_model.specs.Contexts.{One}
 use Rattle.road_model.specs.Network.{IsContext}
-use Rattle.road_model.specs.Orders.{Lists, rises, name_cmp, names_cmp}
+use Rattle.ordered_lists.specs.Orders.{Lists, rises}
+use Rattle.road_model.specs.Orders.{name_cmp, names_cmp}
 use Rattle.road_model.specs.Blocks.{name_of, IsContextEntry}
 use Rattle.road_model.specs.Format.{IsContextForm, begins_alone}
 use Rattle.road_model.specs.Naming.{OnePiece}
 use Rattle.expanded_graph.specs.Contexts.{HasContexts}
-use Rattle.road_base.proofs.ListMembers.{In, in_from_contains, contains_from_in}
-use Rattle.road_model.proofs.AscendingLists.{climbs}
+use Rattle.ordered_lists.proofs.ListMembers.{In, in_from_contains, contains_from_in}
+use Rattle.ordered_lists.proofs.AscendingLists.{climbs}
 use Rattle.road_model.proofs.WalkLists.{some_context}
 use Rattle.expanded_graph.proofs.DistinctNames.{each_member}
 use Rattle.expanded_graph.proofs.ContextStates.{one_context}

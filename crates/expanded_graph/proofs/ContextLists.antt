@@ -40,7 +40,8 @@ use Rattle.road_model.specs.Pieces.{Span, IsPiece}
 use Rattle.road_model.specs.Contexts.{Every}
 use Rattle.road_model.specs.Network.{IsContext}
 use Rattle.road_model.specs.Turning.{HasTurnSteps}
-use Rattle.road_model.specs.Orders.{rises, names_cmp}
+use Rattle.ordered_lists.specs.Orders.{rises}
+use Rattle.road_model.specs.Orders.{names_cmp}
 use Rattle.road_model.specs.Blocks.{name_of, IsContextEntry}
 use Rattle.turn_automata.specs.Trees.{IsClosed}
 use Rattle.turn_automata.specs.Watched.{IsWatchable}
@@ -48,10 +49,10 @@ use Rattle.turn_automata.specs.Machines.{Machine}
 use Rattle.expanded_graph.specs.declared.states.StateFacts.{StateFacts}
 use Rattle.expanded_graph.specs.States.{AreStates}
 use Rattle.expanded_graph.specs.Contexts.{AreEndingsWith, IsContextIn, HasContexts}
-use Rattle.road_base.proofs.ListMembers.{In, push_cases, from_map, in_from_contains, contains_from_in, in_end, in_left}
-use Rattle.road_model.proofs.AscendingLists.{Climbs, climbs_take, below_end}
-use Rattle.road_base.proofs.Comparisons.{not_itself}
-use Rattle.road_base.proofs.ListPlaces.{one_stands}
+use Rattle.ordered_lists.proofs.ListMembers.{In, push_cases, from_map, in_from_contains, contains_from_in, in_end, in_left}
+use Rattle.ordered_lists.proofs.AscendingLists.{Climbs, climbs_take, below_end}
+use Rattle.ordered_lists.proofs.Comparisons.{not_itself}
+use Rattle.ordered_lists.proofs.ListPlaces.{one_stands}
 use Rattle.road_model.proofs.WalkLists.{context_pieces}
 use Rattle.expanded_graph.proofs.TurnStepLists.{nil_or_cons}
 use Rattle.expanded_graph.proofs.EndingStates.{ascends as numbers_climb}

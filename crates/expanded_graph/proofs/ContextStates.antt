@@ -38,7 +38,8 @@ use Rattle.road_model.specs.Pieces.{Span, IsPiece, spell}
 use Rattle.road_model.specs.Contexts.{Every, One}
 use Rattle.road_model.specs.Network.{Legal, IsContext}
 use Rattle.road_model.specs.Turning.{HasTurnSteps, BeginsWord, EndsPiece}
-use Rattle.road_model.specs.Orders.{Lists, name_cmp}
+use Rattle.ordered_lists.specs.Orders.{Lists}
+use Rattle.road_model.specs.Orders.{name_cmp}
 use Rattle.road_model.specs.Blocks.{name_of, IsArcEntry, IsContextEntry}
 use Rattle.road_model.specs.Naming.{OnePiece}
 use Rattle.turn_automata.specs.Trees.{IsClosed}
@@ -49,14 +50,14 @@ use Rattle.expanded_graph.specs.Near.{IsStepNear, Shares}
 use Rattle.expanded_graph.specs.States.{AreFacts, AreStates}
 use Rattle.expanded_graph.specs.Contexts.{IsReached, IsEnding, EndsWithName, IsContextIn}
 use Rattle.expanded_graph.specs.Travel.{Arrives}
-use Rattle.road_base.proofs.ListMembers.{In, in_from_contains, contains_from_in, at_in, in_at, in_end, in_left}
+use Rattle.ordered_lists.proofs.ListMembers.{In, in_from_contains, contains_from_in, at_in, in_at, in_end, in_left}
 use Rattle.expanded_graph.proofs.Ends.{spell_ends, last_step}
 use Rattle.expanded_graph.proofs.LastSteps.{last_drives}
-use Rattle.road_base.proofs.Splits.{cons_not_nil}
-use Rattle.road_base.proofs.ListPlaces.{some_at, one_stands}
+use Rattle.ordered_lists.proofs.Splits.{cons_not_nil}
+use Rattle.ordered_lists.proofs.ListPlaces.{some_at, one_stands}
 use Rattle.expanded_graph.proofs.TurnStepLists.{turn_ends_long, one_turn}
 use Rattle.expanded_graph.proofs.Between.{between_longer}
-use Rattle.road_model.proofs.AscendingLists.{lists_unique}
+use Rattle.ordered_lists.proofs.AscendingLists.{lists_unique}
 use Rattle.road_model.proofs.WalkLists.{context_pieces}
 use Rattle.road_model.proofs.LongestContext.{Every-front}
 use Rattle.expanded_graph.proofs.StopsNear.{begins_from, begins_to}

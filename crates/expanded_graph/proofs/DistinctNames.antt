@@ -31,8 +31,8 @@ use Rattle.std.specs.List.{IsDistinct, list_any, AllByRecursion}
 use Rattle.std.specs.List.Sorted.{IsSortedBy}
 use Rattle.std.proofs.lemmas.Bool.{false≢true, cases_Bool, and_from}
 use Rattle.std.proofs.lemmas.Map.Keys.{IsDistinct-head, IsDistinct-tail}
-use Rattle.road_model.specs.Orders.{rises, rises_from}
-use Rattle.road_base.proofs.ListMembers.{In}
+use Rattle.ordered_lists.specs.Orders.{rises, rises_from}
+use Rattle.ordered_lists.proofs.ListMembers.{In}
 
 module _ {A N : Type 0} (name : A → N) (R : N → N → Ordering) (total : IsTotalOrder R) where
   abbrev Lt : A → A → Bool

@@ -13,18 +13,19 @@ use Rattle.std.proofs.lemmas.List.{same_from_push}
 use Rattle.road_base.specs.declared.ids.WayId.{WayId}
 use Rattle.road_base.specs.declared.ids.Step.{Step}
 use Rattle.road_model.specs.declared.lists.PieceName.{PieceName}
-use Rattle.road_model.specs.Orders.{rises, name_cmp}
+use Rattle.ordered_lists.specs.Orders.{rises}
+use Rattle.road_model.specs.Orders.{name_cmp}
 use Rattle.turn_automata.specs.Trees.{IsClosed}
 use Rattle.turn_automata.specs.Machines.{Machine, StandsFor}
 use Rattle.expanded_graph.specs.declared.states.StateFacts.{StateFacts}
 use Rattle.expanded_graph.specs.declared.endings.Ending.{Ending}
 use Rattle.expanded_graph.specs.Contexts.{IsEnding, AreEndings, AreEndingsWith, EndsWithName, same_name}
-use Rattle.road_base.proofs.ListMembers.{In, in_get, push_cases, in_from_contains, contains_from_in, in_end, in_left}
-use Rattle.road_base.proofs.ListMembers.{in_map, from_map}
-use Rattle.road_model.proofs.AscendingLists.{Climbs, climbs, climbs_push, climbs_filter, rises_again}
-use Rattle.road_base.proofs.FilteredLists.{in_filter, from_filter}
-use Rattle.road_base.proofs.SortedParts.{kept_by_sort}
-use Rattle.road_base.proofs.ListPlaces.{some_at, one_stands}
+use Rattle.ordered_lists.proofs.ListMembers.{In, in_get, push_cases, in_from_contains, contains_from_in, in_end, in_left}
+use Rattle.ordered_lists.proofs.ListMembers.{in_map, from_map}
+use Rattle.ordered_lists.proofs.AscendingLists.{Climbs, climbs, climbs_push, climbs_filter, rises_again}
+use Rattle.ordered_lists.proofs.FilteredLists.{in_filter, from_filter}
+use Rattle.ordered_lists.proofs.SortedParts.{kept_by_sort}
+use Rattle.ordered_lists.proofs.ListPlaces.{some_at, one_stands}
 use Rattle.expanded_graph.proofs.TurnStepLists.{nil_or_cons}
 
 some_name : (a b : PieceName) → Some a ≡ Some b → a ≡ b

@@ -14,7 +14,7 @@ use Rattle.road_model.specs.Lines.{line_of, node_at, head_of, head_position, for
 use Rattle.road_model.specs.Driving.{located, drivable}
 use Rattle.road_model.specs.Pieces.{IsPlain, Span, IsPiece, spell}
 use Rattle.road_model.specs.Blocks.{name_of}
-use Rattle.road_model.proofs.Decided.{order}
+use Rattle.ordered_lists.proofs.Decided.{order}
 use Rattle.road_model.proofs.FinitePieces.{piece_located}
 use Rattle.way_pieces.proofs.DrivenSteps.{named_end}
 

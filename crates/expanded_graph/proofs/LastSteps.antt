@@ -26,14 +26,15 @@ use Rattle.road_model.specs.declared.lists.PieceName.{PieceName}
 use Rattle.road_model.specs.Rules.{Rules}
 use Rattle.road_model.specs.Driving.{drivable}
 use Rattle.road_model.specs.Pieces.{IsPlain, Span, IsPiece, spell}
-use Rattle.road_model.specs.Orders.{Lists, rises, rises_from, way_cmp, dir_cmp, name_cmp}
+use Rattle.ordered_lists.specs.Orders.{Lists, rises, rises_from}
+use Rattle.road_model.specs.Orders.{way_cmp, dir_cmp, name_cmp}
 use Rattle.road_model.specs.Blocks.{name_of}
 use Rattle.road_model.specs.Turning.{EndsPiece}
 use Rattle.way_pieces.specs.declared.spans.PieceSpan.{PieceSpan}
 use Rattle.way_pieces.specs.Names.{IsSpanOn, piece_of}
 use Rattle.way_pieces.specs.RoadPieces.{AreSpans}
 use Rattle.expanded_graph.specs.Known.{NamesEnd, IsLastOf}
-use Rattle.road_model.proofs.Decided.{order}
+use Rattle.ordered_lists.proofs.Decided.{order}
 use Rattle.expanded_graph.proofs.Ends.{step, last_index, last_step, spell_ends}
 
 -- ---- last steps

@@ -19,10 +19,10 @@ use Rattle.turn_automata.specs.Trees.{IsClosed}
 use Rattle.turn_automata.specs.Machines.{Machine, StandsFor}
 use Rattle.expanded_graph.specs.declared.states.StateFacts.{StateFacts}
 use Rattle.expanded_graph.specs.States.{AreStates}
-use Rattle.road_base.proofs.ListMembers.{In, in_from_contains}
+use Rattle.ordered_lists.proofs.ListMembers.{In, in_from_contains}
 use Rattle.expanded_graph.proofs.Ends.{spell_ends, last_step}
-use Rattle.road_base.proofs.Splits.{cons_not_nil}
-use Rattle.road_base.proofs.ListPlaces.{some_at, one_stands}
+use Rattle.ordered_lists.proofs.Splits.{cons_not_nil}
+use Rattle.ordered_lists.proofs.ListPlaces.{some_at, one_stands}
 use Rattle.road_model.proofs.LongestContext.{Every-tail}
 use Rattle.expanded_graph.proofs.TurnStepLists.{nil_or_last, turn_ends}
 use Rattle.expanded_graph.proofs.StopsNear.{same_or_not}

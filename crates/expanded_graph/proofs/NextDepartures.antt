@@ -49,8 +49,8 @@ use Rattle.way_pieces.specs.Names.{IsDeparture}
 use Rattle.expanded_graph.specs.declared.intersections.Intersection.{Intersection}
 use Rattle.expanded_graph.specs.Travel.{Arrives}
 use Rattle.expanded_graph.specs.Intersections.{IsIntersection, may_follow}
-use Rattle.road_base.proofs.ListMembers.{In, in_from_contains, contains_from_in, all_one}
-use Rattle.road_model.proofs.AscendingLists.{one_name_alone}
+use Rattle.ordered_lists.proofs.ListMembers.{In, in_from_contains, contains_from_in, all_one}
+use Rattle.ordered_lists.proofs.AscendingLists.{one_name_alone}
 use Rattle.road_model.proofs.SameNodes.{node_from_same, same_from_node}
 use Rattle.expanded_graph.proofs.Ends.{one_first, first_drives, has_head}
 

@@ -64,7 +64,7 @@ use Rattle.way_pieces.specs.Names.{piece_of}
 use Rattle.way_lines.specs.declared.road_line.LineNode.{LineNode}
 use Rattle.way_lines.specs.RoadLines.{location_in, location_of, line_node}
 use Rattle.expanded_graph.specs.Travel.{Arrives, place_of, nodes_on, travelled}
-use Rattle.road_base.proofs.ListMembers.{In, at_in}
+use Rattle.ordered_lists.proofs.ListMembers.{In, at_in}
 use Rattle.road_model.proofs.FinitePieces.{piece_located}
 use Rattle.way_pieces.proofs.DrivenSteps.{named_end}
 use Rattle.expanded_graph.proofs.Ends.{last_index, last_step, spell_ends, piece_on_line}

@@ -22,9 +22,10 @@ use Rattle.std.proofs.lemmas.Bool.{and_parts, and_from}
 use Rattle.std.proofs.lemmas.Cmp.{tied_itself}
 use Rattle.road_base.specs.declared.ids.WayId.{WayId}
 use Rattle.road_model.specs.declared.lists.PieceName.{PieceName}
-use Rattle.road_model.specs.Orders.{rises, rises_from, way_cmp, name_cmp, dir_cmp}
+use Rattle.ordered_lists.specs.Orders.{rises, rises_from}
+use Rattle.road_model.specs.Orders.{way_cmp, name_cmp, dir_cmp}
 use Rattle.road_model.specs.Format.{place_cmp}
-use Rattle.road_base.proofs.ListMembers.{In}
+use Rattle.ordered_lists.proofs.ListMembers.{In}
 
 then_after : (o r : Ordering) → o ≡ Equal → ordering_then o r ≡ r
 then_after o r e = ap (λ x. ordering_then x r) e

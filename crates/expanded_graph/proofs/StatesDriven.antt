@@ -15,7 +15,7 @@ use Rattle.turn_automata.specs.declared.automaton.State.{State}
 use Rattle.turn_automata.specs.Watched.{Stops}
 use Rattle.expanded_graph.specs.Near.{IsStepNear}
 use Rattle.expanded_graph.specs.Known.{IsDriven}
-use Rattle.road_base.proofs.Splits.{cons_not_nil}
+use Rattle.ordered_lists.proofs.Splits.{cons_not_nil}
 use Rattle.expanded_graph.proofs.StopsNear.{LongWords, tells_near, goes_on_near}
 
 is_some_from : (o : Option State) → (o ≡ None → ⊥) → IsTrue (is_some o)

@@ -26,9 +26,9 @@ use Rattle.expanded_graph.specs.declared.states.StateFacts.{StateFacts}
 use Rattle.expanded_graph.specs.Near.{AreWordsNear}
 use Rattle.expanded_graph.specs.Known.{NamesEnd, IsDriven, IsKnown, AreKnown, AreAllShort}
 use Rattle.expanded_graph.specs.States.{AreFacts}
-use Rattle.road_base.proofs.ListMembers.{In, in_from_contains, contains_from_in}
-use Rattle.road_base.proofs.ListPlaces.{stands_cases, one_stands, some_at}
-use Rattle.road_base.proofs.Splits.{cons_not_nil}
+use Rattle.ordered_lists.proofs.ListMembers.{In, in_from_contains, contains_from_in}
+use Rattle.ordered_lists.proofs.ListPlaces.{stands_cases, one_stands, some_at}
+use Rattle.ordered_lists.proofs.Splits.{cons_not_nil}
 use Rattle.expanded_graph.proofs.StopsNear.{same_or_not}
 
 -- the list that a state stands for goes on from that of the state before

@@ -20,8 +20,8 @@ use Rattle.road_model.specs.Turning.{BeginsWord}
 use Rattle.restrictions.specs.declared.word_list.Word.{Word}
 use Rattle.turn_automata.specs.Watched.{IsProperPrefix, NoIn, Must as MustIn, Stops}
 use Rattle.expanded_graph.specs.Near.{IsStepNear, AreWordsNear}
-use Rattle.road_base.proofs.ListMembers.{In, in_from_contains, contains_from_in, in_end, in_left, in_right}
-use Rattle.road_base.proofs.Splits.{cons_not_nil}
+use Rattle.ordered_lists.proofs.ListMembers.{In, in_from_contains, contains_from_in, in_end, in_left, in_right}
+use Rattle.ordered_lists.proofs.Splits.{cons_not_nil}
 use Rattle.road_model.proofs.Shapes.{binding_positive}
 use Rattle.expanded_graph.proofs.TurnStepLists.{cut_last}
 

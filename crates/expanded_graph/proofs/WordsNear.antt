@@ -15,16 +15,17 @@ use Rattle.road_base.specs.declared.ids.Step.{Step}
 use Rattle.road_base.specs.declared.ids.Key.TheVariants.{Way as WayKey}
 use Rattle.road_base.specs.Objects.{Objects}
 use Rattle.road_model.specs.Rules.{Rules}
-use Rattle.road_model.specs.Orders.{Lists, relation_cmp}
+use Rattle.ordered_lists.specs.Orders.{Lists}
+use Rattle.road_model.specs.Orders.{relation_cmp}
 use Rattle.road_model.specs.Words.{IsWord}
 use Rattle.road_model.specs.Links.{HasMember}
 use Rattle.restrictions.specs.declared.word_list.Word.{Word}
 use Rattle.restrictions.specs.Words.{IsRestriction, IsWordOf}
 use Rattle.expanded_graph.specs.Near.{OnIt, Shares, HasStepOn, AreWordsNear}
 use Rattle.expanded_graph.specs.Known.{AreRelationsOn, AreWordsOf, GainsApart, GainsWords, IsOn, IsOnSome}
-use Rattle.road_base.proofs.ListPlaces.{some_at}
-use Rattle.road_base.proofs.ListFronts.{among_more, among_before, among_last}
-use Rattle.road_base.proofs.ListMembers.{contains_none}
+use Rattle.ordered_lists.proofs.ListPlaces.{some_at}
+use Rattle.ordered_lists.proofs.ListFronts.{among_more, among_before, among_last}
+use Rattle.ordered_lists.proofs.ListMembers.{contains_none}
 use Rattle.expanded_graph.proofs.Between.{on_from_between}
 
 pub restrict : (M : Objects) (v : WayId) (r : RelationId) → IsOn M v r → IsRestriction M r

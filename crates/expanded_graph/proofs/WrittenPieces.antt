@@ -43,7 +43,8 @@ use Rattle.road_model.specs.declared.blocks.Block.{Block}
 use Rattle.road_model.specs.Lines.{line_of}
 use Rattle.road_model.specs.Driving.{is_open, is_road, drivable}
 use Rattle.road_model.specs.Pieces.{Span, IsPiece}
-use Rattle.road_model.specs.Orders.{Lists, rises, way_cmp, name_cmp, names_cmp}
+use Rattle.ordered_lists.specs.Orders.{Lists, rises}
+use Rattle.road_model.specs.Orders.{way_cmp, name_cmp, names_cmp}
 use Rattle.road_model.specs.Blocks.{IsContextEntry, IsPieceEntry, IsBlock}
 use Rattle.road_model.specs.Format.{IsContextForm, IsPieceForm, begins_alone, place_cmp}
 use Rattle.road_model.specs.Naming.{OneEntry}
@@ -52,7 +53,7 @@ use Rattle.way_pieces.specs.Names.{piece_of, IsSpanOn}
 use Rattle.way_lines.specs.declared.road_line.LineNode.{LineNode}
 use Rattle.way_lines.specs.RoadLines.{line_node}
 use Rattle.expanded_graph.specs.Travel.{place_of, nodes_on}
-use Rattle.road_base.proofs.ListMembers.{In, in_map, from_map, in_from_contains, contains_from_in}
+use Rattle.ordered_lists.proofs.ListMembers.{In, in_map, from_map, in_from_contains, contains_from_in}
 use Rattle.expanded_graph.proofs.PlaceOrder.{places_rise}
 use Rattle.expanded_graph.proofs.PiecePlaces.{within, places_count, places_at}
 

@@ -12,7 +12,8 @@ use Rattle.road_model.specs.declared.lists.Context.{Context}
 use Rattle.road_model.specs.Rules.{Rules}
 use Rattle.road_model.specs.Pieces.{Span}
 use Rattle.road_model.specs.Network.{Legal, IsContext}
-use Rattle.road_model.specs.Orders.{rises, name_cmp, names_cmp}
+use Rattle.ordered_lists.specs.Orders.{rises}
+use Rattle.road_model.specs.Orders.{name_cmp, names_cmp}
 use Rattle.road_model.specs.Turning.{HasTurnSteps}
 use Rattle.road_model.specs.Blocks.{IsContextEntry, name_of}
 use Rattle.turn_automata.specs.Machines.{Machine, StandsFor, Watches}

@@ -1,7 +1,7 @@
 //! What builds the blocks of ways one after another.
 ghost use Rattle.std.specs.Prelude.{◌≡◌, ◌+◌, map, IfOk, IsTrue};
 ghost use Rattle.std.specs.List.{AllByRecursion};
-ghost use Rattle.road_model.specs.Orders.{rises};
+ghost use Rattle.ordered_lists.specs.Orders.{rises};
 ghost use Rattle.road_model.specs.Blocks.{IsBlock};
 ghost use Rattle.road_model.specs.Known.{AreKnown};
 ghost use Rattle.road_model.specs.Format.{IsPieceForm, place_cmp};

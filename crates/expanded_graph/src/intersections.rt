@@ -3,13 +3,15 @@ ghost use Rattle.std.specs.Prelude.{◌≡◌, IfOk, IfSome};
 ghost use Rattle.road_model.specs.Driving.{shut, turning_place};
 ghost use Rattle.road_model.specs.Networks.{on, made_on};
 ghost use Rattle.road_base.specs.Objects.{Objects};
-ghost use Rattle.road_model.specs.Orders.{Lists, name_cmp};
+ghost use Rattle.ordered_lists.specs.Orders.{Lists};
+ghost use Rattle.road_model.specs.Orders.{name_cmp};
 ghost use Rattle.road_model.specs.Rules.{Rules};
 ghost use Rattle.way_pieces.specs.Names.{IsDeparture};
 ghost use Rattle.way_pieces.specs.RoadPieces.{AreRoadPieces};
 ghost use Rattle.expanded_graph.specs.Intersections.{IsIntersection, AreIntersections, HasRules};
 
-use road_base::{Groups, NoMemory, NodeId, Numbered, Ranges};
+use ordered_lists::{Groups, Numbered, Ranges};
+use road_base::{NoMemory, NodeId};
 use road_model::{Network, Profile, World};
 use std::alloc::Global;
 use way_pieces::{Departure, RoadPieces};

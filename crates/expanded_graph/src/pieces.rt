@@ -3,7 +3,8 @@ ghost use Rattle.std.specs.Prelude.{◌≡◌, ◌≤◌, length, map, IfOk, Con
 ghost use Rattle.std.specs.List.{All, AllByRecursion};
 ghost use Rattle.road_model.specs.Lines.{line_of};
 ghost use Rattle.road_model.specs.Pieces.{IsPiece};
-ghost use Rattle.road_model.specs.Orders.{Lists, names_cmp};
+ghost use Rattle.ordered_lists.specs.Orders.{Lists};
+ghost use Rattle.road_model.specs.Orders.{names_cmp};
 ghost use Rattle.road_model.specs.Blocks.{IsContextEntry, IsPieceEntry};
 ghost use Rattle.road_model.specs.Format.{IsContextForm, IsPieceForm, begins_alone};
 ghost use Rattle.road_model.specs.Networks.{on, made_on, map_of};

@@ -11,10 +11,11 @@ ghost use Rattle.restrictions.specs.Words.{IsRestriction};
 ghost use Rattle.expanded_graph.specs.Near.{AreWordsNear, HasStepOn};
 ghost use Rattle.expanded_graph.specs.Known.{AreRelationsOn, AreWordsOf, GainsApart, GainsWords};
 
+use ordered_lists::leave_once;
 use restrictions::{Word, WordList, WordsError, words};
 use road_base::{NoMemory, RelationId, Step, WayId};
 use road_model::laws::{name_order, number_order, words_on_ways};
-use road_model::{Network, Profile, World, leave_once};
+use road_model::{Network, Profile, World};
 use std::alloc::Global;
 
 /// Words of the map, among them all that are near one of the ways: the words of the ways' relations, which are all

@@ -3,7 +3,7 @@ use Rattle.std.proofs.Common.{◌≡◌, ℕ, zero, suc, ◌-◌, ◌+◌, ◌<�
 use Rattle.std.proofs.Common.{drop, refl, ap, ◌∙◌, arith, map}
 use Rattle.std.specs.Ordering.{is_lt}
 use Rattle.std.specs.declared.cmp.Ordering.{Ordering}
-use Rattle.road_model.specs.Orders.{rises, rises_from}
+use Rattle.ordered_lists.specs.Orders.{rises, rises_from}
 
 -- where one is below the next, the rest decides
 goes_on : {N : Type 0} (R : N → N → Ordering) (xs : List N) (i : ℕ) (d e : N) → suc i < length xs

@@ -6,10 +6,11 @@ use Rattle.std.specs.Cmp.{IsTotalOrder}
 use Rattle.std.proofs.lemmas.Cmp.{int_cmp_total}
 use Rattle.std.proofs.lemmas.List.{nil_from_length}
 use Rattle.road_model.specs.declared.blocks.Block.{Block}
-use Rattle.road_model.specs.Orders.{way_cmp, rises}
+use Rattle.ordered_lists.specs.Orders.{rises}
+use Rattle.road_model.specs.Orders.{way_cmp}
 use Rattle.road_model.specs.BlockMap.{entry_of}
 use Rattle.road_model.specs.Format.{graph_bytes, BlockFits, IsBlockForm, IsGraphFile}
-use Rattle.road_model.proofs.SortedMaps.{values_of}
+use Rattle.ordered_lists.proofs.SortedMaps.{values_of}
 
 -- the values of a map whose entries are those of the blocks
 pub values_are : (m : FinMap way_cmp Block) (bs : List Block) → entries m ≡ map entry_of bs → values m ≡ bs

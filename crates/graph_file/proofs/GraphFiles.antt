@@ -9,15 +9,16 @@ use Rattle.std.proofs.lemmas.Bool.{and_parts}
 use Rattle.std.proofs.lemmas.List.{drop_at}
 use Rattle.road_base.specs.Bytes.{u32_bytes, u64_bytes, i64_bytes, joined}
 use Rattle.road_base.specs.declared.ids.WayId.{WayId}
-use Rattle.road_base.proofs.Comparisons.{less, over, turned}
+use Rattle.ordered_lists.proofs.Comparisons.{less, over, turned}
 use Rattle.road_model.specs.declared.lists.PieceName.{PieceName}
 use Rattle.road_model.specs.declared.lists.Piece.{Piece}
 use Rattle.road_model.specs.declared.blocks.Block.{Block}
-use Rattle.road_model.specs.Orders.{rises, rises_from, way_cmp}
+use Rattle.ordered_lists.specs.Orders.{rises, rises_from}
+use Rattle.road_model.specs.Orders.{way_cmp}
 use Rattle.road_model.specs.BlockMap.{entry_of}
 use Rattle.road_model.specs.Format.{piece_bytes, block_bytes, graph_bytes, place_cmp, IsPieceForm, IsBlockForm}
 use Rattle.road_model.specs.Format.{PieceFits, BlockFits, IsGraphFile}
-use Rattle.road_model.proofs.AscendingLists.{rest_rises}
+use Rattle.ordered_lists.proofs.AscendingLists.{rest_rises}
 use Rattle.spelled_bytes.specs.Reading.{Begins}
 use Rattle.graph_file.specs.GraphReading.{list_bytes, ListFits, IsPieceAt, IsWayBlock, IsOfItsWay, IsFile}
 use Rattle.graph_file.specs.OneSpelling.{list_one, block_one}

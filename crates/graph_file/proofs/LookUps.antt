@@ -15,13 +15,14 @@ use Rattle.road_base.specs.declared.ids.WayId.{WayId}
 use Rattle.road_model.specs.declared.lists.PieceName.{PieceName}
 use Rattle.road_model.specs.declared.lists.Piece.{Piece}
 use Rattle.road_model.specs.declared.blocks.Block.{Block}
-use Rattle.road_base.proofs.ListMembers.{all_at}
+use Rattle.ordered_lists.proofs.ListMembers.{all_at}
 use Rattle.road_model.specs.declared.lists.Context.{Context}
 use Rattle.road_model.specs.declared.lists.TurnArc.{TurnArc}
-use Rattle.road_model.specs.Orders.{rises, rises_from, way_cmp, name_cmp}
+use Rattle.ordered_lists.specs.Orders.{rises, rises_from}
+use Rattle.road_model.specs.Orders.{way_cmp, name_cmp}
 use Rattle.road_model.specs.Format.{place_cmp}
 use Rattle.road_model.proofs.TotalOrders.{way_cmp_total, name_cmp_total}
-use Rattle.road_model.proofs.SortedMaps.{map_of, get_member, search_found, search_below, search_behind}
+use Rattle.ordered_lists.proofs.SortedMaps.{map_of, get_member, search_found, search_below, search_behind}
 use Rattle.graph_file.specs.GraphReading.{IsPieceAt, IsWayBlock}
 use Rattle.graph_file.specs.LookUps.{AreOrdered, HasNamed, HasContextsOf, HasContextAt, HasArcsOf}
 

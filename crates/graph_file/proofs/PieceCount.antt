@@ -10,7 +10,8 @@ use Rattle.road_base.specs.declared.ids.Dir.{Dir}
 use Rattle.road_base.specs.declared.ids.Dir.TheVariants.{Forward, Backward}
 use Rattle.road_model.specs.declared.lists.PieceName.{PieceName}
 use Rattle.road_model.specs.declared.lists.Piece.{Piece}
-use Rattle.road_model.specs.Orders.{dir_cmp, rises, rises_from}
+use Rattle.ordered_lists.specs.Orders.{rises, rises_from}
+use Rattle.road_model.specs.Orders.{dir_cmp}
 use Rattle.road_model.specs.Format.{place_cmp, IsPieceForm}
 
 dir_rank : Dir → ℕ

@@ -9,7 +9,7 @@ use Rattle.road_model.specs.declared.lists.Place.{Place}
 use Rattle.road_model.specs.declared.lists.Context.{Context}
 use Rattle.road_model.specs.declared.lists.Piece.{Piece}
 use Rattle.road_model.specs.declared.blocks.Block.{Block}
-use Rattle.road_model.specs.Orders.{rises}
+use Rattle.ordered_lists.specs.Orders.{rises}
 use Rattle.road_model.specs.Format.{dir_bytes, place_bytes, context_bytes, piece_bytes, block_bytes, place_cmp}
 use Rattle.road_model.specs.Format.{IsContextForm, ContextFits}
 use Rattle.graph_file.specs.declared.extent.Extent.{Extent}

@@ -13,7 +13,8 @@ use Rattle.road_model.specs.declared.blocks.Block.{Block}
 use Rattle.road_model.specs.Format.{graph_bytes}
 use Rattle.road_model.specs.Format.{dir_bytes, name_bytes, NameFits}
 use Rattle.road_model.specs.Format.{ContextFits, PieceFits, IsContextForm, IsPieceForm, begins_alone, place_cmp}
-use Rattle.road_model.specs.Orders.{rises, names_cmp, way_cmp}
+use Rattle.ordered_lists.specs.Orders.{rises}
+use Rattle.road_model.specs.Orders.{names_cmp, way_cmp}
 use Rattle.graph_file.specs.declared.extent.Extent.{Extent}
 
 -- each value

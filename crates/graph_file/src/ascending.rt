@@ -2,7 +2,8 @@
 ghost use Rattle.std.specs.Prelude.{◌≡◌};
 ghost use Rattle.std.specs.Ordering.{is_lt};
 ghost use Rattle.std.specs.declared.cmp.Ordering.{Ordering};
-ghost use Rattle.road_model.specs.Orders.{name_cmp, names_cmp, way_cmp, rises};
+ghost use Rattle.ordered_lists.specs.Orders.{rises};
+ghost use Rattle.road_model.specs.Orders.{name_cmp, names_cmp, way_cmp};
 ghost use Rattle.road_model.specs.Format.{place_cmp};
 
 use road_model::laws::name_order;

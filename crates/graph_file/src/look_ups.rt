@@ -3,7 +3,8 @@ ghost use Rattle.std.specs.Prelude.{◌≡◌, map, option_copied, Some, IfSome,
 ghost use Rattle.road_base.specs.declared.ids.WayId.{WayId};
 ghost use Rattle.road_model.specs.declared.lists.Piece.{Piece};
 ghost use Rattle.road_model.specs.declared.blocks.Block.{Block};
-ghost use Rattle.road_model.specs.Orders.{rises, name_cmp, way_cmp};
+ghost use Rattle.ordered_lists.specs.Orders.{rises};
+ghost use Rattle.road_model.specs.Orders.{name_cmp, way_cmp};
 ghost use Rattle.graph_file.specs.LookUps.{AreOrdered, HasNamed};
 
 use road_base::WayId;

@@ -1,7 +1,8 @@
 //! Directions, names, places, arcs and contexts, read from the front of bytes.
 ghost use Rattle.std.specs.Prelude.{◌≡◌, ◌+◌, ◌≤◌, ◌↔◌, length, map, IsTrue};
 ghost use Rattle.std.specs.List.{AllByRecursion};
-ghost use Rattle.road_model.specs.Orders.{name_cmp, names_cmp, rises};
+ghost use Rattle.ordered_lists.specs.Orders.{rises};
+ghost use Rattle.road_model.specs.Orders.{name_cmp, names_cmp};
 ghost use Rattle.road_model.specs.Format.{dir_bytes, name_bytes, place_bytes, arc_bytes, context_bytes, NameFits};
 ghost use Rattle.road_model.specs.Format.{begins_alone};
 ghost use Rattle.graph_file.specs.GraphReading.{Any, PlaceFits, ArcFits, list_bytes, ListFits};

@@ -1,6 +1,6 @@
 //! Pieces and blocks, read from the front of bytes.
 ghost use Rattle.std.specs.Prelude.{◌≡◌, ◌↔◌, [], map, IsTrue, IfOk, IfErr};
-ghost use Rattle.road_model.specs.Orders.{rises};
+ghost use Rattle.ordered_lists.specs.Orders.{rises};
 ghost use Rattle.road_base.specs.Bytes.{joined};
 ghost use Rattle.road_model.specs.Format.{piece_bytes, block_bytes, place_cmp};
 ghost use Rattle.spelled_bytes.specs.Spelling.{AreSoMany};

@@ -8,7 +8,7 @@ use Rattle.road_base.specs.declared.ids.Dir.{Dir}
 use Rattle.road_base.specs.declared.ids.Dir.TheVariants.{Forward, Backward}
 use Rattle.road_base.specs.declared.objects.Way.{Way}
 use Rattle.road_base.specs.Objects.{Objects, way_of}
-use Rattle.road_base.proofs.ListMembers.{contains_cases}
+use Rattle.ordered_lists.proofs.ListMembers.{contains_cases}
 use Rattle.road_model.specs.Rules.{Rules}
 use Rattle.road_model.specs.Lines.{same_node, changes, changes_from, refs_of, line_of, node_at}
 use Rattle.road_model.specs.Driving.{open_way, is_open, is_road}

@@ -7,7 +7,7 @@ use Rattle.road_model.specs.Rules.{Rules}
 use Rattle.road_model.specs.Lines.{line_of}
 use Rattle.road_model.specs.Driving.{is_road}
 use Rattle.road_model.specs.Pieces.{IsPlain}
-use Rattle.road_model.specs.Orders.{Lists}
+use Rattle.ordered_lists.specs.Orders.{Lists}
 
 -- the position stands on a road's line and isn't plain
 pub record IsJunction (M : Objects) (P : Rules) (w : WayId) (i : ℕ) : Type 0 where

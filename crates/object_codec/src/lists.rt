@@ -5,12 +5,9 @@ ghost use Rattle.object_codec.specs.Spelling.{list_bytes, ListFits};
 ghost use Rattle.spelled_bytes.specs.Reading.{Begins, NoneBegins, IfMalformed};
 
 use crate::spelling::{EventFormat, Put};
-use road_base::{NoMemory, put_all};
+use road_base::{MOST_ITEMS, NoMemory, put_all};
 use spelled_bytes::{Spell, Unread, read_all};
 use std::alloc::Global;
-
-/// How many items a list of an object has at most.
-const MOST: u32 = 65_535;
 
 /// Appends how many there are, and the spelling of each.
 pub fn put_list<T: Put>(items: &[T], out: &mut Vec<u8>) -> Result<(), NoMemory>
@@ -33,7 +30,7 @@ pub fn read_list<T: Spell<EventFormat> + Drop>(
         (NoneBegins (list_bytes T.spelling) (ListFits T.fits) bytes.now)) }
 {
     let (count, rest) = <u32 as Spell<EventFormat>>::read(alloc, bytes)?;
-    if count > MOST {
+    if count as usize > MOST_ITEMS {
         return Err(Unread::Malformed);
     }
     let (items, rest) = read_all::<EventFormat, T>(alloc, u64::from(count), rest)?;

@@ -12,14 +12,14 @@ use Rattle.road_base.specs.declared.ids.Key.{Key}
 use Rattle.road_base.specs.declared.event.Event.{Event}
 use Rattle.road_base.specs.Objects.{Objects, Entry, key_cmp, body_in, visible}
 use Rattle.road_base.specs.Applying.{entry_of, is_of, first_greatest, IsApplied}
-use Rattle.road_model.specs.Orders.{rises, rises_from}
+use Rattle.ordered_lists.specs.Orders.{rises, rises_from}
 use Rattle.road_model.specs.Links.{Differs, AreChanged}
 use Rattle.object_store.specs.Listed.{key_of, IsInOrder}
 use Rattle.object_store.specs.Changes.{Alters}
-use Rattle.road_base.proofs.ListMembers.{In, in_from_contains, contains_from_in, in_end, in_left, push_cases}
-use Rattle.road_model.proofs.AscendingLists.{rest_rises}
-use Rattle.road_base.proofs.Comparisons.{turned}
-use Rattle.road_model.proofs.RisingLists.{one_more_rises}
+use Rattle.ordered_lists.proofs.ListMembers.{In, in_from_contains, contains_from_in, in_end, in_left, push_cases}
+use Rattle.ordered_lists.proofs.AscendingLists.{rest_rises}
+use Rattle.ordered_lists.proofs.Comparisons.{turned}
+use Rattle.ordered_lists.proofs.RisingLists.{one_more_rises}
 use Rattle.object_store.proofs.InOrder.{above, other_above, none_kept, one_or_none}
 
 same_list : (keys : List Key) → map (λ k. k) keys ≡ keys

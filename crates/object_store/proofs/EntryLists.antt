@@ -12,8 +12,8 @@ use Rattle.std.proofs.Math.Seq.{split_at}
 use Rattle.std.proofs.lemmas.Bool.{and_parts}
 use Rattle.std.proofs.lemmas.List.{set_split, take-append-drop}
 use Rattle.std.proofs.lemmas.List.Sorted.{searchable_from_sorted}
-use Rattle.road_base.proofs.ListMembers.{In}
-use Rattle.road_base.proofs.Comparisons.{less, turned}
+use Rattle.ordered_lists.proofs.ListMembers.{In}
+use Rattle.ordered_lists.proofs.Comparisons.{less, turned}
 use Rattle.object_store.specs.declared.level.Entry.{Entry}
 use Rattle.object_store.specs.Levels.{pair, Rise, values_of}
 use Rattle.object_store.proofs.SplitPairs.{find_here, find_behind, find_none, put_here, put_behind}

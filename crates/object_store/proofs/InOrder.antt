@@ -16,11 +16,11 @@ use Rattle.road_base.specs.declared.ids.Key.{Key}
 use Rattle.road_base.specs.declared.event.Event.{Event}
 use Rattle.road_base.specs.Objects.{Entry, key_cmp}
 use Rattle.road_base.specs.Applying.{entry_of, is_of}
-use Rattle.road_model.specs.Orders.{rises_from}
+use Rattle.ordered_lists.specs.Orders.{rises_from}
 use Rattle.object_store.specs.Listed.{key_of, pair_of, objects_of, IsInOrder}
-use Rattle.road_base.proofs.ListMembers.{In, in_get, contains_from_in}
-use Rattle.road_base.proofs.Comparisons.{less, turned}
-use Rattle.road_model.proofs.AscendingLists.{rest_rises, above as stands_above}
+use Rattle.ordered_lists.proofs.ListMembers.{In, in_get, contains_from_in}
+use Rattle.ordered_lists.proofs.Comparisons.{less, turned}
+use Rattle.ordered_lists.proofs.AscendingLists.{rest_rises, above as stands_above}
 
 -- an event with a key among those of which the key is another's
 pub none_found : (k : Key) (xs : List Event) → ((x : Event) → In x xs → is_of k x ≡ false)

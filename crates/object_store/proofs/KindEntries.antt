@@ -9,8 +9,8 @@ use Rattle.road_base.specs.declared.event.Event.{Event}
 use Rattle.road_base.specs.Objects.{Objects, Entry, key_cmp}
 use Rattle.road_base.specs.Applying.{entry_of}
 use Rattle.object_store.specs.Listed.{key_of, pair_of, objects_of, IsInOrder, AreEntriesOf}
-use Rattle.road_base.proofs.ListMembers.{In, in_from_contains, contains_from_in}
-use Rattle.road_base.proofs.FilteredLists.{in_filter, from_filter}
+use Rattle.ordered_lists.proofs.ListMembers.{In, in_from_contains, contains_from_in}
+use Rattle.ordered_lists.proofs.FilteredLists.{in_filter, from_filter}
 use Rattle.object_store.proofs.InOrder.{found_at, entries_of}
 
 same_inner : (a b : Entry) → Some a ≡ Some b → a ≡ b

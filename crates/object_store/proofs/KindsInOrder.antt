@@ -11,8 +11,8 @@ use Rattle.road_base.specs.declared.ids.Key.TheVariants.{Node, Way, Relation}
 use Rattle.road_base.specs.declared.event.Event.{Event}
 use Rattle.road_base.specs.Objects.{key_cmp}
 use Rattle.object_store.specs.Listed.{key_of, is_node, is_way, is_relation, IsInOrder}
-use Rattle.road_base.proofs.ListMembers.{in_get}
-use Rattle.road_model.proofs.AscendingLists.{rest_rises}
+use Rattle.ordered_lists.proofs.ListMembers.{in_get}
+use Rattle.ordered_lists.proofs.AscendingLists.{rest_rises}
 use Rattle.object_store.proofs.InOrder.{above}
 
 pub drop_in_order : (m : ℕ) (xs : List Event) → IsInOrder xs → IsInOrder (drop m xs)

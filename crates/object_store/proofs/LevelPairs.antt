@@ -9,7 +9,7 @@ use Rattle.std.specs.Option.{option_or}
 use Rattle.std.specs.Cmp.{IsTotalOrder}
 use Rattle.std.specs.FinMap.{find, put}
 use Rattle.std.specs.FinMap.Entries.{by_order, find-put}
-use Rattle.road_base.proofs.Comparisons.{turned}
+use Rattle.ordered_lists.proofs.Comparisons.{turned}
 use Rattle.object_store.specs.Levels.{Rise, put_all, laid, values_of}
 use Rattle.object_store.proofs.SplitPairs.{put_rises}
 

@@ -13,7 +13,7 @@ use Rattle.road_base.specs.declared.ids.Key.{Key}
 use Rattle.road_base.specs.declared.event.Event.{Event}
 use Rattle.road_base.specs.Objects.{Objects, Entry, key_cmp}
 use Rattle.road_base.specs.Applying.{entry_of, is_of, first_greatest, entries_for}
-use Rattle.road_base.proofs.ListMembers.{In, contains_head, contains_later}
+use Rattle.ordered_lists.proofs.ListMembers.{In, contains_head, contains_later}
 use Rattle.object_store.specs.Listed.{IsInOrder, pair_of}
 use Rattle.object_store.specs.Overlay.{over, AreKeyed}
 use Rattle.object_store.specs.Levels.{Rise}

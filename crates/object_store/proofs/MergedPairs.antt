@@ -9,8 +9,8 @@ use Rattle.std.specs.FinMap.{put}
 use Rattle.std.specs.FinMap.Entries.{below_all, by_order}
 use Rattle.std.proofs.lemmas.Bool.{and_parts, and_from, eqb-true}
 use Rattle.std.proofs.lemmas.List.{append_assoc, take_rest}
-use Rattle.road_base.proofs.ListMembers.{In}
-use Rattle.road_base.proofs.Comparisons.{less, turned}
+use Rattle.ordered_lists.proofs.ListMembers.{In}
+use Rattle.ordered_lists.proofs.Comparisons.{less, turned}
 use Rattle.object_store.specs.Levels.{Rise, put_all}
 use Rattle.object_store.proofs.SplitPairs.{above_first}
 use Rattle.object_store.proofs.LevelPairs.{put_all_rises}

@@ -10,7 +10,7 @@ use Rattle.road_base.specs.declared.ids.Key.{Key}
 use Rattle.road_base.specs.declared.event.Event.{Event}
 use Rattle.road_base.specs.Objects.{Objects, Entry, key_cmp}
 use Rattle.road_base.specs.Applying.{entry_of}
-use Rattle.road_base.proofs.ListMembers.{In, in_from_contains, contains_from_in}
+use Rattle.ordered_lists.proofs.ListMembers.{In, in_from_contains, contains_from_in}
 use Rattle.object_store.specs.Overlay.{over, AreKeyed}
 
 abbrev pub overlaid : Option Event → Option Entry → Option Entry

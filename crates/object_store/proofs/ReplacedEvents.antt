@@ -14,12 +14,12 @@ use Rattle.road_base.specs.declared.ids.Key.{Key}
 use Rattle.road_base.specs.declared.event.Event.{Event}
 use Rattle.road_base.specs.Objects.{key_cmp}
 use Rattle.road_base.specs.Applying.{entry_of}
-use Rattle.road_model.specs.Orders.{rises}
+use Rattle.ordered_lists.specs.Orders.{rises}
 use Rattle.object_store.specs.Listed.{key_of, pair_of, objects_of, IsInOrder}
 use Rattle.object_store.specs.Overlay.{replaced}
-use Rattle.road_base.proofs.ListMembers.{in_get}
-use Rattle.road_base.proofs.Comparisons.{turned}
-use Rattle.road_model.proofs.AscendingLists.{rest_rises}
+use Rattle.ordered_lists.proofs.ListMembers.{in_get}
+use Rattle.ordered_lists.proofs.Comparisons.{turned}
+use Rattle.ordered_lists.proofs.AscendingLists.{rest_rises}
 use Rattle.object_store.proofs.InOrder.{above, entries_of, found_at, search_some, search_none}
 
 keys_set : (e : Event) (xs : List Event) (i : ℕ) → i < length xs → HoldsAt (λ x. x.key ≡ e.key) xs i

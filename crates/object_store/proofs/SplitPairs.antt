@@ -7,8 +7,8 @@ use Rattle.std.specs.Cmp.{IsTotalOrder}
 use Rattle.std.specs.FinMap.{find, put}
 use Rattle.std.specs.FinMap.Entries.{below_all, is_sorted-put}
 use Rattle.std.proofs.lemmas.Bool.{and_parts}
-use Rattle.road_base.proofs.ListMembers.{In}
-use Rattle.road_base.proofs.Comparisons.{less, turned}
+use Rattle.ordered_lists.proofs.ListMembers.{In}
+use Rattle.ordered_lists.proofs.Comparisons.{less, turned}
 use Rattle.object_store.specs.Levels.{Rise}
 
 told : (b : Bool) → T b → IsTrue b

@@ -17,10 +17,10 @@ use Rattle.road_base.specs.declared.ids.Key.{Key}
 use Rattle.road_base.specs.declared.event.Event.{Event}
 use Rattle.road_base.specs.Objects.{Entry, key_cmp}
 use Rattle.road_base.specs.Applying.{entry_of, is_of, newer, first_greatest, IsApplied}
-use Rattle.road_model.specs.Orders.{rises_from}
+use Rattle.ordered_lists.specs.Orders.{rises_from}
 use Rattle.object_store.specs.Listed.{key_of, pair_of, objects_of, IsInOrder}
-use Rattle.road_base.proofs.ListMembers.{In, in_from_contains, contains_from_in}
-use Rattle.road_base.proofs.Comparisons.{turned}
+use Rattle.ordered_lists.proofs.ListMembers.{In, in_from_contains, contains_from_in}
+use Rattle.ordered_lists.proofs.Comparisons.{turned}
 use Rattle.object_store.proofs.InOrder.{none_found, none_kept}
 
 -- by key, and of one key the greater version first

@@ -1,5 +1,6 @@
 //! Where the event of a key may stand in a list in key order: hints, without a promise.
-use road_base::{Event, Key, Ranges};
+use ordered_lists::Ranges;
+use road_base::{Event, Key};
 use std::alloc::Global;
 
 /// For a list in key order, which holds the events of nodes, then those of ways, then those of relations: where the

@@ -7,7 +7,7 @@ use Rattle.std.specs.Cmp.Lexicographic.{nat_list_cmp_total, texts_ties}
 use Rattle.std.specs.Str.{bytes_eq}
 use Rattle.std.proofs.lemmas.Slice.Eq.{bytes_eq-Decides}
 use Rattle.road_base.specs.Tags.{TagList, is_above, IsAscending, value_of}
-use Rattle.road_base.proofs.Comparisons.{less}
+use Rattle.ordered_lists.proofs.Comparisons.{less}
 use Rattle.road_base.proofs.TagSearch.{text_cmp}
 
 -- a text below all keys is below those above one of them

@@ -13,11 +13,8 @@ ghost use Rattle.opl_lexer.specs.declared.fault.FaultKind.TheVariants.{BadRef};
 use crate::cut::at_first;
 pub use crate::tag_list::tags;
 use opl_lexer::{FaultKind, LexError, front_number, unescape, whole};
-use road_base::{Key, Member, Members, NodeId, Refs, RelationId, Text, WayId};
+use road_base::{Key, MOST_ITEMS, Member, Members, NodeId, Refs, RelationId, Text, WayId};
 use std::alloc::Global;
-
-/// The most items of a list.
-pub const MOST_ITEMS: usize = 65_535;
 
 /// A list has more than 65,535 items.
 pub const TOO_MANY: LexError = LexError::Kind(FaultKind::TooMany);

@@ -20,14 +20,10 @@ use crate::contents::{members, refs, tags};
 use crate::letters::{Letter, Seen, letter_of};
 use crate::line::LineError;
 use opl_lexer::{FaultKind, FieldIter, LexError, coordinate, version};
-use road_base::{Body, Event, Key, Location, Members, Node, Refs, Relation, Tags, Way};
+use road_base::{
+    Body, Event, Key, Location, MOST_LAT, MOST_LON, Members, Node, Refs, Relation, Tags, Way,
+};
 use std::alloc::Global;
-
-/// 180 degrees in units of 1e-7 degree.
-const MOST_LON: i32 = 1_800_000_000;
-
-/// 90 degrees in units of 1e-7 degree.
-const MOST_LAT: i32 = 900_000_000;
 
 /// What the fields of a line that were read so far hold.
 #[derive(Drop)]

@@ -8,10 +8,10 @@ ghost use Rattle.opl_lexer.specs.Spelling.{AreTags};
 ghost use Rattle.opl_lexer.specs.declared.fault.LexError.TheVariants.{NoMemory};
 ghost use Rattle.opl_objects.specs.Outcomes.{IsGood, IsBad};
 
-use crate::contents::{MOST_ITEMS, TOO_MANY, first_items, room, text};
+use crate::contents::{TOO_MANY, first_items, room, text};
 use crate::cut::at_first;
 use opl_lexer::{FaultKind, LexError};
-use road_base::{Tags, Text};
+use road_base::{MOST_ITEMS, Tags, Text};
 use std::alloc::Global;
 
 const BAD_TAG: LexError = LexError::Kind(FaultKind::BadTag);

@@ -10,12 +10,13 @@ use Rattle.road_base.specs.declared.ids.Key.{Key}
 use Rattle.road_base.specs.declared.event.Event.{Event}
 use Rattle.road_base.specs.Objects.{Objects, Entry}
 use Rattle.road_model.specs.Rules.{Rules}
-use Rattle.road_model.specs.Orders.{rises, relation_cmp}
+use Rattle.ordered_lists.specs.Orders.{rises}
+use Rattle.road_model.specs.Orders.{relation_cmp}
 use Rattle.object_store.specs.Listed.{pair_of}
 use Rattle.restrictions.specs.Words.{IsRestriction}
 use Rattle.osmroad.specs.Audit.{RuleLine, IsRuleLine, IsLineOf, AreRuleLines, IsAudit, rule_line, carries_conditional}
 use Rattle.osmroad.specs.Audit.{conditional_count, conditional_line}
-use Rattle.road_base.proofs.ListMembers.{In, contains_more, contains_from_in, from_map}
+use Rattle.ordered_lists.proofs.ListMembers.{In, contains_more, contains_from_in, from_map}
 use Rattle.osmroad.proofs.OneFinding.{one_finding}
 
 -- ---- one line after another

@@ -9,7 +9,8 @@ use Rattle.road_base.specs.declared.ids.WayId.{WayId}
 use Rattle.road_base.specs.Objects.{Objects}
 use Rattle.road_model.specs.declared.blocks.Block.{Block}
 use Rattle.road_model.specs.Rules.{Rules}
-use Rattle.road_model.specs.Orders.{Lists, rises, way_cmp}
+use Rattle.ordered_lists.specs.Orders.{Lists, rises}
+use Rattle.road_model.specs.Orders.{way_cmp}
 use Rattle.road_model.specs.Blocks.{IsBlock, IsRoadBlock}
 use Rattle.road_model.specs.Format.{IsPieceForm, IsBlockForm, IsGraph, graph_bytes, place_cmp}
 use Rattle.road_model.specs.Naming.{OneBlock}
@@ -19,9 +20,9 @@ use Rattle.graph_file.specs.GraphReading.{IsFile, IsOfItsWay}
 use Rattle.graph_file.specs.WalkedFiles.{IsWalkedFile}
 use Rattle.road_model.specs.Highways.{AreRoadWays}
 use Rattle.osmroad.specs.Building.{HasBlocksOf, IsBlockAmong}
-use Rattle.road_base.proofs.ListMembers.{In, contains_from_in, in_from_contains, contains_more, in_left, in_end}
-use Rattle.road_base.proofs.ListMembers.{from_map}
-use Rattle.road_model.proofs.RisingLists.{one_more_rises, below_last}
+use Rattle.ordered_lists.proofs.ListMembers.{In, contains_from_in, in_from_contains, contains_more, in_left, in_end}
+use Rattle.ordered_lists.proofs.ListMembers.{from_map}
+use Rattle.ordered_lists.proofs.RisingLists.{one_more_rises, below_last}
 
 module _ (M : Objects) (P : Rules) where
   -- a way without pieces has no block

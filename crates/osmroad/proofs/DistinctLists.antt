@@ -1,7 +1,7 @@
 -- How long lists of different members are.
 use Rattle.std.proofs.Common.{◌≡◌, ◌≢◌, suc, ◌≤◌, ◌⊎◌, List, [], ◌∷◌, length, inl, inr, refl, sym, ap, ◌∙◌, arith}
 use Rattle.restrictions.specs.Words.{AreDistinct}
-use Rattle.road_base.proofs.ListMembers.{In, contains_from_in, all_at}
+use Rattle.ordered_lists.proofs.ListMembers.{In, contains_from_in, all_at}
 
 module _ {A : Type 0} where
   -- a list without one place of a member

@@ -7,7 +7,7 @@ use Rattle.road_base.specs.declared.event.Event.{Event}
 use Rattle.road_base.specs.Objects.{Objects}
 use Rattle.road_model.specs.Orders.{relation_cmp}
 use Rattle.road_model.specs.Rules.{Rules}
-use Rattle.road_model.proofs.AscendingLists.{lists_unique}
+use Rattle.ordered_lists.proofs.AscendingLists.{lists_unique}
 use Rattle.access_profile.specs.Motorcar.{motorcar_rules}
 use Rattle.osmroad.specs.Audit.{RuleLine, IsRuleLine, IsAudit, rule_line, conditional_line, conditional_count}
 use Rattle.osmroad.specs.Audited.{IsAuditOf}

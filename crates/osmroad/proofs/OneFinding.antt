@@ -16,7 +16,7 @@ use Rattle.restrictions.specs.Words.{AreWords}
 use Rattle.osmroad.specs.declared.findings.Finding.{Finding}
 use Rattle.osmroad.specs.declared.findings.Finding.TheVariants.{Words, Unused}
 use Rattle.osmroad.specs.Audit.{IsFinding, HasWords, IsUnused}
-use Rattle.road_base.proofs.ListMembers.{in_from_contains, contains_from_in}
+use Rattle.ordered_lists.proofs.ListMembers.{in_from_contains, contains_from_in}
 use Rattle.osmroad.proofs.DistinctLists.{no_longer}
 
 -- ---- kinds and causes

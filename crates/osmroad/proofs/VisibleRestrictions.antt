@@ -15,11 +15,12 @@ use Rattle.road_base.specs.declared.event.Event.{Event}
 use Rattle.road_base.specs.Objects.{Objects, Entry, key_cmp, body_in, relation_in, visible, relation_of}
 use Rattle.road_base.specs.Applying.{entry_of}
 use Rattle.road_model.specs.Rules.{is_restriction}
-use Rattle.road_model.specs.Orders.{rises, relation_cmp}
+use Rattle.ordered_lists.specs.Orders.{rises}
+use Rattle.road_model.specs.Orders.{relation_cmp}
 use Rattle.object_store.specs.Listed.{AreEntriesOf, IsInOrder, is_relation}
 use Rattle.restrictions.specs.Words.{IsRestriction}
 use Rattle.osmroad.specs.Audit.{restriction_of, visible_restriction}
-use Rattle.road_base.proofs.ListMembers.{In, contains_from_in, in_from_contains, in_get}
+use Rattle.ordered_lists.proofs.ListMembers.{In, contains_from_in, in_from_contains, in_get}
 use Rattle.back_references.proofs.ToldNames.{in_told, from_told, told_rise}
 
 abbrev in_event : Event → Option RelationId

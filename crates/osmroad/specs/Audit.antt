@@ -17,7 +17,8 @@ use Rattle.road_base.specs.Tags.{TagList}
 use Rattle.road_model.specs.declared.answers.Unusable.{Unusable}
 use Rattle.road_model.specs.declared.answers.Unusable.TheVariants.{NotThisVehicle, NoValue, Members, Missing, NotAnEnd}
 use Rattle.road_model.specs.declared.answers.Unusable.TheVariants.{NotConnected, ClosedVia, TooLong}
-use Rattle.road_model.specs.Orders.{Lists, relation_cmp}
+use Rattle.ordered_lists.specs.Orders.{Lists}
+use Rattle.road_model.specs.Orders.{relation_cmp}
 use Rattle.road_model.specs.Rules.{Rules, is_restriction}
 use Rattle.road_model.specs.Restrictions.{IsFirstCause, IsUsable}
 use Rattle.road_model.specs.Words.{kind_of}

@@ -4,7 +4,8 @@ use Rattle.road_base.specs.declared.ids.WayId.{WayId}
 use Rattle.road_base.specs.Objects.{Objects}
 use Rattle.road_model.specs.declared.blocks.Block.{Block}
 use Rattle.road_model.specs.Rules.{Rules}
-use Rattle.road_model.specs.Orders.{Lists, way_cmp}
+use Rattle.ordered_lists.specs.Orders.{Lists}
+use Rattle.road_model.specs.Orders.{way_cmp}
 use Rattle.road_model.specs.Blocks.{IsRoadBlock}
 use Rattle.graph_file.specs.declared.writer.GraphWriter.{GraphWriter}
 use Rattle.graph_file.specs.Writing.{HasWritten}

@@ -1,7 +1,8 @@
 //! The bytes of a graph, from the blocks of its ways.
 ghost use Rattle.std.specs.Prelude.{◌≡◌, ◌+◌, ◌≤◌, ◌++◌, ◌∷◌, [], List, length, IfOk, OnOk, IsTrue};
 ghost use Rattle.road_base.specs.declared.ids.WayId.{WayId};
-ghost use Rattle.road_model.specs.Orders.{rises, way_cmp};
+ghost use Rattle.ordered_lists.specs.Orders.{rises};
+ghost use Rattle.road_model.specs.Orders.{way_cmp};
 ghost use Rattle.road_model.specs.Format.{IsGraph};
 ghost use Rattle.graph_file.specs.WalkedFiles.{IsWalkedFile};
 ghost use Rattle.access_profile.specs.Motorcar.{motorcar_rules};

@@ -3,7 +3,7 @@ ghost use Rattle.std.specs.Prelude.{◌≡◌, ◌<◌, IfOk, IfErr, Err};
 ghost use Rattle.osmroad.specs.SourceBytes.{Gathered, GatherStopped};
 
 use crate::input::{BUFFER, InputError, front};
-use crate::limits::MOST_BYTES;
+use road_base::MOST_BYTES;
 use road_io::Source;
 use std::alloc::Global;
 

@@ -4,12 +4,7 @@ ghost use Rattle.std.specs.Prelude.{IfSome, IfNone};
 ghost use Rattle.opl_lexer.specs.Letters.{newline};
 
 use memchr::{memchr, memrchr};
-
-/// The most bytes that an input may have.
-pub const MOST_BYTES: usize = 1 << 30;
-
-/// The most bytes that a line may have, without its newline.
-const MOST_LINE: usize = 1 << 24;
+use road_base::{MOST_BYTES, MOST_LINE};
 
 /// How long an input is so far, and how long its last line, within the limits.
 #[derive(Clone, Copy)]

@@ -30,8 +30,8 @@ use Rattle.restrictions.specs.Ends.{ends_of}
 use Rattle.restrictions.specs.Spelling.{words_at, words_by, words_from, words_of, word_of, words_over, words_over_if}
 use Rattle.restrictions.specs.Spelling.{words_to, words_with}
 use Rattle.restrictions.specs.Words.{AreDistinct, AreWords, IsOfUse, IsRestriction, IsWordOf}
-use Rattle.road_base.proofs.ListMembers.{contains_none, contains_map, contains_from_map}
-use Rattle.road_base.proofs.ListMembers.{contains_flat, contains_from_flat}
+use Rattle.ordered_lists.proofs.ListMembers.{contains_none, contains_map, contains_from_map}
+use Rattle.ordered_lists.proofs.ListMembers.{contains_flat, contains_from_flat}
 use Rattle.restrictions.proofs.DistinctLists.{distinct_append, distinct_map, distinct_joined}
 use Rattle.restrictions.proofs.EndLists.{ends_distinct, ends_sound, ends_there}
 use Rattle.restrictions.proofs.OneRun.{end_there, is_run, one_run, run_begins}

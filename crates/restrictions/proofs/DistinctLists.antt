@@ -3,8 +3,8 @@ use Rattle.std.proofs.Common.{◌≡◌, ◌≢◌, inl, inr, List, [], ◌∷�
 use Rattle.std.proofs.Common.{◌∙◌}
 use Rattle.std.specs.List.{flat_map}
 use Rattle.std.proofs.lemmas.List.Elements.{Contains-append_cases}
-use Rattle.road_base.proofs.ListMembers.{contains_head, contains_later, contains_one, contains_from_map}
-use Rattle.road_base.proofs.ListMembers.{contains_from_flat, all_from, all_at}
+use Rattle.ordered_lists.proofs.ListMembers.{contains_head, contains_later, contains_one, contains_from_map}
+use Rattle.ordered_lists.proofs.ListMembers.{contains_from_flat, all_from, all_at}
 use Rattle.restrictions.specs.Words.{AreDistinct}
 
 module _ {A : Type 0} where

@@ -27,7 +27,7 @@ use Rattle.restrictions.specs.Runs.{first_node, last_node}
 use Rattle.restrictions.specs.Ends.{IsEnd, added, ends_of, first_dir, first_end, last_dir, last_end}
 use Rattle.restrictions.specs.Ends.{same_step, with_ends}
 use Rattle.restrictions.specs.Words.{AreDistinct}
-use Rattle.road_base.proofs.ListMembers.{contains_head, contains_later, contains_cases, contains_none, contains_one}
+use Rattle.ordered_lists.proofs.ListMembers.{contains_head, contains_later, contains_cases, contains_none, contains_one}
 use Rattle.restrictions.proofs.DistinctLists.{distinct_push}
 use Rattle.restrictions.proofs.OneRun.{end_there, there_end}
 

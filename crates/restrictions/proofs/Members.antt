@@ -4,7 +4,7 @@ use Rattle.std.proofs.Common.{refl, sym, ap, ◌∙◌}
 use Rattle.std.specs.List.{list_all}
 use Rattle.std.proofs.lemmas.Bool.{and_parts, and_from}
 use Rattle.std.proofs.lemmas.List.Folds.{list_all-append}
-use Rattle.road_base.proofs.ListMembers.{contains_head, contains_later, contains_cases, contains_none}
+use Rattle.ordered_lists.proofs.ListMembers.{contains_head, contains_later, contains_cases, contains_none}
 
 module _ {A : Type 0} (test : A → Bool) where
   all_hold : (xs : List A) → ((x : A) → Contains xs x → test x ≡ true) → list_all test xs ≡ true

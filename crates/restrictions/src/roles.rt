@@ -4,9 +4,9 @@ ghost use Rattle.std.specs.List.{list_all};
 ghost use Rattle.road_base.specs.declared.ids.Key.{Key};
 ghost use Rattle.road_model.specs.Restrictions.{in_role};
 
+use ordered_lists::leave_once;
 use road_base::laws::key_order;
 use road_base::{Key, Member, NoMemory, Relation};
-use road_model::leave_once;
 use std::alloc::{AllocError, Global};
 
 /// A relation, and its members by role, each role's in order. Members of other roles are passed over.

@@ -32,8 +32,10 @@ grows h change M N m n = subst (λ es. IsApplied empty es N) (all_events-with_ch
 pub counts : (h : History) (change : List Event) → kept (with_change h change) ≡ kept h + 1
 counts h change = let e = length-append h.changes (change ∷ []) in omega arith
 
-pub same : (g h : History) (M : Objects) → kept g ≡ kept h → HasObjects g M → HasObjects h M → SameForReader g h
-same g h M e a b = record {
+pub same : (g h : History) (M : Objects) → g.profile ≡ h.profile → kept g ≡ kept h → HasObjects g M → HasObjects h M
+    → SameForReader g h
+same g h M p e a b = record {
+  profile = p;
   number = e;
   objects = λ N. (
     (λ n. subst (HasObjects h) (one_objects g M N a n) b),

@@ -10,7 +10,7 @@ use Rattle.std.specs.List.Sorted.{IsBinarySearchResult, IsNonDecreasingBy}
 use Rattle.std.proofs.lemmas.List.Sorted.{searchable_from_sorted}
 use Rattle.std.proofs.lemmas.Bool.{cases_lt}
 use Rattle.road_base.specs.Tags.{TagList, is_above, IsAscending, value_of}
-use Rattle.road_base.proofs.Comparisons.{less}
+use Rattle.ordered_lists.proofs.Comparisons.{less}
 
 abbrev pub text_cmp : List ℕ → List ℕ → Ordering
 text_cmp = slice_cmp nat_cmp

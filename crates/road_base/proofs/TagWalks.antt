@@ -6,7 +6,7 @@ use Rattle.std.specs.declared.cmp.Ordering.{Ordering}
 use Rattle.std.specs.declared.cmp.Ordering.TheVariants.{Less, Equal, Greater}
 use Rattle.std.specs.Cmp.Lexicographic.{nat_list_cmp_total}
 use Rattle.road_base.specs.Tags.{TagList, is_above, IsAscending, value_of}
-use Rattle.road_base.proofs.Comparisons.{turned}
+use Rattle.ordered_lists.proofs.Comparisons.{turned}
 use Rattle.road_base.proofs.TagSearch.{text_cmp, ascending_of_above, below_each, no_value}
 
 -- ---- the first bytes

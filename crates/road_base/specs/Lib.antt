@@ -4,6 +4,6 @@ pub mod Ranges
 pub mod Kinds
 pub mod Objects
 pub mod Applying
+pub mod Profiles
 pub mod History
 pub mod Bytes
-pub mod Groups

@@ -40,7 +40,7 @@ pub fn applied_in_turn()
 {}
 
 /// A history has one object map and no other. One more change is applied to the objects, and raises the kept number by
-/// one. Histories with the same kept number that share an object map are the same for a reader.
+/// one. Histories of one profile with the same kept number that share an object map are the same for a reader.
 pub fn history_objects()
     ensures some { (h : History) → (M : Objects) × HasObjects h M }
     ensures one { (h : History) (M N : Objects) → HasObjects h M → HasObjects h N → M ≡ N }
@@ -50,6 +50,7 @@ pub fn history_objects()
         → HasObjects (with_change h change) N }
     ensures counts { (h : History) (change : List Event) → kept (with_change h change) ≡ kept h + 1 }
     ensures same { (g h : History) (M : Objects)
+        → g.profile ≡ h.profile
         → kept g ≡ kept h
         → HasObjects g M
         → HasObjects h M

@@ -17,7 +17,7 @@ use Rattle.road_model.specs.Orders.{relation_cmp}
 use Rattle.road_model.specs.Broken.{BrokenRule, NoStep, NoNode, Closed, WrongWay, Apart, Barrier, Reversal, No, Only}
 use Rattle.road_model.specs.Broken.{place, LacksNode, AtTail, AtHead, IsAnswered, IsBehind, Meets, IsLeast, Applies}
 use Rattle.road_model.specs.Broken.{Broken}
-use Rattle.road_base.proofs.Splits.{Behind, Before, cut, cons_not_nil, same_last}
+use Rattle.ordered_lists.proofs.Splits.{Behind, Before, cut, cons_not_nil, same_last}
 use Rattle.road_model.proofs.TotalOrders.{relation_cmp_total, relation_cmp_exact}
 use Rattle.road_model.proofs.WalkLists.{inner_legal}
 

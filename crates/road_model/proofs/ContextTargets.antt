@@ -8,7 +8,7 @@ use Rattle.road_model.specs.Pieces.{Span, IsPiece, spell}
 use Rattle.road_model.specs.Contexts.{Every, One, Many}
 use Rattle.road_model.specs.Network.{AnyWord, Legal, IsContext, IsContextOf, spell_pieces}
 use Rattle.road_model.specs.Turning.{HasTurnSteps, BeginsWord}
-use Rattle.road_base.proofs.Splits.{Cut, Behind, Before, cut, cons_not_nil, same_last, Ends, Nil, Last, ends}
+use Rattle.ordered_lists.proofs.Splits.{Cut, Behind, Before, cut, cons_not_nil, same_last, Ends, Nil, Last, ends}
 use Rattle.road_model.proofs.LongestContext.{Every-tail, Every-append, Located, locate, many}
 use Rattle.road_model.proofs.Shapes.{Mid, Inner, one_next, stretch, piece_shape, word_shape}
 use Rattle.road_model.proofs.WalkLists.{Continues, inner_legal, context_pieces, spell_pieces-append, spell_pieces-push}

@@ -23,7 +23,7 @@ use Rattle.road_model.specs.Orders.{relation_cmp}
 use Rattle.road_model.specs.Broken.{BrokenRule, place, Applies, IsBehind, NoStep, NoNode, Closed, WrongWay, Apart}
 use Rattle.road_model.specs.Broken.{Barrier, Reversal, No, Only, AtHead, IsAnswered, EndsNoWord, Broken}
 use Rattle.road_model.proofs.BrokenRules.{broken_illegal}
-use Rattle.road_base.proofs.Splits.{cons_not_nil}
+use Rattle.ordered_lists.proofs.Splits.{cons_not_nil}
 use Rattle.road_model.proofs.ExampleMaps.{node, way, way_body, relation, along, against, same_node_number}
 use Rattle.road_model.proofs.ExampleMaps.{same_way_number}
 use Rattle.road_model.proofs.ExampleCrossing.{one_way, area, crossing_map, signs, looked_up, Runs, Go, ten, eleven}

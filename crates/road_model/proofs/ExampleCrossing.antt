@@ -33,7 +33,7 @@ use Rattle.road_model.specs.Driving.{is_open, drivable}
 use Rattle.road_model.specs.Restrictions.{froms, vias, tos, lacks_member, misses_end, IsUsable}
 use Rattle.road_model.specs.Words.{IsWord, IsVia, kind_of}
 use Rattle.road_model.specs.Network.{Drives}
-use Rattle.road_base.proofs.ListMembers.{in_from_contains}
+use Rattle.ordered_lists.proofs.ListMembers.{in_from_contains}
 use Rattle.road_model.proofs.ExampleMaps.{node, way, relation, along, against, tag, residential, node_entry, way_entry}
 use Rattle.road_model.proofs.ExampleMaps.{relation_entry, turn, relation_shown}
 

@@ -4,8 +4,8 @@ use Rattle.std.proofs.Common.{length-append, Contains}
 use Rattle.std.proofs.lemmas.List.{map-append, length-map}
 use Rattle.road_base.specs.declared.ids.Step.{Step}
 use Rattle.road_base.specs.Objects.{Objects}
-use Rattle.road_base.proofs.ListMembers.{In, in_from_contains}
-use Rattle.road_base.proofs.Splits.{Nil, Last, ends}
+use Rattle.ordered_lists.proofs.ListMembers.{In, in_from_contains}
+use Rattle.ordered_lists.proofs.Splits.{Nil, Last, ends}
 use Rattle.road_model.specs.declared.lists.PieceName.{PieceName}
 use Rattle.road_model.specs.declared.lists.TurnArc.{TurnArc}
 use Rattle.road_model.specs.declared.lists.Piece.{Piece}
@@ -14,7 +14,8 @@ use Rattle.road_model.specs.Rules.{Rules}
 use Rattle.road_model.specs.Pieces.{Span, IsPiece, spell}
 use Rattle.road_model.specs.Contexts.{Every, One, Many, spell_all}
 use Rattle.road_model.specs.Network.{IsContext, IsArc, spell_pieces}
-use Rattle.road_model.specs.Orders.{Lists, way_cmp, name_cmp}
+use Rattle.ordered_lists.specs.Orders.{Lists}
+use Rattle.road_model.specs.Orders.{way_cmp, name_cmp}
 use Rattle.road_model.specs.Blocks.{IsPieceEntry, IsArcEntry, IsBlock, IsRoadBlock, name_of}
 use Rattle.road_model.specs.Walks.{WalksTo, Start, Go, IsWalk, IsJunctionDrive}
 use Rattle.road_model.specs.FileWalks.{HasPiece, HasContext, HasArc, last_names, FileWalksTo, Begin, Follow}

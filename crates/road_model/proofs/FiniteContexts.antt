@@ -7,21 +7,22 @@ use Rattle.road_model.specs.Rules.{Rules}
 use Rattle.road_model.specs.Pieces.{Span, IsPiece, spell}
 use Rattle.road_model.specs.Contexts.{Every, One, Many}
 use Rattle.road_model.specs.Network.{Legal, IsContext, IsContextOf, spell_pieces}
-use Rattle.road_model.specs.Orders.{Lists, name_cmp}
+use Rattle.ordered_lists.specs.Orders.{Lists}
+use Rattle.road_model.specs.Orders.{name_cmp}
 use Rattle.road_model.specs.Blocks.{IsArcEntry, name_of}
-use Rattle.road_model.proofs.Decided.{Decided, decided_both, decided_like}
-use Rattle.road_base.proofs.Splits.{cons_not_nil, ends}
+use Rattle.ordered_lists.proofs.Decided.{Decided, decided_both, decided_like}
+use Rattle.ordered_lists.proofs.Splits.{cons_not_nil, ends}
 use Rattle.road_model.proofs.LongestContext.{Every-append, Every-front}
 use Rattle.road_model.proofs.WalkLists.{piece_legal, spell_pieces-push, context_pieces, some_context, one_longest}
 use Rattle.road_model.proofs.WalkLists.{context_decided, longest_of_any}
 use Rattle.road_model.proofs.ShortWords.{short_context}
 use Rattle.road_model.proofs.TotalOrders.{name_cmp_total, name_cmp_exact}
 use Rattle.road_model.proofs.UniqueEntries.{one_piece}
-use Rattle.road_model.proofs.Enumerated.{Finite, fin_one, fin_or, fin_by, fin_bind, fin_made}
+use Rattle.ordered_lists.proofs.Enumerated.{Finite, fin_one, fin_or, fin_by, fin_bind, fin_made}
 use Rattle.road_model.proofs.FiniteWords.{fin_pass, continues}
 use Rattle.road_model.proofs.FirstBroken.{legal_decided}
 use Rattle.road_model.proofs.FinitePieces.{piece_decided, fin_pieces}
-use Rattle.road_model.proofs.SortedLists.{listed}
+use Rattle.ordered_lists.proofs.SortedLists.{listed}
 
 -- ---- lists of at most n members
 

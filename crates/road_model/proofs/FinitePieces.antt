@@ -10,11 +10,11 @@ use Rattle.road_model.specs.Rules.{Rules}
 use Rattle.road_model.specs.Lines.{line_of, node_at}
 use Rattle.road_model.specs.Driving.{located, drivable}
 use Rattle.road_model.specs.Pieces.{IsPlain, Span, IsPiece}
-use Rattle.road_model.proofs.Decided.{Decided, decided_both, decided_not, decided_like, decided_true, some_below}
+use Rattle.ordered_lists.proofs.Decided.{Decided, decided_both, decided_not, decided_like, decided_true, some_below}
 use Rattle.road_model.proofs.Positions.{plain_decided, decided_less, open_in, at_within, ways_in}
 use Rattle.road_model.proofs.StepPlaces.{step}
 use Rattle.road_model.proofs.OnePiece.{parts}
-use Rattle.road_model.proofs.Enumerated.{Finite, fin_one, fin_by, fin_bind, fin_if, fin_list}
+use Rattle.ordered_lists.proofs.Enumerated.{Finite, fin_one, fin_by, fin_bind, fin_if, fin_list}
 use Rattle.road_model.proofs.StepEnds.{some_located}
 use Rattle.road_model.proofs.RulesDecided.{decided_upto, fin_below, in_dirs}
 

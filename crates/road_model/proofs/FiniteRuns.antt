@@ -10,9 +10,9 @@ use Rattle.road_base.specs.declared.ids.Dir.TheVariants.{Forward, Backward}
 use Rattle.road_base.specs.Objects.{Objects}
 use Rattle.road_model.specs.Lines.{line_of, node_at}
 use Rattle.road_model.specs.Restrictions.{IsRun, whole_way, begin_position, end_position}
-use Rattle.road_model.proofs.Decided.{Decided, decided_true}
+use Rattle.ordered_lists.proofs.Decided.{Decided, decided_true}
 use Rattle.road_model.proofs.Positions.{decided_option}
-use Rattle.road_model.proofs.Enumerated.{Finite, fin_none, fin_one, fin_or, fin_like, fin_by, fin_bind, fin_some}
+use Rattle.ordered_lists.proofs.Enumerated.{Finite, fin_none, fin_one, fin_or, fin_like, fin_by, fin_bind, fin_some}
 
 pub pair_is : (y : List Step × NodeId) (a : List Step) (b : NodeId) → y.0 ≡ a → y.1 ≡ b → y ≡ (a, b)
 pair_is y a b e f = λ i. (e i, f i)

@@ -21,12 +21,12 @@ use Rattle.road_model.specs.Driving.{is_open}
 use Rattle.road_model.specs.Restrictions.{froms, vias, tos, IsUsable}
 use Rattle.road_model.specs.Words.{IsWord, IsEndInto, IsEndFrom, IsVia, kind_of, binding_of}
 use Rattle.road_model.specs.Network.{AnyWord}
-use Rattle.road_base.proofs.ListMembers.{In, in_from_contains, contains_from_in}
-use Rattle.road_model.proofs.Decided.{Decided, decided_both, decided_like, decided_true}
+use Rattle.ordered_lists.proofs.ListMembers.{In, in_from_contains, contains_from_in}
+use Rattle.ordered_lists.proofs.Decided.{Decided, decided_both, decided_like, decided_true}
 use Rattle.road_model.proofs.Positions.{decided_option, decided_number, decided_way, decided_less, decided_node}
 use Rattle.road_model.proofs.StepPlaces.{step}
-use Rattle.road_model.proofs.Enumerated.{Finite, fin_none, fin_one, fin_or, fin_like, fin_by, fin_if, fin_bind}
-use Rattle.road_model.proofs.Enumerated.{fin_list, fin_some, search_finite}
+use Rattle.ordered_lists.proofs.Enumerated.{Finite, fin_none, fin_one, fin_or, fin_like, fin_by, fin_if, fin_bind}
+use Rattle.ordered_lists.proofs.Enumerated.{fin_list, fin_some, search_finite}
 use Rattle.road_model.proofs.FiniteRuns.{pair_is, fin_run}
 use Rattle.road_model.proofs.Usable.{decided_kind, usable_decided}
 use Rattle.road_model.proofs.WalkLists.{Continues}

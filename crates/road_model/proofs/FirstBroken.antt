@@ -23,7 +23,7 @@ use Rattle.road_model.specs.Network.{Drives, Legal, GoesOn}
 use Rattle.road_model.specs.Broken.{BrokenRule, NoStep, NoNode, Closed, WrongWay, Apart, Barrier, Reversal, No, Only}
 use Rattle.road_model.specs.Broken.{place, LacksNode, AtTail, AtHead, IsAnswered, IsBehind, Meets, IsApart}
 use Rattle.road_model.specs.Broken.{PassesBarrier, TurnsBack, EndsNoWord, LeavesOnlyWord, IsLeast, Applies, Broken}
-use Rattle.road_model.proofs.Decided.{Decided, decided_false, decided_like}
+use Rattle.ordered_lists.proofs.Decided.{Decided, decided_false, decided_like}
 use Rattle.road_model.proofs.Positions.{decided_option, decided_number}
 use Rattle.road_model.proofs.OnePiece.{parts, from_parts}
 use Rattle.road_model.proofs.WalkLists.{inner_legal, step_legal}

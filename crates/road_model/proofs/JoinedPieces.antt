@@ -6,7 +6,7 @@ use Rattle.road_model.specs.Rules.{Rules}
 use Rattle.road_model.specs.Driving.{Passes}
 use Rattle.road_model.specs.Pieces.{Span, IsPiece, spell}
 use Rattle.road_model.specs.Network.{Drives, NoWord, Legal, Must, GoesOn}
-use Rattle.road_base.proofs.Splits.{Behind, Before, cut, cons_not_nil, same_last, Ends, Nil, Last, ends}
+use Rattle.ordered_lists.proofs.Splits.{Behind, Before, cut, cons_not_nil, same_last, Ends, Nil, Last, ends}
 use Rattle.road_model.proofs.Shapes.{stretch}
 use Rattle.road_model.proofs.PieceLaws.{behind_whole}
 

@@ -1,14 +1,8 @@
 pub mod TotalOrders
 pub mod SameNodes
-pub mod AscendingLists
-pub mod RisingLists
-pub mod SortedOnce
-pub mod JoinedLists
 pub mod UniqueEntries
-pub mod SortedMaps
 pub mod WorkedExamples
 pub mod LegalLists
-pub mod Decided
 pub mod Positions
 pub mod StepPlaces
 pub mod OnePiece
@@ -20,7 +14,6 @@ pub mod WalkLists
 pub mod JoinedPieces
 pub mod StraightOn
 pub mod WalkLaw
-pub mod Enumerated
 pub mod FiniteRuns
 pub mod Usable
 pub mod FiniteWords
@@ -32,7 +25,6 @@ pub mod BrokenRules
 pub mod RulesDecided
 pub mod FirstBroken
 pub mod ReferredNodes
-pub mod SortedLists
 pub mod FinitePieces
 pub mod FiniteContexts
 pub mod SomeGraph

@@ -9,7 +9,7 @@ use Rattle.road_model.specs.declared.lists.Piece.{Piece}
 use Rattle.road_model.specs.declared.blocks.Block.{Block}
 use Rattle.road_model.specs.Rules.{Rules}
 use Rattle.road_model.specs.Pieces.{Span}
-use Rattle.road_model.specs.Orders.{Lists}
+use Rattle.ordered_lists.specs.Orders.{Lists}
 use Rattle.road_model.specs.Blocks.{IsArcEntry, IsContextEntry, IsPieceEntry, IsBlock}
 use Rattle.road_model.specs.Local.{IsSameWithin}
 use Rattle.road_model.proofs.LocalLinks.{IsAlike, alike_from, alike_turned, alike_less}

@@ -12,8 +12,8 @@ use Rattle.road_model.specs.Contexts.{Every, IsMany, One, Many, spell_all}
 use Rattle.road_model.specs.Network.{Drives, AnyWord, Legal, IsContext, IsContextOf, IsArc, spell_pieces}
 use Rattle.road_model.specs.Links.{IsWithin}
 use Rattle.road_model.specs.Local.{IsSameWithin}
-use Rattle.road_base.proofs.ListMembers.{In, in_end, in_left, in_right, in_cases}
-use Rattle.road_base.proofs.Splits.{Ends, Nil, Last, ends}
+use Rattle.ordered_lists.proofs.ListMembers.{In, in_end, in_left, in_right, in_cases}
+use Rattle.ordered_lists.proofs.Splits.{Ends, Nil, Last, ends}
 use Rattle.road_model.proofs.LongestContext.{Every-tail}
 use Rattle.road_model.proofs.Shapes.{piece_shape}
 use Rattle.road_model.proofs.WalkLists.{spell_pieces-push, context_pieces}

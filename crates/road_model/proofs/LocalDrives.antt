@@ -12,7 +12,7 @@ use Rattle.road_model.specs.Driving.{is_road, located, Leaves, MayTurn, AtPlace,
 use Rattle.road_model.specs.Legal.{MustBy}
 use Rattle.road_model.specs.Network.{Drives, NoWord, OnlyWord, Legal}
 use Rattle.road_model.specs.Links.{IsWithin}
-use Rattle.road_base.proofs.ListMembers.{In, in_end, in_right}
+use Rattle.ordered_lists.proofs.ListMembers.{In, in_end, in_right}
 use Rattle.road_model.proofs.OnePiece.{parts, from_parts}
 use Rattle.road_model.proofs.StepEnds.{end_named}
 use Rattle.road_model.proofs.StraightOn.{road_of}

@@ -12,7 +12,7 @@ use Rattle.road_base.specs.contracts.objects.Body as body
 use Rattle.road_base.specs.Objects.{Objects, visible, node_of, way_of, relation_of, node_in, way_in, relation_in}
 use Rattle.road_model.specs.Links.{RefersTo, HasMember, IsLink, IsWithin, Differs}
 use Rattle.road_model.specs.Local.{IsSameWithin}
-use Rattle.road_model.proofs.Decided.{Decided, decided_both, decided_like}
+use Rattle.ordered_lists.proofs.Decided.{Decided, decided_both, decided_like}
 use Rattle.road_model.proofs.Positions.{decided_number}
 
 -- ---- whether two bodies are equal is decided, since their codes are trees of numbers

@@ -23,7 +23,7 @@ use Rattle.road_model.specs.Restrictions.{froms, vias, tos, is_way_key, is_one_n
 use Rattle.road_model.specs.Restrictions.{way_ends, via_ends, first_of, last_of, meet, some_ends_at, IsRun, Connects}
 use Rattle.road_model.specs.Restrictions.{wrong_members, is_tagged_highway, is_present, lacks_member, same_end, is_ring}
 use Rattle.road_model.specs.Restrictions.{misses_end, steps_on, is_too_long, any_way, Holds, IsUsable}
-use Rattle.road_base.proofs.ListMembers.{In}
+use Rattle.ordered_lists.proofs.ListMembers.{In}
 use Rattle.road_model.proofs.LocalLinks.{node_same, way_same, relation_same}
 use Rattle.road_model.proofs.LocalBodies.{line_same, at_same, open_same}
 

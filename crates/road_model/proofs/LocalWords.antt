@@ -16,7 +16,7 @@ use Rattle.road_model.specs.Restrictions.{in_role, vias}
 use Rattle.road_model.specs.Words.{IsWord, IsEndInto, IsEndFrom, IsVia}
 use Rattle.road_model.specs.Links.{HasMember, IsWithin}
 use Rattle.road_model.specs.Local.{IsSameWithin}
-use Rattle.road_base.proofs.ListMembers.{In, in_from_contains, contains_from_in}
+use Rattle.ordered_lists.proofs.ListMembers.{In, in_from_contains, contains_from_in}
 use Rattle.road_model.proofs.WordMembers.{role_member, on_members}
 use Rattle.road_model.proofs.LocalLinks.{IsAlike, way_same, relation_same, alike_turned}
 use Rattle.road_model.proofs.LocalBodies.{line_same, end_same}

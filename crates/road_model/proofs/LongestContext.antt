@@ -3,7 +3,7 @@ use Rattle.std.proofs.Common.{◌↔◌, ◌≡◌, ℕ, ◌≤◌, List, [], �
 use Rattle.std.proofs.Common.{append-nil, subst, arith, length-append}
 use Rattle.road_model.specs.Legal.{IsLegalBy, MustBy}
 use Rattle.road_model.specs.Contexts.{spell_all, Every, IsContextBy, One, Many, IsLongestEnd}
-use Rattle.road_base.proofs.Splits.{Cut, Behind, Before, cut, cons_not_nil, same_begin}
+use Rattle.ordered_lists.proofs.Splits.{Cut, Behind, Before, cut, cons_not_nil, same_begin}
 use Rattle.road_model.proofs.LegalLists.{infix_legal}
 
 module _ {S : Type 0} (Drives : S → Type 0) (Follows : S → S → Type 0) (No : List S → Type 0)

@@ -10,7 +10,7 @@ use Rattle.road_model.specs.Rules.{Rules}
 use Rattle.road_model.specs.Lines.{line_of, node_at}
 use Rattle.road_model.specs.Driving.{is_open, located, drivable}
 use Rattle.road_model.specs.Pieces.{IsPlain, Span, IsPiece, IsInOnePiece}
-use Rattle.road_model.proofs.Decided.{order}
+use Rattle.ordered_lists.proofs.Decided.{order}
 use Rattle.road_model.proofs.Positions.{plain_decided}
 use Rattle.road_model.proofs.StepPlaces.{Inside, step, place, stands, stands_inside}
 

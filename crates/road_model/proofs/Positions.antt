@@ -17,9 +17,9 @@ use Rattle.road_model.specs.Rules.{Rules}
 use Rattle.road_model.specs.Lines.{line_of, node_at}
 use Rattle.road_model.specs.Driving.{is_open, open_way, is_road}
 use Rattle.road_model.specs.Pieces.{IsPlain}
-use Rattle.road_base.proofs.ListMembers.{In}
-use Rattle.road_model.proofs.Decided.{Decided, decided_both, decided_not, decided_like, decided_true, decided_false}
-use Rattle.road_model.proofs.Decided.{decided_int, some_in, some_below}
+use Rattle.ordered_lists.proofs.ListMembers.{In}
+use Rattle.ordered_lists.proofs.Decided.{Decided, decided_both, decided_not, decided_like, decided_true, decided_false}
+use Rattle.ordered_lists.proofs.Decided.{decided_int, some_in, some_below}
 
 pub same_way : (v w : WayId) → v.0 ≡ w.0 → v ≡ w
 same_way v w e = λ i. record { 0 = e i }

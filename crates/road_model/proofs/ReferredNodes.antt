@@ -18,7 +18,7 @@ use Rattle.road_model.specs.declared.blocks.Block.{Block}
 use Rattle.road_model.specs.declared.lists.Piece.{Piece}
 use Rattle.road_model.specs.Blocks.{IsRoadBlock}
 use Rattle.road_model.specs.Highways.{IsHighway}
-use Rattle.road_base.proofs.ListMembers.{contains_from_in}
+use Rattle.ordered_lists.proofs.ListMembers.{contains_from_in}
 use Rattle.road_model.proofs.StepEnds.{end_named}
 
 later : (x y : NodeId) (xs : List NodeId) → Contains xs y → Contains (x ∷ xs) y

@@ -25,17 +25,17 @@ use Rattle.road_model.specs.Network.{Must}
 use Rattle.road_model.specs.Orders.{relation_cmp}
 use Rattle.road_model.specs.Broken.{LacksNode, AtTail, AtHead, IsAnswered, IsBehind, Meets, IsApart, PassesBarrier}
 use Rattle.road_model.specs.Broken.{TurnsBack, EndsNoWord, LeavesOnlyWord, IsLeast}
-use Rattle.road_base.proofs.ListMembers.{In}
-use Rattle.road_base.proofs.Splits.{Ends, Nil, Last, ends, cons_not_nil}
-use Rattle.road_model.proofs.Decided.{Decided, decided_both, decided_not, decided_like, decided_true, decided_false}
-use Rattle.road_model.proofs.Decided.{some_in}
+use Rattle.ordered_lists.proofs.ListMembers.{In}
+use Rattle.ordered_lists.proofs.Splits.{Ends, Nil, Last, ends, cons_not_nil}
+use Rattle.ordered_lists.proofs.Decided.{Decided, decided_both, decided_not, decided_like, decided_true, decided_false}
+use Rattle.ordered_lists.proofs.Decided.{some_in}
 use Rattle.road_model.proofs.Positions.{decided_option, open_in, at_within, ways_in}
 use Rattle.road_model.proofs.StepPlaces.{step}
 use Rattle.road_model.proofs.OnePiece.{parts}
 use Rattle.road_model.proofs.StepEnds.{some_located}
 use Rattle.road_model.proofs.TotalOrders.{relation_cmp_total}
-use Rattle.road_model.proofs.Enumerated.{Finite, fin_none, fin_one, fin_or, fin_by, fin_if, fin_bind, fin_list}
-use Rattle.road_model.proofs.Enumerated.{fin_some, search_finite}
+use Rattle.ordered_lists.proofs.Enumerated.{Finite, fin_none, fin_one, fin_or, fin_by, fin_if, fin_bind, fin_list}
+use Rattle.ordered_lists.proofs.Enumerated.{fin_some, search_finite}
 use Rattle.road_model.proofs.FiniteWords.{fin_pass, relations_in, visible_in, fin_words_of, More, more_decided}
 use Rattle.road_model.proofs.FiniteWords.{decided_step}
 use Rattle.road_model.proofs.BrokenRules.{one_answer, one_before}

@@ -20,7 +20,7 @@ use Rattle.road_model.specs.Restrictions.{IsRun, whole_way}
 use Rattle.road_model.specs.Words.{IsWord, IsEndInto, IsEndFrom, IsVia, binding_of}
 use Rattle.road_model.specs.Network.{Drives, OnlyWord}
 use Rattle.road_model.proofs.StepEnds.{pair_named, named_end}
-use Rattle.road_base.proofs.Splits.{Behind, Before, cut, cons_not_nil, same_last}
+use Rattle.ordered_lists.proofs.Splits.{Behind, Before, cut, cons_not_nil, same_last}
 use Rattle.road_model.proofs.LegalLists.{Link, Stretch, WordShape}
 use Rattle.road_model.proofs.LongestContext.{PieceShape}
 use Rattle.road_model.proofs.StepPlaces.{step, forward_at, backward_at, length-forward, length-backward}

@@ -10,7 +10,7 @@ use Rattle.road_model.specs.Lines.{line_of, tail_of, head_of}
 use Rattle.road_model.specs.Driving.{shut, drivable, Passes}
 use Rattle.road_model.specs.Pieces.{IsPiece}
 use Rattle.road_model.specs.Network.{Drives, NoWord, Legal, Must}
-use Rattle.road_base.proofs.Splits.{same_last}
+use Rattle.ordered_lists.proofs.Splits.{same_last}
 use Rattle.road_model.proofs.StepPlaces.{step}
 use Rattle.road_model.proofs.Shapes.{bound_positive}
 use Rattle.road_model.proofs.WalkLists.{step_legal}

@@ -21,23 +21,24 @@ use Rattle.road_model.specs.Driving.{located, node_located}
 use Rattle.road_model.specs.Pieces.{Span, IsPiece}
 use Rattle.road_model.specs.Contexts.{Every}
 use Rattle.road_model.specs.Network.{IsContext}
-use Rattle.road_model.specs.Orders.{Lists, name_cmp, names_cmp, way_cmp}
+use Rattle.ordered_lists.specs.Orders.{Lists}
+use Rattle.road_model.specs.Orders.{name_cmp, names_cmp, way_cmp}
 use Rattle.road_model.specs.Blocks.{IsPlaceOf, IsArcEntry, IsContextEntry, IsPieceEntry, IsBlock, IsRoadBlock, name_of}
 use Rattle.road_model.specs.Blocks.{place_position}
 use Rattle.road_model.specs.Format.{graph_bytes}
 use Rattle.road_model.specs.Naming.{HasBlock, HasGraph}
-use Rattle.road_base.proofs.ListMembers.{In, in_from_contains, contains_from_in}
-use Rattle.road_model.proofs.AscendingLists.{lists_unique}
+use Rattle.ordered_lists.proofs.ListMembers.{In, in_from_contains, contains_from_in}
+use Rattle.ordered_lists.proofs.AscendingLists.{lists_unique}
 use Rattle.road_model.proofs.TotalOrders.{way_cmp_total, way_cmp_exact, name_cmp_total, name_cmp_exact, names_cmp_total}
 use Rattle.road_model.proofs.TotalOrders.{names_cmp_exact}
 use Rattle.road_model.proofs.UniqueEntries.{one_piece, one_entry, one_block}
-use Rattle.road_model.proofs.Enumerated.{Finite, fin_one, fin_by, fin_bind, fin_made}
+use Rattle.ordered_lists.proofs.Enumerated.{Finite, fin_one, fin_by, fin_bind, fin_made}
 use Rattle.road_model.proofs.LongestContext.{Every-front}
 use Rattle.road_model.proofs.WalkLists.{context_pieces}
 use Rattle.road_model.proofs.StepEnds.{some_located}
 use Rattle.road_model.proofs.FinitePieces.{IsOf, piece_located, fin_pieces, fin_pieces_of}
 use Rattle.road_model.proofs.FiniteContexts.{fin_before, arcs_of}
-use Rattle.road_model.proofs.SortedLists.{listed}
+use Rattle.ordered_lists.proofs.SortedLists.{listed}
 
 -- ---- a list that has at each place below n something of which a fact holds
 

@@ -15,7 +15,7 @@ use Rattle.road_model.specs.Driving.{is_open, is_road, located, Leaves, MayTurn,
 use Rattle.road_model.specs.Pieces.{IsPlain, Span, IsPiece, BeginsPiece, spell}
 use Rattle.road_model.specs.Contexts.{Every}
 use Rattle.road_model.specs.Network.{Drives, Legal, spell_pieces}
-use Rattle.road_base.proofs.Splits.{Behind, Before, cut, cons_not_nil, same_last, Ends, Nil, Last, ends}
+use Rattle.ordered_lists.proofs.Splits.{Behind, Before, cut, cons_not_nil, same_last, Ends, Nil, Last, ends}
 use Rattle.road_model.proofs.OnePiece.{one_piece, parts, from_parts, plain_here}
 use Rattle.road_model.proofs.StepEnds.{named_end, end_named, drives_named}
 use Rattle.road_model.proofs.StepPlaces.{step}

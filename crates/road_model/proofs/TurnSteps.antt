@@ -13,8 +13,8 @@ use Rattle.road_model.specs.Contexts.{Every, IsMany, One, Many}
 use Rattle.road_model.specs.Network.{Drives, AnyWord, Legal, GoesOn, IsContext, spell_pieces}
 use Rattle.road_model.specs.Blocks.{name_of}
 use Rattle.road_model.specs.Turning.{HasTurnSteps, BeginsWord, EndsPiece}
-use Rattle.road_base.proofs.Splits.{cons_not_nil, same_last, Ends, Nil, Last, ends}
-use Rattle.road_base.proofs.ListMembers.{In, contains_from_in, in_left, in_right}
+use Rattle.ordered_lists.proofs.Splits.{cons_not_nil, same_last, Ends, Nil, Last, ends}
+use Rattle.ordered_lists.proofs.ListMembers.{In, contains_from_in, in_left, in_right}
 use Rattle.road_model.proofs.LongestContext.{Every-tail, many}
 use Rattle.road_model.proofs.Shapes.{Mid, stretch, piece_shape, word_shape}
 use Rattle.road_model.proofs.OnePiece.{one_piece}

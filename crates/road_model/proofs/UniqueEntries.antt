@@ -8,13 +8,14 @@ use Rattle.road_model.specs.declared.lists.Piece.{Piece}
 use Rattle.road_model.specs.declared.blocks.Block.{Block}
 use Rattle.road_model.specs.Rules.{Rules}
 use Rattle.road_model.specs.Pieces.{IsPlain, Span, IsPiece}
-use Rattle.road_model.specs.Orders.{Lists, name_cmp, names_cmp, way_cmp}
+use Rattle.ordered_lists.specs.Orders.{Lists}
+use Rattle.road_model.specs.Orders.{name_cmp, names_cmp, way_cmp}
 use Rattle.road_model.specs.Blocks.{IsPlaceOf, IsContextEntry, IsPieceEntry, IsRoadBlock}
 use Rattle.road_model.specs.Naming.{OnePiece, OneEntry, OneBlock, OneGraph}
-use Rattle.road_model.proofs.Decided.{order}
+use Rattle.ordered_lists.proofs.Decided.{order}
 use Rattle.road_model.proofs.TotalOrders.{way_cmp_total, name_cmp_total, names_cmp_total}
-use Rattle.road_base.proofs.ListPlaces.{same_by_place}
-use Rattle.road_model.proofs.AscendingLists.{lists_unique}
+use Rattle.ordered_lists.proofs.ListPlaces.{same_by_place}
+use Rattle.ordered_lists.proofs.AscendingLists.{lists_unique}
 
 -- a junction inside a piece would be plain
 same_end : (M : Objects) (P : Rules) (p q : Span) → IsPiece M P p → IsPiece M P q → p.way ≡ q.way → p.index ≡ q.index

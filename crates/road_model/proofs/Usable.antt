@@ -20,10 +20,10 @@ use Rattle.road_model.specs.Lines.{same_node}
 use Rattle.road_model.specs.Driving.{is_open}
 use Rattle.road_model.specs.Restrictions.{froms, vias, tos, way_ends, some_ends_at, meet, any_way, IsRun, Connects}
 use Rattle.road_model.specs.Restrictions.{Holds, IsUsable}
-use Rattle.road_base.proofs.ListMembers.{In}
-use Rattle.road_model.proofs.Decided.{Decided, decided_both, decided_not, decided_like, decided_true, some_in}
+use Rattle.ordered_lists.proofs.ListMembers.{In}
+use Rattle.ordered_lists.proofs.Decided.{Decided, decided_both, decided_not, decided_like, decided_true, some_in}
 use Rattle.road_model.proofs.Positions.{same_node_id}
-use Rattle.road_model.proofs.Enumerated.{Finite, fin_list, fin_bind, search_finite}
+use Rattle.ordered_lists.proofs.Enumerated.{Finite, fin_list, fin_bind, search_finite}
 use Rattle.road_model.proofs.FiniteRuns.{fin_run}
 
 pub decided_kind : (a b : RuleKind) → Decided (a ≡ b)

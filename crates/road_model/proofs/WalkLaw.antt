@@ -9,9 +9,9 @@ use Rattle.road_model.specs.Pieces.{Span, IsPiece, spell}
 use Rattle.road_model.specs.Contexts.{Every}
 use Rattle.road_model.specs.Network.{Legal, spell_pieces}
 use Rattle.road_model.specs.Walks.{WalksTo, IsWalk, IsJunctionDrive, IsSpelled, Carries, HasShortest}
-use Rattle.road_base.proofs.Splits.{Ends, Nil, Last, ends}
+use Rattle.ordered_lists.proofs.Splits.{Ends, Nil, Last, ends}
 use Rattle.road_model.proofs.LongestContext.{Every-tail, Every-front, Every-append}
-use Rattle.road_model.proofs.Decided.{Decided}
+use Rattle.ordered_lists.proofs.Decided.{Decided}
 use Rattle.road_model.proofs.Shapes.{piece_shape}
 use Rattle.road_model.proofs.PieceLaws.{before_whole, behind_whole}
 use Rattle.road_model.proofs.OnePiece.{one_piece}

@@ -10,10 +10,10 @@ use Rattle.road_model.specs.Contexts.{Every, IsMany, One, Many}
 use Rattle.road_model.specs.Network.{Drives, NoWord, OnlyWord, AnyWord, Legal, IsContext, IsContextOf, IsArc}
 use Rattle.road_model.specs.Network.{HasNoWords, spell_pieces}
 use Rattle.road_model.specs.Walks.{WalksTo, Start, Go}
-use Rattle.road_base.proofs.Splits.{Behind, Before, cut, cons_not_nil, same_last, Ends, Nil, Last, ends}
+use Rattle.ordered_lists.proofs.Splits.{Behind, Before, cut, cons_not_nil, same_last, Ends, Nil, Last, ends}
 use Rattle.road_model.proofs.LegalLists.{infix_legal}
 use Rattle.road_model.proofs.LongestContext.{spell_all-append, Every-tail, Every-front, Every-append}
-use Rattle.road_model.proofs.Decided.{Decided}
+use Rattle.ordered_lists.proofs.Decided.{Decided}
 use Rattle.road_model.proofs.Shapes.{piece_shape, bound_positive, stretch}
 use Rattle.road_model.proofs.PieceLaws.{behind_whole, context_decides}
 

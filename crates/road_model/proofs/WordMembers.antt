@@ -18,7 +18,7 @@ use Rattle.road_model.specs.Lines.{forward_steps, backward_steps, steps_from}
 use Rattle.road_model.specs.Restrictions.{in_role, vias, IsRun, whole_way}
 use Rattle.road_model.specs.Words.{IsWord, IsVia}
 use Rattle.road_model.specs.Links.{HasMember}
-use Rattle.road_base.proofs.ListMembers.{In, in_from_contains, contains_from_in, in_cases}
+use Rattle.ordered_lists.proofs.ListMembers.{In, in_from_contains, contains_from_in, in_cases}
 
 -- the objects that the members refer to
 abbrev items : List Member → List Key

@@ -14,7 +14,8 @@ use Rattle.road_model.specs.Rules.{Rules}
 use Rattle.road_model.specs.Lines.{node_at}
 use Rattle.road_model.specs.Pieces.{Span, IsPiece}
 use Rattle.road_model.specs.Network.{IsContext, IsArc}
-use Rattle.road_model.specs.Orders.{Lists, name_cmp, names_cmp, rises}
+use Rattle.ordered_lists.specs.Orders.{Lists, rises}
+use Rattle.road_model.specs.Orders.{name_cmp, names_cmp}
 
 abbrev pub name_of : Span → PieceName
 name_of p = record { way = p.way; index = p.index; dir = p.dir }

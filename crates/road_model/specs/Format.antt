@@ -16,7 +16,8 @@ use Rattle.road_model.specs.declared.lists.Context.{Context}
 use Rattle.road_model.specs.declared.lists.Piece.{Piece}
 use Rattle.road_model.specs.declared.blocks.Block.{Block}
 use Rattle.road_model.specs.Rules.{Rules}
-use Rattle.road_model.specs.Orders.{Lists, rises, way_cmp, dir_cmp, name_cmp, names_cmp}
+use Rattle.ordered_lists.specs.Orders.{Lists, rises}
+use Rattle.road_model.specs.Orders.{way_cmp, dir_cmp, name_cmp, names_cmp}
 use Rattle.road_model.specs.Blocks.{IsRoadBlock}
 
 -- ---- spelling

@@ -11,7 +11,8 @@ use Rattle.road_base.specs.declared.objects.Body.TheVariants.{Relation as Relati
 use Rattle.road_base.specs.Objects.{Objects, way_of}
 use Rattle.road_model.specs.declared.blocks.Block.{Block}
 use Rattle.road_model.specs.Rules.{Rules, has_highway}
-use Rattle.road_model.specs.Orders.{rises, way_cmp}
+use Rattle.ordered_lists.specs.Orders.{rises}
+use Rattle.road_model.specs.Orders.{way_cmp}
 use Rattle.road_model.specs.Blocks.{IsRoadBlock}
 
 -- the way is visible and has the key `highway`

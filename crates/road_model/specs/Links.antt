@@ -11,7 +11,8 @@ use Rattle.road_base.specs.declared.objects.Way.{Way}
 use Rattle.road_base.specs.declared.objects.Relation.{Relation}
 use Rattle.road_base.specs.Objects.{Objects, key_cmp, visible, way_of, relation_of}
 use Rattle.road_model.specs.Rules.{has_highway, is_restriction}
-use Rattle.road_model.specs.Orders.{Lists, way_cmp}
+use Rattle.ordered_lists.specs.Orders.{Lists}
+use Rattle.road_model.specs.Orders.{way_cmp}
 
 -- a visible way with the key `highway` refers to the node
 pub record RefersTo (M : Objects) (w : WayId) (n : NodeId) : Type 0 where

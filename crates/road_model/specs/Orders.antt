@@ -1,6 +1,6 @@
--- The orders of names, and strictly ascending lists that have exactly what is asked for.
-use Rattle.std.specs.Prelude.{List, [], ◌∷◌, length, map, Bool, true, false, ◌&&◌, IsTrue, Contains}
-use Rattle.std.specs.Ordering.{nat_cmp, int_cmp, is_lt, ordering_then}
+-- The orders of names.
+use Rattle.std.specs.Prelude.{List, length, Bool, true, false}
+use Rattle.std.specs.Ordering.{nat_cmp, int_cmp, ordering_then}
 use Rattle.std.specs.declared.cmp.Ordering.{Ordering}
 use Rattle.std.specs.declared.cmp.Ordering.TheVariants.{Less, Equal, Greater}
 use Rattle.std.specs.Cmp.Lexicographic.{slice_cmp}
@@ -40,18 +40,3 @@ name_cmp a b = ordering_then (way_cmp a.way b.way) (ordering_then (nat_cmp a.ind
 -- by length, then name by name
 abbrev pub names_cmp : List PieceName → List PieceName → Ordering
 names_cmp a b = ordering_then (nat_cmp (length a) (length b)) (slice_cmp name_cmp a b)
-
-abbrev pub rises_from : {N : Type 0} → (N → N → Ordering) → N → List N → Bool
-rises_from R x [] = true
-rises_from R x (y ∷ ys) = is_lt (R x y) && rises_from R y ys
-
--- each is below the next
-abbrev pub rises : {N : Type 0} → (N → N → Ordering) → List N → Bool
-rises R [] = true
-rises R (x ∷ xs) = rises_from R x xs
-
--- the list has exactly the values of which the fact holds, their names strictly ascending
-pub record Lists {A N : Type 0} (name : A → N) (R : N → N → Ordering) (Is : A → Type 0) (xs : List A) : Type 0 where
-  pub ascending : IsTrue (rises R (map name xs))
-  pub sound : (x : A) → Contains xs x → Is x
-  pub complete : (x : A) → Is x → Contains xs x

@@ -2,13 +2,15 @@
 ghost use Rattle.std.specs.Prelude.{◌≡◌, ◌+◌, ◌≤◌, ◌↔◌, map, option_copied, None, IfOk, OnOk, OnErr, IsTrue, Contains};
 ghost use Rattle.std.specs.Prelude.{Some};
 ghost use Rattle.std.specs.FinMap.{empty, get, entries, insert as inserted, remove as removed};
-ghost use Rattle.road_model.specs.Orders.{way_cmp, rises};
+ghost use Rattle.ordered_lists.specs.Orders.{rises};
+ghost use Rattle.road_model.specs.Orders.{way_cmp};
 ghost use Rattle.road_model.specs.BlockMap.{replaced};
 ghost use Rattle.road_model.specs.declared.blocks.Block.{Block};
 
 use crate::Pieces;
 use crate::block_search::{find_near, find_way};
-use road_base::{NoMemory, Numbered, WayId};
+use ordered_lists::Numbered;
+use road_base::{NoMemory, WayId};
 use std::alloc::Global;
 use std::marker::Model;
 
@@ -50,7 +52,8 @@ impl Model for Blocks {
     ghost use Rattle.std.specs.Prelude.{◌-◌, map, IsTrue, vec_len};
     ghost use Rattle.std.specs.Vec.{vec_capacity};
     ghost use Rattle.road_model.specs.BlockMap.{BlockMap, block_map, coded_block_map};
-    ghost use Rattle.road_model.specs.Orders.{way_cmp, rises};
+    ghost use Rattle.ordered_lists.specs.Orders.{rises};
+    ghost use Rattle.road_model.specs.Orders.{way_cmp};
 
     ghost Value = { BlockMap };
 

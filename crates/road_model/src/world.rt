@@ -3,7 +3,8 @@ ghost use Rattle.std.specs.Prelude.{◌≡◌, option_copied};
 ghost use Rattle.road_base.specs.Objects.{Objects, node_of, way_of, relation_of};
 ghost use Rattle.road_base.specs.declared.ids.Key.TheVariants.{Node as NodeKey, Way as WayKey};
 ghost use Rattle.road_model.specs.Links.{RefersTo, HasMember};
-ghost use Rattle.road_model.specs.Orders.{Lists, way_cmp, relation_cmp};
+ghost use Rattle.ordered_lists.specs.Orders.{Lists};
+ghost use Rattle.road_model.specs.Orders.{way_cmp, relation_cmp};
 
 use road_base::{Node, NodeId, Relation, RelationId, Way, WayId};
 

@@ -9,8 +9,7 @@ use crate::chunks::record_chunk;
 use crate::ends::open_behind;
 use crate::error::JournalError;
 use crate::journal::Journal;
-use crate::whole_file::LARGEST;
-use road_base::{Event, NoMemory, Sequence};
+use road_base::{Event, MOST_STORE, NoMemory, Sequence};
 use road_io::Site;
 use std::alloc::Global;
 
@@ -70,5 +69,5 @@ pub fn has_room(gate: u64, size: u64) -> bool
     ensures yes { result ≡ true → gate + (size + 1) ≤ 2 ^ 40 }
     ensures no { result ≡ false → 2 ^ 40 < gate + (size + 1) }
 {
-    gate < LARGEST && size < LARGEST - gate
+    gate < MOST_STORE && size < MOST_STORE - gate
 }

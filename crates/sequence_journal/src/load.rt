@@ -12,8 +12,8 @@ use crate::error::JournalError;
 use crate::journal::Journal;
 use crate::laws::one_history;
 use crate::parts::ends_there;
-use crate::whole_file::{LARGEST, ReadHistory, judge};
-use road_base::{Event, Sequence};
+use crate::whole_file::{ReadHistory, judge};
+use road_base::{Event, MOST_STORE, Sequence};
 use road_io::{Failed, Site, Which};
 use std::alloc::Global;
 
@@ -78,7 +78,7 @@ pub fn mend<W: Site>(alloc: Global, site: &mut W, file: Which) -> Result<Loaded,
     if whole {
         return Ok(Loaded { journal, events });
     }
-    if gate == LARGEST {
+    if gate == MOST_STORE {
         return Ok(Loaded { journal, events });
     }
     repair_end(site, file, gate)?;

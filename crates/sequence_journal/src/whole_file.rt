@@ -12,12 +12,9 @@ use crate::layout::{FIELDS, HEAD};
 use crate::records::open_record;
 use crate::window::Window;
 use object_codec::decode;
-use road_base::Event;
+use road_base::{Event, MOST_STORE};
 use road_io::{Site, Which};
 use std::alloc::Global;
-
-/// The greatest length of a file that is read or added to, in bytes.
-pub const LARGEST: u64 = 1 << 40;
 
 /// The profile that a base has to have.
 const PROFILE: u32 = 1;
@@ -45,7 +42,7 @@ pub fn judge<W: Site>(alloc: Global, site: &mut W, file: Which) -> Result<ReadHi
     let Some(found) = find_base(site, file)? else {
         return Err(JournalError::NoStore);
     };
-    if found.len > LARGEST {
+    if found.len > MOST_STORE {
         return Err(JournalError::TooLarge);
     }
     let mut window = Window::new(alloc);

@@ -1,12 +1,11 @@
 //! Locations.
-ghost use Rattle.std.specs.Prelude.{◌≡◌, ◌++◌};
-ghost use Rattle.road_base.specs.Ranges.{is_in_range};
+ghost use Rattle.std.specs.Prelude.{◌≡◌};
 ghost use Rattle.spelled_bytes.specs.Spelling.{location_bytes, LocationFits};
 ghost use Rattle.spelled_bytes.specs.OneSpelling.{location_one};
 
 use crate::spelling::Spell;
 use crate::unread::Unread;
-use road_base::Location;
+use road_base::{Location, is_in_range};
 use std::alloc::Global;
 
 /// The longitude, and then the latitude, both in range.
@@ -19,16 +18,9 @@ impl<F> Spell<F> for Location {
 
     fn read(alloc: Global, bytes: &[u8]) -> Result<(Location, &[u8]), Unread> {
         let ((lon, lat), rest) = <(i32, i32) as Spell<F>>::read(alloc, bytes)?;
-        if !is_on_earth(lon, lat) {
+        if !is_in_range(lon, lat) {
             return Err(Unread::Malformed);
         }
         Ok((Location { lon, lat }, rest))
     }
-}
-
-/// The longitude is within 180 degrees, and the latitude within 90.
-fn is_on_earth(lon: i32, lat: i32) -> bool
-    ensures { result ≡ is_in_range lon lat }
-{
-    -1_800_000_000 <= lon && lon <= 1_800_000_000 && -900_000_000 <= lat && lat <= 900_000_000
 }

@@ -12,7 +12,7 @@ use Rattle.road_base.specs.declared.event.Event.{Event}
 use Rattle.road_base.specs.Objects.{Objects, Entry, key_cmp}
 use Rattle.road_base.specs.Applying.{entry_of, is_of, first_greatest, entries_for, IsApplied}
 use Rattle.road_base.specs.History.{History, HasObjects, SameForReader, kept}
-use Rattle.road_base.proofs.Comparisons.{less}
+use Rattle.ordered_lists.proofs.Comparisons.{less}
 use Rattle.road_io.specs.Outside.{Outside, LeavesOnly}
 use Rattle.road_io.proofs.CallRuns.{only_weaker}
 use Rattle.sequence_journal.specs.declared.error.JournalError.{JournalError}

@@ -8,10 +8,11 @@ use Rattle.road_base.specs.declared.ids.RelationId.{RelationId}
 use Rattle.road_base.specs.declared.ids.Key.{Key}
 use Rattle.road_base.specs.declared.ids.Key.TheVariants.{Node as NodeKey, Way as WayKey, Relation as RelationKey}
 use Rattle.road_base.specs.Objects.{Objects, key_cmp, visible}
-use Rattle.road_model.specs.Orders.{Lists, way_cmp}
+use Rattle.ordered_lists.specs.Orders.{Lists}
+use Rattle.road_model.specs.Orders.{way_cmp}
 use Rattle.road_model.specs.Links.{RefersTo, HasMember, IsLink, IsWithin, Differs, AreChanged, IsTouched}
 use Rattle.road_model.specs.Links.{AreTouched}
-use Rattle.road_model.proofs.JoinedLists.{lists_same}
+use Rattle.ordered_lists.proofs.JoinedLists.{lists_same}
 use Rattle.road_model.proofs.LocalLinks.{way_same, relation_same, within_itself, decided_by, coded_visible}
 use Rattle.touched_ways.specs.declared.search.Search.{Search}
 use Rattle.touched_ways.specs.Altering.{IsNearChange}

@@ -7,8 +7,8 @@ use Rattle.road_base.specs.declared.ids.WayId.{WayId}
 use Rattle.road_base.specs.declared.ids.RelationId.{RelationId}
 use Rattle.road_base.specs.declared.ids.Key.{Key}
 use Rattle.road_base.specs.declared.ids.Key.TheVariants.{Node as NodeKey, Way as WayKey, Relation as RelationKey}
-use Rattle.road_base.proofs.ListMembers.{contains_none}
-use Rattle.road_model.proofs.JoinedLists.{one_more, has_last, has_before}
+use Rattle.ordered_lists.proofs.ListMembers.{contains_none}
+use Rattle.ordered_lists.proofs.JoinedLists.{one_more, has_last, has_before}
 use Rattle.touched_ways.specs.declared.found.Found.{Found}
 use Rattle.touched_ways.specs.Searches.{IsFound, Finds, GivenBy}
 

@@ -7,9 +7,10 @@ use Rattle.road_base.specs.declared.ids.RelationId.{RelationId}
 use Rattle.road_base.specs.declared.ids.Key.{Key}
 use Rattle.road_base.specs.declared.ids.Key.TheVariants.{Node as NodeKey, Way as WayKey, Relation as RelationKey}
 use Rattle.road_base.specs.Objects.{Objects}
-use Rattle.road_model.specs.Orders.{Lists, way_cmp}
+use Rattle.ordered_lists.specs.Orders.{Lists}
+use Rattle.road_model.specs.Orders.{way_cmp}
 use Rattle.road_model.specs.Links.{IsLink, IsWithin}
-use Rattle.road_model.proofs.JoinedLists.{lists_same}
+use Rattle.ordered_lists.proofs.JoinedLists.{lists_same}
 use Rattle.touched_ways.specs.declared.found.Found.{Found}
 use Rattle.touched_ways.specs.declared.search.Search.{Search}
 use Rattle.touched_ways.specs.Searches.{IsFound, Finds, GivenBy, IsFrontier, IsSeen, IsNext, IsFurther, IsWayLink}

@@ -8,8 +8,9 @@ use Rattle.road_base.specs.declared.ids.Key.{Key}
 use Rattle.road_base.specs.declared.ids.Key.TheVariants.{Node as NodeKey, Way as WayKey, Relation as RelationKey}
 use Rattle.road_base.specs.declared.objects.Member.{Member}
 use Rattle.road_base.specs.Objects.{Objects}
-use Rattle.road_base.proofs.ListMembers.{contains_map, contains_from_map}
-use Rattle.road_model.specs.Orders.{Lists, way_cmp, relation_cmp}
+use Rattle.ordered_lists.proofs.ListMembers.{contains_map, contains_from_map}
+use Rattle.ordered_lists.specs.Orders.{Lists}
+use Rattle.road_model.specs.Orders.{way_cmp, relation_cmp}
 use Rattle.road_model.specs.Links.{RefersTo, HasMember, IsLink}
 use Rattle.touched_ways.specs.declared.found.Found.{Found}
 use Rattle.touched_ways.specs.Searches.{Finds, GivenBy, IsNodeOrWay, IsWay, IsWayLink}

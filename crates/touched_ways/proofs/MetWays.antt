@@ -6,10 +6,11 @@ use Rattle.road_base.specs.declared.ids.RelationId.{RelationId}
 use Rattle.road_base.specs.declared.ids.Key.{Key}
 use Rattle.road_base.specs.declared.ids.Key.TheVariants.{Node as NodeKey, Way as WayKey, Relation as RelationKey}
 use Rattle.road_base.specs.Objects.{Objects}
-use Rattle.road_base.proofs.ListMembers.{contains_none}
+use Rattle.ordered_lists.proofs.ListMembers.{contains_none}
 use Rattle.road_model.specs.Links.{IsLink}
-use Rattle.road_model.specs.Orders.{Lists, rises, way_cmp}
-use Rattle.road_model.proofs.JoinedLists.{lists_same}
+use Rattle.ordered_lists.specs.Orders.{Lists, rises}
+use Rattle.road_model.specs.Orders.{way_cmp}
+use Rattle.ordered_lists.proofs.JoinedLists.{lists_same}
 use Rattle.touched_ways.specs.declared.found.Found.{Found}
 use Rattle.touched_ways.specs.Altering.{AreNamedTogether, HereOrBeside, MeetsOne}
 use Rattle.touched_ways.specs.Searches.{Finds, GivenBy, IsFound, IsWayLink}

@@ -12,12 +12,13 @@ use Rattle.std.proofs.lemmas.Cmp.{tied_itself}
 use Rattle.std.proofs.Math.Seq.{take-append_seam}
 use Rattle.road_base.specs.declared.ids.WayId.{WayId}
 use Rattle.road_base.specs.Objects.{Objects}
-use Rattle.road_base.proofs.ListMembers.{contains_none, contains_from_in, in_from_contains}
+use Rattle.ordered_lists.proofs.ListMembers.{contains_none, contains_from_in, in_from_contains}
 use Rattle.road_model.specs.Links.{IsTouched, AreTouched}
 use Rattle.road_model.specs.Local.{IsSameWithin}
-use Rattle.road_model.specs.Orders.{Lists, rises, way_cmp}
-use Rattle.road_model.proofs.SortedMaps.{search_below, search_behind}
-use Rattle.road_model.proofs.RisingLists.{take_rises, one_more_rises, below_last}
+use Rattle.ordered_lists.specs.Orders.{Lists, rises}
+use Rattle.road_model.specs.Orders.{way_cmp}
+use Rattle.ordered_lists.proofs.SortedMaps.{search_below, search_behind}
+use Rattle.ordered_lists.proofs.RisingLists.{take_rises, one_more_rises, below_last}
 use Rattle.touched_ways.specs.Altering.{AreParted, AreSplit, HereOrBeside, IsNearChange}
 use Rattle.touched_ways.proofs.WayLists.{same, one_longer, was_or_last, still_has, last_has}
 

@@ -4,8 +4,8 @@ use Rattle.std.proofs.Common.{sym, ◌∙◌, subst, Contains}
 use Rattle.std.specs.List.Sorted.{IsPermutation}
 use Rattle.std.proofs.lemmas.List.Elements.{Contains-append_left, Contains-append_right, Contains-append_cases}
 use Rattle.std.proofs.lemmas.List.Sorted.{Contains-permutation, IsPermutation-sym}
-use Rattle.road_base.proofs.ListMembers.{contains_none}
-use Rattle.road_model.proofs.JoinedLists.{one_more, has_last, has_before}
+use Rattle.ordered_lists.proofs.ListMembers.{contains_none}
+use Rattle.ordered_lists.proofs.JoinedLists.{one_more, has_last, has_before}
 use Rattle.touched_ways.specs.Searches.{IsRest}
 
 module _ {T : Type 0} where

@@ -11,7 +11,7 @@ use Rattle.road_model.specs.Rules.{Rules}
 use Rattle.road_model.specs.Pieces.{Span, IsPiece}
 use Rattle.road_model.specs.Local.{IsSameWithin}
 use Rattle.road_model.specs.Blocks.{IsPieceEntry, IsBlock, name_of}
-use Rattle.road_base.proofs.ListMembers.{contains_map, contains_from_map}
+use Rattle.ordered_lists.proofs.ListMembers.{contains_map, contains_from_map}
 use Rattle.road_model.proofs.UniqueEntries.{one_piece}
 use Rattle.road_model.proofs.FinitePieces.{IsOf}
 use Rattle.road_model.proofs.SomeGraph.{piece_entry, entry_named}

@@ -6,8 +6,8 @@ use Rattle.road_base.specs.Objects.{Objects}
 use Rattle.road_model.specs.Rules.{Rules}
 use Rattle.road_model.specs.Pieces.{Span, IsPiece, spell}
 use Rattle.road_model.specs.Network.{Legal, IsArc, spell_pieces}
-use Rattle.road_base.proofs.ListMembers.{In, in_end, in_cases}
-use Rattle.road_base.proofs.Splits.{Ends, Nil, Last, ends, cons_not_nil}
+use Rattle.ordered_lists.proofs.ListMembers.{In, in_end, in_cases}
+use Rattle.ordered_lists.proofs.Splits.{Ends, Nil, Last, ends, cons_not_nil}
 use Rattle.road_model.proofs.Shapes.{piece_shape}
 use Rattle.road_model.proofs.WalkLists.{piece_legal, inner_legal, spell_pieces-push, context_pieces}
 use Rattle.road_model.proofs.LocalPieces.{NeedsHighway}

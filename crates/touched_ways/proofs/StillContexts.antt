@@ -11,8 +11,8 @@ use Rattle.road_model.specs.Contexts.{Every, IsMany, One, Many}
 use Rattle.road_model.specs.Legal.{MustBy}
 use Rattle.road_model.specs.Links.{HasMember}
 use Rattle.road_model.specs.Network.{Drives, NoWord, OnlyWord, AnyWord, Legal, IsContext, spell_pieces}
-use Rattle.road_base.proofs.ListMembers.{In, in_end, in_left, in_right, in_cases, contains_from_in}
-use Rattle.road_base.proofs.Splits.{Cut, Behind, Before, cut}
+use Rattle.ordered_lists.proofs.ListMembers.{In, in_end, in_left, in_right, in_cases, contains_from_in}
+use Rattle.ordered_lists.proofs.Splits.{Cut, Behind, Before, cut}
 use Rattle.road_model.proofs.Shapes.{bound_positive}
 use Rattle.road_model.proofs.LongestContext.{Every-front}
 use Rattle.road_model.proofs.WalkLists.{piece_legal, spell_pieces-push}

@@ -6,9 +6,10 @@ use Rattle.std.specs.Cmp.{IsTotalOrder}
 use Rattle.std.specs.List.{AllWithin}
 use Rattle.std.proofs.lemmas.Bool.{and_parts, cases_lt}
 use Rattle.road_base.specs.declared.ids.WayId.{WayId}
-use Rattle.road_base.proofs.Comparisons.{less, turned}
-use Rattle.road_model.specs.Orders.{rises, rises_from, way_cmp}
-use Rattle.road_model.proofs.AscendingLists.{rest_rises, behind_next}
+use Rattle.ordered_lists.proofs.Comparisons.{less, turned}
+use Rattle.ordered_lists.specs.Orders.{rises, rises_from}
+use Rattle.road_model.specs.Orders.{way_cmp}
+use Rattle.ordered_lists.proofs.AscendingLists.{rest_rises, behind_next}
 
 module _ (total : IsTotalOrder way_cmp) where
   -- what ascends from a way stands above it

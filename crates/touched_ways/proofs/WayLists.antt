@@ -5,10 +5,11 @@ use Rattle.std.proofs.lemmas.List.Elements.{Contains-append_left}
 use Rattle.road_base.specs.declared.ids.WayId.{WayId}
 use Rattle.road_base.specs.declared.ids.Key.{Key}
 use Rattle.road_base.specs.Objects.{Objects}
-use Rattle.road_base.proofs.ListMembers.{contains_from_in, in_end, contains_more}
-use Rattle.road_model.specs.Orders.{Lists, rises, way_cmp}
+use Rattle.ordered_lists.proofs.ListMembers.{contains_from_in, in_end, contains_more}
+use Rattle.ordered_lists.specs.Orders.{Lists, rises}
+use Rattle.road_model.specs.Orders.{way_cmp}
 use Rattle.road_model.specs.Links.{AreChanged, AreReached, AreTouched}
-use Rattle.road_model.proofs.JoinedLists.{lists_same}
+use Rattle.ordered_lists.proofs.JoinedLists.{lists_same}
 use Rattle.touched_ways.proofs.NumberLists.{AreAdded}
 
 pub same : (ws : List WayId) → map (λ w. w) ws ≡ ws

@@ -10,7 +10,8 @@ use Rattle.road_base.specs.Objects.{Objects}
 use Rattle.road_model.specs.declared.lists.PieceName.{PieceName}
 use Rattle.road_model.specs.declared.blocks.Block.{Block}
 use Rattle.road_model.specs.Rules.{Rules}
-use Rattle.road_model.specs.Orders.{rises, way_cmp}
+use Rattle.ordered_lists.specs.Orders.{rises}
+use Rattle.road_model.specs.Orders.{way_cmp}
 use Rattle.road_model.specs.Pieces.{Span, IsPiece}
 use Rattle.road_model.specs.Links.{RefersTo, HasMember, IsWithin, Differs, IsTouched, AreTouched}
 use Rattle.road_model.specs.Local.{IsSameWithin}

@@ -5,16 +5,18 @@ ghost use Rattle.std.specs.declared.cmp.Ordering.TheVariants.{Less, Greater};
 ghost use Rattle.road_base.specs.declared.ids.WayId.{WayId as WayNumber};
 ghost use Rattle.road_base.specs.Objects.{Objects};
 ghost use Rattle.road_model.specs.Links.{AreTouched};
-ghost use Rattle.road_model.specs.Orders.{Lists, rises, way_cmp};
+ghost use Rattle.ordered_lists.specs.Orders.{Lists, rises};
+ghost use Rattle.road_model.specs.Orders.{way_cmp};
 ghost use Rattle.touched_ways.specs.Altering.{AreNamedTogether, AreParted, AreSplit, HereOrBeside, IsNearChange};
 ghost use Rattle.touched_ways.specs.Altering.{MeetsOne};
 
 use crate::found::Found;
 use crate::merging::merge;
 use crate::rounds::{find_ways_of_nodes, find_ways_of_rules, follow_ways};
+use ordered_lists::leave_once;
 use road_base::{NoMemory, WayId, Ways};
+use road_model::World;
 use road_model::laws::{name_order, number_order};
-use road_model::{World, leave_once};
 use std::alloc::Global;
 
 /// The ways that a change touches, ascending: those near what it changes, with those that a restriction names beside

@@ -4,7 +4,7 @@ ghost use Rattle.std.specs.Prelude.{IfOk, OnOk, IsTrue, Contains};
 ghost use Rattle.std.specs.List.{AllWithin};
 ghost use Rattle.std.specs.Ordering.{is_lt};
 ghost use Rattle.std.specs.FinMap.{IsAntisymmetric};
-ghost use Rattle.road_model.specs.Orders.{rises};
+ghost use Rattle.ordered_lists.specs.Orders.{rises};
 ghost use Rattle.touched_ways.specs.Searches.{IsRest};
 
 use road_base::NoMemory;

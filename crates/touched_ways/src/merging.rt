@@ -2,13 +2,14 @@
 ghost use Rattle.std.specs.Prelude.{◌⊎◌, IfOk, Contains, List};
 ghost use Rattle.road_base.specs.Objects.{Objects};
 ghost use Rattle.road_base.specs.declared.ids.Key.{Key};
-ghost use Rattle.road_model.specs.Orders.{Lists, way_cmp};
+ghost use Rattle.ordered_lists.specs.Orders.{Lists};
+ghost use Rattle.road_model.specs.Orders.{way_cmp};
 ghost use Rattle.road_model.specs.Links.{AreChanged, AreReached, AreTouched};
 
 use crate::lists::add_sorted;
+use ordered_lists::leave_once;
 use road_base::{NoMemory, Ways};
 use road_model::laws::name_order;
-use road_model::leave_once;
 use std::alloc::Global;
 
 /// The ways of either list, ascending, each once. Of the ways reached before a change and those reached after it, from

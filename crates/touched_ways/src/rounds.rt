@@ -1,7 +1,8 @@
 //! The search over links, round by round.
 ghost use Rattle.std.specs.Prelude.{◌≡◌, ◌⊎◌, IfOk, OnOk};
 ghost use Rattle.road_base.specs.declared.ids.Key.TheVariants.{Node as NodeKey, Way as WayKey, Relation as RelationKey};
-ghost use Rattle.road_model.specs.Orders.{Lists, way_cmp};
+ghost use Rattle.ordered_lists.specs.Orders.{Lists};
+ghost use Rattle.road_model.specs.Orders.{way_cmp};
 ghost use Rattle.road_model.specs.Links.{IsLink, AreChanged, AreReached, AreTouched};
 ghost use Rattle.touched_ways.specs.Altering.{IsNearChange};
 ghost use Rattle.touched_ways.specs.Searches.{Finds, GivenBy, IsWayLink, IsNext, IsSeen, IsFurther, IsFurtherInOne};

@@ -1,15 +1,16 @@
 //! What a search over links keeps from round to round.
 ghost use Rattle.std.specs.Prelude.{◌⊎◌, IfOk, OnOk, Contains};
 ghost use Rattle.road_base.specs.declared.ids.Key.{Key as KeyValue};
-ghost use Rattle.road_model.specs.Orders.{Lists, way_cmp};
+ghost use Rattle.ordered_lists.specs.Orders.{Lists};
+ghost use Rattle.road_model.specs.Orders.{way_cmp};
 ghost use Rattle.touched_ways.specs.Searches.{IsFound, IsFrontier, IsSeen, IsNext};
 
 use crate::found::Found;
 use crate::lists::add_once;
 use crate::seen::Seen;
+use ordered_lists::leave_once;
 use road_base::{NoMemory, NodeId, RelationId, WayId, Ways};
 use road_model::laws::{name_order, number_order};
-use road_model::leave_once;
 use std::alloc::Global;
 
 /// The ways and restrictions seen, and the frontier: the nodes found in the last round, in no order, and the ways and

@@ -3,8 +3,8 @@ ghost use Rattle.std.specs.Prelude.{◌≡◌, ◌↔◌, ◌⊎◌, [], OnOk, C
 ghost use Rattle.std.specs.FinMap.{IsAntisymmetric};
 
 use crate::lists::{add_sorted, without};
+use ordered_lists::leave_once;
 use road_base::NoMemory;
-use road_model::leave_once;
 use std::alloc::Global;
 
 /// The numbers seen, and the frontier: those among them that were new in the last round. Both ascend.

@@ -11,7 +11,7 @@ use Rattle.turn_automata.specs.Watched.{IsWatchable, NoIn, Stops}
 use Rattle.turn_automata.specs.Turns.{IsWatching}
 use Rattle.turn_automata.specs.Machines.{Machine, Watches, IsMachine}
 use Rattle.turn_automata.proofs.WatchedSteps.{watched_grows, stops_same}
-use Rattle.road_base.proofs.ListPlaces.{one_stands, some_at}
+use Rattle.ordered_lists.proofs.ListPlaces.{one_stands, some_at}
 
 module _ (W : List Word) (ps : List (List Step)) where
   pub watches : ((p : List Step) → Contains ps p ↔ IsWatchable W p) → (d : List Step) (n : ℕ) → IsLongestIn ps d n

@@ -5,8 +5,8 @@ use Rattle.std.proofs.lemmas.List.Elements.{Contains-append_right}
 use Rattle.road_base.specs.declared.ids.Step.{Step}
 use Rattle.restrictions.specs.declared.word_list.Word.{Word}
 use Rattle.turn_automata.specs.Watched.{Must, Stops}
-use Rattle.road_base.proofs.Splits.{cons_not_nil, same_head}
-use Rattle.road_model.proofs.Decided.{Decided, decided_both, decided_like, decided_true}
+use Rattle.ordered_lists.proofs.Splits.{cons_not_nil, same_head}
+use Rattle.ordered_lists.proofs.Decided.{Decided, decided_both, decided_like, decided_true}
 use Rattle.road_model.proofs.FiniteWords.{decided_step}
 use Rattle.road_model.proofs.RulesDecided.{decided_upto}
 

@@ -2,7 +2,7 @@
 use Rattle.std.proofs.Common.{◌≡◌, ◌+◌, ◌≤◌, List, [], ◌∷◌, ◌++◌, length, refl, sym, ap, subst, ◌∙◌, arith}
 use Rattle.std.proofs.Common.{append_assoc, append-nil, length-append}
 use Rattle.road_model.specs.Contexts.{IsLongestEnd}
-use Rattle.road_base.proofs.Splits.{Ends, Nil, Last, ends, same_last}
+use Rattle.ordered_lists.proofs.Splits.{Ends, Nil, Last, ends, same_last}
 
 module _ {S : Type 0} where
   -- of two ends of a list the shorter one ends the longer one

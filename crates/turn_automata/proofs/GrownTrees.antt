@@ -8,7 +8,7 @@ use Rattle.road_base.specs.declared.ids.Step.{Step}
 use Rattle.turn_automata.specs.declared.edges.Edge.{Edge}
 use Rattle.turn_automata.specs.contracts.edges.EdgePartialEq.TheImpl.{ghosts as edge_equality}
 use Rattle.turn_automata.specs.Trees.{Stands, lists_of, IsGrownBy, IsTree}
-use Rattle.road_base.proofs.ListPlaces.{stands_left, stands_cases}
+use Rattle.ordered_lists.proofs.ListPlaces.{stands_left, stands_cases}
 use Rattle.turn_automata.proofs.TreeLists.{edge_of, grown_push, leads}
 use Rattle.turn_automata.proofs.SameEdges.{edge_same, not_among}
 

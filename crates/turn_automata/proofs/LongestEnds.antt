@@ -5,9 +5,9 @@ use Rattle.std.proofs.lemmas.List.{get_or_append_left}
 use Rattle.std.proofs.Math.Seq.{get_or-append_seam}
 use Rattle.turn_automata.specs.Trees.{Stands, Rises, IsClosed}
 use Rattle.turn_automata.specs.FailureLinks.{IsLongestIn, AreFailureLinks, Descends}
-use Rattle.road_base.proofs.Splits.{Ends, Nil, Last, ends, same_last, cons_not_nil}
+use Rattle.ordered_lists.proofs.Splits.{Ends, Nil, Last, ends, same_last, cons_not_nil}
 use Rattle.turn_automata.proofs.Ends.{shorter_end, longest_grows}
-use Rattle.road_base.proofs.ListPlaces.{one_stands, some_at, contains_at, at_contains}
+use Rattle.ordered_lists.proofs.ListPlaces.{one_stands, some_at, contains_at, at_contains}
 
 -- the list with number n ends p, and no longer end of p has the property
 pub record IsLeft {S : Type 0} (ps : List (List S)) (G : List S → Type 0) (p : List S) (n : ℕ) : Type 0 where

@@ -5,8 +5,8 @@ use Rattle.std.proofs.lemmas.Option.{slice_get_within, slice_get-get_or}
 use Rattle.road_base.specs.declared.ids.Step.{Step}
 use Rattle.turn_automata.specs.declared.edges.Edge.{Edge}
 use Rattle.turn_automata.specs.Trees.{Stands, grown, lists_of, IsClosed, IsTree}
-use Rattle.road_base.proofs.Splits.{Ends, Nil, Last, ends, same_last, cons_not_nil}
-use Rattle.road_base.proofs.ListPlaces.{stands_left, stands_last, one_stands, some_at, at_contains}
+use Rattle.ordered_lists.proofs.Splits.{Ends, Nil, Last, ends, same_last, cons_not_nil}
+use Rattle.ordered_lists.proofs.ListPlaces.{stands_left, stands_last, one_stands, some_at, at_contains}
 
 -- the step behind the list with this number
 abbrev pub edge_of : ℕ → Step → Edge

@@ -19,9 +19,9 @@ use Rattle.turn_automata.specs.Watched.{IsWatchable, NoIn, Must, Stops}
 use Rattle.turn_automata.specs.Visits.{Reaches, AreVisits}
 use Rattle.turn_automata.specs.Turns.{edge_cmp, EndsAt, DemandsAt, DemandsFrom, Collects, AreMarked, AreTurns, StopsAt}
 use Rattle.turn_automata.specs.Turns.{IsWatching}
-use Rattle.road_base.proofs.Splits.{Ends, Nil, Last, ends, same_last}
+use Rattle.ordered_lists.proofs.Splits.{Ends, Nil, Last, ends, same_last}
 use Rattle.turn_automata.proofs.WatchedSteps.{no_watchable, must_watchable}
-use Rattle.road_base.proofs.ListPlaces.{one_stands, contains_at, at_contains}
+use Rattle.ordered_lists.proofs.ListPlaces.{one_stands, contains_at, at_contains}
 use Rattle.turn_automata.proofs.WordVisits.{at_cut, visit_list}
 use Rattle.turn_automata.proofs.LongestEnds.{IsLeft}
 use Rattle.turn_automata.proofs.Keys.{edge_exact, found_exact}

@@ -4,7 +4,7 @@ use Rattle.std.proofs.Common.{append-nil}
 use Rattle.road_base.specs.declared.ids.Step.{Step}
 use Rattle.restrictions.specs.declared.word_list.Word.{Word}
 use Rattle.turn_automata.specs.Watched.{IsWatchable, Watched, NoIn, Must, Forbids, Refuses, Stops}
-use Rattle.road_base.proofs.Splits.{Ends, Nil, Last, ends, same_last, cons_not_nil}
+use Rattle.ordered_lists.proofs.Splits.{Ends, Nil, Last, ends, same_last, cons_not_nil}
 use Rattle.turn_automata.proofs.Ends.{shorter_end, longest_grows}
 use Rattle.turn_automata.proofs.Ends.{longest_before}
 

@@ -12,7 +12,7 @@ use Rattle.turn_automata.specs.Trees.{Stands, IsGrownBy, IsClosed, Rises}
 use Rattle.turn_automata.specs.Watched.{IsWatchable}
 use Rattle.turn_automata.specs.Visits.{IsVisit, Reaches, AreVisits, IsLast, IsNext, AreFirst, AreFollowed}
 use Rattle.turn_automata.specs.Work.{steps_of, work}
-use Rattle.road_base.proofs.ListPlaces.{stands_left, stands_cases, one_stands, contains_at, at_contains}
+use Rattle.ordered_lists.proofs.ListPlaces.{stands_left, stands_cases, one_stands, contains_at, at_contains}
 
 module _ {X : Type 0} where
   pub at_cut : (a : List X) (x : X) (b : List X) → slice_get (a ++ x ∷ b) (length a) ≡ Some x

@@ -5,7 +5,8 @@ ghost use Rattle.way_lines.specs.declared.roads.Road.{Road};
 ghost use Rattle.road_model.specs.Networks.{on};
 ghost use Rattle.way_lines.specs.RoadLines.{IsRoad, AreRoads};
 
-use road_base::{Dir, NoMemory, Numbered, Ranges, WayId};
+use ordered_lists::{Numbered, Ranges};
+use road_base::{Dir, NoMemory, WayId};
 use road_model::{Access, Network, Profile, World};
 use std::alloc::Global;
 

@@ -29,9 +29,9 @@ use Rattle.std.specs.declared.cmp.Ordering.TheVariants.{Less, Equal, Greater}
 use Rattle.std.specs.Ordering.{nat_cmp, is_lt}
 use Rattle.std.specs.Cmp.{IsTotalOrder}
 use Rattle.std.proofs.lemmas.Bool.{and_parts, ltb-true, false≢true}
-use Rattle.road_model.specs.Orders.{rises, rises_from}
-use Rattle.road_base.proofs.Comparisons.{over}
-use Rattle.road_model.proofs.AscendingLists.{rest_rises}
+use Rattle.ordered_lists.specs.Orders.{rises, rises_from}
+use Rattle.ordered_lists.proofs.Comparisons.{over}
+use Rattle.ordered_lists.proofs.AscendingLists.{rest_rises}
 
 less_case : (p q : Bool) → is_lt (cond p Less (cond q Equal Greater)) ≡ true → p ≡ true
 less_case true q h = refl

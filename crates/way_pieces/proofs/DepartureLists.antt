@@ -31,11 +31,12 @@ use Rattle.road_model.specs.Lines.{node_at, tail_position}
 use Rattle.road_model.specs.Driving.{is_road, drivable}
 use Rattle.road_model.specs.Pieces.{spell}
 use Rattle.road_model.specs.Links.{RefersTo}
-use Rattle.road_model.specs.Orders.{Lists, rises, way_cmp, name_cmp}
+use Rattle.ordered_lists.specs.Orders.{Lists, rises}
+use Rattle.road_model.specs.Orders.{way_cmp, name_cmp}
 use Rattle.way_pieces.specs.declared.departures.Departure.{Departure}
 use Rattle.way_pieces.specs.Names.{IsNameFrom, IsDeparture}
 use Rattle.way_pieces.specs.Departures.{IsOver, Gains}
-use Rattle.road_model.proofs.JoinedLists.{lists_extended, has_before, has_last, one_more}
+use Rattle.ordered_lists.proofs.JoinedLists.{lists_extended, has_before, has_last, one_more}
 use Rattle.road_model.proofs.TotalOrders.{way_cmp_total}
 use Rattle.way_pieces.proofs.FirstSteps.{stands, step_drives, head_there, front}
 use Rattle.way_pieces.proofs.AscendingLists.{taken_below}

@@ -15,7 +15,8 @@ use Rattle.road_model.specs.Rules.{Rules}
 use Rattle.road_model.specs.Lines.{line_of, node_at}
 use Rattle.road_model.specs.Pieces.{Span, IsPiece}
 use Rattle.road_model.specs.Blocks.{place_position, IsListedPiece, ListsPieces}
-use Rattle.road_model.specs.Orders.{rises, node_cmp, name_cmp}
+use Rattle.ordered_lists.specs.Orders.{rises}
+use Rattle.road_model.specs.Orders.{node_cmp, name_cmp}
 use Rattle.way_lines.specs.declared.road_line.LineNode.{LineNode}
 use Rattle.way_lines.specs.RoadLines.{line_node}
 use Rattle.way_pieces.specs.declared.spans.PieceSpan.{PieceSpan}
@@ -24,7 +25,7 @@ use Rattle.way_pieces.specs.Listed.{listed_span, start_along, listed_start}
 use Rattle.way_pieces.specs.Names.{IsSpanOn, piece_of}
 use Rattle.way_pieces.specs.RoadPieces.{AreSpans, AreStarts}
 use Rattle.way_pieces.specs.Starts.{node_in, start_on}
-use Rattle.road_base.proofs.ListMembers.{In, contains_map, contains_from_map, contains_from_in}
+use Rattle.ordered_lists.proofs.ListMembers.{In, contains_map, contains_from_map, contains_from_in}
 use Rattle.road_model.proofs.UniqueEntries.{one_piece}
 use Rattle.road_model.proofs.TotalOrders.{name_cmp_total, node_cmp_total, node_cmp_exact}
 use Rattle.junctions.proofs.Positions.{some_same}

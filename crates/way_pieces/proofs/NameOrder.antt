@@ -8,7 +8,7 @@ use Rattle.road_base.specs.declared.ids.WayId.{WayId}
 use Rattle.road_base.specs.declared.ids.Dir.TheVariants.{Forward, Backward}
 use Rattle.road_model.specs.declared.lists.PieceName.{PieceName}
 use Rattle.road_model.specs.Orders.{way_cmp, dir_cmp, name_cmp}
-use Rattle.road_base.proofs.Comparisons.{less}
+use Rattle.ordered_lists.proofs.Comparisons.{less}
 use Rattle.road_model.proofs.TotalOrders.{way_cmp_total, less_first}
 
 below_less : (i j : ℕ) → i < j → nat_cmp i j ≡ Less

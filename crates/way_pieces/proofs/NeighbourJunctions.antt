@@ -10,7 +10,7 @@ use Rattle.road_model.specs.Pieces.{Span, IsPlain, IsPiece}
 use Rattle.junctions.specs.Junctions.{IsJunction, AreJunctions}
 use Rattle.way_pieces.specs.declared.stretches.Stretch.{Stretch}
 use Rattle.way_pieces.specs.Stretches.{IsStretch, piece_on}
-use Rattle.road_model.proofs.Decided.{order}
+use Rattle.ordered_lists.proofs.Decided.{order}
 use Rattle.way_pieces.proofs.AscendingLists.{climbs}
 use Rattle.way_pieces.proofs.DrivenSteps.{piece_first, piece_last}
 

@@ -30,7 +30,8 @@ use Rattle.road_model.specs.Rules.{Rules}
 use Rattle.road_model.specs.Lines.{node_at}
 use Rattle.road_model.specs.Driving.{is_open, located}
 use Rattle.road_model.specs.Pieces.{Span, IsPiece}
-use Rattle.road_model.specs.Orders.{Lists, name_cmp}
+use Rattle.ordered_lists.specs.Orders.{Lists}
+use Rattle.road_model.specs.Orders.{name_cmp}
 use Rattle.junctions.specs.Junctions.{AreJunctions}
 use Rattle.way_lines.specs.declared.roads.Road.{Road}
 use Rattle.way_lines.specs.RoadLines.{IsRoad}
@@ -38,8 +39,8 @@ use Rattle.way_pieces.specs.declared.spans.PieceSpan.{PieceSpan}
 use Rattle.way_pieces.specs.declared.stretches.Stretch.{Stretch}
 use Rattle.way_pieces.specs.Names.{piece_of, IsSpanOn}
 use Rattle.way_pieces.specs.Stretches.{IsStretch, IsSpanBelow, added, piece_on, span_on}
-use Rattle.road_model.proofs.JoinedLists.{lists_added}
-use Rattle.road_model.proofs.Decided.{order}
+use Rattle.ordered_lists.proofs.JoinedLists.{lists_added}
+use Rattle.ordered_lists.proofs.Decided.{order}
 use Rattle.way_pieces.proofs.DrivenSteps.{piece_from, piece_parts}
 use Rattle.way_pieces.proofs.NameOrder.{index_next, dir_last}
 use Rattle.way_pieces.proofs.NeighbourJunctions.{none_inside, same_piece, not_below_first, not_above_last, first_listed}

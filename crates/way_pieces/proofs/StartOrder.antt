@@ -52,7 +52,8 @@ use Rattle.road_model.specs.Lines.{
 use Rattle.road_model.specs.Driving.{is_road}
 use Rattle.way_lines.specs.declared.road_line.LineNode.{LineNode}
 use Rattle.way_lines.specs.RoadLines.{line_node}
-use Rattle.road_model.specs.Orders.{Lists, rises, node_cmp, name_cmp}
+use Rattle.ordered_lists.specs.Orders.{Lists, rises}
+use Rattle.road_model.specs.Orders.{node_cmp, name_cmp}
 use Rattle.way_pieces.specs.declared.spans.PieceSpan.{PieceSpan}
 use Rattle.way_pieces.specs.declared.departures.Departure.{Departure}
 use Rattle.way_pieces.specs.declared.starts.Start.{Start}
@@ -61,13 +62,13 @@ use Rattle.way_pieces.specs.Departures.{IsOver}
 use Rattle.way_pieces.specs.RoadPieces.{AreStarts}
 use Rattle.way_pieces.specs.Starts.{IsWithin, no_node, node_in, start_toward, start_on, leaving}
 use Rattle.way_pieces.proofs.SpanOrder.{span_of}
-use Rattle.road_base.proofs.ListMembers.{contains_map, contains_from_map}
-use Rattle.road_base.proofs.FilteredLists.{contains_filter, contains_from_filter}
-use Rattle.road_base.proofs.SortedParts.{kept_by_sort}
-use Rattle.road_base.proofs.Splits.{same_head}
+use Rattle.ordered_lists.proofs.ListMembers.{contains_map, contains_from_map}
+use Rattle.ordered_lists.proofs.FilteredLists.{contains_filter, contains_from_filter}
+use Rattle.ordered_lists.proofs.SortedParts.{kept_by_sort}
+use Rattle.ordered_lists.proofs.Splits.{same_head}
 use Rattle.way_pieces.proofs.DepartureLists.{name_way}
 use Rattle.way_pieces.proofs.DrivenSteps.{as_long, named_end, node_there, piece_last, piece_road}
-use Rattle.road_model.proofs.AscendingLists.{rises_kept}
+use Rattle.ordered_lists.proofs.AscendingLists.{rises_kept}
 use Rattle.junctions.proofs.Positions.{some_same}
 
 -- ---- what a start has of its piece

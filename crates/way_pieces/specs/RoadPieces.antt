@@ -6,7 +6,8 @@ use Rattle.road_base.specs.declared.ids.WayId.{WayId}
 use Rattle.road_base.specs.Objects.{Objects}
 use Rattle.road_model.specs.Rules.{Rules}
 use Rattle.road_model.specs.Blocks.{ListsPieces}
-use Rattle.road_model.specs.Orders.{Lists, node_cmp, name_cmp}
+use Rattle.ordered_lists.specs.Orders.{Lists}
+use Rattle.road_model.specs.Orders.{node_cmp, name_cmp}
 use Rattle.way_lines.specs.declared.roads.Road.{Road}
 use Rattle.way_lines.specs.declared.road_line.RoadLine.{RoadLine}
 use Rattle.way_lines.specs.RoadLines.{AreRoads, IsRoad, IsRoadLine}

@@ -1,6 +1,7 @@
 //! The pieces that leave a node.
 ghost use Rattle.std.specs.Prelude.{IfOk};
-ghost use Rattle.road_model.specs.Orders.{Lists, name_cmp};
+ghost use Rattle.ordered_lists.specs.Orders.{Lists};
+ghost use Rattle.road_model.specs.Orders.{name_cmp};
 ghost use Rattle.way_pieces.specs.Names.{IsDeparture};
 
 use crate::road_pieces::RoadPieces;

@@ -1,6 +1,7 @@
 //! The names of the pieces of a way, and of those that begin at a node.
 ghost use Rattle.std.specs.Prelude.{◌≡◌, IfOk, map};
-ghost use Rattle.road_model.specs.Orders.{Lists, name_cmp};
+ghost use Rattle.ordered_lists.specs.Orders.{Lists};
+ghost use Rattle.road_model.specs.Orders.{name_cmp};
 ghost use Rattle.way_pieces.specs.Names.{IsNameOn, IsNameFrom};
 
 use crate::departures::{Departure, departures_from};

@@ -1,6 +1,7 @@
 //! The pieces of a way.
 ghost use Rattle.std.specs.Prelude.{◌≡◌, IfOk, OnOk, slice_get};
-ghost use Rattle.road_model.specs.Orders.{Lists, name_cmp};
+ghost use Rattle.ordered_lists.specs.Orders.{Lists};
+ghost use Rattle.road_model.specs.Orders.{name_cmp};
 ghost use Rattle.road_model.specs.Networks.{on};
 ghost use Rattle.junctions.specs.Junctions.{AreJunctions};
 ghost use Rattle.way_lines.specs.RoadLines.{IsRoadLine};

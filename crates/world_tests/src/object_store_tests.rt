@@ -3,7 +3,8 @@ ghost use Rattle.std.specs.Prelude.{◌≤◌, length};
 
 use library_tests::makers::{are_same, event_of, events_of};
 use object_store::Objects;
-use road_base::{Body, Event, Key, NoMemory, NodeId, Ranges};
+use ordered_lists::Ranges;
+use road_base::{Body, Event, Key, NoMemory, NodeId};
 use std::alloc::Global;
 use std::process::Abort;
 use std::test::Fail;

@@ -1,5 +1,5 @@
 use Rattle.std.proofs.Common.{Contains, ap, sym, subst, ◌∙◌}
-use Rattle.road_model.specs.Orders.{Lists}
+use Rattle.ordered_lists.specs.Orders.{Lists}
 use Rattle.back_references.specs.Holding.{base_pairs}
 use Rattle.back_references.proofs.index.values_in.Goals as goal
 

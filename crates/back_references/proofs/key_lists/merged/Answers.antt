@@ -1,5 +1,5 @@
 use Rattle.std.proofs.lemmas.List.Filters.{dedup_is}
-use Rattle.road_model.proofs.SortedOnce.{dedup_rises, dedup_keeps, dedup_from_all}
+use Rattle.ordered_lists.proofs.SortedOnce.{dedup_rises, dedup_keeps, dedup_from_all}
 use Rattle.back_references.proofs.KeyedLists.{joined, contains_joined}
 use Rattle.back_references.proofs.key_lists.merged.Goals as goal
 

@@ -1,7 +1,7 @@
 use Rattle.std.proofs.Common.{◌&&◌}
 use Rattle.std.specs.Cmp.{then_total, on_total}
 use Rattle.std.proofs.lemmas.List.Filters.{dedup_is}
-use Rattle.road_model.proofs.SortedOnce.{dedup_rises, dedup_keeps, dedup_from_all}
+use Rattle.ordered_lists.proofs.SortedOnce.{dedup_rises, dedup_keeps, dedup_from_all}
 use Rattle.back_references.specs.Pairs.{pair_cmp}
 use Rattle.back_references.proofs.SortedPairs.{pairs_exact, both_tie}
 use Rattle.back_references.proofs.pair_list.put_in_order.Goals as goal

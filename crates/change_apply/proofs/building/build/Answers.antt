@@ -1,6 +1,7 @@
 use Rattle.std.proofs.Common.{List, IsTrue, Contains, subst, sym}
 use Rattle.road_base.specs.declared.ids.WayId.{WayId}
-use Rattle.road_model.specs.Orders.{rises, way_cmp}
+use Rattle.ordered_lists.specs.Orders.{rises}
+use Rattle.road_model.specs.Orders.{way_cmp}
 use Rattle.change_apply.proofs.building.build.Goals as goal
 
 pub blocks_of-requires : goal.blocks_of-requires

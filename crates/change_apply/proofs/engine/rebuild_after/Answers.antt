@@ -6,7 +6,7 @@ use Rattle.road_base.specs.Applying.{IsApplied}
 use Rattle.road_model.specs.Orders.{way_cmp}
 use Rattle.road_model.specs.Links.{IsTouched, AreTouched}
 use Rattle.touched_ways.specs.Altering.{AreParted}
-use Rattle.road_model.proofs.AscendingLists.{lists_unique}
+use Rattle.ordered_lists.proofs.AscendingLists.{lists_unique}
 use Rattle.change_apply.specs.Engines.{AreKept, BuildsTouched}
 use Rattle.change_apply.specs.Placing.{placed_at}
 use Rattle.change_apply.specs.Rebuilding.{block_at, over}

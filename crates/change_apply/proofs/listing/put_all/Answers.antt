@@ -1,7 +1,7 @@
 use Rattle.std.proofs.Common.{◌≡◌, ◌++◌, ◌∷◌, [], rules, Contains, sym, ap, subst, ◌∙◌, length, append-nil}
 use Rattle.std.proofs.Common.{append_assoc, arith}
 use Rattle.std.proofs.lemmas.List.{nil_from_length}
-use Rattle.road_base.proofs.ListMembers.{contains_from_in, in_end}
+use Rattle.ordered_lists.proofs.ListMembers.{contains_from_in, in_end}
 use Rattle.change_apply.proofs.ListedPuts.{AreBothPut, all_put, both_more, no_front_put}
 use Rattle.change_apply.proofs.listing.put_all.Goals as goal
 

@@ -1,7 +1,7 @@
 -- With each way its line is put, and the lines of the ways before stay.
 use Rattle.std.proofs.Common.{inl, inr, sym, subst, List, Contains, take, get_or, pos}
 use Rattle.std.proofs.lemmas.List.{take_more, take_all}
-use Rattle.road_base.proofs.ListMembers.{contains_more}
+use Rattle.ordered_lists.proofs.ListMembers.{contains_more}
 use Rattle.road_base.specs.declared.ids.WayId.{WayId}
 use Rattle.drive_queries.proofs.DriveLines.{line_put}
 use Rattle.drive_queries.proofs.drive_lines.lines_of.Goals as goal

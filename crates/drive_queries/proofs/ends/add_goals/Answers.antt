@@ -2,7 +2,7 @@ use Rattle.std.proofs.Common.{◌≡◌, ◌≤◌, ◌⊎◌, inl, inr, Some, �
 use Rattle.std.proofs.Common.{◌∷◌, []}
 use Rattle.std.proofs.lemmas.List.{take_more, take_all}
 use Rattle.std.proofs.lemmas.List.Elements.{Contains-append_left, Contains-push}
-use Rattle.road_base.proofs.ListMembers.{contains_more}
+use Rattle.ordered_lists.proofs.ListMembers.{contains_more}
 use Rattle.road_model.specs.declared.lists.Piece.{Piece}
 use Rattle.drive_queries.specs.declared.ends.Goal.{Goal}
 use Rattle.drive_queries.specs.Ends.{Arrives}

@@ -1,7 +1,7 @@
 use Rattle.std.proofs.Common.{◌≡◌, inl, inr, ◌∙◌, sym, subst, List, Contains, take, get_or}
 use Rattle.std.proofs.lemmas.List.{take_more, take_all}
 use Rattle.std.proofs.lemmas.List.Elements.{Contains-get_or}
-use Rattle.road_base.proofs.ListMembers.{contains_more}
+use Rattle.ordered_lists.proofs.ListMembers.{contains_more}
 use Rattle.road_model.specs.declared.lists.Piece.{Piece}
 use Rattle.drive_queries.specs.Ends.{Leaves}
 use Rattle.drive_queries.proofs.ends.add_starts.Goals as goal

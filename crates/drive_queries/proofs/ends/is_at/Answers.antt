@@ -1,5 +1,5 @@
 use Rattle.std.proofs.Common.{◌≡◌, rules, sym, ◌∙◌, ap}
-use Rattle.road_base.proofs.ListPlaces.{read_at, one_stands}
+use Rattle.ordered_lists.proofs.ListPlaces.{read_at, one_stands}
 use Rattle.drive_queries.proofs.ends.is_at.Goals as goal
 
 pub returns-clause-yes : goal.returns-clause-yes

@@ -1,7 +1,7 @@
 use Rattle.std.proofs.Common.{inl, inr, sym, subst, List, Contains, take, get_or, pos}
 use Rattle.std.specs.FinMap.{get}
 use Rattle.std.proofs.lemmas.List.{take_more, take_all}
-use Rattle.road_base.proofs.ListMembers.{contains_more}
+use Rattle.ordered_lists.proofs.ListMembers.{contains_more}
 use Rattle.road_base.specs.declared.ids.WayId.{WayId}
 use Rattle.road_model.specs.declared.lists.Piece.{Piece}
 use Rattle.drive_queries.specs.Ends.{pieces_in}

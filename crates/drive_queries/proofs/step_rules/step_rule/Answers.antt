@@ -1,7 +1,7 @@
 -- What the step alone breaks, it breaks behind any steps.
 use Rattle.std.proofs.Common.{[], ◌∷◌, Contains, sym}
 use Rattle.std.proofs.lemmas.List.Elements.{Contains-append_left}
-use Rattle.road_base.proofs.ListPlaces.{contains_at}
+use Rattle.ordered_lists.proofs.ListPlaces.{contains_at}
 use Rattle.drive_queries.proofs.JudgedDrives.{has_first}
 use Rattle.drive_queries.proofs.step_rules.step_rule.Goals as goal
 

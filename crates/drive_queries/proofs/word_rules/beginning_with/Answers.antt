@@ -2,7 +2,7 @@
 use Rattle.std.proofs.Common.{rules, ◌∙◌, length}
 use Rattle.std.specs.Ordering.{is_lt, is_le}
 use Rattle.std.proofs.lemmas.List.Sorted.{IsPartitionPoint-from_clause}
-use Rattle.road_base.proofs.SortedParts.{below_parted, upto_parted, low_first, part_together}
+use Rattle.ordered_lists.proofs.SortedParts.{below_parted, upto_parted, low_first, part_together}
 use Rattle.restrictions.specs.declared.word_list.Word.{Word}
 use Rattle.drive_queries.specs.DriveWords.{steps_cmp}
 use Rattle.drive_queries.proofs.WordOrder.{steps_total}

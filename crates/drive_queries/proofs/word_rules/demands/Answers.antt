@@ -4,7 +4,7 @@ use Rattle.std.proofs.lemmas.Bool.{false≢true}
 use Rattle.std.proofs.lemmas.List.{take_all}
 use Rattle.restrictions.specs.declared.word_list.Word.{Word}
 use Rattle.drive_queries.specs.Judging.{DemandsNext}
-use Rattle.road_base.proofs.ListFronts.{among_more, among_item}
+use Rattle.ordered_lists.proofs.ListFronts.{among_more, among_item}
 use Rattle.drive_queries.proofs.WordsCompared.{must_by, must_of}
 use Rattle.drive_queries.proofs.word_rules.demands.Goals as goal
 

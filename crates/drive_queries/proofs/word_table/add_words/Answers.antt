@@ -3,7 +3,7 @@ use Rattle.std.proofs.Common.{[], sym, subst, append-nil, rules}
 use Rattle.restrictions.specs.Words.{AreWords}
 use Rattle.restrictions.specs.declared.word_list.Word.{Word}
 use Rattle.drive_queries.specs.Tables.{BeginsOn}
-use Rattle.road_base.proofs.ListMembers.{contains_none}
+use Rattle.ordered_lists.proofs.ListMembers.{contains_none}
 use Rattle.restrictions.proofs.UselessRelations.{no_words_of}
 use Rattle.drive_queries.proofs.WordsGathered.{kept}
 use Rattle.drive_queries.proofs.word_table.add_words.Goals as goal

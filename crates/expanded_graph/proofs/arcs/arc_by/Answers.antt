@@ -2,7 +2,7 @@
 -- state.
 use Rattle.std.proofs.Common.{◌≡◌, Option, Some, None, refl, sym, ◌∙◌}
 use Rattle.turn_automata.specs.declared.automaton.State.{State}
-use Rattle.road_base.proofs.ListMembers.{in_from_contains}
+use Rattle.ordered_lists.proofs.ListMembers.{in_from_contains}
 use Rattle.expanded_graph.proofs.NextDepartures.{Laws}
 use Rattle.expanded_graph.proofs.ContextArcs.{TargetLaws, none_passes, none_stops, arc_entry}
 use Rattle.expanded_graph.proofs.arcs.arc_by.Goals as goal

@@ -7,7 +7,7 @@ use Rattle.road_model.specs.declared.lists.PieceName.{PieceName}
 use Rattle.road_model.specs.Orders.{name_cmp}
 use Rattle.road_model.specs.Blocks.{IsArcEntry}
 use Rattle.way_pieces.specs.declared.departures.Departure.{Departure}
-use Rattle.road_base.proofs.ListMembers.{in_get, contains_from_in}
+use Rattle.ordered_lists.proofs.ListMembers.{in_get, contains_from_in}
 use Rattle.expanded_graph.proofs.NextDepartures.{Laws}
 use Rattle.expanded_graph.proofs.ContextArcs.{departs, one_arc}
 use Rattle.expanded_graph.proofs.Chosen.{Chosen, chosen_none, chosen_skip_at, chosen_one_at, chosen_all}

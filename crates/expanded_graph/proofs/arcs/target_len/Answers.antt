@@ -3,7 +3,7 @@ use Rattle.std.proofs.Common.{◌≡◌, Some, slice_get, ap, ◌∙◌, subst, 
 use Rattle.std.proofs.lemmas.Option.{get_or_from_slice_get}
 use Rattle.std.proofs.lemmas.List.{same_from_push}
 use Rattle.turn_automata.specs.Machines.{StandsFor}
-use Rattle.road_base.proofs.ListPlaces.{some_at, one_stands}
+use Rattle.ordered_lists.proofs.ListPlaces.{some_at, one_stands}
 use Rattle.expanded_graph.proofs.arcs.target_len.Goals as goal
 
 pub returns-clause-longer : goal.returns-clause-longer

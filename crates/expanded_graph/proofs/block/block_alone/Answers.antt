@@ -1,6 +1,6 @@
 -- Tables for the way alone serve it.
 use Rattle.std.proofs.Common.{[], ◌∷◌, inl, refl, sym, subst, Contains}
-use Rattle.road_base.proofs.ListMembers.{contains_from_in}
+use Rattle.ordered_lists.proofs.ListMembers.{contains_from_in}
 use Rattle.expanded_graph.proofs.block.block_alone.Goals as goal
 
 pub block_of-requires-clause-serve : goal.block_of-requires-clause-serve

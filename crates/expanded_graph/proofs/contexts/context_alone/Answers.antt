@@ -1,7 +1,8 @@
 -- The piece alone is left in the state after its last step.
 use Rattle.std.proofs.Common.{◌∷◌, [], sym, ◌∙◌, subst}
 use Rattle.road_model.specs.declared.lists.TurnArc.{TurnArc}
-use Rattle.road_model.specs.Orders.{Lists, name_cmp}
+use Rattle.ordered_lists.specs.Orders.{Lists}
+use Rattle.road_model.specs.Orders.{name_cmp}
 use Rattle.road_model.specs.Blocks.{IsArcEntry}
 use Rattle.way_pieces.specs.Names.{piece_of}
 use Rattle.expanded_graph.proofs.ContextStates.{reached_alone, entry_alone}

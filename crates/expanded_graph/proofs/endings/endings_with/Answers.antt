@@ -4,7 +4,7 @@ use Rattle.std.specs.Ordering.{is_lt, is_le}
 use Rattle.std.proofs.lemmas.List.Sorted.{IsPartitionPoint-from_clause}
 use Rattle.road_model.specs.Orders.{name_cmp}
 use Rattle.expanded_graph.specs.declared.endings.Ending.{Ending}
-use Rattle.road_base.proofs.SortedParts.{below_parted, upto_parted, low_first, part_together}
+use Rattle.ordered_lists.proofs.SortedParts.{below_parted, upto_parted, low_first, part_together}
 use Rattle.expanded_graph.proofs.endings.endings_with.Goals as goal
 
 pub part-requires-clause-rising : goal.part-requires-clause-rising

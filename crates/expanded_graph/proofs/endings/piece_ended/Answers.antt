@@ -2,7 +2,7 @@
 use Rattle.std.proofs.Common.{◌≡◌, None, Some, refl, sym, ◌∙◌, arith}
 use Rattle.std.proofs.lemmas.Bool.{false≢true, not_from_true, not-false}
 use Rattle.road_model.specs.declared.lists.PieceName.{PieceName}
-use Rattle.road_base.proofs.ListPlaces.{read_at}
+use Rattle.ordered_lists.proofs.ListPlaces.{read_at}
 use Rattle.expanded_graph.proofs.EndingStates.{not_root, has_legal, ending_with, name_on}
 use Rattle.expanded_graph.proofs.endings.piece_ended.Goals as goal
 

@@ -1,7 +1,7 @@
 -- One state more was passed on the way to the first one.
 use Rattle.std.proofs.Common.{◌≡◌, [], ◌∷◌, ◌++◌, reverse, Some, None, sym, ap, ◌∙◌, subst, arith}
 use Rattle.std.proofs.lemmas.List.{reverse-append}
-use Rattle.road_base.proofs.ListPlaces.{read_at, some_at, one_stands}
+use Rattle.ordered_lists.proofs.ListPlaces.{read_at, some_at, one_stands}
 use Rattle.expanded_graph.proofs.NamesBefore.{Path, path_start, path_more, names_along}
 use Rattle.expanded_graph.proofs.names.names_before.Goals as goal
 use Rattle.expanded_graph.proofs.names.names_before.Goals.{in-Some+in_ok-push, in_default}

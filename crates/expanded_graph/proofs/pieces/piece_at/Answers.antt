@@ -2,7 +2,8 @@
 use Rattle.std.proofs.Common.{◌≡◌, ◌≤◌, List, length, filter_map, refl, sym, ◌∙◌, subst}
 use Rattle.std.specs.List.{AllByRecursion}
 use Rattle.road_model.specs.declared.lists.Context.{Context}
-use Rattle.road_model.specs.Orders.{Lists, names_cmp}
+use Rattle.ordered_lists.specs.Orders.{Lists}
+use Rattle.road_model.specs.Orders.{names_cmp}
 use Rattle.road_model.specs.Blocks.{IsContextEntry}
 use Rattle.road_model.specs.Format.{IsContextForm, begins_alone}
 use Rattle.way_pieces.specs.Names.{piece_of}

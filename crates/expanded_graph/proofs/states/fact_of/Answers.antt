@@ -1,7 +1,7 @@
 -- What is known of the state follows from what is known of the state before.
 use Rattle.std.proofs.Common.{arith, None, false}
 use Rattle.std.proofs.lemmas.Option.{slice_get-get_or}
-use Rattle.road_base.proofs.ListPlaces.{some_at, contains_at}
+use Rattle.ordered_lists.proofs.ListPlaces.{some_at, contains_at}
 use Rattle.expanded_graph.proofs.StatesKnown.{few, grown, at_most_one}
 use Rattle.expanded_graph.proofs.states.fact_of.Goals as goal
 

@@ -4,7 +4,7 @@ use Rattle.std.proofs.lemmas.Bool.{false≢true}
 use Rattle.std.proofs.lemmas.Option.{slice_get-get_or}
 use Rattle.turn_automata.specs.Machines.{StandsFor}
 use Rattle.expanded_graph.specs.Known.{IsDriven}
-use Rattle.road_base.proofs.ListPlaces.{one_stands}
+use Rattle.ordered_lists.proofs.ListPlaces.{one_stands}
 use Rattle.expanded_graph.proofs.StatesKnown.{goes_on}
 use Rattle.expanded_graph.proofs.StatesDriven.{DriveLaws, first_step, shut_step, undriven_before, not_passing}
 use Rattle.expanded_graph.proofs.StatesDriven.{next_step}

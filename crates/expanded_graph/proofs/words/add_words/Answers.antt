@@ -1,7 +1,7 @@
 -- The words of the restriction are added, which are none where it is of no use.
 use Rattle.std.proofs.Common.{[], sym, subst, append-nil}
 use Rattle.restrictions.specs.Words.{AreWords}
-use Rattle.road_base.proofs.ListMembers.{contains_none}
+use Rattle.ordered_lists.proofs.ListMembers.{contains_none}
 use Rattle.expanded_graph.proofs.words.add_words.Goals as goal
 use Rattle.restrictions.proofs.UselessRelations.{no_words_of}
 

@@ -2,7 +2,7 @@
 use Rattle.std.proofs.Common.{◌≡◌, inl, inr, sym, ap, ◌∙◌, subst}
 use Rattle.restrictions.specs.declared.word_list.Word.{Word}
 use Rattle.expanded_graph.specs.Near.{HasStepOn}
-use Rattle.road_base.proofs.ListFronts.{among_more, among_all}
+use Rattle.ordered_lists.proofs.ListFronts.{among_more, among_all}
 use Rattle.expanded_graph.proofs.words.ways_of.Goals as goal
 
 pub loop-word-preserved : goal.loop-word-preserved

@@ -1,5 +1,5 @@
 use Rattle.std.proofs.Common.{◌≡◌, ◌-◌, drop}
-use Rattle.road_model.specs.Orders.{rises}
+use Rattle.ordered_lists.specs.Orders.{rises}
 use Rattle.graph_file.proofs.ascending.do_ascend.Given as goal
 
 -- all ascend where they do from the last one looked at on

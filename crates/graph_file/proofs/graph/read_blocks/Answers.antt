@@ -4,7 +4,8 @@ use Rattle.std.proofs.lemmas.List.{nil_from_length}
 use Rattle.std.proofs.lemmas.Result.{err_from_is_err_and}
 use Rattle.road_base.specs.Bytes.{u32_bytes}
 use Rattle.road_model.specs.declared.blocks.Block.{Block}
-use Rattle.road_model.specs.Orders.{rises, way_cmp}
+use Rattle.ordered_lists.specs.Orders.{rises}
+use Rattle.road_model.specs.Orders.{way_cmp}
 use Rattle.road_model.specs.Format.{block_bytes}
 use Rattle.spelled_bytes.specs.Reading.{IsOneSpelling}
 use Rattle.graph_file.specs.GraphReading.{list_bytes, ListFits, IsWayBlock}

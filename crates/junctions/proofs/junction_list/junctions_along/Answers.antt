@@ -7,10 +7,10 @@ use Rattle.std.proofs.lemmas.List.Elements.{Contains-push, Contains-append_left}
 use Rattle.road_base.specs.declared.ids.WayId.{WayId}
 use Rattle.road_base.specs.Objects.{Objects}
 use Rattle.road_model.specs.Rules.{Rules}
-use Rattle.road_model.specs.Orders.{Lists}
+use Rattle.ordered_lists.specs.Orders.{Lists}
 use Rattle.road_model.specs.Pieces.{IsPlain}
 use Rattle.junctions.specs.Junctions.{IsJunction}
-use Rattle.road_model.proofs.JoinedLists.{lists_none, lists_pushed, lists_same}
+use Rattle.ordered_lists.proofs.JoinedLists.{lists_none, lists_pushed, lists_same}
 use Rattle.junctions.proofs.Positions.{some_road, as_long}
 use Rattle.junctions.proofs.junction_list.junctions_along.Goals as goal
 

@@ -1,7 +1,7 @@
 use Rattle.std.proofs.Common.{ℕ, ◌<◌, ◌⊎◌, Contains}
 use Rattle.std.specs.Ordering.{nat_cmp}
 use Rattle.road_model.specs.Pieces.{IsPlain}
-use Rattle.road_model.specs.Orders.{Lists}
+use Rattle.ordered_lists.specs.Orders.{Lists}
 use Rattle.junctions.specs.Junctions.{IsJunction}
 use Rattle.junctions.proofs.junction_list.junctions_along.Given as goal
 

@@ -5,7 +5,7 @@ use Rattle.std.proofs.lemmas.List.{take_all}
 use Rattle.std.proofs.lemmas.List.Elements.{Contains-get_or}
 use Rattle.road_base.specs.declared.ids.WayId.{WayId}
 use Rattle.road_model.specs.Driving.{is_road}
-use Rattle.road_model.proofs.JoinedLists.{one_more}
+use Rattle.ordered_lists.proofs.JoinedLists.{one_more}
 use Rattle.junctions.proofs.RoadNodes.{passes}
 use Rattle.junctions.proofs.plain.is_on_other.Goals as goal
 

@@ -4,10 +4,11 @@ use Rattle.std.specs.String.{string_bytes}
 use Rattle.road_base.specs.declared.event.Event.{Event}
 use Rattle.road_base.specs.declared.ids.RelationId.{RelationId}
 use Rattle.road_base.specs.Objects.{Objects}
-use Rattle.road_model.specs.Orders.{rises, relation_cmp}
+use Rattle.ordered_lists.specs.Orders.{rises}
+use Rattle.road_model.specs.Orders.{relation_cmp}
 use Rattle.object_store.specs.Listed.{AreEntriesOf, is_relation}
 use Rattle.access_profile.specs.Motorcar.{motorcar_rules}
-use Rattle.road_base.proofs.ListMembers.{In}
+use Rattle.ordered_lists.proofs.ListMembers.{In}
 use Rattle.osmroad.specs.Audit.{IsAudit, restriction_of, conditional_line, conditional_count}
 use Rattle.osmroad.proofs.AuditLines.{whole_audit, count_is}
 use Rattle.osmroad.proofs.VisibleRestrictions.{all_restrictions, restriction_is_told, restrictions_rise}

@@ -1,6 +1,7 @@
 use Rattle.std.proofs.Common.{◌≡◌, ◌++◌, ◌∷◌, [], Result, Ok, Err, OnOk, IsTrue, sym, subst, ◌∙◌}
 use Rattle.road_base.specs.declared.ids.WayId.{WayId}
-use Rattle.road_model.specs.Orders.{rises, way_cmp}
+use Rattle.ordered_lists.specs.Orders.{rises}
+use Rattle.road_model.specs.Orders.{way_cmp}
 use Rattle.road_model.specs.Blocks.{IsBlock, IsRoadBlock}
 use Rattle.access_profile.specs.Motorcar.{motorcar_rules}
 use Rattle.osmroad.specs.Building.{HasBlocksOf}

@@ -1,10 +1,11 @@
 use Rattle.std.proofs.Common.{◌+◌, List, take, pos, IsTrue, refl, sym, subst, arith}
 use Rattle.std.proofs.lemmas.List.{take_all, take_more}
 use Rattle.road_base.specs.declared.ids.WayId.{WayId}
-use Rattle.road_model.specs.Orders.{rises, way_cmp}
+use Rattle.ordered_lists.specs.Orders.{rises}
+use Rattle.road_model.specs.Orders.{way_cmp}
 use Rattle.access_profile.specs.Motorcar.{motorcar_rules}
 use Rattle.osmroad.specs.Building.{HasBlocksOf}
-use Rattle.road_model.proofs.RisingLists.{take_rises}
+use Rattle.ordered_lists.proofs.RisingLists.{take_rises}
 use Rattle.osmroad.proofs.Built.{whole_graph, whole_file}
 use Rattle.osmroad.proofs.blocks.write_blocks.Goals as goal
 

@@ -3,7 +3,7 @@ use Rattle.std.proofs.Common.{◌≡◌, true, false, get_or, bytes_eq, refl, sy
 use Rattle.std.specs.Ordering.{is_eq}
 use Rattle.std.specs.declared.cmp.Ordering.TheVariants.{Less, Greater}
 use Rattle.std.specs.Cmp.Lexicographic.{nat_list_cmp_total}
-use Rattle.road_base.proofs.Comparisons.{turned}
+use Rattle.ordered_lists.proofs.Comparisons.{turned}
 use Rattle.road_base.proofs.TagWalks.{first_decide, passes, meets, stops, none_left}
 use Rattle.road_base.proofs.TagSearch.{text_cmp, differ_from_cmp}
 use Rattle.road_base.proofs.tags.value_among.Goals as goal

@@ -4,7 +4,7 @@ use Rattle.road_base.specs.declared.ids.WayId.{WayId}
 use Rattle.road_model.specs.declared.blocks.Block.{Block}
 use Rattle.road_model.specs.Orders.{way_cmp}
 use Rattle.road_model.proofs.TotalOrders.{way_cmp_total}
-use Rattle.road_model.proofs.SortedMaps.{below_to}
+use Rattle.ordered_lists.proofs.SortedMaps.{below_to}
 use Rattle.road_model.proofs.block_search.are_below.Goals as goal
 
 abbrev way_in : Block → WayId

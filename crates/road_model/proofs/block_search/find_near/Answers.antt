@@ -4,7 +4,7 @@ use Rattle.road_base.specs.declared.ids.WayId.{WayId}
 use Rattle.road_model.specs.declared.blocks.Block.{Block}
 use Rattle.road_model.specs.Orders.{way_cmp}
 use Rattle.road_model.proofs.TotalOrders.{way_cmp_total}
-use Rattle.road_model.proofs.SortedMaps.{above_from}
+use Rattle.ordered_lists.proofs.SortedMaps.{above_from}
 use Rattle.road_model.proofs.block_search.find_near.Goals as goal
 
 abbrev way_in : Block → WayId

@@ -6,7 +6,7 @@ use Rattle.road_base.specs.declared.ids.WayId.{WayId}
 use Rattle.road_model.specs.declared.blocks.Block.{Block}
 use Rattle.road_model.specs.Orders.{way_cmp}
 use Rattle.road_model.proofs.TotalOrders.{way_cmp_total, way_cmp_exact}
-use Rattle.road_model.proofs.SortedMaps.{search_found, search_below, search_behind, below_last}
+use Rattle.ordered_lists.proofs.SortedMaps.{search_found, search_below, search_behind, below_last}
 use Rattle.road_model.proofs.block_search.find_way.Goals as goal
 
 abbrev way_in : Block → WayId

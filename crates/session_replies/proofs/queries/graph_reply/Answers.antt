@@ -1,7 +1,8 @@
 use Rattle.std.proofs.Common.{◌≡◌, ◌++◌, ◌∙◌, ℕ, List, ap, sym, subst}
 use Rattle.std.specs.FinMap.{values}
 use Rattle.road_model.specs.declared.blocks.Block.{Block}
-use Rattle.road_model.specs.Orders.{Lists, way_cmp}
+use Rattle.ordered_lists.specs.Orders.{Lists}
+use Rattle.road_model.specs.Orders.{way_cmp}
 use Rattle.road_model.specs.Blocks.{IsRoadBlock}
 use Rattle.road_model.specs.Format.{graph_bytes}
 use Rattle.road_model.specs.Walks.{AreWalked}

@@ -1,7 +1,8 @@
 use Rattle.std.proofs.Common.{◌↔◌, List, Contains, IsTrue, subst}
 use Rattle.std.proofs.lemmas.Result.{IfOk-weaker}
 use Rattle.road_base.specs.declared.ids.WayId.{WayId}
-use Rattle.road_model.specs.Orders.{rises, way_cmp}
+use Rattle.ordered_lists.specs.Orders.{rises}
+use Rattle.road_model.specs.Orders.{way_cmp}
 use Rattle.touched_ways.specs.Altering.{HereOrBeside, MeetsOne}
 use Rattle.touched_ways.proofs.WayLists.{same}
 use Rattle.touched_ways.proofs.MetWays.{those_met}

@@ -3,7 +3,8 @@ use Rattle.std.proofs.lemmas.Result.{IfOk-weaker}
 use Rattle.road_base.specs.declared.ids.WayId.{WayId}
 use Rattle.road_base.specs.Objects.{Objects}
 use Rattle.road_model.specs.Links.{AreTouched}
-use Rattle.road_model.specs.Orders.{Lists, rises, way_cmp}
+use Rattle.ordered_lists.specs.Orders.{Lists, rises}
+use Rattle.road_model.specs.Orders.{way_cmp}
 use Rattle.touched_ways.specs.Altering.{AreParted, AreSplit, IsNearChange}
 use Rattle.touched_ways.proofs.WayLists.{same}
 use Rattle.touched_ways.proofs.NearLists.{parted}

@@ -1,7 +1,8 @@
 use Rattle.std.proofs.Common.{sym, subst, Contains}
 use Rattle.road_base.specs.declared.ids.WayId.{WayId}
 use Rattle.road_base.specs.declared.ids.Key.TheVariants.{Relation as RelationKey}
-use Rattle.road_model.specs.Orders.{Lists, way_cmp}
+use Rattle.ordered_lists.specs.Orders.{Lists}
+use Rattle.road_model.specs.Orders.{way_cmp}
 use Rattle.touched_ways.specs.Altering.{AreNamedTogether}
 use Rattle.touched_ways.specs.Searches.{Finds, GivenBy, IsWayLink}
 use Rattle.touched_ways.proofs.MetWays.{lists_found, beside_exactly}

@@ -1,5 +1,6 @@
 use Rattle.std.proofs.Common.{sym, subst}
-use Rattle.road_model.specs.Orders.{Lists, way_cmp}
+use Rattle.ordered_lists.specs.Orders.{Lists}
+use Rattle.road_model.specs.Orders.{way_cmp}
 use Rattle.road_base.specs.declared.ids.Key.TheVariants.{Node as NodeKey}
 use Rattle.touched_ways.specs.Altering.{MeetsOne}
 use Rattle.touched_ways.specs.Searches.{Finds, GivenBy, IsWayLink}

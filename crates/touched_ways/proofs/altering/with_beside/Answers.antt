@@ -1,7 +1,8 @@
 use Rattle.std.proofs.Common.{◌⊎◌, List, Contains, subst}
 use Rattle.std.proofs.lemmas.Result.{IfOk-weaker}
 use Rattle.road_base.specs.declared.ids.WayId.{WayId}
-use Rattle.road_model.specs.Orders.{Lists, way_cmp}
+use Rattle.ordered_lists.specs.Orders.{Lists}
+use Rattle.road_model.specs.Orders.{way_cmp}
 use Rattle.touched_ways.specs.Altering.{AreNamedTogether, HereOrBeside}
 use Rattle.touched_ways.proofs.MetWays.{with_those_beside}
 use Rattle.touched_ways.proofs.altering.with_beside.Goals as goal

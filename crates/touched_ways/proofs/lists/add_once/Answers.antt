@@ -1,5 +1,5 @@
 use Rattle.std.proofs.lemmas.List.Filters.{dedup_is}
-use Rattle.road_model.proofs.SortedOnce.{dedup_rises, dedup_keeps, dedup_from_all}
+use Rattle.ordered_lists.proofs.SortedOnce.{dedup_rises, dedup_keeps, dedup_from_all}
 use Rattle.touched_ways.proofs.NumberLists.{contains_once}
 use Rattle.touched_ways.proofs.lists.add_once.Goals as goal
 

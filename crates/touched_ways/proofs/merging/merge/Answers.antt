@@ -1,5 +1,6 @@
 use Rattle.std.proofs.Common.{◌⊎◌, ◌∙◌, sym, subst, Contains}
-use Rattle.road_model.specs.Orders.{Lists, way_cmp}
+use Rattle.ordered_lists.specs.Orders.{Lists}
+use Rattle.road_model.specs.Orders.{way_cmp}
 use Rattle.touched_ways.proofs.NumberLists.{AreAdded, added_as}
 use Rattle.touched_ways.proofs.WayLists.{ways_of_both, touched_ways}
 use Rattle.touched_ways.proofs.merging.merge.Goals as goal

@@ -1,7 +1,8 @@
 use Rattle.std.proofs.Common.{◌⊎◌, Contains, refl}
 use Rattle.std.proofs.lemmas.Result.{IfOk-weaker}
 use Rattle.road_base.specs.declared.ids.Key.TheVariants.{Way as WayKey}
-use Rattle.road_model.specs.Orders.{Lists, way_cmp}
+use Rattle.ordered_lists.specs.Orders.{Lists}
+use Rattle.road_model.specs.Orders.{way_cmp}
 use Rattle.touched_ways.specs.Searches.{IsSeen, IsFurther}
 use Rattle.touched_ways.proofs.LinkRounds.{last_ways}
 use Rattle.touched_ways.proofs.rounds.last_round.Goals as goal

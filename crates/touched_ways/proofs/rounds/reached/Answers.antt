@@ -3,7 +3,8 @@ use Rattle.std.proofs.lemmas.Result.{IfOk-weaker}
 use Rattle.road_base.specs.declared.ids.Key.{Key}
 use Rattle.road_base.specs.declared.ids.Key.TheVariants.{Way as WayKey}
 use Rattle.road_model.specs.Links.{AreReached}
-use Rattle.road_model.specs.Orders.{Lists, way_cmp}
+use Rattle.ordered_lists.specs.Orders.{Lists}
+use Rattle.road_model.specs.Orders.{way_cmp}
 use Rattle.touched_ways.specs.Searches.{IsSeen, IsFurther, IsBegun}
 use Rattle.touched_ways.proofs.LinkRounds.{IsWithinAny, reach_any, begun_any, rounds_more, ways_reached}
 use Rattle.touched_ways.proofs.rounds.reached.Goals as goal

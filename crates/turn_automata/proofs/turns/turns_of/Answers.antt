@@ -6,7 +6,7 @@ use Rattle.std.proofs.lemmas.Grind.{common_steps}
 use Rattle.restrictions.specs.declared.word_list.Word.{Word}
 use Rattle.turn_automata.specs.declared.visits.Visit.{Visit}
 use Rattle.turn_automata.specs.Turns.{AreMarked}
-use Rattle.road_base.proofs.ListPlaces.{one_stands}
+use Rattle.ordered_lists.proofs.ListPlaces.{one_stands}
 use Rattle.turn_automata.proofs.WordVisits.{visit_length}
 use Rattle.turn_automata.proofs.TurnsOfVisits.{turns_are}
 use Rattle.turn_automata.proofs.turns.turns_of.Goals as goal

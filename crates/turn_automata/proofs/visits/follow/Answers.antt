@@ -1,7 +1,7 @@
 use Rattle.std.proofs.Common.{◌≡◌, ◌+◌, length, refl, sym, subst}
 use Rattle.std.proofs.lemmas.Option.{slice_get_read}
 use Rattle.turn_automata.specs.Visits.{IsLast, IsNext, AreFollowed}
-use Rattle.road_base.proofs.ListPlaces.{some_is, none_is, contains_at}
+use Rattle.ordered_lists.proofs.ListPlaces.{some_is, none_is, contains_at}
 use Rattle.turn_automata.proofs.WordVisits.{follow_last, follow_next, less_work, less_work_next}
 use Rattle.turn_automata.proofs.visits.follow.Goals as goal
 

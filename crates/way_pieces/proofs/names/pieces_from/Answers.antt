@@ -3,7 +3,7 @@ use Rattle.std.proofs.Common.{List, map, slice_get, ap, ◌∙◌}
 use Rattle.road_model.specs.Orders.{name_cmp}
 use Rattle.way_pieces.specs.declared.departures.Departure.{Departure}
 use Rattle.way_pieces.specs.Names.{IsNameFrom, IsDeparture}
-use Rattle.road_model.proofs.JoinedLists.{lists_names}
+use Rattle.ordered_lists.proofs.JoinedLists.{lists_names}
 use Rattle.way_pieces.proofs.DepartureLists.{departs}
 use Rattle.way_pieces.proofs.names.pieces_from.Goals as goal
 

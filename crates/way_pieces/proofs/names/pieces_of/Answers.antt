@@ -4,7 +4,7 @@ use Rattle.road_model.specs.Orders.{name_cmp}
 use Rattle.way_pieces.specs.declared.spans.PieceSpan.{PieceSpan}
 use Rattle.way_pieces.specs.Names.{piece_of, IsNameOn, IsSpanOn}
 use Rattle.way_pieces.proofs.SpanOrder.{span_of}
-use Rattle.road_model.proofs.JoinedLists.{lists_names}
+use Rattle.ordered_lists.proofs.JoinedLists.{lists_names}
 use Rattle.way_pieces.proofs.names.pieces_of.Goals as goal
 
 pub returns : goal.returns

@@ -23,7 +23,8 @@ use Rattle.road_base.specs.Objects.{Objects}
 use Rattle.road_model.specs.Rules.{Rules}
 use Rattle.road_model.specs.Lines.{node_at}
 use Rattle.road_model.specs.Driving.{located}
-use Rattle.road_model.specs.Orders.{Lists, name_cmp}
+use Rattle.ordered_lists.specs.Orders.{Lists}
+use Rattle.road_model.specs.Orders.{name_cmp}
 use Rattle.junctions.specs.Junctions.{AreJunctions}
 use Rattle.way_lines.specs.declared.road_line.LineNode.{LineNode}
 use Rattle.way_lines.specs.declared.road_line.RoadLine.{RoadLine}
@@ -33,7 +34,7 @@ use Rattle.way_pieces.specs.declared.stretches.Stretch.{Stretch}
 use Rattle.way_pieces.specs.Names.{piece_of, IsSpanOn}
 use Rattle.way_pieces.specs.Stretches.{IsStretch, IsSpanBelow, is_located, has_located_ends, both_added}
 use Rattle.way_pieces.proofs.SpanOrder.{none_below, below_last, stretch_listed}
-use Rattle.road_model.proofs.JoinedLists.{lists_none, lists_same}
+use Rattle.ordered_lists.proofs.JoinedLists.{lists_none, lists_same}
 use Rattle.way_pieces.proofs.DrivenSteps.{seen_located}
 use Rattle.way_pieces.proofs.NeighbourJunctions.{first_listed, stretch_at}
 use Rattle.way_pieces.proofs.spans.spans_along.Goals as goal

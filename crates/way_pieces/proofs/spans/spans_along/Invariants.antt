@@ -1,5 +1,6 @@
 use Rattle.std.proofs.Common.{◌<◌, ◌≤◌, ◌-◌, length, get_or}
-use Rattle.road_model.specs.Orders.{Lists, name_cmp}
+use Rattle.ordered_lists.specs.Orders.{Lists}
+use Rattle.road_model.specs.Orders.{name_cmp}
 use Rattle.way_pieces.specs.Stretches.{IsSpanBelow}
 use Rattle.way_pieces.proofs.spans.spans_along.Given as goal
 

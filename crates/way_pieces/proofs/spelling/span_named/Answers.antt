@@ -4,7 +4,7 @@ use Rattle.std.proofs.lemmas.Bool.{false≢true}
 use Rattle.std.proofs.lemmas.List.{take_all}
 use Rattle.road_base.specs.declared.ids.Dir.TheVariants.{Forward}
 use Rattle.way_pieces.specs.declared.spans.PieceSpan.{PieceSpan}
-use Rattle.road_model.proofs.JoinedLists.{one_more}
+use Rattle.ordered_lists.proofs.JoinedLists.{one_more}
 use Rattle.way_pieces.proofs.spelling.span_named.Goals as goal
 
 abbrev nothing : PieceSpan

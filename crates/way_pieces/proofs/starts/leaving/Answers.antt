@@ -4,7 +4,7 @@ use Rattle.std.specs.Ordering.{is_lt, is_le}
 use Rattle.std.proofs.lemmas.List.Sorted.{IsPartitionPoint-from_clause}
 use Rattle.road_model.specs.Orders.{node_cmp}
 use Rattle.way_pieces.specs.declared.starts.Start.{Start}
-use Rattle.road_base.proofs.SortedParts.{below_parted, upto_parted, low_first, part_together}
+use Rattle.ordered_lists.proofs.SortedParts.{below_parted, upto_parted, low_first, part_together}
 use Rattle.road_model.proofs.TotalOrders.{node_cmp_total}
 use Rattle.way_pieces.proofs.StartOrder.{start_at}
 use Rattle.way_pieces.proofs.starts.leaving.Goals as goal

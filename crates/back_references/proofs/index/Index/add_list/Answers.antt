@@ -1,7 +1,7 @@
 use Rattle.std.proofs.Common.{◌↔◌, ◌++◌, ◌∷◌, [], Contains, IsTrue, refl, sym, ap, ◌∙◌, subst}
 use Rattle.std.specs.FinMap.{find}
-use Rattle.road_model.specs.Orders.{rises}
-use Rattle.road_base.proofs.ListMembers.{contains_from_in}
+use Rattle.ordered_lists.specs.Orders.{rises}
+use Rattle.ordered_lists.proofs.ListMembers.{contains_from_in}
 use Rattle.back_references.specs.Indexes.{Ascend, Has, Stays}
 use Rattle.back_references.proofs.IndexLists.{on_ok, added, ascend_both, ascend_one, up_more, up_same}
 use Rattle.back_references.proofs.index.Index.add_list.Goals as goal

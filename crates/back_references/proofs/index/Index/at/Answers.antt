@@ -1,6 +1,6 @@
 use Rattle.std.proofs.Common.{◌≡◌, Some, None, Contains, option_copied, refl, ap, sym, subst, ◌∙◌}
 use Rattle.std.specs.FinMap.{find}
-use Rattle.road_model.specs.Orders.{Lists}
+use Rattle.ordered_lists.specs.Orders.{Lists}
 use Rattle.back_references.specs.Indexes.{Has}
 use Rattle.back_references.specs.Holding.{base_pairs}
 use Rattle.back_references.proofs.IndexLists.{listed_some, listed_else}

@@ -1,8 +1,8 @@
 use Rattle.std.proofs.Common.{◌≡◌, ◌+◌, ◌++◌, ◌∷◌, [], IsTrue, Contains, inl, inr, take, take_all, sym, ap, ◌∙◌, subst}
 use Rattle.std.proofs.lemmas.List.{take_more}
-use Rattle.road_base.proofs.ListMembers.{in_from_contains, contains_from_in}
-use Rattle.road_model.specs.Orders.{rises}
-use Rattle.road_model.proofs.RisingLists.{take_rises, below_last}
+use Rattle.ordered_lists.proofs.ListMembers.{in_from_contains, contains_from_in}
+use Rattle.ordered_lists.specs.Orders.{rises}
+use Rattle.ordered_lists.proofs.RisingLists.{take_rises, below_last}
 use Rattle.back_references.specs.Indexes.{IsExchangedAt}
 use Rattle.back_references.proofs.IndexLists.{contains_left, contains_right}
 use Rattle.back_references.proofs.index.Index.lists_after.Goals as goal

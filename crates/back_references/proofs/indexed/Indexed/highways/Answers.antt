@@ -3,7 +3,8 @@ use Rattle.road_base.specs.declared.ids.WayId.{WayId}
 use Rattle.road_base.specs.Objects.{Objects}
 use Rattle.object_store.specs.Listed.{AreEntriesOf, is_way}
 use Rattle.road_model.specs.Highways.{highways}
-use Rattle.road_model.specs.Orders.{rises, way_cmp}
+use Rattle.ordered_lists.specs.Orders.{rises}
+use Rattle.road_model.specs.Orders.{way_cmp}
 use Rattle.back_references.proofs.HighwayLists.{highways_are, highways_rise, highway_listed}
 use Rattle.back_references.proofs.indexed.Indexed.highways.Goals as goal
 

@@ -1,8 +1,9 @@
 use Rattle.std.proofs.Common.{subst}
 use Rattle.road_base.specs.declared.ids.Key.TheVariants.{Node as NodeKey}
 use Rattle.road_model.specs.Links.{HasMember}
-use Rattle.road_model.specs.Orders.{Lists, relation_cmp}
-use Rattle.road_model.proofs.JoinedLists.{lists_same}
+use Rattle.ordered_lists.specs.Orders.{Lists}
+use Rattle.road_model.specs.Orders.{relation_cmp}
+use Rattle.ordered_lists.proofs.JoinedLists.{lists_same}
 use Rattle.back_references.specs.Indexes.{Has}
 use Rattle.road_model.specs.Orders.{node_cmp}
 use Rattle.back_references.proofs.indexed.IndexedWorld.rules_at.Goals as goal

@@ -1,7 +1,8 @@
 use Rattle.std.proofs.Common.{subst}
 use Rattle.road_model.specs.Links.{RefersTo}
-use Rattle.road_model.specs.Orders.{Lists, way_cmp}
-use Rattle.road_model.proofs.JoinedLists.{lists_same}
+use Rattle.ordered_lists.specs.Orders.{Lists}
+use Rattle.road_model.specs.Orders.{way_cmp}
+use Rattle.ordered_lists.proofs.JoinedLists.{lists_same}
 use Rattle.back_references.specs.Indexes.{Has}
 use Rattle.road_model.specs.Orders.{node_cmp}
 use Rattle.back_references.proofs.indexed.IndexedWorld.ways_at.Goals as goal

@@ -2,7 +2,7 @@ use Rattle.std.proofs.Common.{◌≡◌, true, false, IsTrue, sym, ap, ◌∙◌
 use Rattle.std.specs.Ordering.{is_eq}
 use Rattle.std.specs.FinMap.{find}
 use Rattle.std.specs.List.{zip}
-use Rattle.road_model.specs.Orders.{rises}
+use Rattle.ordered_lists.specs.Orders.{rises}
 use Rattle.back_references.proofs.KeyedLists.{rising_parted, tied_found, past_none, apart_none}
 use Rattle.back_references.proofs.key_lists.KeyLists.get_near.Goals.{else-place-keys-via-then-place-keys+else-is_eq}
 use Rattle.back_references.proofs.key_lists.KeyLists.get_near.Goals.{else-place-keys-via-else-place-keys}

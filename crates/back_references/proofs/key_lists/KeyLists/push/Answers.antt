@@ -1,7 +1,7 @@
 use Rattle.std.proofs.Common.{◌++◌, ◌∷◌, [], Contains, subst, ap, ◌∙◌, arith, length-append}
 use Rattle.std.specs.List.{zip}
-use Rattle.road_base.proofs.ListMembers.{contains_from_in}
-use Rattle.road_model.proofs.RisingLists.{one_more_rises}
+use Rattle.ordered_lists.proofs.ListMembers.{contains_from_in}
+use Rattle.ordered_lists.proofs.RisingLists.{one_more_rises}
 use Rattle.back_references.proofs.KeyedLists.{zip_more, paired}
 use Rattle.back_references.proofs.key_lists.KeyLists.push.Goals as goal
 

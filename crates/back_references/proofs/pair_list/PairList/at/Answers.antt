@@ -3,8 +3,8 @@ use Rattle.std.proofs.Common.{Contains}
 use Rattle.std.specs.Ordering.{is_lt, is_le}
 use Rattle.std.specs.List.{zip, AllWithin}
 use Rattle.std.specs.List.Sorted.{IsPartitionedBy, IsPartitionPoint}
-use Rattle.road_model.specs.Orders.{Lists}
-use Rattle.road_base.proofs.SortedParts.{low_first}
+use Rattle.ordered_lists.specs.Orders.{Lists}
+use Rattle.ordered_lists.proofs.SortedParts.{low_first}
 use Rattle.back_references.proofs.Lookups.{below_parted, upto_point, found_lists}
 use Rattle.back_references.proofs.pair_list.PairList.at.Goals as goal
 

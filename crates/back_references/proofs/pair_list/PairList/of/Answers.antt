@@ -1,6 +1,6 @@
 use Rattle.std.proofs.Common.{◌≡◌, IsTrue, List, length, map, sym, subst, Contains}
 use Rattle.std.specs.List.{zip}
-use Rattle.road_model.specs.Orders.{rises}
+use Rattle.ordered_lists.specs.Orders.{rises}
 use Rattle.back_references.specs.Pairs.{pair_cmp}
 use Rattle.back_references.proofs.SortedPairs.{zip_parts, even_parts}
 use Rattle.back_references.proofs.pair_list.PairList.of.Goals as goal

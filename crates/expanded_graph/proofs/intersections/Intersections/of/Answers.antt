@@ -1,6 +1,7 @@
 -- One node more was asked.
 use Rattle.std.proofs.Common.{◌≡◌, List, length, sym, ap, ◌∙◌, subst}
-use Rattle.road_model.specs.Orders.{Lists, name_cmp}
+use Rattle.ordered_lists.specs.Orders.{Lists}
+use Rattle.road_model.specs.Orders.{name_cmp}
 use Rattle.way_pieces.specs.declared.departures.Departure.{Departure}
 use Rattle.way_pieces.specs.Names.{IsDeparture}
 use Rattle.expanded_graph.specs.Intersections.{AreKnownAt}

@@ -1,7 +1,8 @@
 -- Contexts that are not a piece's were read, so no others stand there.
 use Rattle.std.proofs.Common.{map, IsTrue, sym, ◌∙◌}
 use Rattle.std.proofs.lemmas.Bool.{false≢true}
-use Rattle.road_model.specs.Orders.{rises, names_cmp}
+use Rattle.ordered_lists.specs.Orders.{rises}
+use Rattle.road_model.specs.Orders.{names_cmp}
 use Rattle.road_model.specs.Format.{context_bytes, begins_alone}
 use Rattle.graph_file.specs.GraphReading.{list_bytes, ListFits, IsContext}
 use Rattle.graph_file.specs.OneSpelling.{list_one, context_one}

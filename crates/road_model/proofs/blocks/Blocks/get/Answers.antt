@@ -4,7 +4,7 @@ use Rattle.road_base.specs.declared.ids.WayId.{WayId}
 use Rattle.road_model.specs.declared.blocks.Block.{Block}
 use Rattle.road_model.proofs.TotalOrders.{way_cmp_total}
 use Rattle.road_model.specs.Orders.{way_cmp}
-use Rattle.road_model.proofs.SortedMaps.{gap_of, get_gap, get_at}
+use Rattle.ordered_lists.proofs.SortedMaps.{gap_of, get_gap, get_at}
 use Rattle.road_model.proofs.blocks.Blocks.get.Goals as goal
 
 abbrev way_in : Block → WayId

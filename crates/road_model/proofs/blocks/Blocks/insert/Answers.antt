@@ -5,7 +5,7 @@ use Rattle.road_base.specs.declared.ids.WayId.{WayId}
 use Rattle.road_model.specs.declared.blocks.Block.{Block}
 use Rattle.road_model.specs.Orders.{way_cmp}
 use Rattle.road_model.proofs.TotalOrders.{way_cmp_total}
-use Rattle.road_model.proofs.SortedMaps.{gap_of, rises_set, map_set, rises_insert, map_insert, get_gap}
+use Rattle.ordered_lists.proofs.SortedMaps.{gap_of, rises_set, map_set, rises_insert, map_insert, get_gap}
 use Rattle.road_model.proofs.blocks.Blocks.insert.Goals as goal
 
 abbrev way_in : Block → WayId

@@ -4,7 +4,7 @@ use Rattle.road_base.specs.declared.ids.WayId.{WayId}
 use Rattle.road_model.specs.declared.blocks.Block.{Block}
 use Rattle.road_model.specs.Orders.{way_cmp}
 use Rattle.road_model.proofs.TotalOrders.{way_cmp_total}
-use Rattle.road_model.proofs.SortedMaps.{entries_of, get_member, member_of_get}
+use Rattle.ordered_lists.proofs.SortedMaps.{entries_of, get_member, member_of_get}
 use Rattle.road_model.proofs.blocks.Blocks.into_list.Goals as goal
 
 pub returns-clause-entries : goal.returns-clause-entries

@@ -5,7 +5,7 @@ use Rattle.road_base.specs.declared.ids.WayId.{WayId}
 use Rattle.road_model.specs.declared.blocks.Block.{Block}
 use Rattle.road_model.specs.Orders.{way_cmp}
 use Rattle.road_model.proofs.TotalOrders.{way_cmp_total, way_cmp_exact}
-use Rattle.road_model.proofs.SortedMaps.{gap_of, get_gap, get_at, rises_remove, map_remove, remove_none}
+use Rattle.ordered_lists.proofs.SortedMaps.{gap_of, get_gap, get_at, rises_remove, map_remove, remove_none}
 use Rattle.road_model.proofs.blocks.Blocks.remove.Goals as goal
 
 abbrev way_in : Block → WayId

@@ -7,7 +7,7 @@ use Rattle.road_model.specs.declared.blocks.Block.{Block}
 use Rattle.road_model.specs.Orders.{way_cmp}
 use Rattle.road_model.specs.BlockMap.{block_map, replaced}
 use Rattle.road_model.proofs.TotalOrders.{way_cmp_total}
-use Rattle.road_model.proofs.SortedMaps.{gap_of, get_gap, get_at, rises_set, map_set}
+use Rattle.ordered_lists.proofs.SortedMaps.{gap_of, get_gap, get_at, rises_set, map_set}
 use Rattle.road_model.proofs.blocks.Blocks.replace_near.Goals as goal
 
 abbrev way_in : Block → WayId

@@ -28,11 +28,11 @@ out_of_range lon lat answer lon_fits lat_fits is refused =
 abbrev pair_in_range : ℤ × ℤ → Bool
 pair_in_range p = is_in_range p.0 p.1
 
-pub returns-then-not-is_on_earth-clause-malformed : goal.returns-then-not-is_on_earth-clause-malformed
-returns-then-not-is_on_earth-clause-malformed g c = λ l r whole.
+pub returns-then-not-is_in_range-clause-malformed : goal.returns-then-not-is_in_range-clause-malformed
+returns-then-not-is_in_range-clause-malformed g c = λ l r whole.
     let read = c.in_ok-lon.ensures.found in
-    let refused = out_of_range c.in_ok-lon.lon c.in_ok-lon.lat c.is_on_earth.result read.fits.0 read.fits.1
-    c.is_on_earth.ensures c.if-not-is_on_earth.true in
+    let refused = out_of_range c.in_ok-lon.lon c.in_ok-lon.lat c.is_in_range.result read.fits.0 read.fits.1
+    c.is_in_range.ensures c.if-not-is_in_range.true in
     value_refused (pair_bytes i32_bytes i32_bytes) (PairFits (FitsSigned w32) (FitsSigned w32))
     (pair_one i32_bytes (FitsSigned w32) i32_bytes (FitsSigned w32) i32_one i32_one) pair_in_range c.args.bytes.now
     (c.in_ok-lon.lon, c.in_ok-lon.lat) c.in_ok-lon.rest.now read refused (l.lon, l.lat) r

@@ -1,6 +1,6 @@
 use Rattle.std.proofs.Common.{◌≡◌, ◌+◌, ◌<◌, suc, [], ◌∷◌, ◌++◌, length, Contains, sym, ap, subst, arith}
 use Rattle.turn_automata.specs.Trees.{Stands, lists_of}
-use Rattle.road_base.proofs.ListPlaces.{if_none}
+use Rattle.ordered_lists.proofs.ListPlaces.{if_none}
 use Rattle.turn_automata.proofs.TreeLists.{edge_of, length_lists, leads, no_child}
 use Rattle.turn_automata.proofs.SameEdges.{found, not_among}
 use Rattle.turn_automata.proofs.tree.Tree.child.Goals as goal

@@ -2,11 +2,12 @@
 use Rattle.std.proofs.Common.{◌≡◌, List, [], take, Contains, pos, sym, subst, arith}
 use Rattle.std.proofs.lemmas.List.{take_all}
 use Rattle.road_base.specs.declared.ids.WayId.{WayId}
-use Rattle.road_model.specs.Orders.{Lists, name_cmp}
+use Rattle.ordered_lists.specs.Orders.{Lists}
+use Rattle.road_model.specs.Orders.{name_cmp}
 use Rattle.way_pieces.specs.declared.departures.Departure.{Departure}
 use Rattle.way_pieces.specs.Names.{IsDeparture}
-use Rattle.road_base.proofs.ListMembers.{contains_none}
-use Rattle.road_model.proofs.JoinedLists.{lists_none, lists_same}
+use Rattle.ordered_lists.proofs.ListMembers.{contains_none}
+use Rattle.ordered_lists.proofs.JoinedLists.{lists_none, lists_same}
 use Rattle.way_pieces.proofs.DepartureLists.{SoFar, way_gained, passes}
 use Rattle.way_pieces.proofs.road_pieces.RoadPieces.departures.Goals as goal
 

@@ -1,5 +1,6 @@
 use Rattle.std.proofs.Common.{take}
-use Rattle.road_model.specs.Orders.{Lists, name_cmp}
+use Rattle.ordered_lists.specs.Orders.{Lists}
+use Rattle.road_model.specs.Orders.{name_cmp}
 use Rattle.way_pieces.proofs.DepartureLists.{SoFar}
 use Rattle.way_pieces.proofs.road_pieces.RoadPieces.departures.Given as goal
 

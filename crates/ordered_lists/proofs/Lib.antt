@@ -1,0 +1,16 @@
+pub mod ListMembers
+pub mod FilteredLists
+pub mod Comparisons
+pub mod SortedParts
+pub mod ListPlaces
+pub mod ListFronts
+pub mod Splits
+pub mod GroupLists
+pub mod AscendingLists
+pub mod RisingLists
+pub mod SortedOnce
+pub mod JoinedLists
+pub mod SortedMaps
+pub mod Decided
+pub mod Enumerated
+pub mod SortedLists

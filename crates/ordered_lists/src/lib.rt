@@ -1,0 +1,16 @@
+//! Lists in order: what ascends strictly and has exactly what is asked for, groups of items in one list, and hints where
+//! a number stands. Nothing here knows of roads.
+//!
+//! `specs/Orders.antt` says what a list is that rises, and one that lists exactly what a fact holds of; `proofs/` has
+//! what follows of members, parts, sorts and unions of lists, for the crates above. `leave_once` costs a sort; a group is
+//! found in a constant time; where a number stands is told in about the time of a search among two items, if the
+//! numbers are spread evenly.
+#![tactic(auto)]
+
+mod each_once;
+mod groups;
+mod number_ranges;
+
+pub use each_once::leave_once;
+pub use groups::Groups;
+pub use number_ranges::{Numbered, Ranges};

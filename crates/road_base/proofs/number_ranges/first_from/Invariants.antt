@@ -1,9 +1,0 @@
-use Rattle.std.proofs.Common.{◌-◌, ◌≤◌, length}
-use Rattle.road_base.proofs.number_ranges.first_from.Given as goal
-
--- the search stays within the list
-abbrev pub invariant-loop-low : goal.invariant-loop-low
-invariant-loop-low g l = (l.low ≤ l.high) × (l.high ≤ length l.items)
-
-abbrev pub decreases-loop-low : goal.decreases-loop-low
-decreases-loop-low g l = l.high - l.low
