@@ -1,4 +1,6 @@
--- The profile for cars.
+-- The profile for cars. It passes via ways in the order in which they are listed, and knows no zones: a way for
+-- destination traffic is free to it.
+use Rattle.std.specs.Prelude.{false}
 use Rattle.road_model.specs.Rules.{Rules}
 use Rattle.barrier_rules.specs.Barrier.{barrier_open}
 use Rattle.access_profile.specs.Closing.{direction}
@@ -12,4 +14,6 @@ motorcar_rules = record {
   node_open = barrier_open;
   turns = is_turning_place;
   rule = rule;
+  reverses = false;
+  zone = λ tags d. false;
 }

@@ -9,7 +9,9 @@ mod closing;
 mod deciding_key;
 mod highways;
 mod motorcar;
+mod of_number;
 mod restricting;
 
 pub use deciding_key::deciding;
 pub use motorcar::Motorcar;
+pub use of_number::ProfileOf;

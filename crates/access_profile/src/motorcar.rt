@@ -40,5 +40,15 @@ impl Profile for Motorcar {
         restricting::rule(tags)
     }
 
+    /// Via ways are passed in the order in which they are listed.
+    fn reverses(&self) -> bool {
+        false
+    }
+
+    /// No way lies in a zone: one for destination traffic is free.
+    fn zone(&self, _tags: &Tags, _dir: Dir) -> bool {
+        false
+    }
+
     ghost free_needs_highway = { λ p tags dir free. highway_of_free tags dir free };
 }

@@ -148,6 +148,8 @@ impl Profile for Nobody {
       node_open = λ t. false;
       turns = λ t. false;
       rule = λ t. Absent;
+      reverses = false;
+      zone = λ t d. false;
     } };
 
     ghost free_needs_highway = { λ p tags dir free. absurd (false≢true free) };
@@ -170,6 +172,14 @@ impl Profile for Nobody {
 
     fn rule(&self, _tags: &Tags) -> RuleKind {
         RuleKind::Absent
+    }
+
+    fn reverses(&self) -> bool {
+        false
+    }
+
+    fn zone(&self, _tags: &Tags, _dir: Dir) -> bool {
+        false
     }
 }
 

@@ -52,6 +52,14 @@ impl<'a> Profile for Counting<'a> {
         Motorcar.rule(tags)
     }
 
+    fn reverses(&self) -> bool {
+        Motorcar.reverses()
+    }
+
+    fn zone(&self, tags: &Tags, dir: Dir) -> bool {
+        Motorcar.zone(tags, dir)
+    }
+
     ghost free_needs_highway = { λ p tags dir free. highway_of_free tags dir free };
 }
 

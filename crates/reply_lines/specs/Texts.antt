@@ -5,7 +5,7 @@ use Rattle.road_base.specs.declared.ids.Dir.{Dir}
 use Rattle.road_base.specs.declared.ids.Dir.TheVariants.{Forward, Backward}
 use Rattle.road_base.specs.declared.ids.Step.{Step}
 use Rattle.road_model.specs.declared.answers.ClosedBy.{ClosedBy}
-use Rattle.road_model.specs.declared.answers.ClosedBy.TheVariants.{Area, Highway, Deciding}
+use Rattle.road_model.specs.declared.answers.ClosedBy.TheVariants.{Area, Highway, Deciding, Conditional}
 use Rattle.road_model.specs.AccessKeys.{key_name}
 use Rattle.opl_lexer.specs.Reading.{FaultAt}
 use Rattle.opl_lexer.specs.declared.fault.FaultKind.{FaultKind}
@@ -41,6 +41,7 @@ abbrev pub closing_key : ClosedBy → List ℕ
 closing_key Area = codes "area"
 closing_key Highway = codes "highway"
 closing_key (Deciding name side) = key_name name ++ side_name side
+closing_key (Conditional name side) = key_name name ++ (side_name side ++ codes ":conditional")
 
 -- a broken rule, with what it names
 abbrev pub rule_bytes : Rule → List ℕ

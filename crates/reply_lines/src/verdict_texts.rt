@@ -31,6 +31,11 @@ fn closing_key(alloc: Global, closed: ClosedBy) -> Result<String, AllocError>
             let side = side_name(side);
             format!(in alloc; "{key}{side}")
         }
+        ClosedBy::Conditional { name, side } => {
+            let key = name.as_str();
+            let side = side_name(side);
+            format!(in alloc; "{key}{side}:conditional")
+        }
     }
 }
 

@@ -81,6 +81,8 @@ signs = record {
   node_open = λ t. not (carries (codes "barrier") t);
   turns = λ t. false;
   rule = λ t. kind_of (is_the_value (codes "only_straight_on") (value_of (codes "restriction") t));
+  reverses = false;
+  zone = λ t d. false;
 }
 
 -- ---- steps

@@ -67,6 +67,8 @@ rules only = record {
   node_open = λ t. true;
   turns = λ t. false;
   rule = λ t. kind_of only;
+  reverses = false;
+  zone = λ t d. false;
 }
 
 -- ---- its word

@@ -30,7 +30,15 @@ use Rattle.road_model.specs.Words.{IsWord}
 use Rattle.road_model.specs.Format.{graph_bytes}
 
 abbrev all_free : Rules
-all_free = record { number = 1; direction = λ t d. Free; node_open = λ t. true; turns = λ t. false; rule = λ t. Absent }
+all_free = record {
+  number = 1;
+  direction = λ t d. Free;
+  node_open = λ t. true;
+  turns = λ t. false;
+  rule = λ t. Absent;
+  reverses = false;
+  zone = λ t d. false;
+}
 
 abbrev node : ℕ → NodeId
 node n = record { 0 = pos n }
@@ -169,7 +177,15 @@ found : (q : Key) → get rule_map q ≡ find key_cmp q with_rule
 found q = get-from_sorted key_cmp with_rule q tt
 
 abbrev no_turn : Rules
-no_turn = record { number = 1; direction = λ t d. Free; node_open = λ t. true; turns = λ t. false; rule = λ t. No }
+no_turn = record {
+  number = 1;
+  direction = λ t d. Free;
+  node_open = λ t. true;
+  turns = λ t. false;
+  rule = λ t. No;
+  reverses = false;
+  zone = λ t d. false;
+}
 
 rule_has_members : lacks_member rule_map turn_rule ≡ false
 unfolding line_of way_of node_of relation_of visible

@@ -9,13 +9,16 @@ use Rattle.road_model.specs.declared.answers.RuleKind.{RuleKind}
 use Rattle.road_model.specs.declared.answers.RuleKind.TheVariants.{Freed, Absent, No, Only}
 
 -- the profile's number, whether a way is open in a direction, whether a node is open, whether it is a place to turn
--- round, and what a restriction says
+-- round, what a restriction says, whether a restriction may list its via ways backwards, and whether a way is open in a
+-- direction to destination traffic alone
 pub record Rules : Type 0 where
   pub number : ℕ
   pub direction : TagList → Dir → Access
   pub node_open : TagList → Bool
   pub turns : TagList → Bool
   pub rule : TagList → RuleKind
+  pub reverses : Bool
+  pub zone : TagList → Dir → Bool
 
 abbrev pub is_free : Access → Bool
 is_free Free = true

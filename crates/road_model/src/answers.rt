@@ -11,11 +11,14 @@ pub enum AccessKey {
 }
 
 /// The key that closes a way: `area`, `highway`, or a deciding key with the direction that it names, if it names one.
+/// `Conditional` stands for the key with the ending `:conditional`, whose value names the times at which it closes the
+/// way (OSM wiki, Conditional restrictions).
 #[derive(Clone, Copy, PartialEq, Eq, Debug)]
 pub enum ClosedBy {
     Area,
     Highway,
     Deciding { name: AccessKey, side: Option<Dir> },
+    Conditional { name: AccessKey, side: Option<Dir> },
 }
 
 /// Whether a way may be driven in a direction. `WrongWay` comes where oneway alone closes it.

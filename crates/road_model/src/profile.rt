@@ -32,6 +32,16 @@ pub trait Profile: Copy {
     fn rule(&self, tags: &Tags) -> RuleKind
         ensures { result ≡ (rules self.now).rule tags.now };
 
+    /// Whether the via ways of a restriction may also be listed backwards, from its to to its from (OSM wiki,
+    /// Relation:restriction, on the order of members). Where they may not, they are passed as they are listed.
+    fn reverses(&self) -> bool
+        ensures { result ≡ (rules self.now).reverses };
+
+    /// Whether a way with these tags is open in the direction to those alone who begin or end their drive in the zone
+    /// that it is part of (OSM wiki, Tag:access=destination).
+    fn zone(&self, tags: &Tags, dir: Dir) -> bool
+        ensures { result ≡ (rules self.now).zone tags.now dir };
+
     /// A direction is free only for tags that carry the key `highway`.
     ghost free_needs_highway: { (p : Self) (tags : TagList) (dir : Dir)
         → IsTrue (is_free ((rules p).direction tags dir)) → IsTrue (has_highway tags) };
