@@ -17,7 +17,7 @@ use Rattle.road_base.specs.declared.objects.Relation.{Relation}
 use Rattle.road_base.specs.Objects.{Objects}
 use Rattle.road_model.specs.Lines.{line_of, node_at, same_node}
 use Rattle.road_model.specs.Restrictions.{IsRun, Connects, begin_position, end_position, is_ring, are_ways, same_end}
-use Rattle.road_model.specs.Restrictions.{whole_way, vias, froms, tos, some_ends_at}
+use Rattle.road_model.specs.Restrictions.{whole_way, froms, tos, some_ends_at}
 use Rattle.restrictions.specs.Runs.{across, arrives, dir_between, dir_from, end_in, first_node, last_node, first_enter}
 use Rattle.restrictions.specs.Runs.{last_enter, leads, leave_of, out_of, steps_in, steps_of}
 use Rattle.road_model.proofs.SameNodes.{node_from_same}
@@ -176,56 +176,56 @@ module _ (M : Objects) (allowed : WayId → Dir → Bool) where
   arrives_at r None there = absurd (false≢true there)
   arrives_at r (Some leave) there = (leave, refl, there)
 
-  connects_from : (r : Relation) (v : NodeId) → leads M allowed r v ≡ true → Connects M allowed r
-  connects_from r v there =
-      let parts = and_parts (some_ends_at M (froms r) (v ∷ [])) (arrives M r (leave_of M allowed (vias r) (Some v)))
+  connects_from : (r : Relation) (vs : List Key) (v : NodeId) → leads M allowed r vs v ≡ true → Connects M allowed r vs
+  connects_from r vs v there =
+      let parts = and_parts (some_ends_at M (froms r) (v ∷ [])) (arrives M r (leave_of M allowed vs (Some v)))
       there in
-      let out = arrives_at r (leave_of M allowed (vias r) (Some v)) parts.1 in
+      let out = arrives_at r (leave_of M allowed vs (Some v)) parts.1 in
       record {
         enter = v;
-        steps = steps_of M allowed (vias r) (Some v);
+        steps = steps_of M allowed vs (Some v);
         leave = out.0;
-        run = is_run (vias r) v out.0 out.1;
+        run = is_run vs v out.0 out.1;
         from_end = parts.0;
         to_end = out.2;
       }
 
-  leads_there : (r : Relation) → list_any (is_ring M) (vias r) ≡ false → (k : Connects M allowed r)
-      → leads M allowed r k.enter ≡ true
-  leads_there r lines k =
-      let run = one_run (vias r) k.enter k.steps k.leave lines k.run in
-      and_from (some_ends_at M (froms r) (k.enter ∷ [])) (arrives M r (leave_of M allowed (vias r) (Some k.enter)))
+  leads_there : (r : Relation) (vs : List Key) → list_any (is_ring M) vs ≡ false → (k : Connects M allowed r vs)
+      → leads M allowed r vs k.enter ≡ true
+  leads_there r vs lines k =
+      let run = one_run vs k.enter k.steps k.leave lines k.run in
+      and_from (some_ends_at M (froms r) (k.enter ∷ [])) (arrives M r (leave_of M allowed vs (Some k.enter)))
       k.from_end (ap (λ (u : Option NodeId). arrives M r u) run.0 ∙ k.to_end)
 
   -- else they connect where they lead from one of its two ends
-  pub connect_by : (r : Relation) (a b : NodeId) → are_ways (vias r) ≡ true → list_any (is_ring M) (vias r) ≡ false
-      → first_enter M (vias r) ≡ Some a → last_enter M (vias r) ≡ Some b
-      → ((leads M allowed r a || leads M allowed r b) ≡ true) ↔ Connects M allowed r
-  connect_by r a b ways lines first last = (
-    λ is. elim (or_cases (leads M allowed r a) (leads M allowed r b) is)
-        [ inl from_a ↦ connects_from r a from_a | inr from_b ↦ connects_from r b from_b ],
-    λ k. elim (enters_at (vias r) k.enter k.steps k.leave ways k.run) [
-      | inl is ↦ or_left (leads M allowed r a) (leads M allowed r b)
-          (ap (λ (v : NodeId). leads M allowed r v) (same_Some a k.enter (sym first ∙ is)) ∙ leads_there r lines k)
-      | inr is ↦ or_right (leads M allowed r a) (leads M allowed r b)
-          (ap (λ (v : NodeId). leads M allowed r v) (same_Some b k.enter (sym last ∙ is)) ∙ leads_there r lines k)
+  pub connect_by : (r : Relation) (vs : List Key) (a b : NodeId) → are_ways vs ≡ true → list_any (is_ring M) vs ≡ false
+      → first_enter M vs ≡ Some a → last_enter M vs ≡ Some b
+      → ((leads M allowed r vs a || leads M allowed r vs b) ≡ true) ↔ Connects M allowed r vs
+  connect_by r vs a b ways lines first last = (
+    λ is. elim (or_cases (leads M allowed r vs a) (leads M allowed r vs b) is)
+        [ inl from_a ↦ connects_from r vs a from_a | inr from_b ↦ connects_from r vs b from_b ],
+    λ k. elim (enters_at vs k.enter k.steps k.leave ways k.run) [
+      | inl is ↦ or_left (leads M allowed r vs a) (leads M allowed r vs b)
+          (ap (λ (v : NodeId). leads M allowed r vs v) (same_Some a k.enter (sym first ∙ is)) ∙ leads_there r vs lines k)
+      | inr is ↦ or_right (leads M allowed r vs a) (leads M allowed r vs b)
+          (ap (λ (v : NodeId). leads M allowed r vs v) (same_Some b k.enter (sym last ∙ is)) ∙ leads_there r vs lines k)
     ],
   )
 
   -- the same, where a call has answered for the first end, and one for the second
-  pub connect_first : (r : Relation) (ks : List Key) (a b : NodeId) (answer : Bool) → ks ≡ vias r
-      → are_ways (vias r) ≡ true → list_any (is_ring M) (vias r) ≡ false → Some a ≡ first_enter M ks
-      → Some b ≡ last_enter M ks → answer ≡ leads M allowed r a → answer ≡ true → (answer ≡ true) ↔ Connects M allowed r
-  connect_first r ks a b answer are ways lines first last is holds
-      = (λ h. connects_from r a (sym is ∙ holds), λ k. holds)
+  pub connect_first : (r : Relation) (vs ks : List Key) (a b : NodeId) (answer : Bool) → ks ≡ vs
+      → are_ways vs ≡ true → list_any (is_ring M) vs ≡ false → Some a ≡ first_enter M ks
+      → Some b ≡ last_enter M ks → answer ≡ leads M allowed r vs a → answer ≡ true → (answer ≡ true) ↔ Connects M allowed r vs
+  connect_first r vs ks a b answer are ways lines first last is holds
+      = (λ h. connects_from r vs a (sym is ∙ holds), λ k. holds)
 
-  pub connect_second : (r : Relation) (ks : List Key) (a b : NodeId) (answer other : Bool) → ks ≡ vias r
-      → are_ways (vias r) ≡ true → list_any (is_ring M) (vias r) ≡ false → Some a ≡ first_enter M ks
-      → Some b ≡ last_enter M ks → answer ≡ leads M allowed r a → answer ≡ false → other ≡ leads M allowed r b
-      → (other ≡ true) ↔ Connects M allowed r
-  connect_second r ks a b answer other are ways lines first last is fails also =
-      let both = connect_by r a b ways lines (ap (first_enter M) (sym are) ∙ sym first)
+  pub connect_second : (r : Relation) (vs ks : List Key) (a b : NodeId) (answer other : Bool) → ks ≡ vs
+      → are_ways vs ≡ true → list_any (is_ring M) vs ≡ false → Some a ≡ first_enter M ks
+      → Some b ≡ last_enter M ks → answer ≡ leads M allowed r vs a → answer ≡ false → other ≡ leads M allowed r vs b
+      → (other ≡ true) ↔ Connects M allowed r vs
+  connect_second r vs ks a b answer other are ways lines first last is fails also =
+      let both = connect_by r vs a b ways lines (ap (first_enter M) (sym are) ∙ sym first)
       (ap (last_enter M) (sym are) ∙ sym last) in
-      let same : (leads M allowed r a || leads M allowed r b)
-      ≡ other = ap (λ (t : Bool). t || leads M allowed r b) (sym is ∙ fails) ∙ sym also in
+      let same : (leads M allowed r vs a || leads M allowed r vs b)
+      ≡ other = ap (λ (t : Bool). t || leads M allowed r vs b) (sym is ∙ fails) ∙ sym also in
       (λ h. both.0 (same ∙ h), λ k. sym same ∙ both.1 k)

@@ -12,7 +12,7 @@ use Rattle.road_base.specs.Objects.{Objects}
 use Rattle.road_model.specs.Rules.{Rules}
 use Rattle.road_model.specs.Lines.{line_of, node_at}
 use Rattle.road_model.specs.Driving.{is_open}
-use Rattle.road_model.specs.Restrictions.{any_way, same_end, whole_way, froms, vias, tos, some_ends_at}
+use Rattle.road_model.specs.Restrictions.{any_way, same_end, whole_way, froms, tos, some_ends_at}
 use Rattle.restrictions.specs.declared.runs.Allowed.{Allowed}
 use Rattle.restrictions.specs.declared.runs.Allowed.TheVariants.{AnyWay, OpenWay}
 
@@ -74,9 +74,9 @@ abbrev pub arrives : Objects → Relation → Option NodeId → Bool
 arrives M r None = false
 arrives M r (Some v) = some_ends_at M (tos r) (v ∷ [])
 
--- the via ways lead from the node, at which a from way ends, to an end of a to way
-abbrev pub leads : Objects → (WayId → Dir → Bool) → Relation → NodeId → Bool
-leads M allowed r v = some_ends_at M (froms r) (v ∷ []) && arrives M r (leave_of M allowed (vias r) (Some v))
+-- these ways lead from the node, at which a from way ends, to an end of a to way
+abbrev pub leads : Objects → (WayId → Dir → Bool) → Relation → List Key → NodeId → Bool
+leads M allowed r vs v = some_ends_at M (froms r) (v ∷ []) && arrives M r (leave_of M allowed vs (Some v))
 
 -- the two nodes from which the first way may be driven whole
 abbrev pub first_enter : Objects → List Key → Option NodeId

@@ -9,7 +9,7 @@ use Rattle.road_base.specs.declared.objects.Relation.{Relation}
 use Rattle.road_base.specs.Objects.{Objects}
 use Rattle.road_model.specs.Rules.{Rules}
 use Rattle.road_model.specs.Driving.{is_open}
-use Rattle.road_model.specs.Restrictions.{froms, vias, tos}
+use Rattle.road_model.specs.Restrictions.{froms, tos, via_order}
 use Rattle.restrictions.specs.declared.spelling.Rule.{Rule}
 use Rattle.restrictions.specs.declared.word_list.Word.{Word}
 use Rattle.restrictions.specs.declared.end_steps.Side.TheVariants.{Into, OutOf}
@@ -43,8 +43,8 @@ words_to M rule r enter via (Some leave) = words_at M rule r enter via leave
 
 -- the words over via ways that are entered at the node
 abbrev pub words_over : Objects → Rules → Rule → Relation → NodeId → List Word
-words_over M P rule r enter = words_to M rule r enter (steps_of M (is_open M P) (vias r) (Some enter))
-    (leave_of M (is_open M P) (vias r) (Some enter))
+words_over M P rule r enter = words_to M rule r enter (steps_of M (is_open M P) (via_order M P r) (Some enter))
+    (leave_of M (is_open M P) (via_order M P r) (Some enter))
 
 abbrev pub words_over_if : Objects → Rules → Rule → Relation → Option NodeId → List Word
 words_over_if M P rule r None = []
@@ -60,4 +60,4 @@ words_with M P rule r (WayKey w ∷ ks) = words_over_if M P rule r (first_enter 
 words_with M P rule r (RelationKey q ∷ ks) = []
 
 abbrev pub words_of : Objects → Rules → Rule → Relation → List Word
-words_of M P rule r = words_with M P rule r (vias r)
+words_of M P rule r = words_with M P rule r (via_order M P r)

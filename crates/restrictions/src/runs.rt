@@ -2,7 +2,7 @@
 ghost use Rattle.std.specs.Prelude.{◌≡◌, ◌↔◌, Some, None, IsTrue, IsFalse, IfSome, IfNone, option_map};
 ghost use Rattle.std.specs.List.{list_any};
 ghost use Rattle.road_base.specs.declared.ids.Key.TheVariants.{Way as WayKey};
-ghost use Rattle.road_model.specs.Restrictions.{Connects, are_ways, is_ring, vias};
+ghost use Rattle.road_model.specs.Restrictions.{Connects, are_ways, is_ring, via_order, vias};
 ghost use Rattle.restrictions.specs.Runs.{across, allows, dir_between, dir_from, end_in, first_enter, last_enter};
 ghost use Rattle.restrictions.specs.Runs.{leads, leave_of};
 
@@ -135,7 +135,8 @@ pub fn connects<M: World, P: Profile>(
     requires ways { IsTrue (are_ways (vias roles.now.body.now)) }
     requires lines { IsFalse (list_any (is_ring (M.objects world.now)) (vias roles.now.body.now)) }
     ensures { IsTrue result ↔ Connects (M.objects world.now)
-        (allows (M.objects world.now) (P.rules profile.now) allowed) roles.now.body.now }
+        (allows (M.objects world.now) (P.rules profile.now) allowed) roles.now.body.now
+        (via_order (M.objects world.now) (P.rules profile.now) roles.now.body.now) }
 {
     let Some(ends) = first_ends(world, roles.vias.as_slice()) else {
         return false;
@@ -164,7 +165,7 @@ fn leads_from<M: World, P: Profile>(
     enter: NodeId,
 ) -> bool
     ensures { result ≡ leads (M.objects world.now) (allows (M.objects world.now) (P.rules profile.now) allowed)
-        roles.now.body.now enter }
+        roles.now.body.now (vias roles.now.body.now) enter }
 {
     if !some_ends_at(world, roles.froms.as_slice(), &[enter]) {
         return false;

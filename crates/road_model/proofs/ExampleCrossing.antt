@@ -137,7 +137,7 @@ only_has_members : lacks_member crossing_map only_ahead ≡ false
 unfolding line_of way_of node_of relation_of visible
 only_has_members = simp looked_up refl
 
-only_meets_ends : misses_end crossing_map only_ahead ≡ false
+only_meets_ends : misses_end crossing_map only_ahead (vias only_ahead) ≡ false
 unfolding node_at line_of way_of visible
 only_meets_ends = simp looked_up refl
 
@@ -155,7 +155,7 @@ no_has_members : lacks_member crossing_map no_turn ≡ false
 unfolding line_of way_of node_of relation_of visible
 no_has_members = simp looked_up refl
 
-no_meets_ends : misses_end crossing_map no_turn ≡ false
+no_meets_ends : misses_end crossing_map no_turn (vias no_turn) ≡ false
 unfolding node_at line_of way_of visible
 no_meets_ends = simp looked_up refl
 

@@ -116,7 +116,7 @@ open_over : (only : Bool) → is_open rule_map (rules only) (way 11) Forward ≡
 unfolding is_open way_of visible
 open_over only = simp looked_up refl
 
-connects : (allowed : WayId → Dir → Bool) → allowed (way 11) Forward ≡ true → Connects rule_map allowed over_way
+connects : (allowed : WayId → Dir → Bool) → allowed (way 11) Forward ≡ true → Connects rule_map allowed over_way (WayKey (way 11) ∷ [])
 unfolding node_at line_of way_of visible
 connects allowed h = record {
   enter = node 2;
@@ -131,7 +131,7 @@ has_members : lacks_member rule_map over_way ≡ false
 unfolding line_of way_of node_of relation_of visible
 has_members = simp looked_up refl
 
-meets_ends : misses_end rule_map over_way ≡ false
+meets_ends : misses_end rule_map over_way (vias over_way) ≡ false
 unfolding node_at line_of way_of visible
 meets_ends = simp looked_up refl
 

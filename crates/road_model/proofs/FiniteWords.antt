@@ -18,7 +18,7 @@ use Rattle.road_base.specs.Objects.{relation_in as relation_body}
 use Rattle.road_model.specs.Rules.{Rules, is_restriction}
 use Rattle.road_model.specs.Lines.{line_of, head_of, tail_of}
 use Rattle.road_model.specs.Driving.{is_open}
-use Rattle.road_model.specs.Restrictions.{froms, vias, tos, IsUsable}
+use Rattle.road_model.specs.Restrictions.{froms, vias, tos, via_order, IsUsable}
 use Rattle.road_model.specs.Words.{IsWord, IsEndInto, IsEndFrom, IsVia, kind_of, binding_of}
 use Rattle.road_model.specs.Network.{AnyWord}
 use Rattle.ordered_lists.proofs.ListMembers.{In, in_from_contains, contains_from_in}
@@ -247,7 +247,7 @@ module _ (M : Objects) (P : Rules) where
 
   from_parts_word : (r : RelationId) (only : Bool) (b : Relation) → relation_of M r ≡ Some b
       → IsTrue (is_restriction b.tags) × (P.rule b.tags ≡ kind_of only) × IsUsable M P b → (u : List Step)
-      → Parts M P (froms b) (vias b) (tos b) u → WordOf r only u
+      → Parts M P (froms b) (via_order M P b) (tos b) u → WordOf r only u
   from_parts_word r only b v k u p = record {
     binding = binding_of (vias b);
     word = record {
@@ -277,10 +277,10 @@ module _ (M : Objects) (P : Rules) where
   same_body b c r e f = cc (e, f)
 
   parts_of_word : (r : RelationId) (only : Bool) (b : Relation) → relation_of M r ≡ Some b → (u : List Step)
-      → WordOf r only u → Parts M P (froms b) (vias b) (tos b) u
+      → WordOf r only u → Parts M P (froms b) (via_order M P b) (tos b) u
   parts_of_word r only b v u w =
       let e = same_body b w.word.body r v w.word.visible in
-      subst (λ c. Parts M P (froms c) (vias c) (tos c) u) e (record {
+      subst (λ c. Parts M P (froms c) (via_order M P c) (tos c) u) e (record {
         from_way = w.word.from_way;
         to_way = w.word.to_way;
         from_member = w.word.from_member;

@@ -22,7 +22,7 @@ use Rattle.road_model.specs.Driving.{is_open}
 use Rattle.road_model.specs.Restrictions.{froms, vias, tos, is_way_key, is_one_node, listed, line_ends}
 use Rattle.road_model.specs.Restrictions.{way_ends, via_ends, first_of, last_of, meet, some_ends_at, IsRun, Connects}
 use Rattle.road_model.specs.Restrictions.{wrong_members, is_tagged_highway, is_present, lacks_member, same_end, is_ring}
-use Rattle.road_model.specs.Restrictions.{misses_end, steps_on, is_too_long, any_way, Holds, IsUsable}
+use Rattle.road_model.specs.Restrictions.{via_order, misses_end, steps_on, is_too_long, any_way, Holds, IsUsable}
 use Rattle.ordered_lists.proofs.ListMembers.{In}
 use Rattle.road_model.proofs.LocalLinks.{node_same, way_same, relation_same}
 use Rattle.road_model.proofs.LocalBodies.{line_same, at_same, open_same}
@@ -178,13 +178,13 @@ module _ (M N : Objects) where
         let t = all_same (is_present M) (is_present N) (tos r) (λ k i. present_same k (same.to k i)) in
         λ i. not (f i) || (not (v i) || not (t i))
 
-    misses_same : misses_end M r ≡ misses_end N r
-    misses_same =
-        let ring = any_same (is_ring M) (is_ring N) (vias r) (λ k i. ring_same k (same.via k i)) in
-        let f = some_ends_same (froms r) same.from (via_ends M (first_of (vias r)))
-        ∙ ap (some_ends_at N (froms r)) (first_same (vias r) same.via) in
-        let t = some_ends_same (tos r) same.to (via_ends M (last_of (vias r)))
-        ∙ ap (some_ends_at N (tos r)) (final_same (vias r) same.via) in
+    misses_same : (vs : List Key) → AreSame M N vs → misses_end M r vs ≡ misses_end N r vs
+    misses_same vs via =
+        let ring = any_same (is_ring M) (is_ring N) vs (λ k i. ring_same k (via k i)) in
+        let f = some_ends_same (froms r) same.from (via_ends M (first_of vs))
+        ∙ ap (some_ends_at N (froms r)) (first_same vs via) in
+        let t = some_ends_same (tos r) same.to (via_ends M (last_of vs))
+        ∙ ap (some_ends_at N (tos r)) (final_same vs via) in
         λ i. ring i || (not (f i) || not (t i))
 
     long_same : is_too_long M r ≡ is_too_long N r
@@ -193,13 +193,13 @@ module _ (M N : Objects) where
         λ i. (nat_lt 16 (length (froms r)) || nat_lt 16 (length (vias r)))
         || (nat_lt 16 (length (tos r)) || nat_lt 1024 (sum i))
 
-    connects_kept : (f g : WayId → Dir → Bool) → ((w : WayId) (d : Dir) → In (WayKey w) (vias r) → f w d ≡ g w d)
-        → Connects M f r → Connects N g r
-    connects_kept f g allowed c = record {
+    connects_kept : (vs : List Key) → AreSame M N vs → (f g : WayId → Dir → Bool)
+        → ((w : WayId) (d : Dir) → In (WayKey w) vs → f w d ≡ g w d) → Connects M f r vs → Connects N g r vs
+    connects_kept vs via f g allowed c = record {
       enter = c.enter;
       steps = c.steps;
       leave = c.leave;
-      run = run_kept f g (vias r) same.via allowed c.enter c.steps c.leave c.run;
+      run = run_kept f g vs via allowed c.enter c.steps c.leave c.run;
       from_end = sym (some_ends_same (froms r) same.from (c.enter ∷ [])) ∙ c.from_end;
       to_end = sym (some_ends_same (tos r) same.to (c.leave ∷ [])) ∙ c.to_end;
     }
@@ -212,21 +212,23 @@ all_turned M N r same = record {
 }
 
 module _ (M N : Objects) (P : Rules) (r : Relation) (same : AreAllSame M N r) where
-  any_kept : Connects M any_way r → Connects N any_way r
-  any_kept c = connects_kept M N r same any_way any_way (λ w d i. refl) c
+  any_kept : Connects M any_way r (via_order M P r) → Connects N any_way r (via_order N P r)
+  any_kept c = connects_kept M N r same (via_order M P r) same.via any_way any_way (λ w d i. refl) c
 
-  any_back : Connects N any_way r → Connects M any_way r
-  any_back c = connects_kept N M r (all_turned M N r same) any_way any_way (λ w d i. refl) c
+  any_back : Connects N any_way r (via_order N P r) → Connects M any_way r (via_order M P r)
+  any_back c = let turned = all_turned M N r same in
+      connects_kept N M r turned (via_order N P r) turned.via any_way any_way (λ w d i. refl) c
 
-  open_kept : Connects M (is_open M P) r → Connects N (is_open N P) r
-  open_kept c = connects_kept M N r same (is_open M P) (is_open N P) (allowed_same M N P (vias r) same.via) c
+  open_kept : Connects M (is_open M P) r (via_order M P r) → Connects N (is_open N P) r (via_order N P r)
+  open_kept c = connects_kept M N r same (via_order M P r) same.via (is_open M P) (is_open N P)
+      (allowed_same M N P (via_order M P r) same.via) c
 
   cause_back : (cause : Unusable) → Holds N P r cause → Holds M P r cause
   cause_back NotThisVehicle h = h
   cause_back NoValue h = h
   cause_back Members h = h
   cause_back Missing h = lacks_same M N r same ∙ h
-  cause_back NotAnEnd h = misses_same M N r same ∙ h
+  cause_back NotAnEnd h = misses_same M N r same (via_order M P r) same.via ∙ h
   cause_back NotConnected h = (h.0, λ c. h.1 (any_kept c))
   cause_back ClosedVia h = (h.0, any_back h.1, λ c. h.2 (open_kept c))
   cause_back TooLong h = long_same M N r same ∙ h

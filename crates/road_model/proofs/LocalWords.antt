@@ -12,7 +12,7 @@ use Rattle.road_base.specs.declared.objects.Relation.{Relation}
 use Rattle.road_base.specs.Objects.{Objects, visible, way_of, relation_of}
 use Rattle.road_model.specs.declared.answers.Unusable.TheVariants.{Members}
 use Rattle.road_model.specs.Rules.{Rules, is_restriction, is_only}
-use Rattle.road_model.specs.Restrictions.{in_role, vias}
+use Rattle.road_model.specs.Restrictions.{in_role, via_order}
 use Rattle.road_model.specs.Words.{IsWord, IsEndInto, IsEndFrom, IsVia}
 use Rattle.road_model.specs.Links.{HasMember, IsWithin}
 use Rattle.road_model.specs.Local.{IsSameWithin}
@@ -113,7 +113,7 @@ module _ (M N : Objects) (P : Rules) where
           last = h.last;
           spelled = h.spelled;
           first_ends = into_kept h.from_way h.enter h.first (way_same M N h.from_way from) h.first_ends;
-          via_is = via_kept (vias h.body) all_same.via h.enter h.via h.leave h.via_is;
+          via_is = via_kept (via_order M P h.body) all_same.via h.enter h.via h.leave h.via_is;
           last_begins = from_kept h.to_way h.leave h.last (way_same M N h.to_way to) h.last_begins;
         }
 

@@ -18,7 +18,7 @@ use Rattle.road_model.specs.declared.answers.Unusable.TheVariants.{NotConnected,
 use Rattle.road_model.specs.Rules.{Rules}
 use Rattle.road_model.specs.Lines.{same_node}
 use Rattle.road_model.specs.Driving.{is_open}
-use Rattle.road_model.specs.Restrictions.{froms, vias, tos, way_ends, some_ends_at, meet, any_way, IsRun, Connects}
+use Rattle.road_model.specs.Restrictions.{froms, tos, via_order, way_ends, some_ends_at, meet, any_way, IsRun, Connects}
 use Rattle.road_model.specs.Restrictions.{Holds, IsUsable}
 use Rattle.ordered_lists.proofs.ListMembers.{In}
 use Rattle.ordered_lists.proofs.Decided.{Decided, decided_both, decided_not, decided_like, decided_true, some_in}
@@ -72,17 +72,17 @@ module _ (M : Objects) where
   ends_of : (ks : List Key) → Finite (λ n. (k : Key) × In k ks × In n (way_ends M k))
   ends_of ks = fin_bind (fin_list ks) (λ k. fin_list (way_ends M k))
 
-  module _ (allowed : WayId → Dir → Bool) (r : Relation) where
+  module _ (allowed : WayId → Dir → Bool) (r : Relation) (vs : List Key) where
     -- from the node the via ways lead to an end of a to way
     Leads : NodeId → Type 0
-    Leads n = (y : List Step × NodeId) × IsRun M allowed (vias r) n y.0 y.1 × IsTrue (some_ends_at M (tos r) (y.1 ∷ []))
+    Leads n = (y : List Step × NodeId) × IsRun M allowed vs n y.0 y.1 × IsTrue (some_ends_at M (tos r) (y.1 ∷ []))
 
     leads_decided : (n : NodeId) → Decided (Leads n)
     unfolding Leads
-    leads_decided n = search_finite (λ y. IsTrue (some_ends_at M (tos r) (y.1 ∷ []))) (fin_run M allowed (vias r) n)
+    leads_decided n = search_finite (λ y. IsTrue (some_ends_at M (tos r) (y.1 ∷ []))) (fin_run M allowed vs n)
         (λ y. decided_true _)
 
-    connects_decided : Decided (Connects M allowed r)
+    connects_decided : Decided (Connects M allowed r vs)
     unfolding Leads
     connects_decided = decided_like
         (λ h. let l = h.2.1 in record {
@@ -105,10 +105,10 @@ module _ (M : Objects) (P : Rules) (r : Relation) where
   cause_decided Members = decided_true _
   cause_decided Missing = decided_true _
   cause_decided NotAnEnd = decided_true _
-  cause_decided NotConnected = decided_both (decided_true _) (decided_not (connects_decided M any_way r))
+  cause_decided NotConnected = decided_both (decided_true _) (decided_not (connects_decided M any_way r (via_order M P r)))
   cause_decided ClosedVia = decided_like (λ h. (h.0, h.1.0, h.1.1)) (λ h. (h.0, (h.1, h.2)))
-      (decided_both (decided_true _) (decided_both (connects_decided M any_way r)
-      (decided_not (connects_decided M (is_open M P) r))))
+      (decided_both (decided_true _) (decided_both (connects_decided M any_way r (via_order M P r))
+      (decided_not (connects_decided M (is_open M P) r (via_order M P r)))))
   cause_decided TooLong = decided_true _
 
   causes : List Unusable

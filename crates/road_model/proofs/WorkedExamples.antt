@@ -25,7 +25,7 @@ use Rattle.road_model.specs.declared.blocks.Block.{Block}
 use Rattle.road_model.specs.Rules.{Rules}
 use Rattle.road_model.specs.Lines.{line_of, node_at, names_pair, end_at, tail_of, head_of}
 use Rattle.road_model.specs.Driving.{is_open, drivable}
-use Rattle.road_model.specs.Restrictions.{lacks_member, misses_end, IsUsable}
+use Rattle.road_model.specs.Restrictions.{vias, lacks_member, misses_end, IsUsable}
 use Rattle.road_model.specs.Words.{IsWord}
 use Rattle.road_model.specs.Format.{graph_bytes}
 
@@ -191,7 +191,7 @@ rule_has_members : lacks_member rule_map turn_rule ≡ false
 unfolding line_of way_of node_of relation_of visible
 rule_has_members = simp found refl
 
-rule_meets_ends : misses_end rule_map turn_rule ≡ false
+rule_meets_ends : misses_end rule_map turn_rule (vias turn_rule) ≡ false
 unfolding node_at line_of way_of visible
 rule_meets_ends = simp found refl
 

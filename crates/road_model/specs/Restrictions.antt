@@ -37,6 +37,10 @@ vias r = in_role (codes "via") r.members
 abbrev pub tos : Relation → List Key
 tos r = in_role (codes "to") r.members
 
+-- the order in which the via ways are passed: as the members are listed
+abbrev pub via_order : Objects → Rules → Relation → List Key
+via_order M P r = vias r
+
 abbrev pub is_way_key : Key → Bool
 is_way_key (NodeKey n) = false
 is_way_key (WayKey w) = true
@@ -124,12 +128,12 @@ IsRun M allowed (WayKey w ∷ ks) v steps out =
     × IsRun M allowed ks next rest out
 IsRun M allowed (RelationKey r ∷ ks) v steps out = ⊥
 
--- such directions lead from an end of a from way to an end of a to way
-pub record Connects (M : Objects) (allowed : WayId → Dir → Bool) (r : Relation) : Type 0 where
+-- such directions lead over these ways from an end of a from way to an end of a to way
+pub record Connects (M : Objects) (allowed : WayId → Dir → Bool) (r : Relation) (vs : List Key) : Type 0 where
   pub enter : NodeId
   pub steps : List Step
   pub leave : NodeId
-  pub run : IsRun M allowed (vias r) enter steps leave
+  pub run : IsRun M allowed vs enter steps leave
   pub from_end : IsTrue (some_ends_at M (froms r) (enter ∷ []))
   pub to_end : IsTrue (some_ends_at M (tos r) (leave ∷ []))
 
@@ -180,12 +184,13 @@ is_ring M (NodeKey n) = false
 is_ring M (WayKey w) = same_end (node_at M w 0) (node_at M w (length (line_of M w) - 1))
 is_ring M (RelationKey r) = false
 
--- a via way is a ring; or no from way ends where the via members begin; or no to way ends where they end
-abbrev pub misses_end : Objects → Relation → Bool
-misses_end M r =
-    list_any (is_ring M) (vias r)
-    || (not (some_ends_at M (froms r) (via_ends M (first_of (vias r))))
-    || not (some_ends_at M (tos r) (via_ends M (last_of (vias r)))))
+-- for the via members in this order: one of them is a way that is a ring; or no from way ends where they begin; or no
+-- to way ends where they end
+abbrev pub misses_end : Objects → Relation → List Key → Bool
+misses_end M r vs =
+    list_any (is_ring M) vs
+    || (not (some_ends_at M (froms r) (via_ends M (first_of vs)))
+    || not (some_ends_at M (tos r) (via_ends M (last_of vs))))
 
 abbrev pub steps_on : Objects → Key → ℕ
 steps_on M (NodeKey n) = 0
@@ -206,9 +211,10 @@ Holds M P r NotThisVehicle = P.rule r.tags ≡ Freed
 Holds M P r NoValue = P.rule r.tags ≡ Absent
 Holds M P r Members = IsTrue (wrong_members (is_only (P.rule r.tags)) r)
 Holds M P r Missing = IsTrue (lacks_member M r)
-Holds M P r NotAnEnd = IsTrue (misses_end M r)
-Holds M P r NotConnected = IsTrue (are_ways (vias r)) × (Connects M any_way r → ⊥)
-Holds M P r ClosedVia = IsTrue (are_ways (vias r)) × Connects M any_way r × (Connects M (is_open M P) r → ⊥)
+Holds M P r NotAnEnd = IsTrue (misses_end M r (via_order M P r))
+Holds M P r NotConnected = IsTrue (are_ways (vias r)) × (Connects M any_way r (via_order M P r) → ⊥)
+Holds M P r ClosedVia = IsTrue (are_ways (vias r)) × Connects M any_way r (via_order M P r)
+    × (Connects M (is_open M P) r (via_order M P r) → ⊥)
 Holds M P r TooLong = IsTrue (is_too_long M r)
 
 -- no cause holds

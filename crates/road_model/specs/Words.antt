@@ -15,7 +15,7 @@ use Rattle.road_model.specs.declared.answers.RuleKind.TheVariants.{No, Only}
 use Rattle.road_model.specs.Rules.{Rules, is_restriction}
 use Rattle.road_model.specs.Lines.{line_of, tail_of, head_of}
 use Rattle.road_model.specs.Driving.{is_open}
-use Rattle.road_model.specs.Restrictions.{froms, vias, tos, IsRun, IsUsable}
+use Rattle.road_model.specs.Restrictions.{froms, vias, tos, via_order, IsRun, IsUsable}
 
 -- s is an end step of the way into v: the last step forward, or step 0 backward
 pub record IsEndInto (M : Objects) (w : WayId) (v : NodeId) (s : Step) : Type 0 where
@@ -71,5 +71,5 @@ pub record IsWord (M : Objects) (P : Rules) (r : RelationId) (only : Bool) (bind
     pub last : Step
     pub spelled : steps ≡ first ∷ (via ++ last ∷ [])
     pub first_ends : IsEndInto M from_way enter first
-    pub via_is : IsVia M P (vias body) enter via leave
+    pub via_is : IsVia M P (via_order M P body) enter via leave
     pub last_begins : IsEndFrom M to_way leave last
