@@ -10,7 +10,7 @@ use Rattle.road_model.specs.declared.answers.ClosedBy.TheVariants.{Area, Highway
 use Rattle.road_model.specs.declared.answers.Access.{Access}
 use Rattle.road_model.specs.declared.answers.Access.TheVariants.{Free, Closed, WrongWay}
 use Rattle.road_model.specs.Rules.{is_the_value}
-use Rattle.road_model.specs.AccessKeys.{has_open_value}
+use Rattle.barrier_rules.specs.OpenValues.{has_open_value}
 use Rattle.oneway_rules.specs.Oneway.{oneway_allows}
 use Rattle.access_profile.specs.declared.highways.RoadClass.{RoadClass}
 use Rattle.access_profile.specs.declared.highways.RoadClass.TheVariants.{ForCars, ForOthers}

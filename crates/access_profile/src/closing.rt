@@ -4,9 +4,10 @@ ghost use Rattle.access_profile.specs.Closing.{closed_by, closed_by_value, close
 
 use crate::deciding_key::{deciding, full_key};
 use crate::highways::{RoadClass, road_class};
+use barrier_rules::has_open_value;
 use oneway_rules::oneway;
 use road_base::{Dir, Tags};
-use road_model::{Access, AccessKey, ClosedBy, has_open_value};
+use road_model::{Access, AccessKey, ClosedBy};
 
 /// Whether a way with these tags may be driven in the direction.
 #[tactic(auto, unfolding(crate::specs::Closing::direction))]

@@ -4,7 +4,8 @@ use Rattle.std.specs.List.{list_any}
 use Rattle.std.specs.Str.{bytes_eq}
 use Rattle.road_base.specs.Tags.{TagList, value_of}
 use Rattle.road_model.specs.declared.answers.AccessKey.{AccessKey}
-use Rattle.road_model.specs.AccessKeys.{key_name, access_keys, has_open_value}
+use Rattle.road_model.specs.AccessKeys.{key_name, access_keys}
+use Rattle.barrier_rules.specs.OpenValues.{has_open_value}
 
 -- the barriers that let a car through where no access key says otherwise
 abbrev pub open_barriers : List (List ℕ)

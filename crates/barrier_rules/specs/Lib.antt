@@ -1,1 +1,2 @@
+pub mod OpenValues
 pub mod Barrier

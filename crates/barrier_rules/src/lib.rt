@@ -1,13 +1,18 @@
 //! Which nodes let a car through (OSM wiki, Key:barrier and Key:access).
 //!
+//! Which values of access keys let a car pass stands here too (`has_open_value`): the profile asks it of ways.
+//!
 //! A call looks up five keys at most among the tags, each at the cost of `Tags::get`, and takes no memory.
 #![tactic(auto)]
 
 ghost use Rattle.std.specs.Prelude.{◌≡◌};
 ghost use Rattle.barrier_rules.specs.Barrier.{barrier_open, first_key, is_open_barrier};
 
+mod open_values;
+
+pub use open_values::has_open_value;
 use road_base::Tags;
-use road_model::{AccessKey, has_open_value};
+use road_model::AccessKey;
 
 /// Whether a node with these tags lets a car through. A node without the key `barrier` does. With it, the first of
 /// `motorcar`, `motor_vehicle`, `vehicle` and `access` that it carries decides, and the kind of barrier where it

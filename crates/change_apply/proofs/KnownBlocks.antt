@@ -17,7 +17,7 @@ use Rattle.road_model.specs.Rules.{Rules}
 use Rattle.road_model.specs.Orders.{way_cmp}
 use Rattle.road_model.specs.Local.{IsSameWithin}
 use Rattle.road_model.specs.Blocks.{IsBlock, ListsPieces}
-use Rattle.road_model.specs.Known.{AreKnown}
+use Rattle.way_pieces.specs.Known.{AreKnown}
 use Rattle.road_model.specs.Naming.{HasBlock}
 use Rattle.change_apply.specs.Engines.{AreKept, IsBlockAt}
 use Rattle.change_apply.specs.Rebuilding.{AreRebuilt, AreAtTheirWays, block_at, with_pieces}

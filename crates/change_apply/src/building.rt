@@ -3,7 +3,7 @@ ghost use Rattle.std.specs.Prelude.{◌≡◌, ◌+◌, ◌≤◌, ◌++◌, ◌
 ghost use Rattle.std.specs.FinMap.{find, get};
 ghost use Rattle.road_base.specs.declared.ids.WayId.{WayId};
 ghost use Rattle.road_model.specs.Highways.{AreRoadWays, highways};
-ghost use Rattle.road_model.specs.Known.{AreKnown};
+ghost use Rattle.way_pieces.specs.Known.{AreKnown};
 ghost use Rattle.road_model.specs.Naming.{OneBlock};
 ghost use Rattle.road_model.specs.Orders.{way_cmp};
 ghost use Rattle.change_apply.specs.Engines.{AreBlocksAmong, AreInForm, AreKept};
@@ -19,7 +19,7 @@ use expanded_graph::GraphBuilder;
 use object_store::SharedMap;
 use road_base::{NoMemory, Steps, WayId, Ways};
 use road_model::laws::{has_block, name_order, one_block, roads_refer};
-use road_model::{Block, Blocks, KnownBlocks, Profile, World};
+use road_model::{Block, Blocks, Profile, World};
 use std::alloc::Global;
 use std::sync::ledger::Ledger;
 use touched_ways::laws::{
@@ -27,6 +27,7 @@ use touched_ways::laws::{
     unaltered_blocks_stay,
 };
 use touched_ways::{TouchedWays, meeting};
+use way_pieces::KnownBlocks;
 
 /// The blocks of all ways with pieces: one is built for each visible way with the key `highway`.
 pub fn build<P: Profile, L: Ledger>(

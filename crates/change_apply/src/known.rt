@@ -9,8 +9,9 @@ use object_store::SharedMap;
 use ordered_lists::Ranges;
 use road_base::{WayId, Ways};
 use road_model::laws::name_order;
-use road_model::{Block, Blocks, KnownBlocks};
+use road_model::{Block, Blocks};
 use touched_ways::is_among;
+use way_pieces::KnownBlocks;
 
 /// The blocks that stand: of each way the fresh one, if there is one, else that which was built since the others were
 /// listed, if one was, and else the listed one.

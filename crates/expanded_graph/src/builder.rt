@@ -3,17 +3,18 @@ ghost use Rattle.std.specs.Prelude.{◌≡◌, ◌+◌, map, IfOk, IsTrue};
 ghost use Rattle.std.specs.List.{AllByRecursion};
 ghost use Rattle.ordered_lists.specs.Orders.{rises};
 ghost use Rattle.road_model.specs.Blocks.{IsBlock};
-ghost use Rattle.road_model.specs.Known.{AreKnown};
+ghost use Rattle.way_pieces.specs.Known.{AreKnown};
 ghost use Rattle.road_model.specs.Format.{IsPieceForm, place_cmp};
 ghost use Rattle.road_model.specs.Networks.{on};
 
 use crate::block::{block_alone, block_of};
 use crate::tables::Tables;
 use road_base::{NoMemory, Steps, WayId};
-use road_model::{Block, KnownBlocks, Network, Profile, World};
+use road_model::{Block, Network, Profile, World};
 use std::alloc::Global;
 use std::marker::Model;
 use std::sync::ledger::Ledger;
+use way_pieces::KnownBlocks;
 
 /// Builds the blocks of ways, in one world and for one profile. What they have in common is found when it is made.
 #[derive(Drop)]

@@ -2,7 +2,8 @@
 ghost use Rattle.std.specs.Prelude.{◌≡◌, None};
 
 use road_base::WayId;
-use road_model::{Block, KnownBlocks};
+use road_model::Block;
+use way_pieces::KnownBlocks;
 
 /// Knows the block of no way.
 #[derive(Clone, Copy, Debug)]

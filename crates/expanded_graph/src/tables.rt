@@ -1,7 +1,7 @@
 //! What is found once before blocks are built.
 ghost use Rattle.std.specs.Prelude.{◌≡◌, IfOk, IsTrue, Contains};
 ghost use Rattle.road_base.specs.declared.ids.WayId.{WayId};
-ghost use Rattle.road_model.specs.Known.{AreKnown};
+ghost use Rattle.way_pieces.specs.Known.{AreKnown};
 ghost use Rattle.road_model.specs.Networks.{on};
 ghost use Rattle.way_pieces.specs.RoadPieces.{AreRoadPieces};
 ghost use Rattle.expanded_graph.specs.Contexts.{AreEndings};
@@ -14,10 +14,10 @@ use crate::intersections::Intersections;
 use crate::states::States;
 use ordered_lists::Ranges;
 use road_base::{NoMemory, NodeId, WayId};
-use road_model::{KnownBlocks, Network, Profile, World};
+use road_model::{Network, Profile, World};
 use std::alloc::Global;
 use std::collections::BTreeSet;
-use way_pieces::RoadPieces;
+use way_pieces::{KnownBlocks, RoadPieces};
 
 /// A node at which more ways meet is a hub.
 const FEW: usize = 8;

@@ -1,7 +1,6 @@
 pub mod TotalOrders
 pub mod SameNodes
 pub mod UniqueEntries
-pub mod WorkedExamples
 pub mod LegalLists
 pub mod Positions
 pub mod StepPlaces
@@ -28,13 +27,7 @@ pub mod ReferredNodes
 pub mod FinitePieces
 pub mod FiniteContexts
 pub mod SomeGraph
-pub mod ExampleMaps
-pub mod ExampleTouched
-pub mod SmallDrives
-pub mod ExampleViaWay
-pub mod ExampleCrossing
 pub mod BrokenSteps
-pub mod ExampleBroken
 pub mod LocalLinks
 pub mod LocalBodies
 pub mod LocalPieces

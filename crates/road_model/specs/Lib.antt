@@ -12,7 +12,6 @@ pub mod Walks
 pub mod Orders
 pub mod Links
 pub mod Blocks
-pub mod Known
 pub mod Highways
 pub mod Turning
 pub mod Format

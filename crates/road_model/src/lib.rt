@@ -10,21 +10,18 @@
 //! copy costs the size of what is copied, and everything else a constant.
 #![tactic(auto)]
 
-mod access_values;
+mod access_keys;
 mod answers;
 mod block_search;
 mod blocks;
-mod known;
 pub mod laws;
 mod lists;
 mod network;
 mod profile;
 mod world;
 
-pub use access_values::has_open_value;
 pub use answers::{Access, AccessKey, ClosedBy, RuleKind, Unusable};
 pub use blocks::{Block, Blocks};
-pub use known::KnownBlocks;
 pub use lists::{Arcs, Context, Contexts, Names, Piece, PieceName, Pieces, Place, Places, TurnArc};
 pub use network::Network;
 pub use profile::Profile;

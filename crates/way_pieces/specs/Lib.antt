@@ -1,4 +1,5 @@
 pub mod Departures
+pub mod Known
 pub mod Listed
 pub mod Names
 pub mod RoadPieces

@@ -12,6 +12,7 @@
 #![tactic(auto)]
 
 mod departures;
+mod known;
 mod listed;
 mod met_ways;
 mod names;
@@ -22,6 +23,7 @@ mod starts;
 mod stretches;
 
 pub use departures::{Departure, departures_from};
+pub use known::KnownBlocks;
 pub use names::{pieces_from, pieces_of};
 pub use road_pieces::{RoadPieces, WayPieces, spans_of};
 pub use spans::PieceSpan;

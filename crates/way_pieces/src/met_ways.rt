@@ -4,14 +4,15 @@ ghost use Rattle.std.specs.List.{All};
 ghost use Rattle.road_base.specs.Objects.{Objects};
 ghost use Rattle.road_model.specs.Rules.{Rules};
 ghost use Rattle.road_model.specs.Blocks.{ListsPieces};
-ghost use Rattle.road_model.specs.Known.{AreKnown};
+ghost use Rattle.way_pieces.specs.Known.{AreKnown};
 ghost use Rattle.road_model.specs.Networks.{on};
 ghost use Rattle.way_lines.specs.RoadLines.{IsRoad, AreRoads};
 ghost use Rattle.way_pieces.specs.RoadPieces.{IsMetWay};
 
+use crate::known::KnownBlocks;
 use crate::listed::listed_road;
 use road_base::{NoMemory, WayId};
-use road_model::{Block, KnownBlocks, Network, Profile, World};
+use road_model::{Block, Network, Profile, World};
 use std::alloc::{AllocError, Global};
 use way_lines::{Road, Roads};
 

@@ -4,7 +4,7 @@ ghost use Rattle.road_base.specs.declared.ids.WayId.{WayId};
 ghost use Rattle.road_base.specs.Objects.{Objects};
 ghost use Rattle.road_model.specs.Rules.{Rules};
 ghost use Rattle.road_model.specs.Blocks.{ListsPieces};
-ghost use Rattle.road_model.specs.Known.{AreKnown};
+ghost use Rattle.way_pieces.specs.Known.{AreKnown};
 ghost use Rattle.ordered_lists.specs.Orders.{Lists};
 ghost use Rattle.road_model.specs.Orders.{name_cmp};
 ghost use Rattle.road_model.specs.Networks.{on};
@@ -15,6 +15,7 @@ ghost use Rattle.way_pieces.specs.RoadPieces.{AreSpans, AreStarts, AreWayPieces,
 ghost use Rattle.way_pieces.specs.RoadPieces.{IsCutRoad, IsMetWay, AreRoadPieces};
 
 use crate::departures::Departure;
+use crate::known::KnownBlocks;
 use crate::listed::{spans_in, starts_in};
 use crate::met_ways::{MetWay, Source, met_ways, roads_of};
 use crate::spans::{PieceSpan, spans_along};
@@ -23,7 +24,7 @@ use junctions::junctions_along;
 use ordered_lists::Groups;
 use road_base::{Dir, NoMemory, NodeId, WayId};
 use road_model::laws::{name_order, number_order, roads_refer};
-use road_model::{Block, KnownBlocks, Network, Profile, World};
+use road_model::{Block, Network, Profile, World};
 use std::alloc::Global;
 use way_lines::{LineNode, Road, RoadLine, Roads};
 

@@ -5,7 +5,7 @@ use Rattle.road_base.specs.Objects.{Objects}
 use Rattle.road_model.specs.declared.blocks.Block.{Block}
 use Rattle.road_model.specs.Rules.{Rules}
 use Rattle.road_model.specs.Orders.{way_cmp}
-use Rattle.road_model.specs.Known.{AreKnown}
+use Rattle.way_pieces.specs.Known.{AreKnown}
 use Rattle.touched_ways.specs.Altering.{HereOrBeside, MeetsOne}
 use Rattle.change_apply.specs.Rebuilding.{AreRebuilt, over, pieces_at}
 use Rattle.change_apply.specs.Standing.{built_in, newest_but}

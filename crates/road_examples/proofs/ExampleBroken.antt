@@ -24,12 +24,12 @@ use Rattle.road_model.specs.Broken.{BrokenRule, place, Applies, IsBehind, NoStep
 use Rattle.road_model.specs.Broken.{Barrier, Reversal, No, Only, AtHead, IsAnswered, EndsNoWord, Broken}
 use Rattle.road_model.proofs.BrokenRules.{broken_illegal}
 use Rattle.ordered_lists.proofs.Splits.{cons_not_nil}
-use Rattle.road_model.proofs.ExampleMaps.{node, way, way_body, relation, along, against, same_node_number}
-use Rattle.road_model.proofs.ExampleMaps.{same_way_number}
-use Rattle.road_model.proofs.ExampleCrossing.{one_way, area, crossing_map, signs, looked_up, Runs, Go, ten, eleven}
-use Rattle.road_model.proofs.ExampleCrossing.{eleven_back, twelve, go_ten, go_eleven, go_eleven_back, go_twelve}
-use Rattle.road_model.proofs.ExampleCrossing.{only_word, no_word, no_turns, only_turns}
-use Rattle.road_model.proofs.SmallDrives.{goes_straight, two_legal}
+use Rattle.road_examples.proofs.ExampleMaps.{node, way, way_body, relation, along, against, same_node_number}
+use Rattle.road_examples.proofs.ExampleMaps.{same_way_number}
+use Rattle.road_examples.proofs.ExampleCrossing.{one_way, area, crossing_map, signs, looked_up, Runs, Go, ten, eleven}
+use Rattle.road_examples.proofs.ExampleCrossing.{eleven_back, twelve, go_ten, go_eleven, go_eleven_back, go_twelve}
+use Rattle.road_examples.proofs.ExampleCrossing.{only_word, no_word, no_turns, only_turns}
+use Rattle.road_examples.proofs.SmallDrives.{goes_straight, two_legal}
 use Rattle.road_model.proofs.BrokenSteps.{From, none_before, one_before_legal, broken, from_one, from_two, from_three}
 use Rattle.road_model.proofs.BrokenSteps.{from_four, from_six, from_seven, from_eight, from_five, from_nine}
 

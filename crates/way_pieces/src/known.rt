@@ -3,8 +3,8 @@ ghost use Rattle.std.specs.Prelude.{◌≡◌, Option, option_copied};
 ghost use Rattle.road_base.specs.declared.ids.WayId.{WayId};
 ghost use Rattle.road_model.specs.declared.blocks.Block.{Block};
 
-use crate::Block;
 use road_base::WayId;
+use road_model::Block;
 
 /// What knows the blocks of some ways.
 pub trait KnownBlocks {

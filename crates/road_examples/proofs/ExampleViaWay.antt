@@ -31,9 +31,9 @@ use Rattle.road_model.specs.Pieces.{Span}
 use Rattle.road_model.specs.Contexts.{One, Many}
 use Rattle.road_model.specs.Network.{Drives, Legal, HasNoWords, IsContext}
 use Rattle.ordered_lists.proofs.ListMembers.{in_from_contains}
-use Rattle.road_model.proofs.ExampleMaps.{node, way, relation, along, against, residential, node_entry, way_entry}
-use Rattle.road_model.proofs.ExampleMaps.{relation_entry, turn, same_way_number, relation_shown}
-use Rattle.road_model.proofs.SmallDrives.{short_piece, goes_straight, two_legal}
+use Rattle.road_examples.proofs.ExampleMaps.{node, way, relation, along, against, residential, node_entry, way_entry}
+use Rattle.road_examples.proofs.ExampleMaps.{relation_entry, turn, same_way_number, relation_shown}
+use Rattle.road_examples.proofs.SmallDrives.{short_piece, goes_straight, two_legal}
 
 abbrev roads : List (Key × Entry)
 roads =

@@ -15,7 +15,7 @@ use Rattle.road_model.proofs.StepPlaces.{step}
 use Rattle.road_model.proofs.Shapes.{bound_positive}
 use Rattle.road_model.proofs.WalkLists.{step_legal}
 use Rattle.road_model.proofs.JoinedPieces.{one_more}
-use Rattle.road_model.proofs.ExampleMaps.{node, same_node_number}
+use Rattle.road_examples.proofs.ExampleMaps.{node, same_node_number}
 
 ends_one : (s : Step) (a p : List Step) → s ∷ [] ≡ a ++ p → (p ≡ []) ⊎ (p ≡ s ∷ [])
 ends_one s [] p e = inr (sym e)
