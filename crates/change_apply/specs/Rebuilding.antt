@@ -10,7 +10,7 @@ use Rattle.road_model.specs.declared.blocks.Block.{Block}
 use Rattle.road_model.specs.Rules.{Rules}
 use Rattle.ordered_lists.specs.Orders.{rises}
 use Rattle.road_model.specs.Orders.{way_cmp}
-use Rattle.road_model.specs.Blocks.{IsBlock}
+use Rattle.road_model.specs.Blocks.{IsForward}
 use Rattle.road_model.specs.Format.{IsPieceForm, place_cmp}
 use Rattle.touched_ways.specs.Altering.{listed_pieces}
 
@@ -39,9 +39,9 @@ pieces_in (Some b) = listed_pieces b
 abbrev pub pieces_at : List (WayId × Block) → FinMap way_cmp Block → WayId → List (PieceName × ℕ)
 pieces_at rebuilt listed w = pieces_in (block_at rebuilt listed w)
 
--- the way's block, in the form in which a graph file holds it
+-- the forward part of the way's block, in the form in which a graph file holds it
 pub record IsBuilt (M : Objects) (P : Rules) (w : WayId) (b : Block) : Type 0 where
-  pub block : IsBlock M P w b
+  pub block : IsForward M P w b
   pub pieces : AllByRecursion IsPieceForm b.pieces
   pub ascend : IsTrue (rises place_cmp (map (λ p. p.name) b.pieces))
 

@@ -47,6 +47,7 @@ fn same_piece(a: &Piece, b: &Piece) -> bool
     ensures { IsTrue result ↔ (a.now ≡ b.now) }
 {
     same_span(a, b)
+        && a.zone == b.zone
         && same_places(a.places.items(), b.places.items())
         && same_contexts(a.contexts.items(), b.contexts.items())
 }

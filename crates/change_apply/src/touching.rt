@@ -7,8 +7,8 @@ use road_base::NoMemory;
 use std::alloc::Global;
 use touched_ways::{TouchedWays, part, surroundings};
 
-/// The ways within six links of what the change changes, in the world as it stands or in the one that it would leave,
-/// in two parts. Takes time and memory of the order of n log n in the links that are followed.
+/// The ways within the link radius of what the change changes, in the world as it stands or in the one that it would
+/// leave, in two parts. Takes time and memory of the order of n log n in the links that are followed.
 pub fn touched_by(
     alloc: Global,
     world: &Indexed,

@@ -23,6 +23,7 @@ use Rattle.std.proofs.Common.{
   arith,
   IsTrue,
   true,
+  false,
   Some,
   slice_get,
   Contains,
@@ -45,7 +46,7 @@ use Rattle.road_model.specs.Driving.{is_open, is_road, drivable}
 use Rattle.road_model.specs.Pieces.{Span, IsPiece}
 use Rattle.ordered_lists.specs.Orders.{Lists, rises}
 use Rattle.road_model.specs.Orders.{way_cmp, name_cmp, names_cmp}
-use Rattle.road_model.specs.Blocks.{IsContextEntry, IsPieceEntry, IsBlock}
+use Rattle.road_model.specs.Blocks.{IsContextEntry, IsPieceEntry, IsForward}
 use Rattle.road_model.specs.Format.{IsContextForm, IsPieceForm, begins_alone, place_cmp}
 use Rattle.road_model.specs.Naming.{OneEntry}
 use Rattle.way_pieces.specs.declared.spans.PieceSpan.{PieceSpan}
@@ -77,7 +78,8 @@ module _ (M : Objects) (P : Rules) (w : WayId) where
 
   module _ (s : PieceSpan) (on : IsSpanOn M P w s) (nodes : List LineNode)
       (line : nodes ≡ map (line_node M P) (line_of M w)) (e : Piece) (named : e.name ≡ s.name)
-      (ended : e.end ≡ s.end) (placed : e.places ≡ filter_map place_of (nodes_on s nodes)) where
+      (ended : e.end ≡ s.end) (unmarked : e.zone ≡ false)
+      (placed : e.places ≡ filter_map place_of (nodes_on s nodes)) where
     count : length e.places ≡ s.end - s.name.index + 1
     count = ap length placed ∙ places_count M P s on.is nodes (own_line nodes s on line)
 
@@ -88,6 +90,7 @@ module _ (M : Objects) (P : Rules) (w : WayId) where
       of = on.of;
       named = named;
       end_is = ended;
+      unmarked = unmarked;
       count = count;
       places = λ k x h. places_at M P s on.is nodes (own_line nodes s on line) k x
           (subst (λ l. slice_get l k ≡ Some x) placed h);
@@ -103,6 +106,7 @@ module _ (M : Objects) (P : Rules) (w : WayId) where
         record {
           ascends = omega arith;
           bounded = omega arith;
+          unmarked = unmarked;
           place_count = omega (arith, count);
           first_alone = first;
           contexts_ascend = contexts.ascending;
@@ -151,7 +155,7 @@ module _ (M : Objects) (P : Rules) (w : WayId) where
     pieces_rise total = places_rise (λ (p : Piece). p.name) total w pieces way_of_entry names_ascend
 
     -- the block with these pieces
-    pub is_block : OneEntry M P → (b : Block) → b.way ≡ w → b.pieces ≡ pieces → IsBlock M P w b
+    pub is_block : OneEntry M P → (b : Block) → b.way ≡ w → b.pieces ≡ pieces → IsForward M P w b
     is_block one b of has =
         record {
           way = of;

@@ -2,7 +2,7 @@
 ghost use Rattle.std.specs.Prelude.{◌≡◌, ◌≤◌, ◌+◌, [], length, map, IfOk, IsTrue, Contains};
 ghost use Rattle.std.specs.List.{AllByRecursion};
 ghost use Rattle.ordered_lists.specs.Orders.{rises};
-ghost use Rattle.road_model.specs.Blocks.{IsBlock};
+ghost use Rattle.road_model.specs.Blocks.{IsForward};
 ghost use Rattle.road_model.specs.Format.{IsPieceForm, place_cmp};
 ghost use Rattle.road_model.specs.Lines.{line_of};
 ghost use Rattle.road_model.specs.Networks.{on, made_on, map_of};
@@ -30,7 +30,7 @@ pub fn build_block<M: World, P: Profile, L: Ledger>(
     way: WayId,
     steps: &mut Steps<L>,
 ) -> Result<Block, NoMemory>
-    ensures block { IfOk result (IsBlock (M.objects world.now) (P.rules profile.now) way) }
+    ensures block { IfOk result (IsForward (M.objects world.now) (P.rules profile.now) way) }
     ensures form { IfOk result (λ b. AllByRecursion IsPieceForm b.pieces
         × IsTrue (rises place_cmp (map (λ p. p.name) b.pieces))) }
     ensures tick { steps.new ≡ steps.old + 1 }
@@ -45,7 +45,7 @@ pub fn block_alone<M: World, P: Profile>(
     network: &Network<'_, M, P>,
     way: WayId,
 ) -> Result<Block, NoMemory>
-    ensures block { IfOk result (on network.now IsBlock way) }
+    ensures block { IfOk result (on network.now IsForward way) }
     ensures form { IfOk result (λ b. AllByRecursion IsPieceForm b.pieces
         × IsTrue (rises place_cmp (map (λ p. p.name) b.pieces))) }
 {
@@ -62,7 +62,7 @@ pub fn block_of<M: World, P: Profile>(
 ) -> Result<Block, NoMemory>
     requires tables { on network.now AreTables tables.now }
     requires serve { Contains tables.now.ways.items way }
-    ensures block { IfOk result (on network.now IsBlock way) }
+    ensures block { IfOk result (on network.now IsForward way) }
     ensures form { IfOk result (λ b. AllByRecursion IsPieceForm b.pieces
         × IsTrue (rises place_cmp (map (λ p. p.name) b.pieces))) }
 {
@@ -85,7 +85,7 @@ fn block_with<M: World, P: Profile>(
     requires tables { on network.now AreTables tables.now }
     requires serve { Contains tables.now.ways.items way }
     requires spans { on network.now AreSpans way spans.now }
-    ensures block { IfOk result (on network.now IsBlock way) }
+    ensures block { IfOk result (on network.now IsForward way) }
     ensures form { IfOk result (λ b. AllByRecursion IsPieceForm b.pieces
         × IsTrue (rises place_cmp (map (λ p. p.name) b.pieces))) }
 {
@@ -115,7 +115,7 @@ fn block_along<M: World, P: Profile>(
         ≡ map (made_on network.now line_node) (line_of (map_of network.now) line.now.road.way) }
     requires short { length line.now.nodes.items ≤ 65535 }
     requires spans { on network.now AreSpans line.now.road.way spans.now }
-    ensures block { IfOk result (on network.now IsBlock line.now.road.way) }
+    ensures block { IfOk result (on network.now IsForward line.now.road.way) }
     ensures form { IfOk result (λ b. AllByRecursion IsPieceForm b.pieces
         × IsTrue (rises place_cmp (map (λ p. p.name) b.pieces))) }
 {

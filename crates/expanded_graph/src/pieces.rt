@@ -74,6 +74,7 @@ fn piece_at<M: World, P: Profile>(
     Ok(Piece {
         name: span.name,
         end: span.end,
+        zone: false,
         places: Places::from_list(places),
         contexts: Contexts::from_list(contexts),
     })

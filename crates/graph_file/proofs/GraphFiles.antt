@@ -160,6 +160,7 @@ abbrev piece_at : WayId → Piece → Piece
 piece_at w p = record {
   name = record { way = w; index = p.name.index; dir = p.name.dir };
   end = p.end;
+  zone = p.zone;
   places = p.places;
   contexts = p.contexts;
 }
@@ -214,6 +215,7 @@ pieces_at w (p ∷ ps) form fits = (
     form = record {
       ascends = form.0.ascends;
       bounded = form.0.bounded;
+      unmarked = form.0.unmarked;
       place_count = form.0.place_count;
       first_alone = form.0.first_alone;
       contexts_ascend = form.0.contexts_ascend;

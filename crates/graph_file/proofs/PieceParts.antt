@@ -1,6 +1,6 @@
 -- Pieces and blocks, part by part.
 use Rattle.std.proofs.Common.{◌≡◌, ℕ, ℤ, ◌+◌, ◌-◌, ◌<◌, ◌^◌, List, [], ◌∷◌, ◌++◌, length, map, IsTrue, FitsSigned, refl}
-use Rattle.std.proofs.Common.{sym, ap, subst, ◌∙◌, append_assoc}
+use Rattle.std.proofs.Common.{false, sym, ap, subst, ◌∙◌, append_assoc}
 use Rattle.std.specs.Int.{w64}
 use Rattle.std.specs.List.{AllByRecursion}
 use Rattle.road_base.specs.Bytes.{u32_bytes, i64_bytes, joined}
@@ -66,17 +66,19 @@ fits_of : (cs : List Context) → AllByRecursion IsContext cs → AllByRecursion
 fits_of [] all = tt
 fits_of (c ∷ cs) all = (all.0.fits, fits_of cs all.1)
 
--- a piece's parts, one behind the other
-pub whole_piece : (p : Piece) (bytes mid rest r : List ℕ) → Begins extent_bytes IsExtent bytes (extent_of p) mid
+-- the parts of a piece without a mark, one behind the other
+pub whole_piece : (p : Piece) → p.zone ≡ false → (bytes mid rest r : List ℕ)
+    → Begins extent_bytes IsExtent bytes (extent_of p) mid
     → Begins (joined place_bytes) (AreSoMany PlaceFits (p.end - p.name.index + 1)) mid p.places rest
     → Begins (list_bytes context_bytes) AreContexts rest p.contexts r
     → Begins piece_bytes (IsPieceAt p.name.way) bytes p r
-whole_piece p bytes mid rest r extent places contexts = record {
+whole_piece p unmarked bytes mid rest r extent places contexts = record {
   fits = record {
     way_is = refl;
     form = record {
       ascends = extent.fits.ascends;
       bounded = extent.fits.bounded;
+      unmarked = unmarked;
       place_count = places.fits.0;
       first_alone = contexts.fits.alone;
       contexts_ascend = contexts.fits.ascend;

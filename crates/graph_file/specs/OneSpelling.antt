@@ -189,10 +189,12 @@ piece_one way x y bytes r s first second =
     (a.places.0 ∙ count ∙ sym b.places.0) a.places.1 b.places.1 extent.1 in
     let contexts = contexts_one x.contexts y.contexts (list_bytes context_bytes x.contexts ++ r) r s
     (record { fits = a.contexts; parts = refl }) (record { fits = b.contexts; parts = places.1 }) in
-    let ways : x.name.way ≡ y.name.way = first.fits.way_is ∙ sym second.fits.way_is in (
+    let ways : x.name.way ≡ y.name.way = first.fits.way_is ∙ sym second.fits.way_is in
+    let marks : x.zone ≡ y.zone = first.fits.form.unmarked ∙ sym second.fits.form.unmarked in (
       λ i. record {
         name = record { way = ways i; index = (extent.0 i).index; dir = (extent.0 i).dir };
         end = (extent.0 i).end;
+        zone = marks i;
         places = places.0 i;
         contexts = contexts.0 i;
       },

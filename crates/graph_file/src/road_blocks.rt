@@ -32,6 +32,7 @@ fn read_piece(alloc: Global, way: WayId, bytes: &[u8]) -> Result<(Piece, &[u8]),
             dir: extent.dir,
         },
         end: extent.end,
+        zone: false,
         places: Places::from_list(places),
         contexts,
     };

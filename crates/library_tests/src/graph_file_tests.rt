@@ -80,6 +80,7 @@ fn along(alloc: Global, dir: Dir, places: Vec<Place>, back: Dir) -> Result<Piece
     Ok(Piece {
         name: name(10, 0, dir),
         end: 2,
+        zone: false,
         places: Places::from_list(places),
         contexts: Contexts::from_list(vec![in alloc; context]?),
     })
@@ -135,6 +136,7 @@ fn with_two_contexts(alloc: Global) -> Result<Piece, NoMemory>
     Ok(Piece {
         name: name(-1, 3, Dir::Backward),
         end: 4,
+        zone: false,
         places: Places::from_list(vec![in alloc; first, last]?),
         contexts: Contexts::from_list(vec![in alloc; alone, behind_another]?),
     })

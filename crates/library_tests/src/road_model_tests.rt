@@ -34,6 +34,7 @@ fn block_of(alloc: Global, way: i64, end: u32) -> Result<Block, NoMemory> {
     let piece = Piece {
         name: name(way),
         end,
+        zone: false,
         places: Places::from_list(vec![in alloc; place, place]?),
         contexts: Contexts::from_list(vec![in alloc; context]?),
     };
@@ -120,6 +121,7 @@ fn blocks_are_taken_out_and_copied(rt: HostRuntime) -> Result<(), Fail> {
 /// Whether the pieces end at the same places, and have the same ones.
 fn have_same_places(these: &[Piece], those: &[Piece]) -> bool {
     these.iter().zip(those).all(|(this, that)| this.end == that.end
+        && this.zone == that.zone
         && this.places.items() == that.places.items())
 }
 

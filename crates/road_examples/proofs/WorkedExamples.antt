@@ -102,6 +102,7 @@ abbrev piece : Dir → List Place → Dir → Piece
 piece d places turn = record {
   name = piece_name d;
   end = 2;
+  zone = false;
   places = places;
   contexts = record
       { before = []; arcs = record { piece = piece_name turn; length = 1 } ∷ [] } ∷ [];

@@ -1,4 +1,4 @@
--- The contexts of a way's pieces, and their arcs, are the same where all within six links of the way is.
+-- The contexts of a way's pieces, and their arcs, are the same where all within the forward radius of the way is.
 use Rattle.std.proofs.Common.{◌≡◌, ◌↔◌, ◌-◌, List, [], ◌∷◌, ◌++◌, inl, inr, refl, sym, ap, ◌∙◌, subst, append_assoc}
 use Rattle.road_base.specs.declared.ids.WayId.{WayId}
 use Rattle.road_base.specs.declared.ids.Step.{Step}
@@ -11,7 +11,7 @@ use Rattle.road_model.specs.Pieces.{Span, IsPiece, spell}
 use Rattle.road_model.specs.Contexts.{Every, IsMany, One, Many, spell_all}
 use Rattle.road_model.specs.Network.{Drives, AnyWord, Legal, IsContext, IsContextOf, IsArc, spell_pieces}
 use Rattle.road_model.specs.Links.{IsWithin}
-use Rattle.road_model.specs.Local.{IsSameWithin}
+use Rattle.road_model.specs.Local.{IsSameWithin, forward_radius}
 use Rattle.ordered_lists.proofs.ListMembers.{In, in_end, in_left, in_right, in_cases}
 use Rattle.ordered_lists.proofs.Splits.{Ends, Nil, Last, ends}
 use Rattle.road_model.proofs.LongestContext.{Every-tail}
@@ -89,10 +89,17 @@ module _ (M : Objects) (P : Rules) where
 
 -- ---- what is near a way that is within two links
 
-three_of_six : (M N : Objects) (w : WayId) → IsAlike M N 6 (WayKey w) → IsAlike M N 3 (WayKey w)
-three_of_six M N w al = alike_less M N 3 3 (WayKey w) al
+-- what is within the forward radius of the way has the same visible body in both
+abbrev pub IsAlikeAround : Objects → Objects → WayId → Type 0
+IsAlikeAround M N w = IsAlike M N forward_radius (WayKey w)
 
-two_links_on : (M N : Objects) (w v : WayId) → IsAlike M N 6 (WayKey w) → IsWithin M 2 (WayKey w) (WayKey v)
+pub around_turned : (M N : Objects) (w : WayId) → IsAlikeAround M N w → IsAlikeAround N M w
+around_turned M N w al = alike_turned M N forward_radius (WayKey w) al
+
+three_of_radius : (M N : Objects) (w : WayId) → IsAlikeAround M N w → IsAlike M N 3 (WayKey w)
+three_of_radius M N w al = alike_less M N 3 3 (WayKey w) al
+
+two_links_on : (M N : Objects) (w v : WayId) → IsAlikeAround M N w → IsWithin M 2 (WayKey w) (WayKey v)
     → IsAlike M N 3 (WayKey v)
 two_links_on M N w v al h = alike_less M N 3 1 (WayKey v) (alike_near M N 2 4 (WayKey w) (WayKey v) al h)
 
@@ -110,12 +117,12 @@ pub only_one : (p q : Span) → In p (q ∷ []) → p ≡ q
 only_one p q (inl e) = e
 only_one p q (inr i) = absurd i
 
-context_near : (M N : Objects) (P : Rules) (c : List Span) (p : Span) → In p c → IsAlike M N 6 (WayKey p.way)
+context_near : (M N : Objects) (P : Rules) (c : List Span) (p : Span) → In p c → IsAlikeAround M N p.way
     → IsContext M P c → PiecesAlike M N c
 context_near M N P c p i al (One r e h) q j =
     let f : p ≡ r = only_one p r (subst (In p) e i) in
     let g : q ≡ r = only_one q r (subst (In q) e j) in
-    subst (λ x. IsAlike M N 3 (WayKey x.way)) (f ∙ sym g) (three_of_six M N p.way al)
+    subst (λ x. IsAlike M N 3 (WayKey x.way)) (f ∙ sym g) (three_of_radius M N p.way al)
 context_near M N P c p i al (Many m) q j = two_links_on M N p.way q.way al (together M P c m p q i j)
 
 -- ---- contexts
@@ -159,7 +166,7 @@ module _ (M N : Objects) (P : Rules) (needs : NeedsHighway P) where
       (two_of_three M N q.way (near q (subst (In q) (sym e) (inl refl)))) h)
   context_alike c near (Many m) = Many (many_alike c near m)
 
-  pub context_kept : (before : List Span) (p : Span) → IsAlike M N 6 (WayKey p.way) → IsContext M P (before ++ p ∷ [])
+  pub context_kept : (before : List Span) (p : Span) → IsAlikeAround M N p.way → IsContext M P (before ++ p ∷ [])
       → IsContext N P (before ++ p ∷ [])
   context_kept before p al h = context_alike (before ++ p ∷ [])
       (context_near M N P (before ++ p ∷ []) p (in_end before p []) al h) h
@@ -241,26 +248,27 @@ module _ (M : Objects) (P : Rules) (needs : NeedsHighway P) where
   piece_of before p h = (Every-tail (IsPiece M P) before (p ∷ []) (context_pieces M P (before ++ p ∷ []) h)).0
 
 pub arc_kept : (M N : Objects) (P : Rules) → NeedsHighway P → (before : List Span) (p t : Span) (e : List Span)
-    → IsAlike M N 6 (WayKey p.way) → IsArc M P (before ++ p ∷ []) t e → IsArc N P (before ++ p ∷ []) t e
+    → IsAlikeAround M N p.way → IsArc M P (before ++ p ∷ []) t e → IsArc N P (before ++ p ∷ []) t e
 arc_kept M N P needs before p t e al a = arc_alike M N P needs (before ++ p ∷ []) t e
     (context_near M N P (before ++ p ∷ []) p (in_end before p []) al a.from)
     (two_links_on M N p.way t.way al
     (piece_near M P needs before p t (piece_of M P needs before p a.from) a.by a.legal)) a
 
--- ---- of the way's pieces, where all within six links is the same
+-- ---- of the way's pieces, where all within the forward radius is the same
 
-near_six : (M N : Objects) (w v : WayId) → IsSameWithin 6 M N w → v ≡ w → IsAlike M N 6 (WayKey v)
-near_six M N w v same e = subst (λ x. IsAlike M N 6 (WayKey x)) (sym e) (alike_from M N 6 w same)
+near_way : (M N : Objects) (w v : WayId) → IsSameWithin forward_radius M N w → v ≡ w → IsAlikeAround M N v
+near_way M N w v same e = subst (λ x. IsAlikeAround M N x) (sym e) (alike_from M N forward_radius w same)
 
 pub local_contexts : (M N : Objects) (P : Rules) → NeedsHighway P → (w : WayId) (before : List Span) (p : Span)
-    → IsSameWithin 6 M N w → p.way ≡ w → IsContext M P (before ++ p ∷ []) ↔ IsContext N P (before ++ p ∷ [])
+    → IsSameWithin forward_radius M N w → p.way ≡ w
+    → IsContext M P (before ++ p ∷ []) ↔ IsContext N P (before ++ p ∷ [])
 local_contexts M N P needs w before p same of =
-    let al = near_six M N w p.way same of in
-    (context_kept M N P needs before p al, context_kept N M P needs before p (alike_turned M N 6 (WayKey p.way) al))
+    let al = near_way M N w p.way same of in
+    (context_kept M N P needs before p al, context_kept N M P needs before p (around_turned M N p.way al))
 
 pub local_arcs : (M N : Objects) (P : Rules) → NeedsHighway P → (w : WayId) (before : List Span) (p t : Span)
-    (e : List Span) → IsSameWithin 6 M N w → p.way ≡ w → IsArc M P (before ++ p ∷ []) t e
+    (e : List Span) → IsSameWithin forward_radius M N w → p.way ≡ w → IsArc M P (before ++ p ∷ []) t e
     ↔ IsArc N P (before ++ p ∷ []) t e
 local_arcs M N P needs w before p t e same of =
-    let al = near_six M N w p.way same of in
-    (arc_kept M N P needs before p t e al, arc_kept N M P needs before p t e (alike_turned M N 6 (WayKey p.way) al))
+    let al = near_way M N w p.way same of in
+    (arc_kept M N P needs before p t e al, arc_kept N M P needs before p t e (around_turned M N p.way al))

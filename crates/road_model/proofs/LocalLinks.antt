@@ -1,5 +1,5 @@
 -- What is within some links of a key, and has the same visible body in two object maps.
-use Rattle.std.proofs.Common.{◌≡◌, ℕ, zero, suc, ◌+◌, ◌⊎◌, inl, inr, refl, sym, ap, ◌∙◌, subst, arith, Option}
+use Rattle.std.proofs.Common.{◌≡◌, ℕ, zero, suc, ◌+◌, ◌-◌, ◌≤◌, ◌⊎◌, inl, inr, refl, sym, ap, ◌∙◌, subst, arith, Option}
 use base.Stored.{Gv, gnil, gnum, gcons}
 use Rattle.std.specs.Coded.{Coded, coded_option}
 use Rattle.road_base.specs.declared.ids.NodeId.{NodeId}
@@ -10,8 +10,8 @@ use Rattle.road_base.specs.declared.ids.Key.TheVariants.{Node as NodeKey, Way as
 use Rattle.road_base.specs.declared.objects.Body.{Body}
 use Rattle.road_base.specs.contracts.objects.Body as body
 use Rattle.road_base.specs.Objects.{Objects, visible, node_of, way_of, relation_of, node_in, way_in, relation_in}
-use Rattle.road_model.specs.Links.{RefersTo, HasMember, IsLink, IsWithin, Differs}
-use Rattle.road_model.specs.Local.{IsSameWithin}
+use Rattle.road_model.specs.Links.{RefersTo, HasMember, IsLink, IsWithin, Differs, IsTouched, link_radius}
+use Rattle.road_model.specs.Local.{IsSameWithin, forward_radius}
 use Rattle.ordered_lists.proofs.Decided.{Decided, decided_both, decided_like}
 use Rattle.road_model.proofs.Positions.{decided_number}
 
@@ -110,6 +110,10 @@ module _ (M : Objects) where
   within_add m (suc n) a b c g (inr h) = let e : suc (n + m) ≡ suc n + m = omega arith in
       subst (λ k. IsWithin M k a c) e (inr (h.0, within_add m n a b h.0 g h.1, h.2))
 
+  within_more : (m n : ℕ) (a b : Key) → m ≤ n → IsWithin M m a b → IsWithin M n a b
+  within_more m n a b fewer h = let e : n - m + m ≡ n = omega arith in
+      subst (λ k. IsWithin M k a b) e (within_add m (n - m) a b b h (within_itself (n - m) b))
+
 -- ---- where all that is near has the same visible body in both object maps
 
 -- what is within n links of the key, in M or in N, has the same visible body in both
@@ -152,3 +156,18 @@ alike_near M N m n a b al h c k = al c (elim k [
   | inl x ↦ inl (within_add M m n a b c h x)
   | inr y ↦ inr (within_add N m n a b c (within_kept M N m a b (alike_less M N m n a al) h) y)
 ])
+
+-- what is the same within some links is so within fewer
+pub same_less : (M N : Objects) (m n : ℕ) (w : WayId) → m ≤ n → IsSameWithin n M N w → IsSameWithin m M N w
+same_less M N m n w fewer same h = same (
+  h.0,
+  h.1,
+  elim h.2 [
+    | inl x ↦ inl (within_more M m n h.0 (WayKey w) fewer x)
+    | inr y ↦ inr (within_more N m n h.0 (WayKey w) fewer y)
+  ],
+)
+
+-- so is what a change doesn't touch
+pub untouched_same : (M N : Objects) (w : WayId) → (IsTouched M N w → ⊥) → IsSameWithin forward_radius M N w
+untouched_same M N w untouched = same_less M N forward_radius link_radius w (omega arith) untouched

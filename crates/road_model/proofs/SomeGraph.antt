@@ -1,6 +1,6 @@
 -- Every way has a block, and every object map a graph.
 use Rattle.std.proofs.Common.{◌≡◌, ℕ, zero, suc, ◌+◌, ◌-◌, ◌<◌, ◌≤◌, List, [], ◌∷◌, ◌++◌, length, map, inl, refl, sym}
-use Rattle.std.proofs.Common.{ap, ◌∙◌, subst, arith, Option, Some, None, slice_get, IsTrue}
+use Rattle.std.proofs.Common.{ap, ◌∙◌, subst, arith, Option, Some, None, slice_get, false, IsTrue}
 use Rattle.std.specs.Prelude.{is_some}
 use Rattle.std.proofs.lemmas.Bool.{false≢true}
 use Rattle.road_base.specs.declared.ids.NodeId.{NodeId}
@@ -164,13 +164,14 @@ module _ (M : Objects) (P : Rules) where
     piece_entry p h =
         let t = places_of p h.is in
         let c = contexts_of p in (
-          record { name = name_of p; end = p.end; places = t.list; contexts = c.0 },
+          record { name = name_of p; end = p.end; zone = false; places = t.list; contexts = c.0 },
           record {
             piece = p;
             is = h.is;
             of = h.way;
             named = refl;
             end_is = refl;
+            unmarked = refl;
             count = t.count;
             places = t.each;
             contexts = c.1;

@@ -55,13 +55,14 @@ same_entry : (M : Objects) (P : Rules) (w : WayId) (e f : Piece) (a : IsPieceEnt
     (b : IsPieceEntry M P w f) → e.name ≡ f.name → a.piece ≡ b.piece → e ≡ f
 same_entry M P w e f a b n p =
     let end : e.end ≡ f.end = cc (a.end_is, b.end_is, p) in
+    let zone : e.zone ≡ f.zone = a.unmarked ∙ sym b.unmarked in
     let l : length e.places ≡ length f.places = cc (a.count, b.count, p) in
     let places : e.places ≡ f.places = places_same M b.piece e.places f.places l
     (subst (λ q. (k : ℕ) (x : Place) → slice_get e.places k ≡ Some x → IsPlaceOf M q k x) p a.places) b.places in
     let contexts : e.contexts ≡ f.contexts = lists_unique (λ (c : Context). c.before) names_cmp names_cmp_total
     (IsContextEntry M P b.piece) e.contexts f.contexts
     (subst (λ q. Lists (λ c. c.before) names_cmp (IsContextEntry M P q) e.contexts) p a.contexts) b.contexts in
-    λ i. record { name = n i; end = end i; places = places i; contexts = contexts i }
+    λ i. record { name = n i; end = end i; zone = zone i; places = places i; contexts = contexts i }
 
 pub one_entry : (M : Objects) (P : Rules) → OneEntry M P
 one_entry M P w e f a b n = same_entry M P w e f a b n

@@ -1,5 +1,6 @@
 -- What the block of a way lists.
-use Rattle.std.specs.Prelude.{◌≡◌, ℕ, ◌+◌, ◌-◌, List, [], ◌∷◌, ◌++◌, length, map, Some, slice_get, IsTrue, Contains}
+use Rattle.std.specs.Prelude.{◌≡◌, ℕ, ◌+◌, ◌-◌, List, [], ◌∷◌, ◌++◌, length, map, Some, false, slice_get, IsTrue}
+use Rattle.std.specs.Prelude.{Contains}
 use Rattle.road_base.specs.declared.ids.WayId.{WayId}
 use Rattle.road_base.specs.declared.ids.Dir.TheVariants.{Forward, Backward}
 use Rattle.road_base.specs.declared.objects.Node.{Node}
@@ -46,21 +47,26 @@ pub record IsPlaceOf (M : Objects) (p : Span) (k : ℕ) (e : Place) : Type 0 whe
   pub visible : node_of M e.node ≡ Some body
   pub location : body.location ≡ Some e.location
 
--- a piece of the way as it is written: its name and end, all its nodes in order of travel, and its contexts
+-- a piece of the way as it is written: its name and end, no mark, all its nodes in order of travel, and its contexts
 pub record IsPieceEntry (M : Objects) (P : Rules) (w : WayId) (e : Piece) : Type 0 where
   pub piece : Span
   pub is : IsPiece M P piece
   pub of : piece.way ≡ w
   pub named : e.name ≡ name_of piece
   pub end_is : e.end ≡ piece.end
+  pub unmarked : e.zone ≡ false
   pub count : length e.places ≡ piece.end - piece.index + 1
   pub places : (k : ℕ) (x : Place) → slice_get e.places k ≡ Some x → IsPlaceOf M piece k x
   pub contexts : Lists (λ c. c.before) names_cmp (IsContextEntry M P piece) e.contexts
 
--- the block of a way
-pub record IsBlock (M : Objects) (P : Rules) (w : WayId) (b : Block) : Type 0 where
+-- the forward part of a way's block: its pieces, each with what may follow it
+pub record IsForward (M : Objects) (P : Rules) (w : WayId) (b : Block) : Type 0 where
   pub way : b.way ≡ w
   pub pieces : Lists (λ p. p.name) name_cmp (IsPieceEntry M P w) b.pieces
+
+-- the block of a way, which is its forward part
+abbrev pub IsBlock : Objects → Rules → WayId → Block → Type 0
+IsBlock = IsForward
 
 -- the block of a way that has pieces
 pub record IsRoadBlock (M : Objects) (P : Rules) (b : Block) : Type 0 where

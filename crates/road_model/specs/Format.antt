@@ -1,6 +1,6 @@
 -- The bytes of a graph file. All numbers are little endian.
 use Rattle.std.specs.Prelude.{◌≡◌, ℕ, ◌+◌, ◌-◌, ◌<◌, ◌≤◌, ◌^◌, List, [], ◌∷◌, ◌++◌, length, map, IsTrue, FitsSigned}
-use Rattle.std.specs.Prelude.{codes}
+use Rattle.std.specs.Prelude.{codes, false}
 use Rattle.std.specs.List.{AllByRecursion}
 use Rattle.std.specs.Ordering.{nat_cmp, ordering_then}
 use Rattle.std.specs.Int.{w64}
@@ -41,7 +41,7 @@ abbrev pub context_bytes : Context → List ℕ
 context_bytes c = u32_bytes (length c.before + 1)
     ++ (joined name_bytes c.before ++ (u64_bytes (length c.arcs) ++ joined arc_bytes c.arcs))
 
--- its positions and direction, its nodes and its contexts
+-- its positions and direction, its nodes and its contexts; no mark is spelled
 abbrev pub piece_bytes : Piece → List ℕ
 piece_bytes p =
     u32_bytes p.name.index ++ (u32_bytes p.end
@@ -73,6 +73,7 @@ begins_alone (c ∷ cs) = c.before ≡ []
 pub record IsPieceForm (p : Piece) : Type 0 where
   pub ascends : p.name.index < p.end
   pub bounded : p.end ≤ 65534
+  pub unmarked : p.zone ≡ false
   pub place_count : length p.places ≡ p.end - p.name.index + 1
   pub first_alone : begins_alone p.contexts
   pub contexts_ascend : IsTrue (rises names_cmp (map (λ c. c.before) p.contexts))
@@ -103,8 +104,8 @@ pub record BlockFits (b : Block) : Type 0 where
   pub pieces : AllByRecursion PieceFits b.pieces
 
 -- The bytes are in the grammar of a graph file: they spell blocks that ascend by way, each with pieces that ascend by
--- position and direction, each with its contexts, of which the first has one piece, by length and names, each with its
--- arcs by name. Locations are in range by their type.
+-- position and direction, each without a mark and with its contexts, of which the first has one piece, by length and
+-- names, each with its arcs by name. Locations are in range by their type.
 pub record IsGraphFile (bytes : List ℕ) : Type 0 where
   pub blocks : List Block
   pub ascend : IsTrue (rises way_cmp (map (λ b. b.way) blocks))

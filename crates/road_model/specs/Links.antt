@@ -54,15 +54,19 @@ Differs M N k = ¬ (visible M k ≡ visible N k)
 abbrev pub AreChanged : Objects → Objects → List Key → Type 0
 AreChanged M N keys = Lists (λ k. k) key_cmp (Differs M N) keys
 
--- the way, visible or not, is within six links of the key
-abbrev pub IsNear : Objects → Key → WayId → Type 0
-IsNear M k w = IsWithin M 6 k (WayKey w)
+-- how many links lead from a changed key to a way at most, if the change may alter the way's block
+abbrev pub link_radius : ℕ
+link_radius = 6
 
--- the ways within six links of one of the keys, ascending
+-- the way, visible or not, is within the link radius of the key
+abbrev pub IsNear : Objects → Key → WayId → Type 0
+IsNear M k w = IsWithin M link_radius k (WayKey w)
+
+-- the ways within the link radius of one of the keys, ascending
 abbrev pub AreReached : Objects → List Key → List WayId → Type 0
 AreReached M keys ways = Lists (λ w. w) way_cmp (λ w. (k : Key) × Contains keys k × IsNear M k w) ways
 
--- the way is within six links, in M or in N, of a key whose visible body differs between them
+-- the way is within the link radius, in M or in N, of a key whose visible body differs between them
 abbrev pub IsTouched : Objects → Objects → WayId → Type 0
 IsTouched M N w = (k : Key) × Differs M N k × (IsNear M k w ⊎ IsNear N k w)
 

@@ -20,7 +20,7 @@ ghost use Rattle.road_model.specs.Contexts.{Every};
 ghost use Rattle.road_model.specs.Network.{AnyWord, Legal, GoesOn, IsContext, IsContextOf, HasNoWords, spell_pieces};
 ghost use Rattle.road_model.specs.Network.{IsArc};
 ghost use Rattle.road_model.specs.Links.{HasMember, RefersTo, IsTouched};
-ghost use Rattle.road_model.specs.Local.{IsSameWithin};
+ghost use Rattle.road_model.specs.Local.{IsSameWithin, forward_radius};
 ghost use Rattle.road_model.specs.Blocks.{name_of, IsRoadBlock, IsPlaceOf, IsBlock};
 ghost use Rattle.road_model.specs.declared.lists.Place.{Place};
 ghost use Rattle.road_model.specs.Highways.{IsHighway};
@@ -348,11 +348,11 @@ pub fn local_words<P: Profile>(profile: &P, way: WayId)
         → IsWord M (P.rules profile.now) r only binding u ↔ IsWord N (P.rules profile.now) r only binding u }
 {}
 
-/// Where no such key is within six links of the way, the contexts of the way's pieces are the same in both object
-/// maps.
+/// Where no such key is within the forward radius of the way, the contexts of the way's pieces are the same in both
+/// object maps.
 pub fn local_contexts<P: Profile>(profile: &P, way: WayId)
     ensures { (M N : Objects) (before : List Span) (p : Span)
-        → IsSameWithin 6 M N way
+        → IsSameWithin forward_radius M N way
         → p.way ≡ way
         → IsContext M (P.rules profile.now) (before ++ p ∷ []) ↔ IsContext N (P.rules profile.now) (before ++ p ∷ []) }
 {}
@@ -360,14 +360,14 @@ pub fn local_contexts<P: Profile>(profile: &P, way: WayId)
 /// In the same case the arcs of these contexts are the same in both, with the contexts to which they lead.
 pub fn local_arcs<P: Profile>(profile: &P, way: WayId)
     ensures { (M N : Objects) (before : List Span) (p t : Span) (target : List Span)
-        → IsSameWithin 6 M N way
+        → IsSameWithin forward_radius M N way
         → p.way ≡ way
         → IsArc M (P.rules profile.now) (before ++ p ∷ []) t target
         ↔ IsArc N (P.rules profile.now) (before ++ p ∷ []) t target }
 {}
 
-/// A change alters no block of a way that it doesn't touch: where the way isn't within six links of a key whose visible
-/// body differs between two object maps, its block is the same in both.
+/// A change alters no block of a way that it doesn't touch: where the way isn't within the link radius of a key whose
+/// visible body differs between two object maps, its block is the same in both.
 pub fn locality<P: Profile>(profile: &P, way: WayId)
     ensures { (M N : Objects) (b : Block)
         → (IsTouched M N way → ⊥)

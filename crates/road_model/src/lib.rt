@@ -15,6 +15,7 @@ mod answers;
 mod block_search;
 mod blocks;
 pub mod laws;
+mod links;
 mod lists;
 mod network;
 mod profile;
@@ -22,6 +23,7 @@ mod world;
 
 pub use answers::{Access, AccessKey, ClosedBy, RuleKind, Unusable};
 pub use blocks::{Block, Blocks};
+pub use links::LINK_RADIUS;
 pub use lists::{Arcs, Context, Contexts, Names, Piece, PieceName, Pieces, Place, Places, TurnArc};
 pub use network::Network;
 pub use profile::Profile;

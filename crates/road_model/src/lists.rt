@@ -41,12 +41,14 @@ pub struct Context {
     pub arcs: Arcs,
 }
 
-/// A run of a way between two junctions in one direction: its name, its upper position on the way's line, the nodes in
-/// order of travel, and its contexts.
+/// A run of a way between two junctions in one direction: its name, its upper position on the way's line, its mark, the
+/// nodes in order of travel, and its contexts.
 #[derive(Drop)]
 pub struct Piece {
     pub name: PieceName,
     pub end: u32,
+    /// Whether the piece is marked as one of a zone.
+    pub zone: bool,
     pub places: Places,
     pub contexts: Contexts,
 }
@@ -96,6 +98,7 @@ impl Piece {
         Ok(Piece {
             name: self.name,
             end: self.end,
+            zone: self.zone,
             places,
             contexts,
         })

@@ -11,7 +11,7 @@ use Rattle.road_base.specs.Objects.{Objects, key_cmp, visible}
 use Rattle.ordered_lists.specs.Orders.{Lists}
 use Rattle.road_model.specs.Orders.{way_cmp}
 use Rattle.road_model.specs.Links.{RefersTo, HasMember, IsLink, IsWithin, Differs, AreChanged, IsTouched}
-use Rattle.road_model.specs.Links.{AreTouched}
+use Rattle.road_model.specs.Links.{AreTouched, link_radius}
 use Rattle.ordered_lists.proofs.JoinedLists.{lists_same}
 use Rattle.road_model.proofs.LocalLinks.{way_same, relation_same, within_itself, decided_by, coded_visible}
 use Rattle.touched_ways.specs.declared.search.Search.{Search}
@@ -165,8 +165,8 @@ module _ (M N : Objects) (keys : List Key) (changed : AreChanged M N keys) where
       lists
       (λ w h. (h.0, changed.sound h.0 h.1, h.2)) (λ w h. (h.0, changed.complete h.0 h.1, h.2))
 
-  pub all_ways : (ways : List WayId) → Lists (λ w. w) way_cmp (λ w. IsWithinInOne M N keys 6 (WayKey w)) ways
+  pub all_ways : (ways : List WayId) → Lists (λ w. w) way_cmp (λ w. IsWithinInOne M N keys link_radius (WayKey w)) ways
       → AreTouched M N ways
-  all_ways ways lists = lists_same (λ w. w) way_cmp (λ w. IsWithinInOne M N keys 6 (WayKey w)) (IsTouched M N) ways
-      lists
+  all_ways ways lists = lists_same (λ w. w) way_cmp (λ w. IsWithinInOne M N keys link_radius (WayKey w))
+      (IsTouched M N) ways lists
       (λ w h. (h.0, changed.sound h.0 h.1, h.2)) (λ w h. (h.0, changed.complete h.0 h.1, h.2))

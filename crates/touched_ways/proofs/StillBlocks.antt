@@ -1,4 +1,4 @@
--- The blocks of settled ways are the same in both object maps.
+-- The forward parts of the blocks of settled ways are the same in both object maps.
 use Rattle.std.proofs.Common.{◌↔◌, inl, inr, List, [], ◌∷◌, ◌++◌, sym, subst}
 use Rattle.road_base.specs.declared.ids.WayId.{WayId}
 use Rattle.road_base.specs.Objects.{Objects}
@@ -8,7 +8,8 @@ use Rattle.road_model.specs.declared.lists.Piece.{Piece}
 use Rattle.road_model.specs.declared.blocks.Block.{Block}
 use Rattle.road_model.specs.Rules.{Rules}
 use Rattle.road_model.specs.Pieces.{Span, IsPiece}
-use Rattle.road_model.specs.Blocks.{IsArcEntry, IsContextEntry, IsPieceEntry, IsBlock}
+use Rattle.road_model.specs.Blocks.{IsArcEntry, IsContextEntry, IsPieceEntry, IsForward}
+use Rattle.road_model.proofs.LocalLinks.{untouched_same}
 use Rattle.road_model.proofs.LocalPieces.{NeedsHighway, piece_kept, place_kept}
 use Rattle.road_model.proofs.LocalBlocks.{same_block, lists_kept}
 use Rattle.touched_ways.specs.Altering.{IsUnaltered}
@@ -49,6 +50,7 @@ module _ (M N : Objects) (P : Rules) (needs : NeedsHighway P) where
         of = p.of;
         named = p.named;
         end_is = p.end_is;
+        unmarked = p.unmarked;
         count = p.count;
         places = λ k x at. place_kept M N P needs p.piece q.own.alike p.is k x (p.places k x at);
         contexts = lists_kept e.contexts (context_entry M N P needs p.piece q p.is is)
@@ -56,17 +58,18 @@ module _ (M N : Objects) (P : Rules) (needs : NeedsHighway P) where
       }
 
 block_kept : (M N : Objects) (P : Rules) → NeedsHighway P → (w : WayId) → IsSettled M N P w → (b : Block)
-    → IsBlock M P w b → IsBlock N P w b
+    → IsForward M P w b → IsForward N P w b
 block_kept M N P needs w q b h = record {
   way = h.way;
   pieces = lists_kept b.pieces (piece_entry M N P needs w q) (piece_entry N M P needs w (settled_turned M N P w q))
       h.pieces;
 }
 
--- a way that a change leaves unaltered keeps its block
+-- a way that a change leaves unaltered keeps the forward part of its block
 pub unaltered_block : (M N : Objects) (P : Rules) → NeedsHighway P → (w : WayId) (b : Block) → IsUnaltered M N P w
-    → IsBlock M P w b ↔ IsBlock N P w b
-unaltered_block M N P needs w b (inl untouched) = same_block M N P needs w b untouched
+    → IsForward M P w b ↔ IsForward N P w b
+unaltered_block M N P needs w b (inl untouched) =
+    same_block M N P needs w b (untouched_same M N w untouched)
 unaltered_block M N P needs w b (inr (own, others)) =
     let s = settled_from M N P w own others in
     (block_kept M N P needs w s b, block_kept N M P needs w (settled_turned M N P w s) b)

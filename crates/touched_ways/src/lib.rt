@@ -1,4 +1,4 @@
-//! The ways that a change touches: those within six links of what changed.
+//! The ways that a change touches: those within the link radius, six links, of what changed.
 //!
 //! A search over links goes round by round, over what the last round found. What a round finds is listed by kind,
 //! without a look-up, in lists whose memory is guessed from the nodes and ways that are followed, and taken at once.

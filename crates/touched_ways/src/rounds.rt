@@ -13,36 +13,33 @@ use crate::hubs::{find_ways_once, follow_node_once};
 use crate::links::{find_ways_of_rule, follow_rule, follow_way};
 use crate::search::Search;
 use road_base::{Key, Keys, NoMemory, NodeId, RelationId, WayId, Ways};
-use road_model::World;
+use road_model::{LINK_RADIUS, World};
 use std::alloc::Global;
 use std::collections::BTreeSet;
-
-/// How many links lead to a way at most.
-const LINKS: u32 = 6;
 
 /// How many links lead at most to a way whose pieces a change may alter.
 const FEW_LINKS: u32 = 2;
 
-/// The ways near a change, visible or not, ascending: those within two links of a changed key, and those within six. A
-/// way is within zero links of itself.
+/// The ways near a change, visible or not, ascending: those within two links of a changed key, and those within the
+/// link radius of one. A way is within zero links of itself.
 #[derive(Drop)]
 pub struct NearWays {
     pub near: Ways,
     pub all: Ways,
 }
 
-/// The ways within six links of the keys, ascending. Takes the time and memory of what is reached.
+/// The ways within the link radius of the keys, ascending. Takes the time and memory of what is reached.
 pub fn reached<M: World>(alloc: Global, world: &M, changed: &Keys) -> Result<Ways, NoMemory>
     ensures { IfOk result (AreReached (M.objects world.now) changed.now) }
 {
     let mut search = begin(alloc, changed.items())?;
-    rounds(alloc, world, &mut search, LINKS - 1)?;
+    rounds(alloc, world, &mut search, LINK_RADIUS - 1)?;
     last_round(alloc, world, search)
 }
 
-/// The ways within two and those within six links of the changed keys, in the world before a change or in the one
-/// behind it, in one search. A link that is in one of them alone has a changed key at an end, so those of the world
-/// before are followed from the changed keys alone. Takes the time and memory of what is reached.
+/// The ways within two links and those within the link radius of the changed keys, in the world before a change or in
+/// the one behind it, in one search. A link that is in one of them alone has a changed key at an end, so those of the
+/// world before are followed from the changed keys alone. Takes the time and memory of what is reached.
 pub fn surroundings<M: World, N: World>(
     alloc: Global,
     before: &M,
@@ -58,7 +55,7 @@ pub fn surroundings<M: World, N: World>(
     round_in_both(alloc, before, after, &mut search)?;
     rounds(alloc, after, &mut search, FEW_LINKS - 1)?;
     let near = search.ways(alloc)?;
-    rounds(alloc, after, &mut search, LINKS - FEW_LINKS - 1)?;
+    rounds(alloc, after, &mut search, LINK_RADIUS - FEW_LINKS - 1)?;
     let all = last_round(alloc, after, search)?;
     Ok(NearWays { near, all })
 }

@@ -46,7 +46,7 @@ returns-clause-entry g c =
     subst (λ (l : List Context). Lists (λ x. x.before) names_cmp (IsContextEntry M P (piece_of s)) l)
     (sym c.from_list-2.ensures) c.in_ok-contexts.ensures.listed in
     entry M P c.args.line.now.road.way s c.requires.span nodes (c.as_slice-nodes.ensures.value ∙ c.requires.line) _
-    refl refl placed listed
+    refl refl refl placed listed
 
 pub returns-clause-form : goal.returns-clause-form
 returns-clause-form g c =
@@ -62,5 +62,5 @@ returns-clause-form g c =
     let first = subst begins_alone (sym c.from_list-2.ensures) c.in_ok-contexts.ensures.alone in
     let forms = subst (AllByRecursion IsContextForm) (sym c.from_list-2.ensures) c.in_ok-contexts.ensures.forms in
     form M P c.args.line.now.road.way s c.requires.span nodes (c.as_slice-nodes.ensures.value ∙ c.requires.line) _
-    refl refl placed (subst (λ l. length l ≤ 65535) (sym c.as_slice-nodes.ensures.value) c.requires.short) listed
+    refl refl refl placed (subst (λ l. length l ≤ 65535) (sym c.as_slice-nodes.ensures.value) c.requires.short) listed
     first forms

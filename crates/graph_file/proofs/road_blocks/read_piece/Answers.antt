@@ -1,4 +1,4 @@
-use Rattle.std.proofs.Common.{◌+◌, ◌-◌, sym, subst}
+use Rattle.std.proofs.Common.{◌+◌, ◌-◌, false, refl, sym, subst}
 use Rattle.road_base.specs.Bytes.{joined}
 use Rattle.road_model.specs.Format.{place_bytes}
 use Rattle.spelled_bytes.specs.Spelling.{AreSoMany}
@@ -36,9 +36,10 @@ returns-clause-found c =
     whole_piece (record {
       name = record { way = c.args.way; index = e.index; dir = e.dir };
       end = e.end;
+      zone = false;
       places = c.from_list.result;
       contexts = c.in_ok-contexts.contexts;
-    }) c.args.bytes.now c.in_ok-extent.rest.now c.in_ok-places.rest.now c.in_ok-contexts.rest.now
+    }) refl c.args.bytes.now c.in_ok-extent.rest.now c.in_ok-places.rest.now c.in_ok-contexts.rest.now
     c.in_ok-extent.ensures.found
     (subst (λ l. Begins (joined place_bytes) (AreSoMany PlaceFits (e.end - e.index + 1)) c.in_ok-extent.rest.now l
     c.in_ok-places.rest.now) (sym c.from_list.ensures) c.in_ok-places.ensures.found) c.in_ok-contexts.ensures.found
