@@ -17,7 +17,7 @@ use Rattle.road_model.specs.Orders.{way_cmp}
 use Rattle.drive_queries.specs.declared.drive_lines.DriveLine.{DriveLine}
 use Rattle.drive_queries.specs.DriveLines.{line_in, IsLineIn, HasEnds}
 use Rattle.drive_queries.proofs.JudgedSteps.{at_named}
-use Rattle.drive_queries.proofs.SearchGoals.{eq_cases}
+use Rattle.ordered_lists.proofs.Comparisons.{eq_cases}
 
 module _ (M : Objects) where
   pub line_visible : (w : WayId) (b : Way) → way_of M w ≡ Some b → line_of M w ≡ changes b.refs

@@ -32,7 +32,7 @@ use Rattle.drive_queries.specs.DeadEnds.{IsWith, Adds, AreUnknown, HasWaysAt, le
 use Rattle.ordered_lists.proofs.ListFronts.{among_more, among_before, among_last}
 use Rattle.ordered_lists.proofs.ListMembers.{contains_none}
 use Rattle.road_model.proofs.TotalOrders.{dir_cases}
-use Rattle.drive_queries.proofs.SearchGoals.{eq_cases}
+use Rattle.ordered_lists.proofs.Comparisons.{eq_cases}
 use Rattle.drive_queries.proofs.JudgedSteps.{node_is}
 
 both : (b : Bool) → (b ≡ true) ⊎ (b ≡ false)

@@ -5,7 +5,7 @@ use Rattle.std.proofs.Common.{ℕ, ◌+◌, ◌<◌, List, length, map, take, ge
 use Rattle.std.specs.Ordering.{is_eq, is_lt}
 use Rattle.std.proofs.lemmas.List.{take_more}
 use Rattle.ordered_lists.proofs.ListMembers.{in_from_contains}
-use Rattle.ordered_lists.proofs.Comparisons.{not_itself}
+use Rattle.ordered_lists.proofs.Comparisons.{not_itself, eq_cases}
 use Rattle.road_model.specs.declared.lists.Piece.{Piece}
 use Rattle.ordered_lists.specs.Orders.{rises}
 use Rattle.ordered_lists.proofs.AscendingLists.{Climbs, climbs, climbs_take, below_end}
@@ -17,11 +17,6 @@ use Rattle.road_model.specs.declared.lists.PieceName.{PieceName}
 use Rattle.road_model.specs.Orders.{name_cmp}
 use Rattle.drive_queries.specs.declared.ends.Goal.{Goal}
 use Rattle.drive_queries.specs.Visits.{goal_in}
-
-pub eq_cases : (r : Ordering) → (r ≡ Equal) ⊎ (is_eq r ≡ false)
-eq_cases Less = inr refl
-eq_cases Equal = inl refl
-eq_cases Greater = inr refl
 
 module _ (cmp : PieceName → PieceName → Ordering) (by : (a b : PieceName) → cmp a b ≡ name_cmp a b)
     (old new : BTreeMap PieceName Goal) (k : PieceName) (g : Goal) (put : Updates cmp old new k (Some g)) where

@@ -32,7 +32,7 @@ use Rattle.drive_queries.specs.Visits.{goal_in}
 use Rattle.drive_queries.specs.Sought.{AreGoals, IsGoalAt}
 use Rattle.drive_queries.proofs.SearchEnds.{stops_at, stops_by}
 use Rattle.drive_queries.proofs.SearchEntries.{entry_of, entry_of_piece, entry_in}
-use Rattle.drive_queries.proofs.SearchGoals.{eq_cases}
+use Rattle.ordered_lists.proofs.Comparisons.{eq_cases}
 use Rattle.drive_queries.proofs.SearchStartsOf.{block_there}
 
 module _ (names : IsTotalOrder name_cmp) (ties : IsAntisymmetric name_cmp) where
