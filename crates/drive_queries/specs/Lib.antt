@@ -1,17 +1,3 @@
 pub mod Messages
-pub mod Verdicts
-pub mod Tables
-pub mod DriveWords
-pub mod Judging
-pub mod Reaching
-pub mod Searching
 pub mod Counting
 pub mod Summing
-pub mod Marks
-pub mod Visits
-pub mod Routes
-pub mod Sought
-pub mod Ends
-pub mod DriveLines
-pub mod DeadEnds
-pub mod WordTables

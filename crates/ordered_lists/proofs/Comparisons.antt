@@ -1,9 +1,14 @@
 -- What the tests of a comparison tell of it, and what is below what.
-use Rattle.std.proofs.Common.{◌≡◌, true, false, IsTrue, Ordering, refl, ap, ◌∙◌}
+use Rattle.std.proofs.Common.{◌≡◌, ◌⊎◌, inl, inr, true, false, IsTrue, Ordering, refl, ap, ◌∙◌}
 use Rattle.std.specs.declared.cmp.Ordering.TheVariants.{Less, Equal, Greater}
 use Rattle.std.specs.Ordering.{is_lt, is_le, is_eq, is_gt, ordering_reverse}
 use Rattle.std.specs.Cmp.{IsTotalOrder}
 use Rattle.std.proofs.lemmas.Cmp.{tied_itself}
+
+pub eq_cases : (r : Ordering) → (r ≡ Equal) ⊎ (is_eq r ≡ false)
+eq_cases Less = inr refl
+eq_cases Equal = inl refl
+eq_cases Greater = inr refl
 
 pub less : (r : Ordering) → IsTrue (is_lt r) → r ≡ Less
 less Less h = refl

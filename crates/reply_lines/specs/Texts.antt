@@ -12,11 +12,11 @@ use Rattle.opl_lexer.specs.declared.fault.FaultKind.{FaultKind}
 use Rattle.opl_lexer.specs.declared.fault.FaultKind.TheVariants.{NotUtf8, UnknownLine, UnknownField, Repeated}
 use Rattle.opl_lexer.specs.declared.fault.FaultKind.TheVariants.{BadNumber, BadEscape, BadTag, BadMember, BadRef}
 use Rattle.opl_lexer.specs.declared.fault.FaultKind.TheVariants.{BadCoordinate, BadFlag, NoVersion, TooMany}
-use Rattle.drive_queries.specs.declared.verdict.Rule.{Rule}
-use Rattle.drive_queries.specs.declared.verdict.Rule.TheVariants.{NoStep, NoNode, Closed, WrongWay, Apart, Barrier}
-use Rattle.drive_queries.specs.declared.verdict.Rule.TheVariants.{Reversal, No, Only}
-use Rattle.drive_queries.specs.declared.verdict.Verdict.{Verdict}
-use Rattle.drive_queries.specs.declared.verdict.Verdict.TheVariants.{Legal, Broken}
+use Rattle.drive_judging.specs.declared.verdict.Rule.{Rule}
+use Rattle.drive_judging.specs.declared.verdict.Rule.TheVariants.{NoStep, NoNode, Closed, WrongWay, Apart, Barrier}
+use Rattle.drive_judging.specs.declared.verdict.Rule.TheVariants.{Reversal, No, Only}
+use Rattle.drive_judging.specs.declared.verdict.Verdict.{Verdict}
+use Rattle.drive_judging.specs.declared.verdict.Verdict.TheVariants.{Legal, Broken}
 use Rattle.drive_queries.specs.declared.totals.Totals.{Totals}
 
 -- ---- steps

@@ -11,10 +11,10 @@ use Rattle.road_model.specs.Walks.{AreWalked}
 use Rattle.graph_file.specs.WalkedFiles.{IsWalkedFile}
 use Rattle.drive_queries.specs.declared.messages.Asked.{Asked}
 use Rattle.drive_queries.specs.declared.messages.Asked.TheVariants.{Empty, Seq, Graph, State, Drive, Reach, Unknown}
-use Rattle.drive_queries.specs.declared.verdict.Verdict.{Verdict}
-use Rattle.drive_queries.specs.declared.found.Found.{Found}
-use Rattle.drive_queries.specs.Verdicts.{IsVerdict}
-use Rattle.drive_queries.specs.Reaching.{IsFound}
+use Rattle.drive_judging.specs.declared.verdict.Verdict.{Verdict}
+use Rattle.context_search.specs.declared.found.Found.{Found}
+use Rattle.drive_judging.specs.Verdicts.{IsVerdict}
+use Rattle.context_search.specs.Reaching.{IsFound}
 use Rattle.drive_queries.specs.Counting.{blocks_in, totals_of}
 use Rattle.session_replies.specs.declared.reply.Reply.{Reply}
 use Rattle.session_replies.specs.Texts.{unknown_line, state_line, verdict_line, found_line, graph_line}

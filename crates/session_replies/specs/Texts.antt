@@ -5,10 +5,10 @@ use Rattle.std.specs.Fmt.{decimal, signed_decimal}
 use Rattle.road_base.specs.declared.ids.Step.{Step}
 use Rattle.opl_lexer.specs.Letters.{newline}
 use Rattle.opl_lexer.specs.Reading.{FaultAt}
-use Rattle.drive_queries.specs.declared.verdict.Verdict.{Verdict}
+use Rattle.drive_judging.specs.declared.verdict.Verdict.{Verdict}
 use Rattle.drive_queries.specs.declared.totals.Totals.{Totals}
-use Rattle.drive_queries.specs.declared.found.Found.{Found}
-use Rattle.drive_queries.specs.declared.found.Found.TheVariants.{Drive, NoNode, Nowhere}
+use Rattle.context_search.specs.declared.found.Found.{Found}
+use Rattle.context_search.specs.declared.found.Found.TheVariants.{Drive, NoNode, Nowhere}
 use Rattle.reply_lines.specs.Texts.{step_bytes, verdict_bytes, fault_bytes, counts_bytes}
 
 -- ---- lines

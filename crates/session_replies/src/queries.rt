@@ -1,7 +1,7 @@
 //! The replies to lines.
 ghost use Rattle.std.specs.Prelude.{◌≡◌, ◌≢◌, [], IfOk};
-ghost use Rattle.drive_queries.specs.Verdicts.{IsVerdict};
-ghost use Rattle.drive_queries.specs.Reaching.{IsFound};
+ghost use Rattle.drive_judging.specs.Verdicts.{IsVerdict};
+ghost use Rattle.context_search.specs.Reaching.{IsFound};
 ghost use Rattle.session_replies.specs.Replies.{IsQuery, IsReply, IsGraphReply, IsStateReply, said};
 ghost use Rattle.session_replies.specs.Texts.{verdict_line, found_line};
 

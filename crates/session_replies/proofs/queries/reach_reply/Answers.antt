@@ -1,7 +1,7 @@
 use Rattle.std.proofs.Common.{sym, subst, ◌∙◌}
 use Rattle.road_base.specs.Objects.{Objects}
 use Rattle.road_model.specs.BlockMap.{AreBlocksOf}
-use Rattle.drive_queries.specs.Reaching.{IsFound}
+use Rattle.context_search.specs.Reaching.{IsFound}
 use Rattle.session_replies.proofs.queries.reach_reply.Goals as goal
 
 pub reach-requires : goal.reach-requires

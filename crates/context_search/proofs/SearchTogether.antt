@@ -1,0 +1,114 @@
+-- What a search from starts to goals asks for and keeps, from its first visits to what it meets.
+use Rattle.std.proofs.Common.{◌≡◌, inl, inr, ℕ, zero, suc, ◌+◌, ◌-◌, ◌<◌, ◌≤◌, List, [], length, Some, true}
+use Rattle.std.proofs.Common.{slice_get, Contains}
+use Rattle.std.proofs.Common.{sym, ◌∙◌, ap, subst, arith, take, drop}
+use Rattle.std.specs.BTreeMap.{BTreeMap}
+use Rattle.std.proofs.lemmas.Option.{slice_get_within}
+use Rattle.ordered_lists.proofs.ListMembers.{contains_none}
+use Rattle.ordered_lists.proofs.ListPlaces.{contains_at}
+use Rattle.road_base.specs.declared.ids.NodeId.{NodeId}
+use Rattle.road_base.specs.declared.ids.WayId.{WayId}
+use Rattle.road_base.specs.Objects.{Objects}
+use Rattle.road_model.specs.declared.lists.Piece.{Piece}
+use Rattle.road_model.specs.declared.lists.PieceName.{PieceName}
+use Rattle.road_model.specs.Rules.{Rules}
+use Rattle.road_model.specs.Pieces.{spell}
+use Rattle.road_model.specs.Blocks.{IsPieceEntry}
+use Rattle.road_model.specs.Naming.{OnePiece}
+use Rattle.context_search.specs.declared.ends.Start.{Start}
+use Rattle.context_search.specs.declared.ends.Goal.{Goal}
+use Rattle.context_search.specs.declared.marks.Visit.{Visit}
+use Rattle.context_search.specs.Marks.{At}
+use Rattle.context_search.specs.Reaching.{LeadsTo}
+use Rattle.context_search.specs.Searching.{StopsAt, LeadsWithin}
+use Rattle.context_search.specs.Sought.{IsStartAt, IsGoalAt, AreSpots, AreGoals}
+use Rattle.context_search.specs.Routes.{Descend, AreSpelled, spelled}
+use Rattle.context_search.proofs.SearchTargets.{entry_spells}
+use Rattle.context_search.specs.Visits.{Marks, IsSearch, IsStarted, IsVisited, AreBegun, NoneBegun, AreClosed, Grows}
+use Rattle.context_search.specs.Visits.{Meets}
+
+nothing_at : (k : ℕ) (v : Visit) → slice_get [] k ≡ Some v → ⊥
+nothing_at zero v e = cc
+nothing_at (suc k) v e = cc
+
+module _ (L : List At) (m n : Marks) where
+  -- a search that has nothing marked
+  pub new_search : length n.marked ≡ length L → n.visits ≡ [] → n.waiting ≡ []
+      → ((k : ℕ) → slice_get n.marked k ≡ Some true → ⊥) → IsSearch L n
+  new_search count none quiet bare =
+      let not : (k : ℕ) (v : Visit) → slice_get n.visits k ≡ Some v → ⊥
+      = λ k v e. nothing_at k v (subst (λ (l : List Visit). slice_get l k ≡ Some v) none e) in
+      record {
+        count = count;
+        numbers = λ k v e. absurd (not k v e);
+        comes = λ k j v e o. absurd (not k v e);
+        known = λ k e. absurd (bare k e);
+        within = λ k has. absurd (contains_none k (subst (λ (l : List ℕ). Contains l k) quiet has));
+      }
+
+  -- all first visits wait
+  pub first_closed : (goals : BTreeMap PieceName Goal) → m.visits ≡ [] → Grows m n → AreClosed L goals n
+  first_closed goals none g k v e = elim (g.new k v e) [
+    | inl old ↦ absurd (nothing_at k v (subst (λ (l : List Visit). slice_get l k ≡ Some v) none old))
+    | inr waits ↦ inl waits
+  ]
+
+  pub still_begun : (starts : List Start) → AreBegun L starts m → NoneBegun m n → AreBegun L starts n
+  still_begun starts begun none k first v e o = begun k first v (none k first v e o) o
+
+  pub still_started : (s : Start) → ((k : ℕ) → IsVisited m.visits k → IsVisited n.visits k)
+      → IsStarted L m.visits s → IsStarted L n.visits s
+  still_started s stays is = record {
+    number = is.number;
+    from = is.from;
+    at = is.at;
+    named = is.named;
+    visited = stays is.number is.visited;
+  }
+
+  pub descends : IsSearch L n → Descend n.visits
+  descends s k j v e o = (s.comes k j v e o).0
+
+module _ (M : Objects) (P : Rules) where
+  pub entry_ascends : (w : WayId) (e : Piece) → IsPieceEntry M P w e → e.name.index ≤ e.end
+  entry_ascends w e l =
+      let up = l.is.ascends in
+      let i : e.name.index ≡ l.piece.index = ap (λ (n : PieceName). n.index) l.named in
+      let j = l.end_is in
+      omega arith
+
+  pub spots_spelled : (L : List At) (m : Marks) → AreSpots M P L → IsSearch L m → AreSpelled L m.visits
+  spots_spelled L m are s = record {
+    numbers = s.numbers;
+    ascends = λ n x at. let r = are.sound x (contains_at L n x at) in entry_ascends r.1.way x.piece r.1.listed;
+  }
+
+  pub goal_within : (b : NodeId) (n : PieceName) (g : Goal) → IsGoalAt M P b n g
+      → g.last < length (spelled g.piece.now)
+  goal_within b n g is = subst (λ l. g.last < length l) (sym (entry_spells M P is.way g.piece.now is.listed))
+      (slice_get_within (spell is.listed.piece) g.last is.stops.step is.stops.at)
+
+  -- the goal that is met is one
+  pub met_goal : (b : NodeId) (L : List At) (goals : BTreeMap PieceName Goal) (visits : List Visit) (place : ℕ)
+      (g : Goal) → AreGoals M P b goals → (met : Meets L goals visits place g) → IsGoalAt M P b met.arc.piece g
+  met_goal b L goals visits place g are met = are.sound met.arc.piece g met.met
+
+  -- a piece on which a drive begins and then ends
+  module _ (one : OnePiece M P) (a b : NodeId) (s : Start) (g : Goal) (from : IsStartAt M P a s)
+      (to : IsGoalAt M P b s.piece.now.name g) where
+    same_piece : from.listed.piece ≡ to.listed.piece
+    same_piece = one from.listed.piece to.listed.piece from.listed.is to.listed.is
+        (sym from.listed.named ∙ sym to.named ∙ to.listed.named)
+
+    pub ends_within : g.last < length (spelled s.piece.now)
+    ends_within = subst (λ l. g.last < length l)
+        (sym (entry_spells M P from.way s.piece.now from.listed ∙ ap spell same_piece))
+        (slice_get_within (spell to.listed.piece) g.last to.stops.step to.stops.at)
+
+    pub leads_within : LeadsWithin M P a b → s.first ≤ g.last
+        → LeadsTo M P a b (take (g.last + 1 - s.first) (drop s.first (spelled s.piece.now)))
+    leads_within leads l =
+        let stops = subst (λ z. StopsAt M z g.last b) (sym same_piece) to.stops in
+        subst (λ d. LeadsTo M P a b (take (g.last + 1 - s.first) (drop s.first d)))
+        (sym (entry_spells M P from.way s.piece.now from.listed))
+        (leads from.listed.piece s.first g.last from.listed.is from.begins stops l)

@@ -1,0 +1,29 @@
+//! Laws of the definitions, each the contract of a function that does nothing.
+ghost use Rattle.std.specs.Prelude.{List};
+ghost use Rattle.road_base.specs.Objects.{Objects};
+ghost use Rattle.road_base.specs.declared.ids.NodeId.{NodeId};
+ghost use Rattle.road_base.specs.declared.ids.Step.{Step};
+ghost use Rattle.road_model.specs.Pieces.{Span};
+ghost use Rattle.context_search.specs.Reaching.{LeadsTo};
+ghost use Rattle.context_search.specs.Searching.{LeadsWithin, LeadsAlong, IsSearched};
+
+use road_model::Profile;
+use road_model::laws::{drive_parts, one_junction, one_piece, walk_law, whole_pieces};
+
+/// What a search over contexts and arcs finds is a legal drive between the nodes; and where all contexts that can be
+/// come to are seen and nothing leads on to the goal, there is no legal drive between them.
+pub fn searched_drives<P: Profile>(profile: &P)
+    ensures within { (M : Objects) (a b : NodeId) → LeadsWithin M (P.rules profile.now) a b }
+    ensures along { (M : Objects) (a b : NodeId) → LeadsAlong M (P.rules profile.now) a b }
+    ensures nowhere { (M : Objects) (a b : NodeId) (seen : List (List Span))
+        → IsSearched M (P.rules profile.now) a b seen
+        → (d : List Step)
+        → LeadsTo M (P.rules profile.now) a b d
+        → ⊥ }
+{
+    walk_law(profile);
+    whole_pieces(profile);
+    one_piece(profile);
+    drive_parts(profile);
+    one_junction(profile);
+}

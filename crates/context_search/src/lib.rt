@@ -1,0 +1,26 @@
+//! How to drive from one node to another, over the contexts of the graph's blocks.
+//!
+//! `reach` lists all contexts once (`spots`) and takes the memory for their marks before its first step, in proportion
+//! to them. It begins on the pieces that leave the one node and stops at those that come to the other (`ends`). Of the
+//! contexts that it has come to it goes on from the one at which the least drive over it is to be expected (`marks`,
+//! `frontier`), what was driven and twice the straight line to the goal, and marks each once: of n contexts each arc
+//! takes the logarithm of n (`following`). Where nothing is left to go on from there is no drive, after one pass over
+//! what can be come to. The drive that was found is put together in the time of its steps (`routes`). What a search
+//! finds and misses is the law `laws::searched_drives`.
+#![tactic(auto)]
+
+mod ends;
+mod following;
+mod found;
+mod frontier;
+pub mod laws;
+mod marks;
+mod reaching;
+mod routes;
+mod spots;
+
+pub use ends::{Ends, Goal, Start, ends_of};
+pub use found::Found;
+pub use reaching::reach;
+pub use routes::{along, within};
+pub use spots::{Spot, find_spot, spots_of};

@@ -1,0 +1,165 @@
+//! Whether one may drive from one node to another.
+ghost use Rattle.std.specs.Prelude.{◌≡◌, ◌≤◌, map, IfOk, IfSome, IfNone, Some, IsTrue, IsFalse, Contains};
+ghost use Rattle.road_model.specs.BlockMap.{AreBlocksOf};
+ghost use Rattle.road_model.specs.Driving.{located};
+ghost use Rattle.road_model.specs.Networks.{on, map_of};
+ghost use Rattle.context_search.specs.declared.ends.Start.{Start};
+ghost use Rattle.context_search.specs.declared.ends.Goal.{Goal};
+ghost use Rattle.context_search.specs.Marks.{at_of};
+ghost use Rattle.context_search.specs.Visits.{goal_in};
+ghost use Rattle.context_search.specs.Reaching.{IsFound};
+ghost use Rattle.context_search.specs.Sought.{AreEnds, AreSpots};
+
+use crate::ends::{Ends, Goal, Start, ends_of, goal_at};
+use crate::following::{begin, run};
+use crate::found::Found;
+use crate::laws::searched_drives;
+use crate::marks::Search;
+use crate::routes::{along, within};
+use crate::spots::{Spot, spots_of};
+use road_base::{Location, NoMemory, NodeId};
+use road_model::laws::{has_block, name_order, one_block, one_name};
+use road_model::{Blocks, Network, PieceName, Profile, World};
+use std::alloc::Global;
+use std::collections::BTreeMap;
+use way_lines::is_located;
+
+/// A legal drive from node a to node b, also where they are the same, or why there is none. The blocks are those of
+/// the world under the profile. The marks of all contexts are taken before the first step of the search.
+///
+/// Takes one pass over the contexts to list them, then for each context and arc that the search comes to the time of a
+/// short search by names, and memory in proportion to the contexts.
+pub fn reach<M: World, P: Profile>(
+    alloc: Global,
+    world: &M,
+    profile: &P,
+    blocks: &Blocks,
+    a: NodeId,
+    b: NodeId,
+) -> Result<Found, NoMemory>
+    requires { AreBlocksOf (M.objects world.now) (P.rules profile.now) blocks.now.map }
+    ensures { IfOk result (IsFound (M.objects world.now) (P.rules profile.now) a b) }
+{
+    if !is_located(world, a) {
+        return Ok(Found::NoNode(a));
+    }
+    let Some(to) = location_of(world, b) else {
+        return Ok(Found::NoNode(b));
+    };
+    drive_to(alloc, &Network::new(world, *profile), blocks, a, b, to)
+}
+
+/// Where the node lies, if it is visible with a location.
+fn location_of<M: World>(world: &M, node: NodeId) -> Option<Location>
+    ensures some { IfSome result (λ at. IsTrue (located (M.objects world.now) (Some node))) }
+    ensures none { IfNone result (IsFalse (located (M.objects world.now) (Some node))) }
+{
+    match world.node(node) {
+        Some(body) => body.location,
+        None => None,
+    }
+}
+
+/// A drive from node a to node b, which lies there, or that there is none.
+fn drive_to<M: World, P: Profile>(
+    alloc: Global,
+    network: &Network<'_, M, P>,
+    blocks: &Blocks,
+    a: NodeId,
+    b: NodeId,
+    to: Location,
+) -> Result<Found, NoMemory>
+    requires blocks { on network.now AreBlocksOf blocks.now.map }
+    requires from { IsTrue (located (map_of network.now) (Some a)) }
+    requires to { IsTrue (located (map_of network.now) (Some b)) }
+    ensures { IfOk result (on network.now IsFound a b) }
+{
+    let ends = ends_of(alloc, network, blocks, a, b)?;
+    drive_between(alloc, network, blocks, &ends, to)
+}
+
+/// A drive between these ends, of which the last one lies there, or that there is none.
+fn drive_between<M: World, P: Profile>(
+    alloc: Global,
+    network: &Network<'_, M, P>,
+    blocks: &Blocks,
+    ends: &Ends<'_>,
+    to: Location,
+) -> Result<Found, NoMemory>
+    requires blocks { on network.now AreBlocksOf blocks.now.map }
+    requires ends { on network.now AreEnds ends.now }
+    ensures { IfOk result (on network.now IsFound ends.now.a ends.now.b) }
+{
+    searched_drives(&network.profile);
+    one_name(&network.profile);
+    if let Some((start, goal)) = inside_one(&ends.starts, &ends.goals) {
+        return Ok(Found::Drive(within(alloc, &start, &goal)?));
+    }
+    let spots = spots_in_order(alloc, network, blocks)?;
+    drive_over(alloc, network, &spots, ends, to)
+}
+
+/// A drive over these contexts, which are all, where none begins and ends on one piece.
+fn drive_over<M: World, P: Profile>(
+    alloc: Global,
+    network: &Network<'_, M, P>,
+    spots: &[Spot<'_>],
+    ends: &Ends<'_>,
+    to: Location,
+) -> Result<Found, NoMemory>
+    requires spots { on network.now AreSpots (map at_of spots.now) }
+    requires ends { on network.now AreEnds ends.now }
+    requires apart { (s : Start) (g : Goal) → Contains ends.now.starts.items s
+        → goal_in ends.now.goals s.piece.now.name ≡ Some g
+        → s.first ≤ g.last
+        → ⊥ }
+    ensures { IfOk result (on network.now IsFound ends.now.a ends.now.b) }
+{
+    searched_drives(&network.profile);
+    one_name(&network.profile);
+    let mut search = Search::new(alloc, spots.len(), to)?;
+    begin(&mut search, spots, &ends.starts)?;
+    match run(alloc, &mut search, spots, &ends.goals)? {
+        Some(meeting) => Ok(Found::Drive(along(alloc, spots, search.visits(), &meeting)?)),
+        None => Ok(Found::Nowhere),
+    }
+}
+
+/// A piece on which a drive may begin and then end.
+fn inside_one<'a>(
+    starts: &[Start<'a>],
+    goals: &BTreeMap<PieceName, Goal<'a>>,
+) -> Option<(Start<'a>, Goal<'a>)>
+    ensures has { IfSome result (λ r. Contains starts.now r.0) }
+    ensures meets { IfSome result (λ r. goal_in goals.now r.0.piece.now.name ≡ Some r.1) }
+    ensures rises { IfSome result (λ r. r.0.first ≤ r.1.last) }
+    ensures none { IfNone result ((s : Start) (g : Goal) → Contains starts.now s
+        → goal_in goals.now s.piece.now.name ≡ Some g
+        → s.first ≤ g.last
+        → ⊥) }
+{
+    for start in starts {
+        if let Some(goal) = goal_at(goals, start.piece.name) {
+            if start.first <= goal.last {
+                return Some((*start, goal));
+            }
+        }
+    }
+    None
+}
+
+/// All contexts, in the order of their names.
+fn spots_in_order<'a, M: World, P: Profile>(
+    alloc: Global,
+    network: &Network<'_, M, P>,
+    blocks: &'a Blocks,
+) -> Result<Vec<Spot<'a>>, NoMemory>
+    requires { on network.now AreBlocksOf blocks.now.map }
+    ensures { IfOk result (λ v. on network.now AreSpots (map at_of v.items)) }
+{
+    name_order();
+    has_block(&network.profile);
+    one_block(&network.profile);
+    one_name(&network.profile);
+    spots_of(alloc, blocks.items())
+}

@@ -1,0 +1,143 @@
+//! The steps of what was found.
+ghost use Rattle.std.specs.Prelude.{◌≡◌, ◌+◌, ◌-◌, ◌<◌, ◌≤◌, ◌++◌, length, map, take, drop, IfOk, OnOk, Contains, ℕ};
+ghost use Rattle.context_search.specs.declared.marks.Origin.TheVariants.{Begins};
+ghost use Rattle.std.specs.List.{flat_map};
+ghost use Rattle.context_search.specs.Marks.{at_of};
+ghost use Rattle.context_search.specs.Routes.{IsChain, IsRoute, Descend, AreSpelled, spelled, steps_at};
+
+use crate::ends::{Goal, Start};
+use crate::following::Meeting;
+use crate::marks::{Origin, Visit};
+use crate::spots::Spot;
+use road_base::{Drive, NoMemory, Step};
+use road_model::Piece;
+use std::alloc::Global;
+use way_lines::add_steps;
+
+/// The steps of the piece from where the drive begins to where it ends.
+pub fn within(alloc: Global, start: &Start<'_>, goal: &Goal<'_>) -> Result<Drive, NoMemory>
+    requires ascends { start.now.piece.now.name.index ≤ start.now.piece.now.end }
+    requires rises { start.now.first ≤ goal.now.last }
+    requires last { goal.now.last < length (spelled start.now.piece.now) }
+    ensures { IfOk result (λ d. d
+        ≡ take (goal.now.last + 1 - start.now.first) (drop start.now.first (spelled start.now.piece.now))) }
+{
+    let mut steps = Vec::new(alloc);
+    add_part(alloc, &mut steps, start.piece, start.first, goal.last)?;
+    Ok(Drive::from_list(steps))
+}
+
+/// The steps of the pieces of the visits that lead to the one that met the goal, and of the goal.
+pub fn along(
+    alloc: Global,
+    spots: &[Spot<'_>],
+    visits: &[Visit],
+    meeting: &Meeting<'_>,
+) -> Result<Drive, NoMemory>
+    requires descend { Descend visits.now }
+    requires spelled { AreSpelled (map at_of spots.now) visits.now }
+    requires place { meeting.now.place < length visits.now }
+    requires ascends { meeting.now.goal.piece.now.name.index ≤ meeting.now.goal.piece.now.end }
+    requires last { meeting.now.goal.last < length (spelled meeting.now.goal.piece.now) }
+    ensures { IfOk result (IsRoute (map at_of spots.now) visits.now meeting.now.place meeting.now.goal) }
+{
+    let (first, places) = way_back(alloc, visits, meeting.place)?;
+    let mut steps = Vec::new(alloc);
+    add_whole(&mut steps, spots, visits, &places)?;
+    let goal = meeting.goal;
+    add_part(alloc, &mut steps, goal.piece, 0, goal.last)?;
+    let from = first.min(steps.len());
+    Ok(Drive::from_list(Vec::from_slice(alloc, &steps[from..])?))
+}
+
+/// With which step of the first piece the drive begins, and the places of the visits on the way, in order.
+fn way_back(alloc: Global, visits: &[Visit], place: usize) -> Result<(usize, Vec<usize>), NoMemory>
+    requires descend { Descend visits.now }
+    requires place { place < length visits.now }
+    ensures chain { IfOk result (λ r. IsChain visits.now r.0 r.1.items place) }
+{
+    let mut places = Vec::new(alloc);
+    let mut at = place;
+    while let Origin::Follows(before) = visits[at].origin {
+        places.push(at)?;
+        at = before;
+    }
+    places.push(at)?;
+    places.reverse();
+    Ok((first_step(&visits[at]), places))
+}
+
+/// The step with which the visit begins a drive.
+fn first_step(visit: &Visit) -> usize
+    ensures { (first : ℕ) → visit.now.origin ≡ Begins first → result ≡ first }
+{
+    match visit.origin {
+        Origin::Begins(first) => first,
+        Origin::Follows(_) => 0,
+    }
+}
+
+/// Adds the steps of the pieces of the visits at the places.
+fn add_whole(
+    steps: &mut Vec<Step>,
+    spots: &[Spot<'_>],
+    visits: &[Visit],
+    places: &[usize],
+) -> Result<(), NoMemory>
+    requires spelled { AreSpelled (map at_of spots.now) visits.now }
+    requires within { (k : ℕ) → Contains places.now k → k < length visits.now }
+    ensures { OnOk result (steps.new.items
+        ≡ steps.old.items ++ flat_map (steps_at (map at_of spots.now) visits.now) places.now) }
+{
+    for place in places {
+        add_visit(steps, spots, visits, *place)?;
+    }
+    Ok(())
+}
+
+/// Adds the steps of the piece of the visit.
+fn add_visit(
+    steps: &mut Vec<Step>,
+    spots: &[Spot<'_>],
+    visits: &[Visit],
+    place: usize,
+) -> Result<(), NoMemory>
+    requires spelled { AreSpelled (map at_of spots.now) visits.now }
+    requires within { place < length visits.now }
+    ensures { OnOk result (steps.new.items
+        ≡ steps.old.items ++ steps_at (map at_of spots.now) visits.now place) }
+{
+    let visit = visits[place];
+    let spot = spots[visit.number];
+    add_piece(steps, spot.piece)
+}
+
+/// Adds the steps of the piece.
+fn add_piece(steps: &mut Vec<Step>, piece: &Piece) -> Result<(), NoMemory>
+    requires { piece.now.name.index ≤ piece.now.end }
+    ensures { OnOk result (steps.new.items ≡ steps.old.items ++ spelled piece.now) }
+{
+    let name = piece.name;
+    let count = piece.end - name.index;
+    add_steps(steps, name.way, name.index, count, name.dir)
+}
+
+/// Adds the steps of the piece from one to another.
+fn add_part(
+    alloc: Global,
+    steps: &mut Vec<Step>,
+    piece: &Piece,
+    first: usize,
+    last: usize,
+) -> Result<(), NoMemory>
+    requires ascends { piece.now.name.index ≤ piece.now.end }
+    requires rises { first ≤ last }
+    requires last { last < length (spelled piece.now) }
+    ensures { OnOk result (steps.new.items
+        ≡ steps.old.items ++ take (last + 1 - first) (drop first (spelled piece.now))) }
+{
+    let mut whole = Vec::new(alloc);
+    add_piece(&mut whole, piece)?;
+    steps.extend_from_slice(&whole[first..last + 1])?;
+    Ok(())
+}

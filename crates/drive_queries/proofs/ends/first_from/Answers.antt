@@ -1,4 +1,0 @@
-use Rattle.drive_queries.proofs.ends.first_from.Goals as goal
-
-pub returns-then-begins-clause-some : goal.returns-then-begins-clause-some
-returns-then-begins-clause-some c = c.begins.ensures.yes c.if-begins.true

@@ -1,5 +1,0 @@
-use Rattle.drive_queries.proofs.SearchFrontier.{pushed}
-use Rattle.drive_queries.proofs.frontier.Frontier.push.Goals as goal
-
-pub returns : goal.returns
-returns c = pushed (λ r. r.0.1) _ _ _ _ c.self.view_is c.in_ok-push.ensures.permutation
