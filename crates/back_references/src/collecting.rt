@@ -6,6 +6,7 @@ ghost use Rattle.back_references.specs.References.{node_pair, way_pair, way_refe
 
 use object_store::Objects;
 use road_base::{Body, Event, Key, Member, NoMemory, NodeId, RelationId, WayId};
+use road_model::{has_highway, is_restriction};
 use std::alloc::Global;
 
 /// Each node to which a visible way with the key `highway` refers, with the way.
@@ -220,7 +221,7 @@ fn nodes_of(body: &Body) -> &[NodeId]
     let Body::Way(way) = body else {
         return &[];
     };
-    if way.tags.get("highway").is_none() {
+    if !has_highway(&way.tags) {
         return &[];
     }
     way.refs.items()
@@ -233,7 +234,7 @@ fn members_of(body: &Body) -> &[Member]
     let Body::Relation(relation) = body else {
         return &[];
     };
-    if relation.tags.get("type") != Some("restriction") {
+    if !is_restriction(&relation.tags) {
         return &[];
     }
     relation.members.items()

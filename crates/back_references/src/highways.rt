@@ -3,6 +3,7 @@ ghost use Rattle.std.specs.Prelude.{◌≡◌, IfOk, filter_map};
 ghost use Rattle.road_model.specs.Highways.{highway_of};
 
 use road_base::{Body, Event, Key, WayId};
+use road_model::has_highway;
 use std::alloc::{AllocError, Global};
 
 /// The ways of the entries that are visible and have the key `highway`, in the order of the entries.
@@ -17,7 +18,7 @@ fn highway_of(entry: &Event) -> Option<WayId>
     ensures { result ≡ highway_of entry.now.key entry.now.body }
 {
     match (entry.key, &entry.body) {
-        (Key::Way(way), Body::Way(body)) if body.tags.get("highway").is_some() => Some(way),
+        (Key::Way(way), Body::Way(body)) if has_highway(&body.tags) => Some(way),
         _ => None,
     }
 }

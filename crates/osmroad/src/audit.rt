@@ -3,7 +3,6 @@
 ghost use Rattle.std.specs.Prelude.{◌≡◌, All, IfOk, filter, filter_map, length, string_bytes};
 ghost use Rattle.access_profile.specs.Motorcar.{motorcar_rules};
 ghost use Rattle.restrictions.specs.Words.{IsRestriction};
-ghost use Rattle.road_model.specs.Rules.{is_restriction};
 ghost use Rattle.osmroad.specs.Audit.{IsAudit, IsLineOf, AreRuleLines, restriction_of, carries_conditional};
 ghost use Rattle.osmroad.specs.Audit.{has_conditional, is_conditional, conditional_line};
 
@@ -11,6 +10,7 @@ use crate::findings::{finding_of, rule_text};
 use back_references::Indexed;
 use road_base::laws::key_order;
 use road_base::{Body, Event, Key, NoMemory, RelationId, Tags};
+use road_model::is_restriction;
 use std::alloc::{AllocError, Global};
 
 /// The audit of the objects, for a car: for each visible restriction by number its line, `rN no K` or `rN only K` where
@@ -72,12 +72,6 @@ fn restriction_of(entry: &Event) -> Option<RelationId>
         (Key::Relation(id), Body::Relation(body)) if is_restriction(&body.tags) => Some(id),
         _ => None,
     }
-}
-
-fn is_restriction(tags: &Tags) -> bool
-    ensures { result ≡ is_restriction tags.now }
-{
-    tags.get("type") == Some("restriction")
 }
 
 /// How many of the entries are visible and carry a key that ends in `:conditional`.

@@ -10,7 +10,7 @@ ghost use Rattle.road_model.specs.Restrictions.{misses_end, steps_on, vias, wron
 use crate::line_ends::{has_two_nodes, is_ring, nodes_on, some_ends_at_via};
 use crate::roles::Roles;
 use road_base::{Key, WayId};
-use road_model::World;
+use road_model::{World, has_highway};
 
 /// Whether the members are too few, too many, or of the wrong kinds.
 pub fn wrong_members(only: bool, roles: &Roles<'_>) -> bool
@@ -86,7 +86,7 @@ fn is_street<M: World>(world: &M, way: WayId) -> bool
         && nat_le 2 (length (line_of (M.objects world.now) way))) }
 {
     match world.way(way) {
-        Some(body) => body.tags.get("highway").is_some() && has_two_nodes(body),
+        Some(body) => has_highway(&body.tags) && has_two_nodes(body),
         None => false,
     }
 }

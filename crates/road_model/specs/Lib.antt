@@ -22,3 +22,4 @@ pub mod OnNetwork
 pub mod Networks
 pub mod Local
 pub mod FileWalks
+pub mod Questions

@@ -3,13 +3,12 @@ ghost use Rattle.std.specs.Prelude.{◌≡◌, ◌↔◌, OnOk, Contains, map};
 ghost use Rattle.road_base.specs.declared.ids.Key.{Key as KeyValue};
 ghost use Rattle.road_base.specs.declared.ids.Key.TheVariants.{Node as NodeKey, Way as WayKey, Relation as RelationKey};
 ghost use Rattle.road_base.specs.declared.ids.NodeId.{NodeId as NodeNumber};
-ghost use Rattle.road_model.specs.Rules.{has_highway, is_restriction};
 ghost use Rattle.road_model.specs.Links.{RefersTo, HasMember, IsLink};
 ghost use Rattle.touched_ways.specs.Searches.{Finds, IsWayLink};
 
 use crate::found::Found;
-use road_base::{Member, NoMemory, NodeId, RelationId, Tags, WayId};
-use road_model::World;
+use road_base::{Member, NoMemory, NodeId, RelationId, WayId};
+use road_model::{World, has_highway, is_restriction};
 
 /// A node to which more ways or more restrictions are linked is a hub.
 const FEW: usize = 8;
@@ -88,16 +87,4 @@ fn members_of<M: World>(world: &M, rule: RelationId) -> &[Member]
         return &[];
     }
     body.members.items()
-}
-
-fn has_highway(tags: &Tags) -> bool
-    ensures { result ≡ has_highway tags.now }
-{
-    tags.get("highway").is_some()
-}
-
-fn is_restriction(tags: &Tags) -> bool
-    ensures { result ≡ is_restriction tags.now }
-{
-    tags.get("type") == Some("restriction")
 }
