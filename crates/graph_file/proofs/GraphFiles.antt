@@ -179,6 +179,14 @@ one_file m n bytes a b f g =
           other.1).0,
     )
 
+-- what the bytes of a file are spelled for
+pub file_profile : (m n : ℕ) (bytes : List ℕ) (a b : List Block) → IsFile m bytes a → IsProfile n
+    → bytes ≡ graph_bytes n b → m ≡ n
+file_profile m n bytes a b file known spelled =
+    let rest : List ℕ = list_bytes block_bytes b in
+    (profile_one m n (u32_bytes n ++ rest) (list_bytes block_bytes a) rest
+    (numbered bytes (u32_bytes n ++ rest) spelled m a file) (record { fits = known; parts = refl })).0
+
 -- a piece under the name that it has in the block of the way, which its bytes don't spell
 abbrev piece_at : WayId → Piece → Piece
 piece_at w p = record {
