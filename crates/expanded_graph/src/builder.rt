@@ -78,6 +78,13 @@ impl<'a, M: World, P: Profile> GraphBuilder<'a, M, P> {
         })
     }
 
+    /// The profile for which it builds.
+    pub fn profile(&self) -> P
+        ensures { result ≡ self.now.profile }
+    {
+        self.network.profile
+    }
+
     /// The block of the way: its pieces with their nodes and locations, contexts and arcs. A way that isn't visible
     /// or is no road has no pieces. Adds one to the counter, also where no memory is found.
     pub fn block<L: Ledger>(&self, way: WayId, steps: &mut Steps<L>) -> Result<Block, NoMemory>

@@ -1,10 +1,11 @@
 -- The bytes of blocks are a graph file.
-use Rattle.std.proofs.Common.{◌≡◌, ℕ, ◌<◌, ◌^◌, List, [], ◌∷◌, length, map, IsTrue, ap, subst, sym, ◌∙◌}
+use Rattle.std.proofs.Common.{◌≡◌, ℕ, ◌<◌, ◌^◌, List, [], ◌∷◌, length, map, IsTrue, refl, ap, subst, sym, ◌∙◌}
 use Rattle.std.specs.List.{AllByRecursion}
 use Rattle.std.specs.FinMap.{FinMap, entries, values, empty, insert, entries-insert, put, len-entries, len-empty}
 use Rattle.std.specs.Cmp.{IsTotalOrder}
 use Rattle.std.proofs.lemmas.Cmp.{int_cmp_total}
 use Rattle.std.proofs.lemmas.List.{nil_from_length}
+use Rattle.road_base.specs.Profiles.{IsProfile}
 use Rattle.road_model.specs.declared.blocks.Block.{Block}
 use Rattle.ordered_lists.specs.Orders.{rises}
 use Rattle.road_model.specs.Orders.{way_cmp}
@@ -17,18 +18,20 @@ pub values_are : (m : FinMap way_cmp Block) (bs : List Block) → entries m ≡ 
 values_are m bs is = ap (map (λ e. e.1)) is ∙ values_of (λ (b : Block). b.way) bs
 
 -- what the map's blocks spell is a graph file, if each number fits
-pub is_graph_file : (profile : ℕ) (m : FinMap way_cmp Block) (bs : List Block) → profile ≡ 1
+pub is_graph_file : (profile : ℕ) (m : FinMap way_cmp Block) (bs : List Block) → IsProfile profile
     → entries m ≡ map entry_of bs → IsTrue (rises way_cmp (map (λ b. b.way) bs)) → AllByRecursion IsBlockForm (values m)
     → AllByRecursion BlockFits bs → length bs < 2 ^ 64 → IsGraphFile (graph_bytes profile (values m))
-is_graph_file profile m bs first is up forms fit count =
+is_graph_file profile m bs known is up forms fit count =
     let same : values m ≡ bs = values_are m bs is in
     record {
+      profile = profile;
+      known = known;
       blocks = values m;
       ascend = subst (λ l. IsTrue (rises way_cmp (map (λ b. b.way) l))) (sym same) up;
       forms = forms;
       fit = subst (AllByRecursion BlockFits) (sym same) fit;
       count = subst (λ l. length l < 2 ^ 64) (sym same) count;
-      spelled = ap (λ n. graph_bytes n (values m)) first;
+      spelled = refl;
     }
 
 pub way_cmp_total : IsTotalOrder way_cmp

@@ -5,8 +5,9 @@ use Rattle.std.specs.List.{AllByRecursion}
 use Rattle.std.specs.Ordering.{is_lt}
 use Rattle.std.specs.declared.cmp.Ordering.TheVariants.{Less, Greater}
 use Rattle.std.specs.FinMap.{FinMap, entries, values, insert, entries-insert, put, empty}
-use Rattle.std.proofs.lemmas.Bool.{and_parts}
+use Rattle.std.proofs.lemmas.Bool.{and_parts, eqb-true}
 use Rattle.std.proofs.lemmas.List.{drop_at}
+use Rattle.road_base.specs.Profiles.{IsProfile}
 use Rattle.road_base.specs.Bytes.{u32_bytes, u64_bytes, i64_bytes, joined}
 use Rattle.road_base.specs.declared.ids.WayId.{WayId}
 use Rattle.ordered_lists.proofs.Comparisons.{less, over, turned}
@@ -19,7 +20,8 @@ use Rattle.road_model.specs.BlockMap.{entry_of}
 use Rattle.road_model.specs.Format.{piece_bytes, block_bytes, graph_bytes, place_cmp, IsPieceForm, IsBlockForm}
 use Rattle.road_model.specs.Format.{PieceFits, BlockFits, IsGraphFile}
 use Rattle.ordered_lists.proofs.AscendingLists.{rest_rises}
-use Rattle.spelled_bytes.specs.Reading.{Begins}
+use Rattle.spelled_bytes.specs.Reading.{Begins, IsOneSpelling}
+use Rattle.spelled_bytes.specs.OneSpelling.{u32_one}
 use Rattle.graph_file.specs.GraphReading.{list_bytes, ListFits, IsPieceAt, IsWayBlock, IsOfItsWay, IsFile}
 use Rattle.graph_file.specs.OneSpelling.{list_one, block_one}
 use Rattle.graph_file.proofs.Files.{way_cmp_total, no_entries, values_are}
@@ -27,20 +29,34 @@ use Rattle.graph_file.proofs.PieceCount.{few_pieces}
 
 -- ---- the bytes behind the magic
 
-cancel : (a b x y : List ℕ) → a ++ (b ++ x) ≡ a ++ (b ++ y) → x ≡ y
-cancel a b x y e =
-    sym (drop_at b x (length b) refl)
-    ∙ ap (drop (length b)) (sym (drop_at a (b ++ x) (length a) refl) ∙ ap (drop (length a)) e
-    ∙ drop_at a (b ++ y) (length a) refl)
-    ∙ drop_at b y (length b) refl
+cancel : (a x y : List ℕ) → a ++ x ≡ a ++ y → x ≡ y
+cancel a x y e = sym (drop_at a x (length a) refl) ∙ ap (drop (length a)) e ∙ drop_at a y (length a) refl
 
-pub behind : (bytes rest : List ℕ) → bytes ≡ codes "OSMROAD1" ++ (u32_bytes 1 ++ rest) → (bs : List Block)
-    → IsFile bytes bs → Begins (list_bytes block_bytes) (ListFits IsWayBlock) rest bs []
-behind bytes rest head bs file = record {
-  fits = file.some;
-  parts = cancel (codes "OSMROAD1") (u32_bytes 1) rest (list_bytes block_bytes bs) (sym head ∙ file.spelled)
-      ∙ sym (append-nil (list_bytes block_bytes bs));
+-- the number of a profile fits its bytes, and so no two have one spelling
+pub profile_fits : (n : ℕ) → IsProfile n → n < 2 ^ 32
+profile_fits n known = let one : n ≡ 1 = eqb-true n 1 known in omega (arith, one)
+
+pub profile_one : IsOneSpelling u32_bytes IsProfile
+profile_one x y bytes r s first second = u32_one x y bytes r s
+    (record { fits = profile_fits x first.fits; parts = first.parts })
+    (record { fits = profile_fits y second.fits; parts = second.parts })
+
+-- what begins with the profile's number
+pub numbered : (bytes rest : List ℕ) → bytes ≡ codes "OSMROAD1" ++ rest → (profile : ℕ) (bs : List Block)
+    → IsFile profile bytes bs → Begins u32_bytes IsProfile rest profile (list_bytes block_bytes bs)
+numbered bytes rest head profile bs file = record {
+  fits = file.known;
+  parts = cancel (codes "OSMROAD1") rest (u32_bytes profile ++ list_bytes block_bytes bs) (sym head ∙ file.spelled);
 }
+
+-- and what is behind it
+pub behind : (bytes front rest : List ℕ) (number : ℕ) → bytes ≡ codes "OSMROAD1" ++ front
+    → Begins u32_bytes IsProfile front number rest → (profile : ℕ) (bs : List Block) → IsFile profile bytes bs
+    → (number ≡ profile) × Begins (list_bytes block_bytes) (ListFits IsWayBlock) rest bs []
+behind bytes front rest number head found profile bs file =
+    let same = profile_one number profile front rest (list_bytes block_bytes bs) found
+    (numbered bytes front head profile bs file) in
+    (same.0, record { fits = file.some; parts = same.1 ∙ sym (append-nil (list_bytes block_bytes bs)) })
 
 -- ---- blocks that are put one behind the other
 
@@ -100,8 +116,10 @@ forms = all_to IsWayBlock IsBlockForm block_form
 pub ways : (bs : List Block) → AllByRecursion IsWayBlock bs → AllByRecursion IsOfItsWay bs
 ways = all_to IsWayBlock IsOfItsWay of_its_way
 
-pub grammar : (bytes : List ℕ) (bs : List Block) → IsFile bytes bs → IsGraphFile bytes
-grammar bytes bs file = record {
+pub grammar : (profile : ℕ) (bytes : List ℕ) (bs : List Block) → IsFile profile bytes bs → IsGraphFile bytes
+grammar profile bytes bs file = record {
+  profile = profile;
+  known = file.known;
   blocks = bs;
   ascend = file.ascend;
   forms = forms bs file.some.1;
@@ -131,29 +149,43 @@ own_blocks (b ∷ bs) form fits own = (
 )
 
 -- blocks of their ways, in form, are the file that they spell
-pub file_of : (bytes : List ℕ) (bs : List Block) → bytes ≡ graph_bytes 1 bs → length bs < 2 ^ 64
+pub file_of : (profile : ℕ) (bytes : List ℕ) (bs : List Block) → IsProfile profile → bytes ≡ graph_bytes profile bs
+    → length bs < 2 ^ 64
     → IsTrue (rises way_cmp (map (λ b. b.way) bs)) → AllByRecursion IsBlockForm bs → AllByRecursion BlockFits bs
-    → AllByRecursion IsOfItsWay bs → IsFile bytes bs
-file_of bytes bs spelled count up form fits own =
-    record { spelled = spelled; some = (count, own_blocks bs form fits own); ascend = up }
+    → AllByRecursion IsOfItsWay bs → IsFile profile bytes bs
+file_of profile bytes bs known spelled count up form fits own =
+    record { known = known; spelled = spelled; some = (count, own_blocks bs form fits own); ascend = up }
 
 -- what the map's blocks spell is their file
-pub map_file : (profile : ℕ) (m : FinMap way_cmp Block) (bs : List Block) → profile ≡ 1
+pub map_file : (profile : ℕ) (m : FinMap way_cmp Block) (bs : List Block) → IsProfile profile
     → entries m ≡ map entry_of bs → IsTrue (rises way_cmp (map (λ b. b.way) bs)) → AllByRecursion IsBlockForm (values m)
     → AllByRecursion BlockFits bs → length bs < 2 ^ 64 → AllByRecursion IsOfItsWay (values m)
-    → IsFile (graph_bytes profile (values m)) (values m)
-map_file profile m bs first is up forms fit count own =
+    → IsFile profile (graph_bytes profile (values m)) (values m)
+map_file profile m bs known is up forms fit count own =
     let same : bs ≡ values m = sym (values_are m bs is) in
-    file_of (graph_bytes profile (values m)) (values m) (ap (λ n. graph_bytes n (values m)) first)
+    file_of profile (graph_bytes profile (values m)) (values m) known refl
     (subst (λ l. length l < 2 ^ 64) same count) (subst (λ l. IsTrue (rises way_cmp (map (λ b. b.way) l))) same up)
     forms (subst (AllByRecursion BlockFits) same fit) own
 
--- the bytes of a file have one list of blocks
-pub one_file : (bytes : List ℕ) (a b : List Block) → IsFile bytes a → IsFile bytes b → a ≡ b
-one_file bytes a b f g =
-    (list_one block_bytes IsWayBlock block_one a b (list_bytes block_bytes a) [] []
-    (behind bytes (list_bytes block_bytes a) f.spelled a f)
-    (behind bytes (list_bytes block_bytes a) f.spelled b g)).0
+-- the bytes of a file have one profile and one list of blocks
+pub one_file : (m n : ℕ) (bytes : List ℕ) (a b : List Block) → IsFile m bytes a → IsFile n bytes b → (m ≡ n) × (a ≡ b)
+one_file m n bytes a b f g =
+    let rest : List ℕ = list_bytes block_bytes a in
+    let front : List ℕ = u32_bytes m ++ rest in
+    let first : Begins u32_bytes IsProfile front m rest = numbered bytes front f.spelled m a f in
+    let other = behind bytes front rest m f.spelled first n b g in (
+      other.0,
+      (list_one block_bytes IsWayBlock block_one a b rest [] [] (behind bytes front rest m f.spelled first m a f).1
+          other.1).0,
+    )
+
+-- what the bytes of a file are spelled for
+pub file_profile : (m n : ℕ) (bytes : List ℕ) (a b : List Block) → IsFile m bytes a → IsProfile n
+    → bytes ≡ graph_bytes n b → m ≡ n
+file_profile m n bytes a b file known spelled =
+    let rest : List ℕ = list_bytes block_bytes b in
+    (profile_one m n (u32_bytes n ++ rest) (list_bytes block_bytes a) rest
+    (numbered bytes (u32_bytes n ++ rest) spelled m a file) (record { fits = known; parts = refl })).0
 
 -- a piece under the name that it has in the block of the way, which its bytes don't spell
 abbrev piece_at : WayId → Piece → Piece
@@ -184,8 +216,9 @@ same_blocks : (bs : List Block) → joined block_bytes (map block_at bs) ≡ joi
 same_blocks [] = refl
 same_blocks (b ∷ bs) = λ i. same_block b i ++ same_blocks bs i
 
-same_file : (bs : List Block) → graph_bytes 1 (map block_at bs) ≡ graph_bytes 1 bs
-same_file bs = λ i. codes "OSMROAD1" ++ (u32_bytes 1 ++ (u64_bytes (as_many block_at bs i) ++ same_blocks bs i))
+same_file : (profile : ℕ) (bs : List Block) → graph_bytes profile (map block_at bs) ≡ graph_bytes profile bs
+same_file profile bs = λ i. codes "OSMROAD1"
+    ++ (u32_bytes profile ++ (u64_bytes (as_many block_at bs i) ++ same_blocks bs i))
 
 same_ways : (bs : List Block) → map (λ b. b.way) (map block_at bs) ≡ map (λ b. b.way) bs
 same_ways [] = refl
@@ -248,9 +281,11 @@ way_blocks [] form fits = tt
 way_blocks (b ∷ bs) form fits = (way_block b form.0 fits.0, way_blocks bs form.1 fits.1)
 
 -- what is in the grammar is the file of blocks whose pieces are those of their way
-pub none_in_grammar : (bytes : List ℕ) → ((bs : List Block) → IsFile bytes bs → ⊥) → IsGraphFile bytes → ⊥
-none_in_grammar bytes none is = none (map block_at is.blocks) (record {
-  spelled = is.spelled ∙ sym (same_file is.blocks);
+pub none_in_grammar : (bytes : List ℕ) → ((profile : ℕ) (bs : List Block) → IsFile profile bytes bs → ⊥)
+    → IsGraphFile bytes → ⊥
+none_in_grammar bytes none is = none is.profile (map block_at is.blocks) (record {
+  known = is.known;
+  spelled = is.spelled ∙ sym (same_file is.profile is.blocks);
   some = (subst (λ n. n < 2 ^ 64) (sym (as_many block_at is.blocks)) is.count, way_blocks is.blocks is.forms is.fit);
   ascend = subst (λ l. IsTrue (rises way_cmp l)) (sym (same_ways is.blocks)) is.ascend;
 })

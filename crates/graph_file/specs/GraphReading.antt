@@ -3,6 +3,7 @@ use Rattle.std.specs.Prelude.{◌≡◌, ℕ, ◌+◌, ◌-◌, ◌<◌, ◌≤�
 use Rattle.std.specs.List.{AllByRecursion}
 use Rattle.std.specs.Int.{w64}
 use Rattle.road_base.specs.declared.ids.WayId.{WayId}
+use Rattle.road_base.specs.Profiles.{IsProfile}
 use Rattle.road_base.specs.Bytes.{u32_bytes, u64_bytes, joined}
 use Rattle.road_model.specs.declared.lists.PieceName.{PieceName}
 use Rattle.road_model.specs.declared.lists.Place.{Place}
@@ -76,8 +77,9 @@ pub record IsWayBlock (b : Block) : Type 0 where
 abbrev pub IsOfItsWay : Block → Type 0
 IsOfItsWay b = AllByRecursion (λ p. p.name.way ≡ b.way) b.pieces
 
--- the bytes are a graph file with these blocks, whose pieces are those of their way
-pub record IsFile (bytes : List ℕ) (blocks : List Block) : Type 0 where
-  pub spelled : bytes ≡ graph_bytes 1 blocks
+-- the bytes are a graph file of this profile with these blocks, whose pieces are those of their way
+pub record IsFile (profile : ℕ) (bytes : List ℕ) (blocks : List Block) : Type 0 where
+  pub known : IsProfile profile
+  pub spelled : bytes ≡ graph_bytes profile blocks
   pub some : ListFits IsWayBlock blocks
   pub ascend : IsTrue (rises way_cmp (map (λ b. b.way) blocks))

@@ -3,6 +3,7 @@ ghost use Rattle.std.specs.Prelude.{◌≡◌, ◌++◌, ℕ, List, map, codes, 
 ghost use Rattle.std.specs.Prelude.{IfNone};
 ghost use Rattle.std.specs.List.{AllByRecursion};
 ghost use Rattle.std.specs.FinMap.{values};
+ghost use Rattle.road_base.specs.Profiles.{IsProfile};
 ghost use Rattle.road_base.specs.Bytes.{u32_bytes};
 ghost use Rattle.road_model.specs.declared.lists.TurnArc.{TurnArc};
 ghost use Rattle.road_model.specs.declared.lists.Context.{Context};
@@ -10,16 +11,17 @@ ghost use Rattle.road_model.specs.declared.blocks.Block.{Block};
 ghost use Rattle.ordered_lists.specs.Orders.{rises};
 ghost use Rattle.road_model.specs.Orders.{way_cmp};
 ghost use Rattle.road_model.specs.Format.{graph_bytes, IsBlockForm, IsGraphFile};
-ghost use Rattle.spelled_bytes.specs.Reading.{IfMalformed};
+ghost use Rattle.spelled_bytes.specs.Reading.{Begins, NoneBegins, IfMalformed};
 ghost use Rattle.graph_file.specs.GraphReading.{IsFile, IsOfItsWay};
 ghost use Rattle.graph_file.specs.LookUps.{AreOrdered, HasContextsOf, HasContextAt, HasArcsOf};
 
 use crate::ascending::do_ascend;
 use crate::lists::read_list;
 use crate::look_ups::piece_named;
-use road_base::NoMemory;
+use crate::pieces::GraphFile;
+use road_base::{NoMemory, is_profile};
 use road_model::{Arcs, Block, Blocks, Context, Contexts, PieceName};
-use spelled_bytes::Unread;
+use spelled_bytes::{Spell, Unread};
 use std::alloc::Global;
 
 /// A graph as a graph file holds it.
@@ -35,18 +37,18 @@ impl Graph {
     /// The graph that the bytes spell; None exactly where they aren't in the grammar of a graph file. Written again it
     /// has the same bytes.
     pub fn read(alloc: Global, bytes: &[u8]) -> Result<Option<Graph>, NoMemory>
-        ensures profile { IfOk result (λ r. IfSome r (λ g. g.profile ≡ 1)) }
+        ensures profile { IfOk result (λ r. IfSome r (λ g. IsProfile g.profile)) }
         ensures bytes { IfOk result (λ r. IfSome r (λ g. bytes.now ≡ graph_bytes g.profile (values g.blocks.map))) }
         ensures forms { IfOk result (λ r. IfSome r (λ g. AllByRecursion IsBlockForm (values g.blocks.map))) }
         ensures ways { IfOk result (λ r. IfSome r (λ g. AllByRecursion IsOfItsWay (values g.blocks.map))) }
         ensures grammar { IfOk result (λ r. IfSome r (λ _. IsGraphFile bytes.now)) }
-        ensures file { IfOk result (λ r. IfSome r (λ g. IsFile bytes.now (values g.blocks.map))) }
+        ensures file { IfOk result (λ r. IfSome r (λ g. IsFile g.profile bytes.now (values g.blocks.map))) }
         ensures none { IfOk result (λ r. IfNone r (IsGraphFile bytes.now → ⊥)) }
     {
         match read_blocks(alloc, bytes) {
-            Ok(list) => {
+            Ok((profile, list)) => {
                 let blocks = into_blocks(alloc, list)?;
-                Ok(Some(Graph { profile: 1, blocks }))
+                Ok(Some(Graph { profile, blocks }))
             }
             Err(Unread::Malformed) => Ok(None),
             Err(Unread::Memory) => Err(NoMemory),
@@ -91,23 +93,37 @@ fn arcs_at(contexts: &[Context], place: usize) -> Option<&Arcs>
     }
 }
 
-/// What stands behind the magic and the profile's number; None exactly where these don't stand in front.
+/// What stands behind the magic; None exactly where it doesn't stand in front.
 fn behind_magic(bytes: &[u8]) -> Option<&[u8]>
-    ensures some { IfSome result (λ rest. bytes.now ≡ codes "OSMROAD1" ++ (u32_bytes 1 ++ rest.now)) }
-    ensures none { IfNone result ((rest : List ℕ) → bytes.now ≡ codes "OSMROAD1" ++ (u32_bytes 1 ++ rest) → ⊥) }
+    ensures some { IfSome result (λ rest. bytes.now ≡ codes "OSMROAD1" ++ rest.now) }
+    ensures none { IfNone result ((rest : List ℕ) → bytes.now ≡ codes "OSMROAD1" ++ rest → ⊥) }
 {
-    bytes.strip_prefix(b"OSMROAD1\x01\0\0\0")
+    bytes.strip_prefix(b"OSMROAD1")
 }
 
-/// Reads the blocks of a file, which ascend.
-fn read_blocks(alloc: Global, bytes: &[u8]) -> Result<Vec<Block>, Unread>
-    ensures found { IfOk result (λ list. IsFile bytes.now list.items) }
-    ensures malformed { IfErr result (λ e. IfMalformed e ((list : List Block) → IsFile bytes.now list → ⊥)) }
+/// Reads the number of a profile.
+fn read_profile(alloc: Global, bytes: &[u8]) -> Result<(u32, &[u8]), Unread>
+    ensures found { IfOk result (λ r. Begins u32_bytes IsProfile bytes.now r.0 r.1.now) }
+    ensures malformed { IfErr result (λ e. IfMalformed e (NoneBegins u32_bytes IsProfile bytes.now)) }
+{
+    let (number, rest) = <u32 as Spell<GraphFile>>::read(alloc, bytes)?;
+    if !is_profile(number) {
+        return Err(Unread::Malformed);
+    }
+    Ok((number, rest))
+}
+
+/// Reads the profile's number of a file, and its blocks, which ascend.
+fn read_blocks(alloc: Global, bytes: &[u8]) -> Result<(u32, Vec<Block>), Unread>
+    ensures found { IfOk result (λ r. IsFile r.0 bytes.now r.1.items) }
+    ensures malformed { IfErr result (λ e. IfMalformed e
+        ((profile : ℕ) (list : List Block) → IsFile profile bytes.now list → ⊥)) }
 {
     let rest = match behind_magic(bytes) {
         Some(rest) => rest,
         None => return Err(Unread::Malformed),
     };
+    let (profile, rest) = read_profile(alloc, rest)?;
     let (list, rest) = read_list::<Block>(alloc, rest)?;
     if rest.len() > 0 {
         return Err(Unread::Malformed);
@@ -115,7 +131,7 @@ fn read_blocks(alloc: Global, bytes: &[u8]) -> Result<Vec<Block>, Unread>
     if !do_ascend::<Block>(&list) {
         return Err(Unread::Malformed);
     }
-    Ok(list)
+    Ok((profile, list))
 }
 
 /// The blocks of ascending ways, each at its way.

@@ -12,9 +12,12 @@ ghost use Rattle.graph_file.specs.WalkedFiles.{IsWalkedFile};
 use road_model::Profile;
 use road_model::laws::file_walks;
 
-/// A graph file has one list of blocks and no other.
+/// A graph file is of one profile and has one list of blocks, and no other.
 pub fn one_file()
-    ensures { (bytes : List ℕ) (a b : List Block) → IsFile bytes a → IsFile bytes b → a ≡ b }
+    ensures { (m n : ℕ) (bytes : List ℕ) (a b : List Block)
+        → IsFile m bytes a
+        → IsFile n bytes b
+        → (m ≡ n) × (a ≡ b) }
 {}
 
 /// The blocks of an object map's roads are named by their ways. Whoever reads its graph file by the grammar, and walks
@@ -25,7 +28,7 @@ pub fn walked_file<P: Profile>(profile: &P)
         → AllByRecursion IsOfItsWay blocks }
     ensures walks { (M : Objects) (bytes : List ℕ) (blocks : List Block)
         → Lists (λ b. b.way) way_cmp (IsRoadBlock M (P.rules profile.now)) blocks
-        → IsFile bytes blocks
+        → IsFile (P.rules profile.now).number bytes blocks
         → IsWalkedFile M (P.rules profile.now) bytes }
 {
     one_file();

@@ -12,6 +12,7 @@
 ghost use Rattle.std.specs.Prelude.{◌≡◌, ◌++◌, ◌<◌, ◌^◌, length, OnOk, OnErr, codes};
 ghost use Rattle.std.specs.List.{AllByRecursion};
 ghost use Rattle.std.specs.FinMap.{values};
+ghost use Rattle.road_base.specs.Profiles.{IsProfile};
 ghost use Rattle.road_base.specs.Bytes.{u32_bytes, u64_bytes, Keeps};
 ghost use Rattle.road_model.specs.Format.{graph_bytes, BlockFits, IsBlockForm, IsGraphFile};
 ghost use Rattle.graph_file.specs.GraphReading.{IsFile, IsOfItsWay};
@@ -37,12 +38,12 @@ pub use writer::GraphWriter;
 /// ascending order of their ways. Where no memory is found nothing is appended. Costs as many steps as it appends
 /// bytes.
 pub fn write(profile: u32, blocks: &Blocks, out: &mut Vec<u8>) -> Result<(), NoMemory>
-    requires profile { profile ≡ 1 }
+    requires profile { IsProfile profile }
     requires forms { AllByRecursion IsBlockForm (values blocks.now.map) }
     ensures bytes { OnOk result (out.new.items ≡ out.old.items ++ graph_bytes profile (values blocks.now.map)) }
     ensures grammar { OnOk result (IsGraphFile (graph_bytes profile (values blocks.now.map))) }
     ensures file { AllByRecursion IsOfItsWay (values blocks.now.map)
-        → OnOk result (IsFile (graph_bytes profile (values blocks.now.map)) (values blocks.now.map)) }
+        → OnOk result (IsFile profile (graph_bytes profile (values blocks.now.map)) (values blocks.now.map)) }
     ensures err { OnErr result (out.new.items ≡ out.old.items) }
 {
     let before = out.len();

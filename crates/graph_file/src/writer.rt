@@ -4,6 +4,7 @@ ghost use Rattle.std.specs.Prelude.{IsTrue};
 ghost use Rattle.std.specs.List.{AllByRecursion};
 ghost use Rattle.ordered_lists.specs.Orders.{rises};
 ghost use Rattle.road_model.specs.Orders.{way_cmp};
+ghost use Rattle.road_base.specs.Profiles.{IsProfile};
 ghost use Rattle.road_base.specs.Bytes.{u64_bytes};
 ghost use Rattle.road_model.specs.declared.blocks.Block.{Block};
 ghost use Rattle.road_model.specs.Format.{graph_bytes, block_bytes, BlockFits, IsBlockForm, IsGraphFile};
@@ -57,15 +58,17 @@ impl GraphWriter {
         ensures bytes { (profile : ℕ) (blocks : List Block)
             → HasWritten profile blocks self
             → result.items ≡ graph_bytes profile blocks }
-        ensures grammar { (blocks : List Block)
-            → HasWritten 1 blocks self
+        ensures grammar { (profile : ℕ) (blocks : List Block)
+            → IsProfile profile
+            → HasWritten profile blocks self
             → IsTrue (rises way_cmp (map (λ b. b.way) blocks))
             → IsGraphFile result.items }
-        ensures file { (blocks : List Block)
-            → HasWritten 1 blocks self
+        ensures file { (profile : ℕ) (blocks : List Block)
+            → IsProfile profile
+            → HasWritten profile blocks self
             → IsTrue (rises way_cmp (map (λ b. b.way) blocks))
             → AllByRecursion IsOfItsWay blocks
-            → IsFile result.items blocks }
+            → IsFile profile result.items blocks }
     {
         let GraphWriter { mut bytes, count } = self;
         set_count(&mut bytes, count);

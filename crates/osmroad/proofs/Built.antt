@@ -118,20 +118,19 @@ module _ (M : Objects) (P : Rules) where
   }
 
   -- the file of all roads is walked as the object map
-  pub whole_file : P.number ≡ 1 → (ways : List WayId) (writer : GraphWriter) (bytes : List ℕ)
+  pub whole_file : (ways : List WayId) (writer : GraphWriter) (bytes : List ℕ)
       → AreRoadWays M P ways → HasBlocksOf M P ways writer
-      → ((blocks : List Block) → HasWritten 1 blocks writer → IsTrue (rises way_cmp (map (λ b. b.way) blocks))
-      → AllByRecursion IsOfItsWay blocks → IsFile bytes blocks)
+      → ((blocks : List Block) → HasWritten P.number blocks writer → IsTrue (rises way_cmp (map (λ b. b.way) blocks))
+      → AllByRecursion IsOfItsWay blocks → IsFile P.number bytes blocks)
       → ((blocks : List Block) → Lists (λ b. b.way) way_cmp (IsRoadBlock M P) blocks
       → AllByRecursion IsOfItsWay blocks)
       → ((file : List ℕ) (blocks : List Block) → Lists (λ b. b.way) way_cmp (IsRoadBlock M P) blocks
-      → IsFile file blocks → IsWalkedFile M P file)
+      → IsFile P.number file blocks → IsWalkedFile M P file)
       → IsWalkedFile M P bytes
-  whole_file one ways writer bytes all has file own law =
+  whole_file ways writer bytes all has file own law =
       let listed = all_listed ways writer all has in
       law bytes has.blocks listed
-      (file has.blocks (subst (λ n. HasWritten n has.blocks writer) one has.written) has.listed.ascending
-      (own has.blocks listed))
+      (file has.blocks has.written has.listed.ascending (own has.blocks listed))
 
 -- ---- lists that are empty or not
 

@@ -4,6 +4,7 @@ use Rattle.road_base.specs.declared.event.Event.{Event}
 use Rattle.road_io.specs.Outside.{Outside}
 use Rattle.opl_lexer.specs.declared.mode.Mode.TheVariants.{Extract}
 use Rattle.opl_objects.specs.StreamLines.{fault_at}
+use Rattle.access_profile.specs.Profiles.{rules_of}
 use Rattle.osmroad.specs.declared.command.Command.{Command}
 use Rattle.osmroad.specs.declared.command.Command.TheVariants.{Compile}
 use Rattle.osmroad.specs.declared.input.InputError.{InputError}
@@ -74,7 +75,7 @@ module _ (held left : Option (List ℕ)) (x : Option Outside) where
     failed_extract result is = read_extract result
         (by_failure compile whole.bytes whole.bytes x x MemoryFailure result is (stands_still x))
 
-    pub will_put_graph : (out : List ℕ) → IsGraphOf events out
+    pub will_put_graph : (out : List ℕ) → IsGraphOf (rules_of 1) events out
         → WillPut compile whole.bytes whole.bytes Done out x x
     will_put_graph out graph =
         will_put_alone compile whole.bytes (λ stored. stored) whole.bytes Done out x (inl refl) refl (

@@ -297,7 +297,7 @@ module _ (n : Sequence) (events : List Event) (read : List ℕ) (input : AreInpu
         put : WillPut (command n) read read Done (created_line n.0) x z
         put = will_put (command n) read read Done (created_line n.0) x z (Creates n.0 events (Ok j)) told
             (inl refl) refl tt
-            (λ w v c. let h = base_alone n.0 events in let on = c.creates.answer.ready in record {
+            (λ w v c. let h = base_alone 1 n.0 events in let on = c.creates.answer.ready in record {
               replies = inl refl;
               reads = refl;
               after = Some h;

@@ -102,7 +102,7 @@ module _ (laws : StoreLaws) (w : Outside) (durable : BothDurable w) (intact : Ar
     base_intact : (number : ℕ) (read : List ℕ) → LeavesBase number read w left → AreIntact (image_of left)
     base_intact number read (LeavesBase.Before could unsaid) = could_intact could
     base_intact number read (LeavesBase.Without none unsaid) = inl none
-    base_intact number read (LeavesBase.With events input stand) = intact_for left (base_alone number events) stand
+    base_intact number read (LeavesBase.With events input stand) = intact_for left (base_alone 1 number events) stand
 
     created_intact : (number : ℕ) (read : List ℕ) → LeavesCreated number read w left → AreIntact (image_of left)
     created_intact number read l = ⊎_elim

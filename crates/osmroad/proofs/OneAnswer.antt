@@ -1,16 +1,19 @@
 -- What a run gives is determined by its command, the bytes of both files and those of its source.
-use Rattle.std.proofs.Common.{◌≡◌, ◌+◌, ◌<◌, ◌≤◌, ◌^◌, ℕ, List, Option, None, Some, sym, ap, ◌∙◌, subst, arith}
+use Rattle.std.proofs.Common.{◌≡◌, ◌+◌, ◌<◌, ◌≤◌, ◌^◌, ℕ, List, Option, None, Some, refl, sym, ap, ◌∙◌, subst, arith}
+use Rattle.std.proofs.lemmas.Bool.{eqb-true}
 use Rattle.std.specs.FinMap.{empty}
 use Rattle.std.specs.Cmp.{IsTotalOrder}
 use Rattle.road_base.specs.declared.event.Event.{Event}
+use Rattle.road_base.specs.Profiles.{IsProfile}
 use Rattle.road_base.specs.Objects.{Objects}
 use Rattle.road_base.specs.History.{History, all_events, kept, with_change}
 use Rattle.road_model.specs.Orders.{relation_cmp}
 use Rattle.road_model.specs.Naming.{OneGraph}
+use Rattle.road_model.specs.Rules.{Rules}
 use Rattle.road_model.specs.declared.blocks.Block.{Block}
 use Rattle.road_model.specs.Format.{IsGraph}
 use Rattle.drive_queries.specs.Counting.{totals_of}
-use Rattle.access_profile.specs.Motorcar.{motorcar_rules}
+use Rattle.access_profile.specs.Profiles.{rules_of}
 use Rattle.opl_lexer.specs.declared.mode.Mode.TheVariants.{Extract, Change}
 use Rattle.opl_lexer.specs.Reading.{input_fault}
 use Rattle.sequence_journal.specs.Basing.{base_alone}
@@ -46,20 +49,20 @@ with_after status another out other after later same e = (same.0, same.1, e)
 
 -- ---- what is shown of events
 
-pub one_graph_of : OneMap → ((M : Objects) → OneGraph M motorcar_rules) → (events : List Event) (out other : List ℕ)
-    → IsGraphOf events out → IsGraphOf events other → out ≡ other
-one_graph_of map graph events out other a b =
+pub one_graph_of : OneMap → (P : Rules) → ((M : Objects) → OneGraph M P) → (events : List Event) (out other : List ℕ)
+    → IsGraphOf P events out → IsGraphOf P events other → out ≡ other
+one_graph_of map P graph events out other a b =
     let objects = map empty b.objects a.objects events b.applied a.applied in
-    graph a.objects out other a.graph (subst (λ (M : Objects). IsGraph M motorcar_rules other) objects b.graph)
+    graph a.objects out other a.graph (subst (λ (M : Objects). IsGraph M P other) objects b.graph)
 
 -- ---- without a store
 
-module _ (reading : OneReading) (map : OneMap) (graph : (M : Objects) → OneGraph M motorcar_rules) where
+module _ (reading : OneReading) (map : OneMap) (graph : (M : Objects) → OneGraph M (rules_of 1)) where
   one_compiled : (bytes out other : List ℕ) → IsCompiled bytes out → IsCompiled bytes other → out ≡ other
   one_compiled bytes out other a b =
       let events = reading Extract bytes b.events a.events b.read a.read in
-      one_graph_of map graph a.events out other a.graph
-      (subst (λ (l : List Event). IsGraphOf l other) events b.graph)
+      one_graph_of map (rules_of 1) graph a.events out other a.graph
+      (subst (λ (l : List Event). IsGraphOf (rules_of 1) l other) events b.graph)
 
   one_compile : (bytes : List ℕ) (status another : Status) (out other : List ℕ)
       → CompileGives bytes status out → CompileGives bytes another other → Same status out another other
@@ -78,21 +81,21 @@ one_inspect bytes status another out other (InspectGives.OfTooMuch m e o) (Inspe
     (both _ _ _ e f, both _ _ _ o p)
 one_inspect bytes status another out other (InspectGives.OfTooMuch m e o) (InspectGives.OfNoGraph v n f p) =
     absurd (v m)
-one_inspect bytes status another out other (InspectGives.OfTooMuch m e o) (InspectGives.OfGraph v g l x f p) =
+one_inspect bytes status another out other (InspectGives.OfTooMuch m e o) (InspectGives.OfGraph v g n l x f p) =
     absurd (v m)
 one_inspect bytes status another out other (InspectGives.OfNoGraph w n e o) (InspectGives.OfTooMuch k f p) =
     absurd (w k)
 one_inspect bytes status another out other (InspectGives.OfNoGraph w n e o) (InspectGives.OfNoGraph v k f p) =
     (both _ _ _ e f, both _ _ _ o p)
-one_inspect bytes status another out other (InspectGives.OfNoGraph w n e o) (InspectGives.OfGraph v g l x f p) =
+one_inspect bytes status another out other (InspectGives.OfNoGraph w n e o) (InspectGives.OfGraph v g m l x f p) =
     absurd (n g)
-one_inspect bytes status another out other (InspectGives.OfGraph w g l x e o) (InspectGives.OfTooMuch k f p) =
+one_inspect bytes status another out other (InspectGives.OfGraph w g m l x e o) (InspectGives.OfTooMuch k f p) =
     absurd (w k)
-one_inspect bytes status another out other (InspectGives.OfGraph w g l x e o) (InspectGives.OfNoGraph v k f p) =
+one_inspect bytes status another out other (InspectGives.OfGraph w g m l x e o) (InspectGives.OfNoGraph v k f p) =
     absurd (k g)
-one_inspect bytes status another out other (InspectGives.OfGraph w g l x e o) (InspectGives.OfGraph v h k y f p) = (
+one_inspect bytes status another out other (InspectGives.OfGraph w g m l x e o) (InspectGives.OfGraph v h n k y f p) = (
   both _ _ _ e f,
-  o ∙ (ap (λ (blocks : List Block). counts_line (totals_of blocks)) (one_file bytes l k x y)
+  o ∙ (ap (λ (blocks : List Block). counts_line (totals_of blocks)) (one_file m n bytes l k x y).1
       ∙ sym p),
 )
 
@@ -116,7 +119,7 @@ module _ (reading : OneReading) (number : ℕ) (files : Files) (bytes : List ℕ
       (not_refused Extract bytes another other l x s)
   one_create (CreateGives.OfExtract n l x e o a) (CreateGives.OfExtract m k y f p b) =
       let same = reading Extract bytes l k x.read y.read in
-      (both _ _ _ e f, both _ _ _ o p, a ∙ (ap (λ (v : List Event). Some (base_alone number v)) same ∙ sym b))
+      (both _ _ _ e f, both _ _ _ o p, a ∙ (ap (λ (v : List Event). Some (base_alone 1 number v)) same ∙ sym b))
 
 -- ---- a store
 
@@ -134,8 +137,9 @@ module _ (live : OneLive) (has : HasLive) (sound : NoDamage) (alone : OneDamage)
     as_before : (s t : IsStore files) → after ≡ Some s.history → later ≡ Some t.history → after ≡ later
     as_before s t a b = a ∙ (ap Some (one_history s t) ∙ sym b)
 
-    module _ (Shows : List Event → List ℕ → Type 0)
-        (one : (events : List Event) (x y : List ℕ) → Shows events x → Shows events y → x ≡ y) where
+    module _ (Shows : Rules → List Event → List ℕ → Type 0)
+        (one : (n : ℕ) → IsProfile n → (events : List Event) (x y : List ℕ)
+        → Shows (rules_of n) events x → Shows (rules_of n) events y → x ≡ y) where
       one_show : ShowGives Shows files status out after → ShowGives Shows files another other later
           → Alike status out after another other later
       one_show (ShowGives.OfStore r a) (ShowGives.OfStore s b) =
@@ -146,8 +150,11 @@ module _ (live : OneLive) (has : HasLive) (sound : NoDamage) (alone : OneDamage)
           (store_not_refused files another other live has sound s r)
       one_show (ShowGives.OfHistory s x e a) (ShowGives.OfHistory t y f b) =
           let same = sym (one_history s t) in
-          let shown = subst (λ (h : History). Shows (all_events h) other) same y in
-          (both _ _ _ e f, one (all_events s.history) out other x shown, as_before s t a b)
+          let shown = subst (λ (h : History). Shows (rules_of h.profile) (all_events h) other) same y in (
+            both _ _ _ e f,
+            one s.history.profile s.stands.stands.begins.fits.profile (all_events s.history) out other x shown,
+            as_before s t a b,
+          )
 
     -- the entries of the history are one list of events
     one_entries : OneMap → (s t : IsStore files) (x y : List Event) → AreItsEntries s.history x
@@ -285,7 +292,16 @@ module _ (live : OneLive) (has : HasLive) (sound : NoDamage) (alone : OneDamage)
 
 -- ---- all commands
 
-module _ (reading : OneReading) (map : OneMap) (graph : (M : Objects) → OneGraph M motorcar_rules)
+-- the rules of each known profile give one graph
+abbrev pub OneGraphEach : Type 0
+OneGraphEach = (n : ℕ) → IsProfile n → (M : Objects) → OneGraph M (rules_of n)
+
+-- there is one known profile
+pub each_profile : (number : ℕ) → number ≡ 1 → ((M : Objects) → OneGraph M (rules_of number)) → OneGraphEach
+each_profile number is graph n known =
+    subst (λ (k : ℕ). (M : Objects) → OneGraph M (rules_of k)) (is ∙ sym (eqb-true n 1 known)) graph
+
+module _ (reading : OneReading) (map : OneMap) (graph : OneGraphEach)
     (total : IsTotalOrder relation_cmp) (bytes : List ℕ) (status another : Status) (out other : List ℕ)
     (after later : Option History) where
   one_usage : (files : Option Files) → Gives None files bytes status out after
@@ -294,7 +310,7 @@ module _ (reading : OneReading) (map : OneMap) (graph : (M : Objects) → OneGra
 
   one_alone : (files : Option Files) → Gives (Some Compile) files bytes status out after
       → Gives (Some Compile) files bytes another other later → Alike status out after another other later
-  one_alone files a b = with_after _ _ _ _ _ _ (one_compile reading map graph bytes status another out other a.0 b.0)
+  one_alone files a b = with_after _ _ _ _ _ _ (one_compile reading map (graph 1 refl) bytes status another out other a.0 b.0)
       (both _ _ _ a.1 b.1)
 
   one_inspected : (files : Option Files) → Gives (Some Inspect) files bytes status out after
@@ -305,7 +321,7 @@ module _ (reading : OneReading) (map : OneMap) (graph : (M : Objects) → OneGra
   one_sampled : (number : ℕ) (files : Option Files) → Gives (Some (Sample number)) files bytes status out after
       → Gives (Some (Sample number)) files bytes another other later → Alike status out after another other later
   one_sampled number files a b =
-      (both _ _ _ a.0 b.0, one_sample map graph number out other a.1 b.1, both _ _ _ a.2 b.2)
+      (both _ _ _ a.0 b.0, one_sample (rules_of 1) map (graph 1 refl) number out other a.1 b.1, both _ _ _ a.2 b.2)
 
   -- without a store no file is looked at
   pub one_without : (command : Option Command) → (IsStored command → ⊥) → Gives command None bytes status out after
@@ -332,10 +348,10 @@ module _ (reading : OneReading) (map : OneMap) (graph : (M : Objects) → OneGra
   one_answer live has sound alone store (Some (Apply n)) files a b =
       one_apply live has sound alone store files status another out other after later reading n.0 bytes a b
   one_answer live has sound alone store (Some Graph) files a b =
-      one_show live has sound alone store files status another out other after later IsGraphOf (one_graph_of map graph)
-      a b
+      one_show live has sound alone store files status another out other after later IsGraphOf
+      (λ n known. one_graph_of map (rules_of n) (graph n known)) a b
   one_answer live has sound alone store (Some Audit) files a b =
-      one_show live has sound alone store files status another out other after later IsAuditOf (one_audit total map)
-      a b
+      one_show live has sound alone store files status another out other after later IsAuditOf
+      (λ n known. one_audit total map (rules_of n)) a b
   one_answer live has sound alone store (Some Checkpoint) files a b =
       one_checkpoint live has sound alone store files status another out other after later map a b

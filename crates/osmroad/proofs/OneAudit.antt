@@ -8,7 +8,6 @@ use Rattle.road_base.specs.Objects.{Objects}
 use Rattle.road_model.specs.Orders.{relation_cmp}
 use Rattle.road_model.specs.Rules.{Rules}
 use Rattle.ordered_lists.proofs.AscendingLists.{lists_unique}
-use Rattle.access_profile.specs.Motorcar.{motorcar_rules}
 use Rattle.osmroad.specs.Audit.{RuleLine, IsRuleLine, IsAudit, rule_line, conditional_line, conditional_count}
 use Rattle.osmroad.specs.Audited.{IsAuditOf}
 use Rattle.osmroad.proofs.CitedLaws.{OneMap}
@@ -22,9 +21,9 @@ one_text total M P text other a b =
     a.spelled ∙ (ap (λ (l : List RuleLine). flat_map rule_line l ++ conditional_line (conditional_count M)) lines
     ∙ sym b.spelled)
 
-pub one_audit : IsTotalOrder relation_cmp → OneMap → (events : List Event) (out other : List ℕ)
-    → IsAuditOf events out → IsAuditOf events other → out ≡ other
-one_audit total map events out other a b =
+pub one_audit : IsTotalOrder relation_cmp → OneMap → (P : Rules) (events : List Event) (out other : List ℕ)
+    → IsAuditOf P events out → IsAuditOf P events other → out ≡ other
+one_audit total map P events out other a b =
     let objects = map empty b.objects a.objects events b.applied a.applied in
-    one_text total a.objects motorcar_rules out other a.audit
-    (subst (λ (M : Objects). IsAudit M motorcar_rules other) objects b.audit)
+    one_text total a.objects P out other a.audit
+    (subst (λ (M : Objects). IsAudit M P other) objects b.audit)

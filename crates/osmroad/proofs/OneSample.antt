@@ -6,7 +6,7 @@ use Rattle.road_base.specs.Objects.{Objects}
 use Rattle.road_model.specs.declared.blocks.Block.{Block}
 use Rattle.road_model.specs.Naming.{OneGraph}
 use Rattle.road_model.specs.Format.{IsGraph}
-use Rattle.access_profile.specs.Motorcar.{motorcar_rules}
+use Rattle.road_model.specs.Rules.{Rules}
 use Rattle.graph_file.specs.GraphReading.{IsFile}
 use Rattle.drive_queries.specs.Counting.{totals_of}
 use Rattle.osmroad.specs.Texts.{sample_line}
@@ -14,20 +14,20 @@ use Rattle.osmroad.specs.Sampling.{events_of_lists, IsSampleLine, AreSampleLines
 use Rattle.graph_file.proofs.GraphFiles.{one_file}
 use Rattle.osmroad.proofs.CitedLaws.{OneMap}
 
-module _ (map : OneMap) (graph : (M : Objects) → OneGraph M motorcar_rules) where
-  one_line : (q : ℕ) (events : List Event) (line other : List ℕ) → IsSampleLine q events line
-      → IsSampleLine q events other → line ≡ other
+module _ (P : Rules) (map : OneMap) (graph : (M : Objects) → OneGraph M P) where
+  one_line : (q : ℕ) (events : List Event) (line other : List ℕ) → IsSampleLine P q events line
+      → IsSampleLine P q events other → line ≡ other
   one_line q events line other a b =
       let objects = map empty b.objects a.objects events b.applied a.applied in
       let bytes : a.graph ≡ b.graph = graph a.objects a.graph b.graph a.is
-      (subst (λ (M : Objects). IsGraph M motorcar_rules b.graph) objects b.is) in
-      let blocks : a.blocks ≡ b.blocks = one_file b.graph a.blocks b.blocks
-      (subst (λ (l : List ℕ). IsFile l a.blocks) bytes a.file) b.file in
+      (subst (λ (M : Objects). IsGraph M P b.graph) objects b.is) in
+      let blocks : a.blocks ≡ b.blocks = (one_file P.number P.number b.graph a.blocks b.blocks
+      (subst (λ (l : List ℕ). IsFile P.number l a.blocks) bytes a.file) b.file).1 in
       a.spelled
       ∙ (ap (λ (l : List Block). sample_line q (totals_of l) (length a.graph)) blocks
       ∙ (ap (λ (l : List ℕ). sample_line q (totals_of b.blocks) (length l)) bytes ∙ sym b.spelled))
 
-  one_text : (n count : ℕ) (text other : List ℕ) → AreSampleLines n count text → AreSampleLines n count other
+  one_text : (n count : ℕ) (text other : List ℕ) → AreSampleLines P n count text → AreSampleLines P n count other
       → text ≡ other
   one_text n zero text other a b = a ∙ sym b
   one_text n (suc count) text other a b =
@@ -35,5 +35,5 @@ module _ (map : OneMap) (graph : (M : Objects) → OneGraph M motorcar_rules) wh
       let line : a.1 ≡ b.1 = one_line count (events_of_lists n (suc count)) a.1 b.1 a.3 b.3 in
       a.4 ∙ (ap (λ (l : List ℕ). l ++ a.1) front ∙ (ap (λ (l : List ℕ). b.0 ++ l) line ∙ sym b.4))
 
-  pub one_sample : (n : ℕ) (text other : List ℕ) → IsSample n text → IsSample n other → text ≡ other
+  pub one_sample : (n : ℕ) (text other : List ℕ) → IsSample P n text → IsSample P n other → text ≡ other
   one_sample n text other a b = one_text n 11 text other a.lines b.lines

@@ -13,6 +13,8 @@ use Rattle.osmroad.specs.declared.reply.Reply.{Reply}
 use Rattle.osmroad.specs.declared.reply.Failure.{Failure}
 use Rattle.osmroad.specs.declared.reply.Failure.TheVariants.{NoMemory as MemoryFailure}
 use Rattle.osmroad.specs.declared.status.Status.TheVariants.{Done}
+use Rattle.road_model.specs.Rules.{Rules}
+use Rattle.access_profile.specs.Profiles.{rules_of}
 use Rattle.osmroad.specs.Sampling.{events_of_lists, IsSampleLine, IsSample, Led}
 use Rattle.osmroad.specs.Replies.{Replies, IsPrepared, Prepares}
 use Rattle.session.proofs.HeldSource.{behind_of}
@@ -36,7 +38,7 @@ module _ (number : ℕ) (held : Option (List ℕ)) (x : Option Outside) where
   failed_sample result is = unread result
       (by_failure command (behind_of held) [] x x MemoryFailure result is (stands_still x))
 
-  pub put_sample : (result : Result Reply Failure) (out : List ℕ) → Replies Done out result → IsSample number out
+  pub put_sample : (result : Result Reply Failure) (out : List ℕ) → Replies Done out result → IsSample (rules_of 1) number out
       → Prepares command result held held x x
   put_sample result out says is = unread result
       (replied command (behind_of held) [] Done out result x x says
@@ -52,14 +54,14 @@ after_so_many n count few =
     let more : nat_lt count 11 ≡ true = lt-ltb count 11 few in
     ap (λ (b : Bool). record { number = n; given = cond b (count + 1) count }) more
 
-pub led_on : (n count : ℕ) → count < 11 → (town later : Progress) (world new : Objects) (events : List Event)
-    (text line longer : List ℕ) → Led n count town world text
+pub led_on : (P : Rules) (n count : ℕ) → count < 11 → (town later : Progress) (world new : Objects) (events : List Event)
+    (text line longer : List ℕ) → Led P n count town world text
     → ((M N O : Objects) (a b : List Event) → IsApplied M a N → IsApplied N b O → IsApplied M (a ++ b) O)
     → events ≡ next_list town → later ≡ after_list town → IsApplied world events new
-    → ((all : List Event) → IsApplied empty all new → IsSampleLine count all line) → longer ≡ text ++ line
-    → Led n (count + 1) later new longer
-led_on n count few town later world new events text line longer led turn list after applied is grows =
-    subst (λ (m : ℕ). Led n m later new longer) next (record {
+    → ((all : List Event) → IsApplied empty all new → IsSampleLine P count all line) → longer ≡ text ++ line
+    → Led P n (count + 1) later new longer
+led_on P n count few town later world new events text line longer led turn list after applied is grows =
+    subst (λ (m : ℕ). Led P n m later new longer) next (record {
       town_is = after ∙ ap after_list led.town_is
           ∙ after_so_many n count few ∙ ap (λ (m : ℕ). record { number = n; given = m }) (sym next);
       applied = all;

@@ -4,11 +4,11 @@ use Rattle.std.specs.FinMap.{empty}
 use Rattle.road_base.specs.declared.event.Event.{Event}
 use Rattle.road_base.specs.Objects.{Objects}
 use Rattle.road_base.specs.Applying.{IsApplied}
-use Rattle.access_profile.specs.Motorcar.{motorcar_rules}
+use Rattle.road_model.specs.Rules.{Rules}
 use Rattle.osmroad.specs.Audit.{IsAudit}
 
--- `out` is the audit of the objects that the events leave
-pub record IsAuditOf (events : List Event) (out : List ℕ) : Type 0 where
+-- `out` is the audit of the objects that the events leave, under the rules
+pub record IsAuditOf (P : Rules) (events : List Event) (out : List ℕ) : Type 0 where
   pub objects : Objects
   pub applied : IsApplied empty events objects
-  pub audit : IsAudit objects motorcar_rules out
+  pub audit : IsAudit objects P out

@@ -4,16 +4,16 @@ use Rattle.std.specs.FinMap.{empty}
 use Rattle.road_base.specs.declared.event.Event.{Event}
 use Rattle.road_base.specs.Objects.{Objects}
 use Rattle.road_base.specs.Applying.{IsApplied}
+use Rattle.road_model.specs.Rules.{Rules}
 use Rattle.road_model.specs.Walks.{AreWalked}
 use Rattle.road_model.specs.Format.{IsGraph}
 use Rattle.graph_file.specs.WalkedFiles.{IsWalkedFile}
-use Rattle.access_profile.specs.Motorcar.{motorcar_rules}
 
--- `out` is the graph of the objects that the events leave; the walks over these are the drives that may be driven
+-- `out` is the rules' graph of the objects that the events leave; the walks over these are the drives that may be driven
 -- there, and whoever reads the bytes by the grammar and walks over what stands there makes exactly these walks
-pub record IsGraphOf (events : List Event) (out : List ℕ) : Type 0 where
+pub record IsGraphOf (P : Rules) (events : List Event) (out : List ℕ) : Type 0 where
   pub objects : Objects
   pub applied : IsApplied empty events objects
-  pub graph : IsGraph objects motorcar_rules out
-  pub walks : AreWalked objects motorcar_rules
-  pub file : IsWalkedFile objects motorcar_rules out
+  pub graph : IsGraph objects P out
+  pub walks : AreWalked objects P
+  pub file : IsWalkedFile objects P out

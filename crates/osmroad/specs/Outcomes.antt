@@ -7,8 +7,10 @@ use Rattle.opl_lexer.specs.declared.mode.Mode.{Mode}
 use Rattle.opl_lexer.specs.declared.mode.Mode.TheVariants.{Extract, Change}
 use Rattle.opl_lexer.specs.Reading.{FaultAt, input_fault, ReadAll}
 use Rattle.road_model.specs.declared.blocks.Block.{Block}
+use Rattle.road_model.specs.Rules.{Rules}
 use Rattle.road_model.specs.Format.{IsGraphFile}
 use Rattle.graph_file.specs.GraphReading.{IsFile}
+use Rattle.access_profile.specs.Profiles.{rules_of}
 use Rattle.drive_queries.specs.Counting.{totals_of}
 use Rattle.road_io.specs.declared.outside.Which.{Which}
 use Rattle.sequence_journal.specs.Layout.{HasBase}
@@ -46,26 +48,28 @@ pub data InputRefusal (mode : Mode) (bytes : List ℕ) (status : Status) (out : 
 
 -- ---- the commands
 
--- no line is in fault, and `out` is the graph of the objects that the events leave
+-- no line is in fault, and `out` is the graph of the objects that the events leave, of profile 1, a motorcar's
 pub record IsCompiled (bytes out : List ℕ) : Type 0 where
   pub events : List Event
   pub read : ReadAll Extract bytes events
-  pub graph : IsGraphOf events out
+  pub graph : IsGraphOf (rules_of 1) events out
 
 -- `- compile`
 pub data CompileGives (bytes : List ℕ) (status : Status) (out : List ℕ) : Type 0 where
   OfInput : InputRefusal Extract bytes status out → CompileGives bytes status out
   OfExtract : IsWithinLimits bytes → IsCompiled bytes out → status ≡ Done → CompileGives bytes status out
 
--- `- inspect`: the bytes are a graph file, of which `out` says how large it is
+-- `- inspect`: the bytes are a graph file, of any known profile, of which `out` says how large it is
 pub data InspectGives (bytes : List ℕ) (status : Status) (out : List ℕ) : Type 0 where
   OfTooMuch : HasTooManyBytes bytes → status ≡ Limit → out ≡ limit_line → InspectGives bytes status out
   OfNoGraph : (HasTooManyBytes bytes → ⊥) → (IsGraphFile bytes → ⊥)
       → status ≡ Refused → out ≡ refused_graph_line → InspectGives bytes status out
-  OfGraph : (HasTooManyBytes bytes → ⊥) → IsGraphFile bytes → (blocks : List Block) → IsFile bytes blocks
+  OfGraph : (HasTooManyBytes bytes → ⊥) → IsGraphFile bytes
+      → (profile : ℕ) (blocks : List Block) → IsFile profile bytes blocks
       → status ≡ Done → out ≡ counts_line (totals_of blocks) → InspectGives bytes status out
 
--- `STORE create N`: where no file has an open base, the files then stand for base N with the events of the extract
+-- `STORE create N`: where no file has an open base, the files then stand for base N, of profile 1, with the events of the
+-- extract
 pub data CreateGives (number : ℕ) (files : Files) (bytes : List ℕ) (status : Status) (out : List ℕ)
     (after : Option History) : Type 0 where
   OfOldStore : (file : Which) → HasBase (files file)
@@ -74,7 +78,7 @@ pub data CreateGives (number : ℕ) (files : Files) (bytes : List ℕ) (status :
   OfInput : NoBases files → InputRefusal Extract bytes status out → after ≡ None
       → CreateGives number files bytes status out after
   OfExtract : NoBases files → (events : List Event) → AreInput Extract bytes events
-      → status ≡ Done → out ≡ created_line number → after ≡ Some (base_alone number events)
+      → status ≡ Done → out ≡ created_line number → after ≡ Some (base_alone 1 number events)
       → CreateGives number files bytes status out after
 
 -- `STORE apply N`: the files then stand for their history with the change, or as before, in the order of the refusals
@@ -102,11 +106,12 @@ pub data ApplyGives (number : ℕ) (files : Files) (bytes : List ℕ) (status : 
       → status ≡ Done → out ≡ applied_line number → after ≡ Some (with_change s.history events)
       → ApplyGives number files bytes status out after
 
--- `STORE graph` and `STORE audit`: what is shown of all events of the store's history
-pub data ShowGives (Shows : List Event → List ℕ → Type 0) (files : Files) (status : Status) (out : List ℕ)
+-- `STORE graph` and `STORE audit`: what is shown of all events of the store's history, under the rules of its profile
+pub data ShowGives (Shows : Rules → List Event → List ℕ → Type 0) (files : Files) (status : Status) (out : List ℕ)
     (after : Option History) : Type 0 where
   OfStore : StoreRefusal files status out → after ≡ None → ShowGives Shows files status out after
-  OfHistory : (s : IsStore files) → Shows (all_events s.history) out → status ≡ Done → after ≡ Some s.history
+  OfHistory : (s : IsStore files) → Shows (rules_of s.history.profile) (all_events s.history) out
+      → status ≡ Done → after ≡ Some s.history
       → ShowGives Shows files status out after
 
 -- ---- all of them
@@ -118,7 +123,7 @@ abbrev pub Gives : Option Command → Option Files → List ℕ → Status → L
 Gives None files bytes status out after = (status ≡ Usage) × (out ≡ usage_line) × (after ≡ None)
 Gives (Some Compile) files bytes status out after = CompileGives bytes status out × (after ≡ None)
 Gives (Some Inspect) files bytes status out after = InspectGives bytes status out × (after ≡ None)
-Gives (Some (Sample n)) files bytes status out after = (status ≡ Done) × IsSample n out × (after ≡ None)
+Gives (Some (Sample n)) files bytes status out after = (status ≡ Done) × IsSample (rules_of 1) n out × (after ≡ None)
 Gives (Some (Create n)) files bytes status out after = IfSome files (λ f. CreateGives n.0 f bytes status out after)
 Gives (Some (Apply n)) files bytes status out after = IfSome files (λ f. ApplyGives n.0 f bytes status out after)
 Gives (Some Graph) files bytes status out after = IfSome files (λ f. ShowGives IsGraphOf f status out after)

@@ -33,7 +33,7 @@ HasPut line w left = StartsWith left.out (w.output ++ line)
 pub data LeavesBase (number : ℕ) (read : List ℕ) (w : Outside) (left : Left) : Type 0 where
   Before : CouldLeave w left → (HasPut (created_line number) w left → ⊥) → LeavesBase number read w left
   Without : NoBases (image_of left) → (HasPut (created_line number) w left → ⊥) → LeavesBase number read w left
-  With : (events : List Event) → AreInput Extract read events → StandFor (image_of left) (base_alone number events)
+  With : (events : List Event) → AreInput Extract read events → StandFor (image_of left) (base_alone 1 number events)
       → LeavesBase number read w left
 
 -- ---- where the files stand for a history

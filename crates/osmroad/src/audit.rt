@@ -1,7 +1,6 @@
 //! The audit: what becomes of each restriction, and how many objects carry conditional keys. It takes the time of one
 //! run over the objects and their tags, and that of `words` for each restriction.
 ghost use Rattle.std.specs.Prelude.{◌≡◌, All, IfOk, filter, filter_map, length, string_bytes};
-ghost use Rattle.access_profile.specs.Motorcar.{motorcar_rules};
 ghost use Rattle.restrictions.specs.Words.{IsRestriction};
 ghost use Rattle.osmroad.specs.Audit.{IsAudit, IsLineOf, AreRuleLines, restriction_of, carries_conditional};
 ghost use Rattle.osmroad.specs.Audit.{has_conditional, is_conditional, conditional_line};
@@ -10,43 +9,57 @@ use crate::findings::{finding_of, rule_text};
 use back_references::Indexed;
 use road_base::laws::key_order;
 use road_base::{Body, Event, Key, NoMemory, RelationId, Tags};
-use road_model::is_restriction;
+use road_model::{Network, Profile, is_restriction};
 use std::alloc::{AllocError, Global};
 
-/// The audit of the objects, for a car: for each visible restriction by number its line, `rN no K` or `rN only K` where
-/// it gives K different words, `rN unused CAUSE` where it is of no use; then `conditional K`, where K visible objects
+/// The audit of the objects, for the profile: for each visible restriction by number its line, `rN no K` or `rN only K`
+/// where it gives K different words, `rN unused CAUSE` where it is of no use; then `conditional K`, where K visible objects
 /// carry a key that ends in `:conditional` (OSM wiki, Conditional restrictions).
-pub fn audit_text(alloc: Global, world: &Indexed) -> Result<String, NoMemory>
-    ensures { IfOk result (λ text. IsAudit world.now motorcar_rules (string_bytes text)) }
+pub fn audit_text<P: Profile>(
+    alloc: Global,
+    network: &Network<'_, Indexed, P>,
+) -> Result<String, NoMemory>
+    ensures { IfOk result
+        (λ text. IsAudit network.now.world.now (P.rules network.now.profile) (string_bytes text)) }
 {
     key_order();
-    let listed = world.objects().listed()?;
+    let listed = network.world.objects().listed()?;
     let rules = restrictions_among(alloc, listed.relations())?;
-    let mut text = rule_lines(alloc, world, &rules)?;
+    let mut text = rule_lines(alloc, network, &rules)?;
     let count = conditional_count(listed.items());
     text.push_str(&conditional_text(alloc, count)?)?;
     Ok(text)
 }
 
 /// The lines of the restrictions, in their order.
-fn rule_lines(alloc: Global, world: &Indexed, rules: &[RelationId]) -> Result<String, NoMemory>
-    requires { All (IsRestriction world.now) rules.now }
-    ensures { IfOk result (λ text. AreRuleLines world.now motorcar_rules rules.now (string_bytes text)) }
+fn rule_lines<P: Profile>(
+    alloc: Global,
+    network: &Network<'_, Indexed, P>,
+    rules: &[RelationId],
+) -> Result<String, NoMemory>
+    requires { All (IsRestriction network.now.world.now) rules.now }
+    ensures { IfOk result
+        (λ text. AreRuleLines network.now.world.now (P.rules network.now.profile) rules.now (string_bytes text)) }
 {
     let mut text = String::new(alloc);
     for relation in rules {
-        let line = line_of(alloc, world, *relation)?;
+        let line = line_of(alloc, network, *relation)?;
         text.push_str(&line)?;
     }
     Ok(text)
 }
 
 /// The line of the restriction.
-fn line_of(alloc: Global, world: &Indexed, relation: RelationId) -> Result<String, NoMemory>
-    requires { IsRestriction world.now relation }
-    ensures { IfOk result (λ text. IsLineOf world.now motorcar_rules relation (string_bytes text)) }
+fn line_of<P: Profile>(
+    alloc: Global,
+    network: &Network<'_, Indexed, P>,
+    relation: RelationId,
+) -> Result<String, NoMemory>
+    requires { IsRestriction network.now.world.now relation }
+    ensures { IfOk result
+        (λ text. IsLineOf network.now.world.now (P.rules network.now.profile) relation (string_bytes text)) }
 {
-    let finding = finding_of(alloc, world, relation)?;
+    let finding = finding_of(alloc, network, relation)?;
     Ok(rule_text(alloc, relation, finding)?)
 }
 

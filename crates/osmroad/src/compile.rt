@@ -7,6 +7,7 @@ ghost use Rattle.osmroad.specs.Replies.{Prepares, CountsReads};
 
 use crate::graph::graph_of;
 use crate::input::read_events;
+use crate::profiles::profile_of_run;
 use crate::reply::{Failure, Reply, refuse_input};
 use crate::status::Status;
 use opl_lexer::Mode;
@@ -33,7 +34,7 @@ pub fn compile<S: Source, L: Ledger>(
         Ok(events) => events,
         Err(error) => return refuse_input(alloc, error),
     };
-    let out = graph_of(alloc, events, steps)?;
+    let out = graph_of(alloc, profile_of_run(), events, steps)?;
     Ok(Reply {
         status: Status::Done,
         out,

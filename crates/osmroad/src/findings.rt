@@ -3,15 +3,13 @@ ghost use Rattle.std.specs.Prelude.{◌≡◌, Some, IfOk, string_bytes};
 ghost use Rattle.road_base.specs.declared.objects.Relation.{Relation};
 ghost use Rattle.road_base.specs.Objects.{relation_of};
 ghost use Rattle.road_model.specs.Words.{kind_of};
-ghost use Rattle.access_profile.specs.Motorcar.{motorcar_rules};
 ghost use Rattle.restrictions.specs.Words.{IsOfUse, IsRestriction};
 ghost use Rattle.osmroad.specs.Audit.{IsFinding, cause_name, rule_kind_name, rule_line};
 
-use access_profile::Motorcar;
 use back_references::Indexed;
 use restrictions::{WordsError, words};
 use road_base::{NoMemory, RelationId};
-use road_model::{Profile, RuleKind, Unusable, World};
+use road_model::{Network, Profile, RuleKind, Unusable, World};
 use std::alloc::{AllocError, Global};
 
 /// What becomes of a restriction.
@@ -24,13 +22,17 @@ pub enum Finding {
 }
 
 /// What becomes of the visible restriction.
-pub fn finding_of(alloc: Global, world: &Indexed, relation: RelationId) -> Result<Finding, NoMemory>
-    requires { IsRestriction world.now relation }
-    ensures { IfOk result (IsFinding world.now motorcar_rules relation) }
+pub fn finding_of<P: Profile>(
+    alloc: Global,
+    network: &Network<'_, Indexed, P>,
+    relation: RelationId,
+) -> Result<Finding, NoMemory>
+    requires { IsRestriction network.now.world.now relation }
+    ensures { IfOk result (IsFinding network.now.world.now (P.rules network.now.profile) relation) }
 {
-    match words(alloc, world, &Motorcar, relation) {
+    match words(alloc, network.world, &network.profile, relation) {
         Ok(words) => Ok(Finding::Words {
-            only: demands(world, relation),
+            only: demands(network, relation),
             count: words.items().len(),
         }),
         Err(WordsError::Unusable(cause)) => Ok(Finding::Unused(cause)),
@@ -39,13 +41,13 @@ pub fn finding_of(alloc: Global, world: &Indexed, relation: RelationId) -> Resul
 }
 
 /// Whether a restriction that is of use demands, and doesn't forbid.
-fn demands(world: &Indexed, relation: RelationId) -> bool
-    requires { IsOfUse world.now motorcar_rules relation }
-    ensures { (body : Relation) → relation_of world.now relation ≡ Some body
-        → motorcar_rules.rule body.tags ≡ kind_of result }
+fn demands<P: Profile>(network: &Network<'_, Indexed, P>, relation: RelationId) -> bool
+    requires { IsOfUse network.now.world.now (P.rules network.now.profile) relation }
+    ensures { (body : Relation) → relation_of network.now.world.now relation ≡ Some body
+        → (P.rules network.now.profile).rule body.tags ≡ kind_of result }
 {
-    match world.relation(relation) {
-        Some(body) => matches!(Motorcar.rule(&body.tags), RuleKind::Only),
+    match network.world.relation(relation) {
+        Some(body) => matches!(network.profile.rule(&body.tags), RuleKind::Only),
         None => false,
     }
 }

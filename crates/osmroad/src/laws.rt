@@ -8,7 +8,7 @@ ghost use Rattle.osmroad.specs.Outcomes.{Gives};
 ghost use Rattle.osmroad.specs.Run.{IsStored};
 ghost use Rattle.osmroad.specs.StoreLaws.{StoreLaws, ChangeLaws, CheckpointLaws};
 
-use access_profile::Motorcar;
+use crate::profiles::profile_of_run;
 use opl_lexer::laws::one_reading;
 use road_base::laws::one_map;
 use road_model::laws::{number_order, one_graph};
@@ -35,7 +35,7 @@ pub fn one_answer()
 {
     one_reading();
     one_map();
-    one_graph(&Motorcar);
+    one_graph(&profile_of_run());
     number_order();
     one_damage();
     store_laws();

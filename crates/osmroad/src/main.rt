@@ -33,6 +33,7 @@ mod input;
 mod inspect;
 mod laws;
 mod limits;
+mod profiles;
 mod reply;
 mod run;
 mod sample;

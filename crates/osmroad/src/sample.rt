@@ -3,6 +3,7 @@ ghost use Rattle.std.specs.Prelude.{◌≡◌, ◌+◌, ◌<◌, ℕ, List, [], 
 ghost use Rattle.std.specs.FinMap.{empty};
 ghost use Rattle.road_base.specs.declared.event.Event.{Event};
 ghost use Rattle.road_base.specs.Applying.{IsApplied};
+ghost use Rattle.road_base.specs.Profiles.{IsProfile};
 ghost use Rattle.road_model.specs.declared.blocks.Block.{Block};
 ghost use Rattle.road_model.specs.Format.{IsGraphFile};
 ghost use Rattle.road_io.specs.Outside.{Outside};
@@ -11,12 +12,13 @@ ghost use Rattle.drive_queries.specs.Counting.{totals_of};
 ghost use Rattle.sample_town.specs.Lists.{next_list, after_list};
 ghost use Rattle.osmroad.specs.declared.command.Command.TheVariants.{Sample as SampleCommand};
 ghost use Rattle.osmroad.specs.Texts.{sample_line};
+ghost use Rattle.access_profile.specs.Profiles.{rules_of};
 ghost use Rattle.osmroad.specs.Sampling.{IsSampleLine, IsSample, Led};
 ghost use Rattle.osmroad.specs.Replies.{Prepares};
 
+use crate::profiles::profile_of_run;
 use crate::reply::{Failure, Reply};
 use crate::status::Status;
-use access_profile::Motorcar;
 use change_apply::Engine;
 use drive_queries::{Totals, counts};
 use graph_file::{Graph, write};
@@ -49,21 +51,24 @@ fn sample_text<L: Ledger>(
     number: u64,
     steps: &mut Steps<L>,
 ) -> Result<Vec<u8>, NoMemory>
-    ensures { IfOk result (λ text. IsSample number text.items) }
+    ensures { IfOk result (λ text. IsSample (rules_of 1) number text.items) }
 {
     let mut town = Town::new(alloc, number);
-    let mut engine = Engine::load(alloc, Motorcar, Vec::new(alloc), steps)?;
+    let mut engine = Engine::load(alloc, profile_of_run(), Vec::new(alloc), steps)?;
     all_lines(alloc, &mut town, &mut engine, steps)
 }
 
 /// The lines of a town that gave no list yet, where the engine has no objects.
-fn all_lines<L: Ledger>(
+fn all_lines<P: Profile, L: Ledger>(
     alloc: Global,
     town: &mut Town,
-    engine: &mut Engine<Motorcar>,
+    engine: &mut Engine<P>,
     steps: &mut Steps<L>,
 ) -> Result<Vec<u8>, NoMemory>
-    ensures { IfOk result (λ text. (n : ℕ) → Led n 0 town.old engine.old.world [] → IsSample n text.items) }
+    requires { IsProfile (P.rules engine.old.profile).number }
+    ensures { IfOk result (λ text. (n : ℕ)
+        → Led (P.rules engine.old.profile) n 0 town.old engine.old.world []
+        → IsSample (P.rules engine.old.profile) n text.items) }
 {
     let mut text = Vec::new(alloc);
     for change in 0..LISTS {
@@ -73,17 +78,19 @@ fn all_lines<L: Ledger>(
 }
 
 /// Applies the town's next list, and adds the line of what the engine has come to.
-fn add_line<L: Ledger>(
+fn add_line<P: Profile, L: Ledger>(
     alloc: Global,
     change: u32,
     town: &mut Town,
-    engine: &mut Engine<Motorcar>,
+    engine: &mut Engine<P>,
     text: &mut Vec<u8>,
     steps: &mut Steps<L>,
 ) -> Result<(), NoMemory>
-    ensures { OnOk result ((n : ℕ) → change < 11
-        → Led n change town.old engine.old.world text.old.items
-        → Led n (change + 1) town.new engine.new.world text.new.items) }
+    requires { IsProfile (P.rules engine.old.profile).number }
+    ensures led { OnOk result ((n : ℕ) → change < 11
+        → Led (P.rules engine.old.profile) n change town.old engine.old.world text.old.items
+        → Led (P.rules engine.old.profile) n (change + 1) town.new engine.new.world text.new.items) }
+    ensures profile { engine.new.profile ≡ engine.old.profile }
 {
     applied_in_turn();
     apply_next(town, engine, steps)?;
@@ -93,13 +100,14 @@ fn add_line<L: Ledger>(
 }
 
 /// Applies the town's next list.
-fn apply_next<L: Ledger>(
+fn apply_next<P: Profile, L: Ledger>(
     town: &mut Town,
-    engine: &mut Engine<Motorcar>,
+    engine: &mut Engine<P>,
     steps: &mut Steps<L>,
 ) -> Result<(), NoMemory>
     ensures town { OnOk result (town.new ≡ after_list town.old) }
     ensures applied { OnOk result (IsApplied engine.old.world (next_list town.old) engine.new.world) }
+    ensures profile { engine.new.profile ≡ engine.old.profile }
 {
     let events = town.events()?;
     engine.apply(&events, steps)?;
@@ -107,15 +115,20 @@ fn apply_next<L: Ledger>(
 }
 
 /// The line of what the engine has come to.
-fn line_of(alloc: Global, change: u32, engine: &mut Engine<Motorcar>) -> Result<Vec<u8>, NoMemory>
+fn line_of<P: Profile>(
+    alloc: Global,
+    change: u32,
+    engine: &mut Engine<P>,
+) -> Result<Vec<u8>, NoMemory>
+    requires { IsProfile (P.rules engine.old.profile).number }
     ensures line { IfOk result (λ line. (events : List Event)
         → IsApplied empty events engine.old.world
-        → IsSampleLine change events line.items) }
+        → IsSampleLine (P.rules engine.old.profile) change events line.items) }
     ensures same { engine.new ≡ engine.old }
 {
     let road_graph = engine.graph()?;
     let mut graph = Vec::new(alloc);
-    write(Motorcar.number(), &road_graph.blocks, &mut graph)?;
+    write(road_graph.profile.number(), &road_graph.blocks, &mut graph)?;
     let totals = totals_of(alloc, &graph)?;
     sample_line(alloc, change, &totals, graph.len())
 }
@@ -123,7 +136,9 @@ fn line_of(alloc: Global, change: u32, engine: &mut Engine<Motorcar>) -> Result<
 /// How large the graph is whose file has these bytes.
 fn totals_of(alloc: Global, bytes: &[u8]) -> Result<Totals, NoMemory>
     requires { IsGraphFile bytes.now }
-    ensures { IfOk result (λ totals. (blocks : List Block) × IsFile bytes.now blocks × (totals ≡ totals_of blocks)) }
+    ensures { IfOk result (λ totals. (profile : ℕ) × (blocks : List Block)
+        × IsFile profile bytes.now blocks
+        × (totals ≡ totals_of blocks)) }
 {
     match Graph::read(alloc, bytes)? {
         Some(graph) => Ok(counts(&graph.blocks)),

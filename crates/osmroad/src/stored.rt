@@ -7,11 +7,13 @@ ghost use Rattle.osmroad.specs.Replies.{Prepares, CountsCalls};
 use crate::audit::audit_text;
 use crate::graph::graph_of;
 use crate::laws::store_laws;
+use crate::profiles::profile_of_run;
 use crate::reply::{Failure, Reply, refuse_store};
 use crate::status::Status;
 use back_references::Indexed;
 use road_base::Steps;
 use road_io::Site;
+use road_model::Network;
 use std::alloc::Global;
 use std::mem::forget;
 use std::sync::ledger::Ledger;
@@ -34,7 +36,7 @@ pub fn stored_graph<W: Site, L: Ledger>(
         Ok(loaded) => loaded,
         Err(error) => return refuse_store(alloc, error),
     };
-    let out = graph_of(alloc, loaded.events, steps)?;
+    let out = graph_of(alloc, profile_of_run(), loaded.events, steps)?;
     Ok(Reply {
         status: Status::Done,
         out,
@@ -53,7 +55,8 @@ pub fn stored_audit<W: Site>(alloc: Global, site: &mut W) -> Result<Reply, Failu
         Err(error) => return refuse_store(alloc, error),
     };
     let world = Indexed::of(alloc, loaded.events)?;
-    let text = audit_text(alloc, &world)?;
+    let network = Network::new(&world, profile_of_run());
+    let text = audit_text(alloc, &network)?;
     forget(world);
     Ok(Reply::new(Status::Done, text))
 }

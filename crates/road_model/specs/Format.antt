@@ -7,6 +7,7 @@ use Rattle.std.specs.Int.{w64}
 use Rattle.std.specs.declared.cmp.Ordering.{Ordering}
 use Rattle.road_base.specs.declared.ids.Dir.{Dir}
 use Rattle.road_base.specs.declared.ids.Dir.TheVariants.{Forward, Backward}
+use Rattle.road_base.specs.Profiles.{IsProfile}
 use Rattle.road_base.specs.Bytes.{u32_bytes, u64_bytes, i32_bytes, i64_bytes, joined}
 use Rattle.road_base.specs.Objects.{Objects}
 use Rattle.road_model.specs.declared.lists.PieceName.{PieceName}
@@ -107,12 +108,14 @@ pub record BlockFits (b : Block) : Type 0 where
 -- position and direction, each without a mark and with its contexts, of which the first has one piece, by length and
 -- names, each with its arcs by name. Locations are in range by their type.
 pub record IsGraphFile (bytes : List ℕ) : Type 0 where
+  pub profile : ℕ
+  pub known : IsProfile profile
   pub blocks : List Block
   pub ascend : IsTrue (rises way_cmp (map (λ b. b.way) blocks))
   pub forms : AllByRecursion IsBlockForm blocks
   pub fit : AllByRecursion BlockFits blocks
   pub count : length blocks < 2 ^ 64
-  pub spelled : bytes ≡ graph_bytes 1 blocks
+  pub spelled : bytes ≡ graph_bytes profile blocks
 
 -- ---- the graph of an object map
 

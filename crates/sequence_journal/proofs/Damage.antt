@@ -4,6 +4,7 @@ use Rattle.std.proofs.Common.{sym}
 use Rattle.std.proofs.Common.{◌∙◌, ap, subst, arith, append_assoc, length-append}
 use Rattle.std.specs.List.{AllByRecursion}
 use Rattle.road_base.specs.declared.event.Event.{Event}
+use Rattle.road_base.specs.Profiles.{IsProfile}
 use Rattle.road_base.specs.History.{History, kept}
 use Rattle.sequence_journal.specs.Layout.{Base, NoBase, Numbered, RecordIsOpen, IsClosed, record_bytes}
 use Rattle.sequence_journal.specs.Standing.{EventsFit, BeginsWith, Stands, IsIntact, DamagedAt, IsDamagedBase}
@@ -113,17 +114,17 @@ no_fault h before r fit base b fault =
 not_at_base : (file : List ℕ) (g : ℕ) (h : History) (rest : List ℕ) (o : ℕ) → BeginsWith file g h rest
     → IsDamagedBase file o → ⊥
 not_at_base file g h rest o b d =
-    let once = base_once file (base_of g h.base_number h.base_events) d.base
+    let once = base_once file (base_of h.profile g h.base_number h.base_events) d.base
     (changes_bytes h.base_number h.changes ++ rest) d.rest (begins_base file g h rest b) d.is_open in
-    ⊎_elim (λ profile. profile (sym (ap (λ (c : Base). c.profile) once.one)))
+    ⊎_elim (λ unknown. unknown (subst IsProfile (ap (λ (c : Base). c.profile) once.one) b.fits.profile))
     (λ none. none h.base_events b.fits.base.are (ap (λ (c : Base). c.bytes) once.one)) d.fault
 
 module _ (one : OneList) where
   not_at_record : (file : List ℕ) (g : ℕ) (h : History) (o : ℕ) → Stands file g h → IsDamagedRecord file o → ⊥
   not_at_record file g h o s d =
       let before : History = d.before in
-      let once = base_once file (base_of g h.base_number h.base_events)
-      (base_of d.generation before.base_number before.base_events) (changes_bytes h.base_number h.changes ++ s.rest)
+      let once = base_once file (base_of h.profile g h.base_number h.base_events)
+      (base_of before.profile d.generation before.base_number before.base_events) (changes_bytes h.base_number h.changes ++ s.rest)
       (changes_bytes before.base_number before.changes ++ d.rest) (begins_base file g h s.rest s.begins)
       (begins_base file d.generation before d.rest d.begins) in
       let number : h.base_number ≡ before.base_number = ap (λ (c : Base). c.number) once.one in
@@ -135,8 +136,8 @@ module _ (one : OneList) where
 
   one_record : (file : List ℕ) (o p : ℕ) → IsDamagedRecord file o → IsDamagedRecord file p → o ≡ p
   one_record file o p d e =
-      let once = base_once file (base_of d.generation d.before.base_number d.before.base_events)
-      (base_of e.generation e.before.base_number e.before.base_events)
+      let once = base_once file (base_of d.before.profile d.generation d.before.base_number d.before.base_events)
+      (base_of e.before.profile e.generation e.before.base_number e.before.base_events)
       (changes_bytes d.before.base_number d.before.changes ++ d.rest)
       (changes_bytes e.before.base_number e.before.changes ++ e.rest)
       (begins_base file d.generation d.before d.rest d.begins)
@@ -174,13 +175,13 @@ module _ (one : OneList) where
 
 pub stands_on_base : (file : List ℕ) (g : ℕ) (h : History) → Stands file g h → NoBase file → ⊥
 stands_on_base file g h s none =
-    none (base_of g h.base_number h.base_events) (changes_bytes h.base_number h.changes ++ s.rest)
+    none (base_of h.profile g h.base_number h.base_events) (changes_bytes h.base_number h.changes ++ s.rest)
     (begins_base file g h s.rest s.begins)
 
 damaged_base : (file : List ℕ) (o : ℕ) → NoBase file → DamagedAt file o → ⊥
 damaged_base file o none (inl d) = none d.base d.rest d.is_open
 damaged_base file o none (inr d) =
-    none (base_of d.generation d.before.base_number d.before.base_events)
+    none (base_of d.before.profile d.generation d.before.base_number d.before.base_events)
     (changes_bytes d.before.base_number d.before.changes ++ d.rest)
     (begins_base file d.generation d.before d.rest d.begins)
 

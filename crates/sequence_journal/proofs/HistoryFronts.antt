@@ -5,6 +5,7 @@ use Rattle.std.proofs.Common.{◌∙◌, ap, subst, arith, append_assoc, append-
 use Rattle.std.proofs.lemmas.List.{drop_at}
 use Rattle.std.specs.List.{AllByRecursion}
 use Rattle.road_base.specs.declared.event.Event.{Event}
+use Rattle.road_base.specs.Profiles.{IsProfile}
 use Rattle.road_base.specs.History.{History, kept, with_change}
 use Rattle.object_codec.specs.Spelling.{events_bytes, AreEvents}
 use Rattle.sequence_journal.specs.Layout.{BaseIsOpen, RecordIsOpen, base_bytes, record_bytes}
@@ -33,7 +34,7 @@ module _ (file : List ℕ) (g : ℕ) (h : History) (rest after : List ℕ) (k : 
   -- an open record of the next number
   pub begins_push : EventsFit c → k ≡ kept h + 1 → BeginsWith file g (with_change h c) after
   begins_push one next =
-      let front = base_bytes (base_of g h.base_number h.base_events) in
+      let front = base_bytes (base_of h.profile g h.base_number h.base_events) in
       let longer : length (h.changes ++ c ∷ []) ≡ length h.changes + 1 = length-append h.changes (c ∷ []) in
       record {
         split = b.split ∙ ap (λ (l : List ℕ). history_bytes g h ++ l) o.split
@@ -41,6 +42,7 @@ module _ (file : List ℕ) (g : ℕ) (h : History) (rest after : List ℕ) (k : 
             ∙ ap (λ (l : List ℕ). front ++ l) (sym (changes_push h.base_number h.changes c after k next))
             ∙ sym (append_assoc front (changes_bytes h.base_number (h.changes ++ c ∷ [])) after);
         fits = record {
+          profile = b.fits.profile;
           generation_fits = b.fits.generation_fits;
           kept_fits = omega (arith, o.fits.number, next, longer);
           base = b.fits.base;
@@ -52,7 +54,7 @@ module _ (file : List ℕ) (g : ℕ) (h : History) (rest after : List ℕ) (k : 
 pub gate_push : (g : ℕ) (h : History) (c : List Event) → length (history_bytes g (with_change h c))
     ≡ length (history_bytes g h) + (17 + length (events_bytes c))
 gate_push g h c =
-    let front = base_bytes (base_of g h.base_number h.base_events) in
+    let front = base_bytes (base_of h.profile g h.base_number h.base_events) in
     let k = kept h + 1 in
     let pushed = changes_push h.base_number h.changes c [] k refl in
     omega (
@@ -65,18 +67,17 @@ gate_push g h c =
       length-append front (changes_bytes h.base_number (h.changes ++ c ∷ [])),
     )
 
--- an open base of the profile, and nothing behind it yet
+-- an open base of a known profile, and nothing behind it yet
 pub begins_base : (file : List ℕ) (p g n : ℕ) (spelling rest : List ℕ) (events : List Event)
-    → BaseIsOpen file (record { profile = p; generation = g; number = n; bytes = spelling }) rest → p ≡ 1
-    → AreEvents events → events_bytes events ≡ spelling → BeginsWith file g (base_alone n events) rest
-begins_base file p g n spelling rest events o profile are spells = record {
+    → BaseIsOpen file (record { profile = p; generation = g; number = n; bytes = spelling }) rest → IsProfile p
+    → AreEvents events → events_bytes events ≡ spelling → BeginsWith file g (base_alone p n events) rest
+begins_base file p g n spelling rest events o known are spells = record {
   split = o.split
-      ∙ ap (λ (x : ℕ). base_bytes (record { profile = x; generation = g; number = n; bytes = spelling }) ++ rest)
-      profile
-      ∙ ap (λ (l : List ℕ). base_bytes (record { profile = 1; generation = g; number = n; bytes = l }) ++ rest)
+      ∙ ap (λ (l : List ℕ). base_bytes (record { profile = p; generation = g; number = n; bytes = l }) ++ rest)
       (sym spells)
-      ∙ ap (λ (l : List ℕ). l ++ rest) (sym (append-nil (base_bytes (base_of g n events))));
+      ∙ ap (λ (l : List ℕ). l ++ rest) (sym (append-nil (base_bytes (base_of p g n events))));
   fits = record {
+    profile = known;
     generation_fits = o.fits.generation;
     kept_fits = omega (arith, o.fits.number);
     base = record { are = are; size = subst (λ (l : List ℕ). length l < 2 ^ 64) (sym spells) o.fits.size };

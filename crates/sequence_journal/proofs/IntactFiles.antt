@@ -106,12 +106,12 @@ front_without n file none b rest o = none b (rest ++ drop n file) (record {
 
 module _ (file : List ℕ) (n g : ℕ) (h : History) (s : Stands file g h) where
   base : List ℕ
-  base = base_bytes (base_of g h.base_number h.base_events)
+  base = base_bytes (base_of h.profile g h.base_number h.base_events)
 
   -- a part of the base is missing
-  cut_base : n < length (base_bytes (base_of g h.base_number h.base_events)) → NoBase (take n file)
+  cut_base : n < length (base_bytes (base_of h.profile g h.base_number h.base_events)) → NoBase (take n file)
   cut_base short b rest o =
-      let once = base_once file b (base_of g h.base_number h.base_events) (rest ++ drop n file)
+      let once = base_once file b (base_of h.profile g h.base_number h.base_events) (rest ++ drop n file)
       (changes_bytes h.base_number h.changes ++ s.rest) (record {
         fits = o.fits;
         split = sym (take-append-drop n file) ∙ ap (λ (l : List ℕ). l ++ drop n file) o.split
@@ -126,16 +126,16 @@ module _ (file : List ℕ) (n g : ℕ) (h : History) (s : Stands file g h) where
         ap (λ (x : Base). length (base_bytes x)) once.one,
       )
 
-  cut_changes : length (base_bytes (base_of g h.base_number h.base_events)) ≤ n → IsIntact (take n file)
+  cut_changes : length (base_bytes (base_of h.profile g h.base_number h.base_events)) ≤ n → IsIntact (take n file)
   cut_changes long =
-      let front : List ℕ = base_bytes (base_of g h.base_number h.base_events) in
+      let front : List ℕ = base_bytes (base_of h.profile g h.base_number h.base_events) in
       let behind : List ℕ = changes_bytes h.base_number h.changes ++ s.rest in
       let f : IsFrontOf h.base_number h.changes (take (n - length front) behind) =
       front_of h.base_number h.changes s.rest (n - length front) s.begins.fits.changes s.begins.fits.kept_fits
       s.closed in
       inr (
         g,
-        record { base_number = h.base_number; base_events = h.base_events; changes = f.changes },
+        record h { changes = f.changes },
         record {
           rest = f.rest;
           begins = record {
@@ -145,6 +145,7 @@ module _ (file : List ℕ) (n g : ℕ) (h : History) (s : Stands file g h) where
                 ∙ take-append-add front behind (n - length front) ∙ ap (λ (l : List ℕ). front ++ l) f.split
                 ∙ sym (append_assoc front (changes_bytes h.base_number f.changes) f.rest);
             fits = record {
+              profile = s.begins.fits.profile;
               generation_fits = s.begins.fits.generation_fits;
               kept_fits = omega (arith, s.begins.fits.kept_fits, f.no_more);
               base = s.begins.fits.base;
@@ -159,7 +160,7 @@ pub intact_front : (file : List ℕ) (n : ℕ) → IsIntact file → IsIntact (t
 intact_front file n (inl none) = inl (front_without n file none)
 intact_front file n (inr stands) = ⊎_elim (λ short. inl (cut_base file n stands.0 stands.1 stands.2 short))
     (λ long. cut_changes file n stands.0 stands.1 stands.2 long)
-    (cases_lt n (length (base_bytes (base_of stands.0 stands.1.base_number stands.1.base_events))))
+    (cases_lt n (length (base_bytes (base_of stands.1.profile stands.0 stands.1.base_number stands.1.base_events))))
 
 -- and so is what a stop leaves while a base is written
 pub intact_base : (was image : List ℕ) (g : ℕ) (h : History) → IsIntact was → IsBaseImage was g h image

@@ -1,8 +1,10 @@
 -- A file stands for one history at most.
-use Rattle.std.proofs.Common.{◌≡◌, ℕ, ◌+◌, ◌<◌, ◌^◌, List, [], ◌∷◌, ◌++◌, length, lit<, refl, sym, ◌∙◌, ap, arith}
+use Rattle.std.proofs.Common.{◌≡◌, ℕ, ◌+◌, ◌<◌, ◌^◌, List, [], ◌∷◌, ◌++◌, length, refl, sym, ◌∙◌, ap, arith}
 use Rattle.std.proofs.Common.{append_assoc}
+use Rattle.std.proofs.lemmas.Bool.{eqb-true}
 use Rattle.std.specs.List.{AllByRecursion}
 use Rattle.road_base.specs.declared.event.Event.{Event}
+use Rattle.road_base.specs.Profiles.{IsProfile}
 use Rattle.road_base.specs.History.{History}
 use Rattle.object_codec.specs.Spelling.{events_bytes, AreEvents}
 use Rattle.sequence_journal.specs.Layout.{Base, BaseIsOpen, Numbered, NumberedFits, IsClosed, base_bytes}
@@ -17,17 +19,21 @@ OneList = (a b : List Event) → AreEvents a → AreEvents b → events_bytes a 
 pub record_fits : (n : ℕ) (change : List Event) → n < 2 ^ 64 → EventsFit change → NumberedFits (record_of n change)
 record_fits n change small fit = record { number = small; size = fit.size }
 
+-- the number of a profile fits its field
+profile_fits : (n : ℕ) → IsProfile n → n < 2 ^ 32
+profile_fits n known = omega (arith, eqb-true n 1 known)
+
 pub begins_base : (file : List ℕ) (g : ℕ) (h : History) (rest : List ℕ) → BeginsWith file g h rest
-    → BaseIsOpen file (base_of g h.base_number h.base_events) (changes_bytes h.base_number h.changes ++ rest)
+    → BaseIsOpen file (base_of h.profile g h.base_number h.base_events) (changes_bytes h.base_number h.changes ++ rest)
 begins_base file g h rest b = record {
   fits = record {
-    profile = lit< tt;
+    profile = profile_fits h.profile b.fits.profile;
     generation = b.fits.generation_fits;
     number = omega (arith, b.fits.kept_fits);
     size = b.fits.base.size;
   };
   split = b.split
-      ∙ append_assoc (base_bytes (base_of g h.base_number h.base_events)) (changes_bytes h.base_number h.changes)
+      ∙ append_assoc (base_bytes (base_of h.profile g h.base_number h.base_events)) (changes_bytes h.base_number h.changes)
       rest;
 }
 
@@ -74,9 +80,10 @@ module _ (one : OneList) where
   pub stands_once : (file : List ℕ) (g k : ℕ) (h i : History) → Stands file g h → Stands file k i
       → SameHistory g k h i
   stands_once file g k h i s t =
-      let b = base_once file (base_of g h.base_number h.base_events) (base_of k i.base_number i.base_events)
+      let b = base_once file (base_of h.profile g h.base_number h.base_events) (base_of i.profile k i.base_number i.base_events)
       (changes_bytes h.base_number h.changes ++ s.rest) (changes_bytes i.base_number i.changes ++ t.rest)
       (begins_base file g h s.rest s.begins) (begins_base file k i t.rest t.begins) in
+      let profile : h.profile ≡ i.profile = ap (λ (b : Base). b.profile) b.one in
       let number : h.base_number ≡ i.base_number = ap (λ (b : Base). b.number) b.one in
       let events : h.base_events ≡ i.base_events = one h.base_events i.base_events s.begins.fits.base.are
       t.begins.fits.base.are (ap (λ (b : Base). b.bytes) b.one) in
@@ -86,10 +93,17 @@ module _ (one : OneList) where
       (b.rest ∙ ap (λ (n : ℕ). changes_bytes n i.changes ++ t.rest) (sym number)) in
       record {
         generation = ap (λ (b : Base). b.generation) b.one;
-        history = ap (λ (n : ℕ). record { base_number = n; base_events = h.base_events; changes = h.changes }) number
-            ∙ ap (λ (l : List Event). record { base_number = i.base_number; base_events = l; changes = h.changes })
+        history = ap (λ (n : ℕ). record h { profile = n }) profile
+            ∙ ap (λ (n : ℕ). record h { profile = i.profile; base_number = n }) number
+            ∙ ap (λ (l : List Event). record {
+              profile = i.profile;
+              base_number = i.base_number;
+              base_events = l;
+              changes = h.changes;
+            })
             events
             ∙ ap (λ (l : List (List Event)). record {
+              profile = i.profile;
               base_number = i.base_number;
               base_events = i.base_events;
               changes = l;

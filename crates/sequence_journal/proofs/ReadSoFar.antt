@@ -3,10 +3,11 @@ use Rattle.std.proofs.Common.{◌≡◌, ◌≢◌, ◌⊎◌, inl, inr, ℕ, �
 use Rattle.std.proofs.Common.{take, drop, Vec, Bool}
 use Rattle.std.proofs.Common.{true, false, Some, None, Result, Ok, Err, refl, sym, ◌∙◌, ap, subst, arith}
 use Rattle.std.proofs.Common.{length-append}
-use Rattle.std.proofs.Common.{append-nil}
+use Rattle.std.proofs.Common.{append-nil, true≢false}
 use Rattle.std.proofs.lemmas.List.{length-drop, length-take, flat_map_more}
 use Rattle.std.specs.declared.alloc.Global.{Global}
 use Rattle.road_base.specs.declared.event.Event.{Event}
+use Rattle.road_base.specs.Profiles.{IsProfile, is_profile_number}
 use Rattle.road_base.specs.History.{History, kept, with_change}
 use Rattle.object_codec.specs.Spelling.{events_bytes, AreEvents}
 use Rattle.road_io.specs.declared.outside.Which.{Which}
@@ -43,8 +44,9 @@ read_error file e (inr memory) = subst (IsReadError file) (sym memory) tt
 -- ---- the base
 
 module _ (file : Which) (f : FoundBase) where
-  pub base_profile : (w : Outside) → f.head.profile ≢ 1 → ReadsBase file f (Err (Damaged file 0)) w w
-  base_profile w wrong = record {
+  pub base_profile : (w : Outside) → is_profile_number f.head.profile ≡ false
+      → ReadsBase file f (Err (Damaged file 0)) w w
+  base_profile w unknown = record {
     quiet = quiet_start w;
     answer = λ is small. (
       refl,
@@ -57,7 +59,7 @@ module _ (file : Which) (f : FoundBase) where
         };
         rest = drop (37 + f.head.size) (disk w file).reads;
         is_open = base_there (disk w file).reads f is;
-        fault = inl wrong;
+        fault = inl (λ known. absurd (true≢false (sym known ∙ unknown)));
         place = refl;
       }),
       small,
@@ -126,7 +128,7 @@ module _ (file : Which) (f : FoundBase) where
         );
       }
 
-      pub base_read : (events : Vec Event Global) → f.head.profile ≡ 1 → AreEvents events.items
+      pub base_read : (events : Vec Event Global) → IsProfile f.head.profile → AreEvents events.items
           → events_bytes events.items ≡ part → ReadsBase file f (Ok (record {
             len = f.len;
             generation = f.head.generation;
@@ -134,12 +136,12 @@ module _ (file : Which) (f : FoundBase) where
             gate = 37 + f.head.size;
             events = events;
           })) w v
-      base_read events profile are spells = record {
+      base_read events known are spells = record {
         quiet = shows.quiet;
         answer = λ is small. record {
-          history = base_alone f.head.number events.items;
+          history = base_alone f.head.profile f.head.number events.items;
           begins = begins_base (disk w file).reads f.head.profile f.head.generation f.head.number part
-              (drop (37 + f.head.size) (disk w file).reads) events.items (opened is) profile are spells;
+              (drop (37 + f.head.size) (disk w file).reads) events.items (opened is) known are spells;
           events = sym (append-nil events.items);
           last = omega arith;
           gate = omega (

@@ -16,8 +16,13 @@ use Rattle.sequence_journal.specs.Standing.{Stands}
 use Rattle.sequence_journal.specs.Journal.{IsAt}
 
 -- a base without changes
-abbrev pub base_alone : ℕ → List Event → History
-base_alone number events = record { base_number = number; base_events = events; changes = [] }
+abbrev pub base_alone : ℕ → ℕ → List Event → History
+base_alone profile number events = record {
+  profile = profile;
+  base_number = number;
+  base_events = events;
+  changes = [];
+}
 
 -- a front of what the file read as, or no open base, or the given base and nothing else
 abbrev pub IsBaseImage : List ℕ → ℕ → History → List ℕ → Type 0

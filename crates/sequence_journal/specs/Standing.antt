@@ -2,6 +2,7 @@
 use Rattle.std.specs.Prelude.{◌≡◌, ◌≢◌, ◌⊎◌, ℕ, ◌+◌, ◌<◌, ◌^◌, List, [], ◌∷◌, ◌++◌, length}
 use Rattle.std.specs.List.{AllByRecursion}
 use Rattle.road_base.specs.declared.event.Event.{Event}
+use Rattle.road_base.specs.Profiles.{IsProfile}
 use Rattle.road_base.specs.History.{History, kept}
 use Rattle.object_codec.specs.Spelling.{events_bytes, AreEvents}
 use Rattle.sequence_journal.specs.Layout.{Base, Numbered, base_bytes, record_bytes, BaseIsOpen, NoBase}
@@ -9,10 +10,10 @@ use Rattle.sequence_journal.specs.Layout.{RecordIsOpen, IsClosed}
 
 -- ---- a history as bytes
 
--- the base of a history: its profile is 1
-abbrev pub base_of : ℕ → ℕ → List Event → Base
-base_of generation number events = record {
-  profile = 1;
+-- the base of a history
+abbrev pub base_of : ℕ → ℕ → ℕ → List Event → Base
+base_of profile generation number events = record {
+  profile = profile;
   generation = generation;
   number = number;
   bytes = events_bytes events;
@@ -31,15 +32,16 @@ changes_bytes number (change ∷ changes) =
 -- an open base, and an open record for each change
 abbrev pub history_bytes : ℕ → History → List ℕ
 history_bytes generation h =
-    base_bytes (base_of generation h.base_number h.base_events) ++ changes_bytes h.base_number h.changes
+    base_bytes (base_of h.profile generation h.base_number h.base_events) ++ changes_bytes h.base_number h.changes
 
 -- the list has a spelling whose length fits its field
 pub record EventsFit (events : List Event) : Type 0 where
   pub are : AreEvents events
   pub size : length (events_bytes events) < 2 ^ 64
 
--- all its numbers fit their fields
+-- it has a known profile, and all its numbers fit their fields
 pub record HistoryFits (generation : ℕ) (h : History) : Type 0 where
+  pub profile : IsProfile h.profile
   pub generation_fits : generation < 2 ^ 64
   pub kept_fits : kept h < 2 ^ 64
   pub base : EventsFit h.base_events
@@ -68,12 +70,12 @@ IsIntact file = NoBase file ⊎ ((generation : ℕ) × (h : History) × Stands f
 abbrev pub SpellsNothing : List ℕ → Type 0
 SpellsNothing bytes = (events : List Event) → AreEvents events → events_bytes events ≡ bytes → ⊥
 
--- the open base is of another profile than 1, or spells no events
+-- the open base is of no known profile, or spells no events
 pub record IsDamagedBase (file : List ℕ) (offset : ℕ) : Type 0 where
   pub base : Base
   pub rest : List ℕ
   pub is_open : BaseIsOpen file base rest
-  pub fault : (base.profile ≢ 1) ⊎ SpellsNothing base.bytes
+  pub fault : (IsProfile base.profile → ⊥) ⊎ SpellsNothing base.bytes
   pub place : offset ≡ 0
 
 -- behind a history stands an open record that has another number than the next one, or spells no events

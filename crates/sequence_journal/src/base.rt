@@ -29,7 +29,7 @@ pub fn write_base<W: Site>(
     events: &[Event],
 ) -> Result<Journal, JournalError>
     requires { IfSome (W.outside site.old) (λ w. IsDurable (disk w file)) }
-    ensures told { Told (WritesBase file generation (base_alone base.0 events.now) result)
+    ensures told { Told (WritesBase file generation (base_alone 1 base.0 events.now) result)
         (W.outside site.old) (W.outside site.new) }
     ensures journal { IfOk result (λ j. j ≡ journal_of_base file generation base events.now) }
     ensures named { IfErr result (λ e. (e ≡ SiteFault) ⊎ (e ≡ NoMemoryError)) }
@@ -57,7 +57,7 @@ pub fn write_base_within<W: Site>(
     events: &[Event],
 ) -> Result<Journal, JournalError>
     requires { IfSome (W.outside site.old) (λ w. IsDurable (disk w file)) }
-    ensures told { Told (WritesWithin file generation (base_alone base.0 events.now) result)
+    ensures told { Told (WritesWithin file generation (base_alone 1 base.0 events.now) result)
         (W.outside site.old) (W.outside site.new) }
     ensures answer { WithinAnswer file generation base events.now result (W.faults site.old) (W.faults site.new) }
 {

@@ -25,7 +25,7 @@ pub fn record_chunk(alloc: Global, seq: Sequence, events: &[Event]) -> Result<Ve
     Ok(chunk)
 }
 
-/// What stands behind the gate of a base: the magic, its fields and bytes, and the next gate, closed.
+/// What stands behind the gate of a base of profile 1: the magic, its fields and bytes, and the next gate, closed.
 pub fn base_chunk(
     alloc: Global,
     generation: u64,
@@ -33,7 +33,7 @@ pub fn base_chunk(
     events: &[Event],
 ) -> Result<Vec<u8>, NoMemory>
     ensures bytes { IfOk result
-        (λ chunk. 1 ∷ chunk.items ≡ base_bytes (base_of generation number.0 events.now) ++ 0 ∷ []) }
+        (λ chunk. 1 ∷ chunk.items ≡ base_bytes (base_of 1 generation number.0 events.now) ++ 0 ∷ []) }
     ensures fit { IfOk result (λ chunk. EventsFit events.now) }
     ensures generation_fits { IfOk result (λ chunk. generation < 2 ^ 64) }
     ensures number_fits { IfOk result (λ chunk. number.0 < 2 ^ 64) }

@@ -12,12 +12,9 @@ use crate::layout::{FIELDS, HEAD};
 use crate::records::open_record;
 use crate::window::Window;
 use object_codec::decode;
-use road_base::{Event, MOST_STORE};
+use road_base::{Event, MOST_STORE, is_profile};
 use road_io::{Site, Which};
 use std::alloc::Global;
-
-/// The profile that a base has to have.
-const PROFILE: u32 = 1;
 
 /// What is read of a file's history, up to a gate.
 #[derive(Drop)]
@@ -69,7 +66,7 @@ fn read_base<W: Site>(
     ensures counts { CountsFaults (W.faults site.old) (W.faults site.new) result }
 {
     let head = found.head;
-    if head.profile != PROFILE {
+    if !is_profile(head.profile) {
         return Err(JournalError::Damaged { file, offset: 0 });
     }
     let size = head.size as usize;

@@ -2,9 +2,10 @@
 use Rattle.std.proofs.Common.{◌≡◌, ◌⊎◌, inl, inr, ⊎_elim, ℕ, ◌+◌, ◌≤◌, ◌^◌, List, ◌++◌, length, take, drop, false}
 use Rattle.std.proofs.Common.{Result, Ok, Err, refl, sym, ◌∙◌, ap, subst, arith, append_assoc, take-append-drop}
 use Rattle.std.proofs.Common.{length-append}
+use Rattle.std.proofs.lemmas.Bool.{eqb-true}
 use Rattle.road_base.specs.declared.event.Event.{Event}
 use Rattle.road_base.specs.declared.ids.Sequence.{Sequence}
-use Rattle.road_base.specs.History.{History}
+use Rattle.road_base.specs.History.{History, kept}
 use Rattle.road_io.specs.declared.outside.Which.{Which}
 use Rattle.road_io.specs.declared.outside.Which.TheVariants.{A, B}
 use Rattle.road_io.specs.Disk.{Disk, IsImage, IsDurable}
@@ -49,7 +50,7 @@ beats_next B g k e = omega (arith, e)
 -- the next generation is over a file that stands for a history
 over_older : (f : Which) (g : ℕ) (h : History) (file : List ℕ) → Stands file g h → IsOver f (g + 1) file
 over_older f g h file s b rest o =
-    let once = base_once file b (base_of g h.base_number h.base_events) rest
+    let once = base_once file b (base_of h.profile g h.base_number h.base_events) rest
     (changes_bytes h.base_number h.changes ++ s.rest) o (begins_base file g h s.rest s.begins) in
     beats_next f g b.generation (ap (λ (x : Base). x.generation) once.one)
 
@@ -76,12 +77,14 @@ module _ (old : Journal) (events : List Event) (h : History) (w v : Outside) (on
   abbrev to : Which
   to = other old.file
 
-  -- what was written, under the number that the history has
+  -- what was written, under the profile and the number that the history has
   same_base : (result : Result Journal JournalError)
-      → Based to (old.generation + 1) (base_alone old.kept.0 events) result w v
+      → Based to (old.generation + 1) (base_alone 1 old.kept.0 events) result w v
       → Based to (old.generation + 1) (checkpoint_of h events) result w v
   same_base result b =
-      subst (λ (n : ℕ). Based to (old.generation + 1) (base_alone n events) result w v) on.at.last b
+      subst (λ (p : ℕ). Based to (old.generation + 1) (base_alone p (kept h) events) result w v)
+      (sym (eqb-true h.profile 1 on.at.fits.profile))
+      (subst (λ (n : ℕ). Based to (old.generation + 1) (base_alone 1 n events) result w v) on.at.last b)
 
   moments : (result : Result Journal JournalError) → Based to (old.generation + 1) (checkpoint_of h events) result w v
       → LeavesOnly w v (LeavesCheckpoint h events w.output)
@@ -121,7 +124,7 @@ module _ (old : Journal) (events : List Event) (h : History) (w v : Outside) (on
       stands = subst (λ (k : Which). Stands (reads_of v k) old.generation h) (sym (twice old.file))
           (subst (λ (d : Disk). Stands d.reads old.generation h) (sym same) (journal_stands old h w on).stands)
 
-  gone : (new : Journal) (x : Unit {0}) → Based to (old.generation + 1) (base_alone old.kept.0 events) (Ok new) w v
+  gone : (new : Journal) (x : Unit {0}) → Based to (old.generation + 1) (base_alone 1 old.kept.0 events) (Ok new) w v
       → Checkpointed old new h events (Ok x) w v
   gone new x based =
       let b = same_base (Ok new) based in
@@ -133,7 +136,7 @@ module _ (old : Journal) (events : List Event) (h : History) (w v : Outside) (on
         output = b.output;
       }
 
-  failed : (new : Journal) → Based to (old.generation + 1) (base_alone old.kept.0 events) (Err SiteFault) w v
+  failed : (new : Journal) → Based to (old.generation + 1) (base_alone 1 old.kept.0 events) (Err SiteFault) w v
       → Checkpointed old new h events (Err SiteFault) w v
   failed new based =
       let b = same_base (Err SiteFault) based in
@@ -144,20 +147,20 @@ module _ (old : Journal) (events : List Event) (h : History) (w v : Outside) (on
 module _ (old : Journal) (events : List Event) (file : Which) (generation : ℕ) (last : Sequence)
     (is : file ≡ other old.file) (next : generation ≡ old.generation + 1) (same : last ≡ old.kept) where
   as_told : (result : Result Journal JournalError) (w v : Outside)
-      → WritesWithin file generation (base_alone last.0 events) result w v
-      → WritesWithin (other old.file) (old.generation + 1) (base_alone old.kept.0 events) result w v
+      → WritesWithin file generation (base_alone 1 last.0 events) result w v
+      → WritesWithin (other old.file) (old.generation + 1) (base_alone 1 old.kept.0 events) result w v
   as_told result w v writes =
-      subst (λ (k : Which). WritesWithin k (old.generation + 1) (base_alone old.kept.0 events) result w v) is
-      (subst (λ (g : ℕ). WritesWithin file g (base_alone old.kept.0 events) result w v) next
-      (subst (λ (n : Sequence). WritesWithin file generation (base_alone n.0 events) result w v) same writes))
+      subst (λ (k : Which). WritesWithin k (old.generation + 1) (base_alone 1 old.kept.0 events) result w v) is
+      (subst (λ (g : ℕ). WritesWithin file g (base_alone 1 old.kept.0 events) result w v) next
+      (subst (λ (n : Sequence). WritesWithin file generation (base_alone 1 n.0 events) result w v) same writes))
 
   pub checkpoint_done : (new : Journal) (x : Unit {0}) (w v : Outside)
-      → WritesWithin file generation (base_alone last.0 events) (Ok new) w v → Checkpoints old new events (Ok x) w v
+      → WritesWithin file generation (base_alone 1 last.0 events) (Ok new) w v → Checkpoints old new events (Ok x) w v
   checkpoint_done new x w v writes h on =
       gone old events h w v on new x (as_told (Ok new) w v writes (on.durable (other old.file)))
 
   refused : (e : JournalError) (new : Journal) (w v : Outside) → old.closed ≡ false
-      → WritesWithin (other old.file) (old.generation + 1) (base_alone old.kept.0 events) (Err e) w v
+      → WritesWithin (other old.file) (old.generation + 1) (base_alone 1 old.kept.0 events) (Err e) w v
       → Checkpoints old new events (Err e) w v
   refused SiteFault new w v not_closed writes =
       inr (not_closed, λ h on. failed old events h w v on new (writes (on.durable (other old.file))))
@@ -169,7 +172,7 @@ module _ (old : Journal) (events : List Event) (file : Which) (generation : ℕ)
   refused StoreExists new w v not_closed never = absurd never
 
   pub checkpoint_refused : (e : JournalError) (new : Journal) (w v : Outside) → old.closed ≡ false
-      → WritesWithin file generation (base_alone last.0 events) (Err e) w v → Checkpoints old new events (Err e) w v
+      → WritesWithin file generation (base_alone 1 last.0 events) (Err e) w v → Checkpoints old new events (Err e) w v
   checkpoint_refused e new w v not_closed writes = refused e new w v not_closed (as_told (Err e) w v writes)
 
 -- ---- for the callers

@@ -66,12 +66,13 @@ module _ (exact : IsAntisymmetric key_cmp) where
 -- ---- for a reader
 
 abbrev pub SameByObjects : Type 0
-SameByObjects = (g h : History) (M : Objects) → kept g ≡ kept h → HasObjects g M → HasObjects h M → SameForReader g h
+SameByObjects = (g h : History) (M : Objects) → g.profile ≡ h.profile → kept g ≡ kept h
+    → HasObjects g M → HasObjects h M → SameForReader g h
 
 module _ (exact : IsAntisymmetric key_cmp) (same : SameByObjects) where
   pub checkpoint_same : (h : History) (M : Objects) (events : List Event) → HasObjects h M → AreEntries M events
       → SameForReader (checkpoint_of h events) h
-  checkpoint_same h M events has are = same (checkpoint_of h events) h M (omega arith)
+  checkpoint_same h M events has are = same (checkpoint_of h events) h M refl (omega arith)
       (subst (λ (l : List Event). IsApplied empty l M) (sym (append-nil events)) (entries_leave exact M events are)) has
 
   pub checkpoint_left_as_read : (old new : Journal) (h : History) (M : Objects) (events : List Event)
@@ -80,5 +81,5 @@ module _ (exact : IsAntisymmetric key_cmp) (same : SameByObjects) where
   checkpoint_left_as_read old new h M events result w v on has are goes =
       only_weaker w v (LeavesCheckpoint h events w.output) (LeavesAsRead h w.output)
       (checkpoint_left old new h events w v on result goes) (λ left l. ⊎_elim
-      (λ s. (h, same h h M refl has has, record { files = s; out = l.out }))
+      (λ s. (h, same h h M refl refl has has, record { files = s; out = l.out }))
       (λ s. (checkpoint_of h events, checkpoint_same h M events has are, record { files = s; out = l.out })) l.files)

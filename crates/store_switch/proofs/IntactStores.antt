@@ -25,7 +25,7 @@ use Rattle.store_switch.proofs.LiveFiles.{live_once}
 
 live_of : (files : Which → List ℕ) (f : Which) (g : ℕ) (h : History) → StandOn f g files h → IsLive f files
 live_of files f g h s = record {
-  base = base_of g h.base_number h.base_events;
+  base = base_of h.profile g h.base_number h.base_events;
   rest = changes_bytes h.base_number h.changes ++ s.stands.rest;
   is_open = begins_base (files f) g h s.stands.rest s.stands.begins;
   over = s.over;
@@ -117,4 +117,4 @@ module _ (number : ℕ) (events : List Event) (result : Result Journal JournalEr
       only_weaker w v (λ left. IsLeft (present w) left ⊎ LeavesNewOrNone number events w left)
       (λ left. AreIntact (image_of left)) k.any_moment (λ left. ⊎_elim
       (λ there. still_intact (reads_of w) (image_of left) (λ f. left_there w left f durable there) intact)
-      (λ new. ⊎_elim (λ none. inl none.0) (λ store. inr (base_alone number events, store.files)) new.1))
+      (λ new. ⊎_elim (λ none. inl none.0) (λ store. inr (base_alone 1 number events, store.files)) new.1))

@@ -68,7 +68,7 @@ module _ (number : ℕ) (events : List Event) where
       }
 
   abbrev h : History
-  h = base_alone number events
+  h = base_alone 1 number events
 
   module _ (w u v : Outside) (f : Found None w u) where
     -- B is left as it was

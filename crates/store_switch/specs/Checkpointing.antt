@@ -17,9 +17,9 @@ use Rattle.store_switch.specs.TwoFiles.{StandFor, IsOnStore, LeavesStore}
 abbrev pub AreEntries : Objects → List Event → Type 0
 AreEntries objects events = map (λ (e : Event). (e.key, entry_of e)) events ≡ entries objects
 
--- the history that a checkpoint leaves: these events under the kept number, and no change
+-- the history that a checkpoint leaves: the same profile, these events under the kept number, and no change
 abbrev pub checkpoint_of : History → List Event → History
-checkpoint_of h events = base_alone (kept h) events
+checkpoint_of h events = base_alone h.profile (kept h) events
 
 -- the journal stands on both files for some history
 abbrev pub IsOnSome : Journal → Outside → Type 0

@@ -12,10 +12,11 @@ use Rattle.sequence_journal.specs.Loading.{Calm}
 use Rattle.store_switch.specs.LiveFile.{IsLive, NoBases, reads_of}
 use Rattle.store_switch.specs.TwoFiles.{IsOnStore, LeavesStore}
 
--- There was no store. The journal stands on A, of generation 1, for the given base without a change, and isn't closed.
+-- There was no store. The journal stands on A, of generation 1, for the given base of profile 1 without a change, and
+-- isn't closed.
 pub record StoreCreated (number : ℕ) (events : List Event) (j : Journal) (w v : Outside) : Type 0 where
   pub none : NoBases (reads_of w)
-  pub ready : IsOnStore j (base_alone number events) v
+  pub ready : IsOnStore j (base_alone 1 number events) v
   pub file : j.file ≡ A
   pub generation : j.generation ≡ 1
   pub not_closed : j.closed ≡ false
@@ -39,7 +40,7 @@ IsCreateError e = ⊥
 -- where there was no store, files without an open base, or files that stand for the given base
 abbrev pub LeavesNewOrNone : ℕ → List Event → Outside → Left → Type 0
 LeavesNewOrNone number events w left = NoBases (reads_of w)
-    × ((NoBases (image_of left) × (left.out ≡ w.output)) ⊎ LeavesStore (base_alone number events) w.output left)
+    × ((NoBases (image_of left) × (left.out ≡ w.output)) ⊎ LeavesStore (base_alone 1 number events) w.output left)
 
 -- A stop leaves what it could leave when the call began, or no store, or the new one. At every answer, a fault of the
 -- site too, file B reads as before.

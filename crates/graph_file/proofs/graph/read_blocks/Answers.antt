@@ -19,25 +19,30 @@ blocks_one : IsOneSpelling (list_bytes block_bytes) (ListFits IsWayBlock)
 blocks_one = list_one block_bytes IsWayBlock block_one
 
 pub returns-in-None-clause-malformed : goal.returns-in-None-clause-malformed
-returns-in-None-clause-malformed c = λ list file. c.in-None.ensures.none (list_bytes block_bytes list) file.spelled
+returns-in-None-clause-malformed c = λ profile list file.
+    c.in-None.ensures.none (u32_bytes profile ++ list_bytes block_bytes list) file.spelled
 
 pub returns-in_err-list-clause-malformed : goal.returns-in_err-list-clause-malformed
 returns-in_err-list-clause-malformed c =
     let p = err_from_is_err_and c.from_residual.result c.from_residual.ensures.1 in
     rw (p.1, p.2) (malformed_weaker c.in_err-list.field-0.0
-    (λ none list file. none list [] (behind c.args.bytes.now c.in-Some.rest.now c.in-Some.ensures.some list file))
+    (λ none profile list file. none list []
+    (behind c.args.bytes.now c.in-Some.rest.now c.in_ok-profile.rest.now c.in_ok-profile.profile
+    c.in-Some.ensures.some c.in_ok-profile.ensures.found profile list file).1)
     c.in_err-list.ensures.malformed)
 
 pub returns-then-rest-gt0-clause-malformed : goal.returns-then-rest-gt0-clause-malformed
-returns-then-rest-gt0-clause-malformed c = λ list file.
-    let same = blocks_one c.in_ok-list.list.items list c.in-Some.rest.now c.in_ok-list.rest.now []
-    c.in_ok-list.ensures.found (behind c.args.bytes.now c.in-Some.rest.now c.in-Some.ensures.some list file) in
+returns-then-rest-gt0-clause-malformed c = λ profile list file.
+    let same = blocks_one c.in_ok-list.list.items list c.in_ok-profile.rest.now c.in_ok-list.rest.now []
+    c.in_ok-list.ensures.found (behind c.args.bytes.now c.in-Some.rest.now c.in_ok-profile.rest.now
+    c.in_ok-profile.profile c.in-Some.ensures.some c.in_ok-profile.ensures.found profile list file).1 in
     omega (arith, ap length same.1, c.if-rest-gt0.true)
 
 pub returns-then-not-do_ascend-clause-malformed : goal.returns-then-not-do_ascend-clause-malformed
-returns-then-not-do_ascend-clause-malformed c = λ list file.
-    let same = blocks_one c.in_ok-list.list.items list c.in-Some.rest.now c.in_ok-list.rest.now []
-    c.in_ok-list.ensures.found (behind c.args.bytes.now c.in-Some.rest.now c.in-Some.ensures.some list file) in
+returns-then-not-do_ascend-clause-malformed c = λ profile list file.
+    let same = blocks_one c.in_ok-list.list.items list c.in_ok-profile.rest.now c.in_ok-list.rest.now []
+    c.in_ok-list.ensures.found (behind c.args.bytes.now c.in-Some.rest.now c.in_ok-profile.rest.now
+    c.in_ok-profile.profile c.in-Some.ensures.some c.in_ok-profile.ensures.found profile list file).1 in
     let up = named way_cmp (λ (b : Block). b.way) c.in_ok-list.list.items c.deref.result.now c.do_ascend.result
     c.do_ascend.ensures c.deref.ensures.value in
     false≢true (sym c.if-not-do_ascend.true ∙ up ∙ ap (λ (l : List Block). rises way_cmp (map (λ b. b.way) l)) same.0
@@ -49,7 +54,9 @@ returns-clause-found c =
     c.do_ascend.ensures c.deref.ensures.value in
     let none : c.in_ok-list.rest.now ≡ [] = nil_from_length _ (omega (arith, c.if-rest-gt0.false)) in
     record {
-      spelled = c.in-Some.ensures.some ∙ ap (λ l. codes "OSMROAD1" ++ (u32_bytes 1 ++ l))
+      known = c.in_ok-profile.ensures.found.fits;
+      spelled = c.in-Some.ensures.some ∙ ap (λ l. codes "OSMROAD1" ++ l) c.in_ok-profile.ensures.found.parts
+          ∙ ap (λ l. codes "OSMROAD1" ++ (u32_bytes c.in_ok-profile.profile ++ l))
           (c.in_ok-list.ensures.found.parts ∙ ap (λ l. list_bytes block_bytes c.in_ok-list.list.items ++ l) none
           ∙ append-nil (list_bytes block_bytes c.in_ok-list.list.items));
       some = c.in_ok-list.ensures.found.fits;

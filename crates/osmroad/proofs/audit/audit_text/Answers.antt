@@ -7,7 +7,6 @@ use Rattle.road_base.specs.Objects.{Objects}
 use Rattle.ordered_lists.specs.Orders.{rises}
 use Rattle.road_model.specs.Orders.{relation_cmp}
 use Rattle.object_store.specs.Listed.{AreEntriesOf, is_relation}
-use Rattle.access_profile.specs.Motorcar.{motorcar_rules}
 use Rattle.ordered_lists.proofs.ListMembers.{In}
 use Rattle.osmroad.specs.Audit.{IsAudit, restriction_of, conditional_line, conditional_count}
 use Rattle.osmroad.proofs.AuditLines.{whole_audit, count_is}
@@ -15,8 +14,8 @@ use Rattle.osmroad.proofs.VisibleRestrictions.{all_restrictions, restriction_is_
 use Rattle.osmroad.proofs.audit.audit_text.Goals as goal
 
 pub rule_lines-requires : goal.rule_lines-requires
-rule_lines-requires c =
-    let M = c.args.world.now in
+rule_lines-requires g c =
+    let M = c.args.network.now.world.now in
     let events = c.relations.result.now in
     let exactly : AreEntriesOf is_relation M events =
     subst (λ (N : Objects). AreEntriesOf is_relation N events)
@@ -24,8 +23,9 @@ rule_lines-requires c =
     all_restrictions M events exactly c.deref-2.result.now (c.deref-2.ensures.value ∙ c.in_ok-rules.ensures)
 
 pub returns : goal.returns
-returns c =
-    let M = c.args.world.now in
+returns g c =
+    let M = c.args.network.now.world.now in
+    let P = g.P.Profile.rules c.args.network.now.profile in
     let events = c.relations.result.now in
     let all = c.deref-2.result.now in
     let told : List RelationId = filter_map (λ (e : Event). restriction_of e.key e.body) events in
@@ -41,7 +41,7 @@ returns c =
     ∙ count_is c.deref-3.result.now c.items.result.now c.items.ensures.entries
     ∙ ap conditional_count (c.deref-3.ensures ∙ c.in_ok-listed.ensures ∙ c.objects.ensures) in
     let pushed : string_bytes c.push_str.new.self ≡ text ++ conditional_line count = search rules in
-    subst (IsAudit M motorcar_rules) (sym pushed)
-    (whole_audit M motorcar_rules all ascending
+    subst (IsAudit M P) (sym pushed)
+    (whole_audit M P all ascending
     (λ r rule. subst (λ (l : List RelationId). In r l) (sym are) (restriction_is_told M events exactly r rule))
     text count c.in_ok-text.ensures counted)

@@ -2,14 +2,14 @@ use Rattle.std.proofs.Common.{List, take, get_or, pos, subst, sym, ◌≡◌, �
 use Rattle.std.specs.String.{string_bytes}
 use Rattle.std.proofs.lemmas.List.{take_more}
 use Rattle.road_base.specs.declared.ids.RelationId.{RelationId}
-use Rattle.access_profile.specs.Motorcar.{motorcar_rules}
 use Rattle.osmroad.specs.Audit.{AreRuleLines}
 use Rattle.osmroad.proofs.AuditLines.{one_more_line}
 use Rattle.osmroad.proofs.audit.rule_lines.Goals as goal
 
 pub loop-relation-preserved : goal.loop-relation-preserved
-loop-relation-preserved c =
-    let M = c.args.world.now in
+loop-relation-preserved g c =
+    let M = c.args.network.now.world.now in
+    let P = g.P.Profile.rules c.args.network.now.profile in
     let all = c.args.rules.now in
     let i = c.loop-relation.relation-index in
     let none : RelationId = record { 0 = pos 0 } in
@@ -17,8 +17,8 @@ loop-relation-preserved c =
     let old = string_bytes c.loop-relation.text in
     let line = string_bytes c.in_ok-line.line in
     let pushed : string_bytes c.push_str.new.self ≡ old ++ line = search rules in
-    let lines = one_more_line M motorcar_rules (take i all) (get_or all i none) old line c.loop-relation.invariant
+    let lines = one_more_line M P (take i all) (get_or all i none) old line c.loop-relation.invariant
     c.in_ok-line.ensures
     in
-    subst (λ (t : List ℕ). AreRuleLines M motorcar_rules (take (i + 1) all) t) (sym pushed)
-    (subst (λ (l : List RelationId). AreRuleLines M motorcar_rules l (old ++ line)) (sym more) lines)
+    subst (λ (t : List ℕ). AreRuleLines M P (take (i + 1) all) t) (sym pushed)
+    (subst (λ (l : List RelationId). AreRuleLines M P l (old ++ line)) (sym more) lines)

@@ -3,7 +3,7 @@ use Rattle.road_base.specs.declared.ids.WayId.{WayId}
 use Rattle.ordered_lists.specs.Orders.{rises}
 use Rattle.road_model.specs.Orders.{way_cmp}
 use Rattle.road_model.specs.Blocks.{IsBlock, IsRoadBlock}
-use Rattle.access_profile.specs.Motorcar.{motorcar_rules}
+use Rattle.road_model.specs.Naming.{OneBlock}
 use Rattle.osmroad.specs.Building.{HasBlocksOf}
 use Rattle.osmroad.proofs.Built.{same_blocks, no_pieces, one_more, block_form}
 use Rattle.osmroad.proofs.blocks.write_block.Goals as goal
@@ -17,10 +17,13 @@ on_ok (Err e) a f = tt
 pub returns-then-is_empty-clause-written : goal.returns-then-is_empty-clause-written
 returns-then-is_empty-clause-written g c = λ ways up has.
     let M = c.args.builder.now.world in
+    let P = g.P.Profile.rules c.args.builder.now.profile in
+    let one : OneBlock M P = subst (λ (p : g.P). OneBlock M (g.P.Profile.rules p)) c.profile.ensures
+    (c.one_block.ensures M) in
     let test = empty_by_test c.items.result.now c.is_empty.result c.is_empty.ensures c.if-is_empty.true in
     let none = sym c.items.ensures ∙ test in
-    same_blocks M motorcar_rules ways c.args.way c.args.writer.now has
-    (no_pieces M motorcar_rules (c.one_block.ensures M) c.args.way c.in_ok-block.block c.in_ok-block.ensures.block none)
+    same_blocks M P ways c.args.way c.args.writer.now has
+    (no_pieces M P one c.args.way c.in_ok-block.block c.in_ok-block.ensures.block none)
 
 pub put-requires : goal.put-requires
 put-requires g c =
@@ -32,13 +35,16 @@ put-requires g c =
 pub returns-clause-written : goal.returns-clause-written
 returns-clause-written g c = on_ok c.put.result c.put.ensures.put (λ put ways up has.
     let M = c.args.builder.now.world in
+    let P = g.P.Profile.rules c.args.builder.now.profile in
+    let one : OneBlock M P = subst (λ (p : g.P). OneBlock M (g.P.Profile.rules p)) c.profile.ensures
+    (c.one_block.ensures M) in
     let block = c.in_ok-block.block in
     let is = c.in_ok-block.ensures.block in
     let test = some_by_test c.items.result.now c.is_empty.result c.is_empty.ensures c.if-is_empty.false in
     let some : block.pieces ≡ [] → ⊥ = λ none. test (c.items.ensures ∙ none) in
-    let own = subst (λ w. IsBlock M motorcar_rules w block) (sym is.way) is in
-    let road : IsRoadBlock M motorcar_rules block = record { block = own; some = some } in
+    let own = subst (λ w. IsBlock M P w block) (sym is.way) is in
+    let road : IsRoadBlock M P block = record { block = own; some = some } in
     let above = subst (λ (w : WayId). IsTrue (rises way_cmp (ways ++ w ∷ []))) (sym is.way) up in
-    subst (λ (w : WayId). HasBlocksOf M motorcar_rules (ways ++ w ∷ []) c.put.new.self) is.way
-    (one_more M motorcar_rules c.name_order.ensures.ways (c.one_block.ensures M) ways block
-    c.args.writer.now c.put.new.self above has road (put motorcar_rules.number)))
+    subst (λ (w : WayId). HasBlocksOf M P (ways ++ w ∷ []) c.put.new.self) is.way
+    (one_more M P c.name_order.ensures.ways one ways block
+    c.args.writer.now c.put.new.self above has road (put P.number)))

@@ -1,5 +1,7 @@
-use Rattle.std.proofs.Common.{Ok, Err, ap, ◌∙◌}
+use Rattle.std.proofs.Common.{ℕ, Ok, Err, ap, subst, ◌∙◌}
 use Rattle.std.proofs.lemmas.Result.{err_from_is_err_and}
+use Rattle.access_profile.specs.Profiles.{rules_of}
+use Rattle.osmroad.specs.Compiled.{IsGraphOf}
 use Rattle.osmroad.specs.declared.status.Status.TheVariants.{Done}
 use Rattle.osmroad.proofs.CompileReplies.{refused_extract, read_extract, failed_extract, will_put_graph}
 use Rattle.osmroad.proofs.compile.compile.Goals as goal
@@ -22,6 +24,9 @@ returns-in_err-out-clause-prepares g c = λ outside.
 
 -- ---- the graph is made
 
+pub graph_of-out-requires : goal.graph_of-out-requires
+graph_of-out-requires g c = c.profile_of_run.result.known
+
 pub returns-clause-prepares : goal.returns-clause-prepares
 returns-clause-prepares g c = λ outside.
     let held = g.S.Source.bytes_left c.args.source.now in
@@ -29,4 +34,6 @@ returns-clause-prepares g c = λ outside.
     let events = c.in-Ok.events.items in
     let whole = c.in-Ok.ensures.ok in
     read_extract held left outside events whole (Ok (record { status = Done; out = c.in_ok-out.out }))
-    (will_put_graph held left outside events whole c.in_ok-out.out.items c.in_ok-out.ensures.graph)
+    (will_put_graph held left outside events whole c.in_ok-out.out.items
+    (subst (λ (n : ℕ). IsGraphOf (rules_of n) events c.in_ok-out.out.items) c.profile_of_run.ensures
+    c.in_ok-out.ensures.graph))

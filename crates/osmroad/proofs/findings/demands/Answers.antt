@@ -6,7 +6,6 @@ use Rattle.road_model.specs.declared.answers.RuleKind.TheVariants.{No, Only, Fre
 use Rattle.road_model.specs.declared.answers.Unusable.TheVariants.{NotThisVehicle, NoValue}
 use Rattle.road_model.specs.Rules.{Rules}
 use Rattle.road_model.specs.Restrictions.{IsUsable}
-use Rattle.access_profile.specs.Motorcar.{motorcar_rules}
 use Rattle.osmroad.proofs.findings.demands.Goals as goal
 
 -- a restriction that is of use and doesn't demand forbids
@@ -21,11 +20,12 @@ same_body : (a b : Relation) (o : Option Relation) → Some a ≡ o → o ≡ So
 same_body a b o e f = let g : Some a ≡ Some b = e ∙ f in cc
 
 pub returns-in_default : goal.returns-in_default
-returns-in_default c = λ body visible.
-    let M = c.args.world.now in
+returns-in_default g c = λ body visible.
+    let M = c.args.network.now.world.now in
+    let P = g.P.Profile.rules c.args.network.now.profile in
     let found = relation_of M c.args.relation in
     let own = same_body c.requires.body body found (sym c.requires.visible) visible in
     let lent = same_body c.in-Some.body.now body found c.in-Some.ensures visible in
-    let usable = subst (λ (b : Relation). IsUsable M motorcar_rules b) own c.requires.usable in
-    forbids M motorcar_rules body c.rule.result usable
-    (c.rule.ensures ∙ ap (λ (b : Relation). motorcar_rules.rule b.tags) lent) c.in_default.not-Only
+    let usable = subst (λ (b : Relation). IsUsable M P b) own c.requires.usable in
+    forbids M P body c.rule.result usable
+    (c.rule.ensures ∙ ap (λ (b : Relation). P.rule b.tags) lent) c.in_default.not-Only

@@ -1,17 +1,17 @@
 use Rattle.std.proofs.Common.{◌+◌, ◌≤◌, ◌∙◌, List, length, sym, subst}
 use Rattle.road_base.specs.declared.ids.WayId.{WayId}
 use Rattle.road_model.specs.Highways.{AreRoadWays}
-use Rattle.access_profile.specs.Motorcar.{motorcar_rules}
 use Rattle.osmroad.proofs.graph.graph_over.Goals as goal
 
-pub graph_of_ways-requires : goal.graph_of_ways-requires
-graph_of_ways-requires g c =
+pub graph_of_ways-requires-clause-ways : goal.graph_of_ways-requires-clause-ways
+graph_of_ways-requires-clause-ways g c =
     let M = c.args.world.now in
-    let are : AreRoadWays M motorcar_rules c.in_ok-ways.ways.items = record {
+    let P = g.P.Profile.rules c.args.profile in
+    let are : AreRoadWays M P c.in_ok-ways.ways.items = record {
       ascending = c.in_ok-ways.ensures.ascending;
       all = λ block is. c.in_ok-ways.ensures.each block.way (c.roads_refer.ensures.blocks M block is);
     } in
-    subst (AreRoadWays M motorcar_rules) (sym c.as_slice.ensures.value) are
+    subst (AreRoadWays M P) (sym c.as_slice.ensures.value) are
 
 pub returns-clause-built : goal.returns-clause-built
 returns-clause-built g c =

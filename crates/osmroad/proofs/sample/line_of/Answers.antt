@@ -1,21 +1,26 @@
 use Rattle.std.proofs.Common.{◌≡◌, ◌∙◌, ◌++◌, ℕ, List, ap, sym, subst, length}
 use Rattle.std.specs.FinMap.{values}
 use Rattle.road_model.specs.Format.{graph_bytes, IsGraphFile}
+use Rattle.road_base.specs.Profiles.{IsProfile}
 use Rattle.graph_file.specs.GraphReading.{IsFile}
+use Rattle.graph_file.proofs.GraphFiles.{file_profile}
 use Rattle.drive_queries.specs.declared.totals.Totals.{Totals}
 use Rattle.drive_queries.specs.Counting.{totals_of}
 use Rattle.osmroad.specs.Texts.{sample_line}
 use Rattle.osmroad.proofs.InputEnds.{ok_maps}
 use Rattle.osmroad.proofs.sample.line_of.Goals as goal
 
+-- the number of the graph's profile is that of the engine's
 pub write-requires-clause-profile : goal.write-requires-clause-profile
-write-requires-clause-profile c = c.number.ensures
+write-requires-clause-profile g c =
+    subst IsProfile (sym (c.number.ensures ∙ ap (λ (p : g.P). (g.P.Profile.rules p).number)
+    c.in_ok-road_graph.ensures.profile)) c.requires
 
 pub write-requires-clause-forms : goal.write-requires-clause-forms
-write-requires-clause-forms c = c.in_ok-road_graph.ensures.forms
+write-requires-clause-forms g c = c.in_ok-road_graph.ensures.forms
 
 pub totals_of-requires : goal.totals_of-requires
-totals_of-requires c =
+totals_of-requires g c =
     let blocks = values c.in_ok-road_graph.road_graph.now.blocks.map in
     let bytes : c.write.new.out.items ≡ graph_bytes c.number.result blocks =
     c.in_ok-write.ensures.bytes ∙ ap (λ (l : List ℕ). l ++ graph_bytes c.number.result blocks) c.new-graph.ensures.items
@@ -23,13 +28,17 @@ totals_of-requires c =
     subst IsGraphFile (sym (c.deref.ensures.value ∙ bytes)) c.in_ok-write.ensures.grammar
 
 pub returns-clause-line : goal.returns-clause-line
-returns-clause-line c =
+returns-clause-line g c =
+    let P = g.P.Profile.rules c.args.engine.now.profile in
+    let number : c.number.result ≡ P.number = c.number.ensures ∙ ap (λ (p : g.P). (g.P.Profile.rules p).number)
+    c.in_ok-road_graph.ensures.profile in
     let blocks = values c.in_ok-road_graph.road_graph.now.blocks.map in
     let graph = c.write.new.out.items in
     let bytes : graph ≡ graph_bytes c.number.result blocks =
     c.in_ok-write.ensures.bytes ∙ ap (λ (l : List ℕ). l ++ graph_bytes c.number.result blocks) c.new-graph.ensures.items
     in
     let read = c.in_ok-totals.ensures in
+    let file : IsFile read.0 graph read.1 = subst (λ (l : List ℕ). IsFile read.0 l read.1) c.deref.ensures.value read.2 in
     let size : c.len.result ≡ length graph = c.len.ensures ∙ c.write.new.out.ok.0 in
     ok_maps c.sample_line.result c.sample_line.ensures (λ line spelled. λ events applied. record {
       objects = c.args.engine.now.world;
@@ -38,11 +47,13 @@ returns-clause-line c =
       is = record {
         blocks = blocks;
         listed = c.in_ok-road_graph.ensures.listed;
-        spelled = bytes ∙ ap (λ (n : ℕ). graph_bytes n blocks) c.number.ensures;
+        spelled = bytes ∙ ap (λ (n : ℕ). graph_bytes n blocks) number;
       };
-      blocks = read.0;
-      file = subst (λ (l : List ℕ). IsFile l read.0) c.deref.ensures.value read.1;
+      blocks = read.1;
+      file = subst (λ (n : ℕ). IsFile n graph read.1)
+          (file_profile read.0 P.number graph read.1 blocks file c.requires
+          (bytes ∙ ap (λ (n : ℕ). graph_bytes n blocks) number)) file;
       spelled = spelled
-          ∙ (ap (λ (t : Totals). sample_line c.args.change t c.len.result) read.2
-          ∙ ap (λ (n : ℕ). sample_line c.args.change (totals_of read.0) n) size);
+          ∙ (ap (λ (t : Totals). sample_line c.args.change t c.len.result) read.3
+          ∙ ap (λ (n : ℕ). sample_line c.args.change (totals_of read.1) n) size);
     })

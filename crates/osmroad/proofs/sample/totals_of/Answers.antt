@@ -11,5 +11,6 @@ unreachable-requires c =
 pub returns : goal.returns
 returns c =
     let blocks = values c.in-Some.graph.blocks.map in
-    let file : IsFile c.args.bytes.now blocks = rw c.in-Some.is at c.in_ok-graph.ensures.file in
-    (blocks, file, c.counts.ensures)
+    let profile = c.in-Some.graph.profile in
+    let file : IsFile profile c.args.bytes.now blocks = rw c.in-Some.is at c.in_ok-graph.ensures.file in
+    (profile, blocks, file, c.counts.ensures)

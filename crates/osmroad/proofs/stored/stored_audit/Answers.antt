@@ -1,6 +1,11 @@
-use Rattle.std.proofs.Common.{Some}
+use Rattle.std.proofs.Common.{ℕ, Some, ap, subst, ◌∙◌}
+use Rattle.std.specs.String.{string_bytes}
+use Rattle.road_base.specs.Objects.{Objects}
+use Rattle.access_profile.specs.declared.of_number.ProfileOf.{ProfileOf}
+use Rattle.access_profile.specs.Profiles.{rules_of}
 use Rattle.sequence_journal.specs.declared.load.Loaded.{Loaded}
 use Rattle.osmroad.specs.declared.command.Command.TheVariants.{Audit}
+use Rattle.osmroad.specs.Audit.{IsAudit}
 use Rattle.osmroad.specs.Audited.{IsAuditOf}
 use Rattle.osmroad.proofs.Prepared.{no_memory}
 use Rattle.osmroad.proofs.AnsweredFaults.{fault_calls, failed_calls, calls_calm}
@@ -45,7 +50,14 @@ returns-clause-prepares g c = λ held.
     let laws = c.store_laws.ensures in
     show_done laws.store (Some Audit) IsAuditOf audit_shows held _ _ c.in-Ok.loaded _ c.new.result c.new.ensures
     c.in-Ok.ensures.told
-    (record { objects = c.in_ok-world.world; applied = c.in_ok-world.ensures; audit = c.in_ok-text.ensures })
+    (record {
+      objects = c.in_ok-world.world;
+      applied = c.in_ok-world.ensures;
+      audit = subst (λ (n : ℕ). IsAudit c.in_ok-world.world (rules_of n) (string_bytes c.in_ok-text.text))
+          (ap (λ (p : ProfileOf). p.number) c.new-network.ensures.profile ∙ c.profile_of_run.ensures)
+          (subst (λ (M : Objects). IsAudit M (rules_of c.new-network.result.profile.number)
+          (string_bytes c.in_ok-text.text)) c.new-network.ensures.world c.in_ok-text.ensures);
+    })
 
 pub returns-clause-calls : goal.returns-clause-calls
 returns-clause-calls g c = calls_calm _ _ _ (c.in-Ok.ensures.counts.stays (λ e. (cc))) (λ e. (cc))

@@ -1,5 +1,6 @@
-use Rattle.std.proofs.Common.{Some, refl, arith}
+use Rattle.std.proofs.Common.{ℕ, Some, refl, subst, arith}
 use Rattle.sequence_journal.specs.declared.load.Loaded.{Loaded}
+use Rattle.access_profile.specs.Profiles.{rules_of}
 use Rattle.osmroad.specs.declared.command.Command.TheVariants.{Graph}
 use Rattle.osmroad.specs.Compiled.{IsGraphOf}
 use Rattle.osmroad.proofs.Prepared.{no_memory}
@@ -24,6 +25,9 @@ returns-in-Err-clause-built g c = λ held w h objects told loads has. omega arit
 
 -- ---- memory ends for the graph
 
+pub graph_of-out-requires : goal.graph_of-out-requires
+graph_of-out-requires g c = c.profile_of_run.result.known
+
 pub returns-in_err-out-clause-prepares : goal.returns-in_err-out-clause-prepares
 returns-in_err-out-clause-prepares g c = λ held.
     let laws = c.store_laws.ensures in
@@ -45,7 +49,9 @@ pub returns-clause-prepares : goal.returns-clause-prepares
 returns-clause-prepares g c = λ held.
     let laws = c.store_laws.ensures in
     show_done laws.store (Some Graph) IsGraphOf graph_shows held _ _ c.in-Ok.loaded c.in_ok-out.out.items _ (refl, refl)
-    c.in-Ok.ensures.told c.in_ok-out.ensures.graph
+    c.in-Ok.ensures.told
+    (subst (λ (n : ℕ). IsGraphOf (rules_of n) c.in-Ok.loaded.events.items c.in_ok-out.out.items)
+    c.profile_of_run.ensures c.in_ok-out.ensures.graph)
 
 pub returns-clause-calls : goal.returns-clause-calls
 returns-clause-calls g c = calls_calm _ _ _ (c.in-Ok.ensures.counts.stays (λ e. (cc))) (λ e. (cc))

@@ -1,4 +1,4 @@
-use Rattle.std.proofs.Common.{Err, arith}
+use Rattle.std.proofs.Common.{Err, sym, ◌∙◌, arith}
 use Rattle.std.proofs.lemmas.Result.{err_from_is_err_and}
 use Rattle.road_io.proofs.ToldCalls.{told_same, told_weaker}
 use Rattle.sequence_journal.specs.declared.error.JournalError.TheVariants.{Damaged}
@@ -7,10 +7,10 @@ use Rattle.sequence_journal.proofs.ReadSoFar.{read_error, base_profile, base_unr
 use Rattle.sequence_journal.proofs.ReadSoFar.{base_spells_nothing, base_read}
 use Rattle.sequence_journal.proofs.whole_file.read_base.Goals as goal
 
-pub returns-then-head-ne-PROFILE-clause-told : goal.returns-then-head-ne-PROFILE-clause-told
-returns-then-head-ne-PROFILE-clause-told g c = told_same (g.W.Site.outside c.args.site.now)
+pub returns-then-not-is_profile-clause-told : goal.returns-then-not-is_profile-clause-told
+returns-then-not-is_profile-clause-told g c = told_same (g.W.Site.outside c.args.site.now)
     (ReadsBase c.args.file c.args.found (Err (Damaged c.args.file 0)))
-    (λ w. base_profile c.args.file c.args.found w c.if-head-ne-PROFILE.true)
+    (λ w. base_profile c.args.file c.args.found w (sym c.is_profile.ensures ∙ c.if-not-is_profile.true))
 
 pub returns-in_err-show-clause-told : goal.returns-in_err-show-clause-told
 returns-in_err-show-clause-told g c =
@@ -47,5 +47,5 @@ pub returns-clause-told : goal.returns-clause-told
 returns-clause-told g c = told_weaker _ _ _ _ c.in_ok-show.ensures.told
     (λ w v shows. base_read c.args.file c.args.found c.show.new.self c.front-bytes.result.now
     c.in_ok-show.field-0 w v c.front-bytes.ensures shows (omega (arith, c.if-shown-size.false))
-    c.in-Some.events c.if-head-ne-PROFILE.false (rw c.in-Some.is at c.in_ok-events.ensures.found)
+    c.in-Some.events (sym c.is_profile.ensures ∙ c.if-not-is_profile.false) (rw c.in-Some.is at c.in_ok-events.ensures.found)
     (rw c.in-Some.is at c.in_ok-events.ensures.spelled))

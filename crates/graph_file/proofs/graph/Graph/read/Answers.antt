@@ -18,7 +18,8 @@ returns-in_ok-blocks-in-Ok-clause-ways c =
     (ways c.in-Ok.list.items c.in-Ok.ensures.found.some.1)
 
 pub returns-in_ok-blocks-in-Ok-clause-grammar : goal.returns-in_ok-blocks-in-Ok-clause-grammar
-returns-in_ok-blocks-in-Ok-clause-grammar c = grammar c.args.bytes.now c.in-Ok.list.items c.in-Ok.ensures.found
+returns-in_ok-blocks-in-Ok-clause-grammar c =
+    grammar c.in-Ok.profile c.args.bytes.now c.in-Ok.list.items c.in-Ok.ensures.found
 
 pub returns-in-Err-Malformed-clause-none : goal.returns-in-Err-Malformed-clause-none
 returns-in-Err-Malformed-clause-none c =
@@ -26,7 +27,7 @@ returns-in-Err-Malformed-clause-none c =
 
 pub returns-in_ok-blocks-in-Ok-clause-file : goal.returns-in_ok-blocks-in-Ok-clause-file
 returns-in_ok-blocks-in-Ok-clause-file c =
-    subst (IsFile c.args.bytes.now) (sym c.in_ok-blocks-in-Ok.ensures) c.in-Ok.ensures.found
+    subst (IsFile c.in-Ok.profile c.args.bytes.now) (sym c.in_ok-blocks-in-Ok.ensures) c.in-Ok.ensures.found
 
 pub invariant_of-result : goal.invariant_of-result
 invariant_of-result c = record {
