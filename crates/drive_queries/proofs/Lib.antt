@@ -1,2 +1,1 @@
-pub mod MessageNumbers
 pub mod MessageSteps

@@ -3,8 +3,8 @@ ghost use Rattle.std.specs.Prelude.{◌≡◌, IfOk};
 ghost use Rattle.opl_lexer.specs.Left.{fields_left};
 ghost use Rattle.drive_queries.specs.Messages.{asked, asked_frame, asked_alone, asked_drive, asked_reach};
 
-use crate::step_words::{long_number, step_of};
-use opl_lexer::{FieldIter, fields, whole};
+use crate::step_words::step_of;
+use opl_lexer::{FieldIter, fields, long_number, whole};
 use road_base::{Drive, NoMemory, NodeId, Sequence};
 use std::alloc::Global;
 
