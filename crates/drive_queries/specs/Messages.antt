@@ -1,5 +1,5 @@
 -- What a line of a session asks, where it stands outside a frame.
-use Rattle.std.specs.Prelude.{◌==◌, ◌-◌, ◌^◌, ℕ, ℤ, List, [], ◌∷◌, Option, Some, None, cond, if◌then◌else◌}
+use Rattle.std.specs.Prelude.{◌≢◌, ◌==◌, ◌-◌, ◌^◌, ℕ, ℤ, List, [], ◌∷◌, Option, Some, None, cond, if◌then◌else◌}
 use Rattle.std.specs.Prelude.{length, take, slice_get, bytes_eq, codes}
 use Rattle.std.specs.Option.{option_and_then, option_map}
 use Rattle.road_base.specs.declared.ids.Dir.{Dir}
@@ -95,3 +95,13 @@ asked_of (name ∷ words) = asked_by name words
 -- what the line asks: its words stand between spaces and tabs
 abbrev pub asked : List ℕ → Asked
 asked line = asked_of (fields line)
+
+-- a drive that is asked about has a step
+abbrev pub AsksSteps : Asked → Type 0
+AsksSteps Empty = Unit {0}
+AsksSteps (Seq n) = Unit {0}
+AsksSteps Graph = Unit {0}
+AsksSteps State = Unit {0}
+AsksSteps (Drive d) = d ≢ []
+AsksSteps (Reach a b) = Unit {0}
+AsksSteps Unknown = Unit {0}

@@ -1,9 +1,9 @@
 //! What answers a session.
-ghost use Rattle.std.specs.Prelude.{◌≡◌, ◌⊎◌, ◌+◌, ◌≤◌, ℕ, IfOk, OnOk};
+ghost use Rattle.std.specs.Prelude.{◌≡◌, ◌⊎◌, IfOk, OnOk, OnErr};
 ghost use Rattle.road_base.specs.History.{History, HasObjects, kept as kept_number, with_change};
 ghost use Rattle.road_base.specs.Objects.{Objects};
 ghost use Rattle.session_input.specs.Texts.{text_of};
-ghost use Rattle.session_answers.specs.Replies.{Replies, Costs};
+ghost use Rattle.session_answers.specs.Replies.{Replies, Costs, CostsAtMost};
 ghost use Rattle.session_answers.specs.Said.{said};
 
 use crate::reply::Reply;
@@ -36,15 +36,19 @@ pub trait Answerer: Sized + Drop {
             → (c : Self.Beside) × Self.replies (Self.fixed self.old) h b (text_of line.now) (said r) c
             × Self.stands self.new h c) };
 
-    /// Follows a change. It isn't used any more where no memory was found.
+    /// Follows a change. Where no memory is found it stands for nothing more.
     fn follow<L: Ledger>(&mut self, events: &[Event], steps: &mut Steps<L>) -> Result<(), NoMemory>
         ensures fixed { Self.fixed self.new ≡ Self.fixed self.old }
         ensures follows { OnOk result ((h : History) (b : Self.Beside)
             → Self.stands self.old h b
             → Self.stands self.new (with_change h events.now) b) }
-        ensures few { (h : History) (b : Self.Beside) (M : Objects)
+        ensures few { OnOk result ((h : History) (b : Self.Beside) (M : Objects)
             → Self.stands self.old h b
             → HasObjects h M
-            → (steps.new ≡ steps.old) ⊎ ((n : ℕ) × Self.costs (Self.fixed self.old) M events.now n
-            × (steps.new ≤ steps.old + n)) };
+            → CostsAtMost (Self.costs (Self.fixed self.old)) M events.now steps.old steps.new) }
+        ensures failed { OnErr result ((h : History) (b : Self.Beside) (M : Objects)
+            → Self.stands self.old h b
+            → HasObjects h M
+            → (steps.new ≡ steps.old)
+            ⊎ CostsAtMost (Self.costs (Self.fixed self.old)) M events.now steps.old steps.new) };
 }

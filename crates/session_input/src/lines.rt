@@ -56,10 +56,10 @@ pub fn begun_frame(text: &str) -> Option<u64>
 pub fn lent_line(line: &[u8]) -> Line<'_>
     ensures { text_of result ≡ line_text line.now }
 {
-    match std::str::from_utf8(without_return(line)) {
-        Ok(text) => Line::Text(text),
-        Err(_) => Line::NoText,
-    }
+    let Ok(text) = std::str::from_utf8(without_return(line)) else {
+        return Line::NoText;
+    };
+    Line::Text(text)
 }
 
 /// The line, without its newline, kept. Takes no memory.
