@@ -1,2 +1,2 @@
-pub mod MessageNumbers
 pub mod MessageSteps
+mod AskedSteps

@@ -11,9 +11,9 @@ use Rattle.std.proofs.lemmas.List.Splits.{slice_split_none, slice_split_at, slic
 use Rattle.std.proofs.lemmas.List.Elements.{All-from_get_or}
 use Rattle.road_base.specs.declared.ids.Dir.{Dir}
 use Rattle.road_base.specs.declared.ids.Step.{Step}
-use Rattle.opl_lexer.specs.Numbers.{is_digit, whole_of}
+use Rattle.opl_lexer.specs.Numbers.{is_digit, number_below, whole_of}
 use Rattle.opl_lexer.specs.Parts.{parts}
-use Rattle.drive_queries.specs.Messages.{number_below, dir_of, step_along, step_of}
+use Rattle.drive_queries.specs.Messages.{dir_of, step_along, step_of}
 
 differs : (b stop : ℕ) → (b ≡ stop → ⊥) → (b == stop) ≡ false
 differs b stop never = grind (arith, nat_tests)

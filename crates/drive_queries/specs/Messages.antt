@@ -1,24 +1,18 @@
 -- What a line of a session asks, where it stands outside a frame.
-use Rattle.std.specs.Prelude.{◌==◌, ◌-◌, ◌^◌, ◌&&◌, ℕ, ℤ, List, [], ◌∷◌, Option, Some, None, cond, if◌then◌else◌}
-use Rattle.std.specs.Prelude.{length, take, slice_get, bytes_eq, codes, nat_lt}
+use Rattle.std.specs.Prelude.{◌≢◌, ◌==◌, ◌-◌, ◌^◌, ℕ, ℤ, List, [], ◌∷◌, Option, Some, None, cond, if◌then◌else◌}
+use Rattle.std.specs.Prelude.{length, take, slice_get, bytes_eq, codes}
 use Rattle.std.specs.Option.{option_and_then, option_map}
-use Rattle.std.specs.Str.Parse.{digits_value}
 use Rattle.road_base.specs.declared.ids.Dir.{Dir}
 use Rattle.road_base.specs.declared.ids.Dir.TheVariants.{Forward, Backward}
 use Rattle.road_base.specs.declared.ids.Step.{Step}
 use Rattle.opl_lexer.specs.Letters.{letter_w, minus_sign, plus_sign, point}
 use Rattle.opl_lexer.specs.Parts.{parts}
-use Rattle.opl_lexer.specs.Numbers.{is_numeral, whole_of}
+use Rattle.opl_lexer.specs.Numbers.{number_below, whole_of}
 use Rattle.opl_lexer.specs.Fields.{fields}
 use Rattle.drive_queries.specs.declared.messages.Asked.{Asked}
 use Rattle.drive_queries.specs.declared.messages.Asked.TheVariants.{Empty, Seq, Graph, State, Drive, Reach, Unknown}
 
--- ---- numbers and steps
-
--- digits alone, at least one, of a value below the limit
-abbrev pub number_below : ℕ → List ℕ → Option ℕ
-number_below limit word =
-    cond (is_numeral word && nat_lt (digits_value 10 word) limit) (Some (digits_value 10 word)) None
+-- ---- steps
 
 -- the sign behind a step
 abbrev pub dir_of : ℕ → Option Dir
@@ -101,3 +95,13 @@ asked_of (name ∷ words) = asked_by name words
 -- what the line asks: its words stand between spaces and tabs
 abbrev pub asked : List ℕ → Asked
 asked line = asked_of (fields line)
+
+-- a drive that is asked about has a step
+abbrev pub AsksSteps : Asked → Type 0
+AsksSteps Empty = Unit {0}
+AsksSteps (Seq n) = Unit {0}
+AsksSteps Graph = Unit {0}
+AsksSteps State = Unit {0}
+AsksSteps (Drive d) = d ≢ []
+AsksSteps (Reach a b) = Unit {0}
+AsksSteps Unknown = Unit {0}

@@ -12,5 +12,4 @@ mod totals;
 pub use context_search::{Found, laws, reach};
 pub use drive_judging::{Rule, Verdict, WordTable, judge};
 pub use messages::{Asked, message};
-pub use step_words::long_number;
 pub use totals::{Totals, counts};

@@ -1,10 +1,10 @@
 //! What a line of a session asks.
 ghost use Rattle.std.specs.Prelude.{◌≡◌, IfOk};
 ghost use Rattle.opl_lexer.specs.Left.{fields_left};
-ghost use Rattle.drive_queries.specs.Messages.{asked, asked_frame, asked_alone, asked_drive, asked_reach};
+ghost use Rattle.drive_queries.specs.Messages.{asked, asked_frame, asked_alone, asked_drive, asked_reach, AsksSteps};
 
-use crate::step_words::{long_number, step_of};
-use opl_lexer::{FieldIter, fields, whole};
+use crate::step_words::step_of;
+use opl_lexer::{FieldIter, fields, long_number, whole};
 use road_base::{Drive, NoMemory, NodeId, Sequence};
 use std::alloc::Global;
 
@@ -85,7 +85,8 @@ fn asked_reach(mut words: FieldIter<'_>) -> Asked
 
 /// What the line asks. Its words stand between spaces and tabs. Takes time linear in the line.
 pub fn message(alloc: Global, line: &str) -> Result<Asked, NoMemory>
-    ensures { IfOk result (λ message. message ≡ asked line.now) }
+    ensures asks { IfOk result (λ message. message ≡ asked line.now) }
+    ensures drives { IfOk result AsksSteps }
 {
     let mut words = fields(line);
     let Some(name) = words.next() else {

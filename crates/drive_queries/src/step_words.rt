@@ -3,20 +3,11 @@ ghost use Rattle.std.specs.Prelude.{◌≡◌, ◌-◌, ◌^◌, None, Some, IfS
 ghost use Rattle.std.specs.Option.{option_and_then};
 ghost use Rattle.opl_lexer.specs.Letters.{point};
 ghost use Rattle.opl_lexer.specs.Parts.{parts};
-ghost use Rattle.drive_queries.specs.Messages.{dir_of, number_below, step_along, signed_step, step_of};
+ghost use Rattle.opl_lexer.specs.Numbers.{number_below};
+ghost use Rattle.drive_queries.specs.Messages.{dir_of, step_along, signed_step, step_of};
 
 use opl_lexer::{version, whole};
 use road_base::{Dir, Step, WayId};
-
-/// The number of 64 bits that digits alone spell.
-pub fn long_number(word: &str) -> Option<u64>
-    ensures { result ≡ number_below (2 ^ 64) word.now }
-{
-    if word.starts_with('+') {
-        return None;
-    }
-    word.parse::<u64>().ok()
-}
 
 /// The number of 32 bits that digits alone spell.
 fn number(word: &str) -> Option<u32>

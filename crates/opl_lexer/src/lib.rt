@@ -10,11 +10,13 @@ mod escapes;
 mod fault;
 mod field_iter;
 pub mod laws;
+mod lines;
 mod mode;
 mod numbers;
 
 pub use escapes::unescape;
 pub use fault::{FaultKind, LexError};
 pub use field_iter::{FieldIter, fields};
+pub use lines::without_return;
 pub use mode::Mode;
-pub use numbers::{coordinate, front_number, version, whole};
+pub use numbers::{coordinate, front_number, long_number, version, whole};

@@ -6,7 +6,7 @@ ghost use Rattle.std.specs.Str.Parse.{IsNumeral, digits_value, starts_with_minus
 ghost use Rattle.opl_lexer.specs.Letters.{point};
 ghost use Rattle.opl_lexer.specs.Parts.{parts};
 ghost use Rattle.opl_lexer.specs.Numbers.{IsFront, is_numeral, magnitude, whole_of, version_of, units_in};
-ghost use Rattle.opl_lexer.specs.Numbers.{coordinate_of};
+ghost use Rattle.opl_lexer.specs.Numbers.{coordinate_of, number_below};
 
 /// How many digits a number may have whose value is surely below 2^63.
 const SAFE_DIGITS: usize = 18;
@@ -139,6 +139,13 @@ pub fn version(text: &str) -> Option<u32>
         return None;
     };
     u32::try_from(value).ok()
+}
+
+/// Digits alone, at least one, a value of u64. None where the text isn't in this form and range.
+pub fn long_number(text: &str) -> Option<u64>
+    ensures { result ≡ number_below (2 ^ 64) text.now }
+{
+    digits(text.as_bytes())
 }
 
 /// How many digits stand at the front.

@@ -5,3 +5,4 @@ pub mod LineParts
 pub mod Outcomes
 pub mod StreamLines
 pub mod Feeding
+pub mod Texts

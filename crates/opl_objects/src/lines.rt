@@ -2,13 +2,12 @@
 ghost use Rattle.std.specs.Prelude.{◌≡◌, ◌≤◌, ◌+◌, ◌++◌, [], length, vec_len, IfSome, IfNone, IfErr, OnOk};
 ghost use Rattle.opl_lexer.specs.Letters.{newline};
 ghost use Rattle.opl_lexer.specs.Parts.{Lacks, IsCutAt};
-ghost use Rattle.opl_lexer.specs.Lines.{without_return};
 ghost use Rattle.opl_objects.specs.StreamLines.{Adds, IsFaultOf};
 
 use crate::fault::{Fault, ReadError};
 use crate::line::{LineError, read_line};
 use memchr::memchr;
-use opl_lexer::Mode;
+use opl_lexer::{Mode, without_return};
 use road_base::Event;
 
 /// The bytes before the first newline, and those behind it.
@@ -25,17 +24,6 @@ pub fn first_line(bytes: &[u8]) -> Option<(&[u8], &[u8])>
     Some((line, behind))
 }
 
-/// The line without one carriage return at its end.
-#[inline]
-fn bare_line(line: &[u8]) -> &[u8]
-    ensures { result.now ≡ without_return line.now }
-{
-    match line {
-        [front @ .., b'\r'] => front,
-        _ => line,
-    }
-}
-
 /// Reads the line with this number, and adds what it says to the events.
 pub fn take_line(
     mode: Mode,
@@ -46,7 +34,7 @@ pub fn take_line(
     ensures ok { OnOk result (Adds mode line.now events.old.items events.new.items) }
     ensures err { IfErr result (λ e. IsFaultOf e mode number line.now) }
 {
-    match read_line(*events.allocator(), mode, bare_line(line)) {
+    match read_line(*events.allocator(), mode, without_return(line)) {
         Ok(Some(event)) => {
             events.push(event)?;
             Ok(())

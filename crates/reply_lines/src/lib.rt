@@ -9,6 +9,7 @@ mod step_texts;
 mod texts;
 mod verdict_texts;
 
+pub use opl_objects::{fault_text, kind_name};
 pub use step_texts::step_text;
-pub use texts::{counts_text, fault_text, kind_name};
+pub use texts::counts_text;
 pub use verdict_texts::verdict_text;

@@ -24,6 +24,7 @@ mod memory_files;
 mod memory_site;
 mod memory_source;
 mod outside;
+mod parts;
 mod reading;
 mod real;
 mod real_file;
@@ -32,6 +33,7 @@ pub use entries::{Bytes, Call, Entry};
 pub use memory_site::MemorySite;
 pub use memory_source::MemorySource;
 pub use outside::{Failed, Site, Source, Which};
+pub use parts::{behind, front};
 pub use real::{RealSite, RealSource};
 
 #[cfg(test)]

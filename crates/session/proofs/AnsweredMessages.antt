@@ -8,10 +8,7 @@ use Rattle.std.specs.Io.{StartsWith}
 use Rattle.std.specs.Fmt.{decimal}
 use Rattle.road_base.specs.declared.event.Event.{Event}
 use Rattle.road_base.specs.declared.ids.Sequence.{Sequence}
-use Rattle.road_base.specs.History.{kept}
-use Rattle.road_base.specs.Objects.{Objects}
-use Rattle.road_base.specs.Applying.{IsApplied}
-use Rattle.road_model.specs.Rules.{Rules}
+use Rattle.road_base.specs.History.{History, kept, with_change}
 use Rattle.object_codec.specs.Spelling.{events_bytes}
 use Rattle.opl_lexer.specs.declared.mode.Mode.TheVariants.{Change}
 use Rattle.opl_lexer.specs.Reading.{ReadAll}
@@ -23,48 +20,55 @@ use Rattle.sequence_journal.specs.declared.error.JournalError.TheVariants.{SiteF
 use Rattle.sequence_journal.specs.declared.error.JournalError.TheVariants.{NoMemory as NoMemoryError}
 use Rattle.sequence_journal.specs.declared.journal.Journal.{Journal}
 use Rattle.sequence_journal.specs.Adding.{IsNext, Adds, AddAnswer, MayAdd}
-use Rattle.store_switch.specs.TwoFiles.{LeavesEither}
+use Rattle.store_switch.specs.TwoFiles.{IsOnStore, LeavesEither}
 use Rattle.session_input.specs.Messages.{Message, Frame}
-use Rattle.session_replies.specs.Texts.{applied_line}
+use Rattle.session_answers.specs.Replies.{Replies}
+use Rattle.session_answers.specs.Texts.{applied_line}
 use Rattle.session.specs.declared.stop.Stop.{Stop}
 use Rattle.session.specs.declared.stop.Stop.TheVariants.{SiteFault, Limit, NoMemory}
 use Rattle.session.specs.StoreLaws.{StoreLaws}
 use Rattle.session.specs.Conversation.{Kept, Replied, Accepted, room_at, with_record}
-use Rattle.session.specs.Conversing.{LeavesReply}
+use Rattle.session.specs.Conversing.{IsKept, LeavesReply}
 use Rattle.session.specs.Putting.{LeavesPut, PutsOn}
-use Rattle.session.specs.Answering.{IsKept, Answers, stop_of}
+use Rattle.session.specs.Answering.{Answers, stop_of}
 use Rattle.session.proofs.OutputFronts.{starts_whole, starts_front, nothing_put}
 use Rattle.session.proofs.KeptStores.{images_stand, kept_still}
 
--- ---- a reply that changes nothing
+-- ---- a reply that changes no file
 
-module _ (laws : StoreLaws) (P : Rules) (world : Objects) (journal : Journal) (from : Kept) (message : Message) where
-  put_leaves : (chunk : List ℕ) (w : Outside) (left : Left) → IsKept world journal from w → LeavesPut chunk w left
-      → LeavesReply from from w.output chunk left
-  put_leaves chunk w left k l =
-      let stands = images_stand laws journal from.history w left k.on_store l.a l.b in
-      record { begins = l.begins; within = l.within; files = inl stands; whole = λ all. stands }
+module _ (laws : StoreLaws) {B : Type 0} (R : Replies B) (Stands : History → B → Type 0) (journal : Journal)
+    (from to : Kept B) (message : Message) where
+  put_leaves : (chunk : List ℕ) (w : Outside) (left : Left) → IsOnStore journal to.history w → LeavesPut chunk w left
+      → LeavesReply from to w.output chunk left
+  put_leaves chunk w left on l =
+      let stands = images_stand laws journal to.history w left on l.a l.b in
+      record { begins = l.begins; within = l.within; files = inr stands; whole = λ all. stands }
 
+  put_only : (chunk : List ℕ) (w v : Outside) → LeavesOnly w v (LeavesPut chunk w) → IsKept Stands journal to w
+      → LeavesOnly w v (LeavesReply from to w.output chunk)
+  put_only chunk w v only k =
+      only_weaker w v (LeavesPut chunk w) (LeavesReply from to w.output chunk) only
+      (λ left l. put_leaves chunk w left k.on_store l)
+
+  -- this is kept before the reply is put
   pub put_answers : (chunk : List ℕ) (result : Result (Unit {0}) Stop) (w v : Outside)
-      → IfErr result (λ e. e ≡ SiteFault) → PutsOn chunk result w v → IsKept world journal from w
-      → Replied P from message chunk from → Answers P from message world journal result w v
+      → IfErr result (λ e. e ≡ SiteFault) → PutsOn chunk result w v → IsKept Stands journal to w
+      → Replied R from message chunk to → Answers R from message (IsKept Stands journal) result w v
   put_answers chunk (Ok x) w v named p k r = record {
     reply = chunk;
-    to = from;
+    to = to;
     replied = r;
-    kept = kept_still w v p.same_a p.same_b laws world journal from k;
+    kept = kept_still w v p.same_a p.same_b laws Stands journal to k;
     grows = p.grows ∙ ap (λ (l : List ℕ). w.output ++ l) p.whole;
-    only = only_weaker w v (LeavesPut chunk w) (LeavesReply from from w.output chunk) p.only
-        (λ left l. put_leaves chunk w left k l);
+    only = put_only chunk w v p.only k;
   }
   put_answers chunk (Err SiteFault) w v named p k r = record {
     reply = chunk;
-    to = from;
+    to = to;
     replied = r;
     n = length p.put;
     grows = p.grows ∙ ap (λ (l : List ℕ). w.output ++ l) (sym p.front);
-    only = only_weaker w v (LeavesPut chunk w) (LeavesReply from from w.output chunk) p.only
-        (λ left l. put_leaves chunk w left k l);
+    only = put_only chunk w v p.only k;
   }
   put_answers chunk (Err Limit) w v named p k r = let e : Limit ≡ SiteFault = named in cc
   put_answers chunk (Err NoMemory) w v named p k r = let e : NoMemory ≡ SiteFault = named in cc
@@ -95,26 +99,26 @@ room_missing gate size r is so =
 room_then : (gate size room : ℕ) → room ≡ room_at gate → room - (17 + size) ≡ room_at (gate + (17 + size))
 room_then gate size room is = omega (arith, is)
 
-module _ (laws : StoreLaws) (P : Rules) (number : Sequence) (body : List ℕ) (events : List Event) (old new : Journal)
-    (world after : Objects) (from : Kept) where
+module _ (laws : StoreLaws) {B : Type 0} (R : Replies B) (number : Sequence) (body : List ℕ) (events : List Event) (old new : Journal)
+    (Stands After : History → B → Type 0) (from : Kept B) where
   abbrev line : List ℕ
   line = applied_line number.0
 
-  abbrev to : Kept
+  abbrev to : Kept B
   to = with_record from events
 
-  follows : (w : Outside) → IsKept world old from w → IsNext old number → number.0 ≡ kept from.history + 1
-  follows w k next = next ∙ ap (λ (m : ℕ). m + 1) k.on_store.at.last
+  is_next : (w : Outside) → IsKept Stands old from w → IsNext old number → number.0 ≡ kept from.history + 1
+  is_next w k next = next ∙ ap (λ (m : ℕ). m + 1) k.on_store.at.last
 
-  replied : (w : Outside) → MayAdd old number events → IsKept world old from w → ReadAll Change body events
-      → Replied P from (Frame number.0 body) line to
+  replied : (w : Outside) → MayAdd old number events → IsKept Stands old from w → ReadAll Change body events
+      → Replied R from (Frame number.0 body) line to
   replied w may k gives = Accepted events (record {
-    next = follows w k may.next;
+    next = is_next w k may.next;
     gives = gives;
     fits = room_enough old.gate (length (events_bytes events)) from.room k.room may.room;
   }) refl refl
 
-  added_moments : (result : Result (Unit {0}) JournalError) (w v : Outside) → IsKept world old from w
+  added_moments : (result : Result (Unit {0}) JournalError) (w v : Outside) → IsKept Stands old from w
       → Adds old new events result w v → LeavesOnly w v (LeavesReply from to w.output line)
   added_moments result w v k adds =
       only_weaker w v (LeavesEither from.history events w.output) (LeavesReply from to w.output line)
@@ -128,23 +132,23 @@ module _ (laws : StoreLaws) (P : Rules) (number : Sequence) (body : List ℕ) (e
       })
 
   module _ (before now : ℕ) (x : Unit {0}) (answer : AddAnswer old new number events (Ok x) before now)
-      (applied : IsApplied world events after) (gives : ReadAll Change body events) where
-    pub kept_then : (w v : Outside) → IsKept world old from w → Adds old new events (Ok x) w v → IsKept after new to v
+      (follows : (h : History) (b : B) → Stands h b → After (with_change h events) b) (gives : ReadAll Change body events) where
+    pub kept_then : (w v : Outside) → IsKept Stands old from w → Adds old new events (Ok x) w v → IsKept After new to v
     kept_then w v k adds = record {
       on_store = laws.ok old new from.history number events x w v before now k.on_store answer adds;
       small = laws.small old new from.history number events x w v before now k.on_store answer adds;
-      objects = laws.grows from.history events world after k.objects applied;
+      stands = follows from.history from.beside k.stands;
       room = room_then old.gate (length (events_bytes events)) from.room k.room
           ∙ ap (λ (j : Journal). room_at j.gate) (sym answer.1);
     }
 
     -- the change is kept, and then it is told so
     pub added_answers : (result : Result (Unit {0}) Stop) (w u v : Outside) → IfErr result (λ e. e ≡ SiteFault)
-        → IsKept world old from w → Adds old new events (Ok x) w u → PutsOn line result u v
-        → Answers P from (Frame number.0 body) after new result w v
+        → IsKept Stands old from w → Adds old new events (Ok x) w u → PutsOn line result u v
+        → Answers R from (Frame number.0 body) (IsKept After new) result w v
     added_answers result w u v named k adds p = go result named p
       where
-        stored : IsKept after new to u
+        stored : IsKept After new to u
         stored = kept_then w u k adds
 
         out : u.output ≡ w.output
@@ -161,12 +165,12 @@ module _ (laws : StoreLaws) (P : Rules) (number : Sequence) (body : List ℕ) (e
             })
 
         go : (r : Result (Unit {0}) Stop) → IfErr r (λ e. e ≡ SiteFault) → PutsOn line r u v
-            → Answers P from (Frame number.0 body) after new r w v
+            → Answers R from (Frame number.0 body) (IsKept After new) r w v
         go (Ok y) is q = record {
           reply = line;
           to = to;
           replied = replied w answer.0 k gives;
-          kept = kept_still u v q.same_a q.same_b laws after new to stored;
+          kept = kept_still u v q.same_a q.same_b laws After new to stored;
           grows = q.grows ∙ ap (λ (l : List ℕ). l ++ q.put) out ∙ ap (λ (l : List ℕ). w.output ++ l) q.whole;
           only = moments q.only;
         }
@@ -183,12 +187,12 @@ module _ (laws : StoreLaws) (P : Rules) (number : Sequence) (body : List ℕ) (e
 
   -- the change isn't added
   pub added_fails : (before now : ℕ) (e : JournalError) (w v : Outside) → old.closed ≡ false
-      → AddAnswer old new number events (Err e) before now → ReadAll Change body events → IsKept world old from w
-      → Adds old new events (Err e) w v → Answers P from (Frame number.0 body) after new (Err (stop_of e)) w v
+      → AddAnswer old new number events (Err e) before now → ReadAll Change body events → IsKept Stands old from w
+      → Adds old new events (Err e) w v → Answers R from (Frame number.0 body) (IsKept After new) (Err (stop_of e)) w v
   added_fails before now (OutOfSequence a b) w v alive answer gives k adds = adds
   added_fails before now TooLarge w v alive answer gives k adds = (
     record {
-      next = follows w k answer.1;
+      next = is_next w k answer.1;
       events = events;
       gives = gives;
       full = room_short old.gate (length (events_bytes events)) from.room k.room answer.2;

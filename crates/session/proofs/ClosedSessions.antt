@@ -4,15 +4,12 @@ use Rattle.std.proofs.Common.{refl, sym, ◌∙◌, ap, subst, append_assoc}
 use Rattle.std.proofs.lemmas.List.{append-nil}
 use Rattle.std.specs.Io.{StartsWith}
 use Rattle.road_base.specs.History.{History}
-use Rattle.road_base.specs.Objects.{Objects}
 use Rattle.road_base.specs.declared.ids.Sequence.{Sequence}
-use Rattle.road_model.specs.Rules.{Rules}
 use Rattle.road_io.specs.Told.{Told}
 use Rattle.road_io.specs.Outside.{Outside, LeavesOnly}
 use Rattle.road_io.proofs.CallRuns.{then_runs, only_weaker}
 use Rattle.road_io.proofs.ToldCalls.{told_weaker, told_then}
 use Rattle.sequence_journal.specs.declared.journal.Journal.{Journal}
-use Rattle.sequence_journal.specs.declared.load.Loaded.{Loaded}
 use Rattle.session_input.specs.declared.input.Input.{Input}
 use Rattle.session_input.specs.declared.received.Received.{Received}
 use Rattle.session_input.specs.declared.received.Ending.TheVariants.{Done as DoneEnding, Last}
@@ -20,7 +17,8 @@ use Rattle.session_input.specs.declared.received.Ending.TheVariants.{Unfinished 
 use Rattle.session_input.specs.Messages.{Message}
 use Rattle.session_input.specs.Limits.{IsPending}
 use Rattle.session_input.specs.Reading.{Means, IsEnding}
-use Rattle.session_replies.specs.Texts.{unfinished_line}
+use Rattle.session_answers.specs.Replies.{Replies}
+use Rattle.session_answers.specs.Texts.{unfinished_line}
 use Rattle.session.specs.declared.end.End.{End}
 use Rattle.session.specs.declared.end.End.TheVariants.{Done, Unfinished, ReadFault, SiteFault, Limit, NoMemory}
 use Rattle.session.specs.declared.stop.Stop.{Stop}
@@ -30,9 +28,9 @@ use Rattle.session.specs.StoreLaws.{StoreLaws}
 use Rattle.session.specs.Conversation.{Kept, Replied}
 use Rattle.session.specs.Endings.{EndsSaying, OfEnd, OfLast, OfUnfinished, OfFullLast, OfReadFault, OfEnding, OfNothing}
 use Rattle.session.specs.Endings.{IsLast, Comes, limit_line}
-use Rattle.session.specs.Conversing.{IsOpening, opening_of, LeavesReply, LeavesSession, PutsAll, EndsWith, SessionEnds}
+use Rattle.session.specs.Conversing.{Keeps, IsKept, LeavesReply, LeavesSession, PutsAll, EndsWith, SessionEnds}
 use Rattle.session.specs.Putting.{LeavesPut, PutsOn}
-use Rattle.session.specs.Answering.{IsAnswered, IsKept, Answers}
+use Rattle.session.specs.Answering.{IsAnswered, Answers}
 use Rattle.session.specs.Following.{LeavesStill, Talks, Since, Goes, Closes, Breaks, Halts}
 use Rattle.session.proofs.PutChunks.{puts_nothing}
 use Rattle.session.proofs.KeptStores.{images_stand, on_still, small_still, can_be_loaded}
@@ -48,18 +46,18 @@ IsWhole SiteFault = ⊥
 IsWhole Limit = Unit {0}
 IsWhole NoMemory = ⊥
 
-pub all_put : (P : Rules) (opening : Kept) (read : List ℕ) (ended : Bool) (end : End) (w v : Outside) → IsWhole end
-    → PutsAll P opening read ended end w v → EndsWith P opening read ended end w v
-all_put P opening read ended Done w v is p = p
-all_put P opening read ended Unfinished w v is p = p
-all_put P opening read ended ReadFault w v is p = p
-all_put P opening read ended SiteFault w v is p = absurd is
-all_put P opening read ended Limit w v is p = p
-all_put P opening read ended NoMemory w v is p = absurd is
+pub all_put : {B : Type 0} (R : Replies B) (opening : Kept B) (read : List ℕ) (ended : Bool) (end : End) (w v : Outside) → IsWhole end
+    → PutsAll R opening read ended end w v → EndsWith R opening read ended end w v
+all_put R opening read ended Done w v is p = p
+all_put R opening read ended Unfinished w v is p = p
+all_put R opening read ended ReadFault w v is p = p
+all_put R opening read ended SiteFault w v is p = absurd is
+all_put R opening read ended Limit w v is p = p
+all_put R opening read ended NoMemory w v is p = absurd is
 
-module _ (laws : StoreLaws) (P : Rules) (opening : Kept) (read : List ℕ) (ended : Bool) (end : End) (last : List ℕ)
-    (w u v : Outside) (c : Closes P opening read ended end last w u) where
-  comes_last : Comes P opening read ended c.said c.from last c.from
+module _ {B : Type 0} (laws : StoreLaws) (R : Replies B) (opening : Kept B) (read : List ℕ) (ended : Bool) (end : End) (last : List ℕ)
+    (w u v : Outside) (c : Closes R opening read ended end last w u) where
+  comes_last : Comes R opening read ended c.said c.from last c.from
   comes_last = record {
     front = c.front;
     rest = c.rest;
@@ -68,8 +66,8 @@ module _ (laws : StoreLaws) (P : Rules) (opening : Kept) (read : List ℕ) (ende
     next = OfEnding end c.ends;
   }
 
-  moments : LeavesOnly u v (LeavesPut last u) → LeavesOnly w v (LeavesSession P opening read ended w)
-  moments only = then_runs w u v (LeavesSession P opening read ended w) (LeavesPut last u) c.only only
+  moments : LeavesOnly u v (LeavesPut last u) → LeavesOnly w v (LeavesSession R opening read ended w)
+  moments only = then_runs w u v (LeavesSession R opening read ended w) (LeavesPut last u) c.only only
       (λ left l. let stands = images_stand laws c.journal c.from.history u left c.on_store l.a l.b in record {
         said = c.said;
         reply = last;
@@ -88,9 +86,9 @@ module _ (laws : StoreLaws) (P : Rules) (opening : Kept) (read : List ℕ) (ende
   grown put is = is ∙ ap (λ (l : List ℕ). l ++ put) c.grows ∙ append_assoc w.output c.said put
 
   pub said_all : (x : Unit {0}) → IsWhole end → PutsOn {E = Stop} last (Ok x) u v
-      → SessionEnds P opening read ended end w v
+      → SessionEnds R opening read ended end w v
   said_all x is p = record {
-    puts = all_put P opening read ended end w v is (record {
+    puts = all_put R opening read ended end w v is (record {
       out = c.said ++ last;
       to = c.from;
       gives = record {
@@ -112,7 +110,7 @@ module _ (laws : StoreLaws) (P : Rules) (opening : Kept) (read : List ℕ) (ende
     stops = moments p.only;
   }
 
-  pub said_part : (e : Stop) → PutsOn last (Err e) u v → SessionEnds P opening read ended SiteFault w v
+  pub said_part : (e : Stop) → PutsOn last (Err e) u v → SessionEnds R opening read ended SiteFault w v
   said_part e p = record {
     puts = record {
       said = c.said;
@@ -127,31 +125,31 @@ module _ (laws : StoreLaws) (P : Rules) (opening : Kept) (read : List ℕ) (ende
   }
 
 -- nothing is said last
-pub closed_silently : StoreLaws → (P : Rules) (opening : Kept) (read : List ℕ) (ended : Bool) (end : End)
-    (w v : Outside) → IsWhole end → Closes P opening read ended end [] w v → SessionEnds P opening read ended end w v
-closed_silently laws P opening read ended end w v is c =
-    said_all laws P opening read ended end [] w v v c tt is (puts_nothing [] (Ok tt) v refl)
+pub closed_silently : StoreLaws → {B : Type 0} (R : Replies B) (opening : Kept B) (read : List ℕ) (ended : Bool) (end : End)
+    (w v : Outside) → IsWhole end → Closes R opening read ended end [] w v → SessionEnds R opening read ended end w v
+closed_silently laws R opening read ended end w v is c =
+    said_all laws R opening read ended end [] w v v c tt is (puts_nothing [] (Ok tt) v refl)
 
-pub broken : (P : Rules) (opening : Kept) (read : List ℕ) (ended : Bool) (w v : Outside)
-    → Breaks P opening read ended w v → SessionEnds P opening read ended SiteFault w v
-broken P opening read ended w v b = record { puts = b.puts; stops = b.only }
+pub broken : {B : Type 0} (R : Replies B) (opening : Kept B) (read : List ℕ) (ended : Bool) (w v : Outside)
+    → Breaks R opening read ended w v → SessionEnds R opening read ended SiteFault w v
+broken R opening read ended w v b = record { puts = b.puts; stops = b.only }
 
-pub out_of_memory : (P : Rules) (opening : Kept) (read : List ℕ) (ended : Bool) (w v : Outside)
-    → Breaks P opening read ended w v → SessionEnds P opening read ended NoMemory w v
-out_of_memory P opening read ended w v b = record { puts = b.puts; stops = b.only }
+pub out_of_memory : {B : Type 0} (R : Replies B) (opening : Kept B) (read : List ℕ) (ended : Bool) (w v : Outside)
+    → Breaks R opening read ended w v → SessionEnds R opening read ended NoMemory w v
+out_of_memory R opening read ended w v b = record { puts = b.puts; stops = b.only }
 
 -- ---- the last message
 
-session_now : (P : Rules) (opening : Kept) (read : List ℕ) (ended : Bool) (w v : Outside)
-    → LeavesOnly w v (LeavesStill P opening read w) → LeavesOnly w v (LeavesSession P opening read ended w)
-session_now P opening read ended w v only =
-    only_weaker w v (LeavesStill P opening read w) (LeavesSession P opening read ended w) only
-    (λ left still. subst (λ (l : List ℕ). LeavesSession P opening l ended w left) (append-nil read) (still [] ended))
+session_now : {B : Type 0} (R : Replies B) (opening : Kept B) (read : List ℕ) (ended : Bool) (w v : Outside)
+    → LeavesOnly w v (LeavesStill R opening read w) → LeavesOnly w v (LeavesSession R opening read ended w)
+session_now R opening read ended w v only =
+    only_weaker w v (LeavesStill R opening read w) (LeavesSession R opening read ended w) only
+    (λ left still. subst (λ (l : List ℕ). LeavesSession R opening l ended w left) (append-nil read) (still [] ended))
 
-module _ (P : Rules) (opening : Kept) (front pending read : List ℕ) (is : read ≡ front ++ pending) (ended : Bool)
-    (world : Objects) (journal : Journal) (w u : Outside) (k : Talks P opening front read world journal w u) where
-  pub closes_now : (end : End) (last : List ℕ) → EndsSaying P k.from (length front) pending ended end last k.from
-      → Closes P opening read ended end last w u
+module _ {B : Type 0} (R : Replies B) (opening : Kept B) (front pending read : List ℕ) (is : read ≡ front ++ pending) (ended : Bool)
+    (Stands : History → B → Type 0) (journal : Journal) (w u : Outside) (k : Talks R opening front read (IsKept Stands journal) w u) where
+  pub closes_now : (end : End) (last : List ℕ) → EndsSaying R k.from (length front) pending ended end last k.from
+      → Closes R opening read ended end last w u
   closes_now end last ends = record {
     front = front;
     rest = pending;
@@ -164,10 +162,10 @@ module _ (P : Rules) (opening : Kept) (front pending read : List ℕ) (is : read
     on_store = k.kept.on_store;
     small = k.kept.small;
     grows = k.grows;
-    only = session_now P opening read ended w u k.only;
+    only = session_now R opening read ended w u k.only;
   }
 
-  breaks_now : Breaks P opening read ended w u
+  breaks_now : Breaks R opening read ended w u
   breaks_now = record {
     puts = record {
       said = k.said;
@@ -178,13 +176,13 @@ module _ (P : Rules) (opening : Kept) (front pending read : List ℕ) (is : read
       n = 0;
       grows = k.grows ∙ ap (λ (l : List ℕ). w.output ++ l) (sym (append-nil k.said));
     };
-    only = session_now P opening read ended w u k.only;
+    only = session_now R opening read ended w u k.only;
   }
 
   module _ (laws : StoreLaws) (at_end : ended ≡ true) (open_bytes : IsPending (length front) pending)
       (message : Message) (last : IsLast message pending) where
-    last_comes : (reply : List ℕ) (to : Kept) → Replied P k.from message reply to
-        → Comes P opening read ended k.said k.from reply to
+    last_comes : (reply : List ℕ) (to : Kept B) → Replied R k.from message reply to
+        → Comes R opening read ended k.said k.from reply to
     last_comes reply to replied = record {
       front = front;
       rest = pending;
@@ -193,12 +191,12 @@ module _ (P : Rules) (opening : Kept) (front pending read : List ℕ) (is : read
       next = OfEnding Done (OfLast at_end open_bytes message last replied refl);
     }
 
-    last_moments : (reply : List ℕ) (to : Kept) (v : Outside) → Replied P k.from message reply to
+    last_moments : (reply : List ℕ) (to : Kept B) (v : Outside) → Replied R k.from message reply to
         → LeavesOnly u v (LeavesReply k.from to u.output reply)
-        → LeavesOnly w v (LeavesSession P opening read ended w)
+        → LeavesOnly w v (LeavesSession R opening read ended w)
     last_moments reply to v replied only =
-        then_runs w u v (LeavesSession P opening read ended w) (LeavesReply k.from to u.output reply)
-        (session_now P opening read ended w u k.only) only
+        then_runs w u v (LeavesSession R opening read ended w) (LeavesReply k.from to u.output reply)
+        (session_now R opening read ended w u k.only) only
         (λ left l. record {
           said = k.said;
           reply = reply;
@@ -208,9 +206,9 @@ module _ (P : Rules) (opening : Kept) (front pending read : List ℕ) (is : read
           leaves = subst (λ (o : List ℕ). LeavesReply k.from to o reply left) k.grows l;
         })
 
-    last_answered : (after : Objects) (new : Journal) (v : Outside) → IsAnswered P k.from message after new u v
-        → SessionEnds P opening read ended Done w v
-    last_answered after new v a = record {
+    last_answered : (After : History → B → Type 0) (new : Journal) (v : Outside) → IsAnswered R k.from message (IsKept After new) u v
+        → SessionEnds R opening read ended Done w v
+    last_answered After new v a = record {
       puts = record {
         out = k.said ++ a.reply;
         to = a.to;
@@ -231,9 +229,9 @@ module _ (P : Rules) (opening : Kept) (front pending read : List ℕ) (is : read
       stops = last_moments a.reply a.to v a.replied a.only;
     }
 
-    last_halts : (stop : Stop) (after : Objects) (new : Journal) (v : Outside)
-        → Answers P k.from message after new (Err stop) u v → Halts P opening read ended stop w v
-    last_halts SiteFaultStop after new v a = record {
+    last_halts : (stop : Stop) (After : History → B → Type 0) (new : Journal) (v : Outside)
+        → Answers R k.from message (IsKept After new) (Err stop) u v → Halts R opening read ended stop w v
+    last_halts SiteFaultStop After new v a = record {
       puts = record {
         said = k.said;
         reply = a.reply;
@@ -246,111 +244,111 @@ module _ (P : Rules) (opening : Kept) (front pending read : List ℕ) (is : read
       };
       only = last_moments a.reply a.to v a.replied a.only;
     }
-    last_halts LimitStop after new v a =
-        subst (λ (o : Outside). Closes P opening read ended Limit limit_line w o) (sym a.1)
+    last_halts LimitStop After new v a =
+        subst (λ (o : Outside). Closes R opening read ended Limit limit_line w o) (sym a.1)
         (closes_now Limit limit_line (OfFullLast at_end open_bytes message last a.0 refl refl refl))
-    last_halts NoMemoryStop after new v a = subst (λ (o : Outside). Breaks P opening read ended w o) (sym a) breaks_now
+    last_halts NoMemoryStop After new v a = subst (λ (o : Outside). Breaks R opening read ended w o) (sym a) breaks_now
 
 -- ---- as far as the site tells
 
 -- what stands in a session gives how it ends
-pub since_weaker : (loaded : Loaded) (R S : Kept → Outside → Outside → Type 0) (x y : Option Outside)
-    → Since loaded R x y → ((opening : Kept) (w v : Outside) → R opening w v → S opening w v) → Since loaded S x y
-since_weaker loaded R S x y told f = told_weaker x y
-    (λ w v. (h : History) → IsOpening loaded h w → R (opening_of loaded h) w v)
-    (λ w v. (h : History) → IsOpening loaded h w → S (opening_of loaded h) w v) told
-    (λ w v r h o. f (opening_of loaded h) w v (r h o))
+pub since_weaker : {B : Type 0} (Opens : Keeps B) (S T : Kept B → Outside → Outside → Type 0) (x y : Option Outside)
+    → Since Opens S x y → ((opening : Kept B) (w v : Outside) → S opening w v → T opening w v) → Since Opens T x y
+since_weaker {B} Opens S T x y told f = told_weaker x y
+    (λ w v. (opening : Kept B) → Opens opening w → S opening w v)
+    (λ w v. (opening : Kept B) → Opens opening w → T opening w v) told
+    (λ w v r opening o. f opening w v (r opening o))
 
 -- and so does what stands before a call, and what the call does
-pub since_then : (loaded : Loaded) (R S : Kept → Outside → Outside → Type 0) (T : Outside → Outside → Type 0)
-    (x y z : Option Outside) → Since loaded R x y → Told T y z
-    → ((opening : Kept) (w u v : Outside) → R opening w u → T u v → S opening w v) → Since loaded S x z
-since_then loaded R S T x y z told next f = told_then x y z
-    (λ w v. (h : History) → IsOpening loaded h w → R (opening_of loaded h) w v) T
-    (λ w v. (h : History) → IsOpening loaded h w → S (opening_of loaded h) w v) told next
-    (λ w u v r t h o. f (opening_of loaded h) w u v (r h o) t)
+pub since_then : {B : Type 0} (Opens : Keeps B) (S T : Kept B → Outside → Outside → Type 0)
+    (U : Outside → Outside → Type 0) (x y z : Option Outside) → Since Opens S x y → Told U y z
+    → ((opening : Kept B) (w u v : Outside) → S opening w u → U u v → T opening w v) → Since Opens T x z
+since_then {B} Opens S T U x y z told next f = told_then x y z
+    (λ w v. (opening : Kept B) → Opens opening w → S opening w v) U
+    (λ w v. (opening : Kept B) → Opens opening w → T opening w v) told next
+    (λ w u v r t opening o. f opening w u v (r opening o) t)
 
-module _ (laws : StoreLaws) (P : Rules) (loaded : Loaded) (read : List ℕ) (ended : Bool) (input : Input)
-    (world : Objects) (journal : Journal) (x y : Option Outside) (g : Goes P loaded read input world journal x y) where
+module _ {B : Type 0} (laws : StoreLaws) (R : Replies B) (Opens : Keeps B) (read : List ℕ) (ended : Bool) (input : Input)
+    (Stands : History → B → Type 0) (journal : Journal) (x y : Option Outside) (g : Goes R Opens read input (IsKept Stands journal) x y) where
   pub ends_silently : (end : End) → IsWhole end
-      → ((from : Kept) → EndsSaying P from (length g.front) g.pending ended end [] from)
-      → Since loaded (λ opening w v. SessionEnds P opening read ended end w v) x y
+      → ((from : Kept B) → EndsSaying R from (length g.front) g.pending ended end [] from)
+      → Since Opens (λ opening w v. SessionEnds R opening read ended end w v) x y
   ends_silently end is ends =
-      since_weaker loaded (λ opening w v. Talks P opening g.front read world journal w v)
-      (λ opening w v. SessionEnds P opening read ended end w v) x y g.talks
-      (λ opening w v k. closed_silently laws P opening read ended end w v is
-      (closes_now P opening g.front g.pending read g.is ended world journal w v k end [] (ends k.from)))
+      since_weaker Opens (λ opening w v. Talks R opening g.front read (IsKept Stands journal) w v)
+      (λ opening w v. SessionEnds R opening read ended end w v) x y g.talks
+      (λ opening w v k. closed_silently laws R opening read ended end w v is
+      (closes_now R opening g.front g.pending read g.is ended Stands journal w v k end [] (ends k.from)))
 
-  pub ends_read : Since loaded (λ opening w v. SessionEnds P opening read ended ReadFault w v) x y
+  pub ends_read : Since Opens (λ opening w v. SessionEnds R opening read ended ReadFault w v) x y
   ends_read = ends_silently ReadFault tt (λ from. OfReadFault g.holds.pending refl refl refl)
 
   pub ends_done : ended ≡ true → IsEnding g.pending DoneEnding
-      → Since loaded (λ opening w v. SessionEnds P opening read ended Done w v) x y
+      → Since Opens (λ opening w v. SessionEnds R opening read ended Done w v) x y
   ends_done at_end none = ends_silently Done tt (λ from. OfEnd at_end none refl refl refl)
 
-  pub ends_memory : Since loaded (λ opening w v. SessionEnds P opening read ended NoMemory w v) x y
-  ends_memory = since_weaker loaded (λ opening w v. Talks P opening g.front read world journal w v)
-      (λ opening w v. SessionEnds P opening read ended NoMemory w v) x y g.talks
-      (λ opening w v k. out_of_memory P opening read ended w v
-      (breaks_now P opening g.front g.pending read g.is ended world journal w v k))
+  pub ends_memory : Since Opens (λ opening w v. SessionEnds R opening read ended NoMemory w v) x y
+  ends_memory = since_weaker Opens (λ opening w v. Talks R opening g.front read (IsKept Stands journal) w v)
+      (λ opening w v. SessionEnds R opening read ended NoMemory w v) x y g.talks
+      (λ opening w v k. out_of_memory R opening read ended w v
+      (breaks_now R opening g.front g.pending read g.is ended Stands journal w v k))
 
   pub closes_unfinished : ended ≡ true → (number : Sequence) (line : List ℕ)
       → IsEnding g.pending (UnfinishedEnding number)
       → line ≡ unfinished_line number.0
-      → Since loaded (λ opening w v. Closes P opening read ended Unfinished line w v) x y
+      → Since Opens (λ opening w v. Closes R opening read ended Unfinished line w v) x y
   closes_unfinished at_end number line e is =
-      since_weaker loaded (λ opening w v. Talks P opening g.front read world journal w v)
-      (λ opening w v. Closes P opening read ended Unfinished line w v) x y g.talks
-      (λ opening w v k. closes_now P opening g.front g.pending read g.is ended world journal w v k Unfinished line
+      since_weaker Opens (λ opening w v. Talks R opening g.front read (IsKept Stands journal) w v)
+      (λ opening w v. Closes R opening read ended Unfinished line w v) x y g.talks
+      (λ opening w v k. closes_now R opening g.front g.pending read g.is ended Stands journal w v k Unfinished line
       (OfUnfinished at_end g.holds.pending number.0 (record { body = e.0; front = e.1; begins = e.2; all = e.3 })
       refl is refl))
 
-  module _ (at_end : ended ≡ true) (received : Received) (e : IsEnding g.pending (Last received)) (after : Objects)
+  module _ (at_end : ended ≡ true) (received : Received) (e : IsEnding g.pending (Last received)) (After : History → B → Type 0)
       (new : Journal) (z : Option Outside) where
     pub ends_answered : (n : Unit {0})
-        → Told (λ w v. (from : Kept) (message : Message) → Means message received → IsKept world journal from w
-        → Answers P from message after new (Ok n) w v) y z
-        → Since loaded (λ opening w v. SessionEnds P opening read ended Done w v) x z
+        → Told (λ w v. (from : Kept B) (message : Message) → Means message received → IsKept Stands journal from w
+        → Answers R from message (IsKept After new) (Ok n) w v) y z
+        → Since Opens (λ opening w v. SessionEnds R opening read ended Done w v) x z
     ends_answered n answers =
-        since_then loaded (λ opening w v. Talks P opening g.front read world journal w v)
-        (λ opening w v. SessionEnds P opening read ended Done w v)
-        (λ w v. (from : Kept) (message : Message) → Means message received → IsKept world journal from w
-        → Answers P from message after new (Ok n) w v) x y z g.talks answers
-        (λ opening w u v k a. last_answered P opening g.front g.pending read g.is ended world journal w u k
-        laws at_end g.holds.pending e.1.0 (record { some = e.0; is = e.1.1 }) after new v (a k.from e.1.0 e.1.2 k.kept))
+        since_then Opens (λ opening w v. Talks R opening g.front read (IsKept Stands journal) w v)
+        (λ opening w v. SessionEnds R opening read ended Done w v)
+        (λ w v. (from : Kept B) (message : Message) → Means message received → IsKept Stands journal from w
+        → Answers R from message (IsKept After new) (Ok n) w v) x y z g.talks answers
+        (λ opening w u v k a. last_answered R opening g.front g.pending read g.is ended Stands journal w u k
+        laws at_end g.holds.pending e.1.0 (record { some = e.0; is = e.1.1 }) After new v (a k.from e.1.0 e.1.2 k.kept))
 
     pub halts_last : (stop : Stop)
-        → Told (λ w v. (from : Kept) (message : Message) → Means message received → IsKept world journal from w
-        → Answers P from message after new (Err stop) w v) y z
-        → Since loaded (λ opening w v. Halts P opening read ended stop w v) x z
+        → Told (λ w v. (from : Kept B) (message : Message) → Means message received → IsKept Stands journal from w
+        → Answers R from message (IsKept After new) (Err stop) w v) y z
+        → Since Opens (λ opening w v. Halts R opening read ended stop w v) x z
     halts_last stop answers =
-        since_then loaded (λ opening w v. Talks P opening g.front read world journal w v)
-        (λ opening w v. Halts P opening read ended stop w v)
-        (λ w v. (from : Kept) (message : Message) → Means message received → IsKept world journal from w
-        → Answers P from message after new (Err stop) w v) x y z g.talks answers
-        (λ opening w u v k a. last_halts P opening g.front g.pending read g.is ended world journal w u k laws
-        at_end g.holds.pending e.1.0 (record { some = e.0; is = e.1.1 }) stop after new v (a k.from e.1.0 e.1.2 k.kept))
+        since_then Opens (λ opening w v. Talks R opening g.front read (IsKept Stands journal) w v)
+        (λ opening w v. Halts R opening read ended stop w v)
+        (λ w v. (from : Kept B) (message : Message) → Means message received → IsKept Stands journal from w
+        → Answers R from message (IsKept After new) (Err stop) w v) x y z g.talks answers
+        (λ opening w u v k a. last_halts R opening g.front g.pending read g.is ended Stands journal w u k laws
+        at_end g.holds.pending e.1.0 (record { some = e.0; is = e.1.1 }) stop After new v (a k.from e.1.0 e.1.2 k.kept))
 
 -- ---- a line that is said last
 
-pub ends_said : StoreLaws → (P : Rules) (loaded : Loaded) (read : List ℕ) (ended : Bool) (end : End) (line : List ℕ)
+pub ends_said : StoreLaws → {B : Type 0} (R : Replies B) (Opens : Keeps B) (read : List ℕ) (ended : Bool) (end : End) (line : List ℕ)
     (n : Unit {0}) (x y z : Option Outside) → IsWhole end
-    → Since loaded (λ opening w v. Closes P opening read ended end line w v) x y
+    → Since Opens (λ opening w v. Closes R opening read ended end line w v) x y
     → Told (PutsOn {E = Stop} line (Ok n)) y z
-    → Since loaded (λ opening w v. SessionEnds P opening read ended end w v) x z
-ends_said laws P loaded read ended end line n x y z is closes put =
-    since_then loaded (λ opening w v. Closes P opening read ended end line w v)
-    (λ opening w v. SessionEnds P opening read ended end w v) (PutsOn {E = Stop} line (Ok n)) x y z closes put
-    (λ opening w u v c p. said_all laws P opening read ended end line w u v c n is p)
+    → Since Opens (λ opening w v. SessionEnds R opening read ended end w v) x z
+ends_said laws R Opens read ended end line n x y z is closes put =
+    since_then Opens (λ opening w v. Closes R opening read ended end line w v)
+    (λ opening w v. SessionEnds R opening read ended end w v) (PutsOn {E = Stop} line (Ok n)) x y z closes put
+    (λ opening w u v c p. said_all laws R opening read ended end line w u v c n is p)
 
-pub ends_unsaid : StoreLaws → (P : Rules) (loaded : Loaded) (read : List ℕ) (ended : Bool) (end : End) (line : List ℕ)
+pub ends_unsaid : StoreLaws → {B : Type 0} (R : Replies B) (Opens : Keeps B) (read : List ℕ) (ended : Bool) (end : End) (line : List ℕ)
     (e : Stop) (x y z : Option Outside)
-    → Since loaded (λ opening w v. Closes P opening read ended end line w v) x y → Told (PutsOn line (Err e)) y z
-    → Since loaded (λ opening w v. SessionEnds P opening read ended SiteFault w v) x z
-ends_unsaid laws P loaded read ended end line e x y z closes put =
-    since_then loaded (λ opening w v. Closes P opening read ended end line w v)
-    (λ opening w v. SessionEnds P opening read ended SiteFault w v) (PutsOn line (Err e)) x y z closes put
-    (λ opening w u v c p. said_part laws P opening read ended end line w u v c e p)
+    → Since Opens (λ opening w v. Closes R opening read ended end line w v) x y → Told (PutsOn line (Err e)) y z
+    → Since Opens (λ opening w v. SessionEnds R opening read ended SiteFault w v) x z
+ends_unsaid laws R Opens read ended end line e x y z closes put =
+    since_then Opens (λ opening w v. Closes R opening read ended end line w v)
+    (λ opening w v. SessionEnds R opening read ended SiteFault w v) (PutsOn line (Err e)) x y z closes put
+    (λ opening w u v c p. said_part laws R opening read ended end line w u v c e p)
 
 pub is_whole : (end : End) → (end ≡ Unfinished) ⊎ (end ≡ Limit) → IsWhole end
 is_whole end (inl is) = subst IsWhole (sym is) tt

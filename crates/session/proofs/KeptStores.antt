@@ -1,7 +1,6 @@
 -- Stores on which a journal stands, while only the output grows.
 use Rattle.std.proofs.Common.{◌≡◌, ℕ, ◌≤◌, ◌^◌, List, length, refl, sym, ap, subst}
 use Rattle.road_base.specs.History.{History}
-use Rattle.road_base.specs.Objects.{Objects}
 use Rattle.road_io.specs.declared.outside.Which.{Which}
 use Rattle.road_io.specs.declared.outside.Which.TheVariants.{A, B}
 use Rattle.road_io.specs.Disk.{Disk, IsImage, IsDurable}
@@ -13,7 +12,7 @@ use Rattle.store_switch.specs.LiveFile.{BothDurable, reads_of}
 use Rattle.store_switch.specs.TwoFiles.{StandFor, CanBeLoaded, IsOnStore}
 use Rattle.session.specs.StoreLaws.{StoreLaws}
 use Rattle.session.specs.Conversation.{Kept}
-use Rattle.session.specs.Answering.{IsKept}
+use Rattle.session.specs.Conversing.{IsKept}
 use Rattle.session.proofs.OutputFronts.{starts_whole}
 
 -- ---- images of files
@@ -65,12 +64,12 @@ module _ (w v : Outside) (same_a : v.a ≡ w.a) (same_b : v.b ≡ w.b) where
   pub small_still : (j : Journal) → length (reads_of w j.file) ≤ 2 ^ 40 → length (reads_of v j.file) ≤ 2 ^ 40
   small_still j small = subst (λ (l : List ℕ). length l ≤ 2 ^ 40) (sym (reads j.file)) small
 
-  pub kept_still : StoreLaws → (world : Objects) (j : Journal) (from : Kept) → IsKept world j from w
-      → IsKept world j from v
-  kept_still laws world j from k = record {
+  pub kept_still : StoreLaws → {B : Type 0} (Stands : History → B → Type 0) (j : Journal) (from : Kept B)
+      → IsKept Stands j from w → IsKept Stands j from v
+  kept_still laws {B} Stands j from k = record {
     on_store = on_still laws j from.history k.on_store;
     small = small_still j k.small;
-    objects = k.objects;
+    stands = k.stands;
     room = k.room;
   }
 

@@ -3,25 +3,20 @@ use Rattle.std.proofs.Common.{◌≡◌, ◌≢◌, ⊎_elim, ℕ, List, [], ◌
 use Rattle.std.proofs.Common.{Bool, true, false}
 use Rattle.std.proofs.Common.{refl, sym, ◌∙◌, ap, subst, length-append, arith}
 use Rattle.std.proofs.lemmas.List.{append-nil}
-use Rattle.std.specs.FinMap.{empty}
 use Rattle.road_base.specs.History.{History}
-use Rattle.road_base.specs.declared.event.Event.{Event}
-use Rattle.road_base.specs.Objects.{Objects}
-use Rattle.road_base.specs.Applying.{IsApplied}
-use Rattle.road_model.specs.Rules.{Rules}
 use Rattle.road_io.specs.Told.{Told}
 use Rattle.road_io.specs.Outside.{Outside}
 use Rattle.road_io.proofs.CallRuns.{started}
 use Rattle.road_io.proofs.ToldCalls.{told_same}
 use Rattle.sequence_journal.specs.declared.journal.Journal.{Journal}
-use Rattle.sequence_journal.specs.declared.load.Loaded.{Loaded}
 use Rattle.session_input.specs.declared.input.Input.{Input}
 use Rattle.session_input.specs.Holding.{Holds}
+use Rattle.session_answers.specs.Replies.{Replies}
 use Rattle.session.specs.declared.end.End.{End}
 use Rattle.session.specs.declared.end.End.TheVariants.{Done, Unfinished, ReadFault, SiteFault, Limit, NoMemory}
 use Rattle.session.specs.StoreLaws.{StoreLaws}
-use Rattle.session.specs.Conversation.{Start}
-use Rattle.session.specs.Conversing.{IsOpening, opening_of, SessionEnds, IsAtEnd, EndsSource, Converses}
+use Rattle.session.specs.Conversation.{Kept, Start}
+use Rattle.session.specs.Conversing.{Keeps, IsKept, IsReadyAt, SessionEnds, IsAtEnd, EndsSource, Converses}
 use Rattle.session.specs.Conversing.{CountsReads, CountsCalls}
 use Rattle.session.specs.Following.{LeavesStill, Talks, Since, Goes, IsHalted}
 use Rattle.road_io.specs.Parts.{Took}
@@ -47,11 +42,11 @@ took_whole read (Some x) None t = t
 took_whole read (Some x) (Some y) t =
     t.0 ∙ sym (append-nil read) ∙ ap (λ (l : List ℕ). read ++ l) (sym t.1)
 
-pub conversed : (P : Rules) (loaded : Loaded) (end : End) (held left : Option (List ℕ)) (x y : Option Outside)
+pub conversed : {B : Type 0} (R : Replies B) (Opens : Keeps B) (end : End) (held left : Option (List ℕ)) (x y : Option Outside)
     (read : List ℕ) (ended : Bool) → Took read held left → EndsSource ended (behind_of left) (end ≢ ReadFault)
-    → (IsAtEnd end → ended ≡ true) → Since loaded (λ opening w v. SessionEnds P opening read ended end w v) x y
-    → Converses P loaded end held left x y
-conversed P loaded end held left x y read ended took source whole ends = record {
+    → (IsAtEnd end → ended ≡ true) → Since Opens (λ opening w v. SessionEnds R opening read ended end w v) x y
+    → Converses R Opens end held left x y
+conversed R Opens end held left x y read ended took source whole ends = record {
   bytes = read ++ behind_of left;
   read = read;
   behind = behind_of left;
@@ -75,9 +70,9 @@ pub not_read_fault : (end : End) → IsHalted end → end ≡ ReadFault → ⊥
 not_read_fault end is e = subst IsHalted e is
 
 -- the input holds as many bytes as were read
-pub total_read : (P : Rules) (loaded : Loaded) (read : List ℕ) (input : Input) (world : Objects) (journal : Journal)
-    (x y : Option Outside) → Goes P loaded read input world journal x y → input.total ≡ length read
-total_read P loaded read input world journal x y g =
+pub total_read : {B : Type 0} (R : Replies B) (Opens : Keeps B) (read : List ℕ) (input : Input) (Stands : History → B → Type 0) (journal : Journal)
+    (x y : Option Outside) → Goes R Opens read input (IsKept Stands journal) x y → input.total ≡ length read
+total_read R Opens read input Stands journal x y g =
     g.holds.total ∙ sym (ap (λ (l : List ℕ). length l) g.is ∙ length-append g.front g.pending)
 
 -- nothing says that the source ended
@@ -100,36 +95,28 @@ calls_calm before now end calm other = record {
 
 -- ---- before the first read
 
-pub goes_first : StoreLaws → (P : Rules) (loaded : Loaded) (input : Input) (world : Objects) (journal : Journal)
-    (x : Option Outside) → Holds 0 [] input → IsApplied empty loaded.events.items world → journal ≡ loaded.journal
-    → IfSome x (λ w. (h : History) × IsOpening loaded h w) → Goes P loaded [] input world journal x x
-goes_first laws P loaded input world journal x holds applied same opens = record {
+pub goes_first : StoreLaws → {B : Type 0} (R : Replies B) (Stands : History → B → Type 0) (journal : Journal)
+    (input : Input) (x : Option Outside) → Holds 0 [] input → IfSome x (IsReadyAt (IsKept Stands journal))
+    → Goes R (IsKept Stands journal) [] input (IsKept Stands journal) x x
+goes_first laws {B} R Stands journal input x holds opens = record {
   front = [];
   pending = [];
   is = refl;
   holds = holds;
   opens = opens;
   talks = told_same x
-      (λ w v. (h : History) → IsOpening loaded h w → Talks P (opening_of loaded h) [] [] world journal w v)
-      (λ w h o. subst (λ (j : Journal). Talks P (opening_of loaded h) [] [] world j w w) (sym same) (first w h o));
+      (λ w v. (opening : Kept B) → IsKept Stands journal opening w
+      → Talks R opening [] [] (IsKept Stands journal) w v)
+      (λ w opening o. record {
+        said = [];
+        from = opening;
+        so_far = Start;
+        kept = o;
+        grows = sym (append-nil w.output);
+        only = started w (LeavesStill R opening [] w)
+            (λ left l more ended. first_left laws R opening journal w more ended o.on_store left l);
+      });
 }
-  where
-    first : (w : Outside) (h : History) → IsOpening loaded h w
-        → Talks P (opening_of loaded h) [] [] world loaded.journal w w
-    first w h o = record {
-      said = [];
-      from = opening_of loaded h;
-      so_far = Start;
-      kept = record {
-        on_store = o.on_store;
-        small = o.small;
-        objects = subst (λ (l : List Event). IsApplied empty l world) o.events applied;
-        room = refl;
-      };
-      grows = sym (append-nil w.output);
-      only = started w (LeavesStill P (opening_of loaded h) [] w)
-          (λ left l more ended. first_left laws P loaded h w more ended o left l);
-    }
 
 pub read_fault_inside : IsAtEnd ReadFault → ⊥
 read_fault_inside at = ⊎_elim (λ e. (cc)) (λ e. (cc)) at

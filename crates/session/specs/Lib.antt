@@ -7,3 +7,5 @@ pub mod Answering
 pub mod Following
 pub mod Building
 pub mod BuildingOn
+pub mod Answerers
+pub mod Talking

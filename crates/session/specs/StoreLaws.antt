@@ -4,7 +4,6 @@ use Rattle.road_base.specs.declared.event.Event.{Event}
 use Rattle.road_base.specs.declared.ids.Sequence.{Sequence}
 use Rattle.road_base.specs.History.{History, HasObjects, with_change}
 use Rattle.road_base.specs.Objects.{Objects}
-use Rattle.road_base.specs.Applying.{IsApplied}
 use Rattle.road_io.specs.declared.outside.Which.{Which}
 use Rattle.road_io.specs.Outside.{Outside, Left, IsLeft, LeavesOnly, present}
 use Rattle.sequence_journal.specs.declared.error.JournalError.{JournalError}
@@ -29,5 +28,4 @@ pub record StoreLaws : Type 0 where
   pub small : (old new : Journal) (h : History) (seq : Sequence) (change : List Event) (x : Unit {0})
       (w v : Outside) (before now : ℕ) → IsOnStore old h w → AddAnswer old new seq change (Ok x) before now
       → Adds old new change (Ok x) w v → length (reads_of v new.file) ≤ 2 ^ 40
-  pub grows : (h : History) (change : List Event) (M N : Objects)
-      → HasObjects h M → IsApplied M change N → HasObjects (with_change h change) N
+  pub objects : (h : History) → (M : Objects) × HasObjects h M

@@ -7,13 +7,12 @@ use Rattle.road_base.specs.declared.ids.Sequence.{Sequence}
 use Rattle.opl_lexer.specs.Parts.{Lacks, parts}
 use Rattle.opl_lexer.specs.Lines.{whole_lines}
 use Rattle.opl_objects.proofs.StreamParts.{parts_append, parts_ended, whole_lines_are}
-use Rattle.drive_queries.specs.declared.messages.Asked.{Asked}
-use Rattle.drive_queries.specs.declared.messages.Asked.TheVariants.{Empty, Seq, Graph, State, Drive, Reach, Unknown}
 use Rattle.session_input.specs.declared.open_frame.OpenFrame.{OpenFrame}
 use Rattle.session_input.specs.declared.received.Received.TheVariants.{Line as LineReceived, Frame as FrameReceived}
 use Rattle.session_input.specs.declared.received.Change.{Change}
-use Rattle.session_input.specs.Messages.{Line, Frame, AreInner, IsFrameEnd, asked_line}
-use Rattle.session_input.specs.Messages.{frame_number}
+use Rattle.session_input.specs.declared.line.Line.{Line as LineText}
+use Rattle.session_input.specs.Messages.{Line, Frame, AreInner, IsFrameEnd, line_text, begun_frame}
+use Rattle.session_input.specs.Texts.{text_of}
 use Rattle.session_input.specs.Reading.{IsChange, OfLine, OfFrame}
 use Rattle.session_input.specs.Holding.{HasFrame, HasLines, IsReceived}
 
@@ -64,15 +63,15 @@ inner_more body line ended inner lacks open_line =
           ];
     }
 
--- what asks for no frame has no number
-pub no_number : (message : Asked) → ((n : Sequence) → message ≡ Seq n → ⊥) → frame_number message ≡ None
-no_number Empty none = refl
-no_number (Seq n) none = absurd (none n refl)
-no_number Graph none = refl
-no_number State none = refl
-no_number (Drive steps) none = refl
-no_number (Reach a b) none = refl
-no_number Unknown none = refl
+-- a line that begins a frame
+pub frame_begun : (line : List ℕ) (frame : OpenFrame) → Lacks 10 line → begun_frame line ≡ Some frame.number.0
+    → HasLines [] frame → HasFrame (line ++ (10 ∷ [])) frame
+frame_begun line frame lacks begins lines = record {
+  body = [];
+  begins = record { first = line; one = lacks; begins = begins; inner = inner_none; spelled = refl };
+  lines = lines;
+  ended = refl;
+}
 
 -- a line that ends no frame
 pub frame_grown : (front line whole : List ℕ) (old new : OpenFrame) → HasFrame front old → Lacks 10 line
@@ -109,10 +108,10 @@ frame_ended front line frame change has lacks ends says = record {
 }
 
 -- a line that is a message
-pub line_received : (line : List ℕ) (message : Asked) → Lacks 10 line → message ≡ asked_line line
-    → frame_number message ≡ None → IsReceived (line ++ (10 ∷ [])) (LineReceived message)
-line_received line message lacks asks none = record {
-  message = Line message;
-  is = record { line = line; one = lacks; spelled = refl; asks = sym asks; no_frame = none };
-  means = OfLine message;
+pub line_received : (bytes : List ℕ) (line : LineText) → Lacks 10 bytes → text_of line ≡ line_text bytes
+    → begun_frame bytes ≡ None → IsReceived (bytes ++ (10 ∷ [])) (LineReceived line)
+line_received bytes line lacks is none = record {
+  message = Line (text_of line);
+  is = record { line = bytes; one = lacks; spelled = refl; is = sym is; no_frame = none };
+  means = OfLine line;
 }

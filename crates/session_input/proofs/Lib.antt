@@ -1,6 +1,6 @@
 mod TextBytes
 mod LineBytes
-mod AskedLines
+mod LineTexts
 mod FrameSteps
 mod LimitSteps
 mod StopSteps

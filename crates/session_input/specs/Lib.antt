@@ -1,4 +1,5 @@
 pub mod Messages
+pub mod Texts
 pub mod Limits
 pub mod Reading
 pub mod Sizes

@@ -1,33 +1,30 @@
 -- The messages of a session: lines, and frames of lines.
-use Rattle.std.specs.Prelude.{◌≡◌, ℕ, List, [], ◌∷◌, ◌++◌, Option, Some, None, cond, codes, Contains}
+use Rattle.std.specs.Prelude.{◌≡◌, ◌^◌, ℕ, List, [], ◌∷◌, ◌++◌, Option, Some, None, cond, codes, bytes_eq, Contains}
+use Rattle.std.specs.Option.{option_and_then}
 use Rattle.std.specs.Str.{is_utf8}
 use Rattle.road_base.specs.Bytes.{joined}
 use Rattle.opl_lexer.specs.Letters.{newline}
 use Rattle.opl_lexer.specs.Parts.{Lacks}
+use Rattle.opl_lexer.specs.Numbers.{number_below}
 use Rattle.opl_lexer.specs.Lines.{whole_lines, without_return}
 use Rattle.opl_lexer.specs.Fields.{fields}
-use Rattle.drive_queries.specs.Messages.{asked}
-use Rattle.drive_queries.specs.declared.messages.Asked.{Asked}
-use Rattle.drive_queries.specs.declared.messages.Asked.TheVariants.{Empty, Seq, Graph, State, Drive, Reach, Unknown}
 
 -- ---- lines
 
--- what a line outside a frame asks: one carriage return before its end is dropped, and it must be UTF-8
-abbrev pub asked_line : List ℕ → Asked
-asked_line line = cond (is_utf8 (without_return line)) (asked (without_return line)) Unknown
+-- the text of a line: one carriage return before its end is dropped, and it must be UTF-8
+abbrev pub line_text : List ℕ → Option (List ℕ)
+line_text line = cond (is_utf8 (without_return line)) (Some (without_return line)) None
+
+-- the number of a frame that begins with these words: it stands alone behind `#seq`, digits, a value of 64 bits
+abbrev pub frame_of_words : List (List ℕ) → Option ℕ
+frame_of_words [] = None
+frame_of_words (one ∷ []) = None
+frame_of_words (name ∷ word ∷ []) = cond (bytes_eq name (codes "#seq")) (number_below (2 ^ 64) word) None
+frame_of_words (one ∷ two ∷ three ∷ more) = None
 
 -- the number of the frame that the line begins
-abbrev pub frame_number : Asked → Option ℕ
-frame_number Empty = None
-frame_number (Seq n) = Some n.0
-frame_number Graph = None
-frame_number State = None
-frame_number (Drive steps) = None
-frame_number (Reach a b) = None
-frame_number Unknown = None
-
 abbrev pub begun_frame : List ℕ → Option ℕ
-begun_frame line = frame_number (asked_line line)
+begun_frame line = option_and_then (λ text. frame_of_words (fields text)) (line_text line)
 
 -- the line's only word is `#end`
 abbrev pub IsFrameEnd : List ℕ → Type 0
@@ -40,19 +37,19 @@ pub record AreInner (bytes : List ℕ) : Type 0 where
 
 -- ---- messages
 
--- a line outside a frame, with what it asks; or a frame, with its number and the bytes of the lines between its first
--- and its last
+-- a line outside a frame, with its text, none where it isn't UTF-8; or a frame, with its number and the bytes of the
+-- lines between its first and its last
 pub data Message : Type 0 where
-  Line : Asked → Message
+  Line : Option (List ℕ) → Message
   Frame : ℕ → List ℕ → Message
 
--- the bytes are a line with its newline, which begins no frame, and this is what it asks
-pub record IsLine (message : Asked) (bytes : List ℕ) : Type 0 where
+-- the bytes are a line with its newline, which begins no frame, and this is its text
+pub record IsLine (text : Option (List ℕ)) (bytes : List ℕ) : Type 0 where
   pub line : List ℕ
   pub one : Lacks newline line
   pub spelled : bytes ≡ line ++ newline ∷ []
-  pub asks : asked_line line ≡ message
-  pub no_frame : frame_number message ≡ None
+  pub is : line_text line ≡ text
+  pub no_frame : begun_frame line ≡ None
 
 -- the bytes begin a frame: a line that begins it, and lines behind it, of which none ends it
 pub record BeginsFrame (number : ℕ) (body bytes : List ℕ) : Type 0 where
@@ -72,7 +69,7 @@ pub record IsFrame (number : ℕ) (body bytes : List ℕ) : Type 0 where
   pub spelled : bytes ≡ front ++ (last ++ newline ∷ [])
 
 abbrev pub IsMessage : Message → List ℕ → Type 0
-IsMessage (Line message) bytes = IsLine message bytes
+IsMessage (Line text) bytes = IsLine text bytes
 IsMessage (Frame number body) bytes = IsFrame number body bytes
 
 -- ---- what is no whole message yet

@@ -1,11 +1,11 @@
 -- What is known of a session's input as far as it was read, and what its parts give.
 use Rattle.std.specs.Prelude.{◌≡◌, ◌≢◌, ◌⊎◌, ℕ, List, [], ◌∷◌, ◌++◌, Some}
 use Rattle.road_base.specs.declared.ids.Sequence.{Sequence}
-use Rattle.drive_queries.specs.declared.messages.Asked.{Asked}
 use Rattle.opl_lexer.specs.Letters.{newline}
 use Rattle.opl_lexer.specs.declared.mode.Mode.TheVariants.{Change as ChangeMode}
 use Rattle.opl_lexer.specs.Reading.{ReadAll, input_fault}
 use Rattle.opl_objects.specs.StreamLines.{fault_at}
+use Rattle.session_input.specs.declared.line.Line.{Line as LineText}
 use Rattle.session_input.specs.declared.received.Received.{Received}
 use Rattle.session_input.specs.declared.received.Received.TheVariants.{Line as LineReceived, Frame as FrameReceived}
 use Rattle.session_input.specs.declared.received.Ending.{Ending}
@@ -15,6 +15,7 @@ use Rattle.session_input.specs.declared.received.Change.TheVariants.{Events, Fau
 use Rattle.session_input.specs.declared.received.InputStop.{InputStop}
 use Rattle.session_input.specs.declared.received.InputStop.TheVariants.{TooLong, NoMemory}
 use Rattle.session_input.specs.Messages.{Message, Line, Frame, BeginsFrame, IsMessage}
+use Rattle.session_input.specs.Texts.{text_of}
 use Rattle.session_input.specs.Limits.{IsTaken, IsStopped}
 
 -- the lines of a frame as a change: its events, or its first fault, by lines of the frame from 1 on
@@ -24,7 +25,7 @@ IsChange body (Faulty fault) = input_fault ChangeMode body ≡ Some (fault_at fa
 
 -- what was received is the message
 pub data Means : Message → Received → Type 0 where
-  OfLine : (message : Asked) → Means (Line message) (LineReceived message)
+  OfLine : (line : LineText) → Means (Line (text_of line)) (LineReceived line)
   OfFrame : (number : Sequence) (body : List ℕ) (change : Change) → IsChange body change
       → Means (Frame number.0 body) (FrameReceived number change)
 

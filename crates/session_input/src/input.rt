@@ -5,8 +5,9 @@ ghost use Rattle.opl_lexer.specs.Letters.{newline};
 ghost use Rattle.opl_lexer.specs.Parts.{Lacks};
 ghost use Rattle.session_input.specs.Sizes.{frame_size};
 
-use crate::lines::first_line;
-use crate::next::{Next, take_line};
+use crate::lines::{first_line, held_line, lent_line};
+use crate::next::{Next, take_inside, take_outside};
+use crate::line::Line;
 use crate::open_frame::OpenFrame;
 use crate::received::{Ending, InputStop, Received};
 use std::alloc::Global;
@@ -38,14 +39,16 @@ const SESSION_LIMIT: u64 = 1_099_511_627_776;
 
 /// How much of a part was taken, and the message that it ended, if it ended one.
 #[derive(Drop)]
-pub struct Taken {
+pub struct Taken<'a> {
     pub used: usize,
-    pub received: Option<Received>,
+    pub received: Option<Received<'a>>,
 }
 
 impl Input {
     ghost use Rattle.session_input.specs.Reading.{Receives, StopsAt, IsEnding};
-    ghost use Rattle.session_input.specs.Holding.{HasRoom, Holds, IsWholeLine, IsFront, LeadsTo, next_size};
+    ghost use Rattle.session_input.specs.Messages.{line_text};
+    ghost use Rattle.session_input.specs.Texts.{text_of};
+    ghost use Rattle.session_input.specs.Holding.{HasRoom, HasFrame, Holds, IsWholeLine, IsFront, LeadsTo, next_size};
 
     /// Nothing was taken. Takes no memory.
     pub fn new(alloc: Global) -> Input
@@ -60,7 +63,7 @@ impl Input {
     }
 
     /// Takes the next line of the part, or all of the part where no line of it ends.
-    pub fn take(&mut self, part: &[u8]) -> Result<Taken, InputStop>
+    pub fn take<'a>(&mut self, part: &'a [u8]) -> Result<Taken<'a>, InputStop>
         ensures used { IfOk result (λ t. t.used ≤ length part.now) }
         ensures received { IfOk result (λ t. IfSome t.received (λ r. (before : ℕ) (bytes : List ℕ)
             → Holds before bytes self.old
@@ -96,18 +99,19 @@ impl Input {
             → IsEnding bytes ending) }
         ensures stopped { IfErr result (λ e. e ≡ InputStop.NoMemory) }
     {
-        let frame = self.frame;
         let mut held = self.held;
         if held.is_empty() {
-            return Ok(Input::without_line(frame));
+            return Ok(Input::without_line(self.frame));
         }
+        let Some(frame) = self.frame else {
+            return Ok(Input::behind_line(take_outside(self.alloc, held_line(held))));
+        };
         held.extend_from_slice(b"\n")?;
-        let next = take_line(self.alloc, frame, held.as_slice())?;
-        Ok(Input::behind_line(next))
+        Ok(Input::behind_line(take_inside(frame, held.as_slice())?))
     }
 
     /// Where the input ends behind a line without a newline, by what it leads to with one.
-    fn behind_line(next: Next) -> Ending
+    fn behind_line(next: Next<'static>) -> Ending
         ensures { (open_bytes : List ℕ)
             → (open_bytes ≡ [] → ⊥)
             → LeadsTo (open_bytes ++ (newline ∷ [])) next
@@ -170,8 +174,53 @@ impl Input {
         Ok(())
     }
 
+    /// What a line of the frame leads to, where these bytes end it.
+    fn next_inside<'a>(&mut self, frame: OpenFrame, line: &[u8]) -> Result<Next<'a>, InputStop>
+        requires some { 0 < length line.now }
+        requires room { frame.size + vec_len self.old.held + length line.now < 2 ^ 64 }
+        ensures next { IfOk result (λ next. (front : List ℕ)
+            → HasFrame front frame
+            → IsWholeLine (self.old.held.items ++ line.now)
+            → LeadsTo (front ++ (self.old.held.items ++ line.now)) next) }
+        ensures size { IfOk result (λ next. next_size next ≤ frame.size + vec_len self.old.held + length line.now) }
+        ensures held { OnOk result (self.new.held.items ≡ []) }
+        ensures frame { self.new.frame ≡ self.old.frame }
+        ensures total { self.new.total ≡ self.old.total }
+        ensures stopped { IfErr result (λ e. e ≡ InputStop.NoMemory) }
+    {
+        if self.held.is_empty() {
+            return take_inside(frame, line);
+        }
+        let mut held = replace(&mut self.held, Vec::new(self.alloc));
+        held.extend_from_slice(line)?;
+        let next = take_inside(frame, held.as_slice())?;
+        held.clear();
+        self.held = held;
+        Ok(next)
+    }
+
+    /// The line outside a frame that these bytes end. It is lent where nothing of it is held.
+    fn whole_line<'a>(&mut self, line: &'a [u8]) -> Result<Line<'a>, InputStop>
+        requires some { 0 < length line.now }
+        ensures text { IfOk result (λ text. (bytes : List ℕ)
+            → self.old.held.items ++ line.now ≡ bytes ++ (newline ∷ [])
+            → text_of text ≡ line_text bytes) }
+        ensures held { OnOk result (self.new.held.items ≡ []) }
+        ensures frame { self.new.frame ≡ self.old.frame }
+        ensures total { self.new.total ≡ self.old.total }
+        ensures stopped { IfErr result (λ e. e ≡ InputStop.NoMemory) }
+    {
+        let (front, _) = line.split_at(line.len() - 1);
+        if self.held.is_empty() {
+            return Ok(lent_line(front));
+        }
+        let mut held = replace(&mut self.held, Vec::new(self.alloc));
+        held.extend_from_slice(front)?;
+        Ok(held_line(held))
+    }
+
     /// What the line leads to, where these bytes end it.
-    fn next(&mut self, line: &[u8]) -> Result<Next, InputStop>
+    fn next<'a>(&mut self, line: &'a [u8]) -> Result<Next<'a>, InputStop>
         requires some { 0 < length line.now }
         requires room { HasRoom self.old (length line.now - 1) 1 }
         ensures next { IfOk result (λ next. (front : List ℕ)
@@ -185,20 +234,14 @@ impl Input {
         ensures total { self.new.total ≡ self.old.total }
         ensures stopped { IfErr result (λ e. e ≡ InputStop.NoMemory) }
     {
-        let frame = self.frame.take();
-        if self.held.is_empty() {
-            return take_line(self.alloc, frame, line);
+        match self.frame.take() {
+            Some(frame) => self.next_inside(frame, line),
+            None => Ok(take_outside(self.alloc, self.whole_line(line)?)),
         }
-        let mut held = replace(&mut self.held, Vec::new(self.alloc));
-        held.extend_from_slice(line)?;
-        let next = take_line(self.alloc, frame, held.as_slice())?;
-        held.clear();
-        self.held = held;
-        Ok(next)
     }
 
     /// Ends the line with these bytes, the last of which is the newline.
-    fn receive_line(&mut self, line: &[u8]) -> Result<Option<Received>, InputStop>
+    fn receive_line<'a>(&mut self, line: &'a [u8]) -> Result<Option<Received<'a>>, InputStop>
         requires whole { IsWholeLine line.now }
         requires some { 0 < length line.now }
         requires room { HasRoom self.old (length line.now - 1) 1 }

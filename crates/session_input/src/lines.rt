@@ -1,17 +1,16 @@
 //! The lines of a session.
-ghost use Rattle.std.specs.Prelude.{◌≡◌, ◌↔◌, [], ◌∷◌, codes, IfOk, IfErr, IfSome, IfNone, IsTrue};
+ghost use Rattle.std.specs.Prelude.{◌≡◌, ◌↔◌, ◌++◌, [], ◌∷◌, codes, length, take, IfSome, IfNone, IsTrue};
 ghost use Rattle.opl_lexer.specs.Letters.{newline};
 ghost use Rattle.opl_lexer.specs.Fields.{fields as fields_of};
-ghost use Rattle.opl_lexer.specs.Lines.{without_return};
 ghost use Rattle.opl_lexer.specs.Parts.{Lacks};
-ghost use Rattle.session_input.specs.Messages.{IsFrameEnd, asked_line as asked_line_of};
+ghost use Rattle.session_input.specs.Messages.{IsFrameEnd, line_text, frame_of_words};
+ghost use Rattle.session_input.specs.Texts.{text_of};
 ghost use Rattle.session_input.specs.Holding.{IsFirstLine};
 
-use crate::received::InputStop;
-use drive_queries::{Asked, message};
+use crate::line::Line;
 use memchr::memchr;
-use opl_lexer::fields;
-use std::alloc::Global;
+use opl_lexer::{fields, long_number, without_return};
+use road_base::Sequence;
 
 /// The bytes up to the first newline, and with it.
 #[inline]
@@ -22,17 +21,6 @@ pub fn first_line(bytes: &[u8]) -> Option<&[u8]>
     let at = memchr(b'\n', bytes)?;
     let (line, _) = bytes.split_at(at + 1);
     Some(line)
-}
-
-/// The line without one carriage return at its end.
-#[inline]
-fn bare_line(line: &[u8]) -> &[u8]
-    ensures { result.now ≡ without_return line.now }
-{
-    match line {
-        [front @ .., b'\r'] => front,
-        _ => line,
-    }
 }
 
 /// Whether the only word of the text is `#end`.
@@ -47,19 +35,42 @@ fn is_end(text: &str) -> bool
 pub fn is_frame_end(line: &[u8]) -> bool
     ensures { IsTrue result ↔ IsFrameEnd line.now }
 {
-    match std::str::from_utf8(bare_line(line)) {
+    match std::str::from_utf8(without_return(line)) {
         Ok(text) => is_end(text),
         Err(_) => false,
     }
 }
 
-/// What a line outside a frame asks.
-pub fn asked_line(alloc: Global, line: &[u8]) -> Result<Asked, InputStop>
-    ensures ok { IfOk result (λ asked. asked ≡ asked_line_of line.now) }
-    ensures err { IfErr result (λ e. e ≡ InputStop.NoMemory) }
+/// The number of the frame that a line with this text begins: it stands alone behind `#seq`.
+pub fn begun_frame(text: &str) -> Option<u64>
+    ensures { result ≡ frame_of_words (fields_of text.now) }
 {
-    match std::str::from_utf8(bare_line(line)) {
-        Ok(text) => Ok(message(alloc, text)?),
-        Err(_) => Ok(Asked::Unknown),
+    let mut words = fields(text);
+    let (Some("#seq"), Some(number), None) = (words.next(), words.next(), words.next()) else {
+        return None;
+    };
+    long_number(number)
+}
+
+/// The line, without its newline, lent.
+pub fn lent_line(line: &[u8]) -> Line<'_>
+    ensures { text_of result ≡ line_text line.now }
+{
+    let Ok(text) = std::str::from_utf8(without_return(line)) else {
+        return Line::NoText;
+    };
+    Line::Text(text)
+}
+
+/// The line, without its newline, kept. Takes no memory.
+pub fn held_line<'a>(line: Vec<u8>) -> Line<'a>
+    ensures { text_of result ≡ line_text line.items }
+{
+    let length = without_return(&line).len();
+    let mut line = line;
+    line.truncate(length);
+    match String::from_utf8(line) {
+        Ok(text) => Line::Held(text),
+        Err(_) => Line::NoText,
     }
 }

@@ -1,5 +1,5 @@
 //! What is received of a session.
-use drive_queries::Asked;
+use crate::line::Line;
 use opl_objects::Fault;
 use road_base::{Event, NoMemory, Sequence};
 use std::alloc::AllocError;
@@ -15,9 +15,9 @@ pub enum Change {
 
 /// A message.
 #[derive(Drop)]
-pub enum Received {
-    /// What a line outside a frame asks. It begins no frame.
-    Line(Asked),
+pub enum Received<'a> {
+    /// A line outside a frame. It begins no frame.
+    Line(Line<'a>),
     /// A frame, with its number.
     Frame(Sequence, Change),
 }
@@ -28,7 +28,7 @@ pub enum Ending {
     /// Behind a whole message.
     Done,
     /// Behind one more message, whose last line has no newline.
-    Last(Received),
+    Last(Received<'static>),
     /// Inside a frame with this number.
     Unfinished(Sequence),
 }

@@ -1,7 +1,8 @@
 -- What a session replies to a line, over the objects and the kept number that it has come to.
-use Rattle.std.specs.Prelude.{◌≡◌, ◌≢◌, ℕ, List, [], ◌++◌}
+use Rattle.std.specs.Prelude.{◌≡◌, ℕ, List, [], ◌++◌, length, Option, Some, None}
 use Rattle.std.specs.FinMap.{FinMap}
 use Rattle.road_base.specs.Objects.{Objects}
+use Rattle.road_base.specs.History.{HasObjects, kept}
 use Rattle.road_model.specs.declared.blocks.Block.{Block}
 use Rattle.road_model.specs.Rules.{Rules}
 use Rattle.road_model.specs.Orders.{way_cmp}
@@ -15,13 +16,11 @@ use Rattle.drive_judging.specs.declared.verdict.Verdict.{Verdict}
 use Rattle.context_search.specs.declared.found.Found.{Found}
 use Rattle.drive_judging.specs.Verdicts.{IsVerdict}
 use Rattle.context_search.specs.Reaching.{IsFound}
+use Rattle.drive_queries.specs.Messages.{asked}
 use Rattle.drive_queries.specs.Counting.{blocks_in, totals_of}
-use Rattle.session_replies.specs.declared.reply.Reply.{Reply}
+use Rattle.change_apply.specs.Engines.{Touches}
+use Rattle.session_answers.specs.Replies.{Replies, Costs}
 use Rattle.session_replies.specs.Texts.{unknown_line, state_line, verdict_line, found_line, graph_line}
-
--- the bytes of a reply: its line, and behind it a graph, if there is one
-abbrev pub said : Reply → List ℕ
-said r = r.line.items ++ r.graph.items
 
 -- The graph of the objects: its walks are the drives that may be driven there, and whoever walks over its bytes by the
 -- grammar makes these walks.
@@ -38,23 +37,27 @@ pub record IsStateReply (M : Objects) (P : Rules) (kept : ℕ) (out : List ℕ) 
   pub are : AreBlocksOf M P blocks
   pub spelled : out ≡ state_line kept (totals_of (blocks_in blocks))
 
--- a line that is answered by itself: it begins no frame, and a drive that is asked about has a step
-abbrev pub IsQuery : Asked → Type 0
-IsQuery Empty = Unit {0}
-IsQuery (Seq n) = ⊥
-IsQuery Graph = Unit {0}
-IsQuery State = Unit {0}
-IsQuery (Drive d) = d ≢ []
-IsQuery (Reach a b) = Unit {0}
-IsQuery Unknown = Unit {0}
-
--- What a line is answered with, over the objects and the kept number. A line without a word gets nothing. A line that
--- begins a frame is answered with its frame, and so isn't meant here.
+-- What a message is answered with, over the objects and the kept number. One without a word gets nothing. A line that
+-- begins a frame is answered with its frame, and so doesn't come here.
 abbrev pub IsReply : Objects → Rules → ℕ → Asked → List ℕ → Type 0
 IsReply M P kept Empty out = out ≡ []
-IsReply M P kept (Seq n) out = ⊥
+IsReply M P kept (Seq n) out = out ≡ unknown_line
 IsReply M P kept Graph out = IsGraphReply M P out
 IsReply M P kept State out = IsStateReply M P kept out
 IsReply M P kept (Drive d) out = (verdict : Verdict) × IsVerdict M P d verdict × (out ≡ verdict_line verdict)
 IsReply M P kept (Reach a b) out = (found : Found) × IsFound M P a b found × (out ≡ found_line found)
 IsReply M P kept Unknown out = out ≡ unknown_line
+
+-- what a line with this text is answered with; one that isn't UTF-8 asks nothing that is known
+abbrev pub IsLineReply : Objects → Rules → ℕ → Option (List ℕ) → List ℕ → Type 0
+IsLineReply M P kept None out = out ≡ unknown_line
+IsLineReply M P kept (Some text) out = IsReply M P kept (asked text) out
+
+-- What the lines of a session are answered with under the rules of a profile: over the objects of the history, with its
+-- kept number. Nothing stands beside the history.
+abbrev pub road_replies : Rules → Replies (Unit {0})
+road_replies P h beside text out then = (M : Objects) × HasObjects h M × IsLineReply M P (kept h) text out
+
+-- for a change so many blocks are built as there are ways that it touches
+abbrev pub road_costs : Costs
+road_costs M events n = (touches : Touches M events) × (n ≡ length touches.ways)

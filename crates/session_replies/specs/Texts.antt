@@ -1,17 +1,14 @@
--- The replies of a session as bytes, each with its newline.
+-- The replies to lines as bytes, each with its newline.
 use Rattle.std.specs.Prelude.{◌++◌, ℕ, List, [], ◌∷◌, codes, length}
 use Rattle.std.specs.List.{flat_map}
 use Rattle.std.specs.Fmt.{decimal, signed_decimal}
 use Rattle.road_base.specs.declared.ids.Step.{Step}
 use Rattle.opl_lexer.specs.Letters.{newline}
-use Rattle.opl_lexer.specs.Reading.{FaultAt}
 use Rattle.drive_judging.specs.declared.verdict.Verdict.{Verdict}
 use Rattle.drive_queries.specs.declared.totals.Totals.{Totals}
 use Rattle.context_search.specs.declared.found.Found.{Found}
 use Rattle.context_search.specs.declared.found.Found.TheVariants.{Drive, NoNode, Nowhere}
-use Rattle.reply_lines.specs.Texts.{step_bytes, verdict_bytes, fault_bytes, counts_bytes}
-
--- ---- lines
+use Rattle.reply_lines.specs.Texts.{step_bytes, verdict_bytes, counts_bytes}
 
 -- `unknown`
 abbrev pub unknown_line : List ℕ
@@ -42,21 +39,3 @@ found_line found = found_bytes found ++ newline ∷ []
 -- `graph LEN`, and behind the newline so many bytes, which are the graph's
 abbrev pub graph_line : List ℕ → List ℕ
 graph_line graph = codes "graph " ++ (decimal (length graph) ++ newline ∷ [])
-
--- ---- frames
-
--- `applied N`
-abbrev pub applied_line : ℕ → List ℕ
-applied_line n = codes "applied " ++ (decimal n ++ newline ∷ [])
-
--- `refused N sequence KEPT`
-abbrev pub refused_sequence_line : ℕ → ℕ → List ℕ
-refused_sequence_line n kept = codes "refused " ++ (decimal n ++ (codes " sequence " ++ (decimal kept ++ newline ∷ [])))
-
--- `refused N line L field F KIND`
-abbrev pub refused_fault_line : ℕ → FaultAt → List ℕ
-refused_fault_line n fault = codes "refused " ++ (decimal n ++ (codes " " ++ (fault_bytes fault ++ newline ∷ [])))
-
--- `refused unfinished N`
-abbrev pub unfinished_line : ℕ → List ℕ
-unfinished_line n = codes "refused unfinished " ++ (decimal n ++ newline ∷ [])

@@ -1,14 +1,11 @@
-//! What a session replies: to a line over the world and the blocks that it has come to, and to a frame by its number
-//! and its lines.
+//! The road network answers a session: what it replies to a line over the objects and the blocks that it has come to.
 //!
-//! A reply takes the time of its query (`drive_queries`), and of its bytes. Nothing is put here.
+//! A reply takes the time of its query (`drive_queries`), and of its bytes. A change takes the time of following it
+//! (`change_apply`). Nothing is put here.
 #![tactic(auto)]
 
-mod frames;
+mod answerer;
 mod queries;
-mod reply;
 mod texts;
 
-pub use frames::{applied, refused_fault, refused_sequence, unfinished};
-pub use queries::reply_to;
-pub use reply::Reply;
+pub use answerer::RoadAnswerer;

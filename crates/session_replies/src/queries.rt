@@ -2,10 +2,12 @@
 ghost use Rattle.std.specs.Prelude.{◌≡◌, ◌≢◌, [], IfOk};
 ghost use Rattle.drive_judging.specs.Verdicts.{IsVerdict};
 ghost use Rattle.context_search.specs.Reaching.{IsFound};
-ghost use Rattle.session_replies.specs.Replies.{IsQuery, IsReply, IsGraphReply, IsStateReply, said};
-ghost use Rattle.session_replies.specs.Texts.{verdict_line, found_line};
+ghost use Rattle.road_base.specs.Profiles.{IsProfile};
+ghost use Rattle.drive_queries.specs.Messages.{AsksSteps};
+ghost use Rattle.session_answers.specs.Said.{said};
+ghost use Rattle.session_replies.specs.Replies.{IsReply, IsGraphReply, IsStateReply};
+ghost use Rattle.session_replies.specs.Texts.{unknown_line, verdict_line, found_line};
 
-use crate::reply::Reply;
 use crate::texts::{found_reply, graph_head, state, unknown, verdict_reply};
 use change_apply::Engine;
 use drive_queries::{Asked, WordTable, counts, judge, reach};
@@ -14,46 +16,53 @@ use graph_file::write;
 use road_base::{NoMemory, NodeId, Sequence, Step};
 use road_model::Profile;
 use road_model::laws::walk_law;
+use session_answers::Reply;
 use std::alloc::Global;
 
-/// The reply to a line that is answered by itself. The kept number is that of the last change. The engine stays what
-/// it is; it may list its blocks.
+/// The reply to a message. The kept number is that of the last change. The engine stays what it is; it may list its
+/// blocks.
 pub fn reply_to<P: Profile>(
     alloc: Global,
     engine: &mut Engine<P>,
     kept: Sequence,
     asked: &Asked,
 ) -> Result<Reply, NoMemory>
-    requires number { (P.rules engine.old.profile).number ≡ 1 }
-    requires query { IsQuery asked.now }
+    requires number { IsProfile (P.rules engine.old.profile).number }
+    requires drives { AsksSteps asked.now }
     ensures reply { IfOk result (λ r.
         IsReply engine.old.world (P.rules engine.old.profile) kept.0 asked.now (said r)) }
     ensures same { engine.new ≡ engine.old }
 {
     match asked {
         Asked::Empty => Ok(line_alone(alloc, Vec::new(alloc))),
-        Asked::Seq(_) => unreachable!(),
         Asked::Graph => graph_reply(alloc, engine),
         Asked::State => state_reply(alloc, engine, kept),
         Asked::Drive(drive) => drive_reply(alloc, engine, drive.items()),
         Asked::Reach(a, b) => reach_reply(alloc, engine, *a, *b),
-        Asked::Unknown => Ok(line_alone(alloc, unknown(alloc)?)),
+        Asked::Seq(_) | Asked::Unknown => unknown_reply(alloc),
     }
 }
 
-/// A line with no graph behind it.
+/// The reply to what asks nothing that is known.
+pub fn unknown_reply(alloc: Global) -> Result<Reply, NoMemory>
+    ensures { IfOk result (λ r. said r ≡ unknown_line) }
+{
+    Ok(line_alone(alloc, unknown(alloc)?))
+}
+
+/// A line with nothing behind it.
 fn line_alone(alloc: Global, line: Vec<u8>) -> Reply
     ensures { said result ≡ line.items }
 {
     Reply {
         line,
-        graph: Vec::new(alloc),
+        behind: Vec::new(alloc),
     }
 }
 
 /// The graph's bytes, behind a line that tells how many there are.
 fn graph_reply<P: Profile>(alloc: Global, engine: &mut Engine<P>) -> Result<Reply, NoMemory>
-    requires { (P.rules engine.old.profile).number ≡ 1 }
+    requires { IsProfile (P.rules engine.old.profile).number }
     ensures reply { IfOk result (λ r. IsGraphReply engine.old.world (P.rules engine.old.profile) (said r)) }
     ensures same { engine.new ≡ engine.old }
 {
@@ -64,7 +73,10 @@ fn graph_reply<P: Profile>(alloc: Global, engine: &mut Engine<P>) -> Result<Repl
     let mut graph = Vec::new(alloc);
     write(profile.number(), &road_graph.blocks, &mut graph)?;
     let line = graph_head(alloc, &graph)?;
-    Ok(Reply { line, graph })
+    Ok(Reply {
+        line,
+        behind: graph,
+    })
 }
 
 /// The kept number, and how large the graph is.

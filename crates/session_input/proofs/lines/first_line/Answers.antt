@@ -1,4 +1,4 @@
-use Rattle.session_input.proofs.AskedLines.{first_line_here}
+use Rattle.session_input.proofs.LineTexts.{first_line_here}
 use Rattle.session_input.proofs.lines.first_line.Goals as goal
 
 pub returns-clause-some : goal.returns-clause-some

@@ -7,5 +7,5 @@ use Rattle.session_input.proofs.lines.is_frame_end.Goals as goal
 pub returns-in-Err : goal.returns-in-Err
 returns-in-Err c = (
   λ is. absurd (false≢true is),
-  λ ends. absurd (c.in-Err.ensures.cases.0 (subst IsUtf8 (sym c.bare_line.ensures) (end_is_utf8 _ ends))),
+  λ ends. absurd (c.in-Err.ensures.cases.0 (subst IsUtf8 (sym c.without_return.ensures) (end_is_utf8 _ ends))),
 )

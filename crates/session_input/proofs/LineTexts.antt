@@ -1,6 +1,6 @@
--- Lines as they stand in the bytes, and what they ask.
+-- Lines as they stand in the bytes, and their texts.
 use Rattle.std.specs.Prelude.{◌≡◌, ◌<◌, ◌+◌, ◌-◌, ◌++◌, ℕ, List, [], ◌∷◌, true, false, cond, take, drop, length}
-use Rattle.std.specs.Prelude.{Some, slice_index, refl}
+use Rattle.std.specs.Prelude.{Some, None, slice_index, refl}
 use Rattle.std.specs.Str.{IsUtf8, is_utf8}
 use Rattle.std.proofs.Common.{arith, sym, ◌∙◌, ap, add-one, length-append}
 use Rattle.std.proofs.lemmas.Bool.Decides.{nat_tests}
@@ -10,9 +10,7 @@ use Rattle.std.proofs.Math.Seq.{take-suc, take-append_seam}
 use Rattle.memchr.specs.Find.{IsFirstByte, is_byte}
 use Rattle.opl_lexer.specs.Lines.{without_return}
 use Rattle.opl_lexer.proofs.Cuts.{cut_at_first}
-use Rattle.drive_queries.specs.Messages.{asked}
-use Rattle.drive_queries.specs.declared.messages.Asked.TheVariants.{Unknown}
-use Rattle.session_input.specs.Messages.{asked_line}
+use Rattle.session_input.specs.Messages.{line_text}
 use Rattle.session_input.specs.Holding.{IsFirstLine, IsWholeLine}
 
 pub first_line_here : (bs : List ℕ) (at : ℕ) → IsFirstByte (is_byte 10) bs (Some at)
@@ -28,16 +26,16 @@ first_line_here bs at found =
       spelled = sym (take-append-drop (at + 1) bs);
     }
 
-pub asked_text : (line : List ℕ) → IsUtf8 (without_return line) → asked_line line ≡ asked (without_return line)
-asked_text line utf8 =
+pub text_there : (line : List ℕ) → IsUtf8 (without_return line) → line_text line ≡ Some (without_return line)
+text_there line utf8 =
     let is : is_utf8 (without_return line) ≡ true = is_utf8-from_IsUtf8 (without_return line) utf8 in
-    ap (λ b. cond b (asked (without_return line)) Unknown) is
+    ap (λ b. cond b (Some (without_return line)) None) is
 
-pub asked_unknown : (line : List ℕ) → (IsUtf8 (without_return line) → ⊥) → asked_line line ≡ Unknown
-asked_unknown line none =
-    elim (is_utf8 (without_return line)) as (λ r. is_utf8 (without_return line) ≡ r → asked_line line ≡ Unknown) [
+pub text_missing : (line : List ℕ) → (IsUtf8 (without_return line) → ⊥) → line_text line ≡ None
+text_missing line none =
+    elim (is_utf8 (without_return line)) as (λ r. is_utf8 (without_return line) ≡ r → line_text line ≡ None) [
       | true ↦ λ e. absurd (none (IsUtf8-from_is_utf8 (without_return line) e))
-      | false ↦ λ e. ap (λ b. cond b (asked (without_return line)) Unknown) e
+      | false ↦ λ e. ap (λ b. cond b (Some (without_return line)) None) e
     ] refl
 
 -- a whole line without its newline

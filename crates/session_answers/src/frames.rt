@@ -1,10 +1,9 @@
 //! The replies to frames.
 ghost use Rattle.std.specs.Prelude.{◌≡◌, IfOk, string_bytes};
 ghost use Rattle.opl_objects.specs.StreamLines.{fault_at};
-ghost use Rattle.session_replies.specs.Texts.{applied_line, refused_sequence_line, refused_fault_line, unfinished_line};
+ghost use Rattle.session_answers.specs.Texts.{applied_line, refused_sequence_line, refused_fault_line, unfinished_line};
 
-use opl_objects::Fault;
-use reply_lines::fault_text;
+use opl_objects::{Fault, fault_text};
 use road_base::{NoMemory, Sequence};
 use std::alloc::Global;
 
