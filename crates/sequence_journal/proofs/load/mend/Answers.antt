@@ -30,14 +30,14 @@ returns-then-whole-clause-told g c =
     told_then _ _ _ _ _ _ c.in_ok-history.ensures.told c.in_ok-whole.ensures.told (look c.args.file r whole) in
     told_weaker _ _ _ _ looked (λ w u k. mend_whole c.args.file r whole w u k c.if-whole.true)
 
-pub returns-then-gate-eq-LARGEST-clause-told : goal.returns-then-gate-eq-LARGEST-clause-told
-returns-then-gate-eq-LARGEST-clause-told g c =
+pub returns-then-gate-eq-MOST_STORE-clause-told : goal.returns-then-gate-eq-MOST_STORE-clause-told
+returns-then-gate-eq-MOST_STORE-clause-told g c =
     let r = c.in_ok-history.history in
     let whole = c.in_ok-whole.whole in
     let looked : Told (Looked c.args.file r whole) (g.W.Site.outside c.args.site.now)
     (g.W.Site.outside c.ends_there.new.site) =
     told_then _ _ _ _ _ _ c.in_ok-history.ensures.told c.in_ok-whole.ensures.told (look c.args.file r whole) in
-    told_weaker _ _ _ _ looked (λ w u k. mend_limit c.args.file r whole w u k c.if-gate-eq-LARGEST.true)
+    told_weaker _ _ _ _ looked (λ w u k. mend_limit c.args.file r whole w u k c.if-gate-eq-MOST_STORE.true)
 
 pub returns-in_err-repair_end-clause-told : goal.returns-in_err-repair_end-clause-told
 returns-in_err-repair_end-clause-told g c =
@@ -55,7 +55,7 @@ returns-in_err-repair_end-clause-told g c =
     (λ u v sound repairs. (sound, repairs)) in
     rw p.1 (told_then _ _ _ _ _ _ looked failed
     (λ w u v k both. mend_failed c.args.file r whole w u k c.one_history.ensures c.if-whole.false
-    (λ limit. omega (arith, limit, c.if-gate-eq-LARGEST.false)) p.0 c.in_err-repair_end.field-0.0 v p.2 both.0 both.1))
+    (λ limit. omega (arith, limit, c.if-gate-eq-MOST_STORE.false)) p.0 c.in_err-repair_end.field-0.0 v p.2 both.0 both.1))
 
 pub returns-clause-told : goal.returns-clause-told
 returns-clause-told g c =
@@ -67,7 +67,7 @@ returns-clause-told g c =
     told_then _ _ _ _ _ _ looked c.in_ok-repair_end.ensures.told
     (λ w u v k repairs. mend_done c.args.file r whole w u k c.one_history.ensures c.if-whole.false
     c.in_ok-repair_end.field-0 v
-    (λ limit. omega (arith, limit, c.if-gate-eq-LARGEST.false)) repairs)
+    (λ limit. omega (arith, limit, c.if-gate-eq-MOST_STORE.false)) repairs)
 
 pub returns-in_err-history-clause-named : goal.returns-in_err-history-clause-named
 returns-in_err-history-clause-named g c =

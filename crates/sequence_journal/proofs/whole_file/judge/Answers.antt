@@ -7,22 +7,22 @@ use Rattle.sequence_journal.proofs.ReadSoFar.{judge_next, judge_next_refused, ju
 use Rattle.sequence_journal.proofs.ShownBytes.{holds_nothing}
 use Rattle.sequence_journal.proofs.whole_file.judge.Goals as goal
 
-pub returns-then-found-gt-LARGEST-clause-told : goal.returns-then-found-gt-LARGEST-clause-told
-returns-then-found-gt-LARGEST-clause-told g c = told_weaker _ _ _ _ (rw c.in-Some.is at c.in_ok-found.ensures.told)
-    (λ w u finds. judge_too_large c.args.file c.in-Some.found w u finds (omega (arith, c.if-found-gt-LARGEST.true)))
+pub returns-then-found-gt-MOST_STORE-clause-told : goal.returns-then-found-gt-MOST_STORE-clause-told
+returns-then-found-gt-MOST_STORE-clause-told g c = told_weaker _ _ _ _ (rw c.in-Some.is at c.in_ok-found.ensures.told)
+    (λ w u finds. judge_too_large c.args.file c.in-Some.found w u finds (omega (arith, c.if-found-gt-MOST_STORE.true)))
 
 pub returns-in_err-history-clause-told : goal.returns-in_err-history-clause-told
 returns-in_err-history-clause-told g c =
     let p = err_from_is_err_and c.from_residual-in_err-history.result c.from_residual-in_err-history.ensures.1 in
     rw (p.1, p.2) (told_then _ _ _ _ _ _ (rw c.in-Some.is at c.in_ok-found.ensures.told) c.in_err-history.ensures.told
     (λ w u v finds read. judge_base_refused c.args.file c.in-Some.found w u finds c.in_err-history.field-0.0 v
-    (omega (arith, c.if-found-gt-LARGEST.false)) read))
+    (omega (arith, c.if-found-gt-MOST_STORE.false)) read))
 
 pub loop-history-init : goal.loop-history-init
 loop-history-init g c = record {
   told = told_then _ _ _ _ _ _ (rw c.in-Some.is at c.in_ok-found.ensures.told) c.in_ok-history.ensures.told
       (λ w u v finds read. judge_start c.args.file c.in-Some.found w u finds c.in_ok-history.history v
-      (omega (arith, c.if-found-gt-LARGEST.false)) read);
+      (omega (arith, c.if-found-gt-MOST_STORE.false)) read);
   holds = c.in_ok-history.ensures.holds;
   within = c.in_ok-history.ensures.within.0;
   small = c.in_ok-history.ensures.within.1;
