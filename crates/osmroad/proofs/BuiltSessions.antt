@@ -9,8 +9,9 @@ use Rattle.road_io.specs.Outside.{Outside}
 use Rattle.sequence_journal.specs.declared.load.Loaded.{Loaded}
 use Rattle.store_switch.specs.LiveFile.{reads_of}
 use Rattle.store_switch.specs.StoreLoading.{StoreLoaded, LoadsStore}
+use Rattle.session_replies.specs.Replies.{road_costs}
 use Rattle.session.specs.Conversation.{Kept}
-use Rattle.session.specs.Building.{Start, BuildsOf, SessionBuilds}
+use Rattle.session.specs.Building.{Start, BuildsOf}
 use Rattle.session.specs.declared.end.End.{End}
 use Rattle.session.specs.declared.end.End.TheVariants.{Done, Unfinished, SiteFault, Limit, NoMemory}
 use Rattle.session.specs.declared.end.End.TheVariants.{ReadFault as ReadFaultEnd}
@@ -18,9 +19,9 @@ use Rattle.osmroad.specs.declared.status.Status.{Status}
 use Rattle.osmroad.specs.declared.status.Status.TheVariants.{ReadFault}
 use Rattle.osmroad.specs.Opening.{IsStore}
 use Rattle.osmroad.specs.StoreLaws.{StoreLaws}
-use Rattle.osmroad.specs.Sessions.{SessionRunBuilds, opening, end_status}
+use Rattle.osmroad.specs.Sessions.{ServesBuilding, SessionRunBuilds, opening, end_status}
 use Rattle.osmroad.proofs.LoadedStores.{loaded_store}
-use Rattle.osmroad.proofs.ServedSessions.{opened, opening_is, same_opening}
+use Rattle.osmroad.proofs.ServedSessions.{opened, same_opening}
 
 -- ---- over a store that was loaded
 
@@ -35,10 +36,10 @@ read_failed NoMemory is = (cc)
 
 pub served_builds : (l : Loaded) (end : End) (status : Status) → status ≡ end_status end
     → (held remaining : Option (List ℕ)) (x : Option Outside) (old new : ℕ)
-    → SessionBuilds l (end ≢ ReadFaultEnd) held remaining x old new
-    → SessionBuilds l (status ≢ ReadFault) held remaining x old new
-served_builds l end status is held remaining x old new builds = λ bytes behind w h M has left tells opens objects.
-    let b = builds bytes behind w h M has left tells opens objects in (
+    → ServesBuilding l (end ≢ ReadFaultEnd) held remaining x old new
+    → ServesBuilding l (status ≢ ReadFault) held remaining x old new
+served_builds l end status is held remaining x old new builds = λ bytes behind w o M has left tells opens objects.
+    let b = builds bytes behind w o M has left tells opens objects in (
       b.0,
       b.1,
       ⊎_elim
@@ -56,12 +57,12 @@ module _ (laws : StoreLaws) (l : Loaded) (status : Status) (old new : ℕ) where
   BuildsOver w bytes behind =
       ((s : IsStore (reads_of w)) (M : Objects) → HasObjects s.history M
       → (read : List ℕ) × (bytes ≡ read ++ behind)
-      × BuildsOf (opening s) read behind (status ≢ ReadFault) (old + length (highways M)) new)
+      × BuildsOf road_costs (opening s) read behind (status ≢ ReadFault) (old + length (highways M)) new)
       × ((IsStore (reads_of w) → ⊥) → new ≡ old)
 
   -- where the site tells
   builds_on : (held remaining : Option (List ℕ)) (w u : Outside) → LoadsStore (Ok l) w u
-      → SessionBuilds l (status ≢ ReadFault) held remaining (Some u) old new
+      → ServesBuilding l (status ≢ ReadFault) held remaining (Some u) old new
       → SessionRunBuilds status held remaining (Some w) old new
   builds_on held remaining w u load builds = λ bytes behind x has left is.
       let k : StoreLoaded l w u = load.answer in
@@ -70,19 +71,19 @@ module _ (laws : StoreLaws) (l : Loaded) (status : Status) (old new : ℕ) where
       subst (λ (o : Outside). BuildsOver o bytes behind) here (
         λ s M objects.
             let same : opening mine ≡ opening s = same_opening laws (reads_of w) mine s in
-            let history : k.history ≡ s.history = ap (λ (o : Kept). o.history) same in
-            let b = builds bytes behind u k.history M has left refl (opened l w u k)
+            let history : k.history ≡ s.history = ap (λ (o : Kept (Unit {0})). o.history) same in
+            let b = builds bytes behind u (opening mine) M has left refl (opened l w u k)
             (subst (λ (h : History). HasObjects h M) (sym history) objects) in (
               b.0,
               b.1,
-              subst (λ (o : Kept). BuildsOf o b.0 behind (status ≢ ReadFault) (old + length (highways M)) new)
-                  (opening_is l w u k ∙ same) b.2,
+              subst (λ (o : Kept (Unit {0})). BuildsOf road_costs o b.0 behind (status ≢ ReadFault)
+                  (old + length (highways M)) new) same b.2,
             ),
         λ never. absurd (never mine),
       )
 
   pub store_builds : (held remaining : Option (List ℕ)) (x y : Option Outside) → Told (LoadsStore (Ok l)) x y
-      → SessionBuilds l (status ≢ ReadFault) held remaining y old new
+      → ServesBuilding l (status ≢ ReadFault) held remaining y old new
       → SessionRunBuilds status held remaining x old new
   store_builds held remaining None None told builds = λ bytes behind w has left is. (cc)
   store_builds held remaining None (Some u) told builds = absurd told
@@ -104,7 +105,7 @@ none_built status held x built = λ bytes behind w has left is. (
       is = refl;
       from = opening s;
       n = 0;
-      touched = Start;
+      costed = Start;
       few = omega arith;
     },
   ),

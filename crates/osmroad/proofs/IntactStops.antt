@@ -15,7 +15,6 @@ use Rattle.sequence_journal.specs.Basing.{base_alone}
 use Rattle.store_switch.specs.LiveFile.{IsLive, NoBases, BothDurable, reads_of}
 use Rattle.store_switch.specs.TwoFiles.{StandOn, StandFor, CanBeLoaded, AreIntact}
 use Rattle.store_switch.specs.Checkpointing.{checkpoint_of}
-use Rattle.access_profile.specs.Motorcar.{motorcar_rules}
 use Rattle.session.specs.Conversation.{Kept}
 use Rattle.session.specs.Conversing.{LeavesSession}
 use Rattle.osmroad.specs.declared.command.Command.{Command}
@@ -28,7 +27,7 @@ use Rattle.osmroad.specs.Opening.{IsStore}
 use Rattle.osmroad.specs.Stops.{CouldLeave, LeavesFirst, LeavesBase, LeavesChange, LeavesHistory, LeavesCheckpoint}
 use Rattle.osmroad.specs.Stops.{LeavesStored, LeavesCreated, LeftBy}
 use Rattle.osmroad.specs.Run.{Ends}
-use Rattle.osmroad.specs.Sessions.{LeavesServed, EndsSession, SessionRuns, opening}
+use Rattle.osmroad.specs.Sessions.{LeavesServed, EndsSession, SessionRuns, opening, replies_over}
 use Rattle.osmroad.specs.Requests.{RunEnds}
 use Rattle.osmroad.specs.StoreLaws.{StoreLaws}
 use Rattle.session.proofs.KeptStores.{unput, stands_still}
@@ -144,7 +143,7 @@ module _ (laws : StoreLaws) (w : Outside) (durable : BothDurable w) (intact : Ar
         (λ never. could_intact (l.otherwise (λ s. never s.history (s.live, s.generation, s.stands, s.small))))
         store_or_none
       where
-        session_intact : (from : Kept) → LeavesSession motorcar_rules from read ended w left
+        session_intact : (from : Kept (Unit {0})) → LeavesSession (replies_over from) from read ended w left
             → AreIntact (image_of left)
         session_intact from k = ⊎_elim
             (intact_for left k.from.history) (intact_for left k.to.history) k.leaves.files

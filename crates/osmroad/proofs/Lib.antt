@@ -34,3 +34,4 @@ pub mod RefusedSessions
 pub mod WellEndedSessions
 pub mod IntactStops
 pub mod BuiltSessions
+pub mod ServedOpenings

@@ -1,11 +1,11 @@
 -- A session over the two files: how it ends, and what a stop leaves.
 use Rattle.std.proofs.Common.{◌≡◌, ◌⊎◌, inl, inr, ℕ, List, [], ◌++◌, length, take, Option, Bool, IfSome}
 use Rattle.std.proofs.Common.{Ok, refl, sym, ◌∙◌, ap, subst}
+use Rattle.std.proofs.lemmas.Bool.{eqb-true}
 use Rattle.std.proofs.lemmas.List.{append-nil}
 use Rattle.std.specs.Io.{StartsWith}
 use Rattle.road_base.specs.History.{History}
-use Rattle.road_model.specs.Rules.{Rules}
-use Rattle.access_profile.specs.Motorcar.{motorcar_rules}
+use Rattle.access_profile.specs.Profiles.{rules_of}
 use Rattle.road_io.specs.Told.{Told}
 use Rattle.road_io.specs.Outside.{Outside, Left, IsLeft, LeavesOnly, present}
 use Rattle.road_io.proofs.ToldCalls.{told_then, told_gives}
@@ -15,19 +15,22 @@ use Rattle.sequence_journal.specs.Standing.{history_bytes}
 use Rattle.store_switch.specs.LiveFile.{reads_of}
 use Rattle.store_switch.specs.TwoFiles.{LeavesStore}
 use Rattle.store_switch.specs.StoreLoading.{StoreLoaded, LeavesAlike, LoadsStore}
+use Rattle.session_answers.specs.Replies.{Replies}
+use Rattle.session_replies.specs.Replies.{road_replies}
 use Rattle.session.specs.declared.end.End.{End}
 use Rattle.session.specs.declared.end.End.TheVariants.{Done as DoneEnd, Unfinished, ReadFault as ReadFaultEnd}
 use Rattle.session.specs.declared.end.End.TheVariants.{SiteFault as SiteFaultEnd, Limit as LimitEnd}
 use Rattle.session.specs.declared.end.End.TheVariants.{NoMemory as NoMemoryEnd}
 use Rattle.session.specs.Conversation.{Kept, Start, room_at}
 use Rattle.session.specs.Endings.{OfNothing}
-use Rattle.session.specs.Conversing.{IsOpening, opening_of, LeavesReply, LeavesSession, PutsAll, PutsFront, EndsWith}
+use Rattle.session.specs.Conversing.{IsReadyAt, LeavesReply, LeavesSession, PutsAll, PutsFront, EndsWith}
 use Rattle.session.specs.Conversing.{SessionEnds, IsAtEnd, CountsReads, CountsCalls}
 use Rattle.osmroad.specs.declared.status.Status.{Status}
 use Rattle.osmroad.specs.declared.status.Status.TheVariants.{ReadFault, SiteFault}
 use Rattle.osmroad.specs.Opening.{Files, IsStore}
 use Rattle.osmroad.specs.StoreLaws.{StoreLaws}
-use Rattle.osmroad.specs.Sessions.{end_status, IsServed, AnswersFaults, Serves, opening, OfStore, LeavesServed}
+use Rattle.osmroad.specs.Sessions.{end_status, IsServed, AnswersFaults, IsOpening, Serves, opening, replies_over}
+use Rattle.osmroad.specs.Sessions.{OfStore, LeavesServed}
 use Rattle.osmroad.specs.Sessions.{SessionRuns, ReadsSession, EndsSession}
 use Rattle.session.proofs.OutputFronts.{starts_whole}
 use Rattle.osmroad.proofs.LoadedStores.{same_history, loaded_store}
@@ -76,8 +79,8 @@ is_served end status is = subst IsServed (sym is) (ended_served end)
 
 -- ---- what was put by a session, since the run began
 
-module _ (P : Rules) (from : Kept) (read : List ℕ) (ended : Bool) (w u : Outside) (same : u.output ≡ w.output) where
-  all_put_since : (end : End) (v : Outside) → PutsAll P from read ended end u v → PutsAll P from read ended end w v
+module _ (R : Replies (Unit {0})) (from : Kept (Unit {0})) (read : List ℕ) (ended : Bool) (w u : Outside) (same : u.output ≡ w.output) where
+  all_put_since : (end : End) (v : Outside) → PutsAll R from read ended end u v → PutsAll R from read ended end w v
   all_put_since end v p = record {
     out = p.out;
     to = p.to;
@@ -86,7 +89,7 @@ module _ (P : Rules) (from : Kept) (read : List ℕ) (ended : Bool) (w u : Outsi
     stand = p.stand;
   }
 
-  front_put_since : (v : Outside) → PutsFront P from read ended u v → PutsFront P from read ended w v
+  front_put_since : (v : Outside) → PutsFront R from read ended u v → PutsFront R from read ended w v
   front_put_since v p = record {
     said = p.said;
     reply = p.reply;
@@ -97,7 +100,7 @@ module _ (P : Rules) (from : Kept) (read : List ℕ) (ended : Bool) (w u : Outsi
     grows = p.grows ∙ ap (λ (l : List ℕ). l ++ (p.said ++ take p.n p.reply)) same;
   }
 
-  ends_since : (end : End) (v : Outside) → EndsWith P from read ended end u v → EndsWith P from read ended end w v
+  ends_since : (end : End) (v : Outside) → EndsWith R from read ended end u v → EndsWith R from read ended end w v
   ends_since DoneEnd v p = all_put_since DoneEnd v p
   ends_since Unfinished v p = all_put_since Unfinished v p
   ends_since ReadFaultEnd v p = all_put_since ReadFaultEnd v p
@@ -105,7 +108,7 @@ module _ (P : Rules) (from : Kept) (read : List ℕ) (ended : Bool) (w u : Outsi
   ends_since LimitEnd v p = all_put_since LimitEnd v p
   ends_since NoMemoryEnd v p = front_put_since v p
 
-  leaves_since : (left : Left) → LeavesSession P from read ended u left → LeavesSession P from read ended w left
+  leaves_since : (left : Left) → LeavesSession R from read ended u left → LeavesSession R from read ended w left
   leaves_since left l = record {
     said = l.said;
     reply = l.reply;
@@ -118,9 +121,9 @@ module _ (P : Rules) (from : Kept) (read : List ℕ) (ended : Bool) (w u : Outsi
 -- ---- each moment of the load
 
 -- a session that has said nothing yet
-silent_session : (P : Rules) (from : Kept) (read : List ℕ) (ended : Bool) (w : Outside) (left : Left)
-    → LeavesStore from.history w.output left → LeavesSession P from read ended w left
-silent_session P from read ended w left store =
+silent_session : (R : Replies (Unit {0})) (from : Kept (Unit {0})) (read : List ℕ) (ended : Bool) (w : Outside) (left : Left)
+    → LeavesStore from.history w.output left → LeavesSession R from read ended w left
+silent_session R from read ended w left store =
     let one : w.output ++ [] ≡ w.output = append-nil w.output in
     let two : (w.output ++ []) ++ [] ≡ w.output = append-nil (w.output ++ []) ∙ one in
     record {
@@ -151,7 +154,7 @@ module _ (laws : StoreLaws) where
     otherwise = λ never. record { a = there.a; b = there.b };
   }
   load_served read ended w left (inr alike) = record {
-    stored = λ s. inr (silent_session motorcar_rules (opening s) read ended w left
+    stored = λ s. inr (silent_session (replies_over (opening s)) (opening s) read ended w left
         (subst (λ (h : History). LeavesStore h w.output left)
         (same_history laws (reads_of w) alike.0 s.history alike.1 (s.live, s.generation, s.stands, s.small)) alike.2));
     otherwise = λ never. absurd (never (record {
@@ -171,18 +174,24 @@ module _ (laws : StoreLaws) where
 
 -- ---- the session behind it
 
-pub opened : (l : Loaded) (w u : Outside) → (k : StoreLoaded l w u) → IsOpening l k.history u
-opened l w u k = record { events = k.events; on_store = k.ready; small = k.kept_small }
+pub opened : (l : Loaded) (w u : Outside) → (k : StoreLoaded l w u) → IsOpening l (opening (loaded_store l w u k)) u
+opened l w u k = record {
+  events = k.events;
+  on_store = k.ready;
+  small = k.kept_small;
+  room = ap room_at (sym k.ready.at.gate);
+}
 
-abbrev pub kept_at : History → ℕ → Kept
-kept_at h gate = record { history = h; room = room_at gate }
+-- the profile of a store is known, and there is one
+pub known_profile : (files : Files) (s : IsStore files) → s.history.profile ≡ 1
+known_profile files s = eqb-true s.history.profile 1 s.stands.stands.begins.fits.profile
 
-pub opening_is : (l : Loaded) (w u : Outside) → (k : StoreLoaded l w u)
-    → opening_of l k.history ≡ opening (loaded_store l w u k)
-opening_is l w u k = ap (λ (gate : ℕ). kept_at k.history gate) k.ready.at.gate
-
-abbrev pub opening_at : ℕ → History → Kept
-opening_at generation h = kept_at h (length (history_bytes generation h))
+abbrev pub opening_at : ℕ → History → Kept (Unit {0})
+opening_at generation h = record {
+  history = h;
+  beside = tt;
+  room = room_at (length (history_bytes generation h));
+}
 
 module _ (laws : StoreLaws) where
   pub same_opening : (files : Files) (s t : IsStore files) → opening s ≡ opening t
@@ -192,27 +201,30 @@ module _ (laws : StoreLaws) where
 
   session_leaves : (read : List ℕ) (ended : Bool) (w u : Outside) → u.output ≡ w.output → (s : IsStore (reads_of w))
       → (left : Left)
-      → LeavesSession motorcar_rules (opening s) read ended u left → LeavesServed read ended w left
+      → LeavesSession (replies_over (opening s)) (opening s) read ended u left → LeavesServed read ended w left
   session_leaves read ended w u same s left l = record {
-    stored = λ t. inr (subst (λ (o : Kept). LeavesSession motorcar_rules o read ended w left)
-        (same_opening (reads_of w) s t) (leaves_since motorcar_rules (opening s) read ended w u same left l));
+    stored = λ t. inr (subst (λ (o : Kept (Unit {0})). LeavesSession (replies_over o) o read ended w left)
+        (same_opening (reads_of w) s t)
+        (leaves_since (replies_over (opening s)) (opening s) read ended w u same left l));
     otherwise = λ never. absurd (never s);
   }
 
   module _ (l : Loaded) (read : List ℕ) (ended : Bool) (end : End) (status : Status) (is : status ≡ end_status end)
     where
       session_runs : (w u v : Outside) → LoadsStore (Ok l) w u
-          → ((h : History) → IsOpening l h u → SessionEnds motorcar_rules (opening_of l h) read ended end u v)
+          → ((o : Kept (Unit {0})) → IsOpening l o u → SessionEnds (road_replies (rules_of 1)) o read ended end u v)
           → SessionRuns read ended status w v
       session_runs w u v load ends =
           let k : StoreLoaded l w u = load.answer in
           let s = loaded_store l w u k in
-          let e : SessionEnds motorcar_rules (opening s) read ended end u v =
-          subst (λ (o : Kept). SessionEnds motorcar_rules o read ended end u v) (opening_is l w u k)
-          (ends k.history (opened l w u k)) in
+          let e : SessionEnds (replies_over (opening s)) (opening s) read ended end u v =
+          subst (λ (n : ℕ). SessionEnds (road_replies (rules_of n)) (opening s) read ended end u v)
+          (sym (known_profile (reads_of w) s)) (ends (opening s) (opened l w u k)) in
           record {
-            puts = OfStore s end is (ends_since motorcar_rules (opening s) read ended w u load.output end v e.puts);
-            stops = then_runs w u v (LeavesServed read ended w) (LeavesSession motorcar_rules (opening s) read ended u)
+            puts = OfStore s end is (ends_since (replies_over (opening s)) (opening s) read ended w u load.output
+                end v e.puts);
+            stops = then_runs w u v (LeavesServed read ended w)
+                (LeavesSession (replies_over (opening s)) (opening s) read ended u)
                 (load_leaves laws read ended w u load.any_moment) e.stops
                 (λ left. session_leaves read ended w u load.output s left);
           }
@@ -231,7 +243,7 @@ module _ (laws : StoreLaws) where
   session_reads NoMemoryEnd bytes read behind all whole = tt
 
   pub store_is_served : (l : Loaded) (status : Status) (held remaining : Option (List ℕ)) (x y z : Option Outside)
-      → Told (LoadsStore (Ok l)) x y → Serves motorcar_rules l status held remaining y z
+      → Told (LoadsStore (Ok l)) x y → Serves (road_replies (rules_of 1)) l status held remaining y z
       → EndsSession status held remaining x z
   store_is_served l status held remaining x y z told serves =
       let c = serves.converses in
@@ -250,13 +262,13 @@ module _ (laws : StoreLaws) where
         reads = subst (λ (s : Status). ReadsSession s c.bytes c.read) (sym serves.is)
             (session_reads serves.end c.bytes c.read c.behind c.all (λ at. (c.source (c.whole at)).0));
         runs = told_then x y z (LoadsStore (Ok l))
-            (λ u v. (h : History) → IsOpening l h u
-            → SessionEnds motorcar_rules (opening_of l h) c.read c.ended serves.end u v)
+            (λ u v. (o : Kept (Unit {0})) → IsOpening l o u
+            → SessionEnds (road_replies (rules_of 1)) o c.read c.ended serves.end u v)
             (SessionRuns c.read c.ended status) told c.ends
             (λ w u v load ends. session_runs l c.read c.ended serves.end status serves.is w u v load ends);
       }
 
 pub store_opens : (l : Loaded) (x y : Option Outside) → Told (LoadsStore (Ok l)) x y
-    → IfSome y (λ w. (h : History) × IsOpening l h w)
-store_opens l x y told = told_gives x y (LoadsStore (Ok l)) (λ w. (h : History) × IsOpening l h w) told
-    (λ w u load. (load.answer.history, opened l w u load.answer))
+    → IfSome y (IsReadyAt (IsOpening l))
+store_opens l x y told = told_gives x y (LoadsStore (Ok l)) (IsReadyAt (IsOpening l)) told
+    (λ w u load. (opening (loaded_store l w u load.answer), opened l w u load.answer))

@@ -4,7 +4,7 @@ use Rattle.std.proofs.Common.{inl, inr, refl, subst}
 use Rattle.road_io.specs.Told.{Rose}
 use Rattle.road_io.specs.Outside.{Outside}
 use Rattle.store_switch.specs.LiveFile.{reads_of}
-use Rattle.access_profile.specs.Motorcar.{motorcar_rules}
+use Rattle.session_answers.specs.Replies.{Replies}
 use Rattle.session.specs.declared.end.End.{End}
 use Rattle.session.specs.declared.end.End.TheVariants.{Done as DoneEnd, Unfinished, ReadFault as ReadFaultEnd}
 use Rattle.session.specs.declared.end.End.TheVariants.{SiteFault as SiteFaultEnd, Limit as LimitEnd}
@@ -21,7 +21,7 @@ use Rattle.osmroad.specs.Run.{IsReadable, files_of}
 use Rattle.osmroad.specs.Requests.{RunCanBeDone}
 use Rattle.osmroad.specs.StoreLaws.{OneLive}
 use Rattle.osmroad.specs.Sessions.{AnswersFaults, ReadsSession, SessionPuts, EndsSession, EndsWell}
-use Rattle.osmroad.specs.Sessions.{end_status, opening}
+use Rattle.osmroad.specs.Sessions.{end_status, opening, replies_over}
 use Rattle.osmroad.proofs.HeldSource.{same_held}
 use Rattle.osmroad.proofs.Refusals.{readable_not_refused}
 
@@ -30,34 +30,36 @@ abbrev pub IsDone : Status → Type 0
 IsDone status = (status ≡ Done) ⊎ (status ≡ NoMemory)
 
 -- a session ends inside a frame only where its source ended
-unfinished_saying : (from : Kept) (before : ℕ) (rest : List ℕ) (ended : Bool) (end : End) (out : List ℕ) (to : Kept)
-    → EndsSaying motorcar_rules from before rest ended end out to → end ≡ Unfinished → ended ≡ true
-unfinished_saying from before rest ended end out to (OfEnd at_end none is o t) same = at_end
-unfinished_saying from before rest ended end out to (OfLast at_end p m l r is) same = at_end
-unfinished_saying from before rest ended end out to (OfUnfinished at_end p n u is o t) same = at_end
-unfinished_saying from before rest ended end out to (OfTooMuch s is o t) same = absurd (cc)
-unfinished_saying from before rest ended end out to (OfFull m taken more a b small full is o t) same = absurd (cc)
-unfinished_saying from before rest ended end out to (OfFullLast at_end p m l full is o t) same = at_end
-unfinished_saying from before rest ended end out to (OfReadFault p is o t) same = absurd (cc)
+unfinished_saying : (R : Replies (Unit {0})) (from : Kept (Unit {0})) (before : ℕ) (rest : List ℕ) (ended : Bool)
+    (end : End) (out : List ℕ) (to : Kept (Unit {0}))
+    → EndsSaying R from before rest ended end out to → end ≡ Unfinished → ended ≡ true
+unfinished_saying R from before rest ended end out to (OfEnd at_end none is o t) same = at_end
+unfinished_saying R from before rest ended end out to (OfLast at_end p m l r is) same = at_end
+unfinished_saying R from before rest ended end out to (OfUnfinished at_end p n u is o t) same = at_end
+unfinished_saying R from before rest ended end out to (OfTooMuch s is o t) same = absurd (cc)
+unfinished_saying R from before rest ended end out to (OfFull m taken more a b small full is o t) same = absurd (cc)
+unfinished_saying R from before rest ended end out to (OfFullLast at_end p m l full is o t) same = at_end
+unfinished_saying R from before rest ended end out to (OfReadFault p is o t) same = absurd (cc)
 
-unfinished_at_end : (opening : Kept) (read : List ℕ) (ended : Bool) (out : List ℕ) (to : Kept)
-    → SessionGives motorcar_rules opening read ended Unfinished out to → ended ≡ true
-unfinished_at_end opening read ended out to g =
-    unfinished_saying g.from (length g.front) g.rest ended Unfinished g.last to g.ends refl
+unfinished_at_end : (R : Replies (Unit {0})) (opening : Kept (Unit {0})) (read : List ℕ) (ended : Bool) (out : List ℕ)
+    (to : Kept (Unit {0}))
+    → SessionGives R opening read ended Unfinished out to → ended ≡ true
+unfinished_at_end R opening read ended out to g =
+    unfinished_saying R g.from (length g.front) g.rest ended Unfinished g.last to g.ends refl
 
 module _ (bytes read behind : List ℕ) (all : bytes ≡ read ++ behind) (ended : Bool)
     (source : ended ≡ true → behind ≡ []) (status : Status) (reads : ReadsSession status bytes read)
     (no_read_fault : status ≡ ReadFault → ⊥) (no_site_fault : status ≡ SiteFault → ⊥) (w v : Outside) where
   -- a session over a store passes no limit, and doesn't end inside a frame
   served_done : EndsWell (reads_of w) bytes → (s : IsStore (reads_of w)) (end : End) → status ≡ end_status end
-      → EndsWith motorcar_rules (opening s) read ended end w v → IsDone status
+      → EndsWith (replies_over (opening s)) (opening s) read ended end w v → IsDone status
   served_done well s DoneEnd is ends = inl is
   served_done well s Unfinished is ends =
       let whole : read ≡ bytes = subst (λ (x : Status). ReadsSession x bytes read) is reads in
-      let sound : ended ≡ true = unfinished_at_end (opening s) read ended ends.out ends.to ends.gives in
+      let sound : ended ≡ true = unfinished_at_end (replies_over (opening s)) (opening s) read ended ends.out ends.to ends.gives in
       absurd (well.finished s ends.out ends.to
-      (subst (λ (b : Bool). SessionGives motorcar_rules (opening s) bytes b Unfinished ends.out ends.to) sound
-      (subst (λ (l : List ℕ). SessionGives motorcar_rules (opening s) l ended Unfinished ends.out ends.to) whole
+      (subst (λ (b : Bool). SessionGives (replies_over (opening s)) (opening s) bytes b Unfinished ends.out ends.to) sound
+      (subst (λ (l : List ℕ). SessionGives (replies_over (opening s)) (opening s) l ended Unfinished ends.out ends.to) whole
       ends.gives)))
   served_done well s ReadFaultEnd is ends = absurd (no_read_fault is)
   served_done well s SiteFaultEnd is ends = absurd (no_site_fault is)

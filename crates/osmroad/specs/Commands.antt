@@ -3,7 +3,7 @@ use Rattle.std.specs.Prelude.{ℕ, List, [], ◌∷◌, Option, Some, None, Bool
 use Rattle.std.specs.Prelude.{bytes_eq, codes, if◌then◌else◌, ◌^◌, ◌-◌}
 use Rattle.std.specs.Option.{option_and_then}
 use Rattle.opl_lexer.specs.Letters.{minus_sign}
-use Rattle.drive_queries.specs.Messages.{number_below}
+use Rattle.opl_lexer.specs.Numbers.{number_below}
 use Rattle.osmroad.specs.declared.command.Command.{Command}
 use Rattle.osmroad.specs.declared.command.Command.TheVariants.{Compile, Inspect, Sample, Create, Apply}
 use Rattle.osmroad.specs.declared.command.Command.TheVariants.{Graph, Audit, Checkpoint}

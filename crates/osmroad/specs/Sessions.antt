@@ -1,17 +1,20 @@
 -- How a run ends that is asked for a session: what was read and put, for what the files then stand, and what a stop
 -- leaves.
-use Rattle.std.specs.Prelude.{◌≡◌, ◌≢◌, ◌⊎◌, ℕ, ◌+◌, ◌<◌, List, [], ◌++◌, length, take, Option, Some, Bool, true}
-use Rattle.road_base.specs.History.{HasObjects}
+use Rattle.std.specs.Prelude.{◌≡◌, ◌≢◌, ◌⊎◌, ℕ, ◌+◌, ◌<◌, ◌≤◌, ◌^◌, List, [], ◌++◌, length, take, Option}
+use Rattle.std.specs.Prelude.{Some, Bool, true}
+use Rattle.road_base.specs.History.{HasObjects, all_events}
 use Rattle.road_base.specs.Objects.{Objects}
-use Rattle.road_model.specs.Rules.{Rules}
 use Rattle.road_model.specs.Highways.{highways}
-use Rattle.access_profile.specs.Motorcar.{motorcar_rules}
+use Rattle.access_profile.specs.Profiles.{rules_of}
 use Rattle.road_io.specs.Told.{Told, Rose}
 use Rattle.road_io.specs.Outside.{Outside, Left, LeavesOnly}
 use Rattle.sequence_journal.specs.declared.load.Loaded.{Loaded}
 use Rattle.sequence_journal.specs.Standing.{history_bytes}
 use Rattle.store_switch.specs.LiveFile.{reads_of}
+use Rattle.store_switch.specs.TwoFiles.{IsOnStore}
 use Rattle.store_switch.specs.StoreLoading.{StillRead, StillStands}
+use Rattle.session_answers.specs.Replies.{Replies}
+use Rattle.session_replies.specs.Replies.{road_replies, road_costs}
 use Rattle.session.specs.declared.end.End.{End}
 use Rattle.session.specs.declared.end.End.TheVariants.{Done as DoneEnd, Unfinished, ReadFault as ReadFaultEnd}
 use Rattle.session.specs.declared.end.End.TheVariants.{SiteFault as SiteFaultEnd, Limit as LimitEnd}
@@ -63,18 +66,45 @@ pub record AnswersFaults (fault status : Status) (before now : ℕ) : Type 0 whe
 
 -- ---- over a store that was loaded
 
+-- What a session may open with over a store that was loaded: its events are those of a history, for which the journal
+-- stands on the files, of which the live one has at most 2^40 bytes; and the room is that behind the next gate.
+pub record IsOpening (loaded : Loaded) (opening : Kept (Unit {0})) (w : Outside) : Type 0 where
+  pub events : loaded.events.items ≡ all_events opening.history
+  pub on_store : IsOnStore loaded.journal opening.history w
+  pub small : length (reads_of w loaded.journal.file) ≤ 2 ^ 40
+  pub room : opening.room ≡ room_at loaded.journal.gate
+
 -- a session ended, and this is the status that says how
-pub record Serves (P : Rules) (loaded : Loaded) (status : Status) (held remaining : Option (List ℕ))
+pub record Serves (R : Replies (Unit {0})) (loaded : Loaded) (status : Status) (held remaining : Option (List ℕ))
     (before now : Option Outside) : Type 0 where
   pub end : End
   pub is : status ≡ end_status end
-  pub converses : Converses P loaded end held remaining before now
+  pub converses : Converses R (IsOpening loaded) end held remaining before now
+
+-- It builds no more blocks than the objects of the store have visible ways with the key `highway`, and for each
+-- accepted frame whole in what was read the ways that it touches. It is said where source and site tell.
+abbrev pub ServesBuilding : Loaded → (no_read_failed : Type 0) → Option (List ℕ) → Option (List ℕ) → Option Outside → ℕ
+    → ℕ → Type 0
+ServesBuilding loaded no_read_failed held remaining before old new =
+    (bytes behind : List ℕ) (w : Outside) (opening : Kept (Unit {0})) (M : Objects)
+    → held ≡ Some bytes → remaining ≡ Some behind → before ≡ Some w → IsOpening loaded opening w
+    → HasObjects opening.history M
+    → (read : List ℕ) × (bytes ≡ read ++ behind)
+    × BuildsOf road_costs opening read behind no_read_failed (old + length (highways M)) new
 
 -- ---- over the two files
 
 -- what is kept when the session opens: the history of the files, and the room behind the next gate of the live one
-abbrev pub opening : {files : Files} → IsStore files → Kept
-opening s = record { history = s.history; room = room_at (length (history_bytes s.generation s.history)) }
+abbrev pub opening : {files : Files} → IsStore files → Kept (Unit {0})
+opening s = record {
+  history = s.history;
+  beside = tt;
+  room = room_at (length (history_bytes s.generation s.history));
+}
+
+-- what lines are answered with in a session that opens so: under the rules of its history's profile
+abbrev pub replies_over : Kept (Unit {0}) → Replies (Unit {0})
+replies_over kept = road_replies (rules_of kept.history.profile)
 
 -- The line was put that says why the files aren't loaded: all of it, under its status; or a front of it, where the site
 -- failed.
@@ -87,7 +117,7 @@ PutsLine line why status w v = ((status ≡ why) × (v.output ≡ w.output ++ li
 -- loaded, for a fault of the site or for want of memory.
 pub data SessionPuts (read : List ℕ) (ended : Bool) (status : Status) (w v : Outside) : Type 0 where
   OfStore : (s : IsStore (reads_of w)) → (end : End) → status ≡ end_status end
-      → EndsWith motorcar_rules (opening s) read ended end w v → SessionPuts read ended status w v
+      → EndsWith (replies_over (opening s)) (opening s) read ended end w v → SessionPuts read ended status w v
   OfRefusal : read ≡ [] → (why : Status) (line : List ℕ) → StoreRefusal (reads_of w) why line
       → PutsLine line why status w v → StillRead w v → SessionPuts read ended status w v
   OfFault : read ≡ [] → status ≡ SiteFault → v.output ≡ w.output → StillRead w v ⊎ StillStands w v
@@ -98,7 +128,7 @@ pub data SessionPuts (read : List ℕ) (ended : Bool) (status : Status) (w v : O
 -- that opens with it. Other files are left as they could be when the run began.
 pub record LeavesServed (read : List ℕ) (ended : Bool) (w : Outside) (left : Left) : Type 0 where
   pub stored : (s : IsStore (reads_of w))
-      → LeavesFirst w left s.history ⊎ LeavesSession motorcar_rules (opening s) read ended w left
+      → LeavesFirst w left s.history ⊎ LeavesSession (replies_over (opening s)) (opening s) read ended w left
   pub otherwise : (IsStore (reads_of w) → ⊥) → CouldLeave w left
 
 -- what was put, and what a stop at any moment of the run leaves
@@ -134,11 +164,11 @@ pub record EndsSession (status : Status) (held remaining : Option (List ℕ)) (b
 -- No front of the bytes passes a limit in the session that opens with the store, of which only all of them end with the
 -- source, and the bytes don't end inside a frame.
 pub record EndsWell (files : Files) (bytes : List ℕ) : Type 0 where
-  pub within : (s : IsStore files) (read behind : List ℕ) (ended : Bool) (out : List ℕ) (to : Kept)
+  pub within : (s : IsStore files) (read behind : List ℕ) (ended : Bool) (out : List ℕ) (to : Kept (Unit {0}))
       → bytes ≡ read ++ behind → (ended ≡ true → behind ≡ [])
-      → SessionGives motorcar_rules (opening s) read ended LimitEnd out to → ⊥
-  pub finished : (s : IsStore files) (out : List ℕ) (to : Kept)
-      → SessionGives motorcar_rules (opening s) bytes true Unfinished out to → ⊥
+      → SessionGives (replies_over (opening s)) (opening s) read ended LimitEnd out to → ⊥
+  pub finished : (s : IsStore files) (out : List ℕ) (to : Kept (Unit {0}))
+      → SessionGives (replies_over (opening s)) (opening s) bytes true Unfinished out to → ⊥
 
 -- ---- how many blocks are built
 
@@ -149,5 +179,5 @@ SessionRunBuilds status held remaining before old new = (bytes behind : List ℕ
     → held ≡ Some bytes → remaining ≡ Some behind → before ≡ Some w
     → ((s : IsStore (reads_of w)) (M : Objects) → HasObjects s.history M
     → (read : List ℕ) × (bytes ≡ read ++ behind)
-    × BuildsOf (opening s) read behind (status ≢ ReadFault) (old + length (highways M)) new)
+    × BuildsOf road_costs (opening s) read behind (status ≢ ReadFault) (old + length (highways M)) new)
     × ((IsStore (reads_of w) → ⊥) → new ≡ old)

@@ -4,7 +4,8 @@ use Rattle.std.specs.Fmt.{decimal}
 use Rattle.opl_lexer.specs.Letters.{newline}
 use Rattle.opl_lexer.specs.Reading.{FaultAt}
 use Rattle.drive_queries.specs.declared.totals.Totals.{Totals}
-use Rattle.reply_lines.specs.Texts.{counts_bytes, kind_name}
+use Rattle.opl_objects.specs.Texts.{kind_name}
+use Rattle.reply_lines.specs.Texts.{counts_bytes}
 use Rattle.road_io.specs.declared.outside.Which.{Which}
 use Rattle.road_io.specs.declared.outside.Which.TheVariants.{A, B}
 

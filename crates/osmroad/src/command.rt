@@ -4,7 +4,7 @@ ghost use Rattle.osmroad.specs.Commands.{asked, asks_session, asked_command};
 ghost use Rattle.osmroad.specs.Commands.{asked_by_two, asked_by_three, asked_without, asked_alone};
 ghost use Rattle.osmroad.specs.Commands.{asked_sample, asked_numbered, asked_base, is_store};
 
-use drive_queries::long_number;
+use opl_lexer::long_number;
 use road_base::Sequence;
 
 /// What a run is asked for.

@@ -1,26 +1,28 @@
 //! A session over the store on the site.
 ghost use Rattle.std.specs.Prelude.{◌≡◌, ◌≢◌, ◌⊎◌, ℕ, [], Option, Err, false, IfSome};
-ghost use Rattle.road_base.specs.History.{History};
-ghost use Rattle.access_profile.specs.Motorcar.{motorcar_rules};
+ghost use Rattle.road_base.specs.Profiles.{IsProfile};
 ghost use Rattle.road_io.specs.Told.{Told};
 ghost use Rattle.road_io.specs.Outside.{Outside};
 ghost use Rattle.sequence_journal.specs.declared.load.Loaded.{Loaded as LoadedStore};
 ghost use Rattle.sequence_journal.specs.Journal.{CountsFaults};
 ghost use Rattle.store_switch.specs.StoreLoading.{IsLoadError, LoadsStore};
-ghost use Rattle.session.specs.Conversing.{IsOpening};
-ghost use Rattle.session.specs.Building.{SessionBuilds};
-ghost use Rattle.osmroad.specs.Sessions.{end_status, IsServed, IsNotServed, AnswersFaults};
-ghost use Rattle.osmroad.specs.Sessions.{Serves, SessionRuns, EndsSession, SessionRunBuilds};
+ghost use Rattle.session.specs.Conversing.{IsReadyAt};
+ghost use Rattle.session_replies.specs.Replies.{road_replies};
+ghost use Rattle.osmroad.specs.Sessions.{end_status, IsServed, IsNotServed, IsOpening, AnswersFaults};
+ghost use Rattle.osmroad.specs.Sessions.{Serves, ServesBuilding, SessionRuns, EndsSession, SessionRunBuilds};
 
 use crate::laws::store_laws;
+use crate::profiles::profile_of_run;
 use crate::reply::{put_last, refuse_store};
 use crate::status::Status;
-use access_profile::Motorcar;
-use road_base::Steps;
+use change_apply::Engine;
+use road_base::{NoMemory, Steps};
 use road_io::{Site, Source};
 use road_model::Profile;
 use sequence_journal::{JournalError, Loaded};
+use session::laws::nothing_read;
 use session::{End, converse};
+use session_replies::RoadAnswerer;
 use std::alloc::Global;
 use std::sync::ledger::Ledger;
 use store_switch::load_store;
@@ -38,9 +40,10 @@ fn status_of(end: End) -> Status
     }
 }
 
-/// Answers the messages on the source until it ends, over the store that was loaded, and keeps each accepted change in
-/// it. Answers Done where all of them are answered, Refused where the source ends inside a frame, ReadFault and
-/// SiteFault where a read or a call on the site failed, Limit where a limit is passed, and NoMemory.
+/// Answers the messages on the source until it ends, for the profile, over the store that was loaded, and keeps each
+/// accepted change in it. Answers Done where all of them are answered, Refused where the source ends inside a frame,
+/// ReadFault and SiteFault where a read or a call on the site failed, Limit where a limit is passed, and NoMemory. Where
+/// no memory is found for the objects and their blocks, nothing is read.
 pub fn serve<P: Profile, S: Source, W: Site, L: Ledger>(
     alloc: Global,
     profile: P,
@@ -49,18 +52,25 @@ pub fn serve<P: Profile, S: Source, W: Site, L: Ledger>(
     site: &mut W,
     steps: &mut Steps<L>,
 ) -> Status
-    requires number { (P.rules profile).number ≡ 1 }
+    requires known { IsProfile (P.rules profile).number }
     requires not_closed { loaded.journal.closed ≡ false }
-    requires opens { IfSome (W.outside site.old) (λ w. (h : History) × IsOpening loaded h w) }
-    ensures serves { Serves (P.rules profile) loaded result (S.bytes_left source.old) (S.bytes_left source.new)
-        (W.outside site.old) (W.outside site.new) }
-    ensures builds { SessionBuilds loaded (result ≢ Status.ReadFault) (S.bytes_left source.old)
+    requires opens { IfSome (W.outside site.old) (IsReadyAt (IsOpening loaded)) }
+    ensures serves { Serves (road_replies (P.rules profile)) loaded result (S.bytes_left source.old)
+        (S.bytes_left source.new) (W.outside site.old) (W.outside site.new) }
+    ensures builds { ServesBuilding loaded (result ≢ Status.ReadFault) (S.bytes_left source.old)
         (S.bytes_left source.new) (W.outside site.old) steps.old steps.new }
     ensures reads { AnswersFaults Status.ReadFault result (S.faults source.old) (S.faults source.new) }
     ensures calls { AnswersFaults Status.SiteFault result (W.faults site.old) (W.faults site.new) }
     ensures named { IsServed result }
 {
-    status_of(converse(alloc, profile, loaded, source, site, steps))
+    nothing_read::<RoadAnswerer<P>>();
+    let Loaded { journal, events } = loaded;
+    let engine = match Engine::load(alloc, profile, events, steps) {
+        Ok(engine) => engine,
+        Err(NoMemory) => return Status::NoMemory,
+    };
+    let answerer = RoadAnswerer::new(alloc, engine);
+    status_of(converse(alloc, answerer, journal, source, site, steps))
 }
 
 /// Says why the store isn't loaded.
@@ -79,7 +89,7 @@ fn refuse<W: Site>(alloc: Global, site: &mut W, error: JournalError) -> Status
     }
 }
 
-/// Loads the store, and answers the messages on the source over it, for a motorcar.
+/// Loads the store, and answers the messages on the source over it, for the profile of the run.
 pub fn serve_store<S: Source, W: Site, L: Ledger>(
     alloc: Global,
     source: &mut S,
@@ -96,7 +106,7 @@ pub fn serve_store<S: Source, W: Site, L: Ledger>(
 {
     store_laws();
     match load_store(alloc, site) {
-        Ok(loaded) => serve(alloc, Motorcar, loaded, source, site, steps),
+        Ok(loaded) => serve(alloc, profile_of_run(), loaded, source, site, steps),
         Err(error) => refuse(alloc, site, error),
     }
 }
