@@ -5,9 +5,9 @@ ghost use Rattle.opl_lexer.specs.Letters.{newline};
 ghost use Rattle.opl_lexer.specs.Parts.{Lacks};
 ghost use Rattle.session_input.specs.Sizes.{frame_size};
 
+use crate::line::Line;
 use crate::lines::{first_line, held_line, lent_line};
 use crate::next::{Next, take_inside, take_outside};
-use crate::line::Line;
 use crate::open_frame::OpenFrame;
 use crate::received::{Ending, InputStop, Received};
 use std::alloc::Global;
