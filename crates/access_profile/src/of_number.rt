@@ -1,5 +1,5 @@
 //! The profile of a number.
-ghost use Rattle.std.specs.Prelude.{◌≡◌, IfSome, IfNone, ⊥};
+ghost use Rattle.std.specs.Prelude.{◌≡◌, IfSome, IfNone};
 ghost use Rattle.road_base.specs.Profiles.{IsProfile};
 ghost use Rattle.access_profile.specs.NeedsHighway.{highway_of_free};
 ghost use Rattle.access_profile.specs.Profiles.{rules_of};

@@ -19,10 +19,10 @@ use Rattle.road_model.specs.Walks.{WalksTo, Start, Go}
 use Rattle.road_model.specs.Blocks.{name_of}
 use Rattle.road_model.specs.Naming.{OnePiece}
 use Rattle.road_model.proofs.WalkLists.{spell_pieces-push}
-use Rattle.context_search.specs.declared.ends.Start.{Start as StartAt}
+use Rattle.context_search.specs.declared.ends.Begin.{Begin}
 use Rattle.context_search.specs.declared.ends.Goal.{Goal}
 use Rattle.context_search.specs.declared.marks.Origin.TheVariants.{Follows}
-use Rattle.context_search.specs.declared.marks.Visit.{Visit}
+use Rattle.context_search.specs.declared.marks.TreeVisit.{TreeVisit}
 use Rattle.context_search.specs.Marks.{At, key_of}
 use Rattle.context_search.specs.Reaching.{LeadsTo}
 use Rattle.context_search.specs.Searching.{BeginsAt, LeadsAlong, along_pieces}
@@ -36,10 +36,10 @@ use Rattle.context_search.proofs.SearchTargets.{arc_of, arc_target, same_context
 drop_first : (x y z : List Step) (n : ℕ) → n < length x → drop n ((x ++ y) ++ z) ≡ drop n x ++ (y ++ z)
 drop_first x y z n h = ap (drop n) (append_assoc x y z) ∙ drop-append-le n x (y ++ z) (omega arith)
 
-module _ (M : Objects) (P : Rules) (L : List At) (visits : List Visit) (a : NodeId) (first : ℕ) where
+module _ (M : Objects) (P : Rules) (L : List At) (visits : List TreeVisit) (a : NodeId) (first : ℕ) where
   -- the pieces of the visits at these places are those of a walk from the node to the context of the visit at place k
   pub record Driven (places : List ℕ) (k : ℕ) : Type 0 where
-    pub visit : Visit
+    pub visit : TreeVisit
     pub at : slice_get visits k ≡ Some visit
     pub spot : At
     pub spot_at : slice_get L visit.number ≡ Some spot
@@ -52,11 +52,11 @@ module _ (M : Objects) (P : Rules) (L : List At) (visits : List Visit) (a : Node
     pub spells : flat_map (steps_at L visits) places ≡ spell_pieces (piece ∷ whole)
 
   module _ (one : OnePiece M P) (are : AreSpots M P L) where
-    spot_steps : (k : ℕ) (v : Visit) (x : At) → slice_get visits k ≡ Some v → slice_get L v.number ≡ Some x
+    spot_steps : (k : ℕ) (v : TreeVisit) (x : At) → slice_get visits k ≡ Some v → slice_get L v.number ≡ Some x
         → (b : List Span) (q : Span) → IsSpot M P (b ++ q ∷ []) x → steps_at L visits k ≡ spell q
     spot_steps k v x at x_at b q s = steps_known L visits k v x at x_at ∙ spot_spelled M P b q x s
 
-    driven_one : (starts : List StartAt) → AreStarts M P a starts → (k : ℕ) (v : Visit) → slice_get visits k ≡ Some v
+    driven_one : (starts : List Begin) → AreStarts M P a starts → (k : ℕ) (v : TreeVisit) → slice_get visits k ≡ Some v
         → Begun L starts v.number first → Driven (k ∷ []) k
     driven_one starts start k v at begun =
         let s = start.sound begun.start begun.is in
@@ -81,7 +81,7 @@ module _ (M : Objects) (P : Rules) (L : List At) (visits : List Visit) (a : Node
         }
 
     -- an arc from the context of what was driven leads to the one of the visit at place k
-    driven_arc : (js : List ℕ) (j : ℕ) → (d : Driven js j) → (k : ℕ) (v : Visit) → slice_get visits k ≡ Some v
+    driven_arc : (js : List ℕ) (j : ℕ) → (d : Driven js j) → (k : ℕ) (v : TreeVisit) → slice_get visits k ≡ Some v
         → (arc : TurnArc) → Contains d.spot.context.arcs arc → LeadsBy L d.spot arc v.number
         → Driven (js ++ k ∷ []) k
     driven_arc js j d k v at arc has leads =
@@ -114,23 +114,23 @@ module _ (M : Objects) (P : Rules) (L : List At) (visits : List Visit) (a : Node
               ∙ sym (spell_pieces-push (d.piece ∷ d.whole) r.piece);
         }
 
-    driven_more : (js : List ℕ) (j : ℕ) → (d : Driven js j) → (k : ℕ) (v : Visit) → slice_get visits k ≡ Some v
+    driven_more : (js : List ℕ) (j : ℕ) → (d : Driven js j) → (k : ℕ) (v : TreeVisit) → slice_get visits k ≡ Some v
         → Comes L visits j v.number → Driven (js ++ k ∷ []) k
     driven_more js j d k v at c =
         let same : c.before ≡ d.visit = one_stands visits j c.before d.visit c.at d.at in
         let from_at : slice_get L d.visit.number ≡ Some c.from
-        = subst (λ (w : Visit). slice_get L w.number ≡ Some c.from) same c.from_at in
+        = subst (λ (w : TreeVisit). slice_get L w.number ≡ Some c.from) same c.from_at in
         let spot : c.from ≡ d.spot = one_stands L d.visit.number c.from d.spot from_at d.spot_at in
         driven_arc js j d k v at c.arc (subst (λ (x : At). Contains x.context.arcs c.arc) spot c.has)
         (subst (λ (x : At). LeadsBy L x c.arc v.number) spot c.leads)
 
-    module _ (m : Marks) (same : m.visits ≡ visits) (starts : List StartAt) (start : AreStarts M P a starts)
+    module _ (m : Marks) (same : m.visits ≡ visits) (starts : List Begin) (start : AreStarts M P a starts)
         (search : IsSearch L m) (begun : AreBegun L starts m) where
-      stood : (k : ℕ) (v : Visit) → slice_get visits k ≡ Some v → slice_get m.visits k ≡ Some v
-      stood k v e = subst (λ (l : List Visit). slice_get l k ≡ Some v) (sym same) e
+      stood : (k : ℕ) (v : TreeVisit) → slice_get visits k ≡ Some v → slice_get m.visits k ≡ Some v
+      stood k v e = subst (λ (l : List TreeVisit). slice_get l k ≡ Some v) (sym same) e
 
-      comes : (k j : ℕ) (v : Visit) → slice_get visits k ≡ Some v → v.origin ≡ Follows j → Comes L visits j v.number
-      comes k j v e o = subst (λ (l : List Visit). Comes L l j v.number) same (search.comes k j v (stood k v e) o).1
+      comes : (k j : ℕ) (v : TreeVisit) → slice_get visits k ≡ Some v → v.origin ≡ Follows j → Comes L visits j v.number
+      comes k j v e o = subst (λ (l : List TreeVisit). Comes L l j v.number) same (search.comes k j v (stood k v e) o).1
 
       pub driven : {ks : List ℕ} {k : ℕ} → IsChain visits first ks k → Driven ks k
       driven (One k v e o is) = subst (λ l. Driven l k) (sym is)
@@ -164,7 +164,7 @@ module _ (M : Objects) (P : Rules) (L : List At) (visits : List Visit) (a : Node
       leads_along met route is =
           let same : met.visit ≡ d.visit = one_stands visits place met.visit d.visit met.at d.at in
           let from_at : slice_get L d.visit.number ≡ Some met.from
-          = subst (λ (w : Visit). slice_get L w.number ≡ Some met.from) same met.from_at in
+          = subst (λ (w : TreeVisit). slice_get L w.number ≡ Some met.from) same met.from_at in
           let spot : met.from ≡ d.spot = one_stands L d.visit.number met.from d.spot from_at d.spot_at in
           let has = subst (λ (x : At). Contains x.context.arcs met.arc) spot met.has in
           let to = are.sound met.arc.piece goal met.met in

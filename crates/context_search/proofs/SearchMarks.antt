@@ -14,7 +14,7 @@ use Rattle.road_model.specs.declared.lists.TurnArc.{TurnArc}
 use Rattle.context_search.specs.declared.ends.Goal.{Goal}
 use Rattle.context_search.specs.declared.marks.Origin.{Origin}
 use Rattle.context_search.specs.declared.marks.Origin.TheVariants.{Begins, Follows}
-use Rattle.context_search.specs.declared.marks.Visit.{Visit}
+use Rattle.context_search.specs.declared.marks.TreeVisit.{TreeVisit}
 use Rattle.context_search.specs.Marks.{At}
 use Rattle.context_search.specs.Visits.{Marks, IsSearch, IsVisited, Comes, IsNew, IsMarked, Grows, NoneBegun, unmarked}
 use Rattle.context_search.specs.Visits.{left}
@@ -63,7 +63,7 @@ begun_same m k first v e o = e
 pub begun_again : (l m n : Marks) → NoneBegun l m → NoneBegun m n → NoneBegun l n
 begun_again l m n g h k first v e o = g k first v (h k first v e o) o
 
-module _ (m n : Marks) (stays : (k : ℕ) (v : Visit) → slice_get m.visits k ≡ Some v → slice_get n.visits k ≡ Some v)
+module _ (m n : Marks) (stays : (k : ℕ) (v : TreeVisit) → slice_get m.visits k ≡ Some v → slice_get n.visits k ≡ Some v)
   where
     pub visited_stays : (k : ℕ) → IsVisited m.visits k → IsVisited n.visits k
     visited_stays k h = record { place = h.place; visit = h.visit; at = stays h.place h.visit h.at; of = h.of }
@@ -72,7 +72,7 @@ module _ (m n : Marks) (stays : (k : ℕ) (v : Visit) → slice_get m.visits k �
         → AreFollowed L goals m.visits x arcs → AreFollowed L goals n.visits x arcs
     followed_stays L goals x arcs h a i = let f = h a i in (f.0, (f.1.0, f.1.1, visited_stays f.1.0 f.1.2))
 
-    pub closed_stays : (L : List At) (goals : BTreeMap PieceName Goal) (v : Visit) → IsClosed L goals m.visits v
+    pub closed_stays : (L : List At) (goals : BTreeMap PieceName Goal) (v : TreeVisit) → IsClosed L goals m.visits v
         → IsClosed L goals n.visits v
     closed_stays L goals v h x e = followed_stays L goals x x.context.arcs (h x e)
 
@@ -90,18 +90,18 @@ module _ (m n : Marks) (stays : (k : ℕ) (v : Visit) → slice_get m.visits k �
 -- ---- a context that is marked anew
 
 module _ (L : List At) (number : ℕ) (origin : Origin) (m n : Marks) (new : IsNew number origin m n) where
-  fresh : Visit
+  fresh : TreeVisit
   fresh = record { number = number; origin = origin; driven = new.driven }
 
   visits_are : n.visits ≡ m.visits ++ fresh ∷ []
   unfolding fresh
   visits_are = new.visits
 
-  new_cases : (k : ℕ) (v : Visit) → slice_get n.visits k ≡ Some v
+  new_cases : (k : ℕ) (v : TreeVisit) → slice_get n.visits k ≡ Some v
       → (slice_get m.visits k ≡ Some v) ⊎ ((k ≡ length m.visits) × (v ≡ fresh))
   new_cases k v e = stands_cases m.visits fresh k v (subst (λ vs. slice_get vs k ≡ Some v) visits_are e)
 
-  new_stays : (k : ℕ) (v : Visit) → slice_get m.visits k ≡ Some v → slice_get n.visits k ≡ Some v
+  new_stays : (k : ℕ) (v : TreeVisit) → slice_get m.visits k ≡ Some v → slice_get n.visits k ≡ Some v
   new_stays k v e = subst (λ vs. slice_get vs k ≡ Some v) (sym visits_are) (stands_left m.visits (fresh ∷ []) k v e)
 
   new_last : slice_get n.visits (length m.visits) ≡ Some fresh
@@ -148,11 +148,11 @@ module _ (L : List At) (number : ℕ) (origin : Origin) (m n : Marks) (new : IsN
         | inr i ↦ let b = s.within k i in omega arith
       ]
 
-  new_origin : (v : Visit) (o : Origin) → v ≡ fresh → v.origin ≡ o → origin ≡ o
+  new_origin : (v : TreeVisit) (o : Origin) → v ≡ fresh → v.origin ≡ o → origin ≡ o
   unfolding fresh
   new_origin v o e f = sym (ap (λ w. w.origin) e) ∙ f
 
-  new_number : (v : Visit) → v ≡ fresh → v.number ≡ number
+  new_number : (v : TreeVisit) → v ≡ fresh → v.number ≡ number
   unfolding fresh
   new_number v e = ap (λ w. w.number) e
 
@@ -215,7 +215,7 @@ module _ (L : List At) (number : ℕ) (origin : Origin) (m n : Marks) (is : IsMa
   ]
 
   -- the visits that begin a drive are those of before, and this one
-  pub marked_cases : (k : ℕ) (v : Visit) → slice_get n.visits k ≡ Some v
+  pub marked_cases : (k : ℕ) (v : TreeVisit) → slice_get n.visits k ≡ Some v
       → (slice_get m.visits k ≡ Some v) ⊎ ((v.number ≡ number) × (v.origin ≡ origin))
   marked_cases k v e = elim is [
     | inl h ↦ inl (subst (λ l. slice_get l.visits k ≡ Some v) h.1 e)
@@ -232,9 +232,9 @@ follow_from : Origin → ℕ → ℕ
 follow_from (Begins first) d = d
 follow_from (Follows j) d = j
 
-pub follow_comes : (L : List At) (m : Marks) (place n : ℕ) (v : Visit) (arc : TurnArc) → IsSearch L m
+pub follow_comes : (L : List At) (m : Marks) (place n : ℕ) (v : TreeVisit) (arc : TurnArc) → IsSearch L m
     → place < length m.visits → slice_get m.visits place ≡ Some v
-    → ((w : Visit) (x : At) → slice_get m.visits place ≡ Some w → slice_get L w.number ≡ Some x
+    → ((w : TreeVisit) (x : At) → slice_get m.visits place ≡ Some w → slice_get L w.number ≡ Some x
     → Contains x.context.arcs arc)
     → ((x : At) → slice_get L v.number ≡ Some x → LeadsBy L x arc n)
     → (j : ℕ) → Follows place ≡ Follows j → (j < length m.visits) × Comes L m.visits j n
@@ -253,10 +253,10 @@ follow_comes L m place n v arc s within at has leads j e =
     } in
     subst (λ i. (i < length m.visits) × Comes L m.visits i n) same (within, c)
 
-pub follow_visits : (L : List At) (m : Marks) (visits : List Visit) (place n : ℕ) (v : Visit) (arc : TurnArc)
+pub follow_visits : (L : List At) (m : Marks) (visits : List TreeVisit) (place n : ℕ) (v : TreeVisit) (arc : TurnArc)
     → slice_get m.visits place ≡ Some v → ((y : At) → slice_get L v.number ≡ Some y → LeadsBy L y arc n)
     → IsVisited visits n
-    → (w : Visit) (x : At) → slice_get m.visits place ≡ Some w → slice_get L w.number ≡ Some x
+    → (w : TreeVisit) (x : At) → slice_get m.visits place ≡ Some w → slice_get L w.number ≡ Some x
     → (i : ℕ) × LeadsBy L x arc i × IsVisited visits i
 follow_visits L m visits place n v arc at leads visited w x also from =
     let same = one_stands m.visits place v w at also in
@@ -264,14 +264,14 @@ follow_visits L m visits place n v arc at leads visited w x also from =
 
 -- ---- all arcs of a context
 
-pub same_context : (L : List At) (visits : List Visit) (place : ℕ) (v w : Visit) (x y : At)
+pub same_context : (L : List At) (visits : List TreeVisit) (place : ℕ) (v w : TreeVisit) (x y : At)
     → slice_get visits place ≡ Some v → slice_get visits place ≡ Some w → slice_get L v.number ≡ Some x
     → slice_get L w.number ≡ Some y → x ≡ y
 same_context L visits place v w x y at also from too =
     let same = one_stands visits place v w at also in
     one_stands L w.number x y (subst (λ u. slice_get L u.number ≡ Some x) same from) too
 
-pub more_followed : (L : List At) (goals : BTreeMap PieceName Goal) (visits : List Visit) (x : At)
+pub more_followed : (L : List At) (goals : BTreeMap PieceName Goal) (visits : List TreeVisit) (x : At)
     (items : List TurnArc) (i : ℕ) (d : TurnArc)
     → i < length items → goal_in goals (get_or items i d).piece ≡ None
     → ((n : ℕ) × LeadsBy L x (get_or items i d) n × IsVisited visits n)
@@ -285,7 +285,7 @@ more_followed L goals visits x items i d h none leads f a has =
           (none, leads)
     ]
 
-pub all_followed : (L : List At) (goals : BTreeMap PieceName Goal) (visits : List Visit) (x y : At)
+pub all_followed : (L : List At) (goals : BTreeMap PieceName Goal) (visits : List TreeVisit) (x y : At)
     (items : List TurnArc) (i : ℕ) → length items ≤ i → items ≡ y.context.arcs → x ≡ y
     → AreFollowed L goals visits x (take i items) → AreFollowed L goals visits x x.context.arcs
 all_followed L goals visits x y items i h e same f a has =
@@ -304,7 +304,7 @@ module _ (L : List At) (m p : Marks) (place : ℕ) (popped : IsPopped m p place)
   back_waits k h = Contains-permutation (place ∷ p.waiting) m.waiting k
       (IsPermutation-sym m.waiting (place ∷ p.waiting) popped.waiting) h
 
-  same_visit : (k : ℕ) (v : Visit) → slice_get p.visits k ≡ Some v → slice_get m.visits k ≡ Some v
+  same_visit : (k : ℕ) (v : TreeVisit) → slice_get p.visits k ≡ Some v → slice_get m.visits k ≡ Some v
   same_visit k v e = subst (λ vs. slice_get vs k ≡ Some v) popped.visits e
 
   pub popped_keeps : IsSearch L m → IsSearch L p
@@ -338,8 +338,8 @@ module _ (L : List At) (m p : Marks) (place : ℕ) (popped : IsPopped m p place)
       omega arith
 
   module _ (goals : BTreeMap PieceName Goal) (n : Marks) (g : Grows p n)
-      (here : (v : Visit) → slice_get p.visits place ≡ Some v → IsClosed L goals n.visits v) where
-    closed_old : (k : ℕ) (v : Visit) → slice_get p.visits k ≡ Some v
+      (here : (v : TreeVisit) → slice_get p.visits place ≡ Some v → IsClosed L goals n.visits v) where
+    closed_old : (k : ℕ) (v : TreeVisit) → slice_get p.visits k ≡ Some v
         → Contains m.waiting k ⊎ IsClosed L goals m.visits v → Contains n.waiting k ⊎ IsClosed L goals n.visits v
     closed_old k v e (inl h) =
         let c = Contains-permutation m.waiting (place ∷ p.waiting) k popped.waiting h in
@@ -358,7 +358,7 @@ module _ (L : List At) (m p : Marks) (place : ℕ) (popped : IsPopped m p place)
 
 -- where nothing waits, all are closed
 pub all_closed : (L : List At) (goals : BTreeMap PieceName Goal) (m : Marks) → m.waiting ≡ [] → AreClosed L goals m
-    → (k : ℕ) (v : Visit) → slice_get m.visits k ≡ Some v → IsClosed L goals m.visits v
+    → (k : ℕ) (v : TreeVisit) → slice_get m.visits k ≡ Some v → IsClosed L goals m.visits v
 all_closed L goals m none closed k v e = elim (closed k v e) [
   | inl h ↦ absurd (contains_none k (subst (λ l. Contains l k) none h))
   | inr c ↦ c
@@ -377,7 +377,7 @@ emptied L m p marked visits none s = record {
 }
 
 pub closed_same : (L : List At) (goals : BTreeMap PieceName Goal) (m p : Marks) → p.visits ≡ m.visits
-    → m.waiting ≡ [] → AreClosed L goals m → (k : ℕ) (v : Visit) → slice_get p.visits k ≡ Some v
+    → m.waiting ≡ [] → AreClosed L goals m → (k : ℕ) (v : TreeVisit) → slice_get p.visits k ≡ Some v
     → IsClosed L goals p.visits v
 closed_same L goals m p visits none closed k v e = subst (λ vs. IsClosed L goals vs v) (sym visits)
     (all_closed L goals m none closed k v (subst (λ vs. slice_get vs k ≡ Some v) visits e))

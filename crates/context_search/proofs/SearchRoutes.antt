@@ -7,15 +7,15 @@ use Rattle.std.proofs.lemmas.Option.{slice_get_within}
 use Rattle.ordered_lists.proofs.ListMembers.{contains_more, contains_one}
 use Rattle.road_base.specs.declared.ids.Step.{Step}
 use Rattle.context_search.specs.declared.marks.Origin.TheVariants.{Begins, Follows}
-use Rattle.context_search.specs.declared.marks.Visit.{Visit}
+use Rattle.context_search.specs.declared.marks.TreeVisit.{TreeVisit}
 use Rattle.context_search.specs.Marks.{At}
 use Rattle.context_search.specs.Routes.{IsChain, One, More, steps_at, steps_by, steps_in, spelled}
 
 reversed : (old new : List ℕ) (at : ℕ) → new ≡ old ++ at ∷ [] → reverse new ≡ at ∷ reverse old
 reversed old new at e = ap reverse e ∙ reverse-append old (at ∷ [])
 
-module _ (visits : List Visit) where
-  pub chain_more : (first : ℕ) (ks : List ℕ) (at before place : ℕ) (v : Visit) (old new : List ℕ)
+module _ (visits : List TreeVisit) where
+  pub chain_more : (first : ℕ) (ks : List ℕ) (at before place : ℕ) (v : TreeVisit) (old new : List ℕ)
       → slice_get visits at ≡ Some v → v.origin ≡ Follows before → new ≡ old ++ at ∷ []
       → ((first : ℕ) (ks : List ℕ) → IsChain visits first (ks ++ at ∷ []) at
       → IsChain visits first (ks ++ at ∷ reverse old) place)
@@ -27,7 +27,7 @@ module _ (visits : List Visit) where
       ∙ ap (λ l. ks ++ before ∷ l) (sym (reversed old new at is)) in
       subst (λ l. IsChain visits first l place) same h
 
-  pub chain_ends : (first at place : ℕ) (v : Visit) (old new : List ℕ) → slice_get visits at ≡ Some v
+  pub chain_ends : (first at place : ℕ) (v : TreeVisit) (old new : List ℕ) → slice_get visits at ≡ Some v
       → v.origin ≡ Begins first → new ≡ old ++ at ∷ []
       → ((first : ℕ) (ks : List ℕ) → IsChain visits first (ks ++ at ∷ []) at
       → IsChain visits first (ks ++ at ∷ reverse old) place)
@@ -46,7 +46,7 @@ module _ (visits : List Visit) where
         | inr same ↦ subst (λ j. j < length visits) (sym same) (slice_get_within visits k v e)
       ]
 
-pub steps_known : (L : List At) (visits : List Visit) (place : ℕ) (v : Visit) (x : At) → slice_get visits place ≡ Some v
+pub steps_known : (L : List At) (visits : List TreeVisit) (place : ℕ) (v : TreeVisit) (x : At) → slice_get visits place ≡ Some v
     → slice_get L v.number ≡ Some x → steps_at L visits place ≡ spelled x.piece
 steps_known L visits place v x e f = ap (steps_by L) e ∙ ap steps_in f
 

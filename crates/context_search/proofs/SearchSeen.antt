@@ -13,9 +13,9 @@ use Rattle.road_model.specs.Pieces.{Span, IsPiece}
 use Rattle.road_model.specs.Network.{IsArc}
 use Rattle.road_model.specs.Blocks.{IsArcEntry, name_of}
 use Rattle.road_model.specs.Naming.{OnePiece}
-use Rattle.context_search.specs.declared.ends.Start.{Start}
+use Rattle.context_search.specs.declared.ends.Begin.{Begin}
 use Rattle.context_search.specs.declared.ends.Goal.{Goal}
-use Rattle.context_search.specs.declared.marks.Visit.{Visit}
+use Rattle.context_search.specs.declared.marks.TreeVisit.{TreeVisit}
 use Rattle.context_search.specs.Marks.{At, key_of}
 use Rattle.context_search.specs.Searching.{BeginsAt, StopsAt, IsSearched}
 use Rattle.context_search.specs.Sought.{IsSpot, AreSpots, AreStarts, AreGoals}
@@ -24,8 +24,8 @@ use Rattle.context_search.proofs.SearchTargets.{arc_target, same_context}
 
 module _ (M : Objects) (P : Rules) (L : List At) where
   -- the context is that of one of the visits
-  pub record Found (visits : List Visit) (c : List Span) : Type 0 where
-    pub visit : Visit
+  pub record Found (visits : List TreeVisit) (c : List Span) : Type 0 where
+    pub visit : TreeVisit
     pub has : In visit visits
     pub spot : At
     pub at : slice_get L visit.number ≡ Some spot
@@ -40,18 +40,18 @@ module _ (M : Objects) (P : Rules) (L : List At) where
     pub is : IsSpot M P context spot
 
   -- the contexts of the visits
-  pub record AreSeen (visits : List Visit) : Type 0 where
+  pub record AreSeen (visits : List TreeVisit) : Type 0 where
     pub seen : List (List Span)
     pub found : (c : List Span) → In c seen → Found visits c
-    pub listed : (v : Visit) → In v visits → Listed seen v.number
+    pub listed : (v : TreeVisit) → In v visits → Listed seen v.number
 
-  found_later : (w : Visit) (visits : List Visit) (c : List Span) → Found visits c → Found (w ∷ visits) c
+  found_later : (w : TreeVisit) (visits : List TreeVisit) (c : List Span) → Found visits c → Found (w ∷ visits) c
   found_later w visits c f = record { visit = f.visit; has = inr f.has; spot = f.spot; at = f.at; is = f.is }
 
   listed_later : (e : List Span) (seen : List (List Span)) (n : ℕ) → Listed seen n → Listed (e ∷ seen) n
   listed_later e seen n l = record { context = l.context; has = inr l.has; spot = l.spot; at = l.at; is = l.is }
 
-  seen_more : (v : Visit) (visits : List Visit) → AreSeen visits → (x : At) → slice_get L v.number ≡ Some x
+  seen_more : (v : TreeVisit) (visits : List TreeVisit) → AreSeen visits → (x : At) → slice_get L v.number ≡ Some x
       → (c : List Span) → IsSpot M P c x → AreSeen (v ∷ visits)
   seen_more v visits r x at c is = record {
     seen = c ∷ r.seen;
@@ -64,14 +64,14 @@ module _ (M : Objects) (P : Rules) (L : List At) where
         context = c;
         has = inl refl;
         spot = x;
-        at = subst (λ (z : Visit). slice_get L z.number ≡ Some x) (sym e) at;
+        at = subst (λ (z : TreeVisit). slice_get L z.number ≡ Some x) (sym e) at;
         is = is;
       }
       | inr i ↦ listed_later c r.seen w.number (r.listed w i)
     ];
   }
 
-  are_seen : AreSpots M P L → (visits : List Visit) → ((v : Visit) → In v visits → v.number < length L)
+  are_seen : AreSpots M P L → (visits : List TreeVisit) → ((v : TreeVisit) → In v visits → v.number < length L)
       → AreSeen visits
   are_seen are [] within = record { seen = []; found = λ c has. absurd has; listed = λ v has. absurd has }
   are_seen are (v ∷ visits) within =
@@ -79,8 +79,8 @@ module _ (M : Objects) (P : Rules) (L : List At) where
       let s = are.sound x.0 (contains_at L v.number x.0 x.1) in
       seen_more v visits (are_seen are visits (λ w has. within w (inr has))) x.0 x.1 s.0 s.1
 
-  module _ (one : OnePiece M P) (are : AreSpots M P L) (a b : NodeId) (starts : List Start)
-      (goals : BTreeMap PieceName Goal) (visits : List Visit) (from : AreStarts M P a starts)
+  module _ (one : OnePiece M P) (are : AreSpots M P L) (a b : NodeId) (starts : List Begin)
+      (goals : BTreeMap PieceName Goal) (visits : List TreeVisit) (from : AreStarts M P a starts)
       (to : AreGoals M P b goals) where
     -- the context with these names is seen
     seen_at : (r : AreSeen visits) (n : ℕ) (y : At) → slice_get L n ≡ Some y → IsVisited visits n → (d : List Span)
@@ -92,7 +92,7 @@ module _ (M : Objects) (P : Rules) (L : List At) where
         let is : l.context ≡ d = same l.context (subst (λ x. IsSpot M P l.context x) spot l.is) in
         subst (Contains r.seen) is (contains_from_in r.seen l.context l.has)
 
-    seen_start : (r : AreSeen visits) → ((s : Start) → Contains starts s → IsStarted L visits s) → (p : Span) (i : ℕ)
+    seen_start : (r : AreSeen visits) → ((s : Begin) → Contains starts s → IsStarted L visits s) → (p : Span) (i : ℕ)
         → IsPiece M P p → BeginsAt M p i a → Contains r.seen (p ∷ [])
     seen_start r started p i is begins =
         let s = from.complete p i is begins in
@@ -101,7 +101,7 @@ module _ (M : Objects) (P : Rules) (L : List At) where
         seen_at r t.number t.from t.at t.visited (p ∷ [])
         (λ c spot. same_context M P one c t.from spot [] p tt is named)
 
-    apart : ((s : Start) (g : Goal) → Contains starts s → goal_in goals s.piece.now.name ≡ Some g
+    apart : ((s : Begin) (g : Goal) → Contains starts s → goal_in goals s.piece.now.name ≡ Some g
         → s.first ≤ g.last → ⊥) → (p : Span) (i j : ℕ) → IsPiece M P p → BeginsAt M p i a → StopsAt M p j b → i ≤ j
         → ⊥
     apart none p i j is begins stops h =
@@ -111,7 +111,7 @@ module _ (M : Objects) (P : Rules) (L : List At) where
         let k = g.2 in
         none s.0 g.0 s.1 (ap (goal_in goals) s.2 ∙ g.1) (omega arith)
 
-    module _ (closed : (k : ℕ) (v : Visit) → slice_get visits k ≡ Some v → IsClosed L goals visits v) where
+    module _ (closed : (k : ℕ) (v : TreeVisit) → slice_get visits k ≡ Some v → IsClosed L goals visits v) where
       -- no goal is on the piece of an arc from a context that is seen, and its target is visited
       pub record Followed (c : List Span) (t : Span) (e : List Span) : Type 0 where
         pub spot : At
@@ -169,9 +169,9 @@ module _ (M : Objects) (P : Rules) (L : List At) where
           let both : None ≡ Some g.0 = sym f.none ∙ g.1 in
           cc
 
-      pub searched : ((k : ℕ) (v : Visit) → slice_get visits k ≡ Some v → v.number < length L)
-          → ((s : Start) → Contains starts s → IsStarted L visits s)
-          → ((s : Start) (g : Goal) → Contains starts s → goal_in goals s.piece.now.name ≡ Some g → s.first ≤ g.last
+      pub searched : ((k : ℕ) (v : TreeVisit) → slice_get visits k ≡ Some v → v.number < length L)
+          → ((s : Begin) → Contains starts s → IsStarted L visits s)
+          → ((s : Begin) (g : Goal) → Contains starts s → goal_in goals s.piece.now.name ≡ Some g → s.first ≤ g.last
           → ⊥)
           → (seen : List (List Span)) × IsSearched M P a b seen
       searched numbers started none =

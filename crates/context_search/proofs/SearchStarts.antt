@@ -4,7 +4,7 @@ use Rattle.std.proofs.Common.{Contains}
 use Rattle.std.proofs.Common.{sym, ◌∙◌, ap, subst, take, get_or}
 use Rattle.std.proofs.lemmas.List.{take_more, take_all}
 use Rattle.ordered_lists.proofs.ListMembers.{contains_more}
-use Rattle.context_search.specs.declared.ends.Start.{Start}
+use Rattle.context_search.specs.declared.ends.Begin.{Begin}
 use Rattle.context_search.specs.declared.marks.Origin.{Origin}
 use Rattle.context_search.specs.declared.marks.Origin.TheVariants.{Begins, Follows}
 use Rattle.std.specs.List.{HoldsAt}
@@ -26,7 +26,7 @@ same_begin a b e = ap begin_from e
 begins_not : (P : Type 0) (first j : ℕ) → Begins first ≡ Follows j → P
 begins_not P first j e = cc
 
-module _ (L : List At) (start : Start) (m n : Marks) (is : IsStartMarked L start m n) where
+module _ (L : List At) (start : Begin) (m n : Marks) (is : IsStartMarked L start m n) where
   pub start_grows : Grows m n
   start_grows = marked_grows L is.number (Begins start.first) m n is.marked
 
@@ -43,7 +43,7 @@ module _ (L : List At) (start : Start) (m n : Marks) (is : IsStartMarked L start
     visited = marked_visited L is.number (Begins start.first) m n is.marked s;
   }
 
-  pub start_begun : (starts : List Start) → Contains starts start → AreBegun L starts m → AreBegun L starts n
+  pub start_begun : (starts : List Begin) → Contains starts start → AreBegun L starts m → AreBegun L starts n
   start_begun starts has old k first v e o = elim (marked_cases L is.number (Begins start.first) m n is.marked k v e) [
     | inl before ↦ old k first v before o
     | inr now ↦
@@ -58,7 +58,7 @@ module _ (L : List At) (start : Start) (m n : Marks) (is : IsStartMarked L start
         }
   ]
 
-pub started_stays : (L : List At) (m n : Marks) (start : Start) → Grows m n → IsStarted L m.visits start
+pub started_stays : (L : List At) (m n : Marks) (start : Begin) → Grows m n → IsStarted L m.visits start
     → IsStarted L n.visits start
 started_stays L m n start g s = record {
   number = s.number;
@@ -68,10 +68,10 @@ started_stays L m n start g s = record {
   visited = visited_stays m n g.stays s.number s.visited;
 }
 
-pub more_started : (L : List At) (starts : List Start) (i : ℕ) (d start : Start) (m n : Marks) → i < length starts
+pub more_started : (L : List At) (starts : List Begin) (i : ℕ) (d start : Begin) (m n : Marks) → i < length starts
     → start ≡ get_or starts i d → Grows m n → IsStarted L n.visits start
-    → ((s : Start) → Contains (take i starts) s → IsStarted L m.visits s)
-    → (s : Start) → Contains (take (i + 1) starts) s → IsStarted L n.visits s
+    → ((s : Begin) → Contains (take i starts) s → IsStarted L m.visits s)
+    → (s : Begin) → Contains (take (i + 1) starts) s → IsStarted L n.visits s
 more_started L starts i d start m n h is g now old s has =
     elim (contains_more (take i starts) (get_or starts i d) s
     (subst (λ l. Contains l s) (take_more starts i d h) has)) [
@@ -79,12 +79,12 @@ more_started L starts i d start m n h is g now old s has =
       | inr same ↦ subst (λ t. IsStarted L n.visits t) (is ∙ sym same) now
     ]
 
-pub all_started : (L : List At) (starts : List Start) (i : ℕ) (m : Marks) → length starts ≤ i
-    → ((s : Start) → Contains (take i starts) s → IsStarted L m.visits s)
-    → (s : Start) → Contains starts s → IsStarted L m.visits s
+pub all_started : (L : List At) (starts : List Begin) (i : ℕ) (m : Marks) → length starts ≤ i
+    → ((s : Begin) → Contains (take i starts) s → IsStarted L m.visits s)
+    → (s : Begin) → Contains starts s → IsStarted L m.visits s
 all_started L starts i m h f s has = f s (subst (λ l. Contains l s) (sym (take_all i starts h)) has)
 
-pub start_marked : (spots : List Spot) (start : Start) (n : ℕ) (m p : Marks) → n < length spots
+pub start_marked : (spots : List Spot) (start : Begin) (n : ℕ) (m p : Marks) → n < length spots
     → HoldsAt (λ s. key_of (at_of s) ≡ (start.piece.now.name, [])) spots n → IsMarked n (Begins start.first) m p
     → IsStartMarked (map at_of spots) start m p
 start_marked spots start n m p within e is =

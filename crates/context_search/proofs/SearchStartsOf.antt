@@ -15,7 +15,7 @@ use Rattle.road_model.specs.Orders.{way_cmp}
 use Rattle.road_model.specs.Blocks.{IsPieceEntry, name_of}
 use Rattle.road_model.specs.BlockMap.{AreBlocksOf}
 use Rattle.road_model.specs.Naming.{HasBlock, OnePiece}
-use Rattle.context_search.specs.declared.ends.Start.{Start}
+use Rattle.context_search.specs.declared.ends.Begin.{Begin}
 use Rattle.context_search.specs.Searching.{BeginsAt}
 use Rattle.context_search.specs.Ends.{Leaves, pieces_in}
 use Rattle.context_search.specs.Sought.{AreStarts, IsStartAt}
@@ -35,19 +35,19 @@ module _ (M : Objects) (P : Rules) (one : OnePiece M P) (has : HasBlock M P) (m 
       let r = ((are w b.0).0 b.1).1 in
       (b.0.way, r.block.pieces.sound e b.2)
 
-  start_at : (a : NodeId) (s : Start) (w : WayId) → Contains (pieces_in (get m w)) s.piece.now
+  start_at : (a : NodeId) (s : Begin) (w : WayId) → Contains (pieces_in (get m w)) s.piece.now
       → Leaves s.piece.now s.first a → IsStartAt M P a s
   start_at a s w i l =
       let e = listed_in w s.piece.now i in
       record { way = e.0; listed = e.1; begins = begins_at M P e.0 s.piece.now e.1 s.first a l }
 
-  pub are_starts : (a : NodeId) (ways : List WayId) (starts : List Start)
+  pub are_starts : (a : NodeId) (ways : List WayId) (starts : List Begin)
       → ((w : WayId) → RefersTo M w a → Contains ways w)
       → ((v : NodeId) (u : Step) → LeavesNode M P v u → RefersTo M u.way v)
-      → ((s : Start) → Contains starts s
+      → ((s : Begin) → Contains starts s
       → (w : WayId) × Contains (pieces_in (get m w)) s.piece.now × Leaves s.piece.now s.first a)
       → ((w : WayId) (e : Piece) (i : ℕ) → Contains ways w → Contains (pieces_in (get m w)) e → Leaves e i a
-      → (s : Start) × Contains starts s × (s.piece.now ≡ e) × (s.first ≤ i))
+      → (s : Begin) × Contains starts s × (s.piece.now ≡ e) × (s.first ≤ i))
       → AreStarts M P a starts
   are_starts a ways starts refers left sound complete = record {
     sound = λ s h. let r = sound s h in start_at a s r.0 r.1 r.2;

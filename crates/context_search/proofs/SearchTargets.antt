@@ -18,7 +18,7 @@ use Rattle.road_model.specs.Blocks.{IsPieceEntry, IsArcEntry, name_of}
 use Rattle.road_model.specs.Naming.{OnePiece}
 use Rattle.road_model.proofs.LongestContext.{Every-front}
 use Rattle.road_model.proofs.WalkLists.{context_pieces}
-use Rattle.context_search.specs.declared.ends.Start.{Start}
+use Rattle.context_search.specs.declared.ends.Begin.{Begin}
 use Rattle.context_search.specs.Marks.{At, key_of, names_behind}
 use Rattle.context_search.specs.Visits.{HasTargets}
 use Rattle.context_search.specs.Sought.{IsSpot, AreSpots, AreStarts}
@@ -115,8 +115,8 @@ module _ (M : Objects) (P : Rules) where
       let y = are.complete (p ∷ []) (One p refl is) in
       (y.0, y.1, spot_named [] p y.0 y.2)
 
-  pub start_listed : (L : List At) (a : NodeId) (starts : List Start) → AreSpots M P L → AreStarts M P a starts
-      → (s : Start) → Contains starts s → (x : At) × Contains L x × (key_of x ≡ (s.piece.now.name, []))
+  pub start_listed : (L : List At) (a : NodeId) (starts : List Begin) → AreSpots M P L → AreStarts M P a starts
+      → (s : Begin) → Contains starts s → (x : At) × Contains L x × (key_of x ≡ (s.piece.now.name, []))
   start_listed L a starts are begin s has =
       let b = begin.sound s has in
       let y = alone_listed L are b.listed.piece b.listed.is in

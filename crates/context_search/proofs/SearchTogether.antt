@@ -15,9 +15,9 @@ use Rattle.road_model.specs.Rules.{Rules}
 use Rattle.road_model.specs.Pieces.{spell}
 use Rattle.road_model.specs.Blocks.{IsPieceEntry}
 use Rattle.road_model.specs.Naming.{OnePiece}
-use Rattle.context_search.specs.declared.ends.Start.{Start}
+use Rattle.context_search.specs.declared.ends.Begin.{Begin}
 use Rattle.context_search.specs.declared.ends.Goal.{Goal}
-use Rattle.context_search.specs.declared.marks.Visit.{Visit}
+use Rattle.context_search.specs.declared.marks.TreeVisit.{TreeVisit}
 use Rattle.context_search.specs.Marks.{At}
 use Rattle.context_search.specs.Reaching.{LeadsTo}
 use Rattle.context_search.specs.Searching.{StopsAt, LeadsWithin}
@@ -27,7 +27,7 @@ use Rattle.context_search.proofs.SearchTargets.{entry_spells}
 use Rattle.context_search.specs.Visits.{Marks, IsSearch, IsStarted, IsVisited, AreBegun, NoneBegun, AreClosed, Grows}
 use Rattle.context_search.specs.Visits.{Meets}
 
-nothing_at : (k : ℕ) (v : Visit) → slice_get [] k ≡ Some v → ⊥
+nothing_at : (k : ℕ) (v : TreeVisit) → slice_get [] k ≡ Some v → ⊥
 nothing_at zero v e = cc
 nothing_at (suc k) v e = cc
 
@@ -36,8 +36,8 @@ module _ (L : List At) (m n : Marks) where
   pub new_search : length n.marked ≡ length L → n.visits ≡ [] → n.waiting ≡ []
       → ((k : ℕ) → slice_get n.marked k ≡ Some true → ⊥) → IsSearch L n
   new_search count none quiet bare =
-      let not : (k : ℕ) (v : Visit) → slice_get n.visits k ≡ Some v → ⊥
-      = λ k v e. nothing_at k v (subst (λ (l : List Visit). slice_get l k ≡ Some v) none e) in
+      let not : (k : ℕ) (v : TreeVisit) → slice_get n.visits k ≡ Some v → ⊥
+      = λ k v e. nothing_at k v (subst (λ (l : List TreeVisit). slice_get l k ≡ Some v) none e) in
       record {
         count = count;
         numbers = λ k v e. absurd (not k v e);
@@ -49,14 +49,14 @@ module _ (L : List At) (m n : Marks) where
   -- all first visits wait
   pub first_closed : (goals : BTreeMap PieceName Goal) → m.visits ≡ [] → Grows m n → AreClosed L goals n
   first_closed goals none g k v e = elim (g.new k v e) [
-    | inl old ↦ absurd (nothing_at k v (subst (λ (l : List Visit). slice_get l k ≡ Some v) none old))
+    | inl old ↦ absurd (nothing_at k v (subst (λ (l : List TreeVisit). slice_get l k ≡ Some v) none old))
     | inr waits ↦ inl waits
   ]
 
-  pub still_begun : (starts : List Start) → AreBegun L starts m → NoneBegun m n → AreBegun L starts n
+  pub still_begun : (starts : List Begin) → AreBegun L starts m → NoneBegun m n → AreBegun L starts n
   still_begun starts begun none k first v e o = begun k first v (none k first v e o) o
 
-  pub still_started : (s : Start) → ((k : ℕ) → IsVisited m.visits k → IsVisited n.visits k)
+  pub still_started : (s : Begin) → ((k : ℕ) → IsVisited m.visits k → IsVisited n.visits k)
       → IsStarted L m.visits s → IsStarted L n.visits s
   still_started s stays is = record {
     number = is.number;
@@ -89,12 +89,12 @@ module _ (M : Objects) (P : Rules) where
       (slice_get_within (spell is.listed.piece) g.last is.stops.step is.stops.at)
 
   -- the goal that is met is one
-  pub met_goal : (b : NodeId) (L : List At) (goals : BTreeMap PieceName Goal) (visits : List Visit) (place : ℕ)
+  pub met_goal : (b : NodeId) (L : List At) (goals : BTreeMap PieceName Goal) (visits : List TreeVisit) (place : ℕ)
       (g : Goal) → AreGoals M P b goals → (met : Meets L goals visits place g) → IsGoalAt M P b met.arc.piece g
   met_goal b L goals visits place g are met = are.sound met.arc.piece g met.met
 
   -- a piece on which a drive begins and then ends
-  module _ (one : OnePiece M P) (a b : NodeId) (s : Start) (g : Goal) (from : IsStartAt M P a s)
+  module _ (one : OnePiece M P) (a b : NodeId) (s : Begin) (g : Goal) (from : IsStartAt M P a s)
       (to : IsGoalAt M P b s.piece.now.name g) where
     same_piece : from.listed.piece ≡ to.listed.piece
     same_piece = one from.listed.piece to.listed.piece from.listed.is to.listed.is

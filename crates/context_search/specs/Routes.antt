@@ -7,7 +7,7 @@ use Rattle.road_model.specs.declared.lists.Piece.{Piece}
 use Rattle.road_model.specs.Lines.{steps_from}
 use Rattle.context_search.specs.declared.ends.Goal.{Goal}
 use Rattle.context_search.specs.declared.marks.Origin.TheVariants.{Begins, Follows}
-use Rattle.context_search.specs.declared.marks.Visit.{Visit}
+use Rattle.context_search.specs.declared.marks.TreeVisit.{TreeVisit}
 use Rattle.context_search.specs.Marks.{At}
 
 -- the steps of a piece as it is written
@@ -18,32 +18,32 @@ abbrev pub steps_in : Option At → List Step
 steps_in None = []
 steps_in (Some x) = spelled x.piece
 
-abbrev pub steps_by : List At → Option Visit → List Step
+abbrev pub steps_by : List At → Option TreeVisit → List Step
 steps_by L None = []
 steps_by L (Some v) = steps_in (slice_get L v.number)
 
 -- the steps of the piece of the visit at the place
-abbrev pub steps_at : List At → List Visit → ℕ → List Step
+abbrev pub steps_at : List At → List TreeVisit → ℕ → List Step
 steps_at L visits k = steps_by L (slice_get visits k)
 
 -- the visits at these places lead from one that begins with the step to the one at the place
-pub data IsChain (visits : List Visit) (first : ℕ) : List ℕ → ℕ → Type 0 where
-  One : {ks : List ℕ} (k : ℕ) (v : Visit) → slice_get visits k ≡ Some v → v.origin ≡ Begins first → ks ≡ k ∷ []
+pub data IsChain (visits : List TreeVisit) (first : ℕ) : List ℕ → ℕ → Type 0 where
+  One : {ks : List ℕ} (k : ℕ) (v : TreeVisit) → slice_get visits k ≡ Some v → v.origin ≡ Begins first → ks ≡ k ∷ []
       → IsChain visits first ks k
-  More : {ks : List ℕ} (js : List ℕ) (j k : ℕ) (v : Visit) → IsChain visits first js j → slice_get visits k ≡ Some v
+  More : {ks : List ℕ} (js : List ℕ) (j k : ℕ) (v : TreeVisit) → IsChain visits first js j → slice_get visits k ≡ Some v
       → v.origin ≡ Follows j → ks ≡ js ++ k ∷ [] → IsChain visits first ks k
 
 -- each visit comes from one before
-abbrev pub Descend : List Visit → Type 0
-Descend visits = (k j : ℕ) (v : Visit) → slice_get visits k ≡ Some v → v.origin ≡ Follows j → j < k
+abbrev pub Descend : List TreeVisit → Type 0
+Descend visits = (k j : ℕ) (v : TreeVisit) → slice_get visits k ≡ Some v → v.origin ≡ Follows j → j < k
 
 -- the visits are of these contexts, and their pieces ascend on their ways
-pub record AreSpelled (L : List At) (visits : List Visit) : Type 0 where
-  pub numbers : (k : ℕ) (v : Visit) → slice_get visits k ≡ Some v → v.number < length L
+pub record AreSpelled (L : List At) (visits : List TreeVisit) : Type 0 where
+  pub numbers : (k : ℕ) (v : TreeVisit) → slice_get visits k ≡ Some v → v.number < length L
   pub ascends : (n : ℕ) (x : At) → slice_get L n ≡ Some x → x.piece.name.index ≤ x.piece.end
 
 -- the steps lead from the first step on over the pieces of visits to the one at the place, and to the goal
-pub record IsRoute (L : List At) (visits : List Visit) (place : ℕ) (goal : Goal) (d : List Step) : Type 0 where
+pub record IsRoute (L : List At) (visits : List TreeVisit) (place : ℕ) (goal : Goal) (d : List Step) : Type 0 where
   pub first : ℕ
   pub places : List ℕ
   pub chain : IsChain visits first places place

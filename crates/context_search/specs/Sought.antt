@@ -11,9 +11,9 @@ use Rattle.ordered_lists.specs.Orders.{rises}
 use Rattle.road_model.specs.Pieces.{Span, IsPiece}
 use Rattle.road_model.specs.Network.{IsContext}
 use Rattle.road_model.specs.Blocks.{IsPieceEntry, IsContextEntry, name_of}
-use Rattle.context_search.specs.declared.ends.Start.{Start}
+use Rattle.context_search.specs.declared.ends.Begin.{Begin}
 use Rattle.context_search.specs.declared.ends.Goal.{Goal}
-use Rattle.context_search.specs.declared.ends.Ends.{Ends}
+use Rattle.context_search.specs.declared.ends.DriveEnds.{DriveEnds}
 use Rattle.context_search.specs.Searching.{BeginsAt, StopsAt}
 use Rattle.context_search.specs.Marks.{At, key_of, key_cmp}
 use Rattle.context_search.specs.Visits.{goal_in}
@@ -32,16 +32,16 @@ pub record AreSpots (M : Objects) (P : Rules) (L : List At) : Type 0 where
   pub complete : (c : List Span) → IsContext M P c → (x : At) × Contains L x × IsSpot M P c x
 
 -- a piece as it is written, and a step of it that begins at the node
-pub record IsStartAt (M : Objects) (P : Rules) (a : NodeId) (s : Start) : Type 0 where
+pub record IsStartAt (M : Objects) (P : Rules) (a : NodeId) (s : Begin) : Type 0 where
   pub way : WayId
   pub listed : IsPieceEntry M P way s.piece.now
   pub begins : BeginsAt M listed.piece s.first a
 
 -- all pieces with a step that begins at the node, and no later such step
-pub record AreStarts (M : Objects) (P : Rules) (a : NodeId) (starts : List Start) : Type 0 where
-  pub sound : (s : Start) → Contains starts s → IsStartAt M P a s
+pub record AreStarts (M : Objects) (P : Rules) (a : NodeId) (starts : List Begin) : Type 0 where
+  pub sound : (s : Begin) → Contains starts s → IsStartAt M P a s
   pub complete : (p : Span) (i : ℕ) → IsPiece M P p → BeginsAt M p i a
-      → (s : Start) × Contains starts s × (s.piece.now.name ≡ name_of p) × (s.first ≤ i)
+      → (s : Begin) × Contains starts s × (s.piece.now.name ≡ name_of p) × (s.first ≤ i)
 
 -- a piece as it is written, and a step of it that ends at the node
 pub record IsGoalAt (M : Objects) (P : Rules) (b : NodeId) (n : PieceName) (g : Goal) : Type 0 where
@@ -57,7 +57,7 @@ pub record AreGoals (M : Objects) (P : Rules) (b : NodeId) (goals : BTreeMap Pie
       → (g : Goal) × (goal_in goals (name_of p) ≡ Some g) × (j ≤ g.last)
 
 -- where a drive between the two nodes, which are visible with locations, may begin and end
-pub record AreEnds (M : Objects) (P : Rules) (e : Ends) : Type 0 where
+pub record AreEnds (M : Objects) (P : Rules) (e : DriveEnds) : Type 0 where
   pub starts : AreStarts M P e.a e.starts.items
   pub goals : AreGoals M P e.b e.goals
   pub from : IsTrue (located M (Some e.a))

@@ -10,7 +10,7 @@ ghost use Rattle.road_model.specs.Driving.{located};
 ghost use Rattle.road_model.specs.Networks.{on, map_of};
 ghost use Rattle.ordered_lists.specs.Orders.{rises};
 ghost use Rattle.road_model.specs.Orders.{name_cmp};
-ghost use Rattle.context_search.specs.declared.ends.Start.{Start};
+ghost use Rattle.context_search.specs.declared.ends.Begin.{Begin};
 ghost use Rattle.context_search.specs.declared.ends.Goal.{Goal};
 ghost use Rattle.context_search.specs.Ends.{pieces_in, BeginsBy, StopsBy, Leaves, Arrives};
 ghost use Rattle.context_search.specs.Visits.{goal_in};
@@ -24,7 +24,7 @@ use std::collections::BTreeMap;
 
 /// A piece, and the first of its steps that begins at the node where a drive is to begin.
 #[derive(Clone, Copy, Drop)]
-pub struct Start<'a> {
+pub struct Begin<'a> {
     pub piece: &'a Piece,
     pub first: usize,
 }
@@ -38,10 +38,10 @@ pub struct Goal<'a> {
 
 /// The nodes where a drive is to begin and to end, and the pieces on which it may.
 #[derive(Drop)]
-pub struct Ends<'a> {
+pub struct DriveEnds<'a> {
     pub a: NodeId,
     pub b: NodeId,
-    pub starts: Vec<Start<'a>>,
+    pub starts: Vec<Begin<'a>>,
     pub goals: BTreeMap<PieceName, Goal<'a>>,
 }
 
@@ -52,7 +52,7 @@ pub fn ends_of<'a, M: World, P: Profile>(
     blocks: &'a Blocks,
     a: NodeId,
     b: NodeId,
-) -> Result<Ends<'a>, NoMemory>
+) -> Result<DriveEnds<'a>, NoMemory>
     requires blocks { on network.now AreBlocksOf blocks.now.map }
     requires from { IsTrue (located (map_of network.now) (Some a)) }
     requires to { IsTrue (located (map_of network.now) (Some b)) }
@@ -62,7 +62,7 @@ pub fn ends_of<'a, M: World, P: Profile>(
 {
     let starts = starts_of(alloc, network, blocks, a)?;
     let goals = goals_of(alloc, network, blocks, b)?;
-    Ok(Ends {
+    Ok(DriveEnds {
         a,
         b,
         starts,
@@ -76,7 +76,7 @@ fn starts_of<'a, M: World, P: Profile>(
     network: &Network<'_, M, P>,
     blocks: &'a Blocks,
     node: NodeId,
-) -> Result<Vec<Start<'a>>, NoMemory>
+) -> Result<Vec<Begin<'a>>, NoMemory>
     requires { on network.now AreBlocksOf blocks.now.map }
     ensures { IfOk result (λ v. on network.now AreStarts node v.items) }
 {
@@ -102,15 +102,15 @@ fn pieces_of(blocks: &Blocks, way: WayId) -> &[Piece]
 
 /// Adds those of the pieces.
 fn add_starts<'a>(
-    starts: &mut Vec<Start<'a>>,
+    starts: &mut Vec<Begin<'a>>,
     pieces: &'a [Piece],
     node: NodeId,
 ) -> Result<(), NoMemory>
-    ensures stays { OnOk result ((s : Start) → Contains starts.old.items s → Contains starts.new.items s) }
-    ensures new { OnOk result ((s : Start) → Contains starts.new.items s
+    ensures stays { OnOk result ((s : Begin) → Contains starts.old.items s → Contains starts.new.items s) }
+    ensures new { OnOk result ((s : Begin) → Contains starts.new.items s
         → Contains starts.old.items s ⊎ (Contains pieces.now s.piece.now × Leaves s.piece.now s.first node)) }
     ensures all { OnOk result ((e : Piece) (i : ℕ) → Contains pieces.now e → Leaves e i node
-        → (s : Start) × Contains starts.new.items s × (s.piece.now ≡ e) × (s.first ≤ i)) }
+        → (s : Begin) × Contains starts.new.items s × (s.piece.now ≡ e) × (s.first ≤ i)) }
 {
     for piece in pieces {
         add_start(starts, piece, node)?;
@@ -120,18 +120,18 @@ fn add_starts<'a>(
 
 /// Adds the piece, if one of its steps begins at the node.
 fn add_start<'a>(
-    starts: &mut Vec<Start<'a>>,
+    starts: &mut Vec<Begin<'a>>,
     piece: &'a Piece,
     node: NodeId,
 ) -> Result<(), NoMemory>
-    ensures stays { OnOk result ((s : Start) → Contains starts.old.items s → Contains starts.new.items s) }
-    ensures new { OnOk result ((s : Start) → Contains starts.new.items s
+    ensures stays { OnOk result ((s : Begin) → Contains starts.old.items s → Contains starts.new.items s) }
+    ensures new { OnOk result ((s : Begin) → Contains starts.new.items s
         → Contains starts.old.items s ⊎ ((s.piece.now ≡ piece.now) × Leaves piece.now s.first node)) }
     ensures all { OnOk result ((i : ℕ) → Leaves piece.now i node
-        → (s : Start) × Contains starts.new.items s × (s.piece.now ≡ piece.now) × (s.first ≤ i)) }
+        → (s : Begin) × Contains starts.new.items s × (s.piece.now ≡ piece.now) × (s.first ≤ i)) }
 {
     match first_from(piece.places.items(), node) {
-        Some(first) => Ok(starts.push(Start { piece, first })?),
+        Some(first) => Ok(starts.push(Begin { piece, first })?),
         None => Ok(()),
     }
 }

@@ -2,13 +2,13 @@
 ghost use Rattle.std.specs.Prelude.{◌≡◌, ◌<◌, [], length, map, IfOk, OnOk, MatchOption, Some, Contains, IsTrue};
 ghost use Rattle.std.specs.Prelude.{slice_get, ℕ};
 ghost use Rattle.ordered_lists.specs.Orders.{rises};
-ghost use Rattle.context_search.specs.declared.ends.Start.{Start};
-ghost use Rattle.context_search.specs.declared.marks.Visit.{Visit};
+ghost use Rattle.context_search.specs.declared.ends.Begin.{Begin};
+ghost use Rattle.context_search.specs.declared.marks.TreeVisit.{TreeVisit};
 ghost use Rattle.context_search.specs.Marks.{At, at_of, key_of, key_cmp, names_behind};
 ghost use Rattle.context_search.specs.Visits.{IsSearch, IsVisited, AreBegun, NoneBegun, Grows, HasTargets, LeadsBy};
 ghost use Rattle.context_search.specs.Visits.{IsClosed, AreClosed, Meets, IsStarted, IsStartMarked};
 
-use crate::ends::{Goal, Start, goal_at};
+use crate::ends::{Begin, Goal, goal_at};
 use crate::marks::{Origin, Search};
 use crate::spots::{Spot, find_spot, put_names};
 use road_base::NoMemory;
@@ -24,16 +24,16 @@ pub struct Meeting<'a> {
 }
 
 /// Visits the contexts of the pieces on which a drive may begin.
-pub fn begin(search: &mut Search, spots: &[Spot<'_>], starts: &[Start<'_>]) -> Result<(), NoMemory>
+pub fn begin(search: &mut Search, spots: &[Spot<'_>], starts: &[Begin<'_>]) -> Result<(), NoMemory>
     requires up { IsTrue (rises key_cmp (map key_of (map at_of spots.now))) }
-    requires listed { (s : Start) → Contains starts.now s
+    requires listed { (s : Begin) → Contains starts.now s
         → (x : At) × Contains (map at_of spots.now) x × (key_of x ≡ (s.piece.now.name, [])) }
     requires search { IsSearch (map at_of spots.now) search.old }
     requires none { search.old.visits ≡ [] }
     ensures search { OnOk result (IsSearch (map at_of spots.now) search.new) }
     ensures grows { OnOk result (Grows search.old search.new) }
     ensures begun { OnOk result (AreBegun (map at_of spots.now) starts.now search.new) }
-    ensures all { OnOk result ((s : Start) → Contains starts.now s
+    ensures all { OnOk result ((s : Begin) → Contains starts.now s
         → IsStarted (map at_of spots.now) search.new.visits s) }
 {
     for start in starts {
@@ -43,7 +43,7 @@ pub fn begin(search: &mut Search, spots: &[Spot<'_>], starts: &[Start<'_>]) -> R
 }
 
 /// Visits the context of the piece alone.
-fn begin_on(search: &mut Search, spots: &[Spot<'_>], start: &Start<'_>) -> Result<(), NoMemory>
+fn begin_on(search: &mut Search, spots: &[Spot<'_>], start: &Begin<'_>) -> Result<(), NoMemory>
     requires up { IsTrue (rises key_cmp (map key_of (map at_of spots.now))) }
     requires listed { (x : At) × Contains (map at_of spots.now) x × (key_of x ≡ (start.now.piece.now.name, [])) }
     requires count { length search.old.marked ≡ length spots.now }
@@ -70,7 +70,7 @@ pub fn run<'a>(
     ensures begun { OnOk result (NoneBegun search.old search.new) }
     ensures stays { OnOk result ((n : ℕ) → IsVisited search.old.visits n → IsVisited search.new.visits n) }
     ensures met { IfOk result (λ met. MatchOption met
-        ((k : ℕ) (v : Visit) → slice_get search.new.visits k ≡ Some v
+        ((k : ℕ) (v : TreeVisit) → slice_get search.new.visits k ≡ Some v
         → IsClosed (map at_of spots.now) goals.now search.new.visits v)
         (λ m. Meets (map at_of spots.now) goals.now search.new.visits m.place m.goal)) }
 {
@@ -100,7 +100,7 @@ fn go_on<'a>(
     ensures grows { OnOk result (Grows search.old search.new) }
     ensures begun { OnOk result (NoneBegun search.old search.new) }
     ensures met { IfOk result (λ met. MatchOption met
-        ((v : Visit) → slice_get search.old.visits place ≡ Some v
+        ((v : TreeVisit) → slice_get search.old.visits place ≡ Some v
         → IsClosed (map at_of spots.now) goals.now search.new.visits v)
         (λ m. Meets (map at_of spots.now) goals.now search.new.visits m.place m.goal)) }
 {
@@ -126,13 +126,13 @@ fn follow(
     requires targets { HasTargets (map at_of spots.now) }
     requires search { IsSearch (map at_of spots.now) search.old }
     requires place { place < length search.old.visits }
-    requires has { (v : Visit) (x : At) → slice_get search.old.visits place ≡ Some v
+    requires has { (v : TreeVisit) (x : At) → slice_get search.old.visits place ≡ Some v
         → slice_get (map at_of spots.now) v.number ≡ Some x
         → Contains x.context.arcs arc }
     ensures search { OnOk result (IsSearch (map at_of spots.now) search.new) }
     ensures grows { OnOk result (Grows search.old search.new) }
     ensures begun { OnOk result (NoneBegun search.old search.new) }
-    ensures visited { OnOk result ((v : Visit) (x : At) → slice_get search.old.visits place ≡ Some v
+    ensures visited { OnOk result ((v : TreeVisit) (x : At) → slice_get search.old.visits place ≡ Some v
         → slice_get (map at_of spots.now) v.number ≡ Some x
         → (n : ℕ) × LeadsBy (map at_of spots.now) x arc n × IsVisited search.new.visits n) }
 {

@@ -1,4 +1,8 @@
-//! The visits from which a search hasn't gone on yet, the one that is nearest to the goal first.
+//! The visits from which a search hasn't gone on yet, the one over which the least drive is to be expected first.
+//!
+//! What is expected is an order of trial and nothing more: contracts see the places in some order, since whichever is
+//! gone on from first, the same contexts can be come to, and a drive is found exactly where there is one. So no number
+//! here is promised to be a length: any would do. Good ones make the search short and its drive near the shortest.
 ghost use Rattle.std.specs.Prelude.{◌≡◌, [], ◌∷◌, IfOk, OnOk, IfSome, IfNone};
 ghost use Rattle.std.specs.List.Sorted.{IsPermutation};
 
@@ -43,7 +47,8 @@ impl Frontier {
         Ok(())
     }
 
-    /// Takes out the place at which least is to be expected of a drive over it.
+    /// Takes out the place over which the least drive is to be expected, one of those with the least where there are
+    /// many: some place, as contracts see it.
     pub fn pop(&mut self) -> Option<usize>
         ensures some { IfSome result (λ place. IsPermutation self.old (place ∷ self.new)) }
         ensures none { IfNone result (self.old ≡ []) }
@@ -56,7 +61,8 @@ impl Frontier {
     }
 }
 
-/// What was driven, and twice the straight line from the end of the piece.
+/// What was driven, and twice the straight line from the end of the piece: an order of trial, for which any number
+/// would do. By the straight line twice the search goes for the goal, and looks at less around the way to it.
 fn estimate(driven: u64, piece: &Piece, to: Location) -> u64 {
     match piece.places.items().last() {
         Some(place) => {
@@ -66,7 +72,8 @@ fn estimate(driven: u64, piece: &Piece, to: Location) -> u64 {
     }
 }
 
-/// How long the piece is, by straight lines between its places.
+/// About how long the piece is, by straight lines between its places: for the order of trial alone. Stays at the last
+/// number of 64 bits where it would be more.
 pub fn length_of(piece: &Piece) -> u64 {
     let places = piece.places.items();
     let mut sum: u64 = 0;
@@ -78,7 +85,9 @@ pub fn length_of(piece: &Piece) -> u64 {
     sum
 }
 
-/// About how far the places are from each other, in units of 1e-7 degree of latitude.
+/// About how far the places are from each other, in units of 1e-7 degree of latitude, over the antimeridian where
+/// that is nearer: the longer of the two sides and three eighths of the shorter, less than 7 % off on a plane. For the
+/// order of trial alone.
 fn straight_line(from: Location, to: Location) -> u64 {
     let up = u64::from(from.lat.abs_diff(to.lat));
     let across = u64::from(from.lon.abs_diff(to.lon));
@@ -89,7 +98,8 @@ fn straight_line(from: Location, to: Location) -> u64 {
     longer.saturating_add(shorter.saturating_mul(3) / 8)
 }
 
-/// How much shorter than on the equator a degree of longitude is, in parts of 65,536.
+/// About how much shorter than on the equator a degree of longitude is, in parts of 65,536: all of them at latitude 0,
+/// none at the poles, and between them by a parabola in place of the cosine. For the order of trial alone.
 fn narrowed(lat: i32) -> u64 {
     let lat = u64::from(lat.unsigned_abs());
     let quarter: u64 = 810_000_000_000_000_000;

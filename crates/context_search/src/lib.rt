@@ -5,8 +5,11 @@
 //! contexts that it has come to it goes on from the one at which the least drive over it is to be expected (`marks`,
 //! `frontier`), what was driven and twice the straight line to the goal, and marks each once: of n contexts each arc
 //! takes the logarithm of n (`following`). Where nothing is left to go on from there is no drive, after one pass over
-//! what can be come to. The drive that was found is put together in the time of its steps (`routes`). What a search
-//! finds and misses is the law `laws::searched_drives`.
+//! what can be come to. The drive that was found is put together in the time of its steps (`routes`).
+//!
+//! Other searches over contexts and arcs stand on the same parts: where a drive may begin and end (`ends_of`,
+//! `inside_one`), all contexts in their order (`spots_in_order`, `find_spot`, `put_names`), the drive of what was found
+//! (`within`, `along`), and the law of what a search finds and misses (`laws::searched_drives`).
 #![tactic(auto)]
 
 mod ends;
@@ -19,8 +22,10 @@ mod reaching;
 mod routes;
 mod spots;
 
-pub use ends::{Ends, Goal, Start, ends_of};
+pub use ends::{Begin, DriveEnds, Goal, ends_of, goal_at};
+pub use following::Meeting;
 pub use found::Found;
-pub use reaching::reach;
+pub use marks::{Origin, TreeVisit};
+pub use reaching::{inside_one, reach, spots_in_order};
 pub use routes::{along, within};
-pub use spots::{Spot, find_spot, spots_of};
+pub use spots::{Spot, find_spot, put_names, spots_of};

@@ -20,7 +20,7 @@ pub enum Origin {
 
 /// A context that can be come to, by its number, and how far it is to the end of its piece.
 #[derive(Clone, Copy, Debug)]
-pub struct Visit {
+pub struct TreeVisit {
     pub number: usize,
     pub origin: Origin,
     pub driven: u64,
@@ -30,7 +30,7 @@ pub struct Visit {
 #[derive(Drop)]
 pub struct Search {
     marked: Vec<bool>,
-    visits: Vec<Visit>,
+    visits: Vec<TreeVisit>,
     frontier: Frontier,
 }
 
@@ -61,14 +61,14 @@ impl Search {
     }
 
     /// The visits in the order in which the contexts were marked.
-    pub fn visits(&self) -> &[Visit]
+    pub fn visits(&self) -> &[TreeVisit]
         ensures { result.now ≡ self.now.visits }
     {
         self.visits.as_slice()
     }
 
     /// The visit at the place.
-    pub fn at(&self, place: usize) -> Visit
+    pub fn at(&self, place: usize) -> TreeVisit
         requires { place < length self.now.visits }
         ensures { slice_get self.now.visits place ≡ Some result }
     {
@@ -104,7 +104,7 @@ impl Search {
         let piece = spots[number].piece;
         let driven = before.saturating_add(length_of(piece));
         self.frontier.push(self.visits.len(), driven, piece)?;
-        self.visits.push(Visit {
+        self.visits.push(TreeVisit {
             number,
             origin,
             driven,

@@ -3,14 +3,14 @@ ghost use Rattle.std.specs.Prelude.{◌≡◌, ◌≤◌, map, IfOk, IfSome, IfN
 ghost use Rattle.road_model.specs.BlockMap.{AreBlocksOf};
 ghost use Rattle.road_model.specs.Driving.{located};
 ghost use Rattle.road_model.specs.Networks.{on, map_of};
-ghost use Rattle.context_search.specs.declared.ends.Start.{Start};
+ghost use Rattle.context_search.specs.declared.ends.Begin.{Begin};
 ghost use Rattle.context_search.specs.declared.ends.Goal.{Goal};
 ghost use Rattle.context_search.specs.Marks.{at_of};
 ghost use Rattle.context_search.specs.Visits.{goal_in};
 ghost use Rattle.context_search.specs.Reaching.{IsFound};
 ghost use Rattle.context_search.specs.Sought.{AreEnds, AreSpots};
 
-use crate::ends::{Ends, Goal, Start, ends_of, goal_at};
+use crate::ends::{Begin, DriveEnds, Goal, ends_of, goal_at};
 use crate::following::{begin, run};
 use crate::found::Found;
 use crate::laws::searched_drives;
@@ -83,7 +83,7 @@ fn drive_between<M: World, P: Profile>(
     alloc: Global,
     network: &Network<'_, M, P>,
     blocks: &Blocks,
-    ends: &Ends<'_>,
+    ends: &DriveEnds<'_>,
     to: Location,
 ) -> Result<Found, NoMemory>
     requires blocks { on network.now AreBlocksOf blocks.now.map }
@@ -104,12 +104,12 @@ fn drive_over<M: World, P: Profile>(
     alloc: Global,
     network: &Network<'_, M, P>,
     spots: &[Spot<'_>],
-    ends: &Ends<'_>,
+    ends: &DriveEnds<'_>,
     to: Location,
 ) -> Result<Found, NoMemory>
     requires spots { on network.now AreSpots (map at_of spots.now) }
     requires ends { on network.now AreEnds ends.now }
-    requires apart { (s : Start) (g : Goal) → Contains ends.now.starts.items s
+    requires apart { (s : Begin) (g : Goal) → Contains ends.now.starts.items s
         → goal_in ends.now.goals s.piece.now.name ≡ Some g
         → s.first ≤ g.last
         → ⊥ }
@@ -125,15 +125,16 @@ fn drive_over<M: World, P: Profile>(
     }
 }
 
-/// A piece on which a drive may begin and then end.
-fn inside_one<'a>(
-    starts: &[Start<'a>],
+/// A piece on which a drive may begin and then end: the first of the starts for which there is one. Takes for each
+/// start the time of a look-up among the goals.
+pub fn inside_one<'a>(
+    starts: &[Begin<'a>],
     goals: &BTreeMap<PieceName, Goal<'a>>,
-) -> Option<(Start<'a>, Goal<'a>)>
+) -> Option<(Begin<'a>, Goal<'a>)>
     ensures has { IfSome result (λ r. Contains starts.now r.0) }
     ensures meets { IfSome result (λ r. goal_in goals.now r.0.piece.now.name ≡ Some r.1) }
     ensures rises { IfSome result (λ r. r.0.first ≤ r.1.last) }
-    ensures none { IfNone result ((s : Start) (g : Goal) → Contains starts.now s
+    ensures none { IfNone result ((s : Begin) (g : Goal) → Contains starts.now s
         → goal_in goals.now s.piece.now.name ≡ Some g
         → s.first ≤ g.last
         → ⊥) }
@@ -148,8 +149,8 @@ fn inside_one<'a>(
     None
 }
 
-/// All contexts, in the order of their names.
-fn spots_in_order<'a, M: World, P: Profile>(
+/// All contexts, in the order of their names. Takes one pass over them.
+pub fn spots_in_order<'a, M: World, P: Profile>(
     alloc: Global,
     network: &Network<'_, M, P>,
     blocks: &'a Blocks,

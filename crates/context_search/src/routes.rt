@@ -5,9 +5,9 @@ ghost use Rattle.std.specs.List.{flat_map};
 ghost use Rattle.context_search.specs.Marks.{at_of};
 ghost use Rattle.context_search.specs.Routes.{IsChain, IsRoute, Descend, AreSpelled, spelled, steps_at};
 
-use crate::ends::{Goal, Start};
+use crate::ends::{Begin, Goal};
 use crate::following::Meeting;
-use crate::marks::{Origin, Visit};
+use crate::marks::{Origin, TreeVisit};
 use crate::spots::Spot;
 use road_base::{Drive, NoMemory, Step};
 use road_model::Piece;
@@ -15,7 +15,7 @@ use std::alloc::Global;
 use way_lines::add_steps;
 
 /// The steps of the piece from where the drive begins to where it ends.
-pub fn within(alloc: Global, start: &Start<'_>, goal: &Goal<'_>) -> Result<Drive, NoMemory>
+pub fn within(alloc: Global, start: &Begin<'_>, goal: &Goal<'_>) -> Result<Drive, NoMemory>
     requires ascends { start.now.piece.now.name.index ≤ start.now.piece.now.end }
     requires rises { start.now.first ≤ goal.now.last }
     requires last { goal.now.last < length (spelled start.now.piece.now) }
@@ -31,7 +31,7 @@ pub fn within(alloc: Global, start: &Start<'_>, goal: &Goal<'_>) -> Result<Drive
 pub fn along(
     alloc: Global,
     spots: &[Spot<'_>],
-    visits: &[Visit],
+    visits: &[TreeVisit],
     meeting: &Meeting<'_>,
 ) -> Result<Drive, NoMemory>
     requires descend { Descend visits.now }
@@ -51,7 +51,11 @@ pub fn along(
 }
 
 /// With which step of the first piece the drive begins, and the places of the visits on the way, in order.
-fn way_back(alloc: Global, visits: &[Visit], place: usize) -> Result<(usize, Vec<usize>), NoMemory>
+fn way_back(
+    alloc: Global,
+    visits: &[TreeVisit],
+    place: usize,
+) -> Result<(usize, Vec<usize>), NoMemory>
     requires descend { Descend visits.now }
     requires place { place < length visits.now }
     ensures chain { IfOk result (λ r. IsChain visits.now r.0 r.1.items place) }
@@ -68,7 +72,7 @@ fn way_back(alloc: Global, visits: &[Visit], place: usize) -> Result<(usize, Vec
 }
 
 /// The step with which the visit begins a drive.
-fn first_step(visit: &Visit) -> usize
+fn first_step(visit: &TreeVisit) -> usize
     ensures { (first : ℕ) → visit.now.origin ≡ Begins first → result ≡ first }
 {
     match visit.origin {
@@ -81,7 +85,7 @@ fn first_step(visit: &Visit) -> usize
 fn add_whole(
     steps: &mut Vec<Step>,
     spots: &[Spot<'_>],
-    visits: &[Visit],
+    visits: &[TreeVisit],
     places: &[usize],
 ) -> Result<(), NoMemory>
     requires spelled { AreSpelled (map at_of spots.now) visits.now }
@@ -99,7 +103,7 @@ fn add_whole(
 fn add_visit(
     steps: &mut Vec<Step>,
     spots: &[Spot<'_>],
-    visits: &[Visit],
+    visits: &[TreeVisit],
     place: usize,
 ) -> Result<(), NoMemory>
     requires spelled { AreSpelled (map at_of spots.now) visits.now }

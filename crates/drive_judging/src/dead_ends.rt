@@ -1,14 +1,13 @@
 //! Which drivable steps leave the nodes at which a drive goes back, so that no reversal goes over the ways there.
 ghost use Rattle.std.specs.Prelude.{◌≡◌, ◌↔◌, ◌+◌, ◌&&◌, ◌∷◌, ◌++◌, [], List, Some, IfOk, OnOk};
-ghost use Rattle.std.specs.Prelude.{IsTrue};
 ghost use Rattle.road_base.specs.declared.ids.WayId.{WayId};
 ghost use Rattle.road_base.specs.declared.ids.Step.{Step};
-ghost use Rattle.road_model.specs.Lines.{node_at, head_of, tail_of};
+ghost use Rattle.road_model.specs.Lines.{node_at};
 ghost use Rattle.road_model.specs.Networks.{map_of, on};
-ghost use Rattle.road_model.specs.Driving.{Leaves, MayTurn, Passes, located, shut, turning_place};
+ghost use Rattle.road_model.specs.Driving.{located};
 ghost use Rattle.drive_judging.specs.declared.dead_ends.Leaving.TheVariants.{One};
 ghost use Rattle.way_lines.specs.RoadLines.{IsRoad};
-ghost use Rattle.drive_judging.specs.DeadEnds.{Adds, AreLeaving, AreNoted, AreUnknown, HasWaysAt, IsLeaving, IsWith};
+ghost use Rattle.drive_judging.specs.DeadEnds.{Adds, AreLeaving, AreNoted, AreUnknown, HasWaysAt, IsWith};
 ghost use Rattle.drive_judging.specs.DeadEnds.{StepsBelow, StepsOf, leaving_in};
 
 use crate::drive_lines::{DriveLine, ends_in};
@@ -18,7 +17,7 @@ use road_model::laws::{name_order, number_order, roads_refer};
 use road_model::{Network, Profile, World};
 use std::alloc::Global;
 use std::collections::BTreeMap;
-use way_lines::{Road, is_located, line, pass};
+use way_lines::{Road, is_located, line};
 
 /// Which drivable steps leave a node: none, this one alone, or more.
 #[derive(Clone, Copy)]
@@ -236,60 +235,8 @@ fn add_step(
 }
 
 /// What is known of the node.
-fn leaving_at(known: &BTreeMap<NodeId, Leaving>, node: NodeId) -> Option<Leaving>
+pub fn leaving_at(known: &BTreeMap<NodeId, Leaving>, node: NodeId) -> Option<Leaving>
     ensures { result ≡ leaving_in known.now node }
 {
     known.get(&node).copied()
-}
-
-/// Whether the step, which goes back over the node to where the one before it began, may follow it.
-pub fn turns_back<M: World, P: Profile>(
-    world: &M,
-    profile: &P,
-    known: &BTreeMap<NodeId, Leaving>,
-    node: NodeId,
-    last: Step,
-    step: Step,
-) -> bool
-    requires known { AreLeaving (M.objects world.now) (P.rules profile.now) known.now }
-    requires leaves { Leaves (M.objects world.now) (P.rules profile.now) node step }
-    requires meets { head_of (M.objects world.now) last ≡ Some node }
-    requires back { head_of (M.objects world.now) step ≡ tail_of (M.objects world.now) last }
-    ensures { IsTrue result ↔ Passes (M.objects world.now) (P.rules profile.now) last step }
-{
-    match leaving_at(known, node) {
-        Some(leaving) => may_turn(world, profile, leaving, node),
-        None => pass(world, profile, last, step),
-    }
-}
-
-/// Whether a step that leaves the node may turn round there.
-fn may_turn<M: World, P: Profile>(world: &M, profile: &P, leaving: Leaving, node: NodeId) -> bool
-    requires { IsLeaving (M.objects world.now) (P.rules profile.now) node leaving }
-    ensures { (t : Step) → Leaves (M.objects world.now) (P.rules profile.now) node t
-        → IsTrue result ↔ MayTurn (M.objects world.now) (P.rules profile.now) node t }
-{
-    is_turning_place(world, profile, node)
-        || is_shut(world, profile, node)
-        || matches!(leaving, Leaving::One(_))
-}
-
-/// Whether the node is visible and a place to turn round.
-fn is_turning_place<M: World, P: Profile>(world: &M, profile: &P, node: NodeId) -> bool
-    ensures { result ≡ turning_place (M.objects world.now) (P.rules profile.now) node }
-{
-    match world.node(node) {
-        Some(node) => profile.turns(&node.tags),
-        None => false,
-    }
-}
-
-/// Whether the node is visible and shut, as at a bollard.
-pub fn is_shut<M: World, P: Profile>(world: &M, profile: &P, node: NodeId) -> bool
-    ensures { result ≡ shut (M.objects world.now) (P.rules profile.now) node }
-{
-    match world.node(node) {
-        Some(node) => !profile.node_open(&node.tags),
-        None => false,
-    }
 }

@@ -1,5 +1,6 @@
 //! Whether a drive is legal.
 ghost use Rattle.std.specs.Prelude.{◌≢◌, ◌<◌, ◌∷◌, ◌++◌, [], length, IfOk, IfErr};
+ghost use Rattle.road_model.specs.Networks.{map_of, on};
 ghost use Rattle.turn_automata.specs.Machines.{Watches};
 ghost use Rattle.drive_judging.specs.WordTables.{IsTableOf};
 ghost use Rattle.drive_judging.specs.DriveLines.{AreLinesOn};
@@ -14,7 +15,7 @@ use crate::word_rules::word_rule;
 use crate::word_table::WordTable;
 use road_base::Step;
 use road_model::laws::{drive_grows, drive_parts};
-use road_model::{Profile, World};
+use road_model::{Network, Profile, World};
 use turn_automata::State;
 use turn_automata::laws::unstopped_is_demanded;
 
@@ -33,12 +34,25 @@ pub fn judge<M: World, P: Profile>(
     requires own { IsTableOf (M.objects world.now) (P.rules profile.now) drive.now table.now }
     ensures { IsVerdict (M.objects world.now) (P.rules profile.now) drive.now result }
 {
-    drive_grows(profile);
-    drive_parts(profile);
+    judge_on(&Network::new(world, *profile), table, drive)
+}
+
+/// Whether the drive is legal on the network.
+fn judge_on<M: World, P: Profile>(
+    network: &Network<'_, M, P>,
+    table: &WordTable,
+    drive: &[Step],
+) -> Verdict
+    requires some { drive.now ≢ [] }
+    requires own { on network.now IsTableOf drive.now table.now }
+    ensures { on network.now IsVerdict drive.now result }
+{
+    drive_grows(&network.profile);
+    drive_parts(&network.profile);
     table.automaton.closed();
     let mut state = State(0);
     for at in 0..drive.len() {
-        match judge_step(world, profile, table, state, &drive[..at], drive[at]) {
+        match judge_step(network, table, state, &drive[..at], drive[at]) {
             Ok(next) => state = next,
             Err(rule) => {
                 return Verdict::Broken {
@@ -53,8 +67,7 @@ pub fn judge<M: World, P: Profile>(
 
 /// The state behind the step, or the first rule that it breaks behind the steps before.
 fn judge_step<M: World, P: Profile>(
-    world: &M,
-    profile: &P,
+    network: &Network<'_, M, P>,
     table: &WordTable,
     state: State,
     before: &[Step],
@@ -63,18 +76,16 @@ fn judge_step<M: World, P: Profile>(
     requires known { state.0 < length table.now.automaton.states }
     requires watches { Watches table.now.automaton state.0 before.now }
     requires sorted { AreInWordOrder table.now.automaton.words }
-    requires words { HasWords (M.objects world.now) (P.rules profile.now) (before.now ++ step ∷ [])
-        table.now.automaton.words }
-    requires lines { AreLinesOn (M.objects world.now) table.now.lines (before.now ++ step ∷ []) }
-    requires leaving { AreLeaving (M.objects world.now) (P.rules profile.now) table.now.leaving }
+    requires words { on network.now HasWords (before.now ++ step ∷ []) table.now.automaton.words }
+    requires lines { AreLinesOn (map_of network.now) table.now.lines (before.now ++ step ∷ []) }
+    requires leaving { on network.now AreLeaving table.now.leaving }
     ensures known { IfOk result (λ next. next.0 < length table.now.automaton.states) }
     ensures watches { IfOk result (λ next. Watches table.now.automaton next.0 (before.now ++ step ∷ [])) }
-    ensures goes { IfOk result (λ next. KeepsOn (M.objects world.now) (P.rules profile.now) before.now step) }
-    ensures breaks { IfErr result (λ rule. Breaks (M.objects world.now) (P.rules profile.now) before.now step
-        (broken_rule rule)) }
+    ensures goes { IfOk result (λ next. on network.now KeepsOn before.now step) }
+    ensures breaks { IfErr result (λ rule. on network.now Breaks before.now step (broken_rule rule)) }
 {
     unstopped_is_demanded();
-    if let Some(rule) = step_rule(world, profile, &table.lines, &table.leaving, before, step) {
+    if let Some(rule) = step_rule(network, table, before, step) {
         return Err(rule);
     }
     match table.automaton.go(state, step) {

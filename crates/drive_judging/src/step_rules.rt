@@ -3,77 +3,73 @@ ghost use Rattle.std.specs.Prelude.{◌≡◌, ◌∷◌, ◌++◌, [], List, If
 ghost use Rattle.road_base.specs.declared.ids.Step.{Step};
 ghost use Rattle.road_model.specs.declared.answers.Access.{Access};
 ghost use Rattle.road_model.specs.Driving.{Passes, drivable};
+ghost use Rattle.road_model.specs.Networks.{made_on, map_of, on};
 ghost use Rattle.road_model.specs.Broken.{IsAnswered, IsBehind};
 ghost use Rattle.drive_judging.specs.Verdicts.{broken_rule};
 ghost use Rattle.drive_judging.specs.Judging.{Breaks, Follows, closing};
 ghost use Rattle.drive_judging.specs.DriveLines.{AreLinesOn, IsLineIn};
 ghost use Rattle.drive_judging.specs.DeadEnds.{AreLeaving};
 
-use crate::dead_ends::{Leaving, is_shut, turns_back};
-use crate::drive_lines::{DriveLine, ends_in};
+use crate::drive_lines::ends_in;
+use crate::turning::{is_shut, turns_back};
 use crate::verdict::Rule;
-use road_base::{NodeId, Step, WayId};
-use road_model::{Access, Profile, World};
-use std::collections::BTreeMap;
+use crate::word_table::WordTable;
+use road_base::Step;
+use road_model::{Access, Network, Profile, World};
 use way_lines::is_located;
 
-/// The first of these rules that the step breaks behind the steps before it, by the lines of their ways and what leaves
-/// the nodes between them.
+/// The first of these rules that the step breaks behind the steps before it. The table has the lines of their ways.
 pub fn step_rule<M: World, P: Profile>(
-    world: &M,
-    profile: &P,
-    lines: &BTreeMap<WayId, DriveLine>,
-    leaving: &BTreeMap<NodeId, Leaving>,
+    network: &Network<'_, M, P>,
+    table: &WordTable,
     before: &[Step],
     step: Step,
 ) -> Option<Rule>
-    requires leaving { AreLeaving (M.objects world.now) (P.rules profile.now) leaving.now }
-    requires lines { AreLinesOn (M.objects world.now) lines.now (before.now ++ step ∷ []) }
-    ensures some { IfSome result (λ rule. Breaks (M.objects world.now) (P.rules profile.now) before.now step
-        (broken_rule rule)) }
-    ensures none { IfNone result (Follows (M.objects world.now) (P.rules profile.now) before.now step) }
+    requires lines { AreLinesOn (map_of network.now) table.now.lines (before.now ++ step ∷ []) }
+    requires leaving { on network.now AreLeaving table.now.leaving }
+    ensures some { IfSome result (λ rule. on network.now Breaks before.now step (broken_rule rule)) }
+    ensures none { IfNone result (on network.now Follows before.now step) }
 {
-    if let Some(rule) = rule_alone(world, profile, lines, step) {
+    if let Some(rule) = rule_alone(network, table, step) {
         return Some(rule);
     }
     match before.last() {
-        Some(last) => rule_between(world, profile, lines, leaving, *last, step),
+        Some(last) => rule_between(network, table, *last, step),
         None => None,
     }
 }
 
 /// The first of the rules on a step alone that this one breaks.
 fn rule_alone<M: World, P: Profile>(
-    world: &M,
-    profile: &P,
-    lines: &BTreeMap<WayId, DriveLine>,
+    network: &Network<'_, M, P>,
+    table: &WordTable,
     step: Step,
 ) -> Option<Rule>
-    requires { IsLineIn (M.objects world.now) lines.now step.way }
+    requires { IsLineIn (map_of network.now) table.now.lines step.way }
     ensures some { IfSome result (λ rule. (before : List Step)
-        → Breaks (M.objects world.now) (P.rules profile.now) before step (broken_rule rule)) }
-    ensures none { IfNone result (IsTrue (drivable (M.objects world.now) (P.rules profile.now) step)) }
+        → on network.now Breaks before step (broken_rule rule)) }
+    ensures none { IfNone result (IsTrue (made_on network.now drivable step)) }
 {
-    let Some((tail, head)) = ends_in(lines, step) else {
+    let Some((tail, head)) = ends_in(&table.lines, step) else {
         return Some(Rule::NoStep);
     };
-    if !is_located(world, tail) {
+    if !is_located(network.world, tail) {
         return Some(Rule::NoNode(tail));
     }
-    if !is_located(world, head) {
+    if !is_located(network.world, head) {
         return Some(Rule::NoNode(head));
     }
-    closing_rule(world, profile, step)
+    closing_rule(network, step)
 }
 
 /// The rule that closes the step's way in its direction, if one does. None for a way that isn't visible.
-fn closing_rule<M: World, P: Profile>(world: &M, profile: &P, step: Step) -> Option<Rule>
-    ensures { (a : Access) → IsAnswered (M.objects world.now) (P.rules profile.now) step a → result ≡ closing a }
+fn closing_rule<M: World, P: Profile>(network: &Network<'_, M, P>, step: Step) -> Option<Rule>
+    ensures { (a : Access) → on network.now IsAnswered step a → result ≡ closing a }
 {
-    let Some(way) = world.way(step.way) else {
+    let Some(way) = network.world.way(step.way) else {
         return None;
     };
-    match profile.direction(&way.tags, step.dir) {
+    match network.profile.direction(&way.tags, step.dir) {
         Access::Free => None,
         Access::Closed(by) => Some(Rule::Closed(by)),
         Access::WrongWay => Some(Rule::WrongWay),
@@ -82,37 +78,35 @@ fn closing_rule<M: World, P: Profile>(world: &M, profile: &P, step: Step) -> Opt
 
 /// The first rule that the step, which may be driven, breaks behind the one before it.
 fn rule_between<M: World, P: Profile>(
-    world: &M,
-    profile: &P,
-    lines: &BTreeMap<WayId, DriveLine>,
-    leaving: &BTreeMap<NodeId, Leaving>,
+    network: &Network<'_, M, P>,
+    table: &WordTable,
     last: Step,
     step: Step,
 ) -> Option<Rule>
-    requires drives { IsTrue (drivable (M.objects world.now) (P.rules profile.now) step) }
-    requires leaving { AreLeaving (M.objects world.now) (P.rules profile.now) leaving.now }
-    requires from { IsLineIn (M.objects world.now) lines.now last.way }
-    requires to { IsLineIn (M.objects world.now) lines.now step.way }
+    requires drives { IsTrue (made_on network.now drivable step) }
+    requires leaving { on network.now AreLeaving table.now.leaving }
+    requires from { IsLineIn (map_of network.now) table.now.lines last.way }
+    requires to { IsLineIn (map_of network.now) table.now.lines step.way }
     ensures some { IfSome result (λ rule. (before : List Step) → IsBehind before last
-        → Breaks (M.objects world.now) (P.rules profile.now) before step (broken_rule rule)) }
-    ensures none { IfNone result (Passes (M.objects world.now) (P.rules profile.now) last step) }
+        → on network.now Breaks before step (broken_rule rule)) }
+    ensures none { IfNone result (on network.now Passes last step) }
 {
-    let Some((from, at)) = ends_in(lines, last) else {
+    let Some((from, at)) = ends_in(&table.lines, last) else {
         return Some(Rule::Apart);
     };
-    let Some((node, to)) = ends_in(lines, step) else {
+    let Some((node, to)) = ends_in(&table.lines, step) else {
         return Some(Rule::Apart);
     };
     if at != node {
         return Some(Rule::Apart);
     }
     if to == from {
-        if turns_back(world, profile, leaving, node, last, step) {
+        if turns_back(network, table, node, last, step) {
             None
         } else {
             Some(Rule::Reversal(node))
         }
-    } else if is_shut(world, profile, node) {
+    } else if is_shut(network, node) {
         Some(Rule::Barrier(node))
     } else {
         None

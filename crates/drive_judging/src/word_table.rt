@@ -5,6 +5,7 @@ ghost use Rattle.std.specs.List.{All};
 ghost use Rattle.road_base.specs.declared.ids.WayId.{WayId};
 ghost use Rattle.road_base.specs.declared.ids.RelationId.{RelationId};
 ghost use Rattle.road_base.specs.declared.ids.Step.{Step};
+ghost use Rattle.road_model.specs.Networks.{map_of, on};
 ghost use Rattle.restrictions.specs.declared.word_list.Word.{Word};
 ghost use Rattle.restrictions.specs.Words.{IsRestriction};
 ghost use Rattle.drive_judging.specs.Tables.{BeginsOn};
@@ -47,27 +48,32 @@ impl WordTable {
     ) -> Result<WordTable, NoMemory>
         ensures { IfOk result (λ table. IsTableOf (M.objects world.now) (P.rules profile.now) drive.now table) }
     {
-        words_on_ways(profile);
-        let ways = ways_of(alloc, drive)?;
-        let lines = lines_of(alloc, world, ways.as_slice())?;
-        let leaving = leaving_at_reversals(alloc, &Network::new(world, *profile), &lines, drive)?;
-        let relations = relations_of(alloc, world, ways.as_slice())?;
-        let steps = in_order(alloc, drive)?;
-        let mut words = words_of(
-            alloc,
-            world,
-            profile,
-            relations.as_slice(),
-            steps.as_slice(),
-        )?;
-        put_in_order(&mut words);
-        let automaton = Automaton::of(alloc, &WordList::from_list(words))?;
-        Ok(WordTable {
-            automaton,
-            lines,
-            leaving,
-        })
+        table_on(alloc, &Network::new(world, *profile), drive)
     }
+}
+
+/// What judging the drive on the network needs.
+fn table_on<M: World, P: Profile>(
+    alloc: Global,
+    network: &Network<'_, M, P>,
+    drive: &[Step],
+) -> Result<WordTable, NoMemory>
+    ensures { IfOk result (on network.now IsTableOf drive.now) }
+{
+    words_on_ways(&network.profile);
+    let ways = ways_of(alloc, drive)?;
+    let lines = lines_of(alloc, network.world, ways.as_slice())?;
+    let leaving = leaving_at_reversals(alloc, network, &lines, drive)?;
+    let relations = relations_of(alloc, network.world, ways.as_slice())?;
+    let steps = in_order(alloc, drive)?;
+    let mut words = words_of(alloc, network, relations.as_slice(), steps.as_slice())?;
+    put_in_order(&mut words);
+    let automaton = Automaton::of(alloc, &WordList::from_list(words))?;
+    Ok(WordTable {
+        automaton,
+        lines,
+        leaving,
+    })
 }
 
 /// The ways of the steps, each once.
@@ -115,19 +121,17 @@ fn in_order(alloc: Global, drive: &[Step]) -> Result<Vec<Step>, NoMemory>
 /// gives none.
 fn words_of<M: World, P: Profile>(
     alloc: Global,
-    world: &M,
-    profile: &P,
+    network: &Network<'_, M, P>,
     relations: &[RelationId],
     steps: &[Step],
 ) -> Result<Vec<Word>, NoMemory>
-    requires restrictions { All (IsRestriction (M.objects world.now)) relations.now }
+    requires restrictions { All (IsRestriction (map_of network.now)) relations.now }
     requires sorted { AreInOrder steps.now }
-    ensures { IfOk result (λ v. AreWordsOn (M.objects world.now) (P.rules profile.now) steps.now relations.now
-        v.items) }
+    ensures { IfOk result (λ v. on network.now AreWordsOn steps.now relations.now v.items) }
 {
     let mut list = Vec::new(alloc);
     for relation in relations {
-        add_words(&mut list, world, profile, *relation, steps)?;
+        add_words(&mut list, network, *relation, steps)?;
     }
     Ok(list)
 }
@@ -135,17 +139,15 @@ fn words_of<M: World, P: Profile>(
 /// Adds the words of the restriction that begin with one of the steps, which are sorted.
 fn add_words<M: World, P: Profile>(
     list: &mut Vec<Word>,
-    world: &M,
-    profile: &P,
+    network: &Network<'_, M, P>,
     relation: RelationId,
     steps: &[Step],
 ) -> Result<(), NoMemory>
-    requires restriction { IsRestriction (M.objects world.now) relation }
+    requires restriction { IsRestriction (map_of network.now) relation }
     requires sorted { AreInOrder steps.now }
-    ensures { OnOk result (GainsWords (M.objects world.now) (P.rules profile.now) steps.now relation list.old.items
-        list.new.items) }
+    ensures { OnOk result (on network.now GainsWords steps.now relation list.old.items list.new.items) }
 {
-    match words(*list.allocator(), world, profile, relation) {
+    match words(*list.allocator(), network.world, &network.profile, relation) {
         Ok(all) => {
             let mut more = all.into_list();
             more.retain(|word| begins_on(word, steps));

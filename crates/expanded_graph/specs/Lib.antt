@@ -1,3 +1,4 @@
+pub mod Coming
 pub mod Contexts
 pub mod Known
 pub mod Near

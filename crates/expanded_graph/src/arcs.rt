@@ -9,17 +9,18 @@ ghost use Rattle.road_model.specs.Orders.{name_cmp};
 ghost use Rattle.road_model.specs.Blocks.{IsArcEntry};
 ghost use Rattle.turn_automata.specs.Machines.{StandsFor};
 ghost use Rattle.expanded_graph.specs.declared.states.StateFacts.{StateFacts};
-ghost use Rattle.expanded_graph.specs.Contexts.{IsReached};
-ghost use Rattle.expanded_graph.specs.Intersections.{IsIntersection, may_follow};
+ghost use Rattle.expanded_graph.specs.Coming.{IsComing, IsReachedIn};
+ghost use Rattle.expanded_graph.specs.Intersections.{may_follow};
 ghost use Rattle.road_model.specs.Networks.{on};
 
+use crate::coming::Coming;
 use crate::intersections::Intersection;
 use crate::states::States;
 use road_base::{NoMemory, NodeId};
 use road_model::laws::{
     context_goes_on, context_target, contexts, name_order, one_name, steps_depart, words_on_ways,
 };
-use road_model::{Network, Profile, TurnArc, World};
+use road_model::{Profile, TurnArc, World};
 use std::alloc::Global;
 use turn_automata::State;
 use turn_automata::laws::{watched_decides, watched_grows};
@@ -28,31 +29,26 @@ use way_pieces::Departure;
 /// Room for so many arcs is taken at once. Most nodes have fewer departures, and of many at a node few may follow.
 const FEW: usize = 8;
 
-/// The arcs of the contexts that come to the intersection from the node `from` in the state, ascending by name.
+/// The arcs of the contexts in the state that come to the intersection, ascending by name.
 pub fn arcs_at<M: World, P: Profile>(
     alloc: Global,
-    network: &Network<'_, M, P>,
-    states: &States,
+    coming: &Coming<'_, M, P>,
     state: State,
-    intersection: &Intersection<'_>,
-    from: NodeId,
 ) -> Result<Vec<TurnArc>, NoMemory>
-    requires count { length states.now.facts.items ≡ length states.now.automaton.states }
-    requires state { state.0 < length states.now.automaton.states }
-    requires intersection { on network.now IsIntersection intersection.now }
-    ensures { IfOk result (λ v. (c : List Span)
-        → on network.now IsReached states.now.automaton states.now.facts.items state.0 from intersection.now.node c
-        → Lists (λ a. a.piece) name_cmp (on network.now IsArcEntry c) v.items) }
+    requires coming { IsComing coming.now }
+    requires state { state.0 < length coming.now.states.now.automaton.states }
+    ensures { IfOk result (λ v. (c : List Span) → IsReachedIn coming.now state.0 c
+        → Lists (λ a. a.piece) name_cmp (on coming.now.network.now IsArcEntry c) v.items) }
 {
     name_order();
-    one_name(&network.profile);
-    contexts(&network.profile);
-    steps_depart(&network.profile);
-    context_goes_on(&network.profile);
-    let departures = intersection.departures;
+    one_name(&coming.network.profile);
+    contexts(&coming.network.profile);
+    steps_depart(&coming.network.profile);
+    context_goes_on(&coming.network.profile);
+    let departures = coming.intersection.departures;
     let mut arcs = Vec::with_capacity(alloc, departures.len().min(FEW))?;
     for departure in departures {
-        if let Some(arc) = arc_by(network, states, state, intersection, from, *departure) {
+        if let Some(arc) = arc_by(coming, state, *departure) {
             arcs.push(arc)?;
         }
     }
@@ -61,43 +57,38 @@ pub fn arcs_at<M: World, P: Profile>(
 
 /// The arc by the departure: none where it may not follow at the intersection, or a restriction forbids it.
 fn arc_by<M: World, P: Profile>(
-    network: &Network<'_, M, P>,
-    states: &States,
+    coming: &Coming<'_, M, P>,
     state: State,
-    intersection: &Intersection<'_>,
-    from: NodeId,
     departure: Departure,
 ) -> Option<TurnArc>
-    requires count { length states.now.facts.items ≡ length states.now.automaton.states }
-    requires state { state.0 < length states.now.automaton.states }
-    requires intersection { on network.now IsIntersection intersection.now }
-    requires departure { Contains intersection.now.departures.now departure }
+    requires coming { IsComing coming.now }
+    requires state { state.0 < length coming.now.states.now.automaton.states }
+    requires departure { Contains coming.now.intersection.departures.now departure }
     ensures named { IfSome result (λ a. a.piece ≡ departure.piece) }
-    ensures arc { IfSome result (λ a. (c : List Span)
-        → on network.now IsReached states.now.automaton states.now.facts.items state.0 from intersection.now.node c
-        → on network.now IsArcEntry c a) }
+    ensures arc { IfSome result (λ a. (c : List Span) → IsReachedIn coming.now state.0 c
+        → on coming.now.network.now IsArcEntry c a) }
     ensures none { IfNone result ((c : List Span) (a : TurnArc)
-        → on network.now IsReached states.now.automaton states.now.facts.items state.0 from intersection.now.node c
-        → on network.now IsArcEntry c a
+        → IsReachedIn coming.now state.0 c
+        → on coming.now.network.now IsArcEntry c a
         → a.piece ≡ departure.piece
         → ⊥) }
 {
     name_order();
-    one_name(&network.profile);
-    steps_depart(&network.profile);
-    words_on_ways(&network.profile);
-    context_goes_on(&network.profile);
-    context_target(&network.profile);
+    one_name(&coming.network.profile);
+    steps_depart(&coming.network.profile);
+    words_on_ways(&coming.network.profile);
+    context_goes_on(&coming.network.profile);
+    context_target(&coming.network.profile);
     watched_decides();
     watched_grows();
-    states.automaton.closed();
-    if !may_follow(intersection, from, departure) {
+    coming.states.automaton.closed();
+    if !may_follow(&coming.intersection, coming.from, departure) {
         return None;
     }
-    let Some(next) = states.automaton.go(state, departure.first) else {
+    let Some(next) = coming.states.automaton.go(state, departure.first) else {
         return None;
     };
-    let length = target_len(states, next);
+    let length = target_len(coming.states, next);
     Some(TurnArc {
         piece: departure.piece,
         length,

@@ -3,58 +3,42 @@ ghost use Rattle.std.specs.Prelude.{◌≡◌, [], map, IfOk, OnOk, IsTrue};
 ghost use Rattle.std.specs.List.{AllByRecursion, IsDistinct};
 ghost use Rattle.std.specs.List.Sorted.{IsPermutation};
 ghost use Rattle.std.specs.Ordering.{eq_by_cmp};
-ghost use Rattle.road_model.specs.Pieces.{IsPiece};
 ghost use Rattle.ordered_lists.specs.Orders.{Lists, rises};
 ghost use Rattle.road_model.specs.Orders.{names_cmp};
 ghost use Rattle.road_model.specs.Blocks.{IsContextEntry};
 ghost use Rattle.road_model.specs.Format.{IsContextForm, begins_alone};
 ghost use Rattle.way_pieces.specs.Names.{piece_of};
-ghost use Rattle.expanded_graph.specs.Contexts.{IsEnding, AreEndings, EndsWithName, IsContextIn, HasContexts};
-ghost use Rattle.expanded_graph.specs.States.{AreStates};
-ghost use Rattle.expanded_graph.specs.Travel.{Arrives};
-ghost use Rattle.expanded_graph.specs.Intersections.{IsIntersection};
-ghost use Rattle.road_model.specs.Networks.{on, map_of};
+ghost use Rattle.expanded_graph.specs.Coming.{IsComing};
+ghost use Rattle.expanded_graph.specs.Contexts.{IsEnding, EndsWithName, IsContextIn, HasContexts};
+ghost use Rattle.road_model.specs.Networks.{on};
 
 use crate::arcs::arcs_at;
-use crate::endings::{Ending, endings_with};
-use crate::intersections::Intersection;
+use crate::coming::Coming;
+use crate::endings::endings_with;
 use crate::last_steps::last_step;
 use crate::names::names_before;
-use crate::states::States;
-use road_base::{NoMemory, NodeId};
+use road_base::NoMemory;
 use road_model::laws::{context_steps, drive_grows, name_order, one_name};
-use road_model::{Arcs, Context, Names, Network, Profile, World};
+use road_model::{Arcs, Context, Names, Profile, World};
 use std::alloc::Global;
 use std::cmp::Ordering;
 use turn_automata::State;
-use way_pieces::PieceSpan;
 
-/// The contexts of the piece that comes to the intersection from the node `from`, by length and names. The states are
-/// those of its way, and the endings those in which contexts may end there.
+/// The contexts of the piece that comes to an intersection, by length and names.
 pub fn contexts_of<M: World, P: Profile>(
     alloc: Global,
-    network: &Network<'_, M, P>,
-    states: &States,
-    endings: &[Ending],
-    intersection: &Intersection<'_>,
-    span: PieceSpan,
-    from: NodeId,
+    coming: &Coming<'_, M, P>,
 ) -> Result<Vec<Context>, NoMemory>
-    requires states { on network.now AreStates span.name.way states.now.automaton.words states.now.automaton.states
-        states.now.facts.items }
-    requires endings { AreEndings states.now.automaton states.now.facts.items endings.now }
-    requires intersection { on network.now IsIntersection intersection.now }
-    requires piece { on network.now IsPiece (piece_of span) }
-    requires arrives { Arrives (map_of network.now) (piece_of span) from intersection.now.node }
-    ensures listed { IfOk result (λ v. Lists (λ c. c.before) names_cmp (on network.now IsContextEntry (piece_of span))
-        v.items) }
+    requires { IsComing coming.now }
+    ensures listed { IfOk result (λ v. Lists (λ c. c.before) names_cmp
+        (on coming.now.network.now IsContextEntry (piece_of coming.now.span)) v.items) }
     ensures alone { IfOk result (λ v. begins_alone v.items) }
     ensures forms { IfOk result (λ v. AllByRecursion IsContextForm v.items) }
 {
     name_order();
-    one_name(&network.profile);
-    context_steps(&network.profile);
-    let mut contexts = all_contexts(alloc, network, states, endings, intersection, span, from)?;
+    one_name(&coming.network.profile);
+    context_steps(&coming.network.profile);
+    let mut contexts = all_contexts(alloc, coming)?;
     put_in_order(&mut contexts)?;
     Ok(contexts)
 }
@@ -63,39 +47,21 @@ pub fn contexts_of<M: World, P: Profile>(
 /// the endings with the piece are looked at.
 fn all_contexts<M: World, P: Profile>(
     alloc: Global,
-    network: &Network<'_, M, P>,
-    states: &States,
-    endings: &[Ending],
-    intersection: &Intersection<'_>,
-    span: PieceSpan,
-    from: NodeId,
+    coming: &Coming<'_, M, P>,
 ) -> Result<Vec<Context>, NoMemory>
-    requires states { on network.now AreStates span.name.way states.now.automaton.words states.now.automaton.states
-        states.now.facts.items }
-    requires endings { AreEndings states.now.automaton states.now.facts.items endings.now }
-    requires intersection { on network.now IsIntersection intersection.now }
-    requires piece { on network.now IsPiece (piece_of span) }
-    requires arrives { Arrives (map_of network.now) (piece_of span) from intersection.now.node }
-    ensures { IfOk result (λ v. on network.now HasContexts (piece_of span) v.items) }
+    requires { IsComing coming.now }
+    ensures { IfOk result (λ v. on coming.now.network.now HasContexts (piece_of coming.now.span) v.items) }
 {
     name_order();
-    one_name(&network.profile);
-    context_steps(&network.profile);
-    states.automaton.closed();
-    let here = endings_with(endings, span.name);
+    one_name(&coming.network.profile);
+    context_steps(&coming.network.profile);
+    coming.states.automaton.closed();
+    let here = endings_with(coming.endings, coming.span.name);
     let mut contexts = Vec::with_capacity(alloc, here.len() + 1)?;
-    let alone = context_alone(alloc, network, states, intersection, span, from)?;
+    let alone = context_alone(alloc, coming)?;
     contexts.push(alone)?;
     for ending in here {
-        let context = context_in(
-            alloc,
-            network,
-            states,
-            State(ending.state),
-            intersection,
-            span,
-            from,
-        )?;
+        let context = context_in(alloc, coming, State(ending.state))?;
         contexts.push(context)?;
     }
     Ok(contexts)
@@ -104,23 +70,15 @@ fn all_contexts<M: World, P: Profile>(
 /// The context of the piece alone.
 fn context_alone<M: World, P: Profile>(
     alloc: Global,
-    network: &Network<'_, M, P>,
-    states: &States,
-    intersection: &Intersection<'_>,
-    span: PieceSpan,
-    from: NodeId,
+    coming: &Coming<'_, M, P>,
 ) -> Result<Context, NoMemory>
-    requires states { on network.now AreStates span.name.way states.now.automaton.words states.now.automaton.states
-        states.now.facts.items }
-    requires intersection { on network.now IsIntersection intersection.now }
-    requires piece { on network.now IsPiece (piece_of span) }
-    requires arrives { Arrives (map_of network.now) (piece_of span) from intersection.now.node }
-    ensures entry { IfOk result (on network.now IsContextEntry (piece_of span)) }
+    requires { IsComing coming.now }
+    ensures entry { IfOk result (on coming.now.network.now IsContextEntry (piece_of coming.now.span)) }
     ensures alone { IfOk result (λ e. e.before ≡ []) }
 {
-    drive_grows(&network.profile);
-    let state = states.automaton.start(last_step(span));
-    let arcs = arcs_at(alloc, network, states, state, intersection, from)?;
+    drive_grows(&coming.network.profile);
+    let state = coming.states.automaton.start(last_step(coming.span));
+    let arcs = arcs_at(alloc, coming, state)?;
     Ok(Context {
         before: Names::from_list(Vec::new(alloc)),
         arcs: Arcs::from_list(arcs),
@@ -130,27 +88,21 @@ fn context_alone<M: World, P: Profile>(
 /// The context of the piece that ends in the state.
 fn context_in<M: World, P: Profile>(
     alloc: Global,
-    network: &Network<'_, M, P>,
-    states: &States,
+    coming: &Coming<'_, M, P>,
     state: State,
-    intersection: &Intersection<'_>,
-    span: PieceSpan,
-    from: NodeId,
 ) -> Result<Context, NoMemory>
-    requires states { on network.now AreStates span.name.way states.now.automaton.words states.now.automaton.states
-        states.now.facts.items }
-    requires ending { IsEnding states.now.automaton states.now.facts.items span.name.way state.0 }
-    requires named { EndsWithName states.now.facts.items state.0 span.name }
-    requires intersection { on network.now IsIntersection intersection.now }
-    requires piece { on network.now IsPiece (piece_of span) }
-    requires arrives { Arrives (map_of network.now) (piece_of span) from intersection.now.node }
-    ensures { IfOk result (on network.now IsContextIn states.now.automaton (piece_of span) state.0) }
+    requires coming { IsComing coming.now }
+    requires ending { IsEnding coming.now.states.now.automaton coming.now.states.now.facts.items
+        coming.now.span.name.way state.0 }
+    requires named { EndsWithName coming.now.states.now.facts.items state.0 coming.now.span.name }
+    ensures { IfOk result (on coming.now.network.now IsContextIn coming.now.states.now.automaton
+        (piece_of coming.now.span) state.0) }
 {
-    one_name(&network.profile);
-    context_steps(&network.profile);
-    states.automaton.closed();
-    let names = names_before(alloc, network, states, state)?;
-    let arcs = arcs_at(alloc, network, states, state, intersection, from)?;
+    one_name(&coming.network.profile);
+    context_steps(&coming.network.profile);
+    coming.states.automaton.closed();
+    let names = names_before(alloc, coming.network, coming.states, state)?;
+    let arcs = arcs_at(alloc, coming, state)?;
     Ok(Context {
         before: Names::from_list(names),
         arcs: Arcs::from_list(arcs),

@@ -26,6 +26,7 @@
 mod arcs;
 mod block;
 mod builder;
+mod coming;
 mod contexts;
 mod endings;
 mod intersections;

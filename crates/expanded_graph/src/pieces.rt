@@ -13,6 +13,7 @@ ghost use Rattle.way_pieces.specs.Names.{IsSpanOn, piece_of};
 ghost use Rattle.expanded_graph.specs.Tables.{AreTables};
 ghost use Rattle.expanded_graph.specs.Travel.{Arrives};
 
+use crate::coming::Coming;
 use crate::contexts::contexts_of;
 use crate::intersections::NodeRules;
 use crate::places::{Arrival, arrival_of, places_of};
@@ -101,10 +102,26 @@ fn contexts_at<M: World, P: Profile>(
     let from = arrival.from;
     let states = &tables.states;
     let endings = tables.endings.as_slice();
-    if let Some(known) = tables.intersections.find(arrival.at) {
-        return contexts_of(alloc, network, states, endings, &known, span, from);
+    if let Some(intersection) = tables.intersections.find(arrival.at) {
+        let coming = Coming {
+            network,
+            states,
+            endings,
+            intersection,
+            span,
+            from,
+        };
+        return contexts_of(alloc, &coming);
     }
     let departures = tables.pieces.departures(alloc, network, arrival.at)?;
-    let here = NodeRules::of(network, arrival.at).with(departures.as_slice());
-    contexts_of(alloc, network, states, endings, &here, span, from)
+    let intersection = NodeRules::of(network, arrival.at).with(departures.as_slice());
+    let coming = Coming {
+        network,
+        states,
+        endings,
+        intersection,
+        span,
+        from,
+    };
+    contexts_of(alloc, &coming)
 }

@@ -1,6 +1,6 @@
 //! Both classes of ways with each key that may decide, the order of these keys, and what restrictions say.
 use crate::makers::{tags, tags_of, text};
-use access_profile::{Motorcar, deciding};
+use access_profile::{Motorcar, ProfileOf, deciding};
 use road_base::{Dir, NoMemory, Tags, Text};
 use road_model::{Access, AccessKey, ClosedBy, Profile, RuleKind};
 use std::alloc::Global;
@@ -290,6 +290,55 @@ fn deciding_keys_are_named(rt: HostRuntime) -> Result<(), Fail> {
         assert_eq!(rt; decided(rt.alloc(), of, dir)?, key, "{dir:?} at {of:?}");
     }
     assert_eq!(rt; Motorcar.number(), 1);
+    Ok(())
+}
+
+/// The profile of the number, with its answers along a way and against it.
+fn numbered(alloc: Global, number: u32) -> Result<Option<(u32, Access, Access)>, Fail> {
+    let Some(profile) = ProfileOf::new(number) else {
+        return Ok(None);
+    };
+    let tags = tags(alloc, "highway=motorway access=destination")?;
+    let along = profile.direction(&tags, Dir::Forward);
+    Ok(Some((
+        profile.number(),
+        along,
+        profile.direction(&tags, Dir::Backward),
+    )))
+}
+
+#[test]
+fn profiles_have_numbers(rt: HostRuntime) -> Result<(), Fail> {
+    for (number, answers) in [
+        (0, None),
+        (1, Some((1, FREE, WRONG))),
+        (2, None),
+        (4_294_967_295, None),
+    ] {
+        assert_eq!(rt; numbered(rt.alloc(), number)?, answers, "at {number}");
+    }
+    Ok(())
+}
+
+/// Whether the profile lists via ways backwards, and whether it knows a zone along a way with these tags.
+fn reverses_or_zones(alloc: Global, of: &str) -> Result<(bool, bool), Fail> {
+    let tags = tags(alloc, of)?;
+    Ok((Motorcar.reverses(), Motorcar.zone(&tags, Dir::Forward)))
+}
+
+#[test]
+fn cars_know_no_zones(rt: HostRuntime) -> Result<(), Fail> {
+    for of in [
+        "",
+        "highway=service access=destination",
+        "motorcar=destination",
+    ] {
+        assert_eq!(rt;
+            reverses_or_zones(rt.alloc(), of)?,
+            (false, false),
+            "at {of:?}"
+        );
+    }
     Ok(())
 }
 

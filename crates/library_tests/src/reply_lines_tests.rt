@@ -157,6 +157,10 @@ fn deciding(name: AccessKey, side: Dir) -> Rule {
     })
 }
 
+fn conditional(name: AccessKey, side: Option<Dir>) -> Rule {
+    Rule::Closed(ClosedBy::Conditional { name, side })
+}
+
 #[test]
 fn verdicts_are_written(rt: HostRuntime) {
     let cases = [
@@ -178,6 +182,16 @@ fn verdicts_are_written(rt: HostRuntime) {
             1,
             deciding(AccessKey::Access, Dir::Forward),
             "broken 1 closed access:forward",
+        ),
+        (
+            1,
+            conditional(AccessKey::Access, None),
+            "broken 1 closed access:conditional",
+        ),
+        (
+            3,
+            conditional(AccessKey::MotorVehicle, Some(Dir::Backward)),
+            "broken 3 closed motor_vehicle:backward:conditional",
         ),
         (1, Rule::WrongWay, "broken 1 wrong-way"),
         (2, Rule::Apart, "broken 2 apart"),

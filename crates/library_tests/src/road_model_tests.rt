@@ -1,10 +1,11 @@
 //! That the calls which take memory find it, and that a profile can be written.
 ghost use Rattle.std.specs.Prelude.{false};
 
+use crate::makers::tags;
 use road_base::{Dir, Location, NoMemory, NodeId, Tags, WayId};
 use road_model::{
     Access, Arcs, Block, Blocks, Context, Contexts, Names, Piece, PieceName, Pieces, Place, Places,
-    Profile, RuleKind, TurnArc, laws,
+    Profile, RuleKind, TurnArc, has_highway, is_restriction, laws,
 };
 use std::alloc::Global;
 use std::test::Fail;
@@ -132,6 +133,34 @@ fn copies_are_made(rt: HostRuntime) -> Result<(), Fail> {
     assert_eq!(rt; copy.way, block.way);
     assert_eq!(rt; copy.pieces.items().len(), 1);
     assert!(rt; have_same_places(copy.pieces.items(), block.pieces.items()));
+    Ok(())
+}
+
+/// Tags, whether they carry the key of roads, and whether they are those of a restriction.
+const OF_ROADS: [(&str, bool, bool); 6] = [
+    ("", false, false),
+    ("highway=residential", true, false),
+    ("highway= railway=rail", true, false),
+    ("highway:lanes=2 type=restriction", false, true),
+    ("type=restrictions", false, false),
+    ("restriction=no_left_turn type=route", false, false),
+];
+
+/// Whether the tags carry the key of roads, and whether they are those of a restriction.
+fn of_roads(alloc: Global, of: &str) -> Result<(bool, bool), Fail> {
+    let tags = tags(alloc, of)?;
+    Ok((has_highway(&tags), is_restriction(&tags)))
+}
+
+#[test]
+fn roads_and_restrictions_are_told_by_tags(rt: HostRuntime) -> Result<(), Fail> {
+    for (of, highway, restriction) in OF_ROADS {
+        assert_eq!(rt;
+            of_roads(rt.alloc(), of)?,
+            (highway, restriction),
+            "at {of:?}"
+        );
+    }
     Ok(())
 }
 

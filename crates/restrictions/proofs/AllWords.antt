@@ -89,6 +89,10 @@ module _ (rule : Rule) (via : List Step) where
       head_same a b from_a.0 from_b.0 (sym from_a.1 ∙ from_b.1))
 
 module _ (M : Objects) (P : Rules) (rule : Rule) (body : Relation) where
+  -- the via members, in the order in which they are passed
+  abbrev vs : List Key
+  vs = via_order M P body
+
   -- a word over a passage begins with an end step into the node where it is entered
   at_begins : (enter : NodeId) (via : List Step) (leave : NodeId) (w : Word)
       → Contains (words_at M rule body enter via leave) w
@@ -122,17 +126,15 @@ module _ (M : Objects) (P : Rules) (rule : Rule) (body : Relation) where
       → Contains (words_over M P rule body b) w → ⊥
   apart a b w differ in_a in_b =
       let open_ways = is_open M P in
-      let from_a = to_begins a (steps_of M open_ways (via_order M P body) (Some a)) (leave_of M open_ways (via_order M P body) (Some a)) w
-      in_a in
-      let from_b = to_begins b (steps_of M open_ways (via_order M P body) (Some b)) (leave_of M open_ways (via_order M P body) (Some b)) w
-      in_b in
+      let from_a = to_begins a (steps_of M open_ways vs (Some a)) (leave_of M open_ways vs (Some a)) w in_a in
+      let from_b = to_begins b (steps_of M open_ways vs (Some b)) (leave_of M open_ways vs (Some b)) w in_b in
       let same : from_a.0 ≡ from_b.0 = head_same from_a.0 from_b.0 from_a.1 from_b.1 (sym from_a.2 ∙ from_b.2) in
       differ (same_Some a b (sym from_a.3 ∙ (ap (head_of M) same ∙ from_b.3)))
 
   over_distinct : (o : Option NodeId) → AreDistinct (words_over_if M P rule body o)
   over_distinct None = tt
-  over_distinct (Some enter) = to_distinct enter (steps_of M (is_open M P) (via_order M P body) (Some enter))
-      (leave_of M (is_open M P) (via_order M P body) (Some enter))
+  over_distinct (Some enter) = to_distinct enter (steps_of M (is_open M P) vs (Some enter))
+      (leave_of M (is_open M P) vs (Some enter))
 
   over_apart : (a b : Option NodeId) (w : Word) → same_end a b ≡ false → Contains (words_over_if M P rule body a) w
       → Contains (words_over_if M P rule body b) w → ⊥
@@ -155,16 +157,16 @@ module _ (M : Objects) (P : Rules) (rule : Rule) (body : Relation) where
   -- ---- each passage has its words in the list
 
   over_there : (enter : NodeId) (via : List Step) (leave : NodeId) (z : Word)
-      → leave_of M (is_open M P) (via_order M P body) (Some enter) ≡ Some leave
-      → via ≡ steps_of M (is_open M P) (via_order M P body) (Some enter) → Contains (words_at M rule body enter via leave) z
+      → leave_of M (is_open M P) vs (Some enter) ≡ Some leave
+      → via ≡ steps_of M (is_open M P) vs (Some enter) → Contains (words_at M rule body enter via leave) z
       → Contains (words_over M P rule body enter) z
   over_there enter via leave z leaves spelled has =
-      let steps = steps_of M (is_open M P) (via_order M P body) (Some enter) in
+      let steps = steps_of M (is_open M P) vs (Some enter) in
       let here : Contains (words_at M rule body enter steps leave) z = subst
       (λ (s : List Step). Contains (words_at M rule body enter s leave) z) spelled has in
       subst (λ (o : Option NodeId). Contains (words_to M rule body enter steps o) z) (sym leaves) here
 
-  with_there : (ks : List Key) → via_order M P body ≡ ks → list_any (is_ring M) ks ≡ false
+  with_there : (ks : List Key) → vs ≡ ks → list_any (is_ring M) ks ≡ false
       → (enter : NodeId) (via : List Step) (leave : NodeId) (z : Word) → IsVia M P ks enter via leave
       → Contains (words_at M rule body enter via leave) z → Contains (words_with M P rule body ks) z
   with_there [] are lines enter via leave z is has = absurd is
@@ -177,9 +179,9 @@ module _ (M : Objects) (P : Rules) (rule : Rule) (body : Relation) where
   with_there (NodeKey n ∷ k ∷ ks) are lines enter via leave z is has = absurd is
   with_there (WayKey w ∷ ks) are lines enter via leave z is has =
       let run = one_run M (is_open M P) (WayKey w ∷ ks) enter via leave lines is in
-      let leaves : leave_of M (is_open M P) (via_order M P body) (Some enter)
+      let leaves : leave_of M (is_open M P) vs (Some enter)
       ≡ Some leave = ap (λ (ls : List Key). leave_of M (is_open M P) ls (Some enter)) are ∙ run.0 in
-      let spelled : via ≡ steps_of M (is_open M P) (via_order M P body) (Some enter) = run.1
+      let spelled : via ≡ steps_of M (is_open M P) vs (Some enter) = run.1
       ∙ ap (λ (ls : List Key). steps_of M (is_open M P) ls (Some enter)) (sym are) in
       let there : Contains (words_over_if M P rule body (Some enter)) z = over_there enter via leave z leaves spelled
       has in
@@ -200,24 +202,24 @@ module _ (M : Objects) (P : Rules) (rule : Rule) (body : Relation) where
   IsOver ks z = (enter : NodeId) × (via : List Step) × (leave : NodeId) × IsVia M P ks enter via leave
       × Contains (words_at M rule body enter via leave) z
 
-  to_known : (w : WayId) (ks : List Key) → via_order M P body ≡ WayKey w ∷ ks → (enter : NodeId) (out : Option NodeId) (z : Word)
-      → leave_of M (is_open M P) (via_order M P body) (Some enter) ≡ out
-      → Contains (words_to M rule body enter (steps_of M (is_open M P) (via_order M P body) (Some enter)) out) z
+  to_known : (w : WayId) (ks : List Key) → vs ≡ WayKey w ∷ ks → (enter : NodeId) (out : Option NodeId) (z : Word)
+      → leave_of M (is_open M P) vs (Some enter) ≡ out
+      → Contains (words_to M rule body enter (steps_of M (is_open M P) vs (Some enter)) out) z
       → IsOver (WayKey w ∷ ks) z
   to_known w ks are enter None z leaves has = absurd (contains_none z has)
   to_known w ks are enter (Some leave) z leaves has =
-      let steps = steps_of M (is_open M P) (via_order M P body) (Some enter) in
-      let run : IsRun M (is_open M P) (via_order M P body) enter steps leave = is_run M (is_open M P) (via_order M P body) enter leave
+      let steps = steps_of M (is_open M P) vs (Some enter) in
+      let run : IsRun M (is_open M P) vs enter steps leave = is_run M (is_open M P) vs enter leave
       leaves in
       (enter, steps, leave, subst (λ (ls : List Key). IsRun M (is_open M P) ls enter steps leave) are run, has)
 
-  over_known : (w : WayId) (ks : List Key) → via_order M P body ≡ WayKey w ∷ ks → (o : Option NodeId) (z : Word)
+  over_known : (w : WayId) (ks : List Key) → vs ≡ WayKey w ∷ ks → (o : Option NodeId) (z : Word)
       → Contains (words_over_if M P rule body o) z → IsOver (WayKey w ∷ ks) z
   over_known w ks are None z has = absurd (contains_none z has)
-  over_known w ks are (Some enter) z has = to_known w ks are enter (leave_of M (is_open M P) (via_order M P body) (Some enter)) z
+  over_known w ks are (Some enter) z has = to_known w ks are enter (leave_of M (is_open M P) vs (Some enter)) z
       refl has
 
-  with_known : (ks : List Key) → via_order M P body ≡ ks → (z : Word) → Contains (words_with M P rule body ks) z → IsOver ks z
+  with_known : (ks : List Key) → vs ≡ ks → (z : Word) → Contains (words_with M P rule body ks) z → IsOver ks z
   with_known [] are z has = absurd (contains_none z has)
   with_known (NodeKey n ∷ []) are z has = (n, [], n, (refl, refl, refl), has)
   with_known (NodeKey n ∷ k ∷ ks) are z has = absurd (contains_none z has)
@@ -235,15 +237,15 @@ module _ (M : Objects) (P : Rules) (rule : Rule) (body : Relation) where
     kind : P.rule body.tags ≡ kind_of rule.only
     kind = kind_known (P.rule body.tags) (usable NotThisVehicle) (usable NoValue) ∙ ap kind_of (sym only)
 
-    lines : list_any (is_ring M) (via_order M P body) ≡ false
+    lines : list_any (is_ring M) vs ≡ false
     lines =
-        let reached = not (some_ends_at M (froms body) (via_ends M (first_of (via_order M P body))))
-        || not (some_ends_at M (tos body) (via_ends M (last_of (via_order M P body)))) in
-        let ends : misses_end M body (via_order M P body) ≡ false = false_from_ne_true (misses_end M body (via_order M P body)) (usable NotAnEnd) in
-        (or_parts (list_any (is_ring M) (via_order M P body)) reached ends).0
+        let reached = not (some_ends_at M (froms body) (via_ends M (first_of vs)))
+        || not (some_ends_at M (tos body) (via_ends M (last_of vs))) in
+        let ends : misses_end M body vs ≡ false = false_from_ne_true (misses_end M body vs) (usable NotAnEnd) in
+        (or_parts (list_any (is_ring M) vs) reached ends).0
 
     spelled_word : (enter : NodeId) (via : List Step) (leave : NodeId) (z : Word)
-        → IsVia M P (via_order M P body) enter via leave → Contains (words_at M rule body enter via leave) z → IsWordOf M P r z
+        → IsVia M P vs enter via leave → Contains (words_at M rule body enter via leave) z → IsWordOf M P r z
     spelled_word enter via leave z is has =
         let lasts = ends_of M OutOf leave (tos body) [] in
         let found = contains_from_flat (λ first. words_from rule first via lasts)
@@ -281,7 +283,7 @@ module _ (M : Objects) (P : Rules) (rule : Rule) (body : Relation) where
     listed_word z w =
         let is = w.is in
         let same : is.body ≡ body = same_Some is.body body (sym is.visible ∙ visible) in
-        let via_is : IsVia M P (via_order M P body) is.enter is.via is.leave = subst
+        let via_is : IsVia M P vs is.enter is.via is.leave = subst
         (λ (b : Relation). IsVia M P (via_order M P b) is.enter is.via is.leave) same is.via_is in
         let from_member : Contains (froms body) (WayKey is.from_way) = subst
         (λ (b : Relation). Contains (froms b) (WayKey is.from_way)) same is.from_member in
@@ -305,15 +307,15 @@ module _ (M : Objects) (P : Rules) (rule : Rule) (body : Relation) where
         (word_of rule is.first is.via is.last) first_there
         (contains_map (λ last. word_of rule is.first is.via last) lasts is.last last_there) in
         subst (Contains (words_of M P rule body)) (sym word)
-        (with_there (via_order M P body) refl lines is.enter is.via is.leave (word_of rule is.first is.via is.last) via_is
+        (with_there vs refl lines is.enter is.via is.leave (word_of rule is.first is.via is.last) via_is
         there)
 
     all_words : AreWords M P r (words_of M P rule body)
     all_words = record {
-      each = λ z has. let known = with_known (via_order M P body) refl z has in spelled_word known.0 known.1 known.2 z known.3
+      each = λ z has. let known = with_known vs refl z has in spelled_word known.0 known.1 known.2 z known.3
           known.4;
       all = listed_word;
-      once = with_distinct (via_order M P body) lines;
+      once = with_distinct vs lines;
     }
 
 -- ---- the answer for a restriction

@@ -206,16 +206,17 @@ module _ (M : Objects) (allowed : WayId → Dir → Bool) where
         [ inl from_a ↦ connects_from r vs a from_a | inr from_b ↦ connects_from r vs b from_b ],
     λ k. elim (enters_at vs k.enter k.steps k.leave ways k.run) [
       | inl is ↦ or_left (leads M allowed r vs a) (leads M allowed r vs b)
-          (ap (λ (v : NodeId). leads M allowed r vs v) (same_Some a k.enter (sym first ∙ is)) ∙ leads_there r vs lines k)
+          (ap (leads M allowed r vs) (same_Some a k.enter (sym first ∙ is)) ∙ leads_there r vs lines k)
       | inr is ↦ or_right (leads M allowed r vs a) (leads M allowed r vs b)
-          (ap (λ (v : NodeId). leads M allowed r vs v) (same_Some b k.enter (sym last ∙ is)) ∙ leads_there r vs lines k)
+          (ap (leads M allowed r vs) (same_Some b k.enter (sym last ∙ is)) ∙ leads_there r vs lines k)
     ],
   )
 
   -- the same, where a call has answered for the first end, and one for the second
   pub connect_first : (r : Relation) (vs ks : List Key) (a b : NodeId) (answer : Bool) → ks ≡ vs
       → are_ways vs ≡ true → list_any (is_ring M) vs ≡ false → Some a ≡ first_enter M ks
-      → Some b ≡ last_enter M ks → answer ≡ leads M allowed r vs a → answer ≡ true → (answer ≡ true) ↔ Connects M allowed r vs
+      → Some b ≡ last_enter M ks → answer ≡ leads M allowed r vs a → answer ≡ true
+      → (answer ≡ true) ↔ Connects M allowed r vs
   connect_first r vs ks a b answer are ways lines first last is holds
       = (λ h. connects_from r vs a (sym is ∙ holds), λ k. holds)
 

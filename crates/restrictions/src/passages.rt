@@ -2,13 +2,14 @@
 ghost use Rattle.std.specs.Prelude.{◌≡◌, ◌++◌, OnOk, IfOk, IfSome, IfNone, Some, None};
 ghost use Rattle.road_model.specs.Driving.{is_open};
 ghost use Rattle.road_model.specs.Lines.{line_of};
+ghost use Rattle.road_model.specs.Networks.{made_on, map_of};
 ghost use Rattle.road_model.specs.Restrictions.{whole_way};
 ghost use Rattle.restrictions.specs.Runs.{leave_of, steps_of};
 
 use crate::line_ends::nodes_on;
 use crate::runs::{Allowed, cross};
 use road_base::{Dir, Key, NoMemory, NodeId, Step, WayId};
-use road_model::{Profile, World};
+use road_model::{Network, Profile, World};
 use std::alloc::Global;
 use way_lines::add_steps;
 
@@ -24,30 +25,28 @@ pub struct Passage {
 #[tactic(auto, using(crate::proofs::OneRun::from_nowhere))]
 pub fn pass_ways<M: World, P: Profile>(
     alloc: Global,
-    world: &M,
-    profile: &P,
+    network: &Network<'_, M, P>,
     ways: &[Key],
     enter: NodeId,
 ) -> Result<Option<Passage>, NoMemory>
     ensures enter { IfOk result (λ answer. IfSome answer (λ passage. passage.enter ≡ enter)) }
     ensures steps { IfOk result (λ answer. IfSome answer
-        (λ passage. passage.steps.items ≡ steps_of (M.objects world.now)
-        (is_open (M.objects world.now) (P.rules profile.now)) ways.now (Some enter))) }
+        (λ passage. passage.steps.items ≡ steps_of (map_of network.now) (made_on network.now is_open) ways.now
+        (Some enter))) }
     ensures leave { IfOk result (λ answer. IfSome answer
-        (λ passage. leave_of (M.objects world.now) (is_open (M.objects world.now) (P.rules profile.now)) ways.now
-        (Some enter) ≡ Some passage.leave)) }
+        (λ passage. leave_of (map_of network.now) (made_on network.now is_open) ways.now (Some enter)
+        ≡ Some passage.leave)) }
     ensures none { IfOk result (λ answer. IfNone answer
-        (leave_of (M.objects world.now) (is_open (M.objects world.now) (P.rules profile.now)) ways.now (Some enter)
-        ≡ None)) }
+        (leave_of (map_of network.now) (made_on network.now is_open) ways.now (Some enter) ≡ None)) }
 {
     let mut steps = Vec::new(alloc);
     let mut at = enter;
     let mut rest = ways;
     while let [key, behind @ ..] = rest {
-        let Some(crossing) = cross(world, profile, Allowed::OpenWay, *key, at) else {
+        let Some(crossing) = cross(network, Allowed::OpenWay, *key, at) else {
             return Ok(None);
         };
-        add_whole_way(&mut steps, world, crossing.way, crossing.dir)?;
+        add_whole_way(&mut steps, network.world, crossing.way, crossing.dir)?;
         at = crossing.out;
         rest = behind;
     }

@@ -8,7 +8,7 @@ use crate::roles::roles_of;
 use crate::spelling::{rule_of, words_of};
 use crate::word_list::WordList;
 use road_base::{NoMemory, RelationId};
-use road_model::{Profile, Unusable, World};
+use road_model::{Network, Profile, Unusable, World};
 use std::alloc::{AllocError, Global};
 
 /// Why a restriction gives no words.
@@ -55,10 +55,11 @@ pub fn words<M: World, P: Profile>(
         unreachable!()
     };
     let roles = roles_of(alloc, body)?;
-    if let Some(cause) = first_cause(world, profile, &roles) {
+    let network = Network::new(world, *profile);
+    if let Some(cause) = first_cause(&network, &roles) {
         return Err(WordsError::Unusable(cause));
     }
     let rule = rule_of(profile, relation, &roles);
-    let words = words_of(alloc, world, profile, rule, &roles)?;
+    let words = words_of(alloc, &network, rule, &roles)?;
     Ok(WordList::from_list(words))
 }

@@ -2,6 +2,7 @@
 ghost use Rattle.std.specs.Prelude.{◌≡◌, ◌↔◌, Some, None, IsTrue, IsFalse, IfSome, IfNone, option_map};
 ghost use Rattle.std.specs.List.{list_any};
 ghost use Rattle.road_base.specs.declared.ids.Key.TheVariants.{Way as WayKey};
+ghost use Rattle.road_model.specs.Networks.{made_on, map_of};
 ghost use Rattle.road_model.specs.Restrictions.{Connects, are_ways, is_ring, via_order, vias};
 ghost use Rattle.restrictions.specs.Runs.{across, allows, dir_between, dir_from, end_in, first_enter, last_enter};
 ghost use Rattle.restrictions.specs.Runs.{leads, leave_of};
@@ -9,7 +10,7 @@ ghost use Rattle.restrictions.specs.Runs.{leads, leave_of};
 use crate::line_ends::{Ends, line_ends, some_ends_at};
 use crate::roles::Roles;
 use road_base::{Dir, Key, NodeId, WayId};
-use road_model::{Profile, World};
+use road_model::{Network, Profile, World};
 use way_lines::is_open;
 
 /// The directions of ways that count: all, or those that are open.
@@ -30,29 +31,27 @@ pub struct Crossing {
 /// How one drives the whole way from the node, None where the node is no end of it or the direction doesn't count.
 /// The first end counts where both are the node.
 pub fn cross<M: World, P: Profile>(
-    world: &M,
-    profile: &P,
+    network: &Network<'_, M, P>,
     allowed: Allowed,
     key: Key,
     from: NodeId,
 ) -> Option<Crossing>
     ensures some { IfSome result (λ c. (key ≡ WayKey c.way)
-        × (dir_from (M.objects world.now) c.way (Some from) ≡ Some c.dir)
-        × (across (M.objects world.now) (allows (M.objects world.now) (P.rules profile.now) allowed) key (Some from)
-        ≡ Some c.out)) }
-    ensures none { IfNone result (across (M.objects world.now)
-        (allows (M.objects world.now) (P.rules profile.now) allowed) key (Some from) ≡ None) }
+        × (dir_from (map_of network.now) c.way (Some from) ≡ Some c.dir)
+        × (across (map_of network.now) (made_on network.now allows allowed) key (Some from) ≡ Some c.out)) }
+    ensures none { IfNone result
+        (across (map_of network.now) (made_on network.now allows allowed) key (Some from) ≡ None) }
 {
     let Key::Way(way) = key else {
         return None;
     };
-    let Some(ends) = line_ends(world, way) else {
+    let Some(ends) = line_ends(network.world, way) else {
         return None;
     };
     let Some(dir) = dir_between(ends, from) else {
         return None;
     };
-    if !is_allowed(world, profile, allowed, way, dir) {
+    if !is_allowed(network, allowed, way, dir) {
         return None;
     }
     Some(Crossing {
@@ -87,36 +86,33 @@ fn end_in(ends: Ends, dir: Dir) -> NodeId
 
 /// Whether the direction counts.
 fn is_allowed<M: World, P: Profile>(
-    world: &M,
-    profile: &P,
+    network: &Network<'_, M, P>,
     allowed: Allowed,
     way: WayId,
     dir: Dir,
 ) -> bool
-    ensures { result ≡ allows (M.objects world.now) (P.rules profile.now) allowed way dir }
+    ensures { result ≡ made_on network.now allows allowed way dir }
 {
     match allowed {
         Allowed::AnyWay => true,
-        Allowed::OpenWay => is_open(world, profile, way, dir),
+        Allowed::OpenWay => is_open(network.world, &network.profile, way, dir),
     }
 }
 
 /// The node where one comes out who drives all the ways, the first one from the node.
 #[tactic(auto, using(crate::proofs::OneRun::from_nowhere))]
 pub fn leave_of<M: World, P: Profile>(
-    world: &M,
-    profile: &P,
+    network: &Network<'_, M, P>,
     allowed: Allowed,
     ways: &[Key],
     enter: NodeId,
 ) -> Option<NodeId>
-    ensures { result ≡ leave_of (M.objects world.now) (allows (M.objects world.now) (P.rules profile.now) allowed)
-        ways.now (Some enter) }
+    ensures { result ≡ leave_of (map_of network.now) (made_on network.now allows allowed) ways.now (Some enter) }
 {
     let mut at = enter;
     let mut rest = ways;
     while let [key, behind @ ..] = rest {
-        let Some(crossing) = cross(world, profile, allowed, *key, at) else {
+        let Some(crossing) = cross(network, allowed, *key, at) else {
             return None;
         };
         at = crossing.out;
@@ -127,22 +123,20 @@ pub fn leave_of<M: World, P: Profile>(
 
 /// Whether the via ways lead in such directions from an end of a from way to an end of a to way.
 pub fn connects<M: World, P: Profile>(
-    world: &M,
-    profile: &P,
+    network: &Network<'_, M, P>,
     allowed: Allowed,
     roles: &Roles<'_>,
 ) -> bool
     requires ways { IsTrue (are_ways (vias roles.now.body.now)) }
-    requires lines { IsFalse (list_any (is_ring (M.objects world.now)) (vias roles.now.body.now)) }
-    ensures { IsTrue result ↔ Connects (M.objects world.now)
-        (allows (M.objects world.now) (P.rules profile.now) allowed) roles.now.body.now
-        (via_order (M.objects world.now) (P.rules profile.now) roles.now.body.now) }
+    requires lines { IsFalse (list_any (is_ring (map_of network.now)) (vias roles.now.body.now)) }
+    ensures { IsTrue result ↔ Connects (map_of network.now) (made_on network.now allows allowed) roles.now.body.now
+        (made_on network.now via_order roles.now.body.now) }
 {
-    let Some(ends) = first_ends(world, roles.vias.as_slice()) else {
+    let Some(ends) = first_ends(network.world, roles.vias.as_slice()) else {
         return false;
     };
-    leads_from(world, profile, allowed, roles, ends.first)
-        || leads_from(world, profile, allowed, roles, ends.last)
+    leads_from(network, allowed, roles, ends.first)
+        || leads_from(network, allowed, roles, ends.last)
 }
 
 /// The ends of the first of the ways.
@@ -158,20 +152,19 @@ pub fn first_ends<M: World>(world: &M, keys: &[Key]) -> Option<Ends>
 
 /// Whether the via ways lead so from the node, at which a from way ends.
 fn leads_from<M: World, P: Profile>(
-    world: &M,
-    profile: &P,
+    network: &Network<'_, M, P>,
     allowed: Allowed,
     roles: &Roles<'_>,
     enter: NodeId,
 ) -> bool
-    ensures { result ≡ leads (M.objects world.now) (allows (M.objects world.now) (P.rules profile.now) allowed)
-        roles.now.body.now (vias roles.now.body.now) enter }
+    ensures { result ≡ leads (map_of network.now) (made_on network.now allows allowed) roles.now.body.now
+        (vias roles.now.body.now) enter }
 {
-    if !some_ends_at(world, roles.froms.as_slice(), &[enter]) {
+    if !some_ends_at(network.world, roles.froms.as_slice(), &[enter]) {
         return false;
     }
-    match leave_of(world, profile, allowed, roles.vias.as_slice(), enter) {
-        Some(leave) => some_ends_at(world, roles.tos.as_slice(), &[leave]),
+    match leave_of(network, allowed, roles.vias.as_slice(), enter) {
+        Some(leave) => some_ends_at(network.world, roles.tos.as_slice(), &[leave]),
         None => false,
     }
 }

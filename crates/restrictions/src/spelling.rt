@@ -1,5 +1,6 @@
 //! The words of a restriction that is of use.
 ghost use Rattle.std.specs.Prelude.{◌≡◌, ◌++◌, OnOk, IfOk};
+ghost use Rattle.road_model.specs.Networks.{made_on};
 ghost use Rattle.road_model.specs.Restrictions.{vias};
 ghost use Rattle.road_model.specs.Rules.{is_only};
 ghost use Rattle.road_model.specs.Words.{binding_of};
@@ -11,7 +12,7 @@ use crate::roles::Roles;
 use crate::runs::first_ends;
 use crate::word_list::Word;
 use road_base::{Drive, Key, NoMemory, NodeId, RelationId, Step};
-use road_model::{Profile, RuleKind, World};
+use road_model::{Network, Profile, RuleKind, World};
 use std::alloc::Global;
 
 /// What the words of a restriction share.
@@ -48,13 +49,11 @@ fn binding_of(vias: &[Key]) -> u32
 /// All words of a restriction that is of use.
 pub fn words_of<M: World, P: Profile>(
     alloc: Global,
-    world: &M,
-    profile: &P,
+    network: &Network<'_, M, P>,
     rule: Rule,
     roles: &Roles<'_>,
 ) -> Result<Vec<Word>, NoMemory>
-    ensures { IfOk result (λ words. words.items
-        ≡ words_of (M.objects world.now) (P.rules profile.now) rule roles.now.body.now) }
+    ensures { IfOk result (λ words. words.items ≡ made_on network.now words_of rule roles.now.body.now) }
 {
     let mut words = Vec::new(alloc);
     let vias = roles.vias.as_slice();
@@ -64,14 +63,14 @@ pub fn words_of<M: World, P: Profile>(
             steps: Vec::new(alloc),
             leave: *node,
         };
-        add_words_at(alloc, &mut words, world, rule, roles, &passage)?;
+        add_words_at(alloc, &mut words, network.world, rule, roles, &passage)?;
         return Ok(words);
     }
-    let Some(ends) = first_ends(world, vias) else {
+    let Some(ends) = first_ends(network.world, vias) else {
         return Ok(words);
     };
-    add_words_over(alloc, &mut words, world, profile, rule, roles, ends.first)?;
-    add_words_over(alloc, &mut words, world, profile, rule, roles, ends.last)?;
+    add_words_over(alloc, &mut words, network, rule, roles, ends.first)?;
+    add_words_over(alloc, &mut words, network, rule, roles, ends.last)?;
     Ok(words)
 }
 
@@ -79,19 +78,18 @@ pub fn words_of<M: World, P: Profile>(
 fn add_words_over<M: World, P: Profile>(
     alloc: Global,
     words: &mut Vec<Word>,
-    world: &M,
-    profile: &P,
+    network: &Network<'_, M, P>,
     rule: Rule,
     roles: &Roles<'_>,
     enter: NodeId,
 ) -> Result<(), NoMemory>
-    ensures { OnOk result (words.new.items ≡ words.old.items
-        ++ words_over (M.objects world.now) (P.rules profile.now) rule roles.now.body.now enter) }
+    ensures { OnOk result (words.new.items
+        ≡ words.old.items ++ made_on network.now words_over rule roles.now.body.now enter) }
 {
-    let Some(passage) = pass_ways(alloc, world, profile, roles.vias.as_slice(), enter)? else {
+    let Some(passage) = pass_ways(alloc, network, roles.vias.as_slice(), enter)? else {
         return Ok(());
     };
-    add_words_at(alloc, words, world, rule, roles, &passage)
+    add_words_at(alloc, words, network.world, rule, roles, &passage)
 }
 
 /// Adds the words over what the via members spell.

@@ -34,8 +34,8 @@ use Rattle.road_model.specs.Restrictions.{froms, vias, tos, lacks_member, misses
 use Rattle.road_model.specs.Words.{IsWord, IsVia, kind_of}
 use Rattle.road_model.specs.Network.{Drives}
 use Rattle.ordered_lists.proofs.ListMembers.{in_from_contains}
-use Rattle.road_examples.proofs.ExampleMaps.{node, way, relation, along, against, tag, residential, node_entry, way_entry}
-use Rattle.road_examples.proofs.ExampleMaps.{relation_entry, turn, relation_shown}
+use Rattle.road_examples.proofs.ExampleMaps.{node, way, relation, along, against, tag, residential, node_entry}
+use Rattle.road_examples.proofs.ExampleMaps.{way_entry, relation_entry, turn, relation_shown}
 
 abbrev pub only_ahead : Relation
 only_ahead = turn (tag (codes "restriction") (codes "only_straight_on") ∷ []) 10 (NodeKey (node 2)) 11

@@ -20,8 +20,8 @@ use Rattle.road_base.specs.Tags.{TagList, value_of}
 use Rattle.road_model.specs.Rules.{is_the_value}
 use Rattle.road_model.specs.Links.{RefersTo, IsLink, IsWithin, Differs, IsNear, IsTouched, AreTouched}
 use Rattle.ordered_lists.proofs.ListMembers.{In, in_from_contains, contains_from_in}
-use Rattle.road_examples.proofs.ExampleMaps.{natural, node, way, tag, residential, way_body, way_entry, ShowWay, way_shown}
-use Rattle.road_examples.proofs.ExampleMaps.{relation_shown}
+use Rattle.road_examples.proofs.ExampleMaps.{natural, node, way, tag, residential, way_body, way_entry, ShowWay}
+use Rattle.road_examples.proofs.ExampleMaps.{way_shown, relation_shown}
 
 abbrev chain : TagList → List (Key × Entry)
 chain tags =

@@ -116,7 +116,8 @@ open_over : (only : Bool) → is_open rule_map (rules only) (way 11) Forward ≡
 unfolding is_open way_of visible
 open_over only = simp looked_up refl
 
-connects : (allowed : WayId → Dir → Bool) → allowed (way 11) Forward ≡ true → Connects rule_map allowed over_way (WayKey (way 11) ∷ [])
+connects : (allowed : WayId → Dir → Bool) → allowed (way 11) Forward ≡ true
+    → Connects rule_map allowed over_way (vias over_way)
 unfolding node_at line_of way_of visible
 connects allowed h = record {
   enter = node 2;

@@ -105,7 +105,8 @@ module _ (M : Objects) (P : Rules) (r : Relation) where
   cause_decided Members = decided_true _
   cause_decided Missing = decided_true _
   cause_decided NotAnEnd = decided_true _
-  cause_decided NotConnected = decided_both (decided_true _) (decided_not (connects_decided M any_way r (via_order M P r)))
+  cause_decided NotConnected = decided_both (decided_true _)
+      (decided_not (connects_decided M any_way r (via_order M P r)))
   cause_decided ClosedVia = decided_like (λ h. (h.0, h.1.0, h.1.1)) (λ h. (h.0, (h.1, h.2)))
       (decided_both (decided_true _) (decided_both (connects_decided M any_way r (via_order M P r))
       (decided_not (connects_decided M (is_open M P) r (via_order M P r)))))

@@ -9,8 +9,8 @@ ghost use Rattle.road_model.specs.Questions.{HasSteps};
 use road_base::{Drive, Event, NoMemory, NodeId, Sequence, Steps};
 use std::sync::ledger::Ledger;
 
-/// What may be asked of a world: its graph, what state it is in, whether a drive is legal, and for a drive from one node
-/// to another.
+/// What may be asked of a world: its graph, what state it is in, whether a drive is legal, and for a drive from one
+/// node to another.
 #[derive(Drop)]
 pub enum Question {
     Graph,

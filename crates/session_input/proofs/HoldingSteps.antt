@@ -1,20 +1,24 @@
 -- What an input holds after more bytes.
 use Rattle.std.specs.Prelude.{◌≡◌, ◌==◌, ◌<◌, ◌+◌, ◌-◌, ◌++◌, ℕ, List, [], ◌∷◌, Some, None, length}
-use Rattle.std.specs.Prelude.{false, refl}
+use Rattle.std.specs.Prelude.{true, false, take, refl}
 use Rattle.std.proofs.Common.{arith, sym, ◌∙◌, ap, subst, append_assoc, append-nil, length-append}
 use Rattle.std.proofs.lemmas.Bool.Decides.{nat_tests}
 use Rattle.opl_lexer.specs.Parts.{Lacks}
 use Rattle.session_input.specs.declared.input.Input.{Input}
+use Rattle.session_input.specs.declared.line.Line.{Line}
 use Rattle.session_input.specs.declared.next.Next.{Next}
 use Rattle.session_input.specs.declared.open_frame.OpenFrame.{OpenFrame}
 use Rattle.session_input.specs.declared.received.Received.{Received}
+use Rattle.session_input.specs.Messages.{line_text}
+use Rattle.session_input.specs.Texts.{text_of}
 use Rattle.session_input.specs.Limits.{IsWithin, IsStopped}
 use Rattle.session_input.specs.Sizes.{frame_size}
 use Rattle.session_input.specs.Reading.{Receives}
 use Rattle.session_input.specs.Holding.{Holds, HasFrame, HasRoom, IsFront, IsReceived, IsWholeLine, IsFirstLine}
 use Rattle.session_input.specs.Holding.{LeadsTo}
 use Rattle.opl_objects.proofs.StreamSteps.{none_lacks}
-use Rattle.session_input.proofs.LineBytes.{lacks_both}
+use Rattle.std.proofs.Math.Seq.{take-append-add, take-append_seam}
+use Rattle.session_input.proofs.LineBytes.{lacks_both, nil_of}
 use Rattle.session_input.proofs.LimitSteps.{IsInBounds, front_whole, within_part, within_line, within_none, open_bytes}
 use Rattle.session_input.proofs.StopSteps.{stop_part, stop_line}
 
@@ -181,6 +185,27 @@ last_leads before bytes whole input next holds spelled leads =
     let all : holds.front ++ whole ≡ bytes ++ (10 ∷ []) = ap (λ bs. holds.front ++ bs) spelled
     ∙ (sym (append_assoc holds.front input.held.items (10 ∷ [])) ∙ ap (λ bs. bs ++ (10 ∷ [])) (sym holds.held)) in
     subst (λ (bs : List ℕ). LeadsTo bs next) all (leads holds.front holds.frame is)
+
+-- a line outside a frame
+pub leads_outside : (front all : List ℕ) (next : Next) (line : Line) → front ≡ [] → IsWholeLine all
+    → ((bytes : List ℕ) → all ≡ bytes ++ (10 ∷ []) → text_of line ≡ line_text bytes)
+    → ((bytes : List ℕ) → Lacks 10 bytes → text_of line ≡ line_text bytes → LeadsTo (bytes ++ (10 ∷ [])) next)
+    → LeadsTo (front ++ all) next
+leads_outside front all next line none whole text leads =
+    subst (λ (bs : List ℕ). LeadsTo bs next) (sym (ap (λ bs. bs ++ all) none ∙ whole.spelled))
+    (leads whole.line whole.one (text whole.line whole.spelled))
+
+-- what stands before the newline
+pub cut_last : (held line bytes : List ℕ) → 0 < length line → held ++ line ≡ bytes ++ (10 ∷ [])
+    → held ++ take (length line - 1) line ≡ bytes
+cut_last held line bytes some is =
+    let size : length bytes ≡ length held + (length line - 1) = omega
+    (arith, some, ap length is, length-append held line, length-append bytes (10 ∷ [])) in
+    sym (take-append-add held line (length line - 1)) ∙ (ap (λ n. take n (held ++ line)) (sym size)
+    ∙ (ap (λ bs. take (length bytes) bs) is ∙ take-append_seam bytes (10 ∷ [])))
+
+pub none_held : (items : List ℕ) (n : ℕ) → n ≡ length items → (n == 0) ≡ true → items ≡ []
+none_held items n size none = nil_of items (grind (arith, nat_tests, size, none))
 
 pub some_bytes : (before : ℕ) (bytes : List ℕ) (input : Input) → Holds before bytes input
     → 0 < length input.held.items → bytes ≡ [] → ⊥

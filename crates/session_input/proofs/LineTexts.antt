@@ -1,13 +1,14 @@
 -- Lines as they stand in the bytes, and their texts.
-use Rattle.std.specs.Prelude.{◌≡◌, ◌<◌, ◌+◌, ◌-◌, ◌++◌, ℕ, List, [], ◌∷◌, true, false, cond, take, drop, length}
+use Rattle.std.specs.Prelude.{◌≡◌, ◌==◌, ◌<◌, ◌+◌, ◌-◌, ◌++◌, ℕ, List, [], ◌∷◌, true, false, cond, take, drop, length}
 use Rattle.std.specs.Prelude.{Some, None, slice_index, refl}
 use Rattle.std.specs.Str.{IsUtf8, is_utf8}
 use Rattle.std.proofs.Common.{arith, sym, ◌∙◌, ap, add-one, length-append}
 use Rattle.std.proofs.lemmas.Bool.Decides.{nat_tests}
 use Rattle.std.proofs.lemmas.Str.{IsUtf8-from_is_utf8, is_utf8-from_IsUtf8}
-use Rattle.std.proofs.lemmas.List.{take-append-drop}
-use Rattle.std.proofs.Math.Seq.{take-suc, take-append_seam}
+use Rattle.std.proofs.lemmas.List.{take-append-drop, length-take-le}
+use Rattle.std.proofs.Math.Seq.{take-suc, take-append_seam, take-length}
 use Rattle.memchr.specs.Find.{IsFirstByte, is_byte}
+use Rattle.opl_lexer.specs.Letters.{carriage_return}
 use Rattle.opl_lexer.specs.Lines.{without_return}
 use Rattle.opl_lexer.proofs.Cuts.{cut_at_first}
 use Rattle.session_input.specs.Messages.{line_text}
@@ -37,6 +38,24 @@ text_missing line none =
       | true ↦ λ e. absurd (none (IsUtf8-from_is_utf8 (without_return line) e))
       | false ↦ λ e. ap (λ b. cond b (Some (without_return line)) None) e
     ] refl
+
+-- the line without its return is a front of it
+pub return_dropped : (line : List ℕ) → take (length (without_return line)) line ≡ without_return line
+return_dropped line =
+    let last = slice_index line (length line - 1) == carriage_return in
+    let shorter = take (length line - 1) line in
+    elim last as (λ b. take (length (cond b shorter line)) line ≡ cond b shorter line) [
+      | true ↦ ap (λ n. take n line) (length-take-le (length line - 1) line (omega arith))
+      | false ↦ take-length line
+    ]
+
+-- lines are the same that are so with a newline
+pub newline_last : (held bytes : List ℕ) → held ++ (10 ∷ []) ≡ bytes ++ (10 ∷ []) → held ≡ bytes
+newline_last held bytes is =
+    let size : length held ≡ length bytes = omega
+    (arith, ap length is, length-append held (10 ∷ []), length-append bytes (10 ∷ [])) in
+    sym (take-append_seam held (10 ∷ [])) ∙ (ap (λ n. take n (held ++ (10 ∷ []))) size
+    ∙ (ap (take (length bytes)) is ∙ take-append_seam bytes (10 ∷ [])))
 
 -- a whole line without its newline
 pub cut_line : (bytes : List ℕ) (whole : IsWholeLine bytes) → take (length bytes - 1) bytes ≡ whole.line

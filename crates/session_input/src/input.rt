@@ -5,9 +5,9 @@ ghost use Rattle.opl_lexer.specs.Letters.{newline};
 ghost use Rattle.opl_lexer.specs.Parts.{Lacks};
 ghost use Rattle.session_input.specs.Sizes.{frame_size};
 
+use crate::line::Line;
 use crate::lines::{first_line, held_line, lent_line};
 use crate::next::{Next, take_inside, take_outside};
-use crate::line::Line;
 use crate::open_frame::OpenFrame;
 use crate::received::{Ending, InputStop, Received};
 use std::alloc::Global;
@@ -99,22 +99,24 @@ impl Input {
             → IsEnding bytes ending) }
         ensures stopped { IfErr result (λ e. e ≡ InputStop.NoMemory) }
     {
+        let frame = self.frame;
         let mut held = self.held;
         if held.is_empty() {
-            return Ok(Input::without_line(self.frame));
+            return Ok(Input::without_line(frame));
         }
-        let Some(frame) = self.frame else {
+        let Some(frame) = frame else {
             return Ok(Input::behind_line(take_outside(self.alloc, held_line(held))));
         };
         held.extend_from_slice(b"\n")?;
-        Ok(Input::behind_line(take_inside(frame, held.as_slice())?))
+        let next = take_inside(frame, held.as_slice())?;
+        Ok(Input::behind_line(next))
     }
 
     /// Where the input ends behind a line without a newline, by what it leads to with one.
     fn behind_line(next: Next<'static>) -> Ending
         ensures { (open_bytes : List ℕ)
             → (open_bytes ≡ [] → ⊥)
-            → LeadsTo (open_bytes ++ (newline ∷ [])) next
+            → LeadsTo (open_bytes ++ (newline ∷ [])) next.entry
             → IsEnding open_bytes result }
     {
         match next {

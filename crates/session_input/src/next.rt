@@ -33,7 +33,7 @@ fn number_of(line: &Line<'_>) -> Option<Sequence>
 
 /// Takes a line outside a frame.
 pub fn take_outside<'a>(alloc: Global, line: Line<'a>) -> Next<'a>
-    ensures next { (bytes : List ℕ) → Lacks newline bytes → text_of line ≡ line_text bytes
+    ensures next { (bytes : List ℕ) → Lacks newline bytes → text_of line.entry ≡ line_text bytes
         → LeadsTo (bytes ++ (newline ∷ [])) result }
     ensures size { next_size result ≡ 0 }
 {

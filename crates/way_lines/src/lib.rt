@@ -1,4 +1,5 @@
-//! Lines of ways, the steps along them, and which step may follow which, over any world and profile.
+//! Lines of ways, the steps along them, and which step may follow which, over any world and profile. Where one may
+//! turn round and where one may not go on, as the tags of a node say, stands in `NodeRules` alone.
 //!
 //! No call but `nodes_of`, `add_steps`, `Roads::of`, `Roads::from_list` and `RoadLine::of` takes memory. A call on a
 //! way or a step takes the time of the way's references; whether a step may follow another, where that is a reversal,
@@ -12,6 +13,7 @@
 #![tactic(auto)]
 
 mod line_nodes;
+mod node_rules;
 mod passing;
 mod road_line;
 mod roads;
@@ -19,6 +21,7 @@ mod step_lists;
 mod steps;
 
 pub use line_nodes::{LineNodes, line, line_at, line_len, nodes_of};
+pub use node_rules::NodeRules;
 pub use passing::pass;
 pub use road_line::{LineNode, RoadLine};
 pub use roads::{Road, Roads};

@@ -2,34 +2,15 @@
 ghost use Rattle.std.specs.Prelude.{◌≡◌, ◌≢◌, ◌+◌, ◌↔◌, Some, IsTrue, IsFalse};
 ghost use Rattle.road_base.specs.declared.ids.Step.{Step};
 ghost use Rattle.road_model.specs.Lines.{node_at};
-ghost use Rattle.road_model.specs.Networks.{made_on, map_of, on};
-ghost use Rattle.road_model.specs.Driving.{Leaves, MayTurn, Passes, drivable, shut, turning_place};
+ghost use Rattle.road_model.specs.Networks.{map_of, on};
+ghost use Rattle.road_model.specs.Driving.{Leaves, MayTurn, Passes, drivable};
 
 use crate::line_nodes::line;
+use crate::node_rules::NodeRules;
 use crate::steps::{drivable, ends, is_drivable_between};
 use road_base::{Dir, NodeId, Step, WayId};
 use road_model::laws::roads_refer;
 use road_model::{Network, Profile, World};
-
-/// Whether the node is visible and shut, as at a bollard.
-fn is_shut<M: World, P: Profile>(network: &Network<'_, M, P>, node: NodeId) -> bool
-    ensures { result ≡ made_on network.now shut node }
-{
-    match network.world.node(node) {
-        Some(node) => !network.profile.node_open(&node.tags),
-        None => false,
-    }
-}
-
-/// Whether the node is visible and a place to turn round.
-fn is_turning_place<M: World, P: Profile>(network: &Network<'_, M, P>, node: NodeId) -> bool
-    ensures { result ≡ made_on network.now turning_place node }
-{
-    match network.world.node(node) {
-        Some(node) => network.profile.turns(&node.tags),
-        None => false,
-    }
-}
 
 /// Whether step t may follow step s: it begins where s ends, and where it leads back to where s began one may turn
 /// round there by t, and elsewhere that node isn't shut. A step that names no pair of a visible way's line follows
@@ -57,7 +38,7 @@ fn passes<M: World, P: Profile>(network: &Network<'_, M, P>, s: Step, t: Step) -
     if to == from {
         may_turn(network, at, t)
     } else {
-        !is_shut(network, at)
+        !NodeRules::of(network, at).is_shut
     }
 }
 
@@ -65,9 +46,7 @@ fn passes<M: World, P: Profile>(network: &Network<'_, M, P>, s: Step, t: Step) -
 fn may_turn<M: World, P: Profile>(network: &Network<'_, M, P>, node: NodeId, step: Step) -> bool
     ensures { IsTrue result ↔ on network.now MayTurn node step }
 {
-    is_turning_place(network, node)
-        || is_shut(network, node)
-        || is_only_leaving(network, node, step)
+    NodeRules::of(network, node).may_turn(is_only_leaving(network, node, step))
 }
 
 /// Whether the step is the only drivable one that leaves the node.

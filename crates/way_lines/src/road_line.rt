@@ -1,13 +1,13 @@
 //! The line of a road, with what is to be known of its nodes.
-ghost use Rattle.std.specs.Prelude.{◌≡◌, ◌≤◌, ◌&&◌, not, length, map, IfOk, Some};
-ghost use Rattle.road_model.specs.Driving.{node_shut, node_turns};
+ghost use Rattle.std.specs.Prelude.{◌≡◌, ◌≤◌, length, map, IfOk, Some};
 ghost use Rattle.road_model.specs.Lines.{changes};
 ghost use Rattle.road_model.specs.Networks.{on, made_on};
 ghost use Rattle.way_lines.specs.RoadLines.{IsRoad, IsRoadLine, line_node};
 
 use crate::line_nodes::line;
+use crate::node_rules::NodeRules;
 use crate::roads::Road;
-use road_base::{Location, NoMemory, Node, NodeId, Way};
+use road_base::{Location, NoMemory, NodeId, Way};
 use road_model::{Network, Profile, World};
 use std::alloc::Global;
 
@@ -32,20 +32,13 @@ impl LineNode {
                 goes_through: false,
             };
         };
+        let rules = NodeRules::told(&network.profile, node, body);
         LineNode {
             node,
             location: body.location,
-            goes_through: body.location.is_some() && goes_through(&network.profile, body),
+            goes_through: body.location.is_some() && rules.goes_through(),
         }
     }
-}
-
-/// Whether the node is neither shut nor a place to turn round.
-fn goes_through<P: Profile>(profile: &P, body: &Node) -> bool
-    ensures { let rules = P.rules profile.now in
-        result ≡ (not (node_shut rules (Some body.now)) && not (node_turns rules (Some body.now))) }
-{
-    profile.node_open(&body.tags) && !profile.turns(&body.tags)
 }
 
 /// A road, and the nodes of its line in order; no nodes where the way is no road.

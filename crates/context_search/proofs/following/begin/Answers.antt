@@ -1,6 +1,6 @@
 use Rattle.std.proofs.Common.{map, sym, subst, Contains}
 use Rattle.std.proofs.lemmas.List.Elements.{Contains-get_or}
-use Rattle.context_search.specs.declared.ends.Start.{Start}
+use Rattle.context_search.specs.declared.ends.Begin.{Begin}
 use Rattle.context_search.specs.Marks.{at_of}
 use Rattle.context_search.proofs.SearchMarks.{grows_again}
 use Rattle.context_search.proofs.SearchStarts.{start_grows, start_keeps, start_visited, start_begun, more_started}
@@ -17,7 +17,7 @@ loop-start-preserved c =
     let is = c.in_ok-begin_on.ensures in
     let starts = c.args.starts.now in
     let i = c.loop-start.start-index in
-    let has : Contains starts s = subst (λ (t : Start). Contains starts t) (sym c.start-item.is)
+    let has : Contains starts s = subst (λ (t : Begin). Contains starts t) (sym c.start-item.is)
     (Contains-get_or starts i s c.loop-start-test.true) in
     record {
       search = start_keeps L s m n is old.search;

@@ -3,10 +3,10 @@ use Rattle.std.proofs.Common.{◌≡◌, ◌<◌, Some, Option, MatchOption, Lis
 use Rattle.std.proofs.Common.{ℕ, slice_get, ◌≤◌, refl, arith}
 use Rattle.std.proofs.lemmas.List.{length-map}
 use Rattle.std.proofs.lemmas.Option.{slice_get_within}
-use Rattle.context_search.specs.declared.ends.Start.{Start}
+use Rattle.context_search.specs.declared.ends.Begin.{Begin}
 use Rattle.context_search.specs.declared.ends.Goal.{Goal}
 use Rattle.context_search.specs.declared.following.Meeting.{Meeting}
-use Rattle.context_search.specs.declared.marks.Visit.{Visit}
+use Rattle.context_search.specs.declared.marks.TreeVisit.{TreeVisit}
 use Rattle.context_search.specs.Marks.{at_of}
 use Rattle.context_search.specs.Routes.{Descend, AreSpelled, IsRoute}
 use Rattle.context_search.specs.Sought.{AreStarts}
@@ -22,7 +22,7 @@ pub begin-requires-clause-listed : goal.begin-requires-clause-listed
 begin-requires-clause-listed g c =
     let M = g.M.World.objects c.args.network.now.world.now in
     let P = g.P.Profile.rules c.args.network.now.profile in
-    let starts = subst (λ (l : List Start). AreStarts M P c.args.ends.now.a l) (sym c.deref.ensures.value)
+    let starts = subst (λ (l : List Begin). AreStarts M P c.args.ends.now.a l) (sym c.deref.ensures.value)
     c.requires.ends.starts in
     start_listed M P (map at_of c.args.spots.now) c.args.ends.now.a c.deref.result.now c.requires.spots starts
 
@@ -48,7 +48,7 @@ run-requires-clause-closed g c =
 
 pub along-requires-clause-descend : goal.along-requires-clause-descend
 along-requires-clause-descend g c =
-    subst (λ (l : List Visit). Descend l) (sym c.visits.ensures)
+    subst (λ (l : List TreeVisit). Descend l) (sym c.visits.ensures)
     (descends (map at_of c.args.spots.now) c.run.new.search c.run.new.search c.in_ok-meeting.ensures.search)
 
 pub along-requires-clause-spelled : goal.along-requires-clause-spelled
@@ -56,7 +56,7 @@ along-requires-clause-spelled g c =
     let M = g.M.World.objects c.args.network.now.world.now in
     let P = g.P.Profile.rules c.args.network.now.profile in
     let L = map at_of c.args.spots.now in
-    subst (λ (l : List Visit). AreSpelled L l) (sym c.visits.ensures)
+    subst (λ (l : List TreeVisit). AreSpelled L l) (sym c.visits.ensures)
     (spots_spelled M P L c.run.new.search c.requires.spots c.in_ok-meeting.ensures.search)
 
 pub along-requires-clause-place : goal.along-requires-clause-place
@@ -66,9 +66,9 @@ along-requires-clause-place g c =
     let vs = c.run.new.search.visits in
     let at = c.in-Some.meeting in
     let met : Meets L G vs at.place at.goal = subst (λ (r : Option Meeting). MatchOption r
-    ((k : ℕ) (v : Visit) → slice_get vs k ≡ Some v → IsClosed L G vs v)
+    ((k : ℕ) (v : TreeVisit) → slice_get vs k ≡ Some v → IsClosed L G vs v)
     (λ (m : Meeting). Meets L G vs m.place m.goal)) c.in-Some.is c.in_ok-meeting.ensures.met in
-    subst (λ (l : List Visit). at.place < length l) (sym c.visits.ensures)
+    subst (λ (l : List TreeVisit). at.place < length l) (sym c.visits.ensures)
     (slice_get_within vs at.place met.visit met.at)
 
 pub along-requires-clause-ascends : goal.along-requires-clause-ascends
@@ -80,7 +80,7 @@ along-requires-clause-ascends g c =
     let vs = c.run.new.search.visits in
     let at = c.in-Some.meeting in
     let met : Meets L G vs at.place at.goal = subst (λ (r : Option Meeting). MatchOption r
-    ((k : ℕ) (v : Visit) → slice_get vs k ≡ Some v → IsClosed L G vs v)
+    ((k : ℕ) (v : TreeVisit) → slice_get vs k ≡ Some v → IsClosed L G vs v)
     (λ (m : Meeting). Meets L G vs m.place m.goal)) c.in-Some.is c.in_ok-meeting.ensures.met in
     let is = met_goal M P c.args.ends.now.b L G vs at.place at.goal c.requires.ends.goals met in
     entry_ascends M P is.way at.goal.piece.now is.listed
@@ -94,7 +94,7 @@ along-requires-clause-last g c =
     let vs = c.run.new.search.visits in
     let at = c.in-Some.meeting in
     let met : Meets L G vs at.place at.goal = subst (λ (r : Option Meeting). MatchOption r
-    ((k : ℕ) (v : Visit) → slice_get vs k ≡ Some v → IsClosed L G vs v)
+    ((k : ℕ) (v : TreeVisit) → slice_get vs k ≡ Some v → IsClosed L G vs v)
     (λ (m : Meeting). Meets L G vs m.place m.goal)) c.in-Some.is c.in_ok-meeting.ensures.met in
     let is = met_goal M P c.args.ends.now.b L G vs at.place at.goal c.requires.ends.goals met in
     goal_within M P c.args.ends.now.b met.arc.piece at.goal is
@@ -112,13 +112,13 @@ returns-in-Some g c =
     let at = c.in-Some.meeting in
     let d = c.in_ok-along-in-Some.field-0 in
     let one = c.one_name.ensures.pieces M in
-    let from = subst (λ (l : List Start). AreStarts M P a l) (sym c.deref.ensures.value) c.requires.ends.starts in
+    let from = subst (λ (l : List Begin). AreStarts M P a l) (sym c.deref.ensures.value) c.requires.ends.starts in
     let met : Meets L G vs at.place at.goal = subst (λ (r : Option Meeting). MatchOption r
-    ((k : ℕ) (v : Visit) → slice_get vs k ≡ Some v → IsClosed L G vs v)
+    ((k : ℕ) (v : TreeVisit) → slice_get vs k ≡ Some v → IsClosed L G vs v)
     (λ (m : Meeting). Meets L G vs m.place m.goal)) c.in-Some.is c.in_ok-meeting.ensures.met in
     let begun = still_begun L c.begin.new.search c.run.new.search S c.in_ok-begin.ensures.begun
     c.in_ok-meeting.ensures.begun in
-    let route : IsRoute L vs at.place at.goal d = subst (λ (l : List Visit). IsRoute L l at.place at.goal d)
+    let route : IsRoute L vs at.place at.goal d = subst (λ (l : List TreeVisit). IsRoute L l at.place at.goal d)
     c.visits.ensures c.in_ok-along-in-Some.ensures in
     let r = driven M P L vs a route.first one c.requires.spots c.run.new.search refl S from
     c.in_ok-meeting.ensures.search begun route.chain in
@@ -136,16 +136,16 @@ returns g c =
     let a = c.args.ends.now.a in
     let b = c.args.ends.now.b in
     let one = c.one_name.ensures.pieces M in
-    let from = subst (λ (l : List Start). AreStarts M P a l) (sym c.deref.ensures.value) c.requires.ends.starts in
-    let closed : (k : ℕ) (v : Visit) → slice_get vs k ≡ Some v → IsClosed L G vs v
+    let from = subst (λ (l : List Begin). AreStarts M P a l) (sym c.deref.ensures.value) c.requires.ends.starts in
+    let closed : (k : ℕ) (v : TreeVisit) → slice_get vs k ≡ Some v → IsClosed L G vs v
     = subst (λ (r : Option Meeting). MatchOption r
-    ((k : ℕ) (v : Visit) → slice_get vs k ≡ Some v → IsClosed L G vs v)
+    ((k : ℕ) (v : TreeVisit) → slice_get vs k ≡ Some v → IsClosed L G vs v)
     (λ (m : Meeting). Meets L G vs m.place m.goal)) c.in-None.is c.in_ok-meeting.ensures.met in
-    let started : (s : Start) → Contains S s → IsStarted L vs s
+    let started : (s : Begin) → Contains S s → IsStarted L vs s
     = λ s has. still_started L c.begin.new.search c.run.new.search s c.in_ok-meeting.ensures.stays
     (c.in_ok-begin.ensures.all s has) in
-    let apart : (s : Start) (g : Goal) → Contains S s → goal_in G s.piece.now.name ≡ Some g → s.first ≤ g.last → ⊥
-    = λ s g has. c.requires.apart s g (subst (λ (l : List Start). Contains l s) c.deref.ensures.value has) in
+    let apart : (s : Begin) (g : Goal) → Contains S s → goal_in G s.piece.now.name ≡ Some g → s.first ≤ g.last → ⊥
+    = λ s g has. c.requires.apart s g (subst (λ (l : List Begin). Contains l s) c.deref.ensures.value has) in
     let r = searched M P L one c.requires.spots a b S G vs from c.requires.ends.goals closed
     c.in_ok-meeting.ensures.search.numbers started apart in
     (c.requires.ends.from, c.requires.ends.to, λ d leads. c.searched_drives.ensures.nowhere M a b r.0 r.1 d leads)

@@ -1,14 +1,14 @@
 use Rattle.std.proofs.Common.{◌≡◌, map, Some, slice_get, slice_index_or, sym}
 use Rattle.std.proofs.lemmas.Option.{slice_get-get_or}
 use Rattle.context_search.specs.declared.marks.Origin.TheVariants.{Begins}
-use Rattle.context_search.specs.declared.marks.Visit.{Visit}
+use Rattle.context_search.specs.declared.marks.TreeVisit.{TreeVisit}
 use Rattle.context_search.specs.Marks.{at_of}
 use Rattle.context_search.specs.Routes.{spelled, steps_at}
 use Rattle.context_search.proofs.SearchSpots.{spot_read, within_map}
 use Rattle.context_search.proofs.SearchRoutes.{steps_known, added}
 use Rattle.context_search.proofs.routes.add_visit.Goals as goal
 
-abbrev no_visit : Visit
+abbrev no_visit : TreeVisit
 no_visit = record { number = 0; origin = Begins 0; driven = 0 }
 
 pub add_piece-requires : goal.add_piece-requires

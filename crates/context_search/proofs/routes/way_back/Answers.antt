@@ -1,12 +1,12 @@
 use Rattle.std.proofs.Common.{◌≡◌, Some, slice_get, slice_index_or, sym, subst, arith}
 use Rattle.std.proofs.lemmas.Option.{slice_get-get_or}
 use Rattle.context_search.specs.declared.marks.Origin.TheVariants.{Begins}
-use Rattle.context_search.specs.declared.marks.Visit.{Visit}
+use Rattle.context_search.specs.declared.marks.TreeVisit.{TreeVisit}
 use Rattle.context_search.specs.Routes.{IsChain}
 use Rattle.context_search.proofs.SearchRoutes.{chain_more, chain_ends}
 use Rattle.context_search.proofs.routes.way_back.Goals as goal
 
-abbrev no_visit : Visit
+abbrev no_visit : TreeVisit
 no_visit = record { number = 0; origin = Begins 0; driven = 0 }
 
 pub loop-at-preserved : goal.loop-at-preserved

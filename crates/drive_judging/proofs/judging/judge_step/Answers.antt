@@ -4,8 +4,8 @@ use Rattle.drive_judging.proofs.judging.judge_step.Goals as goal
 
 pub returns-in-Some-go-clause-goes : goal.returns-in-Some-go-clause-goes
 returns-in-Some-go-clause-goes g c =
-    let M = g.M.World.objects c.args.world.now in
-    let P = g.P.Profile.rules c.args.profile.now in
+    let M = g.M.World.objects c.args.network.now.world.now in
+    let P = g.P.Profile.rules c.args.network.now.profile in
     let before = c.args.before.now in
     let words = c.args.table.now.automaton.words in
     let stopped = c.go.ensures.stopped before c.requires.watches in
@@ -17,6 +17,6 @@ returns-in-Some-go-clause-goes g c =
 
 pub returns-in-None-clause-breaks : goal.returns-in-None-clause-breaks
 returns-in-None-clause-breaks g c =
-    word_breaks (g.M.World.objects c.args.world.now) (g.P.Profile.rules c.args.profile.now) c.args.before.now
+    word_breaks (g.M.World.objects c.args.network.now.world.now) (g.P.Profile.rules c.args.network.now.profile) c.args.before.now
     c.args.step c.args.table.now.automaton.words c.requires.words c.in_default.ensures.none c.word_rule.result
     c.word_rule.ensures

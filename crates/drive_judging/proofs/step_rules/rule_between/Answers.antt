@@ -8,22 +8,22 @@ use Rattle.drive_judging.proofs.step_rules.rule_between.Goals as goal
 
 pub returns-in_default-clause-some : goal.returns-in_default-clause-some
 returns-in_default-clause-some g c before behind =
-    let M = g.M.World.objects c.args.world.now in
-    let P = g.P.Profile.rules c.args.profile.now in
+    let M = g.M.World.objects c.args.network.now.world.now in
+    let P = g.P.Profile.rules c.args.network.now.profile in
     breaks_apart M P before c.args.last c.args.step c.requires.drives behind
     (λ v m. ends_nowhere M c.args.last (c.in_default.ensures.none M c.requires.from) v m.from)
 
 pub returns-in_default-ends_in-clause-some : goal.returns-in_default-ends_in-clause-some
 returns-in_default-ends_in-clause-some g c before behind =
-    let M = g.M.World.objects c.args.world.now in
-    let P = g.P.Profile.rules c.args.profile.now in
+    let M = g.M.World.objects c.args.network.now.world.now in
+    let P = g.P.Profile.rules c.args.network.now.profile in
     breaks_apart M P before c.args.last c.args.step c.requires.drives behind
     (λ v m. begins_nowhere M c.args.step (c.in_default-ends_in.ensures.none M c.requires.to) v m.to)
 
 pub returns-then-ne-clause-some : goal.returns-then-ne-clause-some
 returns-then-ne-clause-some g c before behind =
-    let M = g.M.World.objects c.args.world.now in
-    let P = g.P.Profile.rules c.args.profile.now in
+    let M = g.M.World.objects c.args.network.now.world.now in
+    let P = g.P.Profile.rules c.args.network.now.profile in
     let from = c.in-Some.ensures.some M c.requires.from in
     let to = c.in-Some-ends_in.ensures.some M c.requires.to in
     breaks_apart M P before c.args.last c.args.step c.requires.drives behind
@@ -32,8 +32,8 @@ returns-then-ne-clause-some g c before behind =
 
 pub returns-else-turns_back-clause-some : goal.returns-else-turns_back-clause-some
 returns-else-turns_back-clause-some g c before behind =
-    let M = g.M.World.objects c.args.world.now in
-    let P = g.P.Profile.rules c.args.profile.now in
+    let M = g.M.World.objects c.args.network.now.world.now in
+    let P = g.P.Profile.rules c.args.network.now.profile in
     let from = c.in-Some.ensures.some M c.requires.from in
     let to = c.in-Some-ends_in.ensures.some M c.requires.to in
     let same = same_node c.in-Some.at c.in-Some-ends_in.node (sym c.ne.ensures ∙ c.if-ne.false) in
@@ -45,8 +45,8 @@ returns-else-turns_back-clause-some g c before behind =
 
 pub returns-then-is_shut-clause-some : goal.returns-then-is_shut-clause-some
 returns-then-is_shut-clause-some g c before behind =
-    let M = g.M.World.objects c.args.world.now in
-    let P = g.P.Profile.rules c.args.profile.now in
+    let M = g.M.World.objects c.args.network.now.world.now in
+    let P = g.P.Profile.rules c.args.network.now.profile in
     let from = c.in-Some.ensures.some M c.requires.from in
     let to = c.in-Some-ends_in.ensures.some M c.requires.to in
     let same = same_node c.in-Some.at c.in-Some-ends_in.node (sym c.ne.ensures ∙ c.if-ne.false) in
@@ -59,8 +59,8 @@ returns-then-is_shut-clause-some g c before behind =
 
 pub returns-else-is_shut-clause-none : goal.returns-else-is_shut-clause-none
 returns-else-is_shut-clause-none g c =
-    let M = g.M.World.objects c.args.world.now in
-    let P = g.P.Profile.rules c.args.profile.now in
+    let M = g.M.World.objects c.args.network.now.world.now in
+    let P = g.P.Profile.rules c.args.network.now.profile in
     let from = c.in-Some.ensures.some M c.requires.from in
     let to = c.in-Some-ends_in.ensures.some M c.requires.to in
     let same = same_node c.in-Some.at c.in-Some-ends_in.node (sym c.ne.ensures ∙ c.if-ne.false) in
@@ -72,17 +72,17 @@ returns-else-is_shut-clause-none g c =
 pub turns_back-requires-clause-leaves : goal.turns_back-requires-clause-leaves
 turns_back-requires-clause-leaves g c = record {
   drives = c.requires.drives;
-  tail = (c.in-Some-ends_in.ensures.some (g.M.World.objects c.args.world.now) c.requires.to).0;
+  tail = (c.in-Some-ends_in.ensures.some (g.M.World.objects c.args.network.now.world.now) c.requires.to).0;
 }
 
 pub turns_back-requires-clause-meets : goal.turns_back-requires-clause-meets
 turns_back-requires-clause-meets g c =
     let same = same_node c.in-Some.at c.in-Some-ends_in.node (sym c.ne.ensures ∙ c.if-ne.false) in
-    (c.in-Some.ensures.some (g.M.World.objects c.args.world.now) c.requires.from).1 ∙ ap Some same
+    (c.in-Some.ensures.some (g.M.World.objects c.args.network.now.world.now) c.requires.from).1 ∙ ap Some same
 
 pub turns_back-requires-clause-back : goal.turns_back-requires-clause-back
 turns_back-requires-clause-back g c =
-    let M = g.M.World.objects c.args.world.now in
+    let M = g.M.World.objects c.args.network.now.world.now in
     let from = c.in-Some.ensures.some M c.requires.from in
     let to = c.in-Some-ends_in.ensures.some M c.requires.to in
     goes_back M c.args.last c.args.step c.in-Some.from c.in-Some-ends_in.to from.0 to.1

@@ -10,8 +10,8 @@ use Rattle.drive_judging.proofs.word_table.add_words.Goals as goal
 
 pub returns-in_ok-append-in-Ok : goal.returns-in_ok-append-in-Ok
 returns-in_ok-append-in-Ok g c =
-    let M = g.M.World.objects c.args.world.now in
-    let P = g.P.Profile.rules c.args.profile.now in
+    let M = g.M.World.objects c.args.network.now.world.now in
+    let P = g.P.Profile.rules c.args.network.now.profile in
     let all = c.into_list-more.result.items in
     let words : AreWords M P c.args.relation all =
     subst (AreWords M P c.args.relation) (sym c.into_list-more.ensures) c.in-Ok.ensures.words in
@@ -30,8 +30,8 @@ returns-in_ok-append-in-Ok g c =
 
 pub returns-in-Err-Unusable : goal.returns-in-Err-Unusable
 returns-in-Err-Unusable g c =
-    let M = g.M.World.objects c.args.world.now in
-    let P = g.P.Profile.rules c.args.profile.now in
+    let M = g.M.World.objects c.args.network.now.world.now in
+    let P = g.P.Profile.rules c.args.network.now.profile in
     record {
       more = [];
       appended = sym (append-nil c.args.list.now.items);

@@ -5,5 +5,5 @@ use Rattle.drive_judging.proofs.word_table.words_of.Given as goal
 -- the words of the restrictions so far
 abbrev pub invariant-loop-relation : goal.invariant-loop-relation
 invariant-loop-relation g l =
-    AreWordsOn (g.M.World.objects l.world) (g.P.Profile.rules l.profile) l.steps
+    AreWordsOn (g.M.World.objects l.network.world.now) (g.P.Profile.rules l.network.profile) l.steps
     (take l.relation-index l.relations) l.list.items

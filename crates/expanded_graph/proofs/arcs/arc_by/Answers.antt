@@ -9,25 +9,25 @@ use Rattle.expanded_graph.proofs.arcs.arc_by.Goals as goal
 
 pub returns-then-not-may_follow-clause-none : goal.returns-then-not-may_follow-clause-none
 returns-then-not-may_follow-clause-none g c = λ b a reached.
-    let M = g.M.World.objects c.args.network.now.world.now in
-    let P = g.P.Profile.rules c.args.network.now.profile in
-    let i = c.args.intersection.now in
+    let M = g.M.World.objects c.args.coming.now.network.now.world.now in
+    let P = g.P.Profile.rules c.args.coming.now.network.now.profile in
+    let i = c.args.coming.now.intersection in
     let laws : Laws M P =
     record {
       names = c.name_order.ensures.names;
       one = c.one_name.ensures.pieces M;
       depart = c.steps_depart.ensures M;
     } in
-    none_passes M P laws (c.context_goes_on.ensures M) c.args.states.now.automaton c.args.states.now.facts.items
-    c.args.state.0 i c.requires.intersection c.args.from b reached c.args.departure
+    none_passes M P laws (c.context_goes_on.ensures M) c.args.coming.now.states.now.automaton c.args.coming.now.states.now.facts.items
+    c.args.state.0 i c.requires.coming.intersection c.args.coming.now.from b reached c.args.departure
     (in_from_contains i.departures.now c.args.departure c.requires.departure)
     (sym c.may_follow.ensures ∙ c.if-not-may_follow.true) a
 
 pub returns-in_default-clause-none : goal.returns-in_default-clause-none
 returns-in_default-clause-none g c = λ b a reached.
-    let M = g.M.World.objects c.args.network.now.world.now in
-    let P = g.P.Profile.rules c.args.network.now.profile in
-    let i = c.args.intersection.now in
+    let M = g.M.World.objects c.args.coming.now.network.now.world.now in
+    let P = g.P.Profile.rules c.args.coming.now.network.now.profile in
+    let i = c.args.coming.now.intersection in
     let laws : Laws M P =
     record {
       names = c.name_order.ensures.names;
@@ -44,8 +44,8 @@ returns-in_default-clause-none g c = λ b a reached.
           c.context_target.ensures.alone M;
       longer = c.context_target.ensures.longer M;
     } in
-    none_stops M P laws (c.context_goes_on.ensures M) c.args.states.now.automaton c.args.states.now.facts.items
-    c.args.state.0 i c.requires.intersection c.args.from b reached c.args.departure
+    none_stops M P laws (c.context_goes_on.ensures M) c.args.coming.now.states.now.automaton c.args.coming.now.states.now.facts.items
+    c.args.state.0 i c.requires.coming.intersection c.args.coming.now.from b reached c.args.departure
     (in_from_contains i.departures.now c.args.departure c.requires.departure) more
     ((c.in_default.ensures.none reached.watches.list reached.watches.is).0 refl) a
 
@@ -54,9 +54,9 @@ not_none s e = cc
 
 pub returns-clause-arc : goal.returns-clause-arc
 returns-clause-arc g c = λ b reached.
-    let M = g.M.World.objects c.args.network.now.world.now in
-    let P = g.P.Profile.rules c.args.network.now.profile in
-    let i = c.args.intersection.now in
+    let M = g.M.World.objects c.args.coming.now.network.now.world.now in
+    let P = g.P.Profile.rules c.args.coming.now.network.now.profile in
+    let i = c.args.coming.now.intersection in
     let laws : Laws M P =
     record {
       names = c.name_order.ensures.names;
@@ -75,8 +75,8 @@ returns-clause-arc g c = λ b reached.
     } in
     let list = reached.watches.list in
     let at = reached.watches.is in
-    arc_entry M P laws (c.context_goes_on.ensures M) c.args.states.now.automaton c.args.states.now.facts.items
-    c.args.state.0 i c.requires.intersection c.args.from b reached c.args.departure
+    arc_entry M P laws (c.context_goes_on.ensures M) c.args.coming.now.states.now.automaton c.args.coming.now.states.now.facts.items
+    c.args.state.0 i c.requires.coming.intersection c.args.coming.now.from b reached c.args.departure
     (in_from_contains i.departures.now c.args.departure c.requires.departure) more c.closed.ensures.closed
     (sym c.may_follow.ensures ∙ c.if-not-may_follow.false)
     (λ s. not_none c.in-Some.next ((c.in-Some.ensures.none list at).1 s)) c.in-Some.next.0

@@ -23,15 +23,15 @@ none = record {
 
 pub arc_by-requires-clause-departure : goal.arc_by-requires-clause-departure
 arc_by-requires-clause-departure g c =
-    let ds = c.args.intersection.now.departures.now in
+    let ds = c.args.coming.now.intersection.departures.now in
     let i = c.loop-departure.departure-index in
-    contains_from_in c.args.intersection.now.departures.now (get_or ds i none)
+    contains_from_in c.args.coming.now.intersection.departures.now (get_or ds i none)
     (in_get ds i none c.loop-departure-test.true)
 
 pub loop-departure-init : goal.loop-departure-init
 loop-departure-init g c = λ b reached.
-    let M = g.M.World.objects c.args.network.now.world.now in
-    let P = g.P.Profile.rules c.args.network.now.profile in
+    let M = g.M.World.objects c.args.coming.now.network.now.world.now in
+    let P = g.P.Profile.rules c.args.coming.now.network.now.profile in
     subst (λ l. Chosen (λ a. a.piece) (λ (d : Departure). d.piece) name_cmp (IsArcEntry M P b) [] l)
     (sym c.in_ok-arcs.ensures.items)
     (chosen_none (λ a. a.piece) (λ (d : Departure). d.piece) name_cmp c.name_order.ensures.names
@@ -39,10 +39,10 @@ loop-departure-init g c = λ b reached.
 
 pub loop-departure-preserved : goal.loop-departure-preserved
 loop-departure-preserved g c = λ b reached.
-    let M = g.M.World.objects c.args.network.now.world.now in
-    let P = g.P.Profile.rules c.args.network.now.profile in
-    let i = c.args.intersection.now in
-    let ds = c.args.intersection.now.departures.now in
+    let M = g.M.World.objects c.args.coming.now.network.now.world.now in
+    let P = g.P.Profile.rules c.args.coming.now.network.now.profile in
+    let i = c.args.coming.now.intersection in
+    let ds = c.args.coming.now.intersection.departures.now in
     let n = c.loop-departure.departure-index in
     let so_far = c.loop-departure.arcs.items in
     let key : Departure → PieceName = λ d. d.piece in
@@ -53,7 +53,7 @@ loop-departure-preserved g c = λ b reached.
       one = c.one_name.ensures.pieces M;
       depart = c.steps_depart.ensures M;
     } in
-    let up = c.requires.intersection.leaving in
+    let up = c.requires.coming.intersection.leaving in
     let within = c.loop-departure-test.true in
     elim c.match-arc_by.branch [
       | in-Some+in_ok-push w ↦
@@ -62,8 +62,8 @@ loop-departure-preserved g c = λ b reached.
           let named = w.in-Some.ensures.named in
           let more = chosen_one_at (λ (x : TurnArc). x.piece) key name_cmp c.name_order.ensures.names Is ds
           up.ascending so_far n within none (c.loop-departure.invariant b reached) a has named
-          (λ x is same. one_arc M P laws (c.context_goes_on.ensures M) c.args.states.now.automaton
-          c.args.states.now.facts.items c.args.state.0 i c.requires.intersection c.args.from b reached
+          (λ x is same. one_arc M P laws (c.context_goes_on.ensures M) c.args.coming.now.states.now.automaton
+          c.args.coming.now.states.now.facts.items c.args.state.0 i c.requires.coming.intersection c.args.coming.now.from b reached
           (c.contexts.ensures.one M) x a is has same) in
           subst (λ l. Chosen (λ x. x.piece) key name_cmp Is (take (n + 1) ds) l)
           (sym (ap (λ v. v.items) w.arcs-is ∙ w.in_ok-push.ensures.items)) more
@@ -77,10 +77,10 @@ loop-departure-preserved g c = λ b reached.
 
 pub returns : goal.returns
 returns g c = λ b reached.
-    let M = g.M.World.objects c.args.network.now.world.now in
-    let P = g.P.Profile.rules c.args.network.now.profile in
-    let i = c.args.intersection.now in
-    let ds = c.args.intersection.now.departures.now in
+    let M = g.M.World.objects c.args.coming.now.network.now.world.now in
+    let P = g.P.Profile.rules c.args.coming.now.network.now.profile in
+    let i = c.args.coming.now.intersection in
+    let ds = c.args.coming.now.intersection.departures.now in
     let key : Departure → PieceName = λ d. d.piece in
     let Is = IsArcEntry M P b in
     let laws : Laws M P =
@@ -96,5 +96,5 @@ returns g c = λ b reached.
     (c.loop-departure.invariant b reached) in
     chosen_all (λ (x : TurnArc). x.piece) key name_cmp c.name_order.ensures.names Is i.departures.now
     c.loop-departure.arcs.items chosen
-    (departs M P laws (c.context_goes_on.ensures M) c.args.states.now.automaton c.args.states.now.facts.items
-    c.args.state.0 i c.requires.intersection c.args.from b reached)
+    (departs M P laws (c.context_goes_on.ensures M) c.args.coming.now.states.now.automaton c.args.coming.now.states.now.facts.items
+    c.args.state.0 i c.requires.coming.intersection c.args.coming.now.from b reached)

@@ -11,25 +11,25 @@ use Rattle.expanded_graph.proofs.contexts.all_contexts.Goals as goal
 pub context_in-requires-clause-ending : goal.context_in-requires-clause-ending
 context_in-requires-clause-ending g c =
     let here = c.endings_with-here.result.now in
-    let are = are_here c.args.states.now.automaton c.args.states.now.facts.items c.args.span.name here
-    c.args.endings.now c.requires.endings c.endings_with-here.ensures in
-    (ends_here c.args.states.now.automaton c.args.states.now.facts.items c.args.span.name here are
+    let are = are_here c.args.coming.now.states.now.automaton c.args.coming.now.states.now.facts.items c.args.coming.now.span.name here
+    c.args.coming.now.endings.now c.requires.endings c.endings_with-here.ensures in
+    (ends_here c.args.coming.now.states.now.automaton c.args.coming.now.states.now.facts.items c.args.coming.now.span.name here are
     c.loop-ending.ending-index _ c.loop-ending-test.true).0
 
 pub context_in-requires-clause-named : goal.context_in-requires-clause-named
 context_in-requires-clause-named g c =
     let here = c.endings_with-here.result.now in
-    let are = are_here c.args.states.now.automaton c.args.states.now.facts.items c.args.span.name here
-    c.args.endings.now c.requires.endings c.endings_with-here.ensures in
-    (ends_here c.args.states.now.automaton c.args.states.now.facts.items c.args.span.name here are
+    let are = are_here c.args.coming.now.states.now.automaton c.args.coming.now.states.now.facts.items c.args.coming.now.span.name here
+    c.args.coming.now.endings.now c.requires.endings c.endings_with-here.ensures in
+    (ends_here c.args.coming.now.states.now.automaton c.args.coming.now.states.now.facts.items c.args.coming.now.span.name here are
     c.loop-ending.ending-index _ c.loop-ending-test.true).1
 
 pub loop-ending-init : goal.loop-ending-init
 loop-ending-init g c =
-    let M = g.M.World.objects c.args.network.now.world.now in
-    let P = g.P.Profile.rules c.args.network.now.profile in
-    let m = c.args.states.now.automaton in
-    let p = piece_of c.args.span in
+    let M = g.M.World.objects c.args.coming.now.network.now.world.now in
+    let P = g.P.Profile.rules c.args.coming.now.network.now.profile in
+    let m = c.args.coming.now.states.now.automaton in
+    let p = piece_of c.args.coming.now.span in
     let laws : StepLaws M P =
     record {
       one = c.one_name.ensures.pieces M;
@@ -43,10 +43,10 @@ loop-ending-init g c =
 
 pub loop-ending-preserved : goal.loop-ending-preserved
 loop-ending-preserved g c =
-    let M = g.M.World.objects c.args.network.now.world.now in
-    let P = g.P.Profile.rules c.args.network.now.profile in
-    let m = c.args.states.now.automaton in
-    let p = piece_of c.args.span in
+    let M = g.M.World.objects c.args.coming.now.network.now.world.now in
+    let P = g.P.Profile.rules c.args.coming.now.network.now.profile in
+    let m = c.args.coming.now.states.now.automaton in
+    let p = piece_of c.args.coming.now.span in
     let here = c.endings_with-here.result.now in
     let ns : List ℕ = map (λ (e : Ending). e.state) here in
     let i = c.loop-ending.ending-index in
@@ -56,7 +56,7 @@ loop-ending-preserved g c =
       to = c.context_steps.ensures.to M;
       from = c.context_steps.ensures.from M;
     } in
-    let are = are_here m c.args.states.now.facts.items c.args.span.name here c.args.endings.now c.requires.endings
+    let are = are_here m c.args.coming.now.states.now.facts.items c.args.coming.now.span.name here c.args.coming.now.endings.now c.requires.endings
     c.endings_with-here.ensures in
     let within : i < length ns =
     subst (λ k. i < k) (sym (length-map here (λ (e : Ending). e.state))) c.loop-ending-test.true in
@@ -68,11 +68,11 @@ loop-ending-preserved g c =
 
 pub returns : goal.returns
 returns g c =
-    let M = g.M.World.objects c.args.network.now.world.now in
-    let P = g.P.Profile.rules c.args.network.now.profile in
-    let m = c.args.states.now.automaton in
-    let facts = c.args.states.now.facts.items in
-    let p = piece_of c.args.span in
+    let M = g.M.World.objects c.args.coming.now.network.now.world.now in
+    let P = g.P.Profile.rules c.args.coming.now.network.now.profile in
+    let m = c.args.coming.now.states.now.automaton in
+    let facts = c.args.coming.now.states.now.facts.items in
+    let p = piece_of c.args.coming.now.span in
     let here = c.endings_with-here.result.now in
     let ns : List ℕ = map (λ (e : Ending). e.state) here in
     let i = c.loop-ending.ending-index in
@@ -83,7 +83,7 @@ returns g c =
       to = c.context_steps.ensures.to M;
       from = c.context_steps.ensures.from M;
     } in
-    let are = are_here m facts c.args.span.name here c.args.endings.now c.requires.endings
+    let are = are_here m facts c.args.coming.now.span.name here c.args.coming.now.endings.now c.requires.endings
     c.endings_with-here.ensures in
     let beyond : length ns ≤ i =
     subst (λ k. k ≤ i) (sym (length-map here (λ (e : Ending). e.state))) c.loop-ending-test.false in

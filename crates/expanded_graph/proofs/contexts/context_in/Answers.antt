@@ -12,30 +12,30 @@ use Rattle.expanded_graph.proofs.contexts.context_in.Goals as goal
 
 pub arcs_at-requires-clause-state : goal.arcs_at-requires-clause-state
 arcs_at-requires-clause-state g c =
-    slice_get_within c.args.states.now.automaton.states c.args.state.0 _ c.requires.ending.at
+    slice_get_within c.args.coming.now.states.now.automaton.states c.args.state.0 _ c.requires.ending.at
 
 pub returns : goal.returns
 returns g c =
-    let M = g.M.World.objects c.args.network.now.world.now in
-    let P = g.P.Profile.rules c.args.network.now.profile in
-    let m = c.args.states.now.automaton in
-    let facts = c.args.states.now.facts.items in
-    let p = piece_of c.args.span in
+    let M = g.M.World.objects c.args.coming.now.network.now.world.now in
+    let P = g.P.Profile.rules c.args.coming.now.network.now.profile in
+    let m = c.args.coming.now.states.now.automaton in
+    let facts = c.args.coming.now.states.now.facts.items in
+    let p = piece_of c.args.coming.now.span in
     let laws : StepLaws M P =
     record {
       one = c.one_name.ensures.pieces M;
       to = c.context_steps.ensures.to M;
       from = c.context_steps.ensures.from M;
     } in
-    let there = context_there M P laws m facts c.closed.ensures.closed c.closed.ensures.lists p c.requires.piece
-    c.requires.states c.args.state.0 c.requires.ending c.requires.named in
+    let there = context_there M P laws m facts c.closed.ensures.closed c.closed.ensures.lists p c.requires.coming.piece
+    c.requires.coming.states c.args.state.0 c.requires.ending c.requires.named in
     let reached =
-    reached_there M P laws m facts c.closed.ensures.closed c.closed.ensures.lists p c.requires.piece
-    c.requires.states c.args.state.0 c.requires.ending c.requires.named c.args.from c.args.intersection.now.node
-    c.requires.arrives in
-    let names = c.in_ok-names.ensures c.args.span.name.way there.0 p _ c.requires.states
+    reached_there M P laws m facts c.closed.ensures.closed c.closed.ensures.lists p c.requires.coming.piece
+    c.requires.coming.states c.args.state.0 c.requires.ending c.requires.named c.args.coming.now.from c.args.coming.now.intersection.node
+    c.requires.coming.arrives in
+    let names = c.in_ok-names.ensures c.args.coming.now.span.name.way there.0 p _ c.requires.coming.states
     (context_pieces M P (there.0 ++ p ∷ []) there.3) there.2 c.requires.ending.at in
     let arcs = subst (λ l. Lists (λ (a : TurnArc). a.piece) name_cmp (IsArcEntry M P (there.0 ++ p ∷ [])) l)
     (sym c.from_list-2.ensures) (c.in_ok-arcs.ensures (there.0 ++ p ∷ []) reached) in
-    context_in M P laws m facts c.closed.ensures.closed c.closed.ensures.lists p c.requires.piece c.requires.states
+    context_in M P laws m facts c.closed.ensures.closed c.closed.ensures.lists p c.requires.coming.piece c.requires.coming.states
     c.args.state.0 c.requires.ending c.requires.named _ (c.from_list.ensures ∙ names) arcs

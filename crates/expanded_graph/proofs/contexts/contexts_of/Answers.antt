@@ -8,27 +8,27 @@ put_in_order-requires g c = c.in_ok-contexts.ensures.distinct
 
 pub returns-clause-listed : goal.returns-clause-listed
 returns-clause-listed g c =
-    let M = g.M.World.objects c.args.network.now.world.now in
-    let P = g.P.Profile.rules c.args.network.now.profile in
+    let M = g.M.World.objects c.args.coming.now.network.now.world.now in
+    let P = g.P.Profile.rules c.args.coming.now.network.now.profile in
     listed M P (c.one_name.ensures.pieces M) c.name_order.ensures.names c.name_order.ensures.lists
-    (c.context_steps.ensures.short M) (piece_of c.args.span) c.requires.piece c.in_ok-contexts.contexts.items
+    (c.context_steps.ensures.short M) (piece_of c.args.coming.now.span) c.requires.piece c.in_ok-contexts.contexts.items
     c.put_in_order.new.contexts.items c.in_ok-contexts.ensures c.in_ok-put_in_order.ensures.same
     c.in_ok-put_in_order.ensures.ascending
 
 pub returns-clause-alone : goal.returns-clause-alone
 returns-clause-alone g c =
-    let M = g.M.World.objects c.args.network.now.world.now in
-    let P = g.P.Profile.rules c.args.network.now.profile in
+    let M = g.M.World.objects c.args.coming.now.network.now.world.now in
+    let P = g.P.Profile.rules c.args.coming.now.network.now.profile in
     first_alone M P (c.one_name.ensures.pieces M) c.name_order.ensures.names c.name_order.ensures.lists
-    (c.context_steps.ensures.short M) (piece_of c.args.span) c.requires.piece c.in_ok-contexts.contexts.items
+    (c.context_steps.ensures.short M) (piece_of c.args.coming.now.span) c.requires.piece c.in_ok-contexts.contexts.items
     c.put_in_order.new.contexts.items c.in_ok-contexts.ensures c.in_ok-put_in_order.ensures.same
     c.in_ok-put_in_order.ensures.ascending
 
 pub returns-clause-forms : goal.returns-clause-forms
 returns-clause-forms g c =
-    let M = g.M.World.objects c.args.network.now.world.now in
-    let P = g.P.Profile.rules c.args.network.now.profile in
+    let M = g.M.World.objects c.args.coming.now.network.now.world.now in
+    let P = g.P.Profile.rules c.args.coming.now.network.now.profile in
     forms M P (c.one_name.ensures.pieces M) c.name_order.ensures.names c.name_order.ensures.lists
-    (c.context_steps.ensures.short M) (piece_of c.args.span) c.requires.piece c.in_ok-contexts.contexts.items
+    (c.context_steps.ensures.short M) (piece_of c.args.coming.now.span) c.requires.piece c.in_ok-contexts.contexts.items
     c.put_in_order.new.contexts.items c.in_ok-contexts.ensures c.in_ok-put_in_order.ensures.same
     c.in_ok-put_in_order.ensures.ascending

@@ -7,16 +7,16 @@ use Rattle.restrictions.proofs.runs.connects.Goals as goal
 
 pub returns-then-leads_from : goal.returns-then-leads_from
 returns-then-leads_from g c =
-    let M = g.M.World.objects c.args.world.now in
-    connect_first M (allows M (g.P.Profile.rules c.args.profile.now) c.args.allowed) c.args.roles.now.body.now
+    let M = g.M.World.objects c.args.network.now.world.now in
+    connect_first M (allows M (g.P.Profile.rules c.args.network.now.profile) c.args.allowed) c.args.roles.now.body.now
     (vias c.args.roles.now.body.now) c.as_slice.result.now c.in-Some.ends.first c.in-Some.ends.last c.leads_from.result
     (c.as_slice.ensures.value ∙ c.args.roles.now.via_members) c.requires.ways c.requires.lines
     c.in-Some.ensures.first c.in-Some.ensures.last c.leads_from.ensures c.if-leads_from.true
 
 pub returns-else-leads_from : goal.returns-else-leads_from
 returns-else-leads_from g c =
-    let M = g.M.World.objects c.args.world.now in
-    connect_second M (allows M (g.P.Profile.rules c.args.profile.now) c.args.allowed) c.args.roles.now.body.now
+    let M = g.M.World.objects c.args.network.now.world.now in
+    connect_second M (allows M (g.P.Profile.rules c.args.network.now.profile) c.args.allowed) c.args.roles.now.body.now
     (vias c.args.roles.now.body.now) c.as_slice.result.now c.in-Some.ends.first c.in-Some.ends.last c.leads_from.result
     c.leads_from-else-leads_from.result (c.as_slice.ensures.value ∙ c.args.roles.now.via_members) c.requires.ways
     c.requires.lines c.in-Some.ensures.first c.in-Some.ensures.last c.leads_from.ensures c.if-leads_from.false

@@ -4,7 +4,7 @@ use Rattle.road_model.specs.Broken.{Broken}
 use Rattle.drive_judging.specs.Verdicts.{broken_rule}
 use Rattle.drive_judging.proofs.JudgedDrives.{first_state, table_has, front_lines, broken, cut_at, cut_behind}
 use Rattle.drive_judging.proofs.JudgedDrives.{front_length}
-use Rattle.drive_judging.proofs.judging.judge.Goals as goal
+use Rattle.drive_judging.proofs.judging.judge_on.Goals as goal
 
 pub loop-at-init : goal.loop-at-init
 loop-at-init g c =
@@ -13,23 +13,23 @@ loop-at-init g c =
 
 pub judge_step-requires-clause-words : goal.judge_step-requires-clause-words
 judge_step-requires-clause-words g c =
-    let M = g.M.World.objects c.args.world.now in
-    let P = g.P.Profile.rules c.args.profile.now in
+    let M = g.M.World.objects c.args.network.now.world.now in
+    let P = g.P.Profile.rules c.args.network.now.profile in
     let drive = c.args.drive.now in
     table_has M P drive _ (drop (c.loop-at.at + 1) drive) (cut_behind drive c.loop-at.at _ c.loop-at-test.true)
     c.args.table.now.automaton.words c.requires.own.words
 
 pub judge_step-requires-clause-lines : goal.judge_step-requires-clause-lines
 judge_step-requires-clause-lines g c =
-    let M = g.M.World.objects c.args.world.now in
+    let M = g.M.World.objects c.args.network.now.world.now in
     let drive = c.args.drive.now in
     front_lines M c.args.table.now.lines drive _ (drop (c.loop-at.at + 1) drive)
     (cut_behind drive c.loop-at.at _ c.loop-at-test.true) c.requires.own.lines
 
 pub returns-in-Err : goal.returns-in-Err
 returns-in-Err g c =
-    let M = g.M.World.objects c.args.world.now in
-    let P = g.P.Profile.rules c.args.profile.now in
+    let M = g.M.World.objects c.args.network.now.world.now in
+    let P = g.P.Profile.rules c.args.network.now.profile in
     let drive = c.args.drive.now in
     subst (λ (n : ℕ). Broken M P drive (n + 1) (broken_rule c.in-Err.rule))
     (front_length drive c.loop-at.at c.loop-at-test.true)
