@@ -132,12 +132,12 @@ pub builds_over : (l : Loaded) (M : Objects) → IsApplied empty l.events.items 
     → ServesBuilding l no_read_failed held remaining x old new
 builds_over l M applied no_read_failed held remaining x old mid new load builds =
     λ bytes behind w o N was is tells opens has.
-        let b = builds bytes behind w o was is tells (kept_for l M applied o w opens) in (
-          b.0,
-          b.1,
-          builds_from o b.0 behind no_read_failed mid (old + length (highways N)) new
-              (load N (of_history l o w opens N has)) b.2,
-        )
+    let b = builds bytes behind w o was is tells (kept_for l M applied o w opens) in (
+      b.0,
+      b.1,
+      builds_from o b.0 behind no_read_failed mid (old + length (highways N)) new
+          (load N (of_history l o w opens N has)) b.2,
+    )
 
 pub builds_nothing : (l : Loaded) (no_read_failed : Type 0) (held : Option (List ℕ)) (x : Option Outside)
     (old new : ℕ) → LoadBuilds l old new → ServesBuilding l no_read_failed held held x old new

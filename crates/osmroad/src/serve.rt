@@ -16,7 +16,7 @@ use crate::profiles::profile_of_run;
 use crate::reply::{put_last, refuse_store};
 use crate::status::Status;
 use change_apply::Engine;
-use road_base::{NoMemory, Steps};
+use road_base::Steps;
 use road_io::{Site, Source};
 use road_model::Profile;
 use sequence_journal::{JournalError, Loaded};
@@ -65,9 +65,8 @@ pub fn serve<P: Profile, S: Source, W: Site, L: Ledger>(
 {
     nothing_read::<RoadAnswerer<P>>();
     let Loaded { journal, events } = loaded;
-    let engine = match Engine::load(alloc, profile, events, steps) {
-        Ok(engine) => engine,
-        Err(NoMemory) => return Status::NoMemory,
+    let Ok(engine) = Engine::load(alloc, profile, events, steps) else {
+        return Status::NoMemory;
     };
     let answerer = RoadAnswerer::new(alloc, engine);
     status_of(converse(alloc, answerer, journal, source, site, steps))

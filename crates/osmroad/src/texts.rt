@@ -5,8 +5,7 @@ ghost use Rattle.opl_objects.specs.StreamLines.{fault_at};
 ghost use Rattle.osmroad.specs.Texts.{refused_line, created_line, applied_line, sequence_line};
 ghost use Rattle.osmroad.specs.Texts.{checkpoint_line, file_letter, damaged_line};
 
-use opl_objects::Fault;
-use opl_objects::kind_name;
+use opl_objects::{Fault, kind_name};
 use road_base::Sequence;
 use road_io::Which;
 use std::alloc::{AllocError, Global};

@@ -12,7 +12,7 @@ use Rattle.graph_file.specs.GraphReading.{list_bytes, ListFits, IsWayBlock}
 use Rattle.graph_file.specs.OneSpelling.{list_one, block_one}
 use Rattle.graph_file.proofs.Ascents.{named}
 use Rattle.spelled_bytes.proofs.Fronts.{malformed_weaker}
-use Rattle.graph_file.proofs.GraphFiles.{behind}
+use Rattle.graph_file.proofs.GraphFiles.{numbered, behind}
 use Rattle.graph_file.proofs.graph.read_blocks.Goals as goal
 
 blocks_one : IsOneSpelling (list_bytes block_bytes) (ListFits IsWayBlock)
@@ -22,9 +22,17 @@ pub returns-in-None-clause-malformed : goal.returns-in-None-clause-malformed
 returns-in-None-clause-malformed c = λ profile list file.
     c.in-None.ensures.none (u32_bytes profile ++ list_bytes block_bytes list) file.spelled
 
+pub returns-in_err-profile-clause-malformed : goal.returns-in_err-profile-clause-malformed
+returns-in_err-profile-clause-malformed c =
+    let p = err_from_is_err_and c.from_residual.result c.from_residual.ensures.1 in
+    rw (p.1, p.2) (malformed_weaker c.in_err-profile.field-0.0
+    (λ none profile list file. none profile (list_bytes block_bytes list)
+    (numbered c.args.bytes.now c.in-Some.rest.now c.in-Some.ensures.some profile list file))
+    c.in_err-profile.ensures.malformed)
+
 pub returns-in_err-list-clause-malformed : goal.returns-in_err-list-clause-malformed
 returns-in_err-list-clause-malformed c =
-    let p = err_from_is_err_and c.from_residual.result c.from_residual.ensures.1 in
+    let p = err_from_is_err_and c.from_residual-in_err-list.result c.from_residual-in_err-list.ensures.1 in
     rw (p.1, p.2) (malformed_weaker c.in_err-list.field-0.0
     (λ none profile list file. none list []
     (behind c.args.bytes.now c.in-Some.rest.now c.in_ok-profile.rest.now c.in_ok-profile.profile

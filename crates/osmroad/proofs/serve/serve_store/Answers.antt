@@ -1,6 +1,8 @@
-use Rattle.std.proofs.Common.{ℕ, inl, inr, refl, subst}
+use Rattle.std.proofs.Common.{ℕ, inl, inr, subst}
 use Rattle.osmroad.specs.declared.status.Status.TheVariants.{SiteFault}
-use Rattle.osmroad.specs.Sessions.{AnswersFaults}
+use Rattle.access_profile.specs.Profiles.{rules_of}
+use Rattle.session_replies.specs.Replies.{road_replies}
+use Rattle.osmroad.specs.Sessions.{AnswersFaults, Serves}
 use Rattle.osmroad.proofs.ServedSessions.{store_is_served, store_opens}
 use Rattle.osmroad.proofs.RefusedSessions.{store_is_refused, refused_no_read}
 use Rattle.osmroad.proofs.BuiltSessions.{store_builds, none_built}
@@ -8,8 +10,8 @@ use Rattle.osmroad.proofs.serve.serve_store.Goals as goal
 
 -- ---- the store is loaded
 
-pub serve-requires-clause-number : goal.serve-requires-clause-number
-serve-requires-clause-number g c = refl
+pub serve-requires-clause-known : goal.serve-requires-clause-known
+serve-requires-clause-known g c = c.profile_of_run.result.known
 
 pub serve-requires-clause-opens : goal.serve-requires-clause-opens
 serve-requires-clause-opens g c = store_opens c.in-Ok.loaded (g.W.Site.outside c.args.site.now)
@@ -17,10 +19,14 @@ serve-requires-clause-opens g c = store_opens c.in-Ok.loaded (g.W.Site.outside c
 
 pub returns-in-Ok-clause-ends : goal.returns-in-Ok-clause-ends
 returns-in-Ok-clause-ends g c =
+    let held = g.S.Source.bytes_left c.args.source.now in
+    let left = g.S.Source.bytes_left c.serve.new.source in
+    let between = g.W.Site.outside c.load_store.new.site in
+    let after = g.W.Site.outside c.serve.new.site in
     store_is_served c.store_laws.ensures.store c.in-Ok.loaded c.serve.result
-    (g.S.Source.bytes_left c.args.source.now) (g.S.Source.bytes_left c.serve.new.source)
-    (g.W.Site.outside c.args.site.now) (g.W.Site.outside c.load_store.new.site) (g.W.Site.outside c.serve.new.site)
-    c.in-Ok.ensures.told c.serve.ensures.serves
+    held left (g.W.Site.outside c.args.site.now) between after c.in-Ok.ensures.told
+    (subst (λ (n : ℕ). Serves (road_replies (rules_of n)) c.in-Ok.loaded c.serve.result held left between after)
+    c.profile_of_run.ensures c.serve.ensures.serves)
 
 pub returns-in-Ok-clause-built : goal.returns-in-Ok-clause-built
 returns-in-Ok-clause-built g c =
