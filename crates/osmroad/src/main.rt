@@ -115,13 +115,7 @@ mod counting_tests;
 #[cfg(test)]
 mod failure_tests;
 #[cfg(test)]
-mod graph_text;
-#[cfg(test)]
 mod limit_tests;
-#[cfg(test)]
-mod map_tests;
-#[cfg(test)]
-mod piece_tests;
 #[cfg(test)]
 mod session_tests;
 #[cfg(test)]

@@ -126,36 +126,6 @@ const FORK_LINES: &[u8] =
     r20 v1 Ttype=restriction,restriction=no_u_turn Mw1@from,w2@via,w3@via,w4@to\n\
     r21 v1 Ttype=restriction,restriction=only_right_turn Mw2@from,w3@via,w5@to\n";
 
-/// Two restrictions over several ways, of which the change deletes one.
-const FORK: Session = Session {
-    number: "6",
-    extract: FORK_LINES,
-    input: b"state\ndrive w1.0+ w2.0+ w3.0+ w4.0+\ndrive w2.0+ w3.0+ w4.0+\n\
-        reach 1 5\n#seq 7\nr21 v2 dD\n#end\nstate\ndrive w2.0+ w3.0+ w4.0+\nreach 1 5\n",
-    status: Status::Done,
-    output: &[
-        b"created 6\nstate sequence 6 ways 5 pieces 10 contexts 13 arcs 16\nbroken 4 no 20\n\
-        broken 3 only 21\ndrive w1.0+ w2.0+ w3.0+ w5.0+ w5.0- w4.0+\napplied 7\n\
-        state sequence 7 ways 5 pieces 10 contexts 12 arcs 15\nlegal\n\
-        drive w1.0+ w2.0+ w3.0+ w5.0+ w5.0- w4.0+\n",
-    ],
-};
-
-/// The same map with a second only-restriction, on whose last two ways the first one goes on.
-const FORK_STRAIGHT: Session = Session {
-    number: "6",
-    extract: b"n1 v1 x0.001 y0\nn2 v1 x0.002 y0\nn3 v1 x0.003 y0\nn4 v1 x0.004 y0\nn5 v1 x0.005 y0\n\
-        n6 v1 x0.006 y0\nw1 v1 Thighway=residential Nn1,n2\nw2 v1 Thighway=residential Nn2,n3\n\
-        w3 v1 Thighway=residential Nn3,n4\nw4 v1 Thighway=residential Nn4,n5\n\
-        w5 v1 Thighway=residential Nn4,n6\n\
-        r20 v1 Ttype=restriction,restriction=no_u_turn Mw1@from,w2@via,w3@via,w4@to\n\
-        r21 v1 Ttype=restriction,restriction=only_right_turn Mw2@from,w3@via,w5@to\n\
-        r22 v1 Ttype=restriction,restriction=only_straight_on Mw1@from,w2@via,w3@to\n",
-    input: b"drive w1.0+ w2.0+ w3.0+ w5.0+\n",
-    status: Status::Done,
-    output: &[b"created 6\nlegal\n"],
-};
-
 /// Frames under another number, with a fault, and without one.
 pub const REFUSED_MESSAGES: &[u8] = b"#seq 14\nn1 v2 x0 y0\n#end\n\
     #seq 13\nn1 v2 x0 y0\nq1 v1\nn2 v\n#end\nstate\n#seq 13\nn1 v2 x0 y0\n#end\n";
@@ -233,49 +203,19 @@ pub const VILLAGE_FOLLOWED: Session = Session {
     ],
 };
 
-/// The first rule that a drive breaks.
-const VILLAGE_DRIVES: Session = Session {
-    number: "5000",
-    extract: VILLAGE,
-    input: b"drive w201.5+\ndrive w999.0+\ndrive w204.0+\ndrive w201.0+ w203.0+\ndrive w201.0+ w201.0-\n\
-        drive w203.0+ w203.0-\ndrive w201.1+ w202.0+\ndrive w202.0- w201.1- w201.0-\n",
-    status: Status::Done,
-    output: &[
-        b"created 5000\nbroken 1 no-step\nbroken 1 no-step\nbroken 1 closed highway\nbroken 2 apart\n\
-        broken 2 reversal 102\nlegal\nbroken 2 no 303\nlegal\n",
-    ],
-};
-
 const JUNCTION_LINES: &[u8] =
     b"n1 v1 x0.001 y0\nn2 v1 x0.002 y0\nn3 v1 x0.003 y0\nn4 v1 x0.004 y0\nn6 v1 x0.006 y0\n\
     n7 v1 x0.007 y0\nw10 v1 Thighway=residential Nn1,n2\nw11 v1 Thighway=residential Nn4,n3,n2\n\
     w13 v1 Thighway=residential Nn1,n6\nw14 v1 Thighway=residential Nn6,n7\n";
 
-/// The change brings a way to a plain node, which is a junction from then on.
-const JUNCTION_MADE: Session = Session {
-    number: "4",
-    extract: JUNCTION_LINES,
-    input: b"state\n#seq 5\nn5 v1 x0.005 y0\nw12 v1 Thighway=residential Nn3,n5\n#end\nstate\n\
-        drive w10.0+ w11.1- w12.0+\n",
-    status: Status::Done,
-    output: &[
-        b"created 4\nstate sequence 4 ways 4 pieces 8 contexts 8 arcs 8\napplied 5\n\
-        state sequence 5 ways 5 pieces 12 contexts 12 arcs 15\nlegal\n",
-    ],
-};
-
 #[test]
 fn sessions_answer(rt: HostRuntime) -> Result<(), Fail> {
     let sessions = [
         STREET_FOLLOWED,
-        FORK,
-        FORK_STRAIGHT,
         REFUSED_FRAMES,
         STREET_REFUSED,
         UNFINISHED,
         VILLAGE_FOLLOWED,
-        VILLAGE_DRIVES,
-        JUNCTION_MADE,
     ];
     for session in sessions {
         check(&rt, rt.alloc(), &session)?;

@@ -15,6 +15,8 @@ mod drive_queries_tests;
 #[cfg(test)]
 mod object_store_tests;
 #[cfg(test)]
+mod piece_tests;
+#[cfg(test)]
 mod shared_map_tests;
 #[cfg(test)]
 mod touched_ways_tests;

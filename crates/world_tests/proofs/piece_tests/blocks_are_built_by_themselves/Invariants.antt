@@ -1,4 +1,4 @@
-use Rattle.osmroad.proofs.map_tests.a_block_is_built_by_itself.Given as goal
+use Rattle.world_tests.proofs.piece_tests.blocks_are_built_by_themselves.Given as goal
 
 -- the ledger that was just made
 abbrev pub ghosts-block_counts : goal.ghosts-block_counts

@@ -1,14 +1,29 @@
-//! Maps with a way 10 over some of the nodes 1, 2 and 3: which of its positions are plain and which are junctions,
-//! the pieces that leave node 1, and all pieces, each with the steps that it is driven in.
-use crate::map_tests::world_of;
+//! Maps with a way 10 over some of the nodes 1 to 4: which of its positions are plain and which are junctions, the pieces
+//! that leave node 1, and all pieces, each with the steps that it is driven in; and how large its block is.
+ghost use Rattle.std.specs.Prelude.{◌≡◌, ◌<◌};
+
+use crate::worlds::world_of;
 use access_profile::Motorcar;
 use back_references::Indexed;
+use expanded_graph::build_block;
 use junctions::{is_plain, junctions_of};
-use road_base::{Dir, NodeId, WayId};
-use road_model::PieceName;
+use road_base::{Dir, NodeId, Steps, WayId};
+use road_model::{Block, Piece, PieceName};
 use std::alloc::Global;
+use std::marker::Brand;
+use std::sync::ledger::{Blank, Ledger};
 use std::test::Fail;
 use way_pieces::{pieces_from, pieces_of, spell};
+
+/// The nodes on which the ways of the maps lie.
+const NODES: &[u8] = b"n1 x0.001 y0\nn2 x0.002 y0\nn3 x0.003 y0\nn4 x0.002 y0.001\n";
+
+/// The world of the nodes and these lines.
+fn world_with_nodes(alloc: Global, lines: &[u8]) -> Result<Indexed, Fail> {
+    let mut extract = NODES.to_vec(alloc)?;
+    extract.extend_from_slice(lines)?;
+    world_of(alloc, &extract)
+}
 
 fn add(alloc: Global, out: &mut String, index: u32, dir: Dir) -> Result<(), Fail> {
     let sign = match dir {
@@ -85,7 +100,7 @@ fn found_in(alloc: Global, world: &Indexed) -> Result<String, Fail> {
 
 /// All that is found on the map.
 fn found(alloc: Global, lines: &[u8]) -> Result<String, Fail> {
-    let world = world_of(alloc, lines)?;
+    let world = world_with_nodes(alloc, lines)?;
     found_in(alloc, &world)
 }
 
@@ -117,6 +132,72 @@ fn pieces_lie_between_junctions(rt: HostRuntime) -> Result<(), Fail> {
     for (lines, want) in cases {
         let text = found(rt.alloc(), lines)?;
         assert_eq!(rt; text.as_str(), want);
+    }
+    Ok(())
+}
+
+fn arc_count(piece: &Piece) -> usize {
+    let mut arcs = 0usize;
+    for context in piece.contexts.items() {
+        arcs = arcs.wrapping_add(context.arcs.items().len());
+    }
+    arcs
+}
+
+/// How many pieces, contexts and arcs a block has.
+fn counts(block: &Block) -> (usize, usize, usize) {
+    let pieces = block.pieces.items();
+    let (mut contexts, mut arcs) = (0usize, 0usize);
+    for piece in pieces {
+        contexts = contexts.wrapping_add(piece.contexts.items().len());
+        arcs = arcs.wrapping_add(arc_count(piece));
+    }
+    (pieces.len(), contexts, arcs)
+}
+
+/// How many pieces, contexts and arcs way 10 of the world has, whose block is built by itself.
+fn block_counts_in<L: Ledger>(
+    alloc: Global,
+    world: &Indexed,
+    blank: Blank,
+) -> Result<(usize, usize, usize), Fail>
+    requires name { blank.name ≡ L.name }
+    requires parts { blank.parts ≡ L.parts }
+    requires some { 0 < L.parts }
+{
+    let mut steps = Steps::<L>::new(blank);
+    let block = build_block(alloc, world, &Motorcar, WayId(10), &mut steps)?;
+    Ok(counts(&block))
+}
+
+/// The same of way 10 of the map.
+fn block_counts<L: Ledger>(
+    alloc: Global,
+    lines: &[u8],
+    blank: Blank,
+) -> Result<(usize, usize, usize), Fail>
+    requires name { blank.name ≡ L.name }
+    requires parts { blank.parts ≡ L.parts }
+    requires some { 0 < L.parts }
+{
+    let world = world_with_nodes(alloc, lines)?;
+    block_counts_in::<L>(alloc, &world, blank)
+}
+
+#[test]
+fn blocks_are_built_by_themselves(rt: HostRuntime) -> Result<(), Fail> {
+    let cases: [(&[u8], (usize, usize, usize)); 3] = [
+        (b"w10 Thighway=residential Nn1,n2,n3", (2, 2, 2)),
+        // The map of examples/fork.
+        (
+            b"w10 Thighway=road Nn1,n2\nw11 Thighway=road Nn2,n3\nw12 Thighway=road Nn2,n4\n",
+            (2, 2, 3),
+        ),
+        (b"w10 Twaterway=river Nn1,n2,n3", (0, 0, 0)),
+    ];
+    for (lines, want) in cases {
+        let found = block_counts::<Brand>(rt.alloc(), lines, Blank::new(1))?;
+        assert_eq!(rt; found, want);
     }
     Ok(())
 }

@@ -1,5 +1,0 @@
-use Rattle.osmroad.proofs.store_tests.file_after.Given as goal
-
--- the ledger that was just made
-abbrev pub ghosts-ended : goal.ghosts-ended
-ghosts-ended a = record { name = a.blank.name; parts = a.blank.parts }
