@@ -7,16 +7,12 @@ use Rattle.road_model.specs.Lines.{same_node}
 use Rattle.road_model.specs.Driving.{shut, turning_place}
 use Rattle.ordered_lists.specs.Orders.{Lists}
 use Rattle.road_model.specs.Orders.{name_cmp}
+use Rattle.way_lines.specs.declared.node_rules.NodeRules.{NodeRules}
+use Rattle.way_lines.specs.NodeTurns.{HasRules}
 use Rattle.way_pieces.specs.declared.departures.Departure.{Departure}
 use Rattle.way_pieces.specs.Names.{IsDeparture}
 use Rattle.expanded_graph.specs.declared.intersections.Intersection.{Intersection}
 use Rattle.expanded_graph.specs.declared.intersections.Intersections.{Intersections}
-use Rattle.expanded_graph.specs.declared.intersections.NodeRules.{NodeRules}
-
--- what is told of the node's tags is so
-pub record HasRules (M : Objects) (P : Rules) (r : NodeRules) : Type 0 where
-  pub shut_is : r.is_shut ≡ shut M P r.node
-  pub turning_is : r.is_turning_place ≡ turning_place M P r.node
 
 -- what is known of the node is so
 pub record IsIntersection (M : Objects) (P : Rules) (i : Intersection) : Type 0 where

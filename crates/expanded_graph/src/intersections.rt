@@ -1,6 +1,5 @@
 //! Nodes where pieces end, with what is to be known of them.
 ghost use Rattle.std.specs.Prelude.{◌≡◌, IfOk, IfSome};
-ghost use Rattle.road_model.specs.Driving.{shut, turning_place};
 ghost use Rattle.road_model.specs.Networks.{on, made_on};
 ghost use Rattle.road_base.specs.Objects.{Objects};
 ghost use Rattle.ordered_lists.specs.Orders.{Lists};
@@ -8,12 +7,13 @@ ghost use Rattle.road_model.specs.Orders.{name_cmp};
 ghost use Rattle.road_model.specs.Rules.{Rules};
 ghost use Rattle.way_pieces.specs.Names.{IsDeparture};
 ghost use Rattle.way_pieces.specs.RoadPieces.{AreRoadPieces};
-ghost use Rattle.expanded_graph.specs.Intersections.{IsIntersection, AreIntersections, HasRules};
+ghost use Rattle.expanded_graph.specs.Intersections.{IsIntersection, AreIntersections};
 
-use ordered_lists::{Groups, Numbered, Ranges};
+use ordered_lists::{Groups, Ranges};
 use road_base::{NoMemory, NodeId};
 use road_model::{Network, Profile, World};
 use std::alloc::Global;
+use way_lines::NodeRules;
 use way_pieces::{Departure, RoadPieces};
 
 /// How many pieces leave a node, as a guess.
@@ -32,52 +32,18 @@ pub struct Intersection<'a> {
     pub departures: &'a [Departure],
 }
 
-/// A node, and what its tags say to one who comes there.
-#[derive(Clone, Copy, Debug)]
-pub struct NodeRules {
-    pub node: NodeId,
-    pub is_shut: bool,
-    pub is_turning_place: bool,
-}
-
-impl Numbered for NodeRules {
-    fn number(&self) -> i64 {
-        self.node.0
-    }
-}
-
-impl NodeRules {
-    /// Whether the node is shut, as at a bollard, and whether it is a place to turn round. One that isn't visible is
-    /// neither.
-    pub fn of<M: World, P: Profile>(network: &Network<'_, M, P>, node: NodeId) -> NodeRules
-        ensures node { result.node ≡ node }
-        ensures rules { on network.now HasRules result }
-    {
-        match network.world.node(node) {
-            Some(body) => NodeRules {
-                node,
-                is_shut: !network.profile.node_open(&body.tags),
-                is_turning_place: network.profile.turns(&body.tags),
-            },
-            None => NodeRules {
-                node,
-                is_shut: false,
-                is_turning_place: false,
-            },
-        }
-    }
-
-    /// The node with what leaves it.
-    pub fn with(self, departures: &[Departure]) -> Intersection<'_>
-        ensures node { result.node ≡ self.node }
-        ensures is_shut { result.is_shut ≡ self.is_shut }
-        ensures is_turning_place { result.is_turning_place ≡ self.is_turning_place }
+impl<'a> Intersection<'a> {
+    /// The node with these rules, and what leaves it.
+    pub fn with(rules: NodeRules, departures: &'a [Departure]) -> Intersection<'a>
+        ensures node { result.node ≡ rules.node }
+        ensures is_shut { result.is_shut ≡ rules.is_shut }
+        ensures is_turning_place { result.is_turning_place ≡ rules.is_turning_place }
         ensures departures { result.departures.now ≡ departures.now }
     {
         Intersection {
-            node: self.node,
-            is_shut: self.is_shut,
-            is_turning_place: self.is_turning_place,
+            node: rules.node,
+            is_shut: rules.is_shut,
+            is_turning_place: rules.is_turning_place,
             departures,
         }
     }
@@ -134,6 +100,6 @@ impl Intersections {
         if rules.node != node || at >= self.departures.len() {
             return None;
         }
-        Some(rules.with(self.departures.at(at)))
+        Some(Intersection::with(rules, self.departures.at(at)))
     }
 }

@@ -15,13 +15,13 @@ ghost use Rattle.expanded_graph.specs.Travel.{Arrives};
 
 use crate::coming::Coming;
 use crate::contexts::contexts_of;
-use crate::intersections::NodeRules;
+use crate::intersections::Intersection;
 use crate::places::{Arrival, arrival_of, places_of};
 use crate::tables::Tables;
 use road_base::NoMemory;
 use road_model::{Context, Contexts, Network, Piece, Places, Profile, World};
 use std::alloc::Global;
-use way_lines::RoadLine;
+use way_lines::{NodeRules, RoadLine};
 use way_pieces::PieceSpan;
 
 /// The pieces of the way whose line this is, at these spans.
@@ -114,7 +114,8 @@ fn contexts_at<M: World, P: Profile>(
         return contexts_of(alloc, &coming);
     }
     let departures = tables.pieces.departures(alloc, network, arrival.at)?;
-    let intersection = NodeRules::of(network, arrival.at).with(departures.as_slice());
+    let rules = NodeRules::of(network, arrival.at);
+    let intersection = Intersection::with(rules, departures.as_slice());
     let coming = Coming {
         network,
         states,
