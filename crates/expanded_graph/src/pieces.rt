@@ -83,10 +83,10 @@ fn piece_at<M: World, P: Profile>(
 
 /// The contexts of the piece of a way that the tables serve, where it ends with this arrival. What leaves a node that
 /// isn't found among the intersections is found for this piece alone.
-fn contexts_at<M: World, P: Profile>(
+fn contexts_at<'a, M: World, P: Profile>(
     alloc: Global,
-    network: &Network<'_, M, P>,
-    tables: &Tables,
+    network: &'a Network<'a, M, P>,
+    tables: &'a Tables,
     span: PieceSpan,
     arrival: Arrival,
 ) -> Result<Vec<Context>, NoMemory>
