@@ -11,12 +11,12 @@ ghost use Rattle.drive_judging.specs.DriveLines.{AreLinesOn, IsLineIn};
 ghost use Rattle.drive_judging.specs.DeadEnds.{AreLeaving};
 
 use crate::drive_lines::ends_in;
-use crate::turning::{is_shut, turns_back};
+use crate::turning::turns_back;
 use crate::verdict::Rule;
 use crate::word_table::WordTable;
 use road_base::Step;
 use road_model::{Access, Network, Profile, World};
-use way_lines::is_located;
+use way_lines::{NodeRules, is_located};
 
 /// The first of these rules that the step breaks behind the steps before it. The table has the lines of their ways.
 pub fn step_rule<M: World, P: Profile>(
@@ -106,7 +106,7 @@ fn rule_between<M: World, P: Profile>(
         } else {
             Some(Rule::Reversal(node))
         }
-    } else if is_shut(network, node) {
+    } else if NodeRules::of(network, node).is_shut {
         Some(Rule::Barrier(node))
     } else {
         None

@@ -2,15 +2,15 @@
 ghost use Rattle.std.specs.Prelude.{◌≡◌, ◌↔◌, Some, IsTrue};
 ghost use Rattle.road_base.specs.declared.ids.Step.{Step};
 ghost use Rattle.road_model.specs.Lines.{head_of, tail_of};
-ghost use Rattle.road_model.specs.Networks.{made_on, map_of, on};
-ghost use Rattle.road_model.specs.Driving.{Leaves, MayTurn, Passes, shut, turning_place};
+ghost use Rattle.road_model.specs.Networks.{map_of, on};
+ghost use Rattle.road_model.specs.Driving.{Leaves, MayTurn, Passes};
 ghost use Rattle.drive_judging.specs.DeadEnds.{AreLeaving, IsLeaving};
 
 use crate::dead_ends::{Leaving, leaving_at};
 use crate::word_table::WordTable;
 use road_base::{NodeId, Step};
 use road_model::{Network, Profile, World};
-use way_lines::pass;
+use way_lines::{NodeRules, pass};
 
 /// Whether the step, which goes back over the node to where the one before it began, may follow it.
 pub fn turns_back<M: World, P: Profile>(
@@ -41,25 +41,5 @@ fn may_turn<M: World, P: Profile>(
     requires { on network.now IsLeaving node leaving }
     ensures { (t : Step) → on network.now Leaves node t → IsTrue result ↔ on network.now MayTurn node t }
 {
-    is_turning_place(network, node) || is_shut(network, node) || matches!(leaving, Leaving::One(_))
-}
-
-/// Whether the node is visible and a place to turn round.
-fn is_turning_place<M: World, P: Profile>(network: &Network<'_, M, P>, node: NodeId) -> bool
-    ensures { result ≡ made_on network.now turning_place node }
-{
-    match network.world.node(node) {
-        Some(node) => network.profile.turns(&node.tags),
-        None => false,
-    }
-}
-
-/// Whether the node is visible and shut, as at a bollard.
-pub fn is_shut<M: World, P: Profile>(network: &Network<'_, M, P>, node: NodeId) -> bool
-    ensures { result ≡ made_on network.now shut node }
-{
-    match network.world.node(node) {
-        Some(node) => !network.profile.node_open(&node.tags),
-        None => false,
-    }
+    NodeRules::of(network, node).may_turn(matches!(leaving, Leaving::One(_)))
 }

@@ -1,6 +1,7 @@
 -- A step that may be driven is apart, or goes back where it may not turn, or goes on at a shut node, or passes.
 use Rattle.std.proofs.Common.{Some, sym, ap, ◌∙◌}
 use Rattle.std.proofs.lemmas.Bool.{false≢true}
+use Rattle.road_model.specs.Driving.{shut}
 use Rattle.drive_judging.proofs.JudgedSteps.{breaks_apart, breaks_back, breaks_on, same_node, other_node, both_some}
 use Rattle.drive_judging.proofs.JudgedSteps.{begins_nowhere, ends_nowhere, goes_back, goes_elsewhere, shut_stops}
 use Rattle.drive_judging.proofs.JudgedSteps.{open_passes}
@@ -43,31 +44,32 @@ returns-else-turns_back-clause-some g c before behind =
     (goes_back M c.args.last c.args.step c.in-Some.from c.in-Some-ends_in.to from.0 to.1
     (sym c.eq.ensures ∙ c.if-eq.true))
 
-pub returns-then-is_shut-clause-some : goal.returns-then-is_shut-clause-some
-returns-then-is_shut-clause-some g c before behind =
+pub returns-then-of-clause-some : goal.returns-then-of-clause-some
+returns-then-of-clause-some g c before behind =
     let M = g.M.World.objects c.args.network.now.world.now in
     let P = g.P.Profile.rules c.args.network.now.profile in
     let from = c.in-Some.ensures.some M c.requires.from in
     let to = c.in-Some-ends_in.ensures.some M c.requires.to in
     let same = same_node c.in-Some.at c.in-Some-ends_in.node (sym c.ne.ensures ∙ c.if-ne.false) in
+    let shut_there = c.of.ensures.rules.shut_is ∙ ap (shut M P) c.of.ensures.node in
     let on = goes_elsewhere M c.args.last c.args.step c.in-Some.from c.in-Some-ends_in.to from.0 to.1
     (sym c.eq.ensures ∙ c.if-eq.false) in
     breaks_on M P before c.args.last c.args.step c.requires.drives behind c.in-Some-ends_in.node
     (record { from = from.1 ∙ ap Some same; to = to.0 })
-    (shut_stops M P c.args.last c.args.step c.in-Some-ends_in.node to.0 on
-    (sym c.is_shut.ensures ∙ c.if-is_shut.true)) on
+    (shut_stops M P c.args.last c.args.step c.in-Some-ends_in.node to.0 on (sym shut_there ∙ c.if-of.true)) on
 
-pub returns-else-is_shut-clause-none : goal.returns-else-is_shut-clause-none
-returns-else-is_shut-clause-none g c =
+pub returns-else-of-clause-none : goal.returns-else-of-clause-none
+returns-else-of-clause-none g c =
     let M = g.M.World.objects c.args.network.now.world.now in
     let P = g.P.Profile.rules c.args.network.now.profile in
     let from = c.in-Some.ensures.some M c.requires.from in
     let to = c.in-Some-ends_in.ensures.some M c.requires.to in
     let same = same_node c.in-Some.at c.in-Some-ends_in.node (sym c.ne.ensures ∙ c.if-ne.false) in
+    let shut_there = c.of.ensures.rules.shut_is ∙ ap (shut M P) c.of.ensures.node in
     let on = goes_elsewhere M c.args.last c.args.step c.in-Some.from c.in-Some-ends_in.to from.0 to.1
     (sym c.eq.ensures ∙ c.if-eq.false) in
     open_passes M P c.args.last c.args.step c.in-Some-ends_in.node (from.1 ∙ ap Some same) to.0 on
-    (sym c.is_shut.ensures ∙ c.if-is_shut.false)
+    (sym shut_there ∙ c.if-of.false)
 
 pub turns_back-requires-clause-leaves : goal.turns_back-requires-clause-leaves
 turns_back-requires-clause-leaves g c = record {
