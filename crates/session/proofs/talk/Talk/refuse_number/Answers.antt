@@ -1,7 +1,7 @@
 use Rattle.session.specs.Talking.{replies_of, costs_of}
 use Rattle.session.proofs.ToldAnswers.{number_answers}
 use Rattle.session.proofs.BuiltAnswers.{number_builds, number_still}
-use Rattle.session.proofs.answering.Talk.refuse_number.Goals as goal
+use Rattle.session.proofs.talk.Talk.refuse_number.Goals as goal
 
 pub returns-clause-told : goal.returns-clause-told
 returns-clause-told g c =

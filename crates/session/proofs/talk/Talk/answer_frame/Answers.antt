@@ -9,7 +9,7 @@ use Rattle.session.specs.Conversation.{Kept}
 use Rattle.session.specs.BuildingOn.{CostsNothing}
 use Rattle.session.specs.Talking.{held, costs_of}
 use Rattle.session.proofs.BuiltAnswers.{frame_none}
-use Rattle.session.proofs.answering.Talk.answer_frame.Goals as goal
+use Rattle.session.proofs.talk.Talk.answer_frame.Goals as goal
 
 pub returns-then-is_err-clause-builds : goal.returns-then-is_err-clause-builds
 returns-then-is_err-clause-builds g c =

@@ -8,7 +8,7 @@ use Rattle.session.specs.declared.stop.Stop.TheVariants.{NoMemory}
 use Rattle.session.proofs.AnsweredMessages.{room_there, room_missing}
 use Rattle.session.proofs.ToldAnswers.{change_answers, change_fails, full_answers}
 use Rattle.session.proofs.BuiltAnswers.{change_builds_still, change_builds_only, change_builds_kept}
-use Rattle.session.proofs.answering.Talk.accept.Goals as goal
+use Rattle.session.proofs.talk.Talk.accept.Goals as goal
 
 -- ---- there is no room for the change, or no memory
 
@@ -29,7 +29,7 @@ returns-in_default-follow-clause-builds g c =
     (replies_of self) (g.A.Answerer.stands self.answerer) (g.A.Answerer.stands c.follow.new.self) c.args.steps.now
     c.follow.new.steps c.requires.next
     (room_there self.journal.gate (length (events_bytes c.args.events.now)) asked.has_room asked.ensures
-    c.if-not-has_room.false) _ NoMemory (g.W.Site.outside c.args.site.now) c.in_default-follow.ensures.failed
+    c.if-not-has_room.false) (held self) NoMemory (g.W.Site.outside c.args.site.now) c.in_default-follow.ensures.failed
 
 -- ---- the change is kept, and told
 
@@ -81,5 +81,5 @@ returns-clause-builds g c =
     c.args.steps.now c.follow.new.steps c.requires.next
     (room_there self.journal.gate (length (events_bytes c.args.events.now)) asked.has_room asked.ensures
     c.if-not-has_room.false)
-    _ _ c.stop_of.result (g.W.Site.outside c.args.site.now) (g.W.Site.outside c.append.new.site)
+    _ (held self) c.stop_of.result (g.W.Site.outside c.args.site.now) (g.W.Site.outside c.append.new.site)
     (λ h b M s has. inr (c.in-Ok-follow.ensures.few h b M s has)) c.in-Err.ensures.told

@@ -1,6 +1,6 @@
 use Rattle.session.specs.Talking.{held, replies_of}
 use Rattle.session.proofs.ClosedSessions.{ends_said, ends_unsaid, is_whole}
-use Rattle.session.proofs.closing.Talk.say_last.Goals as goal
+use Rattle.session.proofs.talk.Talk.say_last.Goals as goal
 
 pub returns-in-Ok-clause-ends : goal.returns-in-Ok-clause-ends
 returns-in-Ok-clause-ends g c = λ start read ended x same closes.

@@ -2,7 +2,7 @@ use Rattle.session_input.specs.Texts.{text_of}
 use Rattle.session.specs.Talking.{replies_of, costs_of}
 use Rattle.session.proofs.ToldAnswers.{line_answers}
 use Rattle.session.proofs.BuiltAnswers.{line_builds, when_ok}
-use Rattle.session.proofs.answering.Talk.answer_line.Goals as goal
+use Rattle.session.proofs.talk.Talk.answer_line.Goals as goal
 
 pub returns-clause-told : goal.returns-clause-told
 returns-clause-told g c =

@@ -5,7 +5,7 @@ use Rattle.session.specs.Talking.{held, replies_of}
 use Rattle.session.proofs.ClosedSessions.{ends_done, ends_memory, closes_unfinished, ends_answered, halts_last}
 use Rattle.session.proofs.GoingTalks.{answers_at, talk_ready}
 use Rattle.session.proofs.BuiltSessions.{ends_building, last_building}
-use Rattle.session.proofs.closing.Talk.finish.Goals as goal
+use Rattle.session.proofs.talk.Talk.finish.Goals as goal
 
 pub returns-in-Err-clause-ends : goal.returns-in-Err-clause-ends
 returns-in-Err-clause-ends g c = λ start read x going.

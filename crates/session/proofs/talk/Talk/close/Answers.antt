@@ -2,7 +2,7 @@ use Rattle.std.proofs.Common.{subst}
 use Rattle.session.specs.declared.stop.Stop.{Stop}
 use Rattle.session.specs.Following.{Since, Halts}
 use Rattle.session.specs.Talking.{held, replies_of}
-use Rattle.session.proofs.closing.Talk.close.Goals as goal
+use Rattle.session.proofs.talk.Talk.close.Goals as goal
 
 pub returns-in-Limit-clause-ends : goal.returns-in-Limit-clause-ends
 returns-in-Limit-clause-ends g c = λ start read ended x same halts.

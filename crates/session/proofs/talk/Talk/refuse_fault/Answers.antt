@@ -2,7 +2,7 @@ use Rattle.opl_objects.specs.StreamLines.{fault_at}
 use Rattle.session.specs.Talking.{replies_of, costs_of}
 use Rattle.session.proofs.ToldAnswers.{fault_answers}
 use Rattle.session.proofs.BuiltAnswers.{fault_builds, fault_still}
-use Rattle.session.proofs.answering.Talk.refuse_fault.Goals as goal
+use Rattle.session.proofs.talk.Talk.refuse_fault.Goals as goal
 
 pub returns-clause-told : goal.returns-clause-told
 returns-clause-told g c =
