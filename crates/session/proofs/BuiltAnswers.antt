@@ -133,6 +133,11 @@ none_builds C from message Then (Ok x) count v none = record {
 }
 none_builds C from message Then (Err stop) count v none = inl refl
 
+-- what holds anyway
+pub when_ok : {T E : Type 0} (result : Result T E) (P : Type 0) → P → OnOk result P
+when_ok (Ok x) P p = p
+when_ok (Err e) P p = tt
+
 -- a line that costs nothing, where it is answered
 pub line_none : (S : Outside → Outside → Type 0) (C : Costs) {B : Type 0} (text : Option (List ℕ)) (Has Then : Keeps B)
     (result : Result (Unit {0}) Stop) (count : ℕ) (x y : Option Outside) → Told S x y
@@ -195,7 +200,18 @@ module _ (laws : StoreLaws) (C : Costs) (number : Sequence) (events : List Event
       ))
       (builds from.history from.beside objects.0 k.stands objects.1)
 
-  -- the change isn't followed, or isn't kept
+  -- the change isn't followed
+  pub change_builds_still : (Then : Keeps B) (stop : Stop) (x : Option Outside)
+      → ((h : History) (b : B) (M : Objects) → Stands h b → HasObjects h M
+      → (now ≡ was) ⊎ CostsAtMost C M events was now)
+      → Told (λ w v. (from : Kept B) (body : List ℕ) → ReadAll Change body events → IsKept Stands old from w
+      → AnswerBuilds C from (Frame number.0 body) Then (Err stop) was now v) x x
+  change_builds_still Then stop x builds =
+      told_same x (λ w v. (from : Kept B) (body : List ℕ) → ReadAll Change body events → IsKept Stands old from w
+      → AnswerBuilds C from (Frame number.0 body) Then (Err stop) was now v)
+      (λ w from body gives k. change_builds from body w k gives builds)
+
+  -- the change isn't kept
   pub change_builds_only : (S : Outside → Outside → Type 0) (Then : Keeps B) (stop : Stop) (x y : Option Outside)
       → ((h : History) (b : B) (M : Objects) → Stands h b → HasObjects h M
       → (now ≡ was) ⊎ CostsAtMost C M events was now)

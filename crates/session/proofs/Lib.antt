@@ -4,7 +4,6 @@ pub mod KeptStores
 pub mod AnsweredMessages
 mod ToldAnswers
 mod Optional
-mod AskedAlone
 mod FollowedMessages
 mod ClosedSessions
 pub mod HeldSource
@@ -13,3 +12,4 @@ mod ReadSessions
 mod BuiltAnswers
 mod BuiltMessages
 mod BuiltSessions
+mod GoingTalks

@@ -140,34 +140,33 @@ full_answers {B} R number events journal Stands Then x next full =
 
 -- ---- a message, by what was received
 
-module _ {B : Type 0} (received : Received) (Has : Keeps B) (S : Kept B → Message → Outside → Outside → Type 0)
-    (x y : Option Outside) where
-  of_line : (line : LineText) (w v : Outside) → received ≡ LineReceived line
+module _ {B : Type 0} (Has : Keeps B) (S : Kept B → Message → Outside → Outside → Type 0) (x y : Option Outside) where
+  of_line : (received : Received) (line : LineText) (w v : Outside) → received ≡ LineReceived line
       → ((from : Kept B) → Has from w → S from (Line (text_of line)) w v)
       → (from : Kept B) (message : Message) → Means message received → Has from w → S from message w v
-  of_line line w v is answers from message (OfLine other) k =
+  of_line received line w v is answers from message (OfLine other) k =
       let e : LineReceived other ≡ LineReceived line = is in
       let same : line ≡ other = cc in
       subst (λ (l : LineText). S from (Line (text_of l)) w v) same (answers from k)
-  of_line line w v is answers from message (OfFrame number body change gives) k =
+  of_line received line w v is answers from message (OfFrame number body change gives) k =
       let e : FrameReceived number change ≡ LineReceived line = is in cc
 
   -- what holds of a line holds of the message
-  pub told_line : (line : LineText) → received ≡ LineReceived line
+  pub told_line : (received : Received) (line : LineText) → received ≡ LineReceived line
       → Told (λ w v. (from : Kept B) → Has from w → S from (Line (text_of line)) w v) x y
       → Told (λ w v. (from : Kept B) (message : Message) → Means message received → Has from w
       → S from message w v) x y
-  told_line line is told =
+  told_line received line is told =
       told_weaker x y (λ w v. (from : Kept B) → Has from w → S from (Line (text_of line)) w v)
       (λ w v. (from : Kept B) (message : Message) → Means message received → Has from w → S from message w v) told
-      (λ w v answers. of_line line w v is answers)
+      (λ w v answers. of_line received line w v is answers)
 
-  of_frame : (number : Sequence) (change : ReceivedChange) (w v : Outside) → received ≡ FrameReceived number change
+  of_frame : (received : Received) (number : Sequence) (change : ReceivedChange) (w v : Outside) → received ≡ FrameReceived number change
       → ((from : Kept B) (body : List ℕ) → IsChange body change → Has from w → S from (Frame number.0 body) w v)
       → (from : Kept B) (message : Message) → Means message received → Has from w → S from message w v
-  of_frame number change w v is answers from message (OfLine line) k =
+  of_frame received number change w v is answers from message (OfLine line) k =
       let e : LineReceived line ≡ FrameReceived number change = is in cc
-  of_frame number change w v is answers from message (OfFrame n body c gives) k =
+  of_frame received number change w v is answers from message (OfFrame n body c gives) k =
       let e : FrameReceived n c ≡ FrameReceived number change = is in
       let same : number ≡ n = cc in
       let alike : c ≡ change = cc in
@@ -175,13 +174,13 @@ module _ {B : Type 0} (received : Received) (Has : Keeps B) (S : Kept B → Mess
       (answers from body (subst (λ (d : ReceivedChange). IsChange body d) alike gives) k)
 
   -- and so does what holds of a frame
-  pub told_frame : (number : Sequence) (change : ReceivedChange) → received ≡ FrameReceived number change
+  pub told_frame : (received : Received) (number : Sequence) (change : ReceivedChange) → received ≡ FrameReceived number change
       → Told (λ w v. (from : Kept B) (body : List ℕ) → IsChange body change → Has from w
       → S from (Frame number.0 body) w v) x y
       → Told (λ w v. (from : Kept B) (message : Message) → Means message received → Has from w
       → S from message w v) x y
-  told_frame number change is told =
+  told_frame received number change is told =
       told_weaker x y (λ w v. (from : Kept B) (body : List ℕ) → IsChange body change → Has from w
       → S from (Frame number.0 body) w v)
       (λ w v. (from : Kept B) (message : Message) → Means message received → Has from w → S from message w v) told
-      (λ w v answers. of_frame number change w v is answers)
+      (λ w v answers. of_frame received number change w v is answers)

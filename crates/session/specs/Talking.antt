@@ -25,14 +25,18 @@ costs_of {A} {R} talk = R.costs (R.fixed talk.answerer)
 abbrev pub held : {A : _} {R : _} → Talk A R → Keeps R.Beside
 held {A} {R} talk = IsKept (R.stands talk.answerer) talk.journal
 
+-- what answers is the same, but for what messages alter
+abbrev pub AnswersAs : {A : _} {R : _} → (start talk : Talk A R) → Type 0
+AnswersAs start talk = fixed_of talk ≡ fixed_of start
+
 -- the session that began so goes on, and this is what talks now
 pub record IsGoing {A : _} {R : _} (start talk : Talk A R) (read : List ℕ) (input : Input) (before now : Option Outside)
     : Type 0 where
-  pub same : fixed_of talk ≡ fixed_of start
+  pub same : AnswersAs start talk
   pub goes : Goes (replies_of start) (held start) read input (held talk) before now
 
 -- the same, and what was built from one count to the other
 pub record IsBuilding {A : _} {R : _} (start talk : Talk A R) (opening : Kept R.Beside) (read : List ℕ) (input : Input)
     (old new : ℕ) (v : Outside) : Type 0 where
-  pub same : fixed_of talk ≡ fixed_of start
+  pub same : AnswersAs start talk
   pub builds : BuildsOn (costs_of start) opening read input (held talk) old new v

@@ -5,7 +5,7 @@ ghost use Rattle.session.specs.Conversing.{SessionEnds, CountsCalls};
 ghost use Rattle.session.specs.Building.{BuildsFew, BuildsLast};
 ghost use Rattle.session.specs.Answering.{CountsStops};
 ghost use Rattle.session.specs.Following.{Since, Closes, Halts, IsHalted};
-ghost use Rattle.session.specs.Talking.{IsGoing, IsBuilding, held, replies_of, costs_of, fixed_of};
+ghost use Rattle.session.specs.Talking.{AnswersAs, IsGoing, IsBuilding, held, replies_of, costs_of};
 
 use crate::end::End;
 use crate::putting::put_chunk;
@@ -23,7 +23,7 @@ impl<A: Answerer> Talk<A> {
     fn say_last<W: Site>(&self, site: &mut W, line: &[u8], end: End) -> End
         requires { (end ≡ End.Unfinished) ⊎ (end ≡ End.Limit) }
         ensures ends { (start : _) (read : List ℕ) (ended : Bool) (x : Option Outside)
-            → fixed_of self.now ≡ fixed_of start
+            → AnswersAs start self.now
             → Since (held start) (λ opening w v. Closes (replies_of start) opening read ended end line.now w v) x
             (W.outside site.old)
             → Since (held start) (λ opening w v. SessionEnds (replies_of start) opening read ended result w v) x
@@ -41,8 +41,9 @@ impl<A: Answerer> Talk<A> {
     /// Ends a session that doesn't go on.
     pub fn close<W: Site>(&self, site: &mut W, stop: Stop) -> End
         ensures ends { (start : _) (read : List ℕ) (ended : Bool) (x : Option Outside)
-            → fixed_of self.now ≡ fixed_of start
-            → Since (held start) (λ opening w v. Halts (replies_of start) opening read ended stop w v) x (W.outside site.old)
+            → AnswersAs start self.now
+            → Since (held start) (λ opening w v. Halts (replies_of start) opening read ended stop w v) x
+            (W.outside site.old)
             → Since (held start) (λ opening w v. SessionEnds (replies_of start) opening read ended result w v) x
             (W.outside site.new) }
         ensures calls { (before : ℕ)

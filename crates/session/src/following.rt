@@ -6,7 +6,7 @@ ghost use Rattle.road_io.specs.Told.{Told};
 ghost use Rattle.session.specs.Building.{BuildsFew};
 ghost use Rattle.session.specs.Answering.{CountsStops};
 ghost use Rattle.session.specs.Following.{Since, Halts};
-ghost use Rattle.session.specs.Talking.{IsGoing, IsBuilding, held, replies_of, costs_of};
+ghost use Rattle.session.specs.Talking.{IsGoing, IsBuilding, held, replies_of, costs_of, fixed_of};
 
 use crate::stop::Stop;
 use crate::talk::Talk;
@@ -46,6 +46,7 @@ pub fn take_next<A: Answerer, W: Site, L: Ledger>(
         → BuildsFew (costs_of start) opening (read ++ part.now) first steps.new)) }
     ensures calls { CountsStops (W.faults site.old) (W.faults site.new) result }
     ensures not_closed { OnOk result (talk.new.journal.closed ≡ false) }
+    ensures fixed { fixed_of talk.new ≡ fixed_of talk.old }
 {
     match input.take(part) {
         Err(InputStop::TooLong) => Err(Stop::Limit),
@@ -88,6 +89,7 @@ pub fn take_part<A: Answerer, W: Site, L: Ledger>(
         → BuildsFew (costs_of start) opening (read ++ part.now) first steps.new)) }
     ensures calls { CountsStops (W.faults site.old) (W.faults site.new) result }
     ensures not_closed { OnOk result (talk.new.journal.closed ≡ false) }
+    ensures fixed { fixed_of talk.new ≡ fixed_of talk.old }
 {
     let mut used = 0;
     while used < part.len() {

@@ -1,1 +1,2 @@
 mod RepliesAsked
+mod RoadAnswers

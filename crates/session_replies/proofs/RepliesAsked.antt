@@ -3,8 +3,9 @@ use Rattle.std.proofs.Common.{◌≡◌, ℕ, Result, Ok, Err, IfOk, sym, subst}
 use Rattle.road_base.specs.Objects.{Objects}
 use Rattle.road_model.specs.Rules.{Rules}
 use Rattle.drive_queries.specs.declared.messages.Asked.{Asked}
-use Rattle.session_replies.specs.declared.reply.Reply.{Reply}
-use Rattle.session_replies.specs.Replies.{IsReply, said}
+use Rattle.session_answers.specs.declared.reply.Reply.{Reply}
+use Rattle.session_answers.specs.Said.{said}
+use Rattle.session_replies.specs.Replies.{IsReply}
 
 pub reply_as : {E : Type 0} (M : Objects) (P : Rules) (kept : ℕ) (asked same : Asked) (r : Result Reply E)
     → asked ≡ same → IfOk r (λ x. IsReply M P kept same (said x)) → IfOk r (λ x. IsReply M P kept asked (said x))

@@ -8,7 +8,7 @@ ghost use Rattle.session_replies.specs.Replies.{road_replies, road_costs};
 use crate::queries::{reply_to, unknown_reply};
 use change_apply::Engine;
 use drive_queries::message;
-use road_base::laws::{history_objects, one_map};
+use road_base::laws::history_objects;
 use road_base::{Event, NoMemory, Sequence, Steps};
 use road_model::Profile;
 use session_answers::{Answerer, Reply};
@@ -57,7 +57,6 @@ impl<P: Profile> Answerer for RoadAnswerer<P> {
 
     fn follow<L: Ledger>(&mut self, events: &[Event], steps: &mut Steps<L>) -> Result<(), NoMemory> {
         history_objects();
-        one_map();
         self.engine.apply(events, steps)?;
         Ok(())
     }

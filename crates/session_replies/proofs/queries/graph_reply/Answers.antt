@@ -6,9 +6,16 @@ use Rattle.road_model.specs.Orders.{way_cmp}
 use Rattle.road_model.specs.Blocks.{IsRoadBlock}
 use Rattle.road_model.specs.Format.{graph_bytes}
 use Rattle.road_model.specs.Walks.{AreWalked}
+use Rattle.road_base.specs.Profiles.{IsProfile}
+use Rattle.graph_file.specs.GraphReading.{IsFile}
 use Rattle.graph_file.specs.WalkedFiles.{IsWalkedFile}
 use Rattle.session_replies.specs.Texts.{graph_line}
 use Rattle.session_replies.proofs.queries.graph_reply.Goals as goal
+
+pub write-requires-clause-profile : goal.write-requires-clause-profile
+write-requires-clause-profile g c =
+    let R = g.P.Profile.rules in
+    subst (λ (n : ℕ). IsProfile n) (sym (c.number.ensures ∙ ap (λ p. (R p).number) c.profile-profile.ensures)) c.requires
 
 pub returns-clause-reply : goal.returns-clause-reply
 returns-clause-reply g c =
@@ -35,7 +42,8 @@ returns-clause-reply g c =
       file = subst (λ p. IsWalkedFile M (R p) bytes) same
           (subst (λ (l : List ℕ). IsWalkedFile M (R c.profile-profile.result) l) (sym spelled)
           (c.walked_file.ensures.walks M (graph_bytes number blocks) blocks mine
-          (c.in_ok-write.ensures.file (c.walked_file.ensures.own M blocks mine))));
+          (subst (λ (n : ℕ). IsFile n (graph_bytes number blocks) blocks) c.number.ensures
+          (c.in_ok-write.ensures.file (c.walked_file.ensures.own M blocks mine)))));
       spelled = ap (λ (l : List ℕ). l ++ bytes)
           (c.in_ok-line.ensures ∙ ap (λ (l : List ℕ). graph_line l) c.deref.ensures.value);
     }

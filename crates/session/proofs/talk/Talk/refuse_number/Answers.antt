@@ -1,3 +1,4 @@
+use Rattle.session.specs.Talking.{replies_of, costs_of}
 use Rattle.session.proofs.ToldAnswers.{number_answers}
 use Rattle.session.proofs.BuiltAnswers.{number_builds, number_still}
 use Rattle.session.proofs.talk.Talk.refuse_number.Goals as goal
@@ -5,7 +6,7 @@ use Rattle.session.proofs.talk.Talk.refuse_number.Goals as goal
 pub returns-clause-told : goal.returns-clause-told
 returns-clause-told g c =
     let self = c.args.self.now in
-    number_answers c.store_laws.ensures (g.P.Profile.rules self.engine.profile) self.engine.world self.journal
+    number_answers c.store_laws.ensures (replies_of self) (g.A.Answerer.stands self.answerer) self.journal
     c.put_chunk.result c.put_chunk.ensures.named (g.W.Site.outside c.args.site.now)
     (g.W.Site.outside c.put_chunk.new.site) c.args.number c.kept.result c.in-Ok.line.items c.deref.result.now c.requires
     c.kept.ensures c.in-Ok.ensures c.deref.ensures.value c.put_chunk.ensures.told
@@ -13,11 +14,12 @@ returns-clause-told g c =
 pub returns-clause-builds : goal.returns-clause-builds
 returns-clause-builds g c =
     let self = c.args.self.now in
-    number_builds c.store_laws.ensures self.engine.world self.journal c.deref.result.now c.put_chunk.result
-    (g.W.Site.outside c.args.site.now) (g.W.Site.outside c.put_chunk.new.site) c.put_chunk.ensures.told c.args.number
-    c.requires
+    number_builds c.store_laws.ensures (costs_of self) (g.A.Answerer.stands self.answerer) self.journal
+    c.deref.result.now c.put_chunk.result (g.W.Site.outside c.args.site.now) (g.W.Site.outside c.put_chunk.new.site)
+    c.put_chunk.ensures.told c.args.number c.requires
 
 pub returns-in_default-clause-builds : goal.returns-in_default-clause-builds
 returns-in_default-clause-builds g c =
     let self = c.args.self.now in
-    number_still self.engine.world self.journal (g.W.Site.outside c.args.site.now) c.args.number c.requires
+    number_still (costs_of self) (g.A.Answerer.stands self.answerer) self.journal (g.W.Site.outside c.args.site.now)
+    c.args.number c.requires
