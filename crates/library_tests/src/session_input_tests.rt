@@ -1,22 +1,18 @@
 //! Sessions, cut into parts.
 ghost use Rattle.std.specs.Prelude.{◌<◌};
 
-use drive_queries::Asked;
-use session_input::{Change, Ending, Input, InputStop, Received};
+use session_input::{Change, Ending, Input, InputStop, Line, Received};
 use std::alloc::{AllocError, Global};
 use std::process::Abort;
 use std::test::Fail;
 
-/// A message in a few words.
+/// A message in a few words: the text of a line in brackets, or the number of a frame and what it holds.
 fn describe(alloc: Global, received: &Received) -> Result<String, AllocError> {
     match received {
-        Received::Line(Asked::Empty) => String::from_str(alloc, "empty"),
-        Received::Line(Asked::Seq(_)) => String::from_str(alloc, "seq"),
-        Received::Line(Asked::Graph) => String::from_str(alloc, "graph"),
-        Received::Line(Asked::State) => String::from_str(alloc, "state"),
-        Received::Line(Asked::Drive(_)) => String::from_str(alloc, "drive"),
-        Received::Line(Asked::Reach(_, _)) => String::from_str(alloc, "reach"),
-        Received::Line(Asked::Unknown) => String::from_str(alloc, "unknown"),
+        Received::Line(line) => match line.text() {
+            Some(text) => format!(in alloc; "[{text}]"),
+            None => String::from_str(alloc, "no text"),
+        },
         Received::Frame(number, Change::Events(events)) => {
             format!(in alloc; "frame {} of {}", number.0, events.len())
         }
@@ -101,16 +97,19 @@ fn has_messages(alloc: Global, parts: &[&[u8]], wanted: &str) -> Result<bool, Fa
 /// Sessions, and their messages.
 const SESSIONS: &[(&[u8], &str)] = &[
     (b"", "done"),
-    (b"graph\nstate\n", "graph, state, done"),
+    (b"graph\nstate\n", "[graph], [state], done"),
     (
         b"graph\r\n\n \t\r\nstate\r",
-        "graph, empty, empty, last state",
+        "[graph], [], [ \t], last [state]",
     ),
-    (b"graph\r\r\n", "unknown, done"),
-    (b"reach 1 2\nreach", "reach, last unknown"),
+    (b"graph\r\r\n", "[graph\r], done"),
+    (
+        b" reach 1  2\nreach\tw7",
+        "[ reach 1  2], last [reach\tw7]",
+    ),
     (
         b"#seq 5\nn1 v1 x1 y2\n#end\ngraph\n",
-        "frame 5 of 1, graph, done",
+        "frame 5 of 1, [graph], done",
     ),
     (
         b"#seq 5\r\nn1 v1 x1 y2\r\nn2 v1 dD\r\n #end\t\r\n",
@@ -123,32 +122,59 @@ const SESSIONS: &[(&[u8], &str)] = &[
     (b"#seq 6\nn1 v1 x1 y2\n", "unfinished 6"),
     (
         b"#seq 7\n#seq 9\n\n#end 1\n#end\n#end\n",
-        "frame 7 of 0, unknown, done",
+        "frame 7 of 0, [#end], done",
     ),
-    (b"\xff\ngr\xc3\xa4ph\n", "unknown, unknown, done"),
+    (
+        b"gr\xc3\xa4ph\n\xff\ngr\xc3\nstate\n",
+        "[gr\u{e4}ph], no text, no text, [state], done",
+    ),
     (
         b"#seq 8\n\xff\n#end\n",
         "frame 8 line 1 field 0 NotUtf8, done",
     ),
     (
         b"#seq 8\nn1 v1\nq\nz\n#end\nstate\n",
-        "frame 8 line 2 field 1 UnknownLine, state, done",
+        "frame 8 line 2 field 1 UnknownLine, [state], done",
     ),
 ];
 
-#[test]
-fn sessions_are_cut_anywhere(rt: HostRuntime) -> Result<(), Fail> {
-    let alloc = rt.alloc();
-    for (session, wanted) in SESSIONS {
-        for at in 0..session.len() + 1 {
-            let (front, back) = session.split_at(at);
-            assert!(rt;
-                has_messages(alloc, &[front, back], wanted)?,
-                "{wanted:?} at {at}"
-            );
+/// Lines that begin no frame, and the largest number of one.
+const NUMBERS: &[(&[u8], &str)] = &[
+    (b"#seq\n#seq 4 4\n", "[#seq], [#seq 4 4], done"),
+    (b"#seq -4\n#seq n4\n", "[#seq -4], [#seq n4], done"),
+    (
+        b"#seq 18446744073709551616\n",
+        "[#seq 18446744073709551616], done",
+    ),
+    (
+        b"#seq 18446744073709551615\n#end\n",
+        "frame 18446744073709551615 of 0, done",
+    ),
+];
+
+/// Whether the session has these messages wherever it is cut in two.
+fn is_cut_anywhere(alloc: Global, session: &[u8], wanted: &str) -> Result<bool, Fail> {
+    for at in 0..session.len() + 1 {
+        let (front, back) = session.split_at(at);
+        if !has_messages(alloc, &[front, back], wanted)? {
+            return Ok(false);
         }
     }
+    Ok(true)
+}
+
+/// Each of the sessions is cut in two anywhere.
+fn check_cut(rt: &impl Abort, alloc: Global, sessions: &[(&[u8], &str)]) -> Result<(), Fail> {
+    for (session, wanted) in sessions {
+        assert!(rt; is_cut_anywhere(alloc, session, wanted)?, "{wanted:?}");
+    }
     Ok(())
+}
+
+#[test]
+fn sessions_are_cut_anywhere(rt: HostRuntime) -> Result<(), Fail> {
+    check_cut(&rt, rt.alloc(), SESSIONS)?;
+    check_cut(&rt, rt.alloc(), NUMBERS)
 }
 
 /// Whether the session has these messages where each part, but for the last one, has so many bytes.
@@ -175,6 +201,44 @@ fn sessions_come_in_short_parts(rt: HostRuntime) -> Result<(), Fail> {
     Ok(())
 }
 
+/// How a line's text is held.
+fn holding(received: Option<Received>) -> &'static str {
+    match received {
+        Some(Received::Line(Line::Text(_))) => "lent",
+        Some(Received::Line(Line::Held(_))) => "held",
+        Some(Received::Line(Line::NoText)) => "no text",
+        Some(Received::Frame(_, _)) => "a frame",
+        None => "nothing yet",
+    }
+}
+
+/// Whether a session that begins with these two parts has nothing at the first one's end, and then a line that is held
+/// so.
+fn holds_line(alloc: Global, front: &[u8], back: &[u8], wanted: &str) -> Result<bool, InputStop> {
+    let mut input = Input::new(alloc);
+    let before = holding(input.take(front)?.received);
+    Ok(before == "nothing yet" && holding(input.take(back)?.received) == wanted)
+}
+
+/// Parts of a session, and how the line that ends in the second one is held.
+const HOLDINGS: &[(&[u8], &[u8], &str)] = &[
+    (b"", b"graph\r\nstate\n", "lent"),
+    (b"gra", b"ph\nstate\n", "held"),
+    (b"graph", b"\n", "held"),
+    (b"", b"\xff\n", "no text"),
+    (b"gr\xc3", b"ph\n", "no text"),
+    (b"gr\xc3", b"\xa4ph\n", "held"),
+    (b"#seq 5\n", b"#end\n", "a frame"),
+];
+
+#[test]
+fn lines_are_lent(rt: HostRuntime) -> Result<(), Fail> {
+    for (front, back, wanted) in HOLDINGS {
+        assert!(rt; holds_line(rt.alloc(), front, back, wanted).is_ok_and(|holds| holds), "{back:?}");
+    }
+    Ok(())
+}
+
 /// A line of 2^24 bytes.
 fn longest_line(alloc: Global) -> Result<Vec<u8>, AllocError> {
     let mut line = Vec::with_capacity(alloc, 16_777_218)?;
@@ -189,9 +253,20 @@ fn is_too_long(alloc: Global, bytes: &[u8]) -> bool {
     matches!(input.take(bytes), Err(InputStop::TooLong))
 }
 
+/// Whether the bytes are a line of as many bytes less one, which comes in one part.
+fn is_whole_line(alloc: Global, bytes: &[u8]) -> bool {
+    match Input::new(alloc).take(bytes) {
+        Ok(taken) => match &taken.received {
+            Some(Received::Line(Line::Text(text))) => text.len() + 1 == bytes.len(),
+            _ => false,
+        },
+        Err(_) => false,
+    }
+}
+
 /// The line, and the same with a byte more.
 fn check_limit(rt: &impl Abort, alloc: Global, line: &mut Vec<u8>) -> Result<(), Fail> {
-    assert!(rt; has_messages(alloc, &[line.as_slice()], "unknown, done")?);
+    assert!(rt; is_whole_line(alloc, line.as_slice()));
     line.insert(0, b'a')?;
     assert!(rt; is_too_long(alloc, line.as_slice()));
     Ok(())
