@@ -1,22 +1,24 @@
 //! Sessions, cut into parts.
 ghost use Rattle.std.specs.Prelude.{◌<◌};
 
-use drive_queries::Asked;
-use session_input::{Change, Ending, Input, InputStop, Received};
+use session_input::{Change, Ending, Input, InputStop, Line, Received};
 use std::alloc::{AllocError, Global};
 use std::process::Abort;
 use std::test::Fail;
 
+/// A line by its text, a long one by its length.
+fn describe_line(alloc: Global, line: &Line<'_>) -> Result<String, AllocError> {
+    match line.text() {
+        None => String::from_str(alloc, "no text"),
+        Some(text) if text.len() > 1000 => format!(in alloc; "line of {}", text.len()),
+        Some(text) => format!(in alloc; "<{text}>"),
+    }
+}
+
 /// A message in a few words.
-fn describe(alloc: Global, received: &Received) -> Result<String, AllocError> {
+fn describe(alloc: Global, received: &Received<'_>) -> Result<String, AllocError> {
     match received {
-        Received::Line(Asked::Empty) => String::from_str(alloc, "empty"),
-        Received::Line(Asked::Seq(_)) => String::from_str(alloc, "seq"),
-        Received::Line(Asked::Graph) => String::from_str(alloc, "graph"),
-        Received::Line(Asked::State) => String::from_str(alloc, "state"),
-        Received::Line(Asked::Drive(_)) => String::from_str(alloc, "drive"),
-        Received::Line(Asked::Reach(_, _)) => String::from_str(alloc, "reach"),
-        Received::Line(Asked::Unknown) => String::from_str(alloc, "unknown"),
+        Received::Line(line) => describe_line(alloc, line),
         Received::Frame(number, Change::Events(events)) => {
             format!(in alloc; "frame {} of {}", number.0, events.len())
         }
@@ -28,7 +30,7 @@ fn describe(alloc: Global, received: &Received) -> Result<String, AllocError> {
 }
 
 /// Adds the message.
-fn add(alloc: Global, received: &Received, messages: &mut String) -> Result<(), AllocError> {
+fn add(alloc: Global, received: &Received<'_>, messages: &mut String) -> Result<(), AllocError> {
     messages.push_str(describe(alloc, received)?.as_str())
 }
 
@@ -101,20 +103,24 @@ fn has_messages(alloc: Global, parts: &[&[u8]], wanted: &str) -> Result<bool, Fa
 /// Sessions, and their messages.
 const SESSIONS: &[(&[u8], &str)] = &[
     (b"", "done"),
-    (b"graph\nstate\n", "graph, state, done"),
+    (b"graph\nstate\n", "<graph>, <state>, done"),
     (
         b"graph\r\n\n \t\r\nstate\r",
-        "graph, empty, empty, last state",
+        "<graph>, <>, < \t>, last <state>",
     ),
-    (b"graph\r\r\n", "unknown, done"),
-    (b"reach 1 2\nreach", "reach, last unknown"),
+    (b"graph\r\r\n", "<graph\r>, done"),
+    (b"reach 1 2\nreach", "<reach 1 2>, last <reach>"),
     (
         b"#seq 5\nn1 v1 x1 y2\n#end\ngraph\n",
-        "frame 5 of 1, graph, done",
+        "frame 5 of 1, <graph>, done",
     ),
     (
         b"#seq 5\r\nn1 v1 x1 y2\r\nn2 v1 dD\r\n #end\t\r\n",
         "frame 5 of 2, done",
+    ),
+    (
+        b"#seq 5 6\n#seq\n#seq +5\n#seq 18446744073709551616\n",
+        "<#seq 5 6>, <#seq>, <#seq +5>, <#seq 18446744073709551616>, done",
     ),
     (b"#seq 5\n#end", "last frame 5 of 0"),
     (b"#seq 6", "unfinished 6"),
@@ -123,16 +129,16 @@ const SESSIONS: &[(&[u8], &str)] = &[
     (b"#seq 6\nn1 v1 x1 y2\n", "unfinished 6"),
     (
         b"#seq 7\n#seq 9\n\n#end 1\n#end\n#end\n",
-        "frame 7 of 0, unknown, done",
+        "frame 7 of 0, <#end>, done",
     ),
-    (b"\xff\ngr\xc3\xa4ph\n", "unknown, unknown, done"),
+    (b"\xff\ngr\xc3\xa4ph\n", "no text, <gräph>, done"),
     (
         b"#seq 8\n\xff\n#end\n",
         "frame 8 line 1 field 0 NotUtf8, done",
     ),
     (
         b"#seq 8\nn1 v1\nq\nz\n#end\nstate\n",
-        "frame 8 line 2 field 1 UnknownLine, state, done",
+        "frame 8 line 2 field 1 UnknownLine, <state>, done",
     ),
 ];
 
@@ -191,7 +197,7 @@ fn is_too_long(alloc: Global, bytes: &[u8]) -> bool {
 
 /// The line, and the same with a byte more.
 fn check_limit(rt: &impl Abort, alloc: Global, line: &mut Vec<u8>) -> Result<(), Fail> {
-    assert!(rt; has_messages(alloc, &[line.as_slice()], "unknown, done")?);
+    assert!(rt; has_messages(alloc, &[line.as_slice()], "line of 16777216, done")?);
     line.insert(0, b'a')?;
     assert!(rt; is_too_long(alloc, line.as_slice()));
     Ok(())

@@ -42,7 +42,8 @@ took_whole read (Some x) None t = t
 took_whole read (Some x) (Some y) t =
     t.0 ∙ sym (append-nil read) ∙ ap (λ (l : List ℕ). read ++ l) (sym t.1)
 
-pub conversed : {B : Type 0} (R : Replies B) (Opens : Keeps B) (end : End) (held left : Option (List ℕ)) (x y : Option Outside)
+pub conversed : {B : Type 0} (R : Replies B) (Opens : Keeps B) (end : End) (held left : Option (List ℕ))
+    (x y : Option Outside)
     (read : List ℕ) (ended : Bool) → Took read held left → EndsSource ended (behind_of left) (end ≢ ReadFault)
     → (IsAtEnd end → ended ≡ true) → Since Opens (λ opening w v. SessionEnds R opening read ended end w v) x y
     → Converses R Opens end held left x y
