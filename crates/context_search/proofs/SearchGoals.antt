@@ -1,6 +1,5 @@
 -- Goals by the names of their pieces, with one put among them.
-use Rattle.std.proofs.Common.{◌≡◌, ◌⊎◌, inl, inr, Some, cond, false, refl, sym, ◌∙◌, ap, subst, Ordering}
-use Rattle.std.specs.declared.cmp.Ordering.TheVariants.{Less, Equal, Greater}
+use Rattle.std.proofs.Common.{◌≡◌, inl, inr, Some, cond, sym, ◌∙◌, ap, subst, Ordering}
 use Rattle.std.proofs.Common.{ℕ, ◌+◌, ◌<◌, List, length, map, take, get_or, IsTrue, Contains}
 use Rattle.std.specs.Ordering.{is_eq, is_lt}
 use Rattle.std.proofs.lemmas.List.{take_more}

@@ -24,7 +24,7 @@ fn describe(alloc: Global, received: &Received) -> Result<String, AllocError> {
 }
 
 /// Adds the message.
-fn add(alloc: Global, received: &Received, messages: &mut String) -> Result<(), AllocError> {
+fn add(alloc: Global, received: &Received<'_>, messages: &mut String) -> Result<(), AllocError> {
     messages.push_str(describe(alloc, received)?.as_str())
 }
 
@@ -114,6 +114,10 @@ const SESSIONS: &[(&[u8], &str)] = &[
     (
         b"#seq 5\r\nn1 v1 x1 y2\r\nn2 v1 dD\r\n #end\t\r\n",
         "frame 5 of 2, done",
+    ),
+    (
+        b"#seq 5 6\n#seq\n#seq +5\n#seq 18446744073709551616\n",
+        "<#seq 5 6>, <#seq>, <#seq +5>, <#seq 18446744073709551616>, done",
     ),
     (b"#seq 5\n#end", "last frame 5 of 0"),
     (b"#seq 6", "unfinished 6"),

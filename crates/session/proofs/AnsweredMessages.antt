@@ -1,5 +1,5 @@
 -- What an answer to a message leaves.
-use Rattle.std.proofs.Common.{◌≡◌, inl, inr, ⊎_elim, ℕ, ◌+◌, ◌-◌, ◌<◌, ◌≤◌, ◌^◌, List, [], ◌∷◌, ◌++◌, length}
+use Rattle.std.proofs.Common.{◌≡◌, inr, ⊎_elim, ℕ, ◌+◌, ◌-◌, ◌<◌, ◌≤◌, ◌^◌, List, [], ◌∷◌, ◌++◌, length}
 use Rattle.std.proofs.Common.{true, false, Result, Ok, Err, IfErr, refl, sym, ◌∙◌, ap, subst, arith, codes}
 use Rattle.std.proofs.Common.{◌↔◌, Bool, IsTrue, length-append}
 use Rattle.std.proofs.Math.Nat.{lt_of_not-le}
@@ -99,7 +99,8 @@ room_missing gate size r is so =
 room_then : (gate size room : ℕ) → room ≡ room_at gate → room - (17 + size) ≡ room_at (gate + (17 + size))
 room_then gate size room is = omega (arith, is)
 
-module _ (laws : StoreLaws) {B : Type 0} (R : Replies B) (number : Sequence) (body : List ℕ) (events : List Event) (old new : Journal)
+module _ (laws : StoreLaws) {B : Type 0} (R : Replies B) (number : Sequence) (body : List ℕ) (events : List Event)
+    (old new : Journal)
     (Stands After : History → B → Type 0) (from : Kept B) where
   abbrev line : List ℕ
   line = applied_line number.0
@@ -132,7 +133,8 @@ module _ (laws : StoreLaws) {B : Type 0} (R : Replies B) (number : Sequence) (bo
       })
 
   module _ (before now : ℕ) (x : Unit {0}) (answer : AddAnswer old new number events (Ok x) before now)
-      (follows : (h : History) (b : B) → Stands h b → After (with_change h events) b) (gives : ReadAll Change body events) where
+      (follows : (h : History) (b : B) → Stands h b → After (with_change h events) b)
+      (gives : ReadAll Change body events) where
     pub kept_then : (w v : Outside) → IsKept Stands old from w → Adds old new events (Ok x) w v → IsKept After new to v
     kept_then w v k adds = record {
       on_store = laws.ok old new from.history number events x w v before now k.on_store answer adds;

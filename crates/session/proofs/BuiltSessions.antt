@@ -1,6 +1,7 @@
 -- What was built while a session goes on, as far as the site tells.
 use Rattle.std.proofs.Common.{◌≡◌, ◌⊎◌, ℕ, ◌+◌, List, [], ◌++◌, length, Option, None, Some, IfSome}
-use Rattle.std.proofs.Common.{Result, Ok, Err, refl, sym, ◌∙◌, ap, subst, append_assoc, arith, inl, inr, ⊎_elim, take, drop}
+use Rattle.std.proofs.Common.{Result, Ok, Err, refl, sym, ◌∙◌, ap, subst, append_assoc, arith, inl, inr, ⊎_elim, take}
+use Rattle.std.proofs.Common.{drop}
 use Rattle.std.proofs.lemmas.List.{append-nil, take-append-drop}
 use Rattle.std.proofs.Math.Seq.{take-add}
 use Rattle.road_io.specs.Told.{Told}
@@ -17,7 +18,7 @@ use Rattle.session.specs.declared.stop.Stop.{Stop}
 use Rattle.session.specs.declared.talk.Talk.{Talk}
 use Rattle.session.specs.Conversation.{Kept}
 use Rattle.session.specs.Building.{Start, BuildsFew, BuildsLast, BuildsOf}
-use Rattle.session.specs.BuildingOn.{AnswerBuilds, BuildsOn}
+use Rattle.session.specs.BuildingOn.{AnswerBuilds}
 use Rattle.session.specs.Talking.{IsBuilding, held, costs_of, fixed_of}
 use Rattle.road_io.specs.Parts.{Took}
 use Rattle.session.proofs.HeldSource.{behind_of}
@@ -155,7 +156,8 @@ module _ {A : _} {D : _} (old : Talk A D) (input : Input) (was : ℕ) (x : Optio
         (at_start start i.same result v b.from e.1.0 (a b.from e.1.0 e.1.2 b.kept))))
 
 -- the source ended, and no read failed
-pub builds_at_end : (C : Costs) {B : Type 0} (opening : Kept B) (read behind : List ℕ) (left : Option (List ℕ)) (calm : Type 0) (old new : ℕ)
+pub builds_at_end : (C : Costs) {B : Type 0} (opening : Kept B) (read behind : List ℕ) (left : Option (List ℕ))
+    (calm : Type 0) (old new : ℕ)
     → behind_of left ≡ [] → left ≡ Some behind → calm
     → BuildsFew C opening read old new ⊎ BuildsLast C opening read old new → BuildsOf C opening read behind calm old new
 builds_at_end C opening read behind left calm old new nothing is no_fault builds = ⊎_elim

@@ -46,7 +46,8 @@ IsWhole SiteFault = ⊥
 IsWhole Limit = Unit {0}
 IsWhole NoMemory = ⊥
 
-pub all_put : {B : Type 0} (R : Replies B) (opening : Kept B) (read : List ℕ) (ended : Bool) (end : End) (w v : Outside) → IsWhole end
+pub all_put : {B : Type 0} (R : Replies B) (opening : Kept B) (read : List ℕ) (ended : Bool) (end : End)
+    (w v : Outside) → IsWhole end
     → PutsAll R opening read ended end w v → EndsWith R opening read ended end w v
 all_put R opening read ended Done w v is p = p
 all_put R opening read ended Unfinished w v is p = p
@@ -55,7 +56,8 @@ all_put R opening read ended SiteFault w v is p = absurd is
 all_put R opening read ended Limit w v is p = p
 all_put R opening read ended NoMemory w v is p = absurd is
 
-module _ {B : Type 0} (laws : StoreLaws) (R : Replies B) (opening : Kept B) (read : List ℕ) (ended : Bool) (end : End) (last : List ℕ)
+module _ {B : Type 0} (laws : StoreLaws) (R : Replies B) (opening : Kept B) (read : List ℕ) (ended : Bool)
+    (end : End) (last : List ℕ)
     (w u v : Outside) (c : Closes R opening read ended end last w u) where
   comes_last : Comes R opening read ended c.said c.from last c.from
   comes_last = record {
@@ -125,7 +127,8 @@ module _ {B : Type 0} (laws : StoreLaws) (R : Replies B) (opening : Kept B) (rea
   }
 
 -- nothing is said last
-pub closed_silently : StoreLaws → {B : Type 0} (R : Replies B) (opening : Kept B) (read : List ℕ) (ended : Bool) (end : End)
+pub closed_silently : StoreLaws → {B : Type 0} (R : Replies B) (opening : Kept B) (read : List ℕ) (ended : Bool)
+    (end : End)
     (w v : Outside) → IsWhole end → Closes R opening read ended end [] w v → SessionEnds R opening read ended end w v
 closed_silently laws R opening read ended end w v is c =
     said_all laws R opening read ended end [] w v v c tt is (puts_nothing [] (Ok tt) v refl)
@@ -146,8 +149,10 @@ session_now R opening read ended w v only =
     only_weaker w v (LeavesStill R opening read w) (LeavesSession R opening read ended w) only
     (λ left still. subst (λ (l : List ℕ). LeavesSession R opening l ended w left) (append-nil read) (still [] ended))
 
-module _ {B : Type 0} (R : Replies B) (opening : Kept B) (front pending read : List ℕ) (is : read ≡ front ++ pending) (ended : Bool)
-    (Stands : History → B → Type 0) (journal : Journal) (w u : Outside) (k : Talks R opening front read (IsKept Stands journal) w u) where
+module _ {B : Type 0} (R : Replies B) (opening : Kept B) (front pending read : List ℕ) (is : read ≡ front ++ pending)
+    (ended : Bool)
+    (Stands : History → B → Type 0) (journal : Journal) (w u : Outside)
+    (k : Talks R opening front read (IsKept Stands journal) w u) where
   pub closes_now : (end : End) (last : List ℕ) → EndsSaying R k.from (length front) pending ended end last k.from
       → Closes R opening read ended end last w u
   closes_now end last ends = record {
@@ -206,7 +211,8 @@ module _ {B : Type 0} (R : Replies B) (opening : Kept B) (front pending read : L
           leaves = subst (λ (o : List ℕ). LeavesReply k.from to o reply left) k.grows l;
         })
 
-    last_answered : (After : History → B → Type 0) (new : Journal) (v : Outside) → IsAnswered R k.from message (IsKept After new) u v
+    last_answered : (After : History → B → Type 0) (new : Journal) (v : Outside)
+        → IsAnswered R k.from message (IsKept After new) u v
         → SessionEnds R opening read ended Done w v
     last_answered After new v a = record {
       puts = record {
@@ -268,8 +274,10 @@ since_then {B} Opens S T U x y z told next f = told_then x y z
     (λ w v. (opening : Kept B) → Opens opening w → T opening w v) told next
     (λ w u v r t opening o. f opening w u v (r opening o) t)
 
-module _ {B : Type 0} (laws : StoreLaws) (R : Replies B) (Opens : Keeps B) (read : List ℕ) (ended : Bool) (input : Input)
-    (Stands : History → B → Type 0) (journal : Journal) (x y : Option Outside) (g : Goes R Opens read input (IsKept Stands journal) x y) where
+module _ {B : Type 0} (laws : StoreLaws) (R : Replies B) (Opens : Keeps B) (read : List ℕ) (ended : Bool)
+    (input : Input)
+    (Stands : History → B → Type 0) (journal : Journal) (x y : Option Outside)
+    (g : Goes R Opens read input (IsKept Stands journal) x y) where
   pub ends_silently : (end : End) → IsWhole end
       → ((from : Kept B) → EndsSaying R from (length g.front) g.pending ended end [] from)
       → Since Opens (λ opening w v. SessionEnds R opening read ended end w v) x y
@@ -303,7 +311,8 @@ module _ {B : Type 0} (laws : StoreLaws) (R : Replies B) (Opens : Keeps B) (read
       (OfUnfinished at_end g.holds.pending number.0 (record { body = e.0; front = e.1; begins = e.2; all = e.3 })
       refl is refl))
 
-  module _ (at_end : ended ≡ true) (received : Received) (e : IsEnding g.pending (Last received)) (After : History → B → Type 0)
+  module _ (at_end : ended ≡ true) (received : Received) (e : IsEnding g.pending (Last received))
+      (After : History → B → Type 0)
       (new : Journal) (z : Option Outside) where
     pub ends_answered : (n : Unit {0})
         → Told (λ w v. (from : Kept B) (message : Message) → Means message received → IsKept Stands journal from w
@@ -331,7 +340,8 @@ module _ {B : Type 0} (laws : StoreLaws) (R : Replies B) (Opens : Keeps B) (read
 
 -- ---- a line that is said last
 
-pub ends_said : StoreLaws → {B : Type 0} (R : Replies B) (Opens : Keeps B) (read : List ℕ) (ended : Bool) (end : End) (line : List ℕ)
+pub ends_said : StoreLaws → {B : Type 0} (R : Replies B) (Opens : Keeps B) (read : List ℕ) (ended : Bool) (end : End)
+    (line : List ℕ)
     (n : Unit {0}) (x y z : Option Outside) → IsWhole end
     → Since Opens (λ opening w v. Closes R opening read ended end line w v) x y
     → Told (PutsOn {E = Stop} line (Ok n)) y z
@@ -341,7 +351,8 @@ ends_said laws R Opens read ended end line n x y z is closes put =
     (λ opening w v. SessionEnds R opening read ended end w v) (PutsOn {E = Stop} line (Ok n)) x y z closes put
     (λ opening w u v c p. said_all laws R opening read ended end line w u v c n is p)
 
-pub ends_unsaid : StoreLaws → {B : Type 0} (R : Replies B) (Opens : Keeps B) (read : List ℕ) (ended : Bool) (end : End) (line : List ℕ)
+pub ends_unsaid : StoreLaws → {B : Type 0} (R : Replies B) (Opens : Keeps B) (read : List ℕ) (ended : Bool)
+    (end : End) (line : List ℕ)
     (e : Stop) (x y z : Option Outside)
     → Since Opens (λ opening w v. Closes R opening read ended end line w v) x y → Told (PutsOn line (Err e)) y z
     → Since Opens (λ opening w v. SessionEnds R opening read ended SiteFault w v) x z

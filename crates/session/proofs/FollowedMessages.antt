@@ -26,7 +26,8 @@ use Rattle.session.specs.Following.{LeavesStill, Talks, Since, Goes, Closes, Bre
 
 -- ---- more bytes
 
-pub wider : {B : Type 0} (R : Replies B) (opening : Kept B) (front read more : List ℕ) (Stands : History → B → Type 0) (journal : Journal)
+pub wider : {B : Type 0} (R : Replies B) (opening : Kept B) (front read more : List ℕ)
+    (Stands : History → B → Type 0) (journal : Journal)
     (w v : Outside) → Talks R opening front read (IsKept Stands journal) w v
     → Talks R opening front (read ++ more) (IsKept Stands journal) w v
 wider R opening front read more Stands journal w v k = record {
@@ -48,8 +49,10 @@ still_session R opening read more w v only =
 
 -- ---- nothing more is said
 
-module _ {B : Type 0} (R : Replies B) (opening : Kept B) (front pending read more : List ℕ) (is : read ≡ front ++ pending)
-    (Stands : History → B → Type 0) (journal : Journal) (w v : Outside) (k : Talks R opening front read (IsKept Stands journal) w v) where
+module _ {B : Type 0} (R : Replies B) (opening : Kept B) (front pending read more : List ℕ)
+    (is : read ≡ front ++ pending)
+    (Stands : History → B → Type 0) (journal : Journal) (w v : Outside)
+    (k : Talks R opening front read (IsKept Stands journal) w v) where
   all_is : read ++ more ≡ front ++ (pending ++ more)
   all_is = ap (λ (l : List ℕ). l ++ more) is ∙ append_assoc front pending more
 
@@ -92,7 +95,8 @@ module _ {B : Type 0} (R : Replies B) (opening : Kept B) (front pending read mor
 
 -- ---- one message
 
-module _ {B : Type 0} (R : Replies B) (opening : Kept B) (front pending read taken : List ℕ) (is : read ≡ front ++ pending)
+module _ {B : Type 0} (R : Replies B) (opening : Kept B) (front pending read taken : List ℕ)
+    (is : read ≡ front ++ pending)
     (Stands : History → B → Type 0) (journal : Journal) (message : Message)
     (whole : IsTaken (length front) message (pending ++ taken)) where
   abbrev then_front : List ℕ
@@ -135,7 +139,8 @@ module _ {B : Type 0} (R : Replies B) (opening : Kept B) (front pending read tak
         (wider R opening front read taken Stands journal w u k).only only
         (λ left l more ended. left_next more ended reply to replied left l)
 
-    pub talks_on : (After : History → B → Type 0) (new : Journal) (v : Outside) → IsAnswered R k.from message (IsKept After new) u v
+    pub talks_on : (After : History → B → Type 0) (new : Journal) (v : Outside)
+        → IsAnswered R k.from message (IsKept After new) u v
         → Talks R opening then_front (read ++ taken) (IsKept After new) w v
     talks_on After new v a = record {
       said = k.said ++ a.reply;
@@ -181,7 +186,8 @@ module _ {B : Type 0} (R : Replies B) (opening : Kept B) (front pending read tak
 
 -- ---- as far as the site tells
 
-module _ {B : Type 0} (R : Replies B) (Opens : Keeps B) (read : List ℕ) (input : Input) (Stands : History → B → Type 0) (journal : Journal)
+module _ {B : Type 0} (R : Replies B) (Opens : Keeps B) (read : List ℕ) (input : Input)
+    (Stands : History → B → Type 0) (journal : Journal)
     (x y : Option Outside) (g : Goes R Opens read input (IsKept Stands journal) x y) where
   pub ready : IfSome y (IsReadyAt (IsKept Stands journal))
   ready = told_if x y

@@ -41,7 +41,8 @@ module _ {A : _} {D : _} (start old : Talk A D) (read : List ℕ) (input : Input
       → IsGoing start old (read ++ taken) next x y
   talk_more taken next holds = record {
     same = g.same;
-    goes = goes_more (replies_of start) (held start) read input (D.stands old.answerer) old.journal x y g.goes taken next
+    goes = goes_more (replies_of start) (held start) read input (D.stands old.answerer) old.journal x y g.goes taken
+        next
         holds;
   }
 
@@ -66,7 +67,8 @@ module _ {A : _} {D : _} (start old : Talk A D) (read : List ℕ) (input : Input
         → IsGoing start new (read ++ taken) next x z
     talk_on u fixed told = record {
       same = fixed ∙ g.same;
-      goes = goes_on (replies_of start) (held start) read input (D.stands old.answerer) old.journal x y g.goes taken next
+      goes = goes_on (replies_of start) (held start) read input (D.stands old.answerer) old.journal x y g.goes taken
+          next
           received receives (D.stands new.answerer) new.journal z u
           (answers_at start old new g.same received (Ok u) y z told);
     }
@@ -74,7 +76,8 @@ module _ {A : _} {D : _} (start old : Talk A D) (read : List ℕ) (input : Input
     pub talk_halts : (stop : Stop) (more : List ℕ) → length more ≤ 2 ^ 16
         → Told (λ w v. (from : Kept D.Beside) (message : Message) → Means message received → held old from w
         → Answers (replies_of old) from message (held new) (Err stop) w v) y z
-        → Since (held start) (λ opening w v. Halts (replies_of start) opening (read ++ (taken ++ more)) false stop w v) x
+        → Since (held start) (λ opening w v. Halts (replies_of start) opening (read ++ (taken ++ more)) false stop w v)
+        x
         z
     talk_halts stop more small told =
         halts (replies_of start) (held start) read input (D.stands old.answerer) old.journal x y g.goes taken next

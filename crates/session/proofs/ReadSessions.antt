@@ -42,7 +42,8 @@ took_whole read (Some x) None t = t
 took_whole read (Some x) (Some y) t =
     t.0 ∙ sym (append-nil read) ∙ ap (λ (l : List ℕ). read ++ l) (sym t.1)
 
-pub conversed : {B : Type 0} (R : Replies B) (Opens : Keeps B) (end : End) (held left : Option (List ℕ)) (x y : Option Outside)
+pub conversed : {B : Type 0} (R : Replies B) (Opens : Keeps B) (end : End) (held left : Option (List ℕ))
+    (x y : Option Outside)
     (read : List ℕ) (ended : Bool) → Took read held left → EndsSource ended (behind_of left) (end ≢ ReadFault)
     → (IsAtEnd end → ended ≡ true) → Since Opens (λ opening w v. SessionEnds R opening read ended end w v) x y
     → Converses R Opens end held left x y
@@ -70,9 +71,9 @@ pub not_read_fault : (end : End) → IsHalted end → end ≡ ReadFault → ⊥
 not_read_fault end is e = subst IsHalted e is
 
 -- the input holds as many bytes as were read
-pub total_read : {B : Type 0} (R : Replies B) (Opens : Keeps B) (read : List ℕ) (input : Input) (Stands : History → B → Type 0) (journal : Journal)
-    (x y : Option Outside) → Goes R Opens read input (IsKept Stands journal) x y → input.total ≡ length read
-total_read R Opens read input Stands journal x y g =
+pub total_read : {B : Type 0} (R : Replies B) (Opens : Keeps B) (read : List ℕ) (input : Input) (Has : Keeps B)
+    (x y : Option Outside) → Goes R Opens read input Has x y → input.total ≡ length read
+total_read R Opens read input Has x y g =
     g.holds.total ∙ sym (ap (λ (l : List ℕ). length l) g.is ∙ length-append g.front g.pending)
 
 -- nothing says that the source ended

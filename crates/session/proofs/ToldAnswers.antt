@@ -161,7 +161,8 @@ module _ {B : Type 0} (Has : Keeps B) (S : Kept B → Message → Outside → Ou
       (λ w v. (from : Kept B) (message : Message) → Means message received → Has from w → S from message w v) told
       (λ w v answers. of_line received line w v is answers)
 
-  of_frame : (received : Received) (number : Sequence) (change : ReceivedChange) (w v : Outside) → received ≡ FrameReceived number change
+  of_frame : (received : Received) (number : Sequence) (change : ReceivedChange) (w v : Outside)
+      → received ≡ FrameReceived number change
       → ((from : Kept B) (body : List ℕ) → IsChange body change → Has from w → S from (Frame number.0 body) w v)
       → (from : Kept B) (message : Message) → Means message received → Has from w → S from message w v
   of_frame received number change w v is answers from message (OfLine line) k =
@@ -174,7 +175,8 @@ module _ {B : Type 0} (Has : Keeps B) (S : Kept B → Message → Outside → Ou
       (answers from body (subst (λ (d : ReceivedChange). IsChange body d) alike gives) k)
 
   -- and so does what holds of a frame
-  pub told_frame : (received : Received) (number : Sequence) (change : ReceivedChange) → received ≡ FrameReceived number change
+  pub told_frame : (received : Received) (number : Sequence) (change : ReceivedChange)
+      → received ≡ FrameReceived number change
       → Told (λ w v. (from : Kept B) (body : List ℕ) → IsChange body change → Has from w
       → S from (Frame number.0 body) w v) x y
       → Told (λ w v. (from : Kept B) (message : Message) → Means message received → Has from w

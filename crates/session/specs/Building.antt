@@ -63,8 +63,8 @@ abbrev pub BuildsOf : Costs → {B : Type 0} → Kept B → List ℕ → (behind
 BuildsOf C {B} opening read behind no_read_failed old new =
     BuildsFew C opening read old new ⊎ ((behind ≡ []) × no_read_failed × BuildsLast C opening read old new)
 
--- A session builds for each accepted frame whole in what was read no more blocks than its change costs. It is said where
--- source and site tell.
+-- A session builds for each accepted frame whole in what was read no more blocks than its change costs. It is said
+-- where source and site tell.
 abbrev pub SessionBuilds : Costs → {B : Type 0} → (Opens : Keeps B) → (no_read_failed : Type 0) → Option (List ℕ)
     → Option (List ℕ) → Option Outside → ℕ → ℕ → Type 0
 SessionBuilds C {B} Opens no_read_failed held remaining before old new =

@@ -101,9 +101,9 @@ IsAtEnd end = (end ≡ Done) ⊎ (end ≡ Unfinished)
 abbrev pub EndsSource : Bool → List ℕ → (no_read_failed : Type 0) → Type 0
 EndsSource ended behind no_read_failed = ended ≡ true → (behind ≡ []) × no_read_failed
 
--- How a session ends that may open with what `Opens` says: the bytes that the source held, those of them that were read,
--- whether it ended behind them, what was put, and what a stop leaves. Where the source tells nothing, these are some
--- bytes that begin with those that were read.
+-- How a session ends that may open with what `Opens` says: the bytes that the source held, those of them that were
+-- read, whether it ended behind them, what was put, and what a stop leaves. Where the source tells nothing, these are
+-- some bytes that begin with those that were read.
 pub record Converses {B : Type 0} (R : Replies B) (Opens : Keeps B) (end : End) (held remaining : Option (List ℕ))
     (before now : Option Outside) : Type 0 where
   pub bytes : List ℕ

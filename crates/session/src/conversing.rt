@@ -58,9 +58,9 @@ fn follow<A: Answerer, S: Source, W: Site, L: Ledger>(
 }
 
 /// Answers the messages on the source until it ends, over the store on which the journal stands, by what stands for its
-/// history, and keeps each accepted change in the store. It puts each reply by itself, what stands behind its line after
-/// it, and what it says last: `refused unfinished N`, or `limit`. The first read or call on the site that fails ends it.
-/// It builds no more blocks than its accepted frames cost.
+/// history, and keeps each accepted change in the store. It puts each reply by itself, what stands behind its line
+/// after it, and what it says last: `refused unfinished N`, or `limit`. The first read or call on the site that fails
+/// ends it. It builds no more blocks than its accepted frames cost.
 pub fn converse<A: Answerer, S: Source, W: Site, L: Ledger>(
     alloc: Global,
     answerer: A,

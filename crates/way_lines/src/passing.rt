@@ -42,11 +42,12 @@ fn passes<M: World, P: Profile>(network: &Network<'_, M, P>, s: Step, t: Step) -
     }
 }
 
-/// Whether one may turn round at the node by the step.
+/// Whether one may turn round at the node by the step. The ways there are gone over only where its tags leave it open.
 fn may_turn<M: World, P: Profile>(network: &Network<'_, M, P>, node: NodeId, step: Step) -> bool
     ensures { IsTrue result ↔ on network.now MayTurn node step }
 {
-    NodeRules::of(network, node).may_turn(is_only_leaving(network, node, step))
+    let rules = NodeRules::of(network, node);
+    rules.may_turn(false) || rules.may_turn(is_only_leaving(network, node, step))
 }
 
 /// Whether the step is the only drivable one that leaves the node.

@@ -15,7 +15,8 @@ use Rattle.session_replies.proofs.queries.graph_reply.Goals as goal
 pub write-requires-clause-profile : goal.write-requires-clause-profile
 write-requires-clause-profile g c =
     let R = g.P.Profile.rules in
-    subst (λ (n : ℕ). IsProfile n) (sym (c.number.ensures ∙ ap (λ p. (R p).number) c.profile-profile.ensures)) c.requires
+    subst (λ (n : ℕ). IsProfile n) (sym (c.number.ensures ∙ ap (λ p. (R p).number) c.profile-profile.ensures))
+    c.requires
 
 pub returns-clause-reply : goal.returns-clause-reply
 returns-clause-reply g c =

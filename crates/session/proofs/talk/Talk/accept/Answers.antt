@@ -1,6 +1,6 @@
 use Rattle.std.proofs.Common.{inr, length}
 use Rattle.object_codec.specs.Spelling.{events_bytes}
-use Rattle.road_io.proofs.ToldCalls.{some_weaker, told_same}
+use Rattle.road_io.proofs.ToldCalls.{some_weaker}
 use Rattle.sequence_journal.specs.Journal.{IsReady}
 use Rattle.session.specs.Conversing.{IsReadyAt}
 use Rattle.session.specs.Talking.{held, replies_of, costs_of}

@@ -1,4 +1,3 @@
-use Rattle.std.proofs.Common.{ℕ}
 use Rattle.session_input.specs.Texts.{text_of}
 use Rattle.session_input.specs.Messages.{Line}
 use Rattle.session.specs.Conversation.{Kept}
@@ -15,7 +14,8 @@ returns-in-Line-clause-told g c =
     let after = c.answer_line.new.self in
     told_line (held self)
     (λ from message w v. Answers (replies_of self) from message (held after) c.answer_line.result w v)
-    (g.W.Site.outside c.args.site.now) (g.W.Site.outside c.answer_line.new.site) c.args.received.now c.in-Line.line c.in-Line.is
+    (g.W.Site.outside c.args.site.now) (g.W.Site.outside c.answer_line.new.site) c.args.received.now c.in-Line.line
+    c.in-Line.is
     c.answer_line.ensures.told
 
 pub returns-in-Frame-clause-told : goal.returns-in-Frame-clause-told
