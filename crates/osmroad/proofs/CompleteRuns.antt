@@ -3,6 +3,7 @@ use Rattle.std.proofs.Common.{◌≡◌, ℕ, ◌<◌, ◌^◌, List, Option, No
 use Rattle.road_base.specs.declared.event.Event.{Event}
 use Rattle.road_base.specs.History.{History}
 use Rattle.opl_lexer.specs.declared.mode.Mode.TheVariants.{Extract, Change}
+use Rattle.road_model.specs.Rules.{Rules}
 use Rattle.road_io.specs.Outside.{Outside}
 use Rattle.osmroad.specs.declared.command.Command.{Command}
 use Rattle.osmroad.specs.declared.command.Command.TheVariants.{Compile, Inspect, Sample, Create, Apply}
@@ -60,7 +61,7 @@ module _ (bytes : List ℕ) (status : Status) (out : List ℕ) (events : List Ev
         (no_room one s others input read can large)
     apply_done live one r input can (ApplyGives.OfChange s next others read fits e o a) = e
 
-show_done : OneLive → (Shows : List Event → List ℕ → Type 0) (files : Files) (status : Status) (out : List ℕ)
+show_done : OneLive → (Shows : Rules → List Event → List ℕ → Type 0) (files : Files) (status : Status) (out : List ℕ)
     (after : Option History) → IsReadable files → ShowGives Shows files status out after → status ≡ Done
 show_done live Shows files status out after r (ShowGives.OfStore refusal a) = absurd
     (readable_not_refused files status out live r refusal)
@@ -70,7 +71,7 @@ inspect_done : (bytes : List ℕ) (status : Status) (out : List ℕ) → (HasToo
     → InspectGives bytes status out → status ≡ Done
 inspect_done bytes status out few is (InspectGives.OfTooMuch much e o) = absurd (few much)
 inspect_done bytes status out few is (InspectGives.OfNoGraph w none e o) = absurd (none is)
-inspect_done bytes status out few is (InspectGives.OfGraph w g blocks file e o) = e
+inspect_done bytes status out few is (InspectGives.OfGraph w g profile blocks file e o) = e
 
 checkpoint_done : OneLive → (files : Files) (status : Status) (out : List ℕ) (after : Option History)
     → IsReadable files → CanBeRebased files → CheckpointGives files status out after → status ≡ Done

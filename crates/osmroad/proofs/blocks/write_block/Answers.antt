@@ -18,7 +18,7 @@ pub returns-then-is_empty-clause-written : goal.returns-then-is_empty-clause-wri
 returns-then-is_empty-clause-written g c = λ ways up has.
     let M = c.args.builder.now.world in
     let P = g.P.Profile.rules c.args.builder.now.profile in
-    let one : OneBlock M P = subst (λ (p : g.P). OneBlock M (g.P.Profile.rules p)) c.profile.ensures
+    let one : OneBlock M P = subst (λ (p : g.row.P.Denot). OneBlock M (g.P.Profile.rules p)) c.profile.ensures
     (c.one_block.ensures M) in
     let test = empty_by_test c.items.result.now c.is_empty.result c.is_empty.ensures c.if-is_empty.true in
     let none = sym c.items.ensures ∙ test in
@@ -36,7 +36,7 @@ pub returns-clause-written : goal.returns-clause-written
 returns-clause-written g c = on_ok c.put.result c.put.ensures.put (λ put ways up has.
     let M = c.args.builder.now.world in
     let P = g.P.Profile.rules c.args.builder.now.profile in
-    let one : OneBlock M P = subst (λ (p : g.P). OneBlock M (g.P.Profile.rules p)) c.profile.ensures
+    let one : OneBlock M P = subst (λ (p : g.row.P.Denot). OneBlock M (g.P.Profile.rules p)) c.profile.ensures
     (c.one_block.ensures M) in
     let block = c.in_ok-block.block in
     let is = c.in_ok-block.ensures.block in

@@ -24,9 +24,6 @@ returns-in_err-out-clause-prepares g c = λ outside.
 
 -- ---- the graph is made
 
-pub graph_of-out-requires : goal.graph_of-out-requires
-graph_of-out-requires g c = record { known = c.profile_of_run.result.known }
-
 pub returns-clause-prepares : goal.returns-clause-prepares
 returns-clause-prepares g c = λ outside.
     let held = g.S.Source.bytes_left c.args.source.now in

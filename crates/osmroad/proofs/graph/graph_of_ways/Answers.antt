@@ -9,22 +9,22 @@ use Rattle.osmroad.proofs.graph.graph_of_ways.Goals as goal
 
 pub write_blocks-graph-requires-clause-known : goal.write_blocks-graph-requires-clause-known
 write_blocks-graph-requires-clause-known g c =
-    subst (λ (b : Pair Objects g.P). IsProfile (g.P.Profile.rules b.profile).number) (sym c.in_ok-builder.ensures)
+    subst (λ (b : Pair Objects g.row.P.Denot). IsProfile (g.P.Profile.rules b.profile).number) (sym c.in_ok-builder.ensures)
     c.requires.known
 
 pub write_blocks-graph-requires-clause-ways : goal.write_blocks-graph-requires-clause-ways
 write_blocks-graph-requires-clause-ways g c =
-    subst (λ (b : Pair Objects g.P). AreRoadWays b.world (g.P.Profile.rules b.profile) c.args.ways.now)
+    subst (λ (b : Pair Objects g.row.P.Denot). AreRoadWays b.world (g.P.Profile.rules b.profile) c.args.ways.now)
     (sym c.in_ok-builder.ensures) c.requires.ways
 
 pub returns-clause-graph : goal.returns-clause-graph
 returns-clause-graph g c =
-    subst (λ (b : Pair Objects g.P). IfOk c.write_blocks-graph.result
+    subst (λ (b : Pair Objects g.row.P.Denot). IfOk c.write_blocks-graph.result
     (λ out. IsGraph b.world (g.P.Profile.rules b.profile) out.items)) c.in_ok-builder.ensures
     c.write_blocks-graph.ensures.graph
 
 pub returns-clause-file : goal.returns-clause-file
 returns-clause-file g c =
-    subst (λ (b : Pair Objects g.P). IfOk c.write_blocks-graph.result
+    subst (λ (b : Pair Objects g.row.P.Denot). IfOk c.write_blocks-graph.result
     (λ out. IsWalkedFile b.world (g.P.Profile.rules b.profile) out.items)) c.in_ok-builder.ensures
     c.write_blocks-graph.ensures.file

@@ -17,7 +17,7 @@ returns-clause-led g c = λ n few led.
     c.apply_next.new.engine.world (next_list c.args.town.now) c.args.text.now.items c.in_ok-line.line.items
     c.extend_from_slice.new.self.items led c.applied_in_turn.ensures refl
     c.in_ok-apply_next.ensures.town c.in_ok-apply_next.ensures.applied
-    (subst (λ (p : g.P). (all : List Event) → IsApplied empty all c.apply_next.new.engine.world
+    (subst (λ (p : g.row.P.Denot). (all : List Event) → IsApplied empty all c.apply_next.new.engine.world
     → IsSampleLine (g.P.Profile.rules p) c.args.change all c.in_ok-line.line.items) c.apply_next.ensures.profile
     c.in_ok-line.ensures.line)
     (c.in_ok-extend_from_slice.ensures.items ∙ ap (λ (l : List ℕ). c.args.text.now.items ++ l) c.deref.ensures.value))

@@ -12,7 +12,7 @@ loop-change-init g c = record {
 }
 
 pub add_line-requires : goal.add_line-requires
-add_line-requires g c = subst (λ (p : g.P). IsProfile (g.P.Profile.rules p).number)
+add_line-requires g c = subst (λ (p : g.row.P.Denot). IsProfile (g.P.Profile.rules p).number)
     (sym c.loop-change.invariant.profile) c.requires
 
 pub loop-change-preserved : goal.loop-change-preserved
@@ -21,7 +21,7 @@ loop-change-preserved g c =
     let new = c.add_line.new.engine in
     record {
       led = λ n led.
-          subst (λ (p : g.P). Led (g.P.Profile.rules p) n c.loop-change.change c.loop-change.town old.world
+          subst (λ (p : g.row.P.Denot). Led (g.P.Profile.rules p) n c.loop-change.change c.loop-change.town old.world
           c.loop-change.text.items
           → Led (g.P.Profile.rules p) n (c.loop-change.change + 1) c.add_line.new.town new.world
           c.add_line.new.text.items) c.loop-change.invariant.profile

@@ -13,7 +13,7 @@ use Rattle.osmroad.proofs.sample.line_of.Goals as goal
 -- the number of the graph's profile is that of the engine's
 pub write-requires-clause-profile : goal.write-requires-clause-profile
 write-requires-clause-profile g c =
-    subst IsProfile (sym (c.number.ensures ∙ ap (λ (p : g.P). (g.P.Profile.rules p).number)
+    subst IsProfile (sym (c.number.ensures ∙ ap (λ (p : g.row.P.Denot). (g.P.Profile.rules p).number)
     c.in_ok-road_graph.ensures.profile)) c.requires
 
 pub write-requires-clause-forms : goal.write-requires-clause-forms
@@ -30,7 +30,7 @@ totals_of-requires g c =
 pub returns-clause-line : goal.returns-clause-line
 returns-clause-line g c =
     let P = g.P.Profile.rules c.args.engine.now.profile in
-    let number : c.number.result ≡ P.number = c.number.ensures ∙ ap (λ (p : g.P). (g.P.Profile.rules p).number)
+    let number : c.number.result ≡ P.number = c.number.ensures ∙ ap (λ (p : g.row.P.Denot). (g.P.Profile.rules p).number)
     c.in_ok-road_graph.ensures.profile in
     let blocks = values c.in_ok-road_graph.road_graph.now.blocks.map in
     let graph = c.write.new.out.items in

@@ -34,7 +34,7 @@ returns-in_default-clause-builds g c = builds_nothing c.args.loaded _ (g.S.Sourc
 
 pub new-answerer-requires : goal.new-answerer-requires
 new-answerer-requires g c = record {
-  known = subst (λ (p : g.P). IsProfile (g.P.Profile.rules p).number) (sym c.in-Ok.ensures.profile) c.requires.known;
+  known = subst (λ (p : g.row.P.Denot). IsProfile (g.P.Profile.rules p).number) (sym c.in-Ok.ensures.profile) c.requires.known;
 }
 
 pub converse-requires-clause-opens : goal.converse-requires-clause-opens
@@ -42,7 +42,7 @@ converse-requires-clause-opens g c =
     let loaded = c.args.loaded in
     let M = c.new-answerer.result.engine.world in
     let applied : IsApplied empty loaded.events.items M =
-    subst (λ (e : Followed g.P). IsApplied empty loaded.events.items e.world) (sym c.new-answerer.ensures)
+    subst (λ (e : Followed g.row.P.Denot). IsApplied empty loaded.events.items e.world) (sym c.new-answerer.ensures)
     c.in-Ok.ensures.loaded in
     some_weaker (g.W.Site.outside c.args.site.now) (IsReadyAt (IsOpening loaded)) (IsReadyAt (Keeping loaded M))
     c.requires.opens (λ w ready. (ready.0, kept_for loaded M applied ready.0 w ready.1))
@@ -56,16 +56,16 @@ returns-clause-serves g c =
     let after = g.W.Site.outside c.converse.new.site in
     let engine = c.new-answerer.result.engine in
     let applied : IsApplied empty loaded.events.items engine.world =
-    subst (λ (e : Followed g.P). IsApplied empty loaded.events.items e.world) (sym c.new-answerer.ensures)
+    subst (λ (e : Followed g.row.P.Denot). IsApplied empty loaded.events.items e.world) (sym c.new-answerer.ensures)
     c.in-Ok.ensures.loaded in
     let profile : engine.profile ≡ c.args.profile =
-    ap (λ (e : Followed g.P). e.profile) c.new-answerer.ensures ∙ c.in-Ok.ensures.profile in
+    ap (λ (e : Followed g.row.P.Denot). e.profile) c.new-answerer.ensures ∙ c.in-Ok.ensures.profile in
     record {
       end = c.converse.result;
       is = c.status_of.ensures;
       converses = converses_over (road_replies (g.P.Profile.rules c.args.profile)) loaded engine.world applied
           c.converse.result held left before after
-          (subst (λ (p : g.P). Converses (road_replies (g.P.Profile.rules p)) (Keeping loaded engine.world)
+          (subst (λ (p : g.row.P.Denot). Converses (road_replies (g.P.Profile.rules p)) (Keeping loaded engine.world)
           c.converse.result held left before after) profile c.converse.ensures.converses);
     }
 
@@ -77,7 +77,7 @@ returns-clause-builds g c =
     let before = g.W.Site.outside c.args.site.now in
     let M = c.new-answerer.result.engine.world in
     let applied : IsApplied empty loaded.events.items M =
-    subst (λ (e : Followed g.P). IsApplied empty loaded.events.items e.world) (sym c.new-answerer.ensures)
+    subst (λ (e : Followed g.row.P.Denot). IsApplied empty loaded.events.items e.world) (sym c.new-answerer.ensures)
     c.in-Ok.ensures.loaded in
     served_builds loaded c.converse.result c.status_of.result c.status_of.ensures held left before c.args.steps.now
     c.converse.new.steps

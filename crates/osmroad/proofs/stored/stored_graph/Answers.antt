@@ -25,9 +25,6 @@ returns-in-Err-clause-built g c = λ held w h objects told loads has. omega arit
 
 -- ---- memory ends for the graph
 
-pub graph_of-out-requires : goal.graph_of-out-requires
-graph_of-out-requires g c = record { known = c.profile_of_run.result.known }
-
 pub returns-in_err-out-clause-prepares : goal.returns-in_err-out-clause-prepares
 returns-in_err-out-clause-prepares g c = λ held.
     let laws = c.store_laws.ensures in
