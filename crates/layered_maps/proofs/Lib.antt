@@ -1,0 +1,18 @@
+mod SplitPairs
+mod EntryLists
+mod MergedPairs
+mod LayerPairs
+mod MarkedPairs
+pub mod FoundPairs
+mod FloorPairs
+pub mod OverPairs
+mod WalkedPairs
+mod WalkSteps
+pub mod RunsFrom
+mod ViewPairs
+pub mod Lookups
+mod Parts
+pub mod FirstLists
+mod KeyedLists
+mod SortedPairs
+pub mod HeldLists

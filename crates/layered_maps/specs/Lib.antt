@@ -1,0 +1,7 @@
+pub mod Filters
+pub mod Layers
+pub mod Maps
+pub mod Walks
+pub mod Sinking
+pub mod Exchanges
+pub mod Lists
