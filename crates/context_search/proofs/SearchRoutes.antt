@@ -46,7 +46,8 @@ module _ (visits : List TreeVisit) where
         | inr same ↦ subst (λ j. j < length visits) (sym same) (slice_get_within visits k v e)
       ]
 
-pub steps_known : (L : List At) (visits : List TreeVisit) (place : ℕ) (v : TreeVisit) (x : At) → slice_get visits place ≡ Some v
+pub steps_known : (L : List At) (visits : List TreeVisit) (place : ℕ) (v : TreeVisit) (x : At) → slice_get visits
+    place ≡ Some v
     → slice_get L v.number ≡ Some x → steps_at L visits place ≡ spelled x.piece
 steps_known L visits place v x e f = ap (steps_by L) e ∙ ap steps_in f
 

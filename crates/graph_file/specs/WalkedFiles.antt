@@ -6,7 +6,8 @@ use Rattle.road_model.specs.Rules.{Rules}
 use Rattle.road_model.specs.FileWalks.{AreFileWalks}
 use Rattle.graph_file.specs.GraphReading.{IsFile}
 
--- the bytes are a graph file of the rules' profile, with these blocks and no others whatever profile it is read for, and
+-- the bytes are a graph file of the rules' profile, with these blocks and no others whatever profile it is read for,
+-- and
 -- whoever walks over them walks over the object map
 pub record IsWalkedFile (M : Objects) (P : Rules) (bytes : List ℕ) : Type 0 where
   pub blocks : List Block

@@ -38,7 +38,8 @@ module _ (number : ℕ) (held : Option (List ℕ)) (x : Option Outside) where
   failed_sample result is = unread result
       (by_failure command (behind_of held) [] x x MemoryFailure result is (stands_still x))
 
-  pub put_sample : (result : Result Reply Failure) (out : List ℕ) → Replies Done out result → IsSample (rules_of 1) number out
+  pub put_sample : (result : Result Reply Failure) (out : List ℕ) → Replies Done out result → IsSample (rules_of 1)
+    number out
       → Prepares command result held held x x
   put_sample result out says is = unread result
       (replied command (behind_of held) [] Done out result x x says
@@ -54,7 +55,8 @@ after_so_many n count few =
     let more : nat_lt count 11 ≡ true = lt-ltb count 11 few in
     ap (λ (b : Bool). record { number = n; given = cond b (count + 1) count }) more
 
-pub led_on : (P : Rules) (n count : ℕ) → count < 11 → (town later : Progress) (world new : Objects) (events : List Event)
+pub led_on : (P : Rules) (n count : ℕ) → count < 11 → (town later : Progress) (world new : Objects) (events : List
+    Event)
     (text line longer : List ℕ) → Led P n count town world text
     → ((M N O : Objects) (a b : List Event) → IsApplied M a N → IsApplied N b O → IsApplied M (a ++ b) O)
     → events ≡ next_list town → later ≡ after_list town → IsApplied world events new

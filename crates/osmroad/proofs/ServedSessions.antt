@@ -79,7 +79,8 @@ is_served end status is = subst IsServed (sym is) (ended_served end)
 
 -- ---- what was put by a session, since the run began
 
-module _ (R : Replies (Unit {0})) (from : Kept (Unit {0})) (read : List ℕ) (ended : Bool) (w u : Outside) (same : u.output ≡ w.output) where
+module _ (R : Replies (Unit {0})) (from : Kept (Unit {0})) (read : List ℕ) (ended : Bool) (w u : Outside) (same :
+    u.output ≡ w.output) where
   all_put_since : (end : End) (v : Outside) → PutsAll R from read ended end u v → PutsAll R from read ended end w v
   all_put_since end v p = record {
     out = p.out;
@@ -121,7 +122,8 @@ module _ (R : Replies (Unit {0})) (from : Kept (Unit {0})) (read : List ℕ) (en
 -- ---- each moment of the load
 
 -- a session that has said nothing yet
-silent_session : (R : Replies (Unit {0})) (from : Kept (Unit {0})) (read : List ℕ) (ended : Bool) (w : Outside) (left : Left)
+silent_session : (R : Replies (Unit {0})) (from : Kept (Unit {0})) (read : List ℕ) (ended : Bool) (w : Outside) (left
+    : Left)
     → LeavesStore from.history w.output left → LeavesSession R from read ended w left
 silent_session R from read ended w left store =
     let one : w.output ++ [] ≡ w.output = append-nil w.output in

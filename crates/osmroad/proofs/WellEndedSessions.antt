@@ -56,10 +56,13 @@ module _ (bytes read behind : List ℕ) (all : bytes ≡ read ++ behind) (ended 
   served_done well s DoneEnd is ends = inl is
   served_done well s Unfinished is ends =
       let whole : read ≡ bytes = subst (λ (x : Status). ReadsSession x bytes read) is reads in
-      let sound : ended ≡ true = unfinished_at_end (replies_over (opening s)) (opening s) read ended ends.out ends.to ends.gives in
+      let sound : ended ≡ true = unfinished_at_end (replies_over (opening s)) (opening s) read ended ends.out ends.to
+      ends.gives in
       absurd (well.finished s ends.out ends.to
-      (subst (λ (b : Bool). SessionGives (replies_over (opening s)) (opening s) bytes b Unfinished ends.out ends.to) sound
-      (subst (λ (l : List ℕ). SessionGives (replies_over (opening s)) (opening s) l ended Unfinished ends.out ends.to) whole
+      (subst (λ (b : Bool). SessionGives (replies_over (opening s)) (opening s) bytes b Unfinished ends.out ends.to)
+      sound
+      (subst (λ (l : List ℕ). SessionGives (replies_over (opening s)) (opening s) l ended Unfinished ends.out ends.to)
+      whole
       ends.gives)))
   served_done well s ReadFaultEnd is ends = absurd (no_read_fault is)
   served_done well s SiteFaultEnd is ends = absurd (no_site_fault is)

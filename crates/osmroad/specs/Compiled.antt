@@ -9,7 +9,8 @@ use Rattle.road_model.specs.Walks.{AreWalked}
 use Rattle.road_model.specs.Format.{IsGraph}
 use Rattle.graph_file.specs.WalkedFiles.{IsWalkedFile}
 
--- `out` is the rules' graph of the objects that the events leave; the walks over these are the drives that may be driven
+-- `out` is the rules' graph of the objects that the events leave; the walks over these are the drives that may be
+-- driven
 -- there, and whoever reads the bytes by the grammar and walks over what stands there makes exactly these walks
 pub record IsGraphOf (P : Rules) (events : List Event) (out : List ℕ) : Type 0 where
   pub objects : Objects

@@ -68,7 +68,8 @@ pub data InspectGives (bytes : List ℕ) (status : Status) (out : List ℕ) : Ty
       → (profile : ℕ) (blocks : List Block) → IsFile profile bytes blocks
       → status ≡ Done → out ≡ counts_line (totals_of blocks) → InspectGives bytes status out
 
--- `STORE create N`: where no file has an open base, the files then stand for base N, of profile 1, with the events of the
+-- `STORE create N`: where no file has an open base, the files then stand for base N, of profile 1, with the events of
+-- the
 -- extract
 pub data CreateGives (number : ℕ) (files : Files) (bytes : List ℕ) (status : Status) (out : List ℕ)
     (after : Option History) : Type 0 where

@@ -17,7 +17,8 @@ abbrev pub events_of_lists : ℕ → ℕ → List Event
 events_of_lists n zero = []
 events_of_lists n (suc count) = events_of_lists n count ++ next_list (record { number = n; given = count })
 
--- The line of change q: the graph is the rules' graph of the objects that the events leave, the blocks are those that its
+-- The line of change q: the graph is the rules' graph of the objects that the events leave, the blocks are those that
+-- its
 -- bytes spell, and the line says how many of each there are, and how many bytes.
 pub record IsSampleLine (P : Rules) (q : ℕ) (events : List Event) (line : List ℕ) : Type 0 where
   pub objects : Objects

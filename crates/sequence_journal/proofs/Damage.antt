@@ -124,7 +124,8 @@ module _ (one : OneList) where
   not_at_record file g h o s d =
       let before : History = d.before in
       let once = base_once file (base_of h.profile g h.base_number h.base_events)
-      (base_of before.profile d.generation before.base_number before.base_events) (changes_bytes h.base_number h.changes ++ s.rest)
+      (base_of before.profile d.generation before.base_number before.base_events) (changes_bytes h.base_number
+      h.changes ++ s.rest)
       (changes_bytes before.base_number before.changes ++ d.rest) (begins_base file g h s.rest s.begins)
       (begins_base file d.generation before d.rest d.begins) in
       let number : h.base_number ≡ before.base_number = ap (λ (c : Base). c.number) once.one in

@@ -33,7 +33,8 @@ begins_base file g h rest b = record {
     size = b.fits.base.size;
   };
   split = b.split
-      ∙ append_assoc (base_bytes (base_of h.profile g h.base_number h.base_events)) (changes_bytes h.base_number h.changes)
+      ∙ append_assoc (base_bytes (base_of h.profile g h.base_number h.base_events)) (changes_bytes h.base_number
+      h.changes)
       rest;
 }
 
@@ -80,7 +81,8 @@ module _ (one : OneList) where
   pub stands_once : (file : List ℕ) (g k : ℕ) (h i : History) → Stands file g h → Stands file k i
       → SameHistory g k h i
   stands_once file g k h i s t =
-      let b = base_once file (base_of h.profile g h.base_number h.base_events) (base_of i.profile k i.base_number i.base_events)
+      let b = base_once file (base_of h.profile g h.base_number h.base_events) (base_of i.profile k i.base_number
+      i.base_events)
       (changes_bytes h.base_number h.changes ++ s.rest) (changes_bytes i.base_number i.changes ++ t.rest)
       (begins_base file g h s.rest s.begins) (begins_base file k i t.rest t.begins) in
       let profile : h.profile ≡ i.profile = ap (λ (b : Base). b.profile) b.one in

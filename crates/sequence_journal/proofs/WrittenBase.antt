@@ -55,7 +55,8 @@ base_chunk profile generation number events chunk known bytes generation_fits nu
 module _ (profile generation number : ℕ) (events : List Event) (chunk : List ℕ)
     (is : IsBaseChunk profile generation number events chunk) where
   split : 1 ∷ chunk ≡ history_bytes generation (base_alone profile number events) ++ 0 ∷ []
-  split = is.bytes ∙ ap (λ (l : List ℕ). l ++ 0 ∷ []) (sym (append-nil (base_bytes (base_of profile generation number events))))
+  split = is.bytes ∙ ap (λ (l : List ℕ). l ++ 0 ∷ []) (sym (append-nil (base_bytes (base_of profile generation number
+    events))))
 
   stands : Stands (1 ∷ chunk) generation (base_alone profile number events)
   stands = record {
@@ -80,7 +81,8 @@ module _ (profile generation number : ℕ) (events : List Event) (chunk : List �
     replaced r replaces durable = subst (λ (l : List ℕ). Replaces file l r w v) same replaces durable
 
     moments : (r : Result (Unit {0}) Failed) → Replaced file chunk r w v
-        → LeavesOnly w v (LeavesFile file (IsBaseImage (disk w file).reads generation (base_alone profile number events)) w)
+        → LeavesOnly w v (LeavesFile file (IsBaseImage (disk w file).reads generation (base_alone profile number
+        events)) w)
     moments r s = only_weaker w v (LeavesFile file (IsReplaced (disk w file).reads chunk) w)
         (LeavesFile file (IsBaseImage (disk w file).reads generation (base_alone profile number events)) w) s.any_moment
         (λ left l. record {

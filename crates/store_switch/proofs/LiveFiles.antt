@@ -34,7 +34,8 @@ live_once files B A l m =
 pub stands_over : (files : Which → List ℕ) (live : Which) → (l : IsLive live files) → (g : ℕ) (h : History)
     → Stands (files live) g h → (x : List ℕ) → x ≡ files (other live) → IsOver live g x
 stands_over files live l g h s x same b rest o =
-    let once : l.base.generation ≡ g = one_generation (files live) l.base (base_of h.profile g h.base_number h.base_events) l.rest
+    let once : l.base.generation ≡ g = one_generation (files live) l.base (base_of h.profile g h.base_number
+    h.base_events) l.rest
     (changes_bytes h.base_number h.changes ++ s.rest) l.is_open (begins_base (files live) g h s.rest s.begins) in
     subst (λ (k : ℕ). Beats live k b.generation) once
     (l.over b rest (subst (λ (y : List ℕ). BaseIsOpen y b rest) same o))

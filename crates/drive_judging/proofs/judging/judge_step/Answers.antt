@@ -17,6 +17,7 @@ returns-in-Some-go-clause-goes g c =
 
 pub returns-in-None-clause-breaks : goal.returns-in-None-clause-breaks
 returns-in-None-clause-breaks g c =
-    word_breaks (g.M.World.objects c.args.network.now.world.now) (g.P.Profile.rules c.args.network.now.profile) c.args.before.now
+    word_breaks (g.M.World.objects c.args.network.now.world.now) (g.P.Profile.rules c.args.network.now.profile)
+    c.args.before.now
     c.args.step c.args.table.now.automaton.words c.requires.words c.in_default.ensures.none c.word_rule.result
     c.word_rule.ensures

@@ -14,7 +14,8 @@ loop-relation-init g c =
 
 pub loop-relation-preserved : goal.loop-relation-preserved
 loop-relation-preserved g c =
-    words_more (g.M.World.objects c.args.network.now.world.now) (g.P.Profile.rules c.args.network.now.profile) c.args.steps.now
+    words_more (g.M.World.objects c.args.network.now.world.now) (g.P.Profile.rules c.args.network.now.profile)
+    c.args.steps.now
     c.args.relations.now c.loop-relation.relation-index _ c.loop-relation.list.items c.add_words.new.list.items
     c.loop-relation-test.true c.loop-relation.invariant c.in_ok-add_words.ensures
 

@@ -18,7 +18,8 @@ returns-then-not-may_follow-clause-none g c = λ b a reached.
       one = c.one_name.ensures.pieces M;
       depart = c.steps_depart.ensures M;
     } in
-    none_passes M P laws (c.context_goes_on.ensures M) c.args.coming.now.states.now.automaton c.args.coming.now.states.now.facts.items
+    none_passes M P laws (c.context_goes_on.ensures M) c.args.coming.now.states.now.automaton
+    c.args.coming.now.states.now.facts.items
     c.args.state.0 i c.requires.coming.intersection c.args.coming.now.from b reached c.args.departure
     (in_from_contains i.departures.now c.args.departure c.requires.departure)
     (sym c.may_follow.ensures ∙ c.if-not-may_follow.true) a
@@ -44,7 +45,8 @@ returns-in_default-clause-none g c = λ b a reached.
           c.context_target.ensures.alone M;
       longer = c.context_target.ensures.longer M;
     } in
-    none_stops M P laws (c.context_goes_on.ensures M) c.args.coming.now.states.now.automaton c.args.coming.now.states.now.facts.items
+    none_stops M P laws (c.context_goes_on.ensures M) c.args.coming.now.states.now.automaton
+    c.args.coming.now.states.now.facts.items
     c.args.state.0 i c.requires.coming.intersection c.args.coming.now.from b reached c.args.departure
     (in_from_contains i.departures.now c.args.departure c.requires.departure) more
     ((c.in_default.ensures.none reached.watches.list reached.watches.is).0 refl) a
@@ -75,7 +77,8 @@ returns-clause-arc g c = λ b reached.
     } in
     let list = reached.watches.list in
     let at = reached.watches.is in
-    arc_entry M P laws (c.context_goes_on.ensures M) c.args.coming.now.states.now.automaton c.args.coming.now.states.now.facts.items
+    arc_entry M P laws (c.context_goes_on.ensures M) c.args.coming.now.states.now.automaton
+    c.args.coming.now.states.now.facts.items
     c.args.state.0 i c.requires.coming.intersection c.args.coming.now.from b reached c.args.departure
     (in_from_contains i.departures.now c.args.departure c.requires.departure) more c.closed.ensures.closed
     (sym c.may_follow.ensures ∙ c.if-not-may_follow.false)

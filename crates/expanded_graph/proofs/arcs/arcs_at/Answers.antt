@@ -63,7 +63,8 @@ loop-departure-preserved g c = λ b reached.
           let more = chosen_one_at (λ (x : TurnArc). x.piece) key name_cmp c.name_order.ensures.names Is ds
           up.ascending so_far n within none (c.loop-departure.invariant b reached) a has named
           (λ x is same. one_arc M P laws (c.context_goes_on.ensures M) c.args.coming.now.states.now.automaton
-          c.args.coming.now.states.now.facts.items c.args.state.0 i c.requires.coming.intersection c.args.coming.now.from b reached
+          c.args.coming.now.states.now.facts.items c.args.state.0 i c.requires.coming.intersection
+          c.args.coming.now.from b reached
           (c.contexts.ensures.one M) x a is has same) in
           subst (λ l. Chosen (λ x. x.piece) key name_cmp Is (take (n + 1) ds) l)
           (sym (ap (λ v. v.items) w.arcs-is ∙ w.in_ok-push.ensures.items)) more
@@ -96,5 +97,6 @@ returns g c = λ b reached.
     (c.loop-departure.invariant b reached) in
     chosen_all (λ (x : TurnArc). x.piece) key name_cmp c.name_order.ensures.names Is i.departures.now
     c.loop-departure.arcs.items chosen
-    (departs M P laws (c.context_goes_on.ensures M) c.args.coming.now.states.now.automaton c.args.coming.now.states.now.facts.items
+    (departs M P laws (c.context_goes_on.ensures M) c.args.coming.now.states.now.automaton
+    c.args.coming.now.states.now.facts.items
     c.args.state.0 i c.requires.coming.intersection c.args.coming.now.from b reached)

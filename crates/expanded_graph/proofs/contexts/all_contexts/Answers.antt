@@ -11,17 +11,21 @@ use Rattle.expanded_graph.proofs.contexts.all_contexts.Goals as goal
 pub context_in-requires-clause-ending : goal.context_in-requires-clause-ending
 context_in-requires-clause-ending g c =
     let here = c.endings_with-here.result.now in
-    let are = are_here c.args.coming.now.states.now.automaton c.args.coming.now.states.now.facts.items c.args.coming.now.span.name here
+    let are = are_here c.args.coming.now.states.now.automaton c.args.coming.now.states.now.facts.items
+    c.args.coming.now.span.name here
     c.args.coming.now.endings.now c.requires.endings c.endings_with-here.ensures in
-    (ends_here c.args.coming.now.states.now.automaton c.args.coming.now.states.now.facts.items c.args.coming.now.span.name here are
+    (ends_here c.args.coming.now.states.now.automaton c.args.coming.now.states.now.facts.items
+    c.args.coming.now.span.name here are
     c.loop-ending.ending-index _ c.loop-ending-test.true).0
 
 pub context_in-requires-clause-named : goal.context_in-requires-clause-named
 context_in-requires-clause-named g c =
     let here = c.endings_with-here.result.now in
-    let are = are_here c.args.coming.now.states.now.automaton c.args.coming.now.states.now.facts.items c.args.coming.now.span.name here
+    let are = are_here c.args.coming.now.states.now.automaton c.args.coming.now.states.now.facts.items
+    c.args.coming.now.span.name here
     c.args.coming.now.endings.now c.requires.endings c.endings_with-here.ensures in
-    (ends_here c.args.coming.now.states.now.automaton c.args.coming.now.states.now.facts.items c.args.coming.now.span.name here are
+    (ends_here c.args.coming.now.states.now.automaton c.args.coming.now.states.now.facts.items
+    c.args.coming.now.span.name here are
     c.loop-ending.ending-index _ c.loop-ending-test.true).1
 
 pub loop-ending-init : goal.loop-ending-init
@@ -56,7 +60,8 @@ loop-ending-preserved g c =
       to = c.context_steps.ensures.to M;
       from = c.context_steps.ensures.from M;
     } in
-    let are = are_here m c.args.coming.now.states.now.facts.items c.args.coming.now.span.name here c.args.coming.now.endings.now c.requires.endings
+    let are = are_here m c.args.coming.now.states.now.facts.items c.args.coming.now.span.name here
+    c.args.coming.now.endings.now c.requires.endings
     c.endings_with-here.ensures in
     let within : i < length ns =
     subst (λ k. i < k) (sym (length-map here (λ (e : Ending). e.state))) c.loop-ending-test.true in

@@ -31,11 +31,13 @@ returns g c =
     c.requires.coming.states c.args.state.0 c.requires.ending c.requires.named in
     let reached =
     reached_there M P laws m facts c.closed.ensures.closed c.closed.ensures.lists p c.requires.coming.piece
-    c.requires.coming.states c.args.state.0 c.requires.ending c.requires.named c.args.coming.now.from c.args.coming.now.intersection.node
+    c.requires.coming.states c.args.state.0 c.requires.ending c.requires.named c.args.coming.now.from
+    c.args.coming.now.intersection.node
     c.requires.coming.arrives in
     let names = c.in_ok-names.ensures c.args.coming.now.span.name.way there.0 p _ c.requires.coming.states
     (context_pieces M P (there.0 ++ p ∷ []) there.3) there.2 c.requires.ending.at in
     let arcs = subst (λ l. Lists (λ (a : TurnArc). a.piece) name_cmp (IsArcEntry M P (there.0 ++ p ∷ [])) l)
     (sym c.from_list-2.ensures) (c.in_ok-arcs.ensures (there.0 ++ p ∷ []) reached) in
-    context_in M P laws m facts c.closed.ensures.closed c.closed.ensures.lists p c.requires.coming.piece c.requires.coming.states
+    context_in M P laws m facts c.closed.ensures.closed c.closed.ensures.lists p c.requires.coming.piece
+    c.requires.coming.states
     c.args.state.0 c.requires.ending c.requires.named _ (c.from_list.ensures ∙ names) arcs

@@ -16,7 +16,8 @@ contexts_of-requires g c =
     let tables = c.args.tables.now in
     record {
       states = c.requires.tables.states c.args.span.name.way c.requires.serve;
-      endings = subst (AreEndings tables.states.automaton tables.states.facts.items) (sym c.as_slice-endings.ensures.value)
+      endings = subst (AreEndings tables.states.automaton tables.states.facts.items) (sym
+      c.as_slice-endings.ensures.value)
           c.requires.tables.endings;
       intersection = c.in-Some.ensures.is M P c.requires.tables.intersections;
       piece = c.requires.piece;
@@ -33,7 +34,8 @@ contexts_of-requires-2 g c =
     let same = c.with-intersection.ensures.node ∙ rules.ensures.node in
     record {
       states = c.requires.tables.states c.args.span.name.way c.requires.serve;
-      endings = subst (AreEndings tables.states.automaton tables.states.facts.items) (sym c.as_slice-endings.ensures.value)
+      endings = subst (AreEndings tables.states.automaton tables.states.facts.items) (sym
+      c.as_slice-endings.ensures.value)
           c.requires.tables.endings;
       intersection = record {
         shut_is = c.with-intersection.ensures.is_shut ∙ rules.ensures.rules.shut_is
@@ -42,7 +44,8 @@ contexts_of-requires-2 g c =
             ∙ ap (turning_place M P) (sym c.with-intersection.ensures.node);
         leaving =
             subst (λ v. Lists (λ d. d.piece) name_cmp (IsDeparture M P v) c.with-intersection.result.departures.now)
-            (sym same) (subst (λ (l : List Departure). Lists (λ d. d.piece) name_cmp (IsDeparture M P c.args.arrival.at) l)
+            (sym same) (subst (λ (l : List Departure). Lists (λ d. d.piece) name_cmp (IsDeparture M P
+            c.args.arrival.at) l)
             (sym (c.with-intersection.ensures.departures ∙ c.as_slice.ensures.value)) c.in_ok-departures.ensures);
       };
       piece = c.requires.piece;

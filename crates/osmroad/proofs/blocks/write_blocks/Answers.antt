@@ -51,7 +51,8 @@ returns-clause-file g c =
     let has = subst (λ (l : List WayId). HasBlocksOf M P l writer) whole c.loop-way.invariant.written in
     whole_file M P ways writer c.finish.result.items c.requires.ways has
     (λ blocks. c.finish.ensures.file P.number blocks c.requires.known)
-    (subst (λ (p : g.row.P.Denot). (blocks : List Block) → Lists (λ b. b.way) way_cmp (IsRoadBlock M (g.P.Profile.rules p)) blocks
+    (subst (λ (p : g.row.P.Denot). (blocks : List Block) → Lists (λ b. b.way) way_cmp (IsRoadBlock M
+    (g.P.Profile.rules p)) blocks
     → AllByRecursion IsOfItsWay blocks) c.profile-profile.ensures (c.walked_file.ensures.own M))
     (subst (λ (p : g.row.P.Denot). (file : List ℕ) (blocks : List Block)
     → Lists (λ b. b.way) way_cmp (IsRoadBlock M (g.P.Profile.rules p)) blocks

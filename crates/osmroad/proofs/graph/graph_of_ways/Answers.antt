@@ -9,7 +9,8 @@ use Rattle.osmroad.proofs.graph.graph_of_ways.Goals as goal
 
 pub write_blocks-graph-requires-clause-known : goal.write_blocks-graph-requires-clause-known
 write_blocks-graph-requires-clause-known g c =
-    subst (λ (b : Pair Objects g.row.P.Denot). IsProfile (g.P.Profile.rules b.profile).number) (sym c.in_ok-builder.ensures)
+    subst (λ (b : Pair Objects g.row.P.Denot). IsProfile (g.P.Profile.rules b.profile).number) (sym
+    c.in_ok-builder.ensures)
     c.requires.known
 
 pub write_blocks-graph-requires-clause-ways : goal.write_blocks-graph-requires-clause-ways

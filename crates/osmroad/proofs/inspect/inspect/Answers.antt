@@ -62,7 +62,8 @@ returns-in_err-fixed-in-None-clause-reads g c =
 pub returns-in_ok-out-in-Some-clause-prepares : goal.returns-in_ok-out-in-Some-clause-prepares
 returns-in_ok-out-in-Some-clause-prepares g c = λ outside.
     let blocks = values c.in-Some.graph.blocks.map in
-    let file : IsFile c.in-Some.graph.profile c.deref.result.now blocks = rw c.in-Some.is at c.in_ok-graph.ensures.file in
+    let file : IsFile c.in-Some.graph.profile c.deref.result.now blocks = rw c.in-Some.is at
+    c.in_ok-graph.ensures.file in
     let is : IsGraphFile c.deref.result.now = rw c.in-Some.is at c.in_ok-graph.ensures.grammar in
     counted_graph (g.S.Source.bytes_left c.args.source.now) (g.S.Source.bytes_left c.gather.new.source) outside
     c.in-Ok.bytes.items c.in-Ok.ensures.ok (Ok (record { status = Done; out = c.in_ok-out-in-Some.out }))

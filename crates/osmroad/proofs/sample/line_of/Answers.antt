@@ -30,7 +30,8 @@ totals_of-requires g c =
 pub returns-clause-line : goal.returns-clause-line
 returns-clause-line g c =
     let P = g.P.Profile.rules c.args.engine.now.profile in
-    let number : c.number.result ≡ P.number = c.number.ensures ∙ ap (λ (p : g.row.P.Denot). (g.P.Profile.rules p).number)
+    let number : c.number.result ≡ P.number = c.number.ensures ∙ ap (λ (p : g.row.P.Denot). (g.P.Profile.rules
+    p).number)
     c.in_ok-road_graph.ensures.profile in
     let blocks = values c.in_ok-road_graph.road_graph.now.blocks.map in
     let graph = c.write.new.out.items in
@@ -38,7 +39,8 @@ returns-clause-line g c =
     c.in_ok-write.ensures.bytes ∙ ap (λ (l : List ℕ). l ++ graph_bytes c.number.result blocks) c.new-graph.ensures.items
     in
     let read = c.in_ok-totals.ensures in
-    let file : IsFile read.0 graph read.1 = subst (λ (l : List ℕ). IsFile read.0 l read.1) c.deref.ensures.value read.2 in
+    let file : IsFile read.0 graph read.1 = subst (λ (l : List ℕ). IsFile read.0 l read.1) c.deref.ensures.value
+    read.2 in
     let size : c.len.result ≡ length graph = c.len.ensures ∙ c.write.new.out.ok.0 in
     ok_maps c.sample_line.result c.sample_line.ensures (λ line spelled. λ events applied. record {
       objects = c.args.engine.now.world;

@@ -12,7 +12,8 @@ returns-clause-usable g c =
     let P = g.P.Profile.rules c.args.profile.now in
     let body = c.in_ok-roles.roles.body.now in
     let network = c.new-network in
-    let there = subst (λ profile. IsUsable (g.M.World.objects network.result.world.now) (g.P.Profile.rules profile) body)
+    let there = subst (λ profile. IsUsable (g.M.World.objects network.result.world.now) (g.P.Profile.rules profile)
+    body)
     network.ensures.profile c.in_default-first_cause.ensures.none in
     let usable = subst (λ world. IsUsable (g.M.World.objects world) P body) network.ensures.world there in
     of_use M P c.args.relation body c.in-Some.body.now c.in-Some.ensures c.in_ok-roles.ensures usable
@@ -25,7 +26,8 @@ returns-clause-words g c =
     let network = c.new-network in
     let made = c.in_ok-words.words.items in
     let rule = c.rule_of-rule.result in
-    let there = subst (λ profile. IsUsable (g.M.World.objects network.result.world.now) (g.P.Profile.rules profile) body)
+    let there = subst (λ profile. IsUsable (g.M.World.objects network.result.world.now) (g.P.Profile.rules profile)
+    body)
     network.ensures.profile c.in_default-first_cause.ensures.none in
     let usable = subst (λ world. IsUsable (g.M.World.objects world) P body) network.ensures.world there in
     let spelled = subst

@@ -55,7 +55,8 @@ returns-in_err-repair_end-clause-told g c =
     (λ u v sound repairs. (sound, repairs)) in
     rw p.1 (told_then _ _ _ _ _ _ looked failed
     (λ w u v k both. mend_failed c.args.file r whole w u k c.one_history.ensures c.if-whole.false
-    (λ limit. omega (arith, limit, c.if-gate-eq-MOST_STORE.false)) p.0 c.in_err-repair_end.field-0.0 v p.2 both.0 both.1))
+    (λ limit. omega (arith, limit, c.if-gate-eq-MOST_STORE.false)) p.0 c.in_err-repair_end.field-0.0 v p.2 both.0
+    both.1))
 
 pub returns-clause-told : goal.returns-clause-told
 returns-clause-told g c =

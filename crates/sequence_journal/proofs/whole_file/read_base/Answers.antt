@@ -47,5 +47,6 @@ pub returns-clause-told : goal.returns-clause-told
 returns-clause-told g c = told_weaker _ _ _ _ c.in_ok-show.ensures.told
     (λ w v shows. base_read c.args.file c.args.found c.show.new.self c.front-bytes.result.now
     c.in_ok-show.field-0 w v c.front-bytes.ensures shows (omega (arith, c.if-shown-size.false))
-    c.in-Some.events (sym c.is_profile.ensures ∙ c.if-not-is_profile.false) (rw c.in-Some.is at c.in_ok-events.ensures.found)
+    c.in-Some.events (sym c.is_profile.ensures ∙ c.if-not-is_profile.false) (rw c.in-Some.is at
+    c.in_ok-events.ensures.found)
     (rw c.in-Some.is at c.in_ok-events.ensures.spelled))
