@@ -12,24 +12,36 @@ use Rattle.road_io.specs.Outside.{Outside, LeavesOnly, LeavesFile, disk, image_o
 use Rattle.road_io.proofs.PendingImages.{settled_durable}
 use Rattle.road_io.proofs.CallRuns.{only_weaker}
 use Rattle.sequence_journal.specs.declared.error.JournalError.TheVariants.{SiteFault}
+use Rattle.sequence_journal.specs.declared.append.SpelledChange.{SpelledChange}
 use Rattle.sequence_journal.specs.declared.journal.Journal.{Journal}
 use Rattle.sequence_journal.specs.Layout.{IsClosed, fields}
 use Rattle.sequence_journal.specs.Standing.{EventsFit, HistoryFits, BeginsWith, Stands, record_of, history_bytes}
 use Rattle.sequence_journal.specs.Ends.{IsGated, Opened, Opens}
 use Rattle.sequence_journal.specs.Journal.{IsAt}
-use Rattle.sequence_journal.specs.Adding.{Added, Adds}
+use Rattle.sequence_journal.specs.Adding.{Added, Adds, IsSpelledChange, MayAddSpelled}
 use Rattle.sequence_journal.proofs.HistoryFronts.{begins_push, gate_push}
 
 pub closed_gate : (gate : ℕ) (tail : List ℕ) → gate ≢ 1 → IsClosed (gate ∷ tail)
 closed_gate gate tail shut r after o = let e = o.split in shut (cc)
 
--- what the code tested: the number is the next one, and there is room behind the gate
+-- the chunk spells the change under the next number, and there is room behind the gate
 pub record IsNextChunk (old : Journal) (seq : Sequence) (change : List Event) (chunk : List ℕ) : Type 0 where
   pub fit : EventsFit change
   pub next : seq.0 ≡ old.kept.0 + 1
   pub small : seq.0 < 2 ^ 64
   pub chunk_is : chunk ≡ fields (record_of seq.0 change) ++ 0 ∷ []
   pub room : old.gate < 2 ^ 40
+
+-- a spelled change that may be added is one, whichever events it spells
+pub is_next_chunk : (old : Journal) (spelled : SpelledChange) (change : List Event) → MayAddSpelled old spelled
+    → IsSpelledChange spelled change → IsNextChunk old spelled.number change spelled.chunk.items
+is_next_chunk old spelled change may is = record {
+  fit = is.fit;
+  next = may.2.next;
+  small = is.number_fits;
+  chunk_is = is.bytes;
+  room = let r = may.2.room in omega (arith, r);
+}
 
 shape : (old : Journal) (h : History) (w : Outside) → old.gate < 2 ^ 40 → IsAt old h w
     → (disk w old.file).reads ≡ history_bytes old.generation h ++ 0 ∷ []

@@ -1,5 +1,6 @@
 -- What adding a change does.
-use Rattle.std.specs.Prelude.{◌≡◌, ◌⊎◌, ℕ, ◌+◌, ◌<◌, ◌≤◌, ◌^◌, List, length, true, false, Result, Ok, Err, OnOk}
+use Rattle.std.specs.Prelude.{◌≡◌, ◌⊎◌, ℕ, ◌+◌, ◌<◌, ◌≤◌, ◌^◌, List, [], ◌∷◌, ◌++◌, length, true, false}
+use Rattle.std.specs.Prelude.{Result, Ok, Err, OnOk}
 use Rattle.road_base.specs.declared.event.Event.{Event}
 use Rattle.road_base.specs.declared.ids.Sequence.{Sequence}
 use Rattle.road_base.specs.History.{History, with_change}
@@ -10,7 +11,9 @@ use Rattle.sequence_journal.specs.declared.error.JournalError.{JournalError}
 use Rattle.sequence_journal.specs.declared.error.JournalError.TheVariants.{OutOfSequence, SiteFault, TooLarge}
 use Rattle.sequence_journal.specs.declared.error.JournalError.TheVariants.{NoMemory}
 use Rattle.sequence_journal.specs.declared.journal.Journal.{Journal}
-use Rattle.sequence_journal.specs.Standing.{Stands}
+use Rattle.sequence_journal.specs.declared.append.SpelledChange.{SpelledChange}
+use Rattle.sequence_journal.specs.Layout.{fields}
+use Rattle.sequence_journal.specs.Standing.{EventsFit, Stands, record_of}
 use Rattle.sequence_journal.specs.Journal.{IsAt}
 
 -- no number follows the last one that a u64 holds
@@ -25,6 +28,15 @@ size_with j events = j.gate + (18 + length (events_bytes events))
 abbrev pub moved_on : Journal → Sequence → List Event → Journal
 moved_on j seq events = record j { gate = j.gate + (17 + length (events_bytes events)); kept = seq }
 
+-- ---- the record
+
+-- The bytes are the fields of the record of these events under the number, the events' bytes, and behind them the next
+-- gate, closed. The record's own gate isn't among them.
+pub record IsSpelledChange (change : SpelledChange) (events : List Event) : Type 0 where
+  pub number_fits : change.number.0 < 2 ^ 64
+  pub fit : EventsFit events
+  pub bytes : change.chunk.items ≡ fields (record_of change.number.0 events) ++ 0 ∷ []
+
 -- ---- the answer
 
 -- The journal isn't closed, the number is the next one, and the file stays within 2^40 bytes.
@@ -33,10 +45,14 @@ pub record MayAdd (j : Journal) (seq : Sequence) (events : List Event) : Type 0 
   pub next : IsNext j seq
   pub room : size_with j events ≤ 2 ^ 40
 
--- Each answer of `append` with what it means; no two meet but by want of memory, and by a fault of the site. A closed
--- journal answers SiteFault and nothing else. Then OutOfSequence comes exactly where the number isn't the next one,
--- with both numbers, and then TooLarge exactly where the file would pass 2^40 bytes. A fault of the site closes the
--- journal, and every other refusal leaves it as it is.
+-- the spelled change is that of some events which may be added under its number
+abbrev pub MayAddSpelled : Journal → SpelledChange → Type 0
+MayAddSpelled j change = (events : List Event) × IsSpelledChange change events × MayAdd j change.number events
+
+-- Each answer of `append` with what it means, and so each answer of `add`; no two meet but by want of memory, and by a
+-- fault of the site. A closed journal answers SiteFault and nothing else. Then OutOfSequence comes exactly where the
+-- number isn't the next one, with both numbers, and then TooLarge exactly where the file would pass 2^40 bytes. A fault
+-- of the site closes the journal, and every other refusal leaves it as it is.
 abbrev pub AddAnswer : Journal → Journal → Sequence → List Event → Result (Unit {0}) JournalError → ℕ → ℕ → Type 0
 AddAnswer old new seq events (Ok x) before now =
     MayAdd old seq events × (new ≡ moved_on old seq events) × (now ≡ before)

@@ -1,9 +1,9 @@
 //! One more change at the end of a journal's file.
-ghost use Rattle.std.specs.Prelude.{◌≡◌, ◌↔◌, ◌+◌, ◌<◌, ◌≤◌, ◌^◌, false, true, IfSome, IfOk, IsTrue, length};
-ghost use Rattle.object_codec.specs.Spelling.{events_bytes};
+ghost use Rattle.std.specs.Prelude.{◌≡◌, ◌↔◌, ◌+◌, ◌<◌, ◌≤◌, ◌^◌, List, false, true, IfSome, IfOk, IsSome};
+ghost use Rattle.road_base.specs.declared.event.Event.{Event};
 ghost use Rattle.road_io.specs.Told.{Told};
 ghost use Rattle.sequence_journal.specs.Journal.{IsReady};
-ghost use Rattle.sequence_journal.specs.Adding.{Adds, AddAnswer};
+ghost use Rattle.sequence_journal.specs.Adding.{Adds, AddAnswer, IsSpelledChange, MayAddSpelled, size_with};
 
 use crate::chunks::record_chunk;
 use crate::ends::open_behind;
@@ -12,6 +12,14 @@ use crate::journal::Journal;
 use road_base::{Event, MOST_STORE, NoMemory, Sequence};
 use road_io::Site;
 use std::alloc::Global;
+
+/// A change as its record in a journal's file, ready to be added: `Journal::spell` makes it.
+#[derive(Drop)]
+pub struct SpelledChange {
+    pub(crate) number: Sequence,
+    /// What stands behind the record's gate.
+    pub(crate) chunk: Vec<u8>,
+}
 
 impl Journal {
     /// Adds a change under the next number: writes its record behind the closed gate at the file's end, syncs, opens
@@ -33,15 +41,46 @@ impl Journal {
             return Err(JournalError::SiteFault);
         }
         self.check(seq)?;
-        let chunk = record_chunk(alloc, seq, events)?;
-        let size = chunk.len() as u64;
-        if !has_room(self.gate, size) {
+        let Some(change) = self.spell(alloc, seq, events)? else {
             return Err(JournalError::TooLarge);
+        };
+        self.add(site, &change)
+    }
+
+    /// Spells a change's record under a number, and takes all memory that adding it needs. None exactly where the
+    /// journal's file would pass 2^40 bytes with it. It costs the record's bytes, and looks neither at the journal's
+    /// last number nor at whether the journal is closed.
+    pub fn spell(
+        &self,
+        alloc: Global,
+        number: Sequence,
+        events: &[Event],
+    ) -> Result<Option<SpelledChange>, NoMemory>
+        ensures number { IfOk result (λ r. IfSome r (λ change. change.number ≡ number)) }
+        ensures spells { IfOk result (λ r. IfSome r (λ change. IsSpelledChange change events.now)) }
+        ensures room { IfOk result (λ r. IsSome r ↔ (size_with self.now events.now ≤ 2 ^ 40)) }
+    {
+        let chunk = record_chunk(alloc, number, events)?;
+        if !has_room(self.gate, chunk.len() as u64) {
+            return Ok(None);
         }
-        match open_behind(site, self.file, self.gate, &chunk) {
+        Ok(Some(SpelledChange { number, chunk }))
+    }
+
+    /// Adds a spelled change as `append` does, where it has the next number and there is room for it. It takes no
+    /// memory: the only refusal is SiteFault, where the site fails.
+    pub fn add<W: Site>(&mut self, site: &mut W, change: &SpelledChange) -> Result<(), JournalError>
+        requires may { MayAddSpelled self.old change.now }
+        requires ready { IfSome (W.outside site.old) (IsReady self.old) }
+        ensures told { (events : List Event) → IsSpelledChange change.now events
+            → Told (Adds self.old self.new events result) (W.outside site.old) (W.outside site.new) }
+        ensures answer { (events : List Event) → IsSpelledChange change.now events
+            → AddAnswer self.old self.new change.now.number events result (W.faults site.old) (W.faults site.new) }
+    {
+        match open_behind(site, self.file, self.gate, &change.chunk) {
             Ok(()) => {
-                self.gate += size;
-                self.kept = seq;
+                self.gate += change.chunk.len() as u64;
+                self.kept = change.number;
                 Ok(())
             }
             Err(_) => {
@@ -49,18 +88,6 @@ impl Journal {
                 Err(JournalError::SiteFault)
             }
         }
-    }
-}
-
-impl Journal {
-    /// Whether the journal's file keeps within 2^40 bytes with a change of these events: whether `append` of it under
-    /// the next number doesn't answer TooLarge.
-    pub fn has_room_for(&self, alloc: Global, events: &[Event]) -> Result<bool, NoMemory>
-        ensures { IfOk result
-            (λ r. IsTrue r ↔ (self.now.gate + (17 + length (events_bytes events.now) + 1) ≤ 2 ^ 40)) }
-    {
-        let chunk = record_chunk(alloc, self.kept, events)?;
-        Ok(has_room(self.gate, chunk.len() as u64))
     }
 }
 

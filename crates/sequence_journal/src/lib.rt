@@ -21,6 +21,7 @@ mod records;
 mod whole_file;
 mod window;
 
+pub use append::SpelledChange;
 pub use base::{write_base, write_base_within};
 pub use error::JournalError;
 pub use heads::{BaseHead, head};

@@ -1,8 +1,7 @@
 -- What an answer to a message leaves.
 use Rattle.std.proofs.Common.{◌≡◌, inr, ⊎_elim, ℕ, ◌+◌, ◌-◌, ◌<◌, ◌≤◌, ◌^◌, List, [], ◌∷◌, ◌++◌, length}
 use Rattle.std.proofs.Common.{true, false, Result, Ok, Err, IfErr, refl, sym, ◌∙◌, ap, subst, arith, codes}
-use Rattle.std.proofs.Common.{◌↔◌, Bool, IsTrue, length-append}
-use Rattle.std.proofs.Math.Nat.{lt_of_not-le}
+use Rattle.std.proofs.Common.{◌↔◌, Option, Some, IfSome, IsSome, is_some, length-append}
 use Rattle.std.proofs.lemmas.List.{append-nil}
 use Rattle.std.specs.Io.{StartsWith}
 use Rattle.std.specs.Fmt.{decimal}
@@ -18,8 +17,9 @@ use Rattle.sequence_journal.specs.declared.error.JournalError.{JournalError}
 use Rattle.sequence_journal.specs.declared.error.JournalError.TheVariants.{OutOfSequence, Damaged, NoStore, StoreExists}
 use Rattle.sequence_journal.specs.declared.error.JournalError.TheVariants.{SiteFault as SiteFaultError, TooLarge}
 use Rattle.sequence_journal.specs.declared.error.JournalError.TheVariants.{NoMemory as NoMemoryError}
+use Rattle.sequence_journal.specs.declared.append.SpelledChange.{SpelledChange}
 use Rattle.sequence_journal.specs.declared.journal.Journal.{Journal}
-use Rattle.sequence_journal.specs.Adding.{IsNext, Adds, AddAnswer, MayAdd}
+use Rattle.sequence_journal.specs.Adding.{IsNext, Adds, AddAnswer, MayAdd, IsSpelledChange, size_with}
 use Rattle.store_switch.specs.TwoFiles.{IsOnStore, LeavesEither}
 use Rattle.session_input.specs.Messages.{Message, Frame}
 use Rattle.session_answers.specs.Replies.{Replies}
@@ -73,6 +73,25 @@ module _ (laws : StoreLaws) {B : Type 0} (R : Replies B) (Stands : History → B
   put_answers chunk (Err Limit) w v named p k r = let e : Limit ≡ SiteFault = named in cc
   put_answers chunk (Err NoMemory) w v named p k r = let e : NoMemory ≡ SiteFault = named in cc
 
+-- ---- a change that is spelled
+
+module _ (journal : Journal) (number : Sequence) (events : List Event) (spelled : Option SpelledChange)
+    (change : SpelledChange) (is : spelled ≡ Some change) where
+  pub room_there : (IsSome spelled ↔ (size_with journal events ≤ 2 ^ 40)) → size_with journal events ≤ 2 ^ 40
+  room_there room = room.0 (ap is_some is)
+
+  pub is_spelled : IfSome spelled (λ c. IsSpelledChange c events) → IsSpelledChange change events
+  is_spelled spells = subst (λ (o : Option SpelledChange). IfSome o (λ c. IsSpelledChange c events)) is spells
+
+  -- what adding it answers, under the number that was asked for
+  pub under_number : IfSome spelled (λ c. c.number ≡ number) → (new : Journal) (result : Result (Unit {0}) JournalError)
+      (before now : ℕ) → AddAnswer journal new change.number events result before now
+      → AddAnswer journal new number events result before now
+  under_number numbered new result before now answer =
+      let same : change.number ≡ number =
+      subst (λ (o : Option SpelledChange). IfSome o (λ c. c.number ≡ number)) is numbered in
+      subst (λ (n : Sequence). AddAnswer journal new n events result before now) same answer
+
 -- ---- a change that is added
 
 pub line_some : (n : ℕ) → 0 < length (applied_line n)
@@ -83,18 +102,6 @@ room_enough gate size room is fits = omega (arith, is, fits)
 
 pub room_short : (gate size room : ℕ) → room ≡ room_at gate → 2 ^ 40 < gate + (18 + size) → room < 17 + size
 room_short gate size room is full = omega (arith, is, full)
-
--- what it says that there is room
-pub room_there : (gate size : ℕ) (r : Bool) → (IsTrue r ↔ (gate + (17 + size + 1) ≤ 2 ^ 40)) → r ≡ true
-    → gate + (18 + size) ≤ 2 ^ 40
-room_there gate size r is so = omega (arith, is.0 so)
-
-pub room_missing : (gate size : ℕ) (r : Bool) → (IsTrue r ↔ (gate + (17 + size + 1) ≤ 2 ^ 40)) → r ≡ false
-    → 2 ^ 40 < gate + (18 + size)
-room_missing gate size r is so =
-    let full : 2 ^ 40 < gate + (17 + size + 1) =
-    lt_of_not-le (λ fits. let e : false ≡ true = sym so ∙ is.1 fits in cc) in
-    omega (arith, full)
 
 room_then : (gate size room : ℕ) → room ≡ room_at gate → room - (17 + size) ≡ room_at (gate + (17 + size))
 room_then gate size room is = omega (arith, is)

@@ -90,8 +90,8 @@ impl<A: Answerer> Talk<A> {
         put_chunk(site, &line)
     }
 
-    /// Accepts a frame that has the next number and no fault, where there is room for it: what answers follows its
-    /// change, the change is kept, and then it is told so.
+    /// Accepts a frame that has the next number and no fault, where there is room for it: its change is spelled, what
+    /// answers follows it, it is kept, and then it is told so.
     fn accept<W: Site, L: Ledger>(
         &mut self,
         number: Sequence,
@@ -118,16 +118,16 @@ impl<A: Answerer> Talk<A> {
         let Ok(line) = applied(self.alloc, number) else {
             return Err(Stop::NoMemory);
         };
-        let Ok(has_room) = self.journal.has_room_for(self.alloc, events) else {
+        let Ok(spelled) = self.journal.spell(self.alloc, number, events) else {
             return Err(Stop::NoMemory);
         };
-        if !has_room {
+        let Some(change) = spelled else {
             return Err(Stop::Limit);
-        }
+        };
         let Ok(()) = self.answerer.follow(events, steps) else {
             return Err(Stop::NoMemory);
         };
-        match self.journal.append(self.alloc, site, number, events) {
+        match self.journal.add(site, &change) {
             Ok(()) => put_chunk(site, &line),
             Err(error) => Err(stop_of(error)),
         }
