@@ -202,6 +202,28 @@ fn an_addition_writes_behind_the_gate_and_opens_it(rt: HostRuntime) -> Result<()
     Ok(())
 }
 
+/// A base as above, and change 6 without events, spelled before it is added.
+fn spell_and_add(alloc: Global, site: &mut MemorySite) -> Result<(), JournalError> {
+    settle(site, Which::A)?;
+    let none: [Event; 0] = [];
+    let mut journal = write_base(alloc, site, Which::A, 1, Sequence(5), &none)?;
+    journal.check(Sequence(6))?;
+    let Some(change) = journal.spell(alloc, Sequence(6), &none)? else {
+        return Err(JournalError::TooLarge);
+    };
+    journal.add(site, &change)
+}
+
+#[test]
+fn a_spelled_change_is_added(rt: HostRuntime) -> Result<(), Fail> {
+    let alloc = rt.alloc();
+    let mut site = site_of(alloc, Vec::new(alloc), Vec::new(alloc));
+    assert_eq!(rt; spell_and_add(alloc, &mut site), Ok(()));
+    let whole = file_of(alloc, &[BASE, RECORD, b"\0"], None)?;
+    assert!(rt; site.file(Which::A) == whole.as_slice());
+    Ok(())
+}
+
 /// What an addition leaves whose call of this number fails: the kept number of a load behind it.
 const STOPS: [(u64, u64); 4] = [(0, 5), (1, 5), (2, 5), (3, 6)];
 
