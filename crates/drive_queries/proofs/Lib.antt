@@ -1,2 +1,1 @@
 pub mod MessageSteps
-mod AskedSteps

@@ -7,6 +7,6 @@ write_base-requires c = c.in_ok-settle.ensures.told.done
 
 pub append-requires : goal.append-requires
 append-requires c = λ not_closed. (
-  base_alone 5 [],
+  base_alone 1 5 [],
   (c.in_ok-journal.ensures.told c.in_ok-settle.ensures.told.done).answer.0,
 )
