@@ -36,6 +36,8 @@ mod sample_town_tests;
 #[cfg(test)]
 mod sequence_journal_tests;
 #[cfg(test)]
+mod session_answers_tests;
+#[cfg(test)]
 mod session_input_tests;
 #[cfg(test)]
 mod store_switch_tests;

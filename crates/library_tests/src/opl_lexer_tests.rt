@@ -1,5 +1,7 @@
 //! The happy path of each public call, with ample memory, and values from the format's tables.
-use opl_lexer::{FaultKind, LexError, coordinate, fields, unescape, version, whole};
+use opl_lexer::{
+    FaultKind, LexError, coordinate, fields, long_number, unescape, version, whole, without_return,
+};
 use std::alloc::{AllocError, Global};
 
 const WHOLES: [(&str, Option<i64>); 11] = [
@@ -35,6 +37,35 @@ const VERSIONS: [(&str, Option<u32>); 5] = [
 fn versions_are_read(rt: HostRuntime) {
     for (text, value) in VERSIONS {
         assert_eq!(rt; version(text), value, "at {text:?}");
+    }
+}
+
+const LONG_NUMBERS: [(&str, Option<u64>); 6] = [
+    ("18446744073709551615", Some(u64::MAX)),
+    ("007", Some(7)),
+    ("18446744073709551616", None),
+    ("-1", None),
+    ("+1", None),
+    ("", None),
+];
+
+#[test]
+fn long_numbers_are_read(rt: HostRuntime) {
+    for (text, value) in LONG_NUMBERS {
+        assert_eq!(rt; long_number(text), value, "at {text:?}");
+    }
+}
+
+#[test]
+fn one_return_is_dropped(rt: HostRuntime) {
+    let cases: [(&[u8], &[u8]); 4] = [
+        (b"state\r", b"state"),
+        (b"state\r\r", b"state\r"),
+        (b"\rstate", b"\rstate"),
+        (b"", b""),
+    ];
+    for (line, wanted) in cases {
+        assert_eq!(rt; without_return(line), wanted, "at {line:?}");
     }
 }
 

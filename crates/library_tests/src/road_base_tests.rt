@@ -4,7 +4,7 @@ ghost use Rattle.std.specs.Prelude.{◌≡◌, ◌<◌};
 use crate::makers::event_of;
 use road_base::{
     Body, Dir, Drive, Key, Keys, LittleEndian, Location, Member, NoMemory, NodeId, RelationId,
-    Step, Steps, Tags, WayId, Ways,
+    Step, Steps, Tags, WayId, Ways, is_in_range, is_profile,
 };
 use std::alloc::{AllocError, AllocFailed, Global};
 use std::marker::Brand;
@@ -219,4 +219,29 @@ fn count_two<L: Ledger>(blank: Blank)
 fn memory_is_refused_in_one_way(rt: HostRuntime) {
     assert_eq!(rt; NoMemory::from(AllocError), NoMemory);
     assert_eq!(rt; NoMemory::from(AllocFailed { value: 7 }), NoMemory);
+}
+
+#[test]
+fn only_motorcars_have_a_profile(rt: HostRuntime) {
+    for (number, is) in [(0, false), (1, true), (2, false), (u32::MAX, false)] {
+        assert_eq!(rt; is_profile(number), is, "at {number}");
+    }
+}
+
+/// Longitudes and latitudes in units of 1e-7 degree, and whether there is such a place.
+const RANGES: [(i32, i32, bool); 7] = [
+    (0, 0, true),
+    (1_800_000_000, -900_000_000, true),
+    (-1_800_000_000, 900_000_000, true),
+    (1_800_000_001, 0, false),
+    (-1_800_000_001, 0, false),
+    (0, 900_000_001, false),
+    (i32::MIN, i32::MIN, false),
+];
+
+#[test]
+fn places_have_a_range(rt: HostRuntime) {
+    for (lon, lat, is) in RANGES {
+        assert_eq!(rt; is_in_range(lon, lat), is, "at {lon} {lat}");
+    }
 }

@@ -103,10 +103,7 @@ const SESSIONS: &[(&[u8], &str)] = &[
         "[graph], [], [ \t], last [state]",
     ),
     (b"graph\r\r\n", "[graph\r], done"),
-    (
-        b" reach 1  2\nreach\tw7",
-        "[ reach 1  2], last [reach\tw7]",
-    ),
+    (b" reach 1  2\nreach\tw7", "[ reach 1  2], last [reach\tw7]"),
     (
         b"#seq 5\nn1 v1 x1 y2\n#end\ngraph\n",
         "frame 5 of 1, [graph], done",
@@ -238,7 +235,10 @@ const HOLDINGS: &[(&[u8], &[u8], &str)] = &[
 #[test]
 fn lines_are_lent(rt: HostRuntime) -> Result<(), Fail> {
     for (front, back, wanted) in HOLDINGS {
-        assert!(rt; holds_line(rt.alloc(), front, back, wanted).is_ok_and(|holds| holds), "{back:?}");
+        assert!(rt;
+            holds_line(rt.alloc(), front, back, wanted).is_ok_and(|holds| holds),
+            "{back:?}"
+        );
     }
     Ok(())
 }

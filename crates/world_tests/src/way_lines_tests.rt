@@ -9,7 +9,8 @@ use std::alloc::Global;
 use std::process::Abort;
 use std::test::Fail;
 use way_lines::{
-    Road, RoadLine, Roads, add_steps, drivable, head, line, line_at, line_len, pass, tail,
+    NodeRules, Road, RoadLine, Roads, add_steps, drivable, head, line, line_at, line_len, pass,
+    tail,
 };
 
 fn way(alloc: Global, refs: &[i64]) -> Result<Way, Fail> {
@@ -269,4 +270,36 @@ fn check_nodes(rt: &impl Abort, alloc: Global, world: &Indexed) -> Result<(), Fa
 fn lines_of_roads_have_their_nodes(rt: HostRuntime) -> Result<(), Fail> {
     let world = world_of(rt.alloc(), ROADS)?;
     check_nodes(&rt, rt.alloc(), &world)
+}
+
+/// A bollard, a turning circle, one that is a shut gate too, and a node without tags.
+const TURNS: &[u8] = b"n1 Tbarrier=bollard x0 y0\nn2 Thighway=turning_circle x1 y0\n\
+    n3 Tbarrier=gate,highway=turning_circle,motor_vehicle=no x2 y0\nn4 x3 y0\n";
+
+/// Nodes, the last of which isn't there. Of each whether it is shut, whether it is a place to turn, and whether one may
+/// turn where another step leaves it.
+const RULES: [(i64, bool, bool, bool); 5] = [
+    (1, true, false, true),
+    (2, false, true, true),
+    (3, true, true, true),
+    (4, false, false, false),
+    (5, false, false, false),
+];
+
+/// Whether this holds at the node, where one may always turn by the only step that leaves.
+fn has_rules(world: &Indexed, (node, shut, turns, may): (i64, bool, bool, bool)) -> bool {
+    let rules = NodeRules::of(&Network::new(world, Motorcar), NodeId(node));
+    rules.node == NodeId(node)
+        && (rules.is_shut, rules.is_turning_place) == (shut, turns)
+        && (rules.may_turn(false), rules.may_turn(true)) == (may, true)
+        && rules.goes_through() != may
+}
+
+#[test]
+fn nodes_are_shut_or_places_to_turn(rt: HostRuntime) -> Result<(), Fail> {
+    let world = world_of(rt.alloc(), TURNS)?;
+    for wanted in RULES {
+        assert!(rt; has_rules(&world, wanted), "at node {}", wanted.0);
+    }
+    Ok(())
 }
