@@ -10,10 +10,10 @@ use sequence_journal::{Journal, JournalError, write_base_within};
 use std::alloc::Global;
 
 /// Writes these events as a base under the kept number into the file that isn't live, with the next generation, and
-/// goes on there. The events are the entries of the objects that the history leaves, one for each key, deletions too, in
-/// key order. A closed journal answers SiteFault. TooLarge exactly where the generation is the last u64, or the
-/// file to be written would have more than 2^40 bytes. All memory is taken before the first call on the site. A fault
-/// of the site closes the journal; every other refusal leaves journal and files as they are.
+/// goes on there. The events are the entries of the objects that the history leaves, one for each key, deletions too,
+/// in key order. A closed journal answers SiteFault. TooLarge exactly where the generation is the last u64, or the file
+/// to be written would have more than 2^40 bytes. All memory is taken before the first call on the site. A fault of the
+/// site closes the journal; every other refusal leaves journal and files as they are.
 pub fn checkpoint<W: Site>(
     alloc: Global,
     site: &mut W,

@@ -1,5 +1,5 @@
-//! Maps with a way 10 over some of the nodes 1 to 4: which of its positions are plain and which are junctions, the pieces
-//! that leave node 1, and all pieces, each with the steps that it is driven in; and how large its block is.
+//! Maps with a way 10 over some of the nodes 1 to 4: which of its positions are plain and which are junctions, the
+//! pieces that leave node 1, and all pieces, each with the steps that it is driven in; and how large its block is.
 ghost use Rattle.std.specs.Prelude.{◌≡◌, ◌<◌};
 
 use crate::worlds::world_of;
