@@ -311,7 +311,7 @@ module _ (reading : OneReading) (map : OneMap) (graph : OneGraphEach)
   one_alone : (files : Option Files) → Gives (Some Compile) files bytes status out after
       → Gives (Some Compile) files bytes another other later → Alike status out after another other later
   one_alone files a b = with_after _ _ _ _ _ _ (one_compile reading map (graph 1 refl) bytes status another out other
-    a.0 b.0)
+      a.0 b.0)
       (both _ _ _ a.1 b.1)
 
   one_inspected : (files : Option Files) → Gives (Some Inspect) files bytes status out after

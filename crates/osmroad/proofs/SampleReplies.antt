@@ -39,7 +39,7 @@ module _ (number : ℕ) (held : Option (List ℕ)) (x : Option Outside) where
       (by_failure command (behind_of held) [] x x MemoryFailure result is (stands_still x))
 
   pub put_sample : (result : Result Reply Failure) (out : List ℕ) → Replies Done out result → IsSample (rules_of 1)
-    number out
+      number out
       → Prepares command result held held x x
   put_sample result out says is = unread result
       (replied command (behind_of held) [] Done out result x x says

@@ -56,7 +56,7 @@ module _ (profile generation number : ℕ) (events : List Event) (chunk : List �
     (is : IsBaseChunk profile generation number events chunk) where
   split : 1 ∷ chunk ≡ history_bytes generation (base_alone profile number events) ++ 0 ∷ []
   split = is.bytes ∙ ap (λ (l : List ℕ). l ++ 0 ∷ []) (sym (append-nil (base_bytes (base_of profile generation number
-    events))))
+      events))))
 
   stands : Stands (1 ∷ chunk) generation (base_alone profile number events)
   stands = record {

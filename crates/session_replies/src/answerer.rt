@@ -55,7 +55,11 @@ impl<P: Profile> Answerer for RoadAnswerer<P> {
         reply_to(self.alloc, &mut self.engine, kept, &asked)
     }
 
-    fn follow<L: Ledger>(&mut self, events: &[Event], steps: &mut Steps<L>) -> Result<(), NoMemory> {
+    fn follow<L: Ledger>(
+        &mut self,
+        events: &[Event],
+        steps: &mut Steps<L>,
+    ) -> Result<(), NoMemory> {
         history_objects();
         self.engine.apply(events, steps)?;
         Ok(())

@@ -17,7 +17,7 @@ contexts_of-requires g c =
     record {
       states = c.requires.tables.states c.args.span.name.way c.requires.serve;
       endings = subst (AreEndings tables.states.automaton tables.states.facts.items) (sym
-      c.as_slice-endings.ensures.value)
+          c.as_slice-endings.ensures.value)
           c.requires.tables.endings;
       intersection = c.in-Some.ensures.is M P c.requires.tables.intersections;
       piece = c.requires.piece;
@@ -35,7 +35,7 @@ contexts_of-requires-2 g c =
     record {
       states = c.requires.tables.states c.args.span.name.way c.requires.serve;
       endings = subst (AreEndings tables.states.automaton tables.states.facts.items) (sym
-      c.as_slice-endings.ensures.value)
+          c.as_slice-endings.ensures.value)
           c.requires.tables.endings;
       intersection = record {
         shut_is = c.with-intersection.ensures.is_shut ∙ rules.ensures.rules.shut_is

@@ -21,6 +21,6 @@ returns-clause-walks g c = λ M bytes blocks listed file. record {
   blocks = blocks;
   file = file;
   only = λ n others is. (c.one_file.ensures n (g.P.Profile.rules c.args.profile.now).number bytes others blocks is
-    file).1;
+      file).1;
   walks = c.file_walks.ensures M blocks listed;
 }

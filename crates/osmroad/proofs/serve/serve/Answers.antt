@@ -35,7 +35,7 @@ returns-in_default-clause-builds g c = builds_nothing c.args.loaded _ (g.S.Sourc
 pub new-answerer-requires : goal.new-answerer-requires
 new-answerer-requires g c = record {
   known = subst (λ (p : g.row.P.Denot). IsProfile (g.P.Profile.rules p).number) (sym c.in-Ok.ensures.profile)
-    c.requires.known;
+      c.requires.known;
 }
 
 pub converse-requires-clause-opens : goal.converse-requires-clause-opens

@@ -21,5 +21,5 @@ pub returns-in_err-apply-clause-failed : goal.returns-in_err-apply-clause-failed
 returns-in_err-apply-clause-failed g c =
     let p = err_from_is_err_and c.from_residual.result c.from_residual.ensures.1 in
     rw p.1 (λ h b M has is.
-      touched_some c.args.self.now.engine.world M c.args.events.now c.args.steps.now c.apply.new.steps
-      (c.history_objects.ensures.one h M c.args.self.now.engine.world is has) c.apply.ensures.built)
+    touched_some c.args.self.now.engine.world M c.args.events.now c.args.steps.now c.apply.new.steps
+    (c.history_objects.ensures.one h M c.args.self.now.engine.world is has) c.apply.ensures.built)
