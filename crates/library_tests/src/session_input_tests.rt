@@ -112,10 +112,6 @@ const SESSIONS: &[(&[u8], &str)] = &[
         b"#seq 5\r\nn1 v1 x1 y2\r\nn2 v1 dD\r\n #end\t\r\n",
         "frame 5 of 2, done",
     ),
-    (
-        b"#seq 5 6\n#seq\n#seq +5\n#seq 18446744073709551616\n",
-        "<#seq 5 6>, <#seq>, <#seq +5>, <#seq 18446744073709551616>, done",
-    ),
     (b"#seq 5\n#end", "last frame 5 of 0"),
     (b"#seq 6", "unfinished 6"),
     (b"#seq 6\n", "unfinished 6"),
@@ -142,7 +138,7 @@ const SESSIONS: &[(&[u8], &str)] = &[
 /// Lines that begin no frame, and the largest number of one.
 const NUMBERS: &[(&[u8], &str)] = &[
     (b"#seq\n#seq 4 4\n", "[#seq], [#seq 4 4], done"),
-    (b"#seq -4\n#seq n4\n", "[#seq -4], [#seq n4], done"),
+    (b"#seq -4\n#seq +4\n", "[#seq -4], [#seq +4], done"),
     (
         b"#seq 18446744073709551616\n",
         "[#seq 18446744073709551616], done",
