@@ -3,8 +3,8 @@ use Rattle.road_io.specs.Memory.{outside_of}
 use Rattle.osmroad.proofs.ServedSessions.{store_opens}
 use Rattle.osmroad.proofs.counting_tests.asked_by.Goals as goal
 
-pub serve-requires-clause-number : goal.serve-requires-clause-number
-serve-requires-clause-number g c = refl
+pub serve-requires-clause-known : goal.serve-requires-clause-known
+serve-requires-clause-known g c = refl
 
 pub serve-requires-clause-opens : goal.serve-requires-clause-opens
 serve-requires-clause-opens g c = store_opens c.in-Ok.loaded (Some (outside_of c.args.site.now))
