@@ -5,10 +5,10 @@
 //! (`turn_automata`): with n words it compares two of them n log n times. `judge` then takes for each step a few
 //! look-ups, each at the logarithm of what there is, with one step of the automaton: what leaves the nodes at which the
 //! drive goes back to where a step began stands in the table, which goes for it once over the references of each way at
-//! these nodes, with one look-up each (`dead_ends`, `turning`). Only the step that words stop is compared with them, once: each No
-//! word with the end of the steps, and where none ends there, for each number of last steps up to that of the longest
-//! end that begins a word, at most 1,025, a binary search finds the words that begin with them, and these are looked at
-//! twice.
+//! these nodes, with one look-up each (`dead_ends`, `turning`). Only the step that words stop is compared with them,
+//! once: each No word with the end of the steps, and where none ends there, for each number of last steps up to that of
+//! the longest end that begins a word, at most 1,025, a binary search finds the words that begin with them, and these
+//! are looked at twice.
 #![tactic(auto)]
 
 mod dead_ends;

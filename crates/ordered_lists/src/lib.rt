@@ -2,8 +2,8 @@
 //! number stands, and what keys and the values kept at them have to tell. Nothing here knows of roads.
 //!
 //! `specs/Orders.antt` says what a list is that rises, and one that lists exactly what a fact holds of; `proofs/` has
-//! what follows of members, parts, sorts and unions of lists, for the crates above. `leave_once` costs a sort; a group is
-//! found in a constant time; where a number stands is told in about the time of a search among two items, if the
+//! what follows of members, parts, sorts and unions of lists, for the crates above. `leave_once` costs a sort; a group
+//! is found in a constant time; where a number stands is told in about the time of a search among two items, if the
 //! numbers are spread evenly.
 #![tactic(auto)]
 

@@ -13,8 +13,8 @@ use road_model::{Network, Profile, is_restriction};
 use std::alloc::{AllocError, Global};
 
 /// The audit of the objects, for the profile: for each visible restriction by number its line, `rN no K` or `rN only K`
-/// where it gives K different words, `rN unused CAUSE` where it is of no use; then `conditional K`, where K visible objects
-/// carry a key that ends in `:conditional` (OSM wiki, Conditional restrictions).
+/// where it gives K different words, `rN unused CAUSE` where it is of no use; then `conditional K`, where K visible
+/// objects carry a key that ends in `:conditional` (OSM wiki, Conditional restrictions).
 pub fn audit_text<P: Profile>(
     alloc: Global,
     network: &Network<'_, Indexed, P>,

@@ -42,8 +42,8 @@ fn status_of(end: End) -> Status
 
 /// Answers the messages on the source until it ends, for the profile, over the store that was loaded, and keeps each
 /// accepted change in it. Answers Done where all of them are answered, Refused where the source ends inside a frame,
-/// ReadFault and SiteFault where a read or a call on the site failed, Limit where a limit is passed, and NoMemory. Where
-/// no memory is found for the objects and their blocks, nothing is read.
+/// ReadFault and SiteFault where a read or a call on the site failed, Limit where a limit is passed, and NoMemory.
+/// Where no memory is found for the objects and their blocks, nothing is read.
 pub fn serve<P: Profile, S: Source, W: Site, L: Ledger>(
     alloc: Global,
     profile: P,

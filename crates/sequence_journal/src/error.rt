@@ -13,8 +13,8 @@ pub enum JournalError {
     OutOfSequence { kept: Sequence, got: Sequence },
     /// A call on the site failed, or the journal is closed.
     SiteFault,
-    /// An open part of the file, whose gate stands at this byte, says what no store says: the base has no known profile,
-    /// bytes spell no list of events, or a record hasn't the next number. It is the first such part.
+    /// An open part of the file, whose gate stands at this byte, says what no store says: the base has no known
+    /// profile, bytes spell no list of events, or a record hasn't the next number. It is the first such part.
     Damaged { file: Which, offset: u64 },
     /// There is no open base.
     NoStore,
