@@ -174,8 +174,9 @@ fn both_of(alloc: Global, ways: &Ways, found: &Ways) -> Result<Ways, NoMemory>
     Ok(Ways::from_list(both))
 }
 
-/// The ways that share a node with one of these, ascending.
-fn ways_met<M: World>(alloc: Global, world: &M, ways: &[WayId]) -> Result<Ways, NoMemory>
+/// The ways that share a node with one of these, ascending, as does each of these that has a node. Ways without the key
+/// `highway` share none.
+pub fn ways_met<M: World>(alloc: Global, world: &M, ways: &[WayId]) -> Result<Ways, NoMemory>
     ensures { IfOk result (Lists (λ w. w) way_cmp (MeetsOne (M.objects world.now) ways.now)) }
 {
     name_order();
