@@ -9,9 +9,9 @@ ghost use Rattle.road_model.specs.declared.blocks.Block.{Block};
 
 use crate::Pieces;
 use crate::block_search::{find_near, find_way};
-use ordered_lists::Numbered;
+use ordered_lists::{Keyed, Kinded, Numbered};
 use road_base::{NoMemory, WayId};
-use std::alloc::Global;
+use std::alloc::{AllocError, Global};
 use std::marker::Model;
 
 /// The part of the graph that belongs to a way.
@@ -38,6 +38,29 @@ impl Numbered for Block {
     /// That of its way.
     fn number(&self) -> i64 {
         self.way.0
+    }
+}
+
+impl Kinded for Block {
+    /// All are of one kind.
+    fn kind(&self) -> u8 {
+        0
+    }
+}
+
+impl Keyed<WayId> for Block {
+    ghost key = { λ b. b.way };
+
+    /// Its way.
+    fn key(&self) -> WayId {
+        self.way
+    }
+
+    fn duplicate(&self) -> Result<Block, AllocError> {
+        match self.copy() {
+            Ok(block) => Ok(block),
+            Err(NoMemory) => Err(AllocError),
+        }
     }
 }
 
