@@ -1,5 +1,5 @@
-//! Stores whose files an older program wrote, which knew profile 1 alone: they open as before, under that profile, go on
-//! as before, and can be raised.
+//! Stores whose files an older program wrote, which knew profile 1 alone: they open as before, under that profile, go
+//! on as before, and can be raised.
 use crate::session_tests::{SESSION, check_output, check_status};
 use crate::status::Status;
 use crate::store_tests::{AUDIT, CHECKPOINT, Case, GRAPH, check, joined};
@@ -121,7 +121,8 @@ fn do_on(
     check_status(rt, alloc, words, input, site, Status::Done)
 }
 
-/// A change and a checkpoint write the bytes that the older program wrote, and `raise` the same objects under profile 2.
+/// A change and a checkpoint write the bytes that the older program wrote, and `raise` the same objects under profile
+/// 2.
 #[test]
 fn older_stores_go_on(rt: HostRuntime) -> Result<(), Fail> {
     let alloc = rt.alloc();
