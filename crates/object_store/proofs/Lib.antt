@@ -8,9 +8,6 @@ mod SplitPairs
 mod EntryLists
 mod MergedPairs
 pub mod LevelPairs
-mod Overlays
-mod MergedEvents
+mod KeptPairs
 mod SameBodies
 mod MarkedPairs
-mod SettledEntries
-pub mod ReplacedEvents

@@ -1,9 +1,7 @@
 pub mod Codes
 pub mod Listed
 pub mod Changes
+pub mod Keeping
 pub mod Levels
-pub mod Overlay
 pub mod Following
 pub mod Filters
-pub mod Numbers
-pub mod Settling

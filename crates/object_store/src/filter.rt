@@ -6,11 +6,9 @@
 //! first one is marked, and tell most of the numbers apart that share it.
 ghost use Rattle.std.specs.Prelude.{◌≡◌, ◌≢◌, ◌↔◌, ◌<◌, ℕ, ℤ, IfOk, OnOk, OnErr, IsTrue, IsFalse};
 ghost use Rattle.std.specs.Int.{bit_at};
-ghost use Rattle.std.specs.declared.cmp.Ordering.TheVariants.{Equal};
 ghost use Rattle.object_store.specs.Filters.{slot_of, other_slot_of, slots_in, IsSlotMarked, IsMarked};
-ghost use Rattle.object_store.specs.Numbers.{key_number, key_tied, node_tied, way_tied};
 
-use road_base::{Key, NoMemory, NodeId, WayId};
+use road_base::NoMemory;
 use std::alloc::Global;
 use std::marker::Model;
 use std::rc::Rc;
@@ -29,53 +27,6 @@ const FIBONACCI: u64 = 0x9E37_79B9_7F4A_7C15;
 
 /// By how many bits a product is shifted so that a slot is left of it.
 const SLOT_SHIFT: u32 = 44;
-
-/// What has a number, at which a filter marks it. Keys that tie have the same one; `Numbered` of `road_base`, which
-/// tells where in a list a number stands, says nothing of ties.
-pub trait Slotted: Ord {
-    ghost number: { Self → ℤ };
-
-    /// The number.
-    fn number(&self) -> i64
-        ensures { result ≡ number self.now };
-
-    ghost tied: { (a b : Self) → Self.cmp a b ≡ Equal → number a ≡ number b };
-}
-
-impl Slotted for Key {
-    ghost number = { key_number };
-
-    /// The number of the node, way or relation.
-    fn number(&self) -> i64 {
-        match self {
-            Key::Node(id) => id.0,
-            Key::Way(id) => id.0,
-            Key::Relation(id) => id.0,
-        }
-    }
-
-    ghost tied = { key_tied };
-}
-
-impl Slotted for NodeId {
-    ghost number = { λ n. n.0 };
-
-    fn number(&self) -> i64 {
-        self.0
-    }
-
-    ghost tied = { node_tied };
-}
-
-impl Slotted for WayId {
-    ghost number = { λ w. w.0 };
-
-    fn number(&self) -> i64 {
-        self.0
-    }
-
-    ghost tied = { way_tied };
-}
 
 /// For each slot whether it is marked, in a bit.
 #[derive(Drop)]

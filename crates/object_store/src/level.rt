@@ -5,7 +5,8 @@ ghost use Rattle.std.specs.FinMap.{find, put};
 ghost use Rattle.object_store.specs.Filters.{AreMarked, IsMarked};
 ghost use Rattle.object_store.specs.Levels.{pair, put_all, values_of, Rise};
 
-use crate::filter::{Marks, Slotted};
+use crate::filter::Marks;
+use ordered_lists::Slotted;
 use road_base::NoMemory;
 use std::alloc::Global;
 use std::cmp::Ordering;

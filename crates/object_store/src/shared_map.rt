@@ -4,8 +4,9 @@ ghost use Rattle.std.specs.FinMap.{find, put};
 ghost use Rattle.object_store.specs.Filters.{AreMarked};
 ghost use Rattle.object_store.specs.Levels.{laid, put_all, values_of};
 
-use crate::filter::{Marks, Slotted};
+use crate::filter::Marks;
 use crate::level::Level;
+use ordered_lists::Slotted;
 use road_base::NoMemory;
 use std::alloc::Global;
 use std::marker::Model;
