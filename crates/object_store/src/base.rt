@@ -1,14 +1,13 @@
 //! The objects of a map, listed once.
-ghost use Rattle.std.specs.Prelude.{◌≡◌, IfOk, IfSome, map, filter, option_copied};
-ghost use Rattle.std.specs.FinMap.{empty, entries, get};
-ghost use Rattle.std.specs.Option.{option_map};
-ghost use Rattle.road_base.specs.Applying.{IsApplied, entry_of};
+ghost use Rattle.std.specs.Prelude.{◌≡◌, IfOk, map, filter};
+ghost use Rattle.std.specs.FinMap.{empty, entries};
+ghost use Rattle.road_base.specs.Applying.{IsApplied};
 ghost use Rattle.road_base.specs.Objects.{Objects as ObjectMap};
 
 use crate::kinds::{relations_in, ways_in};
-use crate::standing::{copies, event_of, settle};
+use crate::standing::{copies, settle};
 use road_base::laws::key_order;
-use road_base::{Event, Key, NoMemory};
+use road_base::{Event, NoMemory};
 use std::marker::Model;
 
 /// An object map, listed in key order: to each key that was named its version, and its visible body or a deletion. It
@@ -51,14 +50,6 @@ impl Base {
         ensures { result ≡ objects_of list.items }
     {
         Base { list }
-    }
-
-    /// The key's entry, as an event. None exactly where the key has no entry. Takes the time of a search.
-    pub fn get(&self, key: Key) -> Option<&Event>
-        ensures entry { option_map entry_of (option_copied result) ≡ get self.now key }
-        ensures key { IfSome (option_copied result) (λ e. e.key ≡ key) }
-    {
-        event_of(self.list.as_slice(), key)
     }
 
     /// All entries as events, in key order.

@@ -159,6 +159,7 @@ impl Objects {
     pub fn listed(&self) -> Result<Rc<Base>, NoMemory>
         ensures { IfOk result (λ b. b.value ≡ self.now) }
     {
+        key_order();
         let list = walked(self.alloc, self.map.view().room(), self.walk())?;
         Ok(Rc::new(self.alloc, Base::in_order(list))?)
     }

@@ -1,12 +1,11 @@
 //! Of many events those that stand: of each key the first one of the greatest version.
-ghost use Rattle.std.specs.Prelude.{◌≡◌, IfOk, OnOk, OnErr, IfSome, option_copied};
-ghost use Rattle.std.specs.FinMap.{empty, get};
-ghost use Rattle.std.specs.Option.{option_map};
-ghost use Rattle.road_base.specs.Applying.{IsApplied, entry_of};
+ghost use Rattle.std.specs.Prelude.{◌≡◌, IfOk, OnOk, OnErr};
+ghost use Rattle.std.specs.FinMap.{empty};
+ghost use Rattle.road_base.specs.Applying.{IsApplied};
 ghost use Rattle.object_store.specs.Listed.{IsInOrder, objects_of};
 
 use road_base::laws::key_order;
-use road_base::{Event, Key, NoMemory};
+use road_base::{Event, NoMemory};
 use std::alloc::Global;
 use std::cmp::Reverse;
 
@@ -41,17 +40,4 @@ pub fn copies(alloc: Global, events: &[Event]) -> Result<Vec<Event>, NoMemory>
         list.push(event.copy()?)?;
     }
     Ok(list)
-}
-
-/// The key's event in a list in key order, and None exactly where no event has the key. Takes the time of a search.
-pub fn event_of(list: &[Event], key: Key) -> Option<&Event>
-    requires { IsInOrder list.now }
-    ensures entry { option_map entry_of (option_copied result) ≡ get (objects_of list.now) key }
-    ensures key { IfSome (option_copied result) (λ e. e.key ≡ key) }
-{
-    key_order();
-    match list.binary_search_by_key(&key, |event| event.key) {
-        Ok(at) => Some(&list[at]),
-        Err(_) => None,
-    }
 }

@@ -9,15 +9,15 @@ walk-requires c = exact_by _ c.key_order.ensures.by_cmp c.key_order.ensures.ties
 pub returns-clause-entries : goal.returns-clause-entries
 returns-clause-entries c =
     ap entries (sym c.self.view_is)
-    ∙ walked_entries c.key_order.ensures.total c.walk.result c.self.inside.map (c.walk.ensures ∙ c.view.ensures)
+    ∙ walked_entries c.key_order.ensures.total c.walk.result c.self.inside.map (c.walk.ensures.pairs ∙ c.view.ensures)
     c.self.invariant
 
 pub returns-clause-exactly : goal.returns-clause-exactly
 returns-clause-exactly c =
     walked_exactly c.key_order.ensures.total c.key_order.ensures.ties c.walk.result c.self.inside.map
-    (c.walk.ensures ∙ c.view.ensures) c.self.invariant c.args.self.now c.self.view_is
+    (c.walk.ensures.pairs ∙ c.view.ensures) c.self.invariant c.args.self.now c.self.view_is
 
 pub returns-clause-in_order : goal.returns-clause-in_order
 returns-clause-in_order c =
-    walked_in_order c.key_order.ensures.total c.walk.result c.self.inside.map (c.walk.ensures ∙ c.view.ensures)
+    walked_in_order c.key_order.ensures.total c.walk.result c.self.inside.map (c.walk.ensures.pairs ∙ c.view.ensures)
     c.self.invariant
