@@ -1,5 +1,5 @@
-use Rattle.std.proofs.Common.{map, sym, subst, ◌∙◌}
-use Rattle.layered_maps.specs.Maps.{AreKeyed, over}
+use Rattle.std.proofs.Common.{sym, subst, ◌∙◌}
+use Rattle.layered_maps.specs.Maps.{AreKeyed}
 use Rattle.layered_maps.proofs.OverPairs.{changes_keyed}
 use Rattle.layered_maps.proofs.layered_map.LayeredMap.prepare.Goals as goal
 
