@@ -2,6 +2,4 @@ pub mod Codes
 pub mod Listed
 pub mod Changes
 pub mod Keeping
-pub mod Levels
 pub mod Following
-pub mod Filters

@@ -11,23 +11,15 @@
 //! what it keeps take what `layered_maps` says. `changed`, `prepare` and `apply` copy and sort their n events, and look
 //! each one up; those that stand are put into the map at once. `commit` takes a look-up for each entry that comes in the
 //! place of another, and no memory. `walk` goes over all entries without copying; `listed` and `events` copy them.
-//!
-//! `SharedMap` is a map of levels that maps share, with `Marks`, a filter of 1,048,576 slots, two of which are marked
-//! for the number of each key: other crates keep what has changed in it.
 #![tactic(auto)]
 
 mod base;
 mod changes;
-mod filter;
 mod fresh;
 mod kinds;
-mod level;
 mod objects;
-mod shared_map;
 mod standing;
 
 pub use base::Base;
-pub use filter::Marks;
 pub use fresh::Fresh;
 pub use objects::Objects;
-pub use shared_map::SharedMap;
