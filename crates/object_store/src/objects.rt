@@ -128,7 +128,8 @@ impl Objects {
         *self = Objects::new(self.alloc);
         let none = LayeredMap::new(self.alloc);
         let after = fresh.into_objects().into_map();
-        self.map.commit(Prepared::new(none, after));
+        let prepared = Prepared::new(none, after);
+        self.map.commit(prepared);
     }
 
     /// Applies the events: of each key the first one of the greatest version stands, its entry here before all of

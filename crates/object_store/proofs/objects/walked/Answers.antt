@@ -12,3 +12,8 @@ loop-event-preserved c =
     subst (λ o. IsNext o c.loop-event.rest c.next.new.self) (ap option_copied c.in-Some.is) c.next.ensures in
     one_copied c.loop-event.list.items _ c.loop-event.rest c.next.new.self c.args.walk c.in-Some.event.now split
     c.loop-event.invariant c.in_ok-add_copy.ensures
+
+pub returns : goal.returns
+returns c =
+    let ended = subst (λ o. IsNext o c.loop-event.rest c.next.new.self) (ap option_copied c.in-None.is) c.next.ensures in
+    all_copied c.loop-event.list.items c.loop-event.rest c.args.walk ended.0 c.loop-event.invariant

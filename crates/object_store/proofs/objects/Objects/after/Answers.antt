@@ -24,10 +24,10 @@ pub invariant_of-result : goal.invariant_of-result
 invariant_of-result c =
     left_sorted c.key_order.ensures.total c.key_order.ensures.ties _ c.key_order.ensures.by_cmp c.self.inside.map
     c.args.self.now c.self.view_is c.args.events.items _ c.in_ok-changes.ensures _
-    (c.into_after.ensures ∙ c.in_ok-prepared.ensures.after) c.self.invariant
+    (c.into_after-map.ensures ∙ c.in_ok-prepared.ensures.after) c.self.invariant
 
 pub returns-clause-after : goal.returns-clause-after
 returns-clause-after c =
     left_applied c.key_order.ensures.total c.key_order.ensures.ties _ c.key_order.ensures.by_cmp c.self.inside.map
     c.args.self.now c.self.view_is c.args.events.items _ c.in_ok-changes.ensures _
-    (c.into_after.ensures ∙ c.in_ok-prepared.ensures.after) c.requires
+    (c.into_after-map.ensures ∙ c.in_ok-prepared.ensures.after) c.requires

@@ -6,4 +6,4 @@ use Rattle.object_store.proofs.objects.Objects.changes_of.Given as goal
 abbrev pub invariant-loop-event : goal.invariant-loop-event
 invariant-loop-event l =
     l.changes.items ++ puts (filter (stands l.self) l.event-iterator.rest.items)
-    ≡ puts (filter (stands l.self) l.events.items)
+    ≡ puts (filter (stands l.self) l.fn.events.items)

@@ -10,9 +10,9 @@ commit-requires c = exact_by _ c.key_order.ensures.by_cmp c.key_order.ensures.ti
 
 pub invariant_of-self : goal.invariant_of-self
 invariant_of-self c =
-    subst (λ m. IsTrue (is_sorted key_cmp m)) (sym (c.commit.ensures ∙ c.new-2.ensures.after))
-    c.into_map.ensures.rising
+    subst (λ m. IsTrue (is_sorted key_cmp m)) (sym (c.commit.ensures ∙ c.new-prepared.ensures.after))
+    c.into_map-after.ensures.rising
 
 pub returns : goal.returns
 returns c =
-    ap objects_in (c.commit.ensures ∙ c.new-2.ensures.after) ∙ c.into_map.ensures.objects ∙ c.into_objects.ensures
+    ap objects_in (c.commit.ensures ∙ c.new-prepared.ensures.after) ∙ c.into_map-after.ensures.objects ∙ c.into_objects.ensures

@@ -10,6 +10,6 @@ in_order-requires c = subst IsInOrder (sym c.in_ok-list.ensures) c.walk.ensures.
 pub returns : goal.returns
 returns c =
     let up = subst IsInOrder (sym c.in_ok-list.ensures) c.walk.ensures.in_order in
-    c.in_order.ensures ∙ same_entries_map (objects_of c.in_ok-list.list.items) c.args.self.now
+    c.in_ok-new.ensures.ok ∙ c.in_order.ensures ∙ same_entries_map (objects_of c.in_ok-list.list.items) c.args.self.now
     (entries_of c.key_order.ensures.total c.in_ok-list.list.items up
     ∙ ap (map pair_of) c.in_ok-list.ensures ∙ sym c.walk.ensures.entries)

@@ -5,13 +5,13 @@ use Rattle.object_store.proofs.objects.Objects.of_base.Goals as goal
 
 pub of-requires : goal.of-requires
 of-requires c =
-    rising_by _ c.key_order.ensures.by_cmp c.into_items.result.items c.into_items.ensures.in_order
+    rising_by _ c.key_order.ensures.by_cmp c.into_items-list.result.items c.into_items-list.ensures.in_order
 
 pub invariant_of-result : goal.invariant_of-result
 invariant_of-result c =
-    kept_sorted c.key_order.ensures.total c.into_items.result.items _ c.in_ok-map.ensures
-    c.into_items.ensures.in_order
+    kept_sorted c.key_order.ensures.total c.into_items-list.result.items _ c.in_ok-map.ensures
+    c.into_items-list.ensures.in_order
 
 pub returns : goal.returns
 returns c =
-    ap objects_in c.in_ok-map.ensures ∙ kept_objects c.into_items.result.items ∙ c.into_items.ensures.objects
+    ap objects_in c.in_ok-map.ensures ∙ kept_objects c.into_items-list.result.items ∙ c.into_items-list.ensures.objects

@@ -1,10 +1,7 @@
 use Rattle.std.proofs.Common.{ap, sym, ◌∙◌}
 use Rattle.std.specs.FinMap.{entries}
-use Rattle.object_store.proofs.KeptPairs.{exact_by, walked_entries, walked_exactly, walked_in_order}
+use Rattle.object_store.proofs.KeptPairs.{walked_entries, walked_exactly, walked_in_order}
 use Rattle.object_store.proofs.objects.Objects.walk.Goals as goal
-
-pub walk-requires : goal.walk-requires
-walk-requires c = exact_by _ c.key_order.ensures.by_cmp c.key_order.ensures.ties
 
 pub returns-clause-entries : goal.returns-clause-entries
 returns-clause-entries c =
