@@ -1,16 +1,13 @@
 -- Lists in key order: what is found in them, and the entries of their maps.
-use Rattle.std.proofs.Common.{◌≡◌, ℕ, zero, suc, ◌<◌, ◌+◌, true, false, cond, IsTrue, List, [], ◌∷◌, length, map}
+use Rattle.std.proofs.Common.{◌≡◌, ℕ, zero, suc, ◌<◌, true, false, cond, IsTrue, List, [], ◌∷◌, length, map}
 use Rattle.std.proofs.Common.{filter, Some, None, inl, inr, ◌⊎◌, refl, sym, ap, ◌∙◌, subst, arith, slice_index_or}
-use Rattle.std.proofs.Common.{Ordering, Result, Ok, Err}
 use Rattle.std.specs.declared.cmp.Ordering.TheVariants.{Less, Equal, Greater}
-use Rattle.std.specs.Ordering.{is_lt, is_eq, ordering_index, ordering_reverse}
+use Rattle.std.specs.Ordering.{is_eq}
 use Rattle.std.specs.Option.{option_to_list}
 use Rattle.std.specs.Cmp.{IsTotalOrder, Equal-is}
 use Rattle.std.specs.FinMap.{IsAntisymmetric, empty, entries, find, put, len-empty, len-entries, entries-insert}
-use Rattle.std.specs.List.Sorted.{IsSortedBy, IsBinarySearchResult, IsNonDecreasingBy}
-use Rattle.std.proofs.lemmas.Bool.{and_parts, cases_lt}
+use Rattle.std.proofs.lemmas.Bool.{and_parts}
 use Rattle.std.proofs.lemmas.List.{nil_from_length}
-use Rattle.std.proofs.lemmas.List.Sorted.{searchable_from_sorted}
 use Rattle.std.proofs.lemmas.Cmp.{tied_itself}
 use Rattle.road_base.specs.declared.ids.Key.{Key}
 use Rattle.road_base.specs.declared.event.Event.{Event}
@@ -18,7 +15,7 @@ use Rattle.road_base.specs.Objects.{Entry, key_cmp}
 use Rattle.road_base.specs.Applying.{entry_of, is_of}
 use Rattle.ordered_lists.specs.Orders.{rises_from}
 use Rattle.object_store.specs.Listed.{key_of, pair_of, objects_of, IsInOrder}
-use Rattle.ordered_lists.proofs.ListMembers.{In, in_get, contains_from_in}
+use Rattle.ordered_lists.proofs.ListMembers.{In, in_get}
 use Rattle.ordered_lists.proofs.Comparisons.{less, turned}
 use Rattle.ordered_lists.proofs.AscendingLists.{rest_rises, above as stands_above}
 

@@ -1,4 +1,4 @@
--- The object map of events that are kept at their keys: what is found in it, what it lists, and what changes leave of it.
+-- The object map of events that are kept at their keys: what is found in it and listed, and what changes leave of it.
 use Rattle.std.proofs.Common.{◌≡◌, ℕ, suc, true, false, cond, List, [], ◌∷◌, ◌++◌, ◌&&◌, map, filter, Option, Some}
 use Rattle.std.proofs.Common.{None, Bool, inl, inr, nat_lt, nat_le, refl, sym, ap, subst, ◌∙◌, arith, Ordering, IsTrue}
 use Rattle.std.specs.Ordering.{is_lt, eq_by_cmp}

@@ -9,8 +9,8 @@
 //!
 //! Cost. `of` sorts, in time of the order of n log n, and of n where events come in key order. A look-up, a change and
 //! what it keeps take what `layered_maps` says. `changed`, `prepare` and `apply` copy and sort their n events, and look
-//! each one up; those that stand are put into the map at once. `commit` takes a look-up for each entry that comes in the
-//! place of another, and no memory. `walk` goes over all entries without copying; `listed` and `events` copy them.
+//! each one up; those that stand are put into the map at once. `commit` takes a look-up for each entry that comes in
+//! the place of another, and no memory. `walk` goes over all entries without copying; `listed` and `events` copy them.
 #![tactic(auto)]
 
 mod base;

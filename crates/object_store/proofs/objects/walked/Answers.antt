@@ -1,4 +1,4 @@
-use Rattle.std.proofs.Common.{◌≡◌, ◌++◌, ◌∷◌, [], option_copied, ap, subst}
+use Rattle.std.proofs.Common.{◌≡◌, ◌++◌, ◌∷◌, option_copied, ap, subst}
 use Rattle.layered_maps.specs.Walks.{IsNext}
 use Rattle.object_store.proofs.KeptPairs.{one_copied, all_copied}
 use Rattle.object_store.proofs.objects.walked.Goals as goal
@@ -15,5 +15,6 @@ loop-event-preserved c =
 
 pub returns : goal.returns
 returns c =
-    let ended = subst (λ o. IsNext o c.loop-event.rest c.next.new.self) (ap option_copied c.in-None.is) c.next.ensures in
-    all_copied c.loop-event.list.items c.loop-event.rest c.args.walk ended.0 c.loop-event.invariant
+    let end = subst (λ o. IsNext o c.loop-event.rest c.next.new.self) (ap option_copied c.in_default.is) c.next.ensures
+    in
+    all_copied c.loop-event.list.items c.loop-event.rest c.args.walk end.0 c.loop-event.invariant

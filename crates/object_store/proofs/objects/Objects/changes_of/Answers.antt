@@ -6,7 +6,8 @@ use Rattle.object_store.proofs.objects.Objects.changes_of.Goals as goal
 
 pub loop-event-init : goal.loop-event-init
 loop-event-init c =
-    ap (λ l. l ++ puts (filter (stands c.args.self.now) c.into_iter-event-iterator.result.rest.items)) c.new-changes.ensures.items
+    ap (λ l. l ++ puts (filter (stands c.args.self.now) c.into_iter-event-iterator.result.rest.items))
+    c.new-changes.ensures.items
     ∙ ap (λ l. puts (filter (stands c.args.self.now) l)) c.into_iter-event-iterator.ensures.into_iter_gives.0
 
 pub loop-event-preserved : goal.loop-event-preserved

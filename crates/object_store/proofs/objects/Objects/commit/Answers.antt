@@ -15,4 +15,5 @@ invariant_of-self c =
 
 pub returns : goal.returns
 returns c =
-    ap objects_in (c.commit.ensures ∙ c.new-prepared.ensures.after) ∙ c.into_map-after.ensures.objects ∙ c.into_objects.ensures
+    ap objects_in (c.commit.ensures ∙ c.new-prepared.ensures.after) ∙ c.into_map-after.ensures.objects
+    ∙ c.into_objects.ensures

@@ -1,4 +1,4 @@
-use Rattle.std.proofs.Common.{ap, sym, ◌∙◌}
+use Rattle.std.proofs.Common.{ap, ◌∙◌}
 use Rattle.std.specs.FinMap.{get}
 use Rattle.object_store.proofs.KeptPairs.{exact_by, got_by}
 use Rattle.object_store.proofs.objects.Objects.get.Goals as goal
