@@ -5,8 +5,8 @@ ghost use Rattle.object_store.specs.Filters.{IsMarked};
 ghost use Rattle.back_references.specs.Replacing.{lists_in};
 
 use crate::key_lists::KeyLists;
-use object_store::{Marks, Slotted};
-use ordered_lists::Numbered;
+use object_store::Marks;
+use ordered_lists::{Numbered, Slotted};
 use road_base::NoMemory;
 use std::alloc::Global;
 use std::marker::Model;

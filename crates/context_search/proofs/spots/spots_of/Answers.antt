@@ -1,0 +1,25 @@
+use Rattle.std.proofs.Common.{map, sym, ap, ◌∙◌, append_assoc, append-nil}
+use Rattle.std.specs.Option.{option_copied}
+use Rattle.layered_maps.specs.Walks.{IsNext}
+use Rattle.std.proofs.Common.{subst, ◌++◌}
+use Rattle.context_search.specs.Marks.{at_of, all_contexts, contexts_over}
+use Rattle.context_search.proofs.spots.spots_of.Goals as goal
+
+pub loop-block-preserved : goal.loop-block-preserved
+loop-block-preserved c =
+    let was = map at_of c.loop-block.spots.items in
+    let block = c.in-Some.block.now in
+    let more = contexts_over block.pieces in
+    let left = all_contexts c.next.new.self in
+    let taken = subst (λ o. IsNext o c.loop-block.rest c.next.new.self) (ap option_copied c.in-Some.is) c.next.ensures in
+    ap (λ l. l ++ left) c.in_ok-add_pieces.ensures
+    ∙ append_assoc was more left
+    ∙ ap (λ l. was ++ all_contexts l) (sym taken)
+    ∙ c.loop-block.invariant
+
+pub returns : goal.returns
+returns c =
+    let taken = subst (λ o. IsNext o c.loop-block.rest c.next.new.self) (ap option_copied c.in_default.is) c.next.ensures in
+    sym (append-nil (map at_of c.loop-block.spots.items))
+    ∙ ap (λ l. map at_of c.loop-block.spots.items ++ all_contexts l) (sym taken.0)
+    ∙ c.loop-block.invariant
