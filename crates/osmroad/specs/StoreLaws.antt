@@ -61,15 +61,16 @@ pub record ChangeLaws : Type 0 where
       (w v : Outside) (before now : ℕ) → IsOnStore old h w → AddAnswer old new seq change (Ok x) before now
       → Adds old new change (Ok x) w v → length (reads_of v new.file) ≤ 2 ^ 40
 
--- the laws on the checkpoint of a store
+-- the laws on the checkpoint of a store, under any profile
 pub record CheckpointLaws : Type 0 where
-  pub stopped : (old new : Journal) (h : History) (events : List Event) (result : Result (Unit {0}) JournalError)
-      (w v : Outside) → IsOnStore old h w → Checkpoints old new events result w v
-      → LeavesOnly w v (LeavesCheckpoint h events w.output)
-  pub ok : (old new : Journal) (h : History) (events : List Event) (x : Unit {0}) (w v : Outside)
-      → IsOnStore old h w → Checkpoints old new events (Ok x) w v → IsOnStore new (checkpoint_of h events) v
-  pub small : (old new : Journal) (h : History) (events : List Event) (x : Unit {0}) (w v : Outside)
-      (before now : ℕ) → IsOnStore old h w → CheckpointAnswer old new events (Ok x) before now
-      → Checkpoints old new events (Ok x) w v → length (reads_of v new.file) ≤ 2 ^ 40
-  pub same : (h : History) (objects : Objects) (events : List Event)
-      → HasObjects h objects → AreEntries objects events → SameForReader (checkpoint_of h events) h
+  pub stopped : (old new : Journal) (h : History) (profile : ℕ) (events : List Event)
+      (result : Result (Unit {0}) JournalError) (w v : Outside) → IsOnStore old h w
+      → Checkpoints old new profile events result w v → LeavesOnly w v (LeavesCheckpoint profile h events w.output)
+  pub ok : (old new : Journal) (h : History) (profile : ℕ) (events : List Event) (x : Unit {0}) (w v : Outside)
+      → IsOnStore old h w → Checkpoints old new profile events (Ok x) w v
+      → IsOnStore new (checkpoint_of profile h events) v
+  pub small : (old new : Journal) (h : History) (profile : ℕ) (events : List Event) (x : Unit {0}) (w v : Outside)
+      (before now : ℕ) → IsOnStore old h w → CheckpointAnswer old new profile events (Ok x) before now
+      → Checkpoints old new profile events (Ok x) w v → length (reads_of v new.file) ≤ 2 ^ 40
+  pub same : (h : History) (profile : ℕ) (objects : Objects) (events : List Event) → HasObjects h objects
+      → AreEntries objects events → SameForReader (checkpoint_of profile h events) (record h { profile = profile })

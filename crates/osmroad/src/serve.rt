@@ -12,7 +12,7 @@ ghost use Rattle.osmroad.specs.Sessions.{end_status, IsServed, IsNotServed, IsOp
 ghost use Rattle.osmroad.specs.Sessions.{Serves, ServesBuilding, SessionRuns, EndsSession, SessionRunBuilds};
 
 use crate::laws::store_laws;
-use crate::profiles::profile_of_run;
+use crate::profiles::profile_of;
 use crate::reply::{put_last, refuse_store};
 use crate::status::Status;
 use change_apply::Engine;
@@ -88,7 +88,7 @@ fn refuse<W: Site>(alloc: Global, site: &mut W, error: JournalError) -> Status
     }
 }
 
-/// Loads the store, and answers the messages on the source over it, for the profile of the run.
+/// Loads the store, and answers the messages on the source over it, for its profile.
 pub fn serve_store<S: Source, W: Site, L: Ledger>(
     alloc: Global,
     source: &mut S,
@@ -105,7 +105,10 @@ pub fn serve_store<S: Source, W: Site, L: Ledger>(
 {
     store_laws();
     match load_store(alloc, site) {
-        Ok(loaded) => serve(alloc, profile_of_run(), loaded, source, site, steps),
+        Ok(loaded) => {
+            let profile = profile_of(loaded.journal.profile());
+            serve(alloc, profile, loaded, source, site, steps)
+        }
         Err(error) => refuse(alloc, site, error),
     }
 }

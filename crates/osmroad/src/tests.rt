@@ -118,7 +118,8 @@ const STREET_MENDED: &[u8] =
 pub const NO_GRAPH: &[u8] = b"OSMROAD1\x01\x00\x00\x00\x00\x00\x00\x00\x00\x00\x00\x00";
 
 pub const USAGE: &[u8] =
-    b"usage: osmroad STORE create N|apply N|session|graph|audit|checkpoint, or osmroad - compile|inspect|sample N\n";
+    b"usage: osmroad STORE create N|apply N|session|graph|audit|checkpoint|raise, or osmroad - \
+    compile|compile 2|inspect|sample N\n";
 
 const COMPILE: &[&str] = &["-", "compile"];
 
