@@ -9,9 +9,12 @@ mod closing;
 mod deciding_key;
 mod highways;
 mod motorcar;
+mod motorcar2;
 mod of_number;
 mod restricting;
+mod zones;
 
 pub use deciding_key::deciding;
 pub use motorcar::Motorcar;
+pub use motorcar2::Motorcar2;
 pub use of_number::ProfileOf;

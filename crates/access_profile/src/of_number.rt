@@ -5,6 +5,7 @@ ghost use Rattle.access_profile.specs.NeedsHighway.{highway_of_free};
 ghost use Rattle.access_profile.specs.Profiles.{rules_of};
 
 use crate::Motorcar;
+use crate::zones::is_zone;
 use road_base::{Dir, Tags, is_profile};
 use road_model::{Access, Profile, RuleKind};
 
@@ -56,14 +57,14 @@ impl Profile for ProfileOf {
         Motorcar.rule(tags)
     }
 
-    /// As a `Motorcar` answers.
+    /// As a `Motorcar` answers, or a `Motorcar2`, by the number.
     fn reverses(&self) -> bool {
-        Motorcar.reverses()
+        self.number == 2
     }
 
-    /// As a `Motorcar` answers.
+    /// As a `Motorcar` answers, or a `Motorcar2`, by the number.
     fn zone(&self, tags: &Tags, dir: Dir) -> bool {
-        Motorcar.zone(tags, dir)
+        self.number == 2 && is_zone(tags, dir)
     }
 
     ghost free_needs_highway = { λ p tags dir free. highway_of_free tags dir free };

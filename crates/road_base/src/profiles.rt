@@ -6,5 +6,5 @@ ghost use Rattle.road_base.specs.Profiles.{is_profile_number};
 pub fn is_profile(number: u32) -> bool
     ensures { result ≡ is_profile_number number }
 {
-    number == 1
+    number == 1 || number == 2
 }

@@ -1,8 +1,9 @@
 -- The members of a restriction, and the causes for which it may be of no use (OSM wiki, Relation:restriction).
-use Rattle.std.specs.Prelude.{◌≡◌, ℕ, ◌-◌, nat_le, nat_lt, ◌&&◌, ◌||◌, not, is_some, sum_by, List, [], ◌∷◌, ◌++◌}
-use Rattle.std.specs.Prelude.{length, Option, Some, None, Bool, true, false, IsTrue, map, filter, codes}
+use Rattle.std.specs.Prelude.{◌≡◌, ℕ, ◌-◌, nat_le, nat_lt, cond, ◌&&◌, ◌||◌, not, is_some, sum_by, List, [], ◌∷◌}
+use Rattle.std.specs.Prelude.{◌++◌, length, Option, Some, None, Bool, true, false, IsTrue, IsFalse, map, filter}
+use Rattle.std.specs.Prelude.{codes, reverse}
 use Rattle.std.specs.Str.{bytes_eq}
-use Rattle.std.specs.List.{list_all, list_any}
+use Rattle.std.specs.List.{list_all, list_any, flat_map}
 use Rattle.road_base.specs.declared.ids.NodeId.{NodeId}
 use Rattle.road_base.specs.declared.ids.WayId.{WayId}
 use Rattle.road_base.specs.declared.ids.Key.{Key}
@@ -36,10 +37,6 @@ vias r = in_role (codes "via") r.members
 
 abbrev pub tos : Relation → List Key
 tos r = in_role (codes "to") r.members
-
--- the order in which the via ways are passed: as the members are listed
-abbrev pub via_order : Objects → Rules → Relation → List Key
-via_order M P r = vias r
 
 abbrev pub is_way_key : Key → Bool
 is_way_key (NodeKey n) = false
@@ -92,6 +89,11 @@ last_of [] = None
 last_of (k ∷ []) = Some k
 last_of (k ∷ l ∷ ks) = last_of (l ∷ ks)
 
+abbrev pub same_end : Option NodeId → Option NodeId → Bool
+same_end None b = false
+same_end (Some a) None = false
+same_end (Some a) (Some b) = same_node a b
+
 abbrev pub meet : List NodeId → List NodeId → Bool
 meet xs ys = list_any (λ x. list_any (same_node x) ys) xs
 
@@ -128,14 +130,31 @@ IsRun M allowed (WayKey w ∷ ks) v steps out =
     × IsRun M allowed ks next rest out
 IsRun M allowed (RelationKey r ∷ ks) v steps out = ⊥
 
+-- where one comes out who drives the whole way in the direction from v, if it begins there
+abbrev pub crossed_in : Objects → WayId → Dir → NodeId → List NodeId
+crossed_in M w d v = cond (same_end (node_at M w (begin_position (length (line_of M w)) d)) (Some v))
+    (listed (node_at M w (end_position (length (line_of M w)) d))) []
+
+-- where one may come out who drives the whole way from v in a direction that `allowed` grants
+abbrev pub crossed : Objects → (WayId → Dir → Bool) → Key → NodeId → List NodeId
+crossed M allowed (NodeKey n) v = []
+crossed M allowed (WayKey w) v = cond (allowed w Forward) (crossed_in M w Forward v) []
+    ++ cond (allowed w Backward) (crossed_in M w Backward v) []
+crossed M allowed (RelationKey r) v = []
+
+-- where one may come out who drives these ways so, each from where the one before ended and the first from v
+abbrev pub exits : Objects → (WayId → Dir → Bool) → List Key → NodeId → List NodeId
+exits M allowed [] v = v ∷ []
+exits M allowed (k ∷ ks) v = flat_map (exits M allowed ks) (crossed M allowed k v)
+
 -- such directions lead over these ways from an end of a from way to an end of a to way
-pub record Connects (M : Objects) (allowed : WayId → Dir → Bool) (r : Relation) (vs : List Key) : Type 0 where
-  pub enter : NodeId
-  pub steps : List Step
-  pub leave : NodeId
-  pub run : IsRun M allowed vs enter steps leave
-  pub from_end : IsTrue (some_ends_at M (froms r) (enter ∷ []))
-  pub to_end : IsTrue (some_ends_at M (tos r) (leave ∷ []))
+abbrev pub connects : Objects → (WayId → Dir → Bool) → Relation → List Key → Bool
+connects M allowed r vs = list_any
+    (λ v. some_ends_at M (froms r) (v ∷ []) && some_ends_at M (tos r) (exits M allowed vs v))
+    (via_ends M (first_of vs))
+
+abbrev pub any_way : WayId → Dir → Bool
+any_way w d = true
 
 -- ---- causes
 
@@ -173,11 +192,6 @@ abbrev pub lacks_member : Objects → Relation → Bool
 lacks_member M r = not (list_all (is_present M) (froms r))
     || (not (list_all (is_present M) (vias r)) || not (list_all (is_present M) (tos r)))
 
-abbrev pub same_end : Option NodeId → Option NodeId → Bool
-same_end None b = false
-same_end (Some a) None = false
-same_end (Some a) (Some b) = same_node a b
-
 -- the way's line begins and ends at one node
 abbrev pub is_ring : Objects → Key → Bool
 is_ring M (NodeKey n) = false
@@ -192,6 +206,21 @@ misses_end M r vs =
     || (not (some_ends_at M (froms r) (via_ends M (first_of vs)))
     || not (some_ends_at M (tos r) (via_ends M (last_of vs))))
 
+-- in this order the via ways miss an end, or lead from no from way to a to way
+abbrev pub misfits : Objects → Relation → List Key → Bool
+misfits M r vs = misses_end M r vs || not (connects M any_way r vs)
+
+-- the via ways are two or more, and fit in the reversed order alone
+abbrev pub is_backward : Objects → Relation → Bool
+is_backward M r = (are_ways (vias r) && nat_lt 1 (length (vias r)))
+    && (misfits M r (vias r) && not (misfits M r (reverse (vias r))))
+
+-- The order in which the via members are passed: as they are listed, but reversed where the profile takes via ways that
+-- are listed from the to way to the from way, and these are. The wiki asks for the order of travel (OSM wiki,
+-- Relation:restriction, on the order of members), and not all restrictions have it.
+abbrev pub via_order : Objects → Rules → Relation → List Key
+via_order M P r = cond (P.reverses && is_backward M r) (reverse (vias r)) (vias r)
+
 abbrev pub steps_on : Objects → Key → ℕ
 steps_on M (NodeKey n) = 0
 steps_on M (WayKey w) = length (line_of M w) - 1
@@ -202,9 +231,6 @@ abbrev pub is_too_long : Objects → Relation → Bool
 is_too_long M r = (nat_lt 16 (length (froms r)) || nat_lt 16 (length (vias r)))
     || (nat_lt 16 (length (tos r)) || nat_lt 1024 (sum_by (steps_on M) (vias r)))
 
-abbrev pub any_way : WayId → Dir → Bool
-any_way w d = true
-
 -- the condition of each cause, by itself
 abbrev pub Holds : Objects → Rules → Relation → Unusable → Type 0
 Holds M P r NotThisVehicle = P.rule r.tags ≡ Freed
@@ -212,9 +238,9 @@ Holds M P r NoValue = P.rule r.tags ≡ Absent
 Holds M P r Members = IsTrue (wrong_members (is_only (P.rule r.tags)) r)
 Holds M P r Missing = IsTrue (lacks_member M r)
 Holds M P r NotAnEnd = IsTrue (misses_end M r (via_order M P r))
-Holds M P r NotConnected = IsTrue (are_ways (vias r)) × (Connects M any_way r (via_order M P r) → ⊥)
-Holds M P r ClosedVia = IsTrue (are_ways (vias r)) × Connects M any_way r (via_order M P r)
-    × (Connects M (is_open M P) r (via_order M P r) → ⊥)
+Holds M P r NotConnected = IsTrue (are_ways (vias r)) × IsFalse (connects M any_way r (via_order M P r))
+Holds M P r ClosedVia = IsTrue (are_ways (vias r)) × IsTrue (connects M any_way r (via_order M P r))
+    × IsFalse (connects M (is_open M P) r (via_order M P r))
 Holds M P r TooLong = IsTrue (is_too_long M r)
 
 -- no cause holds
