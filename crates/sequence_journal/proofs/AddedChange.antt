@@ -106,9 +106,9 @@ module _ (old : Journal) (seq : Sequence) (change : List Event) (chunk : List �
       record { any_moment = moments (Err x) v o; ok = tt; others = o.others; output = o.output }
 
   added : (new : Journal) (x y : Unit {0}) (v : Outside) → new.file ≡ old.file → new.generation ≡ old.generation
-      → new.kept.0 ≡ seq.0 → new.gate ≡ old.gate + length chunk → Opens old.file old.gate chunk (Ok x) w v
+      → new.profile ≡ old.profile → new.kept.0 ≡ seq.0 → new.gate ≡ old.gate + length chunk → Opens old.file old.gate chunk (Ok x) w v
       → Added old new h change (Ok y) w v
-  added new x y v file generation last gate opens =
+  added new x y v file generation profile last gate opens =
       let o = opened (Ok x) v opens in
       let front = history_bytes old.generation h in
       let d : disk v new.file ≡ settled (front ++ 1 ∷ chunk) = ap (λ (f : Which). disk v f) file ∙ o.done in
@@ -132,6 +132,7 @@ module _ (old : Journal) (seq : Sequence) (change : List Event) (chunk : List �
           )
               ∙ ap (λ (k : ℕ). length (history_bytes k (with_change h change))) (sym generation);
           last = omega (arith, last, n.next, at.last, longer);
+          profile = profile ∙ at.profile;
           fits = subst (λ (k : ℕ). HistoryFits k (with_change h change)) (sym generation) b.fits;
           durable = subst IsDurable (sym d) (settled_durable (front ++ 1 ∷ chunk));
         };
@@ -151,7 +152,8 @@ module _ (old new : Journal) (seq : Sequence) (change : List Event) (chunk given
   adding_failed x not_closed o =
       inr (not_closed, λ h at. added_failed old seq change chunk n h w at new x v (opens_of (Err x) o))
 
-  pub adding_done : (x y : Unit {0}) → new.file ≡ old.file → new.generation ≡ old.generation → new.kept.0 ≡ seq.0
+  pub adding_done : (x y : Unit {0}) → new.file ≡ old.file → new.generation ≡ old.generation → new.profile ≡ old.profile
+      → new.kept.0 ≡ seq.0
       → new.gate ≡ old.gate + length chunk → Opens old.file old.gate given (Ok x) w v → Adds old new change (Ok y) w v
-  adding_done x y file generation last gate o h at =
-      added old seq change chunk n h w at new x y v file generation last gate (opens_of (Ok x) o)
+  adding_done x y file generation profile last gate o h at =
+      added old seq change chunk n h w at new x y v file generation profile last gate (opens_of (Ok x) o)

@@ -117,6 +117,7 @@ on_file file r = record {
   journal = record {
     file = file;
     generation = r.generation;
+    profile = r.profile;
     gate = r.gate;
     kept = record { 0 = r.kept };
     closed =
@@ -179,6 +180,7 @@ module _ (file : Which) (r : ReadHistory) (whole : Bool) (w u : Outside) (k : Lo
       ends = ends;
       gate = k.read.so_far.gate;
       last = k.read.so_far.last;
+      profile = k.read.so_far.profile;
       fits = k.read.so_far.begins.fits;
       durable = durable;
     };

@@ -21,7 +21,10 @@ record_fits n change small fit = record { number = small; size = fit.size }
 
 -- the number of a profile fits its field
 profile_fits : (n : ℕ) → IsProfile n → n < 2 ^ 32
-profile_fits n known = omega (arith, eqb-true n 1 known)
+profile_fits 0 known = absurd (cc)
+profile_fits 1 known = omega arith
+profile_fits 2 known = omega arith
+profile_fits (suc (suc (suc n))) known = absurd (cc)
 
 pub begins_base : (file : List ℕ) (g : ℕ) (h : History) (rest : List ℕ) → BeginsWith file g h rest
     → BaseIsOpen file (base_of h.profile g h.base_number h.base_events) (changes_bytes h.base_number h.changes ++ rest)

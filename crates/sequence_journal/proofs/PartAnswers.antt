@@ -48,7 +48,11 @@ base_told file len n buf found w u v size is tells fills =
     }
 
 pub head_told : (file : Which) (f : FoundBase) (w v : Outside) → FindsBase file (Ok (Some f)) w v
-    → Heads file (Ok (Some (record { generation = f.head.generation; base = record { 0 = f.head.number } }))) w v
+    → Heads file (Ok (Some (record {
+      generation = f.head.generation;
+      base = record { 0 = f.head.number };
+      profile = f.head.profile;
+    }))) w v
 head_told file f w v finds =
     let reads : List ℕ = (disk w file).reads in
     record {
@@ -64,6 +68,7 @@ head_told file f w v finds =
         is_open = base_there reads f finds.answer;
         generation = refl;
         number = refl;
+        profile = refl;
       };
     }
 

@@ -132,6 +132,7 @@ module _ (file : Which) (f : FoundBase) where
           → events_bytes events.items ≡ part → ReadsBase file f (Ok (record {
             len = f.len;
             generation = f.head.generation;
+            profile = f.head.profile;
             kept = f.head.number;
             gate = 37 + f.head.size;
             events = events;
@@ -144,6 +145,7 @@ module _ (file : Which) (f : FoundBase) where
               (drop (37 + f.head.size) (disk w file).reads) events.items (opened is) known are spells;
           events = sym (append-nil events.items);
           last = omega arith;
+          profile = refl;
           gate = omega (
             arith,
             so_many,
@@ -194,11 +196,11 @@ module _ (file : Which) (window : Window) (old : ReadHistory) where
 
     pub next_read : (new : ReadHistory) (more : List Event) → r.number ≡ old.kept + 1 → AreEvents more
         → events_bytes more ≡ (seen window (old.gate + 17) r.size) → new.len ≡ old.len
-        → new.generation ≡ old.generation
+        → new.generation ≡ old.generation → new.profile ≡ old.profile
         → new.kept ≡ r.number
         → new.gate ≡ old.gate + (17 + r.size) → new.events.items ≡ old.events.items ++ more
         → ReadsNext file old new (Ok true) w v
-    next_read new more next are spells len generation last gate events = record {
+    next_read new more next are spells len generation profile last gate events = record {
       quiet = read.quiet;
       answer = λ is small. (
           let h : History = is.history in
@@ -222,6 +224,7 @@ module _ (file : Which) (window : Window) (old : ReadHistory) where
             events = events ∙ ap (λ (l : List Event). l ++ more) is.events
                 ∙ flat_map_more (λ change. change) h.base_events h.changes more;
             last = omega (arith, last, number, longer);
+            profile = profile ∙ is.profile;
             gate = omega (
               arith,
               gate,

@@ -113,6 +113,7 @@ module _ (profile generation number : ℕ) (events : List Event) (chunk : List �
         → Replaces file given (Ok x) w v → WritesBase file generation (base_alone profile number events) (Ok (record {
           file = file;
           generation = generation;
+          profile = profile;
           gate = gate;
           kept = kept;
           closed = false;
@@ -133,6 +134,7 @@ module _ (profile generation number : ℕ) (events : List Event) (chunk : List �
                 length-append (history_bytes generation (base_alone profile number events)) (0 ∷ []),
               );
               last = omega (arith, last);
+              profile = refl;
               fits = is.fits;
               durable = subst IsDurable (sym s.done) (settled_durable (1 ∷ chunk));
             },

@@ -48,11 +48,12 @@ WritesBase file generation h (Err SiteFault) w v = IsDurable (disk w file) → B
 WritesBase file generation h (Err NoMemory) w v = v ≡ w
 WritesBase file generation h (Err e) w v = ⊥
 
--- the journal on a file with this base, and no change
-abbrev pub journal_of_base : Which → ℕ → Sequence → List Event → Journal
-journal_of_base file generation base events = record {
+-- the journal on a file with a base of this number, profile and events, and no change
+abbrev pub journal_of_base : Which → ℕ → Sequence → ℕ → List Event → Journal
+journal_of_base file generation base profile events = record {
   file = file;
   generation = generation;
+  profile = profile;
   gate = 37 + length (events_bytes events);
   kept = base;
   closed = false;
@@ -66,14 +67,14 @@ base_size events = 38 + length (events_bytes events)
 
 -- Each answer of `write_base_within` with what it means. TooLarge comes exactly where the file would pass 2^40 bytes,
 -- and SiteFault only where the count of the site's faults rose.
-abbrev pub WithinAnswer : Which → ℕ → Sequence → List Event → Result Journal JournalError → ℕ → ℕ → Type 0
-WithinAnswer file generation base events (Ok j) before now =
-    (base_size events ≤ 2 ^ 40) × (j ≡ journal_of_base file generation base events) × (now ≡ before)
-WithinAnswer file generation base events (Err TooLarge) before now = (2 ^ 40 < base_size events) × (now ≡ before)
-WithinAnswer file generation base events (Err NoMemory) before now = now ≡ before
-WithinAnswer file generation base events (Err SiteFault) before now =
+abbrev pub WithinAnswer : Which → ℕ → Sequence → ℕ → List Event → Result Journal JournalError → ℕ → ℕ → Type 0
+WithinAnswer file generation base profile events (Ok j) before now =
+    (base_size events ≤ 2 ^ 40) × (j ≡ journal_of_base file generation base profile events) × (now ≡ before)
+WithinAnswer file generation base profile events (Err TooLarge) before now = (2 ^ 40 < base_size events) × (now ≡ before)
+WithinAnswer file generation base profile events (Err NoMemory) before now = now ≡ before
+WithinAnswer file generation base profile events (Err SiteFault) before now =
     (base_size events ≤ 2 ^ 40) × (before ≤ now) × Rose before now
-WithinAnswer file generation base events (Err e) before now = ⊥
+WithinAnswer file generation base profile events (Err e) before now = ⊥
 
 -- where the file would be too large, no file is touched
 abbrev pub WritesWithin : Which → ℕ → History → Result Journal JournalError → Outside → Outside → Type 0

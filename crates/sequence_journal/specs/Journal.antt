@@ -10,14 +10,16 @@ use Rattle.sequence_journal.specs.declared.error.JournalError.{JournalError}
 use Rattle.sequence_journal.specs.declared.error.JournalError.TheVariants.{SiteFault}
 use Rattle.sequence_journal.specs.Standing.{HistoryFits, history_bytes}
 
--- The journal stands on its file for this history, and nothing is pending there. Behind the records stands the next
--- gate, closed, and nothing else; it is missing only where it would stand behind 2^40 bytes.
+-- The journal stands on its file for this history, whose profile and kept number it has, and nothing is pending there.
+-- Behind the records stands the next gate, closed, and nothing else; it is missing only where it would stand behind
+-- 2^40 bytes.
 pub record IsAt (j : Journal) (h : History) (w : Outside) : Type 0 where
   pub end : List ℕ
   pub reads : (disk w j.file).reads ≡ history_bytes j.generation h ++ end
   pub ends : (end ≡ 0 ∷ []) ⊎ ((end ≡ []) × (j.gate ≡ 2 ^ 40))
   pub gate : j.gate ≡ length (history_bytes j.generation h)
   pub last : j.kept.0 ≡ kept h
+  pub profile : j.profile ≡ h.profile
   pub fits : HistoryFits j.generation h
   pub durable : IsDurable (disk w j.file)
 

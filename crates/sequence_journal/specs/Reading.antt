@@ -48,13 +48,14 @@ pub record FindsBase (file : Which) (result : Result (Option FoundBase) Failed) 
   pub quiet : Quiet w v
   pub answer : IsBaseSearch (disk w file).reads result
 
--- the file has an open base with this generation and number
+-- the file has an open base with this generation, number and profile
 pub record IsHeadOf (reads : List ℕ) (h : BaseHead) : Type 0 where
   pub base : Base
   pub rest : List ℕ
   pub is_open : BaseIsOpen reads base rest
   pub generation : h.generation ≡ base.generation
   pub number : h.base.0 ≡ base.number
+  pub profile : h.profile ≡ base.profile
 
 -- the answer of `head`: None exactly where the file has no open base
 abbrev pub IsHead : List ℕ → Result (Option BaseHead) JournalError → Type 0
@@ -93,12 +94,13 @@ IsReadError file SiteFault = Unit {0}
 IsReadError file NoMemory = Unit {0}
 IsReadError file e = ⊥
 
--- Up to a gate the file is a history. Its events, its kept number and the place of that gate are these.
+-- Up to a gate the file is a history. Its profile, events, kept number and the place of that gate are these.
 pub record IsReadSoFar (reads : List ℕ) (r : ReadHistory) : Type 0 where
   pub history : History
   pub begins : BeginsWith reads r.generation history (drop r.gate reads)
   pub events : r.events.items ≡ all_events history
   pub last : r.kept ≡ kept history
+  pub profile : r.profile ≡ history.profile
   pub gate : r.gate ≡ length (history_bytes r.generation history)
   pub len : r.len ≡ length reads
 

@@ -1,6 +1,7 @@
 //! A base in the place of all that a file holds.
 ghost use Rattle.std.specs.Prelude.{◌≡◌, ◌⊎◌, ◌+◌, ◌≤◌, ◌^◌, IfOk, IfSome, IfErr, length};
 ghost use Rattle.sequence_journal.specs.declared.error.JournalError.TheVariants.{SiteFault, NoMemory as NoMemoryError};
+ghost use Rattle.road_base.specs.Profiles.{IsProfile};
 ghost use Rattle.road_io.specs.Told.{Told};
 ghost use Rattle.road_io.specs.Disk.{IsDurable};
 ghost use Rattle.road_io.specs.Outside.{disk};
@@ -16,30 +17,33 @@ use road_base::{Event, Sequence};
 use road_io::{Site, Which};
 use std::alloc::Global;
 
-/// Writes a base in the place of all that a file holds, on which nothing is pending: empties the file and closes its
-/// first gate, writes all that follows, and opens the gate, with a sync behind each. All memory is taken before the
-/// first call on the site. The journal is that of the base, on this file, whatever the site tells. After a SiteFault
-/// nothing may be written to the file before it is synced (`settle`), or the store loaded.
+/// Writes a base under a profile in the place of all that a file holds, on which nothing is pending: empties the file
+/// and closes its first gate, writes all that follows, and opens the gate, with a sync behind each. All memory is taken
+/// before the first call on the site. The journal is that of the base, on this file, whatever the site tells. After a
+/// SiteFault nothing may be written to the file before it is synced (`settle`), or the store loaded.
 pub fn write_base<W: Site>(
     alloc: Global,
     site: &mut W,
     file: Which,
     generation: u64,
     base: Sequence,
+    profile: u32,
     events: &[Event],
 ) -> Result<Journal, JournalError>
-    requires { IfSome (W.outside site.old) (λ w. IsDurable (disk w file)) }
-    ensures told { Told (WritesBase file generation (base_alone 1 base.0 events.now) result)
+    requires known { IsProfile profile }
+    requires durable { IfSome (W.outside site.old) (λ w. IsDurable (disk w file)) }
+    ensures told { Told (WritesBase file generation (base_alone profile base.0 events.now) result)
         (W.outside site.old) (W.outside site.new) }
-    ensures journal { IfOk result (λ j. j ≡ journal_of_base file generation base events.now) }
+    ensures journal { IfOk result (λ j. j ≡ journal_of_base file generation base profile events.now) }
     ensures named { IfErr result (λ e. (e ≡ SiteFault) ⊎ (e ≡ NoMemoryError)) }
     ensures counts { CountsFaults (W.faults site.old) (W.faults site.new) result }
 {
-    let chunk = base_chunk(alloc, generation, base, events)?;
+    let chunk = base_chunk(alloc, profile, generation, base, events)?;
     replace(site, file, &chunk)?;
     Ok(Journal {
         file,
         generation,
+        profile,
         gate: chunk.len() as u64,
         kept: base,
         closed: false,
@@ -54,14 +58,17 @@ pub fn write_base_within<W: Site>(
     file: Which,
     generation: u64,
     base: Sequence,
+    profile: u32,
     events: &[Event],
 ) -> Result<Journal, JournalError>
-    requires { IfSome (W.outside site.old) (λ w. IsDurable (disk w file)) }
-    ensures told { Told (WritesWithin file generation (base_alone 1 base.0 events.now) result)
+    requires known { IsProfile profile }
+    requires durable { IfSome (W.outside site.old) (λ w. IsDurable (disk w file)) }
+    ensures told { Told (WritesWithin file generation (base_alone profile base.0 events.now) result)
         (W.outside site.old) (W.outside site.new) }
-    ensures answer { WithinAnswer file generation base events.now result (W.faults site.old) (W.faults site.new) }
+    ensures answer { WithinAnswer file generation base profile events.now result
+        (W.faults site.old) (W.faults site.new) }
 {
-    let chunk = base_chunk(alloc, generation, base, events)?;
+    let chunk = base_chunk(alloc, profile, generation, base, events)?;
     let size = chunk.len() as u64;
     if !has_room(0, size) {
         return Err(JournalError::TooLarge);
@@ -70,6 +77,7 @@ pub fn write_base_within<W: Site>(
     Ok(Journal {
         file,
         generation,
+        profile,
         gate: size,
         kept: base,
         closed: false,

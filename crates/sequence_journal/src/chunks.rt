@@ -25,22 +25,23 @@ pub fn record_chunk(alloc: Global, seq: Sequence, events: &[Event]) -> Result<Ve
     Ok(chunk)
 }
 
-/// What stands behind the gate of a base of profile 1: the magic, its fields and bytes, and the next gate, closed.
+/// What stands behind the gate of a base: the magic, its fields and bytes, and the next gate, closed.
 pub fn base_chunk(
     alloc: Global,
+    profile: u32,
     generation: u64,
     number: Sequence,
     events: &[Event],
 ) -> Result<Vec<u8>, NoMemory>
     ensures bytes { IfOk result
-        (λ chunk. 1 ∷ chunk.items ≡ base_bytes (base_of 1 generation number.0 events.now) ++ 0 ∷ []) }
+        (λ chunk. 1 ∷ chunk.items ≡ base_bytes (base_of profile generation number.0 events.now) ++ 0 ∷ []) }
     ensures fit { IfOk result (λ chunk. EventsFit events.now) }
     ensures generation_fits { IfOk result (λ chunk. generation < 2 ^ 64) }
     ensures number_fits { IfOk result (λ chunk. number.0 < 2 ^ 64) }
 {
     let mut chunk = Vec::new(alloc);
     chunk.extend_from_slice(b"OSMJRNL1".as_slice())?;
-    1u32.put(&mut chunk)?;
+    profile.put(&mut chunk)?;
     generation.put(&mut chunk)?;
     number.0.put(&mut chunk)?;
     put_events(events, &mut chunk)?;

@@ -11,11 +11,13 @@ use crate::parts::fill;
 use road_base::Sequence;
 use road_io::{Failed, Site, Which};
 
-/// What an open base says of itself: its generation, and the number before that of the first change.
+/// What an open base says of itself: its generation, the number before that of the first change, and its profile,
+/// whatever the field holds.
 #[derive(Clone, Copy, Debug, PartialEq, Eq)]
 pub struct BaseHead {
     pub generation: u64,
     pub base: Sequence,
+    pub profile: u32,
 }
 
 /// An open base, of which the head is read, and the length of its file.
@@ -25,7 +27,7 @@ pub struct FoundBase {
     pub head: Head,
 }
 
-/// The generation and the number of a file's open base, None exactly where it has none. It reads 37 bytes.
+/// The generation, the number and the profile of a file's open base, None exactly where it has none. It reads 37 bytes.
 pub fn head<W: Site>(site: &mut W, file: Which) -> Result<Option<BaseHead>, JournalError>
     ensures told { Told (Heads file result) (W.outside site.old) (W.outside site.new) }
     ensures named { IfErr result (λ e. e ≡ SiteFault) }
@@ -37,6 +39,7 @@ pub fn head<W: Site>(site: &mut W, file: Which) -> Result<Option<BaseHead>, Jour
     Ok(Some(BaseHead {
         generation: found.head.generation,
         base: Sequence(found.head.number),
+        profile: found.head.profile,
     }))
 }
 

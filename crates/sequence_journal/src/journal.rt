@@ -13,6 +13,7 @@ use road_io::Which;
 pub struct Journal {
     pub(crate) file: Which,
     pub(crate) generation: u64,
+    pub(crate) profile: u32,
     /// Where the next gate stands, or would stand.
     pub(crate) gate: u64,
     pub(crate) kept: Sequence,
@@ -33,6 +34,13 @@ impl Journal {
         ensures { result ≡ self.now.generation }
     {
         self.generation
+    }
+
+    /// The number of the profile that the file's base names.
+    pub fn profile(&self) -> u32
+        ensures { result ≡ self.now.profile }
+    {
+        self.profile
     }
 
     /// The number of the last change, or that of the base where no change came.

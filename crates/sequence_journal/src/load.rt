@@ -1,5 +1,6 @@
 //! A file synced, read, and its end repaired.
 ghost use Rattle.std.specs.Prelude.{◌≡◌, false, IfOk, IfSome, IfErr};
+ghost use Rattle.road_base.specs.Profiles.{IsProfile};
 ghost use Rattle.road_io.specs.Told.{Told, Counts};
 ghost use Rattle.road_io.specs.Disk.{IsDurable};
 ghost use Rattle.road_io.specs.Outside.{disk};
@@ -33,6 +34,7 @@ impl Journal {
         ensures told { Told (Loads file result) (W.outside site.old) (W.outside site.new) }
         ensures on { IfOk result (λ loaded. loaded.journal.file ≡ file) }
         ensures not_closed { IfOk result (λ loaded. loaded.journal.closed ≡ false) }
+        ensures known { IfOk result (λ loaded. IsProfile loaded.journal.profile) }
         ensures named { IfErr result (IsReadError file) }
         ensures counts { CountsFaults (W.faults site.old) (W.faults site.new) result }
     {
@@ -55,6 +57,7 @@ pub fn mend<W: Site>(alloc: Global, site: &mut W, file: Which) -> Result<Loaded,
     ensures told { Told (Mends file result) (W.outside site.old) (W.outside site.new) }
     ensures on { IfOk result (λ loaded. loaded.journal.file ≡ file) }
     ensures not_closed { IfOk result (λ loaded. loaded.journal.closed ≡ false) }
+    ensures known { IfOk result (λ loaded. IsProfile loaded.journal.profile) }
     ensures named { IfErr result (IsReadError file) }
     ensures counts { CountsFaults (W.faults site.old) (W.faults site.new) result }
 {
@@ -64,6 +67,7 @@ pub fn mend<W: Site>(alloc: Global, site: &mut W, file: Which) -> Result<Loaded,
     let ReadHistory {
         len: _,
         generation,
+        profile,
         kept,
         gate,
         events,
@@ -71,6 +75,7 @@ pub fn mend<W: Site>(alloc: Global, site: &mut W, file: Which) -> Result<Loaded,
     let journal = Journal {
         file,
         generation,
+        profile,
         gate,
         kept: Sequence(kept),
         closed: false,

@@ -1,5 +1,6 @@
 //! A file read part by part: its base, then its records up to the first that isn't open.
 ghost use Rattle.std.specs.Prelude.{◌≡◌, ◌+◌, ◌<◌, ◌≤◌, ◌^◌, true, IfOk, IfErr, IfSome, OnOk};
+ghost use Rattle.road_base.specs.Profiles.{IsProfile};
 ghost use Rattle.road_io.specs.Told.{Told};
 ghost use Rattle.sequence_journal.specs.Journal.{CountsFaults};
 ghost use Rattle.sequence_journal.specs.Windows.{Holds};
@@ -22,6 +23,7 @@ pub struct ReadHistory {
     /// The length of the file.
     pub len: u64,
     pub generation: u64,
+    pub profile: u32,
     pub kept: u64,
     /// Where the next gate stands, or would stand.
     pub gate: u64,
@@ -33,6 +35,7 @@ pub struct ReadHistory {
 pub fn judge<W: Site>(alloc: Global, site: &mut W, file: Which) -> Result<ReadHistory, JournalError>
     ensures told { Told (Judges file result) (W.outside site.old) (W.outside site.new) }
     ensures within { IfOk result (λ r. (r.gate ≤ r.len) × (r.len ≤ 2 ^ 40)) }
+    ensures known { IfOk result (λ r. IsProfile r.profile) }
     ensures named { IfErr result (IsReadError file) }
     ensures counts { CountsFaults (W.faults site.old) (W.faults site.new) result }
 {
@@ -62,6 +65,7 @@ fn read_base<W: Site>(
     ensures told { Told (ReadsBase file found result) (W.outside site.old) (W.outside site.new) }
     ensures holds { OnOk result (IfSome (W.outside site.new) (Holds file window.new)) }
     ensures within { IfOk result (λ r. (r.gate ≤ r.len) × (r.len ≤ 2 ^ 40)) }
+    ensures known { IfOk result (λ r. IsProfile r.profile) }
     ensures named { IfErr result (IsReadError file) }
     ensures counts { CountsFaults (W.faults site.old) (W.faults site.new) result }
 {
@@ -82,6 +86,7 @@ fn read_base<W: Site>(
     Ok(ReadHistory {
         len: found.len,
         generation: head.generation,
+        profile: head.profile,
         kept: head.number,
         gate: HEAD as u64 + head.size,
         events,
@@ -102,6 +107,7 @@ fn read_next<W: Site>(
     ensures told { Told (ReadsNext file history.old history.new result) (W.outside site.old) (W.outside site.new) }
     ensures holds { OnOk result (IfSome (W.outside site.new) (Holds file window.new)) }
     ensures len { history.new.len ≡ history.old.len }
+    ensures profile { history.new.profile ≡ history.old.profile }
     ensures within { OnOk result (history.new.gate ≤ history.new.len) }
     ensures further { IfOk result (λ more. more ≡ true → history.old.gate < history.new.gate) }
     ensures named { IfErr result (IsReadError file) }

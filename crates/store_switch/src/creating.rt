@@ -11,8 +11,11 @@ use road_io::{Site, Which};
 use sequence_journal::{Journal, JournalError, write_base};
 use std::alloc::Global;
 
+/// The profile of a store that is made: `checkpoint` raises it.
+const FIRST_PROFILE: u32 = 1;
+
 /// Makes a store of a base: its number, that before the first change's, and the events that come before all changes.
-/// It syncs both files, and writes file A, of generation 1: the journal is that of the base there, whatever the site
+/// It syncs both files, and writes file A, of generation 1 and profile 1: the journal is that of the base there, whatever the site
 /// tells. StoreExists exactly where some file has an open base. All memory is taken before it writes; file B is never
 /// written. After a SiteFault create the store again, or load it.
 pub fn create_store<W: Site>(
@@ -22,7 +25,7 @@ pub fn create_store<W: Site>(
     events: &[Event],
 ) -> Result<Journal, JournalError>
     ensures told { Told (CreatesStore base.0 events.now result) (W.outside site.old) (W.outside site.new) }
-    ensures journal { IfOk result (λ j. j ≡ journal_of_base Which.A 1 base events.now) }
+    ensures journal { IfOk result (λ j. j ≡ journal_of_base Which.A 1 base 1 events.now) }
     ensures named { IfErr result IsCreateError }
     ensures counts { CountsFaults (W.faults site.old) (W.faults site.new) result }
 {
@@ -30,5 +33,5 @@ pub fn create_store<W: Site>(
     if find_live(site)?.is_some() {
         return Err(JournalError::StoreExists);
     }
-    write_base(alloc, site, Which::A, 1, base, events)
+    write_base(alloc, site, Which::A, 1, base, FIRST_PROFILE, events)
 }

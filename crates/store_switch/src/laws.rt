@@ -20,7 +20,7 @@ ghost use Rattle.store_switch.specs.TwoFiles.{IsOnStore, LeavesStore, LeavesEith
 ghost use Rattle.store_switch.specs.StoreLoading.{LoadsStore};
 ghost use Rattle.store_switch.specs.StoreCreating.{CreatesStore};
 ghost use Rattle.store_switch.specs.Checkpointing.{AreEntries, checkpoint_of, Checkpoints, CheckpointAnswer};
-ghost use Rattle.store_switch.specs.Checkpointing.{LeavesCheckpoint, LeavesAsRead};
+ghost use Rattle.store_switch.specs.Checkpointing.{IsRaised, LeavesCheckpoint, LeavesAsRead, LeavesRaised};
 
 use road_base::laws::{history_objects, key_order};
 use sequence_journal::laws::{no_damage, one_history};
@@ -117,33 +117,44 @@ pub fn change_on_store()
         → Adds old new change (Ok x) w v → length (reads_of v new.file) ≤ 2 ^ 40 }
 {}
 
-/// Going on in the other file of a store on which a journal stands, a stop leaves the store or its checkpoint, and so
-/// files that aren't damaged. After an Ok the journal stands on the checkpoint, and its file has at most 2^40 bytes.
+/// Going on in the other file of a store on which a journal stands, a stop leaves the store or its checkpoint under the
+/// given profile, and so files that aren't damaged. After an Ok the journal stands on the checkpoint, and its file has at
+/// most 2^40 bytes.
 pub fn checkpoint_on_store()
-    ensures stopped { (old new : Journal) (h : History) (events : List Event) (result : Result (Unit {0}) JournalError)
-        (w v : Outside) → IsOnStore old h w → Checkpoints old new events result w v
-        → LeavesOnly w v (LeavesCheckpoint h events w.output) }
-    ensures intact { (old new : Journal) (h : History) (events : List Event) (result : Result (Unit {0}) JournalError)
-        (w v : Outside) → IsOnStore old h w → Checkpoints old new events result w v
-        → LeavesOnly w v (λ left. AreIntact (image_of left)) }
-    ensures ok { (old new : Journal) (h : History) (events : List Event) (x : Unit {0}) (w v : Outside)
-        → IsOnStore old h w → Checkpoints old new events (Ok x) w v → IsOnStore new (checkpoint_of h events) v }
-    ensures small { (old new : Journal) (h : History) (events : List Event) (x : Unit {0}) (w v : Outside)
-        (before now : ℕ) → IsOnStore old h w → CheckpointAnswer old new events (Ok x) before now
-        → Checkpoints old new events (Ok x) w v → length (reads_of v new.file) ≤ 2 ^ 40 }
+    ensures stopped { (old new : Journal) (profile : ℕ) (h : History) (events : List Event)
+        (result : Result (Unit {0}) JournalError) (w v : Outside) → IsOnStore old h w
+        → Checkpoints old new profile events result w v
+        → LeavesOnly w v (LeavesCheckpoint profile h events w.output) }
+    ensures intact { (old new : Journal) (profile : ℕ) (h : History) (events : List Event)
+        (result : Result (Unit {0}) JournalError) (w v : Outside) → IsOnStore old h w
+        → Checkpoints old new profile events result w v → LeavesOnly w v (λ left. AreIntact (image_of left)) }
+    ensures ok { (old new : Journal) (profile : ℕ) (h : History) (events : List Event) (x : Unit {0}) (w v : Outside)
+        → IsOnStore old h w → Checkpoints old new profile events (Ok x) w v
+        → IsOnStore new (checkpoint_of profile h events) v }
+    ensures small { (old new : Journal) (profile : ℕ) (h : History) (events : List Event) (x : Unit {0})
+        (w v : Outside) (before now : ℕ) → IsOnStore old h w → CheckpointAnswer old new profile events (Ok x) before now
+        → Checkpoints old new profile events (Ok x) w v → length (reads_of v new.file) ≤ 2 ^ 40 }
 {}
 
 /// The entries of an object map, as events, leave that map. So the checkpoint of a history with the entries of its
-/// objects is the same for a reader, and going on there, a stop leaves files that are the same for a reader.
+/// objects is the same for a reader under the history's own profile, and under any other one it has the same kept number
+/// and objects. Going on there under the journal's own profile, a stop leaves files that are the same for a reader; under
+/// another one files with the same kept number and objects, of the history's profile or of the other one.
 pub fn checkpoint_for_reader()
     ensures entries { (objects : Objects) (events : List Event)
         → AreEntries objects events → IsApplied empty events objects }
     ensures same { (h : History) (objects : Objects) (events : List Event)
-        → HasObjects h objects → AreEntries objects events → SameForReader (checkpoint_of h events) h }
+        → HasObjects h objects → AreEntries objects events → SameForReader (checkpoint_of h.profile h events) h }
+    ensures raised { (profile : ℕ) (h : History) (objects : Objects) (events : List Event)
+        → HasObjects h objects → AreEntries objects events → IsRaised profile (checkpoint_of profile h events) h }
     ensures stopped { (old new : Journal) (h : History) (objects : Objects) (events : List Event)
         (result : Result (Unit {0}) JournalError) (w v : Outside) → IsOnStore old h w → HasObjects h objects
-        → AreEntries objects events → Checkpoints old new events result w v
+        → AreEntries objects events → Checkpoints old new old.profile events result w v
         → LeavesOnly w v (LeavesAsRead h w.output) }
+    ensures stopped_raise { (old new : Journal) (profile : ℕ) (h : History) (objects : Objects) (events : List Event)
+        (result : Result (Unit {0}) JournalError) (w v : Outside) → IsOnStore old h w → HasObjects h objects
+        → AreEntries objects events → Checkpoints old new profile events result w v
+        → LeavesOnly w v (LeavesRaised profile h w.output) }
 {
     key_order();
     history_objects();

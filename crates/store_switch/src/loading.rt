@@ -1,5 +1,6 @@
 //! A store loaded.
 ghost use Rattle.std.specs.Prelude.{◌≡◌, false, IfOk, IfErr};
+ghost use Rattle.road_base.specs.Profiles.{IsProfile};
 ghost use Rattle.road_io.specs.Told.{Told};
 ghost use Rattle.sequence_journal.specs.Journal.{CountsFaults};
 ghost use Rattle.store_switch.specs.StoreLoading.{LoadsStore, IsLoadError};
@@ -16,6 +17,7 @@ use std::alloc::Global;
 pub fn load_store<W: Site>(alloc: Global, site: &mut W) -> Result<Loaded, JournalError>
     ensures told { Told (LoadsStore result) (W.outside site.old) (W.outside site.new) }
     ensures not_closed { IfOk result (λ loaded. loaded.journal.closed ≡ false) }
+    ensures known { IfOk result (λ loaded. IsProfile loaded.journal.profile) }
     ensures named { IfErr result IsLoadError }
     ensures counts { CountsFaults (W.faults site.old) (W.faults site.new) result }
 {

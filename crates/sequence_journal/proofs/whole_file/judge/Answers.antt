@@ -1,5 +1,6 @@
-use Rattle.std.proofs.Common.{Ok, Err, true, false, refl, arith, ◌∙◌}
+use Rattle.std.proofs.Common.{Ok, Err, true, false, refl, sym, subst, arith, ◌∙◌}
 use Rattle.std.proofs.lemmas.Result.{err_from_is_err_and}
+use Rattle.road_base.specs.Profiles.{IsProfile}
 use Rattle.road_io.proofs.ToldCalls.{told_then, told_weaker}
 use Rattle.sequence_journal.specs.Reading.{ReadsNext, Judges}
 use Rattle.sequence_journal.proofs.ReadSoFar.{Reading, judge_too_large, judge_base_refused, judge_start}
@@ -26,6 +27,7 @@ loop-history-init g c = record {
   holds = c.in_ok-history.ensures.holds;
   within = c.in_ok-history.ensures.within.0;
   small = c.in_ok-history.ensures.within.1;
+  known = c.in_ok-history.ensures.known;
   counted = c.in_ok-history.ensures.counts.stays (λ e. (cc)) ∙ c.in_ok-found.ensures.counts.stays refl;
 }
 
@@ -54,6 +56,7 @@ loop-history-preserved g c =
       holds = c.in_ok-read_next.ensures.holds;
       within = c.in_ok-read_next.ensures.within;
       small = omega (arith, c.read_next.ensures.len, c.loop-history.invariant.small);
+      known = subst IsProfile (sym c.read_next.ensures.profile) c.loop-history.invariant.known;
       counted = c.in_ok-read_next.ensures.counts.stays (λ e. (cc)) ∙ c.loop-history.invariant.counted;
     }
 

@@ -1,4 +1,5 @@
 use Rattle.std.proofs.Common.{◌≡◌, ◌-◌, ◌≤◌, ◌^◌, IfSome}
+use Rattle.road_base.specs.Profiles.{IsProfile}
 use Rattle.road_io.specs.Told.{Told}
 use Rattle.sequence_journal.specs.Windows.{Holds}
 use Rattle.sequence_journal.proofs.ReadSoFar.{Reading}
@@ -10,6 +11,7 @@ invariant-loop-history g l = record {
   holds : IfSome (g.W.Site.outside l.site) (Holds l.fn.file l.window);
   within : l.history.gate ≤ l.history.len;
   small : l.history.len ≤ 2 ^ 40;
+  known : IsProfile l.history.profile;
   counted : g.W.Site.faults l.site ≡ g.W.Site.faults l.fn.site;
 }
 

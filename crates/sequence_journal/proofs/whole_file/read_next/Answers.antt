@@ -36,6 +36,7 @@ returns-clause-told g c =
     let new : ReadHistory = record {
       len = old.len;
       generation = old.generation;
+      profile = old.profile;
       kept = c.in-Some.fields.number;
       gate = old.gate + 17 + c.in-Some.fields.size;
       events = c.append.new.self;
@@ -44,5 +45,5 @@ returns-clause-told g c =
     (λ w v read. next_read c.args.file c.open_record.new.window c.args.history.now c.in-Some.fields w v read new
     c.in-Some-2.more.items (c.follows.ensures.yes c.if-not-follows.false)
     (rw c.in-Some-2.is at c.in_ok-more.ensures.found)
-    (rw (c.in-Some-2.is, c.front-bytes.ensures) at c.in_ok-more.ensures.spelled) refl refl refl (omega arith)
+    (rw (c.in-Some-2.is, c.front-bytes.ensures) at c.in_ok-more.ensures.spelled) refl refl refl refl (omega arith)
     c.in_ok-append.ensures.items)

@@ -12,13 +12,14 @@ returns-in-Ok-clause-told g c = λ events spells.
     let new : Journal = record {
       file = old.file;
       generation = old.generation;
+      profile = old.profile;
       gate = old.gate + c.len.result;
       kept = change.number;
       closed = old.closed;
     } in
     told_weaker _ _ _ _ c.in-Ok.ensures.told
     (λ w v o. adding_done old new change.number events change.chunk.items c.deref.result.now n
-    c.deref.ensures.value w v c.in-Ok.field-0 tt refl refl refl (omega (arith, c.len.ensures)) o)
+    c.deref.ensures.value w v c.in-Ok.field-0 tt refl refl refl refl (omega (arith, c.len.ensures)) o)
 
 pub returns-in-Err-clause-told : goal.returns-in-Err-clause-told
 returns-in-Err-clause-told g c = λ events spells.
@@ -28,6 +29,7 @@ returns-in-Err-clause-told g c = λ events spells.
     let new : Journal = record {
       file = old.file;
       generation = old.generation;
+      profile = old.profile;
       gate = old.gate;
       kept = old.kept;
       closed = true;
