@@ -1,10 +1,10 @@
 -- What a checkpoint writes of a store.
 use Rattle.std.specs.Prelude.{◌≡◌, ◌⊎◌, ℕ, ◌+◌, ◌<◌, ◌≤◌, ◌^◌, List, Option, None, Some}
 use Rattle.road_base.specs.declared.event.Event.{Event}
-use Rattle.road_base.specs.History.{History, HasObjects, kept}
+use Rattle.road_base.specs.History.{History, HasObjects, SameForReader, kept}
 use Rattle.road_base.specs.Objects.{Objects}
 use Rattle.sequence_journal.specs.Basing.{base_size}
-use Rattle.store_switch.specs.Checkpointing.{AreEntries, checkpoint_of}
+use Rattle.store_switch.specs.Checkpointing.{AreEntries, IsRaised, checkpoint_of}
 use Rattle.osmroad.specs.declared.command.BaseProfile.{BaseProfile}
 use Rattle.osmroad.specs.declared.command.BaseProfile.TheVariants.{Kept, Raised}
 use Rattle.osmroad.specs.declared.status.Status.{Status}
@@ -35,6 +35,11 @@ base_line Raised number = raise_line number
 -- the history with these events as its base, under its own profile or under profile 2, and no change
 abbrev pub rebased : BaseProfile → History → List Event → History
 rebased base h events = checkpoint_of (profile_of_base base h.profile) h events
+
+-- a reader finds the kept number and the objects of the second history in the first one, and its profile or profile 2
+abbrev pub ReadsAlike : BaseProfile → History → History → Type 0
+ReadsAlike Kept g h = SameForReader g h
+ReadsAlike Raised g h = IsRaised 2 g h
 
 -- `STORE checkpoint` and `STORE raise`: the files then stand for the kept number and the entries as a base, with no
 -- change, under the profile that they had or under profile 2

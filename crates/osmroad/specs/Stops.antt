@@ -2,7 +2,7 @@
 use Rattle.std.specs.Prelude.{◌≡◌, ◌⊎◌, ℕ, ◌+◌, List, ◌++◌, Option, None, Some}
 use Rattle.std.specs.Io.{StartsWith}
 use Rattle.road_base.specs.declared.event.Event.{Event}
-use Rattle.road_base.specs.History.{History, SameForReader, kept, with_change}
+use Rattle.road_base.specs.History.{History, kept, with_change}
 use Rattle.opl_lexer.specs.declared.mode.Mode.TheVariants.{Extract, Change}
 use Rattle.road_io.specs.Disk.{IsImage}
 use Rattle.road_io.specs.Outside.{Outside, Left, IsLeft, present, image_of}
@@ -14,7 +14,7 @@ use Rattle.osmroad.specs.declared.command.Command.{Command}
 use Rattle.osmroad.specs.declared.command.Command.TheVariants.{Compile, Inspect, Sample, Create, Apply}
 use Rattle.osmroad.specs.declared.command.Command.TheVariants.{Graph, Audit, Checkpoint}
 use Rattle.osmroad.specs.Texts.{created_line, applied_line}
-use Rattle.osmroad.specs.Checkpoints.{AreItsEntries, profile_of_base, base_line, rebased}
+use Rattle.osmroad.specs.Checkpoints.{AreItsEntries, ReadsAlike, base_line, rebased}
 use Rattle.osmroad.specs.Outcomes.{AreInput}
 
 -- each file is one that a stop could leave when the run began
@@ -59,14 +59,14 @@ abbrev pub LeavesHistory : Outside → Left → History → Type 0
 LeavesHistory w left h = LeavesFirst w left h ⊎ StandFor (image_of left) h
 
 -- A stop leaves what it could leave when the run began, with nothing put; or files that stand for the history; or files
--- that stand for its entries as a base, which is the same for a reader as the history under the base's profile: the
--- latter once the line that tells of it is put.
+-- that stand for its entries as a base, in which a reader finds its kept number and its objects, and its profile or
+-- profile 2: the latter once the line that tells of it is put.
 pub data LeavesCheckpoint (base : BaseProfile) (w : Outside) (left : Left) (h : History) : Type 0 where
   Before : LeavesFirst w left h → LeavesCheckpoint base w left h
   Without : StandFor (image_of left) h → (HasPut (base_line base (kept h)) w left → ⊥)
       → LeavesCheckpoint base w left h
   With : (events : List Event) → AreItsEntries h events
-      → SameForReader (rebased base h events) (record h { profile = profile_of_base base h.profile })
+      → ReadsAlike base (rebased base h events) h
       → StandFor (image_of left) (rebased base h events) → LeavesCheckpoint base w left h
 
 -- ---- all commands
