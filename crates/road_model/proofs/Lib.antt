@@ -13,6 +13,7 @@ pub mod WalkLists
 pub mod JoinedPieces
 pub mod StraightOn
 pub mod WalkLaw
+pub mod ViaOrder
 pub mod FiniteRuns
 pub mod Usable
 pub mod FiniteWords

@@ -1,8 +1,8 @@
 -- Whether a restriction is of use, and how its via ways are driven, is the same where its members are the same.
 use Rattle.std.proofs.Common.{◌≡◌, ℕ, ◌+◌, ◌-◌, List, [], ◌∷◌, ◌++◌, length, inl, inr, refl, sym, ap, ◌∙◌}
 use Rattle.std.proofs.Common.{Some, Bool, true, false, ◌&&◌, ◌||◌, not, is_some, IsTrue, sum_by, fold, nat_le}
-use Rattle.std.specs.Prelude.{nat_lt}
-use Rattle.std.specs.List.{list_all, list_any}
+use Rattle.std.specs.Prelude.{nat_lt, cond, reverse}
+use Rattle.std.specs.List.{list_all, list_any, flat_map}
 use Rattle.std.proofs.lemmas.Bool.{false≢true, or_left, or_right}
 use Rattle.road_base.specs.declared.ids.NodeId.{NodeId}
 use Rattle.road_base.specs.declared.ids.WayId.{WayId}
@@ -11,6 +11,7 @@ use Rattle.road_base.specs.declared.ids.Key.{Key}
 use Rattle.road_base.specs.declared.ids.Key.TheVariants.{Node as NodeKey, Way as WayKey, Relation as RelationKey}
 use Rattle.road_base.specs.declared.ids.Step.{Step}
 use Rattle.road_base.specs.declared.ids.Dir.{Dir}
+use Rattle.road_base.specs.declared.ids.Dir.TheVariants.{Forward, Backward}
 use Rattle.road_base.specs.declared.objects.Relation.{Relation}
 use Rattle.road_base.specs.Objects.{Objects, visible, way_of}
 use Rattle.road_model.specs.declared.answers.Unusable.{Unusable}
@@ -19,13 +20,15 @@ use Rattle.road_model.specs.declared.answers.Unusable.TheVariants.{NotConnected,
 use Rattle.road_model.specs.Rules.{Rules}
 use Rattle.road_model.specs.Lines.{line_of, node_at}
 use Rattle.road_model.specs.Driving.{is_open}
-use Rattle.road_model.specs.Restrictions.{froms, vias, tos, is_way_key, is_one_node, listed, line_ends}
-use Rattle.road_model.specs.Restrictions.{way_ends, via_ends, first_of, last_of, meet, some_ends_at, IsRun, Connects}
+use Rattle.road_model.specs.Restrictions.{froms, vias, tos, via_order, is_way_key, is_one_node, are_ways, listed}
+use Rattle.road_model.specs.Restrictions.{line_ends, way_ends, via_ends, first_of, last_of, meet, some_ends_at, IsRun}
+use Rattle.road_model.specs.Restrictions.{begin_position, end_position, crossed_in, crossed, exits, connects, any_way}
 use Rattle.road_model.specs.Restrictions.{wrong_members, is_tagged_highway, is_present, lacks_member, same_end, is_ring}
-use Rattle.road_model.specs.Restrictions.{via_order, misses_end, steps_on, is_too_long, any_way, Holds, IsUsable}
+use Rattle.road_model.specs.Restrictions.{misses_end, misfits, is_backward, steps_on, is_too_long, Holds, IsUsable}
 use Rattle.ordered_lists.proofs.ListMembers.{In}
 use Rattle.road_model.proofs.LocalLinks.{node_same, way_same, relation_same}
 use Rattle.road_model.proofs.LocalBodies.{line_same, at_same, open_same}
+use Rattle.road_model.proofs.ViaOrder.{in_reversed, in_order}
 
 -- ---- what is asked of all or of some members of a list
 
@@ -87,9 +90,6 @@ module _ (only : Bool) (r : Relation) (right : IsTrue (wrong_members only r) →
 abbrev pub AreSame : Objects → Objects → List Key → Type 0
 AreSame M N ks = (k : Key) → In k ks → visible M k ≡ visible N k
 
-pub same_turned : (M N : Objects) (ks : List Key) → AreSame M N ks → AreSame N M ks
-same_turned M N ks same k i = sym (same k i)
-
 module _ (M N : Objects) where
   present_same : (k : Key) → visible M k ≡ visible N k → is_present M k ≡ is_present N k
   present_same (NodeKey v) e = ap is_some (node_same M N v e)
@@ -139,6 +139,35 @@ module _ (M N : Objects) where
       → some_ends_at M ks ns ≡ some_ends_at N ks ns
   some_ends_same ks same ns = any_same (λ k. meet (way_ends M k) ns) (λ k. meet (way_ends N k) ns) ks
       (λ k i. ap (λ e. meet e ns) (way_ends_same k (same k i)))
+
+  -- the node at a place of a way's line that depends on how many nodes it has
+  place_same : (place : ℕ → ℕ) (w : WayId) → way_of M w ≡ way_of N w
+      → node_at M w (place (length (line_of M w))) ≡ node_at N w (place (length (line_of N w)))
+  place_same place w f = at_same M N w (place (length (line_of M w))) f
+      ∙ ap (λ l. node_at N w (place (length l))) (line_same M N w f)
+
+  crossed_in_same : (w : WayId) (d : Dir) (v : NodeId) → way_of M w ≡ way_of N w
+      → crossed_in M w d v ≡ crossed_in N w d v
+  crossed_in_same w d v f =
+      let begin = place_same (λ n. begin_position n d) w f in
+      let end = place_same (λ n. end_position n d) w f in
+      λ i. cond (same_end (begin i) (Some v)) (listed (end i)) []
+
+  crossed_same : (f g : WayId → Dir → Bool) (k : Key) → visible M k ≡ visible N k
+      → ((w : WayId) (d : Dir) → WayKey w ≡ k → f w d ≡ g w d) → (v : NodeId) → crossed M f k v ≡ crossed N g k v
+  crossed_same f g (NodeKey n) e allowed v = refl
+  crossed_same f g (WayKey w) e allowed v =
+      let on = crossed_in_same w Forward v (way_same M N w e) in
+      let back = crossed_in_same w Backward v (way_same M N w e) in
+      λ i. cond (allowed w Forward refl i) (on i) [] ++ cond (allowed w Backward refl i) (back i) []
+  crossed_same f g (RelationKey r) e allowed v = refl
+
+  exits_same : (f g : WayId → Dir → Bool) (ks : List Key) → AreSame M N ks
+      → ((w : WayId) (d : Dir) → In (WayKey w) ks → f w d ≡ g w d) → (v : NodeId) → exits M f ks v ≡ exits N g ks v
+  exits_same f g [] same allowed v = refl
+  exits_same f g (k ∷ ks) same allowed v =
+      let here = crossed_same f g k (same k (inl refl)) (λ w d e. allowed w d (inl e)) v in
+      λ i. flat_map (λ u. exits_same f g ks (λ x j. same x (inr j)) (λ w d j. allowed w d (inr j)) u i) (here i)
 
   run_kept : (f g : WayId → Dir → Bool) (ks : List Key) → AreSame M N ks
       → ((w : WayId) (d : Dir) → In (WayKey w) ks → f w d ≡ g w d)
@@ -193,44 +222,52 @@ module _ (M N : Objects) where
         λ i. (nat_lt 16 (length (froms r)) || nat_lt 16 (length (vias r)))
         || (nat_lt 16 (length (tos r)) || nat_lt 1024 (sum i))
 
-    connects_kept : (vs : List Key) → AreSame M N vs → (f g : WayId → Dir → Bool)
-        → ((w : WayId) (d : Dir) → In (WayKey w) vs → f w d ≡ g w d) → Connects M f r vs → Connects N g r vs
-    connects_kept vs via f g allowed c = record {
-      enter = c.enter;
-      steps = c.steps;
-      leave = c.leave;
-      run = run_kept f g vs via allowed c.enter c.steps c.leave c.run;
-      from_end = sym (some_ends_same (froms r) same.from (c.enter ∷ [])) ∙ c.from_end;
-      to_end = sym (some_ends_same (tos r) same.to (c.leave ∷ [])) ∙ c.to_end;
-    }
+    connects_same : (vs : List Key) → AreSame M N vs → (f g : WayId → Dir → Bool)
+        → ((w : WayId) (d : Dir) → In (WayKey w) vs → f w d ≡ g w d) → connects M f r vs ≡ connects N g r vs
+    connects_same vs via f g allowed =
+        let t : (v : NodeId) → some_ends_at M (tos r) (exits M f vs v) ≡ some_ends_at N (tos r) (exits N g vs v)
+        = λ v. some_ends_same (tos r) same.to (exits M f vs v)
+        ∙ ap (some_ends_at N (tos r)) (exits_same f g vs via allowed v) in
+        λ i. list_any (λ v. some_ends_same (froms r) same.from (v ∷ []) i && t v i) (first_same vs via i)
 
-all_turned : (M N : Objects) (r : Relation) → AreAllSame M N r → AreAllSame N M r
-all_turned M N r same = record {
-  from = same_turned M N (froms r) same.from;
-  via = same_turned M N (vias r) same.via;
-  to = same_turned M N (tos r) same.to;
-}
+    misfits_same : (vs : List Key) → AreSame M N vs → misfits M r vs ≡ misfits N r vs
+    misfits_same vs via = λ i. misses_same vs via i || not (connects_same vs via any_way any_way (λ w d j. refl) i)
+
+    backward_same : is_backward M r ≡ is_backward N r
+    backward_same =
+        let turned = misfits_same (reverse (vias r)) (λ k i. same.via k (in_reversed (vias r) k i)) in
+        λ i. (are_ways (vias r) && nat_lt 1 (length (vias r)))
+        && (misfits_same (vias r) same.via i && not (turned i))
+
+    -- the via members are passed in the same order
+    pub order_same : (P : Rules) → via_order M P r ≡ via_order N P r
+    order_same P = ap (λ b. cond (P.reverses && b) (reverse (vias r)) (vias r)) backward_same
+
+    pub same_in_order : (P : Rules) → AreSame M N (via_order M P r)
+    same_in_order P k i = same.via k (in_order M P r k i)
 
 module _ (M N : Objects) (P : Rules) (r : Relation) (same : AreAllSame M N r) where
-  any_kept : Connects M any_way r (via_order M P r) → Connects N any_way r (via_order N P r)
-  any_kept c = connects_kept M N r same (via_order M P r) same.via any_way any_way (λ w d i. refl) c
+  abbrev vs : List Key
+  vs = via_order M P r
 
-  any_back : Connects N any_way r (via_order N P r) → Connects M any_way r (via_order M P r)
-  any_back c = let turned = all_turned M N r same in
-      connects_kept N M r turned (via_order N P r) turned.via any_way any_way (λ w d i. refl) c
+  any_back : connects M any_way r vs ≡ connects N any_way r (via_order N P r)
+  any_back = connects_same M N r same vs (same_in_order M N r same P) any_way any_way (λ w d i. refl)
+      ∙ ap (connects N any_way r) (order_same M N r same P)
 
-  open_kept : Connects M (is_open M P) r (via_order M P r) → Connects N (is_open N P) r (via_order N P r)
-  open_kept c = connects_kept M N r same (via_order M P r) same.via (is_open M P) (is_open N P)
-      (allowed_same M N P (via_order M P r) same.via) c
+  open_back : connects M (is_open M P) r vs ≡ connects N (is_open N P) r (via_order N P r)
+  open_back = connects_same M N r same vs (same_in_order M N r same P) (is_open M P) (is_open N P)
+      (allowed_same M N P vs (same_in_order M N r same P))
+      ∙ ap (connects N (is_open N P) r) (order_same M N r same P)
 
   cause_back : (cause : Unusable) → Holds N P r cause → Holds M P r cause
   cause_back NotThisVehicle h = h
   cause_back NoValue h = h
   cause_back Members h = h
   cause_back Missing h = lacks_same M N r same ∙ h
-  cause_back NotAnEnd h = misses_same M N r same (via_order M P r) same.via ∙ h
-  cause_back NotConnected h = (h.0, λ c. h.1 (any_kept c))
-  cause_back ClosedVia h = (h.0, any_back h.1, λ c. h.2 (open_kept c))
+  cause_back NotAnEnd h = misses_same M N r same vs (same_in_order M N r same P)
+      ∙ ap (misses_end N r) (order_same M N r same P) ∙ h
+  cause_back NotConnected h = (h.0, any_back ∙ h.1)
+  cause_back ClosedVia h = (h.0, any_back ∙ h.1, open_back ∙ h.2)
   cause_back TooLong h = long_same M N r same ∙ h
 
   pub usable_kept : IsUsable M P r → IsUsable N P r

@@ -21,6 +21,7 @@ use Rattle.road_model.proofs.WordMembers.{role_member, on_members}
 use Rattle.road_model.proofs.LocalLinks.{IsAlike, way_same, relation_same, alike_turned}
 use Rattle.road_model.proofs.LocalBodies.{line_same, end_same}
 use Rattle.road_model.proofs.LocalRules.{not_from, not_to, not_via, AreSame, AreAllSame, usable_kept, open_run_kept}
+use Rattle.road_model.proofs.LocalRules.{order_same, same_in_order}
 use Rattle.road_model.proofs.LocalPieces.{near_three}
 
 -- two ways with steps of one word are within two links
@@ -113,7 +114,8 @@ module _ (M N : Objects) (P : Rules) where
           last = h.last;
           spelled = h.spelled;
           first_ends = into_kept h.from_way h.enter h.first (way_same M N h.from_way from) h.first_ends;
-          via_is = via_kept (via_order M P h.body) all_same.via h.enter h.via h.leave h.via_is;
+          via_is = subst (λ vs. IsVia N P vs h.enter h.via h.leave) (order_same M N h.body all_same P)
+              (via_kept (via_order M P h.body) (same_in_order M N h.body all_same P) h.enter h.via h.leave h.via_is);
           last_begins = from_kept h.to_way h.leave h.last (way_same M N h.to_way to) h.last_begins;
         }
 

@@ -16,11 +16,12 @@ use Rattle.road_model.specs.declared.answers.Unusable.TheVariants.{TooLong}
 use Rattle.road_model.specs.Rules.{Rules}
 use Rattle.road_model.specs.Lines.{line_of}
 use Rattle.road_model.specs.Pieces.{Span, IsPiece, spell}
-use Rattle.road_model.specs.Restrictions.{froms, vias, tos, IsRun, steps_on, whole_way}
+use Rattle.road_model.specs.Restrictions.{froms, vias, tos, via_order, IsRun, steps_on, whole_way}
 use Rattle.road_model.specs.Words.{IsWord, IsVia}
 use Rattle.road_model.specs.Contexts.{Every, One, Many}
 use Rattle.road_model.specs.Network.{IsContext, spell_pieces}
 use Rattle.road_model.proofs.Shapes.{length_steps}
+use Rattle.road_model.proofs.ViaOrder.{sum_in_order}
 
 last_of_four : (a b c d : Bool) → (IsTrue ((a || b) || (c || d)) → ⊥) → d ≡ false
 last_of_four true b c d n = absurd (n refl)
@@ -57,7 +58,8 @@ module _ (M : Objects) (P : Rules) where
       let few = ltb-false 1024 (sum_by (steps_on M) (vias w.body))
       (last_of_four (nat_lt 16 (length (froms w.body))) (nat_lt 16 (length (vias w.body)))
       (nat_lt 16 (length (tos w.body))) _ (w.usable TooLong)) in
-      let v = via_length (vias w.body) w.enter w.via w.leave w.via_is in
+      let v = via_length (via_order M P w.body) w.enter w.via w.leave w.via_is in
+      let o = sum_in_order M P w.body (steps_on M) in
       let e = ap length w.spelled in
       let k = length-append w.via (w.last ∷ []) in
       omega arith

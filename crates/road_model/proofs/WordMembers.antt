@@ -15,10 +15,11 @@ use Rattle.road_base.specs.declared.objects.Member.{Member}
 use Rattle.road_base.specs.Objects.{Objects}
 use Rattle.road_model.specs.Rules.{Rules}
 use Rattle.road_model.specs.Lines.{forward_steps, backward_steps, steps_from}
-use Rattle.road_model.specs.Restrictions.{in_role, vias, IsRun, whole_way}
+use Rattle.road_model.specs.Restrictions.{in_role, via_order, IsRun, whole_way}
 use Rattle.road_model.specs.Words.{IsWord, IsVia}
 use Rattle.road_model.specs.Links.{HasMember}
 use Rattle.ordered_lists.proofs.ListMembers.{In, in_from_contains, contains_from_in, in_cases}
+use Rattle.road_model.proofs.ViaOrder.{in_order}
 
 -- the objects that the members refer to
 abbrev items : List Member → List Key
@@ -79,7 +80,8 @@ module _ (M : Objects) (P : Rules) (r : RelationId) (only : Bool) (binding : ℕ
       (in_from_contains _ _ w.from_member))
   on_parts s (inr i) = elim (in_cases w.via (w.last ∷ []) s i) [
     | inl j ↦ role_member (codes "via") (WayKey s.way) w.body.members
-        (on_via M P (vias w.body) w.enter w.via w.leave s w.via_is j)
+        (in_order M P w.body (WayKey s.way)
+        (on_via M P (via_order M P w.body) w.enter w.via w.leave s w.via_is j))
     | inr j ↦ elim j [
       | inl e ↦ role_member (codes "to") (WayKey s.way) w.body.members
           (subst (λ k. In (WayKey k) (in_role (codes "to") w.body.members)) (sym (ap (λ t. t.way) e ∙ w.last_begins.of))
