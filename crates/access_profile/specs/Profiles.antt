@@ -1,7 +1,5 @@
 -- The profile of each number.
-use Rattle.std.specs.Prelude.{ℕ, ◌==◌, ◌&&◌, Bool}
-use Rattle.road_base.specs.declared.ids.Dir.{Dir}
-use Rattle.road_base.specs.Tags.{TagList}
+use Rattle.std.specs.Prelude.{ℕ, ◌==◌, ◌&&◌}
 use Rattle.road_model.specs.Rules.{Rules}
 use Rattle.access_profile.specs.Motorcar.{motorcar_rules}
 use Rattle.access_profile.specs.Zones.{is_zone}

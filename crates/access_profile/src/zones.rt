@@ -1,5 +1,5 @@
 //! The directions of ways that are open for destination traffic alone.
-ghost use Rattle.std.specs.Prelude.{◌≡◌};
+ghost use Rattle.std.specs.Prelude.{◌≡◌, option_copied};
 ghost use Rattle.access_profile.specs.Zones.{deciding_value, is_zone};
 
 use crate::closing::direction;
@@ -20,7 +20,7 @@ pub fn is_zone(tags: &Tags, dir: Dir) -> bool
 
 /// The value of the key that decides on access in the direction, if there is one.
 fn deciding_value(tags: &Tags, dir: Dir) -> Option<&str>
-    ensures { result ≡ deciding_value tags.now dir }
+    ensures { option_copied result ≡ deciding_value tags.now dir }
 {
     let Some((name, side)) = deciding(tags, dir) else {
         return None;

@@ -1,11 +1,12 @@
 -- Graph files and the blocks that are read from them.
 use Rattle.std.proofs.Common.{◌≡◌, ℕ, suc, ◌<◌, ◌≤◌, ◌^◌, ◌&&◌, List, [], ◌∷◌, ◌++◌, length, map, drop, IsTrue, refl}
-use Rattle.std.proofs.Common.{sym, ap, subst, ◌∙◌, arith, append-nil, append_assoc, codes}
+use Rattle.std.proofs.Common.{inl, inr, sym, ap, subst, ◌∙◌, arith, append-nil, append_assoc, codes}
+use Rattle.std.specs.Prelude.{◌==◌}
 use Rattle.std.specs.List.{AllByRecursion}
 use Rattle.std.specs.Ordering.{is_lt}
 use Rattle.std.specs.declared.cmp.Ordering.TheVariants.{Less, Greater}
 use Rattle.std.specs.FinMap.{FinMap, entries, values, insert, entries-insert, put, empty}
-use Rattle.std.proofs.lemmas.Bool.{and_parts, eqb-true}
+use Rattle.std.proofs.lemmas.Bool.{and_parts, or_cases, eqb-true}
 use Rattle.std.proofs.lemmas.List.{drop_at}
 use Rattle.road_base.specs.Profiles.{IsProfile}
 use Rattle.road_base.specs.Bytes.{u32_bytes, u64_bytes, i64_bytes, joined}
@@ -34,7 +35,10 @@ cancel a x y e = sym (drop_at a x (length a) refl) ∙ ap (drop (length a)) e �
 
 -- the number of a profile fits its bytes, and so no two have one spelling
 pub profile_fits : (n : ℕ) → IsProfile n → n < 2 ^ 32
-profile_fits n known = let one : n ≡ 1 = eqb-true n 1 known in omega (arith, one)
+profile_fits n known = elim (or_cases (n == 1) (n == 2) known) [
+  | inl one ↦ let e : n ≡ 1 = eqb-true n 1 one in omega (arith, e)
+  | inr two ↦ let e : n ≡ 2 = eqb-true n 2 two in omega (arith, e)
+]
 
 pub profile_one : IsOneSpelling u32_bytes IsProfile
 profile_one x y bytes r s first second = u32_one x y bytes r s

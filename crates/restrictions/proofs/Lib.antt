@@ -1,6 +1,8 @@
 pub mod LineEnds
 pub mod Members
 pub mod OneRun
+pub mod OrderFound
+pub mod FirstCauses
 pub mod DistinctLists
 pub mod EndLists
 pub mod AllWords

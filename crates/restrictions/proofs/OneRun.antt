@@ -1,9 +1,11 @@
 -- A run of ways that are driven whole is one and no other: what the definitions of a run say, and what the functions
 -- answer.
-use Rattle.std.proofs.Common.{◌≡◌, Bool, true, false, cond, ◌||◌, ◌⊎◌, inl, inr, List, [], ◌∷◌, ◌++◌, length, Option}
-use Rattle.std.proofs.Common.{Some, None, refl, sym, ap, subst, ◌∙◌, ◌↔◌}
-use Rattle.std.specs.List.{list_any}
-use Rattle.std.proofs.lemmas.Bool.{false≢true, or_parts, and_parts, and_from, or_cases, or_left, or_right}
+use Rattle.std.proofs.Common.{◌≡◌, Bool, true, false, cond, ◌&&◌, ◌||◌, ◌⊎◌, inl, inr, List, [], ◌∷◌, ◌++◌, length, Option}
+use Rattle.std.proofs.Common.{Some, None, refl, sym, ap, subst, ◌∙◌}
+use Rattle.std.specs.List.{list_any, flat_map}
+use Rattle.std.proofs.Math.Bool.{or-false, and-false}
+use Rattle.std.proofs.lemmas.List.{append-nil}
+use Rattle.std.proofs.lemmas.Bool.{false≢true, or_parts}
 use Rattle.std.proofs.lemmas.Bool.Decides.{Decides-int_eq}
 use Rattle.std.proofs.lemmas.Option.{none-some, same_Some}
 use Rattle.road_base.specs.declared.ids.NodeId.{NodeId}
@@ -16,8 +18,8 @@ use Rattle.road_base.specs.declared.ids.Dir.TheVariants.{Forward, Backward}
 use Rattle.road_base.specs.declared.objects.Relation.{Relation}
 use Rattle.road_base.specs.Objects.{Objects}
 use Rattle.road_model.specs.Lines.{line_of, node_at, same_node}
-use Rattle.road_model.specs.Restrictions.{IsRun, Connects, begin_position, end_position, is_ring, are_ways, same_end}
-use Rattle.road_model.specs.Restrictions.{whole_way, froms, tos, some_ends_at}
+use Rattle.road_model.specs.Restrictions.{IsRun, begin_position, end_position, is_ring, same_end, meet, listed}
+use Rattle.road_model.specs.Restrictions.{whole_way, froms, tos, way_ends, some_ends_at, crossed, exits, connects}
 use Rattle.restrictions.specs.Runs.{across, arrives, dir_between, dir_from, end_in, first_node, last_node, first_enter}
 use Rattle.restrictions.specs.Runs.{last_enter, leads, leave_of, out_of, steps_in, steps_of}
 use Rattle.road_model.proofs.SameNodes.{node_from_same}
@@ -162,71 +164,131 @@ module _ (M : Objects) (allowed : WayId → Dir → Bool) where
       → IsRun M allowed (WayKey w ∷ ks) v s o → (first_node M w ≡ Some v) ⊎ (last_node M w ≡ Some v)
   run_begins w ks v s o (d, next, rest, may, begins, ends, spelled, more) = begin_cases w d v begins
 
-  enters_at : (ks : List Key) (v : NodeId) (s : List Step) (o : NodeId) → are_ways ks ≡ true → IsRun M allowed ks v s o
-      → (first_enter M ks ≡ Some v) ⊎ (last_enter M ks ≡ Some v)
-  enters_at [] v s o ways run = absurd (false≢true ways)
-  enters_at (NodeKey n ∷ ks) v s o ways run = absurd run
-  enters_at (WayKey w ∷ ks) v s o ways run = run_begins w ks v s o run
-  enters_at (RelationKey r ∷ ks) v s o ways run = absurd run
-
   -- ---- whether the via ways connect
 
-  arrives_at : (r : Relation) (out : Option NodeId) → arrives M r out ≡ true
-      → (leave : NodeId) × (out ≡ Some leave) × (some_ends_at M (tos r) (leave ∷ []) ≡ true)
-  arrives_at r None there = absurd (false≢true there)
-  arrives_at r (Some leave) there = (leave, refl, there)
+  -- where one may come out is one node at most, if no way is a ring
+  crossed_by : (first last along against : Bool) (a b : Option NodeId) → (first ≡ true → last ≡ true → ⊥)
+      → cond along (cond first (listed b) []) [] ++ cond against (cond last (listed a) []) []
+      ≡ listed (cond first (cond along b None) (cond last (cond against a None) None))
+  crossed_by true true along against a b apart = absurd (apart refl refl)
+  crossed_by true false true true a b apart = append-nil (listed b)
+  crossed_by true false true false a b apart = append-nil (listed b)
+  crossed_by true false false true a b apart = refl
+  crossed_by true false false false a b apart = refl
+  crossed_by false true true true a b apart = refl
+  crossed_by false true true false a b apart = refl
+  crossed_by false true false true a b apart = refl
+  crossed_by false true false false a b apart = refl
+  crossed_by false false true true a b apart = refl
+  crossed_by false false true false a b apart = refl
+  crossed_by false false false true a b apart = refl
+  crossed_by false false false false a b apart = refl
 
-  connects_from : (r : Relation) (vs : List Key) (v : NodeId) → leads M allowed r vs v ≡ true → Connects M allowed r vs
-  connects_from r vs v there =
-      let parts = and_parts (some_ends_at M (froms r) (v ∷ [])) (arrives M r (leave_of M allowed vs (Some v)))
-      there in
-      let out = arrives_at r (leave_of M allowed vs (Some v)) parts.1 in
-      record {
-        enter = v;
-        steps = steps_of M allowed vs (Some v);
-        leave = out.0;
-        run = is_run vs v out.0 out.1;
-        from_end = parts.0;
-        to_end = out.2;
-      }
+  out_by : (w : WayId) (first last : Bool) → out_of M allowed w (cond first (Some Forward) (cond last (Some Backward)
+      None)) ≡ cond first (cond (allowed w Forward) (last_node M w) None)
+      (cond last (cond (allowed w Backward) (first_node M w) None) None)
+  out_by w true last = refl
+  out_by w false true = refl
+  out_by w false false = refl
 
-  leads_there : (r : Relation) (vs : List Key) → list_any (is_ring M) vs ≡ false → (k : Connects M allowed r vs)
-      → leads M allowed r vs k.enter ≡ true
-  leads_there r vs lines k =
-      let run = one_run vs k.enter k.steps k.leave lines k.run in
-      and_from (some_ends_at M (froms r) (k.enter ∷ [])) (arrives M r (leave_of M allowed vs (Some k.enter)))
-      k.from_end (ap (λ (u : Option NodeId). arrives M r u) run.0 ∙ k.to_end)
+  ends_apart : (w : WayId) (v : NodeId) → is_ring M (WayKey w) ≡ false → same_end (first_node M w) (Some v) ≡ true
+      → same_end (last_node M w) (Some v) ≡ true → ⊥
+  ends_apart w v line first last =
+      let a = there_end (first_node M w) v first in
+      let b = there_end (last_node M w) v last in
+      let ring : is_ring M (WayKey w) ≡ true = (λ i. same_end (a i) (b i)) ∙ same_self v in
+      false≢true (sym line ∙ ring)
 
-  -- else they connect where they lead from one of its two ends
-  pub connect_by : (r : Relation) (vs : List Key) (a b : NodeId) → are_ways vs ≡ true → list_any (is_ring M) vs ≡ false
+  crossed_once : (w : WayId) (v : NodeId) → is_ring M (WayKey w) ≡ false
+      → crossed M allowed (WayKey w) v ≡ listed (across M allowed (WayKey w) (Some v))
+  crossed_once w v line = crossed_by (same_end (first_node M w) (Some v)) (same_end (last_node M w) (Some v))
+      (allowed w Forward) (allowed w Backward) (first_node M w) (last_node M w) (ends_apart w v line)
+      ∙ ap listed (sym (out_by w (same_end (first_node M w) (Some v)) (same_end (last_node M w) (Some v))))
+
+  exits_behind : (ks : List Key) (o : Option NodeId)
+      → ((v : NodeId) → exits M allowed ks v ≡ listed (leave_of M allowed ks (Some v)))
+      → flat_map (exits M allowed ks) (listed o) ≡ listed (leave_of M allowed ks o)
+  exits_behind ks None behind = ap listed (sym (from_nowhere ks))
+  exits_behind ks (Some v) behind = append-nil (exits M allowed ks v) ∙ behind v
+
+  exits_once : (ks : List Key) (v : NodeId) → list_any (is_ring M) ks ≡ false
+      → exits M allowed ks v ≡ listed (leave_of M allowed ks (Some v))
+  exits_once [] v lines = refl
+  exits_once (NodeKey n ∷ ks) v lines = exits_behind ks None (λ u. exits_once ks u lines)
+  exits_once (WayKey w ∷ ks) v lines =
+      let ring = or_parts (is_ring M (WayKey w)) (list_any (is_ring M) ks) lines in
+      ap (flat_map (exits M allowed ks)) (crossed_once w v ring.0)
+      ∙ exits_behind ks (across M allowed (WayKey w) (Some v)) (λ u. exits_once ks u ring.1)
+  exits_once (RelationKey r ∷ ks) v lines = exits_behind ks None (λ u. exits_once ks u lines)
+
+  none_ends : (ks : List Key) → some_ends_at M ks [] ≡ false
+  none_ends [] = refl
+  none_ends (k ∷ ks) = (λ i. none_meets (way_ends M k) i || none_ends ks i)
+    where
+      none_meets : (xs : List NodeId) → meet xs [] ≡ false
+      none_meets [] = refl
+      none_meets (x ∷ xs) = none_meets xs
+
+  arrives_once : (r : Relation) (o : Option NodeId) → some_ends_at M (tos r) (listed o) ≡ arrives M r o
+  arrives_once r None = none_ends (tos r)
+  arrives_once r (Some v) = refl
+
+  -- one who enters at the node connects where the ways lead from there
+  enters : Relation → List Key → NodeId → Bool
+  enters r vs v = some_ends_at M (froms r) (v ∷ []) && some_ends_at M (tos r) (exits M allowed vs v)
+
+  enters_leads : (r : Relation) (vs : List Key) (v : NodeId) → list_any (is_ring M) vs ≡ false
+      → enters r vs v ≡ leads M allowed r vs v
+  unfolding enters
+  enters_leads r vs v lines = ap (λ (b : Bool). some_ends_at M (froms r) (v ∷ []) && b)
+      (ap (some_ends_at M (tos r)) (exits_once vs v lines) ∙ arrives_once r (leave_of M allowed vs (Some v)))
+
+  connects_at : (r : Relation) (vs : List Key) (a b : NodeId) → first_enter M vs ≡ Some a → last_enter M vs ≡ Some b
+      → connects M allowed r vs ≡ (enters r vs a || (enters r vs b || false))
+  unfolding enters
+  connects_at r [] a b first last = absurd (none-some a first)
+  connects_at r (NodeKey n ∷ ks) a b first last = absurd (none-some a first)
+  connects_at r (WayKey w ∷ ks) a b first last =
+      λ i. list_any (λ (v : NodeId). some_ends_at M (froms r) (v ∷ [])
+      && some_ends_at M (tos r) (exits M allowed (WayKey w ∷ ks) v)) (listed (first i) ++ listed (last i))
+  connects_at r (RelationKey q ∷ ks) a b first last = absurd (none-some a first)
+
+  -- they connect where they lead from one of the two ends of the first way
+  connect_by : (r : Relation) (vs : List Key) (a b : NodeId) → list_any (is_ring M) vs ≡ false
       → first_enter M vs ≡ Some a → last_enter M vs ≡ Some b
-      → ((leads M allowed r vs a || leads M allowed r vs b) ≡ true) ↔ Connects M allowed r vs
-  connect_by r vs a b ways lines first last = (
-    λ is. elim (or_cases (leads M allowed r vs a) (leads M allowed r vs b) is)
-        [ inl from_a ↦ connects_from r vs a from_a | inr from_b ↦ connects_from r vs b from_b ],
-    λ k. elim (enters_at vs k.enter k.steps k.leave ways k.run) [
-      | inl is ↦ or_left (leads M allowed r vs a) (leads M allowed r vs b)
-          (ap (leads M allowed r vs) (same_Some a k.enter (sym first ∙ is)) ∙ leads_there r vs lines k)
-      | inr is ↦ or_right (leads M allowed r vs a) (leads M allowed r vs b)
-          (ap (leads M allowed r vs) (same_Some b k.enter (sym last ∙ is)) ∙ leads_there r vs lines k)
-    ],
-  )
+      → connects M allowed r vs ≡ (leads M allowed r vs a || leads M allowed r vs b)
+  connect_by r vs a b lines first last =
+      connects_at r vs a b first last
+      ∙ (λ i. enters_leads r vs a lines i || or-false (enters_leads r vs b lines i) i)
+
+  -- and not where the first has no ends
+  nowhere_by : (r : Relation) (ks : List Key) (n : NodeId) → enters r (NodeKey n ∷ ks) n ≡ false
+  unfolding enters
+  nowhere_by r ks n = ap (λ (b : Bool). some_ends_at M (froms r) (n ∷ []) && b) (none_ends (tos r))
+      ∙ and-false (some_ends_at M (froms r) (n ∷ []))
+
+  pub connect_nowhere : (r : Relation) (vs : List Key) → first_enter M vs ≡ None → last_enter M vs ≡ None
+      → connects M allowed r vs ≡ false
+  unfolding enters
+  connect_nowhere r [] first last = refl
+  connect_nowhere r (NodeKey n ∷ ks) first last = ap (λ (b : Bool). b || false) (nowhere_by r ks n)
+  connect_nowhere r (WayKey w ∷ ks) first last =
+      λ i. list_any (λ (v : NodeId). some_ends_at M (froms r) (v ∷ [])
+      && some_ends_at M (tos r) (exits M allowed (WayKey w ∷ ks) v)) (listed (first i) ++ listed (last i))
+  connect_nowhere r (RelationKey q ∷ ks) first last = refl
 
   -- the same, where a call has answered for the first end, and one for the second
-  pub connect_first : (r : Relation) (vs ks : List Key) (a b : NodeId) (answer : Bool) → ks ≡ vs
-      → are_ways vs ≡ true → list_any (is_ring M) vs ≡ false → Some a ≡ first_enter M ks
-      → Some b ≡ last_enter M ks → answer ≡ leads M allowed r vs a → answer ≡ true
-      → (answer ≡ true) ↔ Connects M allowed r vs
-  connect_first r vs ks a b answer are ways lines first last is holds
-      = (λ h. connects_from r vs a (sym is ∙ holds), λ k. holds)
+  pub connect_first : (r : Relation) (vs : List Key) (a b : NodeId) (answer : Bool) → list_any (is_ring M) vs ≡ false
+      → Some a ≡ first_enter M vs → Some b ≡ last_enter M vs → answer ≡ leads M allowed r vs a → answer ≡ true
+      → answer ≡ connects M allowed r vs
+  connect_first r vs a b answer lines first last is holds =
+      let both = connect_by r vs a b lines (sym first) (sym last) in
+      holds ∙ sym (both ∙ ap (λ (t : Bool). t || leads M allowed r vs b) (sym is ∙ holds))
 
-  pub connect_second : (r : Relation) (vs ks : List Key) (a b : NodeId) (answer other : Bool) → ks ≡ vs
-      → are_ways vs ≡ true → list_any (is_ring M) vs ≡ false → Some a ≡ first_enter M ks
-      → Some b ≡ last_enter M ks → answer ≡ leads M allowed r vs a → answer ≡ false → other ≡ leads M allowed r vs b
-      → (other ≡ true) ↔ Connects M allowed r vs
-  connect_second r vs ks a b answer other are ways lines first last is fails also =
-      let both = connect_by r vs a b ways lines (ap (first_enter M) (sym are) ∙ sym first)
-      (ap (last_enter M) (sym are) ∙ sym last) in
-      let same : (leads M allowed r vs a || leads M allowed r vs b)
-      ≡ other = ap (λ (t : Bool). t || leads M allowed r vs b) (sym is ∙ fails) ∙ sym also in
-      (λ h. both.0 (same ∙ h), λ k. sym same ∙ both.1 k)
+  pub connect_second : (r : Relation) (vs : List Key) (a b : NodeId) (answer other : Bool)
+      → list_any (is_ring M) vs ≡ false → Some a ≡ first_enter M vs → Some b ≡ last_enter M vs
+      → answer ≡ leads M allowed r vs a → answer ≡ false → other ≡ leads M allowed r vs b
+      → other ≡ connects M allowed r vs
+  connect_second r vs a b answer other lines first last is fails also =
+      let both = connect_by r vs a b lines (sym first) (sym last) in
+      also ∙ sym (both ∙ ap (λ (t : Bool). t || leads M allowed r vs b) (sym is ∙ fails))

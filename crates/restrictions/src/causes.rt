@@ -5,7 +5,7 @@ ghost use Rattle.road_base.specs.Objects.{way_of};
 ghost use Rattle.road_model.specs.Lines.{line_of};
 ghost use Rattle.road_model.specs.Restrictions.{are_ways, first_of, is_one_node, is_present, is_ring};
 ghost use Rattle.road_model.specs.Restrictions.{is_tagged_highway, is_too_long, is_way_key, lacks_member, last_of};
-ghost use Rattle.road_model.specs.Restrictions.{misses_end, steps_on, vias, wrong_members};
+ghost use Rattle.road_model.specs.Restrictions.{misses_end, steps_on, wrong_members};
 
 use crate::line_ends::{has_two_nodes, is_ring, nodes_on, some_ends_at_via};
 use crate::roles::Roles;
@@ -91,11 +91,11 @@ fn is_street<M: World>(world: &M, way: WayId) -> bool
     }
 }
 
-/// Whether a via way is a ring, or no from way ends where the via members begin, or no to way where they end.
-pub fn misses_end<M: World>(world: &M, roles: &Roles<'_>) -> bool
-    ensures { result ≡ misses_end (M.objects world.now) roles.now.body.now (vias roles.now.body.now) }
+/// Whether a via way is a ring, or no from way ends where the via members begin, or no to way where they end, where
+/// they are passed in this order.
+pub fn misses_end<M: World>(world: &M, roles: &Roles<'_>, vias: &[Key]) -> bool
+    ensures { result ≡ misses_end (M.objects world.now) roles.now.body.now vias.now }
 {
-    let vias = roles.vias.as_slice();
     has_ring(world, vias)
         || !some_ends_at_via(world, roles.froms.as_slice(), first_of(vias))
         || !some_ends_at_via(world, roles.tos.as_slice(), last_of(vias))

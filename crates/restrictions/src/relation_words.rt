@@ -3,7 +3,7 @@ ghost use Rattle.std.specs.Prelude.{◌≡◌, IfOk, IfErr, OnOk};
 ghost use Rattle.restrictions.specs.declared.relation_words.WordsError.TheVariants.{NoMemory as NoMemoryError};
 ghost use Rattle.restrictions.specs.Words.{AreWords, IsOfUse, IsRestriction, SaysCause};
 
-use crate::first_cause::first_cause;
+use crate::first_cause::usable_order;
 use crate::roles::roles_of;
 use crate::spelling::{rule_of, words_of};
 use crate::word_list::WordList;
@@ -39,7 +39,8 @@ impl From<AllocError> for WordsError {
 /// The words of the restriction, each once, or the first cause for which it is of no use.
 ///
 /// Any from member, any to member and any fitting directions of the via ways give a word (OSM wiki,
-/// Relation:restriction). The relation is a visible restriction.
+/// Relation:restriction). The order in which the via ways are passed is found once. The relation is a visible
+/// restriction.
 pub fn words<M: World, P: Profile>(
     alloc: Global,
     world: &M,
@@ -56,10 +57,11 @@ pub fn words<M: World, P: Profile>(
     };
     let roles = roles_of(alloc, body)?;
     let network = Network::new(world, *profile);
-    if let Some(cause) = first_cause(&network, &roles) {
-        return Err(WordsError::Unusable(cause));
-    }
+    let order = match usable_order(&network, &roles) {
+        Ok(order) => order,
+        Err(cause) => return Err(WordsError::Unusable(cause)),
+    };
     let rule = rule_of(profile, relation, &roles);
-    let words = words_of(alloc, &network, rule, &roles)?;
+    let words = words_of(alloc, &network, rule, &roles, order)?;
     Ok(WordList::from_list(words))
 }

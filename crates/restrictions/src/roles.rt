@@ -1,5 +1,5 @@
 //! The members of a relation by their roles.
-ghost use Rattle.std.specs.Prelude.{◌≡◌, ◌&&◌, Bool, IfOk, codes};
+ghost use Rattle.std.specs.Prelude.{◌≡◌, ◌&&◌, Bool, true, IfOk, codes, length, nat_lt, reverse};
 ghost use Rattle.std.specs.List.{list_all};
 ghost use Rattle.road_base.specs.declared.ids.Key.{Key};
 ghost use Rattle.road_model.specs.Restrictions.{in_role};
@@ -16,11 +16,14 @@ pub struct Roles<'a> {
     pub froms: Vec<Key>,
     pub vias: Vec<Key>,
     pub tos: Vec<Key>,
+    /// The via members in the reversed order, where they are two or more.
+    pub reversed: Vec<Key>,
     /// Each object that has one of these roles once, so that what holds of all of them holds of all members.
     pub once: Vec<Key>,
     pub ghost from_members: { froms.items ≡ in_role (codes "from") body.now.members },
     pub ghost via_members: { vias.items ≡ in_role (codes "via") body.now.members },
     pub ghost to_members: { tos.items ≡ in_role (codes "to") body.now.members },
+    pub ghost reversed_vias: { nat_lt 1 (length vias.items) ≡ true → reversed.items ≡ reverse vias.items },
     pub ghost members_once: { (test : Key → Bool) → list_all test once.items
         ≡ (list_all test froms.items && (list_all test vias.items && list_all test tos.items)) },
 }
@@ -33,14 +36,29 @@ pub fn roles_of(alloc: Global, body: &Relation) -> Result<Roles<'_>, NoMemory>
     let froms = in_role(alloc, members, "from")?;
     let vias = in_role(alloc, members, "via")?;
     let tos = in_role(alloc, members, "to")?;
+    let reversed = reversed(alloc, vias.as_slice())?;
     let once = each_once(alloc, froms.as_slice(), vias.as_slice(), tos.as_slice())?;
     Ok(Roles {
         body,
         froms,
         vias,
         tos,
+        reversed,
         once,
     })
+}
+
+/// The keys in the reversed order, where they are two or more.
+fn reversed(alloc: Global, keys: &[Key]) -> Result<Vec<Key>, AllocError>
+    ensures { IfOk result (λ list. nat_lt 1 (length keys.now) ≡ true → list.items ≡ reverse keys.now) }
+{
+    let mut list = Vec::new(alloc);
+    if keys.len() < 2 {
+        return Ok(list);
+    }
+    list.extend_from_slice(keys)?;
+    list.reverse();
+    Ok(list)
 }
 
 /// Each key of the lists once.

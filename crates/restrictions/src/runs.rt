@@ -1,9 +1,9 @@
 //! The via ways of a restriction, driven whole one after the other.
-ghost use Rattle.std.specs.Prelude.{◌≡◌, ◌↔◌, Some, None, IsTrue, IsFalse, IfSome, IfNone, option_map};
+ghost use Rattle.std.specs.Prelude.{◌≡◌, Some, None, IsFalse, IfSome, IfNone, option_map};
 ghost use Rattle.std.specs.List.{list_any};
 ghost use Rattle.road_base.specs.declared.ids.Key.TheVariants.{Way as WayKey};
 ghost use Rattle.road_model.specs.Networks.{made_on, map_of};
-ghost use Rattle.road_model.specs.Restrictions.{Connects, are_ways, is_ring, via_order, vias};
+ghost use Rattle.road_model.specs.Restrictions.{connects, is_ring};
 ghost use Rattle.restrictions.specs.Runs.{across, allows, dir_between, dir_from, end_in, first_enter, last_enter};
 ghost use Rattle.restrictions.specs.Runs.{leads, leave_of};
 
@@ -121,22 +121,22 @@ pub fn leave_of<M: World, P: Profile>(
     Some(at)
 }
 
-/// Whether the via ways lead in such directions from an end of a from way to an end of a to way.
+/// Whether these via ways lead in such directions from an end of a from way to an end of a to way.
 pub fn connects<M: World, P: Profile>(
     network: &Network<'_, M, P>,
     allowed: Allowed,
     roles: &Roles<'_>,
+    ways: &[Key],
 ) -> bool
-    requires ways { IsTrue (are_ways (vias roles.now.body.now)) }
-    requires lines { IsFalse (list_any (is_ring (map_of network.now)) (vias roles.now.body.now)) }
-    ensures { IsTrue result ↔ Connects (map_of network.now) (made_on network.now allows allowed) roles.now.body.now
-        (made_on network.now via_order roles.now.body.now) }
+    requires { IsFalse (list_any (is_ring (map_of network.now)) ways.now) }
+    ensures { result
+        ≡ connects (map_of network.now) (made_on network.now allows allowed) roles.now.body.now ways.now }
 {
-    let Some(ends) = first_ends(network.world, roles.vias.as_slice()) else {
+    let Some(ends) = first_ends(network.world, ways) else {
         return false;
     };
-    leads_from(network, allowed, roles, ends.first)
-        || leads_from(network, allowed, roles, ends.last)
+    leads_from(network, allowed, roles, ways, ends.first)
+        || leads_from(network, allowed, roles, ways, ends.last)
 }
 
 /// The ends of the first of the ways.
@@ -150,20 +150,21 @@ pub fn first_ends<M: World>(world: &M, keys: &[Key]) -> Option<Ends>
     }
 }
 
-/// Whether the via ways lead so from the node, at which a from way ends.
+/// Whether these via ways lead so from the node, at which a from way ends.
 fn leads_from<M: World, P: Profile>(
     network: &Network<'_, M, P>,
     allowed: Allowed,
     roles: &Roles<'_>,
+    ways: &[Key],
     enter: NodeId,
 ) -> bool
-    ensures { result ≡ leads (map_of network.now) (made_on network.now allows allowed) roles.now.body.now
-        (vias roles.now.body.now) enter }
+    ensures { result
+        ≡ leads (map_of network.now) (made_on network.now allows allowed) roles.now.body.now ways.now enter }
 {
     if !some_ends_at(network.world, roles.froms.as_slice(), &[enter]) {
         return false;
     }
-    match leave_of(network, allowed, roles.vias.as_slice(), enter) {
+    match leave_of(network, allowed, ways, enter) {
         Some(leave) => some_ends_at(network.world, roles.tos.as_slice(), &[leave]),
         None => false,
     }

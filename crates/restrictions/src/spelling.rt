@@ -1,7 +1,7 @@
 //! The words of a restriction that is of use.
 ghost use Rattle.std.specs.Prelude.{◌≡◌, ◌++◌, OnOk, IfOk};
 ghost use Rattle.road_model.specs.Networks.{made_on};
-ghost use Rattle.road_model.specs.Restrictions.{vias};
+ghost use Rattle.road_model.specs.Restrictions.{via_order, vias};
 ghost use Rattle.road_model.specs.Rules.{is_only};
 ghost use Rattle.road_model.specs.Words.{binding_of};
 ghost use Rattle.restrictions.specs.Spelling.{word_of, words_at, words_from, words_of, words_over};
@@ -46,18 +46,19 @@ fn binding_of(vias: &[Key]) -> u32
     }
 }
 
-/// All words of a restriction that is of use.
+/// All words of a restriction that is of use, whose via members are passed in this order.
 pub fn words_of<M: World, P: Profile>(
     alloc: Global,
     network: &Network<'_, M, P>,
     rule: Rule,
     roles: &Roles<'_>,
+    order: &[Key],
 ) -> Result<Vec<Word>, NoMemory>
+    requires { order.now ≡ made_on network.now via_order roles.now.body.now }
     ensures { IfOk result (λ words. words.items ≡ made_on network.now words_of rule roles.now.body.now) }
 {
     let mut words = Vec::new(alloc);
-    let vias = roles.vias.as_slice();
-    if let [Key::Node(node)] = vias {
+    if let [Key::Node(node)] = order {
         let passage = Passage {
             enter: *node,
             steps: Vec::new(alloc),
@@ -66,27 +67,29 @@ pub fn words_of<M: World, P: Profile>(
         add_words_at(alloc, &mut words, network.world, rule, roles, &passage)?;
         return Ok(words);
     }
-    let Some(ends) = first_ends(network.world, vias) else {
+    let Some(ends) = first_ends(network.world, order) else {
         return Ok(words);
     };
-    add_words_over(alloc, &mut words, network, rule, roles, ends.first)?;
-    add_words_over(alloc, &mut words, network, rule, roles, ends.last)?;
+    add_words_over(alloc, &mut words, network, rule, roles, order, ends.first)?;
+    add_words_over(alloc, &mut words, network, rule, roles, order, ends.last)?;
     Ok(words)
 }
 
-/// Adds the words over via ways that are entered at the node.
+/// Adds the words over via ways that are passed in this order and entered at the node.
 fn add_words_over<M: World, P: Profile>(
     alloc: Global,
     words: &mut Vec<Word>,
     network: &Network<'_, M, P>,
     rule: Rule,
     roles: &Roles<'_>,
+    order: &[Key],
     enter: NodeId,
 ) -> Result<(), NoMemory>
+    requires { order.now ≡ made_on network.now via_order roles.now.body.now }
     ensures { OnOk result (words.new.items
         ≡ words.old.items ++ made_on network.now words_over rule roles.now.body.now enter) }
 {
-    let Some(passage) = pass_ways(alloc, network, roles.vias.as_slice(), enter)? else {
+    let Some(passage) = pass_ways(alloc, network, order, enter)? else {
         return Ok(());
     };
     add_words_at(alloc, words, network.world, rule, roles, &passage)

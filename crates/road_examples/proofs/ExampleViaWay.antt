@@ -25,7 +25,7 @@ use Rattle.road_model.specs.Rules.{Rules}
 use Rattle.road_model.specs.Lines.{line_of, node_at, names_pair, end_at, tail_of, head_of}
 use Rattle.road_model.specs.Driving.{is_open, drivable}
 use Rattle.road_model.specs.Restrictions.{vias, wrong_members, lacks_member, misses_end, is_too_long, any_way}
-use Rattle.road_model.specs.Restrictions.{whole_way, tos, Connects, IsRun, IsUsable}
+use Rattle.road_model.specs.Restrictions.{whole_way, tos, connects, IsRun, IsUsable}
 use Rattle.road_model.specs.Words.{IsWord, IsVia, kind_of, binding_of}
 use Rattle.road_model.specs.Pieces.{Span}
 use Rattle.road_model.specs.Contexts.{One, Many}
@@ -116,17 +116,13 @@ open_over : (only : Bool) → is_open rule_map (rules only) (way 11) Forward ≡
 unfolding is_open way_of visible
 open_over only = simp looked_up refl
 
-connects : (allowed : WayId → Dir → Bool) → allowed (way 11) Forward ≡ true
-    → Connects rule_map allowed over_way (vias over_way)
+connects_any : connects rule_map any_way over_way (vias over_way) ≡ true
 unfolding node_at line_of way_of visible
-connects allowed h = record {
-  enter = node 2;
-  steps = along 11 ∷ [];
-  leave = node 3;
-  run = run_over allowed h;
-  from_end = simp looked_up refl;
-  to_end = simp looked_up refl;
-}
+connects_any = simp looked_up refl
+
+connects_open : (only : Bool) → connects rule_map (is_open rule_map (rules only)) over_way (vias over_way) ≡ true
+unfolding is_open node_at line_of way_of visible
+connects_open only = simp looked_up refl
 
 has_members : lacks_member rule_map over_way ≡ false
 unfolding line_of way_of node_of relation_of visible
@@ -153,8 +149,8 @@ usable true Members h = false≢true h
 usable false Members h = false≢true h
 usable only Missing h = false≢true (sym has_members ∙ h)
 usable only NotAnEnd h = false≢true (sym meets_ends ∙ h)
-usable only NotConnected h = h.1 (connects any_way refl)
-usable only ClosedVia h = h.2 (connects (is_open rule_map (rules only)) (open_over only))
+usable only NotConnected h = false≢true (sym h.1 ∙ connects_any)
+usable only ClosedVia h = false≢true (sym h.2 ∙ connects_open only)
 usable only TooLong h = false≢true (sym not_long ∙ h)
 
 rule_visible : relation_of rule_map (relation 20) ≡ Some over_way

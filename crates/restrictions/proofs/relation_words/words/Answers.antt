@@ -14,7 +14,7 @@ returns-clause-usable g c =
     let network = c.new-network in
     let there = subst (λ profile. IsUsable (g.M.World.objects network.result.world.now) (g.P.Profile.rules profile)
     body)
-    network.ensures.profile c.in_default-first_cause.ensures.none in
+    network.ensures.profile c.in-Ok.ensures.usable in
     let usable = subst (λ world. IsUsable (g.M.World.objects world) P body) network.ensures.world there in
     of_use M P c.args.relation body c.in-Some.body.now c.in-Some.ensures c.in_ok-roles.ensures usable
 
@@ -28,7 +28,7 @@ returns-clause-words g c =
     let rule = c.rule_of-rule.result in
     let there = subst (λ profile. IsUsable (g.M.World.objects network.result.world.now) (g.P.Profile.rules profile)
     body)
-    network.ensures.profile c.in_default-first_cause.ensures.none in
+    network.ensures.profile c.in-Ok.ensures.usable in
     let usable = subst (λ world. IsUsable (g.M.World.objects world) P body) network.ensures.world there in
     let spelled = subst
     (λ profile. made ≡ words_of (g.M.World.objects network.result.world.now) (g.P.Profile.rules profile) rule body)
