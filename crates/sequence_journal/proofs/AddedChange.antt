@@ -106,8 +106,8 @@ module _ (old : Journal) (seq : Sequence) (change : List Event) (chunk : List �
       record { any_moment = moments (Err x) v o; ok = tt; others = o.others; output = o.output }
 
   added : (new : Journal) (x y : Unit {0}) (v : Outside) → new.file ≡ old.file → new.generation ≡ old.generation
-      → new.profile ≡ old.profile → new.kept.0 ≡ seq.0 → new.gate ≡ old.gate + length chunk → Opens old.file old.gate chunk (Ok x) w v
-      → Added old new h change (Ok y) w v
+      → new.profile ≡ old.profile → new.kept.0 ≡ seq.0 → new.gate ≡ old.gate + length chunk
+      → Opens old.file old.gate chunk (Ok x) w v → Added old new h change (Ok y) w v
   added new x y v file generation profile last gate opens =
       let o = opened (Ok x) v opens in
       let front = history_bytes old.generation h in

@@ -70,7 +70,8 @@ base_size events = 38 + length (events_bytes events)
 abbrev pub WithinAnswer : Which → ℕ → Sequence → ℕ → List Event → Result Journal JournalError → ℕ → ℕ → Type 0
 WithinAnswer file generation base profile events (Ok j) before now =
     (base_size events ≤ 2 ^ 40) × (j ≡ journal_of_base file generation base profile events) × (now ≡ before)
-WithinAnswer file generation base profile events (Err TooLarge) before now = (2 ^ 40 < base_size events) × (now ≡ before)
+WithinAnswer file generation base profile events (Err TooLarge) before now =
+    (2 ^ 40 < base_size events) × (now ≡ before)
 WithinAnswer file generation base profile events (Err NoMemory) before now = now ≡ before
 WithinAnswer file generation base profile events (Err SiteFault) before now =
     (base_size events ≤ 2 ^ 40) × (before ≤ now) × Rose before now

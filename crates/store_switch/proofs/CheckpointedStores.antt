@@ -2,7 +2,6 @@
 use Rattle.std.proofs.Common.{◌≡◌, ◌⊎◌, inl, inr, ⊎_elim, ℕ, ◌+◌, ◌≤◌, ◌^◌, List, ◌++◌, length, take, drop, false}
 use Rattle.std.proofs.Common.{Result, Ok, Err, refl, sym, ◌∙◌, ap, subst, arith, append_assoc, take-append-drop}
 use Rattle.std.proofs.Common.{length-append}
-use Rattle.std.proofs.lemmas.Bool.{eqb-true}
 use Rattle.road_base.specs.declared.event.Event.{Event}
 use Rattle.road_base.specs.declared.ids.Sequence.{Sequence}
 use Rattle.road_base.specs.History.{History, kept}
@@ -73,26 +72,26 @@ either f g h i was files s over (inr (inr new)) = inr (
   },
 )
 
-module _ (old : Journal) (events : List Event) (h : History) (w v : Outside) (on : IsOnStore old h w) where
+module _ (old : Journal) (profile : ℕ) (events : List Event) (h : History) (w v : Outside)
+    (on : IsOnStore old h w) where
   abbrev to : Which
   to = other old.file
 
-  -- what was written, under the profile and the number that the history has
+  -- what was written, under the number that the history has
   same_base : (result : Result Journal JournalError)
-      → Based to (old.generation + 1) (base_alone 1 old.kept.0 events) result w v
-      → Based to (old.generation + 1) (checkpoint_of h events) result w v
+      → Based to (old.generation + 1) (base_alone profile old.kept.0 events) result w v
+      → Based to (old.generation + 1) (checkpoint_of profile h events) result w v
   same_base result b =
-      subst (λ (p : ℕ). Based to (old.generation + 1) (base_alone p (kept h) events) result w v)
-      (sym (eqb-true h.profile 1 on.at.fits.profile))
-      (subst (λ (n : ℕ). Based to (old.generation + 1) (base_alone 1 n events) result w v) on.at.last b)
+      subst (λ (n : ℕ). Based to (old.generation + 1) (base_alone profile n events) result w v) on.at.last b
 
-  moments : (result : Result Journal JournalError) → Based to (old.generation + 1) (checkpoint_of h events) result w v
-      → LeavesOnly w v (LeavesCheckpoint h events w.output)
+  moments : (result : Result Journal JournalError)
+      → Based to (old.generation + 1) (checkpoint_of profile h events) result w v
+      → LeavesOnly w v (LeavesCheckpoint profile h events w.output)
   moments result b = only_weaker w v
-      (LeavesFile to (IsBaseImage (disk w to).reads (old.generation + 1) (checkpoint_of h events)) w)
-      (LeavesCheckpoint h events w.output) b.any_moment
+      (LeavesFile to (IsBaseImage (disk w to).reads (old.generation + 1) (checkpoint_of profile h events)) w)
+      (LeavesCheckpoint profile h events w.output) b.any_moment
       (λ left l. record {
-        files = either old.file old.generation h (checkpoint_of h events) (disk w to).reads (image_of left)
+        files = either old.file old.generation h (checkpoint_of profile h events) (disk w to).reads (image_of left)
             (subst (λ (x : List ℕ). Stands x old.generation h) (sym (mine left l.other))
             (journal_stands old h w on).stands)
             on.over l.image;
@@ -107,8 +106,8 @@ module _ (old : Journal) (events : List Event) (h : History) (w v : Outside) (on
   was_live : disk v (other to) ≡ disk w (other to) → disk v old.file ≡ disk w old.file
   was_live same = subst (λ (k : Which). disk v k ≡ disk w k) (twice old.file) same
 
-  now_on : (j : Journal) → IsAt j (checkpoint_of h events) v → j.file ≡ to → j.generation ≡ old.generation + 1
-      → disk v old.file ≡ disk w old.file → IsOnStore j (checkpoint_of h events) v
+  now_on : (j : Journal) → IsAt j (checkpoint_of profile h events) v → j.file ≡ to → j.generation ≡ old.generation + 1
+      → disk v old.file ≡ disk w old.file → IsOnStore j (checkpoint_of profile h events) v
   now_on j at file generation same = record {
     at = at;
     over = subst (λ (k : Which). IsOver k j.generation (reads_of v (other k))) (sym file)
@@ -124,8 +123,9 @@ module _ (old : Journal) (events : List Event) (h : History) (w v : Outside) (on
       stands = subst (λ (k : Which). Stands (reads_of v k) old.generation h) (sym (twice old.file))
           (subst (λ (d : Disk). Stands d.reads old.generation h) (sym same) (journal_stands old h w on).stands)
 
-  gone : (new : Journal) (x : Unit {0}) → Based to (old.generation + 1) (base_alone 1 old.kept.0 events) (Ok new) w v
-      → Checkpointed old new h events (Ok x) w v
+  gone : (new : Journal) (x : Unit {0})
+      → Based to (old.generation + 1) (base_alone profile old.kept.0 events) (Ok new) w v
+      → Checkpointed old new profile h events (Ok x) w v
   gone new x based =
       let b = same_base (Ok new) based in
       let same = was_live b.others in
@@ -136,34 +136,35 @@ module _ (old : Journal) (events : List Event) (h : History) (w v : Outside) (on
         output = b.output;
       }
 
-  failed : (new : Journal) → Based to (old.generation + 1) (base_alone 1 old.kept.0 events) (Err SiteFault) w v
-      → Checkpointed old new h events (Err SiteFault) w v
+  failed : (new : Journal) → Based to (old.generation + 1) (base_alone profile old.kept.0 events) (Err SiteFault) w v
+      → Checkpointed old new profile h events (Err SiteFault) w v
   failed new based =
       let b = same_base (Err SiteFault) based in
       record { any_moment = moments (Err SiteFault) b; ok = tt; was_live = was_live b.others; output = b.output }
 
 -- ---- as the code's values have it
 
-module _ (old : Journal) (events : List Event) (file : Which) (generation : ℕ) (last : Sequence)
+module _ (old : Journal) (profile : ℕ) (events : List Event) (file : Which) (generation : ℕ) (last : Sequence)
     (is : file ≡ other old.file) (next : generation ≡ old.generation + 1) (same : last ≡ old.kept) where
   as_told : (result : Result Journal JournalError) (w v : Outside)
-      → WritesWithin file generation (base_alone 1 last.0 events) result w v
-      → WritesWithin (other old.file) (old.generation + 1) (base_alone 1 old.kept.0 events) result w v
+      → WritesWithin file generation (base_alone profile last.0 events) result w v
+      → WritesWithin (other old.file) (old.generation + 1) (base_alone profile old.kept.0 events) result w v
   as_told result w v writes =
-      subst (λ (k : Which). WritesWithin k (old.generation + 1) (base_alone 1 old.kept.0 events) result w v) is
-      (subst (λ (g : ℕ). WritesWithin file g (base_alone 1 old.kept.0 events) result w v) next
-      (subst (λ (n : Sequence). WritesWithin file generation (base_alone 1 n.0 events) result w v) same writes))
+      subst (λ (k : Which). WritesWithin k (old.generation + 1) (base_alone profile old.kept.0 events) result w v) is
+      (subst (λ (g : ℕ). WritesWithin file g (base_alone profile old.kept.0 events) result w v) next
+      (subst (λ (n : Sequence). WritesWithin file generation (base_alone profile n.0 events) result w v) same writes))
 
   pub checkpoint_done : (new : Journal) (x : Unit {0}) (w v : Outside)
-      → WritesWithin file generation (base_alone 1 last.0 events) (Ok new) w v → Checkpoints old new events (Ok x) w v
+      → WritesWithin file generation (base_alone profile last.0 events) (Ok new) w v
+      → Checkpoints old new profile events (Ok x) w v
   checkpoint_done new x w v writes h on =
-      gone old events h w v on new x (as_told (Ok new) w v writes (on.durable (other old.file)))
+      gone old profile events h w v on new x (as_told (Ok new) w v writes (on.durable (other old.file)))
 
   refused : (e : JournalError) (new : Journal) (w v : Outside) → old.closed ≡ false
-      → WritesWithin (other old.file) (old.generation + 1) (base_alone 1 old.kept.0 events) (Err e) w v
-      → Checkpoints old new events (Err e) w v
+      → WritesWithin (other old.file) (old.generation + 1) (base_alone profile old.kept.0 events) (Err e) w v
+      → Checkpoints old new profile events (Err e) w v
   refused SiteFault new w v not_closed writes =
-      inr (not_closed, λ h on. failed old events h w v on new (writes (on.durable (other old.file))))
+      inr (not_closed, λ h on. failed old profile events h w v on new (writes (on.durable (other old.file))))
   refused NoMemory new w v not_closed untouched = untouched
   refused TooLarge new w v not_closed untouched = untouched
   refused (OutOfSequence a b) new w v not_closed never = absurd never
@@ -172,19 +173,21 @@ module _ (old : Journal) (events : List Event) (file : Which) (generation : ℕ)
   refused StoreExists new w v not_closed never = absurd never
 
   pub checkpoint_refused : (e : JournalError) (new : Journal) (w v : Outside) → old.closed ≡ false
-      → WritesWithin file generation (base_alone 1 last.0 events) (Err e) w v → Checkpoints old new events (Err e) w v
+      → WritesWithin file generation (base_alone profile last.0 events) (Err e) w v
+      → Checkpoints old new profile events (Err e) w v
   checkpoint_refused e new w v not_closed writes = refused e new w v not_closed (as_told (Err e) w v writes)
 
 -- ---- for the callers
 
-module _ (old new : Journal) (h : History) (events : List Event) (w v : Outside) (on : IsOnStore old h w) where
-  untouched : v ≡ w → LeavesOnly w v (LeavesCheckpoint h events w.output)
-  untouched same = subst (λ (x : Outside). LeavesOnly w x (LeavesCheckpoint h events w.output)) (sym same)
-      (started w (LeavesCheckpoint h events w.output) (λ left l. let k = journal_left old h w left on l in
+module _ (old new : Journal) (profile : ℕ) (h : History) (events : List Event) (w v : Outside)
+    (on : IsOnStore old h w) where
+  untouched : v ≡ w → LeavesOnly w v (LeavesCheckpoint profile h events w.output)
+  untouched same = subst (λ (x : Outside). LeavesOnly w x (LeavesCheckpoint profile h events w.output)) (sym same)
+      (started w (LeavesCheckpoint profile h events w.output) (λ left l. let k = journal_left old h w left on l in
       record { files = inl k.files; out = k.out }))
 
-  pub checkpoint_left : (result : Result (Unit {0}) JournalError) → Checkpoints old new events result w v
-      → LeavesOnly w v (LeavesCheckpoint h events w.output)
+  pub checkpoint_left : (result : Result (Unit {0}) JournalError) → Checkpoints old new profile events result w v
+      → LeavesOnly w v (LeavesCheckpoint profile h events w.output)
   checkpoint_left (Ok x) goes = (goes h on).any_moment
   checkpoint_left (Err SiteFault) (inl closed) = untouched closed.1
   checkpoint_left (Err SiteFault) (inr goes) = (goes.1 h on).any_moment
@@ -195,27 +198,27 @@ module _ (old new : Journal) (h : History) (events : List Event) (w v : Outside)
   checkpoint_left (Err TooLarge) same = untouched same
   checkpoint_left (Err NoMemory) same = untouched same
 
-  pub checkpoint_intact : (result : Result (Unit {0}) JournalError) → Checkpoints old new events result w v
+  pub checkpoint_intact : (result : Result (Unit {0}) JournalError) → Checkpoints old new profile events result w v
       → LeavesOnly w v (λ left. AreIntact (image_of left))
-  checkpoint_intact result goes = only_weaker w v (LeavesCheckpoint h events w.output)
+  checkpoint_intact result goes = only_weaker w v (LeavesCheckpoint profile h events w.output)
       (λ left. AreIntact (image_of left)) (checkpoint_left result goes) (λ left l. ⊎_elim
-      (λ s. inr (h, s)) (λ s. inr (checkpoint_of h events, s)) l.files)
+      (λ s. inr (h, s)) (λ s. inr (checkpoint_of profile h events, s)) l.files)
 
-  pub checkpoint_small : (x : Unit {0}) (before now : ℕ) → CheckpointAnswer old new events (Ok x) before now
-      → Checkpoints old new events (Ok x) w v → length (reads_of v new.file) ≤ 2 ^ 40
+  pub checkpoint_small : (x : Unit {0}) (before now : ℕ) → CheckpointAnswer old new profile events (Ok x) before now
+      → Checkpoints old new profile events (Ok x) w v → length (reads_of v new.file) ≤ 2 ^ 40
   checkpoint_small x before now answer goes =
-      let at : IsAt new (checkpoint_of h events) v = (goes h on).ok.at in
+      let at : IsAt new (checkpoint_of profile h events) v = (goes h on).ok.at in
       omega (
         arith,
         answer.0.room,
         ap (λ (j : Journal). j.gate) answer.1,
         at.gate,
         ap (λ (l : List ℕ). length l) at.reads,
-        length-append (history_bytes new.generation (checkpoint_of h events)) at.end,
+        length-append (history_bytes new.generation (checkpoint_of profile h events)) at.end,
         end_small at,
       )
     where
-      end_small : (k : IsAt new (checkpoint_of h events) v) → length k.end ≤ 1
+      end_small : (k : IsAt new (checkpoint_of profile h events) v) → length k.end ≤ 1
       end_small k = ⊎_elim
           (λ one. omega (arith, ap (λ (l : List ℕ). length l) one))
           (λ none. omega (arith, ap (λ (l : List ℕ). length l) none.0)) k.ends

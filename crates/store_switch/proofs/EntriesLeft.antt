@@ -1,5 +1,5 @@
 -- The entries of an object map, as events, leave that map: so its checkpoint is the same history for a reader.
-use Rattle.std.proofs.Common.{◌≡◌, ⊎_elim, Bool, true, false, cond, IsTrue, List, [], ◌∷◌, map, filter}
+use Rattle.std.proofs.Common.{◌≡◌, inl, inr, ⊎_elim, ℕ, Bool, true, false, cond, IsTrue, List, [], ◌∷◌, map, filter}
 use Rattle.std.proofs.Common.{Some, Result, refl, sym, ap, ◌∙◌, subst, arith, append-nil}
 use Rattle.std.specs.declared.cmp.Ordering.TheVariants.{Less}
 use Rattle.std.specs.Cmp.{Equal-is}
@@ -18,7 +18,8 @@ use Rattle.road_io.proofs.CallRuns.{only_weaker}
 use Rattle.sequence_journal.specs.declared.error.JournalError.{JournalError}
 use Rattle.sequence_journal.specs.declared.journal.Journal.{Journal}
 use Rattle.store_switch.specs.TwoFiles.{IsOnStore}
-use Rattle.store_switch.specs.Checkpointing.{AreEntries, checkpoint_of, LeavesCheckpoint, LeavesAsRead, Checkpoints}
+use Rattle.store_switch.specs.Checkpointing.{AreEntries, checkpoint_of, LeavesCheckpoint, LeavesAsRead, LeavesRaised}
+use Rattle.store_switch.specs.Checkpointing.{IsRaised, Checkpoints}
 use Rattle.store_switch.proofs.CheckpointedStores.{checkpoint_left}
 
 abbrev pair : Event → Key × Entry
@@ -70,16 +71,50 @@ SameByObjects = (g h : History) (M : Objects) → g.profile ≡ h.profile → ke
     → HasObjects g M → HasObjects h M → SameForReader g h
 
 module _ (exact : IsAntisymmetric key_cmp) (same : SameByObjects) where
+  -- the checkpoint has the objects of the history
+  checkpoint_has : (profile : ℕ) (h : History) (M : Objects) (events : List Event) → AreEntries M events
+      → HasObjects (checkpoint_of profile h events) M
+  checkpoint_has profile h M events are =
+      subst (λ (l : List Event). IsApplied empty l M) (sym (append-nil events)) (entries_leave exact M events are)
+
   pub checkpoint_same : (h : History) (M : Objects) (events : List Event) → HasObjects h M → AreEntries M events
-      → SameForReader (checkpoint_of h events) h
-  checkpoint_same h M events has are = same (checkpoint_of h events) h M refl (omega arith)
-      (subst (λ (l : List Event). IsApplied empty l M) (sym (append-nil events)) (entries_leave exact M events are)) has
+      → SameForReader (checkpoint_of h.profile h events) h
+  checkpoint_same h M events has are = same (checkpoint_of h.profile h events) h M refl (omega arith)
+      (checkpoint_has h.profile h M events are) has
+
+  -- under another profile: the objects don't depend on it
+  pub checkpoint_raised : (profile : ℕ) (h : History) (M : Objects) (events : List Event) → HasObjects h M
+      → AreEntries M events → IsRaised profile (checkpoint_of profile h events) h
+  checkpoint_raised profile h M events has are =
+      let own = checkpoint_same h M events has are in
+      record { profile = refl; number = own.number; objects = own.objects }
+
+  pub checkpoint_left_raised : (old new : Journal) (profile : ℕ) (h : History) (M : Objects) (events : List Event)
+      (result : Result (Unit {0}) JournalError) (w v : Outside) → IsOnStore old h w → HasObjects h M
+      → AreEntries M events → Checkpoints old new profile events result w v
+      → LeavesOnly w v (LeavesRaised profile h w.output)
+  checkpoint_left_raised old new profile h M events result w v on has are goes =
+      only_weaker w v (LeavesCheckpoint profile h events w.output) (LeavesRaised profile h w.output)
+      (checkpoint_left old new profile h events w v on result goes) (λ left l. ⊎_elim
+      (λ s. (h, inl (same h h M refl refl has has), record { files = s; out = l.out }))
+      (λ s. (
+        checkpoint_of profile h events,
+        inr (checkpoint_raised profile h M events has are),
+        record { files = s; out = l.out },
+      )) l.files)
 
   pub checkpoint_left_as_read : (old new : Journal) (h : History) (M : Objects) (events : List Event)
       (result : Result (Unit {0}) JournalError) (w v : Outside) → IsOnStore old h w → HasObjects h M
-      → AreEntries M events → Checkpoints old new events result w v → LeavesOnly w v (LeavesAsRead h w.output)
+      → AreEntries M events → Checkpoints old new old.profile events result w v
+      → LeavesOnly w v (LeavesAsRead h w.output)
   checkpoint_left_as_read old new h M events result w v on has are goes =
-      only_weaker w v (LeavesCheckpoint h events w.output) (LeavesAsRead h w.output)
-      (checkpoint_left old new h events w v on result goes) (λ left l. ⊎_elim
-      (λ s. (h, same h h M refl refl has has, record { files = s; out = l.out }))
-      (λ s. (checkpoint_of h events, checkpoint_same h M events has are, record { files = s; out = l.out })) l.files)
+      only_weaker w v (LeavesRaised old.profile h w.output) (LeavesAsRead h w.output)
+      (checkpoint_left_raised old new old.profile h M events result w v on has are goes) (λ left l. (
+        l.0,
+        ⊎_elim (λ s. s) (λ r. record {
+          profile = r.profile ∙ on.at.profile;
+          number = r.number;
+          objects = r.objects;
+        }) l.1,
+        l.2,
+      ))

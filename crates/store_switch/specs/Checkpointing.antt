@@ -45,7 +45,8 @@ IsTooLarge j events = (2 ^ 64 ≤ j.generation + 1) ⊎ (2 ^ 40 < base_size even
 -- closed journal answers SiteFault and nothing else; then TooLarge comes exactly where the generation is the last one,
 -- or the file to be written would be too large. A fault of the site closes the journal, and every other refusal leaves
 -- it as it is.
-abbrev pub CheckpointAnswer : Journal → Journal → ℕ → List Event → Result (Unit {0}) JournalError → ℕ → ℕ → Type 0
+abbrev pub CheckpointAnswer : Journal → Journal → ℕ → List Event → Result (Unit {0}) JournalError → ℕ → ℕ
+    → Type 0
 CheckpointAnswer old new profile events (Ok x) before now =
     MayGoOn old events × (new ≡ gone_on old profile events) × (now ≡ before)
 CheckpointAnswer old new profile events (Err TooLarge) before now =
@@ -59,7 +60,8 @@ CheckpointAnswer old new profile events (Err e) before now = ⊥
 -- ---- the files
 
 -- files that stand for this history, or for its checkpoint under a profile with these events, and this output
-pub record LeavesCheckpoint (profile : ℕ) (h : History) (events : List Event) (output : List ℕ) (left : Left) : Type 0 where
+pub record LeavesCheckpoint (profile : ℕ) (h : History) (events : List Event) (output : List ℕ) (left : Left) :
+    Type 0 where
   pub files : StandFor (image_of left) h ⊎ StandFor (image_of left) (checkpoint_of profile h events)
   pub out : left.out ≡ output
 

@@ -12,8 +12,8 @@ use std::alloc::Global;
 
 /// Writes these events as a base under the kept number and a profile into the file that isn't live, with the next
 /// generation, and goes on there. The events are the entries of the objects that the history leaves, one for each key,
-/// deletions too, in key order. The profile is the journal's, or one above it, to which the store is raised so: there
-/// is no way back. A closed journal answers SiteFault. TooLarge exactly where the generation is the last u64, or the file
+/// deletions too, in key order. The profile is the journal's, or a greater one, to which the store is raised: there is
+/// no way back. A closed journal answers SiteFault. TooLarge exactly where the generation is the last u64, or the file
 /// to be written would have more than 2^40 bytes. All memory is taken before the first call on the site. A fault of the
 /// site closes the journal; every other refusal leaves journal and files as they are.
 pub fn checkpoint<W: Site>(

@@ -15,9 +15,9 @@ use std::alloc::Global;
 const FIRST_PROFILE: u32 = 1;
 
 /// Makes a store of a base: its number, that before the first change's, and the events that come before all changes.
-/// It syncs both files, and writes file A, of generation 1 and profile 1: the journal is that of the base there, whatever the site
-/// tells. StoreExists exactly where some file has an open base. All memory is taken before it writes; file B is never
-/// written. After a SiteFault create the store again, or load it.
+/// It syncs both files, and writes file A, of generation 1 and profile 1: the journal is that of the base there,
+/// whatever the site tells. StoreExists exactly where some file has an open base. All memory is taken before it writes;
+/// file B is never written. After a SiteFault create the store again, or load it.
 pub fn create_store<W: Site>(
     alloc: Global,
     site: &mut W,

@@ -118,8 +118,8 @@ pub fn change_on_store()
 {}
 
 /// Going on in the other file of a store on which a journal stands, a stop leaves the store or its checkpoint under the
-/// given profile, and so files that aren't damaged. After an Ok the journal stands on the checkpoint, and its file has at
-/// most 2^40 bytes.
+/// given profile, and so files that aren't damaged. After an Ok the journal stands on the checkpoint, and its file has
+/// at most 2^40 bytes.
 pub fn checkpoint_on_store()
     ensures stopped { (old new : Journal) (profile : ℕ) (h : History) (events : List Event)
         (result : Result (Unit {0}) JournalError) (w v : Outside) → IsOnStore old h w
@@ -137,9 +137,9 @@ pub fn checkpoint_on_store()
 {}
 
 /// The entries of an object map, as events, leave that map. So the checkpoint of a history with the entries of its
-/// objects is the same for a reader under the history's own profile, and under any other one it has the same kept number
-/// and objects. Going on there under the journal's own profile, a stop leaves files that are the same for a reader; under
-/// another one files with the same kept number and objects, of the history's profile or of the other one.
+/// objects is the same for a reader under the history's own profile, and under another one it has the same kept number
+/// and objects. Going on there under the journal's own profile, a stop leaves files that are the same for a reader;
+/// under another one, files with the same kept number and objects, of the history's profile or of the other one.
 pub fn checkpoint_for_reader()
     ensures entries { (objects : Objects) (events : List Event)
         → AreEntries objects events → IsApplied empty events objects }

@@ -16,18 +16,18 @@ pub returns-in_err-replace-clause-told : goal.returns-in_err-replace-clause-told
 returns-in_err-replace-clause-told g c =
     let p = err_from_is_err_and c.from_residual-in_err-replace.result c.from_residual-in_err-replace.ensures.1 in
     let of = c.in_ok-chunk.ensures in
-    let is = base_chunk c.args.profile c.args.generation c.args.base.0 c.args.events.now c.in_ok-chunk.chunk.items c.requires.known of.bytes
-    of.generation_fits of.number_fits of.fit in
+    let is = base_chunk c.args.profile c.args.generation c.args.base.0 c.args.events.now c.in_ok-chunk.chunk.items
+    c.requires.known of.bytes of.generation_fits of.number_fits of.fit in
     rw p.1 (told_weaker _ _ _ _ c.in_err-replace.ensures.told
-    (λ w v. within_failed c.args.profile c.args.generation c.args.base.0 c.args.events.now c.in_ok-chunk.chunk.items is c.args.file
-    c.deref.result.now c.deref.ensures.value w v p.0 c.in_err-replace.field-0.0 p.2))
+    (λ w v. within_failed c.args.profile c.args.generation c.args.base.0 c.args.events.now c.in_ok-chunk.chunk.items is
+    c.args.file c.deref.result.now c.deref.ensures.value w v p.0 c.in_err-replace.field-0.0 p.2))
 
 pub returns-clause-told : goal.returns-clause-told
 returns-clause-told g c =
     let of = c.in_ok-chunk.ensures in
-    let is = base_chunk c.args.profile c.args.generation c.args.base.0 c.args.events.now c.in_ok-chunk.chunk.items c.requires.known of.bytes
-    of.generation_fits of.number_fits of.fit in
+    let is = base_chunk c.args.profile c.args.generation c.args.base.0 c.args.events.now c.in_ok-chunk.chunk.items
+    c.requires.known of.bytes of.generation_fits of.number_fits of.fit in
     told_weaker _ _ _ _ c.in_ok-replace.ensures.told
-    (λ w v. base_written c.args.profile c.args.generation c.args.base.0 c.args.events.now c.in_ok-chunk.chunk.items is c.args.file
-    c.deref.result.now c.deref.ensures.value w v c.in_ok-replace.field-0 c.len-size.result c.args.base
+    (λ w v. base_written c.args.profile c.args.generation c.args.base.0 c.args.events.now c.in_ok-chunk.chunk.items is
+    c.args.file c.deref.result.now c.deref.ensures.value w v c.in_ok-replace.field-0 c.len-size.result c.args.base
     (omega (arith, c.len-size.ensures)) refl)

@@ -28,8 +28,8 @@ returns-then-is_some-clause-told g c =
     c.in_ok-find_live.ensures.told) (λ w u. create_exists c.args.base.0 c.args.events.now found w u
     (sym c.is_some.ensures ∙ c.if-is_some.true))
 
-pub write_base-requires : goal.write_base-requires
-write_base-requires g c =
+pub write_base-requires-clause-durable : goal.write_base-requires-clause-durable
+write_base-requires-clause-durable g c =
     let found = c.in_ok-find_live.field-0 in
     told_gives _ _ (Found found) (λ w. IsDurable (disk w A)) (told_found found c.in_ok-settle_both.field-0 _ _ _
     c.in_ok-settle_both.ensures.told c.in_ok-find_live.ensures.told) (λ w v f. f.durable A)
