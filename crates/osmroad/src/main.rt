@@ -117,6 +117,8 @@ mod failure_tests;
 #[cfg(test)]
 mod limit_tests;
 #[cfg(test)]
+mod raise_tests;
+#[cfg(test)]
 mod session_tests;
 #[cfg(test)]
 mod store_tests;
