@@ -1,12 +1,17 @@
 #!/usr/bin/env python3
-"""Ends sessions at random moments, always on the same store, and looks at the store after each: it loads, it keeps no
-number below the last `applied` that was read and none above the last frame that was sent whole, and its graph is the
-one that `- compile` makes of the objects that those changes leave. Use: kill.py PROGRAM STORE EXTRACT TIMES;
-bench/kill.sh calls it.
+"""Ends sessions, and in every fourth round a `raise`, at random moments, always on the same store, and looks at the
+store after each: it loads, it keeps no number below the last `applied` that was read and none above the last frame that
+was sent whole, and its graph is the one that `- compile` makes, under the store's profile, of the objects that those
+changes leave. A `raise` leaves that number, and the store's profile or profile 2: the latter where its line was read.
+In the first half of the rounds the store is put back behind each `raise`, so that the next one finds profile 1 again.
+Use: kill.py PROGRAM STORE EXTRACT TIMES; bench/kill.sh calls it.
 """
+import os
 import random
 import re
+import shutil
 import signal
+import struct
 import subprocess
 import sys
 import threading
@@ -65,6 +70,46 @@ def kept():
     return int(found.group(1))
 
 
+def profile_of_store():
+    """That of the live file, which is of the open bases the one of the greater generation: the number behind the magic
+    of eight bytes (docs/STORE.md). The system loses nothing where a program alone is killed, so an open gate has its
+    base behind it."""
+    found = []
+    for ending in 'ab':
+        if os.path.exists(f'{store}.{ending}'):
+            with open(f'{store}.{ending}', 'rb') as file:
+                head = file.read(21)
+            if len(head) == 21 and head.startswith(b'\x01OSMJRNL1'):
+                profile, generation = struct.unpack_from('<IQ', head, 9)
+                found.append((generation, ending == 'a', profile))
+    return max(found)[2]
+
+
+def copy_store(name, other):
+    """The other store becomes as this one is."""
+    for ending in 'ab':
+        if os.path.exists(f'{name}.{ending}'):
+            shutil.copyfile(f'{name}.{ending}', f'{other}.{ending}')
+        elif os.path.exists(f'{other}.{ending}'):
+            os.remove(f'{other}.{ending}')
+
+
+def end_raise(after):
+    """Ends `raise` after so many seconds, looks at what it leaves, and says whether it had come to its line."""
+    before = profile_of_store()
+    process = subprocess.Popen([program, store, 'raise'], stdin=subprocess.DEVNULL, stdout=subprocess.PIPE)
+    time.sleep(after)
+    process.send_signal(signal.SIGKILL)
+    said = process.communicate()[0]
+    line = b'profile 2 sequence %d\n' % number
+    profile = profile_of_store()
+    if not line.startswith(said) or profile not in (before, 2) or said == line and profile != 2:
+        sys.exit(f'FAILED: {said} was put, and the store is of profile {profile} behind {before}')
+    if kept() != number or profile_of_store() != profile:
+        sys.exit(f'FAILED: {kept()} is kept behind {number}, of profile {profile_of_store()} behind {profile}')
+    return said == line
+
+
 class Session:
     """A session that is fed with frames until it ends."""
 
@@ -115,7 +160,27 @@ status, said = run(store, 'create', '1', given=open(extract, 'rb').read())
 if said != b'created 1\n':
     sys.exit(f'FAILED: {said} with status {status}')
 objects, number, applied, inside = Objects(extract), 1, 0, 0
+
+
+def look():
+    """The graph is that of the objects, under the profile of the store."""
+    profile = profile_of_store()
+    words = ['-', 'compile'] if profile == 1 else ['-', 'compile', str(profile)]
+    compiled, graph = run(*words, given=objects.text()), run(store, 'graph')
+    if compiled[0] or compiled != graph:
+        sys.exit(f'FAILED: the graph behind {number} is another one, under profile {profile}')
+
+
+raises = {'told': 0, 'untold on profile 1': 0, 'untold on profile 2': 0}
 for round_number in range(int(times)):
+    if round_number % 4 == 3:
+        copy_store(store, f'{store}.kept')
+        told = end_raise(draws.uniform(0, 0.04))
+        look()
+        raises['told' if told else f'untold on profile {profile_of_store()}'] += 1
+        if round_number < int(times) // 2:
+            copy_store(f'{store}.kept', store)
+        continue
     session = Session(objects, number)
     acknowledged = session.end(draws.uniform(0, 0.08))
     now = kept()
@@ -127,11 +192,9 @@ for round_number in range(int(times)):
         for line in lines:
             objects.take(line)
     number = now
-    compiled, graph = run('-', 'compile', given=objects.text()), run(store, 'graph')
-    if compiled[0] or compiled != graph:
-        sys.exit(f'FAILED: the graph behind {number} is another one')
+    look()
     # the journal stays short, so that a session opens in a moment
-    if round_number % 20 == 19 and run(store, 'checkpoint')[1] != b'checkpoint %d\n' % number:
+    if round_number % 20 == 18 and run(store, 'checkpoint')[1] != b'checkpoint %d\n' % number:
         sys.exit(f'FAILED: no checkpoint behind {number}')
-print(f'{times} sessions ended by SIGKILL, {applied} changes kept, {inside} times one more than was told: '
-      'the store stands each time')
+print(f'{times} programs ended by SIGKILL: {applied} changes kept, {inside} times one more than was told; `raise` '
+      + ', '.join(f'{count} times {how}' for how, count in raises.items()) + ': the store stands each time')

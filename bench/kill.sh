@@ -1,6 +1,7 @@
 #!/usr/bin/env bash
-# Ends sessions that another process feeds with frames by SIGKILL at random moments, so many times (1000 where left out)
-# on the same store, and looks at the store after each (kill.py). Then sessions that end on a full disk, with a reader
+# Ends sessions that another process feeds with frames, and `raise`, by SIGKILL at random moments, so many times (1000
+# where left out) on the same store, and looks at the store after each (kill.py): a killed `raise` leaves the same
+# objects and number, under profile 1 or 2, and no mixture. Then sessions that end on a full disk, with a reader
 # that goes, and where memory ends: each by its status, and the store keeps no number below the last `applied` that was
 # read. Wants python3, root for a small disk, and the program as `rt run` builds it.
 set -u
@@ -13,6 +14,8 @@ fail() {
 }
 
 python3 "$here/gen_town.py" 20 4 "$room/town.opl" "$room/changes.opl" >/dev/null
+# under profile 1 this restriction is of no use, since it lists its via ways backward; under profile 2 it counts
+echo 'r900 v1 Ttype=restriction,restriction=no_straight_on Mw1@from,w3@via,w2@via,w4@to' >>"$room/town.opl"
 python3 "$here/kill.py" "$program" "$room/store" "$room/town.opl" "${1:-1000}" || failed=1
 
 # FROM TO EVENTS: frames of so many new nodes each

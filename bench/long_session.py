@@ -420,8 +420,8 @@ def files():
     if os.path.getsize(store + '.a') != size:
         fail(f'the file of 2^40 bytes has {os.path.getsize(store + ".a")} bytes, and not {size}, once it was loaded')
     for words, status, said in [('session', 9, b'limit\n'), ('graph', 9, b'limit\n'), ('audit', 9, b'limit\n'),
-                                ('checkpoint', 9, b'limit\n'), ('apply 2', 9, b'limit\n'), ('apply 5', 9, b'limit\n'),
-                                ('create 1', 7, b'store exists\n')]:
+                                ('checkpoint', 9, b'limit\n'), ('raise', 9, b'limit\n'), ('apply 2', 9, b'limit\n'),
+                                ('apply 5', 9, b'limit\n'), ('create 1', 7, b'store exists\n')]:
         os.truncate(store + '.a', FILE + 1)
         if run(store, *words.split(), given=b'state\n') != (status, said):
             fail(f'one byte more: {words}: {run(store, *words.split(), given=b"state")}')
@@ -447,7 +447,8 @@ def numbers():
         f'applied {U64 - 2}\napplied {U64 - 1}\n' + STATE.format(U64 - 1)
         + f'unknown\nrefused {U64 - 1} sequence {U64 - 1}\nrefused 0 sequence {U64 - 1}\nunknown\n', U64 - 1)
     for words, status, said in [(f'apply {U64 - 1}', 5, f'sequence {U64 - 1} kept {U64 - 1}\n'),
-                                (f'apply {U64}', 1, None), ('checkpoint', 0, f'checkpoint {U64 - 1}\n')]:
+                                (f'apply {U64}', 1, None), ('checkpoint', 0, f'checkpoint {U64 - 1}\n'),
+                                ('raise', 0, f'profile 2 sequence {U64 - 1}\n')]:
         got = run(store, *words.split())
         if got[0] != status or said is not None and got[1] != said.encode():
             fail(f'{words}: {got}')

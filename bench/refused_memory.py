@@ -4,7 +4,8 @@ refused_memory.py PROGRAM SHIM FOLDER TOWN.opl VILLAGE.opl; bench/refused_memory
 
 A run ends as it does where nothing is refused, with all its output; or with status 10, or with 3 where a write found no
 memory, and with the replies until then. Then the store loads, keeps no number below the last one that was told and at
-most the next one, and its graph is the one that `- compile` makes of the objects which these changes leave.
+most the next one, and its graph is the one that `- compile` makes of the objects which these changes leave; behind a
+`raise` that wasn't told it may be the one that `- compile 2` makes of them, and behind one that was it has to be.
 """
 import os
 import re
@@ -71,17 +72,19 @@ def boundaries(output):
 
 
 class Case:
-    """A command with its input, the store on which it begins, and the graph of each number that may then be kept."""
+    """A command with its input, the store on which it begins, and the graph of each number that may then be kept; and
+    of `raise` the graph under profile 2."""
 
-    def __init__(self, name, words, given=b'', on=None, graphs=None):
+    def __init__(self, name, words, given=b'', on=None, graphs=None, raised=None):
         self.name, self.words, self.given, self.on, self.graphs = name, words, given, on, graphs or {}
+        self.raised = raised
 
     def fails(self, number, how, what):
         sys.exit(f'FAILED: {self.name}, allocation {number} refused {how}: {what}')
 
     def told(self, output):
         """The last number that the output says to be kept; the one with which the store began where it says none."""
-        found = re.findall(rb'^(?:applied|created|checkpoint) (\d+)\n', output, re.M)
+        found = re.findall(rb'^(?:applied|created|checkpoint|profile 2 sequence) (\d+)\n', output, re.M)
         return int(found[-1]) if found else BASE if self.on else None
 
     def look(self, number, how, output):
@@ -95,7 +98,8 @@ class Case:
         kept = int(found.group(1))
         if kept not in (BASE,) if told is None else not told <= kept <= told + 1:
             self.fails(number, how, f'{told} was told, and {kept} is kept')
-        if kept not in self.graphs or run([store, 'graph']) != (0, self.graphs[kept]):
+        graphs = [] if self.raised and output.startswith(b'profile') else [self.graphs.get(kept)]
+        if run([store, 'graph']) not in [(0, graph) for graph in graphs + [self.raised] if graph]:
             self.fails(number, how, f'the graph behind {kept} is another one')
         return kept - (BASE - 1 if told is None else told)
 
@@ -193,9 +197,11 @@ def main():
         Case('create', [store, 'create', str(BASE)], extract.encode(), None, graph),
         Case('apply', [store, 'apply', str(BASE + 1)], changes[0].encode(), kept_store, graphs),
         Case('checkpoint', [store, 'checkpoint'], b'', kept_store, graph),
+        Case('raise', [store, 'raise'], b'', kept_store, graph, run(['-', 'compile', '2'], extract.encode())[1]),
         Case('graph', [store, 'graph'], b'', kept_store, graph),
         Case('audit', [store, 'audit'], b'', kept_store, graph),
         Case('compile', ['-', 'compile'], extract.encode()),
+        Case('compile 2', ['-', 'compile', '2'], extract.encode()),
         Case('inspect', ['-', 'inspect'], graphs[BASE]),
     ])
     print(f'{refused} allocations refused: each run ended as it may, and each store stands')

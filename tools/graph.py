@@ -283,9 +283,11 @@ def print_diff(old, new):
     """Which ways are gone, new and altered from one graph to another, and how many.
 
     A line for each, in the order of their numbers. Of an altered way it is said what differs first: where its pieces
-    begin and end (`pieces`), their nodes and locations (`places`), or which piece may follow which (`turns`). The
-    status is 0 also where there is nothing to say.
+    begin and end (`pieces`), their nodes and locations (`places`), or which piece may follow which (`turns`). Graphs of
+    two profiles are told so in a line before all others. The status is 0 also where there is nothing to say.
     """
+    if old.profile != new.profile:
+        print(f'profile {old.profile} and then {new.profile}')
     counts = {'gone': 0, 'new': 0, 'altered': 0, 'as before': 0}
     block = other = 0
     while block < len(old.ways) or other < len(new.ways):

@@ -17,6 +17,7 @@ class Refusal(Exception):
 HEAD, BLOCK, PIECE = struct.Struct('<8sIQ'), struct.Struct('<qI'), struct.Struct('<IIB')
 PLACE, NAME, ARC = struct.Struct('<qii'), struct.Struct('<qIB'), struct.Struct('<qIBI')
 LENGTH, COUNT = struct.Struct('<I'), struct.Struct('<Q')
+PROFILES = (1, 2)
 
 
 class Reader:
@@ -73,7 +74,8 @@ def check_arcs(reader, arcs, longest):
 
 class Graph:
     """A graph file as arrays. What begins at a number of an array whose name begins with `first_` ends where the next
-    one begins, and such an array has one number more for the end of the last."""
+    one begins, and such an array has one number more for the end of the last. The number of its profile is `profile`.
+    """
 
     def __init__(self, data):
         self.data = data
@@ -92,8 +94,8 @@ class Graph:
 
     def read(self, reader):
         reader.need(self.data[:8] == b'OSMROAD1', 'no OSMROAD1')
-        _, profile, blocks = reader.one(HEAD)
-        reader.need(profile == 1, 'an unknown profile')
+        _, self.profile, blocks = reader.one(HEAD)
+        reader.need(self.profile in PROFILES, 'an unknown profile')
         for _ in range(blocks):
             self.blocks.append(reader.at)
             way, count = reader.one(BLOCK)

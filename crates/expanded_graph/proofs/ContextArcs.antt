@@ -100,7 +100,7 @@ pub record IsTargetLen (m : Machine) (facts : List StateFacts) (j n : ℕ) : Typ
 
 module _ (M : Objects) (P : Rules) (laws : Laws M P) (by_turn : GoesByTurn M P) (m : Machine)
     (facts : List StateFacts) (n : ℕ) (i : Intersection) (known : IsIntersection M P i) (u : NodeId) (c : List Span)
-    (r : IsReached M P m facts n u i.node c) where
+    (r : IsReached M P m facts n u i.rules.node c) where
   pub last_piece : IsPiece M P r.piece
   last_piece =
       (Every-tail (IsPiece M P) r.before (r.piece ∷ [])
@@ -138,8 +138,8 @@ module _ (M : Objects) (P : Rules) (laws : Laws M P) (by_turn : GoesByTurn M P) 
       let b = spell_begins e.piece e.arc.by.ascends in
       let s = first_step e.piece in
       let pass = (goes a e s b.rest b.is).passes front r.arrives.last ends in
-      let here : pass.node ≡ i.node = same_Some _ _ (sym pass.from ∙ r.arrives.head) in
-      let d = departure_by M P i.node e.piece s b.rest e.arc.by b.is (pass.to ∙ ap Some here) in
+      let here : pass.node ≡ i.rules.node = same_Some _ _ (sym pass.from ∙ r.arrives.head) in
+      let d = departure_by M P i.rules.node e.piece s b.rest e.arc.by b.is (pass.to ∙ ap Some here) in
       (d.departure, listed M P laws r.piece last_piece i known u r.arrives d.departure d.is, e.named ∙ sym d.named)
 
   -- arcs by one piece are equal
@@ -154,7 +154,7 @@ module _ (M : Objects) (P : Rules) (laws : Laws M P) (by_turn : GoesByTurn M P) 
       λ k. record { piece = same k; length = count k }
 
   module _ (d : Departure) (j : In d i.departures.now) where
-    abbrev departure : IsDeparture M P i.node d
+    abbrev departure : IsDeparture M P i.rules.node d
     departure = is_departure M P laws r.piece last_piece i known u r.arrives d j
 
     goes_by : (a : TurnArc) → IsArcEntry M P c a → a.piece ≡ d.piece → GoesOn M P r.steps d.first

@@ -80,28 +80,28 @@ departure_by M P v q s more is begins leaves =
     }
 
 module _ (M : Objects) (P : Rules) (laws : Laws M P) (p : Span) (is : IsPiece M P p) (i : Intersection)
-    (known : IsIntersection M P i) (u : NodeId) (ends : Arrives M p u i.node) where
+    (known : IsIntersection M P i) (u : NodeId) (ends : Arrives M p u i.rules.node) where
   abbrev out : List Departure
   out = i.departures.now
 
-  pub is_departure : (d : Departure) → In d out → IsDeparture M P i.node d
+  pub is_departure : (d : Departure) → In d out → IsDeparture M P i.rules.node d
   is_departure d j = known.leaving.sound d (contains_from_in out d j)
 
-  pub listed : (d : Departure) → IsDeparture M P i.node d → In d out
+  pub listed : (d : Departure) → IsDeparture M P i.rules.node d → In d out
   listed d h = in_from_contains out d (known.leaving.complete d h)
 
-  leaves : (d : Departure) → IsDeparture M P i.node d → Leaves M P i.node d.first
+  leaves : (d : Departure) → IsDeparture M P i.rules.node d → Leaves M P i.rules.node d.first
   leaves d h = record { drives = first_drives M P h.piece d.first h.more h.is h.begins; tail = h.leaves }
 
   -- where one departure is listed, its first step is the only one that leaves
-  only_leaving : length out ≡ 1 → (d : Departure) → In d out → (s : Step) → Leaves M P i.node s → s ≡ d.first
+  only_leaving : length out ≡ 1 → (d : Departure) → In d out → (s : Step) → Leaves M P i.rules.node s → s ≡ d.first
   only_leaving one d j s l =
-      let b = laws.depart p ends.front ends.last s i.node is ends.ends ends.head l in
-      let r = departure_by M P i.node b.piece s b.more b.is b.begins l.tail in
+      let b = laws.depart p ends.front ends.last s i.rules.node is ends.ends ends.head l in
+      let r = departure_by M P i.rules.node b.piece s b.more b.is b.begins l.tail in
       sym r.first ∙ ap (λ x. x.first) (all_one out one r.departure d (listed r.departure r.is) j)
 
   -- where its first step is the only one that leaves, one departure is listed
-  one_listed : (d : Departure) → In d out → ((s : Step) → Leaves M P i.node s → s ≡ d.first) → length out ≡ 1
+  one_listed : (d : Departure) → In d out → ((s : Step) → Leaves M P i.rules.node s → s ≡ d.first) → length out ≡ 1
   one_listed d j only =
       let b = is_departure d j in
       one_name_alone (λ x. x.piece) name_cmp laws.names out known.leaving.ascending d j (λ y k.
@@ -110,53 +110,53 @@ module _ (M : Objects) (P : Rules) (laws : Laws M P) (p : Span) (is : IsPiece M 
       a.named ∙ (one_first M P a.piece b.piece d.first a.more b.more a.is b.is begins b.begins ∙ sym b.named))
 
   abbrev turns : Bool
-  turns = i.is_turning_place || (i.is_shut || length out == 1)
+  turns = i.rules.is_turning_place || (i.rules.is_shut || length out == 1)
 
-  turn_allowed : (d : Departure) → In d out → turns ≡ true → MayTurn M P i.node d.first
-  turn_allowed d j h = elim (or_cases i.is_turning_place (i.is_shut || length out == 1) h) [
-    | inl place ↦ AtPlace (sym known.turning_is ∙ place)
-    | inr others ↦ elim (or_cases i.is_shut (length out == 1) others) [
-      | inl closed ↦ AtShut (sym known.shut_is ∙ closed)
+  turn_allowed : (d : Departure) → In d out → turns ≡ true → MayTurn M P i.rules.node d.first
+  turn_allowed d j h = elim (or_cases i.rules.is_turning_place (i.rules.is_shut || length out == 1) h) [
+    | inl place ↦ AtPlace (sym known.rules.turning_is ∙ place)
+    | inr others ↦ elim (or_cases i.rules.is_shut (length out == 1) others) [
+      | inl closed ↦ AtShut (sym known.rules.shut_is ∙ closed)
       | inr one ↦ AtDeadEnd (leaves d (is_departure d j)) (only_leaving (eqb-true _ _ one) d j)
     ]
   ]
 
-  turns_by : (d : Departure) → In d out → MayTurn M P i.node d.first → turns ≡ true
-  turns_by d j (AtPlace h) = or_left i.is_turning_place _ (known.turning_is ∙ h)
-  turns_by d j (AtShut h) = or_right i.is_turning_place _ (or_left i.is_shut _ (known.shut_is ∙ h))
+  turns_by : (d : Departure) → In d out → MayTurn M P i.rules.node d.first → turns ≡ true
+  turns_by d j (AtPlace h) = or_left i.rules.is_turning_place _ (known.rules.turning_is ∙ h)
+  turns_by d j (AtShut h) = or_right i.rules.is_turning_place _ (or_left i.rules.is_shut _ (known.rules.shut_is ∙ h))
   turns_by d j (AtDeadEnd l only) =
-      or_right i.is_turning_place _ (or_right i.is_shut _ (eq-eqb _ _ (one_listed d j only)))
+      or_right i.rules.is_turning_place _ (or_right i.rules.is_shut _ (eq-eqb _ _ (one_listed d j only)))
 
   pub passes_by : (d : Departure) → In d out → may_follow i u d ≡ true → Passes M P ends.last d.first
   passes_by d j h =
       let a = is_departure d j in
       record {
-        node = i.node;
+        node = i.rules.node;
         from = ends.head;
         to = a.leaves;
         back = λ e.
             let same = same_from_node d.toward u (same_Some _ _ (sym a.toward ∙ (e ∙ ends.tail))) in
-            turn_allowed d j (sym (ap (λ b. cond b turns (not i.is_shut)) same) ∙ h);
+            turn_allowed d j (sym (ap (λ b. cond b turns (not i.rules.is_shut)) same) ∙ h);
         on = λ n. elim (cases_Bool (same_node d.toward u)) [
           | inl same ↦ absurd (n (a.toward ∙ (ap Some (node_from_same d.toward u same) ∙ sym ends.tail)))
-          | inr other ↦ sym known.shut_is ∙ not-true _ (sym (ap (λ b. cond b turns (not i.is_shut)) other) ∙ h)
+          | inr other ↦ sym known.rules.shut_is ∙ not-true _ (sym (ap (λ b. cond b turns (not i.rules.is_shut)) other) ∙ h)
         ];
       }
 
   pub follows_by : (d : Departure) → In d out → Passes M P ends.last d.first → may_follow i u d ≡ true
   follows_by d j h =
       let a = is_departure d j in
-      let here : h.node ≡ i.node = same_Some _ _ (sym h.from ∙ ends.head) in
+      let here : h.node ≡ i.rules.node = same_Some _ _ (sym h.from ∙ ends.head) in
       elim (cases_Bool (same_node d.toward u)) [
         | inl same ↦
-            ap (λ b. cond b turns (not i.is_shut)) same
+            ap (λ b. cond b turns (not i.rules.is_shut)) same
             ∙ turns_by d j
             (subst (λ v. MayTurn M P v d.first) here
             (h.back (a.toward ∙ (ap Some (node_from_same d.toward u same) ∙ sym ends.tail))))
         | inr other ↦
-            ap (λ b. cond b turns (not i.is_shut)) other
+            ap (λ b. cond b turns (not i.rules.is_shut)) other
             ∙ not_from_false _
-            (known.shut_is
+            (known.rules.shut_is
             ∙ (ap (shut M P) (sym here)
             ∙ h.on (λ e. false≢true
             (sym other ∙ same_from_node d.toward u (same_Some _ _ (sym a.toward ∙ (e ∙ ends.tail)))))))

@@ -17,9 +17,9 @@ pub record IsComing {M P : _} {W : _} {R : _} (c : Coming M P W R) : Type 0 wher
   pub endings : AreEndings c.states.now.automaton c.states.now.facts.items c.endings.now
   pub intersection : on c.network.now IsIntersection c.intersection
   pub piece : on c.network.now IsPiece (piece_of c.span)
-  pub arrives : Arrives (map_of c.network.now) (piece_of c.span) c.from c.intersection.node
+  pub arrives : Arrives (map_of c.network.now) (piece_of c.span) c.from c.intersection.rules.node
 
 -- the context comes to the intersection, and its turn steps leave the automaton in the state with number n
 abbrev pub IsReachedIn : {M P : _} {W : _} {R : _} → Coming M P W R → ℕ → List Span → Type 0
 IsReachedIn c n context =
-    on c.network.now IsReached c.states.now.automaton c.states.now.facts.items n c.from c.intersection.node context
+    on c.network.now IsReached c.states.now.automaton c.states.now.facts.items n c.from c.intersection.rules.node context

@@ -1,29 +1,26 @@
 -- Nodes where pieces end, and what may follow there.
-use Rattle.std.specs.Prelude.{◌≡◌, ◌==◌, ℕ, List, length, Bool, cond, not, ◌||◌, Some, slice_get}
+use Rattle.std.specs.Prelude.{◌≡◌, ◌==◌, ℕ, List, length, Bool, cond, not, Some, slice_get}
 use Rattle.road_base.specs.declared.ids.NodeId.{NodeId}
 use Rattle.road_base.specs.Objects.{Objects}
 use Rattle.road_model.specs.Rules.{Rules}
 use Rattle.road_model.specs.Lines.{same_node}
-use Rattle.road_model.specs.Driving.{shut, turning_place}
 use Rattle.ordered_lists.specs.Orders.{Lists}
 use Rattle.road_model.specs.Orders.{name_cmp}
 use Rattle.way_lines.specs.declared.node_rules.NodeRules.{NodeRules}
-use Rattle.way_lines.specs.NodeTurns.{HasRules}
+use Rattle.way_lines.specs.NodeTurns.{HasRules, may_turn}
 use Rattle.way_pieces.specs.declared.departures.Departure.{Departure}
 use Rattle.way_pieces.specs.Names.{IsDeparture}
 use Rattle.expanded_graph.specs.declared.intersections.Intersection.{Intersection}
 use Rattle.expanded_graph.specs.declared.intersections.Intersections.{Intersections}
 
--- what is known of the node is so
-pub record IsIntersection (M : Objects) (P : Rules) (i : Intersection) : Type 0 where
-  pub shut_is : i.is_shut ≡ shut M P i.node
-  pub turning_is : i.is_turning_place ≡ turning_place M P i.node
-  pub leaving : Lists (λ d. d.piece) name_cmp (IsDeparture M P i.node) i.departures.now
-
 -- what is told of the node and of what leaves it is so
 pub record AreKnownAt (M : Objects) (P : Rules) (r : NodeRules) (ds : List Departure) : Type 0 where
   pub rules : HasRules M P r
   pub leaving : Lists (λ d. d.piece) name_cmp (IsDeparture M P r.node) ds
+
+-- what is known of the node is so
+abbrev pub IsIntersection : Objects → Rules → Intersection → Type 0
+IsIntersection M P i = AreKnownAt M P i.rules i.departures.now
 
 -- what is known of each node is so
 pub record AreIntersections (M : Objects) (P : Rules) (known : Intersections) : Type 0 where
@@ -36,4 +33,4 @@ pub record AreIntersections (M : Objects) (P : Rules) (known : Intersections) : 
 -- and where nothing else leaves, and elsewhere where the node isn't shut.
 abbrev pub may_follow : Intersection → NodeId → Departure → Bool
 may_follow i u d =
-    cond (same_node d.toward u) (i.is_turning_place || (i.is_shut || length i.departures.now == 1)) (not i.is_shut)
+    cond (same_node d.toward u) (may_turn i.rules (length i.departures.now == 1)) (not i.rules.is_shut)

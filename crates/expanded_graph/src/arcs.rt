@@ -101,9 +101,11 @@ fn may_follow(intersection: &Intersection<'_>, from: NodeId, departure: Departur
     ensures { result ≡ may_follow intersection.now from departure }
 {
     if departure.toward == from {
-        intersection.is_turning_place || intersection.is_shut || intersection.departures.len() == 1
+        intersection
+            .rules
+            .may_turn(intersection.departures.len() == 1)
     } else {
-        !intersection.is_shut
+        !intersection.rules.is_shut
     }
 }
 

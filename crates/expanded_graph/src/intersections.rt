@@ -23,30 +23,11 @@ const DEPARTURES: usize = 4;
 /// whole map take no more than without the guess.
 const MOST_ROOM: usize = 4096;
 
-/// A node where pieces end: whether it is shut, whether it is a place to turn round, and what leaves it.
+/// A node where pieces end: what its tags say, and what leaves it.
 #[derive(Clone, Copy)]
 pub struct Intersection<'a> {
-    pub node: NodeId,
-    pub is_shut: bool,
-    pub is_turning_place: bool,
+    pub rules: NodeRules,
     pub departures: &'a [Departure],
-}
-
-impl<'a> Intersection<'a> {
-    /// The node with these rules, and what leaves it.
-    pub fn with(rules: NodeRules, departures: &'a [Departure]) -> Intersection<'a>
-        ensures node { result.node ≡ rules.node }
-        ensures is_shut { result.is_shut ≡ rules.is_shut }
-        ensures is_turning_place { result.is_turning_place ≡ rules.is_turning_place }
-        ensures departures { result.departures.now ≡ departures.now }
-    {
-        Intersection {
-            node: rules.node,
-            is_shut: rules.is_shut,
-            is_turning_place: rules.is_turning_place,
-            departures,
-        }
-    }
 }
 
 /// Nodes where pieces end, each asked once: what their tags say, and what leaves them. One of them is found in the time
@@ -90,7 +71,7 @@ impl Intersections {
 
     /// What is known of the node, if it is found among them.
     pub fn find(&self, node: NodeId) -> Option<Intersection<'_>>
-        ensures node { IfSome result (λ i. i.node ≡ node) }
+        ensures node { IfSome result (λ i. i.rules.node ≡ node) }
         ensures is { IfSome result (λ i. (M : Objects) (P : Rules)
             → AreIntersections M P self.now
             → IsIntersection M P i) }
@@ -100,6 +81,9 @@ impl Intersections {
         if rules.node != node || at >= self.departures.len() {
             return None;
         }
-        Some(Intersection::with(rules, self.departures.at(at)))
+        Some(Intersection {
+            rules,
+            departures: self.departures.at(at),
+        })
     }
 }

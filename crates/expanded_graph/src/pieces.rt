@@ -115,7 +115,10 @@ fn contexts_at<'a, M: World, P: Profile>(
     }
     let departures = tables.pieces.departures(alloc, network, arrival.at)?;
     let rules = NodeRules::of(network, arrival.at);
-    let intersection = Intersection::with(rules, departures.as_slice());
+    let intersection = Intersection {
+        rules,
+        departures: departures.as_slice(),
+    };
     let coming = Coming {
         network,
         states,

@@ -13,14 +13,11 @@ use crate::endings::{Ending, endings_of};
 use crate::intersections::Intersections;
 use crate::states::States;
 use ordered_lists::Ranges;
-use road_base::{NoMemory, NodeId, WayId};
+use road_base::{NoMemory, WayId};
 use road_model::{Network, Profile, World};
 use std::alloc::Global;
-use std::collections::BTreeSet;
+use touched_ways::ways_met;
 use way_pieces::{KnownBlocks, RoadPieces};
-
-/// A node at which more ways meet is a hub.
-const FEW: usize = 8;
 
 /// What the blocks of ways are built from: the pieces of ways, the nodes where these end, the automaton of the words
 /// near the ways, and the states in which contexts may end. Nothing is added while blocks are built: a way that isn't
@@ -49,8 +46,8 @@ impl Tables {
         ensures are { IfOk result (on network.now AreTables) }
         ensures ways { IfOk result (λ t. t.ways.items ≡ ways.now) }
     {
-        let met = ways_met(alloc, network, ways)?;
-        let pieces = RoadPieces::around(alloc, network, met.as_slice(), ways, known)?;
+        let met = ways_met(alloc, network.world, ways)?;
+        let pieces = RoadPieces::around(alloc, network, met.items(), ways, known)?;
         let intersections = Intersections::of(alloc, network, &pieces, pieces.ends())?;
         Tables::over(alloc, network, ways, pieces, intersections)
     }
@@ -122,49 +119,4 @@ fn states_with_endings<M: World, P: Profile>(
     let states = States::of(alloc, network, pieces, ways)?;
     let endings = endings_of(alloc, &states)?;
     Ok((states, endings))
-}
-
-/// The ways and those that meet them at some node, each once, ascending. The ways at a node with many are taken once.
-fn ways_met<M: World, P: Profile>(
-    alloc: Global,
-    network: &Network<'_, M, P>,
-    ways: &[WayId],
-) -> Result<Vec<WayId>, NoMemory> {
-    let mut hubs = BTreeSet::new(alloc);
-    let mut met = ways.to_vec(alloc)?;
-    for way in ways {
-        add_ways_met(network, *way, &mut hubs, &mut met)?;
-    }
-    met.sort_unstable();
-    met.dedup();
-    Ok(met)
-}
-
-/// Adds the ways that meet this one at some node, but at none of the hubs, whose ways were added.
-fn add_ways_met<M: World, P: Profile>(
-    network: &Network<'_, M, P>,
-    way: WayId,
-    hubs: &mut BTreeSet<NodeId>,
-    met: &mut Vec<WayId>,
-) -> Result<(), NoMemory> {
-    let Some(body) = network.world.way(way) else {
-        return Ok(());
-    };
-    for node in body.refs.items() {
-        let ways = network.world.ways_at(*node);
-        if ways.len() <= FEW || hubs.insert(*node)? {
-            add_others(ways, way, met)?;
-        }
-    }
-    Ok(())
-}
-
-/// Adds the ways at a node but this one.
-fn add_others(ways: &[WayId], way: WayId, met: &mut Vec<WayId>) -> Result<(), NoMemory> {
-    for other in ways {
-        if *other != way {
-            met.push(*other)?;
-        }
-    }
-    Ok(())
 }

@@ -3,7 +3,7 @@ ghost use Rattle.std.specs.Prelude.{◌≡◌, [], IfOk, IfSome, IsTrue, map, op
 ghost use Rattle.std.specs.FinMap.{IsAntisymmetric, find};
 ghost use Rattle.ordered_lists.specs.Orders.{rises};
 ghost use Rattle.layered_maps.specs.Layers.{Rise};
-ghost use Rattle.layered_maps.specs.Maps.{change_pair, changed_by, floor_pairs, keyed};
+ghost use Rattle.layered_maps.specs.Maps.{AreKeyed, change_pair, changed_by, floor_pairs, keyed, over};
 
 use crate::change::Change;
 use crate::change_lists::{entries_of, mark_keys};
@@ -124,7 +124,31 @@ impl<K: Ord + Copy + Slotted + Kinded, V: Keyed<K>> LayeredMap<K, V> {
         ensures after { IfOk result (λ p. p.after ≡ changed_by V.key K.cmp changes.items self.old) }
     {
         mark_keys(self.alloc, changes.as_slice(), &mut self.layers)?;
-        let after = self.with(changes)?;
+        let run = EntryRun::of(entries_of(self.alloc, changes)?);
+        let after = self.with(run)?;
+        Ok(Prepared::new(self.share()?, after))
+    }
+
+    /// The same of changes in two lists, in each of which the keys rise: those of the second one come behind those of
+    /// the first. Takes the time of a run over both lists more.
+    pub fn prepare_both(
+        &mut self,
+        first: Vec<Change<K, V>>,
+        second: Vec<Change<K, V>>,
+    ) -> Result<Prepared<K, V>, AllocError>
+        requires exact { IsAntisymmetric K.cmp }
+        requires first { Rise K.cmp (map (change_pair V.key) first.items) }
+        requires second { Rise K.cmp (map (change_pair V.key) second.items) }
+        ensures same { self.new ≡ self.old }
+        ensures before { IfOk result (λ p. p.before ≡ self.old) }
+        ensures after { IfOk result (λ p. p.after
+            ≡ changed_by V.key K.cmp second.items (changed_by V.key K.cmp first.items self.old)) }
+    {
+        mark_keys(self.alloc, first.as_slice(), &mut self.layers)?;
+        mark_keys(self.alloc, second.as_slice(), &mut self.layers)?;
+        let first = EntryRun::of(entries_of(self.alloc, first)?);
+        let second = EntryRun::of(entries_of(self.alloc, second)?);
+        let after = self.with(second.merged(self.alloc, &first)?)?;
         Ok(Prepared::new(self.share()?, after))
     }
 
@@ -138,13 +162,12 @@ impl<K: Ord + Copy + Slotted + Kinded, V: Keyed<K>> LayeredMap<K, V> {
         *self = prepared.into_after().sunk();
     }
 
-    /// What the changes leave, beside this map.
-    fn with(&self, changes: Vec<Change<K, V>>) -> Result<LayeredMap<K, V>, AllocError>
+    /// What these entries leave, beside this map.
+    fn with(&self, run: EntryRun<K, Option<V>>) -> Result<LayeredMap<K, V>, AllocError>
         requires exact { IsAntisymmetric K.cmp }
-        requires rising { Rise K.cmp (map (change_pair V.key) changes.items) }
-        ensures { IfOk result (λ m. m ≡ changed_by V.key K.cmp changes.items self.now) }
+        requires keyed { AreKeyed V.key K.cmp run }
+        ensures { IfOk result (λ m. m ≡ over K.cmp run self.now) }
     {
-        let run = EntryRun::of(entries_of(self.alloc, changes)?);
         let floor = shared_floor(&self.floor)?;
         let sinking = split(self.alloc, &run, &self.layers, &self.floor)?;
         let layers = self.layers.with(self.alloc, run)?;

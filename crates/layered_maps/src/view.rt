@@ -83,7 +83,8 @@ impl<'a, K: Ord + Copy + Slotted + Kinded, V: Keyed<K>> View<'a, K, V> {
     /// All values, ascending by key. Takes no memory.
     pub fn walk(&self) -> Walk<'a, K, V>
         requires { IsAntisymmetric K.cmp }
-        ensures { map (keyed V.key) result ≡ self.now }
+        ensures pairs { map (keyed V.key) result ≡ self.now }
+        ensures rising { IsTrue (rises K.cmp (map V.key result)) }
     {
         Walk::new(changes_of(self.layers), self.list)
     }

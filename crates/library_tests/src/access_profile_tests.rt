@@ -312,7 +312,8 @@ fn profiles_have_numbers(rt: HostRuntime) -> Result<(), Fail> {
     for (number, answers) in [
         (0, None),
         (1, Some((1, FREE, WRONG))),
-        (2, None),
+        (2, Some((2, FREE, WRONG))),
+        (3, None),
         (4_294_967_295, None),
     ] {
         assert_eq!(rt; numbered(rt.alloc(), number)?, answers, "at {number}");
@@ -320,7 +321,7 @@ fn profiles_have_numbers(rt: HostRuntime) -> Result<(), Fail> {
     Ok(())
 }
 
-/// Whether the profile lists via ways backwards, and whether it knows a zone along a way with these tags.
+/// Whether the first profile takes via ways listed backward, and whether it knows a zone along a way with these tags.
 fn reverses_or_zones(alloc: Global, of: &str) -> Result<(bool, bool), Fail> {
     let tags = tags(alloc, of)?;
     Ok((Motorcar.reverses(), Motorcar.zone(&tags, Dir::Forward)))

@@ -1,7 +1,7 @@
 //! A store that goes on in its other file: the bytes, the calls, and what faults and stops leave. And which parts of a
 //! file are read to load it.
 use crate::store_switch_tests::{
-    Answer, BASE, change_no_file, file, left_by, load, load_of, make_call, site_of, told,
+    Answer, BASE, Told, change_no_file, file, left_by, load, load_of, make_call, site_of, told,
 };
 use road_base::{Body, Event, Key, Node, NodeId, Sequence, Tags};
 use road_io::{Call, Entry, MemorySite, Which};
@@ -28,11 +28,21 @@ const NEW: Answer = Ok((Which::B, 2, 6));
 /// How many calls a checkpoint makes, the last one of which but one opens the new base.
 const CALLS: usize = 8;
 
-/// A store loaded, and its checkpoint with these events made.
+/// A store loaded, and its checkpoint with these events made, under its own profile.
 fn go_on(alloc: Global, site: &mut MemorySite, events: &[Event]) -> Answer {
     let mut loaded = load_store(alloc, site)?;
-    checkpoint(alloc, site, &mut loaded.journal, events)?;
+    let profile = loaded.journal.profile();
+    checkpoint(alloc, site, &mut loaded.journal, profile, events)?;
     Ok(told(&loaded.journal))
+}
+
+/// A store loaded, and raised to profile 2. It answers the journal's profile too.
+fn raise(alloc: Global, site: &mut MemorySite) -> Result<(Told, u32), JournalError> {
+    let mut loaded = load_store(alloc, site)?;
+    if loaded.journal.profile() <= 2 {
+        checkpoint(alloc, site, &mut loaded.journal, 2, &[])?;
+    }
+    Ok((told(&loaded.journal), loaded.journal.profile()))
 }
 
 /// A store loaded, and a change added.
@@ -99,6 +109,28 @@ fn goes_on(rt: HostRuntime) -> Result<(), Fail> {
     Ok(())
 }
 
+/// The base that a checkpoint writes under profile 2, of this generation.
+fn raised(generation: u8) -> [u8; 46] {
+    let mut bytes = NEXT;
+    bytes[9] = 2;
+    bytes[13] = generation;
+    bytes
+}
+
+/// The other file gets profile 2. A checkpoint keeps it, and so does raising the store once more.
+#[test]
+fn raises(rt: HostRuntime) -> Result<(), Fail> {
+    let mut site = site_of(rt.alloc(), &CHANGED, &[], &[])?;
+    assert_eq!(rt; raise(rt.alloc(), &mut site), Ok(((Which::B, 2, 6), 2)));
+    assert_eq!(rt; site.file(Which::A), CHANGED.as_slice());
+    assert_eq!(rt; site.file(Which::B), raised(2).as_slice());
+    assert_eq!(rt; go_on(rt.alloc(), &mut site, &[]), Ok((Which::A, 3, 6)));
+    assert_eq!(rt; site.file(Which::A), raised(3).as_slice());
+    assert_eq!(rt; raise(rt.alloc(), &mut site), Ok(((Which::B, 4, 6), 2)));
+    assert_eq!(rt; site.file(Which::B), raised(4).as_slice());
+    Ok(())
+}
+
 /// The last u64 as generation, and the base's number 5.
 fn last_generation() -> [u8; 46] {
     let mut bytes = BASE;
@@ -126,7 +158,8 @@ fn goes_on_within_the_generations(rt: HostRuntime) -> Result<(), Fail> {
 fn go_on_closed(alloc: Global, site: &mut MemorySite) -> Answer {
     let mut loaded = load_store(alloc, site)?;
     loaded.journal.close();
-    checkpoint(alloc, site, &mut loaded.journal, &[])?;
+    let profile = loaded.journal.profile();
+    checkpoint(alloc, site, &mut loaded.journal, profile, &[])?;
     Ok(told(&loaded.journal))
 }
 
@@ -144,7 +177,8 @@ fn goes_on_unless_closed(rt: HostRuntime) -> Result<(), Fail> {
 /// A store loaded, its checkpoint made, and change 7 added by the same journal.
 fn go_on_and_add(alloc: Global, site: &mut MemorySite) -> Answer {
     let mut loaded = load_store(alloc, site)?;
-    checkpoint(alloc, site, &mut loaded.journal, &[])?;
+    let profile = loaded.journal.profile();
+    checkpoint(alloc, site, &mut loaded.journal, profile, &[])?;
     loaded.journal.append(alloc, site, Sequence(7), &[])?;
     Ok(told(&loaded.journal))
 }
@@ -165,7 +199,8 @@ fn adds_to_the_other_file(rt: HostRuntime) -> Result<(), Fail> {
 /// Whether a checkpoint after the store was loaded fails by the site, and closes the journal.
 fn is_closed_by_a_fault(alloc: Global, site: &mut MemorySite) -> Result<bool, JournalError> {
     let mut loaded = load_store(alloc, site)?;
-    let answer = checkpoint(alloc, site, &mut loaded.journal, &[]);
+    let profile = loaded.journal.profile();
+    let answer = checkpoint(alloc, site, &mut loaded.journal, profile, &[]);
     Ok(answer == Err(JournalError::SiteFault) && loaded.journal.closed())
 }
 

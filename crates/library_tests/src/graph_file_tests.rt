@@ -263,11 +263,33 @@ fn reads_back_what_was_written(rt: HostRuntime) -> Result<(), Fail> {
     Ok(())
 }
 
+/// The profile of a graph that is read, and whether it is written as it was.
+fn read_and_written(alloc: Global, bytes: &[u8]) -> Result<Option<(u32, bool)>, NoMemory> {
+    let Some(graph) = Graph::read(alloc, bytes)? else {
+        return Ok(None);
+    };
+    let mut out = Vec::new(alloc);
+    write(graph.profile, &graph.blocks, &mut out)?;
+    Ok(Some((graph.profile, out.as_slice() == bytes)))
+}
+
+#[test]
+fn graphs_have_a_profile(rt: HostRuntime) -> Result<(), Fail> {
+    for profile in [1, 2] {
+        let bytes = with_byte(rt.alloc(), 8, profile)?;
+        let read = read_and_written(rt.alloc(), &bytes)?;
+        assert_eq!(rt; read, Some((profile as u32, true)), "profile {profile}");
+    }
+    Ok(())
+}
+
 /// A place, and a byte with which no graph file has it there.
 const REFUSED: &[(usize, u8)] = &[
-    // another magic, another profile, and 2 ^ 60 blocks
+    // another magic, three numbers of no profile, and 2 ^ 60 blocks
     (7, b'2'),
-    (8, 2),
+    (8, 0),
+    (8, 3),
+    (9, 1),
     (19, 0x10),
     // a block without pieces, one more piece, and two pieces of one name
     (28, 0),

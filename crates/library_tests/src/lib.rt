@@ -43,3 +43,5 @@ mod session_input_tests;
 mod store_switch_tests;
 #[cfg(test)]
 mod turn_automata_tests;
+#[cfg(test)]
+mod zone_tests;

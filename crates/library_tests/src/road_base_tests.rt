@@ -222,8 +222,14 @@ fn memory_is_refused_in_one_way(rt: HostRuntime) {
 }
 
 #[test]
-fn only_motorcars_have_a_profile(rt: HostRuntime) {
-    for (number, is) in [(0, false), (1, true), (2, false), (u32::MAX, false)] {
+fn two_profiles_have_numbers(rt: HostRuntime) {
+    for (number, is) in [
+        (0, false),
+        (1, true),
+        (2, true),
+        (3, false),
+        (u32::MAX, false),
+    ] {
         assert_eq!(rt; is_profile(number), is, "at {number}");
     }
 }

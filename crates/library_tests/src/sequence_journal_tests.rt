@@ -30,7 +30,7 @@ const DAMAGED_RECORD: Answer = Err(JournalError::Damaged {
 });
 
 /// A file by its parts, with a byte that is changed, and what loading it answers.
-const FILES: [(&str, [&[u8]; 3], Option<(usize, u8)>, Answer); 16] = [
+const FILES: [(&str, [&[u8]; 3], Option<(usize, u8)>, Answer); 19] = [
     ("a base", [BASE, b"", b"\0"], None, Ok((5, 46))),
     ("a record", [BASE, RECORD, b"\0"], None, Ok((6, 71))),
     (
@@ -90,9 +90,17 @@ const FILES: [(&str, [&[u8]; 3], Option<(usize, u8)>, Answer); 16] = [
         NO_STORE,
     ),
     (
-        "another profile",
-        [BASE, b"", b"\0"],
+        "profile 2",
+        [BASE, RECORD, b"\0"],
         Some((9, 2)),
+        Ok((6, 71)),
+    ),
+    ("profile 0", [BASE, b"", b"\0"], Some((9, 0)), DAMAGED_BASE),
+    ("profile 3", [BASE, b"", b"\0"], Some((9, 3)), DAMAGED_BASE),
+    (
+        "profile 257",
+        [BASE, b"", b"\0"],
+        Some((10, 1)),
         DAMAGED_BASE,
     ),
     (
@@ -154,21 +162,77 @@ fn a_head_is_read(rt: HostRuntime) -> Result<(), Fail> {
     let alloc = rt.alloc();
     let file = file_of(alloc, &[BASE, RECORD, b"\0"], None)?;
     let mut site = site_of(alloc, file, Vec::new(alloc));
-    let found = BaseHead {
-        generation: 1,
-        base: Sequence(5),
-    };
-    assert_eq!(rt; head(&mut site, Which::A), Ok(Some(found)));
+    assert_eq!(rt; head(&mut site, Which::A), Ok(Some(head_of(1))));
     assert_eq!(rt; head(&mut site, Which::B), Ok(None));
     Ok(())
 }
 
-/// A base without events in file A, generation 1 and number 5, and then change 6 without events.
-fn write_and_add(alloc: Global, site: &mut MemorySite) -> Result<(), JournalError> {
+/// The head of that base, under this profile.
+fn head_of(profile: u32) -> BaseHead {
+    BaseHead {
+        generation: 1,
+        base: Sequence(5),
+        profile,
+    }
+}
+
+/// A byte of the profile's field that is changed, and the profile that a head then has: whatever the field holds.
+const PROFILES: [(usize, u8, u32); 4] = [(9, 0, 0), (9, 2, 2), (9, 3, 3), (12, 255, 0xff00_0001)];
+
+/// The head of file A with this byte changed.
+fn head_with(
+    alloc: Global,
+    at: usize,
+    byte: u8,
+) -> Result<Result<Option<BaseHead>, JournalError>, AllocError> {
+    let file = file_of(alloc, &[BASE, b"\0"], Some((at, byte)))?;
+    let mut site = site_of(alloc, file, Vec::new(alloc));
+    Ok(head(&mut site, Which::A))
+}
+
+#[test]
+fn a_head_has_any_profile(rt: HostRuntime) -> Result<(), Fail> {
+    for (at, byte, profile) in PROFILES {
+        let found = head_with(rt.alloc(), at, byte)?;
+        assert_eq!(rt; found, Ok(Some(head_of(profile))), "profile {profile}");
+    }
+    Ok(())
+}
+
+/// A base without events in file A, generation 1 and number 5, under profile 1, and then change 6 without events. It
+/// answers the journal's profile.
+fn write_and_add(alloc: Global, site: &mut MemorySite) -> Result<u32, JournalError> {
     settle(site, Which::A)?;
     let none: [Event; 0] = [];
-    let mut journal = write_base(alloc, site, Which::A, 1, Sequence(5), &none)?;
-    journal.append(alloc, site, Sequence(6), &none)
+    let mut journal = write_base(alloc, site, Which::A, 1, Sequence(5), 1, &none)?;
+    journal.append(alloc, site, Sequence(6), &none)?;
+    Ok(journal.profile())
+}
+
+/// The same under profile 2.
+fn write_and_add_raised(alloc: Global, site: &mut MemorySite) -> Result<u32, JournalError> {
+    settle(site, Which::A)?;
+    let none: [Event; 0] = [];
+    let mut journal = write_base(alloc, site, Which::A, 1, Sequence(5), 2, &none)?;
+    journal.append(alloc, site, Sequence(6), &none)?;
+    Ok(journal.profile())
+}
+
+/// The profile of the journal on file A, after it was loaded.
+fn load_profile(alloc: Global, site: &mut MemorySite) -> Result<u32, JournalError> {
+    let loaded = Journal::load(alloc, site, Which::A)?;
+    Ok(loaded.journal.profile())
+}
+
+#[test]
+fn a_base_has_its_profile(rt: HostRuntime) -> Result<(), Fail> {
+    let alloc = rt.alloc();
+    let mut site = site_of(alloc, Vec::new(alloc), Vec::new(alloc));
+    assert_eq!(rt; write_and_add_raised(alloc, &mut site), Ok(2));
+    let whole = file_of(alloc, &[BASE, RECORD, b"\0"], Some((9, 2)))?;
+    assert!(rt; site.file(Which::A) == whole.as_slice());
+    assert_eq!(rt; load_profile(alloc, &mut site), Ok(2));
+    Ok(())
 }
 
 /// The last calls of an addition: where a chunk is written and how long it is, or a sync.
@@ -193,7 +257,7 @@ fn are_shapes(calls: &[Entry]) -> bool {
 fn an_addition_writes_behind_the_gate_and_opens_it(rt: HostRuntime) -> Result<(), Fail> {
     let alloc = rt.alloc();
     let mut site = site_of(alloc, Vec::new(alloc), Vec::new(alloc));
-    assert_eq!(rt; write_and_add(alloc, &mut site), Ok(()));
+    assert_eq!(rt; write_and_add(alloc, &mut site), Ok(1));
     let whole = file_of(alloc, &[BASE, RECORD, b"\0"], None)?;
     assert!(rt; site.file(Which::A) == whole.as_slice());
     let calls = site.calls();
@@ -206,7 +270,7 @@ fn an_addition_writes_behind_the_gate_and_opens_it(rt: HostRuntime) -> Result<()
 fn spell_and_add(alloc: Global, site: &mut MemorySite) -> Result<(), JournalError> {
     settle(site, Which::A)?;
     let none: [Event; 0] = [];
-    let mut journal = write_base(alloc, site, Which::A, 1, Sequence(5), &none)?;
+    let mut journal = write_base(alloc, site, Which::A, 1, Sequence(5), 1, &none)?;
     journal.check(Sequence(6))?;
     let Some(change) = journal.spell(alloc, Sequence(6), &none)? else {
         return Err(JournalError::TooLarge);

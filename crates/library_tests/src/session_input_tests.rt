@@ -1,7 +1,7 @@
 //! Sessions, cut into parts.
 ghost use Rattle.std.specs.Prelude.{◌<◌};
 
-use session_input::{Change, Ending, Input, InputStop, Line, Received};
+use session_input::{Change, Input, InputEnd, InputStop, Line, Received};
 use std::alloc::{AllocError, Global};
 use std::process::Abort;
 use std::test::Fail;
@@ -48,14 +48,14 @@ fn take_all(
 }
 
 /// Adds how the session ends.
-fn add_ending(alloc: Global, ending: &Ending, messages: &mut String) -> Result<(), AllocError> {
+fn add_ending(alloc: Global, ending: &InputEnd, messages: &mut String) -> Result<(), AllocError> {
     match ending {
-        Ending::Done => messages.push_str("done"),
-        Ending::Last(received) => {
+        InputEnd::Done => messages.push_str("done"),
+        InputEnd::Last(received) => {
             messages.push_str("last ")?;
             add(alloc, received, messages)
         }
-        Ending::Unfinished(number) => {
+        InputEnd::Unfinished(number) => {
             messages.push_str(format!(in alloc; "unfinished {}", number.0)?.as_str())
         }
     }

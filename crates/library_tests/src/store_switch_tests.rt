@@ -22,7 +22,7 @@ const MADE: Answer = Ok((Which::A, 1, 5));
 type Head = [u8; 4];
 
 /// What is loaded of two files with these heads.
-const LOADS: [(&str, Head, Head, Answer); 9] = [
+const LOADS: [(&str, Head, Head, Answer); 12] = [
     ("A alone", [1, 1, 1, 5], [0, 1, 9, 9], Ok((Which::A, 1, 5))),
     ("B alone", [0, 1, 9, 9], [1, 1, 1, 5], Ok((Which::B, 1, 5))),
     (
@@ -45,28 +45,46 @@ const LOADS: [(&str, Head, Head, Answer); 9] = [
         Err(JournalError::NoStore),
     ),
     (
-        "A is older, and of another profile",
-        [1, 2, 1, 5],
+        "A is older, and of no profile",
+        [1, 3, 1, 5],
         [1, 1, 2, 7],
         Ok((Which::B, 2, 7)),
     ),
     (
-        "B is newer, and of another profile",
+        "B is newer, and of no profile",
         [1, 1, 1, 5],
-        [1, 2, 2, 7],
+        [1, 3, 2, 7],
         Err(JournalError::Damaged {
             file: Which::B,
             offset: 0,
         }),
     ),
     (
-        "A has the same generation, and another profile",
-        [1, 2, 2, 5],
+        "A has the same generation, and no profile",
+        [1, 0, 2, 5],
         [1, 1, 2, 7],
         Err(JournalError::Damaged {
             file: Which::A,
             offset: 0,
         }),
+    ),
+    (
+        "A is older, and of profile 2",
+        [1, 2, 1, 5],
+        [1, 1, 2, 7],
+        Ok((Which::B, 2, 7)),
+    ),
+    (
+        "B is newer, and of profile 2",
+        [1, 1, 1, 5],
+        [1, 2, 2, 7],
+        Ok((Which::B, 2, 7)),
+    ),
+    (
+        "both are of profile 2",
+        [1, 2, 3, 8],
+        [1, 2, 2, 7],
+        Ok((Which::A, 3, 8)),
     ),
 ];
 

@@ -7,3 +7,4 @@ pub mod Applying
 pub mod Profiles
 pub mod History
 pub mod Bytes
+pub mod Numbers

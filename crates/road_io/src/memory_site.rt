@@ -212,62 +212,66 @@ impl Site for MemorySite {
 #[cfg(test)]
 mod tests {
     use super::*;
-    use crate::steps::{Step, with_number, without_number};
+    use crate::steps::{DiskStep, with_number, without_number};
     use std::alloc::AllocError;
     use std::process::Abort;
     use std::test::Fail;
 
     // Calls, what they answer, and the files A and B and the output after them.
-    const STEPS: [(Step, Result<u64, Failed>, [&str; 3]); 20] = [
-        (Step::Put("ab"), Ok(0), ["hello", "", "ab"]),
-        (Step::Len(Which::A), Ok(5), ["hello", "", "ab"]),
-        (Step::Put("cd"), Err(Failed), ["hello", "", "ab"]),
+    const STEPS: [(DiskStep, Result<u64, Failed>, [&str; 3]); 20] = [
+        (DiskStep::Put("ab"), Ok(0), ["hello", "", "ab"]),
+        (DiskStep::Len(Which::A), Ok(5), ["hello", "", "ab"]),
+        (DiskStep::Put("cd"), Err(Failed), ["hello", "", "ab"]),
         (
-            Step::Write(Which::A, 5, " you"),
+            DiskStep::Write(Which::A, 5, " you"),
             Ok(0),
             ["hello you", "", "ab"],
         ),
         (
-            Step::Write(Which::A, 1, "ipp"),
+            DiskStep::Write(Which::A, 1, "ipp"),
             Ok(0),
             ["hippo you", "", "ab"],
         ),
         (
-            Step::Write(Which::B, 0, "x"),
+            DiskStep::Write(Which::B, 0, "x"),
             Err(Failed),
             ["hippo you", "", "ab"],
         ),
         (
-            Step::Write(Which::B, 0, "road"),
+            DiskStep::Write(Which::B, 0, "road"),
             Ok(0),
             ["hippo you", "road", "ab"],
         ),
-        (Step::Cut(Which::A, 3), Ok(0), ["hip", "road", "ab"]),
-        (Step::Cut(Which::B, 1), Err(Failed), ["hip", "road", "ab"]),
-        (Step::Sync(Which::A), Ok(0), ["hip", "road", "ab"]),
-        (Step::Sync(Which::B), Err(Failed), ["hip", "road", "ab"]),
-        (Step::Len(Which::B), Err(Failed), ["hip", "road", "ab"]),
-        (Step::Len(Which::B), Ok(4), ["hip", "road", "ab"]),
+        (DiskStep::Cut(Which::A, 3), Ok(0), ["hip", "road", "ab"]),
         (
-            Step::Write(Which::A, 2, "tch"),
+            DiskStep::Cut(Which::B, 1),
+            Err(Failed),
+            ["hip", "road", "ab"],
+        ),
+        (DiskStep::Sync(Which::A), Ok(0), ["hip", "road", "ab"]),
+        (DiskStep::Sync(Which::B), Err(Failed), ["hip", "road", "ab"]),
+        (DiskStep::Len(Which::B), Err(Failed), ["hip", "road", "ab"]),
+        (DiskStep::Len(Which::B), Ok(4), ["hip", "road", "ab"]),
+        (
+            DiskStep::Write(Which::A, 2, "tch"),
             Ok(0),
             ["hitch", "road", "ab"],
         ),
-        (Step::Put(""), Ok(0), ["hitch", "road", "ab"]),
-        (Step::Cut(Which::B, 4), Ok(0), ["hitch", "road", "ab"]),
-        (Step::Put("c"), Ok(0), ["hitch", "road", "abc"]),
+        (DiskStep::Put(""), Ok(0), ["hitch", "road", "ab"]),
+        (DiskStep::Cut(Which::B, 4), Ok(0), ["hitch", "road", "ab"]),
+        (DiskStep::Put("c"), Ok(0), ["hitch", "road", "abc"]),
         (
-            Step::Read(Which::A, 3, "ch.."),
+            DiskStep::Read(Which::A, 3, "ch.."),
             Ok(2),
             ["hitch", "road", "abc"],
         ),
         (
-            Step::Read(Which::B, 4, ".."),
+            DiskStep::Read(Which::B, 4, ".."),
             Ok(0),
             ["hitch", "road", "abc"],
         ),
         (
-            Step::Read(Which::B, 1, "...."),
+            DiskStep::Read(Which::B, 1, "...."),
             Err(Failed),
             ["hitch", "road", "abc"],
         ),
@@ -289,28 +293,28 @@ mod tests {
         answer
     }
 
-    fn answer(rt: &impl Abort, site: &mut MemorySite, step: Step) -> Result<u64, Failed> {
+    fn answer(rt: &impl Abort, site: &mut MemorySite, step: DiskStep) -> Result<u64, Failed> {
         match step {
-            Step::Put(chunk) => without_number(site.put(chunk.as_bytes())),
-            Step::Len(file) => site.file_len(file),
-            Step::Read(file, at, text) => with_number(read(rt, site, file, at, text)),
-            Step::Write(file, at, chunk) => {
+            DiskStep::Put(chunk) => without_number(site.put(chunk.as_bytes())),
+            DiskStep::Len(file) => site.file_len(file),
+            DiskStep::Read(file, at, text) => with_number(read(rt, site, file, at, text)),
+            DiskStep::Write(file, at, chunk) => {
                 assert!(rt; at <= site.file(file).len() as u64);
                 without_number(site.write_at(file, at, chunk.as_bytes()))
             }
-            Step::Cut(file, len) => {
+            DiskStep::Cut(file, len) => {
                 assert!(rt; len <= site.file(file).len() as u64);
                 without_number(site.cut(file, len))
             }
-            Step::Sync(file) => without_number(site.sync(file)),
+            DiskStep::Sync(file) => without_number(site.sync(file)),
         }
     }
 
-    fn is_step(call: &Call, step: Step) -> bool {
+    fn is_step(call: &Call, step: DiskStep) -> bool {
         match (call, step) {
-            (Call::Put(put), Step::Put(chunk)) => put.items() == chunk.as_bytes(),
-            (Call::FileLen(of), Step::Len(file)) => *of == file,
-            (Call::ReadAt { file: of, at, len }, Step::Read(file, from, text)) => {
+            (Call::Put(put), DiskStep::Put(chunk)) => put.items() == chunk.as_bytes(),
+            (Call::FileLen(of), DiskStep::Len(file)) => *of == file,
+            (Call::ReadAt { file: of, at, len }, DiskStep::Read(file, from, text)) => {
                 *of == file && *at == from && *len == text.len() as u64
             }
             (
@@ -319,10 +323,10 @@ mod tests {
                     at,
                     piece,
                 },
-                Step::Write(file, from, text),
+                DiskStep::Write(file, from, text),
             ) => *of == file && *at == from && piece.items() == text.as_bytes(),
-            (Call::Cut { file: of, len }, Step::Cut(file, to)) => *of == file && *len == to,
-            (Call::Sync(of), Step::Sync(file)) => *of == file,
+            (Call::Cut { file: of, len }, DiskStep::Cut(file, to)) => *of == file && *len == to,
+            (Call::Sync(of), DiskStep::Sync(file)) => *of == file,
             _ => false,
         }
     }

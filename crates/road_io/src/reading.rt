@@ -29,12 +29,12 @@ pub fn read_again<R: Read>(reader: &mut R, buf: &mut [u8]) -> io::Result<usize>
 
 /// A file from a place on, at which each read begins.
 #[derive(Drop)]
-pub struct Place<'a> {
+pub struct FilePlace<'a> {
     pub file: &'a File,
     pub at: u64,
 }
 
-impl Read for Place<'_> {
+impl Read for FilePlace<'_> {
     fn read(&mut self, buf: &mut [u8]) -> io::Result<usize> {
         self.file.read_at(buf, self.at)
     }

@@ -205,7 +205,7 @@ fn counted<T: Drop>(answer: io::Result<T>, faults: &mut u64) -> Result<T, Failed
 #[cfg(test)]
 mod tests {
     use super::*;
-    use crate::steps::{Step, with_number, without_number};
+    use crate::steps::{DiskStep, with_number, without_number};
     use std::io::ErrorKind;
     use std::process::Abort;
     use std::test::Fail;
@@ -321,34 +321,34 @@ mod tests {
     }
 
     // Calls and what they answer. Each file is missing until the first write or cut.
-    const STEPS: [(Step, Result<u64, Failed>); 17] = [
-        (Step::Len(Which::A), Ok(0)),
-        (Step::Read(Which::A, 0, "...."), Ok(0)),
-        (Step::Sync(Which::A), Ok(0)),
-        (Step::Len(Which::A), Ok(0)),
-        (Step::Write(Which::A, 0, "hello world"), Ok(0)),
-        (Step::Sync(Which::A), Ok(0)),
-        (Step::Len(Which::A), Ok(11)),
-        (Step::Cut(Which::A, 5), Ok(0)),
-        (Step::Write(Which::A, 1, "ipp"), Ok(0)),
-        (Step::Sync(Which::A), Ok(0)),
-        (Step::Len(Which::A), Ok(5)),
-        (Step::Read(Which::A, 1, "ippo.."), Ok(4)),
-        (Step::Read(Which::A, 5, ".."), Ok(0)),
-        (Step::Len(Which::B), Ok(0)),
-        (Step::Cut(Which::B, 0), Ok(0)),
-        (Step::Sync(Which::B), Ok(0)),
-        (Step::Read(Which::B, 0, "."), Ok(0)),
+    const STEPS: [(DiskStep, Result<u64, Failed>); 17] = [
+        (DiskStep::Len(Which::A), Ok(0)),
+        (DiskStep::Read(Which::A, 0, "...."), Ok(0)),
+        (DiskStep::Sync(Which::A), Ok(0)),
+        (DiskStep::Len(Which::A), Ok(0)),
+        (DiskStep::Write(Which::A, 0, "hello world"), Ok(0)),
+        (DiskStep::Sync(Which::A), Ok(0)),
+        (DiskStep::Len(Which::A), Ok(11)),
+        (DiskStep::Cut(Which::A, 5), Ok(0)),
+        (DiskStep::Write(Which::A, 1, "ipp"), Ok(0)),
+        (DiskStep::Sync(Which::A), Ok(0)),
+        (DiskStep::Len(Which::A), Ok(5)),
+        (DiskStep::Read(Which::A, 1, "ippo.."), Ok(4)),
+        (DiskStep::Read(Which::A, 5, ".."), Ok(0)),
+        (DiskStep::Len(Which::B), Ok(0)),
+        (DiskStep::Cut(Which::B, 0), Ok(0)),
+        (DiskStep::Sync(Which::B), Ok(0)),
+        (DiskStep::Read(Which::B, 0, "."), Ok(0)),
     ];
 
     // The same, in a folder that isn't there.
-    const STEPS_NOWHERE: [(Step, Result<u64, Failed>); 6] = [
-        (Step::Len(Which::B), Ok(0)),
-        (Step::Read(Which::B, 0, "."), Ok(0)),
-        (Step::Sync(Which::B), Ok(0)),
-        (Step::Write(Which::B, 0, "x"), Err(Failed)),
-        (Step::Cut(Which::B, 0), Err(Failed)),
-        (Step::Sync(Which::B), Ok(0)),
+    const STEPS_NOWHERE: [(DiskStep, Result<u64, Failed>); 6] = [
+        (DiskStep::Len(Which::B), Ok(0)),
+        (DiskStep::Read(Which::B, 0, "."), Ok(0)),
+        (DiskStep::Sync(Which::B), Ok(0)),
+        (DiskStep::Write(Which::B, 0, "x"), Err(Failed)),
+        (DiskStep::Cut(Which::B, 0), Err(Failed)),
+        (DiskStep::Sync(Which::B), Ok(0)),
     ];
 
     fn read(
@@ -365,25 +365,25 @@ mod tests {
         answer
     }
 
-    fn answer(rt: &impl Abort, site: &mut FileSite<'_>, step: Step) -> Result<u64, Failed> {
+    fn answer(rt: &impl Abort, site: &mut FileSite<'_>, step: DiskStep) -> Result<u64, Failed> {
         match step {
-            Step::Put(chunk) => without_number(site.put(chunk.as_bytes())),
-            Step::Len(file) => site.file_len(file),
-            Step::Read(file, at, text) => with_number(read(rt, site, file, at, text)),
-            Step::Write(file, at, chunk) => without_number(site.write_at(
+            DiskStep::Put(chunk) => without_number(site.put(chunk.as_bytes())),
+            DiskStep::Len(file) => site.file_len(file),
+            DiskStep::Read(file, at, text) => with_number(read(rt, site, file, at, text)),
+            DiskStep::Write(file, at, chunk) => without_number(site.write_at(
                 file,
                 at,
                 chunk.as_bytes(),
             )),
-            Step::Cut(file, len) => without_number(site.cut(file, len)),
-            Step::Sync(file) => without_number(site.sync(file)),
+            DiskStep::Cut(file, len) => without_number(site.cut(file, len)),
+            DiskStep::Sync(file) => without_number(site.sync(file)),
         }
     }
 
     fn check_answers(
         rt: &impl Abort,
         site: &mut FileSite<'_>,
-        steps: &[(Step, Result<u64, Failed>)],
+        steps: &[(DiskStep, Result<u64, Failed>)],
     ) {
         for (at, (step, wanted)) in steps.iter().enumerate() {
             assert_eq!(rt; answer(rt, site, *step), *wanted, "call {at}");
@@ -395,7 +395,7 @@ mod tests {
         abort: &impl Abort,
         rt: &HostRuntime,
         folder: &str,
-        steps: &[(Step, Result<u64, Failed>)],
+        steps: &[(DiskStep, Result<u64, Failed>)],
     ) -> Result<u64, Fail> {
         let mut site = site_in(rt, folder)?;
         check_answers(abort, &mut site, steps);
@@ -418,22 +418,25 @@ mod tests {
         Ok(())
     }
 
-    const MAKES_A: [(Step, Result<u64, Failed>); 1] = [(Step::Write(Which::A, 0, "hello"), Ok(0))];
+    const MAKES_A: [(DiskStep, Result<u64, Failed>); 1] = [(
+        DiskStep::Write(Which::A, 0, "hello"),
+        Ok(0),
+    )];
 
     // While another site holds file A.
-    const STEPS_BESIDE: [(Step, Result<u64, Failed>); 6] = [
-        (Step::Len(Which::A), Err(Failed)),
-        (Step::Read(Which::A, 0, "...."), Err(Failed)),
-        (Step::Write(Which::A, 0, "x"), Err(Failed)),
-        (Step::Cut(Which::A, 0), Err(Failed)),
-        (Step::Sync(Which::A), Err(Failed)),
-        (Step::Len(Which::B), Ok(0)),
+    const STEPS_BESIDE: [(DiskStep, Result<u64, Failed>); 6] = [
+        (DiskStep::Len(Which::A), Err(Failed)),
+        (DiskStep::Read(Which::A, 0, "...."), Err(Failed)),
+        (DiskStep::Write(Which::A, 0, "x"), Err(Failed)),
+        (DiskStep::Cut(Which::A, 0), Err(Failed)),
+        (DiskStep::Sync(Which::A), Err(Failed)),
+        (DiskStep::Len(Which::B), Ok(0)),
     ];
 
     // When it is let go.
-    const STEPS_BEHIND: [(Step, Result<u64, Failed>); 2] = [
-        (Step::Read(Which::A, 0, "hello..."), Ok(5)),
-        (Step::Write(Which::A, 0, "j"), Ok(0)),
+    const STEPS_BEHIND: [(DiskStep, Result<u64, Failed>); 2] = [
+        (DiskStep::Read(Which::A, 0, "hello..."), Ok(5)),
+        (DiskStep::Write(Which::A, 0, "j"), Ok(0)),
     ];
 
     // The faults of a site beside another one, and when that one is dropped.
@@ -456,15 +459,15 @@ mod tests {
         Ok(())
     }
 
-    const MISSING_A: [(Step, Result<u64, Failed>); 1] = [(Step::Len(Which::A), Ok(0))];
+    const MISSING_A: [(DiskStep, Result<u64, Failed>); 1] = [(DiskStep::Len(Which::A), Ok(0))];
 
     // Where file A was missing, and another site has made it since.
-    const STEPS_MADE_SINCE: [(Step, Result<u64, Failed>); 5] = [
-        (Step::Len(Which::A), Ok(0)),
-        (Step::Read(Which::A, 0, "...."), Ok(0)),
-        (Step::Sync(Which::A), Ok(0)),
-        (Step::Write(Which::A, 0, "x"), Err(Failed)),
-        (Step::Cut(Which::A, 0), Err(Failed)),
+    const STEPS_MADE_SINCE: [(DiskStep, Result<u64, Failed>); 5] = [
+        (DiskStep::Len(Which::A), Ok(0)),
+        (DiskStep::Read(Which::A, 0, "...."), Ok(0)),
+        (DiskStep::Sync(Which::A), Ok(0)),
+        (DiskStep::Write(Which::A, 0, "x"), Err(Failed)),
+        (DiskStep::Cut(Which::A, 0), Err(Failed)),
     ];
 
     // The faults of a site that found a file missing, when the site that made the file is dropped.

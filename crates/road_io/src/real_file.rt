@@ -1,7 +1,7 @@
 //! A file of the system by its name, under a lock.
 ghost use Rattle.std.specs.Prelude.{◌≤◌, IfOk, length};
 
-use crate::reading::{Place, read_again};
+use crate::reading::{FilePlace, read_again};
 use std::fs::{File, OpenOptions};
 use std::io;
 use std::io::ErrorKind;
@@ -13,13 +13,13 @@ use std::rt::Files;
 #[derive(Drop)]
 pub struct RealFile {
     name: String,
-    state: State,
+    state: FileState,
     // Its folder was synced since it was opened for writing.
     is_named: bool,
 }
 
 #[derive(Drop)]
-enum State {
+enum FileState {
     // It wasn't looked for.
     Unseen,
     // It wasn't there.
@@ -34,13 +34,13 @@ impl RealFile {
     pub fn new(name: String) -> RealFile {
         RealFile {
             name,
-            state: State::Unseen,
+            state: FileState::Unseen,
             is_named: false,
         }
     }
 
     fn look<R: Files<File = File>>(&mut self, files: &R) -> io::Result<()> {
-        if let State::Unseen = self.state {
+        if let FileState::Unseen = self.state {
             self.state = find(files, self.name.as_str())?;
         }
         Ok(())
@@ -50,19 +50,19 @@ impl RealFile {
     fn found<R: Files<File = File>>(&mut self, files: &R) -> io::Result<Option<&File>> {
         self.look(files)?;
         match &self.state {
-            State::Open(file) | State::ReadOnly(file) => Ok(Some(file)),
-            State::Unseen | State::Missing => Ok(None),
+            FileState::Open(file) | FileState::ReadOnly(file) => Ok(Some(file)),
+            FileState::Unseen | FileState::Missing => Ok(None),
         }
     }
 
     // The file, to be written. A missing one is made.
     fn writable<R: Files<File = File>>(&mut self, files: &R) -> io::Result<&File> {
         self.look(files)?;
-        if let State::Missing = self.state {
-            self.state = State::Open(make(files, self.name.as_str())?);
+        if let FileState::Missing = self.state {
+            self.state = FileState::Open(make(files, self.name.as_str())?);
         }
         match &self.state {
-            State::Open(file) => Ok(file),
+            FileState::Open(file) => Ok(file),
             _ => Err(ErrorKind::PermissionDenied.into()),
         }
     }
@@ -85,7 +85,7 @@ impl RealFile {
         ensures { IfOk result (λ n. n ≤ length buf.old) }
     {
         match self.found(files)? {
-            Some(file) => read_again(&mut Place { file, at }, buf),
+            Some(file) => read_again(&mut FilePlace { file, at }, buf),
             None => Ok(0),
         }
     }
@@ -109,13 +109,13 @@ impl RealFile {
     pub fn sync<R: Files<File = File>>(&mut self, files: &R) -> io::Result<()> {
         self.look(files)?;
         match &self.state {
-            State::Unseen | State::Missing => return Ok(()),
+            FileState::Unseen | FileState::Missing => return Ok(()),
             // This run neither made nor wrote it. What is pending of other runs is synced where this one may do so.
-            State::ReadOnly(file) => {
+            FileState::ReadOnly(file) => {
                 where_allowed(file.sync_all())?;
                 return where_allowed(sync_folder(files, self.name.as_str()));
             }
-            State::Open(file) => file.sync_all()?,
+            FileState::Open(file) => file.sync_all()?,
         }
         if !self.is_named {
             sync_folder(files, self.name.as_str())?;
@@ -126,13 +126,13 @@ impl RealFile {
 }
 
 // Opens and locks the file if it is there. It changes nothing.
-fn find<R: Files<File = File>>(files: &R, name: &str) -> io::Result<State> {
+fn find<R: Files<File = File>>(files: &R, name: &str) -> io::Result<FileState> {
     match OpenOptions::new().read(true).write(true).open(files, name) {
-        Ok(file) => Ok(State::Open(locked(file)?)),
+        Ok(file) => Ok(FileState::Open(locked(file)?)),
         Err(error) => match error.kind() {
-            ErrorKind::NotFound => Ok(State::Missing),
+            ErrorKind::NotFound => Ok(FileState::Missing),
             ErrorKind::PermissionDenied | ErrorKind::ReadOnlyFilesystem => {
-                Ok(State::ReadOnly(locked(File::open(files, name)?)?))
+                Ok(FileState::ReadOnly(locked(File::open(files, name)?)?))
             }
             _ => Err(error),
         },

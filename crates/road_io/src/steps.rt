@@ -3,7 +3,7 @@ use crate::{Failed, Which};
 
 /// A call. A read has as much room as its text is long, which is what the buffer of dots holds behind it.
 #[derive(Clone, Copy)]
-pub enum Step {
+pub enum DiskStep {
     Put(&'static str),
     Len(Which),
     Read(Which, u64, &'static str),

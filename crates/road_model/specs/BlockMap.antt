@@ -1,7 +1,7 @@
 -- Blocks as a finite map from ways, and how many more may be put without taking memory.
-use Rattle.std.specs.Prelude.{◌≡◌, ◌↔◌, ℕ, List, Some, cond, is_some, map, refl}
+use Rattle.std.specs.Prelude.{◌≡◌, ◌↔◌, ℕ, List, Some, map, refl}
 use Rattle.std.specs.Coded.{Coded, code_by, coded×, coded_ℕ}
-use Rattle.std.specs.FinMap.{FinMap, from_entries, get, insert, code}
+use Rattle.std.specs.FinMap.{FinMap, from_entries, get, code}
 use Rattle.road_base.specs.declared.ids.WayId.{WayId}
 use Rattle.road_base.specs.contracts.ids.WayId as way
 use Rattle.road_model.specs.declared.blocks.Block.{Block}
@@ -20,10 +20,6 @@ entry_of b = (b.way, b)
 
 abbrev pub block_map : List Block → FinMap way_cmp Block
 block_map bs = from_entries (map entry_of bs)
-
--- the map with the block in the place of its way's, where it has one of the way
-abbrev pub replaced : FinMap way_cmp Block → Block → FinMap way_cmp Block
-replaced m b = cond (is_some (get m b.way)) (insert m b.way b) m
 
 -- the map has exactly the blocks of the ways with pieces, each at its way
 abbrev pub AreBlocksOf : Objects → Rules → FinMap way_cmp Block → Type 0

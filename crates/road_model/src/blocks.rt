@@ -4,14 +4,13 @@ ghost use Rattle.std.specs.Prelude.{Some};
 ghost use Rattle.std.specs.FinMap.{empty, get, entries, insert as inserted, remove as removed};
 ghost use Rattle.ordered_lists.specs.Orders.{rises};
 ghost use Rattle.road_model.specs.Orders.{way_cmp};
-ghost use Rattle.road_model.specs.BlockMap.{replaced};
 ghost use Rattle.road_model.specs.declared.blocks.Block.{Block};
 
 use crate::Pieces;
-use crate::block_search::{find_near, find_way};
-use ordered_lists::Numbered;
+use crate::block_search::find_way;
+use ordered_lists::{Keyed, Kinded, Numbered};
 use road_base::{NoMemory, WayId};
-use std::alloc::Global;
+use std::alloc::{AllocError, Global};
 use std::marker::Model;
 
 /// The part of the graph that belongs to a way.
@@ -38,6 +37,29 @@ impl Numbered for Block {
     /// That of its way.
     fn number(&self) -> i64 {
         self.way.0
+    }
+}
+
+impl Kinded for Block {
+    /// All are of one kind.
+    fn kind(&self) -> u8 {
+        0
+    }
+}
+
+impl Keyed<WayId> for Block {
+    ghost key = { λ b. b.way };
+
+    /// Its way.
+    fn key(&self) -> WayId {
+        self.way
+    }
+
+    fn duplicate(&self) -> Result<Block, AllocError> {
+        match self.copy() {
+            Ok(block) => Ok(block),
+            Err(NoMemory) => Err(AllocError),
+        }
     }
 }
 
@@ -87,18 +109,6 @@ impl Blocks {
         }
     }
 
-    /// The way's block, and None exactly where the way has none. It is looked for at this position first: this takes no
-    /// search where it stands there, nor where there is none and it would. Takes no memory.
-    pub fn get_near(&self, way: WayId, at: usize) -> Option<&Block>
-        ensures { option_copied result ≡ get self.now.map way }
-    {
-        let list = self.list.as_slice();
-        match find_near(list, way, at) {
-            Ok(at) => Some(&list[at]),
-            Err(_) => None,
-        }
-    }
-
     /// Makes room to spare for as many further blocks. Where no memory is found nothing changes.
     pub fn reserve(&mut self, more: usize) -> Result<(), NoMemory>
         ensures map { self.new.map ≡ self.old.map }
@@ -126,17 +136,6 @@ impl Blocks {
                 self.list.reserve(1)?;
                 Ok(self.list.insert(at, block)?)
             }
-        }
-    }
-
-    /// Puts the block in the place of its way's, which is looked for at this position first. Where the way has none,
-    /// nothing changes and the block is dropped. Takes no memory.
-    pub fn replace_near(&mut self, block: Block, at: usize)
-        ensures map { self.new.map ≡ replaced self.old.map block }
-        ensures spare { self.new.spare ≡ self.old.spare }
-    {
-        if let Ok(place) = find_near(self.list.as_slice(), block.way, at) {
-            self.list[place] = block;
         }
     }
 

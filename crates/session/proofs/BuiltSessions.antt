@@ -9,7 +9,7 @@ use Rattle.road_io.specs.Outside.{Outside}
 use Rattle.road_io.proofs.ToldCalls.{told_same, told_weaker, told_then}
 use Rattle.session_input.specs.declared.input.Input.{Input}
 use Rattle.session_input.specs.declared.received.Received.{Received}
-use Rattle.session_input.specs.declared.received.Ending.TheVariants.{Last}
+use Rattle.session_input.specs.declared.received.InputEnd.TheVariants.{Last}
 use Rattle.session_input.specs.Messages.{Message}
 use Rattle.session_input.specs.Holding.{Holds}
 use Rattle.session_input.specs.Reading.{Means, Receives, IsEnding}

@@ -12,8 +12,8 @@ use Rattle.road_io.proofs.ToldCalls.{told_weaker, told_then}
 use Rattle.sequence_journal.specs.declared.journal.Journal.{Journal}
 use Rattle.session_input.specs.declared.input.Input.{Input}
 use Rattle.session_input.specs.declared.received.Received.{Received}
-use Rattle.session_input.specs.declared.received.Ending.TheVariants.{Done as DoneEnding, Last}
-use Rattle.session_input.specs.declared.received.Ending.TheVariants.{Unfinished as UnfinishedEnding}
+use Rattle.session_input.specs.declared.received.InputEnd.TheVariants.{Done as DoneEnding, Last}
+use Rattle.session_input.specs.declared.received.InputEnd.TheVariants.{Unfinished as UnfinishedEnding}
 use Rattle.session_input.specs.Messages.{Message}
 use Rattle.session_input.specs.Limits.{IsPending}
 use Rattle.session_input.specs.Reading.{Means, IsEnding}

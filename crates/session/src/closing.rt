@@ -15,7 +15,7 @@ use crate::talk::Talk;
 use road_base::Steps;
 use road_io::Site;
 use session_answers::{Answerer, unfinished};
-use session_input::{Ending, Input};
+use session_input::{Input, InputEnd};
 use std::sync::ledger::Ledger;
 
 impl<A: Answerer> Talk<A> {
@@ -82,12 +82,12 @@ impl<A: Answerer> Talk<A> {
         store_laws();
         match input.finish() {
             Err(_) => End::NoMemory,
-            Ok(Ending::Done) => End::Done,
-            Ok(Ending::Unfinished(number)) => match unfinished(self.alloc, number) {
+            Ok(InputEnd::Done) => End::Done,
+            Ok(InputEnd::Unfinished(number)) => match unfinished(self.alloc, number) {
                 Ok(line) => self.say_last(site, &line, End::Unfinished),
                 Err(_) => End::NoMemory,
             },
-            Ok(Ending::Last(received)) => match self.answer(&received, site, steps) {
+            Ok(InputEnd::Last(received)) => match self.answer(&received, site, steps) {
                 Ok(()) => End::Done,
                 Err(stop) => self.close(site, stop),
             },

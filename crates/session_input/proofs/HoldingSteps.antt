@@ -6,7 +6,7 @@ use Rattle.std.proofs.lemmas.Bool.Decides.{nat_tests}
 use Rattle.opl_lexer.specs.Parts.{Lacks}
 use Rattle.session_input.specs.declared.input.Input.{Input}
 use Rattle.session_input.specs.declared.line.Line.{Line}
-use Rattle.session_input.specs.declared.next.Next.{Next}
+use Rattle.session_input.specs.declared.next.Behind.{Behind}
 use Rattle.session_input.specs.declared.open_frame.OpenFrame.{OpenFrame}
 use Rattle.session_input.specs.declared.received.Received.{Received}
 use Rattle.session_input.specs.Messages.{line_text}
@@ -176,7 +176,7 @@ stopped_line before bytes part line input holds cut over =
 
 -- ---- the end
 
-pub last_leads : (before : ℕ) (bytes whole : List ℕ) (input : Input) (next : Next) → Holds before bytes input
+pub last_leads : (before : ℕ) (bytes whole : List ℕ) (input : Input) (next : Behind) → Holds before bytes input
     → whole ≡ input.held.items ++ (10 ∷ [])
     → ((front : List ℕ) → IsFront input.frame front → IsWholeLine whole → LeadsTo (front ++ whole) next)
     → LeadsTo (bytes ++ (10 ∷ [])) next
@@ -187,7 +187,7 @@ last_leads before bytes whole input next holds spelled leads =
     subst (λ (bs : List ℕ). LeadsTo bs next) all (leads holds.front holds.frame is)
 
 -- a line outside a frame
-pub leads_outside : (front all : List ℕ) (next : Next) (line : Line) → front ≡ [] → IsWholeLine all
+pub leads_outside : (front all : List ℕ) (next : Behind) (line : Line) → front ≡ [] → IsWholeLine all
     → ((bytes : List ℕ) → all ≡ bytes ++ (10 ∷ []) → text_of line ≡ line_text bytes)
     → ((bytes : List ℕ) → Lacks 10 bytes → text_of line ≡ line_text bytes → LeadsTo (bytes ++ (10 ∷ [])) next)
     → LeadsTo (front ++ all) next

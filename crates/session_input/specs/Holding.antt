@@ -6,8 +6,8 @@ use Rattle.opl_lexer.specs.Lines.{whole_lines}
 use Rattle.opl_lexer.specs.declared.mode.Mode.TheVariants.{Change as ChangeMode}
 use Rattle.opl_objects.specs.Feeding.{HasRead}
 use Rattle.session_input.specs.declared.input.Input.{Input}
-use Rattle.session_input.specs.declared.next.Next.{Next}
-use Rattle.session_input.specs.declared.next.Next.TheVariants.{Open, Ended}
+use Rattle.session_input.specs.declared.next.Behind.{Behind}
+use Rattle.session_input.specs.declared.next.Behind.TheVariants.{Open, Ended}
 use Rattle.session_input.specs.declared.open_frame.OpenFrame.{OpenFrame}
 use Rattle.session_input.specs.declared.received.Received.{Received}
 use Rattle.session_input.specs.Messages.{Message, BeginsFrame, IsMessage}
@@ -56,11 +56,11 @@ pub record IsReceived (bytes : List ℕ) (received : Received) : Type 0 where
   pub is : IsMessage message bytes
   pub means : Means message received
 
-abbrev pub LeadsTo : List ℕ → Next → Type 0
+abbrev pub LeadsTo : List ℕ → Behind → Type 0
 LeadsTo bytes (Open frame) = HasFrame bytes frame
 LeadsTo bytes (Ended received) = IsReceived bytes received
 
-abbrev pub next_size : Next → ℕ
+abbrev pub next_size : Behind → ℕ
 next_size (Open frame) = frame.size
 next_size (Ended received) = 0
 

@@ -8,8 +8,8 @@ use Rattle.opl_objects.specs.StreamLines.{fault_at}
 use Rattle.session_input.specs.declared.line.Line.{Line as LineText}
 use Rattle.session_input.specs.declared.received.Received.{Received}
 use Rattle.session_input.specs.declared.received.Received.TheVariants.{Line as LineReceived, Frame as FrameReceived}
-use Rattle.session_input.specs.declared.received.Ending.{Ending}
-use Rattle.session_input.specs.declared.received.Ending.TheVariants.{Done, Last, Unfinished}
+use Rattle.session_input.specs.declared.received.InputEnd.{InputEnd}
+use Rattle.session_input.specs.declared.received.InputEnd.TheVariants.{Done, Last, Unfinished}
 use Rattle.session_input.specs.declared.received.Change.{Change}
 use Rattle.session_input.specs.declared.received.Change.TheVariants.{Events, Faulty}
 use Rattle.session_input.specs.declared.received.InputStop.{InputStop}
@@ -42,7 +42,7 @@ StopsAt NoMemory before bytes = Unit {0}
 
 -- Where the input ends behind these bytes: there are none; or, since a last line that has a byte ends there, they are
 -- one message more; or a frame isn't ended.
-abbrev pub IsEnding : List ℕ → Ending → Type 0
+abbrev pub IsEnding : List ℕ → InputEnd → Type 0
 IsEnding open_bytes Done = open_bytes ≡ []
 IsEnding open_bytes (Last received) = (open_bytes ≢ []) × ((message : Message)
     × IsMessage message (open_bytes ++ newline ∷ []) × Means message received)

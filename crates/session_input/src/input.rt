@@ -7,9 +7,9 @@ ghost use Rattle.session_input.specs.Sizes.{frame_size};
 
 use crate::line::Line;
 use crate::lines::{first_line, held_line, lent_line};
-use crate::next::{Next, take_inside, take_outside};
+use crate::next::{Behind, take_inside, take_outside};
 use crate::open_frame::OpenFrame;
-use crate::received::{Ending, InputStop, Received};
+use crate::received::{InputEnd, InputStop, Received};
 use std::alloc::Global;
 use std::mem::replace;
 
@@ -93,7 +93,7 @@ impl Input {
     }
 
     /// The input ends here.
-    pub fn finish(self) -> Result<Ending, InputStop>
+    pub fn finish(self) -> Result<InputEnd, InputStop>
         ensures ended { IfOk result (λ ending. (before : ℕ) (bytes : List ℕ)
             → Holds before bytes self
             → IsEnding bytes ending) }
@@ -113,25 +113,25 @@ impl Input {
     }
 
     /// Where the input ends behind a line without a newline, by what it leads to with one.
-    fn behind_line(next: Next<'static>) -> Ending
+    fn behind_line(next: Behind<'static>) -> InputEnd
         ensures { (open_bytes : List ℕ)
             → (open_bytes ≡ [] → ⊥)
             → LeadsTo (open_bytes ++ (newline ∷ [])) next.entry
             → IsEnding open_bytes result }
     {
         match next {
-            Next::Open(frame) => Ending::Unfinished(frame.number()),
-            Next::Ended(received) => Ending::Last(received),
+            Behind::Open(frame) => InputEnd::Unfinished(frame.number()),
+            Behind::Ended(received) => InputEnd::Last(received),
         }
     }
 
     /// Where the input ends behind the whole lines of a frame, if one is open.
-    fn without_line(frame: Option<OpenFrame>) -> Ending
+    fn without_line(frame: Option<OpenFrame>) -> InputEnd
         ensures { (front : List ℕ) → IsFront frame front → IsEnding front result }
     {
         match frame {
-            Some(frame) => Ending::Unfinished(frame.number()),
-            None => Ending::Done,
+            Some(frame) => InputEnd::Unfinished(frame.number()),
+            None => InputEnd::Done,
         }
     }
 
@@ -177,7 +177,7 @@ impl Input {
     }
 
     /// What a line of the frame leads to, where these bytes end it.
-    fn next_inside<'a>(&mut self, frame: OpenFrame, line: &[u8]) -> Result<Next<'a>, InputStop>
+    fn next_inside<'a>(&mut self, frame: OpenFrame, line: &[u8]) -> Result<Behind<'a>, InputStop>
         requires some { 0 < length line.now }
         requires room { frame.size + vec_len self.old.held + length line.now < 2 ^ 64 }
         ensures next { IfOk result (λ next. (front : List ℕ)
@@ -222,7 +222,7 @@ impl Input {
     }
 
     /// What the line leads to, where these bytes end it.
-    fn next<'a>(&mut self, line: &'a [u8]) -> Result<Next<'a>, InputStop>
+    fn next<'a>(&mut self, line: &'a [u8]) -> Result<Behind<'a>, InputStop>
         requires some { 0 < length line.now }
         requires room { HasRoom self.old (length line.now - 1) 1 }
         ensures next { IfOk result (λ next. (front : List ℕ)
@@ -259,11 +259,11 @@ impl Input {
         let next = self.next(line)?;
         self.total += line.len() as u64;
         match next {
-            Next::Open(frame) => {
+            Behind::Open(frame) => {
                 self.frame = Some(frame);
                 Ok(None)
             }
-            Next::Ended(received) => Ok(Some(received)),
+            Behind::Ended(received) => Ok(Some(received)),
         }
     }
 }

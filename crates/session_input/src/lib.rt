@@ -16,4 +16,4 @@ mod received;
 
 pub use input::{Input, Taken};
 pub use line::Line;
-pub use received::{Change, Ending, InputStop, Received};
+pub use received::{Change, InputEnd, InputStop, Received};

@@ -17,7 +17,7 @@ use std::alloc::Global;
 
 /// What stands behind a line.
 #[derive(Drop)]
-pub enum Next<'a> {
+pub enum Behind<'a> {
     /// A frame that hasn't ended.
     Open(OpenFrame),
     /// A message, which the line ended.
@@ -32,19 +32,19 @@ fn number_of(line: &Line<'_>) -> Option<Sequence>
 }
 
 /// Takes a line outside a frame.
-pub fn take_outside<'a>(alloc: Global, line: Line<'a>) -> Next<'a>
+pub fn take_outside<'a>(alloc: Global, line: Line<'a>) -> Behind<'a>
     ensures next { (bytes : List ℕ) → Lacks newline bytes → text_of line.entry ≡ line_text bytes
         → LeadsTo (bytes ++ (newline ∷ [])) result }
     ensures size { next_size result ≡ 0 }
 {
     match number_of(&line) {
-        Some(number) => Next::Open(OpenFrame::new(alloc, number)),
-        None => Next::Ended(Received::Line(line)),
+        Some(number) => Behind::Open(OpenFrame::new(alloc, number)),
+        None => Behind::Ended(Received::Line(line)),
     }
 }
 
 /// The message that the frame is, whatever line ends it.
-fn end_frame<'a>(frame: OpenFrame) -> Result<Next<'a>, InputStop>
+fn end_frame<'a>(frame: OpenFrame) -> Result<Behind<'a>, InputStop>
     ensures next { IfOk result (λ next. (front line : List ℕ)
         → HasFrame front frame
         → Lacks newline line
@@ -55,11 +55,11 @@ fn end_frame<'a>(frame: OpenFrame) -> Result<Next<'a>, InputStop>
 {
     let number = frame.number();
     let change = frame.change()?;
-    Ok(Next::Ended(Received::Frame(number, change)))
+    Ok(Behind::Ended(Received::Frame(number, change)))
 }
 
 /// Takes a line in a frame, with its newline.
-pub fn take_inside<'a>(frame: OpenFrame, whole: &[u8]) -> Result<Next<'a>, InputStop>
+pub fn take_inside<'a>(frame: OpenFrame, whole: &[u8]) -> Result<Behind<'a>, InputStop>
     requires some { 0 < length whole.now }
     requires room { frame.size + length whole.now < 2 ^ 64 }
     ensures next { IfOk result (λ next. (front : List ℕ)
@@ -75,5 +75,5 @@ pub fn take_inside<'a>(frame: OpenFrame, whole: &[u8]) -> Result<Next<'a>, Input
     }
     let mut frame = frame;
     frame.feed(whole)?;
-    Ok(Next::Open(frame))
+    Ok(Behind::Open(frame))
 }

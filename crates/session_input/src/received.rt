@@ -24,7 +24,7 @@ pub enum Received<'a> {
 
 /// Where the input ends.
 #[derive(Drop)]
-pub enum Ending {
+pub enum InputEnd {
     /// Behind a whole message.
     Done,
     /// Behind one more message, whose last line has no newline.

@@ -14,7 +14,7 @@ use Rattle.road_model.specs.Links.{RefersTo, HasMember, IsLink, IsWithin, Differ
 use Rattle.road_model.specs.Links.{AreTouched, link_radius}
 use Rattle.ordered_lists.proofs.JoinedLists.{lists_same}
 use Rattle.road_model.proofs.LocalLinks.{way_same, relation_same, within_itself, decided_by, coded_visible}
-use Rattle.touched_ways.specs.declared.search.Search.{Search}
+use Rattle.touched_ways.specs.declared.search.LinkSearch.{LinkSearch}
 use Rattle.touched_ways.specs.Altering.{IsNearChange}
 use Rattle.touched_ways.specs.Searches.{IsFrontier, IsNext, IsFurtherInOne, IsBegun}
 use Rattle.touched_ways.proofs.LinkRounds.{IsReach, IsRound}
@@ -116,7 +116,7 @@ module _ (M N : Objects) (keys : List Key) (changed : AreChanged M N keys) where
   }
 
   -- and the first round follows those of the changed keys in both
-  module _ (s t : Search) (begun : IsBegun keys s) (h : IsNext s t (IsFurtherInOne M N s)) where
+  module _ (s t : LinkSearch) (begun : IsBegun keys s) (h : IsNext s t (IsFurtherInOne M N s)) where
     from_key : (k : Key) → Contains keys k → IsWithinInOne M N keys 1 k
     from_key k has = (k, has, inr (within_itself N 1 k))
 

@@ -10,21 +10,21 @@ use Rattle.road_base.specs.declared.ids.NodeId.{NodeId}
 use Rattle.road_base.specs.declared.ids.Key.{Key}
 use Rattle.road_base.specs.declared.ids.Key.TheVariants.{Node as NodeKey}
 use Rattle.road_model.specs.Orders.{node_cmp}
-use Rattle.touched_ways.specs.declared.found.Found.{Found}
+use Rattle.touched_ways.specs.declared.found.Reached.{Reached}
 use Rattle.touched_ways.specs.Searches.{IsFound, Finds, AreFollowed}
 
 module _ (Link : Key → Key → Type 0) where
-  pub followed_none : (hubs : BTreeSet NodeId) (f : Found) → hubs.keys ≡ [] → AreFollowed Link hubs f
+  pub followed_none : (hubs : BTreeSet NodeId) (f : Reached) → hubs.keys ≡ [] → AreFollowed Link hubs f
   followed_none hubs f empty n h k link =
       absurd (false≢true (subst (λ l. list_any (λ m. is_eq (node_cmp n m)) l ≡ true) empty h))
 
   -- what was found since is no less
-  pub followed_still : (hubs : BTreeSet NodeId) (f g : Found) (Is : Key → Type 0) → Finds f g Is
+  pub followed_still : (hubs : BTreeSet NodeId) (f g : Reached) (Is : Key → Type 0) → Finds f g Is
       → AreFollowed Link hubs f → AreFollowed Link hubs g
   followed_still hubs f g Is finds are n h k link = finds.keeps k (are n h k link)
 
   -- one more was followed
-  pub followed_more : (hubs more : BTreeSet NodeId) (g : Found) (node : NodeId) → IsAntisymmetric node_cmp
+  pub followed_more : (hubs more : BTreeSet NodeId) (g : Reached) (node : NodeId) → IsAntisymmetric node_cmp
       → Updates node_cmp hubs more node true → AreFollowed Link hubs g
       → ((k : Key) → Link (NodeKey node) k → IsFound g k) → AreFollowed Link more g
   followed_more hubs more g node ties added are now n h k link =
@@ -36,6 +36,6 @@ module _ (Link : Key → Key → Type 0) where
       cases false e i = are n i k link
 
   -- a node that was followed
-  pub finds_followed : (hubs : BTreeSet NodeId) (f : Found) (node : NodeId) → IsTrue (contains node_cmp hubs node)
+  pub finds_followed : (hubs : BTreeSet NodeId) (f : Reached) (node : NodeId) → IsTrue (contains node_cmp hubs node)
       → AreFollowed Link hubs f → Finds f f (Link (NodeKey node))
   finds_followed hubs f node h are = record { sound = λ k i. inl i; complete = are node h; keeps = λ k i. i }

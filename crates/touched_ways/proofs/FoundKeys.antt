@@ -9,16 +9,16 @@ use Rattle.road_base.specs.declared.ids.Key.{Key}
 use Rattle.road_base.specs.declared.ids.Key.TheVariants.{Node as NodeKey, Way as WayKey, Relation as RelationKey}
 use Rattle.ordered_lists.proofs.ListMembers.{contains_none}
 use Rattle.ordered_lists.proofs.JoinedLists.{one_more, has_last, has_before}
-use Rattle.touched_ways.specs.declared.found.Found.{Found}
+use Rattle.touched_ways.specs.declared.found.Reached.{Reached}
 use Rattle.touched_ways.specs.Searches.{IsFound, Finds, GivenBy}
 
 -- ---- one call behind another
 
 -- nothing is to be found
-pub finds_none : (f : Found) (Is : Key → Type 0) → ((k : Key) → Is k → ⊥) → Finds f f Is
+pub finds_none : (f : Reached) (Is : Key → Type 0) → ((k : Key) → Is k → ⊥) → Finds f f Is
 finds_none f Is none = record { sound = λ k h. inl h; complete = λ k i. absurd (none k i); keeps = λ k h. h }
 
-pub finds_as : (f g : Found) (Is Other : Key → Type 0) → Finds f g Is → ((k : Key) → Is k → Other k)
+pub finds_as : (f g : Reached) (Is Other : Key → Type 0) → Finds f g Is → ((k : Key) → Is k → Other k)
     → ((k : Key) → Other k → Is k) → Finds f g Other
 finds_as f g Is Other h to from = record {
   sound = λ k i. elim (h.sound k i) [ inl old ↦ inl old | inr new ↦ inr (to k new) ];
@@ -27,12 +27,12 @@ finds_as f g Is Other h to from = record {
 }
 
 -- each key of a list gives itself
-pub finds_given : (f g : Found) (keys : List Key) → Finds f g (GivenBy (λ x k. k ≡ x) keys)
+pub finds_given : (f g : Reached) (keys : List Key) → Finds f g (GivenBy (λ x k. k ≡ x) keys)
     → Finds f g (Contains keys)
 finds_given f g keys h = finds_as f g (GivenBy (λ x k. k ≡ x) keys) (Contains keys) h
     (λ k i. subst (Contains keys) (sym i.2) i.1) (λ k has. (k, has, refl))
 
-pub finds_both : (f g e : Found) (Is Next More : Key → Type 0) → Finds f g Is → Finds g e Next
+pub finds_both : (f g e : Reached) (Is Next More : Key → Type 0) → Finds f g Is → Finds g e Next
     → ((k : Key) → Is k → More k) → ((k : Key) → Next k → More k) → ((k : Key) → More k → Is k ⊎ Next k)
     → Finds f e More
 finds_both f g e Is Next More first second this that from = record {
@@ -47,25 +47,25 @@ finds_both f g e Is Next More first second this that from = record {
   keeps = λ k i. second.keeps k (first.keeps k i);
 }
 
-pub finds_key : (f g : Found) (key other : Key) → key ≡ other → Finds f g (λ k. k ≡ other) → Finds f g (λ k. k ≡ key)
+pub finds_key : (f g : Reached) (key other : Key) → key ≡ other → Finds f g (λ k. k ≡ other) → Finds f g (λ k. k ≡ key)
 finds_key f g key other e h = subst (λ x. Finds f g (λ k. k ≡ x)) (sym e) h
 
 -- the key is found where the fact holds of it
-pub finds_if : (f g : Found) (key : Key) (Is : Key → Type 0) → Is key → Finds f g (λ k. k ≡ key)
+pub finds_if : (f g : Reached) (key : Key) (Is : Key → Type 0) → Is key → Finds f g (λ k. k ≡ key)
     → Finds f g (λ k. (k ≡ key) × Is k)
 finds_if f g key Is is h = finds_as f g (λ k. k ≡ key) (λ k. (k ≡ key) × Is k) h
     (λ k e. (e, subst Is (sym e) is)) (λ k p. p.0)
 
-pub finds_not : (f : Found) (key : Key) (Is : Key → Type 0) → (Is key → ⊥) → Finds f f (λ k. (k ≡ key) × Is k)
+pub finds_not : (f : Reached) (key : Key) (Is : Key → Type 0) → (Is key → ⊥) → Finds f f (λ k. (k ≡ key) × Is k)
 finds_not f key Is not = finds_none f (λ k. (k ≡ key) × Is k) (λ k p. not (subst Is p.0 p.1))
 
 -- ---- one element of a list after the other
 
 module _ {A : Type 0} (Gives : A → Key → Type 0) where
-  pub finds_first : (f : Found) (xs : List A) → Finds f f (GivenBy Gives (take 0 xs))
+  pub finds_first : (f : Reached) (xs : List A) → Finds f f (GivenBy Gives (take 0 xs))
   finds_first f xs = finds_none f (GivenBy Gives []) (λ k g. contains_none g.0 g.1)
 
-  pub finds_next : (f g e : Found) (xs : List A) (i : ℕ) (d : A) → i < length xs
+  pub finds_next : (f g e : Reached) (xs : List A) (i : ℕ) (d : A) → i < length xs
       → Finds f g (GivenBy Gives (take i xs)) → Finds g e (Gives (get_or xs i d))
       → Finds f e (GivenBy Gives (take (i + 1) xs))
   finds_next f g e xs i d within first second =
@@ -78,7 +78,7 @@ module _ {A : Type 0} (Gives : A → Key → Type 0) where
         | inr before ↦ inl (m.0, before, m.2)
       ])
 
-  pub finds_all : (f g : Found) (xs : List A) (i : ℕ) → length xs ≤ i → Finds f g (GivenBy Gives (take i xs))
+  pub finds_all : (f g : Reached) (xs : List A) (i : ℕ) → length xs ≤ i → Finds f g (GivenBy Gives (take i xs))
       → Finds f g (GivenBy Gives xs)
   finds_all f g xs i past h = subst (λ (l : List A). Finds f g (GivenBy Gives l)) (take_all i xs past) h
 
@@ -89,12 +89,12 @@ abbrev pub KeyOf : {A : Type 0} → (A → Key) → (A → Type 0) → Key → T
 KeyOf key Is k = (x : _) × Is x × (k ≡ key x)
 
 -- of one number
-pub finds_one : {A : Type 0} (key : A → Key) (x : A) (f g : Found) → Finds f g (KeyOf key (λ y. y ≡ x))
+pub finds_one : {A : Type 0} (key : A → Key) (x : A) (f g : Reached) → Finds f g (KeyOf key (λ y. y ≡ x))
     → Finds f g (λ k. k ≡ key x)
 finds_one key x f g h = finds_as f g (KeyOf key (λ y. y ≡ x)) (λ k. k ≡ key x) h
     (λ k i. i.2 ∙ ap key i.1) (λ k e. (x, refl, e))
 
-module _ (f g : Found) where
+module _ (f g : Reached) where
   pub found_nodes : (Is : NodeId → Type 0)
       → ((x : NodeId) → Contains g.nodes.items x ↔ (Contains f.nodes.items x ⊎ Is x))
       → g.ways.list.items ≡ f.ways.list.items → g.rules.items ≡ f.rules.items → Finds f g (KeyOf NodeKey Is)

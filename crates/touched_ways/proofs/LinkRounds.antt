@@ -11,8 +11,8 @@ use Rattle.ordered_lists.specs.Orders.{Lists}
 use Rattle.road_model.specs.Orders.{way_cmp}
 use Rattle.road_model.specs.Links.{IsLink, IsWithin}
 use Rattle.ordered_lists.proofs.JoinedLists.{lists_same}
-use Rattle.touched_ways.specs.declared.found.Found.{Found}
-use Rattle.touched_ways.specs.declared.search.Search.{Search}
+use Rattle.touched_ways.specs.declared.found.Reached.{Reached}
+use Rattle.touched_ways.specs.declared.search.LinkSearch.{LinkSearch}
 use Rattle.touched_ways.specs.Searches.{IsFound, Finds, GivenBy, IsFrontier, IsSeen, IsNext, IsFurther, IsWayLink}
 use Rattle.touched_ways.specs.Searches.{IsFurtherInOne, IsBegun, AreRounds}
 use Rattle.touched_ways.proofs.FoundKeys.{finds_both}
@@ -25,7 +25,7 @@ pub record Taken {T : Type 0} (seen found frontier all : List T) : Type 0 where
   pub complete : (x : T) → Contains found x → Contains frontier x ⊎ Contains seen x
   pub adds : (x : T) → Contains all x ↔ (Contains seen x ⊎ Contains frontier x)
 
-pub taken_next : (s t : Search) (f : Found) → t.nodes.items ≡ f.nodes.items
+pub taken_next : (s t : LinkSearch) (f : Reached) → t.nodes.items ≡ f.nodes.items
     → Taken s.ways.all.items f.ways.list.items t.ways.frontier.items t.ways.all.items
     → Taken s.rules.all.items f.rules.items t.rules.frontier.items t.rules.all.items → IsNext s t (IsFound f)
 taken_next s t f nodes taken rules =
@@ -49,7 +49,7 @@ taken_next s t f nodes taken rules =
 -- ---- what calls found, taken in
 
 -- nothing had been found before
-pub next_found : (s t : Search) (f g : Found) (Is : Key → Type 0) → ((k : Key) → IsFound f k → ⊥) → Finds f g Is
+pub next_found : (s t : LinkSearch) (f g : Reached) (Is : Key → Type 0) → ((k : Key) → IsFound f k → ⊥) → Finds f g Is
     → IsNext s t (IsFound g) → IsNext s t Is
 next_found s t f g Is none finds h = record {
   sound = λ k i. elim (finds.sound k (h.sound k i)) [ inl old ↦ absurd (none k old) | inr new ↦ new ];
@@ -59,7 +59,7 @@ next_found s t f g Is none finds h = record {
 }
 
 -- a search that has taken in the keys, and nothing before
-pub begun : (keys : List Key) (s t : Search) → ((k : Key) → IsSeen s k → ⊥) → IsNext s t (Contains keys)
+pub begun : (keys : List Key) (s t : LinkSearch) → ((k : Key) → IsSeen s k → ⊥) → IsNext s t (Contains keys)
     → IsBegun keys t
 begun keys s t none h = record {
   frontier = λ k. (h.sound k, from k);
@@ -72,9 +72,9 @@ begun keys s t none h = record {
 
 -- ---- what was found is what is further
 
-module _ (M : Objects) (s : Search) (ns : List NodeId) (rs : List RelationId) (nodes : ns ≡ s.nodes.items)
+module _ (M : Objects) (s : LinkSearch) (ns : List NodeId) (rs : List RelationId) (nodes : ns ≡ s.nodes.items)
     (rules : rs ≡ s.rules.frontier.items) where
-  pub all_further : (f0 f1 f2 f3 : Found) (ws : List WayId) → ws ≡ s.ways.frontier.items
+  pub all_further : (f0 f1 f2 f3 : Reached) (ws : List WayId) → ws ≡ s.ways.frontier.items
       → Finds f0 f1 (GivenBy (λ n. IsLink M (NodeKey n)) ns) → Finds f1 f2 (GivenBy (λ w. IsLink M (WayKey w)) ws)
       → Finds f2 f3 (GivenBy (λ r. IsLink M (RelationKey r)) rs) → Finds f0 f3 (IsFurther M s)
   all_further f0 f1 f2 f3 ws ways first second third =
@@ -104,7 +104,7 @@ module _ (M : Objects) (s : Search) (ns : List NodeId) (rs : List RelationId) (n
       keeps k i = third.keeps k (second.keeps k (first.keeps k i))
 
   -- of ways alone
-  pub last_ways : (f0 f1 f2 : Found) → ((k : Key) → IsFound f0 k → ⊥)
+  pub last_ways : (f0 f1 f2 : Reached) → ((k : Key) → IsFound f0 k → ⊥)
       → Finds f0 f1 (GivenBy (λ n. IsWayLink M (NodeKey n)) ns)
       → Finds f1 f2 (GivenBy (λ r. IsWayLink M (RelationKey r)) rs) → (last ways : List WayId)
       → last ≡ f2.ways.list.items
@@ -136,7 +136,7 @@ module _ (M : Objects) (s : Search) (ns : List NodeId) (rs : List RelationId) (n
           second.complete (WayKey w) (x, subst (λ l. Contains l x) (sym rules) frontier, (link, tt))
 
 -- in one of two object maps
-pub further_in_one : (M N : Objects) (s : Search) (f g e : Found) → Finds f g (IsFurther M s)
+pub further_in_one : (M N : Objects) (s : LinkSearch) (f g e : Reached) → Finds f g (IsFurther M s)
     → Finds g e (IsFurther N s) → Finds f e (IsFurtherInOne M N s)
 further_in_one M N s f g e first second =
     finds_both f g e (IsFurther M s) (IsFurther N s) (IsFurtherInOne M N s) first second
@@ -151,21 +151,21 @@ pub record IsReach (M : Objects) (Within : ℕ → Key → Type 0) : Type 0 wher
   pub cases : (n : ℕ) (b : Key) → Within (suc n) b → Within n b ⊎ ((a : Key) × Within n a × IsLink M a b)
 
 -- the ways that are near were seen, and all that is further is linked to the frontier
-pub record IsRound (M : Objects) (Near : Key → Type 0) (s : Search) : Type 0 where
+pub record IsRound (M : Objects) (Near : Key → Type 0) (s : LinkSearch) : Type 0 where
   pub frontier : (k : Key) → IsFrontier s k → Near k
   pub seen : (k : Key) → IsSeen s k → Near k
   pub ways : (w : WayId) → Near (WayKey w) → IsSeen s (WayKey w)
   pub followed : (a b : Key) → Near a → IsLink M a b → Near b ⊎ IsFrontier s a
 
 -- the ways that were seen
-pub ways_seen : (M : Objects) (Near : Key → Type 0) (s : Search) (ways : List WayId) → IsRound M Near s
+pub ways_seen : (M : Objects) (Near : Key → Type 0) (s : LinkSearch) (ways : List WayId) → IsRound M Near s
     → Lists (λ w. w) way_cmp (λ w. Contains s.ways.all.items w) ways
     → Lists (λ w. w) way_cmp (λ w. Near (WayKey w)) ways
 ways_seen M Near s ways round lists = lists_same (λ w. w) way_cmp (λ w. Contains s.ways.all.items w)
     (λ w. Near (WayKey w)) ways lists (λ w h. round.seen (WayKey w) h) (λ w h. round.ways w h)
 
 module _ (M : Objects) (Within : ℕ → Key → Type 0) (reach : IsReach M Within) where
-  module _ (n : ℕ) (s : Search) (round : IsRound M (Within n) s) where
+  module _ (n : ℕ) (s : LinkSearch) (round : IsRound M (Within n) s) where
     -- what is further
     further : (b : Key) → IsFurther M s b → Within (suc n) b
     further b (a, frontier, link) = reach.next n a b (round.frontier a frontier) link
@@ -178,7 +178,7 @@ module _ (M : Objects) (Within : ℕ → Key → Type 0) (reach : IsReach M With
           [ inl before ↦ inl before | inr frontier ↦ inr (a, frontier, link) ]
     ]
 
-    module _ (t : Search) (h : IsNext s t (IsFurther M s)) where
+    module _ (t : LinkSearch) (h : IsNext s t (IsFurther M s)) where
       -- what was taken in, and isn't on the frontier, had been reached
       arrived : (b : Key) → Within (suc n) b → Within n b ⊎ IsFrontier t b
       arrived b i = elim (came b i) [
@@ -215,7 +215,7 @@ module _ (M : Objects) (Within : ℕ → Key → Type 0) (reach : IsReach M With
         ])
         (λ w h. elim (came (WayKey w) h) [ inl before ↦ inl (round.ways w before) | inr new ↦ inr new ])
 
-  pub rounds_more : (m n : ℕ) (s t : Search) → IsRound M (Within n) s → AreRounds M m s t
+  pub rounds_more : (m n : ℕ) (s t : LinkSearch) → IsRound M (Within n) s → AreRounds M m s t
       → IsRound M (Within (m + n)) t
   rounds_more zero n s t round same = let e : n ≡ 0 + n = omega arith in
       subst (λ k. IsRound M (Within k) t) e (subst (IsRound M (Within n)) same round)
@@ -239,7 +239,7 @@ module _ (M : Objects) (keys : List Key) where
     ];
   }
 
-  pub begun_any : (s : Search) → IsBegun keys s → IsRound M (IsWithinAny M keys 0) s
+  pub begun_any : (s : LinkSearch) → IsBegun keys s → IsRound M (IsWithinAny M keys 0) s
   begun_any s h = record {
     frontier = λ k i. (k, (h.frontier k).0 i, refl);
     seen = λ k i. (k, h.seen k i, refl);

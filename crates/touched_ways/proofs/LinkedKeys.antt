@@ -12,7 +12,7 @@ use Rattle.ordered_lists.proofs.ListMembers.{contains_map, contains_from_map}
 use Rattle.ordered_lists.specs.Orders.{Lists}
 use Rattle.road_model.specs.Orders.{way_cmp, relation_cmp}
 use Rattle.road_model.specs.Links.{RefersTo, HasMember, IsLink}
-use Rattle.touched_ways.specs.declared.found.Found.{Found}
+use Rattle.touched_ways.specs.declared.found.Reached.{Reached}
 use Rattle.touched_ways.specs.Searches.{Finds, GivenBy, IsNodeOrWay, IsWay, IsWayLink}
 use Rattle.touched_ways.proofs.FoundKeys.{finds_as, finds_both}
 
@@ -35,7 +35,7 @@ module _ (M : Objects) (n : NodeId) (ways : List WayId) (are : Lists (λ w. w) w
       node_cases (WayKey w) l = inl (w, are.complete w l, refl)
       node_cases (RelationKey r) l = inr (r, also.complete r l, refl)
 
-      pub node_linked : (f g e : Found) → Finds f g (Keyed WayKey ways) → Finds g e (Keyed RelationKey rules)
+      pub node_linked : (f g e : Reached) → Finds f g (Keyed WayKey ways) → Finds g e (Keyed RelationKey rules)
           → Finds f e (IsLink M (NodeKey n))
       node_linked f g e first second =
           finds_both f g e (Keyed WayKey ways) (Keyed RelationKey rules) (IsLink M (NodeKey n)) first second
@@ -47,7 +47,7 @@ module _ (M : Objects) (n : NodeId) (ways : List WayId) (are : Lists (λ w. w) w
     node_way (WayKey w) l = (w, are.complete w l.0, refl)
     node_way (RelationKey r) l = absurd l.1
 
-    pub node_way_linked : (f g : Found) → Finds f g (Keyed WayKey ways) → Finds f g (IsWayLink M (NodeKey n))
+    pub node_way_linked : (f g : Reached) → Finds f g (Keyed WayKey ways) → Finds f g (IsWayLink M (NodeKey n))
     node_way_linked f g h = finds_as f g (Keyed WayKey ways) (IsWayLink M (NodeKey n)) h
         (to_each WayKey ways (IsWayLink M (NodeKey n)) (λ w has. (are.sound w has, tt))) node_way
 
@@ -61,7 +61,7 @@ module _ (M : Objects) (w : WayId) (nodes : List NodeId) (rules : List RelationI
   way_cases (WayKey v) l = absurd l
   way_cases (RelationKey r) l = inr (r, also.complete r l, refl)
 
-  pub way_linked : (f g e : Found) → Finds f g (Keyed NodeKey nodes) → Finds g e (Keyed RelationKey rules)
+  pub way_linked : (f g e : Reached) → Finds f g (Keyed NodeKey nodes) → Finds g e (Keyed RelationKey rules)
       → Finds f e (IsLink M (WayKey w))
   way_linked f g e first second =
       finds_both f g e (Keyed NodeKey nodes) (Keyed RelationKey rules) (IsLink M (WayKey w)) first second
@@ -93,7 +93,7 @@ module _ (M : Objects) (r : RelationId) (members : List Member)
   rule_from (WayKey w) l = member_that IsNodeOrWay (WayKey w) l tt
   rule_from (RelationKey q) l = absurd l
 
-  pub rule_linked : (f g : Found) → Finds f g (MemberThat IsNodeOrWay members) → Finds f g (IsLink M (RelationKey r))
+  pub rule_linked : (f g : Reached) → Finds f g (MemberThat IsNodeOrWay members) → Finds f g (IsLink M (RelationKey r))
   rule_linked f g h =
       finds_as f g (MemberThat IsNodeOrWay members) (IsLink M (RelationKey r)) h rule_to rule_from
 
@@ -107,7 +107,7 @@ module _ (M : Objects) (r : RelationId) (members : List Member)
   rule_from_way (WayKey w) l = member_that IsWay (WayKey w) l.0 tt
   rule_from_way (RelationKey q) l = absurd l.1
 
-  pub rule_way_linked : (f g : Found) → Finds f g (MemberThat IsWay members)
+  pub rule_way_linked : (f g : Reached) → Finds f g (MemberThat IsWay members)
       → Finds f g (IsWayLink M (RelationKey r))
   rule_way_linked f g h =
       finds_as f g (MemberThat IsWay members) (IsWayLink M (RelationKey r)) h rule_to_way rule_from_way

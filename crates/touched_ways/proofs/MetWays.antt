@@ -11,7 +11,7 @@ use Rattle.road_model.specs.Links.{IsLink}
 use Rattle.ordered_lists.specs.Orders.{Lists, rises}
 use Rattle.road_model.specs.Orders.{way_cmp}
 use Rattle.ordered_lists.proofs.JoinedLists.{lists_same}
-use Rattle.touched_ways.specs.declared.found.Found.{Found}
+use Rattle.touched_ways.specs.declared.found.Reached.{Reached}
 use Rattle.touched_ways.specs.Altering.{AreNamedTogether, HereOrBeside, MeetsOne}
 use Rattle.touched_ways.specs.Searches.{Finds, GivenBy, IsFound, IsWayLink}
 use Rattle.touched_ways.proofs.WayLists.{same, one_longer, was_or_last, still_has, last_has}
@@ -30,7 +30,7 @@ module _ (ways found : List WayId) (up : IsTrue (rises way_cmp ways))
 
 -- ---- two links, by a node, lead from a way to one that it meets
 
-module _ (M : Objects) (ways : List WayId) (none nodes start end : Found)
+module _ (M : Objects) (ways : List WayId) (none nodes start end : Reached)
     (no_keys : (k : Key) → IsFound none k → ⊥) (no_ways : (k : Key) → IsFound start k → ⊥)
     (first : Finds none nodes (GivenBy (λ w. IsLink M (WayKey w)) ways))
     (second : Finds start end (GivenBy (λ n. IsWayLink M (NodeKey n)) nodes.nodes.items)) where
@@ -52,7 +52,7 @@ module _ (M : Objects) (ways : List WayId) (none nodes start end : Found)
 
 -- ---- and two by a restriction to one that it names beside it
 
-module _ (M : Objects) (ways : List WayId) (none linked start end : Found) (rules : List RelationId)
+module _ (M : Objects) (ways : List WayId) (none linked start end : Reached) (rules : List RelationId)
     (no_keys : (k : Key) → IsFound none k → ⊥) (no_ways : (k : Key) → IsFound start k → ⊥)
     (first : Finds none linked (GivenBy (λ w. IsLink M (WayKey w)) ways))
     (once : (r : RelationId) → Contains rules r ↔ Contains linked.rules.items r)

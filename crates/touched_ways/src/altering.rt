@@ -10,7 +10,7 @@ ghost use Rattle.road_model.specs.Orders.{way_cmp};
 ghost use Rattle.touched_ways.specs.Altering.{AreNamedTogether, AreParted, AreSplit, HereOrBeside, IsNearChange};
 ghost use Rattle.touched_ways.specs.Altering.{MeetsOne};
 
-use crate::found::Found;
+use crate::found::Reached;
 use crate::merging::merge;
 use crate::rounds::{find_ways_of_nodes, find_ways_of_rules, follow_ways};
 use ordered_lists::leave_once;
@@ -174,14 +174,15 @@ fn both_of(alloc: Global, ways: &Ways, found: &Ways) -> Result<Ways, NoMemory>
     Ok(Ways::from_list(both))
 }
 
-/// The ways that share a node with one of these, ascending.
-fn ways_met<M: World>(alloc: Global, world: &M, ways: &[WayId]) -> Result<Ways, NoMemory>
+/// The ways that share a node with one of these, ascending, as does each of these that has a node. Ways without the key
+/// `highway` share none.
+pub fn ways_met<M: World>(alloc: Global, world: &M, ways: &[WayId]) -> Result<Ways, NoMemory>
     ensures { IfOk result (Lists (λ w. w) way_cmp (MeetsOne (M.objects world.now) ways.now)) }
 {
     name_order();
-    let mut nodes = Found::with_room(alloc, 0, ways.len())?;
+    let mut nodes = Reached::with_room(alloc, 0, ways.len())?;
     follow_ways(world, ways, &mut nodes)?;
-    let mut found = Found::with_room(alloc, nodes.nodes.len(), 0)?;
+    let mut found = Reached::with_room(alloc, nodes.nodes.len(), 0)?;
     find_ways_of_nodes(alloc, world, nodes.nodes.as_slice(), &mut found)?;
     let ways_found = found.ways;
     let mut met = ways_found.list;
@@ -204,11 +205,11 @@ fn ways_beside<M: World>(alloc: Global, world: &M, ways: &[WayId]) -> Result<Way
 {
     name_order();
     number_order();
-    let mut linked = Found::with_room(alloc, 0, ways.len())?;
+    let mut linked = Reached::with_room(alloc, 0, ways.len())?;
     follow_ways(world, ways, &mut linked)?;
     let mut rules = linked.rules;
     leave_once(&mut rules);
-    let mut found = Found::new(alloc)?;
+    let mut found = Reached::new(alloc)?;
     find_ways_of_rules(world, rules.as_slice(), &mut found)?;
     let ways_found = found.ways;
     let mut beside = ways_found.list;

@@ -15,19 +15,19 @@ const NODES: usize = 12;
 
 /// The numbers found, by kind, in no order. One may stand there more than once.
 #[derive(Drop)]
-pub struct Found {
+pub struct Reached {
     pub nodes: Vec<NodeId>,
     pub ways: FoundWays,
     pub rules: Vec<RelationId>,
 }
 
-impl Found {
+impl Reached {
     /// Nothing was found.
-    pub fn new(alloc: Global) -> Result<Found, NoMemory>
+    pub fn new(alloc: Global) -> Result<Reached, NoMemory>
         ensures { IfOk result (λ f. (k : KeyValue) → IsFound f k → ⊥) }
     {
         let ways = FoundWays::new(alloc)?;
-        Ok(Found {
+        Ok(Reached {
             nodes: Vec::new(alloc),
             ways,
             rules: Vec::new(alloc),
@@ -35,13 +35,13 @@ impl Found {
     }
 
     /// Nothing was found. There is room for about what is linked to so many nodes and ways.
-    pub fn with_room(alloc: Global, nodes: usize, ways: usize) -> Result<Found, NoMemory>
+    pub fn with_room(alloc: Global, nodes: usize, ways: usize) -> Result<Reached, NoMemory>
         ensures { IfOk result (λ f. (k : KeyValue) → IsFound f k → ⊥) }
     {
         let nodes_of_ways = ways.saturating_mul(NODES);
         let ways = FoundWays::with_capacity(alloc, nodes)?;
         let nodes = Vec::with_capacity(alloc, nodes_of_ways)?;
-        Ok(Found {
+        Ok(Reached {
             nodes,
             ways,
             rules: Vec::new(alloc),

@@ -4,7 +4,7 @@ ghost use Rattle.road_base.specs.declared.ids.Key.TheVariants.{Node as NodeKey};
 ghost use Rattle.road_model.specs.Links.{IsLink};
 ghost use Rattle.touched_ways.specs.Searches.{Finds, AreFollowed, IsWayLink};
 
-use crate::found::Found;
+use crate::found::Reached;
 use crate::links::{find_ways_of_node, follow_node};
 use road_base::{NoMemory, NodeId};
 use road_model::World;
@@ -16,7 +16,7 @@ pub fn follow_node_once<M: World>(
     world: &M,
     node: NodeId,
     hubs: &mut BTreeSet<NodeId>,
-    found: &mut Found,
+    found: &mut Reached,
 ) -> Result<(), NoMemory>
     requires { AreFollowed (IsLink (M.objects world.now)) hubs.old found.old }
     ensures finds { OnOk result (Finds found.old found.new (IsLink (M.objects world.now) (NodeKey node))) }
@@ -38,7 +38,7 @@ pub fn find_ways_once<M: World>(
     world: &M,
     node: NodeId,
     hubs: &mut BTreeSet<NodeId>,
-    found: &mut Found,
+    found: &mut Reached,
 ) -> Result<(), NoMemory>
     requires { AreFollowed (IsWayLink (M.objects world.now)) hubs.old found.old }
     ensures finds { OnOk result (Finds found.old found.new (IsWayLink (M.objects world.now) (NodeKey node))) }

@@ -28,6 +28,6 @@ mod rounds;
 mod search;
 mod seen;
 
-pub use altering::{TouchedWays, is_among, meeting, part};
+pub use altering::{TouchedWays, is_among, meeting, part, ways_met};
 pub use merging::merge;
 pub use rounds::{NearWays, reached, surroundings};

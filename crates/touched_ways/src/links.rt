@@ -6,7 +6,7 @@ ghost use Rattle.road_base.specs.declared.ids.NodeId.{NodeId as NodeNumber};
 ghost use Rattle.road_model.specs.Links.{RefersTo, HasMember, IsLink};
 ghost use Rattle.touched_ways.specs.Searches.{Finds, IsWayLink};
 
-use crate::found::Found;
+use crate::found::Reached;
 use road_base::{Member, NoMemory, NodeId, RelationId, WayId};
 use road_model::{World, has_highway, is_restriction};
 
@@ -14,7 +14,7 @@ use road_model::{World, has_highway, is_restriction};
 const FEW: usize = 8;
 
 /// Finds what is linked to the node, and tells whether it is a hub.
-pub fn follow_node<M: World>(world: &M, node: NodeId, found: &mut Found) -> Result<bool, NoMemory>
+pub fn follow_node<M: World>(world: &M, node: NodeId, found: &mut Reached) -> Result<bool, NoMemory>
     ensures { OnOk result (Finds found.old found.new (IsLink (M.objects world.now) (NodeKey node))) }
 {
     let ways = world.ways_at(node);
@@ -25,7 +25,7 @@ pub fn follow_node<M: World>(world: &M, node: NodeId, found: &mut Found) -> Resu
 }
 
 /// Finds what is linked to the way.
-pub fn follow_way<M: World>(world: &M, way: WayId, found: &mut Found) -> Result<(), NoMemory>
+pub fn follow_way<M: World>(world: &M, way: WayId, found: &mut Reached) -> Result<(), NoMemory>
     ensures { OnOk result (Finds found.old found.new (IsLink (M.objects world.now) (WayKey way))) }
 {
     found.add_nodes(nodes_of(world, way))?;
@@ -33,7 +33,11 @@ pub fn follow_way<M: World>(world: &M, way: WayId, found: &mut Found) -> Result<
 }
 
 /// Finds what is linked to the restriction.
-pub fn follow_rule<M: World>(world: &M, rule: RelationId, found: &mut Found) -> Result<(), NoMemory>
+pub fn follow_rule<M: World>(
+    world: &M,
+    rule: RelationId,
+    found: &mut Reached,
+) -> Result<(), NoMemory>
     ensures { OnOk result (Finds found.old found.new (IsLink (M.objects world.now) (RelationKey rule))) }
 {
     found.add_members(members_of(world, rule))
@@ -43,7 +47,7 @@ pub fn follow_rule<M: World>(world: &M, rule: RelationId, found: &mut Found) -> 
 pub fn find_ways_of_node<M: World>(
     world: &M,
     node: NodeId,
-    found: &mut Found,
+    found: &mut Reached,
 ) -> Result<bool, NoMemory>
     ensures { OnOk result (Finds found.old found.new (IsWayLink (M.objects world.now) (NodeKey node))) }
 {
@@ -56,7 +60,7 @@ pub fn find_ways_of_node<M: World>(
 pub fn find_ways_of_rule<M: World>(
     world: &M,
     rule: RelationId,
-    found: &mut Found,
+    found: &mut Reached,
 ) -> Result<(), NoMemory>
     ensures { OnOk result (Finds found.old found.new (IsWayLink (M.objects world.now) (RelationKey rule))) }
 {

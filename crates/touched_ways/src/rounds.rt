@@ -8,10 +8,10 @@ ghost use Rattle.touched_ways.specs.Altering.{IsNearChange};
 ghost use Rattle.touched_ways.specs.Searches.{Finds, GivenBy, IsWayLink, IsNext, IsSeen, IsFurther, IsFurtherInOne};
 ghost use Rattle.touched_ways.specs.Searches.{IsBegun, AreRounds};
 
-use crate::found::Found;
+use crate::found::Reached;
 use crate::hubs::{find_ways_once, follow_node_once};
 use crate::links::{find_ways_of_rule, follow_rule, follow_way};
-use crate::search::Search;
+use crate::search::LinkSearch;
 use road_base::{Key, Keys, NoMemory, NodeId, RelationId, WayId, Ways};
 use road_model::{LINK_RADIUS, World};
 use std::alloc::Global;
@@ -61,12 +61,12 @@ pub fn surroundings<M: World, N: World>(
 }
 
 /// The search that has reached the keys.
-fn begin(alloc: Global, keys: &[Key]) -> Result<Search, NoMemory>
+fn begin(alloc: Global, keys: &[Key]) -> Result<LinkSearch, NoMemory>
     ensures { IfOk result (IsBegun keys.now) }
 {
-    let mut found = Found::new(alloc)?;
+    let mut found = Reached::new(alloc)?;
     found.add_keys(keys)?;
-    let mut search = Search::new(alloc);
+    let mut search = LinkSearch::new(alloc);
     search.take_in(found)?;
     Ok(search)
 }
@@ -76,12 +76,12 @@ fn round_in_both<M: World, N: World>(
     alloc: Global,
     one: &M,
     other: &N,
-    search: &mut Search,
+    search: &mut LinkSearch,
 ) -> Result<(), NoMemory>
     ensures { OnOk result (IsNext search.old search.new
         (IsFurtherInOne (M.objects one.now) (N.objects other.now) search.old)) }
 {
-    let mut found = Found::with_room(alloc, search.nodes.len(), search.ways.frontier.len())?;
+    let mut found = Reached::with_room(alloc, search.nodes.len(), search.ways.frontier.len())?;
     follow(alloc, one, search, &mut found)?;
     follow(alloc, other, search, &mut found)?;
     search.take_in(found)
@@ -91,7 +91,7 @@ fn round_in_both<M: World, N: World>(
 fn rounds<M: World>(
     alloc: Global,
     world: &M,
-    search: &mut Search,
+    search: &mut LinkSearch,
     count: u32,
 ) -> Result<(), NoMemory>
     ensures { OnOk result (AreRounds (M.objects world.now) count search.old search.new) }
@@ -103,20 +103,20 @@ fn rounds<M: World>(
 }
 
 /// Reaches what is one link further.
-fn next_round<M: World>(alloc: Global, world: &M, search: &mut Search) -> Result<(), NoMemory>
+fn next_round<M: World>(alloc: Global, world: &M, search: &mut LinkSearch) -> Result<(), NoMemory>
     ensures { OnOk result (IsNext search.old search.new (IsFurther (M.objects world.now) search.old)) }
 {
-    let mut found = Found::with_room(alloc, search.nodes.len(), search.ways.frontier.len())?;
+    let mut found = Reached::with_room(alloc, search.nodes.len(), search.ways.frontier.len())?;
     follow(alloc, world, search, &mut found)?;
     search.take_in(found)
 }
 
 /// The ways reached, and those that are one link further.
-fn last_round<M: World>(alloc: Global, world: &M, search: Search) -> Result<Ways, NoMemory>
+fn last_round<M: World>(alloc: Global, world: &M, search: LinkSearch) -> Result<Ways, NoMemory>
     ensures { IfOk result (Lists (λ w. w) way_cmp
         (λ w. IsSeen search (WayKey w) ⊎ IsFurther (M.objects world.now) search (WayKey w))) }
 {
-    let mut found = Found::with_room(alloc, search.nodes.len(), 0)?;
+    let mut found = Reached::with_room(alloc, search.nodes.len(), 0)?;
     find_ways_of_nodes(alloc, world, search.nodes.as_slice(), &mut found)?;
     find_ways_of_rules(world, search.rules.frontier.as_slice(), &mut found)?;
     let ways_found = found.ways;
@@ -127,8 +127,8 @@ fn last_round<M: World>(alloc: Global, world: &M, search: Search) -> Result<Ways
 fn follow<M: World>(
     alloc: Global,
     world: &M,
-    search: &Search,
-    found: &mut Found,
+    search: &LinkSearch,
+    found: &mut Reached,
 ) -> Result<(), NoMemory>
     ensures { OnOk result (Finds found.old found.new (IsFurther (M.objects world.now) search.now)) }
 {
@@ -142,7 +142,7 @@ fn follow_nodes<M: World>(
     alloc: Global,
     world: &M,
     nodes: &[NodeId],
-    found: &mut Found,
+    found: &mut Reached,
 ) -> Result<(), NoMemory>
     ensures { OnOk result (Finds found.old found.new
         (GivenBy (λ n. IsLink (M.objects world.now) (NodeKey n)) nodes.now)) }
@@ -155,7 +155,7 @@ fn follow_nodes<M: World>(
 }
 
 /// Finds what is linked to one of the ways.
-pub fn follow_ways<M: World>(world: &M, ways: &[WayId], found: &mut Found) -> Result<(), NoMemory>
+pub fn follow_ways<M: World>(world: &M, ways: &[WayId], found: &mut Reached) -> Result<(), NoMemory>
     ensures { OnOk result (Finds found.old found.new
         (GivenBy (λ w. IsLink (M.objects world.now) (WayKey w)) ways.now)) }
 {
@@ -169,7 +169,7 @@ pub fn follow_ways<M: World>(world: &M, ways: &[WayId], found: &mut Found) -> Re
 fn follow_rules<M: World>(
     world: &M,
     rules: &[RelationId],
-    found: &mut Found,
+    found: &mut Reached,
 ) -> Result<(), NoMemory>
     ensures { OnOk result (Finds found.old found.new
         (GivenBy (λ r. IsLink (M.objects world.now) (RelationKey r)) rules.now)) }
@@ -185,7 +185,7 @@ pub fn find_ways_of_nodes<M: World>(
     alloc: Global,
     world: &M,
     nodes: &[NodeId],
-    found: &mut Found,
+    found: &mut Reached,
 ) -> Result<(), NoMemory>
     ensures { OnOk result (Finds found.old found.new
         (GivenBy (λ n. IsWayLink (M.objects world.now) (NodeKey n)) nodes.now)) }
@@ -201,7 +201,7 @@ pub fn find_ways_of_nodes<M: World>(
 pub fn find_ways_of_rules<M: World>(
     world: &M,
     rules: &[RelationId],
-    found: &mut Found,
+    found: &mut Reached,
 ) -> Result<(), NoMemory>
     ensures { OnOk result (Finds found.old found.new
         (GivenBy (λ r. IsWayLink (M.objects world.now) (RelationKey r)) rules.now)) }

@@ -5,9 +5,9 @@ ghost use Rattle.ordered_lists.specs.Orders.{Lists};
 ghost use Rattle.road_model.specs.Orders.{way_cmp};
 ghost use Rattle.touched_ways.specs.Searches.{IsFound, IsFrontier, IsSeen, IsNext};
 
-use crate::found::Found;
+use crate::found::Reached;
 use crate::lists::add_once;
-use crate::seen::Seen;
+use crate::seen::SeenNumbers;
 use ordered_lists::leave_once;
 use road_base::{NoMemory, NodeId, RelationId, WayId, Ways};
 use road_model::laws::{name_order, number_order};
@@ -16,32 +16,32 @@ use std::alloc::Global;
 /// The ways and restrictions seen, and the frontier: the nodes found in the last round, in no order, and the ways and
 /// restrictions that were new in it. Nodes aren't kept: since no way or restriction is followed twice, few come again.
 #[derive(Drop)]
-pub struct Search {
+pub struct LinkSearch {
     pub nodes: Vec<NodeId>,
-    pub ways: Seen<WayId>,
-    pub rules: Seen<RelationId>,
+    pub ways: SeenNumbers<WayId>,
+    pub rules: SeenNumbers<RelationId>,
 }
 
-impl Search {
+impl LinkSearch {
     /// Nothing was seen. Takes no memory.
-    pub fn new(alloc: Global) -> Search
+    pub fn new(alloc: Global) -> LinkSearch
         ensures seen { (k : KeyValue) → IsSeen result k → ⊥ }
         ensures frontier { (k : KeyValue) → IsFrontier result k → ⊥ }
     {
-        Search {
+        LinkSearch {
             nodes: Vec::new(alloc),
-            ways: Seen::new(alloc),
-            rules: Seen::new(alloc),
+            ways: SeenNumbers::new(alloc),
+            rules: SeenNumbers::new(alloc),
         }
     }
 
     /// Takes in what a round found.
-    pub fn take_in(&mut self, found: Found) -> Result<(), NoMemory>
+    pub fn take_in(&mut self, found: Reached) -> Result<(), NoMemory>
         ensures { OnOk result (IsNext self.old self.new (IsFound found)) }
     {
         number_order();
         name_order();
-        let Found { nodes, ways, rules } = found;
+        let Reached { nodes, ways, rules } = found;
         self.nodes = nodes;
         self.ways.take_in(ways.list)?;
         self.rules.take_in(rules)?;

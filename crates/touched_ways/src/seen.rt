@@ -9,18 +9,18 @@ use std::alloc::Global;
 
 /// The numbers seen, and the frontier: those among them that were new in the last round. Both ascend.
 #[derive(Drop)]
-pub struct Seen<T: Ord + Copy> {
+pub struct SeenNumbers<T: Ord + Copy> {
     pub all: Vec<T>,
     pub frontier: Vec<T>,
 }
 
-impl<T: Ord + Copy> Seen<T> {
+impl<T: Ord + Copy> SeenNumbers<T> {
     /// Takes no memory.
-    pub fn new(alloc: Global) -> Seen<T>
+    pub fn new(alloc: Global) -> SeenNumbers<T>
         ensures all { result.all.items ≡ [] }
         ensures frontier { result.frontier.items ≡ [] }
     {
-        Seen {
+        SeenNumbers {
             all: Vec::new(alloc),
             frontier: Vec::new(alloc),
         }

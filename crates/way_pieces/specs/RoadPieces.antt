@@ -13,8 +13,8 @@ use Rattle.way_lines.specs.declared.road_line.RoadLine.{RoadLine}
 use Rattle.way_lines.specs.RoadLines.{AreRoads, IsRoad, IsRoadLine}
 use Rattle.way_pieces.specs.declared.spans.PieceSpan.{PieceSpan}
 use Rattle.way_pieces.specs.declared.starts.Start.{Start}
-use Rattle.way_pieces.specs.declared.met_ways.Source.{Source}
-use Rattle.way_pieces.specs.declared.met_ways.Source.TheVariants.{Own, Listed, Cut}
+use Rattle.way_pieces.specs.declared.met_ways.PieceSource.{PieceSource}
+use Rattle.way_pieces.specs.declared.met_ways.PieceSource.TheVariants.{Own, Listed, Cut}
 use Rattle.way_pieces.specs.declared.met_ways.MetWay.{MetWay}
 use Rattle.way_pieces.specs.declared.road_pieces.WayPieces.{WayPieces}
 use Rattle.way_pieces.specs.declared.road_pieces.CutRoad.{CutRoad}
@@ -38,7 +38,7 @@ pub record AreWayPieces (M : Objects) (P : Rules) (w : WayId) (t : WayPieces) : 
   pub starts : AreStarts M P w t.starts.items
 
 -- where the pieces of the way are those that a block lists, it does list them
-abbrev pub IsSource : Objects → Rules → WayId → Source → Type 0
+abbrev pub IsSource : Objects → Rules → WayId → PieceSource → Type 0
 IsSource M P w Own = ⊤
 IsSource M P w (Listed block) = ListsPieces M P w block.now
 IsSource M P w Cut = ⊤

@@ -18,7 +18,7 @@ use way_lines::{Road, Roads};
 
 /// Where the pieces of a way come from.
 #[derive(Clone, Copy)]
-pub enum Source<'a> {
+pub enum PieceSource<'a> {
     /// It is an own way: it is cut, and its line kept.
     Own,
     /// The block lists them.
@@ -31,7 +31,7 @@ pub enum Source<'a> {
 #[derive(Clone, Copy)]
 pub struct MetWay<'a> {
     pub road: Road,
-    pub source: Source<'a>,
+    pub source: PieceSource<'a>,
 }
 
 impl<'a> MetWay<'a> {
@@ -50,17 +50,17 @@ impl<'a> MetWay<'a> {
         if is_own {
             return MetWay {
                 road: Road::of(network, way),
-                source: Source::Own,
+                source: PieceSource::Own,
             };
         }
         match known.known(way) {
             Some(block) => MetWay {
                 road: road_of(network, way, block),
-                source: Source::Listed(block),
+                source: PieceSource::Listed(block),
             },
             None => MetWay {
                 road: Road::of(network, way),
-                source: Source::Cut,
+                source: PieceSource::Cut,
             },
         }
     }

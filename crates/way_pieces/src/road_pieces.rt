@@ -17,7 +17,7 @@ ghost use Rattle.way_pieces.specs.RoadPieces.{IsCutRoad, IsMetWay, AreRoadPieces
 use crate::departures::Departure;
 use crate::known::KnownBlocks;
 use crate::listed::{spans_in, starts_in};
-use crate::met_ways::{MetWay, Source, met_ways, roads_of};
+use crate::met_ways::{MetWay, PieceSource, met_ways, roads_of};
 use crate::spans::{PieceSpan, spans_along};
 use crate::starts::{Start, add_starts, leaving, put_in_order, starts_of};
 use junctions::junctions_along;
@@ -125,8 +125,8 @@ fn guessed_pieces(ways: &[MetWay<'_>]) -> usize {
     let mut count: usize = 0;
     for way in ways {
         let pieces = match way.source {
-            Source::Listed(block) => block.pieces.items().len(),
-            Source::Own | Source::Cut => PIECES,
+            PieceSource::Listed(block) => block.pieces.items().len(),
+            PieceSource::Own | PieceSource::Cut => PIECES,
         };
         count = count.saturating_add(pieces);
     }
@@ -153,9 +153,9 @@ impl CutRoad {
         ensures { IfOk result (on network.now IsCutRoad met.now.road.way) }
     {
         let pieces = match met.source {
-            Source::Own => return CutRoad::own(alloc, network, roads, met.road),
-            Source::Listed(block) => WayPieces::listed(alloc, block)?,
-            Source::Cut => WayPieces::of(alloc, network, roads, met.road)?,
+            PieceSource::Own => return CutRoad::own(alloc, network, roads, met.road),
+            PieceSource::Listed(block) => WayPieces::listed(alloc, block)?,
+            PieceSource::Cut => WayPieces::of(alloc, network, roads, met.road)?,
         };
         Ok(CutRoad { pieces, line: None })
     }

@@ -12,7 +12,7 @@ invariant-loop-departure g l =
     (c : List Span)
     → IsReached (g.M.World.objects l.coming.network.now.world.now) (g.P.Profile.rules l.coming.network.now.profile)
     l.coming.states.now.automaton
-    l.coming.states.now.facts.items l.state.0 l.coming.from l.coming.intersection.node c
+    l.coming.states.now.facts.items l.state.0 l.coming.from l.coming.intersection.rules.node c
     → Chosen (λ a. a.piece) (λ d. d.piece) name_cmp
     (IsArcEntry (g.M.World.objects l.coming.network.now.world.now) (g.P.Profile.rules l.coming.network.now.profile) c)
     (take l.departure-index l.departures) l.arcs.items

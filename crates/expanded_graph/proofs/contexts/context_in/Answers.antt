@@ -32,7 +32,7 @@ returns g c =
     let reached =
     reached_there M P laws m facts c.closed.ensures.closed c.closed.ensures.lists p c.requires.coming.piece
     c.requires.coming.states c.args.state.0 c.requires.ending c.requires.named c.args.coming.now.from
-    c.args.coming.now.intersection.node
+    c.args.coming.now.intersection.rules.node
     c.requires.coming.arrives in
     let names = c.in_ok-names.ensures c.args.coming.now.span.name.way there.0 p _ c.requires.coming.states
     (context_pieces M P (there.0 ++ p ∷ []) there.3) there.2 c.requires.ending.at in

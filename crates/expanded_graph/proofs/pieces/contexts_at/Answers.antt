@@ -1,8 +1,7 @@
 -- What is known of the node where the piece ends is what is asked for.
-use Rattle.std.proofs.Common.{List, sym, subst, ap, ◌∙◌}
+use Rattle.std.proofs.Common.{List, sym, subst}
 use Rattle.ordered_lists.specs.Orders.{Lists}
 use Rattle.road_model.specs.Orders.{name_cmp}
-use Rattle.road_model.specs.Driving.{shut, turning_place}
 use Rattle.way_pieces.specs.declared.departures.Departure.{Departure}
 use Rattle.way_pieces.specs.Names.{IsDeparture, piece_of}
 use Rattle.expanded_graph.specs.Contexts.{AreEndings}
@@ -31,22 +30,19 @@ contexts_of-requires-2 g c =
     let P = g.P.Profile.rules c.args.network.now.profile in
     let tables = c.args.tables.now in
     let rules = c.of-rules in
-    let same = c.with-intersection.ensures.node ∙ rules.ensures.node in
+    let same = rules.ensures.node in
     record {
       states = c.requires.tables.states c.args.span.name.way c.requires.serve;
       endings = subst (AreEndings tables.states.automaton tables.states.facts.items) (sym
           c.as_slice-endings.ensures.value)
           c.requires.tables.endings;
       intersection = record {
-        shut_is = c.with-intersection.ensures.is_shut ∙ rules.ensures.rules.shut_is
-            ∙ ap (shut M P) (sym c.with-intersection.ensures.node);
-        turning_is = c.with-intersection.ensures.is_turning_place ∙ rules.ensures.rules.turning_is
-            ∙ ap (turning_place M P) (sym c.with-intersection.ensures.node);
+        rules = rules.ensures.rules;
         leaving =
-            subst (λ v. Lists (λ d. d.piece) name_cmp (IsDeparture M P v) c.with-intersection.result.departures.now)
+            subst (λ v. Lists (λ d. d.piece) name_cmp (IsDeparture M P v) c.as_slice.result.now)
             (sym same) (subst (λ (l : List Departure). Lists (λ d. d.piece) name_cmp (IsDeparture M P
             c.args.arrival.at) l)
-            (sym (c.with-intersection.ensures.departures ∙ c.as_slice.ensures.value)) c.in_ok-departures.ensures);
+            (sym c.as_slice.ensures.value) c.in_ok-departures.ensures);
       };
       piece = c.requires.piece;
       arrives = subst (Arrives M (piece_of c.args.span) c.args.arrival.from) (sym same) c.requires.arrives;

@@ -1,5 +1,8 @@
 use Rattle.library_tests.proofs.checkpoint_tests.go_on.Goals as goal
 
-pub checkpoint-requires : goal.checkpoint-requires
-checkpoint-requires c = λ not_closed.
+pub checkpoint-requires-clause-known : goal.checkpoint-requires-clause-known
+checkpoint-requires-clause-known c = c.in_ok-loaded.ensures.known
+
+pub checkpoint-requires-clause-on_store : goal.checkpoint-requires-clause-on_store
+checkpoint-requires-clause-on_store c = λ not_closed.
     (c.in_ok-loaded.ensures.told.answer.history, c.in_ok-loaded.ensures.told.answer.ready)

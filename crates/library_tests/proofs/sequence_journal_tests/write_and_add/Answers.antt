@@ -2,8 +2,8 @@ use Rattle.std.proofs.Common.{[]}
 use Rattle.sequence_journal.specs.Basing.{base_alone}
 use Rattle.library_tests.proofs.sequence_journal_tests.write_and_add.Goals as goal
 
-pub write_base-requires : goal.write_base-requires
-write_base-requires c = c.in_ok-settle.ensures.told.done
+pub write_base-requires-clause-durable : goal.write_base-requires-clause-durable
+write_base-requires-clause-durable c = c.in_ok-settle.ensures.told.done
 
 pub append-requires : goal.append-requires
 append-requires c = λ not_closed. (

@@ -1,39 +1,31 @@
-use Rattle.std.proofs.Common.{map, sym, ap, ◌∙◌, subst}
+use Rattle.std.proofs.Common.{sym, ap, ◌∙◌, subst}
 use Rattle.layered_maps.specs.Layers.{put_all, Rise}
-use Rattle.layered_maps.specs.Maps.{AreKeyed, change_pair, floor_pairs, over}
+use Rattle.layered_maps.specs.Maps.{AreKeyed, floor_pairs, over}
 use Rattle.layered_maps.specs.Sinking.{IsSinking}
-use Rattle.layered_maps.proofs.OverPairs.{changes_keyed, keyed_all, over_all}
+use Rattle.layered_maps.proofs.OverPairs.{keyed_all, over_all}
 use Rattle.layered_maps.proofs.layered_map.LayeredMap.with.Goals as goal
-
-pub split-requires-clause-run : goal.split-requires-clause-run
-split-requires-clause-run g c =
-    subst (AreKeyed g.V.Keyed.key g.K.Ord.cmp) (sym (c.of-run.ensures ∙ c.in_ok-entries_of.ensures))
-    (changes_keyed g.V.Keyed.key g.K.Ord.cmp g.met.K.Ord.total c.requires.exact c.args.changes.items)
 
 pub invariant_of-result : goal.invariant_of-result
 invariant_of-result g c =
     let R = g.K.Ord.cmp in
     let key = g.V.Keyed.key in
     let layers = c.self.inside.layers in
-    let run = map (change_pair key) c.args.changes.items in
-    let own = changes_keyed key R g.met.K.Ord.total c.requires.exact c.args.changes.items in
-    let is = c.in_ok-layers.ensures ∙ ap (λ r. put_all R r layers) (c.of-run.ensures ∙ c.in_ok-entries_of.ensures) in (
+    let run = c.args.run in
+    let is = c.in_ok-layers.ensures in (
       subst (Rise R) (sym c.in_ok-floor.ensures) c.self.invariant.0,
       subst (AreKeyed key R) (sym is)
-          (keyed_all key R g.met.K.Ord.total c.requires.exact run layers own c.self.invariant.1),
+          (keyed_all key R g.met.K.Ord.total c.requires.exact run layers c.requires.keyed c.self.invariant.1),
       subst (λ l. IsSinking key R c.in_ok-sinking.sinking l (floor_pairs c.in_ok-floor.floor))
           (sym c.in_ok-layers.ensures)
-          (subst (IsSinking key R c.in_ok-sinking.sinking (put_all R c.of-run.result layers))
+          (subst (IsSinking key R c.in_ok-sinking.sinking (put_all R run layers))
           (sym c.in_ok-floor.ensures) c.in_ok-sinking.ensures),
     )
 
 pub returns : goal.returns
 returns g c =
     let R = g.K.Ord.cmp in
-    let key = g.V.Keyed.key in
     let layers = c.self.inside.layers in
-    let run = map (change_pair key) c.args.changes.items in
-    let is = c.in_ok-layers.ensures ∙ ap (λ r. put_all R r layers) (c.of-run.ensures ∙ c.in_ok-entries_of.ensures) in
-    (λ i. over R (is i) (c.in_ok-floor.ensures i))
+    let run = c.args.run in
+    (λ i. over R (c.in_ok-layers.ensures i) (c.in_ok-floor.ensures i))
     ∙ over_all R g.met.K.Ord.total c.requires.exact run layers (floor_pairs c.self.inside.floor) c.self.invariant.0
     ∙ ap (over R run) c.self.view_is

@@ -1,11 +1,23 @@
-use Rattle.std.proofs.Common.{option_copied, ◌∙◌}
-use Rattle.layered_maps.specs.Maps.{layer_pairs}
+use Rattle.std.proofs.Common.{option_copied, map, sym, subst, ◌∙◌}
+use Rattle.layered_maps.specs.Layers.{Rise}
+use Rattle.layered_maps.specs.Maps.{keyed, layer_pairs}
+use Rattle.layered_maps.proofs.FoundPairs.{keys_rise, pairs_rise}
+use Rattle.layered_maps.proofs.OverPairs.{over_rises}
 use Rattle.layered_maps.proofs.ViewPairs.{walked}
 use Rattle.layered_maps.proofs.view.View.walk.Goals as goal
 
 pub returns : goal.returns
 returns g c =
-    walked g.V.Keyed.key g.K.Ord.cmp g.met.K.Ord.total c.requires (layer_pairs (option_copied c.self.inside.layers))
-    c.self.inside.list.now c.self.invariant.1 c.self.invariant.0 c.changes_of.result c.new.result
-    c.changes_of.ensures c.new.ensures
-    ∙ c.self.view_is
+    let R = g.K.Ord.cmp in
+    let key = g.V.Keyed.key in
+    let layers = layer_pairs (option_copied c.self.inside.layers) in
+    let values = c.self.inside.list.now in
+    let is = walked key R g.met.K.Ord.total c.requires layers values c.self.invariant.1 c.self.invariant.0
+    c.changes_of.result c.new.result c.changes_of.ensures c.new.ensures in
+    record {
+      pairs = is ∙ c.self.view_is;
+      rising = keys_rise key R g.met.K.Ord.total c.new.result
+          (subst (Rise R) (sym is)
+          (over_rises R g.met.K.Ord.total layers (map (keyed key) values)
+          (pairs_rise key R g.met.K.Ord.total values c.self.invariant.0)));
+    }

@@ -1,5 +1,5 @@
 use Rattle.std.proofs.Common.{Ok, Err, length, true, refl, subst, ◌∙◌}
-use Rattle.session_input.specs.declared.received.Ending.{Ending}
+use Rattle.session_input.specs.declared.received.InputEnd.{InputEnd}
 use Rattle.session_input.specs.Reading.{IsEnding}
 use Rattle.session.specs.Talking.{held, replies_of}
 use Rattle.session.proofs.ClosedSessions.{ends_done, ends_memory, closes_unfinished, ends_answered, halts_last}
@@ -20,7 +20,7 @@ returns-in-Ok-Done-clause-ends g c = λ start read x going.
     let goes = going.goes in
     ends_done c.store_laws.ensures (replies_of start) (held start) read true c.args.input
     (g.A.Answerer.stands talk.answerer) talk.journal x (g.W.Site.outside c.args.site.now) goes refl
-    (subst (λ (e : Ending). IsEnding goes.pending e) ended.field-0-is
+    (subst (λ (e : InputEnd). IsEnding goes.pending e) ended.field-0-is
     (ended.ensures.ended (length goes.front) goes.pending goes.holds))
 
 -- ---- inside a frame
@@ -34,7 +34,7 @@ returns-in-Ok-clause-ends g c = λ start read x going.
     (closes_unfinished c.store_laws.ensures (replies_of start) (held start) read true c.args.input
     (g.A.Answerer.stands talk.answerer) talk.journal x (g.W.Site.outside c.args.site.now) goes refl ended.number
     c.deref.result.now
-    (subst (λ (e : Ending). IsEnding goes.pending e) ended.field-0-is
+    (subst (λ (e : InputEnd). IsEnding goes.pending e) ended.field-0-is
     (ended.ensures.ended (length goes.front) goes.pending goes.holds))
     (c.deref.ensures.value ∙ c.in-Ok.ensures))
 
@@ -61,7 +61,7 @@ returns-in-Ok-answer-clause-ends g c = λ start read x going.
     let now = g.W.Site.outside c.answer.new.site in
     ends_answered c.store_laws.ensures (replies_of start) (held start) read true c.args.input
     (g.A.Answerer.stands talk.answerer) talk.journal x was goes refl ended.received
-    (subst (λ (e : Ending). IsEnding goes.pending e) ended.field-0-is
+    (subst (λ (e : InputEnd). IsEnding goes.pending e) ended.field-0-is
     (ended.ensures.ended (length goes.front) goes.pending goes.holds))
     (g.A.Answerer.stands after.answerer) after.journal now tt
     (answers_at start talk after going.same ended.received (Ok tt) was now c.in-Ok-answer.ensures.told)
@@ -77,7 +77,7 @@ returns-clause-ends g c = λ start read x going.
     c.close.ensures.ends start read true x (c.in-Err-answer.ensures.fixed ∙ going.same)
     (halts_last c.store_laws.ensures (replies_of start) (held start) read true c.args.input
     (g.A.Answerer.stands talk.answerer) talk.journal x was goes refl ended.received
-    (subst (λ (e : Ending). IsEnding goes.pending e) ended.field-0-is
+    (subst (λ (e : InputEnd). IsEnding goes.pending e) ended.field-0-is
     (ended.ensures.ended (length goes.front) goes.pending goes.holds))
     (g.A.Answerer.stands after.answerer) after.journal now c.in-Err-answer.stop
     (answers_at start talk after going.same ended.received (Err c.in-Err-answer.stop) was now
@@ -106,7 +106,7 @@ returns-in-Ok-answer-clause-builds g c =
     let ended = c.in-Ok-Last in
     last_building c.args.self.now c.args.input c.args.steps.now (g.W.Site.outside c.args.site.now)
     ended.received c.answer.new.self c.answer.new.steps (g.W.Site.outside c.answer.new.site) (Ok tt)
-    (λ before bytes holds. subst (λ (e : Ending). IsEnding bytes e) ended.field-0-is (ended.ensures.ended before bytes
+    (λ before bytes holds. subst (λ (e : InputEnd). IsEnding bytes e) ended.field-0-is (ended.ensures.ended before bytes
     holds)) c.in-Ok-answer.ensures.builds
 
 pub returns-clause-builds : goal.returns-clause-builds
@@ -114,5 +114,5 @@ returns-clause-builds g c =
     let ended = c.in-Ok-Last in
     last_building c.args.self.now c.args.input c.args.steps.now (g.W.Site.outside c.args.site.now)
     ended.received c.answer.new.self c.answer.new.steps (g.W.Site.outside c.answer.new.site) (Err c.in-Err-answer.stop)
-    (λ before bytes holds. subst (λ (e : Ending). IsEnding bytes e) ended.field-0-is (ended.ensures.ended before bytes
+    (λ before bytes holds. subst (λ (e : InputEnd). IsEnding bytes e) ended.field-0-is (ended.ensures.ended before bytes
     holds)) c.in-Err-answer.ensures.builds

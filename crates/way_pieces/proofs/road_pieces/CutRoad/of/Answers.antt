@@ -1,6 +1,6 @@
 -- The pieces are those that the block lists, or were cut.
 use Rattle.std.proofs.Common.{subst}
-use Rattle.way_pieces.specs.declared.met_ways.Source.{Source}
+use Rattle.way_pieces.specs.declared.met_ways.PieceSource.{PieceSource}
 use Rattle.way_pieces.specs.RoadPieces.{IsSource}
 use Rattle.way_pieces.proofs.road_pieces.CutRoad.of.Goals as goal
 use Rattle.way_pieces.proofs.road_pieces.CutRoad.of.Goals.{in-Listed+in_ok-pieces-in-Listed, in-Cut+in_ok-pieces-in-Cut}
@@ -14,7 +14,7 @@ returns g c =
       | in-Listed+in_ok-pieces-in-Listed w ↦ rw w.pieces-is
           (record {
             pieces = w.in_ok-pieces-in-Listed.ensures M P way
-                (subst (λ (s : Source). IsSource M P way s) w.in-Listed.is c.requires.met.source);
+                (subst (λ (s : PieceSource). IsSource M P way s) w.in-Listed.is c.requires.met.source);
             line = tt;
           })
       | in-Cut+in_ok-pieces-in-Cut w ↦ rw w.pieces-is
