@@ -41,7 +41,7 @@ fn a_raise_goes_into_the_other_file(rt: HostRuntime) -> Result<(), Fail> {
     let a = file.to_vec(alloc)?;
     let mut site = MemorySite::new(alloc, a, Vec::new(alloc), Vec::new(alloc));
     raise_on(&rt, alloc, &mut site)?;
-    assert_eq!(&rt; site.file(Which::A), file.as_slice());
+    assert_eq!(rt; site.file(Which::A), file.as_slice());
     Ok(())
 }
 
