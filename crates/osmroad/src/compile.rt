@@ -25,7 +25,7 @@ pub fn compile<S: Source, L: Ledger>(
     source: &mut S,
     steps: &mut Steps<L>,
 ) -> Result<Reply, Failure>
-    requires known { IsProfile profile }
+    requires { IsProfile profile }
     ensures prepares { (outside : Option Outside) → Prepares (Some (CompileCommand profile)) result
         (S.bytes_left source.old) (S.bytes_left source.new) outside outside }
     ensures reads { CountsReads (S.faults source.old) (S.faults source.new) result }

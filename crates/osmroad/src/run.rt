@@ -41,7 +41,7 @@ fn prepare<S: Source, W: Site, L: Ledger>(
     site: &mut W,
     steps: &mut Steps<L>,
 ) -> Result<Reply, Failure>
-    requires known { HasProfile command }
+    requires { HasProfile command }
     ensures prepares { Prepares (Some command) result (S.bytes_left source.old) (S.bytes_left source.new)
         (W.outside site.old) (W.outside site.new) }
     ensures reads { CountsReads (S.faults source.old) (S.faults source.new) result }
@@ -70,7 +70,7 @@ fn run_command<S: Source, W: Site, L: Ledger>(
     site: &mut W,
     steps: &mut Steps<L>,
 ) -> Status
-    requires known { HasProfile command }
+    requires { HasProfile command }
     ensures ends { Ends (Some command) result (S.bytes_left source.old) (S.bytes_left source.new)
         (W.outside site.old) (W.outside site.new) }
     ensures named { MayEnd (Some command) result }

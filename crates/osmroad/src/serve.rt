@@ -40,7 +40,7 @@ fn status_of(end: End) -> Status
     }
 }
 
-/// Answers the messages on the source until it ends, for the profile, over the store that was loaded, and keeps each
+/// Answers the messages on the source until it ends, over the store that was loaded and for its profile, and keeps each
 /// accepted change in it. Answers Done where all of them are answered, Refused where the source ends inside a frame,
 /// ReadFault and SiteFault where a read or a call on the site failed, Limit where a limit is passed, and NoMemory.
 /// Where no memory is found for the objects and their blocks, nothing is read.
@@ -52,6 +52,7 @@ pub fn serve<P: Profile, S: Source, W: Site, L: Ledger>(
     site: &mut W,
     steps: &mut Steps<L>,
 ) -> Status
+    requires stored { (P.rules profile).number ≡ loaded.journal.profile }
     requires known { IsProfile (P.rules profile).number }
     requires not_closed { loaded.journal.closed ≡ false }
     requires opens { IfSome (W.outside site.old) (IsReadyAt (IsOpening loaded)) }

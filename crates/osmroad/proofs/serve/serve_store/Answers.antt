@@ -14,6 +14,9 @@ use Rattle.osmroad.proofs.serve.serve_store.Goals as goal
 pub serve-requires-clause-known : goal.serve-requires-clause-known
 serve-requires-clause-known g c = c.profile_of.result.known
 
+pub serve-requires-clause-stored : goal.serve-requires-clause-stored
+serve-requires-clause-stored g c = c.profile_of.ensures ∙ c.profile.ensures
+
 pub profile_of-requires : goal.profile_of-requires
 profile_of-requires g c = subst IsProfile (sym c.profile.ensures) c.in-Ok.ensures.known
 
