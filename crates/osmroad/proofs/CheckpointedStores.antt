@@ -1,12 +1,12 @@
--- What is prepared to write a checkpoint of a store.
+-- What is prepared to write a checkpoint of a store, or to raise it.
 use Rattle.std.proofs.Common.{◌≡◌, inl, inr, ⊎_elim, ℕ, ◌<◌, ◌≤◌, ◌^◌, List, [], ◌∷◌, ◌++◌, length}
 use Rattle.std.proofs.Common.{Option, None, Some, Result, Ok, Err, true, false, refl, sym, ◌∙◌, ap, subst, arith}
-use Rattle.std.proofs.Common.{codes, length-append}
+use Rattle.std.proofs.Common.{codes, get_or, length-append}
 use Rattle.std.specs.Io.{StartsWith}
 use Rattle.std.specs.Fmt.{decimal}
 use Rattle.std.specs.FinMap.{empty}
 use Rattle.road_base.specs.declared.event.Event.{Event}
-use Rattle.road_base.specs.History.{History, kept}
+use Rattle.road_base.specs.History.{History, HasObjects, kept}
 use Rattle.road_base.specs.Objects.{Objects}
 use Rattle.road_base.specs.Applying.{IsApplied}
 use Rattle.road_io.specs.Told.{Told, Rose}
@@ -23,6 +23,8 @@ use Rattle.store_switch.specs.TwoFiles.{StandOn, StandFor, IsOnStore}
 use Rattle.store_switch.specs.StoreLoading.{StoreLoaded, LoadsStore, IsLoadError}
 use Rattle.store_switch.specs.Checkpointing.{AreEntries, checkpoint_of, MayGoOn, IsTooLarge}
 use Rattle.store_switch.specs.Checkpointing.{CheckpointAnswer, Checkpoints, LeavesCheckpoint as LeavesOneOf}
+use Rattle.osmroad.specs.declared.command.BaseProfile.{BaseProfile}
+use Rattle.osmroad.specs.declared.command.BaseProfile.TheVariants.{Kept, Raised}
 use Rattle.osmroad.specs.declared.command.Command.{Command}
 use Rattle.osmroad.specs.declared.command.Command.TheVariants.{Checkpoint}
 use Rattle.osmroad.specs.declared.reply.Reply.{Reply}
@@ -30,8 +32,8 @@ use Rattle.osmroad.specs.declared.reply.Failure.{Failure}
 use Rattle.osmroad.specs.declared.reply.Failure.TheVariants.{SiteFault as SiteFailure, NoMemory as NoMemoryFailure}
 use Rattle.osmroad.specs.declared.status.Status.{Status}
 use Rattle.osmroad.specs.declared.status.Status.TheVariants.{Done, Limit}
-use Rattle.osmroad.specs.Texts.{checkpoint_line, limit_line}
-use Rattle.osmroad.specs.Checkpoints.{AreItsEntries, HasNoRoom}
+use Rattle.osmroad.specs.Texts.{limit_line}
+use Rattle.osmroad.specs.Checkpoints.{AreItsEntries, HasNoRoom, ReadsAlike, profile_of_base, base_line, rebased}
 use Rattle.osmroad.specs.Checkpoints.{OfStore, OfNoRoom, OfEntries}
 use Rattle.osmroad.specs.Stops.{Before, Without, With}
 use Rattle.osmroad.specs.Stops.{LeavesCheckpoint, LeavesStored, LeftBy}
@@ -50,40 +52,53 @@ use Rattle.osmroad.proofs.LoadedStores.{loaded_now, loaded_store, loaded_as_befo
 use Rattle.session.proofs.KeptStores.{unput}
 use Rattle.osmroad.proofs.LoadedStores.{NotLoaded, could_leave, IsRefusal, load_refused}
 
-line_some : (n : ℕ) → 0 < length (checkpoint_line n)
-line_some n = omega (arith, length-append (codes "checkpoint ") (decimal n ++ 10 ∷ []))
+line_some : (base : BaseProfile) (n : ℕ) → 0 < length (base_line base n)
+line_some Kept n = omega (arith, length-append (codes "checkpoint ") (decimal n ++ 10 ∷ []))
+line_some Raised n = omega (arith, length-append (codes "profile 2 sequence ") (decimal n ++ 10 ∷ []))
 
-abbrev command : Option Command
-command = Some Checkpoint
+-- no line that tells of a base begins as that of a limit
+other_letter : (base : BaseProfile) (n : ℕ) → get_or limit_line 0 0 ≡ get_or (base_line base n) 0 0 → ⊥
+other_letter Kept n e = let s : 108 ≡ 99 = e in omega arith
+other_letter Raised n e = let s : 108 ≡ 112 = e in omega arith
+
+-- a reader finds in the new base what was there
+reads_alike : CheckpointLaws → (base : BaseProfile) (h : History) (objects : Objects) (events : List Event)
+    → HasObjects h objects → AreEntries objects events → ReadsAlike base (rebased base h events) h
+reads_alike more Kept h objects events has are = more.same h objects events has are
+reads_alike more Raised h objects events has are = more.raised 2 h objects events has are
 
 -- a store loaded, and its checkpoint written
-pub record Rebases (l : Loaded) (new : Journal) (events : List Event) (result : Result (Unit {0}) JournalError)
-    (w v : Outside) : Type 0 where
+pub record Rebases (l : Loaded) (new : Journal) (profile : ℕ) (events : List Event)
+    (result : Result (Unit {0}) JournalError) (w v : Outside) : Type 0 where
   pub between : Outside
   pub loads : LoadsStore (Ok l) w between
-  pub checkpoints : Checkpoints l.journal new events result between v
+  pub checkpoints : Checkpoints l.journal new profile events result between v
 
-pub told_rebases : (l : Loaded) (new : Journal) (events : List Event) (result : Result (Unit {0}) JournalError)
-    (x y z : Option Outside) → Told (LoadsStore (Ok l)) x y → Told (Checkpoints l.journal new events result) y z
-    → Told (Rebases l new events result) x z
-told_rebases l new events result x y z loads writes =
-    told_then x y z (LoadsStore (Ok l)) (Checkpoints l.journal new events result) (Rebases l new events result) loads
-    writes (λ w u v p q. record { between = u; loads = p; checkpoints = q })
+pub told_rebases : (l : Loaded) (new : Journal) (profile : ℕ) (events : List Event)
+    (result : Result (Unit {0}) JournalError) (x y z : Option Outside) → Told (LoadsStore (Ok l)) x y
+    → Told (Checkpoints l.journal new profile events result) y z → Told (Rebases l new profile events result) x z
+told_rebases l new profile events result x y z loads writes =
+    told_then x y z (LoadsStore (Ok l)) (Checkpoints l.journal new profile events result)
+    (Rebases l new profile events result) loads writes
+    (λ w u v p q. record { between = u; loads = p; checkpoints = q })
 
-module _ (laws : StoreLaws) where
+module _ (base : BaseProfile) (laws : StoreLaws) where
+  abbrev command : Option Command
+  command = Some (Checkpoint base)
+
   -- ---- what a stop leaves of a load
 
-  moment : (w : Outside) (left : Left) (h : History) → LeavesKept w left h → LeavesCheckpoint w left h
+  moment : (w : Outside) (left : Left) (h : History) → LeavesKept w left h → LeavesCheckpoint base w left h
   moment w left h (inl first) = Before first
-  moment w left h (inr store) = Without store.files (nothing_put w.output (checkpoint_line (kept h)) left.out
-      (line_some (kept h))
+  moment w left h (inr store) = Without store.files (nothing_put w.output (base_line base (kept h)) left.out
+      (line_some base (kept h))
       (subst (λ (o : List ℕ). StartsWith w.output o) (sym store.out) (starts_whole w.output)))
 
   moments : (result : Result Loaded JournalError) (w v : Outside) → LoadsStore result w v
       → LeavesOnly w v (LeftBy command [] w)
   moments result w v l = only_weaker w v (λ left. LeavesStored (LeavesKept w left) w left)
       (LeftBy command [] w) (load_moments laws result w v l)
-      (λ left kept. stored_weaker (LeavesKept w left) (LeavesCheckpoint w left) w left (moment w left) kept)
+      (λ left kept. stored_weaker (LeavesKept w left) (LeavesCheckpoint base w left) w left (moment w left) kept)
 
   load_prepares : (held : Option (List ℕ)) (x y : Option Outside) (loaded : Result Loaded JournalError)
       (result : Result Reply Failure) → Told (LoadsStore loaded) x y
@@ -161,8 +176,8 @@ module _ (laws : StoreLaws) where
                 (same_history laws (reads_of w) k.history h (loaded_before l w v k) c)
                 (stand_unput v left k.history
                 (laws.stopped l.journal k.history v (unput v left) k.ready (left_unput v left a b)).files))
-                (other_put w.output limit_line (checkpoint_line (kept h)) left.out (line_some (kept h))
-                (λ e. let s : 108 ≡ 99 = e in omega arith)
+                (other_put w.output limit_line (base_line base (kept h)) left.out (line_some base (kept h))
+                (other_letter base (kept h))
                 (subst (λ (o : List ℕ). StartsWith (o ++ limit_line) left.out) loads.output front));
             otherwise = λ never. absurd (never k.history (loaded_before l w v k));
           };
@@ -170,53 +185,62 @@ module _ (laws : StoreLaws) where
 
     -- ---- they are written
 
-    module _ (more : CheckpointLaws) (new : Journal) where
+    module _ (more : CheckpointLaws) (new : Journal) (profile : ℕ)
+        (is : profile ≡ profile_of_base base l.journal.profile) where
+      -- the profile is the one that the history's base gets
+      base_is : (w u : Outside) → (k : StoreLoaded l w u)
+          → checkpoint_of profile k.history events ≡ rebased base k.history events
+      base_is w u k = ap (λ (n : ℕ). checkpoint_of n k.history events)
+          (is ∙ ap (λ (n : ℕ). profile_of_base base n) k.ready.at.profile)
+
       -- what a stop leaves with the checkpoint
       with_entries : (w u : Outside) → (k : StoreLoaded l w u) → (left : Left) (h : History) → k.history ≡ h
-          → StandFor (image_of left) (checkpoint_of k.history events) → LeavesCheckpoint w left h
+          → StandFor (image_of left) (rebased base k.history events) → LeavesCheckpoint base w left h
       with_entries w u k left h same stand =
           let its : AreItsEntries h events = subst (λ (i : History). AreItsEntries i events) same (entries_of w u k) in
-          With events its (more.same h its.objects events its.has its.are)
-          (subst (λ (i : History). StandFor (image_of left) (checkpoint_of i events)) same stand)
+          With events its (reads_alike more base h its.objects events its.has its.are)
+          (subst (λ (i : History). StandFor (image_of left) (rebased base i events)) same stand)
 
-      rebased_moments : (result : Result (Unit {0}) JournalError) (w v : Outside) → Rebases l new events result w v
-          → LeavesOnly w v (LeftBy command [] w)
+      rebased_moments : (result : Result (Unit {0}) JournalError) (w v : Outside)
+          → Rebases l new profile events result w v → LeavesOnly w v (LeftBy command [] w)
       rebased_moments result w v a =
           let k = a.loads.answer in
-          then_runs w a.between v (LeftBy command [] w) (LeavesOneOf k.history events a.between.output)
+          then_runs w a.between v (LeftBy command [] w) (LeavesOneOf profile k.history events a.between.output)
           (moments (Ok l) w a.between a.loads)
-          (more.stopped l.journal new k.history events result a.between v k.ready a.checkpoints)
+          (more.stopped l.journal new profile k.history events result a.between v k.ready a.checkpoints)
           (λ left either. record {
             stored = λ h c.
                 let same : k.history ≡ h = same_history laws (reads_of w) k.history h
                 (loaded_before l w a.between k) c in
                 ⊎_elim
                 (λ without. Without (subst (λ (i : History). StandFor (image_of left) i) same without)
-                (nothing_put w.output (checkpoint_line (kept h)) left.out (line_some (kept h))
+                (nothing_put w.output (base_line base (kept h)) left.out (line_some base (kept h))
                 (subst (λ (o : List ℕ). StartsWith w.output o) (sym (either.out ∙ a.loads.output))
                 (starts_whole w.output))))
-                (λ with. with_entries w a.between k left h same with)
+                (λ with. with_entries w a.between k left h same
+                (subst (λ (i : History). StandFor (image_of left) i) (base_is w a.between k) with))
                 either.files;
             otherwise = λ never. absurd (never k.history (loaded_before l w a.between k));
           })
 
       module _ (faults_before faults_now : ℕ) (bytes : List ℕ) where
-        written : (u : Unit {0}) → CheckpointAnswer l.journal new events (Ok u) faults_before faults_now
-            → (w v : Outside) → Rebases l new events (Ok u) w v
-            → WillPut command bytes [] Done (checkpoint_line l.journal.kept.0) (Some w) (Some v)
+        written : (u : Unit {0}) → CheckpointAnswer l.journal new profile events (Ok u) faults_before faults_now
+            → (w v : Outside) → Rebases l new profile events (Ok u) w v
+            → WillPut command bytes [] Done (base_line base l.journal.kept.0) (Some w) (Some v)
         written u answer w v a =
             let k = a.loads.answer in
-            let now = checkpoint_of k.history events in
-            let on : IsOnStore new now v = more.ok l.journal new k.history events u a.between v k.ready a.checkpoints in
+            let now = rebased base k.history events in
+            let on : IsOnStore new now v = subst (λ (i : History). IsOnStore new i v) (base_is w a.between k)
+            (more.ok l.journal new profile k.history events u a.between v k.ready a.checkpoints) in
             let small : length (reads_of v new.file) ≤ 2 ^ 40 =
-            more.small l.journal new k.history events u a.between v faults_before faults_now k.ready answer
+            more.small l.journal new profile k.history events u a.between v faults_before faults_now k.ready answer
             a.checkpoints in
             record {
               replies = inl refl;
               reads = refl;
               after = Some now;
               gives = OfEntries (loaded_store l w a.between k) events (entries_of w a.between k) (has_room answer.0)
-                  refl (ap (λ (n : ℕ). checkpoint_line n) k.ready.at.last) refl;
+                  refl (ap (λ (n : ℕ). base_line base n) k.ready.at.last) refl;
               stand = record {
                 live = l.journal.file;
                 generation = l.journal.generation;
@@ -243,35 +267,35 @@ module _ (laws : StoreLaws) where
 
         module _ (x y : Option Outside) (held : Option (List ℕ)) (same : bytes ≡ behind_of held) where
           rebase_prepares : (result : Result Reply Failure) (done : Result (Unit {0}) JournalError)
-              → ((w v : Outside) → Rebases l new events done w v → v.output ≡ w.output)
-              → Told (Rebases l new events done) x y → IsPrepared command bytes [] result x y
+              → ((w v : Outside) → Rebases l new profile events done w v → v.output ≡ w.output)
+              → Told (Rebases l new profile events done) x y → IsPrepared command bytes [] result x y
               → Prepares command result held held x y
           rebase_prepares result done silent told answer =
               prepares command result [] held held x y (took_nothing held)
               (subst (λ (b : List ℕ). IsPrepared command b [] result x y) same answer)
-              (told_weaker x y (Rebases l new events done) (λ w v. v.output ≡ w.output) told silent)
-              (told_weaker x y (Rebases l new events done) (λ w v. LeavesOnly w v (LeftBy command [] w)) told
+              (told_weaker x y (Rebases l new profile events done) (λ w v. v.output ≡ w.output) told silent)
+              (told_weaker x y (Rebases l new profile events done) (λ w v. LeavesOnly w v (LeftBy command [] w)) told
               (rebased_moments done))
 
-          pub checkpoint_written : (u : Unit {0}) (r : Reply) → Says Done (checkpoint_line l.journal.kept.0) r
-              → CheckpointAnswer l.journal new events (Ok u) faults_before faults_now
-              → Told (Rebases l new events (Ok u)) x y → Prepares command (Ok r) held held x y
+          pub checkpoint_written : (u : Unit {0}) (r : Reply) → Says Done (base_line base l.journal.kept.0) r
+              → CheckpointAnswer l.journal new profile events (Ok u) faults_before faults_now
+              → Told (Rebases l new profile events (Ok u)) x y → Prepares command (Ok r) held held x y
           checkpoint_written u r says answer told = rebase_prepares (Ok r) (Ok u)
               (λ w v a. (a.checkpoints a.loads.answer.history a.loads.answer.ready).output ∙ a.loads.output) told
               (subst (λ (s : Status). WillPut command bytes [] s r.out.items x y) (sym says.0)
               (subst (λ (o : List ℕ). WillPut command bytes [] Done o x y) (sym says.1)
-              (will_put command bytes [] Done (checkpoint_line l.journal.kept.0) x y (Rebases l new events (Ok u)) told
+              (will_put command bytes [] Done (base_line base l.journal.kept.0) x y (Rebases l new profile events (Ok u)) told
               (inl refl) refl tt (written u answer))))
 
           -- a refusal that isn't a fault touches no file
-          untouched : (e : JournalError) → ((u v : Outside) → Checkpoints l.journal new events (Err e) u v → v ≡ u)
-              → Told (Rebases l new events (Err e)) x y → Told (LoadsStore (Ok l)) x y
-          untouched e still told = told_weaker x y (Rebases l new events (Err e)) (LoadsStore (Ok l)) told
+          untouched : (e : JournalError) → ((u v : Outside) → Checkpoints l.journal new profile events (Err e) u v → v ≡ u)
+              → Told (Rebases l new profile events (Err e)) x y → Told (LoadsStore (Ok l)) x y
+          untouched e still told = told_weaker x y (Rebases l new profile events (Err e)) (LoadsStore (Ok l)) told
               (λ w v a. subst (λ (u : Outside). LoadsStore (Ok l) w u) (sym (still a.between v a.checkpoints)) a.loads)
 
           pub checkpoint_not_written : (e : JournalError) (result : Result Reply Failure) → l.journal.closed ≡ false
-              → CheckpointAnswer l.journal new events (Err e) faults_before faults_now → RefusesStore e result
-              → Told (Rebases l new events (Err e)) x y → Prepares command result held held x y
+              → CheckpointAnswer l.journal new profile events (Err e) faults_before faults_now → RefusesStore e result
+              → Told (Rebases l new profile events (Err e)) x y → Prepares command result held held x y
           checkpoint_not_written TooLarge result alive answer says told =
               let t = untouched TooLarge (λ u v still. still) told in
               load_prepares held x y (Ok l) result t
@@ -283,7 +307,7 @@ module _ (laws : StoreLaws) where
               rebase_prepares result (Err SiteFault) silent told
               (by_failure command bytes [] x y SiteFailure result is tt)
             where
-              silent : (w v : Outside) → Rebases l new events (Err SiteFault) w v → v.output ≡ w.output
+              silent : (w v : Outside) → Rebases l new profile events (Err SiteFault) w v → v.output ≡ w.output
               silent w v a = ⊎_elim (λ closed. let e : false ≡ true = sym alive ∙ closed.0 in cc)
                   (λ writes. (writes.1 a.loads.answer.history a.loads.answer.ready).output ∙ a.loads.output)
                   a.checkpoints
@@ -295,19 +319,19 @@ module _ (laws : StoreLaws) where
 -- ---- faults of the site
 
 -- what refuses a checkpoint of a journal that isn't closed, and how often calls failed
-pub checkpoint_calls : (old new : Journal) (events : List Event) (e : JournalError) (result : Result Reply Failure)
-    (before now : ℕ) → old.closed ≡ false → RefusesStore e result
-    → CheckpointAnswer old new events (Err e) before now → CountsCalls before now result
-checkpoint_calls old new events SiteFault result before now alive is answer =
+pub checkpoint_calls : (old new : Journal) (profile : ℕ) (events : List Event) (e : JournalError)
+    (result : Result Reply Failure) (before now : ℕ) → old.closed ≡ false → RefusesStore e result
+    → CheckpointAnswer old new profile events (Err e) before now → CountsCalls before now result
+checkpoint_calls old new profile events SiteFault result before now alive is answer =
     record { cause = λ _. rose; stays = λ other. absurd (other is) }
   where
     rose : Rose before now
     rose = ⊎_elim (λ closed. let e : false ≡ true = sym alive ∙ closed.0 in cc) (λ may. may.2) answer.0
-checkpoint_calls old new events NoMemory result before now alive is answer =
+checkpoint_calls old new profile events NoMemory result before now alive is answer =
     failed_calls result before now is answer.2
-checkpoint_calls old new events TooLarge result before now alive says answer =
+checkpoint_calls old new profile events TooLarge result before now alive says answer =
     reply_calls _ _ result says before now answer.3
-checkpoint_calls old new events (OutOfSequence kept got) result before now alive says answer = absurd answer
-checkpoint_calls old new events (Damaged file offset) result before now alive says answer = absurd answer
-checkpoint_calls old new events NoStore result before now alive says answer = absurd answer
-checkpoint_calls old new events StoreExists result before now alive says answer = absurd answer
+checkpoint_calls old new profile events (OutOfSequence kept got) result before now alive says answer = absurd answer
+checkpoint_calls old new profile events (Damaged file offset) result before now alive says answer = absurd answer
+checkpoint_calls old new profile events NoStore result before now alive says answer = absurd answer
+checkpoint_calls old new profile events StoreExists result before now alive says answer = absurd answer

@@ -1,6 +1,7 @@
 -- What `compile` prepares.
 use Rattle.std.proofs.Common.{◌≡◌, ℕ, List, ◌++◌, Option, Some, Result, Err, inl, inr, refl, sym, subst}
 use Rattle.road_base.specs.declared.event.Event.{Event}
+use Rattle.road_base.specs.Profiles.{IsProfile}
 use Rattle.road_io.specs.Outside.{Outside}
 use Rattle.opl_lexer.specs.declared.mode.Mode.TheVariants.{Extract}
 use Rattle.opl_objects.specs.StreamLines.{fault_at}
@@ -26,10 +27,10 @@ use Rattle.osmroad.proofs.Replied.{replied}
 use Rattle.osmroad.proofs.Prepared.{by_failure, prepares, prepares_whole}
 use Rattle.osmroad.proofs.WithoutStore.{silent_still, stands_still, leaves_still, will_put_alone}
 
-abbrev compile : Option Command
-compile = Some Compile
+module _ (profile : ℕ) (held left : Option (List ℕ)) (x : Option Outside) where
+  abbrev compile : Option Command
+  compile = Some (Compile profile)
 
-module _ (held left : Option (List ℕ)) (x : Option Outside) where
   -- why the input isn't taken, and what will be put then
   refused_answer : (faults_before faults_now : ℕ) (error : InputError) (result : Result Reply Failure) (read : List ℕ)
       → Cause Extract error read left faults_before faults_now → RefusesInput error result
@@ -75,12 +76,12 @@ module _ (held left : Option (List ℕ)) (x : Option Outside) where
     failed_extract result is = read_extract result
         (by_failure compile whole.bytes whole.bytes x x MemoryFailure result is (stands_still x))
 
-    pub will_put_graph : (out : List ℕ) → IsGraphOf (rules_of 1) events out
+    pub will_put_graph : IsProfile profile → (out : List ℕ) → IsGraphOf (rules_of profile) events out
         → WillPut compile whole.bytes whole.bytes Done out x x
-    will_put_graph out graph =
+    will_put_graph known out graph =
         will_put_alone compile whole.bytes (λ stored. stored) whole.bytes Done out x (inl refl) refl (
           CompileGives.OfExtract whole.within
-              (record { events = events; read = whole.gives; graph = graph })
+              (record { known = known; events = events; read = whole.gives; graph = graph })
               refl,
           refl,
         )

@@ -5,6 +5,7 @@ use Rattle.road_base.specs.History.{History}
 use Rattle.opl_lexer.specs.declared.mode.Mode.TheVariants.{Extract, Change}
 use Rattle.road_model.specs.Rules.{Rules}
 use Rattle.road_io.specs.Outside.{Outside}
+use Rattle.osmroad.specs.declared.command.BaseProfile.{BaseProfile}
 use Rattle.osmroad.specs.declared.command.Command.{Command}
 use Rattle.osmroad.specs.declared.command.Command.TheVariants.{Compile, Inspect, Sample, Create, Apply}
 use Rattle.osmroad.specs.declared.command.Command.TheVariants.{Graph, Audit, Checkpoint}
@@ -27,10 +28,11 @@ use Rattle.osmroad.proofs.Refusals.{not_refused, no_fault, readable_not_refused}
 -- ---- each command gives Done where it can be done
 
 module _ (bytes : List ℕ) (status : Status) (out : List ℕ) (events : List Event) where
-  compile_done : AreInput Extract bytes events → CompileGives bytes status out → status ≡ Done
-  compile_done input (CompileGives.OfInput refusal) = absurd
+  compile_done : (profile : ℕ) → AreInput Extract bytes events → CompileGives profile bytes status out
+      → status ≡ Done
+  compile_done profile input (CompileGives.OfInput refusal) = absurd
       (not_refused Extract bytes status out events input refusal)
-  compile_done input (CompileGives.OfExtract within is e) = e
+  compile_done profile input (CompileGives.OfExtract within is e) = e
 
   module _ (number : ℕ) (files : Files) (after : Option History) where
     create_done : NoBases files → AreInput Extract bytes events → CreateGives number files bytes status out after
@@ -73,13 +75,14 @@ inspect_done bytes status out few is (InspectGives.OfTooMuch much e o) = absurd 
 inspect_done bytes status out few is (InspectGives.OfNoGraph w none e o) = absurd (none is)
 inspect_done bytes status out few is (InspectGives.OfGraph w g profile blocks file e o) = e
 
-checkpoint_done : OneLive → (files : Files) (status : Status) (out : List ℕ) (after : Option History)
-    → IsReadable files → CanBeRebased files → CheckpointGives files status out after → status ≡ Done
-checkpoint_done live files status out after r can (CheckpointGives.OfStore refusal a) = absurd
+checkpoint_done : OneLive → (base : BaseProfile) (files : Files) (status : Status) (out : List ℕ)
+    (after : Option History) → IsReadable files → CanBeRebased files → CheckpointGives base files status out after
+    → status ≡ Done
+checkpoint_done live base files status out after r can (CheckpointGives.OfStore refusal a) = absurd
     (readable_not_refused files status out live r refusal)
-checkpoint_done live files status out after r can (CheckpointGives.OfNoRoom s events are none e o a) = absurd
+checkpoint_done live base files status out after r can (CheckpointGives.OfNoRoom s events are none e o a) = absurd
     (can s events are none)
-checkpoint_done live files status out after r can (CheckpointGives.OfEntries s events are room e o a) = e
+checkpoint_done live base files status out after r can (CheckpointGives.OfEntries s events are room e o a) = e
 
 -- ---- a run
 
@@ -88,7 +91,8 @@ module _ (live : OneLive) (one : OneReading) where
       (after : Option History) → CanBeDone command files bytes → Gives command files bytes status out after
       → status ≡ Done
   can_done None files bytes status out after can gives = absurd can
-  can_done (Some Compile) files bytes status out after can gives = compile_done bytes status out can.0 can.1 gives.0
+  can_done (Some (Compile n)) files bytes status out after can gives =
+      compile_done bytes status out can.0 n can.1 gives.0
   can_done (Some Inspect) files bytes status out after can gives =
       inspect_done bytes status out can.0 can.1 gives.0
   can_done (Some (Sample n)) files bytes status out after can gives = gives.0
@@ -102,9 +106,9 @@ module _ (live : OneLive) (one : OneReading) where
   can_done (Some Graph) (Some f) bytes status out after can gives = show_done live _ f status out after can gives
   can_done (Some Audit) None bytes status out after can gives = absurd can
   can_done (Some Audit) (Some f) bytes status out after can gives = show_done live _ f status out after can gives
-  can_done (Some Checkpoint) None bytes status out after can gives = absurd can
-  can_done (Some Checkpoint) (Some f) bytes status out after can gives =
-      checkpoint_done live f status out after can.0 can.1 gives
+  can_done (Some (Checkpoint base)) None bytes status out after can gives = absurd can
+  can_done (Some (Checkpoint base)) (Some f) bytes status out after can gives =
+      checkpoint_done live base f status out after can.0 can.1 gives
 
   -- where the source tells bytes with which the command can be done, what is put says so
   pub done : (command : Option Command) (held left : Option (List ℕ)) (before mid : Option Outside) (bytes : List ℕ)

@@ -14,9 +14,9 @@ use Rattle.sequence_journal.specs.Layout.{NoBase}
 use Rattle.sequence_journal.specs.Basing.{base_alone}
 use Rattle.store_switch.specs.LiveFile.{IsLive, NoBases, BothDurable, reads_of}
 use Rattle.store_switch.specs.TwoFiles.{StandOn, StandFor, CanBeLoaded, AreIntact}
-use Rattle.store_switch.specs.Checkpointing.{checkpoint_of}
 use Rattle.session.specs.Conversation.{Kept}
 use Rattle.session.specs.Conversing.{LeavesSession}
+use Rattle.osmroad.specs.declared.command.BaseProfile.{BaseProfile}
 use Rattle.osmroad.specs.declared.command.Command.{Command}
 use Rattle.osmroad.specs.declared.command.Command.TheVariants.{Compile, Inspect, Sample, Create, Apply}
 use Rattle.osmroad.specs.declared.command.Command.TheVariants.{Graph, Audit, Checkpoint}
@@ -24,6 +24,7 @@ use Rattle.osmroad.specs.declared.command.Request.{Request}
 use Rattle.osmroad.specs.declared.command.Request.TheVariants.{Session, Command as CommandRequest}
 use Rattle.osmroad.specs.declared.status.Status.{Status}
 use Rattle.osmroad.specs.Opening.{IsStore}
+use Rattle.osmroad.specs.Checkpoints.{rebased}
 use Rattle.osmroad.specs.Stops.{CouldLeave, LeavesFirst, LeavesBase, LeavesChange, LeavesHistory, LeavesCheckpoint}
 use Rattle.osmroad.specs.Stops.{LeavesStored, LeavesCreated, LeftBy}
 use Rattle.osmroad.specs.Run.{Ends}
@@ -118,22 +119,24 @@ module _ (laws : StoreLaws) (w : Outside) (durable : BothDurable w) (intact : Ar
     history_intact : (h : History) → LeavesHistory w left h → AreIntact (image_of left)
     history_intact h l = ⊎_elim (first_intact h) (intact_for left h) l
 
-    checkpoint_intact : (h : History) → LeavesCheckpoint w left h → AreIntact (image_of left)
-    checkpoint_intact h (LeavesCheckpoint.Before first) = first_intact h first
-    checkpoint_intact h (LeavesCheckpoint.Without stand unsaid) = intact_for left h stand
-    checkpoint_intact h (LeavesCheckpoint.With events are same stand) =
-        intact_for left (checkpoint_of h events) stand
+    checkpoint_intact : (base : BaseProfile) (h : History) → LeavesCheckpoint base w left h
+        → AreIntact (image_of left)
+    checkpoint_intact base h (LeavesCheckpoint.Before first) = first_intact h first
+    checkpoint_intact base h (LeavesCheckpoint.Without stand unsaid) = intact_for left h stand
+    checkpoint_intact base h (LeavesCheckpoint.With events are same stand) =
+        intact_for left (rebased base h events) stand
 
     left_intact : (command : Option Command) (read : List ℕ) → LeftBy command read w left → AreIntact (image_of left)
     left_intact None read l = could_intact l
-    left_intact (Some Compile) read l = could_intact l
+    left_intact (Some (Compile n)) read l = could_intact l
     left_intact (Some Inspect) read l = could_intact l
     left_intact (Some (Sample n)) read l = could_intact l
     left_intact (Some (Create n)) read l = created_intact n.0 read l
     left_intact (Some (Apply n)) read l = stored_intact (LeavesChange n.0 read w left) (change_intact n.0 read) l
     left_intact (Some Graph) read l = stored_intact (LeavesHistory w left) history_intact l
     left_intact (Some Audit) read l = stored_intact (LeavesHistory w left) history_intact l
-    left_intact (Some Checkpoint) read l = stored_intact (LeavesCheckpoint w left) checkpoint_intact l
+    left_intact (Some (Checkpoint base)) read l =
+        stored_intact (LeavesCheckpoint base w left) (checkpoint_intact base) l
 
     -- ---- a session
 

@@ -16,6 +16,7 @@ pub mod InspectReplies
 pub mod SampleReplies
 pub mod UnusedSides
 pub mod RunEnds
+pub mod KnownProfiles
 pub mod Refusals
 pub mod CompleteRuns
 pub mod OneAudit

@@ -1,6 +1,5 @@
 -- What a run gives is determined by its command, the bytes of both files and those of its source.
-use Rattle.std.proofs.Common.{◌≡◌, ◌+◌, ◌<◌, ◌≤◌, ◌^◌, ℕ, List, Option, None, Some, refl, sym, ap, ◌∙◌, subst, arith}
-use Rattle.std.proofs.lemmas.Bool.{eqb-true}
+use Rattle.std.proofs.Common.{◌≡◌, ◌+◌, ◌<◌, ◌≤◌, ◌^◌, ℕ, suc, List, Option, None, Some, refl, sym, ap, ◌∙◌, subst, arith}
 use Rattle.std.specs.FinMap.{empty}
 use Rattle.std.specs.Cmp.{IsTotalOrder}
 use Rattle.road_base.specs.declared.event.Event.{Event}
@@ -17,16 +16,16 @@ use Rattle.access_profile.specs.Profiles.{rules_of}
 use Rattle.opl_lexer.specs.declared.mode.Mode.TheVariants.{Extract, Change}
 use Rattle.opl_lexer.specs.Reading.{input_fault}
 use Rattle.sequence_journal.specs.Basing.{base_alone}
-use Rattle.store_switch.specs.Checkpointing.{checkpoint_of}
+use Rattle.osmroad.specs.declared.command.BaseProfile.{BaseProfile}
 use Rattle.osmroad.specs.declared.command.Command.{Command}
 use Rattle.osmroad.specs.declared.command.Command.TheVariants.{Compile, Inspect, Sample, Create, Apply}
 use Rattle.osmroad.specs.declared.command.Command.TheVariants.{Graph, Audit, Checkpoint}
 use Rattle.osmroad.specs.declared.status.Status.{Status}
-use Rattle.osmroad.specs.Texts.{sequence_line, counts_line, checkpoint_line}
+use Rattle.osmroad.specs.Texts.{sequence_line, counts_line}
 use Rattle.osmroad.specs.Compiled.{IsGraphOf}
 use Rattle.osmroad.specs.Audited.{IsAuditOf}
 use Rattle.osmroad.specs.Opening.{Files, IsStore, StoreRefusal, size_with_change}
-use Rattle.osmroad.specs.Checkpoints.{AreItsEntries, HasNoRoom, CheckpointGives}
+use Rattle.osmroad.specs.Checkpoints.{AreItsEntries, HasNoRoom, CheckpointGives, base_line, rebased}
 use Rattle.osmroad.specs.Outcomes.{AreInput, IsCompiled, CompileGives, InspectGives, CreateGives, ApplyGives}
 use Rattle.osmroad.specs.Outcomes.{ShowGives, Gives}
 use Rattle.osmroad.specs.Run.{IsStored}
@@ -57,15 +56,21 @@ one_graph_of map P graph events out other a b =
 
 -- ---- without a store
 
-module _ (reading : OneReading) (map : OneMap) (graph : (M : Objects) → OneGraph M (rules_of 1)) where
-  one_compiled : (bytes out other : List ℕ) → IsCompiled bytes out → IsCompiled bytes other → out ≡ other
+-- the rules of each known profile give one graph
+abbrev pub OneGraphEach : Type 0
+OneGraphEach = (n : ℕ) → IsProfile n → (M : Objects) → OneGraph M (rules_of n)
+
+module _ (reading : OneReading) (map : OneMap) (graph : OneGraphEach) (profile : ℕ) where
+  one_compiled : (bytes out other : List ℕ) → IsCompiled profile bytes out → IsCompiled profile bytes other
+      → out ≡ other
   one_compiled bytes out other a b =
       let events = reading Extract bytes b.events a.events b.read a.read in
-      one_graph_of map (rules_of 1) graph a.events out other a.graph
-      (subst (λ (l : List Event). IsGraphOf (rules_of 1) l other) events b.graph)
+      one_graph_of map (rules_of profile) (graph profile a.known) a.events out other a.graph
+      (subst (λ (l : List Event). IsGraphOf (rules_of profile) l other) events b.graph)
 
   one_compile : (bytes : List ℕ) (status another : Status) (out other : List ℕ)
-      → CompileGives bytes status out → CompileGives bytes another other → Same status out another other
+      → CompileGives profile bytes status out → CompileGives profile bytes another other
+      → Same status out another other
   one_compile bytes status another out other (CompileGives.OfInput r) (CompileGives.OfInput s) =
       one_refusal Extract bytes status another out other r s
   one_compile bytes status another out other (CompileGives.OfInput r) (CompileGives.OfExtract w c f) = absurd
@@ -168,30 +173,30 @@ module _ (live : OneLive) (has : HasLive) (sound : NoDamage) (alone : OneDamage)
         subst (λ (g : ℕ). HasNoRoom g y) (one_generation s t)
         (subst (λ (l : List Event). HasNoRoom s.generation l) (one_entries map s t x y r q) none)
 
-    one_checkpoint : OneMap → CheckpointGives files status out after → CheckpointGives files another other later
-        → Alike status out after another other later
-    one_checkpoint map (CheckpointGives.OfStore r a) (CheckpointGives.OfStore q b) =
+    one_checkpoint : OneMap → (base : BaseProfile) → CheckpointGives base files status out after
+        → CheckpointGives base files another other later → Alike status out after another other later
+    one_checkpoint map base (CheckpointGives.OfStore r a) (CheckpointGives.OfStore q b) =
         with_after _ _ _ _ _ _ (one_store_refusal files status another out other live alone r q) (both _ _ _ a b)
-    one_checkpoint map (CheckpointGives.OfStore r a) (CheckpointGives.OfNoRoom t y i n f p b) = absurd
+    one_checkpoint map base (CheckpointGives.OfStore r a) (CheckpointGives.OfNoRoom t y i n f p b) = absurd
         (store_not_refused files status out live has sound t r)
-    one_checkpoint map (CheckpointGives.OfStore r a) (CheckpointGives.OfEntries t y i n f p b) = absurd
+    one_checkpoint map base (CheckpointGives.OfStore r a) (CheckpointGives.OfEntries t y i n f p b) = absurd
         (store_not_refused files status out live has sound t r)
-    one_checkpoint map (CheckpointGives.OfNoRoom s x j m e o a) (CheckpointGives.OfStore q b) = absurd
+    one_checkpoint map base (CheckpointGives.OfNoRoom s x j m e o a) (CheckpointGives.OfStore q b) = absurd
         (store_not_refused files another other live has sound s q)
-    one_checkpoint map (CheckpointGives.OfNoRoom s x j m e o a) (CheckpointGives.OfNoRoom t y i n f p b) =
+    one_checkpoint map base (CheckpointGives.OfNoRoom s x j m e o a) (CheckpointGives.OfNoRoom t y i n f p b) =
         (both _ _ _ e f, both _ _ _ o p, as_before s t a b)
-    one_checkpoint map (CheckpointGives.OfNoRoom s x j m e o a) (CheckpointGives.OfEntries t y i n f p b) =
+    one_checkpoint map base (CheckpointGives.OfNoRoom s x j m e o a) (CheckpointGives.OfEntries t y i n f p b) =
         absurd (n (one_room map s t x y j i m))
-    one_checkpoint map (CheckpointGives.OfEntries s x j m e o a) (CheckpointGives.OfStore q b) = absurd
+    one_checkpoint map base (CheckpointGives.OfEntries s x j m e o a) (CheckpointGives.OfStore q b) = absurd
         (store_not_refused files another other live has sound s q)
-    one_checkpoint map (CheckpointGives.OfEntries s x j m e o a) (CheckpointGives.OfNoRoom t y i n f p b) =
+    one_checkpoint map base (CheckpointGives.OfEntries s x j m e o a) (CheckpointGives.OfNoRoom t y i n f p b) =
         absurd (m (one_room map t s y x i j n))
-    one_checkpoint map (CheckpointGives.OfEntries s x j m e o a) (CheckpointGives.OfEntries t y i n f p b) = (
+    one_checkpoint map base (CheckpointGives.OfEntries s x j m e o a) (CheckpointGives.OfEntries t y i n f p b) = (
       both _ _ _ e f,
-      o ∙ (ap (λ (h : History). checkpoint_line (kept h)) (one_history s t)
+      o ∙ (ap (λ (h : History). base_line base (kept h)) (one_history s t)
           ∙ sym p),
-      a ∙ (ap (λ (h : History). Some (checkpoint_of h x)) (one_history s t)
-          ∙ (ap (λ (l : List Event). Some (checkpoint_of t.history l)) (one_entries map s t x y j i)
+      a ∙ (ap (λ (h : History). Some (rebased base h x)) (one_history s t)
+          ∙ (ap (λ (l : List Event). Some (rebased base t.history l)) (one_entries map s t x y j i)
           ∙ sym b)),
     )
 
@@ -292,14 +297,15 @@ module _ (live : OneLive) (has : HasLive) (sound : NoDamage) (alone : OneDamage)
 
 -- ---- all commands
 
--- the rules of each known profile give one graph
-abbrev pub OneGraphEach : Type 0
-OneGraphEach = (n : ℕ) → IsProfile n → (M : Objects) → OneGraph M (rules_of n)
-
--- there is one known profile
-pub each_profile : (number : ℕ) → number ≡ 1 → ((M : Objects) → OneGraph M (rules_of number)) → OneGraphEach
-each_profile number is graph n known =
-    subst (λ (k : ℕ). (M : Objects) → OneGraph M (rules_of k)) (is ∙ sym (eqb-true n 1 known)) graph
+-- there are two known profiles
+pub each_profile : (one two : ℕ) → one ≡ 1 → two ≡ 2 → ((M : Objects) → OneGraph M (rules_of one))
+    → ((M : Objects) → OneGraph M (rules_of two)) → OneGraphEach
+each_profile one two is_one is_two graph other 0 known = absurd (cc)
+each_profile one two is_one is_two graph other 1 known =
+    subst (λ (k : ℕ). (M : Objects) → OneGraph M (rules_of k)) is_one graph
+each_profile one two is_one is_two graph other 2 known =
+    subst (λ (k : ℕ). (M : Objects) → OneGraph M (rules_of k)) is_two other
+each_profile one two is_one is_two graph other (suc (suc (suc n))) known = absurd (cc)
 
 module _ (reading : OneReading) (map : OneMap) (graph : OneGraphEach)
     (total : IsTotalOrder relation_cmp) (bytes : List ℕ) (status another : Status) (out other : List ℕ)
@@ -308,10 +314,11 @@ module _ (reading : OneReading) (map : OneMap) (graph : OneGraphEach)
       → Gives None files bytes another other later → Alike status out after another other later
   one_usage files a b = (both _ _ _ a.0 b.0, both _ _ _ a.1 b.1, both _ _ _ a.2 b.2)
 
-  one_alone : (files : Option Files) → Gives (Some Compile) files bytes status out after
-      → Gives (Some Compile) files bytes another other later → Alike status out after another other later
-  one_alone files a b = with_after _ _ _ _ _ _ (one_compile reading map (graph 1 refl) bytes status another out other
-      a.0 b.0)
+  one_alone : (profile : ℕ) (files : Option Files) → Gives (Some (Compile profile)) files bytes status out after
+      → Gives (Some (Compile profile)) files bytes another other later
+      → Alike status out after another other later
+  one_alone profile files a b = with_after _ _ _ _ _ _
+      (one_compile reading map graph profile bytes status another out other a.0 b.0)
       (both _ _ _ a.1 b.1)
 
   one_inspected : (files : Option Files) → Gives (Some Inspect) files bytes status out after
@@ -328,20 +335,20 @@ module _ (reading : OneReading) (map : OneMap) (graph : OneGraphEach)
   pub one_without : (command : Option Command) → (IsStored command → ⊥) → Gives command None bytes status out after
       → Gives command None bytes another other later → Alike status out after another other later
   one_without None n a b = one_usage None a b
-  one_without (Some Compile) n a b = one_alone None a b
+  one_without (Some (Compile profile)) n a b = one_alone profile None a b
   one_without (Some Inspect) n a b = one_inspected None a b
   one_without (Some (Sample number)) n a b = one_sampled number None a b
   one_without (Some (Create number)) n a b = absurd (n tt)
   one_without (Some (Apply number)) n a b = absurd (n tt)
   one_without (Some Graph) n a b = absurd (n tt)
   one_without (Some Audit) n a b = absurd (n tt)
-  one_without (Some Checkpoint) n a b = absurd (n tt)
+  one_without (Some (Checkpoint base)) n a b = absurd (n tt)
 
   pub one_answer : OneLive → HasLive → NoDamage → OneDamage → OneStore → (command : Option Command) (files : Files)
       → Gives command (Some files) bytes status out after → Gives command (Some files) bytes another other later
       → Alike status out after another other later
   one_answer live has sound alone store None files a b = one_usage (Some files) a b
-  one_answer live has sound alone store (Some Compile) files a b = one_alone (Some files) a b
+  one_answer live has sound alone store (Some (Compile profile)) files a b = one_alone profile (Some files) a b
   one_answer live has sound alone store (Some Inspect) files a b = one_inspected (Some files) a b
   one_answer live has sound alone store (Some (Sample n)) files a b = one_sampled n (Some files) a b
   one_answer live has sound alone store (Some (Create n)) files a b =
@@ -354,5 +361,5 @@ module _ (reading : OneReading) (map : OneMap) (graph : OneGraphEach)
   one_answer live has sound alone store (Some Audit) files a b =
       one_show live has sound alone store files status another out other after later IsAuditOf
       (λ n known. one_audit total map (rules_of n)) a b
-  one_answer live has sound alone store (Some Checkpoint) files a b =
-      one_checkpoint live has sound alone store files status another out other after later map a b
+  one_answer live has sound alone store (Some (Checkpoint base)) files a b =
+      one_checkpoint live has sound alone store files status another out other after later map base a b

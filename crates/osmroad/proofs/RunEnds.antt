@@ -10,6 +10,7 @@ use Rattle.road_io.specs.Disk.{IsImage}
 use Rattle.road_io.specs.Outside.{Outside, Left, LeavesOnly, extended}
 use Rattle.road_io.proofs.CallRuns.{put_goes_on}
 use Rattle.road_io.proofs.ToldCalls.{told_then, told_weaker}
+use Rattle.osmroad.specs.declared.command.BaseProfile.{BaseProfile}
 use Rattle.osmroad.specs.declared.command.Command.{Command}
 use Rattle.osmroad.specs.declared.command.Command.TheVariants.{Compile, Inspect, Sample, Create, Apply}
 use Rattle.osmroad.specs.declared.command.Command.TheVariants.{Graph, Audit, Checkpoint}
@@ -41,9 +42,9 @@ plain wanted status p is = subst IsPlain (sym is) p
 
 pub reply_is_plain : (command : Option Command) (status : Status) → IsReply command status → IsPlain status
 reply_is_plain None status is = plain Usage status tt is
-reply_is_plain (Some Compile) status (inl is) = plain Done status tt is
-reply_is_plain (Some Compile) status (inr (inl is)) = plain Refused status tt is
-reply_is_plain (Some Compile) status (inr (inr is)) = plain Limit status tt is
+reply_is_plain (Some (Compile n)) status (inl is) = plain Done status tt is
+reply_is_plain (Some (Compile n)) status (inr (inl is)) = plain Refused status tt is
+reply_is_plain (Some (Compile n)) status (inr (inr is)) = plain Limit status tt is
 reply_is_plain (Some Inspect) status (inl is) = plain Done status tt is
 reply_is_plain (Some Inspect) status (inr (inl is)) = plain Refused status tt is
 reply_is_plain (Some Inspect) status (inr (inr is)) = plain Limit status tt is
@@ -66,10 +67,10 @@ reply_is_plain (Some Audit) status (inl is) = plain Done status tt is
 reply_is_plain (Some Audit) status (inr (inl is)) = plain NoStore status tt is
 reply_is_plain (Some Audit) status (inr (inr (inl is))) = plain Damaged status tt is
 reply_is_plain (Some Audit) status (inr (inr (inr is))) = plain Limit status tt is
-reply_is_plain (Some Checkpoint) status (inl is) = plain Done status tt is
-reply_is_plain (Some Checkpoint) status (inr (inl is)) = plain NoStore status tt is
-reply_is_plain (Some Checkpoint) status (inr (inr (inl is))) = plain Damaged status tt is
-reply_is_plain (Some Checkpoint) status (inr (inr (inr is))) = plain Limit status tt is
+reply_is_plain (Some (Checkpoint base)) status (inl is) = plain Done status tt is
+reply_is_plain (Some (Checkpoint base)) status (inr (inl is)) = plain NoStore status tt is
+reply_is_plain (Some (Checkpoint base)) status (inr (inr (inl is))) = plain Damaged status tt is
+reply_is_plain (Some (Checkpoint base)) status (inr (inr (inr is))) = plain Limit status tt is
 
 -- ---- a put, and what was prepared before it
 
@@ -91,10 +92,10 @@ grows_nothing before now silent = told_weaker before now (λ w v. v.output ≡ w
     silent (λ w v e. e ∙ sym (append-nil w.output))
 
 -- a put changes no file
-switched_stands : (status : Status) (h : History) (w u : Outside) (chunk : List ℕ)
-    → StandAfter (Some Checkpoint) status (Some h) w u
-    → StandAfter (Some Checkpoint) status (Some h) w (extended chunk u)
-switched_stands Done h w u chunk s = record {
+switched_stands : (base : BaseProfile) (status : Status) (h : History) (w u : Outside) (chunk : List ℕ)
+    → StandAfter (Some (Checkpoint base)) status (Some h) w u
+    → StandAfter (Some (Checkpoint base)) status (Some h) w (extended chunk u)
+switched_stands base Done h w u chunk s = record {
   live = s.live;
   generation = s.generation;
   old = s.old;
@@ -102,29 +103,30 @@ switched_stands Done h w u chunk s = record {
   stand = s.stand;
   small = s.small;
 }
-switched_stands Usage h w u chunk s = s
-switched_stands ReadFault h w u chunk s = s
-switched_stands SiteFault h w u chunk s = s
-switched_stands Refused h w u chunk s = s
-switched_stands OutOfSequence h w u chunk s = s
-switched_stands NoStore h w u chunk s = s
-switched_stands StoreExists h w u chunk s = s
-switched_stands Damaged h w u chunk s = s
-switched_stands Limit h w u chunk s = s
-switched_stands NoMemory h w u chunk s = s
+switched_stands base Usage h w u chunk s = s
+switched_stands base ReadFault h w u chunk s = s
+switched_stands base SiteFault h w u chunk s = s
+switched_stands base Refused h w u chunk s = s
+switched_stands base OutOfSequence h w u chunk s = s
+switched_stands base NoStore h w u chunk s = s
+switched_stands base StoreExists h w u chunk s = s
+switched_stands base Damaged h w u chunk s = s
+switched_stands base Limit h w u chunk s = s
+switched_stands base NoMemory h w u chunk s = s
 
 extended_stands : (command : Option Command) (status : Status) (after : Option History) (w u : Outside) (chunk : List ℕ)
     → StandAfter command status after w u → StandAfter command status after w (extended chunk u)
 extended_stands command status None w u chunk s = s
 extended_stands None status (Some h) w u chunk s = s
-extended_stands (Some Compile) status (Some h) w u chunk s = s
+extended_stands (Some (Compile n)) status (Some h) w u chunk s = s
 extended_stands (Some Inspect) status (Some h) w u chunk s = s
 extended_stands (Some (Sample n)) status (Some h) w u chunk s = s
 extended_stands (Some (Create n)) status (Some h) w u chunk s = s
 extended_stands (Some (Apply n)) status (Some h) w u chunk s = s
 extended_stands (Some Graph) status (Some h) w u chunk s = s
 extended_stands (Some Audit) status (Some h) w u chunk s = s
-extended_stands (Some Checkpoint) status (Some h) w u chunk s = switched_stands status h w u chunk s
+extended_stands (Some (Checkpoint base)) status (Some h) w u chunk s =
+    switched_stands base status h w u chunk s
 
 module _ (command : Option Command) (out : List ℕ) where
   still_stands : (status : Status) (after : Option History) (w u v : Outside) → StandAfter command status after w u
@@ -168,14 +170,14 @@ module _ (command : Option Command) (out : List ℕ) where
 reads_at_fault : (command : Option Command) (before : Option Outside) (status : Status) (bytes read : List ℕ)
     → Reads command (files_of before) status bytes read → Reads command (files_of before) SiteFault bytes read
 reads_at_fault None before status bytes read reads = reads
-reads_at_fault (Some Compile) before status bytes read reads = tt
+reads_at_fault (Some (Compile n)) before status bytes read reads = tt
 reads_at_fault (Some Inspect) before status bytes read reads = tt
 reads_at_fault (Some (Sample n)) before status bytes read reads = reads
 reads_at_fault (Some (Create n)) before status bytes read reads = tt
 reads_at_fault (Some (Apply n)) before status bytes read reads = tt
 reads_at_fault (Some Graph) before status bytes read reads = reads
 reads_at_fault (Some Audit) before status bytes read reads = reads
-reads_at_fault (Some Checkpoint) before status bytes read reads = reads
+reads_at_fault (Some (Checkpoint base)) before status bytes read reads = reads
 
 all_is_put : (command : Option Command) (bytes read : List ℕ) (status : Status) (before now : Option Outside)
     → IsPlain status → PutsAll command bytes status before now → EndsWith command bytes read status before now
@@ -264,9 +266,9 @@ fails_alike command read other MemoryFailure before now none fails = fails
 reads_as_failed : (command : Command) (bytes read : List ℕ) (failure : Failure) (before now : Option Outside)
     → IsReading (Some command) → WillFail (Some command) read failure before now
     → Reads (Some command) (files_of before) (failure_status failure) bytes read
-reads_as_failed Compile bytes read ReadFailure before now is fails = fails.1
-reads_as_failed Compile bytes read SiteFailure before now is fails = tt
-reads_as_failed Compile bytes read MemoryFailure before now is fails = tt
+reads_as_failed (Compile n) bytes read ReadFailure before now is fails = fails.1
+reads_as_failed (Compile n) bytes read SiteFailure before now is fails = tt
+reads_as_failed (Compile n) bytes read MemoryFailure before now is fails = tt
 reads_as_failed Inspect bytes read ReadFailure before now is fails = fails.1
 reads_as_failed Inspect bytes read SiteFailure before now is fails = tt
 reads_as_failed Inspect bytes read MemoryFailure before now is fails = tt
@@ -279,7 +281,7 @@ reads_as_failed (Apply n) bytes read SiteFailure before now is fails = tt
 reads_as_failed (Apply n) bytes read MemoryFailure before now is fails = tt
 reads_as_failed Graph bytes read failure before now is fails = absurd is
 reads_as_failed Audit bytes read failure before now is fails = absurd is
-reads_as_failed Checkpoint bytes read failure before now is fails = absurd is
+reads_as_failed (Checkpoint base) bytes read failure before now is fails = absurd is
 
 module _ (command : Option Command) (held left : Option (List ℕ)) (before now : Option Outside)
     (silent : Told (λ w v. v.output ≡ w.output) before now) where
@@ -331,11 +333,12 @@ module _ (failure : Failure) (held left : Option (List ℕ)) (before now : Optio
   pub ends_failed : (command : Command) → ((IsReading (Some command) → ⊥) → left ≡ held)
       → Prepares (Some command) (Err failure) held left before now
       → Ends (Some command) (failure_status failure) held left before now
-  ends_failed Compile unread p = ends_reading Compile tt p
+  ends_failed (Compile n) unread p = ends_reading (Compile n) tt p
   ends_failed Inspect unread p = ends_reading Inspect tt p
   ends_failed (Create n) unread p = ends_reading (Create n) tt p
   ends_failed (Apply n) unread p = ends_reading (Apply n) tt p
   ends_failed (Sample n) unread p = ends_unread (Sample n) (λ is. is) refl (unread (λ is. is)) p p.only
   ends_failed Graph unread p = ends_unread Graph (λ is. is) refl (unread (λ is. is)) p p.only
   ends_failed Audit unread p = ends_unread Audit (λ is. is) refl (unread (λ is. is)) p p.only
-  ends_failed Checkpoint unread p = ends_unread Checkpoint (λ is. is) refl (unread (λ is. is)) p p.only
+  ends_failed (Checkpoint base) unread p =
+      ends_unread (Checkpoint base) (λ is. is) refl (unread (λ is. is)) p p.only

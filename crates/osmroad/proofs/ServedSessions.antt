@@ -1,7 +1,6 @@
 -- A session over the two files: how it ends, and what a stop leaves.
 use Rattle.std.proofs.Common.{◌≡◌, ◌⊎◌, inl, inr, ℕ, List, [], ◌++◌, length, take, Option, Bool, IfSome}
 use Rattle.std.proofs.Common.{Ok, refl, sym, ◌∙◌, ap, subst}
-use Rattle.std.proofs.lemmas.Bool.{eqb-true}
 use Rattle.std.proofs.lemmas.List.{append-nil}
 use Rattle.std.specs.Io.{StartsWith}
 use Rattle.road_base.specs.History.{History}
@@ -184,10 +183,6 @@ opened l w u k = record {
   room = ap room_at (sym k.ready.at.gate);
 }
 
--- the profile of a store is known, and there is one
-pub known_profile : (files : Files) (s : IsStore files) → s.history.profile ≡ 1
-known_profile files s = eqb-true s.history.profile 1 s.stands.stands.begins.fits.profile
-
 abbrev pub opening_at : ℕ → History → Kept (Unit {0})
 opening_at generation h = record {
   history = h;
@@ -214,14 +209,15 @@ module _ (laws : StoreLaws) where
   module _ (l : Loaded) (read : List ℕ) (ended : Bool) (end : End) (status : Status) (is : status ≡ end_status end)
     where
       session_runs : (w u v : Outside) → LoadsStore (Ok l) w u
-          → ((o : Kept (Unit {0})) → IsOpening l o u → SessionEnds (road_replies (rules_of 1)) o read ended end u v)
+          → ((o : Kept (Unit {0})) → IsOpening l o u
+          → SessionEnds (road_replies (rules_of l.journal.profile)) o read ended end u v)
           → SessionRuns read ended status w v
       session_runs w u v load ends =
           let k : StoreLoaded l w u = load.answer in
           let s = loaded_store l w u k in
           let e : SessionEnds (replies_over (opening s)) (opening s) read ended end u v =
           subst (λ (n : ℕ). SessionEnds (road_replies (rules_of n)) (opening s) read ended end u v)
-          (sym (known_profile (reads_of w) s)) (ends (opening s) (opened l w u k)) in
+          k.ready.at.profile (ends (opening s) (opened l w u k)) in
           record {
             puts = OfStore s end is (ends_since (replies_over (opening s)) (opening s) read ended w u load.output
                 end v e.puts);
@@ -245,7 +241,8 @@ module _ (laws : StoreLaws) where
   session_reads NoMemoryEnd bytes read behind all whole = tt
 
   pub store_is_served : (l : Loaded) (status : Status) (held remaining : Option (List ℕ)) (x y z : Option Outside)
-      → Told (LoadsStore (Ok l)) x y → Serves (road_replies (rules_of 1)) l status held remaining y z
+      → Told (LoadsStore (Ok l)) x y
+      → Serves (road_replies (rules_of l.journal.profile)) l status held remaining y z
       → EndsSession status held remaining x z
   store_is_served l status held remaining x y z told serves =
       let c = serves.converses in
@@ -265,7 +262,7 @@ module _ (laws : StoreLaws) where
             (session_reads serves.end c.bytes c.read c.behind c.all (λ at. (c.source (c.whole at)).0));
         runs = told_then x y z (LoadsStore (Ok l))
             (λ u v. (o : Kept (Unit {0})) → IsOpening l o u
-            → SessionEnds (road_replies (rules_of 1)) o c.read c.ended serves.end u v)
+            → SessionEnds (road_replies (rules_of l.journal.profile)) o c.read c.ended serves.end u v)
             (SessionRuns c.read c.ended status) told c.ends
             (λ w u v load ends. session_runs l c.read c.ended serves.end status serves.is w u v load ends);
       }

@@ -2,7 +2,6 @@
 use Rattle.std.proofs.Common.{◌≡◌, ◌⊎◌, inl, inr, ℕ, ◌+◌, ◌≤◌, List, [], length, Option, None, Some, IfSome}
 use Rattle.std.proofs.Common.{Result, Ok, Err}
 use Rattle.std.proofs.Common.{refl, sym, ◌∙◌, ap, subst}
-use Rattle.std.proofs.lemmas.Bool.{eqb-true}
 use Rattle.std.specs.FinMap.{empty}
 use Rattle.road_base.specs.declared.event.Event.{Event}
 use Rattle.road_base.specs.History.{History, all_events}
@@ -131,16 +130,16 @@ module _ (laws : StoreLaws) (command : Option Command) (Shows : Rules → List E
       (by_failure command (behind_of held) [] x y NoMemoryFailure result is
       (told_weaker x y (LoadsStore (Ok l)) StandAsBefore told (λ w v k. loaded_as_before laws l w v k.answer)))
 
-  shown : (bytes out : List ℕ) (l : Loaded) (w v : Outside) → StoreLoaded l w v → Shows (rules_of 1) l.events.items out
+  shown : (bytes out : List ℕ) (l : Loaded) (w v : Outside) → StoreLoaded l w v
+      → Shows (rules_of l.journal.profile) l.events.items out
       → WillPut command bytes [] Done out (Some w) (Some v)
   shown bytes out l w v k is = record {
     replies = shows.replies Done (inl refl);
     reads = shows.reads (files_of (Some w)) Done bytes;
     after = Some k.history;
     gives = shows.gives (files_of (Some w)) bytes Done out (Some k.history) (OfHistory (loaded_store l w v k)
-        (subst (λ (n : ℕ). Shows (rules_of n) (all_events k.history) out)
-        (sym (eqb-true k.history.profile 1 k.ready.at.fits.profile))
-        (subst (λ (events : List Event). Shows (rules_of 1) events out) k.events is)) refl refl);
+        (subst (λ (n : ℕ). Shows (rules_of n) (all_events k.history) out) k.ready.at.profile
+        (subst (λ (events : List Event). Shows (rules_of l.journal.profile) events out) k.events is)) refl refl);
     stand = shows.stand w v k.history (loaded_now laws l w v k);
     last = λ left a b front. shows.leaves w left (record {
       stored = λ h c. inr (subst (λ (i : History). StandFor (image_of left) i)
@@ -153,7 +152,8 @@ module _ (laws : StoreLaws) (command : Option Command) (Shows : Rules → List E
 
   -- what is shown of its events is made
   pub show_done : (held : Option (List ℕ)) (x y : Option Outside) (l : Loaded) (out : List ℕ) (r : Reply)
-      → Says Done out r → Told (LoadsStore (Ok l)) x y → Shows (rules_of 1) l.events.items out
+      → Says Done out r → Told (LoadsStore (Ok l)) x y
+      → Shows (rules_of l.journal.profile) l.events.items out
       → Prepares command (Ok r) held held x y
   show_done held x y l out r says told is =
       let bytes = behind_of held in

@@ -29,14 +29,14 @@ module _ (command : Option Command) (read : List ℕ) where
     where
       go : (c : Option Command) → (IsStored c → ⊥) → LeftBy c read w left
       go None n = could
-      go (Some Compile) n = could
+      go (Some (Compile number)) n = could
       go (Some Inspect) n = could
       go (Some (Sample number)) n = could
       go (Some (Create number)) n = absurd (n tt)
       go (Some (Apply number)) n = absurd (n tt)
       go (Some Graph) n = absurd (n tt)
       go (Some Audit) n = absurd (n tt)
-      go (Some Checkpoint) n = absurd (n tt)
+      go (Some (Checkpoint base)) n = absurd (n tt)
 
   pub leaves_still : (IsStored command → ⊥) → (x : Option Outside)
       → Told (λ w v. LeavesOnly w v (LeftBy command read w)) x x

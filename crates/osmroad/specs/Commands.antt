@@ -4,6 +4,8 @@ use Rattle.std.specs.Prelude.{bytes_eq, codes, if◌then◌else◌, ◌^◌, ◌
 use Rattle.std.specs.Option.{option_and_then}
 use Rattle.opl_lexer.specs.Letters.{minus_sign}
 use Rattle.opl_lexer.specs.Numbers.{number_below}
+use Rattle.road_base.specs.Profiles.{IsProfile}
+use Rattle.osmroad.specs.declared.command.BaseProfile.TheVariants.{Kept, Raised}
 use Rattle.osmroad.specs.declared.command.Command.{Command}
 use Rattle.osmroad.specs.declared.command.Command.TheVariants.{Compile, Inspect, Sample, Create, Apply}
 use Rattle.osmroad.specs.declared.command.Command.TheVariants.{Graph, Audit, Checkpoint}
@@ -32,16 +34,27 @@ abbrev pub asked_alone : List ℕ → Option Command
 asked_alone name =
     if bytes_eq name (codes "graph") then Some Graph
     else (if bytes_eq name (codes "audit") then Some Audit
-    else (if bytes_eq name (codes "checkpoint") then Some Checkpoint else None))
+    else (if bytes_eq name (codes "checkpoint") then Some (Checkpoint Kept)
+    else (if bytes_eq name (codes "raise") then Some (Checkpoint Raised) else None)))
 
 -- without a store
 abbrev pub asked_without : List ℕ → Option Command
 asked_without name =
-    if bytes_eq name (codes "compile") then Some Compile
+    if bytes_eq name (codes "compile") then Some (Compile 1)
     else (if bytes_eq name (codes "inspect") then Some Inspect else None)
 
 abbrev pub asked_sample : List ℕ → ℕ → Option Command
 asked_sample name n = if bytes_eq name (codes "sample") then Some (Sample n) else None
+
+-- under another profile than 1; its number is the one word `2`
+abbrev pub asked_profile : List ℕ → Option Command
+asked_profile word = if bytes_eq word (codes "2") then Some (Compile 2) else None
+
+-- without a store, and with a number
+abbrev pub asked_without_numbered : List ℕ → List ℕ → Option Command
+asked_without_numbered name number =
+    if bytes_eq name (codes "compile") then asked_profile number
+    else option_and_then (asked_sample name) (number_of number)
 
 -- `-` or the store's name, and the command's
 abbrev pub asked_by_two : List ℕ → List ℕ → Option Command
@@ -52,11 +65,11 @@ asked_by_two store name =
 -- `-` or the store's name, the command's, and a number
 abbrev pub asked_by_three : List ℕ → List ℕ → List ℕ → Option Command
 asked_by_three store name number =
-    if bytes_eq store (codes "-") then option_and_then (asked_sample name) (number_of number)
+    if bytes_eq store (codes "-") then asked_without_numbered name number
     else (if is_store store then option_and_then (asked_numbered name) (number_of number) else None)
 
--- `- compile`, `- inspect`, `- sample N`, `STORE create N`, `STORE apply N`, `STORE graph`, `STORE audit` and
--- `STORE checkpoint`; other words are no command's
+-- `- compile`, `- compile 2`, `- inspect`, `- sample N`, `STORE create N`, `STORE apply N`, `STORE graph`,
+-- `STORE audit`, `STORE checkpoint` and `STORE raise`; other words are no command's
 abbrev pub asked_command : List (List ℕ) → Option Command
 asked_command [] = None
 asked_command (one ∷ []) = None
@@ -78,3 +91,8 @@ request_for (Some command) = Some (CommandRequest command)
 -- a session, or what a command does; other words ask nothing
 abbrev pub asked : List (List ℕ) → Option Request
 asked words = if asks_session words then Some Session else request_for (asked_command words)
+
+-- what is compiled is compiled under a known profile
+abbrev pub HasProfile : Command → Type 0
+HasProfile (Compile profile) = IsProfile profile
+HasProfile command = Unit {0}

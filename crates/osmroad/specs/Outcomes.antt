@@ -3,6 +3,7 @@
 use Rattle.std.specs.Prelude.{◌≡◌, ◌≢◌, ℕ, ◌+◌, ◌<◌, ◌≤◌, ◌^◌, List, Option, None, Some, IfSome}
 use Rattle.road_base.specs.declared.event.Event.{Event}
 use Rattle.road_base.specs.History.{History, all_events, kept, with_change}
+use Rattle.road_base.specs.Profiles.{IsProfile}
 use Rattle.opl_lexer.specs.declared.mode.Mode.{Mode}
 use Rattle.opl_lexer.specs.declared.mode.Mode.TheVariants.{Extract, Change}
 use Rattle.opl_lexer.specs.Reading.{FaultAt, input_fault, ReadAll}
@@ -48,16 +49,18 @@ pub data InputRefusal (mode : Mode) (bytes : List ℕ) (status : Status) (out : 
 
 -- ---- the commands
 
--- no line is in fault, and `out` is the graph of the objects that the events leave, of profile 1, a motorcar's
-pub record IsCompiled (bytes out : List ℕ) : Type 0 where
+-- no line is in fault, and `out` is the graph of the objects that the events leave, of this known profile
+pub record IsCompiled (profile : ℕ) (bytes out : List ℕ) : Type 0 where
+  pub known : IsProfile profile
   pub events : List Event
   pub read : ReadAll Extract bytes events
-  pub graph : IsGraphOf (rules_of 1) events out
+  pub graph : IsGraphOf (rules_of profile) events out
 
--- `- compile`
-pub data CompileGives (bytes : List ℕ) (status : Status) (out : List ℕ) : Type 0 where
-  OfInput : InputRefusal Extract bytes status out → CompileGives bytes status out
-  OfExtract : IsWithinLimits bytes → IsCompiled bytes out → status ≡ Done → CompileGives bytes status out
+-- `- compile` and `- compile 2`, under this profile
+pub data CompileGives (profile : ℕ) (bytes : List ℕ) (status : Status) (out : List ℕ) : Type 0 where
+  OfInput : InputRefusal Extract bytes status out → CompileGives profile bytes status out
+  OfExtract : IsWithinLimits bytes → IsCompiled profile bytes out → status ≡ Done
+      → CompileGives profile bytes status out
 
 -- `- inspect`: the bytes are a graph file, of any known profile, of which `out` says how large it is
 pub data InspectGives (bytes : List ℕ) (status : Status) (out : List ℕ) : Type 0 where
@@ -69,8 +72,7 @@ pub data InspectGives (bytes : List ℕ) (status : Status) (out : List ℕ) : Ty
       → status ≡ Done → out ≡ counts_line (totals_of blocks) → InspectGives bytes status out
 
 -- `STORE create N`: where no file has an open base, the files then stand for base N, of profile 1, with the events of
--- the
--- extract
+-- the extract
 pub data CreateGives (number : ℕ) (files : Files) (bytes : List ℕ) (status : Status) (out : List ℕ)
     (after : Option History) : Type 0 where
   OfOldStore : (file : Which) → HasBase (files file)
@@ -122,11 +124,12 @@ pub data ShowGives (Shows : Rules → List Event → List ℕ → Type 0) (files
 -- nothing is said here. Command, files and bytes determine all three: the law `one_answer`.
 abbrev pub Gives : Option Command → Option Files → List ℕ → Status → List ℕ → Option History → Type 0
 Gives None files bytes status out after = (status ≡ Usage) × (out ≡ usage_line) × (after ≡ None)
-Gives (Some Compile) files bytes status out after = CompileGives bytes status out × (after ≡ None)
+Gives (Some (Compile n)) files bytes status out after = CompileGives n bytes status out × (after ≡ None)
 Gives (Some Inspect) files bytes status out after = InspectGives bytes status out × (after ≡ None)
 Gives (Some (Sample n)) files bytes status out after = (status ≡ Done) × IsSample (rules_of 1) n out × (after ≡ None)
 Gives (Some (Create n)) files bytes status out after = IfSome files (λ f. CreateGives n.0 f bytes status out after)
 Gives (Some (Apply n)) files bytes status out after = IfSome files (λ f. ApplyGives n.0 f bytes status out after)
 Gives (Some Graph) files bytes status out after = IfSome files (λ f. ShowGives IsGraphOf f status out after)
 Gives (Some Audit) files bytes status out after = IfSome files (λ f. ShowGives IsAuditOf f status out after)
-Gives (Some Checkpoint) files bytes status out after = IfSome files (λ f. CheckpointGives f status out after)
+Gives (Some (Checkpoint base)) files bytes status out after =
+    IfSome files (λ f. CheckpointGives base f status out after)

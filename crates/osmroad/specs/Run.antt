@@ -40,31 +40,31 @@ IsAsked (Some c) = Unit {0}
 -- the command reads its source
 abbrev pub IsReading : Option Command → Type 0
 IsReading None = ⊥
-IsReading (Some Compile) = Unit {0}
+IsReading (Some (Compile n)) = Unit {0}
 IsReading (Some Inspect) = Unit {0}
 IsReading (Some (Sample n)) = ⊥
 IsReading (Some (Create n)) = Unit {0}
 IsReading (Some (Apply n)) = Unit {0}
 IsReading (Some Graph) = ⊥
 IsReading (Some Audit) = ⊥
-IsReading (Some Checkpoint) = ⊥
+IsReading (Some (Checkpoint base)) = ⊥
 
 -- the command works on a store; any other one touches no file
 abbrev pub IsStored : Option Command → Type 0
 IsStored None = ⊥
-IsStored (Some Compile) = ⊥
+IsStored (Some (Compile n)) = ⊥
 IsStored (Some Inspect) = ⊥
 IsStored (Some (Sample n)) = ⊥
 IsStored (Some (Create n)) = Unit {0}
 IsStored (Some (Apply n)) = Unit {0}
 IsStored (Some Graph) = Unit {0}
 IsStored (Some Audit) = Unit {0}
-IsStored (Some Checkpoint) = Unit {0}
+IsStored (Some (Checkpoint base)) = Unit {0}
 
 -- the statuses with which a command puts something
 abbrev pub IsReply : Option Command → Status → Type 0
 IsReply None status = status ≡ Usage
-IsReply (Some Compile) status = (status ≡ Done) ⊎ (status ≡ Refused) ⊎ (status ≡ Limit)
+IsReply (Some (Compile n)) status = (status ≡ Done) ⊎ (status ≡ Refused) ⊎ (status ≡ Limit)
 IsReply (Some Inspect) status = (status ≡ Done) ⊎ (status ≡ Refused) ⊎ (status ≡ Limit)
 IsReply (Some (Sample n)) status = status ≡ Done
 IsReply (Some (Create n)) status =
@@ -73,7 +73,8 @@ IsReply (Some (Apply n)) status = (status ≡ Done) ⊎ (status ≡ Refused) ⊎
     ⊎ (status ≡ NoStore) ⊎ (status ≡ Damaged) ⊎ (status ≡ Limit)
 IsReply (Some Graph) status = (status ≡ Done) ⊎ (status ≡ NoStore) ⊎ (status ≡ Damaged) ⊎ (status ≡ Limit)
 IsReply (Some Audit) status = (status ≡ Done) ⊎ (status ≡ NoStore) ⊎ (status ≡ Damaged) ⊎ (status ≡ Limit)
-IsReply (Some Checkpoint) status = (status ≡ Done) ⊎ (status ≡ NoStore) ⊎ (status ≡ Damaged) ⊎ (status ≡ Limit)
+IsReply (Some (Checkpoint base)) status =
+    (status ≡ Done) ⊎ (status ≡ NoStore) ⊎ (status ≡ Damaged) ⊎ (status ≡ Limit)
 
 -- Each status that a command may have, whatever source and site: one with which it puts something, or one by which a
 -- fault of them or want of memory ends it.
@@ -121,11 +122,11 @@ pub record HaveSwitched (h : History) (w v : Outside) : Type 0 where
   pub small : length (reads_of v (other live)) ≤ 2 ^ 40
 
 -- The files stand for this history, or, where none is said, read as before. The next run can load them; of a new store
--- no limit is said. A checkpoint that is done has switched the files.
+-- no limit is said. A checkpoint that is done, or a raise, has switched the files.
 abbrev pub StandAfter : Option Command → Status → Option History → Outside → Outside → Type 0
 StandAfter command status None w v = StillRead w v
 StandAfter (Some (Create n)) status (Some h) w v = StandFor (reads_of v) h
-StandAfter (Some Checkpoint) Done (Some h) w v = HaveSwitched h w v
+StandAfter (Some (Checkpoint base)) Done (Some h) w v = HaveSwitched h w v
 StandAfter command status (Some h) w v = CanBeLoaded (reads_of v) h
 
 -- the files read as before, or they stand for the history for which they stood
@@ -163,14 +164,14 @@ ReadsSource command files NoMemory bytes read = Unit {0}
 -- any other command reads nothing
 abbrev pub Reads : Option Command → Option Files → Status → List ℕ → List ℕ → Type 0
 Reads None files status bytes read = read ≡ []
-Reads (Some Compile) files status bytes read = ReadsSource (Some Compile) files status bytes read
+Reads (Some (Compile n)) files status bytes read = ReadsSource (Some (Compile n)) files status bytes read
 Reads (Some Inspect) files status bytes read = ReadsSource (Some Inspect) files status bytes read
 Reads (Some (Sample n)) files status bytes read = read ≡ []
 Reads (Some (Create n)) files status bytes read = ReadsSource (Some (Create n)) files status bytes read
 Reads (Some (Apply n)) files status bytes read = ReadsSource (Some (Apply n)) files status bytes read
 Reads (Some Graph) files status bytes read = read ≡ []
 Reads (Some Audit) files status bytes read = read ≡ []
-Reads (Some Checkpoint) files status bytes read = read ≡ []
+Reads (Some (Checkpoint base)) files status bytes read = read ≡ []
 
 -- ---- how a run ends
 
@@ -238,7 +239,7 @@ CanBeRebased files = (s : IsStore files) (events : List Event) → AreItsEntries
 -- needs them, and a file to be written keeps within its limit. A file to be inspected is a graph's.
 abbrev pub CanBeDone : Option Command → Option Files → List ℕ → Type 0
 CanBeDone None files bytes = ⊥
-CanBeDone (Some Compile) files bytes = (events : List Event) × AreInput Extract bytes events
+CanBeDone (Some (Compile n)) files bytes = (events : List Event) × AreInput Extract bytes events
 CanBeDone (Some Inspect) files bytes = (HasTooManyBytes bytes → ⊥) × IsGraphFile bytes
 CanBeDone (Some (Sample n)) files bytes = Unit {0}
 CanBeDone (Some (Create n)) (Some files) bytes = NoBases files
@@ -247,7 +248,7 @@ CanBeDone (Some (Apply n)) (Some files) bytes = IsReadable files
     × (events : List Event) × AreInput Change bytes events × CanBeAdded n.0 events files
 CanBeDone (Some Graph) (Some files) bytes = IsReadable files
 CanBeDone (Some Audit) (Some files) bytes = IsReadable files
-CanBeDone (Some Checkpoint) (Some files) bytes = IsReadable files × CanBeRebased files
+CanBeDone (Some (Checkpoint base)) (Some files) bytes = IsReadable files × CanBeRebased files
 CanBeDone command None bytes = ⊥
 
 -- ---- how many blocks are built
@@ -255,7 +256,7 @@ CanBeDone command None bytes = ⊥
 -- No more blocks are built than there are visible ways with the key `highway` among the objects of which the graph is.
 -- A sample builds those of eleven graphs, one after another, of which no bound is said. Other commands build none.
 abbrev pub Builds : Option Command → Option (List ℕ) → Option Outside → ℕ → ℕ → Type 0
-Builds (Some Compile) held before old new = (bytes : List ℕ) (events : List Event) (objects : Objects)
+Builds (Some (Compile n)) held before old new = (bytes : List ℕ) (events : List Event) (objects : Objects)
     → held ≡ Some bytes → ReadAll Extract bytes events → IsApplied empty events objects
     → new ≤ old + length (highways objects)
 Builds (Some Graph) held before old new = (w : Outside) (h : History) (objects : Objects)

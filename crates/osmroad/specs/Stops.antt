@@ -2,19 +2,19 @@
 use Rattle.std.specs.Prelude.{◌≡◌, ◌⊎◌, ℕ, ◌+◌, List, ◌++◌, Option, None, Some}
 use Rattle.std.specs.Io.{StartsWith}
 use Rattle.road_base.specs.declared.event.Event.{Event}
-use Rattle.road_base.specs.History.{History, SameForReader, kept, with_change}
+use Rattle.road_base.specs.History.{History, kept, with_change}
 use Rattle.opl_lexer.specs.declared.mode.Mode.TheVariants.{Extract, Change}
 use Rattle.road_io.specs.Disk.{IsImage}
 use Rattle.road_io.specs.Outside.{Outside, Left, IsLeft, present, image_of}
 use Rattle.sequence_journal.specs.Basing.{base_alone}
 use Rattle.store_switch.specs.LiveFile.{NoBases, BothDurable, reads_of}
 use Rattle.store_switch.specs.TwoFiles.{StandFor, CanBeLoaded}
-use Rattle.store_switch.specs.Checkpointing.{checkpoint_of}
+use Rattle.osmroad.specs.declared.command.BaseProfile.{BaseProfile}
 use Rattle.osmroad.specs.declared.command.Command.{Command}
 use Rattle.osmroad.specs.declared.command.Command.TheVariants.{Compile, Inspect, Sample, Create, Apply}
 use Rattle.osmroad.specs.declared.command.Command.TheVariants.{Graph, Audit, Checkpoint}
-use Rattle.osmroad.specs.Texts.{created_line, applied_line, checkpoint_line}
-use Rattle.osmroad.specs.Checkpoints.{AreItsEntries}
+use Rattle.osmroad.specs.Texts.{created_line, applied_line}
+use Rattle.osmroad.specs.Checkpoints.{AreItsEntries, ReadsAlike, base_line, rebased}
 use Rattle.osmroad.specs.Outcomes.{AreInput}
 
 -- each file is one that a stop could leave when the run began
@@ -59,13 +59,15 @@ abbrev pub LeavesHistory : Outside → Left → History → Type 0
 LeavesHistory w left h = LeavesFirst w left h ⊎ StandFor (image_of left) h
 
 -- A stop leaves what it could leave when the run began, with nothing put; or files that stand for the history; or files
--- that stand for its entries as a base, which is the same for a reader: the latter once the line that tells of it is
--- put.
-pub data LeavesCheckpoint (w : Outside) (left : Left) (h : History) : Type 0 where
-  Before : LeavesFirst w left h → LeavesCheckpoint w left h
-  Without : StandFor (image_of left) h → (HasPut (checkpoint_line (kept h)) w left → ⊥) → LeavesCheckpoint w left h
-  With : (events : List Event) → AreItsEntries h events → SameForReader (checkpoint_of h events) h
-      → StandFor (image_of left) (checkpoint_of h events) → LeavesCheckpoint w left h
+-- that stand for its entries as a base, in which a reader finds its kept number and its objects, and its profile or
+-- profile 2: the latter once the line that tells of it is put.
+pub data LeavesCheckpoint (base : BaseProfile) (w : Outside) (left : Left) (h : History) : Type 0 where
+  Before : LeavesFirst w left h → LeavesCheckpoint base w left h
+  Without : StandFor (image_of left) h → (HasPut (base_line base (kept h)) w left → ⊥)
+      → LeavesCheckpoint base w left h
+  With : (events : List Event) → AreItsEntries h events
+      → ReadsAlike base (rebased base h events) h
+      → StandFor (image_of left) (rebased base h events) → LeavesCheckpoint base w left h
 
 -- ---- all commands
 
@@ -83,11 +85,11 @@ pub record LeavesCreated (number : ℕ) (read : List ℕ) (w : Outside) (left : 
 -- What a stop leaves in a run that read these bytes. Commands without a store touch no file.
 abbrev pub LeftBy : Option Command → List ℕ → Outside → Left → Type 0
 LeftBy None read w left = CouldLeave w left
-LeftBy (Some Compile) read w left = CouldLeave w left
+LeftBy (Some (Compile n)) read w left = CouldLeave w left
 LeftBy (Some Inspect) read w left = CouldLeave w left
 LeftBy (Some (Sample n)) read w left = CouldLeave w left
 LeftBy (Some (Create n)) read w left = LeavesCreated n.0 read w left
 LeftBy (Some (Apply n)) read w left = LeavesStored (LeavesChange n.0 read w left) w left
 LeftBy (Some Graph) read w left = LeavesStored (LeavesHistory w left) w left
 LeftBy (Some Audit) read w left = LeavesStored (LeavesHistory w left) w left
-LeftBy (Some Checkpoint) read w left = LeavesStored (LeavesCheckpoint w left) w left
+LeftBy (Some (Checkpoint base)) read w left = LeavesStored (LeavesCheckpoint base w left) w left

@@ -13,6 +13,7 @@ use Rattle.road_base.specs.Objects.{Objects}
 use Rattle.road_base.specs.History.{HasObjects, SameForReader}
 use Rattle.store_switch.specs.LiveFile.{IsLive, BothDurable, reads_of}
 use Rattle.store_switch.specs.Checkpointing.{AreEntries, Checkpoints, CheckpointAnswer, LeavesCheckpoint, checkpoint_of}
+use Rattle.store_switch.specs.Checkpointing.{IsRaised}
 use Rattle.store_switch.specs.TwoFiles.{StandOn, StandFor, AreIntact, IsOnStore, LeavesStore, LeavesEither}
 use Rattle.osmroad.specs.Opening.{Files}
 
@@ -61,15 +62,18 @@ pub record ChangeLaws : Type 0 where
       (w v : Outside) (before now : ℕ) → IsOnStore old h w → AddAnswer old new seq change (Ok x) before now
       → Adds old new change (Ok x) w v → length (reads_of v new.file) ≤ 2 ^ 40
 
--- the laws on the checkpoint of a store
+-- the laws on the checkpoint of a store, under any profile
 pub record CheckpointLaws : Type 0 where
-  pub stopped : (old new : Journal) (h : History) (events : List Event) (result : Result (Unit {0}) JournalError)
-      (w v : Outside) → IsOnStore old h w → Checkpoints old new events result w v
-      → LeavesOnly w v (LeavesCheckpoint h events w.output)
-  pub ok : (old new : Journal) (h : History) (events : List Event) (x : Unit {0}) (w v : Outside)
-      → IsOnStore old h w → Checkpoints old new events (Ok x) w v → IsOnStore new (checkpoint_of h events) v
-  pub small : (old new : Journal) (h : History) (events : List Event) (x : Unit {0}) (w v : Outside)
-      (before now : ℕ) → IsOnStore old h w → CheckpointAnswer old new events (Ok x) before now
-      → Checkpoints old new events (Ok x) w v → length (reads_of v new.file) ≤ 2 ^ 40
+  pub stopped : (old new : Journal) (profile : ℕ) (h : History) (events : List Event)
+      (result : Result (Unit {0}) JournalError) (w v : Outside) → IsOnStore old h w
+      → Checkpoints old new profile events result w v → LeavesOnly w v (LeavesCheckpoint profile h events w.output)
+  pub ok : (old new : Journal) (profile : ℕ) (h : History) (events : List Event) (x : Unit {0}) (w v : Outside)
+      → IsOnStore old h w → Checkpoints old new profile events (Ok x) w v
+      → IsOnStore new (checkpoint_of profile h events) v
+  pub small : (old new : Journal) (profile : ℕ) (h : History) (events : List Event) (x : Unit {0}) (w v : Outside)
+      (before now : ℕ) → IsOnStore old h w → CheckpointAnswer old new profile events (Ok x) before now
+      → Checkpoints old new profile events (Ok x) w v → length (reads_of v new.file) ≤ 2 ^ 40
   pub same : (h : History) (objects : Objects) (events : List Event)
-      → HasObjects h objects → AreEntries objects events → SameForReader (checkpoint_of h events) h
+      → HasObjects h objects → AreEntries objects events → SameForReader (checkpoint_of h.profile h events) h
+  pub raised : (profile : ℕ) (h : History) (objects : Objects) (events : List Event)
+      → HasObjects h objects → AreEntries objects events → IsRaised profile (checkpoint_of profile h events) h

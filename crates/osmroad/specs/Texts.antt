@@ -11,8 +11,8 @@ use Rattle.road_io.specs.declared.outside.Which.TheVariants.{A, B}
 
 abbrev pub usage_line : List ℕ
 usage_line =
-    codes "usage: osmroad STORE create N|apply N|session|graph|audit|checkpoint, or osmroad - compile|inspect|sample N"
-    ++ newline ∷ []
+    codes "usage: osmroad STORE create N|apply N|session|graph|audit|checkpoint|raise, or osmroad - "
+    ++ (codes "compile|compile 2|inspect|sample N" ++ newline ∷ [])
 
 abbrev pub limit_line : List ℕ
 limit_line = codes "limit" ++ newline ∷ []
@@ -32,6 +32,10 @@ applied_line n = codes "applied " ++ (decimal n ++ newline ∷ [])
 -- the kept number
 abbrev pub checkpoint_line : ℕ → List ℕ
 checkpoint_line n = codes "checkpoint " ++ (decimal n ++ newline ∷ [])
+
+-- the kept number of a store that was raised
+abbrev pub raise_line : ℕ → List ℕ
+raise_line n = codes "profile 2 sequence " ++ (decimal n ++ newline ∷ [])
 
 -- how large a graph is
 abbrev pub counts_line : Totals → List ℕ

@@ -3,6 +3,7 @@ ghost use Rattle.std.specs.Prelude.{◌≡◌, map};
 ghost use Rattle.osmroad.specs.Commands.{asked, asks_session, asked_command};
 ghost use Rattle.osmroad.specs.Commands.{asked_by_two, asked_by_three, asked_without, asked_alone};
 ghost use Rattle.osmroad.specs.Commands.{asked_sample, asked_numbered, asked_base, is_store};
+ghost use Rattle.osmroad.specs.Commands.{asked_without_numbered, asked_profile};
 
 use opl_lexer::long_number;
 use road_base::Sequence;
@@ -16,11 +17,20 @@ pub enum Request {
     Command(Command),
 }
 
+/// The profile of the base that a store gets in its other file.
+#[derive(Clone, Copy, PartialEq, Eq, Debug)]
+pub enum BaseProfile {
+    /// That of the store.
+    Kept,
+    /// Profile 2, of which the store then is for good.
+    Raised,
+}
+
 /// What is done once.
 #[derive(Clone, Copy, PartialEq, Eq, Debug)]
 pub enum Command {
-    /// The graph of the extract on the source.
-    Compile,
+    /// The graph of the extract on the source, of the profile of this number.
+    Compile(u32),
     /// How large the graph is whose file is on the source.
     Inspect,
     /// How large the graphs of a town and of its ten changes are, which are made from this number.
@@ -34,12 +44,12 @@ pub enum Command {
     /// What becomes of each restriction that the store holds.
     Audit,
     /// The store's other file with all that the store holds as a base, and no change.
-    Checkpoint,
+    Checkpoint(BaseProfile),
 }
 
-/// What the words ask: `- compile`, `- inspect`, `- sample N`, `STORE create N`, `STORE apply N`, `STORE session`,
-/// `STORE graph`, `STORE audit` or `STORE checkpoint`. STORE isn't empty and doesn't begin with `-`; N is digits, a
-/// value of 64 bits, and for `create` not the last one.
+/// What the words ask: `- compile`, `- compile 2`, `- inspect`, `- sample N`, `STORE create N`, `STORE apply N`,
+/// `STORE session`, `STORE graph`, `STORE audit`, `STORE checkpoint` or `STORE raise`. STORE isn't empty and doesn't
+/// begin with `-`; N is digits, a value of 64 bits, and for `create` not the last one.
 pub fn request_of(words: &[&str]) -> Option<Request>
     ensures { result ≡ asked (map (λ w. w.now) words.now) }
 {
@@ -88,7 +98,7 @@ fn asked_without(name: &str) -> Option<Command>
     ensures { result ≡ asked_without name.now }
 {
     if name == "compile" {
-        return Some(Command::Compile);
+        return Some(Command::Compile(1));
     }
     if name == "inspect" {
         Some(Command::Inspect)
@@ -101,12 +111,31 @@ fn asked_by_three(store: &str, name: &str, number: &str) -> Option<Command>
     ensures { result ≡ asked_by_three store.now name.now number.now }
 {
     if store == "-" {
-        return asked_sample(name, long_number(number)?);
+        return asked_without_numbered(name, number);
     }
     if !is_store(store) {
         return None;
     }
     asked_numbered(name, long_number(number)?)
+}
+
+fn asked_without_numbered(name: &str, number: &str) -> Option<Command>
+    ensures { result ≡ asked_without_numbered name.now number.now }
+{
+    if name == "compile" {
+        return asked_profile(number);
+    }
+    asked_sample(name, long_number(number)?)
+}
+
+fn asked_profile(word: &str) -> Option<Command>
+    ensures { result ≡ asked_profile word.now }
+{
+    if word == "2" {
+        Some(Command::Compile(2))
+    } else {
+        None
+    }
 }
 
 fn asked_sample(name: &str, number: u64) -> Option<Command>
@@ -129,7 +158,10 @@ fn asked_alone(name: &str) -> Option<Command>
         return Some(Command::Audit);
     }
     if name == "checkpoint" {
-        Some(Command::Checkpoint)
+        return Some(Command::Checkpoint(BaseProfile::Kept));
+    }
+    if name == "raise" {
+        Some(Command::Checkpoint(BaseProfile::Raised))
     } else {
         None
     }

@@ -1,5 +1,6 @@
 //! An extract compiled without a store.
 ghost use Rattle.std.specs.Prelude.{Option, Some};
+ghost use Rattle.road_base.specs.Profiles.{IsProfile};
 ghost use Rattle.road_io.specs.Outside.{Outside};
 ghost use Rattle.osmroad.specs.declared.command.Command.TheVariants.{Compile as CompileCommand};
 ghost use Rattle.osmroad.specs.Run.{Builds};
@@ -7,7 +8,7 @@ ghost use Rattle.osmroad.specs.Replies.{Prepares, CountsReads};
 
 use crate::graph::graph_of;
 use crate::input::read_events;
-use crate::profiles::profile_of_run;
+use crate::profiles::profile_of;
 use crate::reply::{Failure, Reply, refuse_input};
 use crate::status::Status;
 use opl_lexer::Mode;
@@ -17,24 +18,26 @@ use road_io::Source;
 use std::alloc::Global;
 use std::sync::ledger::Ledger;
 
-/// The graph of the extract on the source. It touches no site.
+/// The graph of the extract on the source, of the profile of this number. It touches no site.
 pub fn compile<S: Source, L: Ledger>(
     alloc: Global,
+    profile: u32,
     source: &mut S,
     steps: &mut Steps<L>,
 ) -> Result<Reply, Failure>
-    ensures prepares { (outside : Option Outside) → Prepares (Some CompileCommand) result
+    requires { IsProfile profile }
+    ensures prepares { (outside : Option Outside) → Prepares (Some (CompileCommand profile)) result
         (S.bytes_left source.old) (S.bytes_left source.new) outside outside }
     ensures reads { CountsReads (S.faults source.old) (S.faults source.new) result }
     ensures built { (outside : Option Outside)
-        → Builds (Some CompileCommand) (S.bytes_left source.old) outside steps.old steps.new }
+        → Builds (Some (CompileCommand profile)) (S.bytes_left source.old) outside steps.old steps.new }
 {
     one_reading();
     let events = match read_events(alloc, Mode::Extract, source) {
         Ok(events) => events,
         Err(error) => return refuse_input(alloc, error),
     };
-    let out = graph_of(alloc, profile_of_run(), events, steps)?;
+    let out = graph_of(alloc, profile_of(profile), events, steps)?;
     Ok(Reply {
         status: Status::Done,
         out,

@@ -93,6 +93,9 @@ fn asked_by<L: Ledger>(
     let Ok(loaded) = load_store(alloc, site) else {
         return None;
     };
+    if loaded.journal.profile() != 1 {
+        return None;
+    }
     match serve(alloc, profile, loaded, source, site, steps) {
         Status::Done => Some(asked.get()),
         _ => None,

@@ -5,10 +5,10 @@ use crate::session_tests::{
 };
 use crate::status::Status;
 use crate::store_tests::{
-    APPLY, AUDIT, CHECKPOINT, CREATE, Case, GRAPH, MADE, RECORD, SPELLED, check, is_cut, is_put,
-    is_sync, is_write, joined,
+    APPLY, AUDIT, CHECKPOINT, CREATE, Case, GRAPH, MADE, RAISE, RECORD, SPELLED, check, is_cut,
+    is_put, is_sync, is_write, joined,
 };
-use crate::tests::{NO_GRAPH, STREET_CUT, STREET_GRAPH};
+use crate::tests::{NO_GRAPH, NO_GRAPH_RAISED, STREET_CUT, STREET_GRAPH};
 use road_base::NoMemory;
 use road_io::{Call, Entry, MemorySite, Which};
 use std::alloc::Global;
@@ -46,6 +46,12 @@ const EMPTY_6: Holds = Holds {
 const EMPTY_6_IN_B: Holds = Holds {
     live: Some(Which::B),
     ..EMPTY_6
+};
+
+/// The same of profile 2.
+const EMPTY_6_RAISED: Holds = Holds {
+    output: &[NO_GRAPH_RAISED, b"checkpoint 6\n"],
+    live: Some(Which::B),
 };
 
 const EMPTY_12: Holds = Holds {
@@ -145,6 +151,15 @@ const REBASED: Run = Run {
     told: b"checkpoint 6\n",
     earlier: EMPTY_6,
     later: EMPTY_6_IN_B,
+};
+
+/// Raising changes the profile too.
+const RAISED: Run = Run {
+    words: RAISE,
+    output: b"profile 2 sequence 6\n",
+    told: b"profile 2 sequence 6\n",
+    later: EMPTY_6_RAISED,
+    ..REBASED
 };
 
 /// What only looks at a store changes nothing.
@@ -426,7 +441,7 @@ fn check_bytes(
 }
 
 /// These bytes with another one in this place.
-fn with_byte(alloc: Global, bytes: &[u8], at: u64, byte: u8) -> Result<Vec<u8>, NoMemory> {
+pub fn with_byte(alloc: Global, bytes: &[u8], at: u64, byte: u8) -> Result<Vec<u8>, NoMemory> {
     let mut changed = bytes.to_vec(alloc)?;
     for (n, place) in changed.iter_mut().enumerate() {
         if n as u64 == at {
@@ -561,6 +576,14 @@ fn a_failing_call_ends_a_creation(rt: HostRuntime) -> Result<(), Fail> {
 fn a_failing_call_ends_a_checkpoint(rt: HostRuntime) -> Result<(), Fail> {
     let store = store_of(rt.alloc(), &[SPELLED, b"\x01", RECORD])?;
     check_runs(&rt, rt.alloc(), &[REBASED, GRAPH_SHOWN, AUDITED], &store)?;
+    Ok(())
+}
+
+/// What changes the profile alone: the store has the one or the other.
+#[test]
+fn a_failing_call_ends_a_raise(rt: HostRuntime) -> Result<(), Fail> {
+    let store = store_of(rt.alloc(), &[SPELLED, b"\x01", RECORD])?;
+    check_calls(&rt, rt.alloc(), &RAISED, &store)?;
     Ok(())
 }
 

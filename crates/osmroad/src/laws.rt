@@ -8,7 +8,7 @@ ghost use Rattle.osmroad.specs.Outcomes.{Gives};
 ghost use Rattle.osmroad.specs.Run.{IsStored};
 ghost use Rattle.osmroad.specs.StoreLaws.{StoreLaws, ChangeLaws, CheckpointLaws};
 
-use crate::profiles::profile_of_run;
+use crate::profiles::{FIRST_PROFILE, RAISED_PROFILE, profile_of};
 use opl_lexer::laws::one_reading;
 use road_base::laws::one_map;
 use road_model::laws::{number_order, one_graph};
@@ -35,7 +35,8 @@ pub fn one_answer()
 {
     one_reading();
     one_map();
-    one_graph(&profile_of_run());
+    one_graph(&profile_of(FIRST_PROFILE));
+    one_graph(&profile_of(RAISED_PROFILE));
     number_order();
     one_damage();
     store_laws();

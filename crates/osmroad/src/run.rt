@@ -4,7 +4,7 @@ ghost use Rattle.road_io.specs.Told.{Told, Rose};
 ghost use Rattle.road_io.specs.Outside.{LeavesOnly, image_of};
 ghost use Rattle.store_switch.specs.LiveFile.{BothDurable, reads_of};
 ghost use Rattle.store_switch.specs.TwoFiles.{AreIntact};
-ghost use Rattle.osmroad.specs.Commands.{asked};
+ghost use Rattle.osmroad.specs.Commands.{asked, HasProfile};
 ghost use Rattle.osmroad.specs.Run.{IsReading, IsStored, MayEnd, Ends, CanBeDone, Builds, files_of};
 ghost use Rattle.osmroad.specs.Requests.{RunEnds, RunMayEnd, RunIsStored, RunCanBeDone, RunBuilds};
 ghost use Rattle.osmroad.specs.Replies.{Prepares, CountsReads, CountsCalls};
@@ -30,7 +30,8 @@ use store_switch::laws::one_live;
 
 /// The last line where the words aren't known.
 const USAGE: &[u8] =
-    b"usage: osmroad STORE create N|apply N|session|graph|audit|checkpoint, or osmroad - compile|inspect|sample N\n";
+    b"usage: osmroad STORE create N|apply N|session|graph|audit|checkpoint|raise, or osmroad - \
+    compile|compile 2|inspect|sample N\n";
 
 // What the command puts, before it is put.
 fn prepare<S: Source, W: Site, L: Ledger>(
@@ -40,6 +41,7 @@ fn prepare<S: Source, W: Site, L: Ledger>(
     site: &mut W,
     steps: &mut Steps<L>,
 ) -> Result<Reply, Failure>
+    requires { HasProfile command }
     ensures prepares { Prepares (Some command) result (S.bytes_left source.old) (S.bytes_left source.new)
         (W.outside site.old) (W.outside site.new) }
     ensures reads { CountsReads (S.faults source.old) (S.faults source.new) result }
@@ -49,14 +51,14 @@ fn prepare<S: Source, W: Site, L: Ledger>(
     ensures built { Builds (Some command) (S.bytes_left source.old) (W.outside site.old) steps.old steps.new }
 {
     match command {
-        Command::Compile => compile(alloc, source, steps),
+        Command::Compile(profile) => compile(alloc, profile, source, steps),
         Command::Inspect => inspect(alloc, source),
         Command::Sample(number) => sample(alloc, number, steps),
         Command::Create(number) => create(alloc, number, source, site),
         Command::Apply(number) => apply(alloc, number, source, site),
         Command::Graph => stored_graph(alloc, site, steps),
         Command::Audit => stored_audit(alloc, site),
-        Command::Checkpoint => checkpoint(alloc, site),
+        Command::Checkpoint(base) => checkpoint(alloc, base, site),
     }
 }
 
@@ -68,6 +70,7 @@ fn run_command<S: Source, W: Site, L: Ledger>(
     site: &mut W,
     steps: &mut Steps<L>,
 ) -> Status
+    requires { HasProfile command }
     ensures ends { Ends (Some command) result (S.bytes_left source.old) (S.bytes_left source.new)
         (W.outside site.old) (W.outside site.new) }
     ensures named { MayEnd (Some command) result }
@@ -96,13 +99,14 @@ fn run_command<S: Source, W: Site, L: Ledger>(
 /// any words, source and site: a source that never ends is left as soon as it passed a limit, 2^30 bytes in all or 2^24
 /// in a line. The first read or call on the site that fails ends it: nothing is tried again.
 ///
-/// `- compile` puts the graph's bytes of the extract on the source, `- inspect` how large the graph is whose file is on
-/// the source, of at most 2^30 bytes, and `- sample N` how large the graphs are of a town that is made from N, and of
-/// its ten changes. A STORE is the site's two files: `create N` makes one of the extract, `apply N` adds the change on
-/// the source, `graph` puts the graph's bytes of all that it holds, `audit` what becomes of its restrictions,
-/// `checkpoint` writes all that it holds into its other file and goes on there, and `session` answers the messages on
-/// the source in turn. `steps` rises by one for each block that is built; for a command that is one for each visible
-/// way with the key `highway`. Other words are answered by the usage line.
+/// `- compile` puts the graph's bytes of the extract on the source, under profile 1, and `- compile 2` under profile 2;
+/// `- inspect` how large the graph is whose file is on the source, of at most 2^30 bytes, and `- sample N` how large the
+/// graphs are of a town that is made from N, and of its ten changes, under profile 1. A STORE is the site's two files:
+/// `create N` makes one of the extract, of profile 1, `apply N` adds the change on the source, `graph` puts the graph's
+/// bytes of all that it holds, `audit` what becomes of its restrictions, `checkpoint` writes all that it holds into its
+/// other file and goes on there, `raise` does so under profile 2, and `session` answers the messages on the source in
+/// turn. `steps` rises by one for each block that is built; for a command that is one for each visible way with the key
+/// `highway`. Other words are answered by the usage line.
 pub fn run<S: Source, W: Site, L: Ledger>(
     alloc: Global,
     words: &[&str],

@@ -16,7 +16,7 @@ ghost use Rattle.access_profile.specs.Profiles.{rules_of};
 ghost use Rattle.osmroad.specs.Sampling.{IsSampleLine, IsSample, Led};
 ghost use Rattle.osmroad.specs.Replies.{Prepares};
 
-use crate::profiles::profile_of_run;
+use crate::profiles::{FIRST_PROFILE, profile_of};
 use crate::reply::{Failure, Reply};
 use crate::status::Status;
 use change_apply::Engine;
@@ -54,7 +54,7 @@ fn sample_text<L: Ledger>(
     ensures { IfOk result (λ text. IsSample (rules_of 1) number text.items) }
 {
     let mut town = Town::new(alloc, number);
-    let mut engine = Engine::load(alloc, profile_of_run(), Vec::new(alloc), steps)?;
+    let mut engine = Engine::load(alloc, profile_of(FIRST_PROFILE), Vec::new(alloc), steps)?;
     all_lines(alloc, &mut town, &mut engine, steps)
 }
 

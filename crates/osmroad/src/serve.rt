@@ -12,7 +12,7 @@ ghost use Rattle.osmroad.specs.Sessions.{end_status, IsServed, IsNotServed, IsOp
 ghost use Rattle.osmroad.specs.Sessions.{Serves, ServesBuilding, SessionRuns, EndsSession, SessionRunBuilds};
 
 use crate::laws::store_laws;
-use crate::profiles::profile_of_run;
+use crate::profiles::profile_of;
 use crate::reply::{put_last, refuse_store};
 use crate::status::Status;
 use change_apply::Engine;
@@ -40,7 +40,7 @@ fn status_of(end: End) -> Status
     }
 }
 
-/// Answers the messages on the source until it ends, for the profile, over the store that was loaded, and keeps each
+/// Answers the messages on the source until it ends, over the store that was loaded and for its profile, and keeps each
 /// accepted change in it. Answers Done where all of them are answered, Refused where the source ends inside a frame,
 /// ReadFault and SiteFault where a read or a call on the site failed, Limit where a limit is passed, and NoMemory.
 /// Where no memory is found for the objects and their blocks, nothing is read.
@@ -52,6 +52,7 @@ pub fn serve<P: Profile, S: Source, W: Site, L: Ledger>(
     site: &mut W,
     steps: &mut Steps<L>,
 ) -> Status
+    requires stored { (P.rules profile).number ≡ loaded.journal.profile }
     requires known { IsProfile (P.rules profile).number }
     requires not_closed { loaded.journal.closed ≡ false }
     requires opens { IfSome (W.outside site.old) (IsReadyAt (IsOpening loaded)) }
@@ -88,7 +89,7 @@ fn refuse<W: Site>(alloc: Global, site: &mut W, error: JournalError) -> Status
     }
 }
 
-/// Loads the store, and answers the messages on the source over it, for the profile of the run.
+/// Loads the store, and answers the messages on the source over it, for its profile.
 pub fn serve_store<S: Source, W: Site, L: Ledger>(
     alloc: Global,
     source: &mut S,
@@ -105,7 +106,10 @@ pub fn serve_store<S: Source, W: Site, L: Ledger>(
 {
     store_laws();
     match load_store(alloc, site) {
-        Ok(loaded) => serve(alloc, profile_of_run(), loaded, source, site, steps),
+        Ok(loaded) => {
+            let profile = profile_of(loaded.journal.profile());
+            serve(alloc, profile, loaded, source, site, steps)
+        }
         Err(error) => refuse(alloc, site, error),
     }
 }

@@ -198,6 +198,8 @@ pub const AUDIT: &[&str] = &["town", "audit"];
 
 pub const CHECKPOINT: &[&str] = &["town", "checkpoint"];
 
+pub const RAISE: &[&str] = &["town", "raise"];
+
 /// File B after a checkpoint of that store with the change: generation 2, number 6.
 const REBASED: &[u8] = b"\x01OSMJRNL1\x01\0\0\0\x02\0\0\0\0\0\0\0\x06\0\0\0\0\0\0\0\
     \x08\0\0\0\0\0\0\0\0\0\0\0\0\0\0\0\0";
@@ -229,7 +231,7 @@ type Refusal = (
 );
 
 /// The files are looked at before the source, and the number before the change.
-const REFUSALS: [Refusal; 14] = [
+const REFUSALS: [Refusal; 17] = [
     (
         &["town", "create", "9"],
         b"z",
@@ -335,6 +337,16 @@ const REFUSALS: [Refusal; 14] = [
         Status::Limit,
         b"limit\n",
     ),
+    (
+        RAISE,
+        b"",
+        &[SPELLED, b"\x01", RECORD_OF_ONE],
+        &[],
+        Status::Damaged,
+        b"damaged a 45\n",
+    ),
+    (RAISE, b"", &[LAST_MADE], &[], Status::Limit, b"limit\n"),
+    (RAISE, b"", &[], &[], Status::NoStore, b"no store\n"),
 ];
 
 #[test]
@@ -374,7 +386,7 @@ fn a_checkpoint_goes_into_the_other_file(rt: HostRuntime) -> Result<(), Fail> {
 
 #[test]
 fn words_ask_for_commands(rt: HostRuntime) -> Result<(), Fail> {
-    let none: [&[&str]; 15] = [
+    let none: [&[&str]; 20] = [
         &["town", "apply"],
         &["town", "create", "18446744073709551615"],
         &["town", "create", "18446744073709551616"],
@@ -390,6 +402,11 @@ fn words_ask_for_commands(rt: HostRuntime) -> Result<(), Fail> {
         &["-", "sample"],
         &["-", "sample", "+1"],
         &["town", "compile"],
+        &["town", "compile", "2"],
+        &["-", "compile", "02"],
+        &["-", "compile", "3"],
+        &["-", "raise"],
+        &["town", "raise", "2"],
     ];
     for words in none {
         let case = Case {

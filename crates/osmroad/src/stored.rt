@@ -7,7 +7,7 @@ ghost use Rattle.osmroad.specs.Replies.{Prepares, CountsCalls};
 use crate::audit::audit_text;
 use crate::graph::graph_of;
 use crate::laws::store_laws;
-use crate::profiles::profile_of_run;
+use crate::profiles::profile_of;
 use crate::reply::{Failure, Reply, refuse_store};
 use crate::status::Status;
 use back_references::Indexed;
@@ -19,7 +19,7 @@ use std::mem::forget;
 use std::sync::ledger::Ledger;
 use store_switch::load_store;
 
-/// The graph of what the store holds.
+/// The graph of what the store holds, of its profile.
 pub fn stored_graph<W: Site, L: Ledger>(
     alloc: Global,
     site: &mut W,
@@ -36,14 +36,15 @@ pub fn stored_graph<W: Site, L: Ledger>(
         Ok(loaded) => loaded,
         Err(error) => return refuse_store(alloc, error),
     };
-    let out = graph_of(alloc, profile_of_run(), loaded.events, steps)?;
+    let profile = profile_of(loaded.journal.profile());
+    let out = graph_of(alloc, profile, loaded.events, steps)?;
     Ok(Reply {
         status: Status::Done,
         out,
     })
 }
 
-/// The audit of what the store holds.
+/// The audit of what the store holds, for its profile.
 pub fn stored_audit<W: Site>(alloc: Global, site: &mut W) -> Result<Reply, Failure>
     ensures prepares { (held : Option (List ℕ)) → Prepares (Some AuditCommand) result held held
         (W.outside site.old) (W.outside site.new) }
@@ -54,8 +55,9 @@ pub fn stored_audit<W: Site>(alloc: Global, site: &mut W) -> Result<Reply, Failu
         Ok(loaded) => loaded,
         Err(error) => return refuse_store(alloc, error),
     };
+    let profile = profile_of(loaded.journal.profile());
     let world = Indexed::of(alloc, loaded.events)?;
-    let network = Network::new(&world, profile_of_run());
+    let network = Network::new(&world, profile);
     let text = audit_text(alloc, &network)?;
     forget(world);
     Ok(Reply::new(Status::Done, text))

@@ -1,6 +1,7 @@
 //! Whole runs, over sources and sites in memory.
 ghost use Rattle.std.specs.Prelude.{◌≡◌, ◌<◌};
 
+use crate::failure_tests::with_byte;
 use crate::session_tests;
 use crate::status::Status;
 use crate::store_tests::joined;
@@ -114,11 +115,15 @@ pub const STREET_CUT: &[u8] =
 const STREET_MENDED: &[u8] =
     b"n1 v1 x0 y0\nn3 v1 x0.002 y0\nw10 v1 Thighway=residential Nn1,n2,n3\nn2 v1 x0.001 y0\n";
 
+/// The graph of nothing, of profile 2.
+pub const NO_GRAPH_RAISED: &[u8] = b"OSMROAD1\x02\x00\x00\x00\x00\x00\x00\x00\x00\x00\x00\x00";
+
 /// The graph of nothing: the header alone.
 pub const NO_GRAPH: &[u8] = b"OSMROAD1\x01\x00\x00\x00\x00\x00\x00\x00\x00\x00\x00\x00";
 
 pub const USAGE: &[u8] =
-    b"usage: osmroad STORE create N|apply N|session|graph|audit|checkpoint, or osmroad - compile|inspect|sample N\n";
+    b"usage: osmroad STORE create N|apply N|session|graph|audit|checkpoint|raise, or osmroad - \
+    compile|compile 2|inspect|sample N\n";
 
 const COMPILE: &[&str] = &["-", "compile"];
 
@@ -225,6 +230,18 @@ fn extracts_are_compiled(rt: HostRuntime) -> Result<(), Fail> {
     for case in &cases {
         check(&rt, rt.alloc(), case)?;
     }
+    Ok(())
+}
+
+/// Under profile 2 the graph of the street is the same, but for the number of its profile.
+#[test]
+fn an_extract_is_compiled_under_profile_2(rt: HostRuntime) -> Result<(), Fail> {
+    let graph = with_byte(rt.alloc(), STREET_GRAPH, 8, 2)?;
+    let case = Case {
+        words: &["-", "compile", "2"],
+        ..compiles(STREET, Status::Done, graph.as_slice())
+    };
+    check(&rt, rt.alloc(), &case)?;
     Ok(())
 }
 
@@ -368,7 +385,7 @@ fn words_and_faults_are_answered(rt: HostRuntime) -> Result<(), Fail> {
             ..good
         },
         Case {
-            words: &["-", "compile", "2"],
+            words: &["-", "compile", "1"],
             status: Status::Usage,
             output: USAGE,
             ..good

@@ -3,7 +3,7 @@ ghost use Rattle.std.specs.Prelude.{◌≡◌, ◌++◌, ◌∷◌, [], codes, I
 ghost use Rattle.std.specs.Fmt.{decimal};
 ghost use Rattle.opl_objects.specs.StreamLines.{fault_at};
 ghost use Rattle.osmroad.specs.Texts.{refused_line, created_line, applied_line, sequence_line};
-ghost use Rattle.osmroad.specs.Texts.{checkpoint_line, file_letter, damaged_line};
+ghost use Rattle.osmroad.specs.Texts.{checkpoint_line, raise_line, file_letter, damaged_line};
 
 use opl_objects::{Fault, kind_name};
 use road_base::Sequence;
@@ -41,6 +41,14 @@ pub fn checkpoint_text(alloc: Global, number: Sequence) -> Result<String, AllocE
 {
     let number = number.0;
     format!(in alloc; "checkpoint {number}\n")
+}
+
+/// The line where a store is raised.
+pub fn raise_text(alloc: Global, number: Sequence) -> Result<String, AllocError>
+    ensures { IfOk result (λ text. string_bytes text ≡ raise_line number.0) }
+{
+    let number = number.0;
+    format!(in alloc; "profile 2 sequence {number}\n")
 }
 
 /// The line where a change has another number than the one behind the kept one.

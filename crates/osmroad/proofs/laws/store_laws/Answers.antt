@@ -25,4 +25,5 @@ returns-clause-checkpoint c = record {
   ok = c.checkpoint_on_store.ensures.ok;
   small = c.checkpoint_on_store.ensures.small;
   same = c.checkpoint_for_reader.ensures.same;
+  raised = c.checkpoint_for_reader.ensures.raised;
 }

@@ -1,14 +1,18 @@
 use Rattle.std.proofs.Common.{Some, sym, subst}
 use Rattle.osmroad.specs.declared.command.Command.{Command}
 use Rattle.osmroad.specs.declared.command.Command.TheVariants.{Compile, Inspect, Sample, Graph, Audit, Checkpoint}
+use Rattle.osmroad.specs.Commands.{HasProfile}
 use Rattle.osmroad.specs.Run.{Builds}
 use Rattle.osmroad.proofs.UnusedSides.{no_read, no_call}
 use Rattle.osmroad.proofs.run.prepare.Goals as goal
 
+pub compile-requires : goal.compile-requires
+compile-requires g c = subst HasProfile c.in-Compile.is c.requires
+
 pub returns-in-Compile-clause-calls : goal.returns-in-Compile-clause-calls
 returns-in-Compile-clause-calls g c =
     let outside = g.W.Site.outside c.args.site.now in
-    no_call (Some Compile) c.compile.result (g.S.Source.bytes_left c.args.source.now)
+    no_call (Some (Compile c.in-Compile.profile)) c.compile.result (g.S.Source.bytes_left c.args.source.now)
     (g.S.Source.bytes_left c.compile.new.source) outside outside (c.compile.ensures.prepares outside)
     (λ stored. stored) (g.W.Site.faults c.args.site.now)
 
@@ -71,6 +75,6 @@ returns-in-Audit-clause-reads g c =
 pub returns-in-Checkpoint-clause-reads : goal.returns-in-Checkpoint-clause-reads
 returns-in-Checkpoint-clause-reads g c =
     let held = g.S.Source.bytes_left c.args.source.now in
-    no_read (Some Checkpoint) c.checkpoint.result held held (g.W.Site.outside c.args.site.now)
+    no_read (Some (Checkpoint c.in-Checkpoint.base)) c.checkpoint.result held held (g.W.Site.outside c.args.site.now)
     (g.W.Site.outside c.checkpoint.new.site) (c.checkpoint.ensures.prepares held)
     (λ reading. reading) (g.S.Source.faults c.args.source.now)

@@ -8,6 +8,7 @@ use Rattle.osmroad.specs.Run.{files_of}
 use Rattle.osmroad.specs.Requests.{RunEnds, RunCanBeDone}
 use Rattle.session.proofs.HeldSource.{behind_of, held_still}
 use Rattle.osmroad.proofs.WithoutStore.{silent_still, leaves_still, will_put_alone}
+use Rattle.osmroad.proofs.KnownProfiles.{asked_known}
 use Rattle.osmroad.proofs.RunEnds.{ends_put}
 use Rattle.osmroad.proofs.WellEndedSessions.{session_done}
 use Rattle.osmroad.proofs.IntactStops.{run_intact}
@@ -36,6 +37,11 @@ returns-in-Some-Session-clause-intact g c = run_intact c.store_laws.ensures.stor
     (Some Session) c.serve_store.ensures.ends
 
 -- ---- a command
+
+pub run_command-requires : goal.run_command-requires
+run_command-requires g c = asked_known (map (λ w. w.now) c.args.words.now) c.in-Some-Command.command
+    (sym c.request_of.ensures ∙ c.in-Some-Command.is
+    ∙ ap (λ (request : Request). Some request) c.in-Some-Command.field-0-is)
 
 pub returns-in-Some-Command-clause-complete : goal.returns-in-Some-Command-clause-complete
 returns-in-Some-Command-clause-complete g c = λ bytes is can.

@@ -14,7 +14,7 @@ all_lines-requires g c = c.in_ok-engine.engine.profile.known
 
 pub returns : goal.returns
 returns g c =
-    let one = ap (λ (p : ProfileOf). p.number) c.in_ok-engine.ensures.profile ∙ c.profile_of_run.ensures in
+    let one = ap (λ (p : ProfileOf). p.number) c.in_ok-engine.ensures.profile ∙ c.profile_of.ensures in
     ok_maps c.all_lines.result c.all_lines.ensures (λ text is.
     subst (λ (n : ℕ). IsSample (rules_of n) c.args.number text.items) one
     (is c.args.number (record {

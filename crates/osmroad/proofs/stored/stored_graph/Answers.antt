@@ -1,4 +1,5 @@
-use Rattle.std.proofs.Common.{ℕ, Some, refl, subst, arith}
+use Rattle.std.proofs.Common.{ℕ, Some, refl, subst, sym, arith, ◌∙◌}
+use Rattle.road_base.specs.Profiles.{IsProfile}
 use Rattle.sequence_journal.specs.declared.load.Loaded.{Loaded}
 use Rattle.access_profile.specs.Profiles.{rules_of}
 use Rattle.osmroad.specs.declared.command.Command.TheVariants.{Graph}
@@ -22,6 +23,11 @@ returns-in-Err-clause-calls g c =
 
 pub returns-in-Err-clause-built : goal.returns-in-Err-clause-built
 returns-in-Err-clause-built g c = λ held w h objects told loads has. omega arith
+
+-- ---- the profile is known
+
+pub profile_of-requires : goal.profile_of-requires
+profile_of-requires g c = subst IsProfile (sym c.profile.ensures) c.in-Ok.ensures.known
 
 -- ---- memory ends for the graph
 
@@ -48,7 +54,7 @@ returns-clause-prepares g c = λ held.
     show_done laws.store (Some Graph) IsGraphOf graph_shows held _ _ c.in-Ok.loaded c.in_ok-out.out.items _ (refl, refl)
     c.in-Ok.ensures.told
     (subst (λ (n : ℕ). IsGraphOf (rules_of n) c.in-Ok.loaded.events.items c.in_ok-out.out.items)
-    c.profile_of_run.ensures c.in_ok-out.ensures.graph)
+    (c.profile_of.ensures ∙ c.profile.ensures) c.in_ok-out.ensures.graph)
 
 pub returns-clause-calls : goal.returns-clause-calls
 returns-clause-calls g c = calls_calm _ _ _ (c.in-Ok.ensures.counts.stays (λ e. (cc))) (λ e. (cc))
