@@ -79,6 +79,19 @@ impl Indexed {
         &self.objects
     }
 
+    /// An equal value, which shares all with this one. Takes a few reference counts.
+    pub fn copy(&self) -> Result<Indexed, NoMemory>
+        ensures { IfOk result (λ i. i ≡ self.now) }
+    {
+        let objects = self.objects.copy()?;
+        let references = self.references.share()?;
+        Ok(Indexed {
+            alloc: self.alloc,
+            objects,
+            references,
+        })
+    }
+
     /// The references alone. Takes no memory: the objects are dropped.
     pub(crate) fn into_references(self) -> References
         ensures { IsIndexed self result }
