@@ -1,6 +1,7 @@
 -- The visible ways with the key `highway` among the entries of a map.
 use Rattle.std.proofs.Common.{◌≡◌, Bool, true, false, cond, IsTrue, List, [], ◌∷◌, ◌++◌, map}
-use Rattle.std.proofs.Common.{Contains, Option, Some, None, refl, sym, ap, ◌∙◌}
+use Rattle.std.proofs.Common.{Contains, Option, Some, None, refl, sym, ap, ◌∙◌, append_assoc}
+use Rattle.std.proofs.lemmas.List.{append-nil}
 use Rattle.std.specs.Prelude.{filter_map}
 use Rattle.std.specs.List.{cons_option}
 use Rattle.std.specs.Option.{option_to_list}
@@ -40,14 +41,6 @@ pub highways_are : (M : Objects) (events : List Event) → entries M ≡ map pai
     → filter_map (λ e. highway_of e.key e.body) events ≡ highways M
 highways_are M events is = sym (of_pairs events) ∙ ap (filter_map in_entry) (sym is)
 
-joined_again : {A : Type 0} (a b c : List A) → (a ++ b) ++ c ≡ a ++ (b ++ c)
-joined_again [] b c = refl
-joined_again (x ∷ a) b c = ap (λ l. x ∷ l) (joined_again a b c)
-
-none_behind : {A : Type 0} (a : List A) → a ++ [] ≡ a
-none_behind [] = refl
-none_behind (x ∷ a) = ap (λ l. x ∷ l) (none_behind a)
-
 told_first : (o : Option WayId) (ways : List WayId) → cons_option o ways ≡ option_to_list o ++ ways
 told_first None ways = refl
 told_first (Some w) ways = refl
@@ -58,14 +51,14 @@ pub one_told : (old new all : List WayId) (left rest : List Event) (e : Event) �
     → new ++ filter_map in_event rest ≡ all
 one_told old new all left rest e split before here =
     ap (λ l. l ++ filter_map in_event rest) here
-    ∙ joined_again old (option_to_list (in_event e)) (filter_map in_event rest)
+    ∙ append_assoc old (option_to_list (in_event e)) (filter_map in_event rest)
     ∙ ap (λ l. old ++ l) (sym (told_first (in_event e) (filter_map in_event rest)))
     ∙ ap (λ l. old ++ filter_map in_event l) (sym split) ∙ before
 
 pub all_told : (new all : List WayId) (rest : List Event) → rest ≡ [] → new ++ filter_map in_event rest ≡ all
     → new ≡ all
 all_told new all rest none before =
-    sym (none_behind new) ∙ ap (λ l. new ++ filter_map in_event l) (sym none) ∙ before
+    sym (append-nil new) ∙ ap (λ l. new ++ filter_map in_event l) (sym none) ∙ before
 
 -- ---- they ascend
 

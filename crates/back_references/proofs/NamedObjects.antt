@@ -28,7 +28,8 @@ use Rattle.back_references.specs.References.{way_references_at, node_rules_at, w
 use Rattle.layered_maps.specs.Lists.{Held, Has}
 use Rattle.road_model.specs.Orders.{node_cmp, way_cmp}
 use Rattle.std.proofs.Common.{Ordering}
-use Rattle.ordered_lists.proofs.ListMembers.{In, in_from_contains, contains_from_in, in_flat, from_flat, in_map, from_map}
+use Rattle.ordered_lists.proofs.ListMembers.{In, in_from_contains, contains_from_in}
+use Rattle.ordered_lists.proofs.ListMembers.{in_flat, from_flat, in_map, from_map}
 
 -- ---- the pairs of one event
 

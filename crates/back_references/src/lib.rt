@@ -13,12 +13,12 @@
 //! pairs, with a step for each reference that it finds. A search takes the logarithm of what is searched: where the
 //! numbers are spread evenly, a table of ranges of them leaves a few steps of it. A table takes about two bytes a
 //! reference, or a changed list. `of` makes the lists from the entries of ways and of relations alone: with m entries
-//! and r references it takes time of the order of (m + r) log (m + r). `prepare` and `apply` take what the objects take,
-//! sort the references of the changed ways and relations as they were and as they are, and make the list of each key
-//! among them once, in the time of its length times the logarithm of what is gone from it. What lists change is merged
-//! with the first runs, as `layered_maps` says: so each of n keys and values that have come since the objects were made
-//! is copied, with eight others, at most once a run, which is of the order of log n times. `copy` takes a few reference
-//! counts. `highways` goes over all entries once.
+//! and r references it takes time of the order of (m + r) log (m + r). `prepare` and `apply` take what the objects
+//! take, sort the references of the changed ways and relations as they were and as they are, and make the list of each
+//! key among them once, in the time of its length times the logarithm of what is gone from it. The lists that change
+//! are merged with the first runs, as `layered_maps` says: so each of n keys and values that have come since the
+//! objects were made is copied, with eight others, at most once a run, which is of the order of log n times. `copy`
+//! takes a few reference counts. `highways` goes over all entries once.
 #![tactic(auto)]
 
 mod collecting;
