@@ -123,22 +123,20 @@ all_in_form : (m : FinMap way_cmp Block) (bs : List Block)
 all_in_form m [] each all = tt
 all_in_form m (b ∷ bs) each all = (all b.way b (each b (inl refl)), all_in_form m bs (λ x i. each x (inr i)) all)
 
-pub listed_forms : (m : FinMap way_cmp Block) (bs : List Block) → bs ≡ values m
-    → ((b : Block) → Contains bs b ↔ (get m b.way ≡ Some b)) → AreInForm (get m) → AllByRecursion IsBlockForm (values m)
-listed_forms m bs are each all =
-    subst (λ l. AllByRecursion IsBlockForm l) are
-    (all_in_form m bs (λ b i. (each b).0 (contains_from_in bs b i)) all)
+pub listed_forms : (m : FinMap way_cmp Block) → ((b : Block) → Contains (values m) b ↔ (get m b.way ≡ Some b))
+    → AreInForm (get m) → AllByRecursion IsBlockForm (values m)
+listed_forms m each all = all_in_form m (values m) (λ b i. (each b).0 (contains_from_in (values m) b i)) all
 
--- in the order of the list they are those of the graph
-pub listed_blocks : (M : Objects) (P : Rules) (m : FinMap way_cmp Block) (bs : List Block) → bs ≡ values m
-    → IsTrue (rises way_cmp (map (λ b. b.way) bs)) → ((b : Block) → Contains bs b ↔ (get m b.way ≡ Some b))
+-- in the order of their ways they are those of the graph
+pub listed_blocks : (M : Objects) (P : Rules) (m : FinMap way_cmp Block)
+    → IsTrue (rises way_cmp (map (λ b. b.way) (values m)))
+    → ((b : Block) → Contains (values m) b ↔ (get m b.way ≡ Some b))
     → AreBlocksOf M P m → Lists (λ b. b.way) way_cmp (IsRoadBlock M P) (values m)
-listed_blocks M P m bs are up each all =
-    subst (λ l. Lists (λ b. b.way) way_cmp (IsRoadBlock M P) l) are (record {
-      ascending = up;
-      sound = λ b has. ((all b.way b).0 ((each b).0 has)).1;
-      complete = λ b road. (each b).1 ((all b.way b).1 (refl, road));
-    })
+listed_blocks M P m up each all = record {
+  ascending = up;
+  sound = λ b has. ((all b.way b).0 ((each b).0 has)).1;
+  complete = λ b road. (each b).1 ((all b.way b).1 (refl, road));
+}
 
 -- ---- lists that are empty or not
 

@@ -22,8 +22,9 @@ use Rattle.layered_maps.specs.Layers.{Rise}
 use Rattle.layered_maps.specs.Maps.{over}
 use Rattle.layered_maps.proofs.OverPairs.{find_over, settled}
 use Rattle.change_apply.specs.Rebuilding.{block_at, over as built_over, way_of, with_fresh, with_pieces}
+use Rattle.change_apply.specs.Standing.{newest}
 use Rattle.change_apply.proofs.FreshBlocks.{over_fresh, over_none}
-use Rattle.change_apply.proofs.RebuiltBlocks.{at_built, at_other, itself, other_way, same_or_not}
+use Rattle.change_apply.proofs.RebuiltBlocks.{at_built, at_other, itself, other_way, same_or_not, some_pieces}
 
 -- ---- a block without pieces
 
@@ -33,6 +34,26 @@ bare_by (p ∷ ps) b e = cc
 
 pub no_pieces : (b : Block) → b.pieces ≡ [] → with_pieces b ≡ None
 no_pieces b bare = bare_by b.pieces b bare
+
+-- where nothing newer is known of a way, nothing stands there
+pub newest_none : (rebuilt : List (WayId × Block)) (listed : FinMap way_cmp Block) (w : WayId)
+    → newest rebuilt listed w ≡ None → block_at rebuilt listed w ≡ None
+newest_none rebuilt listed w = by (find way_cmp w rebuilt)
+  where
+    by : (o : Option Block) → elim o [ None ↦ get listed w | Some x ↦ Some x ] ≡ None
+        → elim o [ None ↦ get listed w | Some x ↦ with_pieces x ] ≡ None
+    by None e = e
+    by (Some x) e = cc
+
+-- the newest block of a way stands there, if it has pieces
+pub newest_is : (rebuilt : List (WayId × Block)) (listed : FinMap way_cmp Block) (w : WayId) (b : Block)
+    → (b.pieces ≡ [] → ⊥) → newest rebuilt listed w ≡ Some b → block_at rebuilt listed w ≡ with_pieces b
+newest_is rebuilt listed w b some = by (find way_cmp w rebuilt)
+  where
+    by : (o : Option Block) → elim o [ None ↦ get listed w | Some x ↦ Some x ] ≡ Some b
+        → elim o [ None ↦ get listed w | Some x ↦ with_pieces x ] ≡ with_pieces b
+    by None e = e ∙ sym (some_pieces b.pieces b some)
+    by (Some x) e = let same : x ≡ b = cc in ap with_pieces same
 
 -- ---- blocks one after another
 

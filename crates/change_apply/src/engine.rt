@@ -23,7 +23,8 @@ use crate::building::{build, rebuild_touched};
 use crate::changes::{BlockChanges, changes_of};
 use crate::touching::touched_by;
 use back_references::{Indexed, Next, Prepared};
-use graph_blocks::{RoadBlocks, walk};
+use graph_blocks::RoadBlocks;
+use graph_blocks::laws::values_in_order;
 use road_base::laws::one_map;
 use road_base::{Event, NoMemory, Steps, WayId};
 use road_model::laws::name_order;
@@ -148,7 +149,7 @@ impl<P: Profile> Engine<P> {
             (values (map_of result.now)) }
         ensures forms { AllByRecursion IsBlockForm (values (map_of result.now)) }
     {
-        let _walk = walk(&self.blocks.view());
+        values_in_order();
         &self.blocks
     }
 }

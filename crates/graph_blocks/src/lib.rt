@@ -5,6 +5,7 @@
 //! no memory and a constant time.
 #![tactic(auto)]
 
+pub mod laws;
 mod lending;
 mod making;
 mod walking;
