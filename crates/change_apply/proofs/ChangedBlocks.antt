@@ -7,10 +7,10 @@ use Rattle.std.specs.FinMap.{FinMap, IsAntisymmetric, entries, find, get, get-en
 use Rattle.std.specs.FinMap.Entries.{below_all}
 use Rattle.std.specs.Ordering.{eq_by_cmp, is_eq, is_lt}
 use Rattle.std.specs.declared.cmp.Ordering.TheVariants.{Less, Equal}
-use Rattle.std.proofs.lemmas.Bool.{and_from}
+use Rattle.std.proofs.lemmas.Bool.{and_from, and_parts}
 use Rattle.road_base.specs.declared.ids.WayId.{WayId}
 use Rattle.ordered_lists.specs.Orders.{rises}
-use Rattle.ordered_lists.proofs.AscendingLists.{Climbs, climbs, climbs_push, rises_again}
+use Rattle.ordered_lists.proofs.AscendingLists.{climbs, rises_again}
 use Rattle.ordered_lists.proofs.Comparisons.{less, turned}
 use Rattle.ordered_lists.proofs.ListMembers.{In, contains_from_in, in_from_contains, contains_more, contains_none, in_end}
 use Rattle.ordered_lists.proofs.ListMembers.{from_map, in_left, push_cases}
@@ -28,7 +28,8 @@ use Rattle.change_apply.proofs.RebuiltBlocks.{at_built, at_other, itself, other_
 
 -- ---- a block without pieces
 
-bare_by : (ps : List Piece) (b : Block) → ps ≡ [] → elim ps [ [] ↦ None | p ∷ qs ↦ Some b ] ≡ None
+bare_by : (ps : List Piece) (b : Block) → ps ≡ []
+    → ◌≡◌ {A = Option Block} (elim ps [ [] ↦ None | p ∷ qs ↦ Some b ]) None
 bare_by [] b e = refl
 bare_by (p ∷ ps) b e = cc
 
@@ -40,8 +41,8 @@ pub newest_none : (rebuilt : List (WayId × Block)) (listed : FinMap way_cmp Blo
     → newest rebuilt listed w ≡ None → block_at rebuilt listed w ≡ None
 newest_none rebuilt listed w = by (find way_cmp w rebuilt)
   where
-    by : (o : Option Block) → elim o [ None ↦ get listed w | Some x ↦ Some x ] ≡ None
-        → elim o [ None ↦ get listed w | Some x ↦ with_pieces x ] ≡ None
+    by : (o : Option Block) → ◌≡◌ {A = Option Block} (elim o [ None ↦ get listed w | Some x ↦ Some x ]) None
+        → ◌≡◌ {A = Option Block} (elim o [ None ↦ get listed w | Some x ↦ with_pieces x ]) None
     by None e = e
     by (Some x) e = cc
 
@@ -110,17 +111,18 @@ at_its_way m ties list are w b got =
 abbrev pub Pairs : Type 0
 Pairs = List (WayId × Option Block)
 
-abbrev pub way_in : WayId × Option Block → WayId
-way_in p = p.0
+below_more : (k : WayId) (ps : Pairs) (p : WayId × Option Block) → IsTrue (below_all way_cmp k ps)
+    → IsTrue (is_lt (way_cmp k p.0)) → IsTrue (below_all way_cmp k (ps ++ p ∷ []))
+below_more k [] p h l = and_from _ _ l refl
+below_more k (q ∷ ps) p h l = and_from _ _ (and_parts _ _ h).0 (below_more k ps p (and_parts _ _ h).1 l)
 
-below_of : (k : WayId) (ps : Pairs) → ((p : WayId × Option Block) → In p ps → IsTrue (is_lt (way_cmp k p.0)))
-    → IsTrue (below_all way_cmp k ps)
-below_of k [] h = refl
-below_of k (q ∷ ps) h = and_from _ _ (h q (inl refl)) (below_of k ps (λ y i. h y (inr i)))
-
-pub rise_of : (ps : Pairs) → Climbs way_in way_cmp ps → Rise way_cmp ps
-rise_of [] c = refl
-rise_of (p ∷ ps) c = and_from _ _ (below_of p.0 ps c.0) (rise_of ps c.1)
+-- with a pair more that is above all of them they rise
+rise_push : (ps : Pairs) (p : WayId × Option Block) → Rise way_cmp ps
+    → ((q : WayId × Option Block) → In q ps → IsTrue (is_lt (way_cmp q.0 p.0))) → Rise way_cmp (ps ++ p ∷ [])
+rise_push [] p up below = refl
+rise_push (q ∷ ps) p up below =
+    and_from _ _ (below_more q.0 ps p (and_parts _ _ up).0 (below q (inl refl)))
+    (rise_push ps p (and_parts _ _ up).1 (λ r i. below r (inr i)))
 
 -- the ways of the pairs are ways of the blocks
 abbrev pub AreAmong : List Block → Pairs → Type 0
@@ -148,8 +150,8 @@ module _ (total : IsTotalOrder way_cmp) (ties : IsAntisymmetric way_cmp) where
         subst (λ w. IsTrue (is_lt (way_cmp w b.way))) r.2 (below_block front rest b up r.0 r.1)
 
     -- a pair more behind them
-    pub climbs_more : Climbs way_in way_cmp ps → Climbs way_in way_cmp (ps ++ (b.way, o) ∷ [])
-    climbs_more c = climbs_push way_in way_cmp total ps (b.way, o) c below_pair
+    pub rise_more : Rise way_cmp ps → Rise way_cmp (ps ++ (b.way, o) ∷ [])
+    rise_more r = rise_push ps (b.way, o) r below_pair
 
     pub among_more : AreAmong (front ++ b ∷ []) (ps ++ (b.way, o) ∷ [])
     among_more p i = elim (push_cases ps (b.way, o) p i) [

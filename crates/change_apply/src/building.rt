@@ -178,12 +178,12 @@ pub struct Rebuilt {
 /// block, as it was in the world before, the network's. The pieces of the ways that they meet are taken from the blocks
 /// that stand: before the first step from those of ways that aren't built in it, since the pieces of these are the
 /// same, and before the second from all.
-pub fn rebuild_touched<M: World, P: Profile, L: Ledger>(
+pub fn rebuild_touched<'b, M: World, P: Profile, L: Ledger>(
     alloc: Global,
     network: &Network<'_, Indexed, P>,
     next: &M,
-    touched: &TouchedWays,
-    blocks: &RoadBlocks,
+    touched: &'b TouchedWays,
+    blocks: &'b RoadBlocks,
     steps: &mut Steps<L>,
 ) -> Result<Rebuilt, NoMemory>
     requires parted { AreParted network.now.world.now (M.objects next.now)

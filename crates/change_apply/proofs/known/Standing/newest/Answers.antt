@@ -22,5 +22,5 @@ returns-in-None c =
     let way = c.args.way in
     let none : get s.fresh.now.map way ≡ None = sym c.get.ensures ∙ ap option_copied c.in-None.is in
     let found = over_none s.fresh.now.map [] way none in
-    c.get-2.ensures.value ∙ sym (get-from_entries c.name_order.ensures.ways s.blocks.now way)
+    c.get-in-None.ensures.value ∙ sym (get-from_entries c.name_order.ensures.ways s.blocks.now way)
     ∙ sym (newest_as (built_in s) (map_of s.blocks.now) way None found)
