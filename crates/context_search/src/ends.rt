@@ -10,7 +10,7 @@ ghost use Rattle.road_model.specs.Driving.{located};
 ghost use Rattle.road_model.specs.Networks.{on, map_of};
 ghost use Rattle.ordered_lists.specs.Orders.{rises};
 ghost use Rattle.road_model.specs.Orders.{name_cmp};
-ghost use Rattle.graph_blocks.specs.Lent.{map_of};
+ghost use Rattle.graph_blocks.specs.Lent.{map_of as block_map};
 ghost use Rattle.context_search.specs.declared.ends.Begin.{Begin};
 ghost use Rattle.context_search.specs.declared.ends.Goal.{Goal};
 ghost use Rattle.context_search.specs.Ends.{pieces_in, BeginsBy, StopsBy, Leaves, Arrives};
@@ -56,7 +56,7 @@ pub fn ends_of<'a, M: World, P: Profile>(
     a: NodeId,
     b: NodeId,
 ) -> Result<DriveEnds<'a>, NoMemory>
-    requires blocks { on network.now AreBlocksOf (map_of blocks.now) }
+    requires blocks { on network.now AreBlocksOf (block_map blocks.now) }
     requires from { IsTrue (located (map_of network.now) (Some a)) }
     requires to { IsTrue (located (map_of network.now) (Some b)) }
     ensures are { IfOk result (on network.now AreEnds) }
@@ -80,7 +80,7 @@ fn starts_of<'a, M: World, P: Profile>(
     blocks: &View<'a, WayId, Block>,
     node: NodeId,
 ) -> Result<Vec<Begin<'a>>, NoMemory>
-    requires { on network.now AreBlocksOf (map_of blocks.now) }
+    requires { on network.now AreBlocksOf (block_map blocks.now) }
     ensures { IfOk result (λ v. on network.now AreStarts node v.items) }
 {
     one_name(&network.profile);
@@ -95,7 +95,7 @@ fn starts_of<'a, M: World, P: Profile>(
 
 /// The pieces of the way.
 fn pieces_of<'a>(blocks: &View<'a, WayId, Block>, way: WayId) -> &'a [Piece]
-    ensures { result.now ≡ pieces_in (get (map_of blocks.now) way) }
+    ensures { result.now ≡ pieces_in (get (block_map blocks.now) way) }
 {
     match block_at(blocks, way) {
         Some(block) => block.pieces.items(),
@@ -146,7 +146,7 @@ fn goals_of<'a, M: World, P: Profile>(
     blocks: &View<'a, WayId, Block>,
     node: NodeId,
 ) -> Result<BTreeMap<PieceName, Goal<'a>>, NoMemory>
-    requires { on network.now AreBlocksOf (map_of blocks.now) }
+    requires { on network.now AreBlocksOf (block_map blocks.now) }
     ensures { IfOk result (λ m. on network.now AreGoals node m) }
 {
     name_order();

@@ -3,7 +3,7 @@ ghost use Rattle.std.specs.Prelude.{◌≡◌, ◌≤◌, map, IfOk, IfSome, IfN
 ghost use Rattle.road_model.specs.BlockMap.{AreBlocksOf};
 ghost use Rattle.road_model.specs.Driving.{located};
 ghost use Rattle.road_model.specs.Networks.{on, map_of};
-ghost use Rattle.graph_blocks.specs.Lent.{map_of};
+ghost use Rattle.graph_blocks.specs.Lent.{map_of as block_map};
 ghost use Rattle.context_search.specs.declared.ends.Begin.{Begin};
 ghost use Rattle.context_search.specs.declared.ends.Goal.{Goal};
 ghost use Rattle.context_search.specs.Marks.{at_of};
@@ -79,7 +79,7 @@ fn drive_to<M: World, P: Profile>(
     b: NodeId,
     to: Location,
 ) -> Result<Found, NoMemory>
-    requires blocks { on network.now AreBlocksOf (map_of blocks.now) }
+    requires blocks { on network.now AreBlocksOf (block_map blocks.now) }
     requires from { IsTrue (located (map_of network.now) (Some a)) }
     requires to { IsTrue (located (map_of network.now) (Some b)) }
     ensures { IfOk result (on network.now IsFound a b) }
@@ -96,7 +96,7 @@ fn drive_between<M: World, P: Profile>(
     ends: &DriveEnds<'_>,
     to: Location,
 ) -> Result<Found, NoMemory>
-    requires blocks { on network.now AreBlocksOf (map_of blocks.now) }
+    requires blocks { on network.now AreBlocksOf (block_map blocks.now) }
     requires ends { on network.now AreEnds ends.now }
     ensures { IfOk result (on network.now IsFound ends.now.a ends.now.b) }
 {
@@ -165,7 +165,7 @@ pub fn spots_in_order<'a, M: World, P: Profile>(
     network: &Network<'_, M, P>,
     blocks: &View<'a, WayId, Block>,
 ) -> Result<Vec<Spot<'a>>, NoMemory>
-    requires { on network.now AreBlocksOf (map_of blocks.now) }
+    requires { on network.now AreBlocksOf (block_map blocks.now) }
     ensures { IfOk result (λ v. on network.now AreSpots (map at_of v.items)) }
 {
     name_order();

@@ -25,7 +25,7 @@ pub fn spots_of<'a>(
     alloc: Global,
     blocks: Walk<'a, WayId, Block>,
 ) -> Result<Vec<Spot<'a>>, NoMemory>
-    ensures { IfOk result (λ v. map at_of v.items ≡ all_contexts blocks) }
+    ensures { IfOk result (λ v. map at_of v.items ≡ all_contexts blocks.entry) }
 {
     let mut spots = Vec::new(alloc);
     let mut rest = blocks;

@@ -28,7 +28,7 @@ pub fn counts<B: LendsBlocks>(blocks: &B) -> Totals
 
 /// How many of each the blocks have that are left.
 fn counts_of(blocks: Walk<'_, WayId, Block>) -> Totals
-    ensures { result ≡ totals_of blocks }
+    ensures { result ≡ totals_of blocks.entry }
 {
     let mut rest = blocks;
     let mut totals = Totals {

@@ -78,7 +78,7 @@ fn put_graph(
 
 /// How many blocks are left; the last number of 64 bits where there are more. Takes no memory.
 fn count_of(blocks: Walk<'_, WayId, Block>) -> u64
-    ensures { result ≡ min (length blocks) 18446744073709551615 }
+    ensures { result ≡ min (length blocks.entry) 18446744073709551615 }
 {
     let mut rest = blocks;
     let mut count: u64 = 0;
@@ -91,8 +91,8 @@ fn count_of(blocks: Walk<'_, WayId, Block>) -> u64
 /// Appends the bytes of the blocks that are left.
 fn put_blocks(blocks: Walk<'_, WayId, Block>, out: &mut Vec<u8>) -> Result<(), NoMemory>
     requires { AllByRecursion IsBlockForm blocks }
-    ensures ok { OnOk result (out.new.items ≡ out.old.items ++ joined block_bytes blocks) }
-    ensures fit { OnOk result (AllByRecursion BlockFits blocks) }
+    ensures ok { OnOk result (out.new.items ≡ out.old.items ++ joined block_bytes blocks.entry) }
+    ensures fit { OnOk result (AllByRecursion BlockFits blocks.entry) }
     ensures err { OnErr result (Keeps out.old.items out.new.items) }
 {
     let mut rest = blocks;

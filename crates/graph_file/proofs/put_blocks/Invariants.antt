@@ -9,7 +9,7 @@ use Rattle.graph_file.proofs.put_blocks.Given as goal
 abbrev pub invariant-loop-block : goal.invariant-loop-block
 invariant-loop-block l = record {
   front : List Block;
-  all : front ++ l.rest ≡ l.blocks;
+  all : front ++ l.rest ≡ l.fn.blocks;
   forms : AllByRecursion IsBlockForm l.rest;
   spelled : l.out.items ≡ l.initial.out.items ++ joined block_bytes front;
   fit : AllByRecursion BlockFits front;

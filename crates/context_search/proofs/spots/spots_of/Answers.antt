@@ -1,4 +1,4 @@
-use Rattle.std.proofs.Common.{map, sym, ap, ◌∙◌, append_assoc, append-nil}
+use Rattle.std.proofs.Common.{map, sym, ap, ◌∙◌, append_assoc}
 use Rattle.std.specs.Option.{option_copied}
 use Rattle.layered_maps.specs.Walks.{IsNext}
 use Rattle.std.proofs.Common.{subst, ◌++◌}
@@ -15,11 +15,4 @@ loop-block-preserved c =
     ap (λ l. l ++ left) c.in_ok-add_pieces.ensures
     ∙ append_assoc was more left
     ∙ ap (λ l. was ++ all_contexts l) (sym taken)
-    ∙ c.loop-block.invariant
-
-pub returns : goal.returns
-returns c =
-    let taken = subst (λ o. IsNext o c.loop-block.rest c.next.new.self) (ap option_copied c.in_default.is) c.next.ensures in
-    sym (append-nil (map at_of c.loop-block.spots.items))
-    ∙ ap (λ l. map at_of c.loop-block.spots.items ++ all_contexts l) (sym taken.0)
     ∙ c.loop-block.invariant

@@ -4,7 +4,7 @@ use Rattle.context_search.proofs.spots.spots_of.Given as goal
 
 -- the contexts of the blocks that have been gone over are added
 abbrev pub invariant-loop-block : goal.invariant-loop-block
-invariant-loop-block l = map at_of l.spots.items ++ all_contexts l.rest ≡ all_contexts l.blocks
+invariant-loop-block l = map at_of l.spots.items ++ all_contexts l.rest ≡ all_contexts l.fn.blocks
 
 abbrev pub decreases-loop-block : goal.decreases-loop-block
 decreases-loop-block l = length l.rest
