@@ -1,6 +1,7 @@
 -- The object map of events that are kept at their keys: what is found in it and listed, and what changes leave of it.
 use Rattle.std.proofs.Common.{◌≡◌, ℕ, suc, true, false, cond, List, [], ◌∷◌, ◌++◌, ◌&&◌, map, filter, Option, Some}
 use Rattle.std.proofs.Common.{None, Bool, inl, inr, nat_lt, nat_le, refl, sym, ap, subst, ◌∙◌, arith, Ordering, IsTrue}
+use Rattle.std.proofs.Common.{append_assoc, append-nil}
 use Rattle.std.specs.Ordering.{is_lt, eq_by_cmp}
 use Rattle.std.specs.Option.{option_map, option_to_list}
 use Rattle.std.specs.Cmp.{IsTotalOrder, Equal-is}
@@ -103,36 +104,28 @@ put_first : (b : Bool) (e : Event) (es : List Event)
 put_first true e es = refl
 put_first false e es = refl
 
-joined_again : {A : Type 0} (a b c : List A) → (a ++ b) ++ c ≡ a ++ (b ++ c)
-joined_again [] b c = refl
-joined_again (x ∷ a) b c = ap (λ l. x ∷ l) (joined_again a b c)
-
-none_behind : {A : Type 0} (a : List A) → a ++ [] ≡ a
-none_behind [] = refl
-none_behind (x ∷ a) = ap (λ l. x ∷ l) (none_behind a)
-
 -- one more event is put, or passed over
 pub one_put : (p : Event → Bool) (e : Event) (rest whole : List Event) (old new all : List (Change Key Event))
     → whole ≡ e ∷ rest → old ++ puts (filter p whole) ≡ all → new ≡ old ++ puts (filter p (e ∷ []))
     → new ++ puts (filter p rest) ≡ all
 one_put p e rest whole old new all split before here =
-    ap (λ l. l ++ puts (filter p rest)) here ∙ joined_again old (puts (filter p (e ∷ []))) (puts (filter p rest))
+    ap (λ l. l ++ puts (filter p rest)) here ∙ append_assoc old (puts (filter p (e ∷ []))) (puts (filter p rest))
     ∙ ap (λ l. old ++ l) (sym (put_first (p e) e (filter p rest))) ∙ ap (λ l. old ++ puts (filter p l)) (sym split)
     ∙ before
 
 pub all_put : (p : Event → Bool) (rest : List Event) (new all : List (Change Key Event)) → rest ≡ []
     → new ++ puts (filter p rest) ≡ all → new ≡ all
 all_put p rest new all none before =
-    sym (none_behind new) ∙ ap (λ l. new ++ puts (filter p l)) (sym none) ∙ before
+    sym (append-nil new) ∙ ap (λ l. new ++ puts (filter p l)) (sym none) ∙ before
 
 -- one more event is copied
 pub one_copied : (old new left rest all : List Event) (e : Event) → left ≡ e ∷ rest → old ++ left ≡ all
     → new ≡ old ++ e ∷ [] → new ++ rest ≡ all
 one_copied old new left rest all e split before here =
-    ap (λ l. l ++ rest) here ∙ joined_again old (e ∷ []) rest ∙ ap (λ l. old ++ l) (sym split) ∙ before
+    ap (λ l. l ++ rest) here ∙ append_assoc old (e ∷ []) rest ∙ ap (λ l. old ++ l) (sym split) ∙ before
 
 pub all_copied : (new rest all : List Event) → rest ≡ [] → new ++ rest ≡ all → new ≡ all
-all_copied new rest all none before = sym (none_behind new) ∙ ap (λ l. new ++ l) (sym none) ∙ before
+all_copied new rest all none before = sym (append-nil new) ∙ ap (λ l. new ++ l) (sym none) ∙ before
 
 below_same : (k : Key) (es : List Event) → below_all key_cmp k (map (change_pair key_of) (puts es))
     ≡ below_all key_cmp k (map (keyed key_of) es)
