@@ -1,14 +1,11 @@
 -- A restriction that lists its via ways from the to way to the from way.
 --
 -- 1 --- w10 --- 2 --- w11 --- 3 --- w12 --- 4 --- w13 --- 5        r20: from w10 over w12, w11 to w13
-use Rattle.std.proofs.Common.{◌≡◌, List, [], ◌∷◌, ◌++◌, length, refl, sym, ap, ◌∙◌, subst, inl, Some, Bool, true}
+use Rattle.std.proofs.Common.{◌≡◌, List, [], ◌∷◌, length, refl, sym, ap, ◌∙◌, subst, inl, Some, Bool, true}
 use Rattle.std.proofs.Common.{false, lit<}
-use Rattle.std.specs.Prelude.{codes, reverse}
+use Rattle.std.specs.Prelude.{codes}
 use Rattle.std.specs.FinMap.{from_sorted, get, find, get-from_sorted}
 use Rattle.std.proofs.lemmas.Bool.{false≢true}
-use Rattle.road_base.specs.declared.ids.NodeId.{NodeId}
-use Rattle.road_base.specs.declared.ids.WayId.{WayId}
-use Rattle.road_base.specs.declared.ids.Dir.{Dir}
 use Rattle.road_base.specs.declared.ids.Dir.TheVariants.{Forward}
 use Rattle.road_base.specs.declared.ids.Key.{Key}
 use Rattle.road_base.specs.declared.ids.Key.TheVariants.{Way as WayKey}
@@ -21,7 +18,7 @@ use Rattle.road_model.specs.declared.answers.Unusable.TheVariants.{NotConnected,
 use Rattle.road_model.specs.Rules.{Rules}
 use Rattle.road_model.specs.Lines.{line_of, node_at, names_pair, end_at, tail_of, head_of}
 use Rattle.road_model.specs.Driving.{is_open}
-use Rattle.road_model.specs.Restrictions.{vias, via_order, lacks_member, misses_end, misfits, is_too_long, any_way}
+use Rattle.road_model.specs.Restrictions.{vias, via_order, lacks_member, misses_end, is_too_long, any_way}
 use Rattle.road_model.specs.Restrictions.{connects, IsRun, Holds, IsUsable}
 use Rattle.road_model.specs.Words.{IsWord, IsVia}
 use Rattle.road_examples.proofs.ExampleMaps.{node, way, relation, along, tag, residential, node_entry, way_entry}
