@@ -1,7 +1,7 @@
 -- A file stands for one history at most.
-use Rattle.std.proofs.Common.{◌≡◌, ℕ, ◌+◌, ◌<◌, ◌^◌, List, [], ◌∷◌, ◌++◌, length, refl, sym, ◌∙◌, ap, arith}
+use Rattle.std.proofs.Common.{◌≡◌, ⊎_elim, ℕ, ◌==◌, ◌+◌, ◌<◌, ◌^◌, List, [], ◌∷◌, ◌++◌, length, refl, sym, ◌∙◌, ap, arith}
 use Rattle.std.proofs.Common.{append_assoc}
-use Rattle.std.proofs.lemmas.Bool.{eqb-true}
+use Rattle.std.proofs.lemmas.Bool.{eqb-true, or_cases}
 use Rattle.std.specs.List.{AllByRecursion}
 use Rattle.road_base.specs.declared.event.Event.{Event}
 use Rattle.road_base.specs.Profiles.{IsProfile}
@@ -21,10 +21,8 @@ record_fits n change small fit = record { number = small; size = fit.size }
 
 -- the number of a profile fits its field
 profile_fits : (n : ℕ) → IsProfile n → n < 2 ^ 32
-profile_fits 0 known = absurd (cc)
-profile_fits 1 known = omega arith
-profile_fits 2 known = omega arith
-profile_fits (suc (suc (suc n))) known = absurd (cc)
+profile_fits n known = ⊎_elim (λ one. omega (arith, eqb-true n 1 one)) (λ two. omega (arith, eqb-true n 2 two))
+    (or_cases (n == 1) (n == 2) known)
 
 pub begins_base : (file : List ℕ) (g : ℕ) (h : History) (rest : List ℕ) → BeginsWith file g h rest
     → BaseIsOpen file (base_of h.profile g h.base_number h.base_events) (changes_bytes h.base_number h.changes ++ rest)

@@ -59,6 +59,7 @@ journal_stays j h w v on same durable = record {
     ends = on.at.ends;
     gate = on.at.gate;
     last = on.at.last;
+    profile = on.at.profile;
     fits = on.at.fits;
     durable = durable j.file;
   };

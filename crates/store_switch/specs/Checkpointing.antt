@@ -70,8 +70,8 @@ abbrev pub LeavesAsRead : History → List ℕ → Left → Type 0
 LeavesAsRead h output left = (i : History) × SameForReader i h × LeavesStore i output left
 
 -- The first history has this profile, and the kept number and the objects of the second.
-pub record IsRaised (profile : ℕ) (g h : History) : Type 0 where
-  pub profile : g.profile ≡ profile
+pub record IsRaised (to : ℕ) (g h : History) : Type 0 where
+  pub profile : g.profile ≡ to
   pub number : kept g ≡ kept h
   pub objects : (M : Objects) → HasObjects g M ↔ HasObjects h M
 
