@@ -12,49 +12,17 @@ use Rattle.road_base.specs.declared.ids.WayId.{WayId}
 use Rattle.ordered_lists.specs.Orders.{rises}
 use Rattle.ordered_lists.proofs.AscendingLists.{climbs, rises_again}
 use Rattle.ordered_lists.proofs.Comparisons.{less, turned}
-use Rattle.ordered_lists.proofs.ListMembers.{In, contains_from_in, in_from_contains, contains_more, contains_none, in_end}
-use Rattle.ordered_lists.proofs.ListMembers.{from_map, in_left, push_cases}
+use Rattle.ordered_lists.proofs.ListMembers.{In, contains_from_in, in_from_contains, contains_more, contains_none}
+use Rattle.ordered_lists.proofs.ListMembers.{from_map, in_end, in_left, push_cases}
 use Rattle.road_model.specs.declared.blocks.Block.{Block}
-use Rattle.road_model.specs.declared.lists.Piece.{Piece}
 use Rattle.road_model.specs.BlockMap.{entry_of}
 use Rattle.road_model.specs.Orders.{way_cmp}
 use Rattle.layered_maps.specs.Layers.{Rise}
 use Rattle.layered_maps.specs.Maps.{over}
 use Rattle.layered_maps.proofs.OverPairs.{find_over, settled}
 use Rattle.change_apply.specs.Rebuilding.{block_at, over as built_over, way_of, with_fresh, with_pieces}
-use Rattle.change_apply.specs.Standing.{newest}
 use Rattle.change_apply.proofs.FreshBlocks.{over_fresh, over_none}
-use Rattle.change_apply.proofs.RebuiltBlocks.{at_built, at_other, itself, other_way, same_or_not, some_pieces}
-
--- ---- a block without pieces
-
-bare_by : (ps : List Piece) (b : Block) → ps ≡ []
-    → ◌≡◌ {A = Option Block} (elim ps [ [] ↦ None | p ∷ qs ↦ Some b ]) None
-bare_by [] b e = refl
-bare_by (p ∷ ps) b e = cc
-
-pub no_pieces : (b : Block) → b.pieces ≡ [] → with_pieces b ≡ None
-no_pieces b bare = bare_by b.pieces b bare
-
--- where nothing newer is known of a way, nothing stands there
-pub newest_none : (rebuilt : List (WayId × Block)) (listed : FinMap way_cmp Block) (w : WayId)
-    → newest rebuilt listed w ≡ None → block_at rebuilt listed w ≡ None
-newest_none rebuilt listed w = by (find way_cmp w rebuilt)
-  where
-    by : (o : Option Block) → ◌≡◌ {A = Option Block} (elim o [ None ↦ get listed w | Some x ↦ Some x ]) None
-        → ◌≡◌ {A = Option Block} (elim o [ None ↦ get listed w | Some x ↦ with_pieces x ]) None
-    by None e = e
-    by (Some x) e = cc
-
--- the newest block of a way stands there, if it has pieces
-pub newest_is : (rebuilt : List (WayId × Block)) (listed : FinMap way_cmp Block) (w : WayId) (b : Block)
-    → (b.pieces ≡ [] → ⊥) → newest rebuilt listed w ≡ Some b → block_at rebuilt listed w ≡ with_pieces b
-newest_is rebuilt listed w b some = by (find way_cmp w rebuilt)
-  where
-    by : (o : Option Block) → elim o [ None ↦ get listed w | Some x ↦ Some x ] ≡ Some b
-        → elim o [ None ↦ get listed w | Some x ↦ with_pieces x ] ≡ with_pieces b
-    by None e = e ∙ sym (some_pieces b.pieces b some)
-    by (Some x) e = let same : x ≡ b = cc in ap with_pieces same
+use Rattle.change_apply.proofs.RebuiltBlocks.{at_built, at_other, itself, other_way, same_or_not}
 
 -- ---- blocks one after another
 
@@ -261,7 +229,8 @@ pub at_fresh : (fresh : FinMap way_cmp Block) (rebuilt : List (WayId × Block)) 
 at_fresh fresh rebuilt listed w = by (get fresh w) refl
   where
     by : (o : Option Block) → get fresh w ≡ o
-        → elim o [ None ↦ block_at rebuilt listed w | Some b ↦ with_pieces b ] ≡ block_at (built_over fresh rebuilt) listed w
+        → elim o [ None ↦ block_at rebuilt listed w | Some b ↦ with_pieces b ]
+        ≡ block_at (built_over fresh rebuilt) listed w
     by None none = sym (at_other rebuilt (built_over fresh rebuilt) listed w (over_none fresh rebuilt w none))
     by (Some b) got = sym (at_built (built_over fresh rebuilt) listed w b (over_fresh fresh rebuilt w b got))
 

@@ -1,11 +1,10 @@
 //! The blocks of a world.
-ghost use Rattle.std.specs.Prelude.{◌≡◌, ◌+◌, ◌≤◌, ◌++◌, ◌∷◌, [], List, Contains, length, IfOk, OnOk};
-ghost use Rattle.std.specs.FinMap.{find, get};
+ghost use Rattle.std.specs.Prelude.{◌≡◌, ◌+◌, ◌≤◌, ◌++◌, ◌∷◌, [], List, length, IfOk, OnOk};
+ghost use Rattle.std.specs.FinMap.{get};
 ghost use Rattle.road_base.specs.declared.ids.WayId.{WayId};
 ghost use Rattle.road_model.specs.Highways.{AreRoadWays, highways};
 ghost use Rattle.way_pieces.specs.Known.{AreKnown};
 ghost use Rattle.road_model.specs.Naming.{OneBlock};
-ghost use Rattle.road_model.specs.Orders.{way_cmp};
 ghost use Rattle.change_apply.specs.Engines.{AreBlocksAmong, AreInForm, AreKept};
 ghost use Rattle.road_model.specs.declared.blocks.Block.{Block as BlockValue};
 ghost use Rattle.graph_blocks.specs.Lent.{map_of};

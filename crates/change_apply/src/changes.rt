@@ -1,6 +1,6 @@
 //! What changes of the blocks that stand, where others were built.
 ghost use Rattle.std.specs.Prelude.{◌≡◌, [], List, IfOk, IfSome, IfNone, map};
-ghost use Rattle.std.specs.FinMap.{find, get};
+ghost use Rattle.std.specs.FinMap.{find};
 ghost use Rattle.road_base.specs.declared.ids.WayId.{WayId as WayNumber};
 ghost use Rattle.road_model.specs.declared.blocks.Block.{Block as BlockValue};
 ghost use Rattle.road_model.specs.Orders.{way_cmp};

@@ -26,7 +26,7 @@ use back_references::{Indexed, Next, Prepared};
 use graph_blocks::RoadBlocks;
 use graph_blocks::laws::values_in_order;
 use road_base::laws::one_map;
-use road_base::{Event, NoMemory, Steps, WayId};
+use road_base::{Event, NoMemory, Steps};
 use road_model::laws::name_order;
 use road_model::{Network, Profile};
 use std::alloc::Global;
@@ -141,8 +141,8 @@ impl<P: Profile> Engine<P> {
         &self.world
     }
 
-    /// The blocks of all ways with pieces, in the form in which a graph file holds them, and ascending by way as those of
-    /// the graph are listed. Takes no memory.
+    /// The blocks of all ways with pieces, in the form in which a graph file holds them, and ascending by way as those
+    /// of the graph are listed. Takes no memory.
     pub fn blocks(&self) -> &RoadBlocks
         ensures blocks { AreBlocksOf self.now.world (P.rules self.now.profile) (map_of result.now) }
         ensures listed { Lists (λ b. b.way) way_cmp (IsRoadBlock self.now.world (P.rules self.now.profile))

@@ -6,10 +6,10 @@
 //! whose pieces it altered, or are named beside one that does, beside what stands. The pieces of the ways that these
 //! meet it takes from the blocks that stand. It finds what changes of the blocks: one that is equal to the one that
 //! stands is dropped, so that what stands stays where it lies in memory; one without pieces leaves its way without a
-//! block. Only then, and without taking memory, it exchanges the worlds and the blocks; where no memory is found nothing
-//! changes. So a change costs what it touches: the look-ups of the touched ways, the blocks that are built, and for each
-//! that a way gets or loses in the long run the logarithm of their number; nothing of the size of the world. The blocks
-//! are `graph_blocks::RoadBlocks`; they are asked by `&self`.
+//! block. Only then, and without taking memory, it exchanges the worlds and the blocks; where no memory is found
+//! nothing changes. So a change costs what it touches: the look-ups of the touched ways, the blocks that are built, and
+//! for each that a way gets or loses in the long run the logarithm of their number; nothing of the size of the world.
+//! The blocks are `graph_blocks::RoadBlocks`; they are asked by `&self`.
 #![tactic(auto)]
 
 mod altering;

@@ -14,7 +14,12 @@ more t n m u k was now all = now ∙ ap (λ x. counted (x + m)) was ∙ counted_
 
 same_totals : (t u : Totals) → t.ways ≡ u.ways → t.pieces ≡ u.pieces → t.contexts ≡ u.contexts → t.arcs ≡ u.arcs
     → t ≡ u
-same_totals t u ways pieces contexts arcs = cc
+same_totals t u ways pieces contexts arcs = λ i. record {
+  ways = ways i;
+  pieces = pieces i;
+  contexts = contexts i;
+  arcs = arcs i;
+}
 
 -- with a block more
 pub one_more : (front : List Block) (b : Block) (t u : Totals) → t ≡ totals_of front

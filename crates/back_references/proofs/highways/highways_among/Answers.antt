@@ -5,7 +5,7 @@ use Rattle.back_references.proofs.HighwayLists.{in_event, one_told, all_told}
 use Rattle.back_references.proofs.highways.highways_among.Goals as goal
 
 pub loop-entry-init : goal.loop-entry-init
-loop-entry-init c = ap (λ l. l ++ filter_map in_event c.args.entries) c.new.ensures.items
+loop-entry-init c = ap (λ l. l ++ filter_map in_event c.args.entries) c.new-ways.ensures.items
 
 pub loop-entry-preserved : goal.loop-entry-preserved
 loop-entry-preserved c =

@@ -1,11 +1,10 @@
-use Rattle.std.proofs.Common.{◌≡◌, List, [], sym, ap, ◌∙◌}
+use Rattle.std.proofs.Common.{◌≡◌, [], sym, ap, ◌∙◌}
 use Rattle.std.specs.FinMap.{find, get-from_entries}
 use Rattle.road_base.specs.declared.ids.WayId.{WayId}
-use Rattle.road_model.specs.declared.blocks.Block.{Block}
 use Rattle.road_model.specs.Orders.{way_cmp}
 use Rattle.layered_maps.specs.Maps.{changed_by}
 use Rattle.graph_blocks.specs.Lent.{map_of}
-use Rattle.change_apply.specs.Rebuilding.{block_at, over, way_of, with_fresh}
+use Rattle.change_apply.specs.Rebuilding.{block_at, over, way_of}
 use Rattle.change_apply.proofs.FreshBlocks.{over_empty}
 use Rattle.change_apply.proofs.ChangedBlocks.{at_fresh, with_fresh_as}
 use Rattle.change_apply.proofs.changes.changes_of.Goals as goal

@@ -1,4 +1,4 @@
-use Rattle.std.proofs.Common.{◌≡◌, ◌++◌, ◌∷◌, [], List, Option, None, IsTrue, map, refl, sym, subst, ap, ◌∙◌}
+use Rattle.std.proofs.Common.{◌≡◌, ◌++◌, ◌∷◌, [], List, Option, IsTrue, map, refl, sym, subst, ap, ◌∙◌}
 use Rattle.std.proofs.Common.{append-nil, append_assoc, arith}
 use Rattle.std.specs.FinMap.{find}
 use Rattle.std.proofs.lemmas.List.{map-append, nil_from_length}
@@ -9,9 +9,7 @@ use Rattle.road_model.specs.Orders.{way_cmp}
 use Rattle.layered_maps.specs.declared.change.Change.{Change}
 use Rattle.layered_maps.specs.Layers.{Rise}
 use Rattle.layered_maps.specs.Maps.{change_pair, over}
-use Rattle.graph_blocks.specs.Lent.{map_of}
-use Rattle.change_apply.specs.Rebuilding.{block_at, way_of, with_pieces}
-use Rattle.change_apply.specs.Standing.{built_in}
+use Rattle.change_apply.specs.Rebuilding.{way_of, with_pieces}
 use Rattle.change_apply.proofs.ChangedBlocks.{AreAmong, ArePlaced, Pairs, none_placed, rise_more, among_more}
 use Rattle.change_apply.proofs.ChangedBlocks.{among_still, placed_by, placed_still, more_placed, all_placed}
 use Rattle.change_apply.proofs.changes.changes_over.Goals as goal
@@ -19,6 +17,11 @@ use Rattle.change_apply.proofs.changes.changes_over.Goals as goal
 -- the pairs of changes
 abbrev pairs : List (Change WayId Block) → Pairs
 pairs changes = map (change_pair way_of) changes
+
+pushed_pairs : (changes new : List (Change WayId Block)) (change : Change WayId Block) (p : WayId × Option Block)
+    → new ≡ changes ++ change ∷ [] → change_pair way_of change ≡ p → pairs new ≡ pairs changes ++ p ∷ []
+pushed_pairs changes new change p grown is =
+    ap pairs grown ∙ map-append (change_pair way_of) changes (change ∷ []) ∙ ap (λ q. pairs changes ++ q ∷ []) is
 
 -- what changes leave at each way
 abbrev left : List (Change WayId Block) → List (WayId × Block) → WayId → Option Block
@@ -52,9 +55,7 @@ loop-block-preserved-in-Continue-branch-2 c =
     subst (λ l. IsTrue (rises way_cmp (map way_of l))) (sym c.into_iter-block-iterator.ensures.into_iter_gives.0 ∙ cut)
     c.into_list-list.ensures.ascending in
     let among = c.loop-block.invariant.among in
-    let grown : pairs c.in_ok-push.changes.items ≡ pairs changes ++ (b.way, one) ∷ [] =
-    ap pairs c.in_ok-push.ensures.items ∙ map-append (change_pair way_of) changes (c.in-Some-2.change ∷ [])
-    ∙ ap (λ p. pairs changes ++ p ∷ []) c.in-Some-2.ensures.some in
+    let grown = pushed_pairs changes _ _ _ c.in_ok-push.ensures.items c.in-Some-change_to.ensures.some in
     record {
       all = cut ∙ sym (append_assoc front (b ∷ []) rest);
       rising =
@@ -64,7 +65,8 @@ loop-block-preserved-in-Continue-branch-2 c =
           subst (AreAmong (front ++ b ∷ [])) (sym grown)
           (among_more total ties front rest b (pairs changes) one up among);
       placed = λ before is.
-          subst (λ ps. ArePlaced (front ++ b ∷ []) (at before) (λ w. find way_cmp w (over way_cmp ps before))) (sym grown)
+          subst (λ ps. ArePlaced (front ++ b ∷ []) (at before) (λ w. find way_cmp w (over way_cmp ps before)))
+          (sym grown)
           (more_placed total ties front b (at before) (left changes before)
           (λ w. find way_cmp w (over way_cmp (pairs changes ++ (b.way, one) ∷ []) before))
           (c.loop-block.invariant.placed before is)
@@ -92,7 +94,8 @@ loop-block-preserved c =
       placed = λ before is.
           more_placed total ties front b (at before) (left changes before) (left changes before)
           (c.loop-block.invariant.placed before is)
-          (placed_still total ties front rest b (pairs changes) one up among before (is b.way ∙ c.in-None-2.ensures.none));
+          (placed_still total ties front rest b (pairs changes) one up among before
+          (is b.way ∙ c.in_default.ensures.none));
     }
 
 pub returns-clause-rising : goal.returns-clause-rising

@@ -11,10 +11,10 @@ loop-block-preserved c =
     let rest = c.next.new.self in
     let taken : c.loop-block.rest ≡ block ∷ rest =
     subst (λ o. IsNext o c.loop-block.rest rest) (ap option_copied c.in-Some.is) c.next.ensures in
-    let is = c.with_block.ensures in
+    let is = c.with_block-totals.ensures in
     record {
       front = was.front ++ block ∷ [];
       all = append_assoc was.front (block ∷ []) rest ∙ ap (λ l. was.front ++ l) (sym taken) ∙ was.all;
-      counted = one_more was.front block c.loop-block.totals c.with_block.result was.counted is.ways is.pieces
+      counted = one_more was.front block c.loop-block.totals c.with_block-totals.result was.counted is.ways is.pieces
           is.contexts is.arcs;
     }

@@ -51,7 +51,8 @@ returns-in_err-changes-clause-built g c =
     let here : c.self.inside.world ≡ c.args.self.now.world = ap (λ f. f.world) c.self.view_is in
     let applied = subst (λ (M : Objects). IsApplied M events after) here c.in_ok-prepared.ensures.after in
     subst (λ (M : Objects). IsApplied M events after
-    → BuildsTouched M events c.args.steps.now c.rebuild_after.new.steps) (c.prepare.ensures.same ∙ here)
+    → BuildsTouched M events c.args.steps.now c.rebuild_after.new.steps)
+    (c.new-network.ensures.world ∙ c.prepare.ensures.same ∙ here)
     (c.rebuild_after.ensures.built events) applied
 
 pub invariant_of-self-in_err-changes : goal.invariant_of-self-in_err-changes
@@ -75,10 +76,12 @@ invariant_of-self-2 g c =
     let after = changed_by way_of way_cmp changes.met.items
     (changed_by way_of way_cmp changes.near.items c.self.inside.blocks) in
     let is : c.commit-2.new.self ≡ after = c.commit-2.ensures ∙ c.in_ok-exchange.ensures.after in
+    let kept = subst (λ p. AreKept c.in_ok-prepared.prepared.after (g.P.Profile.rules p) (λ w. find way_cmp w after))
+    c.new-network.ensures.profile c.in_ok-changes.ensures.kept in
     subst (λ (M : Objects). AreKept M P (get (map_of c.commit-2.new.self))) (sym c.commit.ensures)
     (kept_as c.in_ok-prepared.prepared.after P (λ w. find way_cmp w after) (get (map_of c.commit-2.new.self))
     (λ w. get-from_entries c.name_order.ensures.ways c.commit-2.new.self w ∙ ap (find way_cmp w) is)
-    c.in_ok-changes.ensures.kept)
+    kept)
 
 pub returns-clause-ways : goal.returns-clause-ways
 returns-clause-ways g c =
@@ -86,7 +89,8 @@ returns-clause-ways g c =
     let after = c.in_ok-prepared.prepared.after in
     let here : c.self.inside.world ≡ c.args.self.now.world = ap (λ f. f.world) c.self.view_is in
     let applied = subst (λ (M : Objects). IsApplied M events after) here c.in_ok-prepared.ensures.after in
-    subst (λ (M : Objects). IsApplied M events after → Touches M events) (c.prepare.ensures.same ∙ here)
+    subst (λ (M : Objects). IsApplied M events after → Touches M events)
+    (c.new-network.ensures.world ∙ c.prepare.ensures.same ∙ here)
     (c.in_ok-changes.ensures.ways events) applied
 
 pub returns-clause-built : goal.returns-clause-built
@@ -96,5 +100,6 @@ returns-clause-built g c =
     let here : c.self.inside.world ≡ c.args.self.now.world = ap (λ f. f.world) c.self.view_is in
     let applied = subst (λ (M : Objects). IsApplied M events after) here c.in_ok-prepared.ensures.after in
     subst (λ (M : Objects). IsApplied M events after
-    → BuildsTouched M events c.args.steps.now c.rebuild_after.new.steps) (c.prepare.ensures.same ∙ here)
+    → BuildsTouched M events c.args.steps.now c.rebuild_after.new.steps)
+    (c.new-network.ensures.world ∙ c.prepare.ensures.same ∙ here)
     (c.rebuild_after.ensures.built events) applied
