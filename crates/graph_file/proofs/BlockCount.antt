@@ -18,7 +18,7 @@ pub counted_blocks : (blocks : List Block) (front bytes : List ℕ) → bytes �
 counted_blocks blocks front bytes is short =
     let few : length blocks ≤ length (joined block_bytes blocks) = few_blocks blocks in
     let all : length bytes ≡ length front + length (joined block_bytes blocks)
-        = ap length is ∙ length-append front (joined block_bytes blocks) in
+    = ap length is ∙ length-append front (joined block_bytes blocks) in
     omega arith
 
 -- the head and the blocks' bytes are those of their graph, where the count in the head is cut off at the last number

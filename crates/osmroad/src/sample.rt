@@ -115,11 +115,7 @@ fn apply_next<P: Profile, L: Ledger>(
 }
 
 /// The line of what the engine has come to.
-fn line_of<P: Profile>(
-    alloc: Global,
-    change: u32,
-    engine: &Engine<P>,
-) -> Result<Vec<u8>, NoMemory>
+fn line_of<P: Profile>(alloc: Global, change: u32, engine: &Engine<P>) -> Result<Vec<u8>, NoMemory>
     requires { IsProfile (P.rules engine.now.profile).number }
     ensures { IfOk result (λ line. (events : List Event)
         → IsApplied empty events engine.now.world

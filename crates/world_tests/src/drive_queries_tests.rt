@@ -42,7 +42,14 @@ fn found(
     a: NodeId,
     b: NodeId,
 ) -> Result<Found, NoMemory> {
-    reach(alloc, engine.world(), &engine.profile(), engine.blocks(), a, b)
+    reach(
+        alloc,
+        engine.world(),
+        &engine.profile(),
+        engine.blocks(),
+        a,
+        b,
+    )
 }
 
 /// That the node isn't there.

@@ -20,7 +20,7 @@ returns-clause-ok c =
     let head = c.put_header.new.out.items in
     let short : length new < 2 ^ 63 = let ok = c.put_blocks.new.out.ok.0 in omega arith in
     let counts : c.count_of-count.result ≡ min (length blocks) 18446744073709551615
-        = c.count_of-count.ensures ∙ ap (λ l. min (length l) 18446744073709551615) c.walk.ensures.blocks in
+    = c.count_of-count.ensures ∙ ap (λ l. min (length l) 18446744073709551615) c.walk.ensures.blocks in
     on_ok_weaker c.put_blocks.result
     (λ is. headed_blocks c.args.profile c.count_of-count.result blocks c.args.out.now.items head new counts
     c.in_ok-put_header.ensures.ok short (is ∙ ap (λ l. head ++ joined block_bytes l) c.walk-2.ensures.blocks))
