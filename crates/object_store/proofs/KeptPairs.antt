@@ -14,7 +14,7 @@ use Rattle.road_base.specs.Objects.{Objects, Entry, key_cmp}
 use Rattle.road_base.specs.Applying.{entry_of, is_of, first_greatest, IsApplied}
 use Rattle.ordered_lists.specs.Orders.{rises, rises_from}
 use Rattle.ordered_lists.proofs.AscendingLists.{rest_rises, rises_kept}
-use Rattle.layered_maps.specs.Maps.{keyed, over, change_pair, changed_by}
+use Rattle.layered_maps.specs.Maps.{keyed, change_pair, changed_by}
 use Rattle.layered_maps.specs.declared.change.Change.{Change}
 use Rattle.layered_maps.proofs.FoundPairs.{pairs_rise, keys_rise}
 use Rattle.layered_maps.proofs.OverPairs.{over_rises}

@@ -1,5 +1,6 @@
-//! The audit: what becomes of each restriction, and how many objects carry conditional keys. It takes the time of one
-//! run over the objects and their tags, and that of `words` for each restriction.
+//! The audit: what becomes of each restriction, and how many objects carry conditional keys. It takes the time of two
+//! runs over the objects, of which one looks at their tags, and that of `words` for each restriction; and the memory of
+//! the keys of the objects that it counts.
 ghost use Rattle.std.specs.Prelude.{◌≡◌, ◌++◌, All, IfOk, OnOk, filter_map, string_bytes};
 ghost use Rattle.std.specs.Option.{option_to_list};
 ghost use Rattle.restrictions.specs.Words.{IsRestriction};

@@ -33,7 +33,8 @@ returns g c =
     (restrictions_rise c.key_order.ensures.total c.walk.result c.walk.ensures.in_order) in
     let text = string_bytes c.in_ok-text.text in
     let count = c.len.result in
-    let counted : count ≡ conditional_count M = c.len.ensures ∙ ap length c.in_ok-keys.ensures
+    let counted : count ≡ conditional_count M
+    = c.len.ensures ∙ c.in_ok-keys.keys.ok.0 ∙ ap length c.in_ok-keys.ensures
     ∙ count_is c.objects-objects.result.now c.walk-2.result c.walk-2.ensures.entries
     ∙ ap conditional_count c.objects-objects.ensures in
     let pushed : string_bytes c.push_str.new.self ≡ text ++ conditional_line count = search rules in
