@@ -1,11 +1,10 @@
 -- Lists of values that are exchanged, and what keys have then.
 use Rattle.std.proofs.Common.{◌≡◌, ◌↔◌, ℕ, ◌+◌, Bool, true, false, cond}
 use Rattle.std.proofs.Common.{IsTrue, List, [], ◌∷◌, ◌++◌, map, length, Option, Some}
-use Rattle.std.proofs.Common.{None, Result, Ok, Err, IfOk, OnOk, inl, inr, ◌⊎◌}
+use Rattle.std.proofs.Common.{None, Result, Ok, Err, inl, inr, ◌⊎◌}
 use Rattle.std.proofs.Common.{refl, sym, ap, ◌∙◌, subst, Contains, Ordering, slice_index_or}
 use Rattle.std.proofs.Common.{arith, is_ok}
 use Rattle.std.specs.declared.cmp.Ordering.TheVariants.{Less, Equal}
-use Rattle.std.specs.Option.{option_or}
 use Rattle.std.specs.Ordering.{is_lt, is_eq, eq_by_cmp}
 use Rattle.std.specs.Cmp.{IsTotalOrder, Equal-is}
 use Rattle.std.specs.FinMap.{IsAntisymmetric, find}
