@@ -5,7 +5,7 @@ use Rattle.std.specs.Prelude.{◌==◌}
 use Rattle.std.specs.List.{AllByRecursion}
 use Rattle.std.specs.Ordering.{is_lt}
 use Rattle.std.specs.declared.cmp.Ordering.TheVariants.{Less, Greater}
-use Rattle.std.specs.FinMap.{FinMap, entries, values, insert, entries-insert, put, empty}
+use Rattle.std.specs.FinMap.{FinMap, entries, insert, entries-insert, put, empty}
 use Rattle.std.proofs.lemmas.Bool.{and_parts, or_cases, eqb-true}
 use Rattle.std.proofs.lemmas.List.{drop_at}
 use Rattle.road_base.specs.Profiles.{IsProfile}

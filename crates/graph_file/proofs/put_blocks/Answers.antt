@@ -1,9 +1,8 @@
-use Rattle.std.proofs.Common.{◌≡◌, ◌++◌, ◌∷◌, [], List, subst, sym, ap, ◌∙◌, append_assoc}
+use Rattle.std.proofs.Common.{◌≡◌, ◌++◌, ◌∷◌, [], subst, sym, ap, ◌∙◌, append_assoc}
 use Rattle.std.specs.List.{AllByRecursion}
 use Rattle.std.specs.Option.{option_copied}
 use Rattle.road_base.specs.Bytes.{joined}
 use Rattle.road_base.proofs.Appends.{all_more, joined_more}
-use Rattle.road_model.specs.declared.blocks.Block.{Block}
 use Rattle.road_model.specs.Format.{block_bytes, BlockFits, IsBlockForm}
 use Rattle.layered_maps.specs.Walks.{IsNext}
 use Rattle.graph_file.proofs.put_blocks.Goals as goal
