@@ -94,6 +94,17 @@ def copy_store(name, other):
             os.remove(f'{other}.{ending}')
 
 
+def time_of_raise():
+    """How long a whole `raise` takes, in seconds; the store stays as it was."""
+    copy_store(store, f'{store}.kept')
+    begun = time.monotonic()
+    if run(store, 'raise')[1] != b'profile 2 sequence %d\n' % number:
+        sys.exit('FAILED: the store isn\'t raised')
+    took = time.monotonic() - begun
+    copy_store(f'{store}.kept', store)
+    return took
+
+
 def end_raise(after):
     """Ends `raise` after so many seconds, looks at what it leaves, and says whether it had come to its line."""
     before = profile_of_store()
@@ -171,11 +182,12 @@ def look():
         sys.exit(f'FAILED: the graph behind {number} is another one, under profile {profile}')
 
 
+longest = 1.2 * time_of_raise()
 raises = {'told': 0, 'untold on profile 1': 0, 'untold on profile 2': 0}
 for round_number in range(int(times)):
     if round_number % 4 == 3:
         copy_store(store, f'{store}.kept')
-        told = end_raise(draws.uniform(0, 0.04))
+        told = end_raise(draws.uniform(0, longest))
         look()
         raises['told' if told else f'untold on profile {profile_of_store()}'] += 1
         if round_number < int(times) // 2:
