@@ -1,8 +1,10 @@
 -- The visible ways with the key `highway` among the entries of a map.
-use Rattle.std.proofs.Common.{◌≡◌, Bool, true, false, cond, IsTrue, List, [], ◌∷◌, map, filter}
-use Rattle.std.proofs.Common.{Contains, Option, Some, None, refl, sym, ap, ◌∙◌}
+use Rattle.std.proofs.Common.{◌≡◌, Bool, true, false, cond, IsTrue, List, [], ◌∷◌, ◌++◌, map}
+use Rattle.std.proofs.Common.{Contains, Option, Some, None, refl, sym, ap, ◌∙◌, append_assoc}
+use Rattle.std.proofs.lemmas.List.{append-nil}
 use Rattle.std.specs.Prelude.{filter_map}
 use Rattle.std.specs.List.{cons_option}
+use Rattle.std.specs.Option.{option_to_list}
 use Rattle.std.specs.Cmp.{IsTotalOrder}
 use Rattle.std.specs.FinMap.{get, entries}
 use Rattle.road_base.specs.declared.ids.WayId.{WayId}
@@ -18,42 +20,45 @@ use Rattle.road_model.specs.Rules.{has_highway}
 use Rattle.road_model.specs.Highways.{IsHighway, highway_of, highways, visible_highway}
 use Rattle.ordered_lists.specs.Orders.{rises}
 use Rattle.road_model.specs.Orders.{way_cmp}
-use Rattle.object_store.specs.Listed.{AreEntriesOf, IsInOrder, is_way, pair_of}
+use Rattle.object_store.specs.Listed.{AreEntriesOf, IsInOrder, is_any, pair_of}
 use Rattle.ordered_lists.proofs.ListMembers.{In, contains_from_in, in_from_contains}
 use Rattle.back_references.proofs.ToldNames.{in_told, told_rise}
 
--- ---- they are told from the entries of ways alone
+-- ---- they are told from the entries
 
-abbrev in_event : Event → Option WayId
+abbrev pub in_event : Event → Option WayId
 in_event e = highway_of e.key e.body
 
 abbrev in_entry : Key × Entry → Option WayId
 in_entry e = highway_of e.0 e.1.body
 
-no_way : (k : Key) (b : Body) → is_way k ≡ false → highway_of k b ≡ None
-no_way (NodeKey n) b e = refl
-no_way (WayKey w) b e = cc
-no_way (RelationKey r) b e = refl
-
-way_or_not : (e : Key × Entry) (t : Bool) (es rest : List (Key × Entry)) → is_way e.0 ≡ t
-    → filter_map in_entry rest ≡ filter_map in_entry es
-    → filter_map in_entry (cond t (e ∷ rest) rest) ≡ cons_option (in_entry e) (filter_map in_entry es)
-way_or_not e true es rest is same = ap (cons_option (in_entry e)) same
-way_or_not e false es rest is same =
-    same ∙ ap (λ o. cons_option o (filter_map in_entry es)) (sym (no_way e.0 e.1.body is))
-
-of_ways : (es : List (Key × Entry)) → filter_map in_entry (filter (λ e. is_way e.0) es) ≡ filter_map in_entry es
-of_ways [] = refl
-of_ways (e ∷ es) = way_or_not e (is_way e.0) es (filter (λ x. is_way x.0) es) refl (of_ways es)
-
 of_pairs : (events : List Event) → filter_map in_entry (map pair_of events) ≡ filter_map in_event events
 of_pairs [] = refl
 of_pairs (e ∷ events) = ap (cons_option (in_event e)) (of_pairs events)
 
--- those among the entries of ways are all
-pub highways_are : (M : Objects) (events : List Event) → map pair_of events ≡ filter (λ e. is_way e.0) (entries M)
+-- those among all entries
+pub highways_are : (M : Objects) (events : List Event) → entries M ≡ map pair_of events
     → filter_map (λ e. highway_of e.key e.body) events ≡ highways M
-highways_are M events is = sym (of_pairs events) ∙ ap (filter_map in_entry) is ∙ of_ways (entries M)
+highways_are M events is = sym (of_pairs events) ∙ ap (filter_map in_entry) (sym is)
+
+told_first : (o : Option WayId) (ways : List WayId) → cons_option o ways ≡ option_to_list o ++ ways
+told_first None ways = refl
+told_first (Some w) ways = refl
+
+-- one more entry is looked at
+pub one_told : (old new all : List WayId) (left rest : List Event) (e : Event) → left ≡ e ∷ rest
+    → old ++ filter_map in_event left ≡ all → new ≡ old ++ option_to_list (in_event e)
+    → new ++ filter_map in_event rest ≡ all
+one_told old new all left rest e split before here =
+    ap (λ l. l ++ filter_map in_event rest) here
+    ∙ append_assoc old (option_to_list (in_event e)) (filter_map in_event rest)
+    ∙ ap (λ l. old ++ l) (sym (told_first (in_event e) (filter_map in_event rest)))
+    ∙ ap (λ l. old ++ filter_map in_event l) (sym split) ∙ before
+
+pub all_told : (new all : List WayId) (rest : List Event) → rest ≡ [] → new ++ filter_map in_event rest ≡ all
+    → new ≡ all
+all_told new all rest none before =
+    sym (append-nil new) ∙ ap (λ l. new ++ filter_map in_event l) (sym none) ∙ before
 
 -- ---- they ascend
 
@@ -93,7 +98,7 @@ entry_is : (o : Option Entry) (body : Way)
 entry_is None body e = cc
 entry_is (Some x) body e = (x, refl, body_is x.body body e)
 
-module _ (M : Objects) (es : List Event) (all : AreEntriesOf is_way M es) where
+module _ (M : Objects) (es : List Event) (all : AreEntriesOf is_any M es) where
   visible_listed : (w : WayId) (body : Way)
       → way_of M w ≡ Some body → IsTrue (has_highway body.tags) → In w (filter_map in_event es)
   unfolding way_of visible

@@ -25,10 +25,11 @@ use Rattle.back_references.specs.Indexing.{IsIndexed}
 use Rattle.back_references.specs.References.{highway_nodes, rule_members, with_way, way_references, node_pair, way_pair}
 use Rattle.back_references.specs.References.{nodes_with_rule, ways_with_rule, node_rules, way_rules, pairs_at}
 use Rattle.back_references.specs.References.{way_references_at, node_rules_at, way_rules_at}
-use Rattle.back_references.specs.Indexes.{Held, Has}
+use Rattle.layered_maps.specs.Lists.{Held, Has}
 use Rattle.road_model.specs.Orders.{node_cmp, way_cmp}
 use Rattle.std.proofs.Common.{Ordering}
-use Rattle.ordered_lists.proofs.ListMembers.{In, in_from_contains, contains_from_in, in_flat, from_flat, in_map, from_map}
+use Rattle.ordered_lists.proofs.ListMembers.{In, in_from_contains, contains_from_in}
+use Rattle.ordered_lists.proofs.ListMembers.{in_flat, from_flat, in_map, from_map}
 
 -- ---- the pairs of one event
 

@@ -7,7 +7,7 @@ use Rattle.road_base.specs.declared.ids.Key.TheVariants.{Node as NodeKey, Way as
 use Rattle.road_base.specs.Objects.{Objects}
 use Rattle.road_model.specs.Links.{RefersTo, HasMember}
 use Rattle.road_model.specs.Orders.{node_cmp, way_cmp}
-use Rattle.back_references.specs.Indexes.{Has}
+use Rattle.layered_maps.specs.Lists.{Has}
 use Rattle.back_references.specs.declared.references.References.{References}
 
 -- they hold exactly the links of the map

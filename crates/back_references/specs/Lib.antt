@@ -1,6 +1,3 @@
-pub mod Pairs
 pub mod References
-pub mod Indexes
-pub mod Holding
+pub mod Exchanges
 pub mod Indexing
-pub mod Replacing

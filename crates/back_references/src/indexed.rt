@@ -14,7 +14,7 @@ ghost use Rattle.back_references.specs.Indexing.{IsIndexed};
 use crate::highways::highways_among;
 use crate::prepared::Prepared;
 use crate::references::References;
-use object_store::{Fresh, Objects};
+use object_store::{Base, Fresh, Objects};
 use road_base::laws::key_order;
 use road_base::{Body, Event, Key, Keys, NoMemory, Node, NodeId, Relation, RelationId, Way, WayId};
 use road_model::World;
@@ -62,9 +62,9 @@ impl Indexed {
     pub fn of(alloc: Global, events: Vec<Event>) -> Result<Indexed, NoMemory>
         ensures { IfOk result (λ i. IsApplied empty events.items i) }
     {
-        let objects = Objects::of(events)?;
-        let listed = objects.listed()?;
+        let listed = Base::of(events)?;
         let references = References::of(alloc, &listed)?;
+        let objects = Objects::of_base(listed)?;
         Ok(Indexed {
             alloc,
             objects,
@@ -77,6 +77,19 @@ impl Indexed {
         ensures { result.now ≡ self.now }
     {
         &self.objects
+    }
+
+    /// An equal value, which shares all with this one. Takes a few reference counts.
+    pub fn copy(&self) -> Result<Indexed, NoMemory>
+        ensures { IfOk result (λ i. i ≡ self.now) }
+    {
+        let objects = self.objects.copy()?;
+        let references = self.references.share()?;
+        Ok(Indexed {
+            alloc: self.alloc,
+            objects,
+            references,
+        })
     }
 
     /// The references alone. Takes no memory: the objects are dropped.
@@ -169,8 +182,7 @@ impl Indexed {
         ensures each { IfOk result (λ ways. (w : WayId) → IsHighway self.now w → Contains ways.items w) }
     {
         key_order();
-        let listed = self.objects.listed()?;
-        Ok(highways_among(self.alloc, listed.ways())?)
+        Ok(highways_among(self.alloc, self.objects.walk())?)
     }
 
     /// Copies of all entries as events, in key order.

@@ -10,12 +10,13 @@ ghost use Rattle.road_base.specs.declared.ids.RelationId.{RelationId};
 ghost use Rattle.road_model.specs.Links.{RefersTo, HasMember};
 ghost use Rattle.ordered_lists.specs.Orders.{Lists};
 ghost use Rattle.road_model.specs.Orders.{node_cmp, way_cmp, relation_cmp};
-ghost use Rattle.back_references.specs.Indexes.{Has};
+ghost use Rattle.layered_maps.specs.Lists.{Has};
 
 use crate::collecting::{
     node_rules_at, node_rules_in, way_references_at, way_references_in, way_rules_at, way_rules_in,
 };
-use crate::index::Index;
+use crate::exchanged_lists::exchanged;
+use layered_maps::LayeredLists;
 use object_store::{Base, Objects};
 use road_base::laws::key_order;
 use road_base::{Key, NoMemory, NodeId, RelationId, WayId};
@@ -25,9 +26,9 @@ use std::alloc::Global;
 /// For each node the ways and the restrictions that name it, and for each way the restrictions.
 #[derive(Drop)]
 pub struct References {
-    pub ways: Index<NodeId, WayId>,
-    pub node_rules: Index<NodeId, RelationId>,
-    pub way_rules: Index<WayId, RelationId>,
+    pub ways: LayeredLists<NodeId, WayId>,
+    pub node_rules: LayeredLists<NodeId, RelationId>,
+    pub way_rules: LayeredLists<WayId, RelationId>,
 }
 
 impl References {
@@ -38,9 +39,9 @@ impl References {
         ensures { IsIndexed empty result }
     {
         References {
-            ways: Index::new(alloc),
-            node_rules: Index::new(alloc),
-            way_rules: Index::new(alloc),
+            ways: LayeredLists::new(alloc),
+            node_rules: LayeredLists::new(alloc),
+            way_rules: LayeredLists::new(alloc),
         }
     }
 
@@ -51,6 +52,20 @@ impl References {
         let ways = ways_of(alloc, objects)?;
         let node_rules = node_rules_of(alloc, objects)?;
         let way_rules = way_rules_of(alloc, objects)?;
+        Ok(References {
+            ways,
+            node_rules,
+            way_rules,
+        })
+    }
+
+    /// Equal ones, which share all with these. Takes some reference counts, and lists of at most eight.
+    pub fn share(&self) -> Result<References, NoMemory>
+        ensures { IfOk result (λ r. r ≡ self.now) }
+    {
+        let ways = self.ways.share()?;
+        let node_rules = self.node_rules.share()?;
+        let way_rules = self.way_rules.share()?;
         Ok(References {
             ways,
             node_rules,
@@ -89,7 +104,7 @@ impl References {
         before: &Objects,
         after: &Objects,
         keys: &[Key],
-    ) -> Result<Index<NodeId, WayId>, NoMemory>
+    ) -> Result<LayeredLists<NodeId, WayId>, NoMemory>
         requires held { IsIndexed before.now self.old }
         requires same { (k : Key) → ¬ (Contains keys.now k) → visible before.now k ≡ visible after.now k }
         ensures same { self.new ≡ self.old }
@@ -100,7 +115,7 @@ impl References {
         number_order();
         let gone = way_references_at(alloc, before, keys)?;
         let come = way_references_at(alloc, after, keys)?;
-        self.ways.exchanged(gone, come)
+        exchanged(alloc, &mut self.ways, gone, come)
     }
 
     /// The restrictions that name each node after the change.
@@ -110,7 +125,7 @@ impl References {
         before: &Objects,
         after: &Objects,
         keys: &[Key],
-    ) -> Result<Index<NodeId, RelationId>, NoMemory>
+    ) -> Result<LayeredLists<NodeId, RelationId>, NoMemory>
         requires held { IsIndexed before.now self.old }
         requires same { (k : Key) → ¬ (Contains keys.now k) → visible before.now k ≡ visible after.now k }
         ensures same { self.new ≡ self.old }
@@ -122,7 +137,7 @@ impl References {
         number_order();
         let gone = node_rules_at(alloc, before, keys)?;
         let come = node_rules_at(alloc, after, keys)?;
-        self.node_rules.exchanged(gone, come)
+        exchanged(alloc, &mut self.node_rules, gone, come)
     }
 
     /// The restrictions that name each way after the change.
@@ -132,7 +147,7 @@ impl References {
         before: &Objects,
         after: &Objects,
         keys: &[Key],
-    ) -> Result<Index<WayId, RelationId>, NoMemory>
+    ) -> Result<LayeredLists<WayId, RelationId>, NoMemory>
         requires held { IsIndexed before.now self.old }
         requires same { (k : Key) → ¬ (Contains keys.now k) → visible before.now k ≡ visible after.now k }
         ensures same { self.new ≡ self.old }
@@ -144,7 +159,7 @@ impl References {
         number_order();
         let gone = way_rules_at(alloc, before, keys)?;
         let come = way_rules_at(alloc, after, keys)?;
-        self.way_rules.exchanged(gone, come)
+        exchanged(alloc, &mut self.way_rules, gone, come)
     }
 
     /// The ways that refer to the node, ascending.
@@ -173,18 +188,22 @@ impl References {
 }
 
 /// The ways that refer to each node.
-fn ways_of(alloc: Global, objects: &Base) -> Result<Index<NodeId, WayId>, NoMemory>
+fn ways_of(alloc: Global, objects: &Base) -> Result<LayeredLists<NodeId, WayId>, NoMemory>
     ensures { IfOk result (λ i. (n : NodeId) (w : WayId) → Has node_cmp i n w ↔ RefersTo objects.now w n) }
 {
     key_order();
     name_order();
     number_order();
     let pairs = way_references_in(alloc, objects.ways())?;
-    Index::of(alloc, pairs)
+    let lists = LayeredLists::of(alloc, pairs)?;
+    Ok(lists)
 }
 
 /// The restrictions that name each node.
-fn node_rules_of(alloc: Global, objects: &Base) -> Result<Index<NodeId, RelationId>, NoMemory>
+fn node_rules_of(
+    alloc: Global,
+    objects: &Base,
+) -> Result<LayeredLists<NodeId, RelationId>, NoMemory>
     ensures { IfOk result (λ i. (n : NodeId) (r : RelationId)
         → Has node_cmp i n r ↔ HasMember objects.now r (NodeKey n)) }
 {
@@ -192,11 +211,12 @@ fn node_rules_of(alloc: Global, objects: &Base) -> Result<Index<NodeId, Relation
     name_order();
     number_order();
     let pairs = node_rules_in(alloc, objects.relations())?;
-    Index::of(alloc, pairs)
+    let lists = LayeredLists::of(alloc, pairs)?;
+    Ok(lists)
 }
 
 /// The restrictions that name each way.
-fn way_rules_of(alloc: Global, objects: &Base) -> Result<Index<WayId, RelationId>, NoMemory>
+fn way_rules_of(alloc: Global, objects: &Base) -> Result<LayeredLists<WayId, RelationId>, NoMemory>
     ensures { IfOk result (λ i. (w : WayId) (r : RelationId)
         → Has way_cmp i w r ↔ HasMember objects.now r (WayKey w)) }
 {
@@ -204,5 +224,6 @@ fn way_rules_of(alloc: Global, objects: &Base) -> Result<Index<WayId, RelationId
     name_order();
     number_order();
     let pairs = way_rules_in(alloc, objects.relations())?;
-    Index::of(alloc, pairs)
+    let lists = LayeredLists::of(alloc, pairs)?;
+    Ok(lists)
 }

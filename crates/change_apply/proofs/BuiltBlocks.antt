@@ -5,7 +5,7 @@ use Rattle.std.specs.Prelude.{◌↔◌, IsTrue}
 use Rattle.std.specs.List.{AllByRecursion}
 use Rattle.std.specs.Bool.{◌==◌}
 use Rattle.std.specs.Cmp.{IsTotalOrder, Equal-is}
-use Rattle.std.specs.FinMap.{FinMap, IsAntisymmetric, empty, get, insert, get-insert, get-empty, entries, values}
+use Rattle.std.specs.FinMap.{FinMap, IsAntisymmetric, empty, get, insert, get-insert, get-empty, values}
 use Rattle.std.specs.Ordering.{is_eq, eq_by_cmp}
 use Rattle.std.specs.declared.cmp.Ordering.TheVariants.{Equal}
 use Rattle.std.proofs.lemmas.Bool.{false≢true}
@@ -24,11 +24,9 @@ use Rattle.road_model.specs.Blocks.{IsBlock, IsRoadBlock}
 use Rattle.road_model.specs.BlockMap.{AreBlocksOf}
 use Rattle.road_model.specs.Highways.{AreRoadWays, highways}
 use Rattle.road_model.specs.Naming.{OneBlock}
-use Rattle.road_model.specs.BlockMap.{entry_of}
 use Rattle.road_model.specs.Format.{IsBlockForm}
 use Rattle.change_apply.specs.Engines.{AreBlocksAmong, AreInForm}
 use Rattle.ordered_lists.proofs.ListMembers.{In, contains_from_in, in_from_contains, contains_more, in_left, in_end}
-use Rattle.ordered_lists.proofs.SortedMaps.{values_of}
 
 module _ (M : Objects) (P : Rules) where
   -- what is said of a block that stands at a way
@@ -125,24 +123,20 @@ all_in_form : (m : FinMap way_cmp Block) (bs : List Block)
 all_in_form m [] each all = tt
 all_in_form m (b ∷ bs) each all = (all b.way b (each b (inl refl)), all_in_form m bs (λ x i. each x (inr i)) all)
 
-pub listed_forms : (m : FinMap way_cmp Block) (bs : List Block) → entries m ≡ map entry_of bs
-    → ((b : Block) → Contains bs b ↔ (get m b.way ≡ Some b)) → AreInForm (get m) → AllByRecursion IsBlockForm (values m)
-listed_forms m bs are each all =
-    subst (λ l. AllByRecursion IsBlockForm l)
-    (sym (ap (λ l. map (λ e. e.1) l) are ∙ values_of (λ (b : Block). b.way) bs))
-    (all_in_form m bs (λ b i. (each b).0 (contains_from_in bs b i)) all)
+pub listed_forms : (m : FinMap way_cmp Block) → ((b : Block) → Contains (values m) b ↔ (get m b.way ≡ Some b))
+    → AreInForm (get m) → AllByRecursion IsBlockForm (values m)
+listed_forms m each all = all_in_form m (values m) (λ b i. (each b).0 (contains_from_in (values m) b i)) all
 
--- in the order of the list they are those of the graph
-pub listed_blocks : (M : Objects) (P : Rules) (m : FinMap way_cmp Block) (bs : List Block) → entries m ≡ map entry_of bs
-    → IsTrue (rises way_cmp (map (λ b. b.way) bs)) → ((b : Block) → Contains bs b ↔ (get m b.way ≡ Some b))
+-- in the order of their ways they are those of the graph
+pub listed_blocks : (M : Objects) (P : Rules) (m : FinMap way_cmp Block)
+    → IsTrue (rises way_cmp (map (λ b. b.way) (values m)))
+    → ((b : Block) → Contains (values m) b ↔ (get m b.way ≡ Some b))
     → AreBlocksOf M P m → Lists (λ b. b.way) way_cmp (IsRoadBlock M P) (values m)
-listed_blocks M P m bs are up each all =
-    subst (λ l. Lists (λ b. b.way) way_cmp (IsRoadBlock M P) l)
-    (sym (ap (λ l. map (λ e. e.1) l) are ∙ values_of (λ (b : Block). b.way) bs)) (record {
-      ascending = up;
-      sound = λ b has. ((all b.way b).0 ((each b).0 has)).1;
-      complete = λ b road. (each b).1 ((all b.way b).1 (refl, road));
-    })
+listed_blocks M P m up each all = record {
+  ascending = up;
+  sound = λ b has. ((all b.way b).0 ((each b).0 has)).1;
+  complete = λ b road. (each b).1 ((all b.way b).1 (refl, road));
+}
 
 -- ---- lists that are empty or not
 

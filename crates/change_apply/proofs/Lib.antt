@@ -1,10 +1,8 @@
 pub mod BuiltBlocks
-pub mod ListedPuts
-pub mod ListedBlocks
 pub mod RebuiltBlocks
 pub mod ComparedPieces
 pub mod FreshBlocks
-pub mod PlacedBlocks
+pub mod ChangedBlocks
 pub mod AlteredBlocks
 mod KnownBlocks
 mod EqualBlocks

@@ -17,7 +17,7 @@ use Rattle.road_model.specs.Naming.{OneBlock}
 use Rattle.road_model.specs.Format.{IsBlockForm}
 use Rattle.touched_ways.specs.Altering.{IsUnaltered}
 use Rattle.change_apply.specs.Engines.{AreInForm, AreKept, IsBlockAt}
-use Rattle.change_apply.specs.Rebuilding.{with_pieces, block_at, IsBuilt, IsRebuiltWith, AreRebuilt, AreAtTheirWays}
+use Rattle.change_apply.specs.Rebuilding.{with_pieces, block_at, IsBuilt, IsRebuiltWith, AreRebuilt}
 use Rattle.ordered_lists.proofs.ListMembers.{contains_from_in, in_from_contains, contains_head, contains_later}
 use Rattle.ordered_lists.proofs.ListMembers.{contains_cases, contains_none, contains_more, in_left, in_right, in_cases}
 use Rattle.ordered_lists.proofs.ListMembers.{in_end}
@@ -144,13 +144,13 @@ some_pieces (p ∷ qs) b some = refl
 
 -- ---- what stands at a way
 
--- what was built since stands there, if it has pieces
+-- what was built stands there, if it has pieces
 pub at_built : (rebuilt : List (WayId × Block)) (listed : FinMap way_cmp Block) (w : WayId) (b : Block)
     → find way_cmp w rebuilt ≡ Some b → block_at rebuilt listed w ≡ with_pieces b
 at_built rebuilt listed w b found =
     ap (λ (o : Option Block). elim o [ None ↦ get listed w | Some x ↦ with_pieces x ]) found
 
--- where the same was built since, the same stands there
+-- where the same was built, the same stands there
 pub at_other : (before after : List (WayId × Block)) (listed : FinMap way_cmp Block) (w : WayId)
     → find way_cmp w after ≡ find way_cmp w before → block_at after listed w ≡ block_at before listed w
 at_other before after listed w same =
@@ -223,19 +223,7 @@ module _ (M N : Objects) (P : Rules) (ways : List WayId) (before after : List (W
           | inr not ↦ kept.forms w c (sym (at_other before after listed w (rebuilt.stays w not)) ∙ e)
         ]
 
--- each block stands at its way, where each did before
-pub at_their_ways : (N : Objects) (P : Rules) (ways : List WayId) (before after : List (WayId × Block))
-    → IsTotalOrder way_cmp → IsAntisymmetric way_cmp → AreRebuilt N P ways before after → AreAtTheirWays before
-    → AreAtTheirWays after
-at_their_ways N P ways before after total ties rebuilt all w c e = elim (listed_or_not total ties ways w) [
-  | inl has ↦ let r = rebuilt.built w has in
-      let got : Some r.0 ≡ Some c = sym r.2 ∙ e in
-      let same : r.0 ≡ c = cc in
-      ap (λ (x : Block). x.way) (sym same) ∙ r.1.block.way
-  | inr not ↦ all w c (sym (rebuilt.stays w not) ∙ e)
-]
-
--- ---- the blocks in one list
+-- ---- however they are held
 
 -- what stands at each way stays what it is, however it is held
 pub kept_as : (M : Objects) (P : Rules) (at bt : WayId → Option Block) → ((w : WayId) → bt w ≡ at w)
@@ -244,12 +232,3 @@ kept_as M P at bt same kept = record {
   blocks = λ w. subst (λ (o : Option Block). IsBlockAt M P w o) (sym (same w)) (kept.blocks w);
   forms = λ w b e. kept.forms w b (sym (same w) ∙ e);
 }
-
--- where nothing was built since, the list's blocks stand at their ways
-pub at_listed : (rebuilt : List (WayId × Block)) (listed : FinMap way_cmp Block) (w : WayId) → rebuilt ≡ []
-    → block_at rebuilt listed w ≡ get listed w
-at_listed rebuilt listed w none = ap (λ es. block_at es listed w) none
-
-pub none_at_ways : (rebuilt : List (WayId × Block)) → rebuilt ≡ [] → AreAtTheirWays rebuilt
-none_at_ways rebuilt none w b e =
-    let gone : None ≡ Some b = sym (ap (λ es. find way_cmp w es) none) ∙ e in absurd (cc)

@@ -1,4 +1,4 @@
--- Blocks that were built since the others were listed.
+-- Blocks that were built, over those that stood before.
 use Rattle.std.specs.Prelude.{◌≡◌, ℕ, List, [], ◌∷◌, ◌++◌, Option, Some, None, Contains, IsTrue, map}
 use Rattle.std.specs.List.{AllByRecursion}
 use Rattle.std.specs.FinMap.{FinMap, entries, find, get}
@@ -18,11 +18,15 @@ use Rattle.touched_ways.specs.Altering.{listed_pieces}
 abbrev pub with_pieces : Block → Option Block
 with_pieces b = elim b.pieces [ [] ↦ None | p ∷ ps ↦ Some b ]
 
--- fresh blocks before those that were built since the others were listed
+-- the way of a block
+abbrev pub way_of : Block → WayId
+way_of b = b.way
+
+-- fresh blocks before those that were built before them
 abbrev pub over : FinMap way_cmp Block → List (WayId × Block) → List (WayId × Block)
 over fresh rebuilt = entries fresh ++ rebuilt
 
--- the block of the way: that which was built since, if one was, and else that of the list
+-- the block of the way: that which was built, if one was, and else that which stood before
 abbrev pub block_at : List (WayId × Block) → FinMap way_cmp Block → WayId → Option Block
 block_at rebuilt listed w = elim (find way_cmp w rebuilt) [ None ↦ get listed w | Some b ↦ with_pieces b ]
 
@@ -55,6 +59,6 @@ pub record AreRebuilt (M : Objects) (P : Rules) (ways : List WayId) (before afte
   pub built : (w : WayId) → Contains ways w → (b : Block) × IsBuilt M P w b × (find way_cmp w after ≡ Some b)
   pub stays : (w : WayId) → (Contains ways w → ⊥) → find way_cmp w after ≡ find way_cmp w before
 
--- each of them stands at its way
-abbrev pub AreAtTheirWays : List (WayId × Block) → Type 0
-AreAtTheirWays rebuilt = (w : WayId) (b : Block) → find way_cmp w rebuilt ≡ Some b → b.way ≡ w
+-- the fresh block of the way, if there is one and it has pieces, and else what stands there
+abbrev pub with_fresh : FinMap way_cmp Block → (WayId → Option Block) → WayId → Option Block
+with_fresh fresh at w = elim (get fresh w) [ None ↦ at w | Some b ↦ with_pieces b ]

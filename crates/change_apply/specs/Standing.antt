@@ -1,5 +1,5 @@
 -- The blocks that stand before others are built.
-use Rattle.std.specs.Prelude.{List, Option, Some, None, cond}
+use Rattle.std.specs.Prelude.{List, [], Option, Some, None, cond}
 use Rattle.std.specs.List.{list_any}
 use Rattle.std.specs.FinMap.{FinMap, find, get}
 use Rattle.std.specs.Ordering.{eq_by_cmp}
@@ -9,11 +9,11 @@ use Rattle.road_model.specs.Orders.{way_cmp}
 use Rattle.change_apply.specs.declared.known.Standing.{Standing}
 use Rattle.change_apply.specs.Rebuilding.{over}
 
--- all that were built since the others were listed, the fresh ones first
+-- those that were built
 abbrev pub built_in : Standing → List (WayId × Block)
-built_in s = over s.fresh.now.map s.rebuilt.now
+built_in s = over s.fresh.now.map []
 
--- the newest block of the way: that which was built since, also where it has no pieces, and else that of the list
+-- the newest block of the way: that which was built, also where it has no pieces, and else that which stood before
 abbrev pub newest : List (WayId × Block) → FinMap way_cmp Block → WayId → Option Block
 newest rebuilt listed w = elim (find way_cmp w rebuilt) [ None ↦ get listed w | Some b ↦ Some b ]
 

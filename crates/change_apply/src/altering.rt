@@ -1,6 +1,7 @@
 //! Which ways have other pieces than before.
 ghost use Rattle.std.specs.Prelude.{◌≡◌, Contains, IfOk};
 ghost use Rattle.road_base.specs.declared.ids.WayId.{WayId as WayNumber};
+ghost use Rattle.graph_blocks.specs.Lent.{map_of};
 ghost use Rattle.change_apply.specs.Rebuilding.{listed, pieces_at};
 ghost use Rattle.change_apply.specs.Standing.{built_in};
 
@@ -21,8 +22,8 @@ pub fn altered(
     ensures { IfOk result (λ altered. (w : WayNumber)
         → Contains ways.now w
         → (Contains altered.items w → ⊥)
-        → pieces_at (built_in before.now) before.now.listed.now.map w
-        ≡ pieces_at (built_in after.now) after.now.listed.now.map w) }
+        → pieces_at (built_in before.now) (map_of before.now.blocks.now) w
+        ≡ pieces_at (built_in after.now) (map_of after.now.blocks.now) w) }
 {
     let mut altered = Vec::new(alloc);
     for way in ways {
@@ -38,7 +39,7 @@ pub fn altered(
 /// The pieces of the way's block that stands; none where none does.
 fn pieces_at<'a>(standing: &'a Standing<'_>, way: WayId) -> &'a [Piece]
     ensures { listed result.now
-        ≡ pieces_at (built_in standing.now) standing.now.listed.now.map way }
+        ≡ pieces_at (built_in standing.now) (map_of standing.now.blocks.now) way }
 {
     match standing.newest(way) {
         Some(block) => block.pieces.items(),

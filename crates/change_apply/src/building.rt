@@ -1,25 +1,24 @@
 //! The blocks of a world.
-ghost use Rattle.std.specs.Prelude.{◌≡◌, ◌+◌, ◌≤◌, ◌++◌, ◌∷◌, [], List, Contains, length, IfOk, OnOk};
-ghost use Rattle.std.specs.FinMap.{find, get};
+ghost use Rattle.std.specs.Prelude.{◌≡◌, ◌+◌, ◌≤◌, ◌++◌, ◌∷◌, [], List, length, IfOk, OnOk};
+ghost use Rattle.std.specs.FinMap.{get};
 ghost use Rattle.road_base.specs.declared.ids.WayId.{WayId};
 ghost use Rattle.road_model.specs.Highways.{AreRoadWays, highways};
 ghost use Rattle.way_pieces.specs.Known.{AreKnown};
 ghost use Rattle.road_model.specs.Naming.{OneBlock};
-ghost use Rattle.road_model.specs.Orders.{way_cmp};
 ghost use Rattle.change_apply.specs.Engines.{AreBlocksAmong, AreInForm, AreKept};
 ghost use Rattle.road_model.specs.declared.blocks.Block.{Block as BlockValue};
-ghost use Rattle.change_apply.specs.Rebuilding.{AreAtTheirWays, AreRebuilt, IsRebuiltWith, block_at, over};
+ghost use Rattle.graph_blocks.specs.Lent.{map_of};
+ghost use Rattle.change_apply.specs.Rebuilding.{AreRebuilt, IsRebuiltWith, block_at, over};
 ghost use Rattle.touched_ways.specs.Altering.{AreParted};
 
 use crate::altering::altered;
-use crate::engine::RoadGraph;
 use crate::known::{Standing, StandingBut};
 use back_references::Indexed;
 use expanded_graph::GraphBuilder;
-use object_store::SharedMap;
+use graph_blocks::{RoadBlocks, road_blocks};
 use road_base::{NoMemory, Steps, WayId, Ways};
 use road_model::laws::{has_block, name_order, one_block, roads_refer};
-use road_model::{Block, Blocks, Profile, World};
+use road_model::{Blocks, Network, Profile, World};
 use std::alloc::Global;
 use std::sync::ledger::Ledger;
 use touched_ways::laws::{
@@ -35,13 +34,14 @@ pub fn build<P: Profile, L: Ledger>(
     world: &Indexed,
     profile: P,
     steps: &mut Steps<L>,
-) -> Result<Blocks, NoMemory>
-    ensures blocks { IfOk result (λ b. AreKept world.now (P.rules profile) (get b.map)) }
+) -> Result<RoadBlocks, NoMemory>
+    ensures blocks { IfOk result (λ b. AreKept world.now (P.rules profile) (get (map_of b))) }
     ensures few { steps.new ≤ steps.old + length (highways world.now) }
 {
     roads_refer(&profile);
     let ways = world.highways()?;
-    blocks_of(alloc, world, profile, ways.as_slice(), steps)
+    let blocks = blocks_of(alloc, world, profile, ways.as_slice(), steps)?;
+    road_blocks(blocks)
 }
 
 /// The blocks of all ways with pieces, where these are they, ascending, and maybe others: one is built for each.
@@ -174,26 +174,26 @@ pub struct Rebuilt {
 /// Builds over the world that a change leaves, `next`, the blocks of the touched ways that are near it or that a
 /// restriction names beside one near, and then those of the other touched ways that meet one of them whose pieces are
 /// others than before, or that a restriction names beside a way that does. With them, what stands at every way is its
-/// block, as it was in the world before, the graph's. The pieces of the ways that they meet are taken from the blocks
+/// block, as it was in the world before, the network's. The pieces of the ways that they meet are taken from the blocks
 /// that stand: before the first step from those of ways that aren't built in it, since the pieces of these are the
 /// same, and before the second from all.
-pub fn rebuild_touched<'a, M: World, P: Profile, L: Ledger>(
+pub fn rebuild_touched<'b, M: World, P: Profile, L: Ledger>(
     alloc: Global,
-    graph: &'a RoadGraph<P>,
+    network: &Network<'_, Indexed, P>,
     next: &M,
-    touched: &'a TouchedWays,
-    rebuilt: &'a SharedMap<WayId, Block>,
+    touched: &'b TouchedWays,
+    blocks: &'b RoadBlocks,
     steps: &mut Steps<L>,
 ) -> Result<Rebuilt, NoMemory>
-    requires parted { AreParted graph.now.world (M.objects next.now) touched.now.all touched.now.near touched.now.far }
-    requires kept { AreKept graph.now.world (P.rules graph.now.profile) (block_at rebuilt.now graph.now.blocks.map) }
-    requires at_ways { AreAtTheirWays rebuilt.now }
-    ensures kept { IfOk result (λ r. AreKept (M.objects next.now) (P.rules graph.now.profile)
-        (block_at (over r.met.map (over r.near.map rebuilt.now)) graph.now.blocks.map)) }
+    requires parted { AreParted network.now.world.now (M.objects next.now)
+        touched.now.all touched.now.near touched.now.far }
+    requires kept { AreKept network.now.world.now (P.rules network.now.profile) (get (map_of blocks.now)) }
+    ensures kept { IfOk result (λ r. AreKept (M.objects next.now) (P.rules network.now.profile)
+        (block_at (over r.met.map (over r.near.map [])) (map_of blocks.now))) }
     ensures count { IfOk result (λ r. steps.new ≡ steps.old + r.count) }
     ensures few { steps.new ≤ steps.old + (length touched.now.near + length touched.now.far) }
 {
-    let profile = graph.profile;
+    let profile = network.profile;
     name_order();
     one_block(&profile);
     has_block(&profile);
@@ -203,14 +203,20 @@ pub fn rebuild_touched<'a, M: World, P: Profile, L: Ledger>(
     block_lists_pieces(&profile);
     far_blocks_list_pieces(&profile);
     let none = Blocks::new(alloc);
-    let before = standing(graph, rebuilt, &none);
+    let before = Standing {
+        blocks,
+        fresh: &none,
+    };
     let near_ways = touched.near.items();
     let known = StandingBut {
         standing: before,
         but: &touched.near,
     };
     let near = rebuild(alloc, next, profile, near_ways, &known, steps)?;
-    let after = standing(graph, rebuilt, &near);
+    let after = Standing {
+        blocks,
+        fresh: &near,
+    };
     let altered = altered(alloc, &before, &after, near_ways)?;
     let met_ways = meeting(alloc, next, &touched.far, altered.as_slice())?;
     let no_ways = Ways::from_list(Vec::new(alloc));
@@ -221,22 +227,4 @@ pub fn rebuild_touched<'a, M: World, P: Profile, L: Ledger>(
     let met = rebuild(alloc, next, profile, met_ways.items(), &known, steps)?;
     let count = near_ways.len() as u64 + met_ways.items().len() as u64;
     Ok(Rebuilt { near, met, count })
-}
-
-/// The blocks that stand in the graph, with those that were built since they were listed, and these fresh ones.
-fn standing<'a, P: Profile>(
-    graph: &'a RoadGraph<P>,
-    rebuilt: &'a SharedMap<WayId, Block>,
-    fresh: &'a Blocks,
-) -> Standing<'a>
-    ensures listed { result.listed.now ≡ graph.now.blocks }
-    ensures rebuilt { result.rebuilt.now ≡ rebuilt.now }
-    ensures fresh { result.fresh.now ≡ fresh.now }
-{
-    Standing {
-        listed: &graph.blocks,
-        ranges: &graph.ranges,
-        rebuilt,
-        fresh,
-    }
 }

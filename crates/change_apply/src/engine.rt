@@ -1,9 +1,7 @@
 //! What follows changes.
-ghost use Rattle.std.specs.Prelude.{◌≡◌, ◌+◌, ◌≤◌, [], List, length, IfOk, OnOk, OnErr};
-ghost use Rattle.std.specs.Borrow.{sem};
-ghost use Rattle.std.specs.Io.BufRead.{Rests};
+ghost use Rattle.std.specs.Prelude.{◌≡◌, ◌+◌, ◌≤◌, List, length, map, IfOk, OnOk, OnErr};
 ghost use Rattle.std.specs.List.{AllByRecursion};
-ghost use Rattle.std.specs.FinMap.{empty, get, values};
+ghost use Rattle.std.specs.FinMap.{empty, find, get, values};
 ghost use Rattle.road_base.specs.declared.event.Event.{Event as EventValue};
 ghost use Rattle.road_base.specs.declared.ids.WayId.{WayId as WayNumber};
 ghost use Rattle.road_base.specs.Objects.{Objects};
@@ -15,21 +13,22 @@ ghost use Rattle.road_model.specs.Blocks.{IsRoadBlock};
 ghost use Rattle.road_model.specs.Format.{IsBlockForm};
 ghost use Rattle.ordered_lists.specs.Orders.{Lists};
 ghost use Rattle.road_model.specs.Orders.{way_cmp};
+ghost use Rattle.layered_maps.specs.Layers.{Rise};
+ghost use Rattle.layered_maps.specs.Maps.{change_pair, changed_by};
+ghost use Rattle.graph_blocks.specs.Lent.{map_of};
 ghost use Rattle.change_apply.specs.Engines.{AreKept, BuildsTouched, Touches};
-ghost use Rattle.change_apply.specs.Rebuilding.{AreAtTheirWays, block_at};
-ghost use Rattle.change_apply.specs.Placing.{placed_at};
+ghost use Rattle.change_apply.specs.Rebuilding.{way_of};
 
 use crate::building::{build, rebuild_touched};
-use crate::listing::list_rebuilt;
-use crate::placing::{Placed, place, replace_listed};
+use crate::changes::{BlockChanges, changes_of};
 use crate::touching::touched_by;
 use back_references::{Indexed, Next, Prepared};
-use object_store::SharedMap;
-use ordered_lists::Ranges;
+use graph_blocks::RoadBlocks;
+use graph_blocks::laws::values_in_order;
 use road_base::laws::one_map;
-use road_base::{Event, NoMemory, Steps, WayId};
+use road_base::{Event, NoMemory, Steps};
 use road_model::laws::name_order;
-use road_model::{Block, Blocks, Profile};
+use road_model::{Network, Profile};
 use std::alloc::Global;
 use std::marker::Model;
 use std::sync::ledger::Ledger;
@@ -43,44 +42,30 @@ pub struct Report {
     pub rebuilt: u64,
 }
 
-/// A world with blocks of its ways, for one profile.
-#[derive(Drop)]
-pub struct RoadGraph<P: Profile> {
-    pub profile: P,
-    pub world: Indexed,
-    pub blocks: Blocks,
-    /// Where the block of a way may stand among these: hints.
-    pub ranges: Ranges,
-}
-
 /// A world with the blocks of all its ways with pieces.
 #[derive(Drop)]
 pub struct Engine<P: Profile> {
     alloc: Global,
-    /// The world, with the listed blocks. Most blocks that are built come in the place of listed ones.
-    graph: RoadGraph<P>,
-    /// The others that were built since they were listed: of ways that have none there, and those without pieces. Each
-    /// stands in the place of the one listed at its way; one without pieces stands for none.
-    rebuilt: SharedMap<WayId, Block>,
+    profile: P,
+    world: Indexed,
+    blocks: RoadBlocks,
 }
 
 impl<P: Profile> Model for Engine<P> {
+    ghost use Rattle.std.specs.FinMap.{get};
+    ghost use Rattle.graph_blocks.specs.Lent.{map_of};
     ghost use Rattle.change_apply.specs.Engines.{AreKept, Followed, coded_followed};
-    ghost use Rattle.change_apply.specs.Rebuilding.{AreAtTheirWays, block_at};
 
     ghost Value = { Followed P };
 
     ghost coded = { coded_followed P.code };
 
-    ghost view = { λ e. record { profile = e.graph.profile; world = e.graph.world } };
+    ghost view = { λ e. record { profile = e.profile; world = e.world } };
 
-    ghost invariant = { λ e. AreKept e.graph.world (P.rules e.graph.profile) (block_at e.rebuilt e.graph.blocks.map)
-        × AreAtTheirWays e.rebuilt };
+    ghost invariant = { λ e. AreKept e.world (P.rules e.profile) (get (map_of e.blocks)) };
 }
 
 impl<P: Profile> Engine<P> {
-    ghost use Rattle.change_apply.specs.contracts.engine.Engine.{the_row};
-
     /// What the events leave of no objects, of each object the first one of the greatest version, with its blocks. The
     /// events are moved, not copied. No more blocks are built than there are visible ways with the key `highway`.
     pub fn load<L: Ledger>(
@@ -98,16 +83,11 @@ impl<P: Profile> Engine<P> {
         one_map();
         let world = Indexed::of(alloc, events)?;
         let blocks = build(alloc, &world, profile, steps)?;
-        let ranges = Ranges::of(alloc, blocks.items());
         Ok(Engine {
             alloc,
-            graph: RoadGraph {
-                profile,
-                world,
-                blocks,
-                ranges,
-            },
-            rebuilt: SharedMap::new(alloc),
+            profile,
+            world,
+            blocks,
         })
     }
 
@@ -131,17 +111,19 @@ impl<P: Profile> Engine<P> {
         ensures built { BuildsTouched self.old.world events.now steps.old steps.new }
     {
         one_map();
-        let prepared = self.graph.world.prepare(events)?;
-        let (placed, report) = rebuild_after(
+        name_order();
+        let prepared = self.world.prepare(events)?;
+        let network = Network::new(&self.world, self.profile);
+        let (changes, report) = rebuild_after(
             self.alloc,
-            &self.graph,
-            &mut self.rebuilt,
+            &network,
+            &self.blocks,
             &prepared,
             steps,
         )?;
-        self.graph.world.commit(prepared);
-        self.rebuilt = placed.rebuilt;
-        replace_listed(placed.replacing, &self.graph.ranges, &mut self.graph.blocks);
+        let exchange = self.blocks.prepare_both(changes.near, changes.met)?;
+        self.world.commit(prepared);
+        self.blocks.commit(exchange);
         Ok(report)
     }
 
@@ -149,98 +131,64 @@ impl<P: Profile> Engine<P> {
     pub fn profile(&self) -> P
         ensures { result ≡ self.now.profile }
     {
-        self.graph.profile
+        self.profile
     }
 
     /// The objects.
     pub fn world(&self) -> &Indexed
         ensures { result.now ≡ self.now.world }
     {
-        &self.graph.world
+        &self.world
     }
 
-    /// The world with the blocks of all its ways with pieces, in the form in which a graph file holds them, and
-    /// ascending by way as those of the graph are listed. Those that were built since this was asked last are listed
-    /// among the others first. The world and the profile stay, also where no memory is found.
-    pub fn graph(&mut self) -> Result<&RoadGraph<P>, NoMemory>
-        ensures* same { sem 𝓛 (Rests (the_row P.row P.Profile) self.entry (λ new. new ≡ self.old)) }
-        ensures profile { IfOk result (λ g. g.now.profile ≡ self.old.profile) }
-        ensures world { IfOk result (λ g. g.now.world ≡ self.old.world) }
-        ensures blocks { IfOk result (λ g. AreBlocksOf self.old.world (P.rules self.old.profile) g.now.blocks.map) }
-        ensures listed { IfOk result (λ g. Lists (λ b. b.way) way_cmp
-            (IsRoadBlock self.old.world (P.rules self.old.profile)) (values g.now.blocks.map)) }
-        ensures forms { IfOk result (λ g. AllByRecursion IsBlockForm (values g.now.blocks.map)) }
+    /// The blocks of all ways with pieces, in the form in which a graph file holds them, and ascending by way as those
+    /// of the graph are listed. Takes no memory.
+    pub fn blocks(&self) -> &RoadBlocks
+        ensures blocks { AreBlocksOf self.now.world (P.rules self.now.profile) (map_of result.now) }
+        ensures listed { Lists (λ b. b.way) way_cmp (IsRoadBlock self.now.world (P.rules self.now.profile))
+            (values (map_of result.now)) }
+        ensures forms { AllByRecursion IsBlockForm (values (map_of result.now)) }
     {
-        list_all(
-            self.alloc,
-            &mut self.rebuilt,
-            &mut self.graph.blocks,
-            &mut self.graph.ranges,
-        )?;
-        let _items = self.graph.blocks.items();
-        Ok(&self.graph)
+        values_in_order();
+        &self.blocks
     }
 }
 
-/// Builds the blocks that the prepared change alters, and finds where they go. Those that stand beside the listed ones
-/// stay the same; the ways of those that will are marked among them.
+/// Builds the blocks that the prepared change alters, and finds what changes of those that stand.
 fn rebuild_after<P: Profile, L: Ledger>(
     alloc: Global,
-    graph: &RoadGraph<P>,
-    rebuilt: &mut SharedMap<WayId, Block>,
+    network: &Network<'_, Indexed, P>,
+    blocks: &RoadBlocks,
     prepared: &Prepared,
     steps: &mut Steps<L>,
-) -> Result<(Placed, Report), NoMemory>
-    requires before { prepared.now.before ≡ graph.now.world }
-    requires kept { AreKept graph.now.world (P.rules graph.now.profile) (block_at rebuilt.old graph.now.blocks.map) }
-    requires at_ways { AreAtTheirWays rebuilt.old }
-    ensures same { rebuilt.new ≡ rebuilt.old }
-    ensures kept { IfOk result (λ r. AreKept prepared.now.after (P.rules graph.now.profile)
-        (placed_at r.0.rebuilt r.0.replacing.items graph.now.blocks.map)) }
-    ensures at_ways { IfOk result (λ r. AreAtTheirWays r.0.rebuilt) }
+) -> Result<(BlockChanges, Report), NoMemory>
+    requires before { prepared.now.before ≡ network.now.world.now }
+    requires kept { AreKept network.now.world.now (P.rules network.now.profile) (get (map_of blocks.now)) }
+    ensures near { IfOk result (λ r. Rise way_cmp (map (change_pair way_of) r.0.near.items)) }
+    ensures met { IfOk result (λ r. Rise way_cmp (map (change_pair way_of) r.0.met.items)) }
+    ensures kept { IfOk result (λ r. AreKept prepared.now.after (P.rules network.now.profile)
+        (λ w. find way_cmp w
+        (changed_by way_of way_cmp r.0.met.items (changed_by way_of way_cmp r.0.near.items blocks.now)))) }
     ensures touched { IfOk result (λ r. (ways : List WayNumber)
-        → AreTouched graph.now.world prepared.now.after ways
+        → AreTouched network.now.world.now prepared.now.after ways
         → r.1.touched ≡ length ways) }
     ensures count { IfOk result (λ r. steps.new ≡ steps.old + r.1.rebuilt) }
     ensures few { IfOk result (λ r. r.1.rebuilt ≤ r.1.touched) }
     ensures ways { OnOk result ((events : List EventValue)
-        → IsApplied graph.now.world events prepared.now.after
-        → Touches graph.now.world events) }
+        → IsApplied network.now.world.now events prepared.now.after
+        → Touches network.now.world.now events) }
     ensures built { (events : List EventValue)
-        → IsApplied graph.now.world events prepared.now.after
-        → BuildsTouched graph.now.world events steps.old steps.new }
+        → IsApplied network.now.world.now events prepared.now.after
+        → BuildsTouched network.now.world.now events steps.old steps.new }
 {
     name_order();
-    let touched = touched_by(alloc, &graph.world, prepared)?;
-    let next = Next::of(&graph.world, prepared);
-    let fresh = rebuild_touched(alloc, graph, &next, &touched, rebuilt, steps)?;
+    let touched = touched_by(alloc, network.world, prepared)?;
+    let next = Next::of(network.world, prepared);
+    let rebuilt = rebuild_touched(alloc, network, &next, &touched, blocks, steps)?;
     let report = Report {
         touched: touched.all.items().len() as u64,
-        rebuilt: fresh.count,
+        rebuilt: rebuilt.count,
     };
-    let placed = place(alloc, &graph.blocks, &graph.ranges, rebuilt, fresh)?;
-    Ok((placed, report))
-}
-
-/// Lists the blocks that were built since among the others, so that none is left. Where no memory is found nothing
-/// changes.
-fn list_all(
-    alloc: Global,
-    rebuilt: &mut SharedMap<WayId, Block>,
-    blocks: &mut Blocks,
-    ranges: &mut Ranges,
-) -> Result<(), NoMemory>
-    requires { AreAtTheirWays rebuilt.old }
-    ensures none { OnOk result (rebuilt.new ≡ []) }
-    ensures ok { OnOk result ((w : WayNumber) → get blocks.new.map w ≡ block_at rebuilt.old blocks.old.map w) }
-    ensures err { OnErr result (rebuilt.new ≡ rebuilt.old) }
-    ensures err_listed { OnErr result (blocks.new ≡ blocks.old) }
-{
-    if rebuilt.is_empty() {
-        return Ok(());
-    }
-    list_rebuilt(alloc, rebuilt, blocks)?;
-    *rebuilt = SharedMap::new(alloc);
-    *ranges = Ranges::of(alloc, blocks.items());
-    Ok(())
+    let changes = changes_of(alloc, blocks, rebuilt)?;
+    Ok((changes, report))
 }

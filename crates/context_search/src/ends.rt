@@ -10,15 +10,18 @@ ghost use Rattle.road_model.specs.Driving.{located};
 ghost use Rattle.road_model.specs.Networks.{on, map_of};
 ghost use Rattle.ordered_lists.specs.Orders.{rises};
 ghost use Rattle.road_model.specs.Orders.{name_cmp};
+ghost use Rattle.graph_blocks.specs.Lent.{map_of as block_map};
 ghost use Rattle.context_search.specs.declared.ends.Begin.{Begin};
 ghost use Rattle.context_search.specs.declared.ends.Goal.{Goal};
 ghost use Rattle.context_search.specs.Ends.{pieces_in, BeginsBy, StopsBy, Leaves, Arrives};
 ghost use Rattle.context_search.specs.Visits.{goal_in};
 ghost use Rattle.context_search.specs.Sought.{AreEnds, AreStarts, AreGoals};
 
+use graph_blocks::block_at;
+use layered_maps::View;
 use road_base::{NoMemory, NodeId, WayId};
 use road_model::laws::{has_block, name_order, one_name, roads_refer};
-use road_model::{Blocks, Network, Piece, PieceName, Place, Profile, World};
+use road_model::{Block, Network, Piece, PieceName, Place, Profile, World};
 use std::alloc::Global;
 use std::collections::BTreeMap;
 
@@ -49,11 +52,11 @@ pub struct DriveEnds<'a> {
 pub fn ends_of<'a, M: World, P: Profile>(
     alloc: Global,
     network: &Network<'_, M, P>,
-    blocks: &'a Blocks,
+    blocks: &View<'a, WayId, Block>,
     a: NodeId,
     b: NodeId,
 ) -> Result<DriveEnds<'a>, NoMemory>
-    requires blocks { on network.now AreBlocksOf blocks.now.map }
+    requires blocks { on network.now AreBlocksOf (block_map blocks.now) }
     requires from { IsTrue (located (map_of network.now) (Some a)) }
     requires to { IsTrue (located (map_of network.now) (Some b)) }
     ensures are { IfOk result (on network.now AreEnds) }
@@ -74,10 +77,10 @@ pub fn ends_of<'a, M: World, P: Profile>(
 fn starts_of<'a, M: World, P: Profile>(
     alloc: Global,
     network: &Network<'_, M, P>,
-    blocks: &'a Blocks,
+    blocks: &View<'a, WayId, Block>,
     node: NodeId,
 ) -> Result<Vec<Begin<'a>>, NoMemory>
-    requires { on network.now AreBlocksOf blocks.now.map }
+    requires { on network.now AreBlocksOf (block_map blocks.now) }
     ensures { IfOk result (λ v. on network.now AreStarts node v.items) }
 {
     one_name(&network.profile);
@@ -91,10 +94,10 @@ fn starts_of<'a, M: World, P: Profile>(
 }
 
 /// The pieces of the way.
-fn pieces_of(blocks: &Blocks, way: WayId) -> &[Piece]
-    ensures { result.now ≡ pieces_in (get blocks.now.map way) }
+fn pieces_of<'a>(blocks: &View<'a, WayId, Block>, way: WayId) -> &'a [Piece]
+    ensures { result.now ≡ pieces_in (get (block_map blocks.now) way) }
 {
-    match blocks.get(way) {
+    match block_at(blocks, way) {
         Some(block) => block.pieces.items(),
         None => &[],
     }
@@ -140,10 +143,10 @@ fn add_start<'a>(
 fn goals_of<'a, M: World, P: Profile>(
     alloc: Global,
     network: &Network<'_, M, P>,
-    blocks: &'a Blocks,
+    blocks: &View<'a, WayId, Block>,
     node: NodeId,
 ) -> Result<BTreeMap<PieceName, Goal<'a>>, NoMemory>
-    requires { on network.now AreBlocksOf blocks.now.map }
+    requires { on network.now AreBlocksOf (block_map blocks.now) }
     ensures { IfOk result (λ m. on network.now AreGoals node m) }
 {
     name_order();

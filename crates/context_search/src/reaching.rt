@@ -3,6 +3,7 @@ ghost use Rattle.std.specs.Prelude.{◌≡◌, ◌≤◌, map, IfOk, IfSome, IfN
 ghost use Rattle.road_model.specs.BlockMap.{AreBlocksOf};
 ghost use Rattle.road_model.specs.Driving.{located};
 ghost use Rattle.road_model.specs.Networks.{on, map_of};
+ghost use Rattle.graph_blocks.specs.Lent.{map_of as block_map};
 ghost use Rattle.context_search.specs.declared.ends.Begin.{Begin};
 ghost use Rattle.context_search.specs.declared.ends.Goal.{Goal};
 ghost use Rattle.context_search.specs.Marks.{at_of};
@@ -17,9 +18,11 @@ use crate::laws::searched_drives;
 use crate::marks::Search;
 use crate::routes::{along, within};
 use crate::spots::{Spot, spots_of};
-use road_base::{Location, NoMemory, NodeId};
+use graph_blocks::{LendsBlocks, walk};
+use layered_maps::View;
+use road_base::{Location, NoMemory, NodeId, WayId};
 use road_model::laws::{has_block, name_order, one_block, one_name};
-use road_model::{Blocks, Network, PieceName, Profile, World};
+use road_model::{Block, Network, PieceName, Profile, World};
 use std::alloc::Global;
 use std::collections::BTreeMap;
 use way_lines::is_located;
@@ -29,15 +32,15 @@ use way_lines::is_located;
 ///
 /// Takes one pass over the contexts to list them, then for each context and arc that the search comes to the time of a
 /// short search by names, and memory in proportion to the contexts.
-pub fn reach<M: World, P: Profile>(
+pub fn reach<M: World, P: Profile, B: LendsBlocks>(
     alloc: Global,
     world: &M,
     profile: &P,
-    blocks: &Blocks,
+    blocks: &B,
     a: NodeId,
     b: NodeId,
 ) -> Result<Found, NoMemory>
-    requires { AreBlocksOf (M.objects world.now) (P.rules profile.now) blocks.now.map }
+    requires { AreBlocksOf (M.objects world.now) (P.rules profile.now) (B.map blocks.now) }
     ensures { IfOk result (IsFound (M.objects world.now) (P.rules profile.now) a b) }
 {
     if !is_located(world, a) {
@@ -46,7 +49,14 @@ pub fn reach<M: World, P: Profile>(
     let Some(to) = location_of(world, b) else {
         return Ok(Found::NoNode(b));
     };
-    drive_to(alloc, &Network::new(world, *profile), blocks, a, b, to)
+    drive_to(
+        alloc,
+        &Network::new(world, *profile),
+        &blocks.lend(),
+        a,
+        b,
+        to,
+    )
 }
 
 /// Where the node lies, if it is visible with a location.
@@ -64,12 +74,12 @@ fn location_of<M: World>(world: &M, node: NodeId) -> Option<Location>
 fn drive_to<M: World, P: Profile>(
     alloc: Global,
     network: &Network<'_, M, P>,
-    blocks: &Blocks,
+    blocks: &View<'_, WayId, Block>,
     a: NodeId,
     b: NodeId,
     to: Location,
 ) -> Result<Found, NoMemory>
-    requires blocks { on network.now AreBlocksOf blocks.now.map }
+    requires blocks { on network.now AreBlocksOf (block_map blocks.now) }
     requires from { IsTrue (located (map_of network.now) (Some a)) }
     requires to { IsTrue (located (map_of network.now) (Some b)) }
     ensures { IfOk result (on network.now IsFound a b) }
@@ -82,11 +92,11 @@ fn drive_to<M: World, P: Profile>(
 fn drive_between<M: World, P: Profile>(
     alloc: Global,
     network: &Network<'_, M, P>,
-    blocks: &Blocks,
+    blocks: &View<'_, WayId, Block>,
     ends: &DriveEnds<'_>,
     to: Location,
 ) -> Result<Found, NoMemory>
-    requires blocks { on network.now AreBlocksOf blocks.now.map }
+    requires blocks { on network.now AreBlocksOf (block_map blocks.now) }
     requires ends { on network.now AreEnds ends.now }
     ensures { IfOk result (on network.now IsFound ends.now.a ends.now.b) }
 {
@@ -153,14 +163,14 @@ pub fn inside_one<'a>(
 pub fn spots_in_order<'a, M: World, P: Profile>(
     alloc: Global,
     network: &Network<'_, M, P>,
-    blocks: &'a Blocks,
+    blocks: &View<'a, WayId, Block>,
 ) -> Result<Vec<Spot<'a>>, NoMemory>
-    requires { on network.now AreBlocksOf blocks.now.map }
+    requires { on network.now AreBlocksOf (block_map blocks.now) }
     ensures { IfOk result (λ v. on network.now AreSpots (map at_of v.items)) }
 {
     name_order();
     has_block(&network.profile);
     one_block(&network.profile);
     one_name(&network.profile);
-    spots_of(alloc, blocks.items())
+    spots_of(alloc, walk(blocks))
 }

@@ -6,7 +6,8 @@ ghost use Rattle.road_model.specs.Orders.{names_cmp};
 ghost use Rattle.context_search.specs.Marks.{At, at_of, key_of, key_cmp, contexts_at, contexts_over, all_contexts};
 ghost use Rattle.context_search.specs.Marks.{names_behind};
 
-use road_base::NoMemory;
+use layered_maps::Walk;
+use road_base::{NoMemory, WayId};
 use road_model::laws::name_order;
 use road_model::{Block, Context, Piece, PieceName};
 use std::alloc::Global;
@@ -19,12 +20,16 @@ pub struct Spot<'a> {
     pub context: &'a Context,
 }
 
-/// All contexts of the blocks, in the order of the blocks, pieces and contexts.
-pub fn spots_of<'a>(alloc: Global, blocks: &'a [Block]) -> Result<Vec<Spot<'a>>, NoMemory>
-    ensures { IfOk result (λ v. map at_of v.items ≡ all_contexts blocks.now) }
+/// All contexts of the blocks that are left, in the order of the blocks, pieces and contexts.
+pub fn spots_of<'a>(
+    alloc: Global,
+    blocks: Walk<'a, WayId, Block>,
+) -> Result<Vec<Spot<'a>>, NoMemory>
+    ensures { IfOk result (λ v. map at_of v.items ≡ all_contexts blocks.entry) }
 {
     let mut spots = Vec::new(alloc);
-    for block in blocks {
+    let mut rest = blocks;
+    while let Some(block) = rest.next() {
         add_pieces(&mut spots, block.pieces.items())?;
     }
     Ok(spots)

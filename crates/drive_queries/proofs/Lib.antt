@@ -1,1 +1,2 @@
 pub mod MessageSteps
+mod CountedBlocks

@@ -1,10 +1,11 @@
 //! The blocks of a graph, however they are kept: as a list that is made once, or as what follows changes.
 //!
 //! `RoadBlocks` is a layered map: what changes a few blocks shares all others with what was before. What only reads
-//! blocks takes either by `LendsBlocks`, which lends a view of them: a look-up and a walk over all in order. Lending takes
-//! no memory and a constant time.
+//! blocks takes either by `LendsBlocks`, which lends a view of them: a look-up and a walk over all in order. Lending
+//! takes no memory and a constant time.
 #![tactic(auto)]
 
+pub mod laws;
 mod lending;
 mod making;
 mod walking;

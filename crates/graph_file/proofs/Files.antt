@@ -17,22 +17,20 @@ use Rattle.ordered_lists.proofs.SortedMaps.{values_of}
 pub values_are : (m : FinMap way_cmp Block) (bs : List Block) → entries m ≡ map entry_of bs → values m ≡ bs
 values_are m bs is = ap (map (λ e. e.1)) is ∙ values_of (λ (b : Block). b.way) bs
 
--- what the map's blocks spell is a graph file, if each number fits
-pub is_graph_file : (profile : ℕ) (m : FinMap way_cmp Block) (bs : List Block) → IsProfile profile
-    → entries m ≡ map entry_of bs → IsTrue (rises way_cmp (map (λ b. b.way) bs)) → AllByRecursion IsBlockForm (values m)
-    → AllByRecursion BlockFits bs → length bs < 2 ^ 64 → IsGraphFile (graph_bytes profile (values m))
-is_graph_file profile m bs known is up forms fit count =
-    let same : values m ≡ bs = values_are m bs is in
-    record {
-      profile = profile;
-      known = known;
-      blocks = values m;
-      ascend = subst (λ l. IsTrue (rises way_cmp (map (λ b. b.way) l))) (sym same) up;
-      forms = forms;
-      fit = subst (AllByRecursion BlockFits) (sym same) fit;
-      count = subst (λ l. length l < 2 ^ 64) (sym same) count;
-      spelled = refl;
-    }
+-- what the blocks spell is a graph file, if each number fits
+pub is_graph_file : (profile : ℕ) (bs : List Block) → IsProfile profile
+    → IsTrue (rises way_cmp (map (λ b. b.way) bs)) → AllByRecursion IsBlockForm bs → AllByRecursion BlockFits bs
+    → length bs < 2 ^ 64 → IsGraphFile (graph_bytes profile bs)
+is_graph_file profile bs known up forms fit count = record {
+  profile = profile;
+  known = known;
+  blocks = bs;
+  ascend = up;
+  forms = forms;
+  fit = fit;
+  count = count;
+  spelled = refl;
+}
 
 pub way_cmp_total : IsTotalOrder way_cmp
 way_cmp_total = record {

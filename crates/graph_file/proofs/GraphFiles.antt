@@ -5,7 +5,7 @@ use Rattle.std.specs.Prelude.{◌==◌}
 use Rattle.std.specs.List.{AllByRecursion}
 use Rattle.std.specs.Ordering.{is_lt}
 use Rattle.std.specs.declared.cmp.Ordering.TheVariants.{Less, Greater}
-use Rattle.std.specs.FinMap.{FinMap, entries, values, insert, entries-insert, put, empty}
+use Rattle.std.specs.FinMap.{FinMap, entries, insert, entries-insert, put, empty}
 use Rattle.std.proofs.lemmas.Bool.{and_parts, or_cases, eqb-true}
 use Rattle.std.proofs.lemmas.List.{drop_at}
 use Rattle.road_base.specs.Profiles.{IsProfile}
@@ -25,7 +25,7 @@ use Rattle.spelled_bytes.specs.Reading.{Begins, IsOneSpelling}
 use Rattle.spelled_bytes.specs.OneSpelling.{u32_one}
 use Rattle.graph_file.specs.GraphReading.{list_bytes, ListFits, IsPieceAt, IsWayBlock, IsOfItsWay, IsFile}
 use Rattle.graph_file.specs.OneSpelling.{list_one, block_one}
-use Rattle.graph_file.proofs.Files.{way_cmp_total, no_entries, values_are}
+use Rattle.graph_file.proofs.Files.{way_cmp_total, no_entries}
 use Rattle.graph_file.proofs.PieceCount.{few_pieces}
 
 -- ---- the bytes behind the magic
@@ -159,17 +159,6 @@ pub file_of : (profile : ℕ) (bytes : List ℕ) (bs : List Block) → IsProfile
     → AllByRecursion IsOfItsWay bs → IsFile profile bytes bs
 file_of profile bytes bs known spelled count up form fits own =
     record { known = known; spelled = spelled; some = (count, own_blocks bs form fits own); ascend = up }
-
--- what the map's blocks spell is their file
-pub map_file : (profile : ℕ) (m : FinMap way_cmp Block) (bs : List Block) → IsProfile profile
-    → entries m ≡ map entry_of bs → IsTrue (rises way_cmp (map (λ b. b.way) bs)) → AllByRecursion IsBlockForm (values m)
-    → AllByRecursion BlockFits bs → length bs < 2 ^ 64 → AllByRecursion IsOfItsWay (values m)
-    → IsFile profile (graph_bytes profile (values m)) (values m)
-map_file profile m bs known is up forms fit count own =
-    let same : bs ≡ values m = sym (values_are m bs is) in
-    file_of profile (graph_bytes profile (values m)) (values m) known refl
-    (subst (λ l. length l < 2 ^ 64) same count) (subst (λ l. IsTrue (rises way_cmp (map (λ b. b.way) l))) same up)
-    forms (subst (AllByRecursion BlockFits) same fit) own
 
 -- the bytes of a file have one profile and one list of blocks
 pub one_file : (m n : ℕ) (bytes : List ℕ) (a b : List Block) → IsFile m bytes a → IsFile n bytes b → (m ≡ n) × (a ≡ b)

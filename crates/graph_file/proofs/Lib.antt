@@ -1,5 +1,6 @@
 pub mod Appends
 pub mod PieceCount
+pub mod BlockCount
 pub mod Files
 pub mod WrittenBlocks
 pub mod Ascents

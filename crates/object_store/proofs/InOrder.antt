@@ -1,16 +1,13 @@
 -- Lists in key order: what is found in them, and the entries of their maps.
-use Rattle.std.proofs.Common.{◌≡◌, ℕ, zero, suc, ◌<◌, ◌+◌, true, false, cond, IsTrue, List, [], ◌∷◌, length, map}
+use Rattle.std.proofs.Common.{◌≡◌, ℕ, zero, suc, ◌<◌, true, false, cond, IsTrue, List, [], ◌∷◌, length, map}
 use Rattle.std.proofs.Common.{filter, Some, None, inl, inr, ◌⊎◌, refl, sym, ap, ◌∙◌, subst, arith, slice_index_or}
-use Rattle.std.proofs.Common.{Ordering, Result, Ok, Err}
 use Rattle.std.specs.declared.cmp.Ordering.TheVariants.{Less, Equal, Greater}
-use Rattle.std.specs.Ordering.{is_lt, is_eq, ordering_index, ordering_reverse}
+use Rattle.std.specs.Ordering.{is_eq}
 use Rattle.std.specs.Option.{option_to_list}
 use Rattle.std.specs.Cmp.{IsTotalOrder, Equal-is}
 use Rattle.std.specs.FinMap.{IsAntisymmetric, empty, entries, find, put, len-empty, len-entries, entries-insert}
-use Rattle.std.specs.List.Sorted.{IsSortedBy, IsBinarySearchResult, IsNonDecreasingBy}
-use Rattle.std.proofs.lemmas.Bool.{and_parts, cases_lt}
+use Rattle.std.proofs.lemmas.Bool.{and_parts}
 use Rattle.std.proofs.lemmas.List.{nil_from_length}
-use Rattle.std.proofs.lemmas.List.Sorted.{searchable_from_sorted}
 use Rattle.std.proofs.lemmas.Cmp.{tied_itself}
 use Rattle.road_base.specs.declared.ids.Key.{Key}
 use Rattle.road_base.specs.declared.event.Event.{Event}
@@ -18,7 +15,7 @@ use Rattle.road_base.specs.Objects.{Entry, key_cmp}
 use Rattle.road_base.specs.Applying.{entry_of, is_of}
 use Rattle.ordered_lists.specs.Orders.{rises_from}
 use Rattle.object_store.specs.Listed.{key_of, pair_of, objects_of, IsInOrder}
-use Rattle.ordered_lists.proofs.ListMembers.{In, in_get, contains_from_in}
+use Rattle.ordered_lists.proofs.ListMembers.{In, in_get}
 use Rattle.ordered_lists.proofs.Comparisons.{less, turned}
 use Rattle.ordered_lists.proofs.AscendingLists.{rest_rises, above as stands_above}
 
@@ -96,55 +93,3 @@ module _ (total : IsTotalOrder key_cmp) where
               ap (λ l. entry_of x ∷ map entry_of l) (sym (none_kept k xs (other_above k xs up)))
           | false ↦ λ t. own k xs (rest_rises key_cmp x.key (map key_of xs) h)
         ] refl
-
--- ---- what a search by an order that compares as keys are compared answers
-
-module _ (cmp : Key → Key → Ordering) (by_cmp : (a b : Key) → cmp a b ≡ key_cmp a b) where
-  pub search_some : IsAntisymmetric key_cmp → (k : Key) (xs : List Event) (r : Result ℕ ℕ) (i : ℕ) → r ≡ Ok i
-      → IsBinarySearchResult (λ y. cmp (key_of y) k) xs r → (d : Event) → (slice_index_or xs i d).key ≡ k
-  search_some exact k xs (Ok j) i e h d =
-      let f : j ≡ i = cc in subst (λ n. key_of (slice_index_or xs n d) ≡ k) f (exact _ _ (sym (by_cmp _ _) ∙ h d))
-  search_some exact k xs (Err j) i e h d = cc
-
-  neighbours : (xs : List Event) → IsInOrder xs → (j : ℕ) (d : Event) → suc j < length xs
-      → key_cmp (slice_index_or xs j d).key (slice_index_or xs (suc j) d).key ≡ Less
-  neighbours [] h j d l = absurd (omega arith)
-  neighbours (x ∷ []) h j d l = absurd (omega arith)
-  neighbours (x ∷ y ∷ ys) h zero d l = less _ (and_parts _ _ h).0
-  neighbours (x ∷ y ∷ ys) h (suc j) d l = neighbours (y ∷ ys) (and_parts _ _ h).1 j d (omega arith)
-
-  sorted : IsTotalOrder key_cmp → (xs : List Event) → IsInOrder xs
-      → IsSortedBy (λ a b. is_lt (key_cmp (key_of a) (key_of b))) xs
-  sorted total xs h j d z l = let e : j + 1 ≡ suc j = omega arith in rw e
-      (ap is_lt (turned key_cmp total (slice_index_or xs j d).key (slice_index_or xs (suc j) d).key Less
-      (neighbours xs h j d (omega arith))))
-
-  searchable : IsTotalOrder key_cmp → (k : Key) (xs : List Event) → IsInOrder xs
-      → IsNonDecreasingBy (λ y. ordering_index (cmp (key_of y) k)) xs
-  searchable total k xs h =
-      subst (λ (f : Key → Key → Ordering). IsNonDecreasingBy (λ y. ordering_index (f (key_of y) k)) xs)
-      (λ i a b. sym (by_cmp a b) i) (searchable_from_sorted total key_of xs k (sorted total xs h))
-
-  other_there : (k : Key) (x : Event) (r : Ordering) → IsTotalOrder key_cmp → cmp x.key k ≡ r → is_eq r ≡ false
-      → is_of k x ≡ false
-  other_there k x r total e h = ap is_eq (turned key_cmp total x.key k r (sym (by_cmp _ _) ∙ e)) ∙ turned_other r h
-    where
-      turned_other : (r : Ordering) → is_eq r ≡ false → is_eq (ordering_reverse r) ≡ false
-      turned_other Less h = refl
-      turned_other Equal h = cc
-      turned_other Greater h = refl
-
-  pub search_none : IsTotalOrder key_cmp → (k : Key) (xs : List Event) (r : Result ℕ ℕ) (i : ℕ) → r ≡ Err i
-      → IsInOrder xs → IsBinarySearchResult (λ y. cmp (key_of y) k) xs r → find key_cmp k (map pair_of xs) ≡ None
-  search_none total k xs (Ok j) i e up h = cc
-  search_none total k xs (Err j) i e up h =
-      let point = h (searchable total k xs up) in
-      none_found k xs (λ x within.
-      let c = contains_from_in xs x within in
-      let l = c.1 in
-      elim (cases_lt c.0 j) [
-        | inl low ↦ other_there k x Less total (subst (λ z. cmp (key_of z) k ≡ Less) c.2
-            (point.0 c.0 x (omega arith) low)) refl
-        | inr high ↦ other_there k x Greater total (subst (λ z. cmp (key_of z) k ≡ Greater) c.2 (point.1 c.0 x high l))
-            refl
-      ])

@@ -1,9 +1,5 @@
 pub mod Codes
 pub mod Listed
 pub mod Changes
-pub mod Levels
-pub mod Overlay
+pub mod Keeping
 pub mod Following
-pub mod Filters
-pub mod Numbers
-pub mod Settling

@@ -21,6 +21,9 @@ objects_of es = from_entries (map pair_of es)
 abbrev pub IsInOrder : List Event → Type 0
 IsInOrder es = IsTrue (rises key_cmp (map key_of es))
 
+abbrev pub is_any : Key → Bool
+is_any k = true
+
 abbrev pub is_node : Key → Bool
 is_node (NodeKey n) = true
 is_node (WayKey w) = false

@@ -1,24 +1,20 @@
 //! The objects of a map, listed once.
-ghost use Rattle.std.specs.Prelude.{◌≡◌, IfOk, IfSome, map, filter, option_copied};
-ghost use Rattle.std.specs.FinMap.{empty, entries, get};
-ghost use Rattle.std.specs.Option.{option_map};
-ghost use Rattle.road_base.specs.Applying.{IsApplied, entry_of};
+ghost use Rattle.std.specs.Prelude.{◌≡◌, IfOk, map, filter};
+ghost use Rattle.std.specs.FinMap.{empty, entries};
+ghost use Rattle.road_base.specs.Applying.{IsApplied};
 ghost use Rattle.road_base.specs.Objects.{Objects as ObjectMap};
-ghost use Rattle.object_store.specs.Overlay.{replaced, replaced_by};
 
-use crate::key_ranges::KeyRanges;
 use crate::kinds::{relations_in, ways_in};
-use crate::standing::{copies, event_at, place_of, put_at, settle};
+use crate::standing::{copies, settle};
 use road_base::laws::key_order;
-use road_base::{Event, Key, NoMemory};
+use road_base::{Event, NoMemory};
 use std::marker::Model;
 
-/// An object map, listed in key order: to each key that was named its version, and its visible body or a deletion.
-/// While it is shared it never changes; where nobody shares it, entries may come in the places of those of their keys.
+/// An object map, listed in key order: to each key that was named its version, and its visible body or a deletion. It
+/// never changes.
 #[derive(Drop)]
 pub struct Base {
     list: Vec<Event>,
-    ranges: KeyRanges,
 }
 
 impl Model for Base {
@@ -37,7 +33,7 @@ impl Model for Base {
 }
 
 impl Base {
-    ghost use Rattle.object_store.specs.Listed.{pair_of, is_way, is_relation, IsInOrder, AreEntriesOf};
+    ghost use Rattle.object_store.specs.Listed.{pair_of, objects_of, is_way, is_relation, IsInOrder, AreEntriesOf};
 
     /// What the events leave of no objects. They are moved, not copied.
     pub fn of(events: Vec<Event>) -> Result<Base, NoMemory>
@@ -45,17 +41,15 @@ impl Base {
     {
         let mut list = events;
         settle(&mut list)?;
-        let ranges = KeyRanges::of(*list.allocator(), list.as_slice());
-        Ok(Base { list, ranges })
+        Ok(Base { list })
     }
 
-    /// The key's entry, as an event. None exactly where the key has no entry.
-    pub fn get(&self, key: Key) -> Option<&Event>
-        ensures entry { option_map entry_of (option_copied result) ≡ get self.now key }
-        ensures key { IfSome (option_copied result) (λ e. e.key ≡ key) }
+    /// The objects of a list in key order.
+    pub(crate) fn in_order(list: Vec<Event>) -> Base
+        requires { IsInOrder list.items }
+        ensures { result ≡ objects_of list.items }
     {
-        let list = self.list.as_slice();
-        event_at(list, key, self.ranges.place(list, key))
+        Base { list }
     }
 
     /// All entries as events, in key order.
@@ -65,6 +59,14 @@ impl Base {
     {
         key_order();
         self.list.as_slice()
+    }
+
+    /// All entries as events, in key order. They are moved, not copied.
+    pub(crate) fn into_items(self) -> Vec<Event>
+        ensures objects { objects_of result.items ≡ self }
+        ensures in_order { IsInOrder result.items }
+    {
+        self.list
     }
 
     /// The entries of ways alone as events, in key order.
@@ -94,28 +96,5 @@ impl Base {
         key_order();
         let list = copies(*self.list.allocator(), self.list.as_slice())?;
         Ok(list)
-    }
-
-    /// Puts the event's entry in the place of its key's, where it has one of the key; else nothing changes and the
-    /// event is dropped. Takes the time of a look-up, and no memory.
-    fn replace(&mut self, event: Event)
-        ensures { self.new ≡ replaced self.old event }
-    {
-        key_order();
-        let list = self.list.as_slice();
-        let at = self.ranges.place(list, event.key);
-        if let Some(place) = place_of(list, event.key, at) {
-            put_at(&mut self.list, place, event);
-        }
-    }
-
-    /// Puts the entry of each of the events in turn in the place of its key's, where it has one of the key. Takes no
-    /// memory.
-    pub(crate) fn replace_all(&mut self, events: Vec<Event>)
-        ensures { self.new ≡ replaced_by events.items self.old }
-    {
-        for event in events {
-            self.replace(event);
-        }
     }
 }

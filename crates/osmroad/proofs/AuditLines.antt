@@ -1,7 +1,8 @@
 -- The lines of an audit, one after another, and all of them.
 use Rattle.std.proofs.Common.{◌≡◌, ℕ, Bool, true, false, cond, IsTrue, List, [], ◌∷◌, ◌++◌, map, filter, length}
-use Rattle.std.proofs.Common.{Contains, suc, refl, sym, ap, subst, ◌∙◌, inl, inr, append-nil}
-use Rattle.std.specs.List.{flat_map}
+use Rattle.std.proofs.Common.{Contains, Option, Some, None, suc, refl, sym, ap, subst, ◌∙◌, inl, inr, append-nil}
+use Rattle.std.specs.Prelude.{filter_map}
+use Rattle.std.specs.List.{cons_option, flat_map}
 use Rattle.std.specs.FinMap.{entries}
 use Rattle.std.proofs.lemmas.List.{map-append}
 use Rattle.std.proofs.lemmas.List.Concat.{flat_map-append}
@@ -15,7 +16,7 @@ use Rattle.road_model.specs.Orders.{relation_cmp}
 use Rattle.object_store.specs.Listed.{pair_of}
 use Rattle.restrictions.specs.Words.{IsRestriction}
 use Rattle.osmroad.specs.Audit.{RuleLine, IsRuleLine, IsLineOf, AreRuleLines, IsAudit, rule_line, carries_conditional}
-use Rattle.osmroad.specs.Audit.{conditional_count, conditional_line}
+use Rattle.osmroad.specs.Audit.{conditional_count, conditional_line, conditional_of}
 use Rattle.ordered_lists.proofs.ListMembers.{In, contains_more, contains_from_in, from_map}
 use Rattle.osmroad.proofs.OneFinding.{one_finding}
 
@@ -82,20 +83,20 @@ module _ (M : Objects) (P : Rules) where
 abbrev entry_carries : Key × Entry → Bool
 entry_carries e = carries_conditional e.1.body
 
-abbrev event_carries : Event → Bool
-event_carries e = carries_conditional e.body
+abbrev told_key : Event → Option Key
+told_key e = conditional_of e.key e.body
 
-one_counted : (t : Bool) (e : Event) (ones : List (Key × Entry)) (rest : List Event) → length ones ≡ length rest
-    → length (cond t (pair_of e ∷ ones) ones) ≡ length (cond t (e ∷ rest) rest)
-one_counted true e ones rest same = ap suc same
-one_counted false e ones rest same = same
+one_counted : (t : Bool) (e : Event) (ones : List (Key × Entry)) (keys : List Key) → length ones ≡ length keys
+    → length (cond t (pair_of e ∷ ones) ones) ≡ length (cons_option (cond t (Some e.key) None) keys)
+one_counted true e ones keys same = ap suc same
+one_counted false e ones keys same = same
 
-counted_pairs : (es : List Event) → length (filter entry_carries (map pair_of es)) ≡ length (filter event_carries es)
+counted_pairs : (es : List Event) → length (filter entry_carries (map pair_of es)) ≡ length (filter_map told_key es)
 counted_pairs [] = refl
 counted_pairs (e ∷ es) =
-    one_counted (carries_conditional e.body) e (filter entry_carries (map pair_of es)) (filter event_carries es)
+    one_counted (carries_conditional e.body) e (filter entry_carries (map pair_of es)) (filter_map told_key es)
     (counted_pairs es)
 
 pub count_is : (M : Objects) (es : List Event) → entries M ≡ map pair_of es
-    → length (filter (λ (e : Event). carries_conditional e.body) es) ≡ conditional_count M
+    → length (filter_map (λ (e : Event). conditional_of e.key e.body) es) ≡ conditional_count M
 count_is M es are = sym (counted_pairs es) ∙ ap (λ l. length (filter entry_carries l)) (sym are)

@@ -2,6 +2,7 @@ pub mod VisibleRestrictions
 pub mod DistinctLists
 pub mod OneFinding
 pub mod AuditLines
+mod WalkedEntries
 pub mod Built
 pub mod LineLengths
 pub mod InputEnds

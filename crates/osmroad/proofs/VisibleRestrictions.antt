@@ -17,7 +17,7 @@ use Rattle.road_base.specs.Applying.{entry_of}
 use Rattle.road_model.specs.Rules.{is_restriction}
 use Rattle.ordered_lists.specs.Orders.{rises}
 use Rattle.road_model.specs.Orders.{relation_cmp}
-use Rattle.object_store.specs.Listed.{AreEntriesOf, IsInOrder, is_relation}
+use Rattle.object_store.specs.Listed.{AreEntriesOf, IsInOrder, is_any}
 use Rattle.restrictions.specs.Words.{IsRestriction}
 use Rattle.osmroad.specs.Audit.{restriction_of, visible_restriction}
 use Rattle.ordered_lists.proofs.ListMembers.{In, contains_from_in, in_from_contains, in_get}
@@ -78,7 +78,7 @@ entry_has : (o : Option Entry) (x : Entry) (body : Relation) → o ≡ Some x �
 entry_has o x body is has =
     ap (λ p. relation_in (body_in p)) is ∙ ap (λ b. relation_in (body_in (Some (record { version = 0; body = b })))) has
 
-module _ (M : Objects) (es : List Event) (all : AreEntriesOf is_relation M es) where
+module _ (M : Objects) (es : List Event) (all : AreEntriesOf is_any M es) where
   told_is_restriction : (r : RelationId) → Contains (filter_map (λ e. restriction_of e.key e.body) es) r
       → IsRestriction M r
   unfolding relation_of visible

@@ -129,6 +129,10 @@ carries_conditional (WayBody w) = has_conditional w.tags
 carries_conditional (RelationBody r) = has_conditional r.tags
 carries_conditional Deleted = false
 
+-- the key, if the body does
+abbrev pub conditional_of : Key → Body → Option Key
+conditional_of k body = cond (carries_conditional body) (Some k) None
+
 -- how many objects do
 abbrev pub conditional_count : Objects → ℕ
 conditional_count M = length (filter (λ e. carries_conditional e.1.body) (entries M))

@@ -1,12 +1,15 @@
-//! The audit: what becomes of each restriction, and how many objects carry conditional keys. It takes the time of one
-//! run over the objects and their tags, and that of `words` for each restriction.
-ghost use Rattle.std.specs.Prelude.{◌≡◌, All, IfOk, filter, filter_map, length, string_bytes};
+//! The audit: what becomes of each restriction, and how many objects carry conditional keys. It takes the time of two
+//! runs over the objects, of which one looks at their tags, and that of `words` for each restriction; and the memory of
+//! the keys of the objects that it counts.
+ghost use Rattle.std.specs.Prelude.{◌≡◌, ◌++◌, All, IfOk, OnOk, filter_map, string_bytes};
+ghost use Rattle.std.specs.Option.{option_to_list};
 ghost use Rattle.restrictions.specs.Words.{IsRestriction};
 ghost use Rattle.osmroad.specs.Audit.{IsAudit, IsLineOf, AreRuleLines, restriction_of, carries_conditional};
-ghost use Rattle.osmroad.specs.Audit.{has_conditional, is_conditional, conditional_line};
+ghost use Rattle.osmroad.specs.Audit.{conditional_of, has_conditional, is_conditional, conditional_line};
 
 use crate::findings::{finding_of, rule_text};
 use back_references::Indexed;
+use layered_maps::Walk;
 use road_base::laws::key_order;
 use road_base::{Body, Event, Key, NoMemory, RelationId, Tags};
 use road_model::{Network, Profile, is_restriction};
@@ -23,11 +26,11 @@ pub fn audit_text<P: Profile>(
         (λ text. IsAudit network.now.world.now (P.rules network.now.profile) (string_bytes text)) }
 {
     key_order();
-    let listed = network.world.objects().listed()?;
-    let rules = restrictions_among(alloc, listed.relations())?;
+    let objects = network.world.objects();
+    let rules = restrictions_among(alloc, objects.walk())?;
     let mut text = rule_lines(alloc, network, &rules)?;
-    let count = conditional_count(listed.items());
-    text.push_str(&conditional_text(alloc, count)?)?;
+    let keys = conditional_among(alloc, objects.walk())?;
+    text.push_str(&conditional_text(alloc, keys.len())?)?;
     Ok(text)
 }
 
@@ -71,10 +74,28 @@ fn conditional_text(alloc: Global, count: usize) -> Result<String, AllocError>
 }
 
 /// The visible restrictions among the entries, in their order.
-fn restrictions_among(alloc: Global, entries: &[Event]) -> Result<Vec<RelationId>, AllocError>
-    ensures { IfOk result (λ rules. rules.items ≡ filter_map (λ e. restriction_of e.key e.body) entries.now) }
+fn restrictions_among(
+    alloc: Global,
+    entries: Walk<'_, Key, Event>,
+) -> Result<Vec<RelationId>, NoMemory>
+    ensures { IfOk result (λ rules. rules.items ≡ filter_map (λ e. restriction_of e.key e.body) entries.entry) }
 {
-    entries.iter().filter_map(restriction_of).collect(alloc)
+    let mut rules = Vec::new(alloc);
+    let mut rest = entries;
+    while let Some(entry) = rest.next() {
+        add(restriction_of(entry), &mut rules)?;
+    }
+    Ok(rules)
+}
+
+/// Puts the value, if there is one, behind the others.
+fn add<T: Drop>(value: Option<T>, list: &mut Vec<T>) -> Result<(), NoMemory>
+    ensures { OnOk result (list.new.items ≡ list.old.items ++ option_to_list value) }
+{
+    if let Some(value) = value {
+        list.push(value)?;
+    }
+    Ok(())
 }
 
 /// The relation of the entry, if it is a visible restriction.
@@ -87,14 +108,27 @@ fn restriction_of(entry: &Event) -> Option<RelationId>
     }
 }
 
-/// How many of the entries are visible and carry a key that ends in `:conditional`.
-fn conditional_count(entries: &[Event]) -> usize
-    ensures { result ≡ length (filter (λ e. carries_conditional e.body) entries.now) }
+/// The keys of the entries that are visible and carry a key that ends in `:conditional`, in their order.
+fn conditional_among(alloc: Global, entries: Walk<'_, Key, Event>) -> Result<Vec<Key>, NoMemory>
+    ensures { IfOk result (λ keys. keys.items ≡ filter_map (λ e. conditional_of e.key e.body) entries.entry) }
 {
-    entries
-        .iter()
-        .filter(|entry| carries_conditional(&entry.body))
-        .count()
+    let mut keys = Vec::new(alloc);
+    let mut rest = entries;
+    while let Some(entry) = rest.next() {
+        add(conditional_of(entry), &mut keys)?;
+    }
+    Ok(keys)
+}
+
+/// The key of the entry, if that is visible and carries such a key.
+fn conditional_of(entry: &Event) -> Option<Key>
+    ensures { result ≡ conditional_of entry.now.key entry.now.body }
+{
+    if carries_conditional(&entry.body) {
+        Some(entry.key)
+    } else {
+        None
+    }
 }
 
 fn carries_conditional(body: &Body) -> bool

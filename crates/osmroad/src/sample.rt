@@ -115,20 +115,14 @@ fn apply_next<P: Profile, L: Ledger>(
 }
 
 /// The line of what the engine has come to.
-fn line_of<P: Profile>(
-    alloc: Global,
-    change: u32,
-    engine: &mut Engine<P>,
-) -> Result<Vec<u8>, NoMemory>
-    requires { IsProfile (P.rules engine.old.profile).number }
-    ensures line { IfOk result (λ line. (events : List Event)
-        → IsApplied empty events engine.old.world
-        → IsSampleLine (P.rules engine.old.profile) change events line.items) }
-    ensures same { engine.new ≡ engine.old }
+fn line_of<P: Profile>(alloc: Global, change: u32, engine: &Engine<P>) -> Result<Vec<u8>, NoMemory>
+    requires { IsProfile (P.rules engine.now.profile).number }
+    ensures { IfOk result (λ line. (events : List Event)
+        → IsApplied empty events engine.now.world
+        → IsSampleLine (P.rules engine.now.profile) change events line.items) }
 {
-    let road_graph = engine.graph()?;
     let mut graph = Vec::new(alloc);
-    write(road_graph.profile.number(), &road_graph.blocks, &mut graph)?;
+    write(engine.profile().number(), engine.blocks(), &mut graph)?;
     let totals = totals_of(alloc, &graph)?;
     sample_line(alloc, change, &totals, graph.len())
 }

@@ -22,7 +22,7 @@ use Rattle.road_model.specs.Driving.{is_open}
 use Rattle.road_model.specs.Restrictions.{IsRun, IsUsable, froms, vias, tos, via_order, is_ring, same_end, misses_end}
 use Rattle.road_model.specs.Restrictions.{some_ends_at, via_ends, first_of, last_of}
 use Rattle.road_model.specs.Words.{IsVia, binding_of, kind_of}
-use Rattle.restrictions.specs.declared.spelling.Rule.{Rule}
+use Rattle.restrictions.specs.declared.spelling.WordRule.{WordRule}
 use Rattle.restrictions.specs.declared.word_list.Word.{Word}
 use Rattle.restrictions.specs.declared.end_steps.Side.TheVariants.{Into, OutOf}
 use Rattle.restrictions.specs.Runs.{first_node, last_node, leave_of, steps_of}
@@ -66,7 +66,7 @@ make_word v w relations only bindings steps = λ i. record
 
 -- ---- words of one passage
 
-module _ (rule : Rule) (via : List Step) where
+module _ (rule : WordRule) (via : List Step) where
   from_distinct : (first : Step) (lasts : List Step) → AreDistinct lasts → AreDistinct (words_from rule first via lasts)
   from_distinct first lasts once =
       distinct_map (λ last. word_of rule first via last)
@@ -88,7 +88,7 @@ module _ (rule : Rule) (via : List Step) where
       let from_b = begins_with b lasts w in_b in
       head_same a b from_a.0 from_b.0 (sym from_a.1 ∙ from_b.1))
 
-module _ (M : Objects) (P : Rules) (rule : Rule) (body : Relation) where
+module _ (M : Objects) (P : Rules) (rule : WordRule) (body : Relation) where
   -- the via members, in the order in which they are passed
   abbrev vs : List Key
   vs = via_order M P body
@@ -329,8 +329,8 @@ pub of_use : (M : Objects) (P : Rules) (r : RelationId) (body found : Relation) 
 of_use M P r body found looked same usable = record
     { body = body; visible = visible_body M r body found looked same; usable = usable }
 
-pub answered : (M : Objects) (P : Rules) (rule : Rule) (r : RelationId) (body found : Relation) (words made : List Word)
-    → IsRestriction M r → Some found ≡ relation_of M r → body ≡ found → IsUsable M P body → rule.relation ≡ r
+pub answered : (M : Objects) (P : Rules) (rule : WordRule) (r : RelationId) (body found : Relation)
+    (words made : List Word) → IsRestriction M r → Some found ≡ relation_of M r → body ≡ found → IsUsable M P body → rule.relation ≡ r
     → rule.only ≡ is_only (P.rule body.tags) → rule.binding ≡ binding_of (vias body) → words ≡ made
     → made ≡ words_of M P rule body → AreWords M P r words
 answered M P rule r body found words made asked looked same usable of only bound listed is =

@@ -1,13 +1,13 @@
 -- The first cause that holds is found by looking at the causes in their order.
-use Rattle.std.proofs.Common.{◌≡◌, ℕ, suc, ◌<◌, ◌≤◌, Bool, true, false, cond, ◌&&◌, ◌||◌, not, IsTrue, IsFalse, List}
-use Rattle.std.proofs.Common.{Option, Some, None, inl, inr, refl, sym, ap, ◌∙◌, subst, arith}
+use Rattle.std.proofs.Common.{◌≡◌, ℕ, suc, Bool, true, false, cond, ◌&&◌, ◌||◌, not, IsTrue, List}
+use Rattle.std.proofs.Common.{Option, Some, None, refl, sym, ap, ◌∙◌, subst, arith}
 use Rattle.std.specs.Prelude.{nat_lt, nat_eq}
 use Rattle.std.specs.List.{list_any}
 use Rattle.std.proofs.lemmas.Bool.{false≢true, or_parts, ltb-true, ltb-false}
 use Rattle.road_base.specs.declared.ids.Key.{Key}
 use Rattle.road_base.specs.declared.objects.Relation.{Relation}
 use Rattle.road_base.specs.Objects.{Objects}
-use Rattle.road_model.specs.declared.answers.RuleKind.TheVariants.{Freed, Absent, No, Only}
+use Rattle.road_model.specs.declared.answers.RuleKind.TheVariants.{Freed, Absent}
 use Rattle.road_model.specs.declared.answers.Unusable.{Unusable}
 use Rattle.road_model.specs.declared.answers.Unusable.TheVariants.{NotThisVehicle, NoValue, Members, Missing, NotAnEnd}
 use Rattle.road_model.specs.declared.answers.Unusable.TheVariants.{NotConnected, ClosedVia, TooLong}
@@ -15,7 +15,7 @@ use Rattle.road_model.specs.Rules.{Rules, is_only}
 use Rattle.road_model.specs.Driving.{is_open}
 use Rattle.road_model.specs.Restrictions.{any_way, are_ways, connects, is_ring, lacks_member, misses_end}
 use Rattle.road_model.specs.Restrictions.{via_order, vias, wrong_members, some_ends_at, via_ends, first_of, last_of}
-use Rattle.road_model.specs.Restrictions.{froms, tos, cause_number, Holds, IsFirstCause, IsUsable}
+use Rattle.road_model.specs.Restrictions.{froms, tos, cause_number, Holds, IsFirstCause}
 use Rattle.road_model.specs.Words.{kind_of}
 use Rattle.restrictions.specs.Causes.{misfit_of}
 

@@ -1,6 +1,6 @@
 -- The order that is found is the one in which via members are passed.
-use Rattle.std.proofs.Common.{◌≡◌, Bool, true, false, cond, ◌&&◌, ◌||◌, not, IsTrue, List, length, Option, Some, None}
-use Rattle.std.proofs.Common.{reverse, refl, sym, ap, ◌∙◌, subst, is_some}
+use Rattle.std.proofs.Common.{◌≡◌, Bool, true, false, cond, ◌&&◌, ◌||◌, not, List, length, Option, Some, None}
+use Rattle.std.proofs.Common.{reverse, refl, sym, ap, is_some}
 use Rattle.std.specs.Prelude.{nat_lt}
 use Rattle.std.proofs.lemmas.Bool.{false≢true}
 use Rattle.road_base.specs.declared.ids.Key.{Key}
@@ -9,7 +9,7 @@ use Rattle.road_base.specs.Objects.{Objects}
 use Rattle.road_model.specs.declared.answers.Unusable.{Unusable}
 use Rattle.road_model.specs.declared.answers.Unusable.TheVariants.{NotAnEnd, NotConnected}
 use Rattle.road_model.specs.Rules.{Rules}
-use Rattle.road_model.specs.Restrictions.{any_way, are_ways, connects, is_backward, misfits, misses_end, via_order, vias}
+use Rattle.road_model.specs.Restrictions.{any_way, are_ways, connects, is_backward, misses_end, via_order, vias}
 use Rattle.restrictions.specs.Causes.{may_be_reversed, misfit_of}
 
 -- the cause, by whether an end is missed, whether the via members are ways, and whether they connect

@@ -10,14 +10,14 @@ use way_lines::{line_at, line_len};
 
 /// The first and the last node of a line.
 #[derive(Clone, Copy)]
-pub struct Ends {
+pub struct LineEnds {
     pub first: NodeId,
     pub last: NodeId,
 }
 
 /// The ends of the way's line, None where it has no node.
 #[tactic(auto, unfolding(road_model::specs::Lines::node_at, road_model::specs::Lines::line_of), using(crate::proofs::LineEnds::line_ends_first, crate::proofs::LineEnds::line_ends_last))]
-pub fn line_ends<M: World>(world: &M, way: WayId) -> Option<Ends>
+pub fn line_ends<M: World>(world: &M, way: WayId) -> Option<LineEnds>
     ensures first { option_map (λ e. e.first) result ≡ node_at (M.objects world.now) way 0 }
     ensures last { option_map (λ e. e.last) result
         ≡ node_at (M.objects world.now) way (length (line_of (M.objects world.now) way) - 1) }
@@ -30,13 +30,13 @@ pub fn line_ends<M: World>(world: &M, way: WayId) -> Option<Ends>
 
 /// The ends of the line of a way with these references: the first and the last of them.
 #[tactic(auto, using(crate::proofs::LineEnds::line_ends_first, crate::proofs::LineEnds::line_ends_last))]
-fn ends_of(refs: &[NodeId]) -> Option<Ends>
+fn ends_of(refs: &[NodeId]) -> Option<LineEnds>
     ensures first { option_map (λ e. e.first) result ≡ slice_get (changes refs.now) 0 }
     ensures last { option_map (λ e. e.last) result ≡ slice_get (changes refs.now) (length (changes refs.now) - 1) }
 {
     match refs {
         [] => None,
-        [first, ..] => Some(Ends {
+        [first, ..] => Some(LineEnds {
             first: *first,
             last: refs[refs.len() - 1],
         }),

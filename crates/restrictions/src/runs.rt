@@ -7,7 +7,7 @@ ghost use Rattle.road_model.specs.Restrictions.{connects, is_ring};
 ghost use Rattle.restrictions.specs.Runs.{across, allows, dir_between, dir_from, end_in, first_enter, last_enter};
 ghost use Rattle.restrictions.specs.Runs.{leads, leave_of};
 
-use crate::line_ends::{Ends, line_ends, some_ends_at};
+use crate::line_ends::{LineEnds, line_ends, some_ends_at};
 use crate::roles::Roles;
 use road_base::{Dir, Key, NodeId, WayId};
 use road_model::{Network, Profile, World};
@@ -22,7 +22,7 @@ pub enum Allowed {
 
 /// A way that is driven whole: its direction, and the node where one comes out.
 #[derive(Clone, Copy)]
-pub struct Crossing {
+pub struct WholeWay {
     pub way: WayId,
     pub dir: Dir,
     pub out: NodeId,
@@ -35,7 +35,7 @@ pub fn cross<M: World, P: Profile>(
     allowed: Allowed,
     key: Key,
     from: NodeId,
-) -> Option<Crossing>
+) -> Option<WholeWay>
     ensures some { IfSome result (λ c. (key ≡ WayKey c.way)
         × (dir_from (map_of network.now) c.way (Some from) ≡ Some c.dir)
         × (across (map_of network.now) (made_on network.now allows allowed) key (Some from) ≡ Some c.out)) }
@@ -54,7 +54,7 @@ pub fn cross<M: World, P: Profile>(
     if !is_allowed(network, allowed, way, dir) {
         return None;
     }
-    Some(Crossing {
+    Some(WholeWay {
         way,
         dir,
         out: end_in(ends, dir),
@@ -62,7 +62,7 @@ pub fn cross<M: World, P: Profile>(
 }
 
 /// The direction in which a line with these ends is driven from the node.
-fn dir_between(ends: Ends, from: NodeId) -> Option<Dir>
+fn dir_between(ends: LineEnds, from: NodeId) -> Option<Dir>
     ensures { result ≡ dir_between (Some ends.first) (Some ends.last) (Some from) }
 {
     if ends.first == from {
@@ -75,7 +75,7 @@ fn dir_between(ends: Ends, from: NodeId) -> Option<Dir>
 }
 
 /// Where one comes out who drives the line in the direction.
-fn end_in(ends: Ends, dir: Dir) -> NodeId
+fn end_in(ends: LineEnds, dir: Dir) -> NodeId
     ensures { Some result ≡ end_in (Some ends.first) (Some ends.last) dir }
 {
     match dir {
@@ -140,7 +140,7 @@ pub fn connects<M: World, P: Profile>(
 }
 
 /// The ends of the first of the ways.
-pub fn first_ends<M: World>(world: &M, keys: &[Key]) -> Option<Ends>
+pub fn first_ends<M: World>(world: &M, keys: &[Key]) -> Option<LineEnds>
     ensures first { option_map (λ e. e.first) result ≡ first_enter (M.objects world.now) keys.now }
     ensures last { option_map (λ e. e.last) result ≡ last_enter (M.objects world.now) keys.now }
 {

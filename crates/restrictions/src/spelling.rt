@@ -17,19 +17,19 @@ use std::alloc::Global;
 
 /// What the words of a restriction share.
 #[derive(Clone, Copy)]
-pub struct Rule {
+pub struct WordRule {
     pub relation: RelationId,
     pub only: bool,
     pub binding: u32,
 }
 
 /// What the words of the restriction share.
-pub fn rule_of<P: Profile>(profile: &P, relation: RelationId, roles: &Roles<'_>) -> Rule
+pub fn rule_of<P: Profile>(profile: &P, relation: RelationId, roles: &Roles<'_>) -> WordRule
     ensures relation { result.relation ≡ relation }
     ensures only { result.only ≡ is_only ((P.rules profile.now).rule roles.now.body.now.tags) }
     ensures binding { result.binding ≡ binding_of (vias roles.now.body.now) }
 {
-    Rule {
+    WordRule {
         relation,
         only: matches!(profile.rule(&roles.body.tags), RuleKind::Only),
         binding: binding_of(roles.vias.as_slice()),
@@ -50,7 +50,7 @@ fn binding_of(vias: &[Key]) -> u32
 pub fn words_of<M: World, P: Profile>(
     alloc: Global,
     network: &Network<'_, M, P>,
-    rule: Rule,
+    rule: WordRule,
     roles: &Roles<'_>,
     order: &[Key],
 ) -> Result<Vec<Word>, NoMemory>
@@ -80,7 +80,7 @@ fn add_words_over<M: World, P: Profile>(
     alloc: Global,
     words: &mut Vec<Word>,
     network: &Network<'_, M, P>,
-    rule: Rule,
+    rule: WordRule,
     roles: &Roles<'_>,
     order: &[Key],
     enter: NodeId,
@@ -100,7 +100,7 @@ fn add_words_at<M: World>(
     alloc: Global,
     words: &mut Vec<Word>,
     world: &M,
-    rule: Rule,
+    rule: WordRule,
     roles: &Roles<'_>,
     passage: &Passage,
 ) -> Result<(), NoMemory>
@@ -134,7 +134,7 @@ fn add_words_at<M: World>(
 fn add_words_from(
     alloc: Global,
     words: &mut Vec<Word>,
-    rule: Rule,
+    rule: WordRule,
     first: Step,
     via: &[Step],
     lasts: &[Step],
@@ -150,7 +150,7 @@ fn add_words_from(
 /// The word of these steps.
 fn word_of(
     alloc: Global,
-    rule: Rule,
+    rule: WordRule,
     first: Step,
     via: &[Step],
     last: Step,

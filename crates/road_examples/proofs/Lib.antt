@@ -3,5 +3,6 @@ mod ExampleMaps
 mod ExampleTouched
 mod SmallDrives
 mod ExampleViaWay
+mod ExampleBackward
 mod ExampleCrossing
 mod ExampleBroken

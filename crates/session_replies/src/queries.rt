@@ -19,19 +19,17 @@ use road_model::laws::walk_law;
 use session_answers::Reply;
 use std::alloc::Global;
 
-/// The reply to a message. The kept number is that of the last change. The engine stays what it is; it may list its
-/// blocks.
+/// The reply to a message. The kept number is that of the last change.
 pub fn reply_to<P: Profile>(
     alloc: Global,
-    engine: &mut Engine<P>,
+    engine: &Engine<P>,
     kept: Sequence,
     asked: &Asked,
 ) -> Result<Reply, NoMemory>
-    requires number { IsProfile (P.rules engine.old.profile).number }
+    requires number { IsProfile (P.rules engine.now.profile).number }
     requires drives { AsksSteps asked.now }
-    ensures reply { IfOk result (λ r.
-        IsReply engine.old.world (P.rules engine.old.profile) kept.0 asked.now (said r)) }
-    ensures same { engine.new ≡ engine.old }
+    ensures { IfOk result (λ r.
+        IsReply engine.now.world (P.rules engine.now.profile) kept.0 asked.now (said r)) }
 {
     match asked {
         Asked::Empty => Ok(line_alone(alloc, Vec::new(alloc))),
@@ -61,17 +59,15 @@ fn line_alone(alloc: Global, line: Vec<u8>) -> Reply
 }
 
 /// The graph's bytes, behind a line that tells how many there are.
-fn graph_reply<P: Profile>(alloc: Global, engine: &mut Engine<P>) -> Result<Reply, NoMemory>
-    requires { IsProfile (P.rules engine.old.profile).number }
-    ensures reply { IfOk result (λ r. IsGraphReply engine.old.world (P.rules engine.old.profile) (said r)) }
-    ensures same { engine.new ≡ engine.old }
+fn graph_reply<P: Profile>(alloc: Global, engine: &Engine<P>) -> Result<Reply, NoMemory>
+    requires { IsProfile (P.rules engine.now.profile).number }
+    ensures { IfOk result (λ r. IsGraphReply engine.now.world (P.rules engine.now.profile) (said r)) }
 {
     let profile = engine.profile();
     walk_law(&profile);
     walked_file(&profile);
-    let road_graph = engine.graph()?;
     let mut graph = Vec::new(alloc);
-    write(profile.number(), &road_graph.blocks, &mut graph)?;
+    write(profile.number(), engine.blocks(), &mut graph)?;
     let line = graph_head(alloc, &graph)?;
     Ok(Reply {
         line,
@@ -82,14 +78,12 @@ fn graph_reply<P: Profile>(alloc: Global, engine: &mut Engine<P>) -> Result<Repl
 /// The kept number, and how large the graph is.
 fn state_reply<P: Profile>(
     alloc: Global,
-    engine: &mut Engine<P>,
+    engine: &Engine<P>,
     kept: Sequence,
 ) -> Result<Reply, NoMemory>
-    ensures reply { IfOk result (λ r. IsStateReply engine.old.world (P.rules engine.old.profile) kept.0 (said r)) }
-    ensures same { engine.new ≡ engine.old }
+    ensures { IfOk result (λ r. IsStateReply engine.now.world (P.rules engine.now.profile) kept.0 (said r)) }
 {
-    let road_graph = engine.graph()?;
-    let totals = counts(&road_graph.blocks);
+    let totals = counts(engine.blocks());
     Ok(line_alone(alloc, state(alloc, kept, &totals)?))
 }
 
@@ -113,16 +107,21 @@ fn drive_reply<P: Profile>(
 /// A drive from node a to node b.
 fn reach_reply<P: Profile>(
     alloc: Global,
-    engine: &mut Engine<P>,
+    engine: &Engine<P>,
     a: NodeId,
     b: NodeId,
 ) -> Result<Reply, NoMemory>
-    ensures reply { IfOk result (λ r. (found : _)
-        × IsFound engine.old.world (P.rules engine.old.profile) a b found
+    ensures { IfOk result (λ r. (found : _)
+        × IsFound engine.now.world (P.rules engine.now.profile) a b found
         × (said r ≡ found_line found)) }
-    ensures same { engine.new ≡ engine.old }
 {
-    let graph = engine.graph()?;
-    let found = reach(alloc, &graph.world, &graph.profile, &graph.blocks, a, b)?;
+    let found = reach(
+        alloc,
+        engine.world(),
+        &engine.profile(),
+        engine.blocks(),
+        a,
+        b,
+    )?;
     Ok(line_alone(alloc, found_reply(alloc, &found)?))
 }

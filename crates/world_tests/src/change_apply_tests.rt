@@ -18,10 +18,9 @@ const NOTHING: Report = Report {
 };
 
 /// The bytes of the graph.
-fn graph_of(alloc: Global, engine: &mut Engine<Motorcar>) -> Result<Vec<u8>, Fail> {
-    let graph = engine.graph()?;
+fn graph_of(alloc: Global, engine: &Engine<Motorcar>) -> Result<Vec<u8>, Fail> {
     let mut bytes = Vec::new(alloc);
-    write(Motorcar.number(), &graph.blocks, &mut bytes)?;
+    write(Motorcar.number(), engine.blocks(), &mut bytes)?;
     Ok(bytes)
 }
 
@@ -224,9 +223,8 @@ fn leads_by(piece: &Piece, index: u32) -> bool {
 }
 
 /// Whether one arc alone leads from way 10 along its line, by this position of way 11.
-fn way_10_leads_by(engine: &mut Engine<Motorcar>, index: u32) -> Result<bool, NoMemory> {
-    let graph = engine.graph()?;
-    let Some(block) = graph.blocks.get(WayId(10)) else {
+fn way_10_leads_by(engine: &Engine<Motorcar>, index: u32) -> Result<bool, NoMemory> {
+    let Some(block) = engine.blocks().get(WayId(10)) else {
         return Ok(false);
     };
     Ok(match block.pieces.items() {

@@ -38,12 +38,18 @@ fn leads(engine: &Engine<Motorcar>, drive: &[Step], a: NodeId, b: NodeId) -> boo
 /// What is found between the nodes.
 fn found(
     alloc: Global,
-    engine: &mut Engine<Motorcar>,
+    engine: &Engine<Motorcar>,
     a: NodeId,
     b: NodeId,
 ) -> Result<Found, NoMemory> {
-    let graph = engine.graph()?;
-    reach(alloc, &graph.world, &graph.profile, &graph.blocks, a, b)
+    reach(
+        alloc,
+        engine.world(),
+        &engine.profile(),
+        engine.blocks(),
+        a,
+        b,
+    )
 }
 
 /// That the node isn't there.

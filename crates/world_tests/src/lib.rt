@@ -17,8 +17,6 @@ mod object_store_tests;
 #[cfg(test)]
 mod piece_tests;
 #[cfg(test)]
-mod shared_map_tests;
-#[cfg(test)]
 mod touched_ways_tests;
 #[cfg(test)]
 mod way_lines_tests;

@@ -1,31 +1,49 @@
-use Rattle.std.proofs.Common.{sym, subst, ◌≡◌, ◌++◌, OnOk}
+use Rattle.std.proofs.Common.{◌≡◌, ◌++◌, Result, Ok, Err, OnOk, subst, sym, refl}
 use Rattle.std.specs.List.{AllByRecursion}
-use Rattle.std.proofs.lemmas.Result.{on_ok_weaker}
-use Rattle.road_model.specs.Format.{graph_bytes, IsBlockForm}
-use Rattle.graph_file.proofs.Files.{values_are, is_graph_file}
-use Rattle.graph_file.proofs.GraphFiles.{map_file}
+use Rattle.std.specs.FinMap.{FinMap, values}
+use Rattle.road_model.specs.declared.blocks.Block.{Block}
+use Rattle.road_model.specs.Orders.{way_cmp}
+use Rattle.road_model.specs.Format.{graph_bytes, IsBlockForm, IsGraphFile}
+use Rattle.graph_file.specs.GraphReading.{IsFile, IsOfItsWay}
+use Rattle.graph_blocks.specs.Lent.{map_of}
+use Rattle.graph_file.proofs.Files.{is_graph_file}
+use Rattle.graph_file.proofs.GraphFiles.{file_of}
 use Rattle.graph_file.proofs.write.Goals as goal
 
+-- what follows of two facts that come at Ok, comes at Ok
+both : {T E A B C : Type 0} (r : Result T E) → OnOk r A → OnOk r B → (A → B → C) → OnOk r C
+both (Ok x) a b f = f a b
+both (Err x) a b f = tt
+
 pub put_graph-written-requires : goal.put_graph-written-requires
-put_graph-written-requires c = subst (AllByRecursion IsBlockForm) (values_are _ _ c.items.ensures.entries)
-    c.requires.forms
+put_graph-written-requires g c =
+    subst (λ (m : FinMap way_cmp Block). AllByRecursion IsBlockForm (values m)) (sym c.lend.ensures) c.requires.forms
 
 pub returns-else-is_err-clause-bytes : goal.returns-else-is_err-clause-bytes
-returns-else-is_err-clause-bytes c =
-    subst (λ bs. OnOk c.put_graph-written.result
-    (c.put_graph-written.new.out.items ≡ c.args.out.now.items ++ graph_bytes c.args.profile bs))
-    (sym (values_are _ _ c.items.ensures.entries)) c.put_graph-written.ensures.ok
+returns-else-is_err-clause-bytes g c =
+    subst (λ (m : FinMap way_cmp Block). OnOk c.put_graph-written.result
+    (c.put_graph-written.new.out.items ≡ c.args.out.now.items ++ graph_bytes c.args.profile (values m)))
+    c.lend.ensures c.put_graph-written.ensures.ok
 
 pub returns-else-is_err-clause-grammar : goal.returns-else-is_err-clause-grammar
-returns-else-is_err-clause-grammar c =
-    on_ok_weaker c.put_graph-written.result
-    (λ fit. is_graph_file _ _ _ c.requires.profile c.items.ensures.entries c.items.ensures.ascending c.requires.forms
-    fit c.put_graph-written.ensures.count)
-    c.put_graph-written.ensures.fit
+returns-else-is_err-clause-grammar g c =
+    let is = c.put_graph-written.ensures in
+    let blocks = values (map_of c.lend.result) in
+    let forms = subst (λ (m : FinMap way_cmp Block). AllByRecursion IsBlockForm (values m)) (sym c.lend.ensures)
+    c.requires.forms in
+    subst (λ (m : FinMap way_cmp Block). OnOk c.put_graph-written.result
+    (IsGraphFile (graph_bytes c.args.profile (values m)))) c.lend.ensures
+    (both c.put_graph-written.result is.fit is.count
+    (λ fit count. is_graph_file c.args.profile blocks c.requires.profile is.ascending forms fit count))
 
 pub returns-else-is_err-clause-file : goal.returns-else-is_err-clause-file
-returns-else-is_err-clause-file c = λ own.
-    on_ok_weaker c.put_graph-written.result
-    (λ fit. map_file _ _ _ c.requires.profile c.items.ensures.entries c.items.ensures.ascending c.requires.forms
-    fit c.put_graph-written.ensures.count own)
-    c.put_graph-written.ensures.fit
+returns-else-is_err-clause-file g c =
+    let is = c.put_graph-written.ensures in
+    let blocks = values (map_of c.lend.result) in
+    let forms = subst (λ (m : FinMap way_cmp Block). AllByRecursion IsBlockForm (values m)) (sym c.lend.ensures)
+    c.requires.forms in
+    subst (λ (m : FinMap way_cmp Block). AllByRecursion IsOfItsWay (values m) → OnOk c.put_graph-written.result
+    (IsFile c.args.profile (graph_bytes c.args.profile (values m)) (values m))) c.lend.ensures
+    (λ own. both c.put_graph-written.result is.fit is.count
+    (λ fit count. file_of c.args.profile (graph_bytes c.args.profile blocks) blocks c.requires.profile refl count
+    is.ascending forms fit own))

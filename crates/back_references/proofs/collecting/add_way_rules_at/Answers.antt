@@ -2,7 +2,7 @@ use Rattle.std.proofs.Common.{◌≡◌, ◌++◌, OnOk, IfSome, option_copied, 
 use Rattle.std.specs.Option.{option_map}
 use Rattle.road_base.specs.Applying.{entry_of}
 use Rattle.back_references.specs.References.{ways_with_rule, rule_members, way_rules_at}
-use Rattle.back_references.proofs.IndexLists.{none_added}
+use Rattle.back_references.proofs.ExchangedPairs.{none_added}
 use Rattle.back_references.proofs.NamedObjects.{at_some, at_none}
 use Rattle.back_references.proofs.collecting.add_way_rules_at.Goals as goal
 

@@ -1,4 +1,4 @@
-use Rattle.back_references.proofs.IndexLists.{value_added}
+use Rattle.back_references.proofs.ExchangedPairs.{value_added}
 use Rattle.back_references.proofs.exchanges.add_other.Goals as goal
 
 pub returns : goal.returns

@@ -1,4 +1,4 @@
-use Rattle.back_references.proofs.IndexLists.{exchanged_lists}
+use Rattle.back_references.proofs.ExchangedPairs.{exchanged_lists}
 use Rattle.back_references.proofs.exchanges.exchanged_values.Goals as goal
 
 pub returns-clause-exactly : goal.returns-clause-exactly

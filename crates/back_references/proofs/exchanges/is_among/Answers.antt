@@ -1,4 +1,4 @@
-use Rattle.back_references.proofs.IndexLists.{found_among}
+use Rattle.back_references.proofs.ExchangedPairs.{found_among}
 use Rattle.back_references.proofs.exchanges.is_among.Goals as goal
 
 pub returns : goal.returns

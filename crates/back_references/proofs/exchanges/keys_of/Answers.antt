@@ -1,5 +1,5 @@
 use Rattle.std.proofs.Common.{Contains, map, sym, subst}
-use Rattle.back_references.proofs.IndexLists.{key_in, contains_left}
+use Rattle.back_references.proofs.ExchangedPairs.{key_in, contains_left}
 use Rattle.back_references.proofs.exchanges.keys_of.Goals as goal
 
 pub returns-clause-gone : goal.returns-clause-gone

@@ -1,6 +1,6 @@
 use Rattle.std.proofs.Common.{◌≡◌, ◌+◌, [], ◌∷◌, ◌++◌, take, sym, ap, ◌∙◌, subst, take_all}
 use Rattle.std.proofs.lemmas.List.{take_more}
-use Rattle.back_references.proofs.IndexLists.{AreOthers, others_none, others_more}
+use Rattle.back_references.proofs.ExchangedPairs.{AreOthers, others_none, others_more}
 use Rattle.back_references.proofs.exchanges.others.Goals as goal
 
 pub loop-value-init : goal.loop-value-init

@@ -1,5 +1,5 @@
 use Rattle.std.proofs.Common.{take}
-use Rattle.back_references.proofs.IndexLists.{AreOthers}
+use Rattle.back_references.proofs.ExchangedPairs.{AreOthers}
 use Rattle.back_references.proofs.exchanges.others.Given as goal
 
 abbrev pub invariant-loop-value : goal.invariant-loop-value

@@ -1,11 +1,15 @@
-use Rattle.std.proofs.Common.{rules, tests}
-use Rattle.std.proofs.lemmas.Iterator.{items_from_collect, YieldsList-from_slice}
-use Rattle.std.proofs.lemmas.Iterator.Consumers.{YieldsList-from_filter_map}
+use Rattle.std.proofs.Common.{◌≡◌, ◌++◌, ◌∷◌, [], option_copied, ap, subst}
+use Rattle.std.specs.Prelude.{filter_map}
+use Rattle.layered_maps.specs.Walks.{IsNext}
+use Rattle.back_references.proofs.HighwayLists.{in_event, one_told, all_told}
 use Rattle.back_references.proofs.highways.highways_among.Goals as goal
 
-pub returns : goal.returns
-returns c =
-    let entries = c.args.entries.now in
-    items_from_collect _ c.collect.ensures.ran (
-    YieldsList-from_filter_map _ _ (YieldsList-from_slice entries cc) c.filter_map.ensures.closure
-    (λ x r q k. search (rules, tests)))
+pub loop-entry-init : goal.loop-entry-init
+loop-entry-init c = ap (λ l. l ++ filter_map in_event c.args.entries) c.new-ways.ensures.items
+
+pub loop-entry-preserved : goal.loop-entry-preserved
+loop-entry-preserved c =
+    let split : c.loop-entry.rest ≡ c.in-Some.entry.now ∷ c.next.new.self =
+    subst (λ o. IsNext o c.loop-entry.rest c.next.new.self) (ap option_copied c.in-Some.is) c.next.ensures in
+    one_told c.loop-entry.ways.items _ _ c.loop-entry.rest c.next.new.self c.in-Some.entry.now split
+    c.loop-entry.invariant c.in_ok-add_highway.ensures

@@ -1,6 +1,7 @@
 use Rattle.std.proofs.Common.{◌≡◌, take, slice_index_or, pos, sym, ap, subst, ◌∙◌}
 use Rattle.std.proofs.lemmas.List.{take_all, take_more}
 use Rattle.road_base.specs.declared.ids.WayId.{WayId}
+use Rattle.graph_blocks.specs.Lent.{map_of}
 use Rattle.change_apply.specs.Rebuilding.{pieces_at}
 use Rattle.change_apply.specs.Standing.{built_in}
 use Rattle.change_apply.proofs.ComparedPieces.{AreSame, more_same, more_altered}
@@ -14,8 +15,8 @@ loop-way-preserved c =
     let way = slice_index_or ways i (record { 0 = pos 0 }) in
     let before = c.args.before.now in
     let after = c.args.after.now in
-    let Same : WayId → Type 0 = λ w. pieces_at (built_in before) before.listed.now.map w
-    ≡ pieces_at (built_in after) after.listed.now.map w in
+    let Same : WayId → Type 0 = λ w. pieces_at (built_in before) (map_of before.blocks.now) w
+    ≡ pieces_at (built_in after) (map_of after.blocks.now) w in
     let more = take_more ways i (record { 0 = pos 0 }) c.loop-way-test.true in
     elim c.if-not-same_spans.branch [
       | then-not-same_spans+in_ok-push w ↦
@@ -33,7 +34,7 @@ pub returns : goal.returns
 returns c =
     let before = c.args.before.now in
     let after = c.args.after.now in
-    let Same : WayId → Type 0 = λ w. pieces_at (built_in before) before.listed.now.map w
-    ≡ pieces_at (built_in after) after.listed.now.map w in
+    let Same : WayId → Type 0 = λ w. pieces_at (built_in before) (map_of before.blocks.now) w
+    ≡ pieces_at (built_in after) (map_of after.blocks.now) w in
     subst (λ l. AreSame Same l c.loop-way.altered.items)
     (take_all c.loop-way.way-index c.args.ways.now c.loop-way-test.false) c.loop-way.invariant

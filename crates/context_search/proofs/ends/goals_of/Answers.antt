@@ -7,6 +7,7 @@ use Rattle.road_model.specs.declared.lists.Piece.{Piece}
 use Rattle.context_search.specs.Ends.{Arrives, pieces_in}
 use Rattle.context_search.specs.Visits.{goal_in}
 use Rattle.context_search.proofs.SearchGoalsOf.{are_goals, named_in, same_way}
+use Rattle.graph_blocks.specs.Lent.{map_of}
 use Rattle.context_search.proofs.ends.goals_of.Goals as goal
 
 abbrev no_way : WayId
@@ -17,7 +18,7 @@ loop-way-preserved g c =
     let M = g.M.World.objects c.args.network.now.world.now in
     let P = g.P.Profile.rules c.args.network.now.profile in
     let o = c.name_order.ensures in
-    let m = c.args.blocks.now.map in
+    let m = map_of c.args.blocks.now in
     let ways = c.ways_at-way-items.result.now in
     let k = c.loop-way.way-index in
     let w = get_or ways k no_way in
@@ -64,7 +65,7 @@ returns g c =
     let P = g.P.Profile.rules c.args.network.now.profile in
     let ways = c.ways_at-way-items.result.now in
     let inv = c.loop-way.invariant in
-    are_goals M P c.args.blocks.now.map c.requires (c.one_name.ensures.pieces M)
+    are_goals M P (map_of c.args.blocks.now) c.requires (c.one_name.ensures.pieces M)
     (c.has_block.ensures M) c.args.node ways c.loop-way.goals c.ways_at-way-items.ensures.complete
     (c.roads_refer.ensures.passed M) inv.sound
     (λ w e j h. inv.complete w e j (subst (λ (xs : List WayId). Contains xs w)

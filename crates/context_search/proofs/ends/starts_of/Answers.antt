@@ -6,6 +6,7 @@ use Rattle.road_base.specs.declared.ids.WayId.{WayId}
 use Rattle.road_model.specs.declared.lists.Piece.{Piece}
 use Rattle.context_search.specs.Ends.{pieces_in}
 use Rattle.context_search.proofs.SearchStartsOf.{are_starts}
+use Rattle.graph_blocks.specs.Lent.{map_of}
 use Rattle.context_search.proofs.ends.starts_of.Goals as goal
 
 abbrev no_way : WayId
@@ -28,7 +29,7 @@ loop-way-preserved g c =
             | inl before ↦ let r = old.complete v e i before there l in (r.0, more.stays r.0 r.1, r.2, r.3)
             | inr same ↦ more.all e i
                 (subst (λ (xs : List Piece). Contains xs e) (sym c.pieces_of.ensures)
-                (subst (λ (z : WayId). Contains (pieces_in (get c.args.blocks.now.map z)) e) same there)) l
+                (subst (λ (z : WayId). Contains (pieces_in (get (map_of c.args.blocks.now) z)) e) same there)) l
           ];
     }
 
@@ -39,7 +40,7 @@ returns g c =
     let ways = c.ways_at-way-items.result.now in
     let inv = c.loop-way.invariant in
     are_starts M P (c.one_name.ensures.pieces M) (c.has_block.ensures M)
-    c.args.blocks.now.map c.requires c.args.node ways c.loop-way.starts.items c.ways_at-way-items.ensures.complete
+    (map_of c.args.blocks.now) c.requires c.args.node ways c.loop-way.starts.items c.ways_at-way-items.ensures.complete
     (c.roads_refer.ensures.left M) inv.sound
     (λ w e i h. inv.complete w e i (subst (λ (xs : List WayId). Contains xs w)
     (sym (take_all c.loop-way.way-index ways c.loop-way-test.false)) h))

@@ -1,4 +1,5 @@
 use Rattle.std.proofs.Common.{map}
+use Rattle.graph_blocks.specs.Lent.{map_of}
 use Rattle.context_search.specs.Marks.{at_of, all_contexts}
 use Rattle.context_search.specs.Sought.{AreSpots}
 use Rattle.context_search.proofs.SearchEntries.{are_spots, seen_as}
@@ -10,6 +11,6 @@ returns g c =
     let P = g.P.Profile.rules c.args.network.now.profile in
     let o = c.name_order.ensures in
     let h = are_spots M P o.ways o.names o.lists ((c.one_name.ensures).pieces M) (c.has_block.ensures M)
-    c.args.blocks.now.map c.requires c.items.result.now c.items.ensures.each c.items.ensures.ascending in
-    seen_as c.spots_of.result (λ v. map at_of v.items) (all_contexts c.items.result.now) (AreSpots M P) h
+    (map_of c.args.blocks.now) c.requires c.walk.result c.walk.ensures.each c.walk.ensures.ascending in
+    seen_as c.spots_of.result (λ v. map at_of v.items) (all_contexts c.walk.result) (AreSpots M P) h
     c.spots_of.ensures

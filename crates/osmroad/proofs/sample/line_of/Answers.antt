@@ -2,6 +2,7 @@ use Rattle.std.proofs.Common.{◌≡◌, ◌∙◌, ◌++◌, ℕ, List, ap, sym
 use Rattle.std.specs.FinMap.{values}
 use Rattle.road_model.specs.Format.{graph_bytes, IsGraphFile}
 use Rattle.road_base.specs.Profiles.{IsProfile}
+use Rattle.graph_blocks.specs.Lent.{map_of}
 use Rattle.graph_file.specs.GraphReading.{IsFile}
 use Rattle.graph_file.proofs.GraphFiles.{file_profile}
 use Rattle.drive_queries.specs.declared.totals.Totals.{Totals}
@@ -14,26 +15,26 @@ use Rattle.osmroad.proofs.sample.line_of.Goals as goal
 pub write-requires-clause-profile : goal.write-requires-clause-profile
 write-requires-clause-profile g c =
     subst IsProfile (sym (c.number.ensures ∙ ap (λ (p : g.row.P.Denot). (g.P.Profile.rules p).number)
-    c.in_ok-road_graph.ensures.profile)) c.requires
+    c.profile.ensures)) c.requires
 
 pub write-requires-clause-forms : goal.write-requires-clause-forms
-write-requires-clause-forms g c = c.in_ok-road_graph.ensures.forms
+write-requires-clause-forms g c = c.blocks.ensures.forms
 
 pub totals_of-requires : goal.totals_of-requires
 totals_of-requires g c =
-    let blocks = values c.in_ok-road_graph.road_graph.now.blocks.map in
+    let blocks = values (map_of c.blocks.result.now) in
     let bytes : c.write.new.out.items ≡ graph_bytes c.number.result blocks =
     c.in_ok-write.ensures.bytes ∙ ap (λ (l : List ℕ). l ++ graph_bytes c.number.result blocks) c.new-graph.ensures.items
     in
     subst IsGraphFile (sym (c.deref.ensures.value ∙ bytes)) c.in_ok-write.ensures.grammar
 
-pub returns-clause-line : goal.returns-clause-line
-returns-clause-line g c =
+pub returns : goal.returns
+returns g c =
     let P = g.P.Profile.rules c.args.engine.now.profile in
     let number : c.number.result ≡ P.number = c.number.ensures ∙ ap (λ (p : g.row.P.Denot). (g.P.Profile.rules
     p).number)
-    c.in_ok-road_graph.ensures.profile in
-    let blocks = values c.in_ok-road_graph.road_graph.now.blocks.map in
+    c.profile.ensures in
+    let blocks = values (map_of c.blocks.result.now) in
     let graph = c.write.new.out.items in
     let bytes : graph ≡ graph_bytes c.number.result blocks =
     c.in_ok-write.ensures.bytes ∙ ap (λ (l : List ℕ). l ++ graph_bytes c.number.result blocks) c.new-graph.ensures.items
@@ -48,7 +49,7 @@ returns-clause-line g c =
       graph = graph;
       is = record {
         blocks = blocks;
-        listed = c.in_ok-road_graph.ensures.listed;
+        listed = c.blocks.ensures.listed;
         spelled = bytes ∙ ap (λ (n : ℕ). graph_bytes n blocks) number;
       };
       blocks = read.1;

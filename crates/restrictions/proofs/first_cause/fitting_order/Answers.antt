@@ -1,5 +1,5 @@
 -- The listed order stands where it fits, where the profile may not reverse it, or where the reversed one misfits, too.
-use Rattle.std.proofs.Common.{◌≡◌, true, false, sym, ap, ◌∙◌, subst, length, is_some}
+use Rattle.std.proofs.Common.{◌≡◌, true, false, sym, ap, ◌∙◌, length, is_some}
 use Rattle.std.specs.Prelude.{None, nat_lt, reverse}
 use Rattle.road_model.specs.Restrictions.{vias}
 use Rattle.restrictions.specs.Causes.{may_be_reversed, misfit_of}

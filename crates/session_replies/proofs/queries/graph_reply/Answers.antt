@@ -7,6 +7,7 @@ use Rattle.road_model.specs.Blocks.{IsRoadBlock}
 use Rattle.road_model.specs.Format.{graph_bytes}
 use Rattle.road_model.specs.Walks.{AreWalked}
 use Rattle.road_base.specs.Profiles.{IsProfile}
+use Rattle.graph_blocks.specs.Lent.{map_of}
 use Rattle.graph_file.specs.GraphReading.{IsFile}
 use Rattle.graph_file.specs.WalkedFiles.{IsWalkedFile}
 use Rattle.session_replies.specs.Texts.{graph_line}
@@ -18,14 +19,14 @@ write-requires-clause-profile g c =
     subst (λ (n : ℕ). IsProfile n) (sym (c.number.ensures ∙ ap (λ p. (R p).number) c.profile-profile.ensures))
     c.requires
 
-pub returns-clause-reply : goal.returns-clause-reply
-returns-clause-reply g c =
+pub returns : goal.returns
+returns g c =
     let M = c.args.engine.now.world in
     let R = g.P.Profile.rules in
     let profile = c.args.engine.now.profile in
     let same : c.profile-profile.result ≡ profile = c.profile-profile.ensures in
-    let blocks = values c.in_ok-road_graph.road_graph.now.blocks.map in
-    let listed = c.in_ok-road_graph.ensures.listed in
+    let blocks = values (map_of c.blocks.result.now) in
+    let listed = c.blocks.ensures.listed in
     let mine = subst (λ p. Lists (λ (b : Block). b.way) way_cmp (IsRoadBlock M (R p)) blocks) (sym same) listed in
     let number = c.number.result in
     let bytes = c.write.new.out.items in

@@ -3,7 +3,7 @@ use Rattle.road_model.specs.Links.{RefersTo}
 use Rattle.ordered_lists.specs.Orders.{Lists}
 use Rattle.road_model.specs.Orders.{way_cmp}
 use Rattle.ordered_lists.proofs.JoinedLists.{lists_same}
-use Rattle.back_references.specs.Indexes.{Has}
+use Rattle.layered_maps.specs.Lists.{Has}
 use Rattle.road_model.specs.Orders.{node_cmp}
 use Rattle.back_references.proofs.indexed.IndexedWorld.ways_at.Goals as goal
 

@@ -3,9 +3,9 @@ use Rattle.road_base.specs.declared.ids.Key.TheVariants.{Way as WayKey, Relation
 use Rattle.road_base.specs.Objects.{key_cmp}
 use Rattle.road_model.specs.Links.{HasMember}
 use Rattle.road_model.specs.Orders.{way_cmp}
-use Rattle.back_references.specs.Indexes.{Has}
+use Rattle.layered_maps.specs.Lists.{Has}
 use Rattle.std.proofs.lemmas.Result.{IfOk-weaker}
-use Rattle.back_references.proofs.IndexLists.{chained, link_after, in_or_out}
+use Rattle.back_references.proofs.ExchangedPairs.{chained, link_after, in_or_out}
 use Rattle.back_references.proofs.NamedObjects.{rule_links_at, member_same}
 use Rattle.back_references.proofs.references.References.way_rules_after.Goals as goal
 

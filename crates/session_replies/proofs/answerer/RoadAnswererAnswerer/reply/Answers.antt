@@ -20,7 +20,6 @@ returns-clause-reply g c =
     let P = g.P.Profile.rules self.engine.profile in
     let M = self.engine.world in
     let line = text_of c.args.line.now in
-    line_reply P M c.reply_to.new.engine.world c.args.kept.0 line c.reply_to.result
-    (ap (λ e. e.world) c.reply_to.ensures.same)
+    line_reply P M M c.args.kept.0 line c.reply_to.result refl
     (text_reply P M c.args.kept.0 line c.in-Some.text.now c.in_ok-asked.asked c.reply_to.result
-    (sym c.text.ensures ∙ ap option_copied c.in-Some.is) c.in_ok-asked.ensures.asks c.reply_to.ensures.reply)
+    (sym c.text.ensures ∙ ap option_copied c.in-Some.is) c.in_ok-asked.ensures.asks c.reply_to.ensures)

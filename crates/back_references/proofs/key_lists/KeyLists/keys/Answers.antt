@@ -1,8 +1,0 @@
-use Rattle.std.proofs.Common.{List, map, sym, ap, ◌∙◌}
-use Rattle.std.proofs.lemmas.Slice.Zip.{firsts-zip}
-use Rattle.back_references.proofs.key_lists.KeyLists.keys.Goals as goal
-
-pub returns : goal.returns
-returns g c =
-    c.as_slice.ensures.value ∙ sym (firsts-zip c.self.inside.keys.items c.self.inside.lists c.self.invariant.0)
-    ∙ ap (map (λ (p : g.row.K.Denot × List g.row.V.Denot). p.0)) c.self.view_is

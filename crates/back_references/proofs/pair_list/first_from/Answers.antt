@@ -1,9 +1,0 @@
-use Rattle.std.proofs.Common.{rules}
-use Rattle.std.specs.Ordering.{is_lt}
-use Rattle.std.proofs.lemmas.List.Sorted.{IsPartitionPoint-from_clause}
-use Rattle.back_references.proofs.pair_list.first_from.Goals as goal
-
-pub returns-clause-point : goal.returns-clause-point
-returns-clause-point g c =
-    IsPartitionPoint-from_clause (λ a. is_lt (g.K.Ord.cmp a c.args.key)) _ _ c.partition_point.ensures.partitioned
-    c.requires (λ a r q k. search rules)

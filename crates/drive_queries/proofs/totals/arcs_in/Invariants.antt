@@ -1,7 +1,0 @@
-use Rattle.std.proofs.Common.{◌≡◌, take}
-use Rattle.drive_queries.specs.Counting.{counted, arcs_in}
-use Rattle.drive_queries.proofs.totals.arcs_in.Given as goal
-
--- those so far are counted
-abbrev pub invariant-loop-block : goal.invariant-loop-block
-invariant-loop-block l = l.sum ≡ counted (arcs_in (take l.block-index l.blocks))

@@ -1,7 +1,0 @@
-use Rattle.std.proofs.Common.{◌≡◌, ◌++◌, map, take}
-use Rattle.object_store.specs.Levels.{pair}
-use Rattle.object_store.proofs.level.add_shared.Given as goal
-
-abbrev pub invariant-loop-entry : goal.invariant-loop-entry
-invariant-loop-entry g l =
-    map pair l.all.items ≡ map pair l.initial.all.items ++ map pair (take l.entry-index l.entries)

@@ -1,7 +1,0 @@
-use Rattle.std.proofs.Common.{rules}
-use Rattle.std.proofs.lemmas.List.Sorted.{answers_always}
-use Rattle.object_store.proofs.level.search.Goals as goal
-
-pub returns-clause-position : goal.returns-clause-position
-returns-clause-position g c =
-    c.binary_search_by_key.ensures.position (λ e. e.key) (answers_always _ _ _ (λ f a r h called. search rules))
