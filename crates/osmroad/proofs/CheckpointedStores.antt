@@ -284,11 +284,12 @@ module _ (base : BaseProfile) (laws : StoreLaws) where
               (λ w v a. (a.checkpoints a.loads.answer.history a.loads.answer.ready).output ∙ a.loads.output) told
               (subst (λ (s : Status). WillPut command bytes [] s r.out.items x y) (sym says.0)
               (subst (λ (o : List ℕ). WillPut command bytes [] Done o x y) (sym says.1)
-              (will_put command bytes [] Done (base_line base l.journal.kept.0) x y (Rebases l new profile events (Ok u)) told
-              (inl refl) refl tt (written u answer))))
+              (will_put command bytes [] Done (base_line base l.journal.kept.0) x y
+              (Rebases l new profile events (Ok u)) told (inl refl) refl tt (written u answer))))
 
           -- a refusal that isn't a fault touches no file
-          untouched : (e : JournalError) → ((u v : Outside) → Checkpoints l.journal new profile events (Err e) u v → v ≡ u)
+          untouched : (e : JournalError)
+              → ((u v : Outside) → Checkpoints l.journal new profile events (Err e) u v → v ≡ u)
               → Told (Rebases l new profile events (Err e)) x y → Told (LoadsStore (Ok l)) x y
           untouched e still told = told_weaker x y (Rebases l new profile events (Err e)) (LoadsStore (Ok l)) told
               (λ w v a. subst (λ (u : Outside). LoadsStore (Ok l) w u) (sym (still a.between v a.checkpoints)) a.loads)

@@ -1,5 +1,7 @@
 -- What a run gives is determined by its command, the bytes of both files and those of its source.
-use Rattle.std.proofs.Common.{◌≡◌, ◌+◌, ◌<◌, ◌≤◌, ◌^◌, ℕ, suc, List, Option, None, Some, refl, sym, ap, ◌∙◌, subst, arith}
+use Rattle.std.proofs.Common.{◌≡◌, ◌+◌, ◌<◌, ◌≤◌, ◌^◌, ◌==◌, ⊎_elim, ℕ, List, Option, None, Some}
+use Rattle.std.proofs.Common.{refl, sym, ap, ◌∙◌, subst, arith}
+use Rattle.std.proofs.lemmas.Bool.{eqb-true, or_cases}
 use Rattle.std.specs.FinMap.{empty}
 use Rattle.std.specs.Cmp.{IsTotalOrder}
 use Rattle.road_base.specs.declared.event.Event.{Event}
@@ -300,12 +302,10 @@ module _ (live : OneLive) (has : HasLive) (sound : NoDamage) (alone : OneDamage)
 -- there are two known profiles
 pub each_profile : (one two : ℕ) → one ≡ 1 → two ≡ 2 → ((M : Objects) → OneGraph M (rules_of one))
     → ((M : Objects) → OneGraph M (rules_of two)) → OneGraphEach
-each_profile one two is_one is_two graph other 0 known = absurd (cc)
-each_profile one two is_one is_two graph other 1 known =
-    subst (λ (k : ℕ). (M : Objects) → OneGraph M (rules_of k)) is_one graph
-each_profile one two is_one is_two graph other 2 known =
-    subst (λ (k : ℕ). (M : Objects) → OneGraph M (rules_of k)) is_two other
-each_profile one two is_one is_two graph other (suc (suc (suc n))) known = absurd (cc)
+each_profile one two is_one is_two graph other n known = ⊎_elim
+    (λ is. subst (λ (k : ℕ). (M : Objects) → OneGraph M (rules_of k)) (is_one ∙ sym (eqb-true n 1 is)) graph)
+    (λ is. subst (λ (k : ℕ). (M : Objects) → OneGraph M (rules_of k)) (is_two ∙ sym (eqb-true n 2 is)) other)
+    (or_cases (n == 1) (n == 2) known)
 
 module _ (reading : OneReading) (map : OneMap) (graph : OneGraphEach)
     (total : IsTotalOrder relation_cmp) (bytes : List ℕ) (status another : Status) (out other : List ℕ)

@@ -12,8 +12,8 @@
 //! the graph's bytes once. The graph of a town is about as large as its extract; that of a node with very many ways
 //! grows with the square of their number. `create` costs its input, and holds what it writes once; `apply` costs the
 //! live file and its input, and so do `graph` and `audit`, with the graph, or the words of each restriction.
-//! `checkpoint` and `raise` cost the live file and what they write, and hold the objects, a copy of them, and their bytes.
-//! `inspect` costs its input, and holds it and the graph; `sample` costs eleven graphs of 7,080 ways, one after
+//! `checkpoint` and `raise` cost the live file and what they write, and hold the objects, a copy of them, and their
+//! bytes. `inspect` costs its input, and holds it and the graph; `sample` costs eleven graphs of 7,080 ways, one after
 //! another.
 #![tactic(auto)]
 

@@ -100,13 +100,13 @@ fn run_command<S: Source, W: Site, L: Ledger>(
 /// in a line. The first read or call on the site that fails ends it: nothing is tried again.
 ///
 /// `- compile` puts the graph's bytes of the extract on the source, under profile 1, and `- compile 2` under profile 2;
-/// `- inspect` how large the graph is whose file is on the source, of at most 2^30 bytes, and `- sample N` how large the
-/// graphs are of a town that is made from N, and of its ten changes, under profile 1. A STORE is the site's two files:
-/// `create N` makes one of the extract, of profile 1, `apply N` adds the change on the source, `graph` puts the graph's
-/// bytes of all that it holds, `audit` what becomes of its restrictions, `checkpoint` writes all that it holds into its
-/// other file and goes on there, `raise` does so under profile 2, and `session` answers the messages on the source in
-/// turn. `steps` rises by one for each block that is built; for a command that is one for each visible way with the key
-/// `highway`. Other words are answered by the usage line.
+/// `- inspect` how large the graph is whose file is on the source, of at most 2^30 bytes, and `- sample N` how large
+/// the graphs are of a town that is made from N, and of its ten changes, under profile 1. A STORE is the site's two
+/// files: `create N` makes one of the extract, of profile 1, `apply N` adds the change on the source, `graph` puts the
+/// graph's bytes of all that it holds, `audit` what becomes of its restrictions, `checkpoint` writes all that it holds
+/// into its other file and goes on there, `raise` does so under profile 2, and `session` answers the messages on the
+/// source in turn. `steps` rises by one for each block that is built; for a command that is one for each visible way
+/// with the key `highway`. Other words are answered by the usage line.
 pub fn run<S: Source, W: Site, L: Ledger>(
     alloc: Global,
     words: &[&str],

@@ -85,8 +85,8 @@ returns-in-Ok-checkpoint-clause-prepares g c = λ held.
           ∙ ap (λ (n : Sequence). base_line c.args.base n.0) c.kept.ensures,
     )
     c.in-Ok-checkpoint.ensures.answer
-    (told_rebases c.in-Ok.loaded c.checkpoint.new.journal c.profile_of_base.result events (Ok u) before loaded now c.in-Ok.ensures.told
-    c.in-Ok-checkpoint.ensures.told)
+    (told_rebases c.in-Ok.loaded c.checkpoint.new.journal c.profile_of_base.result events (Ok u) before loaded now
+    c.in-Ok.ensures.told c.in-Ok-checkpoint.ensures.told)
 
 pub returns-in-Ok-checkpoint-clause-calls : goal.returns-in-Ok-checkpoint-clause-calls
 returns-in-Ok-checkpoint-clause-calls g c = calls_calm _ _ _
@@ -111,13 +111,13 @@ returns-clause-prepares g c = λ held.
     _ _ (behind_of held) before now held refl failed.error refused.result c.in-Ok.ensures.not_closed
     failed.ensures.answer
     refused.ensures
-    (told_rebases c.in-Ok.loaded c.checkpoint.new.journal c.profile_of_base.result events (Err failed.error) before loaded now
-    c.in-Ok.ensures.told failed.ensures.told)
+    (told_rebases c.in-Ok.loaded c.checkpoint.new.journal c.profile_of_base.result events (Err failed.error) before
+    loaded now c.in-Ok.ensures.told failed.ensures.told)
 
 pub returns-clause-calls : goal.returns-clause-calls
 returns-clause-calls g c =
     let failed = c.in-Err-checkpoint in
     let refused = c.refuse_store-in-Err-checkpoint in
     later_calls _ _ _ refused.result (c.in-Ok.ensures.counts.stays (λ e. (cc)))
-    (checkpoint_calls c.in-Ok.loaded.journal c.checkpoint.new.journal c.profile_of_base.result _ failed.error refused.result _ _
-    c.in-Ok.ensures.not_closed refused.ensures failed.ensures.answer)
+    (checkpoint_calls c.in-Ok.loaded.journal c.checkpoint.new.journal c.profile_of_base.result _ failed.error
+    refused.result _ _ c.in-Ok.ensures.not_closed refused.ensures failed.ensures.answer)

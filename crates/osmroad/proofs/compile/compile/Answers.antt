@@ -10,7 +10,8 @@ use Rattle.osmroad.proofs.compile.compile.Goals as goal
 
 pub returns-in-Err-clause-prepares : goal.returns-in-Err-clause-prepares
 returns-in-Err-clause-prepares g c = λ outside.
-    refused_extract c.args.profile (g.S.Source.bytes_left c.args.source.now) (g.S.Source.bytes_left c.read_events.new.source) outside
+    refused_extract c.args.profile (g.S.Source.bytes_left c.args.source.now)
+    (g.S.Source.bytes_left c.read_events.new.source) outside
     (g.S.Source.faults c.args.source.now) (g.S.Source.faults c.read_events.new.source)
     c.in-Err.error c.refuse_input.result c.in-Err.ensures.err c.refuse_input.ensures
 
@@ -19,7 +20,8 @@ returns-in-Err-clause-prepares g c = λ outside.
 pub returns-in_err-out-clause-prepares : goal.returns-in_err-out-clause-prepares
 returns-in_err-out-clause-prepares g c = λ outside.
     let ended = err_from_is_err_and c.from_residual.result c.from_residual.ensures.1 in
-    failed_extract c.args.profile (g.S.Source.bytes_left c.args.source.now) (g.S.Source.bytes_left c.read_events.new.source) outside
+    failed_extract c.args.profile (g.S.Source.bytes_left c.args.source.now)
+    (g.S.Source.bytes_left c.read_events.new.source) outside
     c.in-Ok.events.items c.in-Ok.ensures.ok c.from_residual.result (ended.1 ∙ ap Err ended.2)
 
 -- ---- the graph is made
