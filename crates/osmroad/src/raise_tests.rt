@@ -28,7 +28,7 @@ const RAISED_SPELLED: &[u8] = b"\x01OSMJRNL1\x02\0\0\0\x02\0\0\0\0\0\0\0\x05\0\0
 /// The store is raised.
 fn raise_on(rt: &impl Abort, alloc: Global, site: &mut MemorySite) -> Result<(), NoMemory> {
     check_status(rt, alloc, RAISE, b"", site, Status::Done)?;
-    assert_eq!(rt; site.output(), b"profile 2 sequence 6\n");
+    assert_eq!(rt; site.output(), b"profile 2 sequence 6\n".as_slice());
     assert_eq!(rt; site.file(Which::B), RAISED);
     Ok(())
 }

@@ -51,14 +51,14 @@ returns-in_err-line-clause-calls g c =
 
 -- ---- the checkpoint is written
 
-pub profile_of_base-requires : goal.profile_of_base-requires
-profile_of_base-requires g c = subst IsProfile (sym c.profile.ensures) c.in-Ok.ensures.known
+pub profile_of_base-profile-requires : goal.profile_of_base-profile-requires
+profile_of_base-profile-requires g c = subst IsProfile (sym c.profile.ensures) c.in-Ok.ensures.known
 
 pub checkpoint-requires-clause-known : goal.checkpoint-requires-clause-known
-checkpoint-requires-clause-known g c = c.profile_of_base.ensures.known
+checkpoint-requires-clause-known g c = c.profile_of_base-profile.ensures.known
 
 pub checkpoint-requires-clause-not_lower : goal.checkpoint-requires-clause-not_lower
-checkpoint-requires-clause-not_lower g c = omega (arith, c.profile_of_base.ensures.not_lower, c.profile.ensures)
+checkpoint-requires-clause-not_lower g c = omega (arith, c.profile_of_base-profile.ensures.not_lower, c.profile.ensures)
 
 pub checkpoint-requires-clause-on_store : goal.checkpoint-requires-clause-on_store
 checkpoint-requires-clause-on_store g c = λ alive. told_gives (g.W.Site.outside c.args.site.now)
@@ -77,16 +77,16 @@ returns-in-Ok-checkpoint-clause-prepares g c = λ held.
     let are = sym c.items.ensures.entries in
     let u = c.in-Ok-checkpoint.field-0 in
     checkpoint_written c.args.base laws.store c.in-Ok.loaded c.in_ok-objects.objects is events are laws.checkpoint
-    c.checkpoint.new.journal c.profile_of_base.result
-    (c.profile_of_base.ensures.is ∙ ap (λ (n : ℕ). profile_of_base c.args.base n) c.profile.ensures) _ _
+    c.checkpoint.new.journal c.profile_of_base-profile.result
+    (c.profile_of_base-profile.ensures.is ∙ ap (λ (n : ℕ). profile_of_base c.args.base n) c.profile.ensures) _ _
     (behind_of held) before now held refl u c.new.result (
       c.new.ensures.0,
       c.new.ensures.1 ∙ c.in_ok-line.ensures
           ∙ ap (λ (n : Sequence). base_line c.args.base n.0) c.kept.ensures,
     )
     c.in-Ok-checkpoint.ensures.answer
-    (told_rebases c.in-Ok.loaded c.checkpoint.new.journal c.profile_of_base.result events (Ok u) before loaded now
-    c.in-Ok.ensures.told c.in-Ok-checkpoint.ensures.told)
+    (told_rebases c.in-Ok.loaded c.checkpoint.new.journal c.profile_of_base-profile.result events (Ok u) before
+    loaded now c.in-Ok.ensures.told c.in-Ok-checkpoint.ensures.told)
 
 pub returns-in-Ok-checkpoint-clause-calls : goal.returns-in-Ok-checkpoint-clause-calls
 returns-in-Ok-checkpoint-clause-calls g c = calls_calm _ _ _
@@ -106,18 +106,18 @@ returns-clause-prepares g c = λ held.
     let failed = c.in-Err-checkpoint in
     let refused = c.refuse_store-in-Err-checkpoint in
     checkpoint_not_written c.args.base laws.store c.in-Ok.loaded c.in_ok-objects.objects is events are laws.checkpoint
-    c.checkpoint.new.journal c.profile_of_base.result
-    (c.profile_of_base.ensures.is ∙ ap (λ (n : ℕ). profile_of_base c.args.base n) c.profile.ensures)
+    c.checkpoint.new.journal c.profile_of_base-profile.result
+    (c.profile_of_base-profile.ensures.is ∙ ap (λ (n : ℕ). profile_of_base c.args.base n) c.profile.ensures)
     _ _ (behind_of held) before now held refl failed.error refused.result c.in-Ok.ensures.not_closed
     failed.ensures.answer
     refused.ensures
-    (told_rebases c.in-Ok.loaded c.checkpoint.new.journal c.profile_of_base.result events (Err failed.error) before
-    loaded now c.in-Ok.ensures.told failed.ensures.told)
+    (told_rebases c.in-Ok.loaded c.checkpoint.new.journal c.profile_of_base-profile.result events (Err failed.error)
+    before loaded now c.in-Ok.ensures.told failed.ensures.told)
 
 pub returns-clause-calls : goal.returns-clause-calls
 returns-clause-calls g c =
     let failed = c.in-Err-checkpoint in
     let refused = c.refuse_store-in-Err-checkpoint in
     later_calls _ _ _ refused.result (c.in-Ok.ensures.counts.stays (λ e. (cc)))
-    (checkpoint_calls c.in-Ok.loaded.journal c.checkpoint.new.journal c.profile_of_base.result _ failed.error
+    (checkpoint_calls c.in-Ok.loaded.journal c.checkpoint.new.journal c.profile_of_base-profile.result _ failed.error
     refused.result _ _ c.in-Ok.ensures.not_closed refused.ensures failed.ensures.answer)

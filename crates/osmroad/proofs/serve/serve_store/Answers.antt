@@ -12,13 +12,13 @@ use Rattle.osmroad.proofs.serve.serve_store.Goals as goal
 -- ---- the store is loaded
 
 pub serve-requires-clause-known : goal.serve-requires-clause-known
-serve-requires-clause-known g c = c.profile_of.result.known
+serve-requires-clause-known g c = c.profile_of-profile.result.known
 
 pub serve-requires-clause-stored : goal.serve-requires-clause-stored
-serve-requires-clause-stored g c = c.profile_of.ensures ∙ c.profile.ensures
+serve-requires-clause-stored g c = c.profile_of-profile.ensures ∙ c.profile.ensures
 
-pub profile_of-requires : goal.profile_of-requires
-profile_of-requires g c = subst IsProfile (sym c.profile.ensures) c.in-Ok.ensures.known
+pub profile_of-profile-requires : goal.profile_of-profile-requires
+profile_of-profile-requires g c = subst IsProfile (sym c.profile.ensures) c.in-Ok.ensures.known
 
 pub serve-requires-clause-opens : goal.serve-requires-clause-opens
 serve-requires-clause-opens g c = store_opens c.in-Ok.loaded (g.W.Site.outside c.args.site.now)
@@ -33,7 +33,7 @@ returns-in-Ok-clause-ends g c =
     store_is_served c.store_laws.ensures.store c.in-Ok.loaded c.serve.result
     held left (g.W.Site.outside c.args.site.now) between after c.in-Ok.ensures.told
     (subst (λ (n : ℕ). Serves (road_replies (rules_of n)) c.in-Ok.loaded c.serve.result held left between after)
-    (c.profile_of.ensures ∙ c.profile.ensures) c.serve.ensures.serves)
+    (c.profile_of-profile.ensures ∙ c.profile.ensures) c.serve.ensures.serves)
 
 pub returns-in-Ok-clause-built : goal.returns-in-Ok-clause-built
 returns-in-Ok-clause-built g c =

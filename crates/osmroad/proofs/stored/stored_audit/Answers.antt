@@ -23,8 +23,8 @@ pub returns-in-Err-clause-calls : goal.returns-in-Err-clause-calls
 returns-in-Err-clause-calls g c =
     fault_calls {T = Loaded} c.in-Err.error c.refuse_store.result _ _ c.refuse_store.ensures c.in-Err.ensures.counts
 
-pub profile_of-requires : goal.profile_of-requires
-profile_of-requires g c = subst IsProfile (sym c.profile.ensures) c.in-Ok.ensures.known
+pub profile_of-profile-requires : goal.profile_of-profile-requires
+profile_of-profile-requires g c = subst IsProfile (sym c.profile.ensures) c.in-Ok.ensures.known
 
 pub returns-in_err-world-clause-prepares : goal.returns-in_err-world-clause-prepares
 returns-in_err-world-clause-prepares g c = λ held.
@@ -58,7 +58,8 @@ returns-clause-prepares g c = λ held.
       objects = c.in_ok-world.world;
       applied = c.in_ok-world.ensures;
       audit = subst (λ (n : ℕ). IsAudit c.in_ok-world.world (rules_of n) (string_bytes c.in_ok-text.text))
-          (ap (λ (p : ProfileOf). p.number) c.new-network.ensures.profile ∙ (c.profile_of.ensures ∙ c.profile.ensures))
+          (ap (λ (p : ProfileOf). p.number) c.new-network.ensures.profile
+          ∙ (c.profile_of-profile.ensures ∙ c.profile.ensures))
           (subst (λ (M : Objects). IsAudit M (rules_of c.new-network.result.profile.number)
           (string_bytes c.in_ok-text.text)) c.new-network.ensures.world c.in_ok-text.ensures);
     })

@@ -26,8 +26,8 @@ returns-in-Err-clause-built g c = λ held w h objects told loads has. omega arit
 
 -- ---- the profile is known
 
-pub profile_of-requires : goal.profile_of-requires
-profile_of-requires g c = subst IsProfile (sym c.profile.ensures) c.in-Ok.ensures.known
+pub profile_of-profile-requires : goal.profile_of-profile-requires
+profile_of-profile-requires g c = subst IsProfile (sym c.profile.ensures) c.in-Ok.ensures.known
 
 -- ---- memory ends for the graph
 
@@ -54,7 +54,7 @@ returns-clause-prepares g c = λ held.
     show_done laws.store (Some Graph) IsGraphOf graph_shows held _ _ c.in-Ok.loaded c.in_ok-out.out.items _ (refl, refl)
     c.in-Ok.ensures.told
     (subst (λ (n : ℕ). IsGraphOf (rules_of n) c.in-Ok.loaded.events.items c.in_ok-out.out.items)
-    (c.profile_of.ensures ∙ c.profile.ensures) c.in_ok-out.ensures.graph)
+    (c.profile_of-profile.ensures ∙ c.profile.ensures) c.in_ok-out.ensures.graph)
 
 pub returns-clause-calls : goal.returns-clause-calls
 returns-clause-calls g c = calls_calm _ _ _ (c.in-Ok.ensures.counts.stays (λ e. (cc))) (λ e. (cc))
