@@ -139,7 +139,8 @@ module _ (M : Objects) (P : Rules) (laws : Laws M P) (p : Span) (is : IsPiece M 
             turn_allowed d j (sym (ap (λ b. cond b turns (not i.rules.is_shut)) same) ∙ h);
         on = λ n. elim (cases_Bool (same_node d.toward u)) [
           | inl same ↦ absurd (n (a.toward ∙ (ap Some (node_from_same d.toward u same) ∙ sym ends.tail)))
-          | inr other ↦ sym known.rules.shut_is ∙ not-true _ (sym (ap (λ b. cond b turns (not i.rules.is_shut)) other) ∙ h)
+          | inr other ↦ sym known.rules.shut_is
+              ∙ not-true _ (sym (ap (λ b. cond b turns (not i.rules.is_shut)) other) ∙ h)
         ];
       }
 

@@ -22,4 +22,5 @@ pub record IsComing {M P : _} {W : _} {R : _} (c : Coming M P W R) : Type 0 wher
 -- the context comes to the intersection, and its turn steps leave the automaton in the state with number n
 abbrev pub IsReachedIn : {M P : _} {W : _} {R : _} → Coming M P W R → ℕ → List Span → Type 0
 IsReachedIn c n context =
-    on c.network.now IsReached c.states.now.automaton c.states.now.facts.items n c.from c.intersection.rules.node context
+    on c.network.now IsReached c.states.now.automaton c.states.now.facts.items n c.from c.intersection.rules.node
+    context

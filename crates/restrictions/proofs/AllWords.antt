@@ -330,7 +330,8 @@ of_use M P r body found looked same usable = record
     { body = body; visible = visible_body M r body found looked same; usable = usable }
 
 pub answered : (M : Objects) (P : Rules) (rule : WordRule) (r : RelationId) (body found : Relation)
-    (words made : List Word) → IsRestriction M r → Some found ≡ relation_of M r → body ≡ found → IsUsable M P body → rule.relation ≡ r
+    (words made : List Word) → IsRestriction M r → Some found ≡ relation_of M r → body ≡ found → IsUsable M P body
+    → rule.relation ≡ r
     → rule.only ≡ is_only (P.rule body.tags) → rule.binding ≡ binding_of (vias body) → words ≡ made
     → made ≡ words_of M P rule body → AreWords M P r words
 answered M P rule r body found words made asked looked same usable of only bound listed is =

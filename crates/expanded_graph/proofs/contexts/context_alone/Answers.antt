@@ -19,8 +19,8 @@ returns-clause-entry g c =
     let last = c.last_step.ensures in
     let reached =
     reached_alone M P (c.drive_grows.ensures.alone M) m facts p c.requires.piece c.requires.states last.0
-    c.last_step.result last.1 n c.start-state.ensures.state c.args.coming.now.from c.args.coming.now.intersection.rules.node
-    c.requires.arrives in
+    c.last_step.result last.1 n c.start-state.ensures.state c.args.coming.now.from
+    c.args.coming.now.intersection.rules.node c.requires.arrives in
     let arcs = subst (λ l. Lists (λ (a : TurnArc). a.piece) name_cmp (IsArcEntry M P (p ∷ [])) l)
     (sym c.from_list-2.ensures) (c.in_ok-arcs.ensures (p ∷ []) reached) in
     entry_alone M P (c.drive_grows.ensures.alone M) m facts p c.requires.piece c.requires.states last.0
