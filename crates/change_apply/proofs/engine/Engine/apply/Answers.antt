@@ -55,6 +55,35 @@ returns-in_err-changes-clause-built g c =
     (c.new-network.ensures.world ∙ c.prepare.ensures.same ∙ here)
     (c.rebuild_after.ensures.built events) applied
 
+pub returns-in_err-exchange-clause-applied : goal.returns-in_err-exchange-clause-applied
+returns-in_err-exchange-clause-applied g c =
+    no_ok _ c.from_residual-in_err-exchange.result c.from_residual-in_err-exchange.ensures.0
+
+pub returns-in_err-exchange-clause-err : goal.returns-in_err-exchange-clause-err
+returns-in_err-exchange-clause-err g c =
+    at_err c.from_residual-in_err-exchange.result (subst
+    (λ (M : Objects). record { profile = c.self.inside.profile; world = M } ≡ c.args.self.now)
+    (sym c.prepare.ensures.same) c.self.view_is)
+
+pub returns-in_err-exchange-clause-touched : goal.returns-in_err-exchange-clause-touched
+returns-in_err-exchange-clause-touched g c =
+    no_value _ c.from_residual-in_err-exchange.result c.from_residual-in_err-exchange.ensures.0
+
+pub returns-in_err-exchange-clause-rebuilt : goal.returns-in_err-exchange-clause-rebuilt
+returns-in_err-exchange-clause-rebuilt g c =
+    no_value _ c.from_residual-in_err-exchange.result c.from_residual-in_err-exchange.ensures.0
+
+pub returns-in_err-exchange-clause-built : goal.returns-in_err-exchange-clause-built
+returns-in_err-exchange-clause-built g c =
+    let events = c.args.events.now in
+    let after = c.in_ok-prepared.prepared.after in
+    let here : c.self.inside.world ≡ c.args.self.now.world = ap (λ f. f.world) c.self.view_is in
+    let applied = subst (λ (M : Objects). IsApplied M events after) here c.in_ok-prepared.ensures.after in
+    subst (λ (M : Objects). IsApplied M events after
+    → BuildsTouched M events c.args.steps.now c.rebuild_after.new.steps)
+    (c.new-network.ensures.world ∙ c.prepare.ensures.same ∙ here)
+    (c.rebuild_after.ensures.built events) applied
+
 pub invariant_of-self-in_err-changes : goal.invariant_of-self-in_err-changes
 invariant_of-self-in_err-changes g c =
     let P = g.P.Profile.rules c.self.inside.profile in
