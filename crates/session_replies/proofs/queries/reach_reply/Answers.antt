@@ -8,9 +8,9 @@ use Rattle.session_replies.proofs.queries.reach_reply.Goals as goal
 pub reach-requires : goal.reach-requires
 reach-requires g c =
     let R = g.P.Profile.rules in
-    let m = map_of c.blocks.result.now in
+    let m = map_of c.blocks-2.result.now in
     subst (λ (M : Objects). AreBlocksOf M (R c.profile.result) m) (sym c.world.ensures)
-    (subst (λ p. AreBlocksOf c.args.engine.now.world (R p) m) (sym c.profile.ensures) c.blocks.ensures.blocks)
+    (subst (λ p. AreBlocksOf c.args.engine.now.world (R p) m) (sym c.profile.ensures) c.blocks-2.ensures.blocks)
 
 pub returns : goal.returns
 returns g c =
