@@ -18,11 +18,11 @@ write-requires-clause-profile g c =
     c.profile.ensures)) c.requires
 
 pub write-requires-clause-forms : goal.write-requires-clause-forms
-write-requires-clause-forms g c = c.blocks.ensures.forms
+write-requires-clause-forms g c = c.blocks-2.ensures.forms
 
 pub totals_of-requires : goal.totals_of-requires
 totals_of-requires g c =
-    let blocks = values (map_of c.blocks.result.now) in
+    let blocks = values (map_of c.blocks-2.result.now) in
     let bytes : c.write.new.out.items ≡ graph_bytes c.number.result blocks =
     c.in_ok-write.ensures.bytes ∙ ap (λ (l : List ℕ). l ++ graph_bytes c.number.result blocks) c.new-graph.ensures.items
     in
@@ -34,7 +34,7 @@ returns g c =
     let number : c.number.result ≡ P.number = c.number.ensures ∙ ap (λ (p : g.row.P.Denot). (g.P.Profile.rules
     p).number)
     c.profile.ensures in
-    let blocks = values (map_of c.blocks.result.now) in
+    let blocks = values (map_of c.blocks-2.result.now) in
     let graph = c.write.new.out.items in
     let bytes : graph ≡ graph_bytes c.number.result blocks =
     c.in_ok-write.ensures.bytes ∙ ap (λ (l : List ℕ). l ++ graph_bytes c.number.result blocks) c.new-graph.ensures.items
@@ -49,7 +49,7 @@ returns g c =
       graph = graph;
       is = record {
         blocks = blocks;
-        listed = c.blocks.ensures.listed;
+        listed = c.blocks-2.ensures.listed;
         spelled = bytes ∙ ap (λ (n : ℕ). graph_bytes n blocks) number;
       };
       blocks = read.1;
