@@ -6,4 +6,4 @@ pub write-requires-clause-profile : goal.write-requires-clause-profile
 write-requires-clause-profile c = subst IsProfile (sym c.number.ensures) refl
 
 pub write-requires-clause-forms : goal.write-requires-clause-forms
-write-requires-clause-forms c = c.in_ok-graph.ensures.forms
+write-requires-clause-forms c = c.blocks-2.ensures.forms
