@@ -1,5 +1,4 @@
 //! Stores that are raised to profile 2.
-use crate::failure_tests::with_byte;
 use crate::session_tests::{check_output, check_status, empty_site};
 use crate::status::Status;
 use crate::store_tests::{AUDIT, CHECKPOINT, Case, GRAPH, RAISE, RECORD, SPELLED, check, joined};
@@ -15,6 +14,10 @@ const STORE: &[&[u8]] = &[SPELLED, b"\x01", RECORD];
 
 /// File B once it is raised: gate, magic, profile 2, generation 2, number 6, length, no events, and the next gate.
 const RAISED: &[u8] = b"\x01OSMJRNL1\x02\0\0\0\x02\0\0\0\0\0\0\0\x06\0\0\0\0\0\0\0\
+    \x08\0\0\0\0\0\0\0\0\0\0\0\0\0\0\0\0";
+
+/// The same of profile 3, which is none.
+const NO_PROFILE: &[u8] = b"\x01OSMJRNL1\x03\0\0\0\x02\0\0\0\0\0\0\0\x06\0\0\0\0\0\0\0\
     \x08\0\0\0\0\0\0\0\0\0\0\0\0\0\0\0\0";
 
 /// File A where the store then goes on there: generation 3.
@@ -96,9 +99,8 @@ fn a_raised_store_stays_so(rt: HostRuntime) -> Result<(), Fail> {
 /// There is no profile 3.
 #[test]
 fn another_profile_is_damage(rt: HostRuntime) -> Result<(), Fail> {
-    let b = with_byte(rt.alloc(), RAISED, 9, 3)?;
     let case = Case {
-        b: &[b.as_slice()],
+        b: &[NO_PROFILE],
         status: Status::Damaged,
         output: b"damaged b 0\n",
         ..SHOWS
