@@ -12,10 +12,10 @@ use Rattle.sequence_journal.specs.declared.error.JournalError.TheVariants.{Store
 use Rattle.sequence_journal.specs.declared.journal.Journal.{Journal}
 use Rattle.sequence_journal.specs.Journal.{CountsFaults}
 use Rattle.sequence_journal.specs.Adding.{AddAnswer}
-use Rattle.osmroad.specs.declared.reply.Reply.{Reply}
-use Rattle.osmroad.specs.declared.reply.Failure.{Failure}
-use Rattle.osmroad.specs.declared.reply.Failure.TheVariants.{ReadFault as ReadFailure, SiteFault as SiteFailure}
-use Rattle.osmroad.specs.declared.reply.Failure.TheVariants.{NoMemory as NoMemoryFailure}
+use Rattle.osmroad.specs.declared.last_words.LastWords.{LastWords}
+use Rattle.osmroad.specs.declared.last_words.Failure.{Failure}
+use Rattle.osmroad.specs.declared.last_words.Failure.TheVariants.{ReadFault as ReadFailure, SiteFault as SiteFailure}
+use Rattle.osmroad.specs.declared.last_words.Failure.TheVariants.{NoMemory as NoMemoryFailure}
 use Rattle.osmroad.specs.declared.status.Status.{Status}
 use Rattle.osmroad.specs.declared.input.InputError.{InputError}
 use Rattle.osmroad.specs.declared.input.InputError.TheVariants.{Failed, TooLong, Refused}
@@ -27,7 +27,7 @@ use Rattle.osmroad.specs.Replies.{CountsReads, CountsCalls}
 -- ---- faults of the site
 
 -- memory ended, and no call failed
-pub failed_calls : (result : Result Reply Failure) (before now : ℕ) → result ≡ Err NoMemoryFailure → now ≡ before
+pub failed_calls : (result : Result LastWords Failure) (before now : ℕ) → result ≡ Err NoMemoryFailure → now ≡ before
     → CountsCalls before now result
 failed_calls result before now is same =
     record {
@@ -36,24 +36,24 @@ failed_calls result before now is same =
     }
 
 -- a reply is no failure but want of memory
-pub reply_no_failure : (status : Status) (out : List ℕ) (result : Result Reply Failure) → Replies status out result
+pub reply_no_failure : (status : Status) (out : List ℕ) (result : Result LastWords Failure) → Replies status out result
     → (failure : Failure) → (failure ≡ NoMemoryFailure → ⊥) → result ≡ Err failure → ⊥
 reply_no_failure status out (Ok r) says failure other is = cc
 reply_no_failure status out (Err f) says failure other is =
     other (let e : Err f ≡ Err failure = is in let k : f ≡ failure = cc in sym k ∙ says)
 
 -- no fault came
-pub calls_calm : (before now : ℕ) (result : Result Reply Failure) → now ≡ before
+pub calls_calm : (before now : ℕ) (result : Result LastWords Failure) → now ≡ before
     → (result ≡ Err SiteFailure → ⊥) → CountsCalls before now result
 calls_calm before now result same no_fault = record { cause = λ is. absurd (no_fault is); stays = λ _. same }
 
-pub reply_calls : (status : Status) (out : List ℕ) (result : Result Reply Failure) → Replies status out result
+pub reply_calls : (status : Status) (out : List ℕ) (result : Result LastWords Failure) → Replies status out result
     → (before now : ℕ) → now ≡ before → CountsCalls before now result
 reply_calls status out result says before now same =
     calls_calm before now result same (reply_no_failure status out result says SiteFailure (λ e. (cc)))
 
 -- what refuses a store, and how often calls failed
-pub fault_calls : {T : Type 0} (e : JournalError) (result : Result Reply Failure) (before now : ℕ)
+pub fault_calls : {T : Type 0} (e : JournalError) (result : Result LastWords Failure) (before now : ℕ)
     → RefusesStore e result → CountsFaults before now (let r : Result T JournalError = Err e in r)
     → CountsCalls before now result
 fault_calls SiteFault result before now is counts =
@@ -74,26 +74,26 @@ fault_calls TooLarge result before now says counts =
 -- ---- faults of the source
 
 -- no read failed
-pub reads_calm : (before now : ℕ) (result : Result Reply Failure) → (before < now → ⊥)
+pub reads_calm : (before now : ℕ) (result : Result LastWords Failure) → (before < now → ⊥)
     → (result ≡ Err ReadFailure → ⊥) → CountsReads before now result
 reads_calm before now result calm no_fault =
     record { cause = λ is. absurd (no_fault is); each = λ rises. absurd (calm rises) }
 
-not_read_fault : (result : Result Reply Failure) → result ≡ Err NoMemoryFailure → result ≡ Err ReadFailure → ⊥
+not_read_fault : (result : Result LastWords Failure) → result ≡ Err NoMemoryFailure → result ≡ Err ReadFailure → ⊥
 not_read_fault result is fault = let e : Err NoMemoryFailure ≡ Err ReadFailure = sym is ∙ fault in cc
 
-reply_reads : (status : Status) (out : List ℕ) (result : Result Reply Failure) → Replies status out result
+reply_reads : (status : Status) (out : List ℕ) (result : Result LastWords Failure) → Replies status out result
     → (before now : ℕ) → (before < now → ⊥) → CountsReads before now result
 reply_reads status out result says before now calm =
     reads_calm before now result calm (reply_no_failure status out result says ReadFailure (λ e. (cc)))
 
 -- memory ended, and no read failed
-pub failed_reads : (result : Result Reply Failure) (before now : ℕ) → result ≡ Err NoMemoryFailure
+pub failed_reads : (result : Result LastWords Failure) (before now : ℕ) → result ≡ Err NoMemoryFailure
     → (before < now → ⊥) → CountsReads before now result
 failed_reads result before now is calm = reads_calm before now result calm (not_read_fault result is)
 
 -- what refuses a store, where no read failed
-pub refused_reads : (e : JournalError) (result : Result Reply Failure) (before now : ℕ) → RefusesStore e result
+pub refused_reads : (e : JournalError) (result : Result LastWords Failure) (before now : ℕ) → RefusesStore e result
     → (before < now → ⊥) → CountsReads before now result
 refused_reads SiteFault result before now is calm = reads_calm before now result calm
     (λ fault. let e : Err SiteFailure ≡ Err ReadFailure = sym is ∙ fault in cc)
@@ -106,7 +106,7 @@ refused_reads TooLarge result before now says calm = reply_reads _ _ result says
 
 -- what refuses an input, and how often reads failed
 pub input_reads : (mode : Mode) (error : InputError) (held left : Option (List ℕ)) (before now : ℕ)
-    (result : Result Reply Failure) → Stopped mode error held left before now
+    (result : Result LastWords Failure) → Stopped mode error held left before now
     → (before < now → error ≡ Failed) → RefusesInput error result → CountsReads before now result
 input_reads mode Failed held left before now result s each is =
     record { cause = λ _. s.cause.0; each = λ _. is }
@@ -118,7 +118,7 @@ input_reads mode NoMemoryInput held left before now result s each is = reads_cal
     (λ rises. let e : NoMemoryInput ≡ Failed = each rises in cc) (not_read_fault result is)
 
 -- what refuses an input, where no call failed
-pub input_calls : (error : InputError) (result : Result Reply Failure) (before now : ℕ) → RefusesInput error result
+pub input_calls : (error : InputError) (result : Result LastWords Failure) (before now : ℕ) → RefusesInput error result
     → now ≡ before → CountsCalls before now result
 input_calls Failed result before now is same = calls_calm before now result same
     (λ fault. let e : Err ReadFailure ≡ Err SiteFailure = sym is ∙ fault in cc)
@@ -128,7 +128,7 @@ input_calls NoMemoryInput result before now is same = failed_calls result before
 
 -- what refuses a change that isn't read, and how often reads failed
 pub unread_reads : (mode : Mode) (error : InputError) (journal : Journal) (number : Sequence)
-    (held left : Option (List ℕ)) (before now : ℕ) (result : Result Reply Failure)
+    (held left : Option (List ℕ)) (before now : ℕ) (result : Result LastWords Failure)
     → Stopped mode error held left before now → (before < now → error ≡ Failed)
     → ((fault : Fault) → error ≡ Refused fault → RefusesChange journal number fault result)
     → (((fault : Fault) → error ≡ Refused fault → ⊥) → RefusesInput error result) → CountsReads before now result
@@ -144,7 +144,7 @@ unread_reads mode NoMemoryInput journal number held left before now result s eac
     input_reads mode NoMemoryInput held left before now result s each (other (λ f e. (cc)))
 
 -- the same, where no call failed
-pub unread_calls : (error : InputError) (journal : Journal) (number : Sequence) (result : Result Reply Failure)
+pub unread_calls : (error : InputError) (journal : Journal) (number : Sequence) (result : Result LastWords Failure)
     (before now : ℕ) → ((fault : Fault) → error ≡ Refused fault → RefusesChange journal number fault result)
     → (((fault : Fault) → error ≡ Refused fault → ⊥) → RefusesInput error result) → now ≡ before
     → CountsCalls before now result
@@ -160,7 +160,7 @@ unread_calls NoMemoryInput journal number result before now fault other same =
 
 -- what refuses an addition to a journal that isn't closed, and how often calls failed
 pub added_calls : (old new : Journal) (number : Sequence) (events : List Event) (e : JournalError)
-    (result : Result Reply Failure) (before now : ℕ) → old.closed ≡ false → RefusesStore e result
+    (result : Result LastWords Failure) (before now : ℕ) → old.closed ≡ false → RefusesStore e result
     → AddAnswer old new number events (Err e) before now → CountsCalls before now result
 added_calls old new number events SiteFault result before now alive is answer =
     record { cause = λ _. rose; stays = λ other. absurd (other is) }
@@ -178,7 +178,7 @@ added_calls old new number events NoStore result before now alive says answer = 
 added_calls old new number events StoreExists result before now alive says answer = absurd answer
 
 -- the refusal of a call behind calls that didn't fail
-pub later_calls : (first before now : ℕ) (result : Result Reply Failure) → before ≡ first
+pub later_calls : (first before now : ℕ) (result : Result LastWords Failure) → before ≡ first
     → CountsCalls before now result → CountsCalls first now result
 later_calls first before now result same counts =
     subst (λ (m : ℕ). CountsCalls m now result) same counts

@@ -27,10 +27,10 @@ use Rattle.osmroad.specs.declared.command.Command.TheVariants.{Apply}
 use Rattle.osmroad.specs.declared.input.InputError.{InputError}
 use Rattle.osmroad.specs.declared.input.InputError.TheVariants.{Failed, TooLong, Refused as RefusedInput}
 use Rattle.osmroad.specs.declared.input.InputError.TheVariants.{NoMemory as NoMemoryInput}
-use Rattle.osmroad.specs.declared.reply.Reply.{Reply}
-use Rattle.osmroad.specs.declared.reply.Failure.{Failure}
-use Rattle.osmroad.specs.declared.reply.Failure.TheVariants.{ReadFault, SiteFault as SiteFailure}
-use Rattle.osmroad.specs.declared.reply.Failure.TheVariants.{NoMemory as NoMemoryFailure}
+use Rattle.osmroad.specs.declared.last_words.LastWords.{LastWords}
+use Rattle.osmroad.specs.declared.last_words.Failure.{Failure}
+use Rattle.osmroad.specs.declared.last_words.Failure.TheVariants.{ReadFault, SiteFault as SiteFailure}
+use Rattle.osmroad.specs.declared.last_words.Failure.TheVariants.{NoMemory as NoMemoryFailure}
 use Rattle.osmroad.specs.declared.status.Status.{Status}
 use Rattle.osmroad.specs.declared.status.Status.TheVariants.{Done, Refused, Limit, OutOfSequence as OutOfSequenceStatus}
 use Rattle.osmroad.specs.Texts.{applied_line, limit_line, refused_line, sequence_line}
@@ -131,7 +131,7 @@ module _ (laws : StoreLaws) (n : Sequence) where
       })
 
   pub apply_refused : (held : Option (List ℕ)) (x y : Option Outside) (e : JournalError)
-      (result : Result Reply Failure) → IsLoadError e → RefusesStore e result → Told (LoadsStore (Err e)) x y
+      (result : Result LastWords Failure) → IsLoadError e → RefusesStore e result → Told (LoadsStore (Err e)) x y
       → Prepares command result held held x y
   apply_refused held x y e result named refuses told =
       let bytes = behind_of held in
@@ -191,7 +191,7 @@ module _ (laws : StoreLaws) (n : Sequence) where
 
     module _ (held left : Option (List ℕ)) (faults_before faults_now : ℕ) where
       -- the change is in fault: its number is looked at first
-      change_refused : (fault : Fault) (result : Result Reply Failure)
+      change_refused : (fault : Fault) (result : Result LastWords Failure)
           → Stopped Change (RefusedInput fault) held left faults_before faults_now
           → RefusesChange l.journal n fault result → Prepares command result held left x y
       change_refused fault result s refuses =
@@ -207,7 +207,7 @@ module _ (laws : StoreLaws) (n : Sequence) where
           (apply_silent (Ok l) x y told) (apply_only s.read (Ok l) x y told)
 
       -- the change isn't read
-      change_unread : (error : InputError) (result : Result Reply Failure)
+      change_unread : (error : InputError) (result : Result LastWords Failure)
           → ((fault : Fault) → error ≡ RefusedInput fault → ⊥)
           → Stopped Change error held left faults_before faults_now
           → RefusesInput error result → Prepares command result held left x y
@@ -227,7 +227,7 @@ module _ (laws : StoreLaws) (n : Sequence) where
               by_failure command (s.read ++ behind_of left) s.read x y NoMemoryFailure result is as_before
 
       -- the change isn't read, or is in fault
-      pub unread_refused : (error : InputError) (result : Result Reply Failure)
+      pub unread_refused : (error : InputError) (result : Result LastWords Failure)
           → Stopped Change error held left faults_before faults_now
           → ((fault : Fault) → error ≡ RefusedInput fault → RefusesChange l.journal n fault result)
           → (((fault : Fault) → error ≡ RefusedInput fault → ⊥) → RefusesInput error result)
@@ -241,7 +241,7 @@ module _ (laws : StoreLaws) (n : Sequence) where
           change_unread NoMemoryInput result (λ f e. (cc)) s (other (λ f e. (cc)))
 
     -- memory ends for the line
-    pub change_failed : (held left : Option (List ℕ)) (events : List Event) (result : Result Reply Failure)
+    pub change_failed : (held left : Option (List ℕ)) (events : List Event) (result : Result LastWords Failure)
         → result ≡ Err NoMemoryFailure → ReadWhole Change events held left → Prepares command result held left x y
     change_failed held left events result is r =
         prepares_whole command result r.bytes held left x y r.took r.ended
@@ -334,7 +334,7 @@ module _ (laws : StoreLaws) (n : Sequence) where
       put_line u answer told = will_put command read read Done (applied_line n.0) x y (Applies l new change (Ok u))
           told (inl refl) refl tt (changed u answer)
 
-      pub change_added : (u : Unit {0}) (r : Reply) → Says Done (applied_line n.0) r
+      pub change_added : (u : Unit {0}) (r : LastWords) → Says Done (applied_line n.0) r
           → AddAnswer l.journal new n change (Ok u) faults_before faults_now
           → Told (Applies l new change (Ok u)) x y → Prepares command (Ok r) held left x y
       change_added u r says answer told = prepares_whole command (Ok r) read held left x y took ended
@@ -351,13 +351,13 @@ module _ (laws : StoreLaws) (n : Sequence) where
       untouched e same told = told_weaker x y (Applies l new change (Err e)) (LoadsStore (Ok l)) told
           (λ w v a. subst (λ (u : Outside). LoadsStore (Ok l) w u) (sym (same a.between v a.adds)) a.loads)
 
-      refused_whole : (result : Result Reply Failure) → Told (LoadsStore (Ok l)) x y
+      refused_whole : (result : Result LastWords Failure) → Told (LoadsStore (Ok l)) x y
           → IsPrepared command read read result x y → Prepares command result held left x y
       refused_whole result told answer = prepares_whole command result read held left x y took ended answer
           (apply_silent (Ok l) x y told) (apply_only read (Ok l) x y told)
 
       -- the change isn't added
-      pub change_not_added : (e : JournalError) (result : Result Reply Failure) → l.journal.closed ≡ false
+      pub change_not_added : (e : JournalError) (result : Result LastWords Failure) → l.journal.closed ≡ false
           → AddAnswer l.journal new n change (Err e) faults_before faults_now → RefusesStore e result
           → Told (Applies l new change (Err e)) x y → Prepares command result held left x y
       change_not_added (OutOfSequence a b) result alive answer says told =

@@ -27,13 +27,14 @@ use Rattle.osmroad.specs.declared.command.BaseProfile.{BaseProfile}
 use Rattle.osmroad.specs.declared.command.BaseProfile.TheVariants.{Kept, Raised}
 use Rattle.osmroad.specs.declared.command.Command.{Command}
 use Rattle.osmroad.specs.declared.command.Command.TheVariants.{Checkpoint}
-use Rattle.osmroad.specs.declared.reply.Reply.{Reply}
-use Rattle.osmroad.specs.declared.reply.Failure.{Failure}
-use Rattle.osmroad.specs.declared.reply.Failure.TheVariants.{SiteFault as SiteFailure, NoMemory as NoMemoryFailure}
+use Rattle.osmroad.specs.declared.last_words.LastWords.{LastWords}
+use Rattle.osmroad.specs.declared.last_words.Failure.{Failure}
+use Rattle.osmroad.specs.declared.last_words.Failure.TheVariants.{SiteFault as SiteFailure, NoMemory as NoMemoryFailure}
 use Rattle.osmroad.specs.declared.status.Status.{Status}
 use Rattle.osmroad.specs.declared.status.Status.TheVariants.{Done, Limit}
 use Rattle.osmroad.specs.Texts.{limit_line}
-use Rattle.osmroad.specs.Checkpoints.{AreItsEntries, HasNoRoom, ReadsAlike, profile_of_base, base_line, rebased}
+use Rattle.osmroad.specs.Checkpoints.{AreItsEntries, HasNoRoom, IsCheckpointOf, profile_of_base, base_line}
+use Rattle.osmroad.specs.Checkpoints.{checkpointed}
 use Rattle.osmroad.specs.Checkpoints.{OfStore, OfNoRoom, OfEntries}
 use Rattle.osmroad.specs.Stops.{Before, Without, With}
 use Rattle.osmroad.specs.Stops.{LeavesCheckpoint, LeavesStored, LeftBy}
@@ -63,23 +64,24 @@ other_letter Raised n e = let s : 108 ≡ 112 = e in omega arith
 
 -- a reader finds in the new base what was there
 reads_alike : CheckpointLaws → (base : BaseProfile) (h : History) (objects : Objects) (events : List Event)
-    → HasObjects h objects → AreEntries objects events → ReadsAlike base (rebased base h events) h
+    → HasObjects h objects → AreEntries objects events → IsCheckpointOf base (checkpointed base h events) h
 reads_alike more Kept h objects events has are = more.same h objects events has are
 reads_alike more Raised h objects events has are = more.raised 2 h objects events has are
 
 -- a store loaded, and its checkpoint written
-pub record Rebases (l : Loaded) (new : Journal) (profile : ℕ) (events : List Event)
+pub record LoadsAndCheckpoints (l : Loaded) (new : Journal) (profile : ℕ) (events : List Event)
     (result : Result (Unit {0}) JournalError) (w v : Outside) : Type 0 where
   pub between : Outside
   pub loads : LoadsStore (Ok l) w between
   pub checkpoints : Checkpoints l.journal new profile events result between v
 
-pub told_rebases : (l : Loaded) (new : Journal) (profile : ℕ) (events : List Event)
+pub told_checkpoints : (l : Loaded) (new : Journal) (profile : ℕ) (events : List Event)
     (result : Result (Unit {0}) JournalError) (x y z : Option Outside) → Told (LoadsStore (Ok l)) x y
-    → Told (Checkpoints l.journal new profile events result) y z → Told (Rebases l new profile events result) x z
-told_rebases l new profile events result x y z loads writes =
+    → Told (Checkpoints l.journal new profile events result) y z
+    → Told (LoadsAndCheckpoints l new profile events result) x z
+told_checkpoints l new profile events result x y z loads writes =
     told_then x y z (LoadsStore (Ok l)) (Checkpoints l.journal new profile events result)
-    (Rebases l new profile events result) loads writes
+    (LoadsAndCheckpoints l new profile events result) loads writes
     (λ w u v p q. record { between = u; loads = p; checkpoints = q })
 
 module _ (base : BaseProfile) (laws : StoreLaws) where
@@ -101,7 +103,7 @@ module _ (base : BaseProfile) (laws : StoreLaws) where
       (λ left kept. stored_weaker (LeavesKept w left) (LeavesCheckpoint base w left) w left (moment w left) kept)
 
   load_prepares : (held : Option (List ℕ)) (x y : Option Outside) (loaded : Result Loaded JournalError)
-      (result : Result Reply Failure) → Told (LoadsStore loaded) x y
+      (result : Result LastWords Failure) → Told (LoadsStore loaded) x y
       → IsPrepared command (behind_of held) [] result x y → Prepares command result held held x y
   load_prepares held x y loaded result told answer =
       prepares command result [] held held x y (took_nothing held) answer
@@ -127,7 +129,7 @@ module _ (base : BaseProfile) (laws : StoreLaws) where
       })
 
   pub checkpoint_refused : (held : Option (List ℕ)) (x y : Option Outside) (e : JournalError)
-      (result : Result Reply Failure) → IsLoadError e → RefusesStore e result → Told (LoadsStore (Err e)) x y
+      (result : Result LastWords Failure) → IsLoadError e → RefusesStore e result → Told (LoadsStore (Err e)) x y
       → Prepares command result held held x y
   checkpoint_refused held x y e result named refuses told =
       let bytes = behind_of held in
@@ -143,7 +145,7 @@ module _ (base : BaseProfile) (laws : StoreLaws) where
         (λ w v k. loaded_as_before laws l w v k.answer)
 
     -- memory ends
-    pub checkpoint_failed : (held : Option (List ℕ)) (result : Result Reply Failure) → result ≡ Err NoMemoryFailure
+    pub checkpoint_failed : (held : Option (List ℕ)) (result : Result LastWords Failure) → result ≡ Err NoMemoryFailure
         → Prepares command result held held x y
     checkpoint_failed held result is = load_prepares held x y (Ok l) result told
         (by_failure command (behind_of held) [] x y NoMemoryFailure result is as_before)
@@ -189,21 +191,21 @@ module _ (base : BaseProfile) (laws : StoreLaws) where
         (is : profile ≡ profile_of_base base l.journal.profile) where
       -- the profile is the one that the history's base gets
       base_is : (w u : Outside) → (k : StoreLoaded l w u)
-          → checkpoint_of profile k.history events ≡ rebased base k.history events
+          → checkpoint_of profile k.history events ≡ checkpointed base k.history events
       base_is w u k = ap (λ (n : ℕ). checkpoint_of n k.history events)
           (is ∙ ap (λ (n : ℕ). profile_of_base base n) k.ready.at.profile)
 
       -- what a stop leaves with the checkpoint
       with_entries : (w u : Outside) → (k : StoreLoaded l w u) → (left : Left) (h : History) → k.history ≡ h
-          → StandFor (image_of left) (rebased base k.history events) → LeavesCheckpoint base w left h
+          → StandFor (image_of left) (checkpointed base k.history events) → LeavesCheckpoint base w left h
       with_entries w u k left h same stand =
           let its : AreItsEntries h events = subst (λ (i : History). AreItsEntries i events) same (entries_of w u k) in
           With events its (reads_alike more base h its.objects events its.has its.are)
-          (subst (λ (i : History). StandFor (image_of left) (rebased base i events)) same stand)
+          (subst (λ (i : History). StandFor (image_of left) (checkpointed base i events)) same stand)
 
-      rebased_moments : (result : Result (Unit {0}) JournalError) (w v : Outside)
-          → Rebases l new profile events result w v → LeavesOnly w v (LeftBy command [] w)
-      rebased_moments result w v a =
+      checkpointed_moments : (result : Result (Unit {0}) JournalError) (w v : Outside)
+          → LoadsAndCheckpoints l new profile events result w v → LeavesOnly w v (LeftBy command [] w)
+      checkpointed_moments result w v a =
           let k = a.loads.answer in
           then_runs w a.between v (LeftBy command [] w) (LeavesOneOf profile k.history events a.between.output)
           (moments (Ok l) w a.between a.loads)
@@ -225,11 +227,11 @@ module _ (base : BaseProfile) (laws : StoreLaws) where
 
       module _ (faults_before faults_now : ℕ) (bytes : List ℕ) where
         written : (u : Unit {0}) → CheckpointAnswer l.journal new profile events (Ok u) faults_before faults_now
-            → (w v : Outside) → Rebases l new profile events (Ok u) w v
+            → (w v : Outside) → LoadsAndCheckpoints l new profile events (Ok u) w v
             → WillPut command bytes [] Done (base_line base l.journal.kept.0) (Some w) (Some v)
         written u answer w v a =
             let k = a.loads.answer in
-            let now = rebased base k.history events in
+            let now = checkpointed base k.history events in
             let on : IsOnStore new now v = subst (λ (i : History). IsOnStore new i v) (base_is w a.between k)
             (more.ok l.journal new profile k.history events u a.between v k.ready a.checkpoints) in
             let small : length (reads_of v new.file) ≤ 2 ^ 40 =
@@ -266,37 +268,38 @@ module _ (base : BaseProfile) (laws : StoreLaws) where
             has_room may (inr large) = let room = may.room in omega arith
 
         module _ (x y : Option Outside) (held : Option (List ℕ)) (same : bytes ≡ behind_of held) where
-          rebase_prepares : (result : Result Reply Failure) (done : Result (Unit {0}) JournalError)
-              → ((w v : Outside) → Rebases l new profile events done w v → v.output ≡ w.output)
-              → Told (Rebases l new profile events done) x y → IsPrepared command bytes [] result x y
+          checkpoint_prepares : (result : Result LastWords Failure) (done : Result (Unit {0}) JournalError)
+              → ((w v : Outside) → LoadsAndCheckpoints l new profile events done w v → v.output ≡ w.output)
+              → Told (LoadsAndCheckpoints l new profile events done) x y → IsPrepared command bytes [] result x y
               → Prepares command result held held x y
-          rebase_prepares result done silent told answer =
+          checkpoint_prepares result done silent told answer =
               prepares command result [] held held x y (took_nothing held)
               (subst (λ (b : List ℕ). IsPrepared command b [] result x y) same answer)
-              (told_weaker x y (Rebases l new profile events done) (λ w v. v.output ≡ w.output) told silent)
-              (told_weaker x y (Rebases l new profile events done) (λ w v. LeavesOnly w v (LeftBy command [] w)) told
-              (rebased_moments done))
+              (told_weaker x y (LoadsAndCheckpoints l new profile events done) (λ w v. v.output ≡ w.output) told silent)
+              (told_weaker x y (LoadsAndCheckpoints l new profile events done)
+              (λ w v. LeavesOnly w v (LeftBy command [] w)) told (checkpointed_moments done))
 
-          pub checkpoint_written : (u : Unit {0}) (r : Reply) → Says Done (base_line base l.journal.kept.0) r
+          pub checkpoint_written : (u : Unit {0}) (r : LastWords) → Says Done (base_line base l.journal.kept.0) r
               → CheckpointAnswer l.journal new profile events (Ok u) faults_before faults_now
-              → Told (Rebases l new profile events (Ok u)) x y → Prepares command (Ok r) held held x y
-          checkpoint_written u r says answer told = rebase_prepares (Ok r) (Ok u)
+              → Told (LoadsAndCheckpoints l new profile events (Ok u)) x y → Prepares command (Ok r) held held x y
+          checkpoint_written u r says answer told = checkpoint_prepares (Ok r) (Ok u)
               (λ w v a. (a.checkpoints a.loads.answer.history a.loads.answer.ready).output ∙ a.loads.output) told
               (subst (λ (s : Status). WillPut command bytes [] s r.out.items x y) (sym says.0)
               (subst (λ (o : List ℕ). WillPut command bytes [] Done o x y) (sym says.1)
               (will_put command bytes [] Done (base_line base l.journal.kept.0) x y
-              (Rebases l new profile events (Ok u)) told (inl refl) refl tt (written u answer))))
+              (LoadsAndCheckpoints l new profile events (Ok u)) told (inl refl) refl tt (written u answer))))
 
           -- a refusal that isn't a fault touches no file
           untouched : (e : JournalError)
               → ((u v : Outside) → Checkpoints l.journal new profile events (Err e) u v → v ≡ u)
-              → Told (Rebases l new profile events (Err e)) x y → Told (LoadsStore (Ok l)) x y
-          untouched e still told = told_weaker x y (Rebases l new profile events (Err e)) (LoadsStore (Ok l)) told
+              → Told (LoadsAndCheckpoints l new profile events (Err e)) x y → Told (LoadsStore (Ok l)) x y
+          untouched e still told =
+              told_weaker x y (LoadsAndCheckpoints l new profile events (Err e)) (LoadsStore (Ok l)) told
               (λ w v a. subst (λ (u : Outside). LoadsStore (Ok l) w u) (sym (still a.between v a.checkpoints)) a.loads)
 
-          pub checkpoint_not_written : (e : JournalError) (result : Result Reply Failure) → l.journal.closed ≡ false
+          pub checkpoint_not_written : (e : JournalError) (result : Result LastWords Failure) → l.journal.closed ≡ false
               → CheckpointAnswer l.journal new profile events (Err e) faults_before faults_now → RefusesStore e result
-              → Told (Rebases l new profile events (Err e)) x y → Prepares command result held held x y
+              → Told (LoadsAndCheckpoints l new profile events (Err e)) x y → Prepares command result held held x y
           checkpoint_not_written TooLarge result alive answer says told =
               let t = untouched TooLarge (λ u v still. still) told in
               load_prepares held x y (Ok l) result t
@@ -305,10 +308,11 @@ module _ (base : BaseProfile) (laws : StoreLaws) where
           checkpoint_not_written NoMemory result alive answer is told =
               checkpoint_failed l x y (untouched NoMemory (λ u v still. still) told) held result is
           checkpoint_not_written SiteFault result alive answer is told =
-              rebase_prepares result (Err SiteFault) silent told
+              checkpoint_prepares result (Err SiteFault) silent told
               (by_failure command bytes [] x y SiteFailure result is tt)
             where
-              silent : (w v : Outside) → Rebases l new profile events (Err SiteFault) w v → v.output ≡ w.output
+              silent : (w v : Outside) → LoadsAndCheckpoints l new profile events (Err SiteFault) w v
+                  → v.output ≡ w.output
               silent w v a = ⊎_elim (λ closed. let e : false ≡ true = sym alive ∙ closed.0 in cc)
                   (λ writes. (writes.1 a.loads.answer.history a.loads.answer.ready).output ∙ a.loads.output)
                   a.checkpoints
@@ -321,7 +325,7 @@ module _ (base : BaseProfile) (laws : StoreLaws) where
 
 -- what refuses a checkpoint of a journal that isn't closed, and how often calls failed
 pub checkpoint_calls : (old new : Journal) (profile : ℕ) (events : List Event) (e : JournalError)
-    (result : Result Reply Failure) (before now : ℕ) → old.closed ≡ false → RefusesStore e result
+    (result : Result LastWords Failure) (before now : ℕ) → old.closed ≡ false → RefusesStore e result
     → CheckpointAnswer old new profile events (Err e) before now → CountsCalls before now result
 checkpoint_calls old new profile events SiteFault result before now alive is answer =
     record { cause = λ _. rose; stays = λ other. absurd (other is) }

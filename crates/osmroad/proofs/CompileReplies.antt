@@ -10,9 +10,9 @@ use Rattle.osmroad.specs.declared.command.Command.{Command}
 use Rattle.osmroad.specs.declared.command.Command.TheVariants.{Compile}
 use Rattle.osmroad.specs.declared.input.InputError.{InputError}
 use Rattle.osmroad.specs.declared.input.InputError.TheVariants.{Failed, TooLong, Refused, NoMemory}
-use Rattle.osmroad.specs.declared.reply.Reply.{Reply}
-use Rattle.osmroad.specs.declared.reply.Failure.{Failure}
-use Rattle.osmroad.specs.declared.reply.Failure.TheVariants.{ReadFault, NoMemory as MemoryFailure}
+use Rattle.osmroad.specs.declared.last_words.LastWords.{LastWords}
+use Rattle.osmroad.specs.declared.last_words.Failure.{Failure}
+use Rattle.osmroad.specs.declared.last_words.Failure.TheVariants.{ReadFault, NoMemory as MemoryFailure}
 use Rattle.osmroad.specs.declared.status.Status.TheVariants.{Done, Limit}
 use Rattle.osmroad.specs.declared.status.Status.TheVariants.{Refused as RefusedStatus}
 use Rattle.osmroad.specs.Input.{ReadWhole, Stopped, Cause}
@@ -32,8 +32,8 @@ module _ (profile : ℕ) (held left : Option (List ℕ)) (x : Option Outside) wh
   compile = Some (Compile profile)
 
   -- why the input isn't taken, and what will be put then
-  refused_answer : (faults_before faults_now : ℕ) (error : InputError) (result : Result Reply Failure) (read : List ℕ)
-      → Cause Extract error read left faults_before faults_now → RefusesInput error result
+  refused_answer : (faults_before faults_now : ℕ) (error : InputError) (result : Result LastWords Failure)
+      (read : List ℕ) → Cause Extract error read left faults_before faults_now → RefusesInput error result
       → IsPrepared compile (read ++ behind_of left) read result x x
   refused_answer fb fn Failed result read cause is =
       by_failure compile (read ++ behind_of left) read x x ReadFault result is (tt, cause.1, stands_still x)
@@ -54,7 +54,7 @@ module _ (profile : ℕ) (held left : Option (List ℕ)) (x : Option Outside) wh
   refused_answer fb fn NoMemory result read cause is =
       by_failure compile (read ++ behind_of left) read x x MemoryFailure result is (stands_still x)
 
-  pub refused_extract : (faults_before faults_now : ℕ) (error : InputError) (result : Result Reply Failure)
+  pub refused_extract : (faults_before faults_now : ℕ) (error : InputError) (result : Result LastWords Failure)
       → Stopped Extract error held left faults_before faults_now → RefusesInput error result
       → Prepares compile result held left x x
   refused_extract fb fn error result stopped is =
@@ -64,14 +64,14 @@ module _ (profile : ℕ) (held left : Option (List ℕ)) (x : Option Outside) wh
 
   module _ (events : List Event) (whole : ReadWhole Extract events held left) where
     -- all was read
-    pub read_extract : (result : Result Reply Failure) → IsPrepared compile whole.bytes whole.bytes result x x
+    pub read_extract : (result : Result LastWords Failure) → IsPrepared compile whole.bytes whole.bytes result x x
         → Prepares compile result held left x x
     read_extract result answer =
         prepares_whole compile result whole.bytes held left x x whole.took whole.ended answer (silent_still x)
         (leaves_still compile whole.bytes (λ stored. stored) x)
 
     -- and memory ended
-    pub failed_extract : (result : Result Reply Failure) → result ≡ Err MemoryFailure
+    pub failed_extract : (result : Result LastWords Failure) → result ≡ Err MemoryFailure
         → Prepares compile result held left x x
     failed_extract result is = read_extract result
         (by_failure compile whole.bytes whole.bytes x x MemoryFailure result is (stands_still x))

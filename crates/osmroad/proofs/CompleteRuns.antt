@@ -11,14 +11,14 @@ use Rattle.osmroad.specs.declared.command.Command.TheVariants.{Compile, Inspect,
 use Rattle.osmroad.specs.declared.command.Command.TheVariants.{Graph, Audit, Checkpoint}
 use Rattle.osmroad.specs.declared.status.Status.{Status}
 use Rattle.osmroad.specs.declared.status.Status.TheVariants.{Done}
-use Rattle.osmroad.specs.declared.reply.Reply.{Reply}
+use Rattle.osmroad.specs.declared.last_words.LastWords.{LastWords}
 use Rattle.store_switch.specs.LiveFile.{NoBases}
 use Rattle.osmroad.specs.Opening.{Files, IsStore, size_with_change}
 use Rattle.road_model.specs.Format.{IsGraphFile}
 use Rattle.osmroad.specs.Limits.{HasTooManyBytes}
 use Rattle.osmroad.specs.Outcomes.{AreInput, CompileGives, InspectGives, CreateGives, ApplyGives, ShowGives, Gives}
 use Rattle.osmroad.specs.Checkpoints.{CheckpointGives}
-use Rattle.osmroad.specs.Run.{IsReadable, CanBeAdded, CanBeRebased, CanBeDone, files_of}
+use Rattle.osmroad.specs.Run.{IsReadable, CanBeAdded, CanBeCheckpointed, CanBeDone, files_of}
 use Rattle.osmroad.specs.Replies.{WillPut, Prepares}
 use Rattle.osmroad.proofs.HeldSource.{same_held}
 use Rattle.osmroad.specs.StoreLaws.{OneLive}
@@ -76,7 +76,7 @@ inspect_done bytes status out few is (InspectGives.OfNoGraph w none e o) = absur
 inspect_done bytes status out few is (InspectGives.OfGraph w g profile blocks file e o) = e
 
 checkpoint_done : OneLive → (base : BaseProfile) (files : Files) (status : Status) (out : List ℕ)
-    (after : Option History) → IsReadable files → CanBeRebased files → CheckpointGives base files status out after
+    (after : Option History) → IsReadable files → CanBeCheckpointed files → CheckpointGives base files status out after
     → status ≡ Done
 checkpoint_done live base files status out after r can (CheckpointGives.OfStore refusal a) = absurd
     (readable_not_refused files status out live r refusal)
@@ -113,7 +113,7 @@ module _ (live : OneLive) (one : OneReading) where
   -- where the source tells bytes with which the command can be done, what is put says so
   pub done : (command : Option Command) (held left : Option (List ℕ)) (before mid : Option Outside) (bytes : List ℕ)
       → held ≡ Some bytes → CanBeDone command (files_of before) bytes
-      → (reply : Reply) → Prepares command (Ok reply) held left before mid → reply.status ≡ Done
+      → (reply : LastWords) → Prepares command (Ok reply) held left before mid → reply.status ≡ Done
   done command held left before mid bytes is can reply p =
       let will : WillPut command p.bytes p.read reply.status reply.out.items before mid = p.answer in
       let same = same_held bytes p.bytes p.behind held left is p.holds in

@@ -31,10 +31,10 @@ use Rattle.osmroad.specs.declared.command.Command.TheVariants.{Create}
 use Rattle.osmroad.specs.declared.input.InputError.{InputError}
 use Rattle.osmroad.specs.declared.input.InputError.TheVariants.{Failed, TooLong, Refused as RefusedInput}
 use Rattle.osmroad.specs.declared.input.InputError.TheVariants.{NoMemory as NoMemoryInput}
-use Rattle.osmroad.specs.declared.reply.Reply.{Reply}
-use Rattle.osmroad.specs.declared.reply.Failure.{Failure}
-use Rattle.osmroad.specs.declared.reply.Failure.TheVariants.{ReadFault, SiteFault as SiteFailure}
-use Rattle.osmroad.specs.declared.reply.Failure.TheVariants.{NoMemory as NoMemoryFailure}
+use Rattle.osmroad.specs.declared.last_words.LastWords.{LastWords}
+use Rattle.osmroad.specs.declared.last_words.Failure.{Failure}
+use Rattle.osmroad.specs.declared.last_words.Failure.TheVariants.{ReadFault, SiteFault as SiteFailure}
+use Rattle.osmroad.specs.declared.last_words.Failure.TheVariants.{NoMemory as NoMemoryFailure}
 use Rattle.osmroad.specs.declared.status.Status.{Status}
 use Rattle.osmroad.specs.declared.status.Status.TheVariants.{Done, Refused, Limit, StoreExists as StoreExistsStatus}
 use Rattle.osmroad.specs.Texts.{created_line, limit_line, refused_line, store_exists_line}
@@ -108,7 +108,7 @@ module _ (n : Sequence) where
     as_before = told_weaker x y (FindsLive (Ok found)) StandAsBefore told (λ w v f. inl (still_read w v f.quiet))
 
   -- there is a store
-  pub store_exists : (held : Option (List ℕ)) (live : Which) (x y : Option Outside) (result : Result Reply Failure)
+  pub store_exists : (held : Option (List ℕ)) (live : Which) (x y : Option Outside) (result : Result LastWords Failure)
       → Told (FindsLive (Ok (Some live))) x y → RefusesStore StoreExists result
       → Prepares command result held held x y
   store_exists held live x y result told says =
@@ -132,8 +132,8 @@ module _ (n : Sequence) where
       (looked_silent (Some live) x y told) (looked_only (Some live) x y told [])
 
   -- the files aren't looked at
-  pub not_looked : (held : Option (List ℕ)) (e : JournalError) (x y : Option Outside) (result : Result Reply Failure)
-      → Told (FindsLive (Err e)) x y → e ≡ SiteFault → RefusesStore e result
+  pub not_looked : (held : Option (List ℕ)) (e : JournalError) (x y : Option Outside)
+      (result : Result LastWords Failure) → Told (FindsLive (Err e)) x y → e ≡ SiteFault → RefusesStore e result
       → Prepares command result held held x y
   not_looked held e x y result told fault refuses =
       prepares command result [] held held x y (took_nothing held)
@@ -167,7 +167,7 @@ module _ (n : Sequence) where
         })
 
     pub extract_unread : (held left : Option (List ℕ)) (faults_before faults_now : ℕ) (error : InputError)
-        (result : Result Reply Failure) → Stopped Extract error held left faults_before faults_now
+        (result : Result LastWords Failure) → Stopped Extract error held left faults_before faults_now
         → RefusesInput error result → Prepares command result held left x y
     extract_unread held left faults_before faults_now Failed result s is =
         prepares command result s.read held left x y s.took
@@ -196,7 +196,7 @@ module _ (n : Sequence) where
         (looked_silent None x y told) (looked_only None x y told s.read)
 
     -- memory ends for the line
-    pub create_failed : (held left : Option (List ℕ)) (events : List Event) (result : Result Reply Failure)
+    pub create_failed : (held left : Option (List ℕ)) (events : List Event) (result : Result LastWords Failure)
         → result ≡ Err NoMemoryFailure → ReadWhole Extract events held left → Prepares command result held left x y
     create_failed held left events result is r =
         prepares_whole command result r.bytes held left x y r.took r.ended
@@ -261,7 +261,7 @@ module _ (n : Sequence) (events : List Event) (read : List ℕ) (input : AreInpu
 
   module _ (held left : Option (List ℕ)) (took : Took read held left) (ended : Ended left) (x z : Option Outside) where
     -- the store isn't made
-    pub not_created : (e : JournalError) (result : Result Reply Failure) → IsCreateError e → RefusesStore e result
+    pub not_created : (e : JournalError) (result : Result LastWords Failure) → IsCreateError e → RefusesStore e result
         → Told (Creates n.0 events (Err e)) x z → Prepares (command n) result held left x z
     not_created e result named refuses told = prepares_whole (command n) result read held left x z took ended
         (answer e named refuses told) (create_silent (Err e) x z told) (create_only (Err e) x z told)
@@ -287,7 +287,7 @@ module _ (n : Sequence) (events : List Event) (read : List ℕ) (input : AreInpu
         answer TooLarge named says told = absurd named
 
     -- the store is made
-    pub created : JournalStands → JournalStopped → (j : Journal) (r : Reply) → Says Done (created_line n.0) r
+    pub created : JournalStands → JournalStopped → (j : Journal) (r : LastWords) → Says Done (created_line n.0) r
         → Told (Creates n.0 events (Ok j)) x z → Prepares (command n) (Ok r) held left x z
     created stand stopped j r says told = prepares_whole (command n) (Ok r) read held left x z took ended
         (subst (λ (s : Status). WillPut (command n) read read s r.out.items x z) (sym says.0)

@@ -9,7 +9,7 @@ use Rattle.road_io.specs.Told.{Told}
 use Rattle.opl_lexer.specs.declared.mode.Mode.{Mode}
 use Rattle.opl_lexer.specs.Reading.{ReadAll}
 use Rattle.osmroad.specs.declared.limits.Measure.{Measure}
-use Rattle.osmroad.specs.declared.input.Input.{Input}
+use Rattle.osmroad.specs.declared.input.ReadInput.{ReadInput}
 use Rattle.osmroad.specs.declared.input.InputError.{InputError}
 use Rattle.osmroad.specs.declared.input.InputError.TheVariants.{Failed, TooLong, Refused, NoMemory}
 use Rattle.osmroad.specs.Limits.{PassesLimit, Measures}
@@ -35,7 +35,7 @@ ended_whole bytes None (Some z) t = absurd t
 ended_whole bytes (Some x) None t = tt
 ended_whole bytes (Some x) (Some z) t = t.1
 
-module _ (mode : Mode) (input : Input) (before now : Option (List ℕ)) (faults_before faults_now : ℕ) where
+module _ (mode : Mode) (input : ReadInput) (before now : Option (List ℕ)) (faults_before faults_now : ℕ) where
   -- what the end of the input gives
   pub whole_events : (read : List ℕ) → Holds mode read input → Told (λ was left. (was ≡ read) × (left ≡ [])) before now
       → (events : List Event) → ReadAll mode read events → ReadWhole mode events before now

@@ -10,9 +10,9 @@ use Rattle.osmroad.specs.declared.command.Command.{Command}
 use Rattle.osmroad.specs.declared.command.Command.TheVariants.{Inspect}
 use Rattle.osmroad.specs.declared.input.InputError.{InputError}
 use Rattle.osmroad.specs.declared.input.InputError.TheVariants.{Failed, TooLong, Refused, NoMemory}
-use Rattle.osmroad.specs.declared.reply.Reply.{Reply}
-use Rattle.osmroad.specs.declared.reply.Failure.{Failure}
-use Rattle.osmroad.specs.declared.reply.Failure.TheVariants.{ReadFault, NoMemory as MemoryFailure}
+use Rattle.osmroad.specs.declared.last_words.LastWords.{LastWords}
+use Rattle.osmroad.specs.declared.last_words.Failure.{Failure}
+use Rattle.osmroad.specs.declared.last_words.Failure.TheVariants.{ReadFault, NoMemory as MemoryFailure}
 use Rattle.osmroad.specs.declared.status.Status.TheVariants.{Done, Limit}
 use Rattle.osmroad.specs.declared.status.Status.TheVariants.{Refused as RefusedStatus}
 use Rattle.osmroad.specs.Limits.{HasTooManyBytes}
@@ -34,8 +34,8 @@ still_too_many bytes behind more = let total = length-append bytes behind in ome
 
 module _ (held left : Option (List ℕ)) (x : Option Outside) where
   -- why the bytes aren't all read, and what will be put then
-  stopped_answer : (faults_before faults_now : ℕ) (error : InputError) (result : Result Reply Failure) (read : List ℕ)
-      → GatherCause error read faults_before faults_now → RefusesInput error result
+  stopped_answer : (faults_before faults_now : ℕ) (error : InputError) (result : Result LastWords Failure)
+      (read : List ℕ) → GatherCause error read faults_before faults_now → RefusesInput error result
       → IsPrepared inspect (read ++ behind_of left) read result x x
   stopped_answer fb fn Failed result read cause is =
       by_failure inspect (read ++ behind_of left) read x x ReadFault result is (tt, cause.1, stands_still x)
@@ -49,7 +49,7 @@ module _ (held left : Option (List ℕ)) (x : Option Outside) where
   stopped_answer fb fn NoMemory result read cause is =
       by_failure inspect (read ++ behind_of left) read x x MemoryFailure result is (stands_still x)
 
-  pub stopped_file : (faults_before faults_now : ℕ) (error : InputError) (result : Result Reply Failure)
+  pub stopped_file : (faults_before faults_now : ℕ) (error : InputError) (result : Result LastWords Failure)
       → GatherStopped error held left faults_before faults_now → RefusesInput error result
       → Prepares inspect result held left x x
   stopped_file fb fn error result stopped is =
@@ -59,20 +59,20 @@ module _ (held left : Option (List ℕ)) (x : Option Outside) where
 
   module _ (bytes : List ℕ) (all : Gathered bytes held left) where
     -- all was read
-    gathered : (result : Result Reply Failure) → IsPrepared inspect bytes bytes result x x
+    gathered : (result : Result LastWords Failure) → IsPrepared inspect bytes bytes result x x
         → Prepares inspect result held left x x
     gathered result answer =
         prepares_whole inspect result bytes held left x x all.took all.ended answer (silent_still x)
         (leaves_still inspect bytes (λ stored. stored) x)
 
     -- and memory ended
-    pub failed_file : (result : Result Reply Failure) → result ≡ Err MemoryFailure
+    pub failed_file : (result : Result LastWords Failure) → result ≡ Err MemoryFailure
         → Prepares inspect result held left x x
     failed_file result is = gathered result
         (by_failure inspect bytes bytes x x MemoryFailure result is (stands_still x))
 
     -- and is no graph file
-    pub no_graph : (result : Result Reply Failure) → Replies RefusedStatus refused_graph_line result
+    pub no_graph : (result : Result LastWords Failure) → Replies RefusedStatus refused_graph_line result
         → (IsGraphFile bytes → ⊥) → Prepares inspect result held left x x
     no_graph result says none = gathered result
         (replied inspect bytes bytes RefusedStatus refused_graph_line result x x says
@@ -81,7 +81,7 @@ module _ (held left : Option (List ℕ)) (x : Option Outside) where
         (stands_still x))
 
     -- and is one with these blocks
-    pub counted_graph : (result : Result Reply Failure) (profile : ℕ) (blocks : List Block)
+    pub counted_graph : (result : Result LastWords Failure) (profile : ℕ) (blocks : List Block)
         → Replies Done (counts_line (totals_of blocks)) result
         → IsGraphFile bytes → IsFile profile bytes blocks → Prepares inspect result held left x x
     counted_graph result profile blocks says is file = gathered result
@@ -93,8 +93,9 @@ module _ (held left : Option (List ℕ)) (x : Option Outside) where
 -- ---- faults of the source
 
 -- what refuses bytes that aren't read, and how often reads failed
-pub stopped_reads : (error : InputError) (held left : Option (List ℕ)) (before now : ℕ) (result : Result Reply Failure)
-    → GatherStopped error held left before now → (before < now → error ≡ Failed) → RefusesInput error result
+pub stopped_reads : (error : InputError) (held left : Option (List ℕ)) (before now : ℕ)
+    (result : Result LastWords Failure) → GatherStopped error held left before now
+    → (before < now → error ≡ Failed) → RefusesInput error result
     → CountsReads before now result
 stopped_reads Failed held left before now result s each is = record { cause = λ _. s.cause.0; each = λ _. is }
 stopped_reads TooLong held left before now result s each says = reads_calm before now result

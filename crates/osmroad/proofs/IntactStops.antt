@@ -24,7 +24,7 @@ use Rattle.osmroad.specs.declared.command.Request.{Request}
 use Rattle.osmroad.specs.declared.command.Request.TheVariants.{Session, Command as CommandRequest}
 use Rattle.osmroad.specs.declared.status.Status.{Status}
 use Rattle.osmroad.specs.Opening.{IsStore}
-use Rattle.osmroad.specs.Checkpoints.{rebased}
+use Rattle.osmroad.specs.Checkpoints.{checkpointed}
 use Rattle.osmroad.specs.Stops.{CouldLeave, LeavesFirst, LeavesBase, LeavesChange, LeavesHistory, LeavesCheckpoint}
 use Rattle.osmroad.specs.Stops.{LeavesStored, LeavesCreated, LeftBy}
 use Rattle.osmroad.specs.Run.{Ends}
@@ -124,7 +124,7 @@ module _ (laws : StoreLaws) (w : Outside) (durable : BothDurable w) (intact : Ar
     checkpoint_intact base h (LeavesCheckpoint.Before first) = first_intact h first
     checkpoint_intact base h (LeavesCheckpoint.Without stand unsaid) = intact_for left h stand
     checkpoint_intact base h (LeavesCheckpoint.With events are same stand) =
-        intact_for left (rebased base h events) stand
+        intact_for left (checkpointed base h events) stand
 
     left_intact : (command : Option Command) (read : List ℕ) → LeftBy command read w left → AreIntact (image_of left)
     left_intact None read l = could_intact l

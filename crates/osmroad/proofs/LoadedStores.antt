@@ -18,9 +18,9 @@ use Rattle.store_switch.specs.LiveFile.{IsLive, NoBases, reads_of}
 use Rattle.store_switch.specs.TwoFiles.{StandFor, CanBeLoaded, LeavesStore}
 use Rattle.store_switch.specs.StoreLoading.{StoreLoaded, StillRead, LeavesAlike, LoadsStore, IsLoadError}
 use Rattle.osmroad.specs.declared.command.Command.{Command}
-use Rattle.osmroad.specs.declared.reply.Reply.{Reply}
-use Rattle.osmroad.specs.declared.reply.Failure.{Failure}
-use Rattle.osmroad.specs.declared.reply.Failure.TheVariants.{SiteFault as SiteFailure, NoMemory as NoMemoryFailure}
+use Rattle.osmroad.specs.declared.last_words.LastWords.{LastWords}
+use Rattle.osmroad.specs.declared.last_words.Failure.{Failure}
+use Rattle.osmroad.specs.declared.last_words.Failure.TheVariants.{SiteFault as SiteFailure, NoMemory as NoMemoryFailure}
 use Rattle.osmroad.specs.declared.status.Status.{Status}
 use Rattle.osmroad.specs.declared.status.Status.TheVariants.{NoStore as NoStoreStatus, Damaged as DamagedStatus, Limit}
 use Rattle.osmroad.specs.Texts.{no_store_line, damaged_line, limit_line}
@@ -187,7 +187,7 @@ module _ (laws : StoreLaws) where
 
   -- a command that loads its store first, where the store isn't loaded
   pub load_refused : (command : Option Command) (bytes : List ℕ) (x y : Option Outside) (e : JournalError)
-      (result : Result Reply Failure) → IsLoadError e → RefusesStore e result → Told (LoadsStore (Err e)) x y
+      (result : Result LastWords Failure) → IsLoadError e → RefusesStore e result → Told (LoadsStore (Err e)) x y
       → IsStored command
       → ((status : Status) (out : List ℕ) → IsRefusal status → Told (λ w v. NotLoaded w v status out) x y
       → WillPut command bytes [] status out x y)

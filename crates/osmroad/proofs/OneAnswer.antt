@@ -27,7 +27,7 @@ use Rattle.osmroad.specs.Texts.{sequence_line, counts_line}
 use Rattle.osmroad.specs.Compiled.{IsGraphOf}
 use Rattle.osmroad.specs.Audited.{IsAuditOf}
 use Rattle.osmroad.specs.Opening.{Files, IsStore, StoreRefusal, size_with_change}
-use Rattle.osmroad.specs.Checkpoints.{AreItsEntries, HasNoRoom, CheckpointGives, base_line, rebased}
+use Rattle.osmroad.specs.Checkpoints.{AreItsEntries, HasNoRoom, CheckpointGives, base_line, checkpointed}
 use Rattle.osmroad.specs.Outcomes.{AreInput, IsCompiled, CompileGives, InspectGives, CreateGives, ApplyGives}
 use Rattle.osmroad.specs.Outcomes.{ShowGives, Gives}
 use Rattle.osmroad.specs.Run.{IsStored}
@@ -197,8 +197,8 @@ module _ (live : OneLive) (has : HasLive) (sound : NoDamage) (alone : OneDamage)
       both _ _ _ e f,
       o ∙ (ap (λ (h : History). base_line base (kept h)) (one_history s t)
           ∙ sym p),
-      a ∙ (ap (λ (h : History). Some (rebased base h x)) (one_history s t)
-          ∙ (ap (λ (l : List Event). Some (rebased base t.history l)) (one_entries map s t x y j i)
+      a ∙ (ap (λ (h : History). Some (checkpointed base h x)) (one_history s t)
+          ∙ (ap (λ (l : List Event). Some (checkpointed base t.history l)) (one_entries map s t x y j i)
           ∙ sym b)),
     )
 

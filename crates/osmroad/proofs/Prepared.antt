@@ -5,9 +5,9 @@ use Rattle.std.proofs.Common.{refl, sym, ap, subst}
 use Rattle.road_io.specs.Told.{Told}
 use Rattle.road_io.specs.Outside.{Outside, LeavesOnly}
 use Rattle.osmroad.specs.declared.command.Command.{Command}
-use Rattle.osmroad.specs.declared.reply.Reply.{Reply}
-use Rattle.osmroad.specs.declared.reply.Failure.{Failure}
-use Rattle.osmroad.specs.declared.reply.Failure.TheVariants.{NoMemory as NoMemoryFailure}
+use Rattle.osmroad.specs.declared.last_words.LastWords.{LastWords}
+use Rattle.osmroad.specs.declared.last_words.Failure.{Failure}
+use Rattle.osmroad.specs.declared.last_words.Failure.TheVariants.{NoMemory as NoMemoryFailure}
 use Rattle.osmroad.specs.Input.{Ended}
 use Rattle.road_io.specs.Parts.{Took}
 use Rattle.osmroad.specs.Stops.{LeftBy}
@@ -23,10 +23,10 @@ use Rattle.osmroad.proofs.HeldSource.{all_read}
 
 -- nothing will be put, for this reason
 pub by_failure : (command : Option Command) (bytes read : List ℕ) (x y : Option Outside) (failure : Failure)
-    (result : Result Reply Failure) → result ≡ Err failure → WillFail command read failure x y
+    (result : Result LastWords Failure) → result ≡ Err failure → WillFail command read failure x y
     → IsPrepared command bytes read result x y
 by_failure command bytes read x y failure result is fails =
-    subst (λ (r : Result Reply Failure). IsPrepared command bytes read r x y) (sym is) fails
+    subst (λ (r : Result LastWords Failure). IsPrepared command bytes read r x y) (sym is) fails
 
 -- what will be put where the site doesn't tell, and where it does
 pub will_put : (command : Option Command) (bytes read : List ℕ) (status : Status) (out : List ℕ)
@@ -41,13 +41,13 @@ will_put command bytes read status out (Some w) None R told replies reads gives 
 will_put command bytes read status out (Some w) (Some v) R told replies reads gives put = put w v told
 
 -- what a `?` hands on where memory ended
-pub no_memory : (result : Result Reply Failure) → IsErrAnd result (λ e. e ≡ NoMemoryFailure)
+pub no_memory : (result : Result LastWords Failure) → IsErrAnd result (λ e. e ≡ NoMemoryFailure)
     → result ≡ Err NoMemoryFailure
 no_memory (Ok r) is = absurd is
 no_memory (Err failure) is = ap (λ (f : Failure). Err f) is
 
 -- all of what is prepared, where some of the source was read
-pub prepares : (command : Option Command) (result : Result Reply Failure) (read : List ℕ)
+pub prepares : (command : Option Command) (result : Result LastWords Failure) (read : List ℕ)
     (held left : Option (List ℕ)) (x y : Option Outside) → Took read held left
     → IsPrepared command (read ++ behind_of left) read result x y
     → Told (λ w v. v.output ≡ w.output) x y
@@ -65,7 +65,7 @@ prepares command result read held left x y took answer silent only = record {
 }
 
 -- the same where the source was read to its end
-pub prepares_whole : (command : Option Command) (result : Result Reply Failure) (read : List ℕ)
+pub prepares_whole : (command : Option Command) (result : Result LastWords Failure) (read : List ℕ)
     (held left : Option (List ℕ)) (x y : Option Outside) → Took read held left → Ended left
     → IsPrepared command read read result x y
     → Told (λ w v. v.output ≡ w.output) x y

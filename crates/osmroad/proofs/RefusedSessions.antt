@@ -14,10 +14,10 @@ use Rattle.sequence_journal.specs.declared.error.JournalError.TheVariants.{NoMem
 use Rattle.sequence_journal.specs.declared.load.Loaded.{Loaded}
 use Rattle.sequence_journal.specs.Journal.{CountsFaults}
 use Rattle.store_switch.specs.StoreLoading.{StillRead, LoadsStore, IsLoadError}
-use Rattle.osmroad.specs.declared.reply.Reply.{Reply}
-use Rattle.osmroad.specs.declared.reply.Failure.{Failure}
-use Rattle.osmroad.specs.declared.reply.Failure.TheVariants.{ReadFault as ReadFailure, SiteFault as SiteFailure}
-use Rattle.osmroad.specs.declared.reply.Failure.TheVariants.{NoMemory as MemoryFailure}
+use Rattle.osmroad.specs.declared.last_words.LastWords.{LastWords}
+use Rattle.osmroad.specs.declared.last_words.Failure.{Failure}
+use Rattle.osmroad.specs.declared.last_words.Failure.TheVariants.{ReadFault as ReadFailure, SiteFault as SiteFailure}
+use Rattle.osmroad.specs.declared.last_words.Failure.TheVariants.{NoMemory as MemoryFailure}
 use Rattle.osmroad.specs.declared.status.Status.{Status}
 use Rattle.osmroad.specs.declared.status.Status.TheVariants.{Done, Usage, ReadFault, SiteFault, Refused, Limit}
 use Rattle.osmroad.specs.declared.status.Status.TheVariants.{NoMemory, NoStore, StoreExists as StoreExistsStatus}
@@ -42,7 +42,7 @@ told_both (Some w) (Some v) R S one two = (one, two)
 
 -- ---- the line that says why
 
-not_loaded_as : (status : Status) (out : List ℕ) (reply : Reply) (w u : Outside) → Says status out reply
+not_loaded_as : (status : Status) (out : List ℕ) (reply : LastWords) (w u : Outside) → Says status out reply
     → NotLoaded w u status out → NotLoaded w u reply.status reply.out.items
 not_loaded_as status out reply w u says n =
     subst (λ (s : Status). NotLoaded w u s reply.out.items) (sym says.0)
@@ -50,7 +50,7 @@ not_loaded_as status out reply w u says n =
 
 module _ (laws : StoreLaws) where
   -- a reply that refuses the store says why it isn't loaded
-  not_loaded_for : (e : JournalError) (reply : Reply) (w u : Outside) → IsLoadError e → RefusesStore e (Ok reply)
+  not_loaded_for : (e : JournalError) (reply : LastWords) (w u : Outside) → IsLoadError e → RefusesStore e (Ok reply)
       → LoadsStore (Err e) w u → NotLoaded w u reply.status reply.out.items
   not_loaded_for NoStoreError reply w u named says l =
       not_loaded_as NoStore no_store_line reply w u says (none_loaded laws w u l)
@@ -100,7 +100,7 @@ module _ (laws : StoreLaws) where
       (λ u v grows. inr (p.0, grows.0, grows.1))
 
   -- it is put
-  pub refusal_runs : (e : JournalError) (reply : Reply) (status : Status) (x y z : Option Outside) (before now : ℕ)
+  pub refusal_runs : (e : JournalError) (reply : LastWords) (status : Status) (x y z : Option Outside) (before now : ℕ)
       → IsLoadError e → RefusesStore e (Ok reply) → Told (LoadsStore (Err e)) x y
       → Told (PutsSome reply.out.items) y z → EndsPut reply.out.items reply.status status y z before now
       → Told (SessionRuns [] false status) x z
@@ -153,7 +153,8 @@ failed_runs laws e failure x y named refuses told =
 -- ---- statuses
 
 -- a line says that there is no store, or that it is damaged or too large
-says_refusal : (e : JournalError) (reply : Reply) → IsLoadError e → RefusesStore e (Ok reply) → IsRefusal reply.status
+says_refusal : (e : JournalError) (reply : LastWords) → IsLoadError e → RefusesStore e (Ok reply)
+    → IsRefusal reply.status
 says_refusal NoStoreError reply named says = inl says.0
 says_refusal (Damaged file offset) reply named says = inr (inl says.0)
 says_refusal TooLarge reply named says = inr (inr says.0)
@@ -172,7 +173,7 @@ refusal_no_fault status (inl is) fault = let e : NoStore ≡ SiteFault = sym is 
 refusal_no_fault status (inr (inl is)) fault = let e : DamagedStatus ≡ SiteFault = sym is ∙ fault in cc
 refusal_no_fault status (inr (inr is)) fault = let e : Limit ≡ SiteFault = sym is ∙ fault in cc
 
-pub refusal_named : (e : JournalError) (reply : Reply) (status : Status) (y z : Option Outside) (before now : ℕ)
+pub refusal_named : (e : JournalError) (reply : LastWords) (status : Status) (y z : Option Outside) (before now : ℕ)
     → IsLoadError e → RefusesStore e (Ok reply) → EndsPut reply.out.items reply.status status y z before now
     → IsNotServed status
 refusal_named e reply status y z before now named says (inl p) =
@@ -193,7 +194,7 @@ failed_named (OutOfSequence kept got) ReadFailure named is = absurd named
 
 -- ---- faults
 
-pub refusal_calls : (e : JournalError) (reply : Reply) (status : Status) (y z : Option Outside) (before mid now : ℕ)
+pub refusal_calls : (e : JournalError) (reply : LastWords) (status : Status) (y z : Option Outside) (before mid now : ℕ)
     → IsLoadError e → RefusesStore e (Ok reply)
     → CountsFaults before mid (let r : Result Loaded JournalError = Err e in r)
     → EndsPut reply.out.items reply.status status y z mid now → AnswersFaults SiteFault status before now
@@ -218,14 +219,14 @@ failed_status SiteFailure is = refl
 failed_status MemoryFailure is = (cc)
 
 calls_of_failure : (failure : Failure) (before now : ℕ)
-    → CountsCalls before now (let r : Result Reply Failure = Err failure in r)
+    → CountsCalls before now (let r : Result LastWords Failure = Err failure in r)
     → AnswersFaults SiteFault (failure_status failure) before now
 calls_of_failure failure before now counts = record {
   cause = λ fault. counts.cause (ap (λ (f : Failure). Err f) (failed_status failure fault));
   each = λ rises. risen failure counts rises;
 }
   where
-    risen : (f : Failure) → CountsCalls before now (let r : Result Reply Failure = Err f in r) → before < now
+    risen : (f : Failure) → CountsCalls before now (let r : Result LastWords Failure = Err f in r) → before < now
         → failure_status f ≡ SiteFault
     risen SiteFailure c rises = refl
     risen ReadFailure c rises = absurd (omega (arith, rises, c.stays (λ e. (cc))))

@@ -3,15 +3,15 @@ use Rattle.std.proofs.Common.{ℕ, List, Option, Result, Ok, Err, sym, subst}
 use Rattle.road_io.specs.Told.{Told}
 use Rattle.road_io.specs.Outside.{Outside}
 use Rattle.osmroad.specs.declared.command.Command.{Command}
-use Rattle.osmroad.specs.declared.reply.Reply.{Reply}
-use Rattle.osmroad.specs.declared.reply.Failure.{Failure}
+use Rattle.osmroad.specs.declared.last_words.LastWords.{LastWords}
+use Rattle.osmroad.specs.declared.last_words.Failure.{Failure}
 use Rattle.osmroad.specs.declared.status.Status.{Status}
 use Rattle.osmroad.specs.Run.{StandAsBefore}
 use Rattle.osmroad.specs.Replies.{Replies, WillPut, WillFail, IsPrepared}
 
 -- a reply says what will be put; where memory ended in its place, the files stand as before
 pub replied : (command : Option Command) (bytes read : List ℕ) (status : Status) (out : List ℕ)
-    (result : Result Reply Failure) (before now : Option Outside)
+    (result : Result LastWords Failure) (before now : Option Outside)
     → Replies status out result → WillPut command bytes read status out before now → Told StandAsBefore before now
     → IsPrepared command bytes read result before now
 replied command bytes read status out (Ok r) before now says will stand =

@@ -14,10 +14,10 @@ use Rattle.osmroad.specs.declared.command.BaseProfile.{BaseProfile}
 use Rattle.osmroad.specs.declared.command.Command.{Command}
 use Rattle.osmroad.specs.declared.command.Command.TheVariants.{Compile, Inspect, Sample, Create, Apply}
 use Rattle.osmroad.specs.declared.command.Command.TheVariants.{Graph, Audit, Checkpoint}
-use Rattle.osmroad.specs.declared.reply.Reply.{Reply}
-use Rattle.osmroad.specs.declared.reply.Failure.{Failure}
-use Rattle.osmroad.specs.declared.reply.Failure.TheVariants.{ReadFault as ReadFailure, SiteFault as SiteFailure}
-use Rattle.osmroad.specs.declared.reply.Failure.TheVariants.{NoMemory as MemoryFailure}
+use Rattle.osmroad.specs.declared.last_words.LastWords.{LastWords}
+use Rattle.osmroad.specs.declared.last_words.Failure.{Failure}
+use Rattle.osmroad.specs.declared.last_words.Failure.TheVariants.{ReadFault as ReadFailure, SiteFault as SiteFailure}
+use Rattle.osmroad.specs.declared.last_words.Failure.TheVariants.{NoMemory as MemoryFailure}
 use Rattle.osmroad.specs.declared.status.Status.{Status}
 use Rattle.osmroad.specs.declared.status.Status.TheVariants.{Done, Usage, ReadFault, SiteFault, Refused, Limit}
 use Rattle.osmroad.specs.declared.status.Status.TheVariants.{NoMemory, OutOfSequence, NoStore, StoreExists, Damaged}
@@ -247,7 +247,7 @@ module _ (command : Option Command) (before mid now : Option Outside) (faults_mi
           })))
 
   -- what was prepared is put
-  pub ends_prepared : (reply : Reply) → Prepares command (Ok reply) held left before mid
+  pub ends_prepared : (reply : LastWords) → Prepares command (Ok reply) held left before mid
       → Told (PutsSome reply.out.items) mid now
       → (status : Status) → EndsPut reply.out.items reply.status status mid now faults_mid faults_now
       → Ends command status held left before now

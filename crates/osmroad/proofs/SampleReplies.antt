@@ -9,9 +9,9 @@ use Rattle.road_io.specs.Outside.{Outside}
 use Rattle.sample_town.specs.Lists.{Progress, next_list, after_list}
 use Rattle.osmroad.specs.declared.command.Command.{Command}
 use Rattle.osmroad.specs.declared.command.Command.TheVariants.{Sample}
-use Rattle.osmroad.specs.declared.reply.Reply.{Reply}
-use Rattle.osmroad.specs.declared.reply.Failure.{Failure}
-use Rattle.osmroad.specs.declared.reply.Failure.TheVariants.{NoMemory as MemoryFailure}
+use Rattle.osmroad.specs.declared.last_words.LastWords.{LastWords}
+use Rattle.osmroad.specs.declared.last_words.Failure.{Failure}
+use Rattle.osmroad.specs.declared.last_words.Failure.TheVariants.{NoMemory as MemoryFailure}
 use Rattle.osmroad.specs.declared.status.Status.TheVariants.{Done}
 use Rattle.road_model.specs.Rules.{Rules}
 use Rattle.access_profile.specs.Profiles.{rules_of}
@@ -27,18 +27,18 @@ module _ (number : ℕ) (held : Option (List ℕ)) (x : Option Outside) where
   abbrev command : Option Command
   command = Some (Sample number)
 
-  unread : (result : Result Reply Failure) → IsPrepared command (behind_of held) [] result x x
+  unread : (result : Result LastWords Failure) → IsPrepared command (behind_of held) [] result x x
       → Prepares command result held held x x
   unread result answer = prepares command result [] held held x x (took_nothing held) answer (silent_still x)
       (leaves_still command [] (λ stored. stored) x)
 
   -- memory ended
-  pub failed_sample : (result : Result Reply Failure) → result ≡ Err MemoryFailure
+  pub failed_sample : (result : Result LastWords Failure) → result ≡ Err MemoryFailure
       → Prepares command result held held x x
   failed_sample result is = unread result
       (by_failure command (behind_of held) [] x x MemoryFailure result is (stands_still x))
 
-  pub put_sample : (result : Result Reply Failure) (out : List ℕ) → Replies Done out result → IsSample (rules_of 1)
+  pub put_sample : (result : Result LastWords Failure) (out : List ℕ) → Replies Done out result → IsSample (rules_of 1)
       number out
       → Prepares command result held held x x
   put_sample result out says is = unread result

@@ -18,9 +18,9 @@ use Rattle.store_switch.specs.TwoFiles.{StandFor, CanBeLoaded}
 use Rattle.store_switch.specs.StoreLoading.{StoreLoaded, LoadsStore, IsLoadError}
 use Rattle.osmroad.specs.declared.command.Command.{Command}
 use Rattle.osmroad.specs.declared.command.Command.TheVariants.{Graph, Audit}
-use Rattle.osmroad.specs.declared.reply.Reply.{Reply}
-use Rattle.osmroad.specs.declared.reply.Failure.{Failure}
-use Rattle.osmroad.specs.declared.reply.Failure.TheVariants.{NoMemory as NoMemoryFailure}
+use Rattle.osmroad.specs.declared.last_words.LastWords.{LastWords}
+use Rattle.osmroad.specs.declared.last_words.Failure.{Failure}
+use Rattle.osmroad.specs.declared.last_words.Failure.TheVariants.{NoMemory as NoMemoryFailure}
 use Rattle.osmroad.specs.declared.status.Status.{Status}
 use Rattle.osmroad.specs.declared.status.Status.TheVariants.{Done, NoStore, Damaged, Limit}
 use Rattle.road_model.specs.Rules.{Rules}
@@ -89,7 +89,7 @@ module _ (laws : StoreLaws) (command : Option Command) (Shows : Rules → List E
       weaker w left h (inr store) = inr store.files
 
   show_prepares : (held : Option (List ℕ)) (x y : Option Outside) (loaded : Result Loaded JournalError)
-      (result : Result Reply Failure) → Told (LoadsStore loaded) x y
+      (result : Result LastWords Failure) → Told (LoadsStore loaded) x y
       → IsPrepared command (behind_of held) [] result x y → Prepares command result held held x y
   show_prepares held x y loaded result told answer =
       prepares command result [] held held x y (took_nothing held) answer
@@ -115,7 +115,7 @@ module _ (laws : StoreLaws) (command : Option Command) (Shows : Rules → List E
 
   -- the store isn't loaded
   pub show_refused : (held : Option (List ℕ)) (x y : Option Outside) (e : JournalError)
-      (result : Result Reply Failure) → IsLoadError e → RefusesStore e result → Told (LoadsStore (Err e)) x y
+      (result : Result LastWords Failure) → IsLoadError e → RefusesStore e result → Told (LoadsStore (Err e)) x y
       → Prepares command result held held x y
   show_refused held x y e result named refuses told =
       let bytes = behind_of held in
@@ -124,7 +124,7 @@ module _ (laws : StoreLaws) (command : Option Command) (Shows : Rules → List E
       (λ status out is n. not_loaded bytes status out x y is n))
 
   -- memory ends when it is loaded
-  pub show_failed : (held : Option (List ℕ)) (x y : Option Outside) (l : Loaded) (result : Result Reply Failure)
+  pub show_failed : (held : Option (List ℕ)) (x y : Option Outside) (l : Loaded) (result : Result LastWords Failure)
       → result ≡ Err NoMemoryFailure → Told (LoadsStore (Ok l)) x y → Prepares command result held held x y
   show_failed held x y l result is told = show_prepares held x y (Ok l) result told
       (by_failure command (behind_of held) [] x y NoMemoryFailure result is
@@ -151,7 +151,7 @@ module _ (laws : StoreLaws) (command : Option Command) (Shows : Rules → List E
   }
 
   -- what is shown of its events is made
-  pub show_done : (held : Option (List ℕ)) (x y : Option Outside) (l : Loaded) (out : List ℕ) (r : Reply)
+  pub show_done : (held : Option (List ℕ)) (x y : Option Outside) (l : Loaded) (out : List ℕ) (r : LastWords)
       → Says Done out r → Told (LoadsStore (Ok l)) x y
       → Shows (rules_of l.journal.profile) l.events.items out
       → Prepares command (Ok r) held held x y

@@ -2,16 +2,17 @@
 use Rattle.std.proofs.Common.{◌≡◌, ℕ, List, Option, Result, Err, refl, subst, arith}
 use Rattle.road_io.specs.Outside.{Outside}
 use Rattle.osmroad.specs.declared.command.Command.{Command}
-use Rattle.osmroad.specs.declared.reply.Reply.{Reply}
-use Rattle.osmroad.specs.declared.reply.Failure.{Failure}
-use Rattle.osmroad.specs.declared.reply.Failure.TheVariants.{ReadFault, SiteFault}
+use Rattle.osmroad.specs.declared.last_words.LastWords.{LastWords}
+use Rattle.osmroad.specs.declared.last_words.Failure.{Failure}
+use Rattle.osmroad.specs.declared.last_words.Failure.TheVariants.{ReadFault, SiteFault}
 use Rattle.osmroad.specs.Run.{IsReading, IsStored}
 use Rattle.osmroad.specs.Replies.{IsPrepared, Prepares, CountsReads, CountsCalls}
 
-module _ (command : Option Command) (result : Result Reply Failure) (held left : Option (List ℕ))
+module _ (command : Option Command) (result : Result LastWords Failure) (held left : Option (List ℕ))
     (before now : Option Outside) (p : Prepares command result held left before now) where
   fails : (failure : Failure) → result ≡ Err failure → IsPrepared command p.bytes p.read (Err failure) before now
-  fails failure is = subst (λ (r : Result Reply Failure). IsPrepared command p.bytes p.read r before now) is p.answer
+  fails failure is =
+      subst (λ (r : Result LastWords Failure). IsPrepared command p.bytes p.read r before now) is p.answer
 
   pub no_read : (IsReading command → ⊥) → (faults : ℕ) → CountsReads faults faults result
   no_read none faults = record {

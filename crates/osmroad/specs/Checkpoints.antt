@@ -33,13 +33,13 @@ base_line Kept number = checkpoint_line number
 base_line Raised number = raise_line number
 
 -- the history with these events as its base, under its own profile or under profile 2, and no change
-abbrev pub rebased : BaseProfile → History → List Event → History
-rebased base h events = checkpoint_of (profile_of_base base h.profile) h events
+abbrev pub checkpointed : BaseProfile → History → List Event → History
+checkpointed base h events = checkpoint_of (profile_of_base base h.profile) h events
 
 -- a reader finds the kept number and the objects of the second history in the first one, and its profile or profile 2
-abbrev pub ReadsAlike : BaseProfile → History → History → Type 0
-ReadsAlike Kept g h = SameForReader g h
-ReadsAlike Raised g h = IsRaised 2 g h
+abbrev pub IsCheckpointOf : BaseProfile → History → History → Type 0
+IsCheckpointOf Kept g h = SameForReader g h
+IsCheckpointOf Raised g h = IsRaised 2 g h
 
 -- `STORE checkpoint` and `STORE raise`: the files then stand for the kept number and the entries as a base, with no
 -- change, under the profile that they had or under profile 2
@@ -53,5 +53,5 @@ pub data CheckpointGives (base : BaseProfile) (files : Files) (status : Status) 
   OfEntries : (s : IsStore files) → (events : List Event) → AreItsEntries s.history events
       → (HasNoRoom s.generation events → ⊥)
       → status ≡ Done → out ≡ base_line base (kept s.history)
-      → after ≡ Some (rebased base s.history events)
+      → after ≡ Some (checkpointed base s.history events)
       → CheckpointGives base files status out after

@@ -3,12 +3,12 @@ use Rattle.std.specs.Prelude.{ℕ, List}
 use Rattle.opl_lexer.specs.declared.mode.Mode.{Mode}
 use Rattle.opl_objects.specs.Feeding.{HasRead}
 use Rattle.osmroad.specs.Limits.{PassesLimit, PassesAtLast, Measures}
-use Rattle.osmroad.specs.declared.input.Input.{Input}
+use Rattle.osmroad.specs.declared.input.ReadInput.{ReadInput}
 use Rattle.osmroad.specs.declared.input.InputError.{InputError}
 use Rattle.osmroad.specs.declared.input.InputError.TheVariants.{Failed, TooLong, Refused, NoMemory}
 
 -- these bytes were read, and they pass no limit
-pub record Holds (mode : Mode) (read : List ℕ) (input : Input) : Type 0 where
+pub record Holds (mode : Mode) (read : List ℕ) (input : ReadInput) : Type 0 where
   pub measures : Measures read input.measure
   pub has_read : HasRead mode read input.reader
 

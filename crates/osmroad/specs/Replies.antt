@@ -21,9 +21,9 @@ use Rattle.osmroad.specs.declared.command.Command.{Command}
 use Rattle.osmroad.specs.declared.input.InputError.{InputError}
 use Rattle.osmroad.specs.declared.input.InputError.TheVariants.{Failed, TooLong, Refused as RefusedInput}
 use Rattle.osmroad.specs.declared.input.InputError.TheVariants.{NoMemory as NoMemoryInput}
-use Rattle.osmroad.specs.declared.reply.Reply.{Reply}
-use Rattle.osmroad.specs.declared.reply.Failure.{Failure}
-use Rattle.osmroad.specs.declared.reply.Failure.TheVariants.{ReadFault, SiteFault, NoMemory}
+use Rattle.osmroad.specs.declared.last_words.LastWords.{LastWords}
+use Rattle.osmroad.specs.declared.last_words.Failure.{Failure}
+use Rattle.osmroad.specs.declared.last_words.Failure.TheVariants.{ReadFault, SiteFault, NoMemory}
 use Rattle.osmroad.specs.declared.status.Status.{Status}
 use Rattle.osmroad.specs.declared.status.Status.TheVariants.{Refused, OutOfSequence, NoStore, StoreExists}
 use Rattle.osmroad.specs.declared.status.Status.TheVariants.{Damaged, Limit}
@@ -46,23 +46,23 @@ failure_status SiteFault = SiteFaultStatus
 failure_status NoMemory = NoMemoryStatus
 
 -- this status and these bytes
-abbrev pub Says : Status → List ℕ → Reply → Type 0
+abbrev pub Says : Status → List ℕ → LastWords → Type 0
 Says status out r = (r.status ≡ status) × (r.out.items ≡ out)
 
 -- a reply of this status and these bytes; memory may end before it is made
-abbrev pub Replies : Status → List ℕ → Result Reply Failure → Type 0
+abbrev pub Replies : Status → List ℕ → Result LastWords Failure → Type 0
 Replies status out (Ok r) = Says status out r
 Replies status out (Err failure) = failure ≡ NoMemory
 
 -- how an input is refused
-abbrev pub RefusesInput : InputError → Result Reply Failure → Type 0
+abbrev pub RefusesInput : InputError → Result LastWords Failure → Type 0
 RefusesInput Failed result = result ≡ Err ReadFault
 RefusesInput TooLong result = Replies Limit limit_line result
 RefusesInput (RefusedInput fault) result = Replies Refused (refused_line (fault_at fault)) result
 RefusesInput NoMemoryInput result = result ≡ Err NoMemory
 
 -- how a store is refused
-abbrev pub RefusesStore : JournalError → Result Reply Failure → Type 0
+abbrev pub RefusesStore : JournalError → Result LastWords Failure → Type 0
 RefusesStore (OutOfSequenceError kept got) result = Replies OutOfSequence (sequence_line got.0 kept.0) result
 RefusesStore SiteFaultError result = result ≡ Err SiteFault
 RefusesStore (DamagedError file offset) result = Replies Damaged (damaged_line file offset) result
@@ -72,7 +72,7 @@ RefusesStore TooLarge result = Replies Limit limit_line result
 RefusesStore NoMemoryError result = result ≡ Err NoMemory
 
 -- a change in fault is refused for its number first
-abbrev pub RefusesChange : Journal → Sequence → Fault → Result Reply Failure → Type 0
+abbrev pub RefusesChange : Journal → Sequence → Fault → Result LastWords Failure → Type 0
 RefusesChange journal number fault result =
     (IsNext journal number × RefusesInput (RefusedInput fault) result)
     ⊎ ((IsNext journal number → ⊥) × RefusesStore (OutOfSequenceError journal.kept number) result)
@@ -97,13 +97,13 @@ WillFail command read ReadFault before now =
 WillFail command read SiteFault before now = IsStored command
 WillFail command read NoMemory before now = Told StandAsBefore before now
 
-abbrev pub IsPrepared : Option Command → List ℕ → List ℕ → Result Reply Failure → Option Outside → Option Outside
+abbrev pub IsPrepared : Option Command → List ℕ → List ℕ → Result LastWords Failure → Option Outside → Option Outside
     → Type 0
 IsPrepared command bytes read (Ok r) before now = WillPut command bytes read r.status r.out.items before now
 IsPrepared command bytes read (Err failure) before now = WillFail command read failure before now
 
 -- What was read of the source, and what is to be put. The output is as it was.
-pub record Prepares (command : Option Command) (result : Result Reply Failure) (held remaining : Option (List ℕ))
+pub record Prepares (command : Option Command) (result : Result LastWords Failure) (held remaining : Option (List ℕ))
     (before now : Option Outside) : Type 0 where
   pub bytes : List ℕ
   pub read : List ℕ
@@ -117,11 +117,11 @@ pub record Prepares (command : Option Command) (result : Result Reply Failure) (
 -- ---- faults
 
 -- a fault of the source is answered exactly where it came
-pub record CountsReads (before now : ℕ) (result : Result Reply Failure) : Type 0 where
+pub record CountsReads (before now : ℕ) (result : Result LastWords Failure) : Type 0 where
   pub cause : result ≡ Err ReadFault → Rose before now
   pub each : before < now → result ≡ Err ReadFault
 
 -- a fault of the site is answered exactly where it came
-pub record CountsCalls (before now : ℕ) (result : Result Reply Failure) : Type 0 where
+pub record CountsCalls (before now : ℕ) (result : Result LastWords Failure) : Type 0 where
   pub cause : result ≡ Err SiteFault → Rose before now
   pub stays : (result ≡ Err SiteFault → ⊥) → now ≡ before

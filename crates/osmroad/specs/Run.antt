@@ -231,8 +231,8 @@ CanBeAdded number events files = (s : IsStore files)
     → (number ≡ kept s.history + 1) × (size_with_change s.generation s.history events ≤ 2 ^ 40)
 
 -- there is room for the store's entries in the other file, under the next generation
-abbrev pub CanBeRebased : Files → Type 0
-CanBeRebased files = (s : IsStore files) (events : List Event) → AreItsEntries s.history events
+abbrev pub CanBeCheckpointed : Files → Type 0
+CanBeCheckpointed files = (s : IsStore files) (events : List Event) → AreItsEntries s.history events
     → HasNoRoom s.generation events → ⊥
 
 -- The words ask something, the bytes pass no limit and none of their lines is in fault, the files are as the command
@@ -248,7 +248,7 @@ CanBeDone (Some (Apply n)) (Some files) bytes = IsReadable files
     × (events : List Event) × AreInput Change bytes events × CanBeAdded n.0 events files
 CanBeDone (Some Graph) (Some files) bytes = IsReadable files
 CanBeDone (Some Audit) (Some files) bytes = IsReadable files
-CanBeDone (Some (Checkpoint base)) (Some files) bytes = IsReadable files × CanBeRebased files
+CanBeDone (Some (Checkpoint base)) (Some files) bytes = IsReadable files × CanBeCheckpointed files
 CanBeDone command None bytes = ⊥
 
 -- ---- how many blocks are built

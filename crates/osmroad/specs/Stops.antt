@@ -14,7 +14,7 @@ use Rattle.osmroad.specs.declared.command.Command.{Command}
 use Rattle.osmroad.specs.declared.command.Command.TheVariants.{Compile, Inspect, Sample, Create, Apply}
 use Rattle.osmroad.specs.declared.command.Command.TheVariants.{Graph, Audit, Checkpoint}
 use Rattle.osmroad.specs.Texts.{created_line, applied_line}
-use Rattle.osmroad.specs.Checkpoints.{AreItsEntries, ReadsAlike, base_line, rebased}
+use Rattle.osmroad.specs.Checkpoints.{AreItsEntries, IsCheckpointOf, base_line, checkpointed}
 use Rattle.osmroad.specs.Outcomes.{AreInput}
 
 -- each file is one that a stop could leave when the run began
@@ -66,8 +66,8 @@ pub data LeavesCheckpoint (base : BaseProfile) (w : Outside) (left : Left) (h : 
   Without : StandFor (image_of left) h → (HasPut (base_line base (kept h)) w left → ⊥)
       → LeavesCheckpoint base w left h
   With : (events : List Event) → AreItsEntries h events
-      → ReadsAlike base (rebased base h events) h
-      → StandFor (image_of left) (rebased base h events) → LeavesCheckpoint base w left h
+      → IsCheckpointOf base (checkpointed base h events) h
+      → StandFor (image_of left) (checkpointed base h events) → LeavesCheckpoint base w left h
 
 -- ---- all commands
 

@@ -6,8 +6,8 @@ ghost use Rattle.osmroad.specs.declared.input.InputError.{InputError};
 ghost use Rattle.osmroad.specs.Replies.{Prepares, RefusesInput, RefusesChange, CountsReads, CountsCalls};
 
 use crate::input::{InputError, read_events};
+use crate::last_words::{Failure, LastWords, refuse_change, refuse_input, refuse_store};
 use crate::laws::store_laws;
-use crate::reply::{Failure, Reply, refuse_change, refuse_input, refuse_store};
 use crate::status::Status;
 use crate::texts::applied_text;
 use opl_lexer::Mode;
@@ -24,7 +24,7 @@ pub fn apply<S: Source, W: Site>(
     number: Sequence,
     source: &mut S,
     site: &mut W,
-) -> Result<Reply, Failure>
+) -> Result<LastWords, Failure>
     ensures prepares { Prepares (Some (ApplyCommand number)) result
         (S.bytes_left source.old) (S.bytes_left source.new) (W.outside site.old) (W.outside site.new) }
     ensures reads { CountsReads (S.faults source.old) (S.faults source.new) result }
@@ -45,7 +45,7 @@ pub fn apply<S: Source, W: Site>(
     };
     let line = applied_text(alloc, number)?;
     match journal.append(alloc, site, number, &change) {
-        Ok(()) => Ok(Reply::new(Status::Done, line)),
+        Ok(()) => Ok(LastWords::new(Status::Done, line)),
         Err(error) => refuse_store(alloc, error),
     }
 }
@@ -56,7 +56,7 @@ fn refuse_unread(
     journal: &Journal,
     number: Sequence,
     error: InputError,
-) -> Result<Reply, Failure>
+) -> Result<LastWords, Failure>
     ensures fault { (fault : Fault) → error ≡ InputError.Refused fault
         → RefusesChange journal.now number fault result }
     ensures other { ((fault : Fault) → error ≡ InputError.Refused fault → ⊥) → RefusesInput error result }

@@ -6,9 +6,9 @@ ghost use Rattle.osmroad.specs.Checkpoints.{profile_of_base, base_line};
 ghost use Rattle.osmroad.specs.Replies.{Prepares, CountsCalls};
 
 use crate::command::BaseProfile;
+use crate::last_words::{Failure, LastWords, refuse_store};
 use crate::laws::store_laws;
 use crate::profiles::RAISED_PROFILE;
-use crate::reply::{Failure, Reply, refuse_store};
 use crate::status::Status;
 use crate::texts::{checkpoint_text, raise_text};
 use object_store::Base;
@@ -20,7 +20,11 @@ use store_switch::load_store;
 
 /// Writes what the store holds into its other file, as a base under the kept number and this profile, and goes on
 /// there.
-pub fn checkpoint<W: Site>(alloc: Global, base: BaseProfile, site: &mut W) -> Result<Reply, Failure>
+pub fn checkpoint<W: Site>(
+    alloc: Global,
+    base: BaseProfile,
+    site: &mut W,
+) -> Result<LastWords, Failure>
     ensures prepares { (held : Option (List ℕ)) → Prepares (Some (CheckpointCommand base)) result held held
         (W.outside site.old) (W.outside site.new) }
     ensures calls { CountsCalls (W.faults site.old) (W.faults site.new) result }
@@ -37,7 +41,7 @@ pub fn checkpoint<W: Site>(alloc: Global, base: BaseProfile, site: &mut W) -> Re
     let line = base_text(alloc, base, journal.kept())?;
     let profile = profile_of_base(base, journal.profile());
     match store_switch::checkpoint(alloc, site, &mut journal, profile, objects.items()) {
-        Ok(()) => Ok(Reply::new(Status::Done, line)),
+        Ok(()) => Ok(LastWords::new(Status::Done, line)),
         Err(error) => refuse_store(alloc, error),
     }
 }

@@ -8,8 +8,8 @@ ghost use Rattle.osmroad.specs.Replies.{Prepares, CountsReads};
 
 use crate::graph::graph_of;
 use crate::input::read_events;
+use crate::last_words::{Failure, LastWords, refuse_input};
 use crate::profiles::profile_of;
-use crate::reply::{Failure, Reply, refuse_input};
 use crate::status::Status;
 use opl_lexer::Mode;
 use opl_lexer::laws::one_reading;
@@ -24,7 +24,7 @@ pub fn compile<S: Source, L: Ledger>(
     profile: u32,
     source: &mut S,
     steps: &mut Steps<L>,
-) -> Result<Reply, Failure>
+) -> Result<LastWords, Failure>
     requires { IsProfile profile }
     ensures prepares { (outside : Option Outside) → Prepares (Some (CompileCommand profile)) result
         (S.bytes_left source.old) (S.bytes_left source.new) outside outside }
@@ -38,7 +38,7 @@ pub fn compile<S: Source, L: Ledger>(
         Err(error) => return refuse_input(alloc, error),
     };
     let out = graph_of(alloc, profile_of(profile), events, steps)?;
-    Ok(Reply {
+    Ok(LastWords {
         status: Status::Done,
         out,
     })

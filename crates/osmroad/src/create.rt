@@ -4,7 +4,7 @@ ghost use Rattle.osmroad.specs.declared.command.Command.TheVariants.{Create as C
 ghost use Rattle.osmroad.specs.Replies.{Prepares, CountsReads, CountsCalls};
 
 use crate::input::read_events;
-use crate::reply::{Failure, Reply, refuse_input, refuse_store};
+use crate::last_words::{Failure, LastWords, refuse_input, refuse_store};
 use crate::status::Status;
 use crate::texts::created_text;
 use opl_lexer::Mode;
@@ -22,7 +22,7 @@ pub fn create<S: Source, W: Site>(
     number: Sequence,
     source: &mut S,
     site: &mut W,
-) -> Result<Reply, Failure>
+) -> Result<LastWords, Failure>
     ensures prepares { Prepares (Some (CreateCommand number)) result
         (S.bytes_left source.old) (S.bytes_left source.new) (W.outside site.old) (W.outside site.new) }
     ensures reads { CountsReads (S.faults source.old) (S.faults source.new) result }
@@ -40,7 +40,7 @@ pub fn create<S: Source, W: Site>(
     };
     let line = created_text(alloc, number)?;
     match create_store(alloc, site, number, &events) {
-        Ok(_) => Ok(Reply::new(Status::Done, line)),
+        Ok(_) => Ok(LastWords::new(Status::Done, line)),
         Err(error) => refuse_store(alloc, error),
     }
 }

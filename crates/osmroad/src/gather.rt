@@ -2,9 +2,9 @@
 ghost use Rattle.std.specs.Prelude.{◌≡◌, ◌<◌, IfOk, IfErr, Err};
 ghost use Rattle.osmroad.specs.SourceBytes.{Gathered, GatherStopped};
 
-use crate::input::{BUFFER, InputError, front};
+use crate::input::{BUFFER, InputError};
 use road_base::MOST_BYTES;
-use road_io::Source;
+use road_io::{Source, front};
 use std::alloc::Global;
 
 /// All bytes of the source, which is read to its end, or until a read fails or it has more than 2^30 bytes. A read

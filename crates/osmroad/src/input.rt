@@ -1,5 +1,5 @@
 //! The events of an input.
-ghost use Rattle.std.specs.Prelude.{◌≡◌, ◌≤◌, ◌<◌, ℕ, List, length, take, [], ◌++◌, ◌+◌, ◌^◌};
+ghost use Rattle.std.specs.Prelude.{◌≡◌, ◌≤◌, ◌<◌, ℕ, List, length, [], ◌++◌, ◌+◌, ◌^◌};
 ghost use Rattle.std.specs.Prelude.{Err, IfOk, IfErr, OnOk};
 ghost use Rattle.opl_lexer.specs.declared.mode.Mode.{Mode as ReadMode};
 ghost use Rattle.opl_lexer.specs.Reading.{ReadAll};
@@ -10,7 +10,7 @@ use crate::limits::Measure;
 use opl_lexer::Mode;
 use opl_objects::{Fault, ReadError, Reader};
 use road_base::Event;
-use road_io::Source;
+use road_io::{Source, front};
 use std::alloc::Global;
 
 /// How many bytes are read at once.
@@ -28,31 +28,22 @@ pub enum InputError {
     NoMemory,
 }
 
-/// The first n bytes.
-pub fn front(bytes: &[u8], n: usize) -> &[u8]
-    requires { n ≤ length bytes.now }
-    ensures value { result.now ≡ take n bytes.now }
-    ensures len { length result.now ≡ n }
-{
-    &bytes[..n]
-}
-
 /// An input, as far as it was read.
 #[derive(Drop)]
-struct Input {
+struct ReadInput {
     measure: Measure,
     reader: Reader,
     ghost counts: { counted reader ≤ measure.total },
 }
 
-impl Input {
+impl ReadInput {
     ghost use Rattle.osmroad.specs.Reading.{Holds, Stops};
 
     /// Nothing was read.
-    fn new(alloc: Global, mode: Mode) -> Input
+    fn new(alloc: Global, mode: Mode) -> ReadInput
         ensures holds { Holds mode [] result }
     {
-        Input {
+        ReadInput {
             measure: Measure::new(),
             reader: Reader::new(alloc, mode),
         }
@@ -108,7 +99,7 @@ pub fn read_events<S: Source>(
     let Ok(mut buffer) = vec![in alloc; 0u8; BUFFER] else {
         return Err(InputError::NoMemory);
     };
-    let mut input = Input::new(alloc, mode);
+    let mut input = ReadInput::new(alloc, mode);
     loop {
         let Ok(n) = source.read(&mut buffer) else {
             return Err(InputError::Failed);

@@ -7,7 +7,7 @@ ghost use Rattle.osmroad.specs.Texts.{counts_line};
 ghost use Rattle.osmroad.specs.Replies.{Prepares, CountsReads};
 
 use crate::gather::gather;
-use crate::reply::{Failure, Reply, refuse_input};
+use crate::last_words::{Failure, LastWords, refuse_input};
 use crate::status::Status;
 use drive_queries::counts;
 use graph_file::Graph;
@@ -19,7 +19,7 @@ use std::alloc::Global;
 
 /// How large the graph is whose file is on the source. It touches no site. The bytes are let go before the graph is
 /// counted.
-pub fn inspect<S: Source>(alloc: Global, source: &mut S) -> Result<Reply, Failure>
+pub fn inspect<S: Source>(alloc: Global, source: &mut S) -> Result<LastWords, Failure>
     ensures prepares { (outside : Option Outside) → Prepares (Some InspectCommand) result
         (S.bytes_left source.old) (S.bytes_left source.new) outside outside }
     ensures reads { CountsReads (S.faults source.old) (S.faults source.new) result }
@@ -33,12 +33,12 @@ pub fn inspect<S: Source>(alloc: Global, source: &mut S) -> Result<Reply, Failur
     match graph {
         Some(graph) => {
             let out = counts_line(alloc, &graph.blocks)?;
-            Ok(Reply {
+            Ok(LastWords {
                 status: Status::Done,
                 out,
             })
         }
-        None => Ok(Reply::fixed(alloc, Status::Refused, b"refused graph\n")?),
+        None => Ok(LastWords::fixed(alloc, Status::Refused, b"refused graph\n")?),
     }
 }
 

@@ -3,7 +3,7 @@
 //!
 //! `run` is the one call that does all that the program does, over any source and site; `main` hands it standard input,
 //! standard output and the two files of the store. `command` says what the words ask; `compile`, `inspect`, `sample`,
-//! `create`, `apply`, `stored` and `checkpoint` each prepare a reply (`reply`), which is then put once.
+//! `create`, `apply`, `stored` and `checkpoint` each prepare last words (`last_words`), which are then put once.
 //!
 //! A graph is built so: the input is read part by part into events (`input`), of each object the first event of the
 //! greatest version stands (`graph`), and for each visible way with the key `highway` its block is built,
@@ -31,10 +31,10 @@ mod gather;
 mod graph;
 mod input;
 mod inspect;
+mod last_words;
 mod laws;
 mod limits;
 mod profiles;
-mod reply;
 mod run;
 mod sample;
 mod serve;

@@ -15,8 +15,8 @@ use crate::command::{Command, Request, request_of};
 use crate::compile::compile;
 use crate::create::create;
 use crate::inspect::inspect;
+use crate::last_words::{Failure, LastWords, put_last};
 use crate::laws::store_laws;
-use crate::reply::{Failure, Reply, put_last};
 use crate::sample::sample;
 use crate::serve::serve_store;
 use crate::status::Status;
@@ -40,7 +40,7 @@ fn prepare<S: Source, W: Site, L: Ledger>(
     source: &mut S,
     site: &mut W,
     steps: &mut Steps<L>,
-) -> Result<Reply, Failure>
+) -> Result<LastWords, Failure>
     requires { HasProfile command }
     ensures prepares { Prepares (Some command) result (S.bytes_left source.old) (S.bytes_left source.new)
         (W.outside site.old) (W.outside site.new) }

@@ -16,8 +16,8 @@ ghost use Rattle.access_profile.specs.Profiles.{rules_of};
 ghost use Rattle.osmroad.specs.Sampling.{IsSampleLine, IsSample, Led};
 ghost use Rattle.osmroad.specs.Replies.{Prepares};
 
+use crate::last_words::{Failure, LastWords};
 use crate::profiles::{FIRST_PROFILE, profile_of};
-use crate::reply::{Failure, Reply};
 use crate::status::Status;
 use change_apply::Engine;
 use drive_queries::{Totals, counts};
@@ -34,12 +34,16 @@ use std::sync::ledger::Ledger;
 const LISTS: u32 = 11;
 
 /// The lines of the town that is made from this number. It touches neither source nor site.
-pub fn sample<L: Ledger>(alloc: Global, number: u64, steps: &mut Steps<L>) -> Result<Reply, Failure>
+pub fn sample<L: Ledger>(
+    alloc: Global,
+    number: u64,
+    steps: &mut Steps<L>,
+) -> Result<LastWords, Failure>
     ensures { (held : Option (List ℕ)) (outside : Option Outside)
         → Prepares (Some (SampleCommand number)) result held held outside outside }
 {
     let out = sample_text(alloc, number, steps)?;
-    Ok(Reply {
+    Ok(LastWords {
         status: Status::Done,
         out,
     })

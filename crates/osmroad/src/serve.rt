@@ -11,9 +11,9 @@ ghost use Rattle.session_replies.specs.Replies.{road_replies};
 ghost use Rattle.osmroad.specs.Sessions.{end_status, IsServed, IsNotServed, IsOpening, AnswersFaults};
 ghost use Rattle.osmroad.specs.Sessions.{Serves, ServesBuilding, SessionRuns, EndsSession, SessionRunBuilds};
 
+use crate::last_words::{put_last, refuse_store};
 use crate::laws::store_laws;
 use crate::profiles::profile_of;
-use crate::reply::{put_last, refuse_store};
 use crate::status::Status;
 use change_apply::Engine;
 use road_base::Steps;

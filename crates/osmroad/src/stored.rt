@@ -6,9 +6,9 @@ ghost use Rattle.osmroad.specs.Replies.{Prepares, CountsCalls};
 
 use crate::audit::audit_text;
 use crate::graph::graph_of;
+use crate::last_words::{Failure, LastWords, refuse_store};
 use crate::laws::store_laws;
 use crate::profiles::profile_of;
-use crate::reply::{Failure, Reply, refuse_store};
 use crate::status::Status;
 use back_references::Indexed;
 use road_base::Steps;
@@ -24,7 +24,7 @@ pub fn stored_graph<W: Site, L: Ledger>(
     alloc: Global,
     site: &mut W,
     steps: &mut Steps<L>,
-) -> Result<Reply, Failure>
+) -> Result<LastWords, Failure>
     ensures prepares { (held : Option (List ℕ)) → Prepares (Some GraphCommand) result held held
         (W.outside site.old) (W.outside site.new) }
     ensures calls { CountsCalls (W.faults site.old) (W.faults site.new) result }
@@ -38,14 +38,14 @@ pub fn stored_graph<W: Site, L: Ledger>(
     };
     let profile = profile_of(loaded.journal.profile());
     let out = graph_of(alloc, profile, loaded.events, steps)?;
-    Ok(Reply {
+    Ok(LastWords {
         status: Status::Done,
         out,
     })
 }
 
 /// The audit of what the store holds, for its profile.
-pub fn stored_audit<W: Site>(alloc: Global, site: &mut W) -> Result<Reply, Failure>
+pub fn stored_audit<W: Site>(alloc: Global, site: &mut W) -> Result<LastWords, Failure>
     ensures prepares { (held : Option (List ℕ)) → Prepares (Some AuditCommand) result held held
         (W.outside site.old) (W.outside site.new) }
     ensures calls { CountsCalls (W.faults site.old) (W.faults site.new) result }
@@ -60,5 +60,5 @@ pub fn stored_audit<W: Site>(alloc: Global, site: &mut W) -> Result<Reply, Failu
     let network = Network::new(&world, profile);
     let text = audit_text(alloc, &network)?;
     forget(world);
-    Ok(Reply::new(Status::Done, text))
+    Ok(LastWords::new(Status::Done, text))
 }

@@ -9,8 +9,8 @@ use Rattle.store_switch.specs.Checkpointing.{IsOnSome}
 use Rattle.osmroad.proofs.Prepared.{no_memory}
 use Rattle.osmroad.proofs.AnsweredFaults.{fault_calls, failed_calls, calls_calm, later_calls}
 use Rattle.session.proofs.HeldSource.{behind_of}
-use Rattle.osmroad.proofs.CheckpointedStores.{checkpoint_refused, checkpoint_failed, told_rebases, checkpoint_written}
-use Rattle.osmroad.proofs.CheckpointedStores.{checkpoint_not_written, checkpoint_calls}
+use Rattle.osmroad.proofs.CheckpointedStores.{checkpoint_refused, checkpoint_failed, told_checkpoints}
+use Rattle.osmroad.proofs.CheckpointedStores.{checkpoint_written, checkpoint_not_written, checkpoint_calls}
 use Rattle.osmroad.proofs.checkpoint.checkpoint.Goals as goal
 
 -- ---- the store isn't loaded
@@ -85,7 +85,7 @@ returns-in-Ok-checkpoint-clause-prepares g c = λ held.
           ∙ ap (λ (n : Sequence). base_line c.args.base n.0) c.kept.ensures,
     )
     c.in-Ok-checkpoint.ensures.answer
-    (told_rebases c.in-Ok.loaded c.checkpoint.new.journal c.profile_of_base-profile.result events (Ok u) before
+    (told_checkpoints c.in-Ok.loaded c.checkpoint.new.journal c.profile_of_base-profile.result events (Ok u) before
     loaded now c.in-Ok.ensures.told c.in-Ok-checkpoint.ensures.told)
 
 pub returns-in-Ok-checkpoint-clause-calls : goal.returns-in-Ok-checkpoint-clause-calls
@@ -111,7 +111,7 @@ returns-clause-prepares g c = λ held.
     _ _ (behind_of held) before now held refl failed.error refused.result c.in-Ok.ensures.not_closed
     failed.ensures.answer
     refused.ensures
-    (told_rebases c.in-Ok.loaded c.checkpoint.new.journal c.profile_of_base-profile.result events (Err failed.error)
+    (told_checkpoints c.in-Ok.loaded c.checkpoint.new.journal c.profile_of_base-profile.result events (Err failed.error)
     before loaded now c.in-Ok.ensures.told failed.ensures.told)
 
 pub returns-clause-calls : goal.returns-clause-calls

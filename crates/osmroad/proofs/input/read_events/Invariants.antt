@@ -1,12 +1,12 @@
 use Rattle.std.proofs.Common.{◌≡◌, ◌-◌, ℕ, List, Option, vec_len}
 use Rattle.opl_lexer.specs.declared.mode.Mode.{Mode}
-use Rattle.osmroad.specs.declared.input.Input.{Input}
+use Rattle.osmroad.specs.declared.input.ReadInput.{ReadInput}
 use Rattle.osmroad.specs.Reading.{Holds}
 use Rattle.road_io.specs.Parts.{Took}
 use Rattle.osmroad.proofs.input.read_events.Given as goal
 
 -- these bytes were read so far, no read failed, and there is room for a part
-pub record Goes (mode : Mode) (before now : Option (List ℕ)) (input : Input)
+pub record Goes (mode : Mode) (before now : Option (List ℕ)) (input : ReadInput)
     (faults_before faults_now len : ℕ) : Type 0 where
   pub read : List ℕ
   pub took : Took read before now

@@ -1,4 +1,4 @@
-use Rattle.osmroad.proofs.input.Input.finish.Goals as goal
+use Rattle.osmroad.proofs.input.ReadInput.finish.Goals as goal
 
 pub returns-in-Ok-clause-ok : goal.returns-in-Ok-clause-ok
 returns-in-Ok-clause-ok c = λ mode read holds. c.in-Ok.ensures.ok mode read holds.has_read

@@ -2,7 +2,7 @@
 ghost use Rattle.std.specs.Prelude.{◌≡◌, IfOk, string_bytes};
 ghost use Rattle.opl_objects.specs.StreamLines.{fault_at};
 ghost use Rattle.sequence_journal.specs.declared.journal.Journal.{Journal};
-ghost use Rattle.osmroad.specs.declared.reply.Failure.TheVariants.{NoMemory as NoMemoryFailure};
+ghost use Rattle.osmroad.specs.declared.last_words.Failure.TheVariants.{NoMemory as NoMemoryFailure};
 ghost use Rattle.road_io.specs.Told.{Told};
 ghost use Rattle.osmroad.specs.Texts.{refused_line};
 ghost use Rattle.osmroad.specs.Run.{EndsPut, PutsSome};
@@ -19,7 +19,7 @@ use std::alloc::{AllocError, Global};
 
 /// What is last put, and the status that it stands for.
 #[derive(Drop)]
-pub struct Reply {
+pub struct LastWords {
     pub status: Status,
     pub out: Vec<u8>,
 }
@@ -60,66 +60,66 @@ impl Failure {
     }
 }
 
-impl Reply {
+impl LastWords {
     /// A status and its line.
-    pub fn new(status: Status, line: String) -> Reply
+    pub fn new(status: Status, line: String) -> LastWords
         ensures { Says status (string_bytes line) result }
     {
-        Reply {
+        LastWords {
             status,
             out: line.into_bytes(),
         }
     }
 
     /// A status and a copy of its line.
-    pub fn fixed(alloc: Global, status: Status, line: &[u8]) -> Result<Reply, AllocError>
+    pub fn fixed(alloc: Global, status: Status, line: &[u8]) -> Result<LastWords, AllocError>
         ensures { IfOk result (Says status line.now) }
     {
-        Ok(Reply {
+        Ok(LastWords {
             status,
             out: line.to_vec(alloc)?,
         })
     }
 
     /// The first fault of an input.
-    pub fn refused(alloc: Global, fault: &Fault) -> Result<Reply, AllocError>
+    pub fn refused(alloc: Global, fault: &Fault) -> Result<LastWords, AllocError>
         ensures { IfOk result (Says Status.Refused (refused_line (fault_at fault.now))) }
     {
-        Ok(Reply::new(Status::Refused, refused_text(alloc, fault)?))
+        Ok(LastWords::new(Status::Refused, refused_text(alloc, fault)?))
     }
 }
 
 /// What an input is refused with.
-pub fn refuse_input(alloc: Global, error: InputError) -> Result<Reply, Failure>
+pub fn refuse_input(alloc: Global, error: InputError) -> Result<LastWords, Failure>
     ensures { RefusesInput error result }
 {
     match error {
         InputError::Failed => Err(Failure::ReadFault),
-        InputError::TooLong => Ok(Reply::fixed(alloc, Status::Limit, b"limit\n")?),
-        InputError::Refused(fault) => Ok(Reply::refused(alloc, &fault)?),
+        InputError::TooLong => Ok(LastWords::fixed(alloc, Status::Limit, b"limit\n")?),
+        InputError::Refused(fault) => Ok(LastWords::refused(alloc, &fault)?),
         InputError::NoMemory => Err(Failure::NoMemory),
     }
 }
 
 /// What a store is refused with.
-pub fn refuse_store(alloc: Global, error: JournalError) -> Result<Reply, Failure>
+pub fn refuse_store(alloc: Global, error: JournalError) -> Result<LastWords, Failure>
     ensures { RefusesStore error result }
 {
     match error {
         JournalError::OutOfSequence { kept, got } => {
             let line = sequence_text(alloc, got, kept)?;
-            Ok(Reply::new(Status::OutOfSequence, line))
+            Ok(LastWords::new(Status::OutOfSequence, line))
         }
         JournalError::SiteFault => Err(Failure::SiteFault),
         JournalError::Damaged { file, offset } => {
             let line = damaged_text(alloc, file, offset)?;
-            Ok(Reply::new(Status::Damaged, line))
+            Ok(LastWords::new(Status::Damaged, line))
         }
-        JournalError::NoStore => Ok(Reply::fixed(alloc, Status::NoStore, b"no store\n")?),
+        JournalError::NoStore => Ok(LastWords::fixed(alloc, Status::NoStore, b"no store\n")?),
         JournalError::StoreExists => {
-            Ok(Reply::fixed(alloc, Status::StoreExists, b"store exists\n")?)
+            Ok(LastWords::fixed(alloc, Status::StoreExists, b"store exists\n")?)
         }
-        JournalError::TooLarge => Ok(Reply::fixed(alloc, Status::Limit, b"limit\n")?),
+        JournalError::TooLarge => Ok(LastWords::fixed(alloc, Status::Limit, b"limit\n")?),
         JournalError::NoMemory => Err(Failure::NoMemory),
     }
 }
@@ -130,11 +130,11 @@ pub fn refuse_change(
     journal: &Journal,
     number: Sequence,
     fault: &Fault,
-) -> Result<Reply, Failure>
+) -> Result<LastWords, Failure>
     ensures { RefusesChange journal.now number fault.now result }
 {
     match journal.check(number) {
-        Ok(()) => Ok(Reply::refused(alloc, fault)?),
+        Ok(()) => Ok(LastWords::refused(alloc, fault)?),
         Err(error) => refuse_store(alloc, error),
     }
 }

@@ -3,7 +3,7 @@ use Rattle.std.proofs.lemmas.List.{take_all}
 use Rattle.road_io.specs.Outside.{Outside, extended}
 use Rattle.road_io.proofs.ToldCalls.{told_weaker}
 use Rattle.osmroad.specs.Run.{PutsSome}
-use Rattle.osmroad.proofs.reply.put_last.Goals as goal
+use Rattle.osmroad.proofs.last_words.put_last.Goals as goal
 
 -- all of a chunk is a front of it
 puts_all : (chunk : List ℕ) (w v : Outside) → v ≡ extended chunk w → PutsSome chunk w v

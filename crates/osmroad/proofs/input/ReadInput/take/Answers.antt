@@ -1,6 +1,6 @@
 use Rattle.std.proofs.Common.{refl}
 use Rattle.osmroad.proofs.InputEnds.{within}
-use Rattle.osmroad.proofs.input.Input.take.Goals as goal
+use Rattle.osmroad.proofs.input.ReadInput.take.Goals as goal
 
 pub returns-in_default-clause-err : goal.returns-in_default-clause-err
 returns-in_default-clause-err c = λ mode read holds. record {
