@@ -1,2 +1,3 @@
 mod RepliesAsked
 mod RoadAnswers
+mod FrameMessages

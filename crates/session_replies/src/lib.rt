@@ -5,6 +5,7 @@
 #![tactic(auto)]
 
 mod answerer;
+pub mod laws;
 mod queries;
 mod texts;
 
