@@ -53,9 +53,10 @@ fn asked_alone(message: Asked, mut words: FieldIter<'_>) -> Asked
     message
 }
 
-/// Steps, at least one.
-fn asked_drive(alloc: Global, words: FieldIter<'_>) -> Result<Asked, NoMemory>
-    ensures { IfOk result (λ message. message ≡ asked_drive (fields_left words.entry)) }
+/// A drive of the steps that the words are, at least one. Takes time linear in the words.
+pub fn asked_drive(alloc: Global, words: FieldIter<'_>) -> Result<Asked, NoMemory>
+    ensures asks { IfOk result (λ message. message ≡ asked_drive (fields_left words.entry)) }
+    ensures drives { IfOk result AsksSteps }
 {
     let mut steps = Vec::new(alloc);
     for word in words {

@@ -5,3 +5,4 @@ pub mod Days
 pub mod Times
 pub mod Conditions
 pub mod Conditionals
+pub mod MomentTexts

@@ -4,7 +4,9 @@
 #![tactic(auto)]
 
 mod moment;
+mod moment_texts;
 mod reading;
 
 pub use moment::{Moment, parse_moment};
+pub use moment_texts::one_moment;
 pub use reading::{Reading, read_conditional};

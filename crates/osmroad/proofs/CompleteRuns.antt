@@ -3,7 +3,6 @@ use Rattle.std.proofs.Common.{◌≡◌, ℕ, ◌<◌, ◌^◌, List, Option, No
 use Rattle.road_base.specs.declared.event.Event.{Event}
 use Rattle.road_base.specs.History.{History}
 use Rattle.opl_lexer.specs.declared.mode.Mode.TheVariants.{Extract, Change}
-use Rattle.road_model.specs.Rules.{Rules}
 use Rattle.road_io.specs.Outside.{Outside}
 use Rattle.osmroad.specs.declared.command.BaseProfile.{BaseProfile}
 use Rattle.osmroad.specs.declared.command.Command.{Command}
@@ -63,7 +62,7 @@ module _ (bytes : List ℕ) (status : Status) (out : List ℕ) (events : List Ev
         (no_room one s others input read can large)
     apply_done live one r input can (ApplyGives.OfChange s next others read fits e o a) = e
 
-show_done : OneLive → (Shows : Rules → List Event → List ℕ → Type 0) (files : Files) (status : Status) (out : List ℕ)
+show_done : OneLive → (Shows : ℕ → List Event → List ℕ → Type 0) (files : Files) (status : Status) (out : List ℕ)
     (after : Option History) → IsReadable files → ShowGives Shows files status out after → status ≡ Done
 show_done live Shows files status out after r (ShowGives.OfStore refusal a) = absurd
     (readable_not_refused files status out live r refusal)
@@ -102,8 +101,9 @@ module _ (live : OneLive) (one : OneReading) where
   can_done (Some (Apply n)) None bytes status out after can gives = absurd can
   can_done (Some (Apply n)) (Some f) bytes status out after can gives =
       apply_done bytes status out can.1 n.0 f after live one can.0 can.2 can.3 gives
-  can_done (Some Graph) None bytes status out after can gives = absurd can
-  can_done (Some Graph) (Some f) bytes status out after can gives = show_done live _ f status out after can gives
+  can_done (Some (Graph moment)) None bytes status out after can gives = absurd can
+  can_done (Some (Graph moment)) (Some f) bytes status out after can gives =
+      show_done live _ f status out after can gives
   can_done (Some Audit) None bytes status out after can gives = absurd can
   can_done (Some Audit) (Some f) bytes status out after can gives = show_done live _ f status out after can gives
   can_done (Some (Checkpoint base)) None bytes status out after can gives = absurd can

@@ -133,7 +133,7 @@ module _ (laws : StoreLaws) (w : Outside) (durable : BothDurable w) (intact : Ar
     left_intact (Some (Sample n)) read l = could_intact l
     left_intact (Some (Create n)) read l = created_intact n.0 read l
     left_intact (Some (Apply n)) read l = stored_intact (LeavesChange n.0 read w left) (change_intact n.0 read) l
-    left_intact (Some Graph) read l = stored_intact (LeavesHistory w left) history_intact l
+    left_intact (Some (Graph moment)) read l = stored_intact (LeavesHistory w left) history_intact l
     left_intact (Some Audit) read l = stored_intact (LeavesHistory w left) history_intact l
     left_intact (Some (Checkpoint base)) read l =
         stored_intact (LeavesCheckpoint base w left) (checkpoint_intact base) l

@@ -1,7 +1,9 @@
 -- What is compiled by the words of a run is compiled under a known profile.
 use Rattle.std.proofs.Common.{◌≡◌, ℕ, ◌^◌, ◌-◌, List, [], ◌∷◌, Option, None, Some, Bool, true, false, refl, subst}
 use Rattle.std.specs.Prelude.{bytes_eq, codes, cond, nat_lt}
-use Rattle.std.specs.Option.{option_and_then}
+use Rattle.std.specs.Option.{option_and_then, option_map}
+use Rattle.moment_rules.specs.declared.moment.Moment.{Moment}
+use Rattle.moment_rules.specs.MomentTexts.{moment_of}
 use Rattle.osmroad.specs.declared.command.BaseProfile.TheVariants.{Kept, Raised}
 use Rattle.osmroad.specs.declared.command.Command.{Command}
 use Rattle.osmroad.specs.declared.command.Command.TheVariants.{Compile, Inspect, Sample, Create, Apply}
@@ -10,7 +12,8 @@ use Rattle.osmroad.specs.declared.command.Request.{Request}
 use Rattle.osmroad.specs.declared.command.Request.TheVariants.{Session, Command as CommandRequest}
 use Rattle.osmroad.specs.Commands.{HasProfile, is_store, number_of, asked_base, asked_numbered, asked_alone}
 use Rattle.osmroad.specs.Commands.{asked_without, asked_profile, asked_sample, asked_without_numbered}
-use Rattle.osmroad.specs.Commands.{asked_by_two, asked_by_three, asked_command, asks_session, request_for, asked}
+use Rattle.osmroad.specs.Commands.{asked_by_two, asked_graph, asked_with, asked_by_three, asked_command}
+use Rattle.osmroad.specs.Commands.{asks_session, request_for, asked}
 
 -- the command, if there is one, has a known profile
 abbrev AreKnown : Option Command → Type 0
@@ -40,7 +43,7 @@ alone_known name =
     let raise : Option Command = cond (bytes_eq name (codes "raise")) (Some (Checkpoint Raised)) None in
     let checkpoint : Option Command = cond (bytes_eq name (codes "checkpoint")) (Some (Checkpoint Kept)) raise in
     let audit : Option Command = cond (bytes_eq name (codes "audit")) (Some Audit) checkpoint in
-    of_either (bytes_eq name (codes "graph")) (Some Graph) audit tt
+    of_either (bytes_eq name (codes "graph")) (Some (Graph None)) audit tt
     (of_either (bytes_eq name (codes "audit")) (Some Audit) checkpoint tt
     (of_either (bytes_eq name (codes "checkpoint")) (Some (Checkpoint Kept)) raise tt
     (of_either (bytes_eq name (codes "raise")) (Some (Checkpoint Raised)) None tt tt)))
@@ -69,19 +72,28 @@ two_known store name =
     (without_known name)
     (of_either (is_store store) (asked_alone name) None (alone_known name) tt)
 
-three_known : (store name number : List ℕ) → AreKnown (asked_by_three store name number)
-three_known store name number =
-    let numbered = option_and_then (asked_numbered name) (number_of number) in
-    of_either (bytes_eq store (codes "-")) (asked_without_numbered name number) (cond (is_store store) numbered None)
-    (without_numbered_known name number)
-    (of_either (is_store store) numbered None
-    (of_next (asked_numbered name) (number_of number) (numbered_known name)) tt)
+moment_known : (found : Option Moment) → AreKnown (option_map (λ m. Graph (Some m)) found)
+moment_known None = tt
+moment_known (Some m) = tt
+
+with_known : (name word : List ℕ) → AreKnown (asked_with name word)
+with_known name word =
+    of_either (bytes_eq name (codes "graph")) (asked_graph word)
+    (option_and_then (asked_numbered name) (number_of word)) (moment_known (moment_of word))
+    (of_next (asked_numbered name) (number_of word) (numbered_known name))
+
+three_known : (store name word : List ℕ) → AreKnown (asked_by_three store name word)
+three_known store name word =
+    of_either (bytes_eq store (codes "-")) (asked_without_numbered name word)
+    (cond (is_store store) (asked_with name word) None)
+    (without_numbered_known name word)
+    (of_either (is_store store) (asked_with name word) None (with_known name word) tt)
 
 command_known : (words : List (List ℕ)) → AreKnown (asked_command words)
 command_known [] = tt
 command_known (one ∷ []) = tt
 command_known (store ∷ name ∷ []) = two_known store name
-command_known (store ∷ name ∷ number ∷ []) = three_known store name number
+command_known (store ∷ name ∷ word ∷ []) = three_known store name word
 command_known (one ∷ two ∷ three ∷ four ∷ more) = tt
 
 -- the same of what a run is asked for

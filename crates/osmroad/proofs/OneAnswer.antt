@@ -13,6 +13,7 @@ use Rattle.road_model.specs.Naming.{OneGraph}
 use Rattle.road_model.specs.Rules.{Rules}
 use Rattle.road_model.specs.declared.blocks.Block.{Block}
 use Rattle.road_model.specs.Format.{IsGraph}
+use Rattle.road_model.proofs.UniqueEntries.{one_graph}
 use Rattle.drive_queries.specs.Counting.{totals_of}
 use Rattle.access_profile.specs.Profiles.{rules_of}
 use Rattle.opl_lexer.specs.declared.mode.Mode.TheVariants.{Extract, Change}
@@ -24,7 +25,7 @@ use Rattle.osmroad.specs.declared.command.Command.TheVariants.{Compile, Inspect,
 use Rattle.osmroad.specs.declared.command.Command.TheVariants.{Graph, Audit, Checkpoint}
 use Rattle.osmroad.specs.declared.status.Status.{Status}
 use Rattle.osmroad.specs.Texts.{sequence_line, counts_line}
-use Rattle.osmroad.specs.Compiled.{IsGraphOf}
+use Rattle.osmroad.specs.Compiled.{IsGraphOf, rules_shown}
 use Rattle.osmroad.specs.Audited.{IsAuditOf}
 use Rattle.osmroad.specs.Opening.{Files, IsStore, StoreRefusal, size_with_change}
 use Rattle.osmroad.specs.Checkpoints.{AreItsEntries, HasNoRoom, CheckpointGives, base_line, checkpointed}
@@ -144,9 +145,9 @@ module _ (live : OneLive) (has : HasLive) (sound : NoDamage) (alone : OneDamage)
     as_before : (s t : IsStore files) → after ≡ Some s.history → later ≡ Some t.history → after ≡ later
     as_before s t a b = a ∙ (ap Some (one_history s t) ∙ sym b)
 
-    module _ (Shows : Rules → List Event → List ℕ → Type 0)
+    module _ (Shows : ℕ → List Event → List ℕ → Type 0)
         (one : (n : ℕ) → IsProfile n → (events : List Event) (x y : List ℕ)
-        → Shows (rules_of n) events x → Shows (rules_of n) events y → x ≡ y) where
+        → Shows n events x → Shows n events y → x ≡ y) where
       one_show : ShowGives Shows files status out after → ShowGives Shows files another other later
           → Alike status out after another other later
       one_show (ShowGives.OfStore r a) (ShowGives.OfStore s b) =
@@ -157,7 +158,7 @@ module _ (live : OneLive) (has : HasLive) (sound : NoDamage) (alone : OneDamage)
           (store_not_refused files another other live has sound s r)
       one_show (ShowGives.OfHistory s x e a) (ShowGives.OfHistory t y f b) =
           let same = sym (one_history s t) in
-          let shown = subst (λ (h : History). Shows (rules_of h.profile) (all_events h) other) same y in (
+          let shown = subst (λ (h : History). Shows h.profile (all_events h) other) same y in (
             both _ _ _ e f,
             one s.history.profile s.stands.stands.begins.fits.profile (all_events s.history) out other x shown,
             as_before s t a b,
@@ -340,7 +341,7 @@ module _ (reading : OneReading) (map : OneMap) (graph : OneGraphEach)
   one_without (Some (Sample number)) n a b = one_sampled number None a b
   one_without (Some (Create number)) n a b = absurd (n tt)
   one_without (Some (Apply number)) n a b = absurd (n tt)
-  one_without (Some Graph) n a b = absurd (n tt)
+  one_without (Some (Graph moment)) n a b = absurd (n tt)
   one_without (Some Audit) n a b = absurd (n tt)
   one_without (Some (Checkpoint base)) n a b = absurd (n tt)
 
@@ -355,11 +356,12 @@ module _ (reading : OneReading) (map : OneMap) (graph : OneGraphEach)
       one_create reading n.0 files bytes status another out other after later a b
   one_answer live has sound alone store (Some (Apply n)) files a b =
       one_apply live has sound alone store files status another out other after later reading n.0 bytes a b
-  one_answer live has sound alone store (Some Graph) files a b =
-      one_show live has sound alone store files status another out other after later IsGraphOf
-      (λ n known. one_graph_of map (rules_of n) (graph n known)) a b
+  one_answer live has sound alone store (Some (Graph moment)) files a b =
+      one_show live has sound alone store files status another out other after later
+      (λ n. IsGraphOf (rules_shown moment n))
+      (λ n known. one_graph_of map (rules_shown moment n) (λ M. one_graph M (rules_shown moment n))) a b
   one_answer live has sound alone store (Some Audit) files a b =
-      one_show live has sound alone store files status another out other after later IsAuditOf
+      one_show live has sound alone store files status another out other after later (λ n. IsAuditOf (rules_of n))
       (λ n known. one_audit total map (rules_of n)) a b
   one_answer live has sound alone store (Some (Checkpoint base)) files a b =
       one_checkpoint live has sound alone store files status another out other after later map base a b

@@ -59,10 +59,10 @@ reply_is_plain (Some (Apply n)) status (inr (inr (inl is))) = plain OutOfSequenc
 reply_is_plain (Some (Apply n)) status (inr (inr (inr (inl is)))) = plain NoStore status tt is
 reply_is_plain (Some (Apply n)) status (inr (inr (inr (inr (inl is))))) = plain Damaged status tt is
 reply_is_plain (Some (Apply n)) status (inr (inr (inr (inr (inr is))))) = plain Limit status tt is
-reply_is_plain (Some Graph) status (inl is) = plain Done status tt is
-reply_is_plain (Some Graph) status (inr (inl is)) = plain NoStore status tt is
-reply_is_plain (Some Graph) status (inr (inr (inl is))) = plain Damaged status tt is
-reply_is_plain (Some Graph) status (inr (inr (inr is))) = plain Limit status tt is
+reply_is_plain (Some (Graph moment)) status (inl is) = plain Done status tt is
+reply_is_plain (Some (Graph moment)) status (inr (inl is)) = plain NoStore status tt is
+reply_is_plain (Some (Graph moment)) status (inr (inr (inl is))) = plain Damaged status tt is
+reply_is_plain (Some (Graph moment)) status (inr (inr (inr is))) = plain Limit status tt is
 reply_is_plain (Some Audit) status (inl is) = plain Done status tt is
 reply_is_plain (Some Audit) status (inr (inl is)) = plain NoStore status tt is
 reply_is_plain (Some Audit) status (inr (inr (inl is))) = plain Damaged status tt is
@@ -123,7 +123,7 @@ extended_stands (Some Inspect) status (Some h) w u chunk s = s
 extended_stands (Some (Sample n)) status (Some h) w u chunk s = s
 extended_stands (Some (Create n)) status (Some h) w u chunk s = s
 extended_stands (Some (Apply n)) status (Some h) w u chunk s = s
-extended_stands (Some Graph) status (Some h) w u chunk s = s
+extended_stands (Some (Graph moment)) status (Some h) w u chunk s = s
 extended_stands (Some Audit) status (Some h) w u chunk s = s
 extended_stands (Some (Checkpoint base)) status (Some h) w u chunk s =
     switched_stands base status h w u chunk s
@@ -175,7 +175,7 @@ reads_at_fault (Some Inspect) before status bytes read reads = tt
 reads_at_fault (Some (Sample n)) before status bytes read reads = reads
 reads_at_fault (Some (Create n)) before status bytes read reads = tt
 reads_at_fault (Some (Apply n)) before status bytes read reads = tt
-reads_at_fault (Some Graph) before status bytes read reads = reads
+reads_at_fault (Some (Graph moment)) before status bytes read reads = reads
 reads_at_fault (Some Audit) before status bytes read reads = reads
 reads_at_fault (Some (Checkpoint base)) before status bytes read reads = reads
 
@@ -279,7 +279,7 @@ reads_as_failed (Create n) bytes read MemoryFailure before now is fails = tt
 reads_as_failed (Apply n) bytes read ReadFailure before now is fails = fails.1
 reads_as_failed (Apply n) bytes read SiteFailure before now is fails = tt
 reads_as_failed (Apply n) bytes read MemoryFailure before now is fails = tt
-reads_as_failed Graph bytes read failure before now is fails = absurd is
+reads_as_failed (Graph moment) bytes read failure before now is fails = absurd is
 reads_as_failed Audit bytes read failure before now is fails = absurd is
 reads_as_failed (Checkpoint base) bytes read failure before now is fails = absurd is
 
@@ -338,7 +338,7 @@ module _ (failure : Failure) (held left : Option (List ℕ)) (before now : Optio
   ends_failed (Create n) unread p = ends_reading (Create n) tt p
   ends_failed (Apply n) unread p = ends_reading (Apply n) tt p
   ends_failed (Sample n) unread p = ends_unread (Sample n) (λ is. is) refl (unread (λ is. is)) p p.only
-  ends_failed Graph unread p = ends_unread Graph (λ is. is) refl (unread (λ is. is)) p p.only
+  ends_failed (Graph moment) unread p = ends_unread (Graph moment) (λ is. is) refl (unread (λ is. is)) p p.only
   ends_failed Audit unread p = ends_unread Audit (λ is. is) refl (unread (λ is. is)) p p.only
   ends_failed (Checkpoint base) unread p =
       ends_unread (Checkpoint base) (λ is. is) refl (unread (λ is. is)) p p.only

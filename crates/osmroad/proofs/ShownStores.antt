@@ -23,13 +23,13 @@ use Rattle.osmroad.specs.declared.last_words.Failure.{Failure}
 use Rattle.osmroad.specs.declared.last_words.Failure.TheVariants.{NoMemory as NoMemoryFailure}
 use Rattle.osmroad.specs.declared.status.Status.{Status}
 use Rattle.osmroad.specs.declared.status.Status.TheVariants.{Done, NoStore, Damaged, Limit}
-use Rattle.road_model.specs.Rules.{Rules}
 use Rattle.road_model.specs.Highways.{highways}
 use Rattle.access_profile.specs.Profiles.{rules_of}
+use Rattle.moment_rules.specs.declared.moment.Moment.{Moment}
 use Rattle.osmroad.specs.Opening.{Files}
 use Rattle.osmroad.specs.Outcomes.{Gives, ShowGives}
 use Rattle.osmroad.specs.Outcomes.{OfStore, OfHistory}
-use Rattle.osmroad.specs.Compiled.{IsGraphOf}
+use Rattle.osmroad.specs.Compiled.{IsGraphOf, rules_shown}
 use Rattle.osmroad.specs.Audited.{IsAuditOf}
 use Rattle.osmroad.specs.Stops.{LeavesStored, LeavesHistory, LeftBy}
 use Rattle.osmroad.specs.Run.{IsReply, IsStored, Reads, StandAfter, StandAsBefore, Builds, files_of}
@@ -45,7 +45,7 @@ use Rattle.session.proofs.KeptStores.{unput}
 use Rattle.osmroad.proofs.LoadedStores.{NotLoaded, could_leave, IsRefusal, load_refused}
 
 -- a command that reads nothing, and shows something of all events of a store
-pub record ShowsStore (command : Option Command) (Shows : Rules → List Event → List ℕ → Type 0) : Type 0 where
+pub record ShowsStore (command : Option Command) (Shows : ℕ → List Event → List ℕ → Type 0) : Type 0 where
   pub stored : IsStored command
   pub replies : (status : Status)
       → (status ≡ Done) ⊎ (status ≡ NoStore) ⊎ (status ≡ Damaged) ⊎ (status ≡ Limit) → IsReply command status
@@ -55,8 +55,9 @@ pub record ShowsStore (command : Option Command) (Shows : Rules → List Event �
   pub leaves : (w : Outside) (left : Left) → LeavesStored (LeavesHistory w left) w left → LeftBy command [] w left
   pub stand : (w v : Outside) (h : History) → CanBeLoaded (reads_of v) h → StandAfter command Done (Some h) w v
 
-pub graph_shows : ShowsStore (Some Graph) IsGraphOf
-graph_shows = record {
+pub graph_shows : (moment : Option Moment)
+    → ShowsStore (Some (Graph moment)) (λ n. IsGraphOf (rules_shown moment n))
+graph_shows moment = record {
   stored = tt;
   replies = λ status is. is;
   reads = λ files status bytes. refl;
@@ -65,7 +66,7 @@ graph_shows = record {
   stand = λ w v h c. c;
 }
 
-pub audit_shows : ShowsStore (Some Audit) IsAuditOf
+pub audit_shows : ShowsStore (Some Audit) (λ n. IsAuditOf (rules_of n))
 audit_shows = record {
   stored = tt;
   replies = λ status is. is;
@@ -75,7 +76,7 @@ audit_shows = record {
   stand = λ w v h c. c;
 }
 
-module _ (laws : StoreLaws) (command : Option Command) (Shows : Rules → List Event → List ℕ → Type 0)
+module _ (laws : StoreLaws) (command : Option Command) (Shows : ℕ → List Event → List ℕ → Type 0)
     (shows : ShowsStore command Shows) where
   show_moments : (result : Result Loaded JournalError) (w v : Outside) → LoadsStore result w v
       → LeavesOnly w v (LeftBy command [] w)
@@ -131,15 +132,15 @@ module _ (laws : StoreLaws) (command : Option Command) (Shows : Rules → List E
       (told_weaker x y (LoadsStore (Ok l)) StandAsBefore told (λ w v k. loaded_as_before laws l w v k.answer)))
 
   shown : (bytes out : List ℕ) (l : Loaded) (w v : Outside) → StoreLoaded l w v
-      → Shows (rules_of l.journal.profile) l.events.items out
+      → Shows l.journal.profile l.events.items out
       → WillPut command bytes [] Done out (Some w) (Some v)
   shown bytes out l w v k is = record {
     replies = shows.replies Done (inl refl);
     reads = shows.reads (files_of (Some w)) Done bytes;
     after = Some k.history;
     gives = shows.gives (files_of (Some w)) bytes Done out (Some k.history) (OfHistory (loaded_store l w v k)
-        (subst (λ (n : ℕ). Shows (rules_of n) (all_events k.history) out) k.ready.at.profile
-        (subst (λ (events : List Event). Shows (rules_of l.journal.profile) events out) k.events is)) refl refl);
+        (subst (λ (n : ℕ). Shows n (all_events k.history) out) k.ready.at.profile
+        (subst (λ (events : List Event). Shows l.journal.profile events out) k.events is)) refl refl);
     stand = shows.stand w v k.history (loaded_now laws l w v k);
     last = λ left a b front. shows.leaves w left (record {
       stored = λ h c. inr (subst (λ (i : History). StandFor (image_of left) i)
@@ -153,7 +154,7 @@ module _ (laws : StoreLaws) (command : Option Command) (Shows : Rules → List E
   -- what is shown of its events is made
   pub show_done : (held : Option (List ℕ)) (x y : Option Outside) (l : Loaded) (out : List ℕ) (r : LastWords)
       → Says Done out r → Told (LoadsStore (Ok l)) x y
-      → Shows (rules_of l.journal.profile) l.events.items out
+      → Shows l.journal.profile l.events.items out
       → Prepares command (Ok r) held held x y
   show_done held x y l out r says told is =
       let bytes = behind_of held in
@@ -165,14 +166,14 @@ module _ (laws : StoreLaws) (command : Option Command) (Shows : Rules → List E
       (told_weaker x y (LoadsStore (Ok l)) StandAsBefore told (λ w v k. loaded_as_before laws l w v k.answer)))
 
 -- a graph of the events that were loaded has no more blocks than that of the store's objects
-pub graph_built : StoreLaws → (held : Option (List ℕ)) (x y : Option Outside) (l : Loaded) (old new : ℕ)
-    → Told (LoadsStore (Ok l)) x y
+pub graph_built : (moment : Option Moment) → StoreLaws → (held : Option (List ℕ)) (x y : Option Outside) (l : Loaded)
+    (old new : ℕ) → Told (LoadsStore (Ok l)) x y
     → ((objects : Objects) → IsApplied empty l.events.items objects → new ≤ old + length (highways objects))
-    → Builds (Some Graph) held x old new
-graph_built laws held None None l old new told built = λ w h objects same loads has. absurd (cc)
-graph_built laws held None (Some v) l old new told built = absurd told
-graph_built laws held (Some u) None l old new told built = absurd told
-graph_built laws held (Some u) (Some v) l old new told built = λ w h objects same loads has.
+    → Builds (Some (Graph moment)) held x old new
+graph_built moment laws held None None l old new told built = λ w h objects same loads has. absurd (cc)
+graph_built moment laws held None (Some v) l old new told built = absurd told
+graph_built moment laws held (Some u) None l old new told built = absurd told
+graph_built moment laws held (Some u) (Some v) l old new told built = λ w h objects same loads has.
     let here : u ≡ w = cc in
     let k = told.answer in
     let one : k.history ≡ h = same_history laws (reads_of u) k.history h (loaded_before l u v k)

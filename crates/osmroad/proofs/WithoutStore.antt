@@ -34,7 +34,7 @@ module _ (command : Option Command) (read : List ℕ) where
       go (Some (Sample number)) n = could
       go (Some (Create number)) n = absurd (n tt)
       go (Some (Apply number)) n = absurd (n tt)
-      go (Some Graph) n = absurd (n tt)
+      go (Some (Graph moment)) n = absurd (n tt)
       go (Some Audit) n = absurd (n tt)
       go (Some (Checkpoint base)) n = absurd (n tt)
 

@@ -1,8 +1,9 @@
 -- What the words of a run ask.
 use Rattle.std.specs.Prelude.{ℕ, List, [], ◌∷◌, Option, Some, None, Bool, false, cond, ◌&&◌, not, ◌==◌, nat_lt}
 use Rattle.std.specs.Prelude.{bytes_eq, codes, if◌then◌else◌, ◌^◌, ◌-◌}
-use Rattle.std.specs.Option.{option_and_then}
+use Rattle.std.specs.Option.{option_and_then, option_map}
 use Rattle.opl_lexer.specs.Letters.{minus_sign}
+use Rattle.moment_rules.specs.MomentTexts.{moment_of}
 use Rattle.opl_lexer.specs.Numbers.{number_below}
 use Rattle.road_base.specs.Profiles.{IsProfile}
 use Rattle.osmroad.specs.declared.command.BaseProfile.TheVariants.{Kept, Raised}
@@ -32,7 +33,7 @@ asked_numbered name n =
 
 abbrev pub asked_alone : List ℕ → Option Command
 asked_alone name =
-    if bytes_eq name (codes "graph") then Some Graph
+    if bytes_eq name (codes "graph") then Some (Graph None)
     else (if bytes_eq name (codes "audit") then Some Audit
     else (if bytes_eq name (codes "checkpoint") then Some (Checkpoint Kept)
     else (if bytes_eq name (codes "raise") then Some (Checkpoint Raised) else None)))
@@ -62,19 +63,29 @@ asked_by_two store name =
     if bytes_eq store (codes "-") then asked_without name
     else (if is_store store then asked_alone name else None)
 
--- `-` or the store's name, the command's, and a number
+-- the graph at a moment, if the word is one
+abbrev pub asked_graph : List ℕ → Option Command
+asked_graph word = option_map (λ at. Graph (Some at)) (moment_of word)
+
+-- of a store, with a moment for `graph`, and a number for any other command
+abbrev pub asked_with : List ℕ → List ℕ → Option Command
+asked_with name word =
+    if bytes_eq name (codes "graph") then asked_graph word
+    else option_and_then (asked_numbered name) (number_of word)
+
+-- `-` or the store's name, the command's, and a number or a moment
 abbrev pub asked_by_three : List ℕ → List ℕ → List ℕ → Option Command
-asked_by_three store name number =
-    if bytes_eq store (codes "-") then asked_without_numbered name number
-    else (if is_store store then option_and_then (asked_numbered name) (number_of number) else None)
+asked_by_three store name word =
+    if bytes_eq store (codes "-") then asked_without_numbered name word
+    else (if is_store store then asked_with name word else None)
 
 -- `- compile`, `- compile 2`, `- inspect`, `- sample N`, `STORE create N`, `STORE apply N`, `STORE graph`,
--- `STORE audit`, `STORE checkpoint` and `STORE raise`; other words are no command's
+-- `STORE graph MOMENT`, `STORE audit`, `STORE checkpoint` and `STORE raise`; other words are no command's
 abbrev pub asked_command : List (List ℕ) → Option Command
 asked_command [] = None
 asked_command (one ∷ []) = None
 asked_command (store ∷ name ∷ []) = asked_by_two store name
-asked_command (store ∷ name ∷ number ∷ []) = asked_by_three store name number
+asked_command (store ∷ name ∷ word ∷ []) = asked_by_three store name word
 asked_command (one ∷ two ∷ three ∷ four ∷ more) = None
 
 -- `STORE session`

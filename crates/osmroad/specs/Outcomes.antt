@@ -8,7 +8,6 @@ use Rattle.opl_lexer.specs.declared.mode.Mode.{Mode}
 use Rattle.opl_lexer.specs.declared.mode.Mode.TheVariants.{Extract, Change}
 use Rattle.opl_lexer.specs.Reading.{FaultAt, input_fault, ReadAll}
 use Rattle.road_model.specs.declared.blocks.Block.{Block}
-use Rattle.road_model.specs.Rules.{Rules}
 use Rattle.road_model.specs.Format.{IsGraphFile}
 use Rattle.graph_file.specs.GraphReading.{IsFile}
 use Rattle.access_profile.specs.Profiles.{rules_of}
@@ -25,7 +24,7 @@ use Rattle.osmroad.specs.declared.status.Status.TheVariants.{Done, Usage, Refuse
 use Rattle.osmroad.specs.Limits.{PassesLimit, HasTooManyBytes}
 use Rattle.osmroad.specs.Texts.{usage_line, limit_line, store_exists_line, created_line, applied_line}
 use Rattle.osmroad.specs.Texts.{sequence_line, refused_line, refused_graph_line, counts_line}
-use Rattle.osmroad.specs.Compiled.{IsGraphOf}
+use Rattle.osmroad.specs.Compiled.{IsGraphOf, rules_shown}
 use Rattle.osmroad.specs.Audited.{IsAuditOf}
 use Rattle.osmroad.specs.Sampling.{IsSample}
 use Rattle.osmroad.specs.Checkpoints.{CheckpointGives}
@@ -109,11 +108,12 @@ pub data ApplyGives (number : ℕ) (files : Files) (bytes : List ℕ) (status : 
       → status ≡ Done → out ≡ applied_line number → after ≡ Some (with_change s.history events)
       → ApplyGives number files bytes status out after
 
--- `STORE graph` and `STORE audit`: what is shown of all events of the store's history, under the rules of its profile
-pub data ShowGives (Shows : Rules → List Event → List ℕ → Type 0) (files : Files) (status : Status) (out : List ℕ)
+-- `STORE graph`, with a moment or without, and `STORE audit`: what is shown of all events of the store's history, for
+-- the number of its profile
+pub data ShowGives (Shows : ℕ → List Event → List ℕ → Type 0) (files : Files) (status : Status) (out : List ℕ)
     (after : Option History) : Type 0 where
   OfStore : StoreRefusal files status out → after ≡ None → ShowGives Shows files status out after
-  OfHistory : (s : IsStore files) → Shows (rules_of s.history.profile) (all_events s.history) out
+  OfHistory : (s : IsStore files) → Shows s.history.profile (all_events s.history) out
       → status ≡ Done → after ≡ Some s.history
       → ShowGives Shows files status out after
 
@@ -129,7 +129,9 @@ Gives (Some Inspect) files bytes status out after = InspectGives bytes status ou
 Gives (Some (Sample n)) files bytes status out after = (status ≡ Done) × IsSample (rules_of 1) n out × (after ≡ None)
 Gives (Some (Create n)) files bytes status out after = IfSome files (λ f. CreateGives n.0 f bytes status out after)
 Gives (Some (Apply n)) files bytes status out after = IfSome files (λ f. ApplyGives n.0 f bytes status out after)
-Gives (Some Graph) files bytes status out after = IfSome files (λ f. ShowGives IsGraphOf f status out after)
-Gives (Some Audit) files bytes status out after = IfSome files (λ f. ShowGives IsAuditOf f status out after)
+Gives (Some (Graph moment)) files bytes status out after =
+    IfSome files (λ f. ShowGives (λ n. IsGraphOf (rules_shown moment n)) f status out after)
+Gives (Some Audit) files bytes status out after =
+    IfSome files (λ f. ShowGives (λ n. IsAuditOf (rules_of n)) f status out after)
 Gives (Some (Checkpoint base)) files bytes status out after =
     IfSome files (λ f. CheckpointGives base f status out after)

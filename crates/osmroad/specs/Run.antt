@@ -45,7 +45,7 @@ IsReading (Some Inspect) = Unit {0}
 IsReading (Some (Sample n)) = ⊥
 IsReading (Some (Create n)) = Unit {0}
 IsReading (Some (Apply n)) = Unit {0}
-IsReading (Some Graph) = ⊥
+IsReading (Some (Graph moment)) = ⊥
 IsReading (Some Audit) = ⊥
 IsReading (Some (Checkpoint base)) = ⊥
 
@@ -57,7 +57,7 @@ IsStored (Some Inspect) = ⊥
 IsStored (Some (Sample n)) = ⊥
 IsStored (Some (Create n)) = Unit {0}
 IsStored (Some (Apply n)) = Unit {0}
-IsStored (Some Graph) = Unit {0}
+IsStored (Some (Graph moment)) = Unit {0}
 IsStored (Some Audit) = Unit {0}
 IsStored (Some (Checkpoint base)) = Unit {0}
 
@@ -71,7 +71,7 @@ IsReply (Some (Create n)) status =
     (status ≡ Done) ⊎ (status ≡ Refused) ⊎ (status ≡ Limit) ⊎ (status ≡ StoreExists)
 IsReply (Some (Apply n)) status = (status ≡ Done) ⊎ (status ≡ Refused) ⊎ (status ≡ OutOfSequence)
     ⊎ (status ≡ NoStore) ⊎ (status ≡ Damaged) ⊎ (status ≡ Limit)
-IsReply (Some Graph) status = (status ≡ Done) ⊎ (status ≡ NoStore) ⊎ (status ≡ Damaged) ⊎ (status ≡ Limit)
+IsReply (Some (Graph moment)) status = (status ≡ Done) ⊎ (status ≡ NoStore) ⊎ (status ≡ Damaged) ⊎ (status ≡ Limit)
 IsReply (Some Audit) status = (status ≡ Done) ⊎ (status ≡ NoStore) ⊎ (status ≡ Damaged) ⊎ (status ≡ Limit)
 IsReply (Some (Checkpoint base)) status =
     (status ≡ Done) ⊎ (status ≡ NoStore) ⊎ (status ≡ Damaged) ⊎ (status ≡ Limit)
@@ -169,7 +169,7 @@ Reads (Some Inspect) files status bytes read = ReadsSource (Some Inspect) files 
 Reads (Some (Sample n)) files status bytes read = read ≡ []
 Reads (Some (Create n)) files status bytes read = ReadsSource (Some (Create n)) files status bytes read
 Reads (Some (Apply n)) files status bytes read = ReadsSource (Some (Apply n)) files status bytes read
-Reads (Some Graph) files status bytes read = read ≡ []
+Reads (Some (Graph moment)) files status bytes read = read ≡ []
 Reads (Some Audit) files status bytes read = read ≡ []
 Reads (Some (Checkpoint base)) files status bytes read = read ≡ []
 
@@ -246,7 +246,7 @@ CanBeDone (Some (Create n)) (Some files) bytes = NoBases files
     × (events : List Event) × AreInput Extract bytes events
 CanBeDone (Some (Apply n)) (Some files) bytes = IsReadable files
     × (events : List Event) × AreInput Change bytes events × CanBeAdded n.0 events files
-CanBeDone (Some Graph) (Some files) bytes = IsReadable files
+CanBeDone (Some (Graph moment)) (Some files) bytes = IsReadable files
 CanBeDone (Some Audit) (Some files) bytes = IsReadable files
 CanBeDone (Some (Checkpoint base)) (Some files) bytes = IsReadable files × CanBeCheckpointed files
 CanBeDone command None bytes = ⊥
@@ -259,7 +259,7 @@ abbrev pub Builds : Option Command → Option (List ℕ) → Option Outside → 
 Builds (Some (Compile n)) held before old new = (bytes : List ℕ) (events : List Event) (objects : Objects)
     → held ≡ Some bytes → ReadAll Extract bytes events → IsApplied empty events objects
     → new ≤ old + length (highways objects)
-Builds (Some Graph) held before old new = (w : Outside) (h : History) (objects : Objects)
+Builds (Some (Graph moment)) held before old new = (w : Outside) (h : History) (objects : Objects)
     → before ≡ Some w → CanBeLoaded (reads_of w) h → HasObjects h objects
     → new ≤ old + length (highways objects)
 Builds (Some (Sample n)) held before old new = Unit {0}

@@ -90,6 +90,6 @@ LeftBy (Some Inspect) read w left = CouldLeave w left
 LeftBy (Some (Sample n)) read w left = CouldLeave w left
 LeftBy (Some (Create n)) read w left = LeavesCreated n.0 read w left
 LeftBy (Some (Apply n)) read w left = LeavesStored (LeavesChange n.0 read w left) w left
-LeftBy (Some Graph) read w left = LeavesStored (LeavesHistory w left) w left
+LeftBy (Some (Graph moment)) read w left = LeavesStored (LeavesHistory w left) w left
 LeftBy (Some Audit) read w left = LeavesStored (LeavesHistory w left) w left
 LeftBy (Some (Checkpoint base)) read w left = LeavesStored (LeavesCheckpoint base w left) w left

@@ -11,7 +11,7 @@ use Rattle.road_io.specs.declared.outside.Which.TheVariants.{A, B}
 
 abbrev pub usage_line : List ℕ
 usage_line =
-    codes "usage: osmroad STORE create N|apply N|session|graph|audit|checkpoint|raise, or osmroad - "
+    codes "usage: osmroad STORE create N|apply N|session|graph [MOMENT]|audit|checkpoint|raise, or osmroad - "
     ++ (codes "compile|compile 2|inspect|sample N" ++ newline ∷ [])
 
 abbrev pub limit_line : List ℕ

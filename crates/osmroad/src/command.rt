@@ -1,10 +1,12 @@
 //! What the words of a run ask.
 ghost use Rattle.std.specs.Prelude.{◌≡◌, map};
+ghost use Rattle.moment_rules.specs.MomentTexts.{moment_of};
 ghost use Rattle.osmroad.specs.Commands.{asked, asks_session, asked_command};
-ghost use Rattle.osmroad.specs.Commands.{asked_by_two, asked_by_three, asked_without, asked_alone};
+ghost use Rattle.osmroad.specs.Commands.{asked_by_two, asked_by_three, asked_graph, asked_without, asked_alone};
 ghost use Rattle.osmroad.specs.Commands.{asked_sample, asked_numbered, asked_base, is_store};
 ghost use Rattle.osmroad.specs.Commands.{asked_without_numbered, asked_profile};
 
+use moment_rules::{Moment, one_moment, parse_moment};
 use opl_lexer::long_number;
 use road_base::Sequence;
 
@@ -39,8 +41,8 @@ pub enum Command {
     Create(Sequence),
     /// One more change of the store, on the source and under this number.
     Apply(Sequence),
-    /// The graph of what the store holds.
-    Graph,
+    /// The graph of what the store holds; at a moment, with the access keys that hold at certain times.
+    Graph(Option<Moment>),
     /// What becomes of each restriction that the store holds.
     Audit,
     /// The store's other file with all that the store holds as a base, and no change.
@@ -48,8 +50,9 @@ pub enum Command {
 }
 
 /// What the words ask: `- compile`, `- compile 2`, `- inspect`, `- sample N`, `STORE create N`, `STORE apply N`,
-/// `STORE session`, `STORE graph`, `STORE audit`, `STORE checkpoint` or `STORE raise`. STORE isn't empty and doesn't
-/// begin with `-`; N is digits, a value of 64 bits, and for `create` not the last one.
+/// `STORE session`, `STORE graph`, `STORE graph MOMENT`, `STORE audit`, `STORE checkpoint` or `STORE raise`. STORE
+/// isn't empty and doesn't begin with `-`; N is digits, a value of 64 bits, and for `create` not the last one; MOMENT
+/// is a moment's text, as `2024-05-06T23:00`.
 pub fn request_of(words: &[&str]) -> Option<Request>
     ensures { result ≡ asked (map (λ w. w.now) words.now) }
 {
@@ -76,7 +79,7 @@ fn command_of(words: &[&str]) -> Option<Command>
 {
     match words {
         [store, name] => asked_by_two(store, name),
-        [store, name, number] => asked_by_three(store, name, number),
+        [store, name, word] => asked_by_three(store, name, word),
         _ => None,
     }
 }
@@ -107,16 +110,36 @@ fn asked_without(name: &str) -> Option<Command>
     }
 }
 
-fn asked_by_three(store: &str, name: &str, number: &str) -> Option<Command>
-    ensures { result ≡ asked_by_three store.now name.now number.now }
+fn asked_by_three(store: &str, name: &str, word: &str) -> Option<Command>
+    ensures { result ≡ asked_by_three store.now name.now word.now }
 {
     if store == "-" {
-        return asked_without_numbered(name, number);
+        return asked_without_numbered(name, word);
     }
     if !is_store(store) {
         return None;
     }
-    asked_numbered(name, long_number(number)?)
+    if name == "graph" {
+        return asked_graph(word);
+    }
+    asked_numbered(name, long_number(word)?)
+}
+
+fn asked_graph(word: &str) -> Option<Command>
+    ensures { result ≡ asked_graph word.now }
+{
+    match moment_of(word) {
+        Some(at) => Some(Command::Graph(Some(at))),
+        None => None,
+    }
+}
+
+/// The moment that the word is.
+fn moment_of(word: &str) -> Option<Moment>
+    ensures { result ≡ moment_of word.now }
+{
+    one_moment();
+    parse_moment(word)
 }
 
 fn asked_without_numbered(name: &str, number: &str) -> Option<Command>
@@ -152,7 +175,7 @@ fn asked_alone(name: &str) -> Option<Command>
     ensures { result ≡ asked_alone name.now }
 {
     if name == "graph" {
-        return Some(Command::Graph);
+        return Some(Command::Graph(None));
     }
     if name == "audit" {
         return Some(Command::Audit);

@@ -117,6 +117,8 @@ mod failure_tests;
 #[cfg(test)]
 mod limit_tests;
 #[cfg(test)]
+mod moment_tests;
+#[cfg(test)]
 mod older_store_tests;
 #[cfg(test)]
 mod raise_tests;

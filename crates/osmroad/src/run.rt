@@ -30,7 +30,7 @@ use store_switch::laws::one_live;
 
 /// The last line where the words aren't known.
 const USAGE: &[u8] =
-    b"usage: osmroad STORE create N|apply N|session|graph|audit|checkpoint|raise, or osmroad - \
+    b"usage: osmroad STORE create N|apply N|session|graph [MOMENT]|audit|checkpoint|raise, or osmroad - \
     compile|compile 2|inspect|sample N\n";
 
 // What the command puts, before it is put.
@@ -56,7 +56,7 @@ fn prepare<S: Source, W: Site, L: Ledger>(
         Command::Sample(number) => sample(alloc, number, steps),
         Command::Create(number) => create(alloc, number, source, site),
         Command::Apply(number) => apply(alloc, number, source, site),
-        Command::Graph => stored_graph(alloc, site, steps),
+        Command::Graph(at) => stored_graph(alloc, at, site, steps),
         Command::Audit => stored_audit(alloc, site),
         Command::Checkpoint(base) => checkpoint(alloc, base, site),
     }
@@ -103,10 +103,11 @@ fn run_command<S: Source, W: Site, L: Ledger>(
 /// `- inspect` how large the graph is whose file is on the source, of at most 2^30 bytes, and `- sample N` how large
 /// the graphs are of a town that is made from N, and of its ten changes, under profile 1. A STORE is the site's two
 /// files: `create N` makes one of the extract, of profile 1, `apply N` adds the change on the source, `graph` puts the
-/// graph's bytes of all that it holds, `audit` what becomes of its restrictions, `checkpoint` writes all that it holds
-/// into its other file and goes on there, `raise` does so under profile 2, and `session` answers the messages on the
-/// source in turn. `steps` rises by one for each block that is built; for a command that is one for each visible way
-/// with the key `highway`. Other words are answered by the usage line.
+/// graph's bytes of all that it holds, `graph MOMENT` those under the access keys that hold at that moment of civil
+/// time, `audit` what becomes of its restrictions, `checkpoint` writes all that it holds into its other file and goes
+/// on there, `raise` does so under profile 2, and `session` answers the messages on the source in turn. `steps` rises
+/// by one for each block that is built; for a command that is one for each visible way with the key `highway`. Other
+/// words are answered by the usage line.
 pub fn run<S: Source, W: Site, L: Ledger>(
     alloc: Global,
     words: &[&str],

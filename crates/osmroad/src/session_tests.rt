@@ -166,7 +166,7 @@ const UNFINISHED: Session = Session {
 };
 
 /// A village, with what an ordinary extract holds.
-const VILLAGE: &[u8] = b"\
+pub const VILLAGE: &[u8] = b"\
     n101 v3 dV c1001 t2020-05-01T10:00:00Z i7 uanna T x8.5 y50.1\n\
     n102 v1 dV c1001 t2020-05-01T10:00:00Z i7 uanna T x8.501 y50.1\n\
     n103 v2 dV c1002 t2020-05-02T10:00:00Z i8 ubert Thighway=crossing x8.502 y50.1\n\

@@ -122,7 +122,7 @@ pub const NO_GRAPH_RAISED: &[u8] = b"OSMROAD1\x02\x00\x00\x00\x00\x00\x00\x00\x0
 pub const NO_GRAPH: &[u8] = b"OSMROAD1\x01\x00\x00\x00\x00\x00\x00\x00\x00\x00\x00\x00";
 
 pub const USAGE: &[u8] =
-    b"usage: osmroad STORE create N|apply N|session|graph|audit|checkpoint|raise, or osmroad - \
+    b"usage: osmroad STORE create N|apply N|session|graph [MOMENT]|audit|checkpoint|raise, or osmroad - \
     compile|compile 2|inspect|sample N\n";
 
 const COMPILE: &[&str] = &["-", "compile"];

@@ -14,6 +14,7 @@ use Rattle.change_apply.specs.Engines.{Touches, BuildsTouched}
 use Rattle.session_answers.specs.declared.reply.Reply.{Reply}
 use Rattle.session_answers.specs.Replies.{CostsAtMost}
 use Rattle.session_answers.specs.Said.{said}
+use Rattle.session_replies.specs.FurtherMessages.{further_message}
 use Rattle.session_replies.specs.Replies.{IsReply, IsLineReply, road_replies, road_costs}
 
 pub line_reply : {E : Type 0} (P : Rules) (M after : Objects) (number : ℕ) (line : Option (List ℕ)) (r : Result Reply E)
@@ -29,10 +30,11 @@ line_reply {E} P M after number line r same is = IfOk-weaker r _ _
 
 pub text_reply : {E : Type 0} (P : Rules) (M : Objects) (number : ℕ) (line : Option (List ℕ)) (text : List ℕ)
     (message : Asked) (r : Result Reply E) → line ≡ Some text → message ≡ asked text
-    → IfOk r (λ x. IsReply M P number message (said x)) → IfOk r (λ x. IsLineReply M P number line (said x))
+    → IfOk r (λ x. IsReply M P number message (further_message text) (said x))
+    → IfOk r (λ x. IsLineReply M P number line (said x))
 text_reply {E} P M number line text message r is asks holds = IfOk-weaker r _ _
     (λ x reply. subst (λ (o : Option (List ℕ)). IsLineReply M P number o (said x)) (sym is)
-    (subst (λ (a : Asked). IsReply M P number a (said x)) asks reply)) holds
+    (subst (λ (a : Asked). IsReply M P number a (further_message text) (said x)) asks reply)) holds
 
 -- what was built for the change of an engine's objects was built for that of the history's
 pub touched_most : (M O : Objects) (events : List Event) (old new : ℕ) → O ≡ M → Touches M events

@@ -1,2 +1,3 @@
-pub mod Texts
+pub mod FurtherMessages
 pub mod Replies
+pub mod Texts

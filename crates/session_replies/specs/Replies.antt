@@ -2,6 +2,7 @@
 use Rattle.std.specs.Prelude.{◌≡◌, ℕ, List, [], ◌++◌, length, Option, Some, None}
 use Rattle.std.specs.FinMap.{FinMap}
 use Rattle.road_base.specs.Objects.{Objects}
+use Rattle.road_base.specs.declared.ids.Step.{Step}
 use Rattle.road_base.specs.History.{HasObjects, kept}
 use Rattle.road_model.specs.declared.blocks.Block.{Block}
 use Rattle.road_model.specs.Rules.{Rules}
@@ -19,7 +20,11 @@ use Rattle.context_search.specs.Reaching.{IsFound}
 use Rattle.drive_queries.specs.Messages.{asked}
 use Rattle.drive_queries.specs.Counting.{blocks_in, totals_of}
 use Rattle.change_apply.specs.Engines.{Touches}
+use Rattle.moment_rules.specs.AtMoment.{rules_at}
 use Rattle.session_answers.specs.Replies.{Replies, Costs}
+use Rattle.session_replies.specs.declared.further_messages.FurtherMessage.{FurtherMessage}
+use Rattle.session_replies.specs.declared.further_messages.FurtherMessage.TheVariants.{DriveAt}
+use Rattle.session_replies.specs.FurtherMessages.{further_message}
 use Rattle.session_replies.specs.Texts.{unknown_line, state_line, verdict_line, found_line, graph_line}
 
 -- The graph of the objects: its walks are the drives that may be driven there, and whoever walks over its bytes by the
@@ -37,21 +42,31 @@ pub record IsStateReply (M : Objects) (P : Rules) (kept : ℕ) (out : List ℕ) 
   pub are : AreBlocksOf M P blocks
   pub spelled : out ≡ state_line kept (totals_of (blocks_in blocks))
 
+-- whether the drive is legal, and else the first rule that it breaks
+abbrev pub IsDriveReply : Objects → Rules → List Step → List ℕ → Type 0
+IsDriveReply M P d out = (verdict : Verdict) × IsVerdict M P d verdict × (out ≡ verdict_line verdict)
+
+-- what is answered to a line that is no message of `drive_queries`: at a moment the rules of the profile of the same
+-- number decide that hold then
+abbrev pub IsFurtherReply : Objects → Rules → Option FurtherMessage → List ℕ → Type 0
+IsFurtherReply M P None out = out ≡ unknown_line
+IsFurtherReply M P (Some (DriveAt moment d)) out = IsDriveReply M (rules_at P.number moment) d out
+
 -- What a message is answered with, over the objects and the kept number. One without a word gets nothing. A line that
--- begins a frame is answered with its frame, and so doesn't come here.
-abbrev pub IsReply : Objects → Rules → ℕ → Asked → List ℕ → Type 0
-IsReply M P kept Empty out = out ≡ []
-IsReply M P kept (Seq n) out = out ≡ unknown_line
-IsReply M P kept Graph out = IsGraphReply M P out
-IsReply M P kept State out = IsStateReply M P kept out
-IsReply M P kept (Drive d) out = (verdict : Verdict) × IsVerdict M P d verdict × (out ≡ verdict_line verdict)
-IsReply M P kept (Reach a b) out = (found : Found) × IsFound M P a b found × (out ≡ found_line found)
-IsReply M P kept Unknown out = out ≡ unknown_line
+-- begins a frame is answered with its frame, and so doesn't come here. One that isn't known asks what is further asked.
+abbrev pub IsReply : Objects → Rules → ℕ → Asked → Option FurtherMessage → List ℕ → Type 0
+IsReply M P kept Empty more out = out ≡ []
+IsReply M P kept (Seq n) more out = out ≡ unknown_line
+IsReply M P kept Graph more out = IsGraphReply M P out
+IsReply M P kept State more out = IsStateReply M P kept out
+IsReply M P kept (Drive d) more out = IsDriveReply M P d out
+IsReply M P kept (Reach a b) more out = (found : Found) × IsFound M P a b found × (out ≡ found_line found)
+IsReply M P kept Unknown more out = IsFurtherReply M P more out
 
 -- what a line with this text is answered with; one that isn't UTF-8 asks nothing that is known
 abbrev pub IsLineReply : Objects → Rules → ℕ → Option (List ℕ) → List ℕ → Type 0
 IsLineReply M P kept None out = out ≡ unknown_line
-IsLineReply M P kept (Some text) out = IsReply M P kept (asked text) out
+IsLineReply M P kept (Some text) out = IsReply M P kept (asked text) (further_message text) out
 
 -- What the lines of a session are answered with under the rules of a profile: over the objects of the history, with its
 -- kept number. Nothing stands beside the history.

@@ -52,7 +52,7 @@ impl<P: Profile> Answerer for RoadAnswerer<P> {
             return unknown_reply(self.alloc);
         };
         let asked = message(self.alloc, text)?;
-        reply_to(self.alloc, &self.engine, kept, &asked)
+        reply_to(self.alloc, &self.engine, kept, &asked, text)
     }
 
     fn follow<L: Ledger>(

@@ -5,6 +5,7 @@
 #![tactic(auto)]
 
 mod answerer;
+mod further_messages;
 pub mod laws;
 mod queries;
 mod texts;

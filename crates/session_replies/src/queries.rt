@@ -1,35 +1,40 @@
 //! The replies to lines.
-ghost use Rattle.std.specs.Prelude.{◌≡◌, ◌≢◌, [], IfOk};
-ghost use Rattle.drive_judging.specs.Verdicts.{IsVerdict};
+ghost use Rattle.std.specs.Prelude.{◌≡◌, ◌≢◌, [], Some, IfOk};
 ghost use Rattle.context_search.specs.Reaching.{IsFound};
 ghost use Rattle.road_base.specs.Profiles.{IsProfile};
 ghost use Rattle.drive_queries.specs.Messages.{AsksSteps};
 ghost use Rattle.session_answers.specs.Said.{said};
-ghost use Rattle.session_replies.specs.Replies.{IsReply, IsGraphReply, IsStateReply};
-ghost use Rattle.session_replies.specs.Texts.{unknown_line, verdict_line, found_line};
+ghost use Rattle.moment_rules.specs.AtMoment.{rules_at};
+ghost use Rattle.session_replies.specs.FurtherMessages.{further_message, HasSteps};
+ghost use Rattle.session_replies.specs.Replies.{IsReply, IsFurtherReply, IsDriveReply, IsGraphReply, IsStateReply};
+ghost use Rattle.session_replies.specs.Texts.{unknown_line, found_line};
 
+use crate::further_messages::{FurtherMessage, further_message};
 use crate::texts::{found_reply, graph_head, state, unknown, verdict_reply};
+use back_references::Indexed;
 use change_apply::Engine;
 use drive_queries::{Asked, WordTable, counts, judge, reach};
 use graph_file::laws::walked_file;
 use graph_file::write;
+use moment_rules::{AtMoment, Moment};
 use road_base::{NoMemory, NodeId, Sequence, Step};
 use road_model::Profile;
 use road_model::laws::walk_law;
 use session_answers::Reply;
 use std::alloc::Global;
 
-/// The reply to a message. The kept number is that of the last change.
+/// The reply to a message. The kept number is that of the last change. What isn't known is looked for in the line.
 pub fn reply_to<P: Profile>(
     alloc: Global,
     engine: &Engine<P>,
     kept: Sequence,
     asked: &Asked,
+    line: &str,
 ) -> Result<Reply, NoMemory>
     requires number { IsProfile (P.rules engine.now.profile).number }
     requires drives { AsksSteps asked.now }
     ensures { IfOk result (λ r.
-        IsReply engine.now.world (P.rules engine.now.profile) kept.0 asked.now (said r)) }
+        IsReply engine.now.world (P.rules engine.now.profile) kept.0 asked.now (further_message line.now) (said r)) }
 {
     match asked {
         Asked::Empty => Ok(line_alone(alloc, Vec::new(alloc))),
@@ -37,7 +42,46 @@ pub fn reply_to<P: Profile>(
         Asked::State => state_reply(alloc, engine, kept),
         Asked::Drive(drive) => drive_reply(alloc, engine, drive.items()),
         Asked::Reach(a, b) => reach_reply(alloc, engine, *a, *b),
-        Asked::Seq(_) | Asked::Unknown => unknown_reply(alloc),
+        Asked::Seq(_) => unknown_reply(alloc),
+        Asked::Unknown => unmessaged_reply(alloc, engine, line),
+    }
+}
+
+/// The reply to a line that is no message of `drive_queries`.
+fn unmessaged_reply<P: Profile>(
+    alloc: Global,
+    engine: &Engine<P>,
+    line: &str,
+) -> Result<Reply, NoMemory>
+    requires { IsProfile (P.rules engine.now.profile).number }
+    ensures { IfOk result (λ r.
+        IsFurtherReply engine.now.world (P.rules engine.now.profile) (further_message line.now) (said r)) }
+{
+    let found = further_message(alloc, line)?;
+    match found {
+        Some(asks) => further_reply(alloc, engine, &asks),
+        None => unknown_reply(alloc),
+    }
+}
+
+/// The reply to what is further asked.
+fn further_reply<P: Profile>(
+    alloc: Global,
+    engine: &Engine<P>,
+    asks: &FurtherMessage,
+) -> Result<Reply, NoMemory>
+    requires number { IsProfile (P.rules engine.now.profile).number }
+    requires drives { HasSteps asks.now }
+    ensures { IfOk result (λ r.
+        IsFurtherReply engine.now.world (P.rules engine.now.profile) (Some asks.now) (said r)) }
+{
+    match asks {
+        FurtherMessage::DriveAt(moment, drive) => drive_at_reply(
+            alloc,
+            engine,
+            *moment,
+            drive.items(),
+        ),
     }
 }
 
@@ -94,13 +138,39 @@ fn drive_reply<P: Profile>(
     drive: &[Step],
 ) -> Result<Reply, NoMemory>
     requires { drive.now ≢ [] }
-    ensures { IfOk result (λ r. (verdict : _)
-        × IsVerdict engine.now.world (P.rules engine.now.profile) drive.now verdict
-        × (said r ≡ verdict_line verdict)) }
+    ensures { IfOk result (λ r. IsDriveReply engine.now.world (P.rules engine.now.profile) drive.now (said r)) }
 {
-    let profile = engine.profile();
-    let table = WordTable::of(alloc, engine.world(), &profile, drive)?;
-    let verdict = judge(engine.world(), &profile, &table, drive);
+    judged_reply(alloc, engine.world(), &engine.profile(), drive)
+}
+
+/// The same at a moment, under the access keys that hold then.
+fn drive_at_reply<P: Profile>(
+    alloc: Global,
+    engine: &Engine<P>,
+    moment: Moment,
+    drive: &[Step],
+) -> Result<Reply, NoMemory>
+    requires number { IsProfile (P.rules engine.now.profile).number }
+    requires steps { drive.now ≢ [] }
+    ensures { IfOk result (λ r.
+        IsDriveReply engine.now.world (rules_at (P.rules engine.now.profile).number moment) drive.now (said r)) }
+{
+    let profile = AtMoment::new(engine.profile().number(), moment);
+    judged_reply(alloc, engine.world(), &profile, drive)
+}
+
+/// The verdict on the drive, which has one step at least, under this profile.
+fn judged_reply<P: Profile>(
+    alloc: Global,
+    world: &Indexed,
+    profile: &P,
+    drive: &[Step],
+) -> Result<Reply, NoMemory>
+    requires { drive.now ≢ [] }
+    ensures { IfOk result (λ r. IsDriveReply world.now (P.rules profile.now) drive.now (said r)) }
+{
+    let table = WordTable::of(alloc, world, profile, drive)?;
+    let verdict = judge(world, profile, &table, drive);
     Ok(line_alone(alloc, verdict_reply(alloc, &verdict)?))
 }
 

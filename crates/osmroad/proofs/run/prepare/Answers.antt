@@ -54,7 +54,7 @@ returns-in-Sample-clause-built g c =
 pub returns-in-Graph-clause-reads : goal.returns-in-Graph-clause-reads
 returns-in-Graph-clause-reads g c =
     let held = g.S.Source.bytes_left c.args.source.now in
-    no_read (Some Graph) c.stored_graph.result held held (g.W.Site.outside c.args.site.now)
+    no_read (Some (Graph c.in-Graph.at)) c.stored_graph.result held held (g.W.Site.outside c.args.site.now)
     (g.W.Site.outside c.stored_graph.new.site) (c.stored_graph.ensures.prepares held)
     (λ reading. reading) (g.S.Source.faults c.args.source.now)
 

@@ -1,9 +1,8 @@
-use Rattle.std.proofs.Common.{ℕ, Some, refl, subst, sym, arith, ◌∙◌}
+use Rattle.std.proofs.Common.{ℕ, Some, refl, subst, sym, arith}
 use Rattle.road_base.specs.Profiles.{IsProfile}
 use Rattle.sequence_journal.specs.declared.load.Loaded.{Loaded}
-use Rattle.access_profile.specs.Profiles.{rules_of}
 use Rattle.osmroad.specs.declared.command.Command.TheVariants.{Graph}
-use Rattle.osmroad.specs.Compiled.{IsGraphOf}
+use Rattle.osmroad.specs.Compiled.{IsGraphOf, rules_shown}
 use Rattle.osmroad.proofs.Prepared.{no_memory}
 use Rattle.osmroad.proofs.AnsweredFaults.{fault_calls, failed_calls, calls_calm}
 use Rattle.osmroad.proofs.ShownStores.{graph_shows, show_refused, show_failed, show_done, graph_built}
@@ -14,7 +13,8 @@ use Rattle.osmroad.proofs.stored.stored_graph.Goals as goal
 pub returns-in-Err-clause-prepares : goal.returns-in-Err-clause-prepares
 returns-in-Err-clause-prepares g c = λ held.
     let laws = c.store_laws.ensures in
-    show_refused laws.store (Some Graph) IsGraphOf graph_shows held _ _ c.in-Err.error c.refuse_store.result
+    show_refused laws.store (Some (Graph c.args.at))
+    (λ n. IsGraphOf (rules_shown c.args.at n)) (graph_shows c.args.at) held _ _ c.in-Err.error c.refuse_store.result
     c.in-Err.ensures.named c.refuse_store.ensures c.in-Err.ensures.told
 
 pub returns-in-Err-clause-calls : goal.returns-in-Err-clause-calls
@@ -26,15 +26,16 @@ returns-in-Err-clause-built g c = λ held w h objects told loads has. omega arit
 
 -- ---- the profile is known
 
-pub profile_of-profile-requires : goal.profile_of-profile-requires
-profile_of-profile-requires g c = subst IsProfile (sym c.profile.ensures) c.in-Ok.ensures.known
+pub graph_shown-requires : goal.graph_shown-requires
+graph_shown-requires g c = subst IsProfile (sym c.profile.ensures) c.in-Ok.ensures.known
 
 -- ---- memory ends for the graph
 
 pub returns-in_err-out-clause-prepares : goal.returns-in_err-out-clause-prepares
 returns-in_err-out-clause-prepares g c = λ held.
     let laws = c.store_laws.ensures in
-    show_failed laws.store (Some Graph) IsGraphOf graph_shows held _ _ c.in-Ok.loaded c.from_residual.result
+    show_failed laws.store (Some (Graph c.args.at))
+    (λ n. IsGraphOf (rules_shown c.args.at n)) (graph_shows c.args.at) held _ _ c.in-Ok.loaded c.from_residual.result
     (no_memory c.from_residual.result c.from_residual.ensures.1) c.in-Ok.ensures.told
 
 pub returns-in_err-out-clause-calls : goal.returns-in_err-out-clause-calls
@@ -44,17 +45,18 @@ returns-in_err-out-clause-calls g c = failed_calls c.from_residual.result _ _
 pub returns-in_err-out-clause-built : goal.returns-in_err-out-clause-built
 returns-in_err-out-clause-built g c = λ held.
     let laws = c.store_laws.ensures in
-    graph_built laws.store held _ _ c.in-Ok.loaded _ _ c.in-Ok.ensures.told c.in_err-out.ensures.built
+    graph_built c.args.at laws.store held _ _ c.in-Ok.loaded _ _ c.in-Ok.ensures.told c.in_err-out.ensures.built
 
 -- ---- the graph is made
 
 pub returns-clause-prepares : goal.returns-clause-prepares
 returns-clause-prepares g c = λ held.
     let laws = c.store_laws.ensures in
-    show_done laws.store (Some Graph) IsGraphOf graph_shows held _ _ c.in-Ok.loaded c.in_ok-out.out.items _ (refl, refl)
-    c.in-Ok.ensures.told
-    (subst (λ (n : ℕ). IsGraphOf (rules_of n) c.in-Ok.loaded.events.items c.in_ok-out.out.items)
-    (c.profile_of-profile.ensures ∙ c.profile.ensures) c.in_ok-out.ensures.graph)
+    show_done laws.store (Some (Graph c.args.at))
+    (λ n. IsGraphOf (rules_shown c.args.at n)) (graph_shows c.args.at) held _ _ c.in-Ok.loaded c.in_ok-out.out.items _
+    (refl, refl) c.in-Ok.ensures.told
+    (subst (λ (n : ℕ). IsGraphOf (rules_shown c.args.at n) c.in-Ok.loaded.events.items c.in_ok-out.out.items)
+    c.profile.ensures c.in_ok-out.ensures.graph)
 
 pub returns-clause-calls : goal.returns-clause-calls
 returns-clause-calls g c = calls_calm _ _ _ (c.in-Ok.ensures.counts.stays (λ e. (cc))) (λ e. (cc))
@@ -62,4 +64,4 @@ returns-clause-calls g c = calls_calm _ _ _ (c.in-Ok.ensures.counts.stays (λ e.
 pub returns-clause-built : goal.returns-clause-built
 returns-clause-built g c = λ held.
     let laws = c.store_laws.ensures in
-    graph_built laws.store held _ _ c.in-Ok.loaded _ _ c.in-Ok.ensures.told c.in_ok-out.ensures.built
+    graph_built c.args.at laws.store held _ _ c.in-Ok.loaded _ _ c.in-Ok.ensures.told c.in_ok-out.ensures.built

@@ -1,0 +1,45 @@
+-- What a line of a session asks, where it stands outside a frame and is no message of `drive_queries`.
+use Rattle.std.specs.Prelude.{◌≢◌, List, [], ◌∷◌, ℕ, Option, Some, None, if◌then◌else◌, bytes_eq, codes}
+use Rattle.opl_lexer.specs.Fields.{fields}
+use Rattle.drive_queries.specs.declared.messages.Asked.{Asked}
+use Rattle.drive_queries.specs.declared.messages.Asked.TheVariants.{Empty, Seq, Graph, State, Drive, Reach, Unknown}
+use Rattle.drive_queries.specs.Messages.{asked_drive}
+use Rattle.moment_rules.specs.declared.moment.Moment.{Moment}
+use Rattle.moment_rules.specs.MomentTexts.{moment_of}
+use Rattle.session_replies.specs.declared.further_messages.FurtherMessage.{FurtherMessage}
+use Rattle.session_replies.specs.declared.further_messages.FurtherMessage.TheVariants.{DriveAt}
+
+-- the drive at the moment, where a drive is asked about
+abbrev pub drive_at : Moment → Asked → Option FurtherMessage
+drive_at moment (Drive steps) = Some (DriveAt moment steps)
+drive_at moment Empty = None
+drive_at moment (Seq n) = None
+drive_at moment Graph = None
+drive_at moment State = None
+drive_at moment (Reach a b) = None
+drive_at moment Unknown = None
+
+abbrev pub drive_then : Option Moment → List (List ℕ) → Option FurtherMessage
+drive_then None words = None
+drive_then (Some moment) words = drive_at moment (asked_drive words)
+
+-- a moment, and one step at least
+abbrev pub further_drive : List (List ℕ) → Option FurtherMessage
+further_drive [] = None
+further_drive (word ∷ words) = drive_then (moment_of word) words
+
+-- by the first word, and those behind it
+abbrev pub further_by : List ℕ → List (List ℕ) → Option FurtherMessage
+further_by name words = if bytes_eq name (codes "drive-at") then further_drive words else None
+
+abbrev pub further_of : List (List ℕ) → Option FurtherMessage
+further_of [] = None
+further_of (name ∷ words) = further_by name words
+
+-- what the line asks, if it is one of these; its words stand between spaces and tabs
+abbrev pub further_message : List ℕ → Option FurtherMessage
+further_message line = further_of (fields line)
+
+-- a drive that is asked about has a step
+abbrev pub HasSteps : FurtherMessage → Type 0
+HasSteps (DriveAt moment steps) = steps ≢ []

@@ -1,0 +1,61 @@
+//! What a line asks that is no message of `drive_queries`.
+ghost use Rattle.std.specs.Prelude.{◌≡◌, IfOk, IfSome};
+ghost use Rattle.opl_lexer.specs.Left.{fields_left};
+ghost use Rattle.moment_rules.specs.MomentTexts.{moment_of};
+ghost use Rattle.session_replies.specs.FurtherMessages.{further_message, further_drive, HasSteps};
+
+use drive_queries::{Asked, asked_drive};
+use moment_rules::{Moment, one_moment, parse_moment};
+use opl_lexer::{FieldIter, fields};
+use road_base::{Drive, NoMemory};
+use std::alloc::Global;
+
+/// What a line outside a frame asks that is no message of `drive_queries`.
+#[derive(Drop)]
+pub enum FurtherMessage {
+    /// `drive-at MOMENT STEP ..`: whether the drive is legal at the moment. It has one step at least.
+    DriveAt(Moment, Drive),
+}
+
+/// The moment that the word is.
+fn moment_of(word: &str) -> Option<Moment>
+    ensures { result ≡ moment_of word.now }
+{
+    one_moment();
+    parse_moment(word)
+}
+
+/// A moment, and steps, at least one.
+fn further_drive(
+    alloc: Global,
+    mut words: FieldIter<'_>,
+) -> Result<Option<FurtherMessage>, NoMemory>
+    ensures asks { IfOk result (λ asks. asks ≡ further_drive (fields_left words.entry)) }
+    ensures drives { IfOk result (λ asks. IfSome asks HasSteps) }
+{
+    let Some(word) = words.next() else {
+        return Ok(None);
+    };
+    let Some(moment) = moment_of(word) else {
+        return Ok(None);
+    };
+    match asked_drive(alloc, words)? {
+        Asked::Drive(drive) => Ok(Some(FurtherMessage::DriveAt(moment, drive))),
+        _ => Ok(None),
+    }
+}
+
+/// What the line asks, if it is one of these. Takes time linear in the line.
+pub fn further_message(alloc: Global, line: &str) -> Result<Option<FurtherMessage>, NoMemory>
+    ensures asks { IfOk result (λ asks. asks ≡ further_message line.now) }
+    ensures drives { IfOk result (λ asks. IfSome asks HasSteps) }
+{
+    let mut words = fields(line);
+    let Some(name) = words.next() else {
+        return Ok(None);
+    };
+    match name {
+        "drive-at" => further_drive(alloc, words),
+        _ => Ok(None),
+    }
+}
