@@ -11,5 +11,5 @@ mod totals;
 
 pub use context_search::{Found, laws, reach};
 pub use drive_judging::{Rule, Verdict, WordTable, judge};
-pub use messages::{Asked, asked_drive, message};
+pub use messages::{Asked, asked_drive, asked_reach, message};
 pub use totals::{Totals, counts};

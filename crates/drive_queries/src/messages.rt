@@ -72,7 +72,7 @@ pub fn asked_drive(alloc: Global, words: FieldIter<'_>) -> Result<Asked, NoMemor
 }
 
 /// The numbers of two nodes.
-fn asked_reach(mut words: FieldIter<'_>) -> Asked
+pub fn asked_reach(mut words: FieldIter<'_>) -> Asked
     ensures { result ≡ asked_reach (fields_left words.entry) }
 {
     let (Some(from), Some(to), None) = (words.next(), words.next(), words.next()) else {

@@ -1,13 +1,14 @@
 -- What a line of a session asks, where it stands outside a frame and is no message of `drive_queries`.
 use Rattle.std.specs.Prelude.{◌≢◌, List, [], ◌∷◌, ℕ, Option, Some, None, if◌then◌else◌, bytes_eq, codes}
+use Rattle.road_base.specs.declared.ids.NodeId.{NodeId}
 use Rattle.opl_lexer.specs.Fields.{fields}
 use Rattle.drive_queries.specs.declared.messages.Asked.{Asked}
 use Rattle.drive_queries.specs.declared.messages.Asked.TheVariants.{Empty, Seq, Graph, State, Drive, Reach, Unknown}
-use Rattle.drive_queries.specs.Messages.{asked_drive}
+use Rattle.drive_queries.specs.Messages.{asked_drive, asked_reach}
 use Rattle.moment_rules.specs.declared.moment.Moment.{Moment}
 use Rattle.moment_rules.specs.MomentTexts.{moment_of}
 use Rattle.session_replies.specs.declared.further_messages.FurtherMessage.{FurtherMessage}
-use Rattle.session_replies.specs.declared.further_messages.FurtherMessage.TheVariants.{DriveAt}
+use Rattle.session_replies.specs.declared.further_messages.FurtherMessage.TheVariants.{DriveAt, Route, Certify}
 
 -- the drive at the moment, where a drive is asked about
 abbrev pub drive_at : Moment → Asked → Option FurtherMessage
@@ -28,9 +29,29 @@ abbrev pub further_drive : List (List ℕ) → Option FurtherMessage
 further_drive [] = None
 further_drive (word ∷ words) = drive_then (moment_of word) words
 
+-- what is asked of two nodes, where two nodes are named
+abbrev pub of_nodes : (NodeId → NodeId → FurtherMessage) → Asked → Option FurtherMessage
+of_nodes asks (Reach a b) = Some (asks a b)
+of_nodes asks Empty = None
+of_nodes asks (Seq n) = None
+of_nodes asks Graph = None
+of_nodes asks State = None
+of_nodes asks (Drive steps) = None
+of_nodes asks Unknown = None
+
+-- two numbers of nodes
+abbrev pub further_route : List (List ℕ) → Option FurtherMessage
+further_route words = of_nodes (λ a b. Route a b) (asked_reach words)
+
+abbrev pub further_certify : List (List ℕ) → Option FurtherMessage
+further_certify words = of_nodes (λ a b. Certify a b) (asked_reach words)
+
 -- by the first word, and those behind it
 abbrev pub further_by : List ℕ → List (List ℕ) → Option FurtherMessage
-further_by name words = if bytes_eq name (codes "drive-at") then further_drive words else None
+further_by name words =
+    if bytes_eq name (codes "drive-at") then further_drive words
+    else (if bytes_eq name (codes "route") then further_route words
+    else (if bytes_eq name (codes "certify") then further_certify words else None))
 
 abbrev pub further_of : List (List ℕ) → Option FurtherMessage
 further_of [] = None
@@ -43,3 +64,5 @@ further_message line = further_of (fields line)
 -- a drive that is asked about has a step
 abbrev pub HasSteps : FurtherMessage → Type 0
 HasSteps (DriveAt moment steps) = steps ≢ []
+HasSteps (Route a b) = Unit {0}
+HasSteps (Certify a b) = Unit {0}

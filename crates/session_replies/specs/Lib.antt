@@ -1,3 +1,4 @@
 pub mod FurtherMessages
 pub mod Replies
 pub mod Texts
+pub mod CostTexts

@@ -2,6 +2,7 @@
 use Rattle.std.specs.Prelude.{◌≡◌, ℕ, List, [], ◌++◌, length, Option, Some, None}
 use Rattle.std.specs.FinMap.{FinMap}
 use Rattle.road_base.specs.Objects.{Objects}
+use Rattle.road_base.specs.declared.ids.NodeId.{NodeId}
 use Rattle.road_base.specs.declared.ids.Step.{Step}
 use Rattle.road_base.specs.History.{HasObjects, kept}
 use Rattle.road_model.specs.declared.blocks.Block.{Block}
@@ -20,11 +21,15 @@ use Rattle.context_search.specs.Reaching.{IsFound}
 use Rattle.drive_queries.specs.Messages.{asked}
 use Rattle.drive_queries.specs.Counting.{blocks_in, totals_of}
 use Rattle.change_apply.specs.Engines.{Touches}
+use Rattle.least_cost.specs.declared.answers.Shortest.{Shortest}
+use Rattle.least_cost.specs.declared.answers.Cheapest.{Cheapest}
+use Rattle.least_cost.specs.Cheapest.{IsShortest, IsCheapest}
 use Rattle.moment_rules.specs.AtMoment.{rules_at}
 use Rattle.session_answers.specs.Replies.{Replies, Costs}
 use Rattle.session_replies.specs.declared.further_messages.FurtherMessage.{FurtherMessage}
-use Rattle.session_replies.specs.declared.further_messages.FurtherMessage.TheVariants.{DriveAt}
+use Rattle.session_replies.specs.declared.further_messages.FurtherMessage.TheVariants.{DriveAt, Route, Certify}
 use Rattle.session_replies.specs.FurtherMessages.{further_message}
+use Rattle.session_replies.specs.CostTexts.{shortest_line, cheapest_said}
 use Rattle.session_replies.specs.Texts.{unknown_line, state_line, verdict_line, found_line, graph_line}
 
 -- The graph of the objects: its walks are the drives that may be driven there, and whoever walks over its bytes by the
@@ -46,11 +51,21 @@ pub record IsStateReply (M : Objects) (P : Rules) (kept : ℕ) (out : List ℕ) 
 abbrev pub IsDriveReply : Objects → Rules → List Step → List ℕ → Type 0
 IsDriveReply M P d out = (verdict : Verdict) × IsVerdict M P d verdict × (out ≡ verdict_line verdict)
 
+-- a legal drive of least cost, with its cost
+abbrev pub IsRouteReply : Objects → Rules → NodeId → NodeId → List ℕ → Type 0
+IsRouteReply M P a b out = (found : Shortest) × IsShortest M P a b found × (out ≡ shortest_line found)
+
+-- numbers at the contexts that show the least cost, or that there is no drive
+abbrev pub IsCertifyReply : Objects → Rules → NodeId → NodeId → List ℕ → Type 0
+IsCertifyReply M P a b out = (found : Cheapest) × IsCheapest M P a b found × (out ≡ cheapest_said found)
+
 -- what is answered to a line that is no message of `drive_queries`: at a moment the rules of the profile of the same
 -- number decide that hold then
 abbrev pub IsFurtherReply : Objects → Rules → Option FurtherMessage → List ℕ → Type 0
 IsFurtherReply M P None out = out ≡ unknown_line
 IsFurtherReply M P (Some (DriveAt moment d)) out = IsDriveReply M (rules_at P.number moment) d out
+IsFurtherReply M P (Some (Route a b)) out = IsRouteReply M P a b out
+IsFurtherReply M P (Some (Certify a b)) out = IsCertifyReply M P a b out
 
 -- What a message is answered with, over the objects and the kept number. One without a word gets nothing. A line that
 -- begins a frame is answered with its frame, and so doesn't come here. One that isn't known asks what is further asked.

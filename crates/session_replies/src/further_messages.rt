@@ -3,11 +3,12 @@ ghost use Rattle.std.specs.Prelude.{◌≡◌, IfOk, IfSome};
 ghost use Rattle.opl_lexer.specs.Left.{fields_left};
 ghost use Rattle.moment_rules.specs.MomentTexts.{moment_of};
 ghost use Rattle.session_replies.specs.FurtherMessages.{further_message, further_drive, HasSteps};
+ghost use Rattle.session_replies.specs.FurtherMessages.{further_route, further_certify};
 
-use drive_queries::{Asked, asked_drive};
+use drive_queries::{Asked, asked_drive, asked_reach};
 use moment_rules::{Moment, one_moment, parse_moment};
 use opl_lexer::{FieldIter, fields};
-use road_base::{Drive, NoMemory};
+use road_base::{Drive, NoMemory, NodeId};
 use std::alloc::Global;
 
 /// What a line outside a frame asks that is no message of `drive_queries`.
@@ -15,6 +16,10 @@ use std::alloc::Global;
 pub enum FurtherMessage {
     /// `drive-at MOMENT STEP ..`: whether the drive is legal at the moment. It has one step at least.
     DriveAt(Moment, Drive),
+    /// `route A B`: a drive of least cost from node A to node B.
+    Route(NodeId, NodeId),
+    /// `certify A B`: what shows the least cost of drives from node A to node B, or that there is none.
+    Certify(NodeId, NodeId),
 }
 
 /// The moment that the word is.
@@ -45,6 +50,26 @@ fn further_drive(
     }
 }
 
+/// The numbers of two nodes, for a drive of least cost.
+fn further_route(words: FieldIter<'_>) -> Option<FurtherMessage>
+    ensures { result ≡ further_route (fields_left words.entry) }
+{
+    match asked_reach(words) {
+        Asked::Reach(from, to) => Some(FurtherMessage::Route(from, to)),
+        _ => None,
+    }
+}
+
+/// The numbers of two nodes, for what shows the least cost.
+fn further_certify(words: FieldIter<'_>) -> Option<FurtherMessage>
+    ensures { result ≡ further_certify (fields_left words.entry) }
+{
+    match asked_reach(words) {
+        Asked::Reach(from, to) => Some(FurtherMessage::Certify(from, to)),
+        _ => None,
+    }
+}
+
 /// What the line asks, if it is one of these. Takes time linear in the line.
 pub fn further_message(alloc: Global, line: &str) -> Result<Option<FurtherMessage>, NoMemory>
     ensures asks { IfOk result (λ asks. asks ≡ further_message line.now) }
@@ -56,6 +81,8 @@ pub fn further_message(alloc: Global, line: &str) -> Result<Option<FurtherMessag
     };
     match name {
         "drive-at" => further_drive(alloc, words),
+        "route" => Ok(further_route(words)),
+        "certify" => Ok(further_certify(words)),
         _ => Ok(None),
     }
 }

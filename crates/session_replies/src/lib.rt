@@ -5,6 +5,7 @@
 #![tactic(auto)]
 
 mod answerer;
+mod cost_texts;
 mod further_messages;
 pub mod laws;
 mod queries;

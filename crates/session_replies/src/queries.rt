@@ -7,15 +7,18 @@ ghost use Rattle.session_answers.specs.Said.{said};
 ghost use Rattle.moment_rules.specs.AtMoment.{rules_at};
 ghost use Rattle.session_replies.specs.FurtherMessages.{further_message, HasSteps};
 ghost use Rattle.session_replies.specs.Replies.{IsReply, IsFurtherReply, IsDriveReply, IsGraphReply, IsStateReply};
+ghost use Rattle.session_replies.specs.Replies.{IsRouteReply, IsCertifyReply};
 ghost use Rattle.session_replies.specs.Texts.{unknown_line, found_line};
 
+use crate::cost_texts::{cheapest_reply, shortest_reply};
 use crate::further_messages::{FurtherMessage, further_message};
-use crate::texts::{found_reply, graph_head, state, unknown, verdict_reply};
+use crate::texts::{found_reply, graph_head, line_alone, state, unknown, verdict_reply};
 use back_references::Indexed;
 use change_apply::Engine;
 use drive_queries::{Asked, WordTable, counts, judge, reach};
 use graph_file::laws::walked_file;
 use graph_file::write;
+use least_cost::{least, shortest};
 use moment_rules::{AtMoment, Moment};
 use road_base::{NoMemory, NodeId, Sequence, Step};
 use road_model::Profile;
@@ -82,6 +85,8 @@ fn further_reply<P: Profile>(
             *moment,
             drive.items(),
         ),
+        FurtherMessage::Route(a, b) => route_reply(alloc, engine, *a, *b),
+        FurtherMessage::Certify(a, b) => certify_reply(alloc, engine, *a, *b),
     }
 }
 
@@ -90,16 +95,6 @@ pub fn unknown_reply(alloc: Global) -> Result<Reply, NoMemory>
     ensures { IfOk result (λ r. said r ≡ unknown_line) }
 {
     Ok(line_alone(alloc, unknown(alloc)?))
-}
-
-/// A line with nothing behind it.
-fn line_alone(alloc: Global, line: Vec<u8>) -> Reply
-    ensures { said result ≡ line.items }
-{
-    Reply {
-        line,
-        behind: Vec::new(alloc),
-    }
 }
 
 /// The graph's bytes, behind a line that tells how many there are.
@@ -194,4 +189,44 @@ fn reach_reply<P: Profile>(
         b,
     )?;
     Ok(line_alone(alloc, found_reply(alloc, &found)?))
+}
+
+/// A drive of least cost from node a to node b.
+fn route_reply<P: Profile>(
+    alloc: Global,
+    engine: &Engine<P>,
+    a: NodeId,
+    b: NodeId,
+) -> Result<Reply, NoMemory>
+    ensures { IfOk result (λ r. IsRouteReply engine.now.world (P.rules engine.now.profile) a b (said r)) }
+{
+    let found = shortest(
+        alloc,
+        engine.world(),
+        &engine.profile(),
+        engine.blocks(),
+        a,
+        b,
+    )?;
+    Ok(line_alone(alloc, shortest_reply(alloc, found)?))
+}
+
+/// What shows the least cost of drives from node a to node b, or that there is none.
+fn certify_reply<P: Profile>(
+    alloc: Global,
+    engine: &Engine<P>,
+    a: NodeId,
+    b: NodeId,
+) -> Result<Reply, NoMemory>
+    ensures { IfOk result (λ r. IsCertifyReply engine.now.world (P.rules engine.now.profile) a b (said r)) }
+{
+    let found = least(
+        alloc,
+        engine.world(),
+        &engine.profile(),
+        engine.blocks(),
+        a,
+        b,
+    )?;
+    cheapest_reply(alloc, &found)
 }

@@ -1,11 +1,13 @@
 //! The lines of replies to queries.
 ghost use Rattle.std.specs.Prelude.{◌≡◌, ◌++◌, IfOk, codes};
+ghost use Rattle.session_answers.specs.Said.{said};
 ghost use Rattle.session_replies.specs.Texts.{unknown_line, state_line, verdict_line, found_line, steps_bytes};
 ghost use Rattle.session_replies.specs.Texts.{graph_line};
 
 use drive_queries::{Found, Totals, Verdict};
 use reply_lines::{counts_text, step_text, verdict_text};
 use road_base::{NoMemory, Sequence, Step};
+use session_answers::Reply;
 use std::alloc::Global;
 
 /// `unknown`, for a line that asks nothing that is known.
@@ -70,4 +72,14 @@ pub fn graph_head(alloc: Global, graph: &[u8]) -> Result<Vec<u8>, NoMemory>
 {
     let length = graph.len();
     Ok(format!(in alloc; "graph {length}\n")?.into_bytes())
+}
+
+/// A line with nothing behind it.
+pub fn line_alone(alloc: Global, line: Vec<u8>) -> Reply
+    ensures { said result ≡ line.items }
+{
+    Reply {
+        line,
+        behind: Vec::new(alloc),
+    }
 }
