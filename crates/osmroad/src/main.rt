@@ -123,6 +123,8 @@ mod older_store_tests;
 #[cfg(test)]
 mod raise_tests;
 #[cfg(test)]
+mod route_tests;
+#[cfg(test)]
 mod session_tests;
 #[cfg(test)]
 mod store_tests;
