@@ -16,7 +16,8 @@ use Rattle.osmroad.proofs.stored.stored_audit.Goals as goal
 pub returns-in-Err-clause-prepares : goal.returns-in-Err-clause-prepares
 returns-in-Err-clause-prepares g c = λ held.
     let laws = c.store_laws.ensures in
-    show_refused laws.store (Some Audit) (λ n. IsAuditOf (rules_of n)) audit_shows held _ _ c.in-Err.error c.refuse_store.result
+    show_refused laws.store (Some Audit)
+    (λ n. IsAuditOf (rules_of n)) audit_shows held _ _ c.in-Err.error c.refuse_store.result
     c.in-Err.ensures.named c.refuse_store.ensures c.in-Err.ensures.told
 
 pub returns-in-Err-clause-calls : goal.returns-in-Err-clause-calls
@@ -29,7 +30,8 @@ profile_of-profile-requires g c = subst IsProfile (sym c.profile.ensures) c.in-O
 pub returns-in_err-world-clause-prepares : goal.returns-in_err-world-clause-prepares
 returns-in_err-world-clause-prepares g c = λ held.
     let laws = c.store_laws.ensures in
-    show_failed laws.store (Some Audit) (λ n. IsAuditOf (rules_of n)) audit_shows held _ _ c.in-Ok.loaded c.from_residual.result
+    show_failed laws.store (Some Audit)
+    (λ n. IsAuditOf (rules_of n)) audit_shows held _ _ c.in-Ok.loaded c.from_residual.result
     (no_memory c.from_residual.result c.from_residual.ensures.1) c.in-Ok.ensures.told
 
 pub returns-in_err-world-clause-calls : goal.returns-in_err-world-clause-calls
@@ -40,7 +42,8 @@ pub returns-in_err-text-clause-prepares : goal.returns-in_err-text-clause-prepar
 returns-in_err-text-clause-prepares g c = λ held.
     let laws = c.store_laws.ensures in
     let failed = c.from_residual-in_err-text in
-    show_failed laws.store (Some Audit) (λ n. IsAuditOf (rules_of n)) audit_shows held _ _ c.in-Ok.loaded failed.result
+    show_failed laws.store (Some Audit)
+    (λ n. IsAuditOf (rules_of n)) audit_shows held _ _ c.in-Ok.loaded failed.result
     (no_memory failed.result failed.ensures.1) c.in-Ok.ensures.told
 
 pub returns-in_err-text-clause-calls : goal.returns-in_err-text-clause-calls
@@ -52,7 +55,9 @@ returns-in_err-text-clause-calls g c =
 pub returns-clause-prepares : goal.returns-clause-prepares
 returns-clause-prepares g c = λ held.
     let laws = c.store_laws.ensures in
-    show_done laws.store (Some Audit) (λ n. IsAuditOf (rules_of n)) audit_shows held _ _ c.in-Ok.loaded _ c.new.result c.new.ensures
+    show_done laws.store (Some Audit)
+    (λ n. IsAuditOf (rules_of n)) audit_shows held _ _ c.in-Ok.loaded _
+    c.new.result c.new.ensures
     c.in-Ok.ensures.told
     (record {
       objects = c.in_ok-world.world;
