@@ -4,7 +4,10 @@
 Use: session.py STORE               < MESSAGES   sends the messages one at a time and prints each reply
      session.py STORE state                      the kept number, and how many ways, pieces, contexts and arcs there are
      session.py STORE reach A B                  some legal drive from node A to node B
+     session.py STORE route A B                  a legal drive of least cost from node A to node B, and its cost
+     session.py STORE certify A B FILE           writes what shows that cost to the file
      session.py STORE drive STEP ..              whether a drive is legal: steps such as w12.3+, w12.4+, w13.0-
+     session.py STORE drive-at MOMENT STEP ..    the same at a moment such as 2024-05-06T23:00
      session.py STORE graph FILE                 writes the graph to the file
      session.py STORE frame N FILE               sends the lines of the file as change N
 
@@ -38,6 +41,8 @@ import threading
 State = collections.namedtuple('State', 'sequence ways pieces contexts arcs')
 # step and rule are None where the drive is legal; else step, counted from 1, is the first that breaks a rule
 Verdict = collections.namedtuple('Verdict', 'legal step rule')
+# cost is a whole number (docs/SESSION.md)
+Route = collections.namedtuple('Route', 'cost steps')
 
 HERE = os.path.dirname(os.path.realpath(__file__))
 BESIDE = os.path.join(HERE, '..', 'crates', 'osmroad', 'out', 'osmroad')
@@ -137,6 +142,11 @@ def number_of_frame(words):
     if len(words) == 2 and words[0] == '#seq' and re.fullmatch('[0-9]+', words[1]) and int(words[1]) <= LARGEST:
         return int(words[1])
     return None
+
+
+def has_bytes(words):
+    """Whether a line of these words may get a reply with bytes behind it."""
+    return words == ['graph'] or words[0] == 'certify'
 
 
 def encoded(line):
@@ -239,9 +249,9 @@ class Session:
         return reply.split(' ')
 
     def ask(self, line):
-        """The reply to one line, which begins no frame and isn't `graph`."""
+        """The reply to one line, which begins no frame and is neither `graph` nor `certify`."""
         words = words_of(line)
-        if '\n' in line or not words or words == ['graph'] or number_of_frame(words) is not None:
+        if '\n' in line or not words or has_bytes(words) or number_of_frame(words) is not None:
             raise ValueError('not one line with a reply of one line')
         with self.turn:
             return self._exchange(encoded(line) + b'\n')
@@ -257,17 +267,22 @@ class Session:
     def graph(self):
         """The bytes of the graph (docs/FORMATS.md), which tools/graph.py reads."""
         with self.turn:
-            size = int(self._exchange(b'graph\n').split(' ')[1])
-            self.owed = True        # of the reply the bytes
-            graph = self.process.stdout.read(size)
-            if len(graph) < size:
-                raise self._ended()
-            self.owed = False
-            return graph
+            return self._bytes_behind(self._exchange(b'graph\n').split(' '))
 
-    def drive(self, steps):
-        """Whether the drive of these steps is legal, and else which step breaks which rule, as 'no 303' or 'apart'."""
-        words = self._asked('drive', *steps)
+    def _bytes_behind(self, words):
+        """The bytes behind a line of these words, the last of which tells how many there are."""
+        size = int(words[-1])
+        self.owed = True            # of the reply the bytes
+        data = self.process.stdout.read(size)
+        if len(data) < size:
+            raise self._ended()
+        self.owed = False
+        return data
+
+    def drive(self, steps, moment=None):
+        """Whether the drive of these steps is legal, and else which step breaks which rule, as 'no 303' or 'apart'.
+        With a moment, as '2024-05-06T23:00', under the access keys that hold then."""
+        words = self._asked(*(['drive'] if moment is None else ['drive-at', moment]), *steps)
         return Verdict(True, None, None) if words == ['legal'] else Verdict(False, int(words[1]), ' '.join(words[2:]))
 
     def reach(self, start, goal):
@@ -276,6 +291,23 @@ class Session:
         if words[0] == 'no-node':
             raise NoNode(int(words[1]))
         return words[1:] if words[0] == 'drive' else None
+
+    def route(self, start, goal):
+        """A legal drive of least cost from a node to another, with its cost; None where there is none."""
+        words = self._asked('route', str(start), str(goal))
+        if words[0] == 'no-node':
+            raise NoNode(int(words[1]))
+        return Route(int(words[1]), words[3:]) if words[0] == 'cost' else None
+
+    def certify(self, start, goal):
+        """The bytes that show the least cost of drives from a node to another, or that there is none."""
+        with self.turn:
+            words = self._exchange(b'certify %d %d\n' % (start, goal)).split(' ')
+            if words[0] == 'no-node':
+                raise NoNode(int(words[1]))
+            if words[0] != 'certificate':
+                raise UnknownMessage(f'the program does not know the message: certify {start} {goal}')
+            return self._bytes_behind(words)
 
     def frame(self, number, lines):
         """Sends a change, as bytes or as lines. Where it returns, the change is kept, whatever stops then."""
@@ -356,6 +388,20 @@ def save_graph(session, name):
     say(f'graph {len(graph)}')
 
 
+def save_certificate(session, nodes, name):
+    try:
+        start, goal = [int(word) for word in nodes]
+    except ValueError:
+        raise UnknownMessage(f'not two numbers of nodes: {" ".join(nodes)[:200]}') from None
+    try:
+        certificate = session.certify(start, goal)
+    except NoNode:
+        say(session.said)
+        return
+    write_file(name, certificate)
+    say(f'certificate {len(certificate)}')
+
+
 def talk_frame(session, first, lines):
     """Sends the frame that this line begins, as it stands."""
     parts = [first]
@@ -389,6 +435,9 @@ def talk(session, graph_file):
         elif words == ['graph']:
             tell('session.py: name a file for the graph: --graph FILE')
             status = 1
+        elif words and words[0] == 'certify':
+            tell('session.py: a certificate goes into a file: session.py STORE certify A B FILE')
+            status = 1
         elif words:
             say(session.ask(text))
     return status
@@ -398,6 +447,8 @@ def answer(session, words):
     """One message as words of the command line."""
     if words[0] == 'graph':
         save_graph(session, words[1])
+    elif words[0] == 'certify':
+        save_certificate(session, words[1:3], words[3])
     elif words[0] == 'frame':
         number = int(words[1])
         try:
@@ -417,9 +468,11 @@ def answer(session, words):
 
 def is_command(words):
     """Whether the words behind STORE are one of the uses."""
-    wanted = {'state': 1, 'reach': 3, 'graph': 2, 'frame': 3, '--graph': 2}
+    wanted = {'state': 1, 'reach': 3, 'route': 3, 'certify': 4, 'graph': 2, 'frame': 3, '--graph': 2}
     if not words or words[0] == 'drive':
         return len(words) != 1
+    if words[0] == 'drive-at':
+        return len(words) > 2
     if words[0] == 'frame' and (len(words) < 2 or number_of_frame(['#seq', words[1]]) is None):
         return False
     return wanted.get(words[0]) == len(words)
