@@ -4,7 +4,10 @@
 Use: session.py STORE               < MESSAGES   sends the messages one at a time and prints each reply
      session.py STORE state                      the kept number, and how many ways, pieces, contexts and arcs there are
      session.py STORE reach A B                  some legal drive from node A to node B
+     session.py STORE route A B                  what a drive from node A to node B costs at least, and such a drive
+     session.py STORE certify A B FILE           writes a certificate of that to the file, which graph.py checks
      session.py STORE drive STEP ..              whether a drive is legal: steps such as w12.3+, w12.4+, w13.0-
+     session.py STORE drive-at MOMENT STEP ..    whether it is at a moment such as 2024-05-06T23:00
      session.py STORE graph FILE                 writes the graph to the file
      session.py STORE frame N FILE               sends the lines of the file as change N
 
@@ -23,6 +26,7 @@ As a module:
     with session.Session('town') as town:
         print(town.state().ways, town.kept())
         print(town.reach(101, 104))                     # ['w201.0+', 'w201.1+', 'w202.0+'], or None
+        print(town.route(101, 104))                     # Route(cost=20002, steps=['w201.0+', ..]), or None
         print(town.drive(['w201.0+', 'w202.0+']))       # Verdict(legal=False, step=2, rule='apart')
         town.frame(town.kept() + 1, ['n105 v2 dD'])     # returns when the change is kept
 """
@@ -38,6 +42,8 @@ import threading
 State = collections.namedtuple('State', 'sequence ways pieces contexts arcs')
 # step and rule are None where the drive is legal; else step, counted from 1, is the first that breaks a rule
 Verdict = collections.namedtuple('Verdict', 'legal step rule')
+# a drive of least cost; of units of 1e-7 degree of latitude (docs/SESSION.md)
+Route = collections.namedtuple('Route', 'cost steps')
 
 HERE = os.path.dirname(os.path.realpath(__file__))
 BESIDE = os.path.join(HERE, '..', 'crates', 'osmroad', 'out', 'osmroad')
@@ -137,6 +143,11 @@ def number_of_frame(words):
     if len(words) == 2 and words[0] == '#seq' and re.fullmatch('[0-9]+', words[1]) and int(words[1]) <= LARGEST:
         return int(words[1])
     return None
+
+
+def asks_for_bytes(words):
+    """Whether the reply to a line of these words may have bytes behind it."""
+    return words == ['graph'] or len(words) == 3 and words[0] == 'certify'
 
 
 def encoded(line):
@@ -239,9 +250,9 @@ class Session:
         return reply.split(' ')
 
     def ask(self, line):
-        """The reply to one line, which begins no frame and isn't `graph`."""
+        """The reply to one line, which begins no frame and asks for no bytes, as `graph` and `certify A B` do."""
         words = words_of(line)
-        if '\n' in line or not words or words == ['graph'] or number_of_frame(words) is not None:
+        if '\n' in line or not words or asks_for_bytes(words) or number_of_frame(words) is not None:
             raise ValueError('not one line with a reply of one line')
         with self.turn:
             return self._exchange(encoded(line) + b'\n')
@@ -254,20 +265,36 @@ class Session:
         """The number of the last change that the store keeps."""
         return self.number
 
-    def graph(self):
-        """The bytes of the graph (docs/FORMATS.md), which tools/graph.py reads."""
+    def _with_bytes(self, *words):
+        """The words of the reply to a message, and the bytes behind it, whose number is the last of the words."""
         with self.turn:
-            size = int(self._exchange(b'graph\n').split(' ')[1])
+            reply = self._exchange(' '.join(words).encode() + b'\n').split(' ')
+            if reply[0] not in ('graph', 'certificate'):
+                return reply, b''
             self.owed = True        # of the reply the bytes
-            graph = self.process.stdout.read(size)
-            if len(graph) < size:
+            data = self.process.stdout.read(int(reply[1]))
+            if len(data) < int(reply[1]):
                 raise self._ended()
             self.owed = False
-            return graph
+            return reply, data
 
-    def drive(self, steps):
-        """Whether the drive of these steps is legal, and else which step breaks which rule, as 'no 303' or 'apart'."""
-        words = self._asked('drive', *steps)
+    def graph(self):
+        """The bytes of the graph (docs/FORMATS.md), which tools/graph.py reads."""
+        return self._with_bytes('graph')[1]
+
+    def certify(self, start, goal):
+        """The bytes of a certificate of what `route` answers (docs/SESSION.md), which tools/graph.py checks."""
+        words, data = self._with_bytes('certify', str(start), str(goal))
+        if words[0] == 'unknown':
+            raise UnknownMessage('the program does not know the message: certify')
+        if words[0] == 'no-node':
+            raise NoNode(int(words[1]))
+        return data
+
+    def drive(self, steps, moment=None):
+        """Whether the drive of these steps is legal, and else which step breaks which rule, as 'no 303' or 'apart'; at
+        a moment, if one is given, such as '2024-05-06T23:00'."""
+        words = self._asked(*(['drive'] if moment is None else ['drive-at', moment]), *steps)
         return Verdict(True, None, None) if words == ['legal'] else Verdict(False, int(words[1]), ' '.join(words[2:]))
 
     def reach(self, start, goal):
@@ -276,6 +303,14 @@ class Session:
         if words[0] == 'no-node':
             raise NoNode(int(words[1]))
         return words[1:] if words[0] == 'drive' else None
+
+    def route(self, start, goal):
+        """The cost and the steps of a legal drive from a node to another than which none costs less; None where there
+        is no drive."""
+        words = self._asked('route', str(start), str(goal))
+        if words[0] == 'no-node':
+            raise NoNode(int(words[1]))
+        return Route(int(words[1]), words[3:]) if words[0] == 'cost' else None
 
     def frame(self, number, lines):
         """Sends a change, as bytes or as lines. Where it returns, the change is kept, whatever stops then."""
@@ -356,6 +391,16 @@ def save_graph(session, name):
     say(f'graph {len(graph)}')
 
 
+def save_certificate(session, start, goal, name):
+    try:
+        certificate = session.certify(start, goal)
+    except NoNode:
+        say(session.said)
+    else:
+        write_file(name, certificate)
+        say(session.said)
+
+
 def talk_frame(session, first, lines):
     """Sends the frame that this line begins, as it stands."""
     parts = [first]
@@ -386,8 +431,9 @@ def talk(session, graph_file):
             talk_frame(session, line, lines)
         elif words == ['graph'] and graph_file is not None:
             save_graph(session, graph_file)
-        elif words == ['graph']:
-            tell('session.py: name a file for the graph: --graph FILE')
+        elif asks_for_bytes(words):
+            named = '--graph FILE' if words == ['graph'] else 'session.py STORE certify A B FILE'
+            tell(f'session.py: name a file for the bytes: {named}')
             status = 1
         elif words:
             say(session.ask(text))
@@ -398,6 +444,8 @@ def answer(session, words):
     """One message as words of the command line."""
     if words[0] == 'graph':
         save_graph(session, words[1])
+    elif words[0] == 'certify':
+        save_certificate(session, *words[1:])
     elif words[0] == 'frame':
         number = int(words[1])
         try:
@@ -417,9 +465,11 @@ def answer(session, words):
 
 def is_command(words):
     """Whether the words behind STORE are one of the uses."""
-    wanted = {'state': 1, 'reach': 3, 'graph': 2, 'frame': 3, '--graph': 2}
+    wanted = {'state': 1, 'reach': 3, 'route': 3, 'certify': 4, 'graph': 2, 'frame': 3, '--graph': 2}
     if not words or words[0] == 'drive':
         return len(words) != 1
+    if words[0] == 'drive-at':
+        return len(words) > 2
     if words[0] == 'frame' and (len(words) < 2 or number_of_frame(['#seq', words[1]]) is None):
         return False
     return wanted.get(words[0]) == len(words)
