@@ -4,8 +4,9 @@ inverse formula (Survey Review XXIII 176, 1975). One unit of cost is taken as 1e
 graph.py takes.
 
 Use: metres_of_costs.py GRAPH FILE.. prints for each file with a reply to `route` what its drive costs and how long it
-is. metres_of_costs.py alone prints for several latitudes how far steps of some hundred metres are off: due north and
-due east, and the least and the greatest of a thousand drawn directions and lengths.
+is. metres_of_costs.py alone prints for several latitudes how far steps are off: one of 300 m due north and one due
+east, and the least and the greatest of a thousand drawn ones; and then those of 60,000 drawn between 80 degrees south
+and 80 degrees north.
 """
 import math
 import os
@@ -19,7 +20,7 @@ from graph_file import Network                              # noqa: E402
 
 UNIT = 6371000 * math.radians(1e-7)       # metres
 AXIS, FLATTENING = 6378137.0, 1 / 298.257223563
-LATITUDES = (0, 15, 30, 45, 52, 60, 70, 80, 85, 89)
+LATITUDES = (0, 15, 30, 45, 60, 75, 80, 85, 89)
 
 
 def reduced(latitude):
@@ -83,13 +84,23 @@ def to(degrees, metres, heading):
         (None, round(east / math.cos(math.radians(degrees))), round(degrees * 1e7 + north))
 
 
+def least_and_greatest(steps):
+    found = [100 * (step_cost(*ends) * UNIT / length(*ends) - 1) for ends in steps]
+    return f'{min(found):+.2f} to {max(found):+.2f} %'
+
+
 def tell_latitudes():
     draws = random.Random(1)
+
+    def drawn(degrees, least):
+        return to(degrees, draws.uniform(least, 500), draws.uniform(0, 2 * math.pi))
+
     for degrees in LATITUDES:
-        found = [to(degrees, draws.uniform(2, 500), draws.uniform(0, 2 * math.pi)) for _ in range(1000)]
-        all_off = sorted(100 * (step_cost(*ends) * UNIT / length(*ends) - 1) for ends in found)
         due = [off(step_cost(*ends), length(*ends)) for ends in (to(degrees, 300, 0), to(degrees, 300, math.pi / 2))]
-        print(f'| {degrees} | {due[0]} | {due[1]} | {all_off[0]:+.2f} to {all_off[-1]:+.2f} % |')
+        print(f'| {degrees} | {" | ".join(due)} | {least_and_greatest(drawn(degrees, 2) for _ in range(1000))} |')
+    for least in (2, 10):
+        said = least_and_greatest(drawn(draws.uniform(-80, 80), least) for _ in range(60000))
+        print(f'steps of {least} to 500 m between 80 degrees south and north: {said}')
 
 
 if len(sys.argv) > 2:

@@ -1,6 +1,6 @@
 #!/usr/bin/env python3
-"""Tries routes of least cost and their certificates on drawn maps: small ones, with oneways, barriers, restrictions over
-nodes and ways, ways over one node twice, and places at the poles, at 180 degrees and at one spot.
+"""Tries routes of least cost and their certificates on drawn maps: small ones, with oneways, barriers, restrictions
+over nodes and ways, ways over one node twice, and places at the poles, at 180 degrees and at one spot.
 
 Of all pairs of nodes of a map it asks a session for `route` and `certify`. The cost must be that which
 bench/least_cost.py finds by the graph file, the drive legal by the session's own word, and the certificate one by
@@ -91,7 +91,7 @@ def drawn_map(seed):
     return ''.join(line + '\n' for line in lines).encode(), range(1, count + 1)
 
 
-# ----------------------------------------------------------------------------------------------- the conditions, written out
+# ----------------------------------------------------------------------------------------- the conditions, written out
 
 
 def is_certificate(network, potentials, start, goal, cost):
