@@ -17,6 +17,7 @@ from contextlib import contextmanager
 from inspect import cleandoc
 
 sys.dont_write_bytecode = True      # the import below leaves no folder beside the tools
+import certificate                                          # noqa: E402
 from graph_file import Graph, Network, Refusal, spelled     # noqa: E402
 
 
@@ -438,11 +439,36 @@ ARROW = ('<marker id="head" viewBox="0 0 4 4" refX="2" refY="2" markerWidth="4" 
          '<path stroke="none" fill="#d02" d="M0 0l4 2l-4 2z"/></marker>')
 
 
+def drive_lines(network, picture, file):
+    """The drive of a file, which holds a reply to `route` or `reach`, as lines of points."""
+    _, steps = certificate.read_reply(text_in(file, bytes_of(file)))
+    if not steps:
+        raise Refusal(f'{file}: no drive')
+    lines, end = [], None
+    for piece, at in (certificate.read_step(network, step) for step in steps):
+        tail, head = network.places(piece, at, at + 1)
+        if tail != end:
+            lines.append([picture.point(tail)])
+        lines[-1].append(picture.point(head))
+        end = head
+    return lines
+
+
+def print_drive(lines):
+    """A drive over the network, from a ring to a dot."""
+    line = ''.join(path(part) for part in lines)
+    (x, y), (u, v) = lines[0][0], lines[-1][-1]
+    print(f'<path stroke="#2a3" stroke-width="20" d="{line}"/>')
+    print(f'<path stroke="#2a3" stroke-width="56" d="M{x} {y}h0M{u} {v}h0"/>')
+    print(f'<path stroke="#fff" stroke-width="28" d="M{x} {y}h0"/>')
+
+
 def print_svg(network, options):
-    """The network drawn, with the turns that restrictions take away.
+    """The network drawn, with the turns that restrictions take away, and a drive.
 
     Grey is driven both ways, blue one way; red arrows are turns that restrictions take away, and orange dots are closed
-    by barriers. With --box W,S,E,N, in degrees, only this part is drawn. At a node where more than 100 pieces meet no
+    by barriers. With --box W,S,E,N, in degrees, only this part is drawn. With --drive FILE, which holds a reply to
+    `route` or `reach`, its drive is drawn in green, from a ring to a dot. At a node where more than 100 pieces meet no
     turns are looked for.
     """
     shown, box = range(len(network.keys)), options['--box']
@@ -451,6 +477,7 @@ def print_svg(network, options):
         if not shown:
             raise Refusal('no piece is in this box: --box takes west, south, east and north')
     picture = Picture(box or around(network.box(piece) for piece in shown))
+    driven = drive_lines(network, picture, options['--drive']) if options['--drive'] else []
     both, one = street_lines(network, picture, shown)
     turns, closed = missing_turns(network, shown, box)
     begins = (network.place(piece, 0) for piece in shown)
@@ -463,6 +490,8 @@ def print_svg(network, options):
     print(f'<path stroke="none" fill="#fff" d="M0 0h{width}v{height}h-{width}z"/>')
     print(f'<path stroke="#666" stroke-width="7" d="{both}"/>')
     print(f'<path stroke="#28c" stroke-width="7" d="{one}"/>')
+    if driven:
+        print_drive(driven)
     print(f'<path stroke="#f90" stroke-width="22" d="{dots}"/>')
     for turn in turns:
         line = path(turn_line(network, picture, turn))
@@ -583,6 +612,20 @@ def print_route(network, start, goal):
         print('piece', spelled(network, piece), 'over', *[degrees(at) if at[0] is None else at[0] for at in part])
 
 
+# ---------------------------------------------------------------------------------------------------------------- check
+
+
+def print_check(network, potentials, start, goal, reply):
+    """Whether a certificate shows that a reply to `route` is right: that no drive from node A to node B costs less.
+
+    It puts `certified`, or says which condition doesn't hold and where, with status 1. GRAPH is a graph's file, and
+    CERTIFICATE holds the bytes of a reply to `certify`. REPLY is the line `cost C drive STEP ..`, whose drive is looked
+    at too, `cost C` alone, or `none`.
+    """
+    certificate.check(network, potentials, whole_number(start), whole_number(goal), reply)
+    print('certified')
+
+
 # ----------------------------------------------------------------------------------------------------------------- main
 
 
@@ -628,13 +671,22 @@ def naming(what):
         raise Refusal(f'{what}: {fault.strerror or fault}') from None
 
 
-def standard_input():
+def standard_input(name):
+    """What a command reads from there."""
     if sys.stdin is None:
         raise Refusal('standard input is closed')
     if sys.stdin.isatty():
-        raise Refusal('a graph is wanted on standard input: graph.py COMMAND .. < GRAPH')
+        raise Refusal(f'standard input is wanted: {use(name)}')
     with naming('standard input'):
         return sys.stdin.buffer.read()
+
+
+def text_in(name, data):
+    """The text that the bytes of a file are."""
+    try:
+        return data.decode('ascii')
+    except UnicodeDecodeError:
+        raise Refusal(f'{name}: no reply of a session') from None
 
 
 def bytes_of(name):
@@ -649,18 +701,20 @@ COMMANDS = {
     'text': Command(Network, print_text, [], []),
     'geojson': Command(Graph, print_geojson, [], ['--opl']),
     'csv': Command(Network, write_csv, ['FOLDER'], ['--opl']),
-    'svg': Command(Network, print_svg, [], ['--box']),
+    'svg': Command(Network, print_svg, [], ['--box', '--drive']),
     'nearest': Command(Graph, print_nearest, ['LON', 'LAT'], []),
     'route': Command(Network, print_route, ['FROM', 'TO'], []),
+    'check': Command(Network, print_check, ['GRAPH', 'CERTIFICATE', 'A', 'B'], []),
     'diff': Command(Graph, print_diff, ['OLD', 'NEW'], []),
 }
-VALUES = {'--opl': '[--opl FILE]..', '--box': '[--box W,S,E,N]'}
+VALUES = {'--opl': '[--opl FILE]..', '--box': '[--box W,S,E,N]', '--drive': '[--drive FILE]'}
+INPUTS = {'check': ' < REPLY', 'diff': ''}      # of the others it is the graph
 
 
 def use(name):
     command = COMMANDS[name]
     words = [name, *command.words, *[VALUES[option] for option in command.options]]
-    return 'graph.py ' + ' '.join(words) + (' < GRAPH' if name != 'diff' else '')
+    return 'graph.py ' + ' '.join(words) + INPUTS.get(name, ' < GRAPH')
 
 
 def help_of(words):
@@ -675,7 +729,7 @@ def help_of(words):
 
 def read_words(name, words):
     """The plain words behind a command, and the values of its options."""
-    command, plain, options = COMMANDS[name], [], {'--opl': [], '--box': None}
+    command, plain, options = COMMANDS[name], [], {'--opl': [], '--box': None, '--drive': None}
     words = iter(words)
     for word in words:
         value = next(words, None) if word in command.options else None
@@ -685,6 +739,8 @@ def read_words(name, words):
             options['--box'] = box_of(value)
         elif word == '--opl':
             options['--opl'].append(value)
+        elif word == '--drive':
+            options['--drive'] = value
         else:
             plain.append(word)
     if len(plain) != len(command.words):
@@ -705,9 +761,12 @@ def run(words):
         plain, options = read_words(words[0], words[1:])
         if words[0] == 'diff':
             command.run(*[command.form(bytes_of(name)) for name in plain])
+        elif words[0] == 'check':
+            network, potentials = command.form(bytes_of(plain[0])), bytes_of(plain[1])
+            command.run(network, potentials, *plain[2:], text_in('standard input', standard_input('check')))
         else:
             given = [options] if command.options else []
-            command.run(command.form(standard_input()), *given, *plain)
+            command.run(command.form(standard_input(words[0])), *given, *plain)
     sys.stdout.flush()
 
 

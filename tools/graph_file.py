@@ -7,7 +7,7 @@ are to be followed as a Network. Nothing here takes more than some bytes for eac
 import struct
 import sys
 from array import array
-from bisect import bisect_left
+from bisect import bisect_left, bisect_right
 
 
 class Refusal(Exception):
@@ -179,6 +179,19 @@ class Graph:
         key, end = 2 * index + direction, self.first_pieces[block + 1]
         piece = bisect_left(self.keys, key, self.first_pieces[block], end)
         return piece if piece < end and self.keys[piece] == key else -1
+
+    def find_step(self, way, position, direction):
+        """The piece with the step between a position of a way's line and the next one, in this direction, and which of
+        the piece's steps it is, in order of travel and counted from 0; None where no piece has it."""
+        block = bisect_left(self.ways, way)
+        if block == len(self.ways) or self.ways[block] != way:
+            return None
+        first, end = self.first_pieces[block:block + 2]
+        behind = bisect_right(self.keys, 2 * position + 1, first, end)
+        for piece in range(behind - 1, max(first, behind - 2) - 1, -1):
+            if self.keys[piece] & 1 == direction and position < self.ends[piece]:
+                return piece, self.ends[piece] - 1 - position if direction else position - (self.keys[piece] >> 1)
+        return None
 
     def has_twin(self, piece):
         """Whether the piece the other way is there."""

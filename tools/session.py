@@ -4,10 +4,10 @@
 Use: session.py STORE               < MESSAGES   sends the messages one at a time and prints each reply
      session.py STORE state                      the kept number, and how many ways, pieces, contexts and arcs there are
      session.py STORE reach A B                  some legal drive from node A to node B
-     session.py STORE route A B                  a legal drive of least cost from node A to node B, and its cost
-     session.py STORE certify A B FILE           writes what shows that cost to the file
+     session.py STORE route A B                  what a drive from node A to node B costs at least, and such a drive
+     session.py STORE certify A B FILE           writes a certificate of that to the file, which graph.py checks
      session.py STORE drive STEP ..              whether a drive is legal: steps such as w12.3+, w12.4+, w13.0-
-     session.py STORE drive-at MOMENT STEP ..    the same at a moment such as 2024-05-06T23:00
+     session.py STORE drive-at MOMENT STEP ..    whether it is at a moment such as 2024-05-06T23:00
      session.py STORE graph FILE                 writes the graph to the file
      session.py STORE frame N FILE               sends the lines of the file as change N
 
@@ -26,6 +26,7 @@ As a module:
     with session.Session('town') as town:
         print(town.state().ways, town.kept())
         print(town.reach(101, 104))                     # ['w201.0+', 'w201.1+', 'w202.0+'], or None
+        print(town.route(101, 104))                     # Route(cost=20002, steps=['w201.0+', ..]), or None
         print(town.drive(['w201.0+', 'w202.0+']))       # Verdict(legal=False, step=2, rule='apart')
         town.frame(town.kept() + 1, ['n105 v2 dD'])     # returns when the change is kept
 """
@@ -41,7 +42,7 @@ import threading
 State = collections.namedtuple('State', 'sequence ways pieces contexts arcs')
 # step and rule are None where the drive is legal; else step, counted from 1, is the first that breaks a rule
 Verdict = collections.namedtuple('Verdict', 'legal step rule')
-# cost is a whole number (docs/SESSION.md)
+# a drive of least cost; of units of 1e-7 degree of latitude (docs/SESSION.md)
 Route = collections.namedtuple('Route', 'cost steps')
 
 HERE = os.path.dirname(os.path.realpath(__file__))
@@ -144,9 +145,9 @@ def number_of_frame(words):
     return None
 
 
-def has_bytes(words):
-    """Whether a line of these words may get a reply with bytes behind it."""
-    return words == ['graph'] or words[0] == 'certify'
+def asks_for_bytes(words):
+    """Whether the reply to a line of these words may have bytes behind it."""
+    return words == ['graph'] or len(words) == 3 and words[0] == 'certify'
 
 
 def encoded(line):
@@ -249,9 +250,9 @@ class Session:
         return reply.split(' ')
 
     def ask(self, line):
-        """The reply to one line, which begins no frame and is neither `graph` nor `certify`."""
+        """The reply to one line, which begins no frame and asks for no bytes, as `graph` and `certify A B` do."""
         words = words_of(line)
-        if '\n' in line or not words or has_bytes(words) or number_of_frame(words) is not None:
+        if '\n' in line or not words or asks_for_bytes(words) or number_of_frame(words) is not None:
             raise ValueError('not one line with a reply of one line')
         with self.turn:
             return self._exchange(encoded(line) + b'\n')
@@ -264,24 +265,35 @@ class Session:
         """The number of the last change that the store keeps."""
         return self.number
 
+    def _with_bytes(self, *words):
+        """The words of the reply to a message, and the bytes behind it, whose number is the last of the words."""
+        with self.turn:
+            reply = self._exchange(' '.join(words).encode() + b'\n').split(' ')
+            if reply[0] not in ('graph', 'certificate'):
+                return reply, b''
+            self.owed = True        # of the reply the bytes
+            data = self.process.stdout.read(int(reply[1]))
+            if len(data) < int(reply[1]):
+                raise self._ended()
+            self.owed = False
+            return reply, data
+
     def graph(self):
         """The bytes of the graph (docs/FORMATS.md), which tools/graph.py reads."""
-        with self.turn:
-            return self._bytes_behind(self._exchange(b'graph\n').split(' '))
+        return self._with_bytes('graph')[1]
 
-    def _bytes_behind(self, words):
-        """The bytes behind a line of these words, the last of which tells how many there are."""
-        size = int(words[-1])
-        self.owed = True            # of the reply the bytes
-        data = self.process.stdout.read(size)
-        if len(data) < size:
-            raise self._ended()
-        self.owed = False
+    def certify(self, start, goal):
+        """The bytes of a certificate of what `route` answers (docs/SESSION.md), which tools/graph.py checks."""
+        words, data = self._with_bytes('certify', str(start), str(goal))
+        if words[0] == 'unknown':
+            raise UnknownMessage('the program does not know the message: certify')
+        if words[0] == 'no-node':
+            raise NoNode(int(words[1]))
         return data
 
     def drive(self, steps, moment=None):
-        """Whether the drive of these steps is legal, and else which step breaks which rule, as 'no 303' or 'apart'.
-        With a moment, as '2024-05-06T23:00', under the access keys that hold then."""
+        """Whether the drive of these steps is legal, and else which step breaks which rule, as 'no 303' or 'apart'; at
+        a moment, if one is given, such as '2024-05-06T23:00'."""
         words = self._asked(*(['drive'] if moment is None else ['drive-at', moment]), *steps)
         return Verdict(True, None, None) if words == ['legal'] else Verdict(False, int(words[1]), ' '.join(words[2:]))
 
@@ -293,21 +305,12 @@ class Session:
         return words[1:] if words[0] == 'drive' else None
 
     def route(self, start, goal):
-        """A legal drive of least cost from a node to another, with its cost; None where there is none."""
+        """The cost and the steps of a legal drive from a node to another than which none costs less; None where there
+        is no drive."""
         words = self._asked('route', str(start), str(goal))
         if words[0] == 'no-node':
             raise NoNode(int(words[1]))
         return Route(int(words[1]), words[3:]) if words[0] == 'cost' else None
-
-    def certify(self, start, goal):
-        """The bytes that show the least cost of drives from a node to another, or that there is none."""
-        with self.turn:
-            words = self._exchange(b'certify %d %d\n' % (start, goal)).split(' ')
-            if words[0] == 'no-node':
-                raise NoNode(int(words[1]))
-            if words[0] != 'certificate':
-                raise UnknownMessage(f'the program does not know the message: certify {start} {goal}')
-            return self._bytes_behind(words)
 
     def frame(self, number, lines):
         """Sends a change, as bytes or as lines. Where it returns, the change is kept, whatever stops then."""
@@ -388,18 +391,14 @@ def save_graph(session, name):
     say(f'graph {len(graph)}')
 
 
-def save_certificate(session, nodes, name):
-    try:
-        start, goal = [int(word) for word in nodes]
-    except ValueError:
-        raise UnknownMessage(f'not two numbers of nodes: {" ".join(nodes)[:200]}') from None
+def save_certificate(session, start, goal, name):
     try:
         certificate = session.certify(start, goal)
     except NoNode:
         say(session.said)
-        return
-    write_file(name, certificate)
-    say(f'certificate {len(certificate)}')
+    else:
+        write_file(name, certificate)
+        say(session.said)
 
 
 def talk_frame(session, first, lines):
@@ -432,11 +431,9 @@ def talk(session, graph_file):
             talk_frame(session, line, lines)
         elif words == ['graph'] and graph_file is not None:
             save_graph(session, graph_file)
-        elif words == ['graph']:
-            tell('session.py: name a file for the graph: --graph FILE')
-            status = 1
-        elif words and words[0] == 'certify':
-            tell('session.py: a certificate goes into a file: session.py STORE certify A B FILE')
+        elif asks_for_bytes(words):
+            named = '--graph FILE' if words == ['graph'] else 'session.py STORE certify A B FILE'
+            tell(f'session.py: name a file for the bytes: {named}')
             status = 1
         elif words:
             say(session.ask(text))
@@ -448,7 +445,7 @@ def answer(session, words):
     if words[0] == 'graph':
         save_graph(session, words[1])
     elif words[0] == 'certify':
-        save_certificate(session, words[1:3], words[3])
+        save_certificate(session, *words[1:])
     elif words[0] == 'frame':
         number = int(words[1])
         try:
