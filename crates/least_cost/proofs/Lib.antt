@@ -1,1 +1,2 @@
 pub mod LawCosts
+pub mod LawLeast
