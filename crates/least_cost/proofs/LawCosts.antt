@@ -55,14 +55,16 @@ node_in None h = absurd (false≢true h)
 node_in (Some n) h = located_in n.location h
 
 -- a node that is located lies somewhere
-pub located_lies : (M : Objects) (o : Option NodeId) → IsTrue (located M o) → (l : Location) × (location_of M o ≡ Some l)
+pub located_lies : (M : Objects) (o : Option NodeId) → IsTrue (located M o)
+    → (l : Location) × (location_of M o ≡ Some l)
 located_lies M None h = absurd (false≢true h)
 located_lies M (Some v) h = node_in (node_of M v) h
 
 -- the ends of a step of which both positions are located
 ends_located : (M : Objects) (s : Step) → IsTrue (names_pair M s) → IsTrue (located M (node_at M s.way s.index))
     → IsTrue (located M (node_at M s.way (s.index + 1))) → (d : Dir)
-    → IsTrue (located M (end_at M s (tail_position d s.index))) × IsTrue (located M (end_at M s (head_position d s.index)))
+    → IsTrue (located M (end_at M s (tail_position d s.index)))
+    × IsTrue (located M (end_at M s (head_position d s.index)))
 ends_located M s n h k Forward = (
   subst (λ v. IsTrue (located M v)) (sym (named_end M s s.index n)) h,
   subst (λ v. IsTrue (located M v)) (sym (named_end M s (s.index + 1) n)) k,
