@@ -5,3 +5,4 @@ pub mod Visits
 pub mod Routes
 pub mod Sought
 pub mod Ends
+pub mod DriveOver

@@ -6,6 +6,7 @@ ghost use Rattle.road_base.specs.declared.ids.Step.{Step};
 ghost use Rattle.road_model.specs.Pieces.{Span};
 ghost use Rattle.context_search.specs.Reaching.{LeadsTo};
 ghost use Rattle.context_search.specs.Searching.{LeadsWithin, LeadsAlong, IsSearched};
+ghost use Rattle.context_search.specs.DriveOver.{LiesOver};
 
 use road_model::Profile;
 use road_model::laws::{drive_parts, one_junction, one_piece, walk_law, whole_pieces};
@@ -20,6 +21,19 @@ pub fn searched_drives<P: Profile>(profile: &P)
         → (d : List Step)
         → LeadsTo M (P.rules profile.now) a b d
         → ⊥ }
+{
+    walk_law(profile);
+    whole_pieces(profile);
+    one_piece(profile);
+    drive_parts(profile);
+    one_junction(profile);
+}
+
+/// Every legal drive between two nodes lies within one piece, or leads over the pieces of a walk, the first from some
+/// step on, and up to some step of one more piece by an arc.
+pub fn drives_over<P: Profile>(profile: &P)
+    ensures { (M : Objects) (a b : NodeId) (d : List Step) → LeadsTo M (P.rules profile.now) a b d
+        → LiesOver M (P.rules profile.now) a b d }
 {
     walk_law(profile);
     whole_pieces(profile);

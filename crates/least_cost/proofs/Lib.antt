@@ -1,1 +1,3 @@
 pub mod LawCosts
+pub mod LawLeast
+pub mod LawSpots

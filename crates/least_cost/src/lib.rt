@@ -6,11 +6,11 @@ mod answers;
 mod checking;
 mod costs;
 pub mod laws;
-mod least;
+mod least_drives;
 mod potentials;
 
 pub use answers::{Cheapest, Shortest};
 pub use checking::check;
 pub use costs::{drive_cost, step_cost};
-pub use least::{least, shortest};
+pub use least_drives::{least, shortest};
 pub use potentials::Potentials;
