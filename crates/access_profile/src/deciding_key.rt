@@ -28,7 +28,7 @@ pub fn deciding(tags: &Tags, dir: Dir) -> Option<(AccessKey, Option<Dir>)>
 }
 
 /// Whether these are few tags, and none of their keys begins with the letter of an access key.
-fn lacks_access_keys(tags: &[(Text, Text)]) -> bool
+pub fn lacks_access_keys(tags: &[(Text, Text)]) -> bool
     ensures { result ≡ true → may_have_access_key tags.now ≡ false }
 {
     if tags.len() > FEW {
@@ -53,7 +53,7 @@ fn may_be_access_key(key: &[u8]) -> bool
 }
 
 /// The keys that may decide in the direction, in their order.
-fn deciding_keys(dir: Dir) -> [(AccessKey, Option<Dir>); 8]
+pub fn deciding_keys(dir: Dir) -> [(AccessKey, Option<Dir>); 8]
     ensures { result ≡ deciding_keys dir }
 {
     [
