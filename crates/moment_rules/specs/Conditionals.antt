@@ -1,0 +1,64 @@
+-- What a conditional value says at a moment (OSM wiki, Conditional restrictions), as
+-- `no @ (Mo-Fr 22:00-06:00); destination @ Su`.
+use Rattle.std.specs.Prelude.{◌==◌, ◌&&◌, ◌-◌, ℕ, List, Bool, not, cond, Option, Some, None, codes, option_map}
+use Rattle.std.specs.Prelude.{find, length, take, drop, nat_lt, nat_eq, reverse}
+use Rattle.std.specs.Option.{option_and_then}
+use Rattle.std.specs.List.{list_any, starts_with, ends_with}
+use Rattle.access_profile.specs.Restricting.{without_spaces}
+use Rattle.opl_lexer.specs.Parts.{parts}
+use Rattle.moment_rules.specs.declared.moment.Moment.{Moment}
+use Rattle.moment_rules.specs.declared.reading.Reading.{Reading}
+use Rattle.moment_rules.specs.declared.reading.Reading.TheVariants.{Unread, Quiet, Value}
+use Rattle.moment_rules.specs.Letters.{space, semicolon, at_sign}
+use Rattle.moment_rules.specs.Shapes.{one_or_two, all_said}
+use Rattle.moment_rules.specs.Conditions.{Condition, condition_of, applies}
+
+-- a part of a value: what it says, and when
+pub record ConditionalPart : Type 0 where
+  pub value : List ℕ
+  pub condition : Condition
+
+-- one character or more, and no space
+abbrev pub is_value : List ℕ → Bool
+is_value text = nat_lt 0 (length text) && not (list_any (λ b. b == space) text)
+
+-- without the parentheses around it, if it stands in a pair of them
+abbrev pub without_parentheses : List ℕ → List ℕ
+without_parentheses text =
+    cond (nat_lt 1 (length text) && (starts_with nat_eq text (codes "(") && ends_with nat_eq text (codes ")")))
+    (take (length text - 2) (drop 1 text)) text
+
+-- what stands before the at sign and what stands behind it, spaces around both dropped
+abbrev pub part_between : List ℕ × Option (List ℕ) → Option ConditionalPart
+part_between (text, None) = None
+part_between (front, Some behind) =
+    cond (is_value (without_spaces front))
+    (option_map (λ condition. record { value = without_spaces front; condition = condition })
+    (condition_of (without_parentheses (without_spaces behind))))
+    None
+
+abbrev pub part_of : List ℕ → Option ConditionalPart
+part_of text = option_and_then part_between (one_or_two (parts at_sign text))
+
+-- the parts of a value; None where one of them has another form: then the value is unread
+abbrev pub parts_of : List ℕ → Option (List ConditionalPart)
+parts_of value = all_said part_of (parts semicolon value)
+
+-- the last of the parts that applies at the moment says the value
+abbrev pub last_value : Moment → List ConditionalPart → Option (List ℕ)
+last_value at ps = option_map (λ p. p.value) (find (λ p. applies at p.condition) (reverse ps))
+
+-- the value that some part says at the moment; None where the value is unread, and where no part applies
+abbrev pub value_at : Moment → List ℕ → Option (List ℕ)
+value_at at value = option_and_then (last_value at) (parts_of value)
+
+-- What a value says at a moment: None where it is unread; and else the value of the last part that applies, if one
+-- does.
+abbrev pub said_at : Moment → List ℕ → Option (Option (List ℕ))
+said_at at value = option_map (last_value at) (parts_of value)
+
+-- what a reading says, in these terms
+abbrev pub said_by : Reading → Option (Option (List ℕ))
+said_by Unread = None
+said_by Quiet = Some None
+said_by (Value text) = Some (Some text.now)

@@ -1,0 +1,10 @@
+//! What conditional access values say at a moment of civil time (OSM wiki, Conditional restrictions).
+//!
+//! A value is read in time linear in its bytes. No call takes memory.
+#![tactic(auto)]
+
+mod moment;
+mod reading;
+
+pub use moment::{Moment, parse_moment};
+pub use reading::{Reading, read_conditional};
