@@ -38,8 +38,8 @@ named_by c = cond c.conditional (Conditional c.name c.side) (Deciding c.name c.s
 abbrev pub closed_by_decision : Decision → Option ClosedBy
 closed_by_decision c = cond (is_for_nobody c.permission) (Some (named_by c)) None
 
--- a way for cars is closed by its deciding key alone; one for others is closed unless that key is for motor vehicles and
--- lets a car pass
+-- a way for cars is closed by its deciding key alone; one for others is closed unless that key is for motor vehicles
+-- and lets a car pass
 abbrev pub closed_in_class : RoadClass → Option Decision → Option ClosedBy
 closed_in_class ForCars None = None
 closed_in_class ForCars (Some c) = closed_by_decision c

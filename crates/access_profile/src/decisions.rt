@@ -1,6 +1,6 @@
 //! What decides on access, and what it says.
 ghost use Rattle.std.specs.Prelude.{◌≡◌};
-ghost use Rattle.access_profile.specs.Decisions.{decision_of, permission_of};
+ghost use Rattle.access_profile.specs.Decisions.{decision_of, permission_of, said_by_key};
 
 use crate::deciding_key::{deciding, full_key};
 use barrier_rules::is_open_value;
@@ -33,6 +33,13 @@ pub fn decision_of(tags: &Tags, dir: Dir) -> Option<Decision>
     let Some((name, side)) = deciding(tags, dir) else {
         return None;
     };
+    said_by_key(tags, name, side)
+}
+
+/// What the key says, with the direction that it names. None exactly where the tags don't carry it.
+pub fn said_by_key(tags: &Tags, name: AccessKey, side: Option<Dir>) -> Option<Decision>
+    ensures { result ≡ said_by_key tags.now (name, side) }
+{
     let Some(value) = tags.get(full_key(name, side)) else {
         return None;
     };

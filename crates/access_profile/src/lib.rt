@@ -16,8 +16,8 @@ mod restricting;
 mod zones;
 
 pub use closing::direction_by;
-pub use deciding_key::{deciding, deciding_keys, full_key, lacks_access_keys};
-pub use decisions::{Decision, Permission, decision_of, permission_of};
+pub use deciding_key::{deciding, deciding_keys, lacks_access_keys};
+pub use decisions::{Decision, Permission, decision_of, permission_of, said_by_key};
 pub use motorcar::Motorcar;
 pub use motorcar2::Motorcar2;
 pub use of_number::ProfileOf;
