@@ -1,0 +1,3 @@
+mod MomentSaid
+mod MomentKeys
+mod MomentLaws

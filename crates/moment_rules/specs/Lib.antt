@@ -5,3 +5,5 @@ pub mod Days
 pub mod Times
 pub mod Conditions
 pub mod Conditionals
+pub mod MomentDecisions
+pub mod AtMoment

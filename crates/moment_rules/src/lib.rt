@@ -3,8 +3,13 @@
 //! A value is read in time linear in its bytes. No call takes memory.
 #![tactic(auto)]
 
+mod at_moment;
+mod deciding;
+pub mod laws;
 mod moment;
 mod reading;
 
+pub use at_moment::AtMoment;
+pub use deciding::decision_at;
 pub use moment::{Moment, parse_moment};
 pub use reading::{Reading, read_conditional};
