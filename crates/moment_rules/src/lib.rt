@@ -4,10 +4,16 @@
 #![tactic(auto)]
 
 mod at_moment;
+mod conditions;
+mod cutting;
+mod days;
 mod deciding;
 pub mod laws;
 mod moment;
+mod part;
 mod reading;
+mod shapes;
+mod times;
 
 pub use at_moment::AtMoment;
 pub use deciding::decision_at;
