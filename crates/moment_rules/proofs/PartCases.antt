@@ -1,7 +1,7 @@
 -- What a part of a conditional value says at a moment.
 use Rattle.std.specs.Prelude.{◌≡◌, ℕ, List, Bool, true, false, Option, Some, None, option_map, refl}
 use Rattle.std.specs.Option.{option_and_then}
-use Rattle.std.proofs.Common.{ap, sym, ◌∙◌}
+use Rattle.std.proofs.Common.{ap, ◌∙◌}
 use Rattle.opl_lexer.specs.Parts.{parts}
 use Rattle.access_profile.specs.Restricting.{without_spaces}
 use Rattle.moment_rules.specs.declared.moment.Moment.{Moment}

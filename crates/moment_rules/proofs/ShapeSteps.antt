@@ -2,8 +2,8 @@
 use Rattle.std.specs.Prelude.{◌≡◌, ◌≤◌, ◌<◌, ◌+◌, ◌*◌, ◌&&◌, ℕ, zero, suc, List, [], ◌∷◌, Bool, true, false}
 use Rattle.std.specs.Prelude.{nat_lt, drop, length, slice_index, codes, refl}
 use Rattle.std.specs.Char.{digit_value}
-use Rattle.std.proofs.Common.{arith, ap, sym, ◌∙◌, subst, true≢false}
-use Rattle.std.proofs.lemmas.Bool.Decides.{nat_tests, Decides-ltb}
+use Rattle.std.proofs.Common.{arith, ap, sym, subst, true≢false}
+use Rattle.std.proofs.lemmas.Bool.Decides.{Decides-ltb}
 use Rattle.std.proofs.lemmas.List.{drop_all}
 use Rattle.opl_lexer.proofs.DigitSteps.{drop_here}
 use Rattle.moment_rules.specs.Shapes.{has_shape, meets, number_at}
