@@ -1,7 +1,7 @@
 -- What a condition says at a moment, by what its words say.
-use Rattle.std.specs.Prelude.{◌≡◌, ℕ, List, [], ◌∷◌, Bool, true, Option, Some, None, option_map, refl}
+use Rattle.std.specs.Prelude.{◌≡◌, ℕ, List, Bool, true, Option, Some, None, option_map, refl}
 use Rattle.std.specs.Option.{option_and_then, option_or}
-use Rattle.std.proofs.Common.{ap, sym, ◌∙◌}
+use Rattle.std.proofs.Common.{ap, ◌∙◌}
 use Rattle.moment_rules.specs.declared.days.DayRange.{DayRange}
 use Rattle.moment_rules.specs.declared.moment.Moment.{Moment}
 use Rattle.moment_rules.specs.declared.times.TimeRange.{TimeRange}

@@ -1,15 +1,14 @@
 -- The value of the last part that applies, part by part.
-use Rattle.std.specs.Prelude.{◌≡◌, ◌++◌, ℕ, List, [], ◌∷◌, Bool, true, false, cond, Option, Some, None, option_map, find}
+use Rattle.std.specs.Prelude.{◌≡◌, ℕ, List, [], ◌∷◌, Bool, true, false, cond, Option, Some, None, option_map, find}
 use Rattle.std.specs.Prelude.{reverse, refl}
-use Rattle.std.specs.Option.{option_and_then, option_or}
+use Rattle.std.specs.Option.{option_or}
 use Rattle.std.proofs.Common.{ap, sym, ◌∙◌}
 use Rattle.std.proofs.lemmas.List.{reverse-append}
 use Rattle.std.proofs.lemmas.List.Folds.{find-append}
 use Rattle.moment_rules.specs.declared.moment.Moment.{Moment}
 use Rattle.moment_rules.specs.Shapes.{all_said}
 use Rattle.moment_rules.specs.Conditions.{applies}
-use Rattle.moment_rules.specs.Conditionals.{ConditionalPart, part_of, last_value}
-use Rattle.moment_rules.proofs.PartCases.{told_at}
+use Rattle.moment_rules.specs.Conditionals.{ConditionalPart, part_of, told_at, last_value}
 
 -- the last value of the parts, and the one before them where none of them applies
 abbrev pub value_or : Moment → Option (List ℕ) → Option (List ConditionalPart) → Option (Option (List ℕ))
@@ -71,12 +70,18 @@ last_next at ps part others last p so_far here =
     sym (one_before at p last (all_said part_of others))
     ∙ (sym (ap (value_or at last) first) ∙ so_far.same)
 
+abbrev value_in : List ℕ → Option (List ℕ × Bool) → List ℕ
+value_in other None = other
+value_in other (Some told) = told.0
+
+abbrev answer_in : Bool → Option (List ℕ × Bool) → Bool
+answer_in other None = other
+answer_in other (Some told) = told.1
+
 by_part : (at : Moment) (o : Option ConditionalPart) (v : List ℕ) (now : Bool) → told_at at o ≡ Some (v, now)
     → (p : ConditionalPart) × (o ≡ Some p) × (p.value ≡ v) × (applies at p.condition ≡ now)
 by_part at None v now e = cc
-by_part at (Some p) v now e =
-    let same : (p.value, applies at p.condition) ≡ (v, now) = cc in
-    (p, refl, ap (λ q. q.0) same, ap (λ q. q.1) same)
+by_part at (Some p) v now e = (p, refl, ap (value_in v) e, ap (answer_in now) e)
 
 -- a part that applies, and one that doesn't
 pub last_applies : (at : Moment) (ps : List (List ℕ)) (part : List ℕ) (others : List (List ℕ))

@@ -1,16 +1,14 @@
 -- What a part of a conditional value says at a moment.
 use Rattle.std.specs.Prelude.{◌≡◌, ℕ, List, Bool, true, false, Option, Some, None, option_map, refl}
 use Rattle.std.specs.Option.{option_and_then}
-use Rattle.std.proofs.Common.{ap, sym, ◌∙◌}
+use Rattle.std.proofs.Common.{ap, ◌∙◌}
 use Rattle.opl_lexer.specs.Parts.{parts}
 use Rattle.access_profile.specs.Restricting.{without_spaces}
 use Rattle.moment_rules.specs.declared.moment.Moment.{Moment}
 use Rattle.moment_rules.specs.Shapes.{one_or_two}
 use Rattle.moment_rules.specs.Conditions.{Condition, condition_of, applies}
-use Rattle.moment_rules.specs.Conditionals.{ConditionalPart, is_value, part_between, part_of, without_parentheses}
-
-abbrev pub told_at : Moment → Option ConditionalPart → Option (List ℕ × Bool)
-told_at at part = option_map (λ p. (p.value, applies at p.condition)) part
+use Rattle.moment_rules.specs.Conditionals.{ConditionalPart, is_value, part_between, part_of, told_at}
+use Rattle.moment_rules.specs.Conditionals.{without_parentheses}
 
 -- no part where there is no at sign, or two
 pub no_part : (text : List ℕ) → one_or_two (parts 64 text) ≡ None → part_of text ≡ None

@@ -1,6 +1,5 @@
 -- Whether some part passes, of parts that all say something.
 use Rattle.std.specs.Prelude.{◌≡◌, ◌||◌, ℕ, List, [], ◌∷◌, Bool, true, false, Option, Some, None, option_map, refl}
-use Rattle.std.specs.Option.{option_and_then}
 use Rattle.std.specs.List.{list_any}
 use Rattle.std.proofs.Common.{ap, sym, ◌∙◌}
 use Rattle.moment_rules.specs.Shapes.{all_said}
@@ -27,7 +26,7 @@ finds_start said p ps = record { same = nothing_found (any_said said p ps) }
 one_more : {A : Type 0} (p : A → Bool) (a : A) (rest : Option (List A))
     → option_map (list_any p) (option_map (λ more. a ∷ more) rest) ≡ or_found (p a) (option_map (list_any p) rest)
 one_more p a None = refl
-one_more p a (Some as) = refl
+one_more p a (Some more) = refl
 
 pub any_more : {A : Type 0} (said : List ℕ → Option A) (p : A → Bool) (part : List ℕ) (others : List (List ℕ)) (a : A)
     → said part ≡ Some a → any_said said p (part ∷ others) ≡ or_found (p a) (any_said said p others)
@@ -58,16 +57,16 @@ finds_more said p ps part others found a so_far here =
 pub finds_yes : {A : Type 0} (said : List ℕ → Option A) (p : A → Bool) (ps : List (List ℕ)) (part : List ℕ)
     (others : List (List ℕ)) (found : Bool) (a : A) → Finds said p ps (part ∷ others) found → said part ≡ Some a
     → p a ≡ true → Finds said p ps others true
-finds_yes said p ps part others found a so_far here yes = record {
-  same = sym (ap (λ b. or_found b (any_said said p others)) (ap (λ b. found || b) yes ∙ or_true found))
+finds_yes said p ps part others found a so_far here passes = record {
+  same = sym (ap (λ b. or_found b (any_said said p others)) (ap (λ b. found || b) passes ∙ or_true found))
       ∙ finds_more said p ps part others found a so_far here;
 }
 
 pub finds_no : {A : Type 0} (said : List ℕ → Option A) (p : A → Bool) (ps : List (List ℕ)) (part : List ℕ)
     (others : List (List ℕ)) (found : Bool) (a : A) → Finds said p ps (part ∷ others) found → said part ≡ Some a
     → p a ≡ false → Finds said p ps others found
-finds_no said p ps part others found a so_far here no = record {
-  same = sym (ap (λ b. or_found b (any_said said p others)) (ap (λ b. found || b) no ∙ or_false found))
+finds_no said p ps part others found a so_far here fails = record {
+  same = sym (ap (λ b. or_found b (any_said said p others)) (ap (λ b. found || b) fails ∙ or_false found))
       ∙ finds_more said p ps part others found a so_far here;
 }
 

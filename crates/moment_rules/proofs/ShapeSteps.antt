@@ -1,12 +1,12 @@
 -- Texts of a fixed shape, character by character.
-use Rattle.std.specs.Prelude.{◌≡◌, ◌==◌, ◌≤◌, ◌<◌, ◌+◌, ◌&&◌, ℕ, zero, suc, List, [], ◌∷◌, Bool, true, false, cond}
-use Rattle.std.specs.Prelude.{nat_lt, drop, length, slice_index, refl}
+use Rattle.std.specs.Prelude.{◌≡◌, ◌≤◌, ◌<◌, ◌+◌, ◌*◌, ◌&&◌, ℕ, zero, suc, List, [], ◌∷◌, Bool, true, false}
+use Rattle.std.specs.Prelude.{nat_lt, drop, length, slice_index, codes, refl}
 use Rattle.std.specs.Char.{digit_value}
-use Rattle.std.proofs.Common.{arith, ap, sym, ◌∙◌, subst, true≢false}
-use Rattle.std.proofs.lemmas.Bool.Decides.{nat_tests, Decides-ltb}
+use Rattle.std.proofs.Common.{arith, ap, sym, subst, true≢false}
+use Rattle.std.proofs.lemmas.Bool.Decides.{Decides-ltb}
 use Rattle.std.proofs.lemmas.List.{drop_all}
 use Rattle.opl_lexer.proofs.DigitSteps.{drop_here}
-use Rattle.moment_rules.specs.Shapes.{has_shape, meets}
+use Rattle.moment_rules.specs.Shapes.{has_shape, meets, number_at}
 
 both : (a b : Bool) → (a && b) ≡ true → (a ≡ true) × (b ≡ true)
 both true b e = (refl, e)
@@ -48,3 +48,22 @@ shape_digit (s ∷ ss) [] e k inside is = absurd (true≢false (sym e))
 shape_digit (s ∷ ss) (b ∷ bs) e zero inside is = digit_met s b (both (meets s b) (has_shape ss bs) e).0 is
 shape_digit (s ∷ ss) (b ∷ bs) e (suc k) inside is =
     shape_digit ss bs (both (meets s b) (has_shape ss bs) e).1 k (omega arith) is
+
+-- four digits are two and two more
+pub four_are : (bs : List ℕ) (at : ℕ) → at + 3 < length bs
+    → number_at at 4 bs ≡ number_at at 2 bs * 100 + number_at (at + 2) 2 bs
+four_are bs at inside =
+    let a = drop_here bs at (omega arith) in
+    let b = drop_here bs (at + 1) (omega arith) in
+    let c = drop_here bs (at + 1 + 1) (omega arith) in
+    let d = drop_here bs (at + 1 + 1 + 1) (omega arith) in
+    let two : at + 2 ≡ at + 1 + 1 = omega arith in
+    rw (two, a, b, c, d) (omega arith)
+
+-- the year's digits stand in front
+pub year_zeros : (k : ℕ) → k < 4 → slice_index (codes "0000-00-00T00:00") k ≡ 48
+year_zeros zero few = refl
+year_zeros (suc zero) few = refl
+year_zeros (suc (suc zero)) few = refl
+year_zeros (suc (suc (suc zero))) few = refl
+year_zeros (suc (suc (suc (suc k)))) few = absurd (omega arith)

@@ -1,7 +1,7 @@
 -- Spaces and parentheses around a text.
-use Rattle.std.specs.Prelude.{◌≡◌, ◌≢◌, ◌==◌, ◌++◌, ℕ, List, [], ◌∷◌, Bool, true, false, cond, Option, Some, None}
-use Rattle.std.specs.Prelude.{MatchOption, option_copied, reverse, unwrap_or, refl}
-use Rattle.std.proofs.Common.{ap, sym, ◌∙◌, subst, Bor}
+use Rattle.std.specs.Prelude.{◌≡◌, ◌≢◌, ◌==◌, ◌++◌, ℕ, List, [], ◌∷◌, Bool, true, false, cond, Some, None}
+use Rattle.std.specs.Prelude.{reverse, unwrap_or, refl}
+use Rattle.std.proofs.Common.{ap, sym, ◌∙◌}
 use Rattle.std.proofs.lemmas.Bool.Decides.{Decides-eqb}
 use Rattle.std.proofs.lemmas.List.{reverse-append, reverse-reverse}
 use Rattle.access_profile.specs.Restricting.{behind_spaces}

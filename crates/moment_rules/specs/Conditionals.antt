@@ -45,6 +45,10 @@ part_between (front, Some behind) =
 abbrev pub part_of : List ℕ → Option ConditionalPart
 part_of text = option_and_then part_between (one_or_two (parts at_sign text))
 
+-- the value of a part, and whether the part applies at the moment
+abbrev pub told_at : Moment → Option ConditionalPart → Option (List ℕ × Bool)
+told_at at part = option_map (λ p. (p.value, applies at p.condition)) part
+
 -- the parts of a value; None where one of them has another form: then the value is unread
 abbrev pub parts_of : List ℕ → Option (List ConditionalPart)
 parts_of value = all_said part_of (parts semicolon value)

@@ -1,5 +1,5 @@
 -- When a condition applies (OSM wiki, Conditional restrictions: conditions of the kind opening_hours).
-use Rattle.std.specs.Prelude.{◌||◌, ℕ, List, [], ◌∷◌, Bool, true, Option, Some, None, option_map}
+use Rattle.std.specs.Prelude.{ℕ, List, Bool, true, Option, Some, None, option_map}
 use Rattle.std.specs.Option.{option_and_then, option_or}
 use Rattle.opl_lexer.specs.Parts.{parts}
 use Rattle.moment_rules.specs.declared.days.DayRange.{DayRange}

@@ -1,5 +1,5 @@
 -- Times of day, as `22:00-06:00,12:00-13:00` (OSM wiki, Key:opening_hours/specification: time selectors).
-use Rattle.std.specs.Prelude.{◌==◌, ◌&&◌, ◌||◌, ◌+◌, ◌*◌, ℕ, List, Bool, not, cond, Option, Some, None, codes, nat_le}
+use Rattle.std.specs.Prelude.{◌==◌, ◌&&◌, ◌||◌, ◌+◌, ◌*◌, ℕ, List, Bool, cond, Option, Some, None, codes, nat_le}
 use Rattle.std.specs.Prelude.{nat_lt}
 use Rattle.std.specs.Option.{option_and_then}
 use Rattle.std.specs.List.{list_any}

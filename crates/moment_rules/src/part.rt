@@ -1,8 +1,7 @@
 //! A part of a conditional value.
-ghost use Rattle.std.specs.Prelude.{◌≡◌, Some, None, IfSome, IfNone, option_map, reverse};
+ghost use Rattle.std.specs.Prelude.{◌≡◌, Some, None, IfSome, IfNone, reverse};
 ghost use Rattle.access_profile.specs.Restricting.{behind_spaces, without_spaces};
-ghost use Rattle.moment_rules.specs.Conditions.{applies};
-ghost use Rattle.moment_rules.specs.Conditionals.{is_value, part_of, without_parentheses};
+ghost use Rattle.moment_rules.specs.Conditionals.{is_value, part_of, told_at, without_parentheses};
 
 use crate::Moment;
 use crate::conditions::applies;
@@ -58,9 +57,9 @@ fn is_value(text: &str) -> bool
 }
 
 /// What the part says, and whether its condition applies at the moment. None where the part isn't read.
+#[tactic(auto, using(crate::proofs::PartCases::no_part, crate::proofs::PartCases::no_condition, crate::proofs::PartCases::no_value, crate::proofs::PartCases::part_unread, crate::proofs::PartCases::part_read))]
 pub fn read_part(text: &str, at: Moment) -> Option<(&str, bool)>
-    ensures some { IfSome result (λ said.
-        option_map (λ p. (p.value, applies at p.condition)) (part_of text.now) ≡ Some (said.0.now, said.1)) }
+    ensures some { IfSome result (λ said. told_at at (part_of text.now) ≡ Some (said.0.now, said.1)) }
     ensures none { IfNone result (part_of text.now ≡ None) }
 {
     let (front, behind) = one_or_two(text, b'@')?;

@@ -43,3 +43,13 @@ pub fn two_digits(text: &[u8], place: usize) -> u8
 {
     (text[place] - b'0') * 10 + (text[place + 1] - b'0')
 }
+
+/// The number that four digits at a place spell.
+pub fn four_digits(text: &[u8], place: usize) -> u16
+    requires inside { place + 3 < length text.now }
+    requires digits { (k : ℕ) → k < 4 → digit_value (slice_index text.now (place + k)) < 10 }
+    ensures value { result ≡ number_at place 4 text.now }
+    ensures bound { result < 10000 }
+{
+    two_digits(text, place) as u16 * 100 + two_digits(text, place + 2) as u16
+}
