@@ -15,7 +15,7 @@ use Rattle.moment_rules.specs.MomentDecisions.{decision_at}
 abbrev pub rules_at : ℕ → Moment → Rules
 rules_at n at = record (rules_of n) {
   direction = λ tags d. direction_by tags d (decision_at at tags d);
-  zone = λ tags d. n == 2 && is_zone_by tags d (decision_at at tags d)
+  zone = λ tags d. n == 2 && is_zone_by tags d (decision_at at tags d);
 }
 
 -- a way that is open at the moment carries the key `highway`

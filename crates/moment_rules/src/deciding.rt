@@ -23,11 +23,7 @@ pub fn decision_at(at: Moment, tags: &Tags, dir: Dir) -> Option<Decision>
 }
 
 /// What the first of the keys says that says something at the moment.
-fn first_said(
-    at: Moment,
-    tags: &Tags,
-    keys: &[(AccessKey, Option<Dir>)],
-) -> Option<Decision>
+fn first_said(at: Moment, tags: &Tags, keys: &[(AccessKey, Option<Dir>)]) -> Option<Decision>
     ensures { result ≡ first_said (said_by_either at tags.now) keys.now }
 {
     for key in keys {
@@ -39,12 +35,7 @@ fn first_said(
 }
 
 /// What a key says at the moment, with the ending `:conditional` or else by itself.
-fn said_by_either(
-    at: Moment,
-    tags: &Tags,
-    name: AccessKey,
-    side: Option<Dir>,
-) -> Option<Decision>
+fn said_by_either(at: Moment, tags: &Tags, name: AccessKey, side: Option<Dir>) -> Option<Decision>
     ensures { result ≡ said_by_either at tags.now (name, side) }
 {
     match said_by_conditional(at, tags, name, side) {
