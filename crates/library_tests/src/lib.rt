@@ -9,6 +9,8 @@
 #[cfg(test)]
 mod access_profile_tests;
 #[cfg(test)]
+mod at_moment_tests;
+#[cfg(test)]
 mod barrier_rules_tests;
 #[cfg(test)]
 mod checkpoint_tests;
