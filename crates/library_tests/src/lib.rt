@@ -18,6 +18,8 @@ mod checkpoint_tests;
 mod graph_file_tests;
 pub mod makers;
 #[cfg(test)]
+mod moment_tests;
+#[cfg(test)]
 mod object_codec_tests;
 #[cfg(test)]
 mod oneway_rules_tests;
