@@ -9,12 +9,16 @@
 #[cfg(test)]
 mod access_profile_tests;
 #[cfg(test)]
+mod at_moment_tests;
+#[cfg(test)]
 mod barrier_rules_tests;
 #[cfg(test)]
 mod checkpoint_tests;
 #[cfg(test)]
 mod graph_file_tests;
 pub mod makers;
+#[cfg(test)]
+mod moment_tests;
 #[cfg(test)]
 mod object_codec_tests;
 #[cfg(test)]

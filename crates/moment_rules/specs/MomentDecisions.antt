@@ -34,4 +34,5 @@ decision_at at tags d = first_said (said_by_either at tags) (deciding_keys d)
 -- of the eight keys with the ending none says anything: the tags don't carry it, or its value is unread, or no part of
 -- its value applies
 abbrev pub AreQuiet : Moment → TagList → Dir → Type 0
-AreQuiet at tags d = All (λ k. option_and_then (value_at at) (value_of (conditional_key k) tags) ≡ None) (deciding_keys d)
+AreQuiet at tags d =
+    All (λ k. option_and_then (value_at at) (value_of (conditional_key k) tags) ≡ None) (deciding_keys d)
