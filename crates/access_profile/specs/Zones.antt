@@ -1,16 +1,29 @@
 -- The directions of ways that are open for destination traffic alone (OSM wiki, Tag:access=destination): only they who
 -- begin or end their drive there may take them.
-use Rattle.std.specs.Prelude.{ℕ, List, Option, Bool, ◌&&◌, codes, option_and_then}
+use Rattle.std.specs.Prelude.{Option, Some, None, Bool, true, false, ◌&&◌}
 use Rattle.road_base.specs.declared.ids.Dir.{Dir}
-use Rattle.road_base.specs.Tags.{TagList, value_of}
-use Rattle.road_model.specs.Rules.{is_free, is_the_value}
-use Rattle.access_profile.specs.Closing.{direction}
-use Rattle.access_profile.specs.Deciding.{deciding, full_key}
+use Rattle.road_base.specs.Tags.{TagList}
+use Rattle.road_model.specs.Rules.{is_free}
+use Rattle.access_profile.specs.declared.decisions.Permission.{Permission}
+use Rattle.access_profile.specs.declared.decisions.Permission.TheVariants.{All, Destination, Nobody}
+use Rattle.access_profile.specs.declared.decisions.Decision.{Decision}
+use Rattle.access_profile.specs.Closing.{direction_by}
+use Rattle.access_profile.specs.Decisions.{decision_of}
 
--- the value of the key that decides on access in the direction, if there is one
-abbrev pub deciding_value : TagList → Dir → Option (List ℕ)
-deciding_value tags d = option_and_then (λ k. value_of (full_key k) tags) (deciding tags d)
+abbrev pub is_for_destination : Permission → Bool
+is_for_destination All = false
+is_for_destination Destination = true
+is_for_destination Nobody = false
 
--- the direction is free, and the deciding key has the value `destination`
+-- something decides, and it lets destination traffic alone pass
+abbrev pub lets_destination : Option Decision → Bool
+lets_destination None = false
+lets_destination (Some c) = is_for_destination c.permission
+
+-- where this decides on access: the direction is free, and open for destination traffic alone
+unfoldable pub is_zone_by : TagList → Dir → Option Decision → Bool
+is_zone_by tags d c = is_free (direction_by tags d c) && lets_destination c
+
+-- where the deciding key of the tags decides
 unfoldable pub is_zone : TagList → Dir → Bool
-is_zone tags d = is_free (direction tags d) && is_the_value (codes "destination") (deciding_value tags d)
+is_zone tags d = is_zone_by tags d (decision_of tags d)

@@ -1,9 +1,8 @@
 //! The key that decides on access.
-ghost use Rattle.std.specs.Prelude.{◌≡◌};
-ghost use Rattle.std.specs.Prelude.{true, false};
-ghost use Rattle.std.specs.List.{list_any};
+ghost use Rattle.std.specs.Prelude.{◌≡◌, ℕ, List, None, true};
+ghost use Rattle.road_base.specs.Tags.{value_of};
 ghost use Rattle.access_profile.specs.Deciding.{deciding, deciding_keys, full_key};
-ghost use Rattle.access_profile.specs.FirstLetters.{may_be_access_key, may_have_access_key};
+ghost use Rattle.access_profile.specs.FirstLetters.{may_be_access_key};
 
 use road_base::{Dir, Tags, Text};
 use road_model::AccessKey;
@@ -27,9 +26,10 @@ pub fn deciding(tags: &Tags, dir: Dir) -> Option<(AccessKey, Option<Dir>)>
         .find(|key| tags.get(full_key(key.0, key.1)).is_some())
 }
 
-/// Whether these are few tags, and none of their keys begins with the letter of an access key.
-fn lacks_access_keys(tags: &[(Text, Text)]) -> bool
-    ensures { result ≡ true → may_have_access_key tags.now ≡ false }
+/// Whether these are few tags, and none of their keys begins with the letter of an access key: then the tags carry no
+/// access key, with whatever ending.
+pub fn lacks_access_keys(tags: &[(Text, Text)]) -> bool
+    ensures { result ≡ true → (key : List ℕ) → may_be_access_key key ≡ true → value_of key tags.now ≡ None }
 {
     if tags.len() > FEW {
         return false;
@@ -53,7 +53,7 @@ fn may_be_access_key(key: &[u8]) -> bool
 }
 
 /// The keys that may decide in the direction, in their order.
-fn deciding_keys(dir: Dir) -> [(AccessKey, Option<Dir>); 8]
+pub fn deciding_keys(dir: Dir) -> [(AccessKey, Option<Dir>); 8]
     ensures { result ≡ deciding_keys dir }
 {
     [

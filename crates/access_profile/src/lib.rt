@@ -7,6 +7,7 @@
 
 mod closing;
 mod deciding_key;
+mod decisions;
 mod highways;
 mod motorcar;
 mod motorcar2;
@@ -14,7 +15,10 @@ mod of_number;
 mod restricting;
 mod zones;
 
-pub use deciding_key::deciding;
+pub use closing::direction_by;
+pub use deciding_key::{deciding, deciding_keys, lacks_access_keys};
+pub use decisions::{Decision, Permission, decision_of, permission_of, said_by_key};
 pub use motorcar::Motorcar;
 pub use motorcar2::Motorcar2;
 pub use of_number::ProfileOf;
+pub use zones::is_zone_by;

@@ -1,9 +1,9 @@
 //! The directions of ways that are open for destination traffic alone.
-ghost use Rattle.std.specs.Prelude.{◌≡◌, option_copied};
-ghost use Rattle.access_profile.specs.Zones.{deciding_value, is_zone};
+ghost use Rattle.std.specs.Prelude.{◌≡◌};
+ghost use Rattle.access_profile.specs.Zones.{is_zone, is_zone_by, lets_destination};
 
-use crate::closing::direction;
-use crate::deciding_key::{deciding, full_key};
+use crate::closing::direction_by;
+use crate::decisions::{Decision, Permission, decision_of};
 use road_base::{Dir, Tags};
 use road_model::Access;
 
@@ -12,18 +12,30 @@ use road_model::Access;
 pub fn is_zone(tags: &Tags, dir: Dir) -> bool
     ensures { result ≡ is_zone tags.now dir }
 {
-    match direction(tags, dir) {
-        Access::Free => matches!(deciding_value(tags, dir), Some("destination")),
+    is_zone_by(tags, dir, decision_of(tags, dir))
+}
+
+/// Whether a way with these tags is free in the direction, and open for destination traffic alone, where this decides
+/// on access in place of the tags' deciding key.
+#[tactic(auto, unfolding(crate::specs::Zones::is_zone_by))]
+pub fn is_zone_by(tags: &Tags, dir: Dir, decision: Option<Decision>) -> bool
+    ensures { result ≡ is_zone_by tags.now dir decision }
+{
+    if !lets_destination(decision) {
+        return false;
+    }
+    match direction_by(tags, dir, decision) {
+        Access::Free => true,
         _ => false,
     }
 }
 
-/// The value of the key that decides on access in the direction, if there is one.
-fn deciding_value(tags: &Tags, dir: Dir) -> Option<&str>
-    ensures { option_copied result ≡ deciding_value tags.now dir }
+/// Whether something decides, and lets destination traffic alone pass.
+fn lets_destination(decision: Option<Decision>) -> bool
+    ensures { result ≡ lets_destination decision }
 {
-    let Some((name, side)) = deciding(tags, dir) else {
-        return None;
-    };
-    tags.get(full_key(name, side))
+    match decision {
+        Some(decision) => matches!(decision.permission, Permission::Destination),
+        None => false,
+    }
 }

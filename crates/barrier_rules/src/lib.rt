@@ -1,6 +1,6 @@
 //! Which nodes let a car through (OSM wiki, Key:barrier and Key:access).
 //!
-//! Which values of access keys let a car pass stands here too (`has_open_value`): the profile asks it of ways.
+//! Which values of access keys let a car pass stands here too (`is_open_value`): the profile asks it of ways.
 //!
 //! A call looks up five keys at most among the tags, each at the cost of `Tags::get`, and takes no memory.
 #![tactic(auto)]
@@ -10,7 +10,7 @@ ghost use Rattle.barrier_rules.specs.Barrier.{barrier_open, first_key, is_open_b
 
 mod open_values;
 
-pub use open_values::has_open_value;
+pub use open_values::{has_open_value, is_open_value};
 use road_base::Tags;
 use road_model::AccessKey;
 

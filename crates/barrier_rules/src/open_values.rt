@@ -16,7 +16,7 @@ pub fn has_open_value(tags: &Tags, key: &str) -> bool
 
 /// Whether this value of such a key lets a car pass (OSM wiki, Key:access). Every value that isn't named here doesn't.
 #[tactic(auto, unfolding(crate::specs::OpenValues::is_open_value))]
-fn is_open_value(value: &str) -> bool
+pub fn is_open_value(value: &str) -> bool
     ensures { result ≡ is_open_value value.now }
 {
     match value {

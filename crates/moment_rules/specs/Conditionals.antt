@@ -1,15 +1,15 @@
 -- What a conditional value says at a moment (OSM wiki, Conditional restrictions), as
 -- `no @ (Mo-Fr 22:00-06:00); destination @ Su`.
-use Rattle.std.specs.Prelude.{◌==◌, ◌&&◌, ◌-◌, ℕ, List, Bool, not, cond, Option, Some, None, codes, option_map}
-use Rattle.std.specs.Prelude.{find, length, take, drop, nat_lt, nat_eq, reverse}
+use Rattle.std.specs.Prelude.{◌==◌, ◌&&◌, ℕ, List, [], ◌∷◌, Bool, not, cond, Option, Some, None, option_map, unwrap_or}
+use Rattle.std.specs.Prelude.{find, length, nat_lt, reverse}
 use Rattle.std.specs.Option.{option_and_then}
-use Rattle.std.specs.List.{list_any, starts_with, ends_with}
+use Rattle.std.specs.List.{list_any}
 use Rattle.access_profile.specs.Restricting.{without_spaces}
 use Rattle.opl_lexer.specs.Parts.{parts}
 use Rattle.moment_rules.specs.declared.moment.Moment.{Moment}
 use Rattle.moment_rules.specs.declared.reading.Reading.{Reading}
 use Rattle.moment_rules.specs.declared.reading.Reading.TheVariants.{Unread, Quiet, Value}
-use Rattle.moment_rules.specs.Letters.{space, semicolon, at_sign}
+use Rattle.moment_rules.specs.Letters.{space, open_parenthesis, close_parenthesis, semicolon, at_sign}
 use Rattle.moment_rules.specs.Shapes.{one_or_two, all_said}
 use Rattle.moment_rules.specs.Conditions.{Condition, condition_of, applies}
 
@@ -22,11 +22,16 @@ pub record ConditionalPart : Type 0 where
 abbrev pub is_value : List ℕ → Bool
 is_value text = nat_lt 0 (length text) && not (list_any (λ b. b == space) text)
 
+-- what stands before a closing parenthesis at the end, by the text read from its end
+abbrev pub before_close : List ℕ → Option (List ℕ)
+before_close [] = None
+before_close (b ∷ bs) = cond (b == close_parenthesis) (Some (reverse bs)) None
+
 -- without the parentheses around it, if it stands in a pair of them
 abbrev pub without_parentheses : List ℕ → List ℕ
-without_parentheses text =
-    cond (nat_lt 1 (length text) && (starts_with nat_eq text (codes "(") && ends_with nat_eq text (codes ")")))
-    (take (length text - 2) (drop 1 text)) text
+without_parentheses [] = []
+without_parentheses (b ∷ bs) =
+    cond (b == open_parenthesis) (unwrap_or (before_close (reverse bs)) (b ∷ bs)) (b ∷ bs)
 
 -- what stands before the at sign and what stands behind it, spaces around both dropped
 abbrev pub part_between : List ℕ × Option (List ℕ) → Option ConditionalPart
@@ -39,6 +44,10 @@ part_between (front, Some behind) =
 
 abbrev pub part_of : List ℕ → Option ConditionalPart
 part_of text = option_and_then part_between (one_or_two (parts at_sign text))
+
+-- the value of a part, and whether the part applies at the moment
+abbrev pub told_at : Moment → Option ConditionalPart → Option (List ℕ × Bool)
+told_at at part = option_map (λ p. (p.value, applies at p.condition)) part
 
 -- the parts of a value; None where one of them has another form: then the value is unread
 abbrev pub parts_of : List ℕ → Option (List ConditionalPart)

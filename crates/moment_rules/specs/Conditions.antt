@@ -1,12 +1,14 @@
 -- When a condition applies (OSM wiki, Conditional restrictions: conditions of the kind opening_hours).
-use Rattle.std.specs.Prelude.{◌||◌, ℕ, List, [], ◌∷◌, Bool, true, Option, Some, None, option_map}
+use Rattle.std.specs.Prelude.{ℕ, List, Bool, true, Option, Some, None, option_map}
 use Rattle.std.specs.Option.{option_and_then, option_or}
 use Rattle.opl_lexer.specs.Parts.{parts}
+use Rattle.moment_rules.specs.declared.days.DayRange.{DayRange}
 use Rattle.moment_rules.specs.declared.moment.Moment.{Moment}
+use Rattle.moment_rules.specs.declared.times.TimeRange.{TimeRange}
 use Rattle.moment_rules.specs.Letters.{space}
 use Rattle.moment_rules.specs.Shapes.{one_or_two}
-use Rattle.moment_rules.specs.Days.{DayRange, days_of, has_a_day, day_before}
-use Rattle.moment_rules.specs.Times.{TimeRange, times_of, has_a_minute}
+use Rattle.moment_rules.specs.Days.{days_of, has_a_day, day_before}
+use Rattle.moment_rules.specs.Times.{times_of, has_a_minute}
 
 -- days, times, or both; None stands for all days, and for all times of the day
 pub record Condition : Type 0 where

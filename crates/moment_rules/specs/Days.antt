@@ -5,6 +5,7 @@ use Rattle.std.specs.Option.{option_and_then}
 use Rattle.std.specs.List.{list_any, position_from}
 use Rattle.std.specs.Str.{bytes_eq}
 use Rattle.opl_lexer.specs.Parts.{parts}
+use Rattle.moment_rules.specs.declared.days.DayRange.{DayRange}
 use Rattle.moment_rules.specs.Letters.{comma, hyphen}
 use Rattle.moment_rules.specs.Shapes.{one_or_two, all_said}
 
@@ -15,11 +16,7 @@ day_names = codes "Mo" ∷ codes "Tu" ∷ codes "We" ∷ codes "Th" ∷ codes "F
 abbrev pub day_named : List ℕ → Option ℕ
 day_named name = position_from (bytes_eq name) 0 day_names
 
--- from a day on to another, both of them too; past Sunday where the last comes before the first
-pub record DayRange : Type 0 where
-  pub first : ℕ
-  pub last : ℕ
-
+-- the day is the first, the last or between them; past Sunday where the last comes before the first
 abbrev pub has_day : ℕ → DayRange → Bool
 has_day day range =
     cond (nat_le range.first range.last) (nat_le range.first day && nat_le day range.last)

@@ -4,6 +4,12 @@ use Rattle.std.specs.Prelude.{ℕ}
 abbrev pub space : ℕ
 space = 32
 
+abbrev pub open_parenthesis : ℕ
+open_parenthesis = 40
+
+abbrev pub close_parenthesis : ℕ
+close_parenthesis = 41
+
 abbrev pub comma : ℕ
 comma = 44
 

@@ -6,3 +6,5 @@ pub mod Times
 pub mod Conditions
 pub mod Conditionals
 pub mod MomentTexts
+pub mod MomentDecisions
+pub mod AtMoment

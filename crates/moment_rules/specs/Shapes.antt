@@ -4,6 +4,7 @@ use Rattle.std.specs.Prelude.{nat_lt, option_map}
 use Rattle.std.specs.Option.{option_and_then}
 use Rattle.std.specs.Char.{digit_value}
 use Rattle.std.specs.Str.Parse.{digits_value}
+use Rattle.opl_lexer.specs.Parts.{parts}
 use Rattle.moment_rules.specs.Letters.{digit_zero}
 
 -- a character of the shape is met by itself, and its 0 by any digit
@@ -20,6 +21,11 @@ has_shape (s ∷ ss) (b ∷ bs) = meets s b && has_shape ss bs
 -- the number that the digits from a place on spell, so many
 abbrev pub number_at : ℕ → ℕ → List ℕ → ℕ
 number_at place count text = digits_value 10 (take count (drop place text))
+
+-- the parts of what is left of a text, of which nothing may be left
+abbrev pub parts_left : ℕ → Option (List ℕ) → List (List ℕ)
+parts_left stop None = []
+parts_left stop (Some rest) = parts stop rest
 
 -- one part alone, or two
 abbrev pub one_or_two : List (List ℕ) → Option (List ℕ × Option (List ℕ))

@@ -1,9 +1,10 @@
 -- Times of day, as `22:00-06:00,12:00-13:00` (OSM wiki, Key:opening_hours/specification: time selectors).
-use Rattle.std.specs.Prelude.{◌==◌, ◌&&◌, ◌||◌, ◌+◌, ◌*◌, ℕ, List, Bool, not, cond, Option, Some, None, codes, nat_le}
+use Rattle.std.specs.Prelude.{◌==◌, ◌&&◌, ◌||◌, ◌+◌, ◌*◌, ℕ, List, Bool, cond, Option, Some, None, codes, nat_le}
 use Rattle.std.specs.Prelude.{nat_lt}
 use Rattle.std.specs.Option.{option_and_then}
 use Rattle.std.specs.List.{list_any}
 use Rattle.opl_lexer.specs.Parts.{parts}
+use Rattle.moment_rules.specs.declared.times.TimeRange.{TimeRange}
 use Rattle.moment_rules.specs.Letters.{comma, hyphen}
 use Rattle.moment_rules.specs.Shapes.{has_shape, number_at, one_or_two, all_said}
 
@@ -17,12 +18,8 @@ clock_time latest text =
     cond (has_shape (codes "00:00") text && nat_le (number_at 3 2 text) 59 && nat_le (minute_read text) latest)
     (Some (minute_read text)) None
 
--- from a minute on, until another one, which isn't in it; over midnight where that comes before the first
-pub record TimeRange : Type 0 where
-  pub from : ℕ
-  pub until : ℕ
-
--- the two differ
+-- from a minute on, until another one, which isn't in it; over midnight where that comes before the first. The two
+-- differ.
 abbrev pub range_of : ℕ → ℕ → Option TimeRange
 range_of from until = cond (from == until) None (Some (record { from = from; until = until }))
 

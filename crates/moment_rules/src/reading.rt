@@ -3,6 +3,8 @@ ghost use Rattle.std.specs.Prelude.{◌≡◌};
 ghost use Rattle.moment_rules.specs.Conditionals.{said_at, said_by};
 
 use crate::Moment;
+use crate::cutting::cut;
+use crate::part::read_part;
 
 /// What a conditional value says at a moment.
 #[derive(Clone, Copy)]
@@ -22,5 +24,20 @@ pub enum Reading<'a> {
 pub fn read_conditional(value: &str, at: Moment) -> Reading<'_>
     ensures { said_by result ≡ said_at at value.now }
 {
-    Reading::Unread
+    let mut last = None;
+    let mut rest = Some(value);
+    while let Some(left) = rest {
+        let (part, behind) = cut(left, b';');
+        let Some((said, applies)) = read_part(part, at) else {
+            return Reading::Unread;
+        };
+        if applies {
+            last = Some(said);
+        }
+        rest = behind;
+    }
+    match last {
+        Some(said) => Reading::Value(said),
+        None => Reading::Quiet,
+    }
 }

@@ -1,5 +1,5 @@
 use Rattle.std.proofs.Common.{◌≡◌, take, false}
-use Rattle.access_profile.specs.FirstLetters.{may_have_access_key}
+use Rattle.access_profile.proofs.MissingKeys.{may_have_access_key}
 use Rattle.access_profile.proofs.deciding_key.lacks_access_keys.Given as goal
 
 -- no key so far begins so
