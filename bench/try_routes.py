@@ -215,4 +215,5 @@ def main(program, maps=200, first=0):
     return 0
 
 
-sys.exit(main(*sys.argv[1:]))
+if __name__ == '__main__':
+    sys.exit(main(*sys.argv[1:]))
