@@ -6,8 +6,7 @@ Of all pairs of nodes of a map it asks a session for `route` and `certify`. The 
 bench/least_cost.py finds by the graph file, the drive legal by the session's own word, and the certificate one by
 tools/certificate.py. Then numbers of the certificate are changed, one at a time: the checker must say what the four
 conditions say when they are written out for all pieces, steps and arcs; and no to each change of a number on the drive,
-since there each condition leaves a potential only one value. Where the program has no `certify`, certificates of the
-search are tried in their place.
+since there each condition leaves a potential only one value.
 
 Use: try_routes.py PROGRAM [MAPS [FIRST]], with 200 maps where left out, of the seeds from FIRST on. It prints how many
 were tried; its status is 1 where one isn't as it must be, with the map's lines.
@@ -159,18 +158,14 @@ def try_changes(network, potentials, ends, cost, steps, draw):
 
 def try_pair(network, costs, session, ends, draw):
     """One pair of nodes; returns how many changed certificates were refused."""
-    cost, stretches, potentials = costs.least(*ends)
-    reply = least_cost.reply_of(network, cost, stretches)
-    data = least_cost.spelled(potentials)
-    answer = session.ask('route {} {}'.format(*ends))
-    if answer != 'unknown':
-        if answer.startswith('no-node'):
-            must(cost == NOTHING, f'{answer}, and the search finds {reply}')
-            return 0
-        reply = answer
-        must(certificate.read_reply(reply)[0] == cost, f'{reply}, and the search finds {cost}')
-        data = session.certify(*ends)
-        potentials = certificate.read_potentials(data, len(network.owners))
+    cost, stretches, _ = costs.least(*ends)
+    reply = session.ask('route {} {}'.format(*ends))
+    if reply.startswith('no-node'):
+        must(cost == NOTHING, f'{reply}, and the search finds {least_cost.reply_of(network, cost, stretches)}')
+        return 0
+    must(certificate.read_reply(reply)[0] == cost, f'{reply}, and the search finds {cost}')
+    data = session.certify(*ends)
+    potentials = certificate.read_potentials(data, len(network.owners))
     try:
         certificate.check(network, data, *ends, reply)
     except Refusal as fault:
