@@ -15,8 +15,9 @@ ghost use Rattle.context_search.specs.Sought.{AreSpots};
 
 use graph_blocks::laws::values_in_order;
 use road_model::Profile;
-use road_model::laws::{drive_parts, has_block, name_order, one_junction, one_name, one_piece};
-use road_model::laws::{walk_law, whole_pieces};
+use road_model::laws::{
+    drive_parts, has_block, name_order, one_junction, one_name, one_piece, walk_law, whole_pieces,
+};
 
 /// What a search over contexts and arcs finds is a legal drive between the nodes; and where all contexts that can be
 /// come to are seen and nothing leads on to the goal, there is no legal drive between them.

@@ -5,7 +5,7 @@ ghost use Rattle.road_model.specs.declared.lists.Context.{Context};
 ghost use Rattle.road_model.specs.declared.lists.Piece.{Piece};
 ghost use Rattle.road_model.specs.Orders.{name_cmp, names_cmp};
 ghost use Rattle.graph_blocks.specs.Lent.{map_of as block_map};
-ghost use Rattle.context_search.specs.Marks.{At, at_of, key_of};
+ghost use Rattle.context_search.specs.Marks.{At, at_of, key_of, contexts_at, contexts_over};
 ghost use Rattle.context_search.specs.Listed.{AreInOrder, contexts_in};
 
 use crate::spots::{Spot, by_names};
@@ -48,19 +48,27 @@ fn spot_among<'a>(
     requires pieces { IsTrue (rises name_cmp (map (λ p. p.name) pieces.now)) }
     requires contexts { (p : Piece) → Contains pieces.now p
         → IsTrue (rises names_cmp (map (λ c. c.before) p.contexts)) }
-    ensures piece { IfSome result (λ s. Contains pieces.now s.piece.now) }
-    ensures context { IfSome result (λ s. Contains s.piece.now.contexts s.context.now) }
-    ensures named { IfSome result (λ s. s.piece.now.name ≡ name) }
-    ensures behind { IfSome result (λ s. s.context.now.before ≡ before.now) }
-    ensures none { IfNone result ((p : Piece) (c : Context) → Contains pieces.now p
-        → Contains p.contexts c
-        → p.name ≡ name
-        → c.before ≡ before.now
+    ensures listed { IfSome result (λ s. Contains (contexts_over pieces.now) (at_of s)) }
+    ensures named { IfSome result (λ s. key_of (at_of s) ≡ (name, before.now)) }
+    ensures none { IfNone result ((x : At) → Contains (contexts_over pieces.now) x
+        → key_of x ≡ (name, before.now)
         → ⊥) }
 {
-    let Some(piece) = piece_among(pieces, name) else {
-        return None;
-    };
+    match piece_among(pieces, name) {
+        Some(piece) => spot_on(piece, before),
+        None => None,
+    }
+}
+
+/// The context of the piece behind the pieces of these names.
+fn spot_on<'a>(piece: &'a Piece, before: &[PieceName]) -> Option<Spot<'a>>
+    requires { IsTrue (rises names_cmp (map (λ c. c.before) piece.now.contexts)) }
+    ensures listed { IfSome result (λ s. Contains (contexts_at piece.now) (at_of s)) }
+    ensures named { IfSome result (λ s. key_of (at_of s) ≡ (piece.now.name, before.now)) }
+    ensures none { IfNone result ((x : At) → Contains (contexts_at piece.now) x
+        → key_of x ≡ (piece.now.name, before.now)
+        → ⊥) }
+{
     match context_among(piece.contexts.items(), before) {
         Some(context) => Some(Spot { piece, context }),
         None => None,

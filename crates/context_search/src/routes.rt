@@ -1,14 +1,12 @@
 //! The steps of what was found.
-ghost use Rattle.std.specs.Prelude.{◌≡◌, ◌+◌, ◌-◌, ◌<◌, ◌≤◌, ◌++◌, length, map, take, drop, IfOk, OnOk, Contains, ℕ};
+ghost use Rattle.std.specs.Prelude.{◌≡◌, ◌+◌, ◌-◌, ◌<◌, ◌≤◌, ◌++◌, length, take, drop, IfOk, OnOk, Contains, ℕ};
 ghost use Rattle.context_search.specs.declared.marks.Origin.TheVariants.{Begins};
 ghost use Rattle.std.specs.List.{flat_map};
-ghost use Rattle.context_search.specs.Marks.{at_of};
 ghost use Rattle.context_search.specs.Routes.{IsChain, IsRoute, Descend, AreSpelled, spelled, steps_at};
 
 use crate::ends::{Begin, Goal};
 use crate::following::Meeting;
 use crate::marks::{Origin, TreeVisit};
-use crate::spots::Spot;
 use road_base::{Drive, NoMemory, Step};
 use road_model::Piece;
 use std::alloc::Global;
@@ -30,20 +28,19 @@ pub fn within(alloc: Global, start: &Begin<'_>, goal: &Goal<'_>) -> Result<Drive
 /// The steps of the pieces of the visits that lead to the one that met the goal, and of the goal.
 pub fn along(
     alloc: Global,
-    spots: &[Spot<'_>],
-    visits: &[TreeVisit],
+    visits: &[TreeVisit<'_>],
     meeting: &Meeting<'_>,
 ) -> Result<Drive, NoMemory>
     requires descend { Descend visits.now }
-    requires spelled { AreSpelled (map at_of spots.now) visits.now }
+    requires spelled { AreSpelled visits.now }
     requires place { meeting.now.place < length visits.now }
     requires ascends { meeting.now.goal.piece.now.name.index ≤ meeting.now.goal.piece.now.end }
     requires last { meeting.now.goal.last < length (spelled meeting.now.goal.piece.now) }
-    ensures { IfOk result (IsRoute (map at_of spots.now) visits.now meeting.now.place meeting.now.goal) }
+    ensures { IfOk result (IsRoute visits.now meeting.now.place meeting.now.goal) }
 {
     let (first, places) = way_back(alloc, visits, meeting.place)?;
     let mut steps = Vec::new(alloc);
-    add_whole(&mut steps, spots, visits, &places)?;
+    add_whole(&mut steps, visits, &places)?;
     let goal = meeting.goal;
     add_part(alloc, &mut steps, goal.piece, 0, goal.last)?;
     let from = first.min(steps.len());
@@ -53,7 +50,7 @@ pub fn along(
 /// With which step of the first piece the drive begins, and the places of the visits on the way, in order.
 fn way_back(
     alloc: Global,
-    visits: &[TreeVisit],
+    visits: &[TreeVisit<'_>],
     place: usize,
 ) -> Result<(usize, Vec<usize>), NoMemory>
     requires descend { Descend visits.now }
@@ -72,7 +69,7 @@ fn way_back(
 }
 
 /// The step with which the visit begins a drive.
-fn first_step(visit: &TreeVisit) -> usize
+fn first_step(visit: &TreeVisit<'_>) -> usize
     ensures { (first : ℕ) → visit.now.origin ≡ Begins first → result ≡ first }
 {
     match visit.origin {
@@ -84,36 +81,28 @@ fn first_step(visit: &TreeVisit) -> usize
 /// Adds the steps of the pieces of the visits at the places.
 fn add_whole(
     steps: &mut Vec<Step>,
-    spots: &[Spot<'_>],
-    visits: &[TreeVisit],
+    visits: &[TreeVisit<'_>],
     places: &[usize],
 ) -> Result<(), NoMemory>
-    requires spelled { AreSpelled (map at_of spots.now) visits.now }
+    requires spelled { AreSpelled visits.now }
     requires within { (k : ℕ) → Contains places.now k → k < length visits.now }
     ensures { OnOk result (steps.new.items
-        ≡ steps.old.items ++ flat_map (steps_at (map at_of spots.now) visits.now) places.now) }
+        ≡ steps.old.items ++ flat_map (steps_at visits.now) places.now) }
 {
     for place in places {
-        add_visit(steps, spots, visits, *place)?;
+        add_visit(steps, visits, *place)?;
     }
     Ok(())
 }
 
 /// Adds the steps of the piece of the visit.
-fn add_visit(
-    steps: &mut Vec<Step>,
-    spots: &[Spot<'_>],
-    visits: &[TreeVisit],
-    place: usize,
-) -> Result<(), NoMemory>
-    requires spelled { AreSpelled (map at_of spots.now) visits.now }
+fn add_visit(steps: &mut Vec<Step>, visits: &[TreeVisit<'_>], place: usize) -> Result<(), NoMemory>
+    requires spelled { AreSpelled visits.now }
     requires within { place < length visits.now }
     ensures { OnOk result (steps.new.items
-        ≡ steps.old.items ++ steps_at (map at_of spots.now) visits.now place) }
+        ≡ steps.old.items ++ steps_at visits.now place) }
 {
-    let visit = visits[place];
-    let spot = spots[visit.number];
-    add_piece(steps, spot.piece)
+    add_piece(steps, visits[place].spot.piece)
 }
 
 /// Adds the steps of the piece.
