@@ -1,8 +1,9 @@
 -- Which contexts are visited, by their names.
-use Rattle.std.proofs.Common.{◌≡◌, ◌⊎◌, inl, inr, ℕ, zero, suc, ◌+◌, ◌<◌, ◌≤◌, List, [], ◌∷◌, ◌++◌, Some, Bool, true}
-use Rattle.std.proofs.Common.{false, cond, slice_get, refl, sym, ◌∙◌, ap, subst, arith, ◌||◌, Ordering, Contains}
+use Rattle.std.proofs.Common.{◌≡◌, ◌⊎◌, inl, inr, ℕ, zero, suc, ◌+◌, ◌<◌, ◌≤◌, List, [], ◌∷◌, ◌++◌, length, Some, Bool}
+use Rattle.std.proofs.Common.{true, false, cond, slice_get, refl, sym, ◌∙◌, ap, subst, arith, ◌||◌, Ordering, Contains}
 use Rattle.std.specs.BTreeSet.{BTreeSet, contains}
 use Rattle.std.specs.List.{list_any}
+use Rattle.std.specs.List.Sorted.{IsPermutation}
 use Rattle.std.specs.Ordering.{is_eq, ordering_reverse}
 use Rattle.std.specs.declared.cmp.Ordering.TheVariants.{Less, Equal, Greater}
 use Rattle.std.specs.Cmp.{IsTotalOrder}
@@ -16,9 +17,11 @@ use Rattle.road_model.specs.declared.lists.PieceName.{PieceName}
 use Rattle.road_model.proofs.TotalOrders.{name_cmp_total, name_cmp_exact, then_equal}
 use Rattle.context_search.specs.declared.marks.ContextName.{ContextName}
 use Rattle.context_search.specs.declared.marks.TreeVisit.{TreeVisit}
-use Rattle.context_search.specs.Marks.{At, key_of}
+use Rattle.context_search.specs.declared.marks.Origin.{Origin}
+use Rattle.context_search.specs.declared.spots.Spot.{Spot}
+use Rattle.context_search.specs.Marks.{At, at_of, key_of}
 use Rattle.context_search.specs.Visits.{IsVisited, Marks, AreKnown, is_visited, unvisited, visit_key, names_in}
-use Rattle.context_search.specs.Visits.{kept_cmp, context_cmp}
+use Rattle.context_search.specs.Visits.{kept_cmp, context_cmp, IsMarked}
 
 abbrev Key : Type 0
 Key = PieceName × List PieceName
@@ -93,10 +96,10 @@ visited_more visits v k = list_any-append (λ w. is_eq (kept_cmp k (visit_key w)
 
 -- ---- how many contexts aren't visited
 
-one_left : Bool → ℕ
+abbrev one_left : Bool → ℕ
 one_left b = cond b 0 1
 
-fewer : (a b : Bool) → cond (a || b) 0 1 ≤ cond a 0 1
+fewer : (a b : Bool) → one_left (a || b) ≤ one_left a
 fewer true b = omega arith
 fewer false true = omega arith
 fewer false false = omega arith
@@ -108,9 +111,9 @@ none_more (x ∷ L) visits v =
     let k = key_of x in
     let h = none_more L visits v in
     let f = fewer (is_visited visits k) (is_eq (kept_cmp k (visit_key v))) in
-    let g : cond (is_visited (visits ++ v ∷ []) k) 0 1
-    ≡ cond (is_visited visits k || is_eq (kept_cmp k (visit_key v))) 0 1
-    = ap (λ b. cond b 0 1) (visited_more visits v k) in
+    let g : one_left (is_visited (visits ++ v ∷ []) k)
+    ≡ one_left (is_visited visits k || is_eq (kept_cmp k (visit_key v)))
+    = ap (λ b. one_left b) (visited_more visits v k) in
     omega (arith, h, f, g)
 
 less_in : (L : List At) (visits : List TreeVisit) (v : TreeVisit) (x : At) → In x L → visit_key v ≡ key_of x
@@ -123,16 +126,16 @@ less_in (y ∷ L) visits v x (inl same) n e =
     let now : is_visited (visits ++ v ∷ []) k ≡ true
     = visited_more visits v k ∙ ap (λ b. is_visited visits k || b) (of_key v k named) ∙ or_true (is_visited visits k) in
     let before : is_visited visits k ≡ false = ap (λ z. is_visited visits (key_of z)) (sym same) ∙ e in
-    let a : cond (is_visited (visits ++ v ∷ []) k) 0 1 ≡ 0 = ap (λ b. cond b 0 1) now in
-    let c : cond (is_visited visits k) 0 1 ≡ 1 = ap (λ b. cond b 0 1) before in
+    let a : one_left (is_visited (visits ++ v ∷ []) k) ≡ 0 = ap (λ b. one_left b) now in
+    let c : one_left (is_visited visits k) ≡ 1 = ap (λ b. one_left b) before in
     omega (arith, h, a, c)
 less_in (y ∷ L) visits v x (inr later) n e =
     let k = key_of y in
     let h = less_in L visits v x later n e in
     let f = fewer (is_visited visits k) (is_eq (kept_cmp k (visit_key v))) in
-    let g : cond (is_visited (visits ++ v ∷ []) k) 0 1
-    ≡ cond (is_visited visits k || is_eq (kept_cmp k (visit_key v))) 0 1
-    = ap (λ b. cond b 0 1) (visited_more visits v k) in
+    let g : one_left (is_visited (visits ++ v ∷ []) k)
+    ≡ one_left (is_visited visits k || is_eq (kept_cmp k (visit_key v)))
+    = ap (λ b. one_left b) (visited_more visits v k) in
     omega (arith, h, f, g)
 
 -- one fewer, where a listed context is visited that wasn't yet
@@ -154,9 +157,11 @@ module _ (cmp : ContextName → ContextName → Ordering) (by : (a b : ContextNa
   same_cmp = λ i a b. by a b i
 
   -- what a set says of a name
-  pub told : (m : Marks) → AreKnown m → (q : ContextName) (b : Bool) → b ≡ contains cmp m.known q
-      → is_visited m.visits (names_in q) ≡ b
-  told m known q b e = sym (known q) ∙ ap (λ c. contains c m.known q) (sym same_cmp) ∙ sym e
+  pub told : (m : Marks) (known : BTreeSet ContextName) → known ≡ m.known → AreKnown m → (q : ContextName) (k : Key)
+      → names_in q ≡ k → (b : Bool) → b ≡ contains cmp known q → is_visited m.visits k ≡ b
+  told m known same are q k named b e =
+      ap (is_visited m.visits) (sym named) ∙ sym (are q)
+      ∙ (λ i. contains (sym same_cmp i) (sym same i) q) ∙ sym e
 
   -- with one visit more, whose context's name is put into the set
   pub known_more : (old new : BTreeSet ContextName) (visits : List TreeVisit) (v : TreeVisit) (name : ContextName)
@@ -171,3 +176,24 @@ module _ (cmp : ContextName → ContextName → Ordering) (by : (a b : ContextNa
       ∙ swapped (contains context_cmp old q) (is_eq (context_cmp q name))
       ∙ (λ i. known q i || is_eq (kept_cmp (names_in q) (named i)))
       ∙ sym (visited_more visits v (names_in q))
+
+-- the context was visited
+pub marked_before : (m : Marks) (spot : Spot) (origin : Origin) → is_visited m.visits (key_of (at_of spot)) ≡ true
+    → IsMarked spot origin m m
+marked_before m spot origin e = inl (there m.visits (key_of (at_of spot)) e, refl)
+
+-- the context is visited anew
+pub marked_anew : (m n : Marks) (spot : Spot) (origin : Origin) (driven place : ℕ) (visits : List TreeVisit)
+    (waiting : List ℕ) → visits ≡ m.visits → waiting ≡ m.waiting → place ≡ length visits
+    → n.visits ≡ visits ++ (record { spot = spot; origin = origin; driven = driven }) ∷ []
+    → IsPermutation (place ∷ waiting) n.waiting → is_visited m.visits (key_of (at_of spot)) ≡ false
+    → IsMarked spot origin m n
+marked_anew m n spot origin driven place visits waiting same also at more waits not =
+    let k = key_of (at_of spot) in
+    inr (record {
+      fresh = λ h. false≢true (sym not ∙ is_there m.visits k h);
+      driven = driven;
+      visits = more ∙ ap (λ l. l ++ (record { spot = spot; origin = origin; driven = driven }) ∷ []) same;
+      waiting = subst (λ l. IsPermutation (length m.visits ∷ l) n.waiting) also
+          (subst (λ i. IsPermutation (i ∷ waiting) n.waiting) (at ∙ ap length same) waits);
+    })

@@ -32,6 +32,10 @@ abbrev pub IsStartMarked : List At → Begin → Marks → Marks → Type 0
 IsStartMarked L start m n = (spot : Spot) × Contains L (at_of spot) × (key_of (at_of spot) ≡ alone start)
     × IsMarked spot (Begins start.first) m n
 
+pub start_marked : (L : List At) (start : Begin) (m n : Marks) (spot : Spot) → Contains L (at_of spot)
+    → key_of (at_of spot) ≡ alone start → IsMarked spot (Begins start.first) m n → IsStartMarked L start m n
+start_marked L start m n spot has named is = (spot, has, named, is)
+
 module _ (L : List At) (start : Begin) (m n : Marks) (is : IsStartMarked L start m n) where
   pub start_grows : Grows L m n
   start_grows = marked_grows is.0 (Begins start.first) m n is.3 L is.1

@@ -97,7 +97,7 @@ impl<'a> Search<'a> {
     pub fn mark(&mut self, spot: Spot<'a>, origin: Origin, before: u64) -> Result<(), NoMemory>
         requires { AreKnown self.old }
         ensures known { OnOk result (AreKnown self.new) }
-        ensures marked { OnOk result (IsMarked spot origin self.old self.new) }
+        ensures marked { OnOk result (IsMarked spot.entry origin self.old self.new) }
     {
         name_order();
         let name = name_of(spot);
@@ -118,7 +118,7 @@ impl<'a> Search<'a> {
 
 /// The context's names.
 fn name_of<'a>(spot: Spot<'a>) -> ContextName<'a>
-    ensures { names_in result ≡ key_of (at_of spot) }
+    ensures { names_in result ≡ key_of (at_of spot.entry) }
 {
     ContextName {
         piece: spot.piece.name,

@@ -1,5 +1,7 @@
 //! The steps of what was found.
-ghost use Rattle.std.specs.Prelude.{◌≡◌, ◌+◌, ◌-◌, ◌<◌, ◌≤◌, ◌++◌, length, take, drop, IfOk, OnOk, Contains, ℕ};
+ghost use Rattle.std.specs.Prelude.{◌≡◌, ◌+◌, ◌-◌, ◌<◌, ◌≤◌, ◌++◌, length, take, drop, IfOk, OnOk, Contains, Some, ℕ};
+ghost use Rattle.std.specs.Prelude.{slice_get};
+ghost use Rattle.context_search.specs.declared.marks.TreeVisit.{TreeVisit};
 ghost use Rattle.context_search.specs.declared.marks.Origin.TheVariants.{Begins};
 ghost use Rattle.std.specs.List.{flat_map};
 ghost use Rattle.context_search.specs.Routes.{IsChain, IsRoute, Descend, AreSpelled, spelled, steps_at};
@@ -59,20 +61,29 @@ fn way_back(
 {
     let mut places = Vec::new(alloc);
     let mut at = place;
-    while let Origin::Follows(before) = visits[at].origin {
+    while let Origin::Follows(before) = origin_at(visits, at) {
         places.push(at)?;
         at = before;
     }
     places.push(at)?;
     places.reverse();
-    Ok((first_step(&visits[at]), places))
+    Ok((first_step(origin_at(visits, at)), places))
 }
 
-/// The step with which the visit begins a drive.
-fn first_step(visit: &TreeVisit<'_>) -> usize
-    ensures { (first : ℕ) → visit.now.origin ≡ Begins first → result ≡ first }
+/// How the context of the visit at the place was come to.
+fn origin_at(visits: &[TreeVisit<'_>], place: usize) -> Origin
+    requires { place < length visits.now }
+    ensures { (v : TreeVisit) × (slice_get visits.now place ≡ Some v) × (v.origin ≡ result) }
 {
-    match visit.origin {
+    let visit = visits[place];
+    visit.origin
+}
+
+/// The step with which a drive begins.
+fn first_step(origin: Origin) -> usize
+    ensures { (first : ℕ) → origin ≡ Begins first → result ≡ first }
+{
+    match origin {
         Origin::Begins(first) => first,
         Origin::Follows(_) => 0,
     }
@@ -96,13 +107,17 @@ fn add_whole(
 }
 
 /// Adds the steps of the piece of the visit.
-fn add_visit(steps: &mut Vec<Step>, visits: &[TreeVisit<'_>], place: usize) -> Result<(), NoMemory>
+fn add_visit(
+    steps: &mut Vec<Step>,
+    visits: &[TreeVisit<'_>],
+    place: usize,
+) -> Result<(), NoMemory>
     requires spelled { AreSpelled visits.now }
     requires within { place < length visits.now }
-    ensures { OnOk result (steps.new.items
-        ≡ steps.old.items ++ steps_at visits.now place) }
+    ensures { OnOk result (steps.new.items ≡ steps.old.items ++ steps_at visits.now place) }
 {
-    add_piece(steps, visits[place].spot.piece)
+    let visit = visits[place];
+    add_piece(steps, visit.spot.piece)
 }
 
 /// Adds the steps of the piece.
