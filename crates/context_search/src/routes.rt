@@ -45,8 +45,16 @@ pub fn along(
     add_whole(&mut steps, visits, &places)?;
     let goal = meeting.goal;
     add_part(alloc, &mut steps, goal.piece, 0, goal.last)?;
-    let from = first.min(steps.len());
-    Ok(Drive::from_list(Vec::from_slice(alloc, &steps[from..])?))
+    let steps = without_first(alloc, &steps, first)?;
+    Ok(Drive::from_list(steps))
+}
+
+/// The steps without so many of the first ones.
+fn without_first(alloc: Global, steps: &[Step], count: usize) -> Result<Vec<Step>, NoMemory>
+    ensures { IfOk result (λ v. v.items ≡ drop count steps.now) }
+{
+    let from = count.min(steps.len());
+    Ok(Vec::from_slice(alloc, &steps[from..])?)
 }
 
 /// With which step of the first piece the drive begins, and the places of the visits on the way, in order.
