@@ -2,10 +2,12 @@ pub mod DrivePlaces
 pub mod DriveParts
 pub mod DriveOver
 pub mod DriveSearch
+pub mod NamedMembers
+pub mod LookUps
 pub mod SearchKeys
 pub mod SearchOrder
 pub mod SearchFrontier
-pub mod SearchSpots
+pub mod SearchKnown
 pub mod SearchMarks
 pub mod SearchStarts
 pub mod SearchRoutes

@@ -6,7 +6,7 @@ use Rattle.std.specs.BTreeMap.{BTreeMap}
 use Rattle.std.proofs.lemmas.Grind.{flat_map-append}
 use Rattle.std.proofs.lemmas.List.{drop-append-le}
 use Rattle.std.proofs.lemmas.Option.{slice_get_within}
-use Rattle.ordered_lists.proofs.ListPlaces.{contains_at, one_stands}
+use Rattle.ordered_lists.proofs.ListPlaces.{one_stands}
 use Rattle.road_base.specs.declared.ids.NodeId.{NodeId}
 use Rattle.road_base.specs.declared.ids.Step.{Step}
 use Rattle.road_base.specs.Objects.{Objects}
@@ -23,12 +23,12 @@ use Rattle.context_search.specs.declared.ends.Begin.{Begin}
 use Rattle.context_search.specs.declared.ends.Goal.{Goal}
 use Rattle.context_search.specs.declared.marks.Origin.TheVariants.{Follows}
 use Rattle.context_search.specs.declared.marks.TreeVisit.{TreeVisit}
-use Rattle.context_search.specs.Marks.{At, key_of}
+use Rattle.context_search.specs.Marks.{At, at_of, key_of}
 use Rattle.context_search.specs.Reaching.{LeadsTo}
 use Rattle.context_search.specs.Searching.{BeginsAt, LeadsAlong, along_pieces}
 use Rattle.context_search.specs.Sought.{IsSpot, IsGoalAt, AreSpots, AreStarts, AreGoals}
 use Rattle.context_search.specs.Routes.{IsChain, One, More, spelled, steps_at}
-use Rattle.context_search.specs.Visits.{Marks, IsSearch, Comes, Begun, AreBegun, LeadsBy, Meets}
+use Rattle.context_search.specs.Visits.{Marks, IsSearch, Comes, Begun, AreBegun, Meets, visit_key, target_key}
 use Rattle.context_search.proofs.SearchRoutes.{steps_known}
 use Rattle.context_search.proofs.SearchTargets.{arc_of, arc_target, same_context, spot_spelled, entry_spells}
 
@@ -36,137 +36,129 @@ use Rattle.context_search.proofs.SearchTargets.{arc_of, arc_target, same_context
 drop_first : (x y z : List Step) (n : ℕ) → n < length x → drop n ((x ++ y) ++ z) ≡ drop n x ++ (y ++ z)
 drop_first x y z n h = ap (drop n) (append_assoc x y z) ∙ drop-append-le n x (y ++ z) (omega arith)
 
-module _ (M : Objects) (P : Rules) (L : List At) (visits : List TreeVisit) (a : NodeId) (first : ℕ) where
+module _ (M : Objects) (P : Rules) (visits : List TreeVisit) (a : NodeId) (first : ℕ) where
   -- the pieces of the visits at these places are those of a walk from the node to the context of the visit at place k
   pub record Driven (places : List ℕ) (k : ℕ) : Type 0 where
     pub visit : TreeVisit
     pub at : slice_get visits k ≡ Some visit
-    pub spot : At
-    pub spot_at : slice_get L visit.number ≡ Some spot
     pub context : List Span
-    pub is : IsSpot M P context spot
+    pub is : IsSpot M P context (at_of visit.spot)
     pub piece : Span
     pub whole : List Span
     pub walks : WalksTo M P (piece ∷ whole) context
     pub begins : BeginsAt M piece first a
-    pub spells : flat_map (steps_at L visits) places ≡ spell_pieces (piece ∷ whole)
+    pub spells : flat_map (steps_at visits) places ≡ spell_pieces (piece ∷ whole)
 
-  module _ (one : OnePiece M P) (are : AreSpots M P L) where
-    spot_steps : (k : ℕ) (v : TreeVisit) (x : At) → slice_get visits k ≡ Some v → slice_get L v.number ≡ Some x
-        → (b : List Span) (q : Span) → IsSpot M P (b ++ q ∷ []) x → steps_at L visits k ≡ spell q
-    spot_steps k v x at x_at b q s = steps_known L visits k v x at x_at ∙ spot_spelled M P b q x s
+  visit_steps : (k : ℕ) (v : TreeVisit) → slice_get visits k ≡ Some v
+      → (b : List Span) (q : Span) → IsSpot M P (b ++ q ∷ []) (at_of v.spot) → steps_at visits k ≡ spell q
+  visit_steps k v at b q s = steps_known visits k v at ∙ spot_spelled M P b q (at_of v.spot) s
 
+  module _ (one : OnePiece M P) (L : List At) (are : AreSpots M P L) where
     driven_one : (starts : List Begin) → AreStarts M P a starts → (k : ℕ) (v : TreeVisit) → slice_get visits k ≡ Some v
-        → Begun L starts v.number first → Driven (k ∷ []) k
-    driven_one starts start k v at begun =
+        → Contains L (at_of v.spot) → Begun starts (visit_key v) first → Driven (k ∷ []) k
+    driven_one starts start k v at has begun =
         let s = start.sound begun.start begun.is in
         let p = s.listed.piece in
-        let x = begun.from in
-        let spot = are.sound x (contains_at L v.number x begun.at) in
+        let x = at_of v.spot in
+        let spot = are.sound x has in
         let named : key_of x ≡ (name_of p, []) = begun.named ∙ ap (λ n. (n, [])) s.listed.named in
         let same : spot.0 ≡ p ∷ [] = same_context M P one spot.0 x spot.1 [] p tt s.listed.is named in
         let is : IsSpot M P (p ∷ []) x = subst (λ c. IsSpot M P c x) same spot.1 in
         record {
           visit = v;
           at = at;
-          spot = x;
-          spot_at = begun.at;
           context = p ∷ [];
           is = is;
           piece = p;
           whole = [];
           walks = Start p s.listed.is refl refl;
           begins = subst (λ i. BeginsAt M p i a) begun.step s.begins;
-          spells = ap (λ l. l ++ []) (spot_steps k v x at begun.at [] p is);
+          spells = ap (λ l. l ++ []) (visit_steps k v at [] p is);
         }
 
     -- an arc from the context of what was driven leads to the one of the visit at place k
     driven_arc : (js : List ℕ) (j : ℕ) → (d : Driven js j) → (k : ℕ) (v : TreeVisit) → slice_get visits k ≡ Some v
-        → (arc : TurnArc) → Contains d.spot.context.arcs arc → LeadsBy L d.spot arc v.number
-        → Driven (js ++ k ∷ []) k
-    driven_arc js j d k v at arc has leads =
-        let r = arc_of M P d.context d.spot d.is arc has in
-        let t = arc_target M P d.context d.spot d.is arc r in
-        let y = leads.to in
-        let spot = are.sound y (contains_at L v.number y leads.at) in
+        → Contains L (at_of v.spot) → (arc : TurnArc) → Contains d.visit.spot.context.now.arcs arc
+        → visit_key v ≡ target_key (at_of d.visit.spot) arc → Driven (js ++ k ∷ []) k
+    driven_arc js j d k v at listed arc has leads =
+        let from = at_of d.visit.spot in
+        let r = arc_of M P d.context from d.is arc has in
+        let t = arc_target M P d.context from d.is arc r in
+        let y = at_of v.spot in
+        let spot = are.sound y listed in
         let named : key_of y ≡ (name_of r.piece, map name_of t.before)
-        = leads.named ∙ (λ i. (r.named i, t.names i)) in
+        = leads ∙ (λ i. (r.named i, t.names i)) in
         let same : spot.0 ≡ t.before ++ r.piece ∷ []
         = same_context M P one spot.0 y spot.1 t.before r.piece t.pieces r.arc.by named in
         let is : IsSpot M P (t.before ++ r.piece ∷ []) y = subst (λ c. IsSpot M P c y) same spot.1 in
         let goes : IsArc M P d.context r.piece (t.before ++ r.piece ∷ [])
         = subst (λ c. IsArc M P d.context r.piece c) t.is r.arc in
-        let steps = spot_steps k v y at leads.at t.before r.piece is in
+        let steps = visit_steps k v at t.before r.piece is in
         record {
           visit = v;
           at = at;
-          spot = y;
-          spot_at = leads.at;
           context = t.before ++ r.piece ∷ [];
           is = is;
           piece = d.piece;
           whole = d.whole ++ r.piece ∷ [];
           walks = Go (d.piece ∷ d.whole) d.context r.piece d.walks goes refl;
           begins = d.begins;
-          spells = flat_map-append (steps_at L visits) js (k ∷ [])
-              ∙ ap (λ l. l ++ (steps_at L visits k ++ [])) d.spells
-              ∙ ap (λ l. spell_pieces (d.piece ∷ d.whole) ++ l) (append-nil (steps_at L visits k) ∙ steps)
+          spells = flat_map-append (steps_at visits) js (k ∷ [])
+              ∙ ap (λ l. l ++ (steps_at visits k ++ [])) d.spells
+              ∙ ap (λ l. spell_pieces (d.piece ∷ d.whole) ++ l) (append-nil (steps_at visits k) ∙ steps)
               ∙ sym (spell_pieces-push (d.piece ∷ d.whole) r.piece);
         }
 
     driven_more : (js : List ℕ) (j : ℕ) → (d : Driven js j) → (k : ℕ) (v : TreeVisit) → slice_get visits k ≡ Some v
-        → Comes L visits j v.number → Driven (js ++ k ∷ []) k
-    driven_more js j d k v at c =
+        → Contains L (at_of v.spot) → Comes visits j (visit_key v) → Driven (js ++ k ∷ []) k
+    driven_more js j d k v at listed c =
         let same : c.before ≡ d.visit = one_stands visits j c.before d.visit c.at d.at in
-        let from_at : slice_get L d.visit.number ≡ Some c.from
-        = subst (λ (w : TreeVisit). slice_get L w.number ≡ Some c.from) same c.from_at in
-        let spot : c.from ≡ d.spot = one_stands L d.visit.number c.from d.spot from_at d.spot_at in
-        driven_arc js j d k v at c.arc (subst (λ (x : At). Contains x.context.arcs c.arc) spot c.has)
-        (subst (λ (x : At). LeadsBy L x c.arc v.number) spot c.leads)
+        driven_arc js j d k v at listed c.arc
+        (subst (λ (w : TreeVisit). Contains w.spot.context.now.arcs c.arc) same c.has)
+        (subst (λ (w : TreeVisit). visit_key v ≡ target_key (at_of w.spot) c.arc) same c.leads)
 
     module _ (m : Marks) (same : m.visits ≡ visits) (starts : List Begin) (start : AreStarts M P a starts)
-        (search : IsSearch L m) (begun : AreBegun L starts m) where
+        (search : IsSearch L m) (begun : AreBegun starts m) where
       stood : (k : ℕ) (v : TreeVisit) → slice_get visits k ≡ Some v → slice_get m.visits k ≡ Some v
       stood k v e = subst (λ (l : List TreeVisit). slice_get l k ≡ Some v) (sym same) e
 
-      comes : (k j : ℕ) (v : TreeVisit) → slice_get visits k ≡ Some v → v.origin ≡ Follows j → Comes L visits j v.number
-      comes k j v e o = subst (λ (l : List TreeVisit). Comes L l j v.number) same (search.comes k j v (stood k v e) o).1
+      comes : (k j : ℕ) (v : TreeVisit) → slice_get visits k ≡ Some v → v.origin ≡ Follows j
+          → Comes visits j (visit_key v)
+      comes k j v e o = subst (λ (l : List TreeVisit). Comes l j (visit_key v)) same
+          (search.comes k j v (stood k v e) o).1
 
       pub driven : {ks : List ℕ} {k : ℕ} → IsChain visits first ks k → Driven ks k
       driven (One k v e o is) = subst (λ l. Driven l k) (sym is)
-          (driven_one starts start k v e (begun k first v (stood k v e) o))
+          (driven_one starts start k v e (search.listed k v (stood k v e)) (begun k first v (stood k v e) o))
       driven (More js j k v chain e o is) = subst (λ l. Driven l k) (sym is)
-          (driven_more js j (driven chain) k v e (comes k j v e o))
+          (driven_more js j (driven chain) k v e (search.listed k v (stood k v e)) (comes k j v e o))
 
   module _ (one : OnePiece M P) (b : NodeId) (goals : BTreeMap PieceName Goal) (are : AreGoals M P b goals)
       (leads : LeadsAlong M P a b) (places : List ℕ) (place : ℕ) (goal : Goal) (d : Driven places place)
     where
       -- from the context of what was driven an arc leads to the goal
-      led_by : (arc : TurnArc) → Contains d.spot.context.arcs arc → (to : IsGoalAt M P b arc.piece goal)
+      led_by : (arc : TurnArc) → Contains d.visit.spot.context.now.arcs arc → (to : IsGoalAt M P b arc.piece goal)
           → LeadsTo M P a b (along_pieces d.piece first d.whole to.listed.piece goal.last)
       led_by arc has to =
-          let r = arc_of M P d.context d.spot d.is arc has in
+          let r = arc_of M P d.context (at_of d.visit.spot) d.is arc has in
           let q = to.listed.piece in
           let same : r.piece ≡ q = one r.piece q r.arc.by to.listed.is
           (sym r.named ∙ sym to.named ∙ to.listed.named) in
           let goes = subst (λ t. IsArc M P d.context t r.target) same r.arc in
           leads d.piece first d.whole d.context q goal.last r.target d.walks goes d.begins to.stops
 
-      route_is : (to : List Step) → drop first (flat_map (steps_at L visits) places ++ to)
+      route_is : (to : List Step) → drop first (flat_map (steps_at visits) places ++ to)
           ≡ drop first (spell d.piece) ++ (spell_pieces d.whole ++ to)
       route_is to = ap (λ l. drop first (l ++ to)) d.spells
           ∙ drop_first (spell d.piece) (spell_pieces d.whole) to first
           (slice_get_within (spell d.piece) first d.begins.step d.begins.at)
 
-      pub leads_along : Meets L goals visits place goal → (route : List Step)
-          → route ≡ drop first (flat_map (steps_at L visits) places ++ take (goal.last + 1) (spelled goal.piece.now))
+      pub leads_along : Meets goals visits place goal → (route : List Step)
+          → route ≡ drop first (flat_map (steps_at visits) places ++ take (goal.last + 1) (spelled goal.piece.now))
           → LeadsTo M P a b route
       leads_along met route is =
           let same : met.visit ≡ d.visit = one_stands visits place met.visit d.visit met.at d.at in
-          let from_at : slice_get L d.visit.number ≡ Some met.from
-          = subst (λ (w : TreeVisit). slice_get L w.number ≡ Some met.from) same met.from_at in
-          let spot : met.from ≡ d.spot = one_stands L d.visit.number met.from d.spot from_at d.spot_at in
-          let has = subst (λ (x : At). Contains x.context.arcs met.arc) spot met.has in
+          let has = subst (λ (w : TreeVisit). Contains w.spot.context.now.arcs met.arc) same met.has in
           let to = are.sound met.arc.piece goal met.met in
           let last = ap (take (goal.last + 1)) (entry_spells M P to.way goal.piece.now to.listed) in
           subst (LeadsTo M P a b)

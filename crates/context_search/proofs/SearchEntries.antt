@@ -7,6 +7,7 @@ use Rattle.std.specs.Cmp.{IsTotalOrder}
 use Rattle.std.specs.FinMap.{FinMap, get}
 use Rattle.road_base.specs.Objects.{Objects}
 use Rattle.road_model.specs.declared.lists.Piece.{Piece}
+use Rattle.road_model.specs.declared.lists.PieceName.{PieceName}
 use Rattle.road_model.specs.declared.blocks.Block.{Block}
 use Rattle.road_model.specs.Rules.{Rules}
 use Rattle.road_model.specs.Pieces.{Span, IsPiece}
@@ -22,6 +23,7 @@ use Rattle.ordered_lists.proofs.ListMembers.{contains_flat, contains_from_flat}
 use Rattle.road_model.proofs.WalkLists.{context_pieces}
 use Rattle.road_model.proofs.SomeGraph.{context_of, piece_entry, entry_named}
 use Rattle.context_search.specs.Marks.{At, at_by, contexts_at, contexts_over, all_contexts}
+use Rattle.context_search.specs.Listed.{AreInOrder}
 use Rattle.context_search.specs.Sought.{IsSpot, AreSpots}
 use Rattle.road_model.proofs.FileWalks.{context_before, some_piece}
 use Rattle.context_search.proofs.SearchOrder.{AreOrdered, all_rise}
@@ -132,6 +134,18 @@ module _ (M : Objects) (P : Rules) where
       sound = sound_spot;
       complete = spot_complete;
     }
+
+  -- the blocks of a graph stand in order
+  pub in_order : (m : FinMap way_cmp Block) → AreBlocksOf M P m → AreInOrder m
+  in_order m are = record {
+    ways = λ w b e. ((are w b).0 e).0;
+    pieces = λ w b e. ((are w b).0 e).1.block.pieces.ascending;
+    named = λ w b e p i.
+        let r = (are w b).0 e in
+        let l = r.1.block.pieces.sound p i in
+        ap (λ (n : PieceName). n.way) l.named ∙ l.of ∙ r.0;
+    contexts = λ w b e p i. (((are w b).0 e).1.block.pieces.sound p i).contexts.ascending;
+  }
 
 -- what holds of a list holds of a value that is seen as it
 pub seen_as : {T E : Type 0} {A : Type 0} (r : Result T E) (f : T → A) (l : A) (Q : A → Type 0) → Q l

@@ -1,53 +1,37 @@
--- What stays when one context more is marked.
-use Rattle.std.proofs.Common.{◌≡◌, ◌⊎◌, inl, inr, ℕ, zero, suc, ◌+◌, ◌<◌, ◌≤◌, List, [], ◌∷◌, ◌++◌, length}
-use Rattle.std.proofs.Common.{Option, Some, None, Bool, true, false, slice_get, slice_set, Contains, refl, sym, ◌∙◌}
-use Rattle.std.proofs.Common.{ap, subst, arith, take, get_or, MatchOption}
+-- What stays when one context more is visited.
+use Rattle.std.proofs.Common.{◌≡◌, ◌⊎◌, inl, inr, ℕ, ◌+◌, ◌*◌, ◌<◌, ◌≤◌, List, [], ◌∷◌, ◌++◌, length}
+use Rattle.std.proofs.Common.{Option, Some, None, false, slice_get, Contains, refl, sym, ◌∙◌}
+use Rattle.std.proofs.Common.{ap, subst, arith, take, get_or, MatchOption, Result, Ok, Err, OnOk}
 use Rattle.std.specs.Prelude.{is_some}
 use Rattle.std.specs.BTreeMap.{BTreeMap}
 use Rattle.std.specs.List.Sorted.{IsPermutation}
 use Rattle.std.proofs.lemmas.List.{length_push, take_more, take_all}
 use Rattle.std.proofs.lemmas.List.Sorted.{Contains-permutation, IsPermutation-sym, length_permutation}
 use Rattle.ordered_lists.proofs.ListMembers.{contains_head, contains_later, contains_cases, contains_more, contains_none}
-use Rattle.ordered_lists.proofs.ListPlaces.{stands_left, stands_last, stands_cases, some_at, one_stands}
+use Rattle.ordered_lists.proofs.ListPlaces.{stands_left, stands_last, stands_cases, one_stands}
 use Rattle.road_model.specs.declared.lists.PieceName.{PieceName}
 use Rattle.road_model.specs.declared.lists.TurnArc.{TurnArc}
 use Rattle.context_search.specs.declared.ends.Goal.{Goal}
 use Rattle.context_search.specs.declared.marks.Origin.{Origin}
 use Rattle.context_search.specs.declared.marks.Origin.TheVariants.{Begins, Follows}
 use Rattle.context_search.specs.declared.marks.TreeVisit.{TreeVisit}
-use Rattle.context_search.specs.Marks.{At}
-use Rattle.context_search.specs.Visits.{Marks, IsSearch, IsVisited, Comes, IsNew, IsMarked, Grows, NoneBegun, unmarked}
-use Rattle.context_search.specs.Visits.{left}
-use Rattle.context_search.specs.Visits.{AreFollowed, IsClosed, AreClosed, LeadsBy, goal_in}
+use Rattle.context_search.specs.declared.spots.Spot.{Spot}
+use Rattle.context_search.specs.Marks.{At, at_of, key_of}
+use Rattle.context_search.specs.Visits.{Marks, IsSearch, IsVisited, Comes, IsNew, IsMarked, Grows, NoneBegun, AreKnown}
+use Rattle.context_search.specs.Visits.{left, unvisited, visit_key, target_key}
+use Rattle.context_search.specs.Visits.{AreFollowed, IsClosed, AreClosed, goal_in}
+use Rattle.context_search.proofs.SearchKnown.{not_there, less_by_one}
 
--- ---- marks in a list
-
-unmark : (bs : List Bool) (i : ℕ) → slice_get bs i ≡ Some false → unmarked (slice_set bs i true) + 1 ≡ unmarked bs
-unmark [] i e = cc
-unmark (true ∷ bs) zero e = cc
-unmark (false ∷ bs) zero e = omega arith
-unmark (b ∷ bs) (suc i) e = let h = unmark bs i e in omega arith
-
-set_cases : (bs : List Bool) (i k : ℕ) → slice_get (slice_set bs i true) k ≡ Some true
-    → (k ≡ i) ⊎ (slice_get bs k ≡ Some true)
-set_cases [] i k e = cc
-set_cases (b ∷ bs) zero zero e = inl refl
-set_cases (b ∷ bs) zero (suc k) e = inr e
-set_cases (b ∷ bs) (suc i) zero e = inr e
-set_cases (b ∷ bs) (suc i) (suc k) e = elim (set_cases bs i k e) [ inl h ↦ inl (ap suc h) | inr h ↦ inr h ]
-
-set_length : (bs : List Bool) (i : ℕ) → length (slice_set bs i true) ≡ length bs
-set_length [] i = refl
-set_length (b ∷ bs) zero = refl
-set_length (b ∷ bs) (suc i) = ap suc (set_length bs i)
+abbrev Key : Type 0
+Key = PieceName × List PieceName
 
 -- ---- what grows
 
-pub grows_same : (m : Marks) → Grows m m
-grows_same m = record { stays = λ k v e. e; waits = λ k h. h; new = λ k v e. inl e; less = omega arith }
+pub grows_same : (L : List At) (m : Marks) → Grows L m m
+grows_same L m = record { stays = λ k v e. e; waits = λ k h. h; new = λ k v e. inl e; less = omega arith }
 
-pub grows_again : (l m n : Marks) → Grows l m → Grows m n → Grows l n
-grows_again l m n g h = record {
+pub grows_again : (L : List At) (l m n : Marks) → Grows L l m → Grows L m n → Grows L l n
+grows_again L l m n g h = record {
   stays = λ k v e. h.stays k v (g.stays k v e);
   waits = λ k i. h.waits k (g.waits k i);
   new = λ k v e. elim (h.new k v e) [
@@ -65,33 +49,31 @@ begun_again l m n g h k first v e o = g k first v (h k first v e o) o
 
 module _ (m n : Marks) (stays : (k : ℕ) (v : TreeVisit) → slice_get m.visits k ≡ Some v → slice_get n.visits k ≡ Some v)
   where
-    pub visited_stays : (k : ℕ) → IsVisited m.visits k → IsVisited n.visits k
-    visited_stays k h = record { place = h.place; visit = h.visit; at = stays h.place h.visit h.at; of = h.of }
+    pub visited_stays : (k : Key) → IsVisited m.visits k → IsVisited n.visits k
+    visited_stays k h = record { place = h.place; visit = h.visit; at = stays h.place h.visit h.at; named = h.named }
 
-    pub followed_stays : (L : List At) (goals : BTreeMap PieceName Goal) (x : At) (arcs : List TurnArc)
-        → AreFollowed L goals m.visits x arcs → AreFollowed L goals n.visits x arcs
-    followed_stays L goals x arcs h a i = let f = h a i in (f.0, (f.1.0, f.1.1, visited_stays f.1.0 f.1.2))
+    pub followed_stays : (goals : BTreeMap PieceName Goal) (x : At) (arcs : List TurnArc)
+        → AreFollowed goals m.visits x arcs → AreFollowed goals n.visits x arcs
+    followed_stays goals x arcs h a i = let f = h a i in (f.0, visited_stays (target_key x a) f.1)
 
-    pub closed_stays : (L : List At) (goals : BTreeMap PieceName Goal) (v : TreeVisit) → IsClosed L goals m.visits v
-        → IsClosed L goals n.visits v
-    closed_stays L goals v h x e = followed_stays L goals x x.context.arcs (h x e)
+    pub closed_stays : (goals : BTreeMap PieceName Goal) (v : TreeVisit) → IsClosed goals m.visits v
+        → IsClosed goals n.visits v
+    closed_stays goals v h = followed_stays goals (at_of v.spot) v.spot.context.now.arcs h
 
-    pub comes_stays : (L : List At) (j number : ℕ) → Comes L m.visits j number → Comes L n.visits j number
-    comes_stays L j number h = record {
+    pub comes_stays : (j : ℕ) (k : Key) → Comes m.visits j k → Comes n.visits j k
+    comes_stays j k h = record {
       before = h.before;
       at = stays j h.before h.at;
-      from = h.from;
-      from_at = h.from_at;
       arc = h.arc;
       has = h.has;
       leads = h.leads;
     }
 
--- ---- a context that is marked anew
+-- ---- a context that is visited anew
 
-module _ (L : List At) (number : ℕ) (origin : Origin) (m n : Marks) (new : IsNew number origin m n) where
+module _ (spot : Spot) (origin : Origin) (m n : Marks) (new : IsNew spot origin m n) where
   fresh : TreeVisit
-  fresh = record { number = number; origin = origin; driven = new.driven }
+  fresh = record { spot = spot; origin = origin; driven = new.driven }
 
   visits_are : n.visits ≡ m.visits ++ fresh ∷ []
   unfolding fresh
@@ -114,16 +96,26 @@ module _ (L : List At) (number : ℕ) (origin : Origin) (m n : Marks) (new : IsN
   longer : length n.visits ≡ length m.visits + 1
   longer = ap length visits_are ∙ length_push m.visits fresh
 
-  new_less : left n ≤ left m
-  new_less =
-      let u : unmarked n.marked + 1 ≡ unmarked m.marked = subst (λ bs. unmarked bs + 1 ≡ unmarked m.marked)
-      (sym new.marked) (unmark m.marked number new.fresh) in
+  fresh_spot : fresh.spot ≡ spot
+  unfolding fresh
+  fresh_spot = refl
+
+  fresh_origin : fresh.origin ≡ origin
+  unfolding fresh
+  fresh_origin = refl
+
+  new_less : (L : List At) → Contains L (at_of spot) → left L n ≤ left L m
+  new_less L has =
+      let named : visit_key fresh ≡ key_of (at_of spot) = ap (λ (s : Spot). key_of (at_of s)) fresh_spot in
+      let u = less_by_one L m.visits fresh (at_of spot) has named
+      (not_there m.visits (key_of (at_of spot)) new.fresh) in
+      let e : unvisited L n.visits ≡ unvisited L (m.visits ++ fresh ∷ []) = ap (unvisited L) visits_are in
       let w : length n.waiting ≡ length (length m.visits ∷ m.waiting)
       = length_permutation (length m.visits ∷ m.waiting) n.waiting new.waiting in
-      omega arith
+      omega (arith, u, e, w)
 
-  new_grows : Grows m n
-  new_grows = record {
+  new_grows : (L : List At) → Contains L (at_of spot) → Grows L m n
+  new_grows L has = record {
     stays = new_stays;
     waits = λ k h. Contains-permutation (length m.visits ∷ m.waiting) n.waiting k new.waiting
         (contains_later (length m.visits) k m.waiting h);
@@ -131,52 +123,52 @@ module _ (L : List At) (number : ℕ) (origin : Origin) (m n : Marks) (new : IsN
       | inl old ↦ inl old
       | inr last ↦ inr (subst (λ j. Contains n.waiting j) (sym last.0) new_waits)
     ];
-    less = new_less;
+    less = new_less L has;
   }
 
-  new_visited : IsVisited n.visits number
-  unfolding fresh
-  new_visited = record { place = length m.visits; visit = fresh; at = new_last; of = refl }
+  new_visited : IsVisited n.visits (key_of (at_of spot))
+  new_visited = record {
+    place = length m.visits;
+    visit = fresh;
+    at = new_last;
+    named = ap (λ (s : Spot). key_of (at_of s)) fresh_spot;
+  }
 
-  new_within : IsSearch L m → (k : ℕ) → Contains n.waiting k → k < length n.visits
-  new_within s k h =
+  new_within : ((k : ℕ) → Contains m.waiting k → k < length m.visits) → (k : ℕ) → Contains n.waiting k
+      → k < length n.visits
+  new_within within k h =
       let l = longer in
       let back = Contains-permutation n.waiting (length m.visits ∷ m.waiting) k
       (IsPermutation-sym (length m.visits ∷ m.waiting) n.waiting new.waiting) h in
       elim (contains_cases (length m.visits) k m.waiting back) [
         | inl e ↦ omega (arith, e)
-        | inr i ↦ let b = s.within k i in omega arith
+        | inr i ↦ let b = within k i in omega arith
       ]
 
   new_origin : (v : TreeVisit) (o : Origin) → v ≡ fresh → v.origin ≡ o → origin ≡ o
-  unfolding fresh
-  new_origin v o e f = sym (ap (λ w. w.origin) e) ∙ f
+  new_origin v o e f = sym fresh_origin ∙ sym (ap (λ (w : TreeVisit). w.origin) e) ∙ f
 
-  new_number : (v : TreeVisit) → v ≡ fresh → v.number ≡ number
-  unfolding fresh
-  new_number v e = ap (λ w. w.number) e
+  new_spot : (v : TreeVisit) → v ≡ fresh → v.spot ≡ spot
+  new_spot v e = ap (λ (w : TreeVisit). w.spot) e ∙ fresh_spot
 
-  pub new_keeps : IsSearch L m → number < length L
-      → ((j : ℕ) → origin ≡ Follows j → (j < length m.visits) × Comes L m.visits j number) → IsSearch L n
-  new_keeps s within comes = record {
-    count = ap length new.marked ∙ set_length m.marked number ∙ s.count;
-    numbers = λ k v e. elim (new_cases k v e) [
-      | inl old ↦ s.numbers k v old
-      | inr last ↦ subst (λ i. i < length L) (sym (new_number v last.1)) within
+  new_keeps : (L : List At) → IsSearch L m → AreKnown n → Contains L (at_of spot)
+      → ((j : ℕ) → origin ≡ Follows j → (j < length m.visits) × Comes m.visits j (key_of (at_of spot))) → IsSearch L n
+  new_keeps L s known has comes = record {
+    known = known;
+    listed = λ k v e. elim (new_cases k v e) [
+      | inl old ↦ s.listed k v old
+      | inr last ↦ subst (λ (z : Spot). Contains L (at_of z)) (sym (new_spot v last.1)) has
     ];
     comes = λ k j v e o. elim (new_cases k v e) [
-      | inl old ↦ let h = s.comes k j v old o in (h.0, comes_stays m n new_stays L j v.number h.1)
+      | inl old ↦ let h = s.comes k j v old o in (h.0, comes_stays m n new_stays j (visit_key v) h.1)
       | inr last ↦
           let h = comes j (new_origin v (Follows j) last.1 o) in (
             subst (λ i. j < i) (sym last.0) h.0,
-            subst (λ i. Comes L n.visits j i) (sym (new_number v last.1)) (comes_stays m n new_stays L j number h.1),
+            subst (λ (z : Spot). Comes n.visits j (key_of (at_of z))) (sym (new_spot v last.1))
+            (comes_stays m n new_stays j (key_of (at_of spot)) h.1),
           )
     ];
-    known = λ k e. elim (set_cases m.marked number k (subst (λ bs. slice_get bs k ≡ Some true) new.marked e)) [
-      | inl same ↦ subst (λ i. IsVisited n.visits i) (sym same) new_visited
-      | inr old ↦ visited_stays m n new_stays k (s.known k old)
-    ];
-    within = new_within s;
+    within = new_within s.within;
   }
 
   new_begun : (j : ℕ) → origin ≡ Follows j → NoneBegun m n
@@ -186,43 +178,43 @@ module _ (L : List At) (number : ℕ) (origin : Origin) (m n : Marks) (new : IsN
         let h : Follows j ≡ Begins first = sym f ∙ g in cc
   ]
 
--- ---- a context that is marked
+-- ---- a context that is visited
 
-module _ (L : List At) (number : ℕ) (origin : Origin) (m n : Marks) (is : IsMarked number origin m n) where
-  pub marked_grows : Grows m n
-  marked_grows = elim is [
-    | inl h ↦ subst (λ l. Grows m l) (sym h.1) (grows_same m)
-    | inr new ↦ new_grows L number origin m n new
+module _ (spot : Spot) (origin : Origin) (m n : Marks) (is : IsMarked spot origin m n) where
+  pub marked_grows : (L : List At) → Contains L (at_of spot) → Grows L m n
+  marked_grows L has = elim is [
+    | inl h ↦ subst (λ l. Grows L m l) (sym h.1) (grows_same L m)
+    | inr new ↦ new_grows spot origin m n new L has
   ]
 
-  pub marked_keeps : IsSearch L m → number < length L
-      → ((j : ℕ) → origin ≡ Follows j → (j < length m.visits) × Comes L m.visits j number) → IsSearch L n
-  marked_keeps s within comes = elim is [
+  pub marked_keeps : (L : List At) → IsSearch L m → AreKnown n → Contains L (at_of spot)
+      → ((j : ℕ) → origin ≡ Follows j → (j < length m.visits) × Comes m.visits j (key_of (at_of spot))) → IsSearch L n
+  marked_keeps L s known has comes = elim is [
     | inl h ↦ subst (λ l. IsSearch L l) (sym h.1) s
-    | inr new ↦ new_keeps L number origin m n new s within comes
+    | inr new ↦ new_keeps spot origin m n new L s known has comes
   ]
 
-  pub marked_visited : IsSearch L m → IsVisited n.visits number
-  marked_visited s = elim is [
-    | inl h ↦ subst (λ l. IsVisited l.visits number) (sym h.1) (s.known number h.0)
-    | inr new ↦ new_visited L number origin m n new
+  pub marked_visited : IsVisited n.visits (key_of (at_of spot))
+  marked_visited = elim is [
+    | inl h ↦ subst (λ (l : Marks). IsVisited l.visits (key_of (at_of spot))) (sym h.1) h.0
+    | inr new ↦ new_visited spot origin m n new
   ]
 
   pub marked_begun : (j : ℕ) → origin ≡ Follows j → NoneBegun m n
   marked_begun j f = elim is [
     | inl h ↦ subst (λ l. NoneBegun m l) (sym h.1) (begun_same m)
-    | inr new ↦ new_begun L number origin m n new j f
+    | inr new ↦ new_begun spot origin m n new j f
   ]
 
   -- the visits that begin a drive are those of before, and this one
   pub marked_cases : (k : ℕ) (v : TreeVisit) → slice_get n.visits k ≡ Some v
-      → (slice_get m.visits k ≡ Some v) ⊎ ((v.number ≡ number) × (v.origin ≡ origin))
+      → (slice_get m.visits k ≡ Some v) ⊎ ((v.spot ≡ spot) × (v.origin ≡ origin))
   marked_cases k v e = elim is [
-    | inl h ↦ inl (subst (λ l. slice_get l.visits k ≡ Some v) h.1 e)
-    | inr new ↦ elim (stands_cases m.visits (record { number = number; origin = origin; driven = new.driven }) k v
+    | inl h ↦ inl (subst (λ (l : Marks). slice_get l.visits k ≡ Some v) h.1 e)
+    | inr new ↦ elim (stands_cases m.visits (record { spot = spot; origin = origin; driven = new.driven }) k v
         (subst (λ vs. slice_get vs k ≡ Some v) new.visits e)) [
           | inl old ↦ inl old
-          | inr last ↦ inr (ap (λ w. w.number) last.1, ap (λ w. w.origin) last.1)
+          | inr last ↦ inr (ap (λ (w : TreeVisit). w.spot) last.1, ap (λ (w : TreeVisit). w.origin) last.1)
         ]
   ]
 
@@ -232,72 +224,62 @@ follow_from : Origin → ℕ → ℕ
 follow_from (Begins first) d = d
 follow_from (Follows j) d = j
 
-pub follow_comes : (L : List At) (m : Marks) (place n : ℕ) (v : TreeVisit) (arc : TurnArc) → IsSearch L m
+pub follow_comes : (m : Marks) (place : ℕ) (v : TreeVisit) (arc : TurnArc) (spot : Spot)
     → place < length m.visits → slice_get m.visits place ≡ Some v
-    → ((w : TreeVisit) (x : At) → slice_get m.visits place ≡ Some w → slice_get L w.number ≡ Some x
-    → Contains x.context.arcs arc)
-    → ((x : At) → slice_get L v.number ≡ Some x → LeadsBy L x arc n)
-    → (j : ℕ) → Follows place ≡ Follows j → (j < length m.visits) × Comes L m.visits j n
+    → ((w : TreeVisit) → slice_get m.visits place ≡ Some w → Contains w.spot.context.now.arcs arc)
+    → key_of (at_of spot) ≡ target_key (at_of v.spot) arc
+    → (j : ℕ) → Follows place ≡ Follows j → (j < length m.visits) × Comes m.visits j (key_of (at_of spot))
 unfolding follow_from
-follow_comes L m place n v arc s within at has leads j e =
+follow_comes m place v arc spot within at has leads j e =
     let same : place ≡ j = ap (λ o. follow_from o 0) e in
-    let x = some_at L v.number (s.numbers place v at) in
-    let c : Comes L m.visits place n = record {
-      before = v;
-      at = at;
-      from = x.0;
-      from_at = x.1;
-      arc = arc;
-      has = has v x.0 at x.1;
-      leads = leads x.0 x.1;
-    } in
-    subst (λ i. (i < length m.visits) × Comes L m.visits i n) same (within, c)
+    let c : Comes m.visits place (key_of (at_of spot))
+    = record { before = v; at = at; arc = arc; has = has v at; leads = leads } in
+    subst (λ i. (i < length m.visits) × Comes m.visits i (key_of (at_of spot))) same (within, c)
 
-pub follow_visits : (L : List At) (m : Marks) (visits : List TreeVisit) (place n : ℕ) (v : TreeVisit) (arc : TurnArc)
-    → slice_get m.visits place ≡ Some v → ((y : At) → slice_get L v.number ≡ Some y → LeadsBy L y arc n)
-    → IsVisited visits n
-    → (w : TreeVisit) (x : At) → slice_get m.visits place ≡ Some w → slice_get L w.number ≡ Some x
-    → (i : ℕ) × LeadsBy L x arc i × IsVisited visits i
-follow_visits L m visits place n v arc at leads visited w x also from =
+pub follow_visits : (m : Marks) (visits : List TreeVisit) (place : ℕ) (v : TreeVisit) (arc : TurnArc) (k : Key)
+    → slice_get m.visits place ≡ Some v → k ≡ target_key (at_of v.spot) arc → IsVisited visits k
+    → (w : TreeVisit) → slice_get m.visits place ≡ Some w → IsVisited visits (target_key (at_of w.spot) arc)
+follow_visits m visits place v arc k at leads visited w also =
     let same = one_stands m.visits place v w at also in
-    (n, leads x (subst (λ u. slice_get L u.number ≡ Some x) (sym same) from), visited)
+    subst (λ (u : TreeVisit). IsVisited visits (target_key (at_of u.spot) arc)) same
+    (subst (IsVisited visits) leads visited)
 
 -- ---- all arcs of a context
 
-pub same_context : (L : List At) (visits : List TreeVisit) (place : ℕ) (v w : TreeVisit) (x y : At)
-    → slice_get visits place ≡ Some v → slice_get visits place ≡ Some w → slice_get L v.number ≡ Some x
-    → slice_get L w.number ≡ Some y → x ≡ y
-same_context L visits place v w x y at also from too =
-    let same = one_stands visits place v w at also in
-    one_stands L w.number x y (subst (λ u. slice_get L u.number ≡ Some x) same from) too
-
-pub more_followed : (L : List At) (goals : BTreeMap PieceName Goal) (visits : List TreeVisit) (x : At)
+pub more_followed : (goals : BTreeMap PieceName Goal) (visits : List TreeVisit) (x : At)
     (items : List TurnArc) (i : ℕ) (d : TurnArc)
     → i < length items → goal_in goals (get_or items i d).piece ≡ None
-    → ((n : ℕ) × LeadsBy L x (get_or items i d) n × IsVisited visits n)
-    → AreFollowed L goals visits x (take i items) → AreFollowed L goals visits x (take (i + 1) items)
-more_followed L goals visits x items i d h none leads f a has =
+    → IsVisited visits (target_key x (get_or items i d))
+    → AreFollowed goals visits x (take i items) → AreFollowed goals visits x (take (i + 1) items)
+more_followed goals visits x items i d h none leads f a has =
     let arc = get_or items i d in
     elim (contains_more (take i items) arc a (subst (λ l. Contains l a) (take_more items i d h) has)) [
       | inl old ↦ f a old
       | inr same ↦ subst
-          (λ b. (goal_in goals b.piece ≡ None) × ((n : ℕ) × LeadsBy L x b n × IsVisited visits n)) (sym same)
+          (λ (b : TurnArc). (goal_in goals b.piece ≡ None) × IsVisited visits (target_key x b)) (sym same)
           (none, leads)
     ]
 
-pub all_followed : (L : List At) (goals : BTreeMap PieceName Goal) (visits : List TreeVisit) (x y : At)
-    (items : List TurnArc) (i : ℕ) → length items ≤ i → items ≡ y.context.arcs → x ≡ y
-    → AreFollowed L goals visits x (take i items) → AreFollowed L goals visits x x.context.arcs
-all_followed L goals visits x y items i h e same f a has =
-    let all : items ≡ x.context.arcs = e ∙ ap (λ z. z.context.arcs) (sym same) in
-    f a (subst (λ l. Contains l a) (sym (take_all i items h)) (subst (λ l. Contains l a) (sym all) has))
+pub all_followed : (goals : BTreeMap PieceName Goal) (visits : List TreeVisit) (x : At)
+    (items : List TurnArc) (i : ℕ) → length items ≤ i → items ≡ x.context.arcs
+    → AreFollowed goals visits x (take i items) → AreFollowed goals visits x x.context.arcs
+all_followed goals visits x items i h e f a has =
+    f a (subst (λ l. Contains l a) (sym (take_all i items h)) (subst (λ l. Contains l a) (sym e) has))
 
 -- ---- a place that is taken out
 
 pub record IsPopped (m p : Marks) (place : ℕ) : Type 0 where
-  pub marked : p.marked ≡ m.marked
+  pub known : p.known ≡ m.known
   pub visits : p.visits ≡ m.visits
   pub waiting : IsPermutation m.waiting (place ∷ p.waiting)
+
+-- what is known stays
+known_same : (m p : Marks) → p.known ≡ m.known → p.visits ≡ m.visits → AreKnown m → AreKnown p
+known_same m p e f known =
+    let g : AreKnown (record { known = p.known; visits = p.visits; waiting = m.waiting })
+    = subst (λ s. AreKnown (record { known = s; visits = p.visits; waiting = m.waiting })) (sym e)
+    (subst (λ vs. AreKnown (record { known = m.known; visits = vs; waiting = m.waiting })) (sym f) known) in
+    g
 
 module _ (L : List At) (m p : Marks) (place : ℕ) (popped : IsPopped m p place) where
   back_waits : (k : ℕ) → Contains (place ∷ p.waiting) k → Contains m.waiting k
@@ -309,79 +291,80 @@ module _ (L : List At) (m p : Marks) (place : ℕ) (popped : IsPopped m p place)
 
   pub popped_keeps : IsSearch L m → IsSearch L p
   popped_keeps s = record {
-    count = ap length popped.marked ∙ s.count;
-    numbers = λ k v e. s.numbers k v (same_visit k v e);
-    comes = λ k j v e o. subst (λ vs. (j < k) × Comes L vs j v.number) (sym popped.visits)
+    known = known_same m p popped.known popped.visits s.known;
+    listed = λ k v e. s.listed k v (same_visit k v e);
+    comes = λ k j v e o. subst (λ vs. (j < k) × Comes vs j (visit_key v)) (sym popped.visits)
         (s.comes k j v (same_visit k v e) o);
-    known = λ k e. subst (λ vs. IsVisited vs k) (sym popped.visits)
-        (s.known k (subst (λ bs. slice_get bs k ≡ Some true) popped.marked e));
-    within = λ k h. subst (λ vs. k < length vs) (sym popped.visits)
+    within = λ k h. subst (λ (vs : List TreeVisit). k < length vs) (sym popped.visits)
         (s.within k (back_waits k (contains_later place k p.waiting h)));
   }
 
   pub popped_place : IsSearch L m → place < length p.visits
-  popped_place s = subst (λ vs. place < length vs) (sym popped.visits)
+  popped_place s = subst (λ (vs : List TreeVisit). place < length vs) (sym popped.visits)
       (s.within place (back_waits place (contains_head place p.waiting)))
 
   pub popped_begun : (n : Marks) → NoneBegun p n → NoneBegun m n
   popped_begun n h k first v e o = same_visit k v (h k first v e o)
 
-  pub popped_stays : (n : Marks) → Grows p n → (k : ℕ) → IsVisited m.visits k → IsVisited n.visits k
+  pub popped_stays : (n : Marks) → Grows L p n → (k : Key) → IsVisited m.visits k → IsVisited n.visits k
   popped_stays n g k h = visited_stays p n g.stays k (subst (λ vs. IsVisited vs k) (sym popped.visits) h)
 
-  pub less_left : (n : Marks) → Grows p n → left n < left m
+  pub less_left : (n : Marks) → Grows L p n → left L n < left L m
   less_left n g =
       let a = g.less in
-      let u : unmarked p.marked ≡ unmarked m.marked = ap unmarked popped.marked in
+      let u : unvisited L p.visits ≡ unvisited L m.visits = ap (unvisited L) popped.visits in
       let w : length (place ∷ p.waiting) ≡ length m.waiting
       = length_permutation m.waiting (place ∷ p.waiting) popped.waiting in
-      omega arith
+      omega (arith, a, u, w)
 
-  module _ (goals : BTreeMap PieceName Goal) (n : Marks) (g : Grows p n)
-      (here : (v : TreeVisit) → slice_get p.visits place ≡ Some v → IsClosed L goals n.visits v) where
+  module _ (goals : BTreeMap PieceName Goal) (n : Marks) (g : Grows L p n)
+      (here : (v : TreeVisit) → slice_get p.visits place ≡ Some v → IsClosed goals n.visits v) where
     closed_old : (k : ℕ) (v : TreeVisit) → slice_get p.visits k ≡ Some v
-        → Contains m.waiting k ⊎ IsClosed L goals m.visits v → Contains n.waiting k ⊎ IsClosed L goals n.visits v
+        → Contains m.waiting k ⊎ IsClosed goals m.visits v → Contains n.waiting k ⊎ IsClosed goals n.visits v
     closed_old k v e (inl h) =
         let c = Contains-permutation m.waiting (place ∷ p.waiting) k popped.waiting h in
         elim (contains_cases place k p.waiting c) [
           | inl same ↦ inr (here v (subst (λ i. slice_get p.visits i ≡ Some v) same e))
           | inr later ↦ inl (g.waits k later)
         ]
-    closed_old k v e (inr h) = inr (closed_stays p n g.stays L goals v
-        (subst (λ vs. IsClosed L goals vs v) (sym popped.visits) h))
+    closed_old k v e (inr h) = inr (closed_stays p n g.stays goals v
+        (subst (λ vs. IsClosed goals vs v) (sym popped.visits) h))
 
-    pub gone_on : AreClosed L goals m → AreClosed L goals n
+    pub gone_on : AreClosed goals m → AreClosed goals n
     gone_on closed k v e = elim (g.new k v e) [
       | inl old ↦ closed_old k v old (closed k v (same_visit k v old))
       | inr i ↦ inl i
     ]
 
 -- where nothing waits, all are closed
-pub all_closed : (L : List At) (goals : BTreeMap PieceName Goal) (m : Marks) → m.waiting ≡ [] → AreClosed L goals m
-    → (k : ℕ) (v : TreeVisit) → slice_get m.visits k ≡ Some v → IsClosed L goals m.visits v
-all_closed L goals m none closed k v e = elim (closed k v e) [
+pub all_closed : (goals : BTreeMap PieceName Goal) (m : Marks) → m.waiting ≡ [] → AreClosed goals m
+    → (k : ℕ) (v : TreeVisit) → slice_get m.visits k ≡ Some v → IsClosed goals m.visits v
+all_closed goals m none closed k v e = elim (closed k v e) [
   | inl h ↦ absurd (contains_none k (subst (λ l. Contains l k) none h))
   | inr c ↦ c
 ]
 
-pub emptied : (L : List At) (m p : Marks) → p.marked ≡ m.marked → p.visits ≡ m.visits → p.waiting ≡ [] → IsSearch L m
+pub emptied : (L : List At) (m p : Marks) → p.known ≡ m.known → p.visits ≡ m.visits → p.waiting ≡ [] → IsSearch L m
     → IsSearch L p
-emptied L m p marked visits none s = record {
-  count = ap length marked ∙ s.count;
-  numbers = λ k v e. s.numbers k v (subst (λ vs. slice_get vs k ≡ Some v) visits e);
-  comes = λ k j v e o. subst (λ vs. (j < k) × Comes L vs j v.number) (sym visits)
+emptied L m p known visits none s = record {
+  known = known_same m p known visits s.known;
+  listed = λ k v e. s.listed k v (subst (λ vs. slice_get vs k ≡ Some v) visits e);
+  comes = λ k j v e o. subst (λ vs. (j < k) × Comes vs j (visit_key v)) (sym visits)
       (s.comes k j v (subst (λ vs. slice_get vs k ≡ Some v) visits e) o);
-  known = λ k e. subst (λ vs. IsVisited vs k) (sym visits)
-      (s.known k (subst (λ bs. slice_get bs k ≡ Some true) marked e));
   within = λ k h. absurd (contains_none k (subst (λ l. Contains l k) none h));
 }
 
-pub closed_same : (L : List At) (goals : BTreeMap PieceName Goal) (m p : Marks) → p.visits ≡ m.visits
-    → m.waiting ≡ [] → AreClosed L goals m → (k : ℕ) (v : TreeVisit) → slice_get p.visits k ≡ Some v
-    → IsClosed L goals p.visits v
-closed_same L goals m p visits none closed k v e = subst (λ vs. IsClosed L goals vs v) (sym visits)
-    (all_closed L goals m none closed k v (subst (λ vs. slice_get vs k ≡ Some v) visits e))
+pub closed_same : (goals : BTreeMap PieceName Goal) (m p : Marks) → p.visits ≡ m.visits
+    → m.waiting ≡ [] → AreClosed goals m → (k : ℕ) (v : TreeVisit) → slice_get p.visits k ≡ Some v
+    → IsClosed goals p.visits v
+closed_same goals m p visits none closed k v e = subst (λ vs. IsClosed goals vs v) (sym visits)
+    (all_closed goals m none closed k v (subst (λ vs. slice_get vs k ≡ Some v) visits e))
 
 pub met_none : {A : Type 0} (o : Option A) (P : Type 0) (Q : A → Type 0) → is_some o ≡ false → MatchOption o P Q → P
 met_none None P Q e h = h
 met_none (Some x) P Q e h = cc
+
+-- what follows from two facts of a success
+pub both_ok : {T E : Type 0} (r : Result T E) {A B C : Type 0} → (A → B → C) → OnOk r A → OnOk r B → OnOk r C
+both_ok (Ok x) f a b = f a b
+both_ok (Err e) f a b = tt

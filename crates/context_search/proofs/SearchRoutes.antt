@@ -8,8 +8,7 @@ use Rattle.ordered_lists.proofs.ListMembers.{contains_more, contains_one}
 use Rattle.road_base.specs.declared.ids.Step.{Step}
 use Rattle.context_search.specs.declared.marks.Origin.TheVariants.{Begins, Follows}
 use Rattle.context_search.specs.declared.marks.TreeVisit.{TreeVisit}
-use Rattle.context_search.specs.Marks.{At}
-use Rattle.context_search.specs.Routes.{IsChain, One, More, steps_at, steps_by, steps_in, spelled}
+use Rattle.context_search.specs.Routes.{IsChain, One, More, steps_at, steps_in, spelled}
 
 reversed : (old new : List ℕ) (at : ℕ) → new ≡ old ++ at ∷ [] → reverse new ≡ at ∷ reverse old
 reversed old new at e = ap reverse e ∙ reverse-append old (at ∷ [])
@@ -46,10 +45,9 @@ module _ (visits : List TreeVisit) where
         | inr same ↦ subst (λ j. j < length visits) (sym same) (slice_get_within visits k v e)
       ]
 
-pub steps_known : (L : List At) (visits : List TreeVisit) (place : ℕ) (v : TreeVisit) (x : At) → slice_get visits
-    place ≡ Some v
-    → slice_get L v.number ≡ Some x → steps_at L visits place ≡ spelled x.piece
-steps_known L visits place v x e f = ap (steps_by L) e ∙ ap steps_in f
+pub steps_known : (visits : List TreeVisit) (place : ℕ) (v : TreeVisit) → slice_get visits place ≡ Some v
+    → steps_at visits place ≡ spelled v.spot.piece.now
+steps_known visits place v e = ap steps_in e
 
 pub added : {T E : Type 0} (r : Result T E) (new old a b : List Step) → a ≡ b → OnOk r (new ≡ old ++ a)
     → OnOk r (new ≡ old ++ b)

@@ -1,11 +1,10 @@
 -- What a search from starts to goals asks for and keeps, from its first visits to what it meets.
-use Rattle.std.proofs.Common.{◌≡◌, inl, inr, ℕ, zero, suc, ◌+◌, ◌-◌, ◌<◌, ◌≤◌, List, [], length, Some, true}
+use Rattle.std.proofs.Common.{◌≡◌, inl, inr, ℕ, zero, suc, ◌+◌, ◌-◌, ◌<◌, ◌≤◌, List, [], length, Some}
 use Rattle.std.proofs.Common.{slice_get, Contains}
 use Rattle.std.proofs.Common.{sym, ◌∙◌, ap, subst, arith, take, drop}
 use Rattle.std.specs.BTreeMap.{BTreeMap}
 use Rattle.std.proofs.lemmas.Option.{slice_get_within}
 use Rattle.ordered_lists.proofs.ListMembers.{contains_none}
-use Rattle.ordered_lists.proofs.ListPlaces.{contains_at}
 use Rattle.road_base.specs.declared.ids.NodeId.{NodeId}
 use Rattle.road_base.specs.declared.ids.WayId.{WayId}
 use Rattle.road_base.specs.Objects.{Objects}
@@ -18,13 +17,13 @@ use Rattle.road_model.specs.Naming.{OnePiece}
 use Rattle.context_search.specs.declared.ends.Begin.{Begin}
 use Rattle.context_search.specs.declared.ends.Goal.{Goal}
 use Rattle.context_search.specs.declared.marks.TreeVisit.{TreeVisit}
-use Rattle.context_search.specs.Marks.{At}
+use Rattle.context_search.specs.Marks.{At, at_of}
 use Rattle.context_search.specs.Reaching.{LeadsTo}
 use Rattle.context_search.specs.Searching.{StopsAt, LeadsWithin}
 use Rattle.context_search.specs.Sought.{IsStartAt, IsGoalAt, AreSpots, AreGoals}
 use Rattle.context_search.specs.Routes.{Descend, AreSpelled, spelled}
 use Rattle.context_search.proofs.SearchTargets.{entry_spells}
-use Rattle.context_search.specs.Visits.{Marks, IsSearch, IsStarted, IsVisited, AreBegun, NoneBegun, AreClosed, Grows}
+use Rattle.context_search.specs.Visits.{Marks, IsSearch, AreBegun, AreKnown, NoneBegun, AreClosed, Grows}
 use Rattle.context_search.specs.Visits.{Meets}
 
 nothing_at : (k : ℕ) (v : TreeVisit) → slice_get [] k ≡ Some v → ⊥
@@ -32,39 +31,27 @@ nothing_at zero v e = cc
 nothing_at (suc k) v e = cc
 
 module _ (L : List At) (m n : Marks) where
-  -- a search that has nothing marked
-  pub new_search : length n.marked ≡ length L → n.visits ≡ [] → n.waiting ≡ []
-      → ((k : ℕ) → slice_get n.marked k ≡ Some true → ⊥) → IsSearch L n
-  new_search count none quiet bare =
+  -- a search that has nothing visited
+  pub new_search : AreKnown n → n.visits ≡ [] → n.waiting ≡ [] → IsSearch L n
+  new_search known none quiet =
       let not : (k : ℕ) (v : TreeVisit) → slice_get n.visits k ≡ Some v → ⊥
       = λ k v e. nothing_at k v (subst (λ (l : List TreeVisit). slice_get l k ≡ Some v) none e) in
       record {
-        count = count;
-        numbers = λ k v e. absurd (not k v e);
+        known = known;
+        listed = λ k v e. absurd (not k v e);
         comes = λ k j v e o. absurd (not k v e);
-        known = λ k e. absurd (bare k e);
         within = λ k has. absurd (contains_none k (subst (λ (l : List ℕ). Contains l k) quiet has));
       }
 
   -- all first visits wait
-  pub first_closed : (goals : BTreeMap PieceName Goal) → m.visits ≡ [] → Grows m n → AreClosed L goals n
+  pub first_closed : (goals : BTreeMap PieceName Goal) → m.visits ≡ [] → Grows L m n → AreClosed goals n
   first_closed goals none g k v e = elim (g.new k v e) [
     | inl old ↦ absurd (nothing_at k v (subst (λ (l : List TreeVisit). slice_get l k ≡ Some v) none old))
     | inr waits ↦ inl waits
   ]
 
-  pub still_begun : (starts : List Begin) → AreBegun L starts m → NoneBegun m n → AreBegun L starts n
+  pub still_begun : (starts : List Begin) → AreBegun starts m → NoneBegun m n → AreBegun starts n
   still_begun starts begun none k first v e o = begun k first v (none k first v e o) o
-
-  pub still_started : (s : Begin) → ((k : ℕ) → IsVisited m.visits k → IsVisited n.visits k)
-      → IsStarted L m.visits s → IsStarted L n.visits s
-  still_started s stays is = record {
-    number = is.number;
-    from = is.from;
-    at = is.at;
-    named = is.named;
-    visited = stays is.number is.visited;
-  }
 
   pub descends : IsSearch L n → Descend n.visits
   descends s k j v e o = (s.comes k j v e o).0
@@ -77,11 +64,10 @@ module _ (M : Objects) (P : Rules) where
       let j = l.end_is in
       omega arith
 
-  pub spots_spelled : (L : List At) (m : Marks) → AreSpots M P L → IsSearch L m → AreSpelled L m.visits
-  spots_spelled L m are s = record {
-    numbers = s.numbers;
-    ascends = λ n x at. let r = are.sound x (contains_at L n x at) in entry_ascends r.1.way x.piece r.1.listed;
-  }
+  pub visits_spelled : (L : List At) (m : Marks) → AreSpots M P L → IsSearch L m → AreSpelled m.visits
+  visits_spelled L m are s k v e =
+      let r = are.sound (at_of v.spot) (s.listed k v e) in
+      entry_ascends r.1.way v.spot.piece.now r.1.listed
 
   pub goal_within : (b : NodeId) (n : PieceName) (g : Goal) → IsGoalAt M P b n g
       → g.last < length (spelled g.piece.now)
@@ -89,9 +75,9 @@ module _ (M : Objects) (P : Rules) where
       (slice_get_within (spell is.listed.piece) g.last is.stops.step is.stops.at)
 
   -- the goal that is met is one
-  pub met_goal : (b : NodeId) (L : List At) (goals : BTreeMap PieceName Goal) (visits : List TreeVisit) (place : ℕ)
-      (g : Goal) → AreGoals M P b goals → (met : Meets L goals visits place g) → IsGoalAt M P b met.arc.piece g
-  met_goal b L goals visits place g are met = are.sound met.arc.piece g met.met
+  pub met_goal : (b : NodeId) (goals : BTreeMap PieceName Goal) (visits : List TreeVisit) (place : ℕ) (g : Goal)
+      → AreGoals M P b goals → (met : Meets goals visits place g) → IsGoalAt M P b met.arc.piece g
+  met_goal b goals visits place g are met = are.sound met.arc.piece g met.met
 
   -- a piece on which a drive begins and then ends
   module _ (one : OnePiece M P) (a b : NodeId) (s : Begin) (g : Goal) (from : IsStartAt M P a s)

@@ -30,12 +30,14 @@ impl Model for Frontier {
 }
 
 impl Frontier {
-    /// No places, and room for as many. The search leads to the location.
-    pub fn new(alloc: Global, room: usize, to: Location) -> Result<Frontier, NoMemory>
-        ensures { IfOk result (λ f. f ≡ []) }
+    /// No places. The search leads to the location. Takes no memory.
+    pub fn new(alloc: Global, to: Location) -> Frontier
+        ensures { result ≡ [] }
     {
-        let heap = BinaryHeap::with_capacity(alloc, room)?;
-        Ok(Frontier { heap, to })
+        Frontier {
+            heap: BinaryHeap::new(alloc),
+            to,
+        }
     }
 
     /// Adds the place, at which so much was driven up to the end of the piece.

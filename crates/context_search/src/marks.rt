@@ -1,12 +1,16 @@
 //! The contexts that a search has visited.
-ghost use Rattle.std.specs.Prelude.{◌≡◌, ◌<◌, ◌∷◌, [], ℕ, true, length, IfOk, OnOk, IfSome, IfNone, Some, slice_get};
+ghost use Rattle.std.specs.Prelude.{◌≡◌, ◌<◌, ◌∷◌, [], length, IfOk, OnOk, IfSome, IfNone, Some, slice_get};
 ghost use Rattle.std.specs.List.Sorted.{IsPermutation};
-ghost use Rattle.context_search.specs.Visits.{IsMarked};
+ghost use Rattle.context_search.specs.Marks.{at_of, key_of};
+ghost use Rattle.context_search.specs.Visits.{AreKnown, IsMarked, names_in};
 
 use crate::frontier::{Frontier, length_of};
 use crate::spots::Spot;
 use road_base::{Location, NoMemory};
+use road_model::PieceName;
+use road_model::laws::name_order;
 use std::alloc::Global;
+use std::collections::BTreeSet;
 use std::marker::Model;
 
 /// How a context was come to.
@@ -18,57 +22,60 @@ pub enum Origin {
     Follows(usize),
 }
 
-/// A context that can be come to, by its number, and how far it is to the end of its piece.
-#[derive(Clone, Copy, Debug)]
-pub struct TreeVisit {
-    pub number: usize,
+/// A context that can be come to, how it was, and how far it is to the end of its piece.
+#[derive(Clone, Copy, Drop)]
+pub struct TreeVisit<'a> {
+    pub spot: Spot<'a>,
     pub origin: Origin,
     pub driven: u64,
 }
 
-/// Which contexts are visited, the visits in their order, and those from which the search hasn't gone on.
+/// What names a context: its piece, and the pieces before it. Names are compared in this order.
+#[derive(Clone, Copy, Drop, PartialEq, Eq, PartialOrd, Ord)]
+pub struct ContextName<'a> {
+    pub piece: PieceName,
+    pub before: &'a [PieceName],
+}
+
+/// The visits in their order, the names of their contexts, and those from which the search hasn't gone on.
 #[derive(Drop)]
-pub struct Search {
-    marked: Vec<bool>,
-    visits: Vec<TreeVisit>,
+pub struct Search<'a> {
+    known: BTreeSet<ContextName<'a>>,
+    visits: Vec<TreeVisit<'a>>,
     frontier: Frontier,
 }
 
-impl Model for Search {
+impl<'a> Model for Search<'a> {
     ghost use Rattle.context_search.specs.Visits.{Marks};
 
     ghost Value = { Marks };
 
-    ghost view = { λ s. record { marked = s.marked.items; visits = s.visits.items; waiting = s.frontier } };
+    ghost view = { λ s. record { known = s.known; visits = s.visits.items; waiting = s.frontier } };
 }
 
-impl Search {
-    /// Nothing is visited. Takes the memory for marks of so many contexts, on the way to the location.
-    pub fn new(alloc: Global, count: usize, to: Location) -> Result<Search, NoMemory>
-        ensures count { IfOk result (λ s. length s.marked ≡ count) }
-        ensures visits { IfOk result (λ s. s.visits ≡ []) }
-        ensures waiting { IfOk result (λ s. s.waiting ≡ []) }
-        ensures unmarked { IfOk result (λ s. (n : ℕ) → slice_get s.marked n ≡ Some true → ⊥) }
+impl<'a> Search<'a> {
+    /// Nothing is visited, on the way to the location. Takes no memory.
+    pub fn new(alloc: Global, to: Location) -> Search<'a>
+        ensures known { AreKnown result }
+        ensures visits { result.visits ≡ [] }
+        ensures waiting { result.waiting ≡ [] }
     {
-        let marked = Vec::from_elem(alloc, false, count)?;
-        let visits = Vec::with_capacity(alloc, count)?;
-        let frontier = Frontier::new(alloc, count, to)?;
-        Ok(Search {
-            marked,
-            visits,
-            frontier,
-        })
+        Search {
+            known: BTreeSet::new(alloc),
+            visits: Vec::new(alloc),
+            frontier: Frontier::new(alloc, to),
+        }
     }
 
-    /// The visits in the order in which the contexts were marked.
-    pub fn visits(&self) -> &[TreeVisit]
+    /// The visits in the order in which the contexts were come to.
+    pub fn visits(&self) -> &[TreeVisit<'a>]
         ensures { result.now ≡ self.now.visits }
     {
         self.visits.as_slice()
     }
 
     /// The visit at the place.
-    pub fn at(&self, place: usize) -> TreeVisit
+    pub fn at(&self, place: usize) -> TreeVisit<'a>
         requires { place < length self.now.visits }
         ensures { slice_get self.now.visits place ≡ Some result }
     {
@@ -77,7 +84,7 @@ impl Search {
 
     /// Takes out the place of the visit from which to go on.
     pub fn next(&mut self) -> Option<usize>
-        ensures marked { self.new.marked ≡ self.old.marked }
+        ensures known { self.new.known ≡ self.old.known }
         ensures visits { self.new.visits ≡ self.old.visits }
         ensures some { IfSome result (λ place. IsPermutation self.old.waiting (place ∷ self.new.waiting)) }
         ensures none { IfNone result (self.old.waiting ≡ []) }
@@ -86,30 +93,35 @@ impl Search {
         self.frontier.pop()
     }
 
-    /// Visits the context, where it isn't marked yet. So much was driven before its piece.
-    pub fn mark(
-        &mut self,
-        spots: &[Spot<'_>],
-        number: usize,
-        origin: Origin,
-        before: u64,
-    ) -> Result<(), NoMemory>
-        requires within { number < length spots.now }
-        requires count { length self.old.marked ≡ length spots.now }
-        ensures { OnOk result (IsMarked number origin self.old self.new) }
+    /// Visits the context, where it isn't visited yet. So much was driven before its piece.
+    pub fn mark(&mut self, spot: Spot<'a>, origin: Origin, before: u64) -> Result<(), NoMemory>
+        requires { AreKnown self.old }
+        ensures known { OnOk result (AreKnown self.new) }
+        ensures marked { OnOk result (IsMarked spot.entry origin self.old self.new) }
     {
-        if self.marked[number] {
+        name_order();
+        let name = name_of(spot);
+        if self.known.contains(&name) {
             return Ok(());
         }
-        let piece = spots[number].piece;
-        let driven = before.saturating_add(length_of(piece));
-        self.frontier.push(self.visits.len(), driven, piece)?;
+        let driven = before.saturating_add(length_of(spot.piece));
+        self.frontier.push(self.visits.len(), driven, spot.piece)?;
         self.visits.push(TreeVisit {
-            number,
+            spot,
             origin,
             driven,
         })?;
-        self.marked[number] = true;
+        self.known.insert(name)?;
         Ok(())
+    }
+}
+
+/// The context's names.
+fn name_of<'a>(spot: Spot<'a>) -> ContextName<'a>
+    ensures { names_in result ≡ key_of (at_of spot.entry) }
+{
+    ContextName {
+        piece: spot.piece.name,
+        before: spot.context.before.items(),
     }
 }

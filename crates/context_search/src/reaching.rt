@@ -14,7 +14,7 @@ ghost use Rattle.context_search.specs.Sought.{AreEnds, AreSpots};
 use crate::ends::{Begin, DriveEnds, Goal, ends_of, goal_at};
 use crate::following::{begin, run};
 use crate::found::Found;
-use crate::laws::searched_drives;
+use crate::laws::{listed_contexts, searched_drives};
 use crate::marks::Search;
 use crate::routes::{along, within};
 use crate::spots::{Spot, spots_of};
@@ -28,10 +28,10 @@ use std::collections::BTreeMap;
 use way_lines::is_located;
 
 /// A legal drive from node a to node b, also where they are the same, or why there is none. The blocks are those of
-/// the world under the profile. The marks of all contexts are taken before the first step of the search.
+/// the world under the profile.
 ///
-/// Takes one pass over the contexts to list them, then for each context and arc that the search comes to the time of a
-/// short search by names, and memory in proportion to the contexts.
+/// Takes for each context and arc that the search comes to the time of some searches by names, and memory in proportion
+/// to the contexts that it comes to: nothing for the rest of the graph.
 pub fn reach<M: World, P: Profile, B: LendsBlocks>(
     alloc: Global,
     world: &M,
@@ -105,19 +105,18 @@ fn drive_between<M: World, P: Profile>(
     if let Some((start, goal)) = inside_one(&ends.starts, &ends.goals) {
         return Ok(Found::Drive(within(alloc, &start, &goal)?));
     }
-    let spots = spots_in_order(alloc, network, blocks)?;
-    drive_over(alloc, network, &spots, ends, to)
+    drive_over(alloc, network, blocks, ends, to)
 }
 
-/// A drive over these contexts, which are all, where none begins and ends on one piece.
+/// A drive over several pieces, where none begins and ends on one piece.
 fn drive_over<M: World, P: Profile>(
     alloc: Global,
     network: &Network<'_, M, P>,
-    spots: &[Spot<'_>],
+    blocks: &View<'_, WayId, Block>,
     ends: &DriveEnds<'_>,
     to: Location,
 ) -> Result<Found, NoMemory>
-    requires spots { on network.now AreSpots (map at_of spots.now) }
+    requires blocks { on network.now AreBlocksOf (block_map blocks.now) }
     requires ends { on network.now AreEnds ends.now }
     requires apart { (s : Begin) (g : Goal) → Contains ends.now.starts.items s
         → goal_in ends.now.goals s.piece.now.name ≡ Some g
@@ -126,11 +125,12 @@ fn drive_over<M: World, P: Profile>(
     ensures { IfOk result (on network.now IsFound ends.now.a ends.now.b) }
 {
     searched_drives(&network.profile);
+    listed_contexts(&network.profile);
     one_name(&network.profile);
-    let mut search = Search::new(alloc, spots.len(), to)?;
-    begin(&mut search, spots, &ends.starts)?;
-    match run(alloc, &mut search, spots, &ends.goals)? {
-        Some(meeting) => Ok(Found::Drive(along(alloc, spots, search.visits(), &meeting)?)),
+    let mut search = Search::new(alloc, to);
+    begin(&mut search, blocks, &ends.starts)?;
+    match run(alloc, &mut search, blocks, &ends.goals)? {
+        Some(meeting) => Ok(Found::Drive(along(alloc, search.visits(), &meeting)?)),
         None => Ok(Found::Nowhere),
     }
 }

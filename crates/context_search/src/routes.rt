@@ -1,14 +1,14 @@
 //! The steps of what was found.
-ghost use Rattle.std.specs.Prelude.{◌≡◌, ◌+◌, ◌-◌, ◌<◌, ◌≤◌, ◌++◌, length, map, take, drop, IfOk, OnOk, Contains, ℕ};
+ghost use Rattle.std.specs.Prelude.{◌≡◌, ◌+◌, ◌-◌, ◌<◌, ◌≤◌, ◌++◌, length, take, drop, IfOk, OnOk, Contains, Some, ℕ};
+ghost use Rattle.std.specs.Prelude.{slice_get};
+ghost use Rattle.context_search.specs.declared.marks.TreeVisit.{TreeVisit};
 ghost use Rattle.context_search.specs.declared.marks.Origin.TheVariants.{Begins};
 ghost use Rattle.std.specs.List.{flat_map};
-ghost use Rattle.context_search.specs.Marks.{at_of};
 ghost use Rattle.context_search.specs.Routes.{IsChain, IsRoute, Descend, AreSpelled, spelled, steps_at};
 
 use crate::ends::{Begin, Goal};
 use crate::following::Meeting;
 use crate::marks::{Origin, TreeVisit};
-use crate::spots::Spot;
 use road_base::{Drive, NoMemory, Step};
 use road_model::Piece;
 use std::alloc::Global;
@@ -30,30 +30,37 @@ pub fn within(alloc: Global, start: &Begin<'_>, goal: &Goal<'_>) -> Result<Drive
 /// The steps of the pieces of the visits that lead to the one that met the goal, and of the goal.
 pub fn along(
     alloc: Global,
-    spots: &[Spot<'_>],
-    visits: &[TreeVisit],
+    visits: &[TreeVisit<'_>],
     meeting: &Meeting<'_>,
 ) -> Result<Drive, NoMemory>
     requires descend { Descend visits.now }
-    requires spelled { AreSpelled (map at_of spots.now) visits.now }
+    requires spelled { AreSpelled visits.now }
     requires place { meeting.now.place < length visits.now }
     requires ascends { meeting.now.goal.piece.now.name.index ≤ meeting.now.goal.piece.now.end }
     requires last { meeting.now.goal.last < length (spelled meeting.now.goal.piece.now) }
-    ensures { IfOk result (IsRoute (map at_of spots.now) visits.now meeting.now.place meeting.now.goal) }
+    ensures { IfOk result (IsRoute visits.now meeting.now.place meeting.now.goal) }
 {
     let (first, places) = way_back(alloc, visits, meeting.place)?;
     let mut steps = Vec::new(alloc);
-    add_whole(&mut steps, spots, visits, &places)?;
+    add_whole(&mut steps, visits, &places)?;
     let goal = meeting.goal;
     add_part(alloc, &mut steps, goal.piece, 0, goal.last)?;
-    let from = first.min(steps.len());
-    Ok(Drive::from_list(Vec::from_slice(alloc, &steps[from..])?))
+    let steps = without_first(alloc, &steps, first)?;
+    Ok(Drive::from_list(steps))
+}
+
+/// The steps without so many of the first ones.
+fn without_first(alloc: Global, steps: &[Step], count: usize) -> Result<Vec<Step>, NoMemory>
+    ensures { IfOk result (λ v. v.items ≡ drop count steps.now) }
+{
+    let from = count.min(steps.len());
+    Ok(Vec::from_slice(alloc, &steps[from..])?)
 }
 
 /// With which step of the first piece the drive begins, and the places of the visits on the way, in order.
 fn way_back(
     alloc: Global,
-    visits: &[TreeVisit],
+    visits: &[TreeVisit<'_>],
     place: usize,
 ) -> Result<(usize, Vec<usize>), NoMemory>
     requires descend { Descend visits.now }
@@ -62,20 +69,29 @@ fn way_back(
 {
     let mut places = Vec::new(alloc);
     let mut at = place;
-    while let Origin::Follows(before) = visits[at].origin {
+    while let Origin::Follows(before) = origin_at(visits, at) {
         places.push(at)?;
         at = before;
     }
     places.push(at)?;
     places.reverse();
-    Ok((first_step(&visits[at]), places))
+    Ok((first_step(origin_at(visits, at)), places))
 }
 
-/// The step with which the visit begins a drive.
-fn first_step(visit: &TreeVisit) -> usize
-    ensures { (first : ℕ) → visit.now.origin ≡ Begins first → result ≡ first }
+/// How the context of the visit at the place was come to.
+fn origin_at(visits: &[TreeVisit<'_>], place: usize) -> Origin
+    requires { place < length visits.now }
+    ensures { (v : TreeVisit) × (slice_get visits.now place ≡ Some v) × (v.origin ≡ result) }
 {
-    match visit.origin {
+    let visit = visits[place];
+    visit.origin
+}
+
+/// The step with which a drive begins.
+fn first_step(origin: Origin) -> usize
+    ensures { (first : ℕ) → origin ≡ Begins first → result ≡ first }
+{
+    match origin {
         Origin::Begins(first) => first,
         Origin::Follows(_) => 0,
     }
@@ -84,17 +100,16 @@ fn first_step(visit: &TreeVisit) -> usize
 /// Adds the steps of the pieces of the visits at the places.
 fn add_whole(
     steps: &mut Vec<Step>,
-    spots: &[Spot<'_>],
-    visits: &[TreeVisit],
+    visits: &[TreeVisit<'_>],
     places: &[usize],
 ) -> Result<(), NoMemory>
-    requires spelled { AreSpelled (map at_of spots.now) visits.now }
+    requires spelled { AreSpelled visits.now }
     requires within { (k : ℕ) → Contains places.now k → k < length visits.now }
     ensures { OnOk result (steps.new.items
-        ≡ steps.old.items ++ flat_map (steps_at (map at_of spots.now) visits.now) places.now) }
+        ≡ steps.old.items ++ flat_map (steps_at visits.now) places.now) }
 {
     for place in places {
-        add_visit(steps, spots, visits, *place)?;
+        add_visit(steps, visits, *place)?;
     }
     Ok(())
 }
@@ -102,18 +117,15 @@ fn add_whole(
 /// Adds the steps of the piece of the visit.
 fn add_visit(
     steps: &mut Vec<Step>,
-    spots: &[Spot<'_>],
-    visits: &[TreeVisit],
+    visits: &[TreeVisit<'_>],
     place: usize,
 ) -> Result<(), NoMemory>
-    requires spelled { AreSpelled (map at_of spots.now) visits.now }
+    requires spelled { AreSpelled visits.now }
     requires within { place < length visits.now }
-    ensures { OnOk result (steps.new.items
-        ≡ steps.old.items ++ steps_at (map at_of spots.now) visits.now place) }
+    ensures { OnOk result (steps.new.items ≡ steps.old.items ++ steps_at visits.now place) }
 {
     let visit = visits[place];
-    let spot = spots[visit.number];
-    add_piece(steps, spot.piece)
+    add_piece(steps, visit.spot.piece)
 }
 
 /// Adds the steps of the piece.

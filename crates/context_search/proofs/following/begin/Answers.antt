@@ -1,7 +1,8 @@
-use Rattle.std.proofs.Common.{map, sym, subst, Contains}
+use Rattle.std.proofs.Common.{sym, subst, Contains}
 use Rattle.std.proofs.lemmas.List.Elements.{Contains-get_or}
+use Rattle.graph_blocks.specs.Lent.{map_of}
 use Rattle.context_search.specs.declared.ends.Begin.{Begin}
-use Rattle.context_search.specs.Marks.{at_of}
+use Rattle.context_search.specs.Listed.{contexts_in}
 use Rattle.context_search.proofs.SearchMarks.{grows_again}
 use Rattle.context_search.proofs.SearchStarts.{start_grows, start_keeps, start_visited, start_begun, more_started}
 use Rattle.context_search.proofs.SearchStarts.{all_started}
@@ -9,24 +10,24 @@ use Rattle.context_search.proofs.following.begin.Goals as goal
 
 pub loop-start-preserved : goal.loop-start-preserved
 loop-start-preserved c =
-    let L = map at_of c.args.spots.now in
+    let L = contexts_in (map_of c.args.blocks.now) in
     let old = c.loop-start.invariant in
     let m = c.loop-start.search in
     let n = c.begin_on.new.search in
     let s = c.start-item.result in
-    let is = c.in_ok-begin_on.ensures in
+    let is = c.in_ok-begin_on.ensures.marked in
     let starts = c.args.starts.now in
     let i = c.loop-start.start-index in
     let has : Contains starts s = subst (λ (t : Begin). Contains starts t) (sym c.start-item.is)
     (Contains-get_or starts i s c.loop-start-test.true) in
     record {
-      search = start_keeps L s m n is old.search;
-      grows = grows_again c.args.search.now m n old.grows (start_grows L s m n is);
+      search = start_keeps L s m n is old.search c.in_ok-begin_on.ensures.known;
+      grows = grows_again L c.args.search.now m n old.grows (start_grows L s m n is);
       begun = start_begun L s m n is starts has old.begun;
       all = more_started L starts i s s m n c.loop-start-test.true c.start-item.is (start_grows L s m n is)
-          (start_visited L s m n is old.search) old.all;
+          (start_visited L s m n is) old.all;
     }
 
 pub returns-clause-all : goal.returns-clause-all
-returns-clause-all c = all_started (map at_of c.args.spots.now) c.args.starts.now c.loop-start.start-index
+returns-clause-all c = all_started c.args.starts.now c.loop-start.start-index
     c.loop-start.search c.loop-start-test.false c.loop-start.invariant.all

@@ -1,14 +1,15 @@
-use Rattle.std.proofs.Common.{map, take, Contains}
+use Rattle.std.proofs.Common.{[], take, Contains}
+use Rattle.graph_blocks.specs.Lent.{map_of}
 use Rattle.context_search.specs.declared.ends.Begin.{Begin}
-use Rattle.context_search.specs.Marks.{at_of}
-use Rattle.context_search.specs.Visits.{IsSearch, Grows, AreBegun, IsStarted}
+use Rattle.context_search.specs.Listed.{contexts_in}
+use Rattle.context_search.specs.Visits.{IsSearch, IsVisited, Grows, AreBegun}
 use Rattle.context_search.proofs.following.begin.Given as goal
 
--- the starts so far are visited
+-- the contexts of the starts so far are visited
 abbrev pub invariant-loop-start : goal.invariant-loop-start
 invariant-loop-start l = record {
-  search : IsSearch (map at_of l.spots) l.search;
-  grows : Grows l.fn.search l.search;
-  begun : AreBegun (map at_of l.spots) l.starts l.search;
-  all : (s : Begin) → Contains (take l.start-index l.starts) s → IsStarted (map at_of l.spots) l.search.visits s;
+  search : IsSearch (contexts_in (map_of l.blocks)) l.search;
+  grows : Grows (contexts_in (map_of l.blocks)) l.fn.search l.search;
+  begun : AreBegun l.starts l.search;
+  all : (s : Begin) → Contains (take l.start-index l.starts) s → IsVisited l.search.visits (s.piece.now.name, []);
 }

@@ -1,5 +1,6 @@
-use Rattle.std.proofs.Common.{map, sym, ◌∙◌}
-use Rattle.context_search.specs.Marks.{at_of}
+use Rattle.std.proofs.Common.{sym, ◌∙◌}
+use Rattle.graph_blocks.specs.Lent.{map_of}
+use Rattle.context_search.specs.Listed.{contexts_in}
 use Rattle.context_search.proofs.SearchMarks.{IsPopped, popped_keeps, popped_place, popped_begun, popped_stays}
 use Rattle.context_search.proofs.SearchMarks.{less_left}
 use Rattle.context_search.proofs.SearchMarks.{gone_on, begun_again, emptied, closed_same, met_none}
@@ -9,36 +10,36 @@ pub go_on-requires-clause-search : goal.go_on-requires-clause-search
 go_on-requires-clause-search c =
     let e = c.in-Some.ensures in
     let popped : IsPopped c.loop-place.search c.next.new.self c.in-Some.place
-    = record { marked = e.marked; visits = e.visits; waiting = e.some } in
-    popped_keeps (map at_of c.args.spots.now) c.loop-place.search c.next.new.self c.in-Some.place popped
+    = record { known = e.known; visits = e.visits; waiting = e.some } in
+    popped_keeps (contexts_in (map_of c.args.blocks.now)) c.loop-place.search c.next.new.self c.in-Some.place popped
     c.loop-place.invariant.search
 
 pub go_on-requires-clause-place : goal.go_on-requires-clause-place
 go_on-requires-clause-place c =
     let e = c.in-Some.ensures in
     let popped : IsPopped c.loop-place.search c.next.new.self c.in-Some.place
-    = record { marked = e.marked; visits = e.visits; waiting = e.some } in
-    popped_place (map at_of c.args.spots.now) c.loop-place.search c.next.new.self c.in-Some.place popped
+    = record { known = e.known; visits = e.visits; waiting = e.some } in
+    popped_place (contexts_in (map_of c.args.blocks.now)) c.loop-place.search c.next.new.self c.in-Some.place popped
     c.loop-place.invariant.search
 
 pub loop-place-smaller : goal.loop-place-smaller
 loop-place-smaller c =
     let e = c.in-Some.ensures in
     let popped : IsPopped c.loop-place.search c.next.new.self c.in-Some.place
-    = record { marked = e.marked; visits = e.visits; waiting = e.some } in
-    less_left (map at_of c.args.spots.now) c.loop-place.search c.next.new.self c.in-Some.place popped
+    = record { known = e.known; visits = e.visits; waiting = e.some } in
+    less_left (contexts_in (map_of c.args.blocks.now)) c.loop-place.search c.next.new.self c.in-Some.place popped
     c.go_on.new.search c.in_ok-met.ensures.grows
 
 pub loop-place-preserved : goal.loop-place-preserved
 loop-place-preserved c =
-    let L = map at_of c.args.spots.now in
+    let L = contexts_in (map_of c.args.blocks.now) in
     let e = c.in-Some.ensures in
     let m = c.loop-place.search in
     let p = c.next.new.self in
     let n = c.go_on.new.search in
     let place = c.in-Some.place in
     let popped : IsPopped c.loop-place.search c.next.new.self c.in-Some.place
-    = record { marked = e.marked; visits = e.visits; waiting = e.some } in
+    = record { known = e.known; visits = e.visits; waiting = e.some } in
     let g = c.in_ok-met.ensures in
     let old = c.loop-place.invariant in
     record {
@@ -52,11 +53,11 @@ loop-place-preserved c =
 pub returns-clause-search : goal.returns-clause-search
 returns-clause-search c =
     let e = c.in_default.ensures in
-    emptied (map at_of c.args.spots.now) c.loop-place.search c.next.new.self e.marked e.visits
+    emptied (contexts_in (map_of c.args.blocks.now)) c.loop-place.search c.next.new.self e.known e.visits
     e.empty c.loop-place.invariant.search
 
 pub returns-clause-met : goal.returns-clause-met
 returns-clause-met c =
     let e = c.in_default.ensures in
-    closed_same (map at_of c.args.spots.now) c.args.goals.now c.loop-place.search c.next.new.self e.visits e.none
+    closed_same c.args.goals.now c.loop-place.search c.next.new.self e.visits e.none
     c.loop-place.invariant.closed

@@ -1,73 +1,83 @@
 -- The visits lead along legal drives, and where none of them meets a goal no drive does.
-use Rattle.std.proofs.Common.{◌≡◌, ◌<◌, Some, Option, MatchOption, List, Contains, map, length, sym, subst}
-use Rattle.std.proofs.Common.{ℕ, slice_get, ◌≤◌, refl, arith}
-use Rattle.std.proofs.lemmas.List.{length-map}
+use Rattle.std.proofs.Common.{◌≡◌, ◌<◌, [], Some, Option, MatchOption, List, Contains, length, sym, subst}
+use Rattle.std.proofs.Common.{ℕ, slice_get, ◌≤◌, refl}
 use Rattle.std.proofs.lemmas.Option.{slice_get_within}
+use Rattle.graph_blocks.specs.Lent.{map_of}
 use Rattle.context_search.specs.declared.ends.Begin.{Begin}
 use Rattle.context_search.specs.declared.ends.Goal.{Goal}
 use Rattle.context_search.specs.declared.following.Meeting.{Meeting}
 use Rattle.context_search.specs.declared.marks.TreeVisit.{TreeVisit}
-use Rattle.context_search.specs.Marks.{at_of}
+use Rattle.context_search.specs.Listed.{contexts_in}
 use Rattle.context_search.specs.Routes.{Descend, AreSpelled, IsRoute}
 use Rattle.context_search.specs.Sought.{AreStarts}
-use Rattle.context_search.specs.Visits.{IsClosed, IsStarted, Meets, goal_in}
+use Rattle.context_search.specs.Visits.{IsClosed, IsVisited, Meets, goal_in}
 use Rattle.context_search.proofs.SearchSeen.{searched}
 use Rattle.context_search.proofs.SearchDriven.{driven, leads_along}
 use Rattle.context_search.proofs.SearchTargets.{start_listed, has_targets}
-use Rattle.context_search.proofs.SearchTogether.{new_search, still_begun, still_started, met_goal, first_closed}
-use Rattle.context_search.proofs.SearchTogether.{descends, entry_ascends, spots_spelled, goal_within}
+use Rattle.context_search.proofs.SearchTogether.{new_search, still_begun, met_goal, first_closed}
+use Rattle.context_search.proofs.SearchTogether.{descends, entry_ascends, visits_spelled, goal_within}
 use Rattle.context_search.proofs.reaching.drive_over.Goals as goal
+
+pub begin-requires-clause-order : goal.begin-requires-clause-order
+begin-requires-clause-order g c =
+    let M = g.M.World.objects c.args.network.now.world.now in
+    c.listed_contexts.ensures.order M (map_of c.args.blocks.now) c.requires.blocks
 
 pub begin-requires-clause-listed : goal.begin-requires-clause-listed
 begin-requires-clause-listed g c =
     let M = g.M.World.objects c.args.network.now.world.now in
     let P = g.P.Profile.rules c.args.network.now.profile in
+    let m = map_of c.args.blocks.now in
     let starts = subst (λ (l : List Begin). AreStarts M P c.args.ends.now.a l) (sym c.deref.ensures.value)
     c.requires.ends.starts in
-    start_listed M P (map at_of c.args.spots.now) c.args.ends.now.a c.deref.result.now c.requires.spots starts
+    start_listed M P (contexts_in m) c.args.ends.now.a c.deref.result.now
+    (c.listed_contexts.ensures.spots M m c.requires.blocks) starts
 
 pub begin-requires-clause-search : goal.begin-requires-clause-search
 begin-requires-clause-search g c =
-    let L = map at_of c.args.spots.now in
-    let all = length-map c.args.spots.now at_of in
-    let made = c.in_ok-search.ensures.count in
-    let count : length c.in_ok-search.search.marked ≡ length L = omega arith in
-    new_search L c.in_ok-search.search c.in_ok-search.search count
-    c.in_ok-search.ensures.visits c.in_ok-search.ensures.waiting c.in_ok-search.ensures.unmarked
+    let L = contexts_in (map_of c.args.blocks.now) in
+    let made = c.new-search.ensures in
+    new_search L c.new-search.result c.new-search.result made.known made.visits made.waiting
+
+pub run-requires-clause-order : goal.run-requires-clause-order
+run-requires-clause-order g c =
+    let M = g.M.World.objects c.args.network.now.world.now in
+    c.listed_contexts.ensures.order M (map_of c.args.blocks.now) c.requires.blocks
 
 pub run-requires-clause-targets : goal.run-requires-clause-targets
 run-requires-clause-targets g c =
     let M = g.M.World.objects c.args.network.now.world.now in
     let P = g.P.Profile.rules c.args.network.now.profile in
-    has_targets M P (map at_of c.args.spots.now) c.requires.spots
+    let m = map_of c.args.blocks.now in
+    has_targets M P (contexts_in m) (c.listed_contexts.ensures.spots M m c.requires.blocks)
 
 pub run-requires-clause-closed : goal.run-requires-clause-closed
 run-requires-clause-closed g c =
-    first_closed (map at_of c.args.spots.now) c.in_ok-search.search c.begin.new.search c.args.ends.now.goals
-    c.in_ok-search.ensures.visits c.in_ok-begin.ensures.grows
+    first_closed (contexts_in (map_of c.args.blocks.now)) c.new-search.result c.begin.new.search c.args.ends.now.goals
+    c.new-search.ensures.visits c.in_ok-begin.ensures.grows
 
 pub along-requires-clause-descend : goal.along-requires-clause-descend
 along-requires-clause-descend g c =
     subst (λ (l : List TreeVisit). Descend l) (sym c.visits.ensures)
-    (descends (map at_of c.args.spots.now) c.run.new.search c.run.new.search c.in_ok-meeting.ensures.search)
+    (descends (contexts_in (map_of c.args.blocks.now)) c.run.new.search c.run.new.search c.in_ok-meeting.ensures.search)
 
 pub along-requires-clause-spelled : goal.along-requires-clause-spelled
 along-requires-clause-spelled g c =
     let M = g.M.World.objects c.args.network.now.world.now in
     let P = g.P.Profile.rules c.args.network.now.profile in
-    let L = map at_of c.args.spots.now in
-    subst (λ (l : List TreeVisit). AreSpelled L l) (sym c.visits.ensures)
-    (spots_spelled M P L c.run.new.search c.requires.spots c.in_ok-meeting.ensures.search)
+    let m = map_of c.args.blocks.now in
+    subst (λ (l : List TreeVisit). AreSpelled l) (sym c.visits.ensures)
+    (visits_spelled M P (contexts_in m) c.run.new.search (c.listed_contexts.ensures.spots M m c.requires.blocks)
+    c.in_ok-meeting.ensures.search)
 
 pub along-requires-clause-place : goal.along-requires-clause-place
 along-requires-clause-place g c =
-    let L = map at_of c.args.spots.now in
     let G = c.args.ends.now.goals in
     let vs = c.run.new.search.visits in
     let at = c.in-Some.meeting in
-    let met : Meets L G vs at.place at.goal = subst (λ (r : Option Meeting). MatchOption r
-    ((k : ℕ) (v : TreeVisit) → slice_get vs k ≡ Some v → IsClosed L G vs v)
-    (λ (m : Meeting). Meets L G vs m.place m.goal)) c.in-Some.is c.in_ok-meeting.ensures.met in
+    let met : Meets G vs at.place at.goal = subst (λ (r : Option Meeting). MatchOption r
+    ((k : ℕ) (v : TreeVisit) → slice_get vs k ≡ Some v → IsClosed G vs v)
+    (λ (m : Meeting). Meets G vs m.place m.goal)) c.in-Some.is c.in_ok-meeting.ensures.met in
     subst (λ (l : List TreeVisit). at.place < length l) (sym c.visits.ensures)
     (slice_get_within vs at.place met.visit met.at)
 
@@ -75,61 +85,63 @@ pub along-requires-clause-ascends : goal.along-requires-clause-ascends
 along-requires-clause-ascends g c =
     let M = g.M.World.objects c.args.network.now.world.now in
     let P = g.P.Profile.rules c.args.network.now.profile in
-    let L = map at_of c.args.spots.now in
     let G = c.args.ends.now.goals in
     let vs = c.run.new.search.visits in
     let at = c.in-Some.meeting in
-    let met : Meets L G vs at.place at.goal = subst (λ (r : Option Meeting). MatchOption r
-    ((k : ℕ) (v : TreeVisit) → slice_get vs k ≡ Some v → IsClosed L G vs v)
-    (λ (m : Meeting). Meets L G vs m.place m.goal)) c.in-Some.is c.in_ok-meeting.ensures.met in
-    let is = met_goal M P c.args.ends.now.b L G vs at.place at.goal c.requires.ends.goals met in
+    let met : Meets G vs at.place at.goal = subst (λ (r : Option Meeting). MatchOption r
+    ((k : ℕ) (v : TreeVisit) → slice_get vs k ≡ Some v → IsClosed G vs v)
+    (λ (m : Meeting). Meets G vs m.place m.goal)) c.in-Some.is c.in_ok-meeting.ensures.met in
+    let is = met_goal M P c.args.ends.now.b G vs at.place at.goal c.requires.ends.goals met in
     entry_ascends M P is.way at.goal.piece.now is.listed
 
 pub along-requires-clause-last : goal.along-requires-clause-last
 along-requires-clause-last g c =
     let M = g.M.World.objects c.args.network.now.world.now in
     let P = g.P.Profile.rules c.args.network.now.profile in
-    let L = map at_of c.args.spots.now in
     let G = c.args.ends.now.goals in
     let vs = c.run.new.search.visits in
     let at = c.in-Some.meeting in
-    let met : Meets L G vs at.place at.goal = subst (λ (r : Option Meeting). MatchOption r
-    ((k : ℕ) (v : TreeVisit) → slice_get vs k ≡ Some v → IsClosed L G vs v)
-    (λ (m : Meeting). Meets L G vs m.place m.goal)) c.in-Some.is c.in_ok-meeting.ensures.met in
-    let is = met_goal M P c.args.ends.now.b L G vs at.place at.goal c.requires.ends.goals met in
+    let met : Meets G vs at.place at.goal = subst (λ (r : Option Meeting). MatchOption r
+    ((k : ℕ) (v : TreeVisit) → slice_get vs k ≡ Some v → IsClosed G vs v)
+    (λ (m : Meeting). Meets G vs m.place m.goal)) c.in-Some.is c.in_ok-meeting.ensures.met in
+    let is = met_goal M P c.args.ends.now.b G vs at.place at.goal c.requires.ends.goals met in
     goal_within M P c.args.ends.now.b met.arc.piece at.goal is
 
 pub returns-in-Some : goal.returns-in-Some
 returns-in-Some g c =
     let M = g.M.World.objects c.args.network.now.world.now in
     let P = g.P.Profile.rules c.args.network.now.profile in
-    let L = map at_of c.args.spots.now in
+    let blocks = map_of c.args.blocks.now in
+    let L = contexts_in blocks in
+    let spots = c.listed_contexts.ensures.spots M blocks c.requires.blocks in
     let G = c.args.ends.now.goals in
-    let S = c.deref.result.now in
     let vs = c.run.new.search.visits in
+    let at = c.in-Some.meeting in
+    let met : Meets G vs at.place at.goal = subst (λ (r : Option Meeting). MatchOption r
+    ((k : ℕ) (v : TreeVisit) → slice_get vs k ≡ Some v → IsClosed G vs v)
+    (λ (m : Meeting). Meets G vs m.place m.goal)) c.in-Some.is c.in_ok-meeting.ensures.met in
+    let S = c.deref.result.now in
     let a = c.args.ends.now.a in
     let b = c.args.ends.now.b in
-    let at = c.in-Some.meeting in
     let d = c.in_ok-along-in-Some.field-0 in
     let one = c.one_name.ensures.pieces M in
     let from = subst (λ (l : List Begin). AreStarts M P a l) (sym c.deref.ensures.value) c.requires.ends.starts in
-    let met : Meets L G vs at.place at.goal = subst (λ (r : Option Meeting). MatchOption r
-    ((k : ℕ) (v : TreeVisit) → slice_get vs k ≡ Some v → IsClosed L G vs v)
-    (λ (m : Meeting). Meets L G vs m.place m.goal)) c.in-Some.is c.in_ok-meeting.ensures.met in
     let begun = still_begun L c.begin.new.search c.run.new.search S c.in_ok-begin.ensures.begun
     c.in_ok-meeting.ensures.begun in
-    let route : IsRoute L vs at.place at.goal d = subst (λ (l : List TreeVisit). IsRoute L l at.place at.goal d)
+    let route : IsRoute vs at.place at.goal d = subst (λ (l : List TreeVisit). IsRoute l at.place at.goal d)
     c.visits.ensures c.in_ok-along-in-Some.ensures in
-    let r = driven M P L vs a route.first one c.requires.spots c.run.new.search refl S from
+    let r = driven M P vs a route.first one L spots c.run.new.search refl S from
     c.in_ok-meeting.ensures.search begun route.chain in
-    leads_along M P L vs a route.first one b G c.requires.ends.goals (c.searched_drives.ensures.along M a b)
+    leads_along M P vs a route.first one b G c.requires.ends.goals (c.searched_drives.ensures.along M a b)
     route.places at.place at.goal r met d route.is
 
 pub returns : goal.returns
 returns g c =
     let M = g.M.World.objects c.args.network.now.world.now in
     let P = g.P.Profile.rules c.args.network.now.profile in
-    let L = map at_of c.args.spots.now in
+    let blocks = map_of c.args.blocks.now in
+    let L = contexts_in blocks in
+    let spots = c.listed_contexts.ensures.spots M blocks c.requires.blocks in
     let G = c.args.ends.now.goals in
     let S = c.deref.result.now in
     let vs = c.run.new.search.visits in
@@ -137,15 +149,14 @@ returns g c =
     let b = c.args.ends.now.b in
     let one = c.one_name.ensures.pieces M in
     let from = subst (λ (l : List Begin). AreStarts M P a l) (sym c.deref.ensures.value) c.requires.ends.starts in
-    let closed : (k : ℕ) (v : TreeVisit) → slice_get vs k ≡ Some v → IsClosed L G vs v
+    let closed : (k : ℕ) (v : TreeVisit) → slice_get vs k ≡ Some v → IsClosed G vs v
     = subst (λ (r : Option Meeting). MatchOption r
-    ((k : ℕ) (v : TreeVisit) → slice_get vs k ≡ Some v → IsClosed L G vs v)
-    (λ (m : Meeting). Meets L G vs m.place m.goal)) c.in-None.is c.in_ok-meeting.ensures.met in
-    let started : (s : Begin) → Contains S s → IsStarted L vs s
-    = λ s has. still_started L c.begin.new.search c.run.new.search s c.in_ok-meeting.ensures.stays
-    (c.in_ok-begin.ensures.all s has) in
+    ((k : ℕ) (v : TreeVisit) → slice_get vs k ≡ Some v → IsClosed G vs v)
+    (λ (m : Meeting). Meets G vs m.place m.goal)) c.in-None.is c.in_ok-meeting.ensures.met in
+    let started : (s : Begin) → Contains S s → IsVisited vs (s.piece.now.name, [])
+    = λ s has. c.in_ok-meeting.ensures.stays (s.piece.now.name, []) (c.in_ok-begin.ensures.all s has) in
     let apart : (s : Begin) (g : Goal) → Contains S s → goal_in G s.piece.now.name ≡ Some g → s.first ≤ g.last → ⊥
     = λ s g has. c.requires.apart s g (subst (λ (l : List Begin). Contains l s) c.deref.ensures.value has) in
-    let r = searched M P L one c.requires.spots a b S G vs from c.requires.ends.goals closed
-    c.in_ok-meeting.ensures.search.numbers started apart in
+    let r = searched M P L one spots a b S G vs from c.requires.ends.goals closed
+    c.in_ok-meeting.ensures.search.listed started apart in
     (c.requires.ends.from, c.requires.ends.to, λ d leads. c.searched_drives.ensures.nowhere M a b r.0 r.1 d leads)

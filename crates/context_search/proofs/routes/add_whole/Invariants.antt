@@ -1,10 +1,9 @@
-use Rattle.std.proofs.Common.{◌≡◌, ◌++◌, map, take}
+use Rattle.std.proofs.Common.{◌≡◌, ◌++◌, take}
 use Rattle.std.specs.List.{flat_map}
-use Rattle.context_search.specs.Marks.{at_of}
 use Rattle.context_search.specs.Routes.{steps_at}
 use Rattle.context_search.proofs.routes.add_whole.Given as goal
 
 -- the steps of the places so far are added
 abbrev pub invariant-loop-place : goal.invariant-loop-place
 invariant-loop-place l = l.steps.items
-    ≡ l.fn.steps.items ++ flat_map (steps_at (map at_of l.spots) l.visits) (take l.place-index l.places)
+    ≡ l.fn.steps.items ++ flat_map (steps_at l.visits) (take l.place-index l.places)
