@@ -46,7 +46,7 @@ module _ (M : Objects) (P : Rules) (laws : DriveLaws M P) (a b : NodeId) where
       }
 
   -- what the pieces spell, cut before step i of the first and behind step j of the last
-  cut_pieces : (p : Span) (i : ℕ) (whole : List Span) (t : Span) (j : ℕ)
+  pub cut_pieces : (p : Span) (i : ℕ) (whole : List Span) (t : Span) (j : ℕ)
       → spell_pieces ((p ∷ whole) ++ t ∷ [])
       ≡ take i (spell p) ++ (along_pieces p i whole t j ++ drop (j + 1) (spell t))
   cut_pieces p i whole t j =

@@ -1,5 +1,6 @@
 pub mod DrivePlaces
 pub mod DriveParts
+pub mod DriveOver
 pub mod DriveSearch
 pub mod NamedMembers
 pub mod SearchKeys

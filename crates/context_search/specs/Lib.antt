@@ -6,3 +6,4 @@ pub mod Visits
 pub mod Routes
 pub mod Sought
 pub mod Ends
+pub mod DriveOver

@@ -11,6 +11,7 @@ ghost use Rattle.road_model.specs.Pieces.{Span};
 ghost use Rattle.context_search.specs.Listed.{AreInOrder, contexts_in};
 ghost use Rattle.context_search.specs.Reaching.{LeadsTo};
 ghost use Rattle.context_search.specs.Searching.{LeadsWithin, LeadsAlong, IsSearched};
+ghost use Rattle.context_search.specs.DriveOver.{LiesOver};
 ghost use Rattle.context_search.specs.Sought.{AreSpots};
 
 use graph_blocks::laws::values_in_order;
@@ -49,4 +50,17 @@ pub fn listed_contexts<P: Profile>(profile: &P)
     one_name(profile);
     has_block(profile);
     values_in_order();
+}
+
+/// Every legal drive between two nodes lies within one piece, or leads over the pieces of a walk, the first from some
+/// step on, and up to some step of one more piece by an arc.
+pub fn drives_over<P: Profile>(profile: &P)
+    ensures { (M : Objects) (a b : NodeId) (d : List Step) → LeadsTo M (P.rules profile.now) a b d
+        → LiesOver M (P.rules profile.now) a b d }
+{
+    walk_law(profile);
+    whole_pieces(profile);
+    one_piece(profile);
+    drive_parts(profile);
+    one_junction(profile);
 }

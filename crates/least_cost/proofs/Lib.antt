@@ -1,1 +1,5 @@
 pub mod LawCosts
+pub mod LawLeast
+pub mod LeastBounds
+pub mod LeastPlaces
+pub mod LeastVisits

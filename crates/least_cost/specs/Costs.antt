@@ -1,6 +1,6 @@
 -- What steps and drives cost, in whole numbers.
-use Rattle.std.specs.Prelude.{ℕ, zero, suc, ◌+◌, ◌-◌, ◌*◌, ◌/◌, min, List, [], ◌∷◌, Option, Some, None, Bool, cond, nat_le}
-use Rattle.std.specs.Prelude.{ℤ, ◌+ℤ◌, ◌-ℤ◌, unsigned_abs}
+use Rattle.std.specs.Prelude.{ℕ, zero, suc, ◌+◌, ◌-◌, ◌*◌, ◌/◌, min, List, [], ◌∷◌, Option, Some, None, Bool, cond}
+use Rattle.std.specs.Prelude.{nat_le, ℤ, ◌+ℤ◌, ◌-ℤ◌, unsigned_abs}
 use Rattle.road_base.specs.declared.ids.NodeId.{NodeId}
 use Rattle.road_base.specs.declared.ids.Step.{Step}
 use Rattle.road_base.specs.declared.location.Location.{Location}
@@ -21,9 +21,9 @@ root n = greatest (λ r. nat_le (r * r) n) n
 abbrev pub lon_difference : ℤ → ℤ → ℕ
 lon_difference a b = min (unsigned_abs (a -ℤ b)) (3600000000 - unsigned_abs (a -ℤ b))
 
--- A difference of longitudes where two latitudes have the sum m, in units as long as those of latitude: by the cosine of
--- the mean latitude, for which Bhaskara's fraction stands, (Q - 4 m m) / (Q + m m) with Q the square of 360 degrees;
--- rounded down (https://en.wikipedia.org/wiki/Bhaskara_I%27s_sine_approximation_formula).
+-- A difference of longitudes where two latitudes have the sum m, in units as long as those of latitude, rounded down: by
+-- the cosine of the mean latitude, for which Bhaskara's fraction stands, (Q - 4 m m) / (Q + m m) with Q the square of
+-- 360 degrees (https://en.wikipedia.org/wiki/Bhaskara_I%27s_sine_approximation_formula).
 abbrev pub narrowed : ℕ → ℕ → ℕ
 narrowed dx m = dx * (12960000000000000000 - 4 * m * m) / (12960000000000000000 + m * m)
 

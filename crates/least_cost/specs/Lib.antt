@@ -1,3 +1,6 @@
 pub mod Costs
 pub mod Certified
 pub mod Cheapest
+pub mod Latitudes
+pub mod CostVisits
+pub mod Trails

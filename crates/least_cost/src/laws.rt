@@ -1,14 +1,13 @@
 //! Laws of the definitions, each the contract of a function that does nothing.
-ghost use Rattle.std.specs.Prelude.{List, Option};
-ghost use Rattle.std.specs.Prelude.{ℕ};
+ghost use Rattle.std.specs.Prelude.{ℕ, List, Option};
 ghost use Rattle.road_base.specs.Objects.{Objects};
 ghost use Rattle.road_base.specs.declared.ids.NodeId.{NodeId};
 ghost use Rattle.road_model.specs.Pieces.{Span};
 ghost use Rattle.least_cost.specs.Certified.{Certified, IsLeastFor, HasCosts};
 
+use context_search::laws::drives_over;
 use road_base::NodeId;
 use road_model::Profile;
-use road_model::laws::{drive_parts, one_junction, one_piece, walk_law, whole_pieces};
 
 /// Every legal drive between two nodes has a cost.
 pub fn drives_cost<P: Profile>(profile: &P)
@@ -21,10 +20,6 @@ pub fn certified_is_least<P: Profile>(profile: &P, a: NodeId, b: NodeId, cost: O
     ensures { (M : Objects) (pi : List Span → Option ℕ) → Certified M (P.rules profile.now) a b cost pi
         → IsLeastFor M (P.rules profile.now) a b cost }
 {
-    walk_law(profile);
-    whole_pieces(profile);
-    one_piece(profile);
-    drive_parts(profile);
-    one_junction(profile);
     drives_cost(profile);
+    drives_over(profile);
 }

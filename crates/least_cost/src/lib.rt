@@ -3,14 +3,21 @@
 #![tactic(auto)]
 
 mod answers;
+mod beginning;
+mod candidates;
 mod checking;
 mod costs;
+mod frontier;
 pub mod laws;
-mod least;
+mod least_drives;
+mod places;
 mod potentials;
+mod searching;
+mod trails;
+mod visiting;
 
 pub use answers::{Cheapest, Shortest};
 pub use checking::check;
 pub use costs::{drive_cost, step_cost};
-pub use least::{least, shortest};
+pub use least_drives::{least, shortest};
 pub use potentials::Potentials;
