@@ -1,1 +1,5 @@
+pub mod CostSizes
+pub mod CostRoots
 pub mod LawCosts
+pub mod CostSums
+pub mod CostPlaces

@@ -1,3 +1,4 @@
 pub mod Costs
 pub mod Certified
 pub mod Cheapest
+pub mod PlaceCosts
