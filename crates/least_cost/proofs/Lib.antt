@@ -1,5 +1,9 @@
+pub mod CostSizes
+pub mod CostRoots
 pub mod LawCosts
 pub mod LawLeast
 pub mod LeastBounds
 pub mod LeastPlaces
 pub mod LeastVisits
+pub mod CostSums
+pub mod CostPlaces

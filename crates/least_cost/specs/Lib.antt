@@ -4,3 +4,4 @@ pub mod Cheapest
 pub mod Latitudes
 pub mod CostVisits
 pub mod Trails
+pub mod PlaceCosts
