@@ -82,7 +82,7 @@ fn compare(spot: &Spot<'_>, piece: PieceName, before: &[PieceName]) -> Ordering
 }
 
 /// Compares lists of names by length, then name by name.
-fn by_names(a: &[PieceName], b: &[PieceName]) -> Ordering
+pub fn by_names(a: &[PieceName], b: &[PieceName]) -> Ordering
     ensures { result ≡ names_cmp a.now b.now }
 {
     name_order();

@@ -1,3 +1,12 @@
+pub mod CostSizes
+pub mod CostRoots
 pub mod LawCosts
 pub mod LawLeast
 pub mod LawSpots
+pub mod LeastBounds
+pub mod LeastPlaces
+pub mod LeastVisits
+pub mod CostSums
+pub mod CostPlaces
+pub mod LawLowered
+pub mod LawExhausted
