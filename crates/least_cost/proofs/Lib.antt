@@ -7,3 +7,10 @@ pub mod LeastPlaces
 pub mod LeastVisits
 pub mod CostSums
 pub mod CostPlaces
+pub mod LeastFound
+pub mod LeastLabels
+pub mod LeastMeetings
+pub mod LeastRoutes
+pub mod LeastShown
+pub mod LeastStarts
+pub mod LeastTrails
