@@ -2,20 +2,23 @@
 use Rattle.std.proofs.Common.{◌≡◌, ◌⊎◌, inl, inr, ℕ, ◌+◌, ◌-◌, ◌<◌, ◌≤◌, List, [], Option, Some, None, slice_get}
 use Rattle.std.proofs.Common.{Contains, refl, sym, ◌∙◌, ap, subst, arith, take, drop}
 use Rattle.std.specs.BTreeMap.{BTreeMap}
+use Rattle.std.specs.Cmp.{IsTotalOrder}
+use Rattle.std.specs.FinMap.{IsAntisymmetric}
 use Rattle.std.proofs.lemmas.Option.{slice_get_within}
 use Rattle.road_base.specs.declared.ids.NodeId.{NodeId}
 use Rattle.road_base.specs.declared.ids.Step.{Step}
+use Rattle.road_base.specs.declared.location.Location.{Location}
 use Rattle.road_base.specs.Objects.{Objects}
 use Rattle.road_model.specs.declared.lists.PieceName.{PieceName}
 use Rattle.road_model.specs.Rules.{Rules}
 use Rattle.road_model.specs.Blocks.{IsPieceEntry}
 use Rattle.road_model.specs.Naming.{OnePiece}
-use Rattle.road_model.specs.Pieces.{spell}
+use Rattle.road_model.specs.Pieces.{Span, spell}
 use Rattle.context_search.specs.declared.ends.Begin.{Begin}
 use Rattle.context_search.specs.declared.ends.DriveEnds.{DriveEnds}
 use Rattle.context_search.specs.declared.ends.Goal.{Goal}
 use Rattle.context_search.specs.declared.marks.Origin.TheVariants.{Follows}
-use Rattle.context_search.specs.Marks.{At, at_of, key_of}
+use Rattle.context_search.specs.Marks.{At, at_of, key_of, key_cmp}
 use Rattle.context_search.specs.Reaching.{LeadsTo}
 use Rattle.context_search.specs.Routes.{spelled}
 use Rattle.context_search.specs.Searching.{LeadsWithin, LeadsAlong, StopsAt, within_piece}
@@ -26,15 +29,16 @@ use Rattle.least_cost.specs.declared.candidates.Candidate.{Candidate}
 use Rattle.least_cost.specs.declared.candidates.Ending.{Ending}
 use Rattle.least_cost.specs.declared.candidates.Ending.TheVariants.{Within, Over}
 use Rattle.least_cost.specs.declared.visiting.CostVisit.{CostVisit}
-use Rattle.least_cost.specs.Certified.{AtMost}
-use Rattle.least_cost.specs.Costs.{cost_of}
+use Rattle.least_cost.specs.Certified.{AtMost, Certified, IsLeastFor}
+use Rattle.least_cost.specs.Cheapest.{IsRouteOf, LeadsNowhere}
+use Rattle.least_cost.specs.Costs.{cost_of, location_of}
 use Rattle.least_cost.specs.CostVisits.{HaveOrigins, HasBefore, Extends, AreBegun, IsReachedFrom, AreWithin, IsFoundBy}
-use Rattle.least_cost.specs.CostVisits.{IsFoundAfter, EndsWithin, EndsOver, HasEnd, cost_in, within_cost}
+use Rattle.least_cost.specs.CostVisits.{IsFoundAfter, IsExhausted, EndsWithin, EndsOver, HasEnd, cost_in, within_cost}
 use Rattle.least_cost.specs.PlaceCosts.{places_cost}
 use Rattle.least_cost.specs.Trails.{IsDriveOf, Descend, Ascend}
 use Rattle.least_cost.proofs.CostPlaces.{cost_within}
 use Rattle.least_cost.proofs.LawCosts.{at_most_trans}
-use Rattle.least_cost.proofs.LeastShown.{taken_dropped}
+use Rattle.least_cost.proofs.LeastShown.{taken_dropped, number_at, certified}
 use Rattle.least_cost.proofs.LeastStarts.{nothing_at}
 use Rattle.least_cost.proofs.LeastTrails.{driven, leads_along, costs_along}
 use Rattle.least_cost.proofs.LeastVisits.{before_stays, reached_stays}
@@ -141,3 +145,32 @@ module _ (M : Objects) (P : Rules) (L : List At) (are : AreSpots M P L) (one : O
     found_costs cost (Over place g) d h is =
         let r = driven M P L visits E.a is.first one are listed E.starts.items ends_are.starts origins is.trail in
         costs_along M P L visits E.a is.first one E.b E.goals ends_are.goals across is.places place g r cost h d is.is
+
+module _ (M : Objects) (P : Rules) (L : List At) (are : AreSpots M P L) (one : OnePiece M P) (E : DriveEnds)
+    (ends_are : AreEnds M P E) (to : Location) (to_at : location_of M (Some E.b) ≡ Some to) (visits : List CostVisit)
+    (best : Option Candidate) (ex : IsExhausted L E to visits best) (total : IsTotalOrder key_cmp)
+    (exact : IsAntisymmetric key_cmp) (inside : LeadsWithin M P E.a E.b) (across : LeadsAlong M P E.a E.b)
+    (law : (pi : List Span → Option ℕ) → Certified M P E.a E.b (cost_in best) pi
+    → IsLeastFor M P E.a E.b (cost_in best))
+  where
+    least_for : IsLeastFor M P E.a E.b (cost_in best)
+    least_for = law (number_at M P to visits (cost_in best))
+        (certified M P L are one E ends_are to to_at visits best ex total exact)
+
+    pub route_of : (c : Candidate) → best ≡ Some c → (d : List Step) → IsDriveOf visits c.end d
+        → IsRouteOf M P E.a E.b c.cost d
+    route_of c is d drive =
+        let has : HasEnd E.starts.items E.goals visits c.cost c.end
+        = subst (λ b. IsFoundBy E.starts.items E.goals visits b) is ex.found in
+        record {
+          leads = found_leads M P L are one E ends_are visits ex.listed ex.origins inside across c.cost c.end d has drive;
+          costs = found_costs M P L are one E ends_are visits ex.listed ex.origins inside across c.cost c.end d has drive;
+          least = subst (λ b. IsLeastFor M P E.a E.b (cost_in b)) is least_for;
+        }
+
+    pub nowhere_of : best ≡ None → LeadsNowhere M P E.a E.b
+    nowhere_of is = record {
+      from = ends_are.from;
+      to = ends_are.to;
+      none = subst (λ b. IsLeastFor M P E.a E.b (cost_in b)) is least_for;
+    }

@@ -201,7 +201,7 @@ fn meet<'a>(
     arc: TurnArc,
     best: Option<Candidate<'a>>,
 ) -> Result<Option<Candidate<'a>>, NoMemory>
-    requires has { Contains (at_of visit.now.spot).context.arcs arc }
+    requires { Contains (at_of visit.now.spot).context.arcs arc }
     ensures { IfOk result (λ found. (visits : List CostVisit) → slice_get visits place ≡ Some visit.now
         → IsMetBy goals.now visits visit.now.cost (arc ∷ []) best.entry found) }
 {
