@@ -31,8 +31,14 @@ pub fn along(
     let mut steps = Vec::new(alloc);
     add_whole(&mut steps, visits, &places)?;
     add_up_to(alloc, &mut steps, goal.piece, goal.last)?;
-    let from = first.min(steps.len());
-    Ok(Drive::from_list(Vec::from_slice(alloc, &steps[from..])?))
+    Ok(Drive::from_list(steps_from(alloc, &steps, first)?))
+}
+
+/// The steps from that one on.
+fn steps_from(alloc: Global, steps: &[Step], first: usize) -> Result<Vec<Step>, NoMemory>
+    ensures { IfOk result (λ v. v.items ≡ drop first steps.now) }
+{
+    Ok(Vec::from_slice(alloc, &steps[first.min(steps.len())..])?)
 }
 
 /// With which step of the first piece the drive begins, and the places of the visits on the way, in order.
