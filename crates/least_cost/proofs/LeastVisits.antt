@@ -19,11 +19,12 @@ use Rattle.context_search.specs.Marks.{At, at_of, key_of}
 use Rattle.least_cost.specs.declared.visiting.CostVisit.{CostVisit}
 use Rattle.least_cost.specs.declared.candidates.Candidate.{Candidate}
 use Rattle.least_cost.specs.Certified.{AtMost}
+use Rattle.least_cost.specs.Latitudes.{latitudes_left}
 use Rattle.least_cost.specs.PlaceCosts.{places_cost}
 use Rattle.least_cost.specs.CostVisits.{Visiting, Names, names_at, IsReached, IsNewVisit, IsOffered, LeadsOn, ComesFrom}
 use Rattle.least_cost.specs.CostVisits.{HasBefore, IsVisiting, Extends, Grows, AreWaiting, AreFollowed, AreMet, IsOver}
 use Rattle.least_cost.specs.CostVisits.{IsBettered, IsClosed, IsDone, AreDone, IsFollowedBy, EndsOver, IsFoundOver}
-use Rattle.least_cost.specs.CostVisits.{IsFoundAfter, cost_in}
+use Rattle.least_cost.specs.CostVisits.{IsFoundAfter, cost_in, goal_cost}
 use Rattle.least_cost.proofs.LawCosts.{at_most_trans}
 
 -- ---- what stays while the list of visits grows
@@ -61,7 +62,7 @@ module _ (m n : List CostVisit) (stays : (k : ℕ) (v : CostVisit) → slice_get
         → AreFollowed L n x c arcs
     followed_stays L x c arcs f a has =
         let r = f a has in
-        (r.0, r.1.0, r.1.1, reached_stays (key_of r.0) (c + places_cost r.0.piece.places) r.1.2)
+        (r.0, r.1, r.2, reached_stays (key_of r.0) (c + places_cost r.0.piece.places) r.3)
 
     pub over_stays : (goals : BTreeMap PieceName Goal) (found : Option Candidate) → IsFoundOver goals m found
         → IsFoundOver goals n found
@@ -89,14 +90,14 @@ module _ (m n : List CostVisit) (stays : (k : ℕ) (v : CostVisit) → slice_get
 
     pub met_less : (goals : BTreeMap PieceName Goal) (C D : Option ℕ) (c : ℕ) (arcs : List TurnArc) → AtMost D C
         → AreMet goals C c arcs → AreMet goals D c arcs
-    met_less goals C D c arcs less f a g has met = at_most_trans D C _ less (f a g has met)
+    met_less goals C D c arcs less f a g has met = at_most_trans D C (Some (c + goal_cost g)) less (f a g has met)
 
     pub done_stays : (L : List At) (goals : BTreeMap PieceName Goal) (to : Location) (C D : Option ℕ) (v : CostVisit)
         → AtMost D C → IsDone L goals to C m v → IsDone L goals to D n v
     done_stays L goals to C D v less d = elim d [
       | inl e ↦ elim e [
-        | inl over ↦ inl (inl (at_most_trans D C _ less over))
-        | inr b ↦ inl (inr (b.0, b.1.0, reached_stays (names_at v) b.0 b.1.1))
+        | inl over ↦ inl (inl (at_most_trans D C (Some (v.cost + latitudes_left v.spot.piece.now.places to)) less over))
+        | inr b ↦ inl (inr (b.0, b.1, reached_stays (names_at v) b.0 b.2))
       ]
       | inr closed ↦ inr (record {
         followed = followed_stays L (at_of v.spot) v.cost (at_of v.spot).context.arcs closed.followed;
@@ -232,7 +233,7 @@ module _ (spot : Spot) (cost : ℕ) (origin : Origin) where
       offered_visiting L s listed = record {
         listed = λ k v e. elim (offered_cases k v e) [
           | inl old ↦ s.listed k v old
-          | inr last ↦ subst (λ t. Contains L (at_of t)) (sym last.1.0.spot_is) listed
+          | inr last ↦ subst (λ t. Contains L (at_of t)) (sym last.1.spot_is) listed
         ];
         within = λ k h. elim is [
           | inl old ↦
@@ -277,13 +278,13 @@ module _ (L : List At) (place : ℕ) (v : CostVisit) (arc : TurnArc) (m n : Visi
       stays = offered_stays is.to cost_there (Follows place) m n is.offered;
       come = λ k w e. elim (offered_cases is.to cost_there (Follows place) m n is.offered k w e) [
         | inl old ↦ inl old
-        | inr last ↦ inr (fresh_before at has k w last.0 last.1.0)
+        | inr last ↦ inr (fresh_before at has k w last.0 last.1)
       ];
     };
     waits = offered_waits is.to cost_there (Follows place) m n is.offered;
     new = λ k w e. elim (offered_cases is.to cost_there (Follows place) m n is.offered k w e) [
       | inl old ↦ inl old
-      | inr last ↦ inr last.1.1
+      | inr last ↦ inr last.2
     ];
   }
 
@@ -304,7 +305,7 @@ pub more_followed : (L : List At) (visits : List CostVisit) (x : At) (c : ℕ) (
 more_followed L visits x c arcs i d h now old a has =
     elim (contains_more (take i arcs) (get_or arcs i d) a (subst (λ l. Contains l a) (take_more arcs i d h) has)) [
       | inl before ↦ old a before
-      | inr same ↦ (now.0, now.1.0, subst (λ b. LeadsOn x b now.0) (sym same) now.1.1, now.1.2)
+      | inr same ↦ (now.0, now.1, subst (λ b. LeadsOn x b now.0) (sym same) now.2, now.3)
     ]
 
 pub all_followed : (L : List At) (visits : List CostVisit) (x : At) (c : ℕ) (arcs : List TurnArc) (i : ℕ)

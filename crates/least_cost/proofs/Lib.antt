@@ -10,3 +10,11 @@ pub mod CostSums
 pub mod CostPlaces
 pub mod LawLowered
 pub mod LawExhausted
+pub mod LawNumbers
+pub mod LeastFound
+pub mod LeastLabels
+pub mod LeastMeetings
+pub mod LeastRoutes
+pub mod LeastShown
+pub mod LeastStarts
+pub mod LeastTrails

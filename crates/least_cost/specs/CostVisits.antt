@@ -214,7 +214,7 @@ pub record IsMetBy (goals : BTreeMap PieceName Goal) (visits : List CostVisit) (
     (best found : Option Candidate) : Type 0 where
   pub less : AtMost (cost_in found) (cost_in best)
   pub met : AreMet goals (cost_in found) n arcs
-  pub found : IsFoundAfter goals visits best found
+  pub from : IsFoundAfter goals visits best found
 
 -- the context to which the arc leads from the one of the visit at the place is come to
 pub record IsFollowedBy (L : List At) (place : ℕ) (v : CostVisit) (arc : TurnArc) (m n : Visiting) : Type 0 where
@@ -235,14 +235,18 @@ pub record IsWithinBy (goals : BTreeMap PieceName Goal) (s : Begin) (best found 
   pub less : AtMost (cost_in found) (cost_in best)
   pub within : (g : Goal) → goal_in goals s.piece.now.name ≡ Some g → s.first ≤ g.last
       → AtMost (cost_in found) (Some (within_cost s g))
-  pub found : (starts : List Begin) → Contains starts s → IsFoundBy starts goals [] best
+  pub from : (starts : List Begin) → Contains starts s → IsFoundBy starts goals [] best
       → IsFoundBy starts goals [] found
 
--- the context of each start's piece alone is come to, at no more than from its step to the piece's end
-abbrev pub AreBegun : List Begin → List CostVisit → Type 0
-AreBegun starts visits = (s : Begin) → Contains starts s
-    → (v : CostVisit) × (k : ℕ) × (slice_get visits k ≡ Some v) × (names_at v ≡ (s.piece.now.name, []))
-    × (v.cost ≤ places_cost (drop s.first v.spot.piece.now.places))
+-- the context of the start's piece alone is come to, at no more than from its step to the piece's end
+pub record IsReachedFrom (L : List At) (visits : List CostVisit) (s : Begin) : Type 0 where
+  pub from : At
+  pub listed : Contains L from
+  pub named : key_of from ≡ (s.piece.now.name, [])
+  pub reached : IsReached visits (key_of from) (places_cost (drop s.first from.piece.places))
+
+abbrev pub AreBegun : List At → List Begin → List CostVisit → Type 0
+AreBegun L starts visits = (s : Begin) → Contains starts s → IsReachedFrom L visits s
 
 -- C is at most the cost of each drive within a piece from one of the starts to a goal
 abbrev pub AreWithin : List Begin → BTreeMap PieceName Goal → Option ℕ → Type 0
@@ -255,7 +259,7 @@ pub record IsExhausted (L : List At) (ends : DriveEnds) (to : Location) (visits 
     : Type 0 where
   pub listed : (k : ℕ) (v : CostVisit) → slice_get visits k ≡ Some v → Contains L (at_of v.spot)
   pub origins : HaveOrigins ends.starts.items visits
-  pub begun : AreBegun ends.starts.items visits
+  pub begun : AreBegun L ends.starts.items visits
   pub done : (k : ℕ) (v : CostVisit) → slice_get visits k ≡ Some v → IsDone L ends.goals to (cost_in best) visits v
   pub within : AreWithin ends.starts.items ends.goals (cost_in best)
   pub found : IsFoundBy ends.starts.items ends.goals visits best

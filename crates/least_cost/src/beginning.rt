@@ -31,7 +31,7 @@ pub fn begin<'a>(
     requires waiting { search.old.waiting ≡ [] }
     ensures search { OnOk result (IsVisiting (contexts_in (block_map blocks.now)) search.new) }
     ensures origins { OnOk result (HaveOrigins starts.now search.new.visits) }
-    ensures begun { OnOk result (AreBegun starts.now search.new.visits) }
+    ensures begun { OnOk result (AreBegun (contexts_in (block_map blocks.now)) starts.now search.new.visits) }
     ensures waiting { OnOk result (AreWaiting search.new) }
 {
     for start in starts {
@@ -55,7 +55,8 @@ fn begin_on<'a>(
         unreachable!()
     };
     let left = places_cost(places_from(spot.piece.places.items(), start.first));
-    search.offer(spot, left, Origin::Begins(start.first))
+    search.offer(spot, left, Origin::Begins(start.first))?;
+    Ok(())
 }
 
 /// The least drive within one piece, from one of the starts to a goal.
@@ -79,7 +80,7 @@ fn within_piece<'a>(
     start: &Begin<'a>,
     best: Option<Candidate<'a>>,
 ) -> Option<Candidate<'a>>
-    ensures { IsWithinBy goals.now start.now best result }
+    ensures { IsWithinBy goals.now start.now best.entry result }
 {
     let Some(goal) = goal_at(goals, start.piece.name) else {
         return best;

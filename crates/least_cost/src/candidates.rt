@@ -32,7 +32,7 @@ pub fn cost_in(best: &Option<Candidate<'_>>) -> Option<u128>
 
 /// The one that costs less.
 pub fn lesser<'a>(best: Option<Candidate<'a>>, other: Candidate<'a>) -> Option<Candidate<'a>>
-    ensures { IsLesser best other result }
+    ensures { IsLesser best.entry other.entry result }
 {
     match best {
         Some(found) => {

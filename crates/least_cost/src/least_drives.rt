@@ -13,16 +13,17 @@ ghost use Rattle.least_cost.specs.Trails.{IsDriveOf, Descend, Ascend};
 
 use crate::answers::{Cheapest, Shortest};
 use crate::beginning::{begin, least_within};
-use crate::candidates::{Candidate, Ending};
-use context_search::laws::listed_contexts;
+use crate::candidates::{Candidate, Ending, cost_in};
+use crate::look_ups::{certified_is_least, listed_contexts};
 use crate::searching::run;
 use crate::trails::along;
 use crate::visiting::{CostSearch, CostVisit};
+use context_search::laws::searched_drives;
 use context_search::{DriveEnds, ends_of, within};
 use graph_blocks::LendsBlocks;
 use layered_maps::View;
 use road_base::{Drive, Location, NoMemory, NodeId, WayId};
-use road_model::laws::one_name;
+use road_model::laws::{name_order, one_name};
 use road_model::{Block, Network, Profile, World};
 use std::alloc::Global;
 use way_lines::is_located;
@@ -97,17 +98,35 @@ fn shortest_to<M: World, P: Profile>(
     ensures { IfOk result (on network.now IsShortest a b) }
 {
     let ends = ends_of(alloc, network, blocks, a, b)?;
-    let (search, best) = searched(alloc, network, blocks, &ends, to)?;
-    match best {
-        Some(found) => {
-            let drive = drive_of(alloc, network, &ends, search.visits(), &found)?;
-            Ok(Shortest::Route {
-                cost: found.cost,
-                drive,
-            })
-        }
-        None => Ok(Shortest::Nowhere),
-    }
+    shortest_between(alloc, network, blocks, &ends, to)
+}
+
+/// A drive of least cost between these ends, of which the last one lies there, or that there is none.
+fn shortest_between<M: World, P: Profile>(
+    alloc: Global,
+    network: &Network<'_, M, P>,
+    blocks: &View<'_, WayId, Block>,
+    ends: &DriveEnds<'_>,
+    to: Location,
+) -> Result<Shortest, NoMemory>
+    requires blocks { on network.now AreBlocksOf (block_map blocks.now) }
+    requires ends { on network.now AreEnds ends.now }
+    requires at { location_of (map_of network.now) (Some ends.now.b) ≡ Some to }
+    ensures { IfOk result (on network.now IsShortest ends.now.a ends.now.b) }
+{
+    let profile = &network.profile;
+    name_order();
+    one_name(profile);
+    listed_contexts(profile);
+    searched_drives(profile);
+    let (search, best) = searched(alloc, network, blocks, ends, to)?;
+    certified_is_least(profile, ends.a, ends.b, cost_in(&best));
+    let Some(found) = best else {
+        return Ok(Shortest::Nowhere);
+    };
+    let drive = drive_of(alloc, network, ends, search.visits(), &found)?;
+    let cost = found.cost;
+    Ok(Shortest::Route { cost, drive })
 }
 
 /// What a search finds that goes on until nothing is left over which a drive might cost less.
@@ -126,8 +145,8 @@ fn searched<'a, M: World, P: Profile>(
     let mut search = CostSearch::new(alloc, to);
     begin(&mut search, blocks, &ends.starts)?;
     let best = least_within(&ends.starts, &ends.goals);
-    let best = run(alloc, &mut search, blocks, &ends.goals, to, best)?;
-    Ok((search, best))
+    let found = run(alloc, &mut search, blocks, &ends.goals, to, best)?;
+    Ok((search, found))
 }
 
 /// The steps of what was found.
@@ -145,8 +164,8 @@ fn drive_of<M: World, P: Profile>(
     ensures { IfOk result (IsDriveOf visits.now found.now.end) }
 {
     one_name(&network.profile);
-    match &found.end {
-        Ending::Within(start, goal) => within(alloc, start, goal),
-        Ending::Over(place, goal) => along(alloc, visits, *place, goal),
+    match found.end {
+        Ending::Within(start, goal) => within(alloc, &start, &goal),
+        Ending::Over(place, goal) => along(alloc, visits, place, &goal),
     }
 }

@@ -10,6 +10,7 @@ mod costs;
 mod frontier;
 pub mod laws;
 mod least_drives;
+mod numbers;
 mod places;
 mod potentials;
 mod searching;

@@ -2,6 +2,7 @@
 ghost use Rattle.std.specs.Prelude.{◌≡◌, ◌+◌, take, drop, IfOk};
 ghost use Rattle.least_cost.specs.Latitudes.{latitudes_left};
 
+use crate::costs::lat_difference;
 use road_base::{Location, NoMemory};
 use road_model::Place;
 
@@ -39,7 +40,7 @@ pub fn latitudes_left(places: &[Place], to: Location) -> u64
     ensures { result ≡ latitudes_left places.now to }
 {
     match places.last() {
-        Some(place) => (i64::from(place.location.lat) - i64::from(to.lat)).unsigned_abs(),
+        Some(place) => lat_difference(place.location, to),
         None => 0,
     }
 }

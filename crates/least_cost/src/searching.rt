@@ -1,5 +1,5 @@
 //! The search by cost over contexts and arcs.
-ghost use Rattle.std.specs.Prelude.{◌≡◌, ◌<◌, ◌∷◌, [], ℕ, List, IfOk, OnOk, Some, Contains, IsTrue, slice_get, length};
+ghost use Rattle.std.specs.Prelude.{◌≡◌, ◌⊎◌, ◌<◌, ◌∷◌, [], ℕ, List, IfOk, OnOk, Some, Contains, IsTrue, slice_get, length};
 ghost use Rattle.std.specs.List.Sorted.{IsPermutation};
 ghost use Rattle.graph_blocks.specs.Lent.{map_of as block_map};
 ghost use Rattle.context_search.specs.declared.ends.Begin.{Begin};
@@ -9,7 +9,7 @@ ghost use Rattle.context_search.specs.Marks.{At, at_of};
 ghost use Rattle.context_search.specs.Visits.{HasTargets};
 ghost use Rattle.least_cost.specs.Certified.{AtMost};
 ghost use Rattle.least_cost.specs.CostVisits.{IsVisiting, Grows, AreFollowed, IsFollowedBy};
-ghost use Rattle.least_cost.specs.CostVisits.{IsMetBy, IsOver, IsDone, LeadsOn, Extends, AreWaiting, IsFoundAfter, cost_in};
+ghost use Rattle.least_cost.specs.CostVisits.{IsMetBy, IsOver, IsBettered, IsDone, LeadsOn, Extends, AreWaiting, IsFoundAfter, cost_in};
 
 use crate::candidates::{Candidate, Ending, cost_in, lesser};
 use crate::costs::places_cost;
@@ -40,15 +40,15 @@ pub fn run<'a>(
     ensures extends { OnOk result (Extends search.old.visits search.new.visits) }
     ensures done { IfOk result (λ found. (k : ℕ) (v : CostVisit) → slice_get search.new.visits k ≡ Some v
         → IsDone (contexts_in (block_map blocks.now)) goals.now to (cost_in found) search.new.visits v) }
-    ensures less { IfOk result (λ found. AtMost (cost_in found) (cost_in best)) }
-    ensures found { IfOk result (IsFoundAfter goals.now search.new.visits best) }
+    ensures less { IfOk result (λ found. AtMost (cost_in found) (cost_in best.entry)) }
+    ensures found { IfOk result (IsFoundAfter goals.now search.new.visits best.entry) }
 {
-    let mut best = best;
+    let mut found = best;
     for _ in 0..u64::MAX {
         let Some(place) = search.next() else {
-            return Ok(best);
+            return Ok(found);
         };
-        best = pass(alloc, search, blocks, goals, to, place, best)?;
+        found = pass(alloc, search, blocks, goals, to, place, found)?;
     }
     Err(NoMemory)
 }
@@ -71,15 +71,31 @@ fn pass<'a>(
     ensures grows { OnOk result (Grows search.old search.new) }
     ensures done { IfOk result (λ found. (v : CostVisit) → slice_get search.old.visits place ≡ Some v
         → IsDone (contexts_in (block_map blocks.now)) goals.now to (cost_in found) search.new.visits v) }
-    ensures less { IfOk result (λ found. AtMost (cost_in found) (cost_in best)) }
-    ensures found { IfOk result (IsFoundAfter goals.now search.new.visits best) }
+    ensures less { IfOk result (λ found. AtMost (cost_in found) (cost_in best.entry)) }
+    ensures found { IfOk result (IsFoundAfter goals.now search.new.visits best.entry) }
 {
     let visit = search.at(place);
-    if search.is_bettered(&visit) || is_over(&visit, to, cost_in(&best)) {
+    if is_passed(search, &visit, to, cost_in(&best)) {
         return Ok(best);
     }
     go_on(alloc, search, blocks, &visit, place)?;
-    least_over(goals, &visit, place, best)
+    let found = least_over(goals, &visit, place, best)?;
+    Ok(found)
+}
+
+/// Whether there is no need to go on from the visit.
+fn is_passed<'a>(
+    search: &CostSearch<'a>,
+    visit: &CostVisit<'a>,
+    to: Location,
+    best: Option<u128>,
+) -> bool
+    ensures { IsTrue result → IsOver best to visit.now ⊎ IsBettered search.now.visits visit.now }
+{
+    if search.is_bettered(visit) {
+        return true;
+    }
+    is_over(visit, to, best)
 }
 
 /// Whether no drive of less can come to the location over the visit.
@@ -133,7 +149,8 @@ fn follow<'a>(
 {
     let spot = target(alloc, blocks, &visit.spot, arc)?;
     let cost = sum(visit.cost, places_cost(spot.piece.places.items()))?;
-    search.offer(spot, cost, Origin::Follows(place))
+    search.offer(spot, cost, Origin::Follows(place))?;
+    Ok(())
 }
 
 /// The context to which the arc leads from this one.
@@ -167,13 +184,13 @@ fn least_over<'a>(
     best: Option<Candidate<'a>>,
 ) -> Result<Option<Candidate<'a>>, NoMemory>
     ensures { IfOk result (λ found. (visits : List CostVisit) → slice_get visits place ≡ Some visit.now
-        → IsMetBy goals.now visits visit.now.cost (at_of visit.now.spot).context.arcs best found) }
+        → IsMetBy goals.now visits visit.now.cost (at_of visit.now.spot).context.arcs best.entry found) }
 {
-    let mut best = best;
+    let mut least = best;
     for arc in visit.spot.context.arcs.items() {
-        best = meet(goals, visit, place, *arc, best)?;
+        least = meet(goals, visit, place, *arc, least)?;
     }
-    Ok(best)
+    Ok(least)
 }
 
 /// The least of what was found and a drive by the arc to a goal, if it leads to one.
@@ -184,9 +201,9 @@ fn meet<'a>(
     arc: TurnArc,
     best: Option<Candidate<'a>>,
 ) -> Result<Option<Candidate<'a>>, NoMemory>
-    requires has { Contains (at_of visit.now.spot).context.arcs arc }
+    requires { Contains (at_of visit.now.spot).context.arcs arc }
     ensures { IfOk result (λ found. (visits : List CostVisit) → slice_get visits place ≡ Some visit.now
-        → IsMetBy goals.now visits visit.now.cost (arc ∷ []) best found) }
+        → IsMetBy goals.now visits visit.now.cost (arc ∷ []) best.entry found) }
 {
     let Some(goal) = goal_at(goals, arc.piece) else {
         return Ok(best);

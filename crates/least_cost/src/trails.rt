@@ -31,8 +31,14 @@ pub fn along(
     let mut steps = Vec::new(alloc);
     add_whole(&mut steps, visits, &places)?;
     add_up_to(alloc, &mut steps, goal.piece, goal.last)?;
-    let from = first.min(steps.len());
-    Ok(Drive::from_list(Vec::from_slice(alloc, &steps[from..])?))
+    Ok(Drive::from_list(steps_from(alloc, &steps, first)?))
+}
+
+/// The steps from that one on.
+fn steps_from(alloc: Global, steps: &[Step], first: usize) -> Result<Vec<Step>, NoMemory>
+    ensures { IfOk result (λ v. v.items ≡ drop first steps.now) }
+{
+    Ok(Vec::from_slice(alloc, &steps[first.min(steps.len())..])?)
 }
 
 /// With which step of the first piece the drive begins, and the places of the visits on the way, in order.
@@ -47,20 +53,29 @@ fn way_back(
 {
     let mut places = Vec::new(alloc);
     let mut at = place;
-    while let Origin::Follows(before) = visits[at].origin {
+    while let Origin::Follows(before) = origin_at(visits, at) {
         places.push(at)?;
         at = before;
     }
     places.push(at)?;
     places.reverse();
-    Ok((first_step(&visits[at]), places))
+    Ok((first_step(origin_at(visits, at)), places))
 }
 
-/// The step with which the visit begins a drive.
-fn first_step(visit: &CostVisit<'_>) -> usize
-    ensures { (first : ℕ) → visit.now.origin ≡ Begins first → result ≡ first }
+/// How the visit at the place was come to.
+fn origin_at(visits: &[CostVisit<'_>], place: usize) -> Origin
+    requires { place < length visits.now }
+    ensures { (v : CostVisit) → slice_get visits.now place ≡ Some v → v.origin ≡ result }
 {
-    match visit.origin {
+    let visit = visits[place];
+    visit.origin
+}
+
+/// The step with which a visit of this origin begins a drive.
+fn first_step(origin: Origin) -> usize
+    ensures { (first : ℕ) → origin ≡ Begins first → result ≡ first }
+{
+    match origin {
         Origin::Begins(first) => first,
         Origin::Follows(_) => 0,
     }
@@ -77,8 +92,19 @@ fn add_whole(
     ensures { OnOk result (steps.new.items ≡ steps.old.items ++ flat_map (steps_at visits.now) places.now) }
 {
     for place in places {
-        add_piece(steps, visits[*place].spot.piece)?;
+        add_visit(steps, visits, *place)?;
     }
+    Ok(())
+}
+
+/// Adds the steps of the piece of the visit at the place.
+fn add_visit(steps: &mut Vec<Step>, visits: &[CostVisit<'_>], place: usize) -> Result<(), NoMemory>
+    requires ascend { Ascend visits.now }
+    requires within { place < length visits.now }
+    ensures { OnOk result (steps.new.items ≡ steps.old.items ++ steps_at visits.now place) }
+{
+    let visit = visits[place];
+    add_piece(steps, visit.spot.piece)?;
     Ok(())
 }
 

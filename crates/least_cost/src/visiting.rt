@@ -1,7 +1,8 @@
 //! The contexts that a search by cost has come to.
 ghost use Rattle.std.specs.Prelude.{◌≡◌, ◌<◌, ◌∷◌, [], ℕ, length, IfOk, OnOk, IfSome, IfNone, Some, IsTrue, slice_get};
 ghost use Rattle.std.specs.List.Sorted.{IsPermutation};
-ghost use Rattle.context_search.specs.Marks.{at_of, key_of};
+ghost use Rattle.context_search.specs.Marks.{at_of, key_of, key_cmp};
+ghost use Rattle.road_model.specs.Orders.{names_cmp};
 ghost use Rattle.least_cost.specs.CostVisits.{IsOffered, IsReached, IsBettered, Stands};
 
 use crate::frontier::Frontier;
@@ -9,7 +10,9 @@ use crate::places::latitudes_left;
 use context_search::{Origin, Spot};
 use road_base::{Location, NoMemory};
 use road_model::PieceName;
+use road_model::laws::name_order;
 use std::alloc::Global;
+use std::cmp::Ordering;
 use std::collections::BTreeMap;
 use std::marker::Model;
 
@@ -85,7 +88,7 @@ impl<'a> CostSearch<'a> {
     /// Comes to the context over a drive of this cost up to the end of its piece, unless one came there that costs no
     /// more.
     pub fn offer(&mut self, spot: Spot<'a>, cost: u128, origin: Origin) -> Result<(), NoMemory>
-        ensures { OnOk result (IsOffered spot cost origin self.old self.new) }
+        ensures { OnOk result (IsOffered spot.entry cost origin self.old self.new) }
     {
         if self.is_reached(&spot, cost) {
             return Ok(());
@@ -150,5 +153,28 @@ impl<'a> CostSearch<'a> {
 fn same_names(a: &Spot<'_>, b: &Spot<'_>) -> bool
     ensures { IsTrue result → key_of (at_of a.now) ≡ key_of (at_of b.now) }
 {
-    a.piece.name == b.piece.name && a.context.before.items() == b.context.before.items()
+    name_order();
+    match compare(a, b) {
+        Ordering::Equal => true,
+        _ => false,
+    }
+}
+
+/// How the contexts stand to each other by their names.
+fn compare(a: &Spot<'_>, b: &Spot<'_>) -> Ordering
+    ensures { result ≡ key_cmp (key_of (at_of a.now)) (key_of (at_of b.now)) }
+{
+    name_order();
+    a.piece.name.cmp(&b.piece.name).then(by_names(
+        a.context.before.items(),
+        b.context.before.items(),
+    ))
+}
+
+/// Compares lists of names by length, then name by name.
+fn by_names(a: &[PieceName], b: &[PieceName]) -> Ordering
+    ensures { result ≡ names_cmp a.now b.now }
+{
+    name_order();
+    a.len().cmp(&b.len()).then(a.cmp(b))
 }
