@@ -126,14 +126,14 @@ number_stands (y ∷ L) (m ∷ list) up l (suc n) x h =
     (apart y x (up.0 x (in_at L x n h)))))
 
 module _ (M : Objects) (P : Rules) where
+  pub number_at_spot : (L : List At) (list : List (Option ℕ)) → AreSpots M P L → length list ≡ length L → (n : ℕ)
+      (x : At) (c : List Span) → slice_get L n ≡ Some x → IsSpot M P c x → slice_get list n ≡ Some (numbers_of L list c)
+  number_at_spot L list a l n x c h s =
+      number_stands L list (climbs key_of key_cmp (key_total name_cmp_total names_cmp_total) L a.up) l n x h
+      ∙ ap (λ v. Some (number_by L list v)) (spot_names M P c x s)
+
   -- a list of as many numbers as there are contexts gives each context one
   pub numbers_agree : (L : List At) (list : List (Option ℕ)) → AreSpots M P L → length list ≡ length L
       → Agrees M P list (numbers_of L list)
-  numbers_agree L list a l = record {
-    contexts = L;
-    are = a;
-    count = l;
-    entries = λ n x c h s.
-        number_stands L list (climbs key_of key_cmp (key_total name_cmp_total names_cmp_total) L a.up) l n x h
-        ∙ ap (λ v. Some (number_by L list v)) (spot_names M P c x s);
-  }
+  numbers_agree L list a l =
+      record { contexts = L; are = a; count = l; entries = number_at_spot L list a l }

@@ -1,13 +1,32 @@
 //! Drives of least cost.
-ghost use Rattle.std.specs.Prelude.{IfOk};
+ghost use Rattle.std.specs.Prelude.{◌≡◌, ◌≤◌, ◌<◌, ℕ, IfOk, IfSome, IfNone, Some, IsTrue, IsFalse, slice_get, length};
 ghost use Rattle.road_model.specs.BlockMap.{AreBlocksOf};
+ghost use Rattle.road_model.specs.Driving.{located};
+ghost use Rattle.road_model.specs.Networks.{on, map_of};
+ghost use Rattle.graph_blocks.specs.Lent.{map_of as block_map};
+ghost use Rattle.context_search.specs.Listed.{contexts_in};
+ghost use Rattle.context_search.specs.Sought.{AreEnds};
 ghost use Rattle.least_cost.specs.Cheapest.{IsCheapest, IsShortest};
+ghost use Rattle.least_cost.specs.Costs.{location_of};
+ghost use Rattle.least_cost.specs.CostVisits.{IsExhausted, HaveOrigins, IsFoundBy};
+ghost use Rattle.least_cost.specs.Trails.{IsDriveOf, Descend, Ascend};
 
 use crate::answers::{Cheapest, Shortest};
+use crate::beginning::{begin, least_within};
+use crate::candidates::{Candidate, Ending, cost_in};
+use crate::look_ups::{certified_is_least, listed_contexts};
+use crate::searching::run;
+use crate::trails::along;
+use crate::visiting::{CostSearch, CostVisit};
+use context_search::laws::searched_drives;
+use context_search::{DriveEnds, ends_of, within};
 use graph_blocks::LendsBlocks;
-use road_base::{NoMemory, NodeId};
-use road_model::{Profile, World};
+use layered_maps::View;
+use road_base::{Drive, Location, NoMemory, NodeId, WayId};
+use road_model::laws::{name_order, one_name};
+use road_model::{Block, Network, Profile, World};
 use std::alloc::Global;
+use way_lines::is_located;
 
 /// A legal drive of least cost from node a to node b, also where they are the same, or why there is none, and the
 /// numbers that show it. The blocks are those of the world under the profile.
@@ -27,6 +46,9 @@ pub fn least<M: World, P: Profile, B: LendsBlocks>(
 
 /// A legal drive of least cost from node a to node b, also where they are the same, or why there is none. The blocks
 /// are those of the world under the profile.
+///
+/// Of n contexts and arcs that the search comes to, each takes the logarithm of n, and a look-up in the blocks. The rest
+/// of the map takes nothing.
 pub fn shortest<M: World, P: Profile, B: LendsBlocks>(
     alloc: Global,
     world: &M,
@@ -38,5 +60,112 @@ pub fn shortest<M: World, P: Profile, B: LendsBlocks>(
     requires { AreBlocksOf (M.objects world.now) (P.rules profile.now) (B.map blocks.now) }
     ensures { IfOk result (IsShortest (M.objects world.now) (P.rules profile.now) a b) }
 {
-    Err(NoMemory)
+    if !is_located(world, a) {
+        return Ok(Shortest::NoNode(a));
+    }
+    let Some(to) = place_of(world, b) else {
+        return Ok(Shortest::NoNode(b));
+    };
+    let network = Network::new(world, *profile);
+    shortest_to(alloc, &network, &blocks.lend(), a, b, to)
+}
+
+/// Where the node lies, if it is visible with a location.
+fn place_of<M: World>(world: &M, node: NodeId) -> Option<Location>
+    ensures located { IfSome result (λ at. IsTrue (located (M.objects world.now) (Some node))) }
+    ensures at { IfSome result (λ at. location_of (M.objects world.now) (Some node) ≡ Some at) }
+    ensures none { IfNone result (IsFalse (located (M.objects world.now) (Some node))) }
+{
+    match world.node(node) {
+        Some(body) => body.location,
+        None => None,
+    }
+}
+
+/// A drive of least cost from node a to node b, which lies there, or that there is none.
+fn shortest_to<M: World, P: Profile>(
+    alloc: Global,
+    network: &Network<'_, M, P>,
+    blocks: &View<'_, WayId, Block>,
+    a: NodeId,
+    b: NodeId,
+    to: Location,
+) -> Result<Shortest, NoMemory>
+    requires blocks { on network.now AreBlocksOf (block_map blocks.now) }
+    requires from { IsTrue (located (map_of network.now) (Some a)) }
+    requires to { IsTrue (located (map_of network.now) (Some b)) }
+    requires at { location_of (map_of network.now) (Some b) ≡ Some to }
+    ensures { IfOk result (on network.now IsShortest a b) }
+{
+    let ends = ends_of(alloc, network, blocks, a, b)?;
+    shortest_between(alloc, network, blocks, &ends, to)
+}
+
+/// A drive of least cost between these ends, of which the last one lies there, or that there is none.
+fn shortest_between<M: World, P: Profile>(
+    alloc: Global,
+    network: &Network<'_, M, P>,
+    blocks: &View<'_, WayId, Block>,
+    ends: &DriveEnds<'_>,
+    to: Location,
+) -> Result<Shortest, NoMemory>
+    requires blocks { on network.now AreBlocksOf (block_map blocks.now) }
+    requires ends { on network.now AreEnds ends.now }
+    requires at { location_of (map_of network.now) (Some ends.now.b) ≡ Some to }
+    ensures { IfOk result (on network.now IsShortest ends.now.a ends.now.b) }
+{
+    let profile = &network.profile;
+    name_order();
+    one_name(profile);
+    listed_contexts(profile);
+    searched_drives(profile);
+    let (search, best) = searched(alloc, network, blocks, ends, to)?;
+    certified_is_least(profile, ends.a, ends.b, cost_in(&best));
+    let Some(found) = best else {
+        return Ok(Shortest::Nowhere);
+    };
+    let drive = drive_of(alloc, network, ends, search.visits(), &found)?;
+    let cost = found.cost;
+    Ok(Shortest::Route { cost, drive })
+}
+
+/// What a search finds that goes on until nothing is left over which a drive might cost less.
+fn searched<'a, M: World, P: Profile>(
+    alloc: Global,
+    network: &Network<'_, M, P>,
+    blocks: &View<'a, WayId, Block>,
+    ends: &DriveEnds<'a>,
+    to: Location,
+) -> Result<(CostSearch<'a>, Option<Candidate<'a>>), NoMemory>
+    requires blocks { on network.now AreBlocksOf (block_map blocks.now) }
+    requires ends { on network.now AreEnds ends.now }
+    ensures { IfOk result (λ r. IsExhausted (contexts_in (block_map blocks.now)) ends.now to r.0.visits r.1) }
+{
+    listed_contexts(&network.profile);
+    let mut search = CostSearch::new(alloc, to);
+    begin(&mut search, blocks, &ends.starts)?;
+    let best = least_within(&ends.starts, &ends.goals);
+    let found = run(alloc, &mut search, blocks, &ends.goals, to, best)?;
+    Ok((search, found))
+}
+
+/// The steps of what was found.
+fn drive_of<M: World, P: Profile>(
+    alloc: Global,
+    network: &Network<'_, M, P>,
+    ends: &DriveEnds<'_>,
+    visits: &[CostVisit<'_>],
+    found: &Candidate<'_>,
+) -> Result<Drive, NoMemory>
+    requires ends { on network.now AreEnds ends.now }
+    requires descend { Descend visits.now }
+    requires ascend { Ascend visits.now }
+    requires found { IsFoundBy ends.now.starts.items ends.now.goals visits.now (Some found.now) }
+    ensures { IfOk result (IsDriveOf visits.now found.now.end) }
+{
+    one_name(&network.profile);
+    match found.end {
+        Ending::Within(start, goal) => within(alloc, &start, &goal),
+        Ending::Over(place, goal) => along(alloc, visits, place, &goal),
+    }
 }

@@ -3,11 +3,19 @@
 #![tactic(auto)]
 
 mod answers;
+mod beginning;
+mod candidates;
 mod checking;
 mod costs;
+mod frontier;
 pub mod laws;
 mod least_drives;
+mod numbers;
+mod places;
 mod potentials;
+mod searching;
+mod trails;
+mod visiting;
 
 pub use answers::{Cheapest, Shortest};
 pub use checking::check;
