@@ -165,7 +165,7 @@ module _ (spot : Spot) (origin : Origin) (m n : Marks) (new : IsNew spot origin 
           let h = comes j (new_origin v (Follows j) last.1 o) in (
             subst (λ i. j < i) (sym last.0) h.0,
             subst (λ (z : Spot). Comes n.visits j (key_of (at_of z))) (sym (new_spot v last.1))
-            (comes_stays m n new_stays j (key_of (at_of spot)) h.1),
+                (comes_stays m n new_stays j (key_of (at_of spot)) h.1),
           )
     ];
     within = new_within s.within;
