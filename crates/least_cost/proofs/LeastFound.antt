@@ -1,9 +1,7 @@
 -- What a search by cost has found is a drive of least cost.
-use Rattle.std.proofs.Common.{◌≡◌, ◌⊎◌, inl, inr, ℕ, ◌+◌, ◌-◌, ◌<◌, ◌≤◌, List, [], Option, Some, None, slice_get}
+use Rattle.std.proofs.Common.{◌≡◌, ◌⊎◌, inl, inr, ℕ, ◌+◌, ◌-◌, ◌<◌, ◌≤◌, List, [], map, Option, Some, None, slice_get}
 use Rattle.std.proofs.Common.{Contains, refl, sym, ◌∙◌, ap, subst, arith, take, drop}
 use Rattle.std.specs.BTreeMap.{BTreeMap}
-use Rattle.std.specs.Cmp.{IsTotalOrder}
-use Rattle.std.specs.FinMap.{IsAntisymmetric}
 use Rattle.std.proofs.lemmas.Option.{slice_get_within}
 use Rattle.road_base.specs.declared.ids.NodeId.{NodeId}
 use Rattle.road_base.specs.declared.ids.Step.{Step}
@@ -29,16 +27,19 @@ use Rattle.least_cost.specs.declared.candidates.Candidate.{Candidate}
 use Rattle.least_cost.specs.declared.candidates.Ending.{Ending}
 use Rattle.least_cost.specs.declared.candidates.Ending.TheVariants.{Within, Over}
 use Rattle.least_cost.specs.declared.visiting.CostVisit.{CostVisit}
-use Rattle.least_cost.specs.Certified.{AtMost, Certified, IsLeastFor}
+use Rattle.least_cost.specs.Certified.{AtMost, Certified, IsCertified, IsLeastFor}
 use Rattle.least_cost.specs.Cheapest.{IsRouteOf, LeadsNowhere}
 use Rattle.least_cost.specs.Costs.{cost_of, location_of}
 use Rattle.least_cost.specs.CostVisits.{HaveOrigins, HasBefore, Extends, AreBegun, IsReachedFrom, AreWithin, IsFoundBy}
 use Rattle.least_cost.specs.CostVisits.{IsFoundAfter, IsExhausted, EndsWithin, EndsOver, HasEnd, cost_in, within_cost}
+use Rattle.least_cost.specs.Lowered.{number_left}
 use Rattle.least_cost.specs.PlaceCosts.{places_cost}
 use Rattle.least_cost.specs.Trails.{IsDriveOf, Descend, Ascend}
 use Rattle.least_cost.proofs.CostPlaces.{cost_within}
 use Rattle.least_cost.proofs.LawCosts.{at_most_trans}
-use Rattle.least_cost.proofs.LeastShown.{taken_dropped, number_at, certified}
+use Rattle.least_cost.proofs.LawExhausted.{exhausted_shows, exhausted_certified}
+use Rattle.least_cost.proofs.LawSpots.{numbers_of, one_spots}
+use Rattle.least_cost.proofs.LeastParts.{taken_dropped}
 use Rattle.least_cost.proofs.LeastStarts.{nothing_at}
 use Rattle.least_cost.proofs.LeastTrails.{driven, leads_along, costs_along}
 use Rattle.least_cost.proofs.LeastVisits.{before_stays, reached_stays}
@@ -148,14 +149,22 @@ module _ (M : Objects) (P : Rules) (L : List At) (are : AreSpots M P L) (one : O
 
 module _ (M : Objects) (P : Rules) (L : List At) (are : AreSpots M P L) (one : OnePiece M P) (E : DriveEnds)
     (ends_are : AreEnds M P E) (to : Location) (to_at : location_of M (Some E.b) ≡ Some to) (visits : List CostVisit)
-    (best : Option Candidate) (ex : IsExhausted L E to visits best) (total : IsTotalOrder key_cmp)
-    (exact : IsAntisymmetric key_cmp) (inside : LeadsWithin M P E.a E.b) (across : LeadsAlong M P E.a E.b)
+    (best : Option Candidate) (ex : IsExhausted L E to visits best) (inside : LeadsWithin M P E.a E.b) (across : LeadsAlong M P E.a E.b)
     (law : (pi : List Span → Option ℕ) → Certified M P E.a E.b (cost_in best) pi
     → IsLeastFor M P E.a E.b (cost_in best))
   where
     least_for : IsLeastFor M P E.a E.b (cost_in best)
-    least_for = law (number_at M P to visits (cost_in best))
-        (certified M P L are one E ends_are to to_at visits best ex total exact)
+    least_for = law (numbers_of L (map (number_left visits (cost_in best) to) L))
+        (exhausted_shows M P L are E ends_are to to_at visits best ex)
+
+    -- the list shows it
+    pub list_shows : (K : List At) → AreSpots M P K → (list : List (Option ℕ))
+        → list ≡ map (number_left visits (cost_in best) to) K → IsCertified M P E.a E.b (cost_in best) list
+    list_shows K spots list is =
+        let same : K ≡ L = one_spots M P K L spots are in
+        subst (λ l. IsCertified M P E.a E.b (cost_in best) l)
+        (sym (is ∙ ap (map (number_left visits (cost_in best) to)) same))
+        (exhausted_certified M P L are E ends_are to to_at visits best ex)
 
     pub route_of : (c : Candidate) → best ≡ Some c → (d : List Step) → IsDriveOf visits c.end d
         → IsRouteOf M P E.a E.b c.cost d
