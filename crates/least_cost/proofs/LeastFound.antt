@@ -63,7 +63,8 @@ module _ (m n : List CostVisit) (more : Extends m n) where
         from = r.from;
         listed = r.listed;
         named = r.named;
-        reached = reached_stays m n more.stays (key_of r.from) (places_cost (drop s.first r.from.piece.places)) r.reached;
+        reached = reached_stays m n more.stays (key_of r.from) (places_cost (drop s.first r.from.piece.places))
+            r.reached;
       }
 
 pub within_less : (starts : List Begin) (goals : BTreeMap PieceName Goal) (C D : Option ℕ) → AtMost D C
@@ -119,7 +120,8 @@ module _ (M : Objects) (P : Rules) (L : List At) (are : AreSpots M P L) (one : O
     within_costs s g cost h =
         let from = ends_are.starts.sound s h.is in
         let to = ends_are.goals.sound s.piece.now.name g h.met in
-        let same : to.listed.piece ≡ from.listed.piece = one to.listed.piece from.listed.piece to.listed.is from.listed.is
+        let same : to.listed.piece ≡ from.listed.piece = one to.listed.piece from.listed.piece to.listed.is
+        from.listed.is
         (sym to.listed.named ∙ to.named ∙ from.listed.named) in
         let stops : StopsAt M from.listed.piece g.last E.b = subst (λ p. StopsAt M p g.last E.b) same to.stops in
         let ps = s.piece.now.places in
@@ -149,7 +151,8 @@ module _ (M : Objects) (P : Rules) (L : List At) (are : AreSpots M P L) (one : O
 
 module _ (M : Objects) (P : Rules) (L : List At) (are : AreSpots M P L) (one : OnePiece M P) (E : DriveEnds)
     (ends_are : AreEnds M P E) (to : Location) (to_at : location_of M (Some E.b) ≡ Some to) (visits : List CostVisit)
-    (best : Option Candidate) (ex : IsExhausted L E to visits best) (inside : LeadsWithin M P E.a E.b) (across : LeadsAlong M P E.a E.b)
+    (best : Option Candidate) (ex : IsExhausted L E to visits best) (inside : LeadsWithin M P E.a E.b) (across :
+    LeadsAlong M P E.a E.b)
     (law : (pi : List Span → Option ℕ) → Certified M P E.a E.b (cost_in best) pi
     → IsLeastFor M P E.a E.b (cost_in best))
   where
@@ -172,8 +175,10 @@ module _ (M : Objects) (P : Rules) (L : List At) (are : AreSpots M P L) (one : O
         let has : HasEnd E.starts.items E.goals visits c.cost c.end
         = subst (λ b. IsFoundBy E.starts.items E.goals visits b) is ex.found in
         record {
-          leads = found_leads M P L are one E ends_are visits ex.listed ex.origins inside across c.cost c.end d has drive;
-          costs = found_costs M P L are one E ends_are visits ex.listed ex.origins inside across c.cost c.end d has drive;
+          leads = found_leads M P L are one E ends_are visits ex.listed ex.origins inside across c.cost c.end d has
+              drive;
+          costs = found_costs M P L are one E ends_are visits ex.listed ex.origins inside across c.cost c.end d has
+              drive;
           least = subst (λ b. IsLeastFor M P E.a E.b (cost_in b)) is least_for;
         }
 

@@ -63,7 +63,8 @@ module _ (M : Objects) (P : Rules) (L : List At) (visits : List CostVisit) (a : 
     pub spells : flat_map (steps_at visits) places ≡ spell_pieces (piece ∷ whole)
     pub costs : cost_of M (drop first (flat_map (steps_at visits) places)) ≡ Some visit.cost
 
-  longer : (places : List ℕ) (p : Span) (whole : List Span) → flat_map (steps_at visits) places ≡ spell_pieces (p ∷ whole)
+  longer : (places : List ℕ) (p : Span) (whole : List Span) → flat_map (steps_at visits) places ≡ spell_pieces (p ∷
+      whole)
       → BeginsAt M p first a → first ≤ length (flat_map (steps_at visits) places)
   longer places p whole e b =
       let h = slice_get_within (spell p) first b.step b.at in
@@ -157,7 +158,8 @@ module _ (M : Objects) (P : Rules) (L : List At) (visits : List CostVisit) (a : 
         → ComesFrom visits j v → Driven (js ++ k ∷ []) k
     driven_more js j d k v at c =
         let same : c.before ≡ d.visit = one_stands visits j c.before d.visit c.at d.at in
-        driven_arc js j d k v at c.arc (subst (λ (w : CostVisit). Contains (at_of w.spot).context.arcs c.arc) same c.has)
+        driven_arc js j d k v at c.arc (subst (λ (w : CostVisit). Contains (at_of w.spot).context.arcs c.arc) same
+        c.has)
         (subst (λ (w : CostVisit). key_of (at_of v.spot)
         ≡ (c.arc.piece, names_behind (at_of w.spot) (c.arc.length - 1))) same c.leads)
         (subst (λ (w : CostVisit). v.cost ≡ w.cost + places_cost v.spot.piece.now.places) same c.cost)
@@ -170,7 +172,8 @@ module _ (M : Objects) (P : Rules) (L : List At) (visits : List CostVisit) (a : 
         | inr f ↦ let h : Begins first ≡ Follows f.before = sym o ∙ f.is in cc
       ]
 
-      comes_there : (k j : ℕ) (v : CostVisit) → slice_get visits k ≡ Some v → v.origin ≡ Follows j → ComesFrom visits j v
+      comes_there : (k j : ℕ) (v : CostVisit) → slice_get visits k ≡ Some v → v.origin ≡ Follows j → ComesFrom visits
+          j v
       comes_there k j v e o = elim (origins k v e) [
         | inl b ↦ let h : Begins b.first ≡ Follows j = sym b.is ∙ o in cc
         | inr f ↦ subst (λ i. ComesFrom visits i v) (one_before j f.before (sym f.is ∙ o)) f.comes

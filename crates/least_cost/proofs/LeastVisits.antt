@@ -6,7 +6,8 @@ use Rattle.std.specs.List.Sorted.{IsPermutation}
 use Rattle.std.proofs.lemmas.List.{length_push, take_more, take_all}
 use Rattle.std.proofs.lemmas.List.Sorted.{Contains-permutation, IsPermutation-sym}
 use Rattle.std.proofs.lemmas.Option.{slice_get_within}
-use Rattle.ordered_lists.proofs.ListMembers.{contains_head, contains_later, contains_cases, contains_more, contains_none}
+use Rattle.ordered_lists.proofs.ListMembers.{contains_head, contains_later, contains_cases, contains_more}
+use Rattle.ordered_lists.proofs.ListMembers.{contains_none}
 use Rattle.ordered_lists.proofs.ListPlaces.{stands_left, stands_last, stands_cases, one_stands}
 use Rattle.road_base.specs.declared.location.Location.{Location}
 use Rattle.road_model.specs.declared.lists.PieceName.{PieceName}
@@ -300,7 +301,8 @@ module _ (L : List At) (place : ℕ) (v : CostVisit) (arc : TurnArc) (m n : Visi
 -- with one arc more
 pub more_followed : (L : List At) (visits : List CostVisit) (x : At) (c : ℕ) (arcs : List TurnArc) (i : ℕ) (d : TurnArc)
     → i < length arcs
-    → (y : At) × Contains L y × LeadsOn x (get_or arcs i d) y × IsReached visits (key_of y) (c + places_cost y.piece.places)
+    → (y : At) × Contains L y × LeadsOn x (get_or arcs i d) y × IsReached visits (key_of y) (c + places_cost
+    y.piece.places)
     → AreFollowed L visits x c (take i arcs) → AreFollowed L visits x c (take (i + 1) arcs)
 more_followed L visits x c arcs i d h now old a has =
     elim (contains_more (take i arcs) (get_or arcs i d) a (subst (λ l. Contains l a) (take_more arcs i d h) has)) [

@@ -255,7 +255,8 @@ AreWithin starts goals C = (s : Begin) (g : Goal) → Contains starts s → goal
 
 -- What a search between these ends has come to that leads to the location: it has begun on all pieces on which a drive
 -- may begin, it is done with each visit, and what it found is the least of the drives that it looked at.
-pub record IsExhausted (L : List At) (ends : DriveEnds) (to : Location) (visits : List CostVisit) (best : Option Candidate)
+pub record IsExhausted (L : List At) (ends : DriveEnds) (to : Location) (visits : List CostVisit) (best : Option
+    Candidate)
     : Type 0 where
   pub listed : (k : ℕ) (v : CostVisit) → slice_get visits k ≡ Some v → Contains L (at_of v.spot)
   pub origins : HaveOrigins ends.starts.items visits

@@ -1,7 +1,8 @@
 //! The visits from which a search by cost hasn't gone on yet, the one over which the least drive is to be expected
 //! first.
 //!
-//! In which order they come decides how long the search takes, and nothing else: contracts see the places in some order.
+//! In which order they come decides how long the search takes, and nothing else: contracts see the places in some
+//! order.
 ghost use Rattle.std.specs.Prelude.{◌≡◌, [], ◌∷◌, IfOk, OnOk, IfSome, IfNone};
 ghost use Rattle.std.specs.List.Sorted.{IsPermutation};
 

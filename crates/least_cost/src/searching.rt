@@ -1,5 +1,6 @@
 //! The search by cost over contexts and arcs.
-ghost use Rattle.std.specs.Prelude.{◌≡◌, ◌⊎◌, ◌<◌, ◌∷◌, [], ℕ, List, IfOk, OnOk, Some, Contains, IsTrue, slice_get, length};
+ghost use Rattle.std.specs.Prelude.{◌≡◌, ◌⊎◌, ◌<◌, ◌∷◌, [], ℕ, List, IfOk, OnOk, Some, Contains, IsTrue};
+ghost use Rattle.std.specs.Prelude.{slice_get, length};
 ghost use Rattle.std.specs.List.Sorted.{IsPermutation};
 ghost use Rattle.graph_blocks.specs.Lent.{map_of as block_map};
 ghost use Rattle.context_search.specs.declared.ends.Begin.{Begin};
@@ -9,7 +10,8 @@ ghost use Rattle.context_search.specs.Marks.{At, at_of};
 ghost use Rattle.context_search.specs.Visits.{HasTargets};
 ghost use Rattle.least_cost.specs.Certified.{AtMost};
 ghost use Rattle.least_cost.specs.CostVisits.{IsVisiting, Grows, AreFollowed, IsFollowedBy};
-ghost use Rattle.least_cost.specs.CostVisits.{IsMetBy, IsOver, IsBettered, IsDone, LeadsOn, Extends, AreWaiting, IsFoundAfter, cost_in};
+ghost use Rattle.least_cost.specs.CostVisits.{IsMetBy, IsOver, IsBettered, IsDone, LeadsOn, Extends, AreWaiting};
+ghost use Rattle.least_cost.specs.CostVisits.{IsFoundAfter, cost_in};
 
 use crate::candidates::{Candidate, Ending, cost_in, lesser};
 use crate::costs::places_cost;
@@ -145,7 +147,8 @@ fn follow<'a>(
     requires targets { HasTargets (contexts_in (block_map blocks.now)) }
     requires listed { Contains (contexts_in (block_map blocks.now)) (at_of visit.now.spot) }
     requires has { Contains (at_of visit.now.spot).context.arcs arc }
-    ensures { OnOk result (IsFollowedBy (contexts_in (block_map blocks.now)) place visit.now arc search.old search.new) }
+    ensures { OnOk result (IsFollowedBy (contexts_in (block_map blocks.now)) place visit.now arc search.old
+        search.new) }
 {
     let spot = target(alloc, blocks, &visit.spot, arc)?;
     let cost = sum(visit.cost, places_cost(spot.piece.places.items()))?;

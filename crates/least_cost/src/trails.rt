@@ -1,5 +1,6 @@
 //! The steps of what a search by cost has found.
-ghost use Rattle.std.specs.Prelude.{◌≡◌, ◌+◌, ◌<◌, ◌≤◌, ◌++◌, ℕ, Some, length, take, drop, IfOk, OnOk, Contains, slice_get};
+ghost use Rattle.std.specs.Prelude.{◌≡◌, ◌+◌, ◌<◌, ◌≤◌, ◌++◌, ℕ, Some, length, take, drop, IfOk, OnOk, Contains};
+ghost use Rattle.std.specs.Prelude.{slice_get};
 ghost use Rattle.std.specs.List.{flat_map};
 ghost use Rattle.context_search.specs.declared.marks.Origin.TheVariants.{Begins, Follows};
 ghost use Rattle.context_search.specs.Routes.{spelled};
