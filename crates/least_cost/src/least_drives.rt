@@ -32,6 +32,8 @@ use way_lines::is_located;
 
 /// A legal drive of least cost from node a to node b, also where they are the same, or why there is none, and the
 /// numbers that show it. The blocks are those of the world under the profile.
+///
+/// Takes what `shortest` takes, and one pass over all contexts for their numbers.
 pub fn least<M: World, P: Profile, B: LendsBlocks>(
     alloc: Global,
     world: &M,
@@ -57,8 +59,7 @@ pub fn least<M: World, P: Profile, B: LendsBlocks>(
 /// are those of the world under the profile.
 ///
 /// Of n contexts and arcs that the search comes to, each takes the logarithm of n, and a look-up in the blocks. The
-/// rest
-/// of the map takes nothing.
+/// rest of the map takes nothing.
 pub fn shortest<M: World, P: Profile, B: LendsBlocks>(
     alloc: Global,
     world: &M,
