@@ -24,8 +24,8 @@ use Rattle.context_search.specs.Sought.{AreSpots, AreEnds}
 use Rattle.context_search.proofs.SearchTargets.{entry_spells}
 use Rattle.context_search.proofs.SearchTogether.{leads_within, ends_within, entry_ascends}
 use Rattle.least_cost.specs.declared.candidates.Candidate.{Candidate}
-use Rattle.least_cost.specs.declared.candidates.Ending.{Ending}
-use Rattle.least_cost.specs.declared.candidates.Ending.TheVariants.{Within, Over}
+use Rattle.least_cost.specs.declared.candidates.FoundEnd.{FoundEnd}
+use Rattle.least_cost.specs.declared.candidates.FoundEnd.TheVariants.{Within, Over}
 use Rattle.least_cost.specs.declared.visiting.CostVisit.{CostVisit}
 use Rattle.least_cost.specs.Certified.{AtMost, Certified, IsCertified, IsLeastFor}
 use Rattle.least_cost.specs.Cheapest.{IsRouteOf, LeadsNowhere}
@@ -73,7 +73,7 @@ within_less starts goals C D less w s g has met rises =
     at_most_trans D C (Some (within_cost s g)) less (w s g has met rises)
 
 module _ (starts : List Begin) (goals : BTreeMap PieceName Goal) (visits : List CostVisit) where
-  end_still : (cost : ℕ) (end : Ending) → HasEnd starts goals [] cost end → HasEnd starts goals visits cost end
+  end_still : (cost : ℕ) (end : FoundEnd) → HasEnd starts goals [] cost end → HasEnd starts goals visits cost end
   end_still cost (Within s g) h = h
   end_still cost (Over place g) h = absurd (nothing_at [] place h.visit refl h.at)
 
@@ -132,7 +132,7 @@ module _ (M : Objects) (P : Rules) (L : List At) (are : AreSpots M P L) (one : O
         ∙ whole ∙ ap (λ l. Some (places_cost l)) (sym (taken_dropped s.first (g.last + 2) ps))
         ∙ ap Some (sym h.is_cost)
 
-    pub found_leads : (cost : ℕ) (end : Ending) (d : List Step) → HasEnd E.starts.items E.goals visits cost end
+    pub found_leads : (cost : ℕ) (end : FoundEnd) (d : List Step) → HasEnd E.starts.items E.goals visits cost end
         → IsDriveOf visits end d → LeadsTo M P E.a E.b d
     found_leads cost (Within s g) d h is =
         let from = ends_are.starts.sound s h.is in
@@ -142,7 +142,7 @@ module _ (M : Objects) (P : Rules) (L : List At) (are : AreSpots M P L) (one : O
         let r = driven M P L visits E.a is.first one are listed E.starts.items ends_are.starts origins is.trail in
         leads_along M P L visits E.a is.first one E.b E.goals ends_are.goals across is.places place g r cost h d is.is
 
-    pub found_costs : (cost : ℕ) (end : Ending) (d : List Step) → HasEnd E.starts.items E.goals visits cost end
+    pub found_costs : (cost : ℕ) (end : FoundEnd) (d : List Step) → HasEnd E.starts.items E.goals visits cost end
         → IsDriveOf visits end d → cost_of M d ≡ Some cost
     found_costs cost (Within s g) d h is = ap (cost_of M) is ∙ within_costs s g cost h
     found_costs cost (Over place g) d h is =

@@ -14,11 +14,11 @@ use std::marker::Model;
 
 /// Places in the list of visits. Contracts see them in some order.
 #[derive(Drop)]
-pub struct Frontier {
+pub struct CostFrontier {
     heap: BinaryHeap<Reverse<(u128, usize)>>,
 }
 
-impl Model for Frontier {
+impl Model for CostFrontier {
     ghost use Rattle.std.specs.Prelude.{ℕ, List, map};
     ghost use Rattle.std.specs.BinaryHeap.{heap_items};
 
@@ -27,12 +27,12 @@ impl Model for Frontier {
     ghost view = { λ f. map (λ r. r.0.1) (heap_items f.heap) };
 }
 
-impl Frontier {
+impl CostFrontier {
     /// No places.
-    pub fn new(alloc: Global) -> Frontier
+    pub fn new(alloc: Global) -> CostFrontier
         ensures { result ≡ [] }
     {
-        Frontier {
+        CostFrontier {
             heap: BinaryHeap::new(alloc),
         }
     }

@@ -13,7 +13,7 @@ ghost use Rattle.least_cost.specs.Trails.{IsDriveOf, Descend, Ascend};
 
 use crate::answers::{Cheapest, Shortest};
 use crate::beginning::{begin, least_within};
-use crate::candidates::{Candidate, Ending, cost_in};
+use crate::candidates::{Candidate, FoundEnd, cost_in};
 use crate::laws::certified_is_least;
 use crate::numbers::numbers;
 use crate::potentials::Potentials;
@@ -229,7 +229,7 @@ fn drive_of<'a, M: World, P: Profile>(
 {
     one_name(&network.profile);
     match found.end {
-        Ending::Within(start, goal) => within(alloc, &start, &goal),
-        Ending::Over(place, goal) => along(alloc, visits, place, &goal),
+        FoundEnd::Within(start, goal) => within(alloc, &start, &goal),
+        FoundEnd::Over(place, goal) => along(alloc, visits, place, &goal),
     }
 }
