@@ -1,15 +1,17 @@
+use Rattle.std.proofs.Common.{ℕ, Option}
 use Rattle.std.proofs.Common.{◌≡◌, List, Some, IsTrue, Contains, map, subst, sym, ◌∙◌}
 use Rattle.ordered_lists.specs.Orders.{rises}
 use Rattle.ordered_lists.proofs.ListPlaces.{at_contains}
 use Rattle.context_search.specs.declared.spots.Spot.{Spot}
 use Rattle.context_search.specs.Marks.{at_of, key_of, key_cmp}
-use Rattle.least_cost.specs.Certified.{IsCertified}
 use Rattle.least_cost.specs.Lowered.{number_left}
 use Rattle.least_cost.proofs.LawSpots.{one_spots}
 use Rattle.graph_blocks.specs.Lent.{map_of as block_map}
 use Rattle.least_cost.specs.declared.visiting.CostVisit.{CostVisit}
 use Rattle.context_search.specs.Listed.{contexts_in}
 use Rattle.least_cost.specs.CostVisits.{IsFoundBy, HasEnd, cost_in}
+use Rattle.least_cost.specs.Certified.{Certified, IsCertified, IsLeastFor}
+use Rattle.road_model.specs.Pieces.{Span}
 use Rattle.least_cost.specs.Trails.{Descend, Ascend, IsDriveOf}
 use Rattle.least_cost.proofs.LeastFound.{descends, ascends, route_of, nowhere_of, list_shows}
 use Rattle.least_cost.proofs.least_drives.least_between.Goals as goal
@@ -57,6 +59,10 @@ returns-in_default g c =
     let P = g.P.Profile.rules c.args.network.now.profile in
     let m = block_map c.args.blocks.now in
     let E = c.args.ends.now in
+    let law : (pi : List Span → Option ℕ) → Certified M P E.a E.b (cost_in c.in_ok-search.best) pi
+    → IsLeastFor M P E.a E.b (cost_in c.in_ok-search.best)
+    = subst (λ (C : Option ℕ). (pi : List Span → Option ℕ) → Certified M P E.a E.b C pi → IsLeastFor M P E.a E.b C)
+    c.cost_in.ensures (c.certified_is_least.ensures M) in
     let are = c.listed_contexts.ensures.spots M m c.requires.blocks in
     let one = c.one_name.ensures.pieces M in
     let ex = c.in_ok-search.ensures in
@@ -69,10 +75,10 @@ returns-in_default g c =
     = c.from_list-potentials.ensures ∙ c.in_ok-list.ensures ∙ (λ i. map (number_left (c.visits.ensures i)
     (c.cost_in-2.ensures i) c.args.to) (map at_of (c.deref.ensures.value i))) in
     let shows = list_shows M P (contexts_in m) are one E c.requires.ends c.args.to c.requires.at visits best ex inside
-    across (c.certified_is_least.ensures M) (map at_of c.in_ok-spots.spots.items) c.in_ok-spots.ensures
+    across law (map at_of c.in_ok-spots.spots.items) c.in_ok-spots.ensures
     c.from_list-potentials.result list in (
       nowhere_of M P (contexts_in m) are one E c.requires.ends c.args.to c.requires.at visits best ex inside across
-          (c.certified_is_least.ensures M) c.in_default.is,
+          law c.in_default.is,
       subst (λ b. IsCertified M P E.a E.b (cost_in b) c.from_list-potentials.result) c.in_default.is shows,
     )
 
@@ -82,6 +88,10 @@ returns g c =
     let P = g.P.Profile.rules c.args.network.now.profile in
     let m = block_map c.args.blocks.now in
     let E = c.args.ends.now in
+    let law : (pi : List Span → Option ℕ) → Certified M P E.a E.b (cost_in c.in_ok-search.best) pi
+    → IsLeastFor M P E.a E.b (cost_in c.in_ok-search.best)
+    = subst (λ (C : Option ℕ). (pi : List Span → Option ℕ) → Certified M P E.a E.b C pi → IsLeastFor M P E.a E.b C)
+    c.cost_in.ensures (c.certified_is_least.ensures M) in
     let are = c.listed_contexts.ensures.spots M m c.requires.blocks in
     let one = c.one_name.ensures.pieces M in
     let ex = c.in_ok-search.ensures in
@@ -94,12 +104,12 @@ returns g c =
     = c.from_list-potentials.ensures ∙ c.in_ok-list.ensures ∙ (λ i. map (number_left (c.visits.ensures i)
     (c.cost_in-2.ensures i) c.args.to) (map at_of (c.deref.ensures.value i))) in
     let shows = list_shows M P (contexts_in m) are one E c.requires.ends c.args.to c.requires.at visits best ex inside
-    across (c.certified_is_least.ensures M) (map at_of c.in_ok-spots.spots.items) c.in_ok-spots.ensures
+    across law (map at_of c.in_ok-spots.spots.items) c.in_ok-spots.ensures
     c.from_list-potentials.result list in
     let d = c.in_ok-drive.drive in
     let drive : IsDriveOf visits c.in-Some.found.end d
     = subst (λ (l : List CostVisit). IsDriveOf l c.in-Some.found.end d) c.visits-2.ensures c.in_ok-drive.ensures in (
       route_of M P (contexts_in m) are one E c.requires.ends c.args.to c.requires.at visits best ex inside across
-          (c.certified_is_least.ensures M) c.in-Some.found c.in-Some.is d drive,
+          law c.in-Some.found c.in-Some.is d drive,
       subst (λ b. IsCertified M P E.a E.b (cost_in b) c.from_list-potentials.result) c.in-Some.is shows,
     )
