@@ -44,7 +44,7 @@ use Rattle.least_cost.specs.declared.visiting.CostVisit.{CostVisit}
 use Rattle.least_cost.specs.declared.candidates.Candidate.{Candidate}
 use Rattle.least_cost.specs.Costs.{cost_of, plus, location_of}
 use Rattle.least_cost.specs.Certified.{AtMost, Certified, IsCertified}
-use Rattle.least_cost.specs.CostVisits.{names_at, LeadsOn, IsReached, AreFollowed, AreMet, IsExhausted, cost_in}
+use Rattle.least_cost.specs.CostVisits.{names_at, LeadsOn, IsVisitedAt, AreFollowed, AreMet, IsExhausted, cost_in}
 use Rattle.least_cost.specs.Latitudes.{latitudes_from, latitudes_left}
 use Rattle.least_cost.specs.Lowered.{least_to, less_left, number_left}
 use Rattle.least_cost.specs.PlaceCosts.{places_cost}
@@ -194,7 +194,7 @@ module _ (M : Objects) (P : Rules) (L : List At) (are : AreSpots M P L) (e : Dri
     | inr f ↦ inl (less_left_over C (left x) n (sym f ∙ h))
   ]
 
-  number_reached : (y : At) (n : ℕ) → IsReached visits (key_of y) n → AtMost (number y) (Some n)
+  number_reached : (y : At) (n : ℕ) → IsVisitedAt visits (key_of y) n → AtMost (number y) (Some n)
   number_reached y n r =
       let low = least_reached key_all key_ties visits (key_of y) r.place r.visit r.at r.named in
       at_most_trans (number y) (Some r.visit.cost) (Some n)
@@ -309,7 +309,7 @@ module _ (M : Objects) (P : Rules) (L : List At) (are : AreSpots M P L) (e : Dri
             let g = closed.followed j.arc j.has_arc in
             let same : g.0 ≡ j.onto = one_named g.0 j.onto g.1 j.has_onto (g.2 ∙ sym j.leads) in
             number_reached j.onto (n + w)
-            (subst (λ z. IsReached visits (key_of z) (n + places_cost z.piece.places)) same g.3)
+            (subst (λ z. IsVisitedAt visits (key_of z) (n + places_cost z.piece.places)) same g.3)
       ]
 
   goes_on : (c : List Span) (t : Span) (d : List Span) → IsArc M P c t d
@@ -386,9 +386,9 @@ module _ (M : Objects) (P : Rules) (L : List At) (are : AreSpots M P L) (e : Dri
       let key : key_of y.0 ≡ (name_of p, []) = spot_named M P [] p y.0 y.2 in
       let named : key_of r.from ≡ key_of y.0 = r.named ∙ ap (λ n. (n, [])) s.named ∙ sym key in
       let same : r.from ≡ y.0 = one_named r.from y.0 r.listed y.1 named in
-      let reached : IsReached visits (key_of y.0) (places_cost (drop i y.0.piece.places)) =
-      subst (λ z. IsReached visits (key_of z) (places_cost (drop i z.piece.places))) same
-      (subst (λ k. IsReached visits (key_of r.from) (places_cost (drop k r.from.piece.places))) s.first r.reached) in
+      let reached : IsVisitedAt visits (key_of y.0) (places_cost (drop i y.0.piece.places)) =
+      subst (λ z. IsVisitedAt visits (key_of z) (places_cost (drop i z.piece.places))) same
+      (subst (λ k. IsVisitedAt visits (key_of r.from) (places_cost (drop k r.from.piece.places))) s.first r.reached) in
       let piece : y.2.listed.piece ≡ p = (same_last y.2.entry.before y.2.listed.piece [] p (sym y.2.is)).last in
       let spelled : cost_of M (drop i (spell p)) ≡ Some (places_cost (drop i y.0.piece.places)) =
       subst (λ q. cost_of M (drop i (spell q)) ≡ Some (places_cost (drop i y.0.piece.places))) piece

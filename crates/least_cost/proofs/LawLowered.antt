@@ -10,7 +10,7 @@ use Rattle.std.proofs.lemmas.Cmp.{tied_itself}
 use Rattle.context_search.specs.Marks.{key_cmp}
 use Rattle.least_cost.specs.declared.visiting.CostVisit.{CostVisit}
 use Rattle.least_cost.specs.Certified.{AtMost}
-use Rattle.least_cost.specs.CostVisits.{Names, names_at}
+use Rattle.least_cost.specs.CostVisits.{ContextNames, names_at}
 use Rattle.least_cost.specs.Lowered.{lesser_of, lesser_if, least_to}
 use Rattle.least_cost.proofs.LawCosts.{at_most_trans}
 
@@ -43,7 +43,7 @@ if_more Less n more = at_most_same more
 if_more Greater n more = at_most_same more
 
 -- the visit stands in the list, is of the context of these names, and costs n
-pub record Costing (visits : List CostVisit) (q : Names) (n : ℕ) : Type 0 where
+pub record Costing (visits : List CostVisit) (q : ContextNames) (n : ℕ) : Type 0 where
   pub place : ℕ
   pub visit : CostVisit
   pub at : slice_get visits place ≡ Some visit
@@ -51,7 +51,7 @@ pub record Costing (visits : List CostVisit) (q : Names) (n : ℕ) : Type 0 wher
   pub cost : visit.cost ≡ n
 
 module _ (total : IsTotalOrder key_cmp) (ties : IsAntisymmetric key_cmp) where
-  pub least_reached : (visits : List CostVisit) (q : Names) (k : ℕ) (v : CostVisit) → slice_get visits k ≡ Some v
+  pub least_reached : (visits : List CostVisit) (q : ContextNames) (k : ℕ) (v : CostVisit) → slice_get visits k ≡ Some v
       → names_at v ≡ q → AtMost (least_to visits q) (Some v.cost)
   least_reached [] q k v at named = absurd (cc (at))
   least_reached (w ∷ visits) q zero v at named =
@@ -65,7 +65,7 @@ module _ (total : IsTotalOrder key_cmp) (ties : IsAntisymmetric key_cmp) where
       at_most_trans (lesser_if (key_cmp (names_at w) q) w.cost (least_to visits q)) (least_to visits q) (Some v.cost)
       (if_more (key_cmp (names_at w) q) w.cost (least_to visits q)) (least_reached visits q k v at named)
 
-  later : (w : CostVisit) (visits : List CostVisit) (q : Names) (n : ℕ) → Costing visits q n
+  later : (w : CostVisit) (visits : List CostVisit) (q : ContextNames) (n : ℕ) → Costing visits q n
       → Costing (w ∷ visits) q n
   later w visits q n c = record {
     place = suc c.place;
@@ -75,11 +75,11 @@ module _ (total : IsTotalOrder key_cmp) (ties : IsAntisymmetric key_cmp) where
     cost = c.cost;
   }
 
-  here : (w : CostVisit) (visits : List CostVisit) (q : Names) (n : ℕ) → names_at w ≡ q → w.cost ≡ n
+  here : (w : CostVisit) (visits : List CostVisit) (q : ContextNames) (n : ℕ) → names_at w ≡ q → w.cost ≡ n
       → Costing (w ∷ visits) q n
   here w visits q n named cost = record { place = 0; visit = w; at = refl; named = named; cost = cost }
 
-  stands_by : (w : CostVisit) (visits : List CostVisit) (q : Names) (n : ℕ)
+  stands_by : (w : CostVisit) (visits : List CostVisit) (q : ContextNames) (n : ℕ)
       → (least_to visits q ≡ Some n → Costing visits q n) → (r : Ordering) → key_cmp (names_at w) q ≡ r
       → lesser_if r w.cost (least_to visits q) ≡ Some n → Costing (w ∷ visits) q n
   stands_by w visits q n more Less e h = later w visits q n (more h)
@@ -89,7 +89,8 @@ module _ (total : IsTotalOrder key_cmp) (ties : IsAntisymmetric key_cmp) where
     | inr f ↦ later w visits q n (more (sym f ∙ h))
   ]
 
-  pub least_stands : (visits : List CostVisit) (q : Names) (n : ℕ) → least_to visits q ≡ Some n → Costing visits q n
+  pub least_stands : (visits : List CostVisit) (q : ContextNames) (n : ℕ) → least_to visits q ≡ Some n → Costing
+      visits q n
   least_stands [] q n h = absurd (cc (h))
   least_stands (w ∷ visits) q n h =
       stands_by w visits q n (least_stands visits q n) (key_cmp (names_at w) q) refl h

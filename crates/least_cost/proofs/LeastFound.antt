@@ -1,9 +1,7 @@
 -- What a search by cost has found is a drive of least cost.
-use Rattle.std.proofs.Common.{◌≡◌, ◌⊎◌, inl, inr, ℕ, ◌+◌, ◌-◌, ◌<◌, ◌≤◌, List, [], Option, Some, None, slice_get}
+use Rattle.std.proofs.Common.{◌≡◌, ◌⊎◌, inl, inr, ℕ, ◌+◌, ◌-◌, ◌<◌, ◌≤◌, List, [], map, Option, Some, None, slice_get}
 use Rattle.std.proofs.Common.{Contains, refl, sym, ◌∙◌, ap, subst, arith, take, drop}
 use Rattle.std.specs.BTreeMap.{BTreeMap}
-use Rattle.std.specs.Cmp.{IsTotalOrder}
-use Rattle.std.specs.FinMap.{IsAntisymmetric}
 use Rattle.std.proofs.lemmas.Option.{slice_get_within}
 use Rattle.road_base.specs.declared.ids.NodeId.{NodeId}
 use Rattle.road_base.specs.declared.ids.Step.{Step}
@@ -26,19 +24,22 @@ use Rattle.context_search.specs.Sought.{AreSpots, AreEnds}
 use Rattle.context_search.proofs.SearchTargets.{entry_spells}
 use Rattle.context_search.proofs.SearchTogether.{leads_within, ends_within, entry_ascends}
 use Rattle.least_cost.specs.declared.candidates.Candidate.{Candidate}
-use Rattle.least_cost.specs.declared.candidates.Ending.{Ending}
-use Rattle.least_cost.specs.declared.candidates.Ending.TheVariants.{Within, Over}
+use Rattle.least_cost.specs.declared.candidates.FoundEnd.{FoundEnd}
+use Rattle.least_cost.specs.declared.candidates.FoundEnd.TheVariants.{Within, Over}
 use Rattle.least_cost.specs.declared.visiting.CostVisit.{CostVisit}
-use Rattle.least_cost.specs.Certified.{AtMost, Certified, IsLeastFor}
+use Rattle.least_cost.specs.Certified.{AtMost, Certified, IsCertified, IsLeastFor}
 use Rattle.least_cost.specs.Cheapest.{IsRouteOf, LeadsNowhere}
 use Rattle.least_cost.specs.Costs.{cost_of, location_of}
 use Rattle.least_cost.specs.CostVisits.{HaveOrigins, HasBefore, Extends, AreBegun, IsReachedFrom, AreWithin, IsFoundBy}
 use Rattle.least_cost.specs.CostVisits.{IsFoundAfter, IsExhausted, EndsWithin, EndsOver, HasEnd, cost_in, within_cost}
+use Rattle.least_cost.specs.Lowered.{number_left}
 use Rattle.least_cost.specs.PlaceCosts.{places_cost}
 use Rattle.least_cost.specs.Trails.{IsDriveOf, Descend, Ascend}
 use Rattle.least_cost.proofs.CostPlaces.{cost_within}
 use Rattle.least_cost.proofs.LawCosts.{at_most_trans}
-use Rattle.least_cost.proofs.LeastShown.{taken_dropped, number_at, certified}
+use Rattle.least_cost.proofs.LawExhausted.{exhausted_shows, exhausted_certified}
+use Rattle.least_cost.proofs.LawSpots.{numbers_of, one_spots}
+use Rattle.least_cost.proofs.LeastParts.{taken_dropped}
 use Rattle.least_cost.proofs.LeastStarts.{nothing_at}
 use Rattle.least_cost.proofs.LeastTrails.{driven, leads_along, costs_along}
 use Rattle.least_cost.proofs.LeastVisits.{before_stays, reached_stays}
@@ -62,7 +63,8 @@ module _ (m n : List CostVisit) (more : Extends m n) where
         from = r.from;
         listed = r.listed;
         named = r.named;
-        reached = reached_stays m n more.stays (key_of r.from) (places_cost (drop s.first r.from.piece.places)) r.reached;
+        reached = reached_stays m n more.stays (key_of r.from) (places_cost (drop s.first r.from.piece.places))
+            r.reached;
       }
 
 pub within_less : (starts : List Begin) (goals : BTreeMap PieceName Goal) (C D : Option ℕ) → AtMost D C
@@ -71,7 +73,7 @@ within_less starts goals C D less w s g has met rises =
     at_most_trans D C (Some (within_cost s g)) less (w s g has met rises)
 
 module _ (starts : List Begin) (goals : BTreeMap PieceName Goal) (visits : List CostVisit) where
-  end_still : (cost : ℕ) (end : Ending) → HasEnd starts goals [] cost end → HasEnd starts goals visits cost end
+  end_still : (cost : ℕ) (end : FoundEnd) → HasEnd starts goals [] cost end → HasEnd starts goals visits cost end
   end_still cost (Within s g) h = h
   end_still cost (Over place g) h = absurd (nothing_at [] place h.visit refl h.at)
 
@@ -118,7 +120,8 @@ module _ (M : Objects) (P : Rules) (L : List At) (are : AreSpots M P L) (one : O
     within_costs s g cost h =
         let from = ends_are.starts.sound s h.is in
         let to = ends_are.goals.sound s.piece.now.name g h.met in
-        let same : to.listed.piece ≡ from.listed.piece = one to.listed.piece from.listed.piece to.listed.is from.listed.is
+        let same : to.listed.piece ≡ from.listed.piece = one to.listed.piece from.listed.piece to.listed.is
+        from.listed.is
         (sym to.listed.named ∙ to.named ∙ from.listed.named) in
         let stops : StopsAt M from.listed.piece g.last E.b = subst (λ p. StopsAt M p g.last E.b) same to.stops in
         let ps = s.piece.now.places in
@@ -129,7 +132,7 @@ module _ (M : Objects) (P : Rules) (L : List At) (are : AreSpots M P L) (one : O
         ∙ whole ∙ ap (λ l. Some (places_cost l)) (sym (taken_dropped s.first (g.last + 2) ps))
         ∙ ap Some (sym h.is_cost)
 
-    pub found_leads : (cost : ℕ) (end : Ending) (d : List Step) → HasEnd E.starts.items E.goals visits cost end
+    pub found_leads : (cost : ℕ) (end : FoundEnd) (d : List Step) → HasEnd E.starts.items E.goals visits cost end
         → IsDriveOf visits end d → LeadsTo M P E.a E.b d
     found_leads cost (Within s g) d h is =
         let from = ends_are.starts.sound s h.is in
@@ -139,7 +142,7 @@ module _ (M : Objects) (P : Rules) (L : List At) (are : AreSpots M P L) (one : O
         let r = driven M P L visits E.a is.first one are listed E.starts.items ends_are.starts origins is.trail in
         leads_along M P L visits E.a is.first one E.b E.goals ends_are.goals across is.places place g r cost h d is.is
 
-    pub found_costs : (cost : ℕ) (end : Ending) (d : List Step) → HasEnd E.starts.items E.goals visits cost end
+    pub found_costs : (cost : ℕ) (end : FoundEnd) (d : List Step) → HasEnd E.starts.items E.goals visits cost end
         → IsDriveOf visits end d → cost_of M d ≡ Some cost
     found_costs cost (Within s g) d h is = ap (cost_of M) is ∙ within_costs s g cost h
     found_costs cost (Over place g) d h is =
@@ -148,14 +151,23 @@ module _ (M : Objects) (P : Rules) (L : List At) (are : AreSpots M P L) (one : O
 
 module _ (M : Objects) (P : Rules) (L : List At) (are : AreSpots M P L) (one : OnePiece M P) (E : DriveEnds)
     (ends_are : AreEnds M P E) (to : Location) (to_at : location_of M (Some E.b) ≡ Some to) (visits : List CostVisit)
-    (best : Option Candidate) (ex : IsExhausted L E to visits best) (total : IsTotalOrder key_cmp)
-    (exact : IsAntisymmetric key_cmp) (inside : LeadsWithin M P E.a E.b) (across : LeadsAlong M P E.a E.b)
+    (best : Option Candidate) (ex : IsExhausted L E to visits best) (inside : LeadsWithin M P E.a E.b) (across :
+    LeadsAlong M P E.a E.b)
     (law : (pi : List Span → Option ℕ) → Certified M P E.a E.b (cost_in best) pi
     → IsLeastFor M P E.a E.b (cost_in best))
   where
     least_for : IsLeastFor M P E.a E.b (cost_in best)
-    least_for = law (number_at M P to visits (cost_in best))
-        (certified M P L are one E ends_are to to_at visits best ex total exact)
+    least_for = law (numbers_of L (map (number_left visits (cost_in best) to) L))
+        (exhausted_shows M P L are E ends_are to to_at visits best ex)
+
+    -- the list shows it
+    pub list_shows : (K : List At) → AreSpots M P K → (list : List (Option ℕ))
+        → list ≡ map (number_left visits (cost_in best) to) K → IsCertified M P E.a E.b (cost_in best) list
+    list_shows K spots list is =
+        let same : K ≡ L = one_spots M P K L spots are in
+        subst (λ l. IsCertified M P E.a E.b (cost_in best) l)
+        (sym (is ∙ ap (map (number_left visits (cost_in best) to)) same))
+        (exhausted_certified M P L are E ends_are to to_at visits best ex)
 
     pub route_of : (c : Candidate) → best ≡ Some c → (d : List Step) → IsDriveOf visits c.end d
         → IsRouteOf M P E.a E.b c.cost d
@@ -163,8 +175,10 @@ module _ (M : Objects) (P : Rules) (L : List At) (are : AreSpots M P L) (one : O
         let has : HasEnd E.starts.items E.goals visits c.cost c.end
         = subst (λ b. IsFoundBy E.starts.items E.goals visits b) is ex.found in
         record {
-          leads = found_leads M P L are one E ends_are visits ex.listed ex.origins inside across c.cost c.end d has drive;
-          costs = found_costs M P L are one E ends_are visits ex.listed ex.origins inside across c.cost c.end d has drive;
+          leads = found_leads M P L are one E ends_are visits ex.listed ex.origins inside across c.cost c.end d has
+              drive;
+          costs = found_costs M P L are one E ends_are visits ex.listed ex.origins inside across c.cost c.end d has
+              drive;
           least = subst (λ b. IsLeastFor M P E.a E.b (cost_in b)) is least_for;
         }
 

@@ -1,5 +1,6 @@
 -- What is met by one arc more.
-use Rattle.std.proofs.Common.{◌≡◌, inl, inr, ℕ, ◌+◌, ◌<◌, ◌≤◌, List, [], ◌∷◌, length, Option, Contains, refl, sym, subst}
+use Rattle.std.proofs.Common.{◌≡◌, inl, inr, ℕ, ◌+◌, ◌<◌, ◌≤◌, List, [], ◌∷◌, length, Option, Contains, refl}
+use Rattle.std.proofs.Common.{sym, subst}
 use Rattle.std.proofs.Common.{take, get_or, Some}
 use Rattle.std.specs.BTreeMap.{BTreeMap}
 use Rattle.std.proofs.lemmas.List.{take_more, take_all}
@@ -31,7 +32,8 @@ module _ (goals : BTreeMap PieceName Goal) (visits : List CostVisit) (n : ℕ) w
     less = at_most_trans (cost_in b) (cost_in a) (cost_in best) now.less old.less;
     met = λ arc g has at. elim (contains_more (take i arcs) (get_or arcs i d) arc
         (subst (λ l. Contains l arc) (take_more arcs i d h) has)) [
-          | inl before ↦ at_most_trans (cost_in b) (cost_in a) (Some (n + goal_cost g)) now.less (old.met arc g before at)
+          | inl before ↦ at_most_trans (cost_in b) (cost_in a) (Some (n + goal_cost g)) now.less (old.met arc g
+              before at)
           | inr same ↦ now.met arc g (subst (λ z. Contains (z ∷ []) arc) same (contains_head arc [])) at
         ];
     from = found_again goals visits best a b old.from now.from;

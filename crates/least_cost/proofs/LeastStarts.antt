@@ -10,7 +10,8 @@ use Rattle.least_cost.specs.declared.visiting.CostVisit.{CostVisit}
 use Rattle.least_cost.specs.CostVisits.{Visiting, IsVisiting, HaveOrigins, IsBeginning, HasBefore, AreWaiting, AreBegun}
 use Rattle.least_cost.specs.CostVisits.{IsReachedFrom, IsBegunBy, names_at}
 use Rattle.least_cost.specs.PlaceCosts.{places_cost}
-use Rattle.least_cost.proofs.LeastVisits.{offered_stays, offered_cases, offered_waits, offered_reached, offered_visiting}
+use Rattle.least_cost.proofs.LeastVisits.{offered_stays, offered_cases, offered_waits, offered_reached}
+use Rattle.least_cost.proofs.LeastVisits.{offered_visiting}
 use Rattle.least_cost.proofs.LeastVisits.{before_stays, reached_stays, IsFresh}
 
 module _ (L : List At) (s : Begin) (m n : Visiting) (is : IsBegunBy L s m n) where

@@ -31,10 +31,10 @@ use Rattle.context_search.specs.Sought.{IsSpot, IsGoalAt, AreSpots, AreStarts, A
 use Rattle.context_search.proofs.SearchTargets.{arc_of, arc_target, same_context, spot_spelled, entry_spells}
 use Rattle.least_cost.specs.declared.visiting.CostVisit.{CostVisit}
 use Rattle.least_cost.specs.Costs.{cost_of, plus}
-use Rattle.least_cost.specs.CostVisits.{HaveOrigins, IsBeginning, HasBefore, BeginsWith, ComesFrom, EndsOver, names_at}
+use Rattle.least_cost.specs.CostVisits.{HaveOrigins, IsBeginning, HasBefore, BeginsDrive, ComesFrom, EndsOver, names_at}
 use Rattle.least_cost.specs.CostVisits.{goal_cost}
 use Rattle.least_cost.specs.PlaceCosts.{places_cost}
-use Rattle.least_cost.specs.Trails.{IsTrail, One, More, IsWay, steps_at, steps_by}
+use Rattle.least_cost.specs.Trails.{IsTrail, One, More, IsWayTo, steps_at, steps_by}
 use Rattle.least_cost.proofs.CostPlaces.{whole_cost, cost_from, cost_up_to}
 use Rattle.least_cost.proofs.LawCosts.{cost_append}
 
@@ -63,7 +63,8 @@ module _ (M : Objects) (P : Rules) (L : List At) (visits : List CostVisit) (a : 
     pub spells : flat_map (steps_at visits) places ≡ spell_pieces (piece ∷ whole)
     pub costs : cost_of M (drop first (flat_map (steps_at visits) places)) ≡ Some visit.cost
 
-  longer : (places : List ℕ) (p : Span) (whole : List Span) → flat_map (steps_at visits) places ≡ spell_pieces (p ∷ whole)
+  longer : (places : List ℕ) (p : Span) (whole : List Span) → flat_map (steps_at visits) places ≡ spell_pieces (p ∷
+      whole)
       → BeginsAt M p first a → first ≤ length (flat_map (steps_at visits) places)
   longer places p whole e b =
       let h = slice_get_within (spell p) first b.step b.at in
@@ -78,7 +79,7 @@ module _ (M : Objects) (P : Rules) (L : List At) (visits : List CostVisit) (a : 
     here_steps k v at b q s = ap steps_by at ∙ spot_spelled M P b q (at_of v.spot) s
 
     driven_one : (starts : List Begin) → AreStarts M P a starts → (k : ℕ) (v : CostVisit) → slice_get visits k ≡ Some v
-        → BeginsWith starts v first → Driven (k ∷ []) k
+        → BeginsDrive starts v first → Driven (k ∷ []) k
     driven_one starts start k v at begun =
         let s = start.sound begun.start begun.is in
         let p = s.listed.piece in
@@ -157,20 +158,22 @@ module _ (M : Objects) (P : Rules) (L : List At) (visits : List CostVisit) (a : 
         → ComesFrom visits j v → Driven (js ++ k ∷ []) k
     driven_more js j d k v at c =
         let same : c.before ≡ d.visit = one_stands visits j c.before d.visit c.at d.at in
-        driven_arc js j d k v at c.arc (subst (λ (w : CostVisit). Contains (at_of w.spot).context.arcs c.arc) same c.has)
+        driven_arc js j d k v at c.arc (subst (λ (w : CostVisit). Contains (at_of w.spot).context.arcs c.arc) same
+        c.has)
         (subst (λ (w : CostVisit). key_of (at_of v.spot)
         ≡ (c.arc.piece, names_behind (at_of w.spot) (c.arc.length - 1))) same c.leads)
         (subst (λ (w : CostVisit). v.cost ≡ w.cost + places_cost v.spot.piece.now.places) same c.cost)
 
     module _ (starts : List Begin) (start : AreStarts M P a starts) (origins : HaveOrigins starts visits) where
       begins_there : (k : ℕ) (v : CostVisit) → slice_get visits k ≡ Some v → v.origin ≡ Begins first
-          → BeginsWith starts v first
+          → BeginsDrive starts v first
       begins_there k v e o = elim (origins k v e) [
-        | inl b ↦ subst (λ i. BeginsWith starts v i) (one_beginning first b.first (sym b.is ∙ o)) b.begins
+        | inl b ↦ subst (λ i. BeginsDrive starts v i) (one_beginning first b.first (sym b.is ∙ o)) b.begins
         | inr f ↦ let h : Begins first ≡ Follows f.before = sym o ∙ f.is in cc
       ]
 
-      comes_there : (k j : ℕ) (v : CostVisit) → slice_get visits k ≡ Some v → v.origin ≡ Follows j → ComesFrom visits j v
+      comes_there : (k j : ℕ) (v : CostVisit) → slice_get visits k ≡ Some v → v.origin ≡ Follows j → ComesFrom visits
+          j v
       comes_there k j v e o = elim (origins k v e) [
         | inl b ↦ let h : Begins b.first ≡ Follows j = sym b.is ∙ o in cc
         | inr f ↦ subst (λ i. ComesFrom visits i v) (one_before j f.before (sym f.is ∙ o)) f.comes

@@ -6,7 +6,8 @@ use Rattle.std.specs.List.Sorted.{IsPermutation}
 use Rattle.std.proofs.lemmas.List.{length_push, take_more, take_all}
 use Rattle.std.proofs.lemmas.List.Sorted.{Contains-permutation, IsPermutation-sym}
 use Rattle.std.proofs.lemmas.Option.{slice_get_within}
-use Rattle.ordered_lists.proofs.ListMembers.{contains_head, contains_later, contains_cases, contains_more, contains_none}
+use Rattle.ordered_lists.proofs.ListMembers.{contains_head, contains_later, contains_cases, contains_more}
+use Rattle.ordered_lists.proofs.ListMembers.{contains_none}
 use Rattle.ordered_lists.proofs.ListPlaces.{stands_left, stands_last, stands_cases, one_stands}
 use Rattle.road_base.specs.declared.location.Location.{Location}
 use Rattle.road_model.specs.declared.lists.PieceName.{PieceName}
@@ -21,8 +22,9 @@ use Rattle.least_cost.specs.declared.candidates.Candidate.{Candidate}
 use Rattle.least_cost.specs.Certified.{AtMost}
 use Rattle.least_cost.specs.Latitudes.{latitudes_left}
 use Rattle.least_cost.specs.PlaceCosts.{places_cost}
-use Rattle.least_cost.specs.CostVisits.{Visiting, Names, names_at, IsReached, IsNewVisit, IsOffered, LeadsOn, ComesFrom}
-use Rattle.least_cost.specs.CostVisits.{HasBefore, IsVisiting, Extends, Grows, AreWaiting, AreFollowed, AreMet, IsOver}
+use Rattle.least_cost.specs.CostVisits.{Visiting, ContextNames, names_at, IsVisitedAt, IsNewVisit, IsOffered}
+use Rattle.least_cost.specs.CostVisits.{LeadsOn, ComesFrom}
+use Rattle.least_cost.specs.CostVisits.{HasBefore, IsVisiting, Extends, Widens, AreWaiting, AreFollowed, AreMet, IsOver}
 use Rattle.least_cost.specs.CostVisits.{IsBettered, IsClosed, IsDone, AreDone, IsFollowedBy, EndsOver, IsFoundOver}
 use Rattle.least_cost.specs.CostVisits.{IsFoundAfter, cost_in, goal_cost}
 use Rattle.least_cost.proofs.LawCosts.{at_most_trans}
@@ -31,7 +33,7 @@ use Rattle.least_cost.proofs.LawCosts.{at_most_trans}
 
 module _ (m n : List CostVisit) (stays : (k : ℕ) (v : CostVisit) → slice_get m k ≡ Some v → slice_get n k ≡ Some v)
   where
-    pub reached_stays : (q : Names) (c : ℕ) → IsReached m q c → IsReached n q c
+    pub reached_stays : (q : ContextNames) (c : ℕ) → IsVisitedAt m q c → IsVisitedAt n q c
     reached_stays q c r = record {
       place = r.place;
       visit = r.visit;
@@ -128,10 +130,10 @@ extends_again l m n g h = record {
   ];
 }
 
-pub grows_same : (m : Visiting) → Grows m m
+pub grows_same : (m : Visiting) → Widens m m
 grows_same m = record { visits = extends_same m.visits; waits = λ k h. h; new = λ k v e. inl e }
 
-pub grows_again : (l m n : Visiting) → Grows l m → Grows m n → Grows l n
+pub grows_again : (l m n : Visiting) → Widens l m → Widens m n → Widens l n
 grows_again l m n g h = record {
   visits = extends_again l.visits m.visits n.visits g.visits h.visits;
   waits = λ k i. h.waits k (g.waits k i);
@@ -180,7 +182,7 @@ module _ (spot : Spot) (cost : ℕ) (origin : Origin) where
       last_waits = Contains-permutation (length m.visits ∷ m.waiting) n.waiting (length m.visits) new.waiting
           (contains_head (length m.visits) m.waiting)
 
-      new_reached : IsReached n.visits (key_of (at_of spot)) cost
+      new_reached : IsVisitedAt n.visits (key_of (at_of spot)) cost
       unfolding fresh
       new_reached = record { place = length m.visits; visit = fresh; at = new_last; named = refl; cost = omega arith }
 
@@ -223,9 +225,9 @@ module _ (spot : Spot) (cost : ℕ) (origin : Origin) where
         ]
       ]
 
-      pub offered_reached : IsReached n.visits (key_of (at_of spot)) cost
+      pub offered_reached : IsVisitedAt n.visits (key_of (at_of spot)) cost
       offered_reached = elim is [
-        | inl old ↦ subst (λ l. IsReached l.visits (key_of (at_of spot)) cost) (sym old.1) old.0
+        | inl old ↦ subst (λ l. IsVisitedAt l.visits (key_of (at_of spot)) cost) (sym old.1) old.0
         | inr new ↦ new_reached new
       ]
 
@@ -272,7 +274,7 @@ module _ (L : List At) (place : ℕ) (v : CostVisit) (arc : TurnArc) (m n : Visi
         };
       }
 
-  pub arc_grows : slice_get m.visits place ≡ Some v → Contains (at_of v.spot).context.arcs arc → Grows m n
+  pub arc_grows : slice_get m.visits place ≡ Some v → Contains (at_of v.spot).context.arcs arc → Widens m n
   arc_grows at has = record {
     visits = record {
       stays = offered_stays is.to cost_there (Follows place) m n is.offered;
@@ -289,7 +291,7 @@ module _ (L : List At) (place : ℕ) (v : CostVisit) (arc : TurnArc) (m n : Visi
   }
 
   pub arc_followed : (y : At) × Contains L y × LeadsOn (at_of v.spot) arc y
-      × IsReached n.visits (key_of y) (v.cost + places_cost y.piece.places)
+      × IsVisitedAt n.visits (key_of y) (v.cost + places_cost y.piece.places)
   arc_followed = (
     at_of is.to,
     is.listed,
@@ -300,7 +302,8 @@ module _ (L : List At) (place : ℕ) (v : CostVisit) (arc : TurnArc) (m n : Visi
 -- with one arc more
 pub more_followed : (L : List At) (visits : List CostVisit) (x : At) (c : ℕ) (arcs : List TurnArc) (i : ℕ) (d : TurnArc)
     → i < length arcs
-    → (y : At) × Contains L y × LeadsOn x (get_or arcs i d) y × IsReached visits (key_of y) (c + places_cost y.piece.places)
+    → (y : At) × Contains L y × LeadsOn x (get_or arcs i d) y × IsVisitedAt visits (key_of y) (c + places_cost
+    y.piece.places)
     → AreFollowed L visits x c (take i arcs) → AreFollowed L visits x c (take (i + 1) arcs)
 more_followed L visits x c arcs i d h now old a has =
     elim (contains_more (take i arcs) (get_or arcs i d) a (subst (λ l. Contains l a) (take_more arcs i d h) has)) [
@@ -347,7 +350,7 @@ module _ (L : List At) (m p : Visiting) (place : ℕ) (is : IsPopped m p place) 
   waiting_cases k h = contains_cases place k p.waiting
       (Contains-permutation m.waiting (place ∷ p.waiting) k is.waiting h)
 
-  module _ (goals : BTreeMap PieceName Goal) (to : Location) (C D : Option ℕ) (n : Visiting) (grows : Grows p n)
+  module _ (goals : BTreeMap PieceName Goal) (to : Location) (C D : Option ℕ) (n : Visiting) (grows : Widens p n)
       (less : AtMost D C) where
     still : (k : ℕ) (v : CostVisit) → slice_get m.visits k ≡ Some v → slice_get n.visits k ≡ Some v
     still k v e = grows.visits.stays k v (popped_at k v e)

@@ -12,9 +12,8 @@ pub mod LawLowered
 pub mod LawExhausted
 pub mod LawNumbers
 pub mod LeastFound
-pub mod LeastLabels
 pub mod LeastMeetings
 pub mod LeastRoutes
-pub mod LeastShown
 pub mod LeastStarts
 pub mod LeastTrails
+pub mod LeastParts

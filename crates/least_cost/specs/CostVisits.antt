@@ -16,8 +16,8 @@ use Rattle.context_search.specs.Marks.{At, at_of, key_of, names_behind}
 use Rattle.context_search.specs.Visits.{goal_in}
 use Rattle.least_cost.specs.declared.visiting.CostVisit.{CostVisit}
 use Rattle.least_cost.specs.declared.candidates.Candidate.{Candidate}
-use Rattle.least_cost.specs.declared.candidates.Ending.{Ending}
-use Rattle.least_cost.specs.declared.candidates.Ending.TheVariants.{Within, Over}
+use Rattle.least_cost.specs.declared.candidates.FoundEnd.{FoundEnd}
+use Rattle.least_cost.specs.declared.candidates.FoundEnd.TheVariants.{Within, Over}
 use Rattle.least_cost.specs.Certified.{AtMost}
 use Rattle.least_cost.specs.PlaceCosts.{places_cost}
 use Rattle.least_cost.specs.Latitudes.{latitudes_left}
@@ -27,20 +27,20 @@ pub record Visiting : Type 0 where
   pub visits : List CostVisit
   pub waiting : List ℕ
 
-abbrev pub Names : Type 0
-Names = PieceName × List PieceName
+abbrev pub ContextNames : Type 0
+ContextNames = PieceName × List PieceName
 
-abbrev pub names_at : CostVisit → Names
+abbrev pub names_at : CostVisit → ContextNames
 names_at v = key_of (at_of v.spot)
 
 -- the visit stands in the list, and is of the context of these names
-pub record Stands (visits : List CostVisit) (q : Names) (visit : CostVisit) : Type 0 where
+pub record StandsAs (visits : List CostVisit) (q : ContextNames) (visit : CostVisit) : Type 0 where
   pub place : ℕ
   pub at : slice_get visits place ≡ Some visit
   pub named : names_at visit ≡ q
 
 -- some visit is of the context of these names, and costs at most n
-pub record IsReached (visits : List CostVisit) (q : Names) (n : ℕ) : Type 0 where
+pub record IsVisitedAt (visits : List CostVisit) (q : ContextNames) (n : ℕ) : Type 0 where
   pub place : ℕ
   pub visit : CostVisit
   pub at : slice_get visits place ≡ Some visit
@@ -54,7 +54,7 @@ pub record IsNewVisit (spot : Spot) (cost : ℕ) (origin : Origin) (m n : Visiti
 
 -- the same, or it was visited before over one that costs no more
 abbrev pub IsOffered : Spot → ℕ → Origin → Visiting → Visiting → Type 0
-IsOffered spot cost origin m n = (IsReached m.visits (key_of (at_of spot)) cost × (n ≡ m))
+IsOffered spot cost origin m n = (IsVisitedAt m.visits (key_of (at_of spot)) cost × (n ≡ m))
     ⊎ IsNewVisit spot cost origin m n
 
 -- the arc leads from context x to context y
@@ -71,7 +71,7 @@ pub record ComesFrom (visits : List CostVisit) (j : ℕ) (v : CostVisit) : Type 
   pub cost : v.cost ≡ before.cost + places_cost v.spot.piece.now.places
 
 -- a drive begins with this step of the visit's piece, which is alone, and costs what is left of it
-pub record BeginsWith (starts : List Begin) (v : CostVisit) (first : ℕ) : Type 0 where
+pub record BeginsDrive (starts : List Begin) (v : CostVisit) (first : ℕ) : Type 0 where
   pub start : Begin
   pub is : Contains starts start
   pub step : start.first ≡ first
@@ -89,7 +89,7 @@ pub record HasBefore (visits : List CostVisit) (k : ℕ) (v : CostVisit) : Type 
 pub record IsBeginning (starts : List Begin) (v : CostVisit) : Type 0 where
   pub first : ℕ
   pub is : v.origin ≡ Begins first
-  pub begins : BeginsWith starts v first
+  pub begins : BeginsDrive starts v first
 
 -- each visit begins a drive or goes on from one before
 abbrev pub HaveOrigins : List Begin → List CostVisit → Type 0
@@ -107,7 +107,7 @@ pub record Extends (m n : List CostVisit) : Type 0 where
   pub come : (k : ℕ) (v : CostVisit) → slice_get n k ≡ Some v → (slice_get m k ≡ Some v) ⊎ HasBefore n k v
 
 -- the same, and the new ones wait to be gone on from
-pub record Grows (m n : Visiting) : Type 0 where
+pub record Widens (m n : Visiting) : Type 0 where
   pub visits : Extends m.visits n.visits
   pub waits : (k : ℕ) → Contains m.waiting k → Contains n.waiting k
   pub new : (k : ℕ) (v : CostVisit) → slice_get n.visits k ≡ Some v
@@ -120,7 +120,7 @@ AreWaiting m = (k : ℕ) (v : CostVisit) → slice_get m.visits k ≡ Some v →
 -- where each of these arcs leads from context x is come to at no more than n and the cost of its piece
 abbrev pub AreFollowed : List At → List CostVisit → At → ℕ → List TurnArc → Type 0
 AreFollowed L visits x n arcs = (a : TurnArc) → Contains arcs a
-    → (y : At) × Contains L y × LeadsOn x a y × IsReached visits (key_of y) (n + places_cost y.piece.places)
+    → (y : At) × Contains L y × LeadsOn x a y × IsVisitedAt visits (key_of y) (n + places_cost y.piece.places)
 
 -- the cost of the goal's piece up to where it ends
 abbrev pub goal_cost : Goal → ℕ
@@ -141,7 +141,7 @@ IsOver C to v = AtMost C (Some (v.cost + latitudes_left v.spot.piece.now.places 
 
 -- another visit of the same context costs less
 abbrev pub IsBettered : List CostVisit → CostVisit → Type 0
-IsBettered visits v = (n : ℕ) × (n < v.cost) × IsReached visits (names_at v) n
+IsBettered visits v = (n : ℕ) × (n < v.cost) × IsVisitedAt visits (names_at v) n
 
 -- the search has gone on from the visit
 pub record IsClosed (L : List At) (goals : BTreeMap PieceName Goal) (C : Option ℕ) (visits : List CostVisit)
@@ -181,7 +181,7 @@ pub record EndsOver (goals : BTreeMap PieceName Goal) (visits : List CostVisit) 
   pub met : goal_in goals arc.piece ≡ Some g
   pub is_cost : cost ≡ visit.cost + goal_cost g
 
-abbrev pub HasEnd : List Begin → BTreeMap PieceName Goal → List CostVisit → ℕ → Ending → Type 0
+abbrev pub HasEnd : List Begin → BTreeMap PieceName Goal → List CostVisit → ℕ → FoundEnd → Type 0
 HasEnd starts goals visits cost (Within s g) = EndsWithin starts goals s g cost
 HasEnd starts goals visits cost (Over place g) = EndsOver goals visits place g cost
 
@@ -243,7 +243,7 @@ pub record IsReachedFrom (L : List At) (visits : List CostVisit) (s : Begin) : T
   pub from : At
   pub listed : Contains L from
   pub named : key_of from ≡ (s.piece.now.name, [])
-  pub reached : IsReached visits (key_of from) (places_cost (drop s.first from.piece.places))
+  pub reached : IsVisitedAt visits (key_of from) (places_cost (drop s.first from.piece.places))
 
 abbrev pub AreBegun : List At → List Begin → List CostVisit → Type 0
 AreBegun L starts visits = (s : Begin) → Contains starts s → IsReachedFrom L visits s
@@ -255,7 +255,8 @@ AreWithin starts goals C = (s : Begin) (g : Goal) → Contains starts s → goal
 
 -- What a search between these ends has come to that leads to the location: it has begun on all pieces on which a drive
 -- may begin, it is done with each visit, and what it found is the least of the drives that it looked at.
-pub record IsExhausted (L : List At) (ends : DriveEnds) (to : Location) (visits : List CostVisit) (best : Option Candidate)
+pub record IsExhausted (L : List At) (ends : DriveEnds) (to : Location) (visits : List CostVisit) (best : Option
+    Candidate)
     : Type 0 where
   pub listed : (k : ℕ) (v : CostVisit) → slice_get visits k ≡ Some v → Contains L (at_of v.spot)
   pub origins : HaveOrigins ends.starts.items visits

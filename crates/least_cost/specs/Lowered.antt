@@ -5,7 +5,7 @@ use Rattle.std.specs.declared.cmp.Ordering.TheVariants.{Less, Equal, Greater}
 use Rattle.road_base.specs.declared.location.Location.{Location}
 use Rattle.context_search.specs.Marks.{At, key_of, key_cmp}
 use Rattle.least_cost.specs.declared.visiting.CostVisit.{CostVisit}
-use Rattle.least_cost.specs.CostVisits.{Names, names_at}
+use Rattle.least_cost.specs.CostVisits.{ContextNames, names_at}
 use Rattle.least_cost.specs.Latitudes.{latitudes_left}
 
 -- the lesser of two, where none is greater than every number
@@ -20,7 +20,7 @@ lesser_if Less n more = more
 lesser_if Greater n more = more
 
 -- the least cost over which the context of these names was come to, none where it wasn't
-abbrev pub least_to : List CostVisit → Names → Option ℕ
+abbrev pub least_to : List CostVisit → ContextNames → Option ℕ
 least_to [] q = None
 least_to (v ∷ visits) q = lesser_if (key_cmp (names_at v) q) v.cost (least_to visits q)
 

@@ -1,5 +1,6 @@
 -- The steps that the visits of a search by cost spell.
-use Rattle.std.specs.Prelude.{◌≡◌, ℕ, ◌+◌, ◌-◌, ◌<◌, ◌≤◌, List, [], ◌∷◌, ◌++◌, Option, Some, None, slice_get, take, drop}
+use Rattle.std.specs.Prelude.{◌≡◌, ℕ, ◌+◌, ◌-◌, ◌<◌, ◌≤◌, List, [], ◌∷◌, ◌++◌, Option, Some, None, slice_get}
+use Rattle.std.specs.Prelude.{take, drop}
 use Rattle.std.specs.List.{flat_map}
 use Rattle.road_base.specs.declared.ids.Step.{Step}
 use Rattle.context_search.specs.declared.ends.Begin.{Begin}
@@ -7,8 +8,8 @@ use Rattle.context_search.specs.declared.ends.Goal.{Goal}
 use Rattle.context_search.specs.declared.marks.Origin.TheVariants.{Begins, Follows}
 use Rattle.context_search.specs.Routes.{spelled}
 use Rattle.least_cost.specs.declared.visiting.CostVisit.{CostVisit}
-use Rattle.least_cost.specs.declared.candidates.Ending.{Ending}
-use Rattle.least_cost.specs.declared.candidates.Ending.TheVariants.{Within, Over}
+use Rattle.least_cost.specs.declared.candidates.FoundEnd.{FoundEnd}
+use Rattle.least_cost.specs.declared.candidates.FoundEnd.TheVariants.{Within, Over}
 
 abbrev pub steps_by : Option CostVisit → List Step
 steps_by None = []
@@ -35,7 +36,7 @@ Ascend visits = (k : ℕ) (v : CostVisit) → slice_get visits k ≡ Some v
     → v.spot.piece.now.name.index ≤ v.spot.piece.now.end
 
 -- the steps lead from the first step on over the pieces of visits to the one at the place, and to the goal
-pub record IsWay (visits : List CostVisit) (place : ℕ) (goal : Goal) (d : List Step) : Type 0 where
+pub record IsWayTo (visits : List CostVisit) (place : ℕ) (goal : Goal) (d : List Step) : Type 0 where
   pub first : ℕ
   pub places : List ℕ
   pub trail : IsTrail visits first places place
@@ -46,6 +47,6 @@ abbrev pub steps_within : Begin → Goal → List Step
 steps_within s g = take (g.last + 1 - s.first) (drop s.first (spelled s.piece.now))
 
 -- the steps of a drive that ends so
-abbrev pub IsDriveOf : List CostVisit → Ending → List Step → Type 0
+abbrev pub IsDriveOf : List CostVisit → FoundEnd → List Step → Type 0
 IsDriveOf visits (Within s g) d = d ≡ steps_within s g
-IsDriveOf visits (Over place g) d = IsWay visits place g d
+IsDriveOf visits (Over place g) d = IsWayTo visits place g d

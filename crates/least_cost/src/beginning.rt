@@ -8,7 +8,7 @@ ghost use Rattle.context_search.specs.Marks.{At, key_of};
 ghost use Rattle.least_cost.specs.CostVisits.{IsVisiting, HaveOrigins, AreWaiting, AreBegun, AreWithin};
 ghost use Rattle.least_cost.specs.CostVisits.{IsFoundBy, IsBegunBy, IsWithinBy, cost_in};
 
-use crate::candidates::{Candidate, Ending, lesser};
+use crate::candidates::{Candidate, FoundEnd, lesser};
 use crate::costs::places_cost;
 use crate::places::{places_from, places_up_to};
 use crate::visiting::CostSearch;
@@ -90,6 +90,6 @@ fn within_piece<'a>(
     }
     let places = places_up_to(start.piece.places.items(), goal.last);
     let cost = places_cost(places_from(places, start.first));
-    let end = Ending::Within(*start, goal);
+    let end = FoundEnd::Within(*start, goal);
     lesser(best, Candidate { cost, end })
 }

@@ -6,7 +6,7 @@ use context_search::{Begin, Goal};
 
 /// How a drive that was found comes to the goal.
 #[derive(Clone, Copy, Drop)]
-pub enum Ending<'a> {
+pub enum FoundEnd<'a> {
     /// Within one piece, from the step where it begins.
     Within(Begin<'a>, Goal<'a>),
     /// By an arc from the context of the visit at this place.
@@ -17,7 +17,7 @@ pub enum Ending<'a> {
 #[derive(Clone, Copy, Drop)]
 pub struct Candidate<'a> {
     pub cost: u128,
-    pub end: Ending<'a>,
+    pub end: FoundEnd<'a>,
 }
 
 /// The cost of what was found.

@@ -29,7 +29,7 @@ fn lon_difference(from: Location, to: Location) -> u64
 }
 
 /// The difference of the latitudes.
-fn lat_difference(from: Location, to: Location) -> u64
+pub fn lat_difference(from: Location, to: Location) -> u64
     ensures is { result ≡ unsigned_abs (from.lat -ℤ to.lat) }
     ensures small { result ≤ 1800000000 }
 {

@@ -1,7 +1,8 @@
 //! The visits from which a search by cost hasn't gone on yet, the one over which the least drive is to be expected
 //! first.
 //!
-//! In which order they come decides how long the search takes, and nothing else: contracts see the places in some order.
+//! In which order they come decides how long the search takes, and nothing else: contracts see the places in some
+//! order.
 ghost use Rattle.std.specs.Prelude.{◌≡◌, [], ◌∷◌, IfOk, OnOk, IfSome, IfNone};
 ghost use Rattle.std.specs.List.Sorted.{IsPermutation};
 
@@ -13,11 +14,11 @@ use std::marker::Model;
 
 /// Places in the list of visits. Contracts see them in some order.
 #[derive(Drop)]
-pub struct Frontier {
+pub struct CostFrontier {
     heap: BinaryHeap<Reverse<(u128, usize)>>,
 }
 
-impl Model for Frontier {
+impl Model for CostFrontier {
     ghost use Rattle.std.specs.Prelude.{ℕ, List, map};
     ghost use Rattle.std.specs.BinaryHeap.{heap_items};
 
@@ -26,12 +27,12 @@ impl Model for Frontier {
     ghost view = { λ f. map (λ r. r.0.1) (heap_items f.heap) };
 }
 
-impl Frontier {
+impl CostFrontier {
     /// No places.
-    pub fn new(alloc: Global) -> Frontier
+    pub fn new(alloc: Global) -> CostFrontier
         ensures { result ≡ [] }
     {
-        Frontier {
+        CostFrontier {
             heap: BinaryHeap::new(alloc),
         }
     }

@@ -1,5 +1,6 @@
 //! The search by cost over contexts and arcs.
-ghost use Rattle.std.specs.Prelude.{◌≡◌, ◌⊎◌, ◌<◌, ◌∷◌, [], ℕ, List, IfOk, OnOk, Some, Contains, IsTrue, slice_get, length};
+ghost use Rattle.std.specs.Prelude.{◌≡◌, ◌⊎◌, ◌<◌, ◌∷◌, [], ℕ, List, IfOk, OnOk, Some, Contains, IsTrue};
+ghost use Rattle.std.specs.Prelude.{slice_get, length};
 ghost use Rattle.std.specs.List.Sorted.{IsPermutation};
 ghost use Rattle.graph_blocks.specs.Lent.{map_of as block_map};
 ghost use Rattle.context_search.specs.declared.ends.Begin.{Begin};
@@ -8,10 +9,11 @@ ghost use Rattle.context_search.specs.Listed.{AreInOrder, contexts_in};
 ghost use Rattle.context_search.specs.Marks.{At, at_of};
 ghost use Rattle.context_search.specs.Visits.{HasTargets};
 ghost use Rattle.least_cost.specs.Certified.{AtMost};
-ghost use Rattle.least_cost.specs.CostVisits.{IsVisiting, Grows, AreFollowed, IsFollowedBy};
-ghost use Rattle.least_cost.specs.CostVisits.{IsMetBy, IsOver, IsBettered, IsDone, LeadsOn, Extends, AreWaiting, IsFoundAfter, cost_in};
+ghost use Rattle.least_cost.specs.CostVisits.{IsVisiting, Widens, AreFollowed, IsFollowedBy};
+ghost use Rattle.least_cost.specs.CostVisits.{IsMetBy, IsOver, IsBettered, IsDone, LeadsOn, Extends, AreWaiting};
+ghost use Rattle.least_cost.specs.CostVisits.{IsFoundAfter, cost_in};
 
-use crate::candidates::{Candidate, Ending, cost_in, lesser};
+use crate::candidates::{Candidate, FoundEnd, cost_in, lesser};
 use crate::costs::places_cost;
 use crate::places::{latitudes_left, places_up_to, sum};
 use crate::visiting::{CostSearch, CostVisit};
@@ -68,7 +70,7 @@ fn pass<'a>(
     requires search { IsVisiting (contexts_in (block_map blocks.now)) search.old }
     requires place { place < length search.old.visits }
     ensures search { OnOk result (IsVisiting (contexts_in (block_map blocks.now)) search.new) }
-    ensures grows { OnOk result (Grows search.old search.new) }
+    ensures grows { OnOk result (Widens search.old search.new) }
     ensures done { IfOk result (λ found. (v : CostVisit) → slice_get search.old.visits place ≡ Some v
         → IsDone (contexts_in (block_map blocks.now)) goals.now to (cost_in found) search.new.visits v) }
     ensures less { IfOk result (λ found. AtMost (cost_in found) (cost_in best.entry)) }
@@ -122,7 +124,7 @@ fn go_on<'a>(
     requires search { IsVisiting (contexts_in (block_map blocks.now)) search.old }
     requires at { slice_get search.old.visits place ≡ Some visit.now }
     ensures search { OnOk result (IsVisiting (contexts_in (block_map blocks.now)) search.new) }
-    ensures grows { OnOk result (Grows search.old search.new) }
+    ensures grows { OnOk result (Widens search.old search.new) }
     ensures followed { OnOk result (AreFollowed (contexts_in (block_map blocks.now)) search.new.visits
         (at_of visit.now.spot) visit.now.cost (at_of visit.now.spot).context.arcs) }
 {
@@ -145,7 +147,8 @@ fn follow<'a>(
     requires targets { HasTargets (contexts_in (block_map blocks.now)) }
     requires listed { Contains (contexts_in (block_map blocks.now)) (at_of visit.now.spot) }
     requires has { Contains (at_of visit.now.spot).context.arcs arc }
-    ensures { OnOk result (IsFollowedBy (contexts_in (block_map blocks.now)) place visit.now arc search.old search.new) }
+    ensures { OnOk result (IsFollowedBy (contexts_in (block_map blocks.now)) place visit.now arc search.old
+        search.new) }
 {
     let spot = target(alloc, blocks, &visit.spot, arc)?;
     let cost = sum(visit.cost, places_cost(spot.piece.places.items()))?;
@@ -210,6 +213,6 @@ fn meet<'a>(
     };
     let places = places_up_to(goal.piece.places.items(), goal.last);
     let cost = sum(visit.cost, places_cost(places))?;
-    let end = Ending::Over(place, goal);
+    let end = FoundEnd::Over(place, goal);
     Ok(lesser(best, Candidate { cost, end }))
 }

@@ -1,9 +1,10 @@
 //! The steps of what a search by cost has found.
-ghost use Rattle.std.specs.Prelude.{◌≡◌, ◌+◌, ◌<◌, ◌≤◌, ◌++◌, ℕ, Some, length, take, drop, IfOk, OnOk, Contains, slice_get};
+ghost use Rattle.std.specs.Prelude.{◌≡◌, ◌+◌, ◌<◌, ◌≤◌, ◌++◌, ℕ, Some, length, take, drop, IfOk, OnOk, Contains};
+ghost use Rattle.std.specs.Prelude.{slice_get};
 ghost use Rattle.std.specs.List.{flat_map};
 ghost use Rattle.context_search.specs.declared.marks.Origin.TheVariants.{Begins, Follows};
 ghost use Rattle.context_search.specs.Routes.{spelled};
-ghost use Rattle.least_cost.specs.Trails.{IsTrail, Descend, Ascend, IsWay, steps_at};
+ghost use Rattle.least_cost.specs.Trails.{IsTrail, Descend, Ascend, IsWayTo, steps_at};
 ghost use Rattle.least_cost.specs.declared.visiting.CostVisit.{CostVisit};
 
 use crate::visiting::CostVisit;
@@ -25,7 +26,7 @@ pub fn along(
     requires ascend { Ascend visits.now }
     requires place { place < length visits.now }
     requires ascends { goal.now.piece.now.name.index ≤ goal.now.piece.now.end }
-    ensures { IfOk result (IsWay visits.now place goal.now) }
+    ensures { IfOk result (IsWayTo visits.now place goal.now) }
 {
     let (first, places) = way_back(alloc, visits, place)?;
     let mut steps = Vec::new(alloc);

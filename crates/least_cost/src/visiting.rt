@@ -3,9 +3,9 @@ ghost use Rattle.std.specs.Prelude.{◌≡◌, ◌<◌, ◌∷◌, [], ℕ, leng
 ghost use Rattle.std.specs.List.Sorted.{IsPermutation};
 ghost use Rattle.context_search.specs.Marks.{at_of, key_of, key_cmp};
 ghost use Rattle.road_model.specs.Orders.{names_cmp};
-ghost use Rattle.least_cost.specs.CostVisits.{IsOffered, IsReached, IsBettered, Stands};
+ghost use Rattle.least_cost.specs.CostVisits.{IsOffered, IsVisitedAt, IsBettered, StandsAs};
 
-use crate::frontier::Frontier;
+use crate::frontier::CostFrontier;
 use crate::places::latitudes_left;
 use context_search::{Origin, Spot};
 use road_base::{Location, NoMemory};
@@ -25,7 +25,7 @@ pub struct CostVisit<'a> {
 }
 
 /// What names a context: its piece, and those before it.
-type Names<'a> = (PieceName, &'a [PieceName]);
+type ContextNames<'a> = (PieceName, &'a [PieceName]);
 
 /// The visits in their order, one more for a context each time that a cheaper drive comes to it, and those from which
 /// the search hasn't gone on. Where the last visit of a context stands is looked up, and compared before it is relied
@@ -33,8 +33,8 @@ type Names<'a> = (PieceName, &'a [PieceName]);
 #[derive(Drop)]
 pub struct CostSearch<'a> {
     visits: Vec<CostVisit<'a>>,
-    latest: BTreeMap<Names<'a>, usize>,
-    frontier: Frontier,
+    latest: BTreeMap<ContextNames<'a>, usize>,
+    frontier: CostFrontier,
     to: Location,
 }
 
@@ -55,7 +55,7 @@ impl<'a> CostSearch<'a> {
         CostSearch {
             visits: Vec::new(alloc),
             latest: BTreeMap::new(alloc),
-            frontier: Frontier::new(alloc),
+            frontier: CostFrontier::new(alloc),
             to,
         }
     }
@@ -105,7 +105,7 @@ impl<'a> CostSearch<'a> {
 
     /// Whether the last visit of the context costs no more than that.
     fn is_reached(&self, spot: &Spot<'a>, cost: u128) -> bool
-        ensures { IsTrue result → IsReached self.now.visits (key_of (at_of spot.now)) cost }
+        ensures { IsTrue result → IsVisitedAt self.now.visits (key_of (at_of spot.now)) cost }
     {
         match self.latest_of(spot) {
             Some(visit) => visit.cost <= cost,
@@ -125,7 +125,7 @@ impl<'a> CostSearch<'a> {
 
     /// The last visit of the context.
     fn latest_of(&self, spot: &Spot<'a>) -> Option<CostVisit<'a>>
-        ensures { IfSome result (Stands self.now.visits (key_of (at_of spot.now))) }
+        ensures { IfSome result (StandsAs self.now.visits (key_of (at_of spot.now))) }
     {
         let names = (spot.piece.name, spot.context.before.items());
         let Some(place) = self.latest.get(&names) else {
@@ -136,7 +136,7 @@ impl<'a> CostSearch<'a> {
 
     /// The visit at the place, if it is one of the same context.
     fn named_at(&self, place: usize, spot: &Spot<'a>) -> Option<CostVisit<'a>>
-        ensures { IfSome result (Stands self.now.visits (key_of (at_of spot.now))) }
+        ensures { IfSome result (StandsAs self.now.visits (key_of (at_of spot.now))) }
     {
         let Some(visit) = self.visits.get(place) else {
             return None;

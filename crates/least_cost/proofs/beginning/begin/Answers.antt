@@ -4,7 +4,8 @@ use Rattle.ordered_lists.proofs.ListMembers.{contains_none}
 use Rattle.graph_blocks.specs.Lent.{map_of as block_map}
 use Rattle.context_search.specs.declared.ends.Begin.{Begin}
 use Rattle.context_search.specs.Listed.{contexts_in}
-use Rattle.least_cost.proofs.LeastStarts.{start_visiting, start_origins, start_waiting, more_begun, all_begun, nothing_at}
+use Rattle.least_cost.proofs.LeastStarts.{start_visiting, start_origins, start_waiting, more_begun, all_begun}
+use Rattle.least_cost.proofs.LeastStarts.{nothing_at}
 use Rattle.least_cost.proofs.beginning.begin.Goals as goal
 
 pub loop-start-init : goal.loop-start-init
@@ -45,5 +46,6 @@ loop-start-preserved c =
     }
 
 pub returns-clause-begun : goal.returns-clause-begun
-returns-clause-begun c = all_begun (contexts_in (block_map c.args.blocks.now)) c.args.starts.now c.loop-start.start-index
+returns-clause-begun c = all_begun (contexts_in (block_map c.args.blocks.now)) c.args.starts.now
+    c.loop-start.start-index
     c.loop-start.search.visits c.loop-start-test.false c.loop-start.invariant.begun

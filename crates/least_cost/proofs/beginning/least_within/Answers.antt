@@ -18,8 +18,10 @@ loop-start-preserved c =
     (Contains-get_or starts i s c.loop-start-test.true) in
     let now = c.within_piece-best.ensures in
     record {
-      within = more_within c.args.goals.now starts i s c.loop-start.best c.within_piece-best.result c.loop-start-test.true
-          (subst (λ (t : Begin). IsWithinBy c.args.goals.now t c.loop-start.best c.within_piece-best.result) c.start-item.is now)
+      within = more_within c.args.goals.now starts i s c.loop-start.best c.within_piece-best.result
+          c.loop-start-test.true
+          (subst (λ (t : Begin). IsWithinBy c.args.goals.now t c.loop-start.best c.within_piece-best.result)
+          c.start-item.is now)
           c.loop-start.invariant.within;
       found = now.from starts has c.loop-start.invariant.found;
     }

@@ -1,7 +1,7 @@
 use Rattle.std.proofs.Common.{IfOk, subst, sym}
 use Rattle.std.proofs.lemmas.Option.{slice_get_within}
 use Rattle.context_search.proofs.SearchTogether.{entry_ascends, ends_within}
-use Rattle.least_cost.specs.declared.candidates.Ending.{Ending}
+use Rattle.least_cost.specs.declared.candidates.FoundEnd.{FoundEnd}
 use Rattle.least_cost.specs.CostVisits.{HasEnd, EndsWithin, EndsOver}
 use Rattle.least_cost.specs.Trails.{IsDriveOf}
 use Rattle.least_cost.proofs.least_drives.drive_of.Goals as goal
@@ -13,7 +13,7 @@ within-requires-clause-ascends g c =
     let E = c.args.ends.now in
     let s = c.in-Within.start in
     let h : EndsWithin E.starts.items E.goals s c.in-Within.goal c.args.found.now.cost
-    = subst (λ (e : Ending). HasEnd E.starts.items E.goals c.args.visits.now c.args.found.now.cost e) c.in-Within.is
+    = subst (λ (e : FoundEnd). HasEnd E.starts.items E.goals c.args.visits.now c.args.found.now.cost e) c.in-Within.is
     c.requires.found in
     let from = c.requires.ends.starts.sound s h.is in
     entry_ascends M P from.way s.piece.now from.listed
@@ -22,7 +22,7 @@ pub within-requires-clause-rises : goal.within-requires-clause-rises
 within-requires-clause-rises g c =
     let E = c.args.ends.now in
     let h : EndsWithin E.starts.items E.goals c.in-Within.start c.in-Within.goal c.args.found.now.cost
-    = subst (λ (e : Ending). HasEnd E.starts.items E.goals c.args.visits.now c.args.found.now.cost e) c.in-Within.is
+    = subst (λ (e : FoundEnd). HasEnd E.starts.items E.goals c.args.visits.now c.args.found.now.cost e) c.in-Within.is
     c.requires.found in
     h.rises
 
@@ -33,7 +33,7 @@ within-requires-clause-last g c =
     let E = c.args.ends.now in
     let s = c.in-Within.start in
     let h : EndsWithin E.starts.items E.goals s c.in-Within.goal c.args.found.now.cost
-    = subst (λ (e : Ending). HasEnd E.starts.items E.goals c.args.visits.now c.args.found.now.cost e) c.in-Within.is
+    = subst (λ (e : FoundEnd). HasEnd E.starts.items E.goals c.args.visits.now c.args.found.now.cost e) c.in-Within.is
     c.requires.found in
     let from = c.requires.ends.starts.sound s h.is in
     let to = c.requires.ends.goals.sound s.piece.now.name c.in-Within.goal h.met in
@@ -41,7 +41,7 @@ within-requires-clause-last g c =
 
 pub returns-in-Within : goal.returns-in-Within
 returns-in-Within g c =
-    subst (λ (e : Ending). IfOk c.within.result (λ d. IsDriveOf c.args.visits.now e d)) (sym c.in-Within.is)
+    subst (λ (e : FoundEnd). IfOk c.within.result (λ d. IsDriveOf c.args.visits.now e d)) (sym c.in-Within.is)
     c.within.ensures
 
 pub along-requires-clause-place : goal.along-requires-clause-place
@@ -49,7 +49,7 @@ along-requires-clause-place g c =
     let E = c.args.ends.now in
     let V = c.args.visits.now in
     let h : EndsOver E.goals V c.in-Over.place c.in-Over.goal c.args.found.now.cost
-    = subst (λ (e : Ending). HasEnd E.starts.items E.goals V c.args.found.now.cost e) c.in-Over.is c.requires.found in
+    = subst (λ (e : FoundEnd). HasEnd E.starts.items E.goals V c.args.found.now.cost e) c.in-Over.is c.requires.found in
     slice_get_within V c.in-Over.place h.visit h.at
 
 pub along-requires-clause-ascends : goal.along-requires-clause-ascends
@@ -59,11 +59,11 @@ along-requires-clause-ascends g c =
     let E = c.args.ends.now in
     let V = c.args.visits.now in
     let h : EndsOver E.goals V c.in-Over.place c.in-Over.goal c.args.found.now.cost
-    = subst (λ (e : Ending). HasEnd E.starts.items E.goals V c.args.found.now.cost e) c.in-Over.is c.requires.found in
+    = subst (λ (e : FoundEnd). HasEnd E.starts.items E.goals V c.args.found.now.cost e) c.in-Over.is c.requires.found in
     let to = c.requires.ends.goals.sound h.arc.piece c.in-Over.goal h.met in
     entry_ascends M P to.way c.in-Over.goal.piece.now to.listed
 
 pub returns-in-Over : goal.returns-in-Over
 returns-in-Over g c =
-    subst (λ (e : Ending). IfOk c.along.result (λ d. IsDriveOf c.args.visits.now e d)) (sym c.in-Over.is)
+    subst (λ (e : FoundEnd). IfOk c.along.result (λ d. IsDriveOf c.args.visits.now e d)) (sym c.in-Over.is)
     c.along.ensures

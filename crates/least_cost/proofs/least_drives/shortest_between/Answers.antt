@@ -1,9 +1,11 @@
+use Rattle.std.proofs.Common.{ℕ, Option}
 use Rattle.std.proofs.Common.{List, Some, subst, sym}
 use Rattle.graph_blocks.specs.Lent.{map_of as block_map}
-use Rattle.context_search.proofs.SearchKeys.{key_total, key_exact}
 use Rattle.least_cost.specs.declared.visiting.CostVisit.{CostVisit}
 use Rattle.context_search.specs.Listed.{contexts_in}
 use Rattle.least_cost.specs.CostVisits.{IsFoundBy, HasEnd, cost_in}
+use Rattle.least_cost.specs.Certified.{Certified, IsLeastFor}
+use Rattle.road_model.specs.Pieces.{Span}
 use Rattle.least_cost.specs.Trails.{Descend, Ascend, IsDriveOf}
 use Rattle.least_cost.proofs.LeastFound.{descends, ascends, route_of, nowhere_of}
 use Rattle.least_cost.proofs.least_drives.shortest_between.Goals as goal
@@ -34,11 +36,14 @@ returns-in_default g c =
     let P = g.P.Profile.rules c.args.network.now.profile in
     let m = block_map c.args.blocks.now in
     let E = c.args.ends.now in
-    let o = c.name_order.ensures in
+    let law : (pi : List Span → Option ℕ) → Certified M P E.a E.b (cost_in c.in_ok-search.best) pi
+    → IsLeastFor M P E.a E.b (cost_in c.in_ok-search.best)
+    = subst (λ (C : Option ℕ). (pi : List Span → Option ℕ) → Certified M P E.a E.b C pi → IsLeastFor M P E.a E.b C)
+    c.cost_in.ensures (c.certified_is_least.ensures M) in
     nowhere_of M P (contexts_in m) (c.listed_contexts.ensures.spots M m c.requires.blocks) (c.one_name.ensures.pieces M)
     E c.requires.ends c.args.to c.requires.at c.in_ok-search.search.visits c.in_ok-search.best c.in_ok-search.ensures
-    (key_total o.names o.lists) (key_exact o.name_ties o.list_ties) (c.searched_drives.ensures.within M E.a E.b)
-    (c.searched_drives.ensures.along M E.a E.b) (c.certified_is_least.ensures M) c.in_default.is
+    (c.searched_drives.ensures.within M E.a E.b)
+    (c.searched_drives.ensures.along M E.a E.b) law c.in_default.is
 
 pub returns : goal.returns
 returns g c =
@@ -46,11 +51,14 @@ returns g c =
     let P = g.P.Profile.rules c.args.network.now.profile in
     let m = block_map c.args.blocks.now in
     let E = c.args.ends.now in
-    let o = c.name_order.ensures in
+    let law : (pi : List Span → Option ℕ) → Certified M P E.a E.b (cost_in c.in_ok-search.best) pi
+    → IsLeastFor M P E.a E.b (cost_in c.in_ok-search.best)
+    = subst (λ (C : Option ℕ). (pi : List Span → Option ℕ) → Certified M P E.a E.b C pi → IsLeastFor M P E.a E.b C)
+    c.cost_in.ensures (c.certified_is_least.ensures M) in
     let d = c.in_ok-drive.drive in
     let drive : IsDriveOf c.in_ok-search.search.visits c.in-Some.found.end d
     = subst (λ (l : List CostVisit). IsDriveOf l c.in-Some.found.end d) c.visits.ensures c.in_ok-drive.ensures in
     route_of M P (contexts_in m) (c.listed_contexts.ensures.spots M m c.requires.blocks) (c.one_name.ensures.pieces M)
     E c.requires.ends c.args.to c.requires.at c.in_ok-search.search.visits c.in_ok-search.best c.in_ok-search.ensures
-    (key_total o.names o.lists) (key_exact o.name_ties o.list_ties) (c.searched_drives.ensures.within M E.a E.b)
-    (c.searched_drives.ensures.along M E.a E.b) (c.certified_is_least.ensures M) c.in-Some.found c.in-Some.is d drive
+    (c.searched_drives.ensures.within M E.a E.b)
+    (c.searched_drives.ensures.along M E.a E.b) law c.in-Some.found c.in-Some.is d drive

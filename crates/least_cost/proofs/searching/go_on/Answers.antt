@@ -42,7 +42,8 @@ loop-arc-preserved c =
       grows = grows_again c.args.search.now m n old.grows grows;
       followed = more_followed L n.visits x v.cost items c.loop-arc.arc-index no_arc c.loop-arc-test.true
           (arc_followed L c.args.place v arc m n f)
-          (followed_stays m.visits n.visits grows.visits.stays L x v.cost (take c.loop-arc.arc-index items) old.followed);
+          (followed_stays m.visits n.visits grows.visits.stays L x v.cost (take c.loop-arc.arc-index items)
+          old.followed);
     }
 
 pub returns-clause-followed : goal.returns-clause-followed

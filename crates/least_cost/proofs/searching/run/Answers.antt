@@ -5,7 +5,8 @@ use Rattle.context_search.specs.Listed.{contexts_in}
 use Rattle.least_cost.specs.CostVisits.{Extends, IsFoundAfter, cost_in}
 use Rattle.least_cost.proofs.LawCosts.{at_most_trans}
 use Rattle.least_cost.proofs.LeastVisits.{IsPopped, popped_visiting, popped_place, popped_extends, popped_at, passed}
-use Rattle.least_cost.proofs.LeastVisits.{none_waits, extends_same, extends_again, at_most_same, found_stays, found_again}
+use Rattle.least_cost.proofs.LeastVisits.{none_waits, extends_same, extends_again, at_most_same, found_stays}
+use Rattle.least_cost.proofs.LeastVisits.{found_again}
 use Rattle.least_cost.proofs.searching.run.Goals as goal
 
 pub loop-init : goal.loop-init

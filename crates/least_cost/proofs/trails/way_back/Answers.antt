@@ -30,7 +30,8 @@ returns c =
     let at = c.loop-before.at in
     let v = some_at visits at c.loop-before.invariant.within in
     let origin = c.origin_at.ensures v.0 v.1 ∙ c.in_default.is in
-    let trail = trail_ends visits c.in_default.field-0 at c.args.place v.0 c.loop-before.places.items c.push-2.new.self.items
+    let trail = trail_ends visits c.in_default.field-0 at c.args.place v.0 c.loop-before.places.items
+    c.push-2.new.self.items
     v.1 origin c.in_ok-push-2.ensures.items c.loop-before.invariant.trail in
     record {
       trail = subst (λ f. IsTrail visits f c.reverse.new.self.items c.args.place)

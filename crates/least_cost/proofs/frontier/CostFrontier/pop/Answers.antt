@@ -1,6 +1,6 @@
 use Rattle.context_search.proofs.SearchFrontier.{popped}
-use Rattle.least_cost.proofs.frontier.Frontier.pop.Goals as goal
-use Rattle.least_cost.proofs.frontier.Frontier.pop.Goals.{in-Some, in-None}
+use Rattle.least_cost.proofs.frontier.CostFrontier.pop.Goals as goal
+use Rattle.least_cost.proofs.frontier.CostFrontier.pop.Goals.{in-Some, in-None}
 
 pub returns-clause-some : goal.returns-clause-some
 returns-clause-some c = elim c.match-pop.branch [
