@@ -3,3 +3,9 @@ pub mod CostRoots
 pub mod LawCosts
 pub mod CostSums
 pub mod CostPlaces
+pub mod CheckWritten
+pub mod CheckNumbers
+pub mod CheckShown
+pub mod CheckPlaces
+pub mod CheckTables
+pub mod CheckRoutes

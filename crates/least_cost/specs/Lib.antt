@@ -2,3 +2,4 @@ pub mod Costs
 pub mod Certified
 pub mod Cheapest
 pub mod PlaceCosts
+pub mod Shown

@@ -4,6 +4,7 @@
 
 mod answers;
 mod checking;
+mod conditions;
 mod costs;
 pub mod laws;
 mod least;
