@@ -131,7 +131,3 @@ module _ (b : NodeId) (C v : Option ℕ) (places same : List Place) (are : place
 
   pub ends_back : HoldsAtEnds b C v same → HoldsAtEnds b C v places
   ends_back h = subst (λ l. HoldsAtEnds b C v l) (sym are) h
-
-pub no_names : {X : Type 0} (xs ys : List X) → length xs ≡ 0 → xs ≡ ys → ys ≡ []
-no_names [] ys h e = sym e
-no_names (x ∷ xs) ys h e = absurd (omega arith)

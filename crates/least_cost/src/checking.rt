@@ -41,18 +41,41 @@ pub fn check<M: World, P: Profile, B: LendsBlocks>(
 ) -> Result<bool, NoMemory>
     requires { AreBlocksOf (M.objects world.now) (P.rules profile.now) (B.map blocks.now) }
     ensures { IfOk result (λ yes. IsTrue yes
-        ↔ IsCertificate (M.objects world.now) (P.rules profile.now) a b (option_copied route) potentials.now) }
+        ↔ IsCertificate (M.objects world.now) (P.rules profile.now) a b (option_copied route.entry) potentials.now) }
 {
-    let network = Network::new(world, *profile);
-    let view = blocks.lend();
-    let numbers = potentials.items();
-    let Some(drive) = route else {
-        let claim = Claim { a, b, cost: None };
-        let shown = shows(alloc, &network, &view, &claim, numbers)?;
-        return Ok(shown);
-    };
-    let shown = shows_route(alloc, &network, &view, a, b, drive, numbers)?;
-    Ok(shown)
+    is_shown(
+        alloc,
+        &Network::new(world, *profile),
+        &blocks.lend(),
+        a,
+        b,
+        route,
+        potentials.items(),
+    )
+}
+
+/// Whether the numbers show that no legal drive costs less than the route, or where there is no route, that there is
+/// no legal drive.
+fn is_shown<M: World, P: Profile>(
+    alloc: Global,
+    network: &Network<'_, M, P>,
+    blocks: &View<'_, WayId, Block>,
+    a: NodeId,
+    b: NodeId,
+    route: Option<&[Step]>,
+    numbers: &[Option<u128>],
+) -> Result<bool, NoMemory>
+    requires { on network.now AreBlocksOf (block_map blocks.now) }
+    ensures { IfOk result (λ yes. IsTrue yes
+        ↔ on network.now IsCertificate a b (option_copied route.entry) numbers.now) }
+{
+    match route {
+        Some(drive) => shows_route(alloc, network, blocks, a, b, drive, numbers),
+        None => {
+            let claim = Claim { a, b, cost: None };
+            shows(alloc, network, blocks, &claim, numbers)
+        }
+    }
 }
 
 /// Whether the drive is a legal one from node a to node b, and the numbers show that none costs less.
@@ -68,7 +91,8 @@ fn shows_route<M: World, P: Profile>(
     requires { on network.now AreBlocksOf (block_map blocks.now) }
     ensures { IfOk result (λ yes. IsTrue yes ↔ on network.now IsCertificate a b (Some drive.now) numbers.now) }
 {
-    if !leads(alloc, network, a, b, drive)? {
+    let legal = leads(alloc, network, a, b, drive)?;
+    if !legal {
         return Ok(false);
     }
     let cost = drive_cost(network.world, drive);

@@ -1,6 +1,6 @@
 //! What numbers at the contexts of a graph have to be so that they show a cost.
-ghost use Rattle.std.specs.Prelude.{◌≡◌, ◌+◌, ◌-◌, ◌<◌, [], length, map, IfOk, Some, IsTrue, IsFalse, Contains, slice_get};
-ghost use Rattle.std.specs.Prelude.{take, drop, ℕ};
+ghost use Rattle.std.specs.Prelude.{◌≡◌, ◌+◌, ◌-◌, ◌<◌, [], length, map, IfOk, Some, IsTrue, IsFalse, Contains};
+ghost use Rattle.std.specs.Prelude.{slice_get, take, drop, ℕ};
 ghost use Rattle.ordered_lists.specs.Orders.{rises};
 ghost use Rattle.road_model.specs.declared.lists.Place.{Place};
 ghost use Rattle.road_model.specs.declared.lists.TurnArc.{TurnArc};
@@ -55,9 +55,11 @@ pub fn holds_everywhere(
 ) -> Result<bool, NoMemory>
     requires { AreNumbered (map at_of numbered.now.spots.now) numbered.now.numbers.now numbered.now.costs.now }
     ensures yes { IfOk result (λ yes. IsTrue yes
-        → HoldsEverywhere (map at_of numbered.now.spots.now) numbered.now.numbers.now claim.now.a claim.now.b claim.now.cost) }
+        → HoldsEverywhere (map at_of numbered.now.spots.now) numbered.now.numbers.now
+        claim.now.a claim.now.b claim.now.cost) }
     ensures no { IfOk result (λ yes. IsFalse yes
-        → HoldsEverywhere (map at_of numbered.now.spots.now) numbered.now.numbers.now claim.now.a claim.now.b claim.now.cost
+        → HoldsEverywhere (map at_of numbered.now.spots.now) numbered.now.numbers.now
+        claim.now.a claim.now.b claim.now.cost
         → ⊥) }
 {
     let mut names = Vec::new(alloc);
@@ -82,12 +84,12 @@ fn holds_at(
     requires within { number < length numbered.now.spots.now }
     ensures yes { IfOk result (λ yes. IsTrue yes → (x : At)
         → slice_get (map at_of numbered.now.spots.now) number ≡ Some x
-        → HoldsAtContext (map at_of numbered.now.spots.now) numbered.now.numbers.now claim.now.a claim.now.b claim.now.cost
-        number x) }
+        → HoldsAtContext (map at_of numbered.now.spots.now) numbered.now.numbers.now
+        claim.now.a claim.now.b claim.now.cost number x) }
     ensures no { IfOk result (λ yes. IsFalse yes → (x : At)
         → slice_get (map at_of numbered.now.spots.now) number ≡ Some x
-        → HoldsAtContext (map at_of numbered.now.spots.now) numbered.now.numbers.now claim.now.a claim.now.b claim.now.cost
-        number x
+        → HoldsAtContext (map at_of numbered.now.spots.now) numbered.now.numbers.now
+        claim.now.a claim.now.b claim.now.cost number x
         → ⊥) }
 {
     if !holds_alone(numbered, claim, number) {
@@ -104,20 +106,29 @@ fn holds_alone(numbered: &Numbered<'_, '_>, claim: &Claim, number: usize) -> boo
     ensures yes { IsTrue result → (x : At)
         → slice_get (map at_of numbered.now.spots.now) number ≡ Some x
         → x.context.before ≡ []
-        → HoldsAtStarts claim.now.a claim.now.b claim.now.cost (number_at numbered.now.numbers.now number) x.piece.places }
+        → HoldsAtStarts claim.now.a claim.now.b claim.now.cost
+        (number_at numbered.now.numbers.now number) x.piece.places }
     ensures no { IsFalse result → (x : At)
         → slice_get (map at_of numbered.now.spots.now) number ≡ Some x
         → (x.context.before ≡ []
-        → HoldsAtStarts claim.now.a claim.now.b claim.now.cost (number_at numbered.now.numbers.now number) x.piece.places)
+        → HoldsAtStarts claim.now.a claim.now.b claim.now.cost
+        (number_at numbered.now.numbers.now number) x.piece.places)
         → ⊥ }
 {
     let spot = numbered.spots[number];
-    let before = spot.context.before.items();
-    if before.len() > 0 {
+    if !is_alone(&spot) {
         return true;
     }
     let places = spot.piece.places.items();
     holds_at_starts(places, claim, number_of(numbered.numbers, number))
+}
+
+/// Whether the context is one of a piece alone.
+fn is_alone(spot: &Spot<'_>) -> bool
+    ensures yes { IsTrue result → spot.now.context.now.before ≡ [] }
+    ensures no { IsFalse result → spot.now.context.now.before ≡ [] → ⊥ }
+{
+    spot.context.before.items().is_empty()
 }
 
 /// Whether they do so on all arcs from the context.
@@ -132,11 +143,13 @@ fn holds_on_arcs(
     ensures yes { IfOk result (λ yes. IsTrue yes → (x : At) (arc : TurnArc)
         → slice_get (map at_of numbered.now.spots.now) number ≡ Some x
         → Contains x.context.arcs arc
-        → HoldsOnArc (map at_of numbered.now.spots.now) numbered.now.numbers.now claim.now.b claim.now.cost number x arc) }
+        → HoldsOnArc (map at_of numbered.now.spots.now) numbered.now.numbers.now
+        claim.now.b claim.now.cost number x arc) }
     ensures no { IfOk result (λ yes. IsFalse yes → (x : At)
         → slice_get (map at_of numbered.now.spots.now) number ≡ Some x
         → ((arc : TurnArc) → Contains x.context.arcs arc
-        → HoldsOnArc (map at_of numbered.now.spots.now) numbered.now.numbers.now claim.now.b claim.now.cost number x arc)
+        → HoldsOnArc (map at_of numbered.now.spots.now) numbered.now.numbers.now
+        claim.now.b claim.now.cost number x arc)
         → ⊥) }
 {
     let spot = numbered.spots[number];
@@ -161,13 +174,16 @@ fn holds_on_arc(
 ) -> Result<bool, NoMemory>
     requires numbered { AreNumbered (map at_of numbered.now.spots.now) numbered.now.numbers.now numbered.now.costs.now }
     requires within { number < length numbered.now.spots.now }
-    requires has { (x : At) → slice_get (map at_of numbered.now.spots.now) number ≡ Some x → Contains x.context.arcs arc }
+    requires has { (x : At) → slice_get (map at_of numbered.now.spots.now) number ≡ Some x
+        → Contains x.context.arcs arc }
     ensures yes { IfOk result (λ yes. IsTrue yes → (x : At)
         → slice_get (map at_of numbered.now.spots.now) number ≡ Some x
-        → HoldsOnArc (map at_of numbered.now.spots.now) numbered.now.numbers.now claim.now.b claim.now.cost number x arc) }
+        → HoldsOnArc (map at_of numbered.now.spots.now) numbered.now.numbers.now
+        claim.now.b claim.now.cost number x arc) }
     ensures no { IfOk result (λ yes. IsFalse yes → (x : At)
         → slice_get (map at_of numbered.now.spots.now) number ≡ Some x
-        → HoldsOnArc (map at_of numbered.now.spots.now) numbered.now.numbers.now claim.now.b claim.now.cost number x arc
+        → HoldsOnArc (map at_of numbered.now.spots.now) numbered.now.numbers.now
+        claim.now.b claim.now.cost number x arc
         → ⊥) }
 {
     name_order();

@@ -1,4 +1,4 @@
-use Rattle.std.proofs.Common.{◌≡◌, ◌∙◌, List, ℕ, Option, length, map, sym}
+use Rattle.std.proofs.Common.{◌∙◌, map, sym}
 use Rattle.std.proofs.lemmas.List.{length-map}
 use Rattle.context_search.specs.Marks.{at_of}
 use Rattle.context_search.proofs.SearchTargets.{has_targets}
@@ -19,8 +19,8 @@ returns-then-not-are_as_many g c =
           ∙ length-map spots at_of)),
     )
 
-pub holds_everywhere-holds-requires : goal.holds_everywhere-holds-requires
-holds_everywhere-holds-requires g c =
+pub holds_everywhere-requires : goal.holds_everywhere-requires
+holds_everywhere-requires g c =
     let M = g.M.World.objects c.args.network.now.world.now in
     let P = g.P.Profile.rules c.args.network.now.profile in
     let spots = c.args.spots.now in

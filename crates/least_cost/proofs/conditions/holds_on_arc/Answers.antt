@@ -1,6 +1,7 @@
-use Rattle.std.proofs.Common.{◌≡◌, ◌<◌, length, map, arith}
-use Rattle.context_search.specs.Marks.{at_of}
-use Rattle.least_cost.proofs.CheckTables.{numbers_count, costs_count, over_holds, over_goes_on, over_ends, ends_read, ends_back}
+use Rattle.std.proofs.Common.{◌∙◌, sym, ap, arith}
+use Rattle.context_search.specs.declared.spots.Spot.{Spot}
+use Rattle.least_cost.proofs.CheckTables.{numbers_count, costs_count, over_holds, over_goes_on}
+use Rattle.least_cost.proofs.CheckTables.{over_ends, ends_read, ends_back}
 use Rattle.least_cost.proofs.conditions.holds_on_arc.Goals as goal
 
 pub number_of-from-requires : goal.number_of-from-requires
@@ -33,7 +34,8 @@ returns-then-goes_on-clause-yes c t_is x at =
     c.index-numbered-to.is (c.in_ok-to.ensures.leads x at) c.number_of-from.ensures c.number_of-limit.ensures
     c.sum_of-sum.ensures (c.is_at_most-goes_on.ensures.yes c.if-goes_on.true)
     (ends_read c.args.claim.now.b c.args.claim.now.cost c.number_of-from.result c.items-places.result.now
-        c.index-numbered-to.result.piece.now.places c.items-places.ensures (c.holds_at_ends-ends.ensures.yes t_is))
+        c.index-numbered-to.result.piece.now.places (c.items-places.ensures
+        ∙ ap (λ (z : Spot). z.piece.now.places) (sym c.index-numbered-to.is)) (c.holds_at_ends-ends.ensures.yes t_is))
 
 pub returns-then-goes_on-clause-no : goal.returns-then-goes_on-clause-no
 returns-then-goes_on-clause-no c f_is x at h =
@@ -45,7 +47,8 @@ returns-then-goes_on-clause-no c f_is x at h =
     c.index-numbered-to.is (c.in_ok-to.ensures.leads x at) c.number_of-from.ensures c.number_of-limit.ensures
     c.sum_of-sum.ensures h in
     c.holds_at_ends-ends.ensures.no f_is (ends_back c.args.claim.now.b c.args.claim.now.cost c.number_of-from.result
-        c.items-places.result.now c.index-numbered-to.result.piece.now.places c.items-places.ensures ends)
+        c.items-places.result.now c.index-numbered-to.result.piece.now.places (c.items-places.ensures
+        ∙ ap (λ (z : Spot). z.piece.now.places) (sym c.index-numbered-to.is)) ends)
 
 pub returns-else-goes_on-clause-no : goal.returns-else-goes_on-clause-no
 returns-else-goes_on-clause-no c f x at h =
