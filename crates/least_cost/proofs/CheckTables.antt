@@ -65,8 +65,10 @@ module _ (spots : List Spot) (list : List (Option ℕ)) (costs : List ℕ)
       ]
     ]
 
-    module _ (b : NodeId) (C : Option ℕ) (number n : ℕ) (x : At) (arc : TurnArc) (s : Spot) (to_number from_number : Option ℕ)
-        (sum : ℕ) (here : n < length spots) (is : s ≡ get_or spots n s) (leads : LeadsBy (map at_of spots) x arc n)
+    module _ (b : NodeId) (C : Option ℕ) (number n : ℕ) (x : At) (arc : TurnArc) (s : Spot)
+        (to_number from_number : Option ℕ) (sum : ℕ)
+        (here : n < length spots) (is : s ≡ get_or spots n s)
+        (leads : LeadsBy (map at_of spots) x arc n)
         (from_is : slice_get list number ≡ Some from_number) (to_is : slice_get list n ≡ Some to_number)
         (summed : slice_get costs n ≡ Some sum) where
       target_at : slice_get (map at_of spots) n ≡ Some (at_of s)
@@ -78,11 +80,13 @@ module _ (spots : List Spot) (list : List (Option ℕ)) (costs : List ℕ)
           let k : key_of to ≡ key_of leads.to = key ∙ sym leads.named in
           let same : m ≡ n = one_place m n to leads.to at_to leads.at k in
           let one : to ≡ at_of s
-          = one_stands (map at_of spots) n to (at_of s) (ap (slice_get (map at_of spots)) (sym same) ∙ at_to) target_at in
+          = one_stands (map at_of spots) n to (at_of s) (ap (slice_get (map at_of spots)) (sym same) ∙ at_to)
+          target_at in
           let from : from_number ≡ number_at list number = sym (ap number_in from_is) in
           let there : to_number ≡ number_at list m = sym (ap (number_at list) same ∙ ap number_in to_is) in
           let h : HoldsOver b C from_number to_number (at_of s).piece.places = record {
-            goes_on = subst (λ v. AtMost to_number (plus from_number (Some v))) (sum_is n sum (at_of s) target_at summed) g;
+            goes_on = subst (λ v. AtMost to_number (plus from_number (Some v)))
+                (sum_is n sum (at_of s) target_at summed) g;
             ends = ends;
           } in
           subst (λ y. HoldsOver b C (number_at list number) (number_at list m) y.piece.places) (sym one)

@@ -4,4 +4,5 @@ use Rattle.least_cost.proofs.conditions.holds_at_ends.Goals as goal
 
 pub returns-clause-yes : goal.returns-clause-yes
 returns-clause-yes c t j stops =
-    c.loop-step.invariant j (let h = slice_get_within c.args.places.now (j + 1) stops.place stops.at in omega arith) stops
+    let h = slice_get_within c.args.places.now (j + 1) stops.place stops.at in
+    c.loop-step.invariant j (omega arith) stops
