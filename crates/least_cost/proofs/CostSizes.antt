@@ -1,8 +1,8 @@
 -- How large longitudes and latitudes are.
-use Rattle.std.proofs.Common.{◌≡◌, ℕ, ◌≤◌, ◌<◌, ◌+◌, ◌*◌, ℤ, pos, negsuc, ◌≤ℤ◌, ◌<ℤ◌, IsTrue, Bool, true, false, arith, rules}
-use Rattle.std.proofs.lemmas.Int.{ints, by_lt_z}
+use Rattle.std.proofs.Common.{ℕ, ◌≤◌, ◌*◌, ℤ, pos, negsuc, ◌≤ℤ◌, IsTrue, arith}
+use Rattle.std.proofs.lemmas.Int.{ints}
 use Rattle.std.proofs.lemmas.Nat.{mul-le}
-use Rattle.road_base.specs.Ranges.{is_within, is_in_range}
+use Rattle.road_base.specs.Ranges.{is_in_range}
 
 pub record HasSizes (lon lat : ℤ) : Type 0 where
   pub west : negsuc 1799999999 ≤ℤ lon

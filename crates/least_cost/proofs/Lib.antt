@@ -17,3 +17,9 @@ pub mod LeastRoutes
 pub mod LeastStarts
 pub mod LeastTrails
 pub mod LeastParts
+pub mod CheckWritten
+pub mod CheckNumbers
+pub mod CheckShown
+pub mod CheckPlaces
+pub mod CheckTables
+pub mod CheckRoutes

@@ -6,3 +6,4 @@ pub mod CostVisits
 pub mod Trails
 pub mod PlaceCosts
 pub mod Lowered
+pub mod Shown

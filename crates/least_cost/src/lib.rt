@@ -6,6 +6,7 @@ mod answers;
 mod beginning;
 mod candidates;
 mod checking;
+mod conditions;
 mod costs;
 mod frontier;
 pub mod laws;
