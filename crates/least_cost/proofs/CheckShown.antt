@@ -74,7 +74,6 @@ module _ (M : Objects) (P : Rules) where
   module _ (names : IsTotalOrder name_cmp) (lists : IsTotalOrder names_cmp) (ties : IsAntisymmetric names_cmp)
       (a b : NodeId) (C : Option ℕ)
       (L : List At) (are : AreSpots M P L) (list : List (Option ℕ)) where
-
     -- ---- what holds everywhere certifies
 
     module _ (count : length list ≡ length L) (holds : HoldsEverywhere L list a b C) where
@@ -127,8 +126,13 @@ module _ (M : Objects) (P : Rules) where
           let x = are.complete c arc.from in
           let n = at_contains L x.0 x.1 in
           let w = arc_written c x.0 t e x.2 arc in
-          let r : IsArcEntry M P c w.arc = record { piece = t; target = e; arc = arc; named = w.named;
-              length_is = w.entry.length_is ∙ ap length w.to } in
+          let r : IsArcEntry M P c w.arc = record {
+            piece = t;
+            target = e;
+            arc = arc;
+            named = w.named;
+            length_is = w.entry.length_is ∙ ap length w.to;
+          } in
           let g = arc_target M P c x.0 x.2 w.arc r in
           let y = are.complete e arc.to.holds in
           let m = at_contains L y.0 y.1 in
