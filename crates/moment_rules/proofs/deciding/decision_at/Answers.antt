@@ -1,6 +1,7 @@
-use Rattle.std.proofs.Common.{◌≡◌, ℕ, List, None, true, subst}
+use Rattle.std.proofs.Common.{◌≡◌, ◌∙◌, ℕ, List, None, true, ap, subst}
 use Rattle.road_base.specs.Tags.{TagList, value_of}
 use Rattle.access_profile.specs.FirstLetters.{may_be_access_key}
+use Rattle.moment_rules.specs.MomentDecisions.{decision_at, first_said, said_by_either}
 use Rattle.moment_rules.proofs.MomentKeys.{none_decides}
 use Rattle.moment_rules.proofs.deciding.decision_at.Goals as goal
 
@@ -10,3 +11,8 @@ returns-then-lacks_access_keys c =
     none_decides c.args.at c.args.tags.now c.args.dir
     (subst (λ (ts : TagList). (key : List ℕ) → may_be_access_key key ≡ true → value_of key ts ≡ None)
     c.items.ensures.items none)
+
+pub returns : goal.returns
+unfolding decision_at
+returns c =
+    c.first_said.ensures ∙ ap (first_said (said_by_either c.args.at c.args.tags.now)) c.deciding_keys.ensures
