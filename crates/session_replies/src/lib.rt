@@ -1,6 +1,7 @@
 //! The road network answers a session: what it replies to a line over the objects and the blocks that it has come to.
 //!
-//! A reply takes the time of its query (`drive_queries`), and of its bytes. A change takes the time of following it
+//! A reply takes the time of its query (`drive_queries`, `least_cost`), and of its bytes; `drive-at` also that of
+//! reading the conditional values on its ways (`moment_rules`). A change takes the time of following it
 //! (`change_apply`). Nothing is put here.
 #![tactic(auto)]
 
