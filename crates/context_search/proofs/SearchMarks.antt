@@ -7,7 +7,8 @@ use Rattle.std.specs.BTreeMap.{BTreeMap}
 use Rattle.std.specs.List.Sorted.{IsPermutation}
 use Rattle.std.proofs.lemmas.List.{length_push, take_more, take_all}
 use Rattle.std.proofs.lemmas.List.Sorted.{Contains-permutation, IsPermutation-sym, length_permutation}
-use Rattle.ordered_lists.proofs.ListMembers.{contains_head, contains_later, contains_cases, contains_more, contains_none}
+use Rattle.ordered_lists.proofs.ListMembers.{contains_head, contains_later, contains_cases, contains_more}
+use Rattle.ordered_lists.proofs.ListMembers.{contains_none}
 use Rattle.ordered_lists.proofs.ListPlaces.{stands_left, stands_last, stands_cases, one_stands}
 use Rattle.road_model.specs.declared.lists.PieceName.{PieceName}
 use Rattle.road_model.specs.declared.lists.TurnArc.{TurnArc}
@@ -165,7 +166,7 @@ module _ (spot : Spot) (origin : Origin) (m n : Marks) (new : IsNew spot origin 
           let h = comes j (new_origin v (Follows j) last.1 o) in (
             subst (λ i. j < i) (sym last.0) h.0,
             subst (λ (z : Spot). Comes n.visits j (key_of (at_of z))) (sym (new_spot v last.1))
-            (comes_stays m n new_stays j (key_of (at_of spot)) h.1),
+                (comes_stays m n new_stays j (key_of (at_of spot)) h.1),
           )
     ];
     within = new_within s.within;

@@ -40,11 +40,7 @@ pub fn spot_at<'a>(
 }
 
 /// The context of these names among those of the pieces.
-fn spot_among<'a>(
-    pieces: &'a [Piece],
-    name: PieceName,
-    before: &[PieceName],
-) -> Option<Spot<'a>>
+fn spot_among<'a>(pieces: &'a [Piece], name: PieceName, before: &[PieceName]) -> Option<Spot<'a>>
     requires pieces { IsTrue (rises name_cmp (map (λ p. p.name) pieces.now)) }
     requires contexts { (p : Piece) → Contains pieces.now p
         → IsTrue (rises names_cmp (map (λ c. c.before) p.contexts)) }

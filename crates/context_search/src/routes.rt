@@ -115,11 +115,7 @@ fn add_whole(
 }
 
 /// Adds the steps of the piece of the visit.
-fn add_visit(
-    steps: &mut Vec<Step>,
-    visits: &[TreeVisit<'_>],
-    place: usize,
-) -> Result<(), NoMemory>
+fn add_visit(steps: &mut Vec<Step>, visits: &[TreeVisit<'_>], place: usize) -> Result<(), NoMemory>
     requires spelled { AreSpelled visits.now }
     requires within { place < length visits.now }
     ensures { OnOk result (steps.new.items ≡ steps.old.items ++ steps_at visits.now place) }
