@@ -7,7 +7,8 @@ use Rattle.std.specs.BTreeMap.{BTreeMap}
 use Rattle.std.specs.List.Sorted.{IsPermutation}
 use Rattle.std.proofs.lemmas.List.{length_push, take_more, take_all}
 use Rattle.std.proofs.lemmas.List.Sorted.{Contains-permutation, IsPermutation-sym, length_permutation}
-use Rattle.ordered_lists.proofs.ListMembers.{contains_head, contains_later, contains_cases, contains_more, contains_none}
+use Rattle.ordered_lists.proofs.ListMembers.{contains_head, contains_later, contains_cases, contains_more}
+use Rattle.ordered_lists.proofs.ListMembers.{contains_none}
 use Rattle.ordered_lists.proofs.ListPlaces.{stands_left, stands_last, stands_cases, one_stands}
 use Rattle.road_model.specs.declared.lists.PieceName.{PieceName}
 use Rattle.road_model.specs.declared.lists.TurnArc.{TurnArc}

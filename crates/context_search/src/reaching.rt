@@ -116,7 +116,7 @@ fn drive_over<M: World, P: Profile>(
     ends: &DriveEnds<'_>,
     to: Location,
 ) -> Result<Found, NoMemory>
-    requires blocks { on network.now AreBlocksOf (block_map blocks.now) }
+    requires graph { on network.now AreBlocksOf (block_map blocks.now) }
     requires ends { on network.now AreEnds ends.now }
     requires apart { (s : Begin) (g : Goal) → Contains ends.now.starts.items s
         → goal_in ends.now.goals s.piece.now.name ≡ Some g

@@ -21,7 +21,7 @@ use Rattle.context_search.proofs.reaching.drive_over.Goals as goal
 pub begin-requires-clause-order : goal.begin-requires-clause-order
 begin-requires-clause-order g c =
     let M = g.M.World.objects c.args.network.now.world.now in
-    c.listed_contexts.ensures.order M (map_of c.args.blocks.now) c.requires.blocks
+    c.listed_contexts.ensures.order M (map_of c.args.blocks.now) c.requires.graph
 
 pub begin-requires-clause-listed : goal.begin-requires-clause-listed
 begin-requires-clause-listed g c =
@@ -31,7 +31,7 @@ begin-requires-clause-listed g c =
     let starts = subst (λ (l : List Begin). AreStarts M P c.args.ends.now.a l) (sym c.deref.ensures.value)
     c.requires.ends.starts in
     start_listed M P (contexts_in m) c.args.ends.now.a c.deref.result.now
-    (c.listed_contexts.ensures.spots M m c.requires.blocks) starts
+    (c.listed_contexts.ensures.spots M m c.requires.graph) starts
 
 pub begin-requires-clause-search : goal.begin-requires-clause-search
 begin-requires-clause-search g c =
@@ -42,14 +42,14 @@ begin-requires-clause-search g c =
 pub run-requires-clause-order : goal.run-requires-clause-order
 run-requires-clause-order g c =
     let M = g.M.World.objects c.args.network.now.world.now in
-    c.listed_contexts.ensures.order M (map_of c.args.blocks.now) c.requires.blocks
+    c.listed_contexts.ensures.order M (map_of c.args.blocks.now) c.requires.graph
 
 pub run-requires-clause-targets : goal.run-requires-clause-targets
 run-requires-clause-targets g c =
     let M = g.M.World.objects c.args.network.now.world.now in
     let P = g.P.Profile.rules c.args.network.now.profile in
     let m = map_of c.args.blocks.now in
-    has_targets M P (contexts_in m) (c.listed_contexts.ensures.spots M m c.requires.blocks)
+    has_targets M P (contexts_in m) (c.listed_contexts.ensures.spots M m c.requires.graph)
 
 pub run-requires-clause-closed : goal.run-requires-clause-closed
 run-requires-clause-closed g c =
@@ -67,7 +67,7 @@ along-requires-clause-spelled g c =
     let P = g.P.Profile.rules c.args.network.now.profile in
     let m = map_of c.args.blocks.now in
     subst (λ (l : List TreeVisit). AreSpelled l) (sym c.visits.ensures)
-    (visits_spelled M P (contexts_in m) c.run.new.search (c.listed_contexts.ensures.spots M m c.requires.blocks)
+    (visits_spelled M P (contexts_in m) c.run.new.search (c.listed_contexts.ensures.spots M m c.requires.graph)
     c.in_ok-meeting.ensures.search)
 
 pub along-requires-clause-place : goal.along-requires-clause-place
@@ -113,7 +113,7 @@ returns-in-Some g c =
     let P = g.P.Profile.rules c.args.network.now.profile in
     let blocks = map_of c.args.blocks.now in
     let L = contexts_in blocks in
-    let spots = c.listed_contexts.ensures.spots M blocks c.requires.blocks in
+    let spots = c.listed_contexts.ensures.spots M blocks c.requires.graph in
     let G = c.args.ends.now.goals in
     let vs = c.run.new.search.visits in
     let at = c.in-Some.meeting in
@@ -141,7 +141,7 @@ returns g c =
     let P = g.P.Profile.rules c.args.network.now.profile in
     let blocks = map_of c.args.blocks.now in
     let L = contexts_in blocks in
-    let spots = c.listed_contexts.ensures.spots M blocks c.requires.blocks in
+    let spots = c.listed_contexts.ensures.spots M blocks c.requires.graph in
     let G = c.args.ends.now.goals in
     let S = c.deref.result.now in
     let vs = c.run.new.search.visits in
