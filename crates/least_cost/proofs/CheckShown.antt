@@ -1,5 +1,5 @@
 -- What holds everywhere of the numbers of a list certifies the cost, and the other way round.
-use Rattle.std.proofs.Common.{◌≡◌, ℕ, ◌+◌, ◌-◌, ◌≤◌, List, [], ◌∷◌, ◌++◌, length, map, Option, Some, None, slice_get}
+use Rattle.std.proofs.Common.{◌≡◌, ℕ, ◌+◌, ◌-◌, ◌≤◌, List, [], ◌∷◌, ◌++◌, length, map, Option, Some, slice_get}
 use Rattle.std.proofs.Common.{Contains, IsTrue, IsFalse, Bool, true, false, take, drop, refl, sym, ap, ◌∙◌, subst}
 use Rattle.std.proofs.Common.{arith}
 use Rattle.std.specs.Cmp.{IsTotalOrder}
@@ -31,7 +31,7 @@ use Rattle.context_search.proofs.SearchSpots.{map_at}
 use Rattle.context_search.proofs.SearchTargets.{spot_named, arc_of, arc_target}
 use Rattle.least_cost.specs.Costs.{cost_of, plus}
 use Rattle.least_cost.specs.PlaceCosts.{places_cost}
-use Rattle.least_cost.specs.Certified.{AtMost, Certified, Agrees, IsCertified}
+use Rattle.least_cost.specs.Certified.{AtMost, IsCertified}
 use Rattle.least_cost.specs.Shown.{number_at, number_in, HoldsAtStarts, HoldsOver, HoldsOnArc}
 use Rattle.least_cost.specs.Shown.{HoldsEverywhere}
 use Rattle.least_cost.proofs.CheckNumbers.{names_of, number_for, number_found, spot_names}
@@ -74,7 +74,6 @@ module _ (M : Objects) (P : Rules) where
   module _ (names : IsTotalOrder name_cmp) (lists : IsTotalOrder names_cmp) (ties : IsAntisymmetric names_cmp)
       (a b : NodeId) (C : Option ℕ)
       (L : List At) (are : AreSpots M P L) (list : List (Option ℕ)) where
-
     -- ---- what holds everywhere certifies
 
     module _ (count : length list ≡ length L) (holds : HoldsEverywhere L list a b C) where
@@ -127,8 +126,13 @@ module _ (M : Objects) (P : Rules) where
           let x = are.complete c arc.from in
           let n = at_contains L x.0 x.1 in
           let w = arc_written c x.0 t e x.2 arc in
-          let r : IsArcEntry M P c w.arc = record { piece = t; target = e; arc = arc; named = w.named;
-              length_is = w.entry.length_is ∙ ap length w.to } in
+          let r : IsArcEntry M P c w.arc = record {
+            piece = t;
+            target = e;
+            arc = arc;
+            named = w.named;
+            length_is = w.entry.length_is ∙ ap length w.to;
+          } in
           let g = arc_target M P c x.0 x.2 w.arc r in
           let y = are.complete e arc.to.holds in
           let m = at_contains L y.0 y.1 in

@@ -293,12 +293,7 @@ fn holds_from(places: &[Place], claim: &Claim, number: Option<u128>) -> bool
 
 /// Whether the cost is at most the number and what it costs on a piece with these places up to each step that ends at
 /// the node.
-fn holds_at_ends(
-    places: &[Place],
-    node: NodeId,
-    cost: Option<u128>,
-    number: Option<u128>,
-) -> bool
+fn holds_at_ends(places: &[Place], node: NodeId, cost: Option<u128>, number: Option<u128>) -> bool
     ensures yes { IsTrue result → HoldsAtEnds node cost number places.now }
     ensures no { IsFalse result → HoldsAtEnds node cost number places.now → ⊥ }
 {

@@ -35,4 +35,4 @@ returns g c =
     subst (λ (l : List (Option ℕ)). IfOk r (λ yes. IsTrue yes ↔ IsCertificate M Q a b route l)) c.items.ensures
     (subst (λ (O : Objects). IfOk r (λ yes. IsTrue yes ↔ IsCertificate O Q a b route c.items.result.now)) world
     (subst (λ (P : Rules). IfOk r (λ yes. IsTrue yes ↔ IsCertificate N P a b route c.items.result.now)) profile
-        c.is_shown.ensures))
+    c.is_shown.ensures))

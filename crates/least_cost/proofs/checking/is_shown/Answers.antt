@@ -10,7 +10,7 @@ returns-in-Some g c =
     let M = g.M.World.objects c.args.network.now.world.now in
     let P = g.P.Profile.rules c.args.network.now.profile in
     subst (λ (d : Option (List Step)). IfOk c.shows_route.result
-        (λ yes. IsTrue yes ↔ IsCertificate M P c.args.a c.args.b d c.args.numbers.now))
+    (λ yes. IsTrue yes ↔ IsCertificate M P c.args.a c.args.b d c.args.numbers.now))
     (sym (ap option_copied c.in-Some.is)) c.shows_route.ensures
 
 pub returns-in-None : goal.returns-in-None
@@ -18,5 +18,5 @@ returns-in-None g c =
     let M = g.M.World.objects c.args.network.now.world.now in
     let P = g.P.Profile.rules c.args.network.now.profile in
     subst (λ (d : Option (List Step)). IfOk c.shows.result
-        (λ yes. IsTrue yes ↔ IsCertificate M P c.args.a c.args.b d c.args.numbers.now))
+    (λ yes. IsTrue yes ↔ IsCertificate M P c.args.a c.args.b d c.args.numbers.now))
     (sym (ap option_copied c.in-None.is)) c.shows.ensures

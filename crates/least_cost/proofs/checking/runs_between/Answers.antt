@@ -30,7 +30,7 @@ returns-then-begins-clause-no g c f_is l =
     let last = c.step_of-last in
     let at = last.ensures in
     c.is_node-ends.ensures.no f_is (c.head.ensures ∙ head_of_drive M P c.args.a c.args.b d c.step_of-first.result
-        last.result c.step_of-first.ensures at l)
+    last.result c.step_of-first.ensures at l)
 
 pub returns-else-begins-clause-no : goal.returns-else-begins-clause-no
 returns-else-begins-clause-no g c f_is l =
@@ -40,4 +40,4 @@ returns-else-begins-clause-no g c f_is l =
     let last = c.step_of-last in
     let at = last.ensures in
     c.is_node-begins.ensures.no c.if-begins.false (c.tail.ensures ∙ tail_of_drive M P c.args.a c.args.b d
-        c.step_of-first.result last.result c.step_of-first.ensures at l)
+    c.step_of-first.result last.result c.step_of-first.ensures at l)

@@ -11,8 +11,7 @@ returns-then-not-are_as_many g c =
     let P = g.P.Profile.rules c.args.network.now.profile in
     let spots = c.args.spots.now in
     let m = c.args.claim.now in
-    let o = c.name_order.ensures in
-    (
+    let o = c.name_order.ensures in (
       λ t. cc,
       λ cert. absurd (c.are_as_many.ensures.no c.if-not-are_as_many.true
           (counted M P o.names o.lists o.list_ties m.a m.b m.cost (map at_of spots) c.requires c.args.numbers.now cert
@@ -38,8 +37,7 @@ returns g c =
     let spots = c.args.spots.now in
     let m = c.args.claim.now in
     let o = c.name_order.ensures in
-    let count = c.are_as_many.ensures.yes c.if-not-are_as_many.false ∙ sym (length-map spots at_of) in
-    (
+    let count = c.are_as_many.ensures.yes c.if-not-are_as_many.false ∙ sym (length-map spots at_of) in (
       λ t. certifies M P o.names o.lists o.list_ties m.a m.b m.cost (map at_of spots) c.requires c.args.numbers.now
           count (c.in_ok-holds.ensures.yes t),
       λ cert. not_refused c.in_ok-holds.holds (λ f. c.in_ok-holds.ensures.no f

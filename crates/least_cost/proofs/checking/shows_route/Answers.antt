@@ -10,8 +10,7 @@ pub returns : goal.returns
 returns g c =
     let M = g.M.World.objects c.args.network.now.world.now in
     let P = g.P.Profile.rules c.args.network.now.profile in
-    let same = c.drive_cost-cost.ensures in
-    (
+    let same = c.drive_cost-cost.ensures in (
       λ t. (
         c.in_ok-legal.ensures.0 c.if-not-legal.false,
         subst (λ (v : Option ℕ). IsCertified M P c.args.a c.args.b v c.args.numbers.now) same

@@ -1,4 +1,4 @@
-use Rattle.std.proofs.Common.{◌≡◌, ◌∙◌, length, sym, ap, arith}
+use Rattle.std.proofs.Common.{◌∙◌, sym, ap, arith}
 use Rattle.context_search.specs.declared.spots.Spot.{Spot}
 use Rattle.context_search.specs.Marks.{At}
 use Rattle.least_cost.proofs.CheckTables.{numbers_count, read_is, starts_read, starts_back}
@@ -17,7 +17,7 @@ returns-clause-yes c yes_is x at none =
     starts_read t.spots.now t.numbers.now t.costs.now c.requires.numbered c.args.number x
     c.index-numbered-number.result c.requires.within c.index-numbered-number.is at m.a m.b m.cost c.number_of.result
     c.items-places.result.now c.number_of.ensures (c.items-places.ensures ∙ ap (λ (z : Spot). z.piece.now.places)
-        (sym c.index-numbered-number.is)) (c.holds_at_starts.ensures.yes yes_is)
+    (sym c.index-numbered-number.is)) (c.holds_at_starts.ensures.yes yes_is)
 
 pub returns-clause-no : goal.returns-clause-no
 returns-clause-no c no_is x at h =
@@ -27,11 +27,11 @@ returns-clause-no c no_is x at h =
     let same = read_is t.spots.now t.numbers.now t.costs.now c.requires.numbered c.args.number x s.result
     c.requires.within s.is at in
     let empty = ap (λ (y : At). y.context.before) same ∙ ap (λ (z : Spot). z.context.now.before) s.is
-      ∙ c.is_alone.ensures.yes c.if-not-is_alone.false in
+    ∙ c.is_alone.ensures.yes c.if-not-is_alone.false in
     c.holds_at_starts.ensures.no no_is (starts_back t.spots.now t.numbers.now t.costs.now c.requires.numbered
-        c.args.number x s.result c.requires.within s.is at m.a m.b m.cost c.number_of.result
-        c.items-places.result.now c.number_of.ensures (c.items-places.ensures
-        ∙ ap (λ (z : Spot). z.piece.now.places) (sym s.is)) (h empty))
+    c.args.number x s.result c.requires.within s.is at m.a m.b m.cost c.number_of.result
+    c.items-places.result.now c.number_of.ensures (c.items-places.ensures
+    ∙ ap (λ (z : Spot). z.piece.now.places) (sym s.is)) (h empty))
 
 pub returns-then-not-is_alone-clause-yes : goal.returns-then-not-is_alone-clause-yes
 returns-then-not-is_alone-clause-yes c yes_is x at none =
@@ -40,4 +40,4 @@ returns-then-not-is_alone-clause-yes c yes_is x at none =
     let same = read_is t.spots.now t.numbers.now t.costs.now c.requires.numbered c.args.number x s.result
     c.requires.within s.is at in
     absurd (c.is_alone.ensures.no c.if-not-is_alone.true (ap (λ (z : Spot). z.context.now.before) (sym s.is)
-        ∙ ap (λ (y : At). y.context.before) (sym same) ∙ none))
+    ∙ ap (λ (y : At). y.context.before) (sym same) ∙ none))

@@ -9,4 +9,4 @@ use Rattle.least_cost.proofs.conditions.holds_at_starts.Given as goal
 abbrev pub invariant-loop-step : goal.invariant-loop-step
 invariant-loop-step l = (i : ℕ) → i < l.step → BeginsBy l.places i l.claim.a
     → AtMost l.number (Some (places_cost (drop i l.places)))
-        × HoldsAtEnds l.claim.b l.claim.cost (Some 0) (drop i l.places)
+    × HoldsAtEnds l.claim.b l.claim.cost (Some 0) (drop i l.places)

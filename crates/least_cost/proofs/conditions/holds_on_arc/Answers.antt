@@ -34,8 +34,8 @@ returns-then-goes_on-clause-yes c t_is x at =
     c.index-numbered-to.is (c.in_ok-to.ensures.leads x at) c.number_of-from.ensures c.number_of-limit.ensures
     c.sum_of-sum.ensures (c.is_at_most-goes_on.ensures.yes c.if-goes_on.true)
     (ends_read c.args.claim.now.b c.args.claim.now.cost c.number_of-from.result c.items-places.result.now
-        c.index-numbered-to.result.piece.now.places (c.items-places.ensures
-        ∙ ap (λ (z : Spot). z.piece.now.places) (sym c.index-numbered-to.is)) (c.holds_at_ends-ends.ensures.yes t_is))
+    c.index-numbered-to.result.piece.now.places (c.items-places.ensures
+    ∙ ap (λ (z : Spot). z.piece.now.places) (sym c.index-numbered-to.is)) (c.holds_at_ends-ends.ensures.yes t_is))
 
 pub returns-then-goes_on-clause-no : goal.returns-then-goes_on-clause-no
 returns-then-goes_on-clause-no c f_is x at h =
@@ -47,8 +47,8 @@ returns-then-goes_on-clause-no c f_is x at h =
     c.index-numbered-to.is (c.in_ok-to.ensures.leads x at) c.number_of-from.ensures c.number_of-limit.ensures
     c.sum_of-sum.ensures h in
     c.holds_at_ends-ends.ensures.no f_is (ends_back c.args.claim.now.b c.args.claim.now.cost c.number_of-from.result
-        c.items-places.result.now c.index-numbered-to.result.piece.now.places (c.items-places.ensures
-        ∙ ap (λ (z : Spot). z.piece.now.places) (sym c.index-numbered-to.is)) ends)
+    c.items-places.result.now c.index-numbered-to.result.piece.now.places (c.items-places.ensures
+    ∙ ap (λ (z : Spot). z.piece.now.places) (sym c.index-numbered-to.is)) ends)
 
 pub returns-else-goes_on-clause-no : goal.returns-else-goes_on-clause-no
 returns-else-goes_on-clause-no c f x at h =
@@ -56,7 +56,7 @@ returns-else-goes_on-clause-no c f x at h =
     let o = c.name_order.ensures in
     c.is_at_most-goes_on.ensures.no c.if-goes_on.false
     (over_goes_on t.spots.now t.numbers.now t.costs.now c.requires.numbered o.names o.lists c.args.claim.now.b
-        c.args.claim.now.cost c.args.number c.in_ok-to.to x c.args.arc c.index-numbered-to.result
-        c.number_of-limit.result c.number_of-from.result c.sum_of-sum.result c.in_ok-to.ensures.within
-        c.index-numbered-to.is (c.in_ok-to.ensures.leads x at) c.number_of-from.ensures c.number_of-limit.ensures
-        c.sum_of-sum.ensures h)
+    c.args.claim.now.cost c.args.number c.in_ok-to.to x c.args.arc c.index-numbered-to.result
+    c.number_of-limit.result c.number_of-from.result c.sum_of-sum.result c.in_ok-to.ensures.within
+    c.index-numbered-to.is (c.in_ok-to.ensures.leads x at) c.number_of-from.ensures c.number_of-limit.ensures
+    c.sum_of-sum.ensures h)

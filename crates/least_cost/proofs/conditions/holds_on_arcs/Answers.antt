@@ -17,7 +17,7 @@ holds_on_arc-requires-clause-has c x at =
     c.requires.within s.is at in
     subst (λ (l : List TurnArc). Contains l c.arc_of.result)
     (c.items-arcs.ensures ∙ ap (λ (z : Spot). z.context.now.arcs) (sym s.is)
-        ∙ ap (λ (y : At). y.context.arcs) (sym same))
+    ∙ ap (λ (y : At). y.context.arcs) (sym same))
     (contains_at c.items-arcs.result.now c.loop-place.place c.arc_of.result c.arc_of.ensures)
 
 pub loop-place-preserved : goal.loop-place-preserved
@@ -29,7 +29,7 @@ loop-place-preserved c k x arc h at_arc at = elim (cases_lt k c.loop-place.place
       (ap (slice_get c.items-arcs.result.now) (sym e) ∙ at_arc) c.arc_of.ensures in
       let t = c.args.numbered.now in
       subst (λ (z : TurnArc). HoldsOnArc (map at_of t.spots.now) t.numbers.now c.args.claim.now.b
-          c.args.claim.now.cost c.args.number x z) (sym one) (c.in_ok-holds.ensures.yes c.if-not-holds.false x at)
+      c.args.claim.now.cost c.args.number x z) (sym one) (c.in_ok-holds.ensures.yes c.if-not-holds.false x at)
 ]
 
 pub returns-then-not-holds-clause-no : goal.returns-then-not-holds-clause-no
@@ -40,7 +40,7 @@ returns-then-not-holds-clause-no c f x at h =
     c.requires.within s.is at in
     let has = subst (λ (l : List TurnArc). Contains l c.arc_of.result)
     (c.items-arcs.ensures ∙ ap (λ (z : Spot). z.context.now.arcs) (sym s.is)
-        ∙ ap (λ (y : At). y.context.arcs) (sym same))
+    ∙ ap (λ (y : At). y.context.arcs) (sym same))
     (contains_at c.items-arcs.result.now c.loop-place.place c.arc_of.result c.arc_of.ensures) in
     c.in_ok-holds.ensures.no c.if-not-holds.true x at (h c.arc_of.result has)
 
@@ -51,7 +51,7 @@ returns-clause-yes c t_is x arc at has =
     let same = read_is t.spots.now t.numbers.now t.costs.now c.requires.numbered c.args.number x s.result
     c.requires.within s.is at in
     let stands = at_contains c.items-arcs.result.now arc (subst (λ (l : List TurnArc). Contains l arc)
-        (ap (λ (y : At). y.context.arcs) same ∙ ap (λ (z : Spot). z.context.now.arcs) s.is
-        ∙ sym c.items-arcs.ensures) has) in
+    (ap (λ (y : At). y.context.arcs) same ∙ ap (λ (z : Spot). z.context.now.arcs) s.is
+    ∙ sym c.items-arcs.ensures) has) in
     let h = slice_get_within c.items-arcs.result.now stands.0 arc stands.1 in
     c.loop-place.invariant stands.0 x arc (omega arith) stands.1 at
