@@ -1,9 +1,8 @@
 -- The number that a list gives to a context, by the names of its pieces.
-use Rattle.std.proofs.Common.{◌≡◌, ℕ, zero, suc, ◌+◌, ◌<◌, Bool, true, false, cond, List, [], ◌∷◌, ◌++◌, length, map}
-use Rattle.std.proofs.Common.{Option, Some, None, slice_get, Contains, IsTrue, Ordering, inl, inr, refl, sym, ap, ◌∙◌}
+use Rattle.std.proofs.Common.{◌≡◌, ℕ, zero, suc, cond, List, [], ◌∷◌, ◌++◌, length, map}
+use Rattle.std.proofs.Common.{Option, Some, None, slice_get, IsTrue, inl, inr, refl, sym, ap, ◌∙◌}
 use Rattle.std.proofs.Common.{subst, arith}
 use Rattle.std.specs.Ordering.{is_eq, is_lt}
-use Rattle.std.specs.declared.cmp.Ordering.TheVariants.{Equal}
 use Rattle.std.specs.Cmp.{IsTotalOrder}
 use Rattle.std.specs.FinMap.{IsAntisymmetric}
 use Rattle.std.proofs.lemmas.Cmp.{tied_itself}
@@ -11,10 +10,10 @@ use Rattle.std.proofs.lemmas.List.{map-append}
 use Rattle.road_base.specs.Objects.{Objects}
 use Rattle.ordered_lists.specs.Orders.{rises}
 use Rattle.ordered_lists.proofs.Splits.{same_last}
-use Rattle.ordered_lists.proofs.ListMembers.{In, in_at}
+use Rattle.ordered_lists.proofs.ListMembers.{in_at}
 use Rattle.ordered_lists.proofs.ListPlaces.{one_stands}
 use Rattle.ordered_lists.proofs.Comparisons.{eq_cases, not_itself}
-use Rattle.ordered_lists.proofs.AscendingLists.{Below, Climbs, climbs}
+use Rattle.ordered_lists.proofs.AscendingLists.{Climbs, climbs}
 use Rattle.road_model.specs.declared.lists.PieceName.{PieceName}
 use Rattle.road_model.specs.Rules.{Rules}
 use Rattle.road_model.specs.Pieces.{Span}

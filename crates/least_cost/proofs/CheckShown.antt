@@ -1,5 +1,5 @@
 -- What holds everywhere of the numbers of a list certifies the cost, and the other way round.
-use Rattle.std.proofs.Common.{◌≡◌, ℕ, ◌+◌, ◌-◌, ◌≤◌, List, [], ◌∷◌, ◌++◌, length, map, Option, Some, None, slice_get}
+use Rattle.std.proofs.Common.{◌≡◌, ℕ, ◌+◌, ◌-◌, ◌≤◌, List, [], ◌∷◌, ◌++◌, length, map, Option, Some, slice_get}
 use Rattle.std.proofs.Common.{Contains, IsTrue, IsFalse, Bool, true, false, take, drop, refl, sym, ap, ◌∙◌, subst}
 use Rattle.std.proofs.Common.{arith}
 use Rattle.std.specs.Cmp.{IsTotalOrder}
@@ -31,7 +31,7 @@ use Rattle.context_search.proofs.SearchSpots.{map_at}
 use Rattle.context_search.proofs.SearchTargets.{spot_named, arc_of, arc_target}
 use Rattle.least_cost.specs.Costs.{cost_of, plus}
 use Rattle.least_cost.specs.PlaceCosts.{places_cost}
-use Rattle.least_cost.specs.Certified.{AtMost, Certified, Agrees, IsCertified}
+use Rattle.least_cost.specs.Certified.{AtMost, IsCertified}
 use Rattle.least_cost.specs.Shown.{number_at, number_in, HoldsAtStarts, HoldsOver, HoldsOnArc}
 use Rattle.least_cost.specs.Shown.{HoldsEverywhere}
 use Rattle.least_cost.proofs.CheckNumbers.{names_of, number_for, number_found, spot_names}

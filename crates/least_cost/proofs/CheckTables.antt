@@ -1,13 +1,11 @@
 -- Contexts with their numbers and the costs of their last pieces, by their places.
-use Rattle.std.proofs.Common.{◌≡◌, ℕ, zero, suc, ◌+◌, ◌-◌, ◌<◌, List, [], ◌∷◌, length, map, Option, Some, None}
-use Rattle.std.proofs.Common.{slice_get, get_or, Contains, IsTrue, inl, inr, refl, sym, ap, ◌∙◌, subst, arith}
+use Rattle.std.proofs.Common.{◌≡◌, ℕ, zero, suc, ◌<◌, List, [], ◌∷◌, length, map, Option, Some}
+use Rattle.std.proofs.Common.{slice_get, get_or, IsTrue, inl, inr, refl, sym, ap, ◌∙◌, subst, arith}
 use Rattle.std.specs.Ordering.{is_lt}
 use Rattle.std.specs.Cmp.{IsTotalOrder}
 use Rattle.std.proofs.lemmas.Bool.{cases_lt}
 use Rattle.std.proofs.lemmas.List.{length-map}
-use Rattle.std.proofs.lemmas.Option.{slice_get_within}
 use Rattle.road_base.specs.declared.ids.NodeId.{NodeId}
-use Rattle.ordered_lists.specs.Orders.{rises}
 use Rattle.ordered_lists.proofs.ListMembers.{in_at}
 use Rattle.ordered_lists.proofs.ListPlaces.{one_stands}
 use Rattle.ordered_lists.proofs.Comparisons.{not_itself}
@@ -16,7 +14,7 @@ use Rattle.road_model.specs.declared.lists.Place.{Place}
 use Rattle.road_model.specs.declared.lists.TurnArc.{TurnArc}
 use Rattle.road_model.specs.Orders.{name_cmp, names_cmp}
 use Rattle.context_search.specs.declared.spots.Spot.{Spot}
-use Rattle.context_search.specs.Marks.{At, at_of, key_of, key_cmp, names_behind}
+use Rattle.context_search.specs.Marks.{At, at_of, key_of, key_cmp}
 use Rattle.context_search.specs.Visits.{LeadsBy}
 use Rattle.context_search.proofs.SearchKeys.{key_total}
 use Rattle.context_search.proofs.SearchSpots.{map_at, spot_read}

@@ -1,24 +1,23 @@
 -- The cost of a piece's steps, by the places that are written of it.
-use Rattle.std.proofs.Common.{◌≡◌, ℕ, zero, suc, ◌+◌, ◌-◌, ◌<◌, ◌≤◌, List, [], ◌∷◌, length, Option, Some, None}
-use Rattle.std.proofs.Common.{slice_get, take, drop, refl, sym, ap, ◌∙◌, subst, arith}
+use Rattle.std.proofs.Common.{◌≡◌, ℕ, zero, suc, ◌+◌, ◌-◌, ◌<◌, ◌≤◌, List, [], ◌∷◌, length, Some}
+use Rattle.std.proofs.Common.{slice_get, take, drop, refl, sym, ap, ◌∙◌, arith}
 use Rattle.std.proofs.lemmas.List.{take_all, length-take, length-drop}
 use Rattle.std.proofs.lemmas.Option.{slice_get_within}
 use Rattle.road_base.specs.declared.ids.WayId.{WayId}
 use Rattle.road_base.specs.declared.ids.Step.{Step}
-use Rattle.road_base.specs.declared.location.Location.{Location}
 use Rattle.road_base.specs.Objects.{Objects}
-use Rattle.ordered_lists.proofs.ListPlaces.{some_at, one_stands}
+use Rattle.ordered_lists.proofs.ListPlaces.{one_stands}
 use Rattle.road_model.specs.declared.lists.Place.{Place}
 use Rattle.road_model.specs.declared.lists.Piece.{Piece}
 use Rattle.road_model.specs.Rules.{Rules}
 use Rattle.road_model.specs.Lines.{tail_of, head_of}
-use Rattle.road_model.specs.Pieces.{Span, IsPiece, spell}
+use Rattle.road_model.specs.Pieces.{spell}
 use Rattle.road_model.specs.Blocks.{IsPieceEntry}
 use Rattle.road_model.proofs.FilePlaces.{length-steps}
-use Rattle.context_search.specs.Searching.{BeginsAt, StopsAt, within_piece}
+use Rattle.context_search.specs.Searching.{within_piece}
 use Rattle.context_search.proofs.SearchEnds.{begins_at, stops_at}
 use Rattle.least_cost.specs.Costs.{plus, cost_of, step_cost_of, cost_between, location_of, location_in, cost_by}
-use Rattle.least_cost.specs.PlaceCosts.{first_cost, places_cost}
+use Rattle.least_cost.specs.PlaceCosts.{places_cost}
 
 -- each step leads from its place to the next one
 pub record LeadAlong (M : Objects) (steps : List Step) (places : List Place) : Type 0 where

@@ -1,6 +1,6 @@
 -- Costs that are added up one behind another.
-use Rattle.std.proofs.Common.{◌≡◌, ℕ, zero, suc, ◌+◌, ◌*◌, ◌<◌, ◌≤◌, List, [], ◌∷◌, length, Option, Some, None, get_or}
-use Rattle.std.proofs.Common.{refl, sym, ap, ◌∙◌, arith, drop, subst, zero-add}
+use Rattle.std.proofs.Common.{◌≡◌, ℕ, ◌+◌, ◌<◌, ◌≤◌, List, [], ◌∷◌, length, Some, None, get_or}
+use Rattle.std.proofs.Common.{refl, sym, ap, ◌∙◌, arith, drop}
 use Rattle.std.proofs.lemmas.List.{drop_more, at_drop_all, length-drop}
 use Rattle.road_base.specs.declared.ids.Step.{Step}
 use Rattle.road_base.specs.Objects.{Objects}

@@ -1,6 +1,4 @@
-use Rattle.std.proofs.Common.{ℕ, ◌+◌, ◌<◌, inl, inr, arith, subst}
-use Rattle.std.proofs.lemmas.Bool.{cases_lt}
-use Rattle.context_search.specs.Ends.{BeginsBy}
+use Rattle.std.proofs.Common.{arith}
 use Rattle.least_cost.proofs.CheckPlaces.{starts_hold, starts_from}
 use Rattle.least_cost.proofs.conditions.holds_at_starts.Goals as goal
 

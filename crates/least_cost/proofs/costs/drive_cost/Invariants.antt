@@ -1,4 +1,4 @@
-use Rattle.std.proofs.Common.{◌≡◌, ◌≤◌, ◌+◌, ◌*◌, ◌^◌, Some, drop}
+use Rattle.std.proofs.Common.{◌≡◌, ◌≤◌, ◌*◌, ◌^◌, Some, drop}
 use Rattle.least_cost.specs.Costs.{plus, cost_of}
 use Rattle.least_cost.proofs.costs.drive_cost.Given as goal
 

@@ -1,4 +1,4 @@
-use Rattle.std.proofs.Common.{◌≡◌, ◌+ℤ◌, ◌-ℤ◌, arith, ap, ◌∙◌}
+use Rattle.std.proofs.Common.{◌≡◌, ◌+ℤ◌, ◌-ℤ◌, arith, ◌∙◌}
 use Rattle.std.specs.Prelude.{unsigned_abs}
 use Rattle.least_cost.specs.Costs.{lon_difference, narrowed, straight, cost_between}
 use Rattle.least_cost.proofs.costs.step_cost.Goals as goal

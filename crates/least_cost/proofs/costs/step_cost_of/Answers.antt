@@ -1,5 +1,4 @@
-use Rattle.std.proofs.Common.{◌≡◌, ◌∙◌, sym, ap, Option, Some, None}
-use Rattle.road_base.specs.declared.location.Location.{Location}
+use Rattle.std.proofs.Common.{◌≡◌, ◌∙◌, sym, ap, Some, None}
 use Rattle.road_model.specs.Lines.{tail_of, head_of}
 use Rattle.least_cost.specs.Costs.{location_of, cost_by, step_cost_of}
 use Rattle.least_cost.proofs.costs.step_cost_of.Goals as goal
