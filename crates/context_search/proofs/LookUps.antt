@@ -1,5 +1,5 @@
 -- The context of some names among those of a piece, of pieces and of blocks.
-use Rattle.std.proofs.Common.{◌≡◌, List, map, Option, Some, None, IfSome, IfNone, Contains, refl, sym, ◌∙◌, ap, subst}
+use Rattle.std.proofs.Common.{◌≡◌, List, Option, Some, None, IfSome, IfNone, Contains, sym, ◌∙◌, ap, subst}
 use Rattle.std.specs.Prelude.{◌↔◌}
 use Rattle.std.specs.FinMap.{FinMap, get, values}
 use Rattle.ordered_lists.proofs.ListMembers.{contains_map, contains_from_map, contains_flat, contains_from_flat}

@@ -1,5 +1,5 @@
 -- What stays when one context more is visited.
-use Rattle.std.proofs.Common.{◌≡◌, ◌⊎◌, inl, inr, ℕ, ◌+◌, ◌*◌, ◌<◌, ◌≤◌, List, [], ◌∷◌, ◌++◌, length}
+use Rattle.std.proofs.Common.{◌≡◌, ◌⊎◌, inl, inr, ℕ, ◌+◌, ◌<◌, ◌≤◌, List, [], ◌∷◌, ◌++◌, length}
 use Rattle.std.proofs.Common.{Option, Some, None, false, slice_get, Contains, refl, sym, ◌∙◌}
 use Rattle.std.proofs.Common.{ap, subst, arith, take, get_or, MatchOption, Result, Ok, Err, OnOk}
 use Rattle.std.specs.Prelude.{is_some}

@@ -16,7 +16,7 @@ use Rattle.road_model.specs.Naming.{OnePiece}
 use Rattle.context_search.specs.declared.ends.Begin.{Begin}
 use Rattle.context_search.specs.declared.ends.Goal.{Goal}
 use Rattle.context_search.specs.declared.marks.TreeVisit.{TreeVisit}
-use Rattle.context_search.specs.Marks.{At, at_of, key_of}
+use Rattle.context_search.specs.Marks.{At, at_of}
 use Rattle.context_search.specs.Searching.{BeginsAt, StopsAt, IsSearched}
 use Rattle.context_search.specs.Sought.{IsSpot, AreSpots, AreStarts, AreGoals}
 use Rattle.context_search.specs.Visits.{goal_in, IsVisited, IsClosed, target_key}

@@ -1,5 +1,5 @@
 -- The visits with which drives begin.
-use Rattle.std.proofs.Common.{◌≡◌, inl, inr, ℕ, ◌+◌, ◌<◌, ◌≤◌, List, [], length, Some, slice_get, Contains}
+use Rattle.std.proofs.Common.{◌≡◌, inl, inr, ℕ, ◌+◌, ◌<◌, ◌≤◌, List, [], length, Contains}
 use Rattle.std.proofs.Common.{sym, ◌∙◌, ap, subst, take, get_or}
 use Rattle.std.proofs.lemmas.List.{take_more, take_all}
 use Rattle.ordered_lists.proofs.ListMembers.{contains_more}

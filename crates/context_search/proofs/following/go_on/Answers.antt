@@ -1,4 +1,4 @@
-use Rattle.std.proofs.Common.{◌≡◌, ◌∙◌, sym, ap, Contains, get_or, subst, pos}
+use Rattle.std.proofs.Common.{◌∙◌, sym, ap, Contains, get_or, subst, pos}
 use Rattle.std.proofs.lemmas.Option.{slice_get_within}
 use Rattle.std.proofs.lemmas.List.Elements.{Contains-get_or}
 use Rattle.ordered_lists.proofs.ListPlaces.{one_stands}

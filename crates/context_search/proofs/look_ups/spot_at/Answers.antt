@@ -2,7 +2,7 @@ use Rattle.std.proofs.Common.{sym, subst, map, List, Contains, IsTrue}
 use Rattle.graph_blocks.specs.Lent.{map_of}
 use Rattle.road_model.specs.declared.lists.Piece.{Piece}
 use Rattle.ordered_lists.specs.Orders.{rises}
-use Rattle.road_model.specs.Orders.{name_cmp, names_cmp}
+use Rattle.road_model.specs.Orders.{name_cmp}
 use Rattle.context_search.proofs.LookUps.{in_blocks, none_in_blocks, no_block}
 use Rattle.context_search.proofs.look_ups.spot_at.Goals as goal
 

@@ -1,7 +1,6 @@
 use Rattle.std.proofs.Common.{◌≡◌, length, arith, sym, ap, ◌∙◌, subst}
 use Rattle.std.specs.Ordering.{ordering_then}
 use Rattle.std.specs.Cmp.Lexicographic.{slice_cmp}
-use Rattle.context_search.specs.declared.marks.ContextName.{ContextName}
 use Rattle.context_search.specs.declared.marks.TreeVisit.{TreeVisit}
 use Rattle.context_search.specs.Marks.{at_of, key_of}
 use Rattle.context_search.specs.Visits.{Marks, AreKnown, is_visited, names_in}
