@@ -154,9 +154,12 @@ fn weekdays_are_those_of_the_table(rt: HostRuntime) -> Result<(), Fail> {
     Ok(())
 }
 
-/// A value, a moment, and what the value says at it: `unread`, `quiet` where no part applies, or the last part's value.
-/// The 6th of May 2024 is a Monday.
-const SAYINGS: [(&str, &str, &str); 117] = [
+/// On Monday, the 6th of May 2024.
+const HALF_PAST_EIGHT: &str = "2024-05-06T08:30";
+
+/// A value, a moment, and what the value says at it: `quiet` where no part applies, or the last part's value. The 6th
+/// of May 2024 is a Monday.
+const RANGES: [(&str, &str, &str); 39] = [
     // over midnight: the range belongs to the day on which it begins
     ("no @ (Mo-Fr 22:00-06:00)", "2024-05-11T05:00", "no"),
     ("no @ (Mo-Fr 22:00-06:00)", "2024-05-11T23:00", "quiet"),
@@ -201,6 +204,10 @@ const SAYINGS: [(&str, &str, &str); 117] = [
     ("no @ 12:00-00:00", "2024-05-08T00:00", "quiet"),
     ("no @ 07:00-09:00", "2024-05-06T07:00", "no"),
     ("no @ 07:00-09:00", "2024-05-06T09:00", "quiet"),
+];
+
+/// The same of lists, of several parts, and of what stands around them.
+const PARTS: [(&str, &str, &str); 17] = [
     // lists
     (
         "no @ (Mo,We-Th,Su 07:00-09:00,16:00-18:00)",
@@ -257,73 +264,75 @@ const SAYINGS: [(&str, &str, &str); 117] = [
     ("psv:motor @ (Mo)", "2024-05-06T12:00", "psv:motor"),
     ("für @ Mo", "2024-05-06T12:00", "für"),
     ("(no) @ Mo", "2024-05-06T12:00", "(no)"),
-    // what stays unread
-    ("", "2024-05-06T08:30", "unread"),
-    ("no", "2024-05-06T08:30", "unread"),
-    ("@ Mo", "2024-05-06T08:30", "unread"),
-    ("no @", "2024-05-06T08:30", "unread"),
-    ("no @ ()", "2024-05-06T08:30", "unread"),
-    ("no @ (", "2024-05-06T08:30", "unread"),
-    ("no @ )", "2024-05-06T08:30", "unread"),
-    ("no @ (Mo", "2024-05-06T08:30", "unread"),
-    ("no @ Mo)", "2024-05-06T08:30", "unread"),
-    ("no @ ((Mo))", "2024-05-06T08:30", "unread"),
-    ("no @ ( Mo)", "2024-05-06T08:30", "unread"),
-    ("no @ (Mo )", "2024-05-06T08:30", "unread"),
-    ("no @ Mo @ Tu", "2024-05-06T08:30", "unread"),
-    ("no way @ Mo", "2024-05-06T08:30", "unread"),
-    ("no @ PH", "2024-05-06T08:30", "unread"),
-    ("no @ (PH)", "2024-05-06T08:30", "unread"),
-    ("no @ (Mo-Fr,PH)", "2024-05-06T08:30", "unread"),
-    ("no @ (SH)", "2024-05-06T08:30", "unread"),
-    ("no @ (Jan-Mar)", "2024-05-06T08:30", "unread"),
-    ("no @ (week 1-10)", "2024-05-06T08:30", "unread"),
-    ("no @ (sunset-sunrise)", "2024-05-06T08:30", "unread"),
-    ("no @ (weight>7.5)", "2024-05-06T08:30", "unread"),
-    ("no @ (08:00-08:00)", "2024-05-06T08:30", "unread"),
-    ("no @ 24:00-06:00", "2024-05-06T08:30", "unread"),
-    ("no @ 08:00-24:01", "2024-05-06T08:30", "unread"),
-    ("no @ 08:00-25:00", "2024-05-06T08:30", "unread"),
-    ("no @ 08:60-09:00", "2024-05-06T08:30", "unread"),
-    ("no @ 8:00-9:00", "2024-05-06T08:30", "unread"),
-    ("no @ 08:00", "2024-05-06T08:30", "unread"),
-    ("no @ 08:00-", "2024-05-06T08:30", "unread"),
-    ("no @ 08:00-09:00+", "2024-05-06T08:30", "unread"),
-    ("no @ 08:00-09:00-10:00", "2024-05-06T08:30", "unread"),
-    ("no @ 08.00-09.00", "2024-05-06T08:30", "unread"),
-    ("no @ Mo-", "2024-05-06T08:30", "unread"),
-    ("no @ -Mo", "2024-05-06T08:30", "unread"),
-    ("no @ Mo-Tu-We", "2024-05-06T08:30", "unread"),
-    ("no @ mo", "2024-05-06T08:30", "unread"),
-    ("no @ MO", "2024-05-06T08:30", "unread"),
-    ("no @ Mon", "2024-05-06T08:30", "unread"),
-    ("no @ Mo,", "2024-05-06T08:30", "unread"),
-    ("no @ ,Mo", "2024-05-06T08:30", "unread"),
-    ("no @ Mo,,Tu", "2024-05-06T08:30", "unread"),
-    ("no @ Mo, Tu", "2024-05-06T08:30", "unread"),
-    ("no @ Mo - Tu", "2024-05-06T08:30", "unread"),
-    ("no @ Mo  08:00-09:00", "2024-05-06T08:30", "unread"),
-    ("no @ 08:00-09:00 Mo", "2024-05-06T08:30", "unread"),
-    ("no @ Mo Tu", "2024-05-06T08:30", "unread"),
-    ("no @ Mo 08:00-09:00 Tu", "2024-05-06T08:30", "unread"),
-    (
-        "no @ Mo 08:00-09:00, 10:00-11:00",
-        "2024-05-06T08:30",
-        "unread",
-    ),
-    ("no @ Mo\t", "2024-05-06T08:30", "unread"),
-    ("no @ Mo AND 08:00-09:00", "2024-05-06T08:30", "unread"),
-    ("off", "2024-05-06T08:30", "unread"),
-    // a part that stays unread, before, between and behind others
-    ("no @ PH; no @ Mo", "2024-05-06T08:30", "unread"),
-    ("no @ Mo; no @ PH; yes @ Mo", "2024-05-06T08:30", "unread"),
-    ("no @ Mo; no @ PH", "2024-05-06T08:30", "unread"),
-    ("no @ Mo;", "2024-05-06T08:30", "unread"),
-    ("; no @ Mo", "2024-05-06T08:30", "unread"),
-    ("no @ Mo;;yes @ Mo", "2024-05-06T08:30", "unread"),
-    (";", "2024-05-06T08:30", "unread"),
-    ("; ;", "2024-05-06T08:30", "unread"),
-    ("no @ Mo; ", "2024-05-06T08:30", "unread"),
+];
+
+/// Values that have a part of another form, or a condition that would need more than a day and a minute.
+const OTHER_FORMS: [&str; 32] = [
+    "",
+    "no",
+    "@ Mo",
+    "no @",
+    "no @ ()",
+    "no @ (",
+    "no @ )",
+    "no @ (Mo",
+    "no @ Mo)",
+    "no @ ((Mo))",
+    "no @ ( Mo)",
+    "no @ (Mo )",
+    "no @ Mo @ Tu",
+    "no way @ Mo",
+    "no @ PH",
+    "no @ (PH)",
+    "no @ (Mo-Fr,PH)",
+    "no @ (SH)",
+    "no @ (Jan-Mar)",
+    "no @ (week 1-10)",
+    "no @ (sunset-sunrise)",
+    "no @ (weight>7.5)",
+    "no @ (08:00-08:00)",
+    "no @ PH; no @ Mo",
+    "no @ Mo; no @ PH; yes @ Mo",
+    "no @ Mo; no @ PH",
+    "no @ Mo;",
+    "; no @ Mo",
+    "no @ Mo;;yes @ Mo",
+    ";",
+    "; ;",
+    "no @ Mo; ",
+];
+
+/// Values whose days or times are spelled otherwise.
+const OTHER_DAYS_AND_TIMES: [&str; 29] = [
+    "no @ 24:00-06:00",
+    "no @ 08:00-24:01",
+    "no @ 08:00-25:00",
+    "no @ 08:60-09:00",
+    "no @ 8:00-9:00",
+    "no @ 08:00",
+    "no @ 08:00-",
+    "no @ 08:00-09:00+",
+    "no @ 08:00-09:00-10:00",
+    "no @ 08.00-09.00",
+    "no @ Mo-",
+    "no @ -Mo",
+    "no @ Mo-Tu-We",
+    "no @ mo",
+    "no @ MO",
+    "no @ Mon",
+    "no @ Mo,",
+    "no @ ,Mo",
+    "no @ Mo,,Tu",
+    "no @ Mo, Tu",
+    "no @ Mo - Tu",
+    "no @ Mo  08:00-09:00",
+    "no @ 08:00-09:00 Mo",
+    "no @ Mo Tu",
+    "no @ Mo 08:00-09:00 Tu",
+    "no @ Mo 08:00-09:00, 10:00-11:00",
+    "no @ Mo\t",
+    "no @ Mo AND 08:00-09:00",
+    "off",
 ];
 
 /// What a value says at the moment of a text.
@@ -339,9 +348,30 @@ fn said<'a>(value: &'a str, at: &str) -> &'a str {
 }
 
 #[test]
-fn values_say_what_the_table_has(rt: HostRuntime) {
-    for (value, at, wanted) in SAYINGS {
+fn ranges_pass_midnight_and_sunday(rt: HostRuntime) {
+    for (value, at, wanted) in RANGES {
         assert!(rt; said(value, at) == wanted, "{value:?} at {at:?}");
+    }
+}
+
+#[test]
+fn parts_are_read(rt: HostRuntime) {
+    for (value, at, wanted) in PARTS {
+        assert!(rt; said(value, at) == wanted, "{value:?} at {at:?}");
+    }
+}
+
+#[test]
+fn other_forms_stay_unread(rt: HostRuntime) {
+    for value in OTHER_FORMS {
+        assert!(rt; said(value, HALF_PAST_EIGHT) == "unread", "{value:?}");
+    }
+}
+
+#[test]
+fn other_days_and_times_stay_unread(rt: HostRuntime) {
+    for value in OTHER_DAYS_AND_TIMES {
+        assert!(rt; said(value, HALF_PAST_EIGHT) == "unread", "{value:?}");
     }
 }
 
@@ -354,7 +384,7 @@ fn repeated(alloc: Global, front: &str, part: &str, times: usize) -> Result<Stri
     Ok(text)
 }
 
-/// What a long value says on Monday, the 6th of May 2024, at half past eight, with some last part behind it.
+/// Whether a long value, with some last part behind it, says this.
 fn says(
     alloc: Global,
     front: &str,
@@ -364,7 +394,7 @@ fn says(
 ) -> Result<bool, AllocError> {
     let mut value = repeated(alloc, front, part, 16_000_000 / part.len().max(1))?;
     value.push_str(last)?;
-    Ok(said(value.as_str(), "2024-05-06T08:30") == wanted)
+    Ok(said(value.as_str(), HALF_PAST_EIGHT) == wanted)
 }
 
 /// Values of sixteen megabytes are read once from front to end.
