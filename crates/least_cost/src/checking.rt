@@ -10,7 +10,7 @@ ghost use Rattle.context_search.specs.Reaching.{LeadsTo};
 ghost use Rattle.context_search.specs.Sought.{AreSpots};
 ghost use Rattle.least_cost.specs.Certified.{IsCertificate, IsCertified};
 
-use crate::conditions::{Claim, Numbered, holds_everywhere, piece_costs};
+use crate::conditions::{Claim, NumberedContexts, holds_everywhere, piece_costs};
 use crate::costs::drive_cost;
 use crate::potentials::Potentials;
 use context_search::{Spot, spots_in_order};
@@ -210,7 +210,7 @@ fn shows_over<M: World, P: Profile>(
     }
     let sums = piece_costs(alloc, spots)?;
     let costs = sums.as_slice();
-    let numbered = Numbered {
+    let numbered = NumberedContexts {
         spots,
         numbers,
         costs,

@@ -30,7 +30,7 @@ pub struct Claim {
 
 /// All contexts in order, a number at each, and the costs of their last pieces.
 #[derive(Clone, Copy)]
-pub struct Numbered<'s, 'b> {
+pub struct NumberedContexts<'s, 'b> {
     pub spots: &'s [Spot<'b>],
     pub numbers: &'s [Option<u128>],
     pub costs: &'s [u128],
@@ -50,7 +50,7 @@ pub fn piece_costs(alloc: Global, spots: &[Spot<'_>]) -> Result<Vec<u128>, NoMem
 /// Whether the numbers show the claim at each context. Goes over contexts and arcs once.
 pub fn holds_everywhere(
     alloc: Global,
-    numbered: &Numbered<'_, '_>,
+    numbered: &NumberedContexts<'_, '_>,
     claim: &Claim,
 ) -> Result<bool, NoMemory>
     requires { AreNumbered (map at_of numbered.now.spots.now) numbered.now.numbers.now numbered.now.costs.now }
@@ -76,7 +76,7 @@ pub fn holds_everywhere(
 /// Whether they do so at the context.
 fn holds_at(
     names: &mut Vec<PieceName>,
-    numbered: &Numbered<'_, '_>,
+    numbered: &NumberedContexts<'_, '_>,
     claim: &Claim,
     number: usize,
 ) -> Result<bool, NoMemory>
@@ -100,7 +100,7 @@ fn holds_at(
 }
 
 /// Whether they do so for drives that begin on the piece of the context, if it is one of a piece alone.
-fn holds_alone(numbered: &Numbered<'_, '_>, claim: &Claim, number: usize) -> bool
+fn holds_alone(numbered: &NumberedContexts<'_, '_>, claim: &Claim, number: usize) -> bool
     requires numbered { AreNumbered (map at_of numbered.now.spots.now) numbered.now.numbers.now numbered.now.costs.now }
     requires within { number < length numbered.now.spots.now }
     ensures yes { IsTrue result → (x : At)
@@ -134,7 +134,7 @@ fn is_alone(spot: &Spot<'_>) -> bool
 /// Whether they do so on all arcs from the context.
 fn holds_on_arcs(
     names: &mut Vec<PieceName>,
-    numbered: &Numbered<'_, '_>,
+    numbered: &NumberedContexts<'_, '_>,
     claim: &Claim,
     number: usize,
 ) -> Result<bool, NoMemory>
@@ -167,7 +167,7 @@ fn holds_on_arcs(
 /// Whether they do so on the arc from the context.
 fn holds_on_arc(
     names: &mut Vec<PieceName>,
-    numbered: &Numbered<'_, '_>,
+    numbered: &NumberedContexts<'_, '_>,
     claim: &Claim,
     number: usize,
     arc: TurnArc,
