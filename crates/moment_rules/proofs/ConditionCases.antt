@@ -24,7 +24,8 @@ times_next at None (Some times) e = refl
 times_next at (Some days) times e = cc
 
 -- days alone
-pub days_alone : (at : Moment) (text : List ℕ) (meant : Bool) → option_map (has_a_day at.day) (days_of text) ≡ Some meant
+pub days_alone : (at : Moment) (text : List ℕ) (meant : Bool)
+    → option_map (has_a_day at.day) (days_of text) ≡ Some meant
     → option_map (applies at) (condition_between (text, None)) ≡ Some meant
 days_alone at text meant e = days_first at (days_of text) (times_of text) meant e
 

@@ -66,7 +66,8 @@ last_next : (at : Moment) (ps : List (List ℕ)) (part : List ℕ) (others : Lis
     → value_or at (option_or (own_value at p) last) (all_said part_of others)
     ≡ option_map (last_value at) (all_said part_of ps)
 last_next at ps part others last p so_far here =
-    let first : all_said part_of (part ∷ others) ≡ option_map (λ more. p ∷ more) (all_said part_of others) = rw here refl in
+    let first : all_said part_of (part ∷ others) ≡ option_map (λ more. p ∷ more) (all_said part_of others) =
+    rw here refl in
     sym (one_before at p last (all_said part_of others))
     ∙ (sym (ap (value_or at last) first) ∙ so_far.same)
 

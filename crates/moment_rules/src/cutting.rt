@@ -22,7 +22,8 @@ pub fn cut(text: &str, stop: u8) -> (&str, Option<&str>)
 /// are more.
 pub fn one_or_two(text: &str, stop: u8) -> Option<(&str, Option<&str>)>
     requires { stop < 128 }
-    ensures some { IfSome result (λ found. one_or_two (parts stop text.now) ≡ Some (found.0.now, option_copied found.1)) }
+    ensures some { IfSome result (λ found.
+        one_or_two (parts stop text.now) ≡ Some (found.0.now, option_copied found.1)) }
     ensures none { IfNone result (one_or_two (parts stop text.now) ≡ None) }
 {
     let (first, rest) = cut(text, stop);
