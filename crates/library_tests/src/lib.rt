@@ -16,6 +16,8 @@ mod barrier_rules_tests;
 mod checkpoint_tests;
 #[cfg(test)]
 mod graph_file_tests;
+#[cfg(test)]
+mod least_cost_tests;
 pub mod makers;
 #[cfg(test)]
 mod moment_tests;
