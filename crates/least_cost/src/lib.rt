@@ -1,5 +1,17 @@
 //! Drives of least cost from one node to another, in whole numbers, each with numbers from which anyone can check that
 //! no drive costs less.
+//!
+//! `shortest` and `least` search over contexts and arcs (`searching`), from the pieces that leave the one node
+//! (`beginning`) to those that come to the other (`candidates`). Of the contexts that it has come to (`visiting`) the
+//! search goes on from the one over which a drive may cost least (`frontier`): what was driven, and the difference of
+//! latitudes that is left, which no drive costs less than. Of n contexts and arcs that it comes to, each takes the
+//! logarithm of n, with a look-up in the blocks, and memory is taken in proportion to them; the rest of the map takes
+//! nothing. The drive is put together in the time of its steps (`trails`). `least` takes one pass over all contexts
+//! besides, for a number at each (`numbers`).
+//!
+//! `check` knows no search: it takes one pass over contexts and arcs (`conditions`), each arc with a search for its
+//! target by names, and the time to judge the route. The cost of a step is found by a division of 128 bits and a whole
+//! root of 64 (`costs`).
 #![tactic(auto)]
 
 mod answers;
