@@ -27,7 +27,7 @@ use Rattle.context_search.specs.Marks.{At, key_of, key_cmp, names_behind}
 use Rattle.context_search.specs.Searching.{BeginsAt, StopsAt, within_piece}
 use Rattle.context_search.specs.Sought.{IsSpot, AreSpots}
 use Rattle.context_search.proofs.SearchKeys.{key_total}
-use Rattle.context_search.proofs.SearchSpots.{map_at}
+use Rattle.least_cost.proofs.CheckSpots.{map_at}
 use Rattle.context_search.proofs.SearchTargets.{spot_named, arc_of, arc_target}
 use Rattle.least_cost.specs.Costs.{cost_of, plus}
 use Rattle.least_cost.specs.PlaceCosts.{places_cost}

@@ -15,9 +15,9 @@ use Rattle.road_model.specs.declared.lists.TurnArc.{TurnArc}
 use Rattle.road_model.specs.Orders.{name_cmp, names_cmp}
 use Rattle.context_search.specs.declared.spots.Spot.{Spot}
 use Rattle.context_search.specs.Marks.{At, at_of, key_of, key_cmp}
-use Rattle.context_search.specs.Visits.{LeadsBy}
+use Rattle.least_cost.specs.Shown.{LeadsBy}
 use Rattle.context_search.proofs.SearchKeys.{key_total}
-use Rattle.context_search.proofs.SearchSpots.{map_at, spot_read}
+use Rattle.least_cost.proofs.CheckSpots.{map_at, spot_read}
 use Rattle.least_cost.specs.Costs.{plus}
 use Rattle.least_cost.specs.Certified.{AtMost}
 use Rattle.least_cost.specs.Shown.{number_at, number_in, piece_cost, AreNumbered, HoldsAtEnds, HoldsOver, HoldsOnArc}

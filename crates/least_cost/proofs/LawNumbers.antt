@@ -20,7 +20,7 @@ use Rattle.road_model.proofs.TotalOrders.{name_cmp_total, names_cmp_total, name_
 use Rattle.context_search.specs.declared.spots.Spot.{Spot}
 use Rattle.context_search.specs.Marks.{At, at_of, key_of, key_cmp}
 use Rattle.context_search.proofs.SearchKeys.{key_total, key_exact}
-use Rattle.context_search.proofs.SearchSpots.{map_at, spot_there}
+use Rattle.least_cost.proofs.CheckSpots.{map_at, spot_there}
 use Rattle.least_cost.specs.declared.visiting.CostVisit.{CostVisit}
 use Rattle.least_cost.specs.CostVisits.{names_at}
 use Rattle.least_cost.specs.Latitudes.{latitudes_left}

@@ -17,6 +17,7 @@ pub mod LeastRoutes
 pub mod LeastStarts
 pub mod LeastTrails
 pub mod LeastParts
+pub mod CheckSpots
 pub mod CheckWritten
 pub mod CheckNumbers
 pub mod CheckShown

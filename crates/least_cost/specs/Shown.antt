@@ -37,6 +37,12 @@ pub record HoldsOver (b : NodeId) (C from to : Option ℕ) (places : List Place)
   pub goes_on : AtMost to (plus from (Some (places_cost places)))
   pub ends : HoldsAtEnds b C from places
 
+-- the context at place n is the one to which the arc leads from x
+pub record LeadsBy (L : List At) (x : At) (a : TurnArc) (n : ℕ) : Type 0 where
+  pub to : At
+  pub at : slice_get L n ≡ Some to
+  pub named : key_of to ≡ (a.piece, names_behind x (a.length - 1))
+
 -- over the arc from context x, which stands at place n
 abbrev pub HoldsOnArc : List At → List (Option ℕ) → NodeId → Option ℕ → ℕ → At → TurnArc → Type 0
 HoldsOnArc L list b C n x arc = (m : ℕ) (to : At) → slice_get L m ≡ Some to

@@ -4,7 +4,7 @@ use Rattle.std.proofs.lemmas.List.{length-map}
 use Rattle.std.proofs.lemmas.Option.{slice_get_within}
 use Rattle.ordered_lists.proofs.ListPlaces.{some_at}
 use Rattle.context_search.specs.Marks.{at_of}
-use Rattle.context_search.proofs.SearchSpots.{map_within}
+use Rattle.least_cost.proofs.CheckSpots.{map_within}
 use Rattle.least_cost.specs.Shown.{HoldsAtContext}
 use Rattle.least_cost.proofs.conditions.holds_everywhere.Goals as goal
 

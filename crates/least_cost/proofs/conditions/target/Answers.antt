@@ -1,6 +1,6 @@
 use Rattle.std.proofs.Common.{◌∙◌, ap}
 use Rattle.context_search.specs.Marks.{at_of, names_behind}
-use Rattle.context_search.proofs.SearchSpots.{spot_read, no_target, leads_to}
+use Rattle.least_cost.proofs.CheckSpots.{spot_read, no_target, leads_to}
 use Rattle.least_cost.proofs.conditions.target.Goals as goal
 
 pub unreachable-requires : goal.unreachable-requires
