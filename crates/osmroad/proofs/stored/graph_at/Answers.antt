@@ -6,7 +6,7 @@ use Rattle.osmroad.specs.Compiled.{IsGraphOf}
 use Rattle.osmroad.proofs.stored.graph_at.Goals as goal
 
 pub graph_of-requires : goal.graph_of-requires
-graph_of-requires g c = subst IsProfile (sym c.new.ensures.profile) c.requires
+graph_of-requires g c = record { known = subst IsProfile (sym c.new.ensures.profile) c.requires }
 
 pub returns-clause-graph : goal.returns-clause-graph
 returns-clause-graph g c =
