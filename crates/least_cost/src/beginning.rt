@@ -55,7 +55,8 @@ fn begin_on<'a>(
         unreachable!()
     };
     let left = places_cost(places_from(spot.piece.places.items(), start.first));
-    search.offer(spot, left, Origin::Begins(start.first))?;
+    let whole = places_cost(spot.piece.places.items());
+    search.offer(spot, left, Origin::Begins(start.first), whole)?;
     Ok(())
 }
 

@@ -12,6 +12,7 @@ ghost use Rattle.least_cost.specs.Certified.{AtMost};
 ghost use Rattle.least_cost.specs.CostVisits.{IsVisiting, Widens, AreFollowed, IsFollowedBy};
 ghost use Rattle.least_cost.specs.CostVisits.{IsMetBy, IsOver, IsBettered, IsDone, LeadsOn, Extends, AreWaiting};
 ghost use Rattle.least_cost.specs.CostVisits.{IsFoundAfter, cost_in};
+ghost use Rattle.least_cost.specs.PlaceCosts.{places_cost};
 
 use crate::candidates::{Candidate, FoundEnd, cost_in, lesser};
 use crate::costs::places_cost;
@@ -145,36 +146,44 @@ fn follow<'a>(
 ) -> Result<(), NoMemory>
     requires order { AreInOrder (block_map blocks.now) }
     requires targets { HasTargets (contexts_in (block_map blocks.now)) }
+    requires search { IsVisiting (contexts_in (block_map blocks.now)) search.old }
     requires listed { Contains (contexts_in (block_map blocks.now)) (at_of visit.now.spot) }
     requires has { Contains (at_of visit.now.spot).context.arcs arc }
     ensures { OnOk result (IsFollowedBy (contexts_in (block_map blocks.now)) place visit.now arc search.old
         search.new) }
 {
-    let spot = target(alloc, blocks, &visit.spot, arc)?;
-    let cost = sum(visit.cost, places_cost(spot.piece.places.items()))?;
-    search.offer(spot, cost, Origin::Follows(place))?;
+    let (spot, whole) = target(alloc, search, blocks, &visit.spot, arc)?;
+    let cost = sum(visit.cost, whole)?;
+    search.offer(spot, cost, Origin::Follows(place), whole)?;
     Ok(())
 }
 
-/// The context to which the arc leads from this one.
+/// The context to which the arc leads from this one, and the cost of its piece. Those that were come to before aren't
+/// looked up in the blocks.
 fn target<'a>(
     alloc: Global,
+    search: &CostSearch<'a>,
     blocks: &View<'a, WayId, Block>,
     from: &Spot<'a>,
     arc: TurnArc,
-) -> Result<Spot<'a>, NoMemory>
+) -> Result<(Spot<'a>, u128), NoMemory>
     requires order { AreInOrder (block_map blocks.now) }
     requires targets { HasTargets (contexts_in (block_map blocks.now)) }
+    requires search { IsVisiting (contexts_in (block_map blocks.now)) search.now }
     requires listed { Contains (contexts_in (block_map blocks.now)) (at_of from.now) }
     requires has { Contains (at_of from.now).context.arcs arc }
-    ensures listed { IfOk result (λ s. Contains (contexts_in (block_map blocks.now)) (at_of s)) }
-    ensures leads { IfOk result (λ s. LeadsOn (at_of from.now) arc (at_of s)) }
+    ensures listed { IfOk result (λ r. Contains (contexts_in (block_map blocks.now)) (at_of r.0)) }
+    ensures leads { IfOk result (λ r. LeadsOn (at_of from.now) arc (at_of r.0)) }
+    ensures whole { IfOk result (λ r. r.1 ≡ places_cost r.0.piece.now.places) }
 {
     let mut names = Vec::new(alloc);
     let count = (arc.length as usize).saturating_sub(1);
     put_names(&mut names, from, count)?;
+    if let Some(visit) = search.latest_of(arc.piece, &names) {
+        return Ok((visit.spot, visit.whole));
+    }
     match spot_at(blocks, arc.piece, &names) {
-        Some(spot) => Ok(spot),
+        Some(spot) => Ok((spot, places_cost(spot.piece.places.items()))),
         None => unreachable!(),
     }
 }

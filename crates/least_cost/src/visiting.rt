@@ -4,6 +4,7 @@ ghost use Rattle.std.specs.List.Sorted.{IsPermutation};
 ghost use Rattle.context_search.specs.Marks.{at_of, key_of, key_cmp};
 ghost use Rattle.road_model.specs.Orders.{names_cmp};
 ghost use Rattle.least_cost.specs.CostVisits.{IsOffered, IsVisitedAt, IsBettered, StandsAs};
+ghost use Rattle.least_cost.specs.PlaceCosts.{places_cost};
 
 use crate::frontier::CostFrontier;
 use crate::places::latitudes_left;
@@ -16,12 +17,15 @@ use std::cmp::Ordering;
 use std::collections::BTreeMap;
 use std::marker::Model;
 
-/// A context that can be come to, the cost of a drive up to the end of its piece, and how that drive comes there.
+/// A context that can be come to, the cost of a drive up to the end of its piece, how that drive comes there, and the
+/// cost of the piece.
 #[derive(Clone, Copy, Drop)]
 pub struct CostVisit<'a> {
     pub spot: Spot<'a>,
     pub cost: u128,
     pub origin: Origin,
+    /// The cost of the whole piece, which is made once.
+    pub whole: u128,
 }
 
 /// What names a context: its piece, and those before it.
@@ -87,7 +91,14 @@ impl<'a> CostSearch<'a> {
 
     /// Comes to the context over a drive of this cost up to the end of its piece, unless one came there that costs no
     /// more.
-    pub fn offer(&mut self, spot: Spot<'a>, cost: u128, origin: Origin) -> Result<(), NoMemory>
+    pub fn offer(
+        &mut self,
+        spot: Spot<'a>,
+        cost: u128,
+        origin: Origin,
+        whole: u128,
+    ) -> Result<(), NoMemory>
+        requires whole { whole ≡ places_cost spot.piece.now.places }
         ensures { OnOk result (IsOffered spot.entry cost origin self.old self.new) }
     {
         if self.is_reached(&spot, cost) {
@@ -97,7 +108,12 @@ impl<'a> CostSearch<'a> {
         let left = latitudes_left(spot.piece.places.items(), self.to);
         self.frontier
             .push(place, cost.saturating_add(u128::from(left)))?;
-        self.visits.push(CostVisit { spot, cost, origin })?;
+        self.visits.push(CostVisit {
+            spot,
+            cost,
+            origin,
+            whole,
+        })?;
         self.latest
             .insert((spot.piece.name, spot.context.before.items()), place)?;
         Ok(())
@@ -107,7 +123,7 @@ impl<'a> CostSearch<'a> {
     fn is_reached(&self, spot: &Spot<'a>, cost: u128) -> bool
         ensures { IsTrue result → IsVisitedAt self.now.visits (key_of (at_of spot.now)) cost }
     {
-        match self.latest_of(spot) {
+        match self.latest_of(spot.piece.name, spot.context.before.items()) {
             Some(visit) => visit.cost <= cost,
             None => false,
         }
@@ -117,31 +133,36 @@ impl<'a> CostSearch<'a> {
     pub fn is_bettered(&self, visit: &CostVisit<'a>) -> bool
         ensures { IsTrue result → IsBettered self.now.visits visit.now }
     {
-        match self.latest_of(&visit.spot) {
+        let spot = visit.spot;
+        match self.latest_of(spot.piece.name, spot.context.before.items()) {
             Some(other) => other.cost < visit.cost,
             None => false,
         }
     }
 
-    /// The last visit of the context.
-    fn latest_of(&self, spot: &Spot<'a>) -> Option<CostVisit<'a>>
-        ensures { IfSome result (StandsAs self.now.visits (key_of (at_of spot.now))) }
+    /// The last visit of the context of these names.
+    pub fn latest_of(&self, piece: PieceName, before: &[PieceName]) -> Option<CostVisit<'a>>
+        ensures { IfSome result (StandsAs self.now.visits (piece, before.now)) }
     {
-        let names = (spot.piece.name, spot.context.before.items());
-        let Some(place) = self.latest.get(&names) else {
+        let Some(place) = self.latest.get(&(piece, before)) else {
             return None;
         };
-        self.named_at(*place, spot)
+        self.named_at(*place, piece, before)
     }
 
-    /// The visit at the place, if it is one of the same context.
-    fn named_at(&self, place: usize, spot: &Spot<'a>) -> Option<CostVisit<'a>>
-        ensures { IfSome result (StandsAs self.now.visits (key_of (at_of spot.now))) }
+    /// The visit at the place, if it is one of the context of these names.
+    fn named_at(
+        &self,
+        place: usize,
+        piece: PieceName,
+        before: &[PieceName],
+    ) -> Option<CostVisit<'a>>
+        ensures { IfSome result (StandsAs self.now.visits (piece, before.now)) }
     {
         let Some(visit) = self.visits.get(place) else {
             return None;
         };
-        if same_names(&visit.spot, spot) {
+        if has_names(&visit.spot, piece, before) {
             Some(*visit)
         } else {
             None
@@ -149,26 +170,26 @@ impl<'a> CostSearch<'a> {
     }
 }
 
-/// Whether the contexts have the same names.
-fn same_names(a: &Spot<'_>, b: &Spot<'_>) -> bool
-    ensures { IsTrue result → key_of (at_of a.now) ≡ key_of (at_of b.now) }
+/// Whether the context has these names.
+fn has_names(spot: &Spot<'_>, piece: PieceName, before: &[PieceName]) -> bool
+    ensures { IsTrue result → key_of (at_of spot.now) ≡ (piece, before.now) }
 {
     name_order();
-    match compare(a, b) {
+    match compare(spot, piece, before) {
         Ordering::Equal => true,
         _ => false,
     }
 }
 
-/// How the contexts stand to each other by their names.
-fn compare(a: &Spot<'_>, b: &Spot<'_>) -> Ordering
-    ensures { result ≡ key_cmp (key_of (at_of a.now)) (key_of (at_of b.now)) }
+/// How the context stands to these names.
+fn compare(spot: &Spot<'_>, piece: PieceName, before: &[PieceName]) -> Ordering
+    ensures { result ≡ key_cmp (key_of (at_of spot.now)) (piece, before.now) }
 {
     name_order();
-    a.piece.name.cmp(&b.piece.name).then(by_names(
-        a.context.before.items(),
-        b.context.before.items(),
-    ))
+    spot.piece
+        .name
+        .cmp(&piece)
+        .then(by_names(spot.context.before.items(), before))
 }
 
 /// Compares lists of names by length, then name by name.
