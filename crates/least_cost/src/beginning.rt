@@ -56,7 +56,8 @@ fn begin_on<'a>(
     };
     let left = places_cost(places_from(spot.piece.places.items(), start.first));
     let whole = places_cost(spot.piece.places.items());
-    search.offer(spot, left, Origin::Begins(start.first), whole)?;
+    let known = search.latest_of(&spot);
+    search.offer(spot, left, Origin::Begins(start.first), whole, known)?;
     Ok(())
 }
 

@@ -1,10 +1,11 @@
 //! The contexts that a search by cost has come to.
-ghost use Rattle.std.specs.Prelude.{◌≡◌, ◌<◌, ◌∷◌, [], ℕ, length, IfOk, OnOk, IfSome, IfNone, Some, IsTrue, slice_get};
+ghost use Rattle.std.specs.Prelude.{◌≡◌, ◌<◌, ◌∷◌, [], ℕ, List, length, IfOk, OnOk, IfSome, IfNone, Some, IsTrue, slice_get};
 ghost use Rattle.std.specs.List.Sorted.{IsPermutation};
 ghost use Rattle.context_search.specs.Marks.{at_of, key_of, key_cmp};
 ghost use Rattle.road_model.specs.Orders.{names_cmp};
-ghost use Rattle.least_cost.specs.CostVisits.{IsOffered, IsVisitedAt, IsBettered, StandsAs};
+ghost use Rattle.least_cost.specs.CostVisits.{IsOffered, IsVisitedAt, IsBettered, StandsAs, ContextNames};
 ghost use Rattle.least_cost.specs.PlaceCosts.{places_cost};
+ghost use Rattle.least_cost.specs.declared.visiting.CostVisit.{CostVisit};
 
 use crate::frontier::CostFrontier;
 use crate::places::latitudes_left;
@@ -24,7 +25,7 @@ pub struct CostVisit<'a> {
     pub spot: Spot<'a>,
     pub cost: u128,
     pub origin: Origin,
-    /// The cost of the whole piece, which is made once.
+    /// The cost of the whole piece, which is made once for a context.
     pub whole: u128,
 }
 
@@ -89,19 +90,21 @@ impl<'a> CostSearch<'a> {
         self.frontier.pop()
     }
 
-    /// Comes to the context over a drive of this cost up to the end of its piece, unless one came there that costs no
-    /// more.
+    /// Comes to the context over a drive of this cost up to the end of its piece, unless the visit that is known of it
+    /// costs no more.
     pub fn offer(
         &mut self,
         spot: Spot<'a>,
         cost: u128,
         origin: Origin,
         whole: u128,
+        known: Option<CostVisit<'a>>,
     ) -> Result<(), NoMemory>
         requires whole { whole ≡ places_cost spot.piece.now.places }
+        requires known { IfSome known (StandsAs self.old.visits (key_of (at_of spot))) }
         ensures { OnOk result (IsOffered spot.entry cost origin self.old self.new) }
     {
-        if self.is_reached(&spot, cost) {
+        if costs_no_more(&known, cost) {
             return Ok(());
         }
         let place = self.visits.len();
@@ -119,50 +122,35 @@ impl<'a> CostSearch<'a> {
         Ok(())
     }
 
-    /// Whether the last visit of the context costs no more than that.
-    fn is_reached(&self, spot: &Spot<'a>, cost: u128) -> bool
-        ensures { IsTrue result → IsVisitedAt self.now.visits (key_of (at_of spot.now)) cost }
-    {
-        match self.latest_of(spot.piece.name, spot.context.before.items()) {
-            Some(visit) => visit.cost <= cost,
-            None => false,
-        }
-    }
-
     /// Whether the last visit of the same context costs less.
     pub fn is_bettered(&self, visit: &CostVisit<'a>) -> bool
         ensures { IsTrue result → IsBettered self.now.visits visit.now }
     {
-        let spot = visit.spot;
-        match self.latest_of(spot.piece.name, spot.context.before.items()) {
+        match self.latest_of(&visit.spot) {
             Some(other) => other.cost < visit.cost,
             None => false,
         }
     }
 
-    /// The last visit of the context of these names.
-    pub fn latest_of(&self, piece: PieceName, before: &[PieceName]) -> Option<CostVisit<'a>>
-        ensures { IfSome result (StandsAs self.now.visits (piece, before.now)) }
+    /// The last visit of the context.
+    pub fn latest_of(&self, spot: &Spot<'a>) -> Option<CostVisit<'a>>
+        ensures { IfSome result (StandsAs self.now.visits (key_of (at_of spot.now))) }
     {
-        let Some(place) = self.latest.get(&(piece, before)) else {
+        let names = (spot.piece.name, spot.context.before.items());
+        let Some(place) = self.latest.get(&names) else {
             return None;
         };
-        self.named_at(*place, piece, before)
+        self.named_at(*place, spot)
     }
 
-    /// The visit at the place, if it is one of the context of these names.
-    fn named_at(
-        &self,
-        place: usize,
-        piece: PieceName,
-        before: &[PieceName],
-    ) -> Option<CostVisit<'a>>
-        ensures { IfSome result (StandsAs self.now.visits (piece, before.now)) }
+    /// The visit at the place, if it is one of the same context.
+    fn named_at(&self, place: usize, spot: &Spot<'a>) -> Option<CostVisit<'a>>
+        ensures { IfSome result (StandsAs self.now.visits (key_of (at_of spot.now))) }
     {
         let Some(visit) = self.visits.get(place) else {
             return None;
         };
-        if has_names(&visit.spot, piece, before) {
+        if same_names(&visit.spot, spot) {
             Some(*visit)
         } else {
             None
@@ -170,26 +158,37 @@ impl<'a> CostSearch<'a> {
     }
 }
 
-/// Whether the context has these names.
-fn has_names(spot: &Spot<'_>, piece: PieceName, before: &[PieceName]) -> bool
-    ensures { IsTrue result → key_of (at_of spot.now) ≡ (piece, before.now) }
+/// Whether a visit is known, and costs no more than that.
+fn costs_no_more(known: &Option<CostVisit<'_>>, cost: u128) -> bool
+    ensures { IsTrue result → (visits : List CostVisit) (q : ContextNames) → IfSome known.now (StandsAs visits q)
+        → IsVisitedAt visits q cost }
+{
+    match known {
+        Some(visit) => visit.cost <= cost,
+        None => false,
+    }
+}
+
+/// Whether the contexts have the same names.
+fn same_names(a: &Spot<'_>, b: &Spot<'_>) -> bool
+    ensures { IsTrue result → key_of (at_of a.now) ≡ key_of (at_of b.now) }
 {
     name_order();
-    match compare(spot, piece, before) {
+    match compare(a, b) {
         Ordering::Equal => true,
         _ => false,
     }
 }
 
-/// How the context stands to these names.
-fn compare(spot: &Spot<'_>, piece: PieceName, before: &[PieceName]) -> Ordering
-    ensures { result ≡ key_cmp (key_of (at_of spot.now)) (piece, before.now) }
+/// How the contexts stand to each other by their names.
+fn compare(a: &Spot<'_>, b: &Spot<'_>) -> Ordering
+    ensures { result ≡ key_cmp (key_of (at_of a.now)) (key_of (at_of b.now)) }
 {
     name_order();
-    spot.piece
-        .name
-        .cmp(&piece)
-        .then(by_names(spot.context.before.items(), before))
+    a.piece.name.cmp(&b.piece.name).then(by_names(
+        a.context.before.items(),
+        b.context.before.items(),
+    ))
 }
 
 /// Compares lists of names by length, then name by name.
