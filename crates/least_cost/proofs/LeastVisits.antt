@@ -147,16 +147,22 @@ grows_again l m n g h = record {
 
 module _ (spot : Spot) (cost : ℕ) (origin : Origin) where
   fresh : CostVisit
-  fresh = record { spot = spot; cost = cost; origin = origin }
+  fresh = record { spot = spot; cost = cost; origin = origin; whole = places_cost spot.piece.now.places }
 
   pub record IsFresh (v : CostVisit) : Type 0 where
     pub spot_is : v.spot ≡ spot
     pub cost_is : v.cost ≡ cost
     pub origin_is : v.origin ≡ origin
+    pub whole_is : v.whole ≡ places_cost v.spot.piece.now.places
 
   fresh_is : (v : CostVisit) → v ≡ fresh → IsFresh v
   unfolding fresh
-  fresh_is v e = record { spot_is = ap (λ w. w.spot) e; cost_is = ap (λ w. w.cost) e; origin_is = ap (λ w. w.origin) e }
+  fresh_is v e = record {
+    spot_is = ap (λ w. w.spot) e;
+    cost_is = ap (λ w. w.cost) e;
+    origin_is = ap (λ w. w.origin) e;
+    whole_is = ap (λ w. w.whole) e ∙ sym (ap (λ w. places_cost w.spot.piece.now.places) e);
+  }
 
   module _ (m n : Visiting) where
     module _ (new : IsNewVisit spot cost origin m n) where
@@ -237,6 +243,7 @@ module _ (spot : Spot) (cost : ℕ) (origin : Origin) where
           | inl old ↦ s.listed k v old
           | inr last ↦ subst (λ t. Contains L (at_of t)) (sym last.1.spot_is) listed
         ];
+        wholes = λ k v e. elim (offered_cases k v e) [ inl old ↦ s.wholes k v old | inr last ↦ last.1.whole_is ];
         within = λ k h. elim is [
           | inl old ↦
               subst (λ l. k < length l.visits) (sym old.1)
@@ -335,6 +342,7 @@ module _ (L : List At) (m p : Visiting) (place : ℕ) (is : IsPopped m p place) 
   pub popped_visiting : IsVisiting L m → IsVisiting L p
   popped_visiting s = record {
     listed = λ k v e. s.listed k v (back_at k v e);
+    wholes = λ k v e. s.wholes k v (back_at k v e);
     within = λ k h. subst (λ l. k < length l) (sym is.visits) (s.within k (popped_waits k h));
   }
 

@@ -49,7 +49,12 @@ pub record IsVisitedAt (visits : List CostVisit) (q : ContextNames) (n : ℕ) : 
 
 -- the context is visited over a drive of this cost
 pub record IsNewVisit (spot : Spot) (cost : ℕ) (origin : Origin) (m n : Visiting) : Type 0 where
-  pub visits : n.visits ≡ m.visits ++ (record { spot = spot; cost = cost; origin = origin }) ∷ []
+  pub visits : n.visits ≡ m.visits ++ (record {
+    spot = spot;
+    cost = cost;
+    origin = origin;
+    whole = places_cost spot.piece.now.places;
+  }) ∷ []
   pub waiting : IsPermutation (length m.visits ∷ m.waiting) n.waiting
 
 -- the same, or it was visited before over one that costs no more
@@ -96,9 +101,10 @@ abbrev pub HaveOrigins : List Begin → List CostVisit → Type 0
 HaveOrigins starts visits = (k : ℕ) (v : CostVisit) → slice_get visits k ≡ Some v
     → IsBeginning starts v ⊎ HasBefore visits k v
 
--- the visits are of these contexts, and only visits wait
+-- the visits are of these contexts, each with the cost of its piece, and only visits wait
 pub record IsVisiting (L : List At) (m : Visiting) : Type 0 where
   pub listed : (k : ℕ) (v : CostVisit) → slice_get m.visits k ≡ Some v → Contains L (at_of v.spot)
+  pub wholes : (k : ℕ) (v : CostVisit) → slice_get m.visits k ≡ Some v → v.whole ≡ places_cost v.spot.piece.now.places
   pub within : (k : ℕ) → Contains m.waiting k → k < length m.visits
 
 -- all visits stay, and each new one goes on from one before

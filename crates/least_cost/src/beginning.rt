@@ -55,7 +55,9 @@ fn begin_on<'a>(
         unreachable!()
     };
     let left = places_cost(places_from(spot.piece.places.items(), start.first));
-    search.offer(spot, left, Origin::Begins(start.first))?;
+    let whole = places_cost(spot.piece.places.items());
+    let known = search.latest_of(&spot);
+    search.offer(spot, left, Origin::Begins(start.first), whole, known)?;
     Ok(())
 }
 

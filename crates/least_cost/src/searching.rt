@@ -1,15 +1,16 @@
 //! The search by cost over contexts and arcs.
-ghost use Rattle.std.specs.Prelude.{◌≡◌, ◌⊎◌, ◌<◌, ◌∷◌, [], ℕ, List, IfOk, OnOk, Some, Contains, IsTrue};
+ghost use Rattle.std.specs.Prelude.{◌≡◌, ◌⊎◌, ◌<◌, ◌∷◌, [], ℕ, List, IfOk, OnOk, IfSome, Some, Contains, IsTrue};
 ghost use Rattle.std.specs.Prelude.{slice_get, length};
 ghost use Rattle.std.specs.List.Sorted.{IsPermutation};
 ghost use Rattle.graph_blocks.specs.Lent.{map_of as block_map};
 ghost use Rattle.context_search.specs.declared.ends.Begin.{Begin};
 ghost use Rattle.least_cost.specs.declared.visiting.CostVisit.{CostVisit};
 ghost use Rattle.context_search.specs.Listed.{AreInOrder, contexts_in};
-ghost use Rattle.context_search.specs.Marks.{At, at_of};
+ghost use Rattle.context_search.specs.Marks.{At, at_of, key_of};
 ghost use Rattle.context_search.specs.Visits.{HasTargets};
 ghost use Rattle.least_cost.specs.Certified.{AtMost};
-ghost use Rattle.least_cost.specs.CostVisits.{IsVisiting, Widens, AreFollowed, IsFollowedBy};
+ghost use Rattle.least_cost.specs.CostVisits.{IsVisiting, Widens, AreFollowed, IsFollowedBy, StandsAs, Visiting};
+ghost use Rattle.least_cost.specs.PlaceCosts.{places_cost};
 ghost use Rattle.least_cost.specs.CostVisits.{IsMetBy, IsOver, IsBettered, IsDone, LeadsOn, Extends, AreWaiting};
 ghost use Rattle.least_cost.specs.CostVisits.{IsFoundAfter, cost_in};
 
@@ -145,15 +146,39 @@ fn follow<'a>(
 ) -> Result<(), NoMemory>
     requires order { AreInOrder (block_map blocks.now) }
     requires targets { HasTargets (contexts_in (block_map blocks.now)) }
+    requires search { IsVisiting (contexts_in (block_map blocks.now)) search.old }
     requires listed { Contains (contexts_in (block_map blocks.now)) (at_of visit.now.spot) }
     requires has { Contains (at_of visit.now.spot).context.arcs arc }
     ensures { OnOk result (IsFollowedBy (contexts_in (block_map blocks.now)) place visit.now arc search.old
         search.new) }
 {
     let spot = target(alloc, blocks, &visit.spot, arc)?;
-    let cost = sum(visit.cost, places_cost(spot.piece.places.items()))?;
-    search.offer(spot, cost, Origin::Follows(place))?;
+    let known = search.latest_of(&spot);
+    let (spot, whole) = with_cost(spot, &known);
+    let cost = sum(visit.cost, whole)?;
+    search.offer(spot, cost, Origin::Follows(place), whole, known)?;
     Ok(())
+}
+
+/// The context as the visit that is known of it has it, with the cost of its piece; where none is known, as it is given.
+fn with_cost<'a>(spot: Spot<'a>, known: &Option<CostVisit<'a>>) -> (Spot<'a>, u128)
+    ensures named { (visits : List CostVisit)
+        → IfSome known.now (StandsAs visits (key_of (at_of spot.entry)))
+        → key_of (at_of result.0) ≡ key_of (at_of spot.entry) }
+    ensures listed { (L : List At) (m : Visiting)
+        → IsVisiting L m
+        → IfSome known.now (StandsAs m.visits (key_of (at_of spot.entry)))
+        → Contains L (at_of spot.entry)
+        → Contains L (at_of result.0) }
+    ensures whole { (L : List At) (m : Visiting)
+        → IsVisiting L m
+        → IfSome known.now (StandsAs m.visits (key_of (at_of spot.entry)))
+        → result.1 ≡ places_cost result.0.piece.now.places }
+{
+    match known {
+        Some(visit) => (visit.spot, visit.whole),
+        None => (spot, places_cost(spot.piece.places.items())),
+    }
 }
 
 /// The context to which the arc leads from this one.

@@ -1,9 +1,11 @@
 //! The contexts that a search by cost has come to.
-ghost use Rattle.std.specs.Prelude.{◌≡◌, ◌<◌, ◌∷◌, [], ℕ, length, IfOk, OnOk, IfSome, IfNone, Some, IsTrue, slice_get};
+ghost use Rattle.std.specs.Prelude.{◌≡◌, ◌<◌, ◌∷◌, [], ℕ, List, length, IfOk, OnOk, IfSome, IfNone, Some, IsTrue, slice_get};
 ghost use Rattle.std.specs.List.Sorted.{IsPermutation};
 ghost use Rattle.context_search.specs.Marks.{at_of, key_of, key_cmp};
 ghost use Rattle.road_model.specs.Orders.{names_cmp};
-ghost use Rattle.least_cost.specs.CostVisits.{IsOffered, IsVisitedAt, IsBettered, StandsAs};
+ghost use Rattle.least_cost.specs.CostVisits.{IsOffered, IsVisitedAt, IsBettered, StandsAs, ContextNames};
+ghost use Rattle.least_cost.specs.PlaceCosts.{places_cost};
+ghost use Rattle.least_cost.specs.declared.visiting.CostVisit.{CostVisit};
 
 use crate::frontier::CostFrontier;
 use crate::places::latitudes_left;
@@ -16,12 +18,15 @@ use std::cmp::Ordering;
 use std::collections::BTreeMap;
 use std::marker::Model;
 
-/// A context that can be come to, the cost of a drive up to the end of its piece, and how that drive comes there.
+/// A context that can be come to, the cost of a drive up to the end of its piece, how that drive comes there, and the
+/// cost of the piece.
 #[derive(Clone, Copy, Drop)]
 pub struct CostVisit<'a> {
     pub spot: Spot<'a>,
     pub cost: u128,
     pub origin: Origin,
+    /// The cost of the whole piece, which is made once for a context.
+    pub whole: u128,
 }
 
 /// What names a context: its piece, and those before it.
@@ -85,32 +90,36 @@ impl<'a> CostSearch<'a> {
         self.frontier.pop()
     }
 
-    /// Comes to the context over a drive of this cost up to the end of its piece, unless one came there that costs no
-    /// more.
-    pub fn offer(&mut self, spot: Spot<'a>, cost: u128, origin: Origin) -> Result<(), NoMemory>
+    /// Comes to the context over a drive of this cost up to the end of its piece, unless the visit that is known of it
+    /// costs no more.
+    pub fn offer(
+        &mut self,
+        spot: Spot<'a>,
+        cost: u128,
+        origin: Origin,
+        whole: u128,
+        known: Option<CostVisit<'a>>,
+    ) -> Result<(), NoMemory>
+        requires whole { whole ≡ places_cost spot.piece.now.places }
+        requires known { IfSome known (StandsAs self.old.visits (key_of (at_of spot))) }
         ensures { OnOk result (IsOffered spot.entry cost origin self.old self.new) }
     {
-        if self.is_reached(&spot, cost) {
+        if costs_no_more(&known, cost) {
             return Ok(());
         }
         let place = self.visits.len();
         let left = latitudes_left(spot.piece.places.items(), self.to);
         self.frontier
             .push(place, cost.saturating_add(u128::from(left)))?;
-        self.visits.push(CostVisit { spot, cost, origin })?;
+        self.visits.push(CostVisit {
+            spot,
+            cost,
+            origin,
+            whole,
+        })?;
         self.latest
             .insert((spot.piece.name, spot.context.before.items()), place)?;
         Ok(())
-    }
-
-    /// Whether the last visit of the context costs no more than that.
-    fn is_reached(&self, spot: &Spot<'a>, cost: u128) -> bool
-        ensures { IsTrue result → IsVisitedAt self.now.visits (key_of (at_of spot.now)) cost }
-    {
-        match self.latest_of(spot) {
-            Some(visit) => visit.cost <= cost,
-            None => false,
-        }
     }
 
     /// Whether the last visit of the same context costs less.
@@ -124,7 +133,7 @@ impl<'a> CostSearch<'a> {
     }
 
     /// The last visit of the context.
-    fn latest_of(&self, spot: &Spot<'a>) -> Option<CostVisit<'a>>
+    pub fn latest_of(&self, spot: &Spot<'a>) -> Option<CostVisit<'a>>
         ensures { IfSome result (StandsAs self.now.visits (key_of (at_of spot.now))) }
     {
         let names = (spot.piece.name, spot.context.before.items());
@@ -146,6 +155,17 @@ impl<'a> CostSearch<'a> {
         } else {
             None
         }
+    }
+}
+
+/// Whether a visit is known, and costs no more than that.
+fn costs_no_more(known: &Option<CostVisit<'_>>, cost: u128) -> bool
+    ensures { IsTrue result → (visits : List CostVisit) (q : ContextNames) → IfSome known.now (StandsAs visits q)
+        → IsVisitedAt visits q cost }
+{
+    match known {
+        Some(visit) => visit.cost <= cost,
+        None => false,
     }
 }
 

@@ -12,6 +12,7 @@ pub loop-start-init : goal.loop-start-init
 loop-start-init c = record {
   search = record {
     listed = λ k v e. absurd (nothing_at c.args.search.now.visits k v c.requires.visits e);
+    wholes = λ k v e. absurd (nothing_at c.args.search.now.visits k v c.requires.visits e);
     within = λ k h. absurd (contains_none k (subst (λ l. Contains l k) c.requires.waiting h));
   };
   origins = λ k v e. absurd (nothing_at c.args.search.now.visits k v c.requires.visits e);

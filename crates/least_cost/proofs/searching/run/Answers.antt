@@ -65,6 +65,7 @@ returns-in_default-clause-search c =
     let old = c.loop.invariant in
     record {
       listed = λ k v at. old.search.listed k v (subst (λ l. slice_get l k ≡ Some v) e.visits at);
+      wholes = λ k v at. old.search.wholes k v (subst (λ l. slice_get l k ≡ Some v) e.visits at);
       within = λ k h. absurd (contains_none k (subst (λ l. Contains l k) e.empty h));
     }
 
