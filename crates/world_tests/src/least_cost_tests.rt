@@ -5,7 +5,7 @@ use access_profile::Motorcar;
 use change_apply::Engine;
 use least_cost::{Cheapest, Potentials, Shortest, check, drive_cost, least, shortest};
 use library_tests::makers::extract_of;
-use road_base::{Dir, NodeId, Step, Steps, WayId};
+use road_base::{Dir, NoMemory, NodeId, Step, Steps, WayId};
 use std::alloc::Global;
 use std::marker::Brand;
 use std::sync::ledger::{Blank, Ledger};
@@ -52,6 +52,60 @@ fn numbers(alloc: Global, costs: &[u128]) -> Result<Potentials, Fail> {
     Ok(Potentials::from_list(list))
 }
 
+/// Whether the numbers show that the drive, if there is one, is one of least cost between the nodes.
+fn checked(
+    alloc: Global,
+    engine: &Engine<Motorcar>,
+    ends: (NodeId, NodeId),
+    route: Option<&[Step]>,
+    potentials: &Potentials,
+) -> Result<bool, NoMemory> {
+    check(
+        alloc,
+        engine.world(),
+        &engine.profile(),
+        engine.blocks(),
+        ends.0,
+        ends.1,
+        route,
+        potentials,
+    )
+}
+
+/// What is found between the nodes, with what shows it.
+fn cheapest(
+    alloc: Global,
+    engine: &Engine<Motorcar>,
+    a: NodeId,
+    b: NodeId,
+) -> Result<Cheapest, NoMemory> {
+    least(
+        alloc,
+        engine.world(),
+        &engine.profile(),
+        engine.blocks(),
+        a,
+        b,
+    )
+}
+
+/// What is found between the nodes.
+fn found(
+    alloc: Global,
+    engine: &Engine<Motorcar>,
+    a: NodeId,
+    b: NodeId,
+) -> Result<Shortest, NoMemory> {
+    shortest(
+        alloc,
+        engine.world(),
+        &engine.profile(),
+        engine.blocks(),
+        a,
+        b,
+    )
+}
+
 /// Whether the numbers show that the drive is one of least cost from node 1 to node 3.
 fn shows(
     alloc: Global,
@@ -60,18 +114,8 @@ fn shows(
     costs: &[u128],
 ) -> Result<bool, Fail> {
     let potentials = numbers(alloc, costs)?;
-    let profile = engine.profile();
-    let blocks = engine.blocks();
-    Ok(check(
-        alloc,
-        engine.world(),
-        &profile,
-        blocks,
-        NodeId(1),
-        NodeId(3),
-        Some(drive),
-        &potentials,
-    )?)
+    let ends = (NodeId(1), NodeId(3));
+    Ok(checked(alloc, engine, ends, Some(drive), &potentials)?)
 }
 
 /// Whether the worked numbers show the worked drive, and none of these does: the last number one more, one number too
@@ -93,40 +137,28 @@ fn costs_least(
     to: i64,
     wanted: u128,
 ) -> Result<bool, Fail> {
-    let (a, b) = (NodeId(1), NodeId(to));
-    let profile = engine.profile();
-    let found = least(alloc, engine.world(), &profile, engine.blocks(), a, b)?;
+    let ends = (NodeId(1), NodeId(to));
     let Cheapest::Route {
         cost,
         drive,
         potentials,
-    } = found
+    } = cheapest(alloc, engine, ends.0, ends.1)?
     else {
         return Ok(false);
     };
-    let route = Some(drive.items());
-    let shown = check(
-        alloc,
-        engine.world(),
-        &profile,
-        engine.blocks(),
-        a,
-        b,
-        route,
-        &potentials,
-    )?;
+    let shown = checked(alloc, engine, ends, Some(drive.items()), &potentials)?;
     Ok(shown && cost == wanted && drive_cost(engine.world(), drive.items()) == Some(wanted))
 }
 
-/// Whether no node 9 is found, and a drive of this cost to node 3, without numbers that show it.
+/// Whether a drive of this cost is found to node 3, and no node 9.
 fn is_short(alloc: Global, engine: &Engine<Motorcar>, wanted: u128) -> Result<bool, Fail> {
-    let profile = engine.profile();
-    let (a, b) = (NodeId(1), NodeId(3));
-    let found = shortest(alloc, engine.world(), &profile, engine.blocks(), a, b)?;
-    let there = matches!(found, Shortest::Route { cost, .. } if cost == wanted);
-    let c = NodeId(9);
-    let lost = shortest(alloc, engine.world(), &profile, engine.blocks(), a, c)?;
-    Ok(there && matches!(lost, Shortest::NoNode(NodeId(9))))
+    let there = found(alloc, engine, NodeId(1), NodeId(3))?;
+    let lost = found(alloc, engine, NodeId(1), NodeId(9))?;
+    let costs = match there {
+        Shortest::Route { cost, .. } => cost == wanted,
+        _ => false,
+    };
+    Ok(costs && matches!(lost, Shortest::NoNode(NodeId(9))))
 }
 
 /// Whether all is as it was worked out on the map.
