@@ -160,7 +160,8 @@ fn follow<'a>(
     Ok(())
 }
 
-/// The context as the visit that is known of it has it, with the cost of its piece; where none is known, as it is given.
+/// The context as the visit that is known of it has it, with the cost of its piece; where none is known, as it is
+/// given.
 fn with_cost<'a>(spot: Spot<'a>, known: &Option<CostVisit<'a>>) -> (Spot<'a>, u128)
     ensures named { (visits : List CostVisit)
         → IfSome known.now (StandsAs visits (key_of (at_of spot.entry)))
