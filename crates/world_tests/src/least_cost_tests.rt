@@ -5,7 +5,7 @@ use access_profile::Motorcar;
 use change_apply::Engine;
 use least_cost::{Cheapest, Potentials, Shortest, check, drive_cost, least, shortest};
 use library_tests::makers::extract_of;
-use road_base::{Dir, NoMemory, NodeId, Step, Steps, WayId};
+use road_base::{Dir, Event, NoMemory, NodeId, Step, Steps, WayId};
 use std::alloc::Global;
 use std::marker::Brand;
 use std::sync::ledger::{Blank, Ledger};
@@ -150,38 +150,57 @@ fn costs_least(
     Ok(shown && cost == wanted && drive_cost(engine.world(), drive.items()) == Some(wanted))
 }
 
-/// Whether a drive of this cost is found to node 3, and no node 9.
-fn is_short(alloc: Global, engine: &Engine<Motorcar>, wanted: u128) -> Result<bool, Fail> {
-    let there = found(alloc, engine, NodeId(1), NodeId(3))?;
-    let lost = found(alloc, engine, NodeId(1), NodeId(9))?;
-    let costs = match there {
-        Shortest::Route { cost, .. } => cost == wanted,
-        _ => false,
-    };
-    Ok(costs && matches!(lost, Shortest::NoNode(NodeId(9))))
+/// Whether a drive of this cost is found from node 1 to node 3.
+fn is_short(alloc: Global, engine: &Engine<Motorcar>, wanted: u128) -> Result<bool, NoMemory> {
+    match found(alloc, engine, NodeId(1), NodeId(3))? {
+        Shortest::Route { cost, .. } => Ok(cost == wanted),
+        _ => Ok(false),
+    }
+}
+
+/// Whether there is no node 9.
+fn lacks_a_node(alloc: Global, engine: &Engine<Motorcar>) -> Result<bool, NoMemory> {
+    match found(alloc, engine, NodeId(1), NodeId(9))? {
+        Shortest::NoNode(node) => Ok(node == NodeId(9)),
+        _ => Ok(false),
+    }
 }
 
 /// Whether all is as it was worked out on the map.
-fn is_as_worked<L: Ledger>(alloc: Global, blank: Blank) -> Result<bool, Fail>
+fn is_as_worked(alloc: Global, engine: &Engine<Motorcar>) -> Result<bool, Fail> {
+    let nowhere = drive_cost(engine.world(), &[first_step(13, Dir::Forward)]);
+    Ok(
+        nowhere.is_none()
+            && shows_as_worked(alloc, engine)?
+            && costs_least(alloc, engine, 3, 60_004)?
+            && costs_least(alloc, engine, 4, 30_002)?
+            && is_short(alloc, engine, 60_004)?
+            && lacks_a_node(alloc, engine)?,
+    )
+}
+
+/// The same of the map of these events.
+fn is_as_worked_among<L: Ledger>(
+    alloc: Global,
+    events: Vec<Event>,
+    steps: &mut Steps<L>,
+) -> Result<bool, Fail> {
+    let engine = Engine::load(alloc, Motorcar, events, steps)?;
+    is_as_worked(alloc, &engine)
+}
+
+/// The same of the drawn map.
+fn is_as_worked_on<L: Ledger>(alloc: Global, blank: Blank) -> Result<bool, Fail>
     requires name { blank.name ≡ L.name }
     requires parts { blank.parts ≡ L.parts }
     requires some { 0 < L.parts }
 {
     let mut steps = Steps::<L>::new(blank);
-    let events = extract_of(alloc, NO_TURN)?;
-    let engine = Engine::load(alloc, Motorcar, events, &mut steps)?;
-    let nowhere = drive_cost(engine.world(), &[first_step(13, Dir::Forward)]);
-    Ok(
-        shows_as_worked(alloc, &engine)?
-            && costs_least(alloc, &engine, 3, 60_004)?
-            && costs_least(alloc, &engine, 4, 30_002)?
-            && is_short(alloc, &engine, 60_004)?
-            && nowhere.is_none(),
-    )
+    is_as_worked_among(alloc, extract_of(alloc, NO_TURN)?, &mut steps)
 }
 
 #[test]
 fn numbers_show_the_least_cost(rt: HostRuntime) -> Result<(), Fail> {
-    assert!(rt; is_as_worked::<Brand>(rt.alloc(), Blank::new(1))?);
+    assert!(rt; is_as_worked_on::<Brand>(rt.alloc(), Blank::new(1))?);
     Ok(())
 }
