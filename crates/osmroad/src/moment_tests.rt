@@ -1,8 +1,6 @@
-//! A store at moments of civil time: its graph, and drives in a session.
-use crate::session_tests::{SESSION, VILLAGE, check_output, check_status, empty_site, run_on};
+//! Drives at moments of civil time, in a session.
+use crate::session_tests::{SESSION, VILLAGE, check_output, check_status, empty_site};
 use crate::status::Status;
-use crate::store_tests::{Case, MADE, check};
-use crate::tests::{NO_GRAPH, USAGE};
 use road_base::NoMemory;
 use road_io::MemorySite;
 use std::alloc::Global;
@@ -39,81 +37,5 @@ fn drives_are_judged_at_moments(rt: HostRuntime) -> Result<(), Fail> {
     make_on(&rt, rt.alloc(), &mut site)?;
     check_status(&rt, rt.alloc(), SESSION, DRIVES, &mut site, Status::Done)?;
     check_output(&rt, rt.alloc(), &site, &[VERDICTS])?;
-    Ok(())
-}
-
-/// What a run of these words puts on the village, behind the line that tells that it was made.
-fn shown(rt: &impl Abort, alloc: Global, words: &[&str]) -> Result<Vec<u8>, NoMemory> {
-    let mut site = empty_site(alloc);
-    make_on(rt, alloc, &mut site)?;
-    check_status(rt, alloc, words, b"", &mut site, Status::Done)?;
-    Ok(site.output()[b"created 5000\n".len()..].to_vec(alloc)?)
-}
-
-/// How large the graph is that these words put on the village.
-fn check_counts(
-    rt: &impl Abort,
-    alloc: Global,
-    words: &[&str],
-    counts: &[u8],
-) -> Result<(), NoMemory> {
-    let graph = shown(rt, alloc, words)?;
-    let mut site = empty_site(alloc);
-    run_on(alloc, &["-", "inspect"], &graph, &mut site)?;
-    assert_eq!(rt; site.output(), counts);
-    Ok(())
-}
-
-#[test]
-fn a_graph_is_that_of_its_moment(rt: HostRuntime) -> Result<(), Fail> {
-    let cases: [(&[&str], &[u8]); 3] = [
-        (&["town", "graph"], b"ways 3 pieces 6 contexts 6 arcs 8\n"),
-        (
-            &["town", "graph", "2024-05-06T12:00"],
-            b"ways 3 pieces 6 contexts 6 arcs 8\n",
-        ),
-        (
-            &["town", "graph", "2024-05-06T23:00"],
-            b"ways 2 pieces 4 contexts 4 arcs 4\n",
-        ),
-    ];
-    for (words, counts) in cases {
-        check_counts(&rt, rt.alloc(), words, counts)?;
-    }
-    Ok(())
-}
-
-/// A run over a store without objects.
-const fn run_with<'a>(words: &'a [&'a str], status: Status, output: &'a [u8]) -> Case<'a> {
-    Case {
-        words,
-        input: b"",
-        a: &[MADE],
-        b: &[],
-        status,
-        output,
-        after: &[MADE],
-    }
-}
-
-#[test]
-fn a_graph_is_asked_for_at_a_moment_alone(rt: HostRuntime) -> Result<(), Fail> {
-    let cases: [&[&str]; 6] = [
-        &["town", "graph", ""],
-        &["town", "graph", "5"],
-        &["town", "graph", "2023-02-29T12:00"],
-        &["town", "graph", "2024-05-06T12:00", "more"],
-        &["town", "audit", "2024-05-06T12:00"],
-        &["-", "graph", "2024-05-06T12:00"],
-    ];
-    for words in cases {
-        check(&rt, rt.alloc(), &run_with(words, Status::Usage, USAGE), &[])?;
-    }
-    let shown = run_with(
-        &["town", "graph", "2024-05-06T12:00"],
-        Status::Done,
-        NO_GRAPH,
-    );
-    check(&rt, rt.alloc(), &shown, &[])?;
     Ok(())
 }

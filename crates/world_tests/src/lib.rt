@@ -13,8 +13,6 @@ mod change_apply_tests;
 #[cfg(test)]
 mod drive_queries_tests;
 #[cfg(test)]
-mod least_cost_tests;
-#[cfg(test)]
 mod object_store_tests;
 #[cfg(test)]
 mod piece_tests;
