@@ -91,6 +91,21 @@ impl<P: Profile> Engine<P> {
         })
     }
 
+    /// An equal value, which shares all with this one, so that a change of the one leaves the other as it was. Takes
+    /// some reference counts, and lists of at most eight.
+    pub fn copy(&self) -> Result<Engine<P>, NoMemory>
+        ensures { IfOk result (λ e. e ≡ self.now) }
+    {
+        let world = self.world.copy()?;
+        let blocks = self.blocks.share()?;
+        Ok(Engine {
+            alloc: self.alloc,
+            profile: self.profile,
+            world,
+            blocks,
+        })
+    }
+
     /// Applies the events: of each key the first one of the greatest version stands, its entry here before all of
     /// them. The blocks are then those of what the events left: one is built for each way that the events touch and
     /// whose block they may alter, and all others stay. Where no memory is found nothing changes.

@@ -9,7 +9,8 @@
 //! block. Only then, and without taking memory, it exchanges the worlds and the blocks; where no memory is found
 //! nothing changes. So a change costs what it touches: the look-ups of the touched ways, the blocks that are built, and
 //! for each that a way gets or loses in the long run the logarithm of their number; nothing of the size of the world.
-//! The blocks are `graph_blocks::RoadBlocks`; they are asked by `&self`.
+//! The blocks are `graph_blocks::RoadBlocks`; they are asked by `&self`. `Engine::copy` shares all that stands: it takes
+//! a few reference counts, whatever the size of the world, and what changes alter behind it stands twice.
 #![tactic(auto)]
 
 mod altering;

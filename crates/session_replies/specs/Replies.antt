@@ -6,6 +6,9 @@ use Rattle.road_base.specs.declared.ids.NodeId.{NodeId}
 use Rattle.road_base.specs.declared.ids.Step.{Step}
 use Rattle.road_base.specs.History.{HasObjects, kept}
 use Rattle.road_model.specs.declared.blocks.Block.{Block}
+use Rattle.road_model.specs.declared.follower.Question.{Question}
+use Rattle.road_model.specs.declared.follower.Question.TheVariants.{Graph as OfGraph, State as OfState}
+use Rattle.road_model.specs.declared.follower.Question.TheVariants.{Drive as OfDrive, Reach as OfReach}
 use Rattle.road_model.specs.Rules.{Rules}
 use Rattle.road_model.specs.Orders.{way_cmp}
 use Rattle.road_model.specs.BlockMap.{AreBlocksOf}
@@ -77,6 +80,17 @@ IsReply M P kept State more out = IsStateReply M P kept out
 IsReply M P kept (Drive d) more out = IsDriveReply M P d out
 IsReply M P kept (Reach a b) more out = (found : Found) × IsFound M P a b found × (out ≡ found_line found)
 IsReply M P kept Unknown more out = IsFurtherReply M P more out
+
+-- the message of the same name
+abbrev pub message_of : Question → Asked
+message_of OfGraph = Graph
+message_of OfState = State
+message_of (OfDrive d) = Drive d
+message_of (OfReach a b) = Reach a b
+
+-- A question is answered with what its message gets, over the objects and the kept number.
+abbrev pub answers_to : Rules → Objects → ℕ → Question → List ℕ → Type 0
+answers_to P M kept question out = IsReply M P kept (message_of question) None out
 
 -- what a line with this text is answered with; one that isn't UTF-8 asks nothing that is known
 abbrev pub IsLineReply : Objects → Rules → ℕ → Option (List ℕ) → List ℕ → Type 0

@@ -7,9 +7,11 @@
 
 mod answerer;
 mod cost_texts;
+mod follower;
 mod further_messages;
 pub mod laws;
 mod queries;
 mod texts;
 
 pub use answerer::RoadAnswerer;
+pub use follower::RoadFollower;

@@ -98,7 +98,7 @@ pub fn unknown_reply(alloc: Global) -> Result<Reply, NoMemory>
 }
 
 /// The graph's bytes, behind a line that tells how many there are.
-fn graph_reply<P: Profile>(alloc: Global, engine: &Engine<P>) -> Result<Reply, NoMemory>
+pub fn graph_reply<P: Profile>(alloc: Global, engine: &Engine<P>) -> Result<Reply, NoMemory>
     requires { IsProfile (P.rules engine.now.profile).number }
     ensures { IfOk result (λ r. IsGraphReply engine.now.world (P.rules engine.now.profile) (said r)) }
 {
@@ -115,7 +115,7 @@ fn graph_reply<P: Profile>(alloc: Global, engine: &Engine<P>) -> Result<Reply, N
 }
 
 /// The kept number, and how large the graph is.
-fn state_reply<P: Profile>(
+pub fn state_reply<P: Profile>(
     alloc: Global,
     engine: &Engine<P>,
     kept: Sequence,
@@ -127,7 +127,7 @@ fn state_reply<P: Profile>(
 }
 
 /// Whether the drive is legal, and else the first rule that it breaks. It has one step at least.
-fn drive_reply<P: Profile>(
+pub fn drive_reply<P: Profile>(
     alloc: Global,
     engine: &Engine<P>,
     drive: &[Step],
@@ -170,7 +170,7 @@ fn judged_reply<P: Profile>(
 }
 
 /// A drive from node a to node b.
-fn reach_reply<P: Profile>(
+pub fn reach_reply<P: Profile>(
     alloc: Global,
     engine: &Engine<P>,
     a: NodeId,
