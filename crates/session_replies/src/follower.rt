@@ -60,7 +60,12 @@ impl<P: Profile> Follower for RoadFollower<P> {
         Ok(())
     }
 
-    fn ask(&self, number: Sequence, question: &Question, out: &mut Vec<u8>) -> Result<(), NoMemory> {
+    fn ask(
+        &self,
+        number: Sequence,
+        question: &Question,
+        out: &mut Vec<u8>,
+    ) -> Result<(), NoMemory> {
         let reply = reply_about(self.alloc, &self.engine, number, question)?;
         put(&reply, out)
     }
