@@ -1,3 +1,4 @@
 mod RepliesAsked
 mod RoadAnswers
 mod FrameMessages
+mod FollowedChanges
