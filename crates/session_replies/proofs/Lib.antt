@@ -2,3 +2,4 @@ mod RepliesAsked
 mod RoadAnswers
 mod FrameMessages
 mod FollowedChanges
+mod FollowedQuestions
