@@ -1,0 +1,3 @@
+pub mod PinnedRuns
+pub mod Followers
+pub mod Tables

@@ -1,0 +1,79 @@
+//! Which readers are pinned, and at which numbers.
+ghost use Rattle.std.specs.Prelude.{◌≡◌, ◌↔◌, IsTrue, Option, OnOk, OnErr};
+ghost use Rattle.std.specs.Option.{option_map};
+ghost use Rattle.std.specs.FinMap.{empty, get, insert, remove, len};
+ghost use Rattle.pinned_readers.specs.PinnedRuns.{IsPinnedNumber};
+
+use road_base::{NoMemory, Sequence};
+use std::alloc::Global;
+use std::collections::BTreeMap;
+use std::marker::Model;
+
+/// The readers that are pinned, each with the number of the change behind which it is.
+#[derive(Drop)]
+pub struct PinTable {
+    by_reader: BTreeMap<u32, Sequence>,
+}
+
+impl Model for PinTable {
+    ghost use Rattle.std.specs.Coded.{coded_ℕ};
+    ghost use Rattle.std.specs.FinMap.{code};
+    ghost use Rattle.pinned_readers.specs.PinnedRuns.{Pins};
+
+    ghost Value = { Pins };
+
+    ghost coded = { code coded_ℕ coded_ℕ };
+
+    ghost use Rattle.pinned_readers.specs.Tables.{pins_in};
+
+    ghost view = { λ t. pins_in t.by_reader };
+}
+
+impl PinTable {
+    /// No reader is pinned. Takes no memory.
+    pub fn new(alloc: Global) -> PinTable
+        ensures { result ≡ empty }
+    {
+        PinTable {
+            by_reader: BTreeMap::new(alloc),
+        }
+    }
+
+    /// How many readers are pinned.
+    pub fn len(&self) -> usize
+        ensures { result ≡ len self.now }
+    {
+        self.by_reader.len()
+    }
+
+    /// The number at which the reader is pinned.
+    pub fn get(&self, reader: u32) -> Option<Sequence>
+        ensures { option_map (λ n. n.0) result ≡ get self.now reader }
+    {
+        self.by_reader.get(&reader).copied()
+    }
+
+    /// Whether some reader is pinned at the number. Goes through all of them.
+    pub fn has_number(&self, number: Sequence) -> bool
+        ensures { IsTrue result ↔ IsPinnedNumber self.now number.0 }
+    {
+        self.by_reader.values().any(|n| *n == number)
+    }
+
+    /// Pins the reader at the number.
+    pub fn insert(&mut self, reader: u32, number: Sequence) -> Result<(), NoMemory>
+        ensures ok { OnOk result (self.new ≡ insert self.old reader number.0) }
+        ensures err { OnErr result (self.new ≡ self.old) }
+    {
+        self.by_reader.insert(reader, number)?;
+        Ok(())
+    }
+
+    /// Releases the reader. Answers the number at which it was pinned.
+    pub fn remove(&mut self, reader: u32) -> Option<Sequence>
+        ensures number { option_map (λ n. n.0) result ≡ get self.old reader }
+        ensures removed { self.new ≡ remove self.old reader }
+    {
+        self.by_reader.remove(&reader)
+    }
+}
