@@ -1,0 +1,3 @@
+pub mod KeyedMaps
+pub mod NumberKeys
+pub mod NumbersAmong

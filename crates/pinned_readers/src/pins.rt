@@ -1,6 +1,9 @@
 //! Which readers are pinned, and at which numbers.
-ghost use Rattle.std.specs.Prelude.{◌≡◌, ◌↔◌, IsTrue, Option, OnOk, OnErr};
+ghost use Rattle.std.specs.Prelude.{◌≡◌, ◌↔◌, IsTrue, nat_eq, OnOk, OnErr};
 ghost use Rattle.std.specs.Option.{option_map};
+ghost use Rattle.std.specs.List.{list_any};
+ghost use Rattle.std.specs.Ordering.{nat_cmp};
+ghost use Rattle.std.specs.BTreeMap.{values, IsOrdered};
 ghost use Rattle.std.specs.FinMap.{empty, get, insert, remove, len};
 ghost use Rattle.pinned_readers.specs.PinnedRuns.{IsPinnedNumber};
 
@@ -57,7 +60,7 @@ impl PinTable {
     pub fn has_number(&self, number: Sequence) -> bool
         ensures { IsTrue result ↔ IsPinnedNumber self.now number.0 }
     {
-        self.by_reader.values().any(|n| *n == number)
+        has_value(&self.by_reader, number)
     }
 
     /// Pins the reader at the number.
@@ -76,4 +79,12 @@ impl PinTable {
     {
         self.by_reader.remove(&reader)
     }
+}
+
+/// Whether some entry has the number.
+fn has_value(by_reader: &BTreeMap<u32, Sequence>, number: Sequence) -> bool
+    ensures any { result ≡ list_any (λ n. nat_eq n.0 number.0) (values by_reader.now) }
+    ensures ordered { IsOrdered nat_cmp by_reader.now }
+{
+    by_reader.values().any(|n| *n == number)
 }
