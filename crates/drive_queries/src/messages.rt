@@ -1,7 +1,8 @@
 //! What a line of a session asks.
 ghost use Rattle.std.specs.Prelude.{◌≡◌, IfOk};
 ghost use Rattle.opl_lexer.specs.Left.{fields_left};
-ghost use Rattle.drive_queries.specs.Messages.{asked, asked_frame, asked_alone, asked_drive, asked_reach, AsksSteps};
+ghost use Rattle.drive_queries.specs.Messages.{asked, asked_of, asked_frame, asked_alone, asked_drive, asked_reach};
+ghost use Rattle.drive_queries.specs.Messages.{AsksSteps};
 
 use crate::step_words::step_of;
 use opl_lexer::{FieldIter, fields, long_number, whole};
@@ -84,12 +85,11 @@ pub fn asked_reach(mut words: FieldIter<'_>) -> Asked
     }
 }
 
-/// What the line asks. Its words stand between spaces and tabs. Takes time linear in the line.
-pub fn message(alloc: Global, line: &str) -> Result<Asked, NoMemory>
-    ensures asks { IfOk result (λ message. message ≡ asked line.now) }
+/// What the words ask. Takes time linear in them.
+pub fn asked_of(alloc: Global, mut words: FieldIter<'_>) -> Result<Asked, NoMemory>
+    ensures asks { IfOk result (λ message. message ≡ asked_of (fields_left words.entry)) }
     ensures drives { IfOk result AsksSteps }
 {
-    let mut words = fields(line);
     let Some(name) = words.next() else {
         return Ok(Asked::Empty);
     };
@@ -101,4 +101,12 @@ pub fn message(alloc: Global, line: &str) -> Result<Asked, NoMemory>
         "reach" => Ok(asked_reach(words)),
         _ => Ok(Asked::Unknown),
     }
+}
+
+/// What the line asks. Its words stand between spaces and tabs. Takes time linear in the line.
+pub fn message(alloc: Global, line: &str) -> Result<Asked, NoMemory>
+    ensures asks { IfOk result (λ message. message ≡ asked line.now) }
+    ensures drives { IfOk result AsksSteps }
+{
+    asked_of(alloc, fields(line))
 }

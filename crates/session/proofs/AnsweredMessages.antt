@@ -140,13 +140,14 @@ module _ (laws : StoreLaws) {B : Type 0} (R : Replies B) (number : Sequence) (bo
       })
 
   module _ (before now : ℕ) (x : Unit {0}) (answer : AddAnswer old new number events (Ok x) before now)
-      (follows : (h : History) (b : B) → Stands h b → After (with_change h events) b)
+      (follows : (h : History) (b : B) → Stands h b → number.0 ≡ kept h + 1
+      → After (with_change h events) b)
       (gives : ReadAll Change body events) where
     pub kept_then : (w v : Outside) → IsKept Stands old from w → Adds old new events (Ok x) w v → IsKept After new to v
     kept_then w v k adds = record {
       on_store = laws.ok old new from.history number events x w v before now k.on_store answer adds;
       small = laws.small old new from.history number events x w v before now k.on_store answer adds;
-      stands = follows from.history from.beside k.stands;
+      stands = follows from.history from.beside k.stands (is_next w k answer.0.next);
       room = room_then old.gate (length (events_bytes events)) from.room k.room
           ∙ ap (λ (j : Journal). room_at j.gate) (sym answer.1);
     }

@@ -185,7 +185,7 @@ module _ (laws : StoreLaws) (C : Costs) (number : Sequence) (events : List Event
 
   change_builds : (from : Kept B) (body : List ℕ) (w : Outside) → IsKept Stands old from w
       → ReadAll Change body events
-      → ((h : History) (b : B) (M : Objects) → Stands h b → HasObjects h M
+      → ((h : History) (b : B) (M : Objects) → Stands h b → number.0 ≡ kept h + 1 → HasObjects h M
       → (now ≡ was) ⊎ CostsAtMost C M events was now)
       → MessageBuilds C from (Frame number.0 body) was now
   change_builds from body w k gives builds =
@@ -198,11 +198,11 @@ module _ (laws : StoreLaws) (C : Costs) (number : Sequence) (events : List Event
         change_costs from body w k gives objects.0 objects.1 some.0 some.1,
         some.2,
       ))
-      (builds from.history from.beside objects.0 k.stands objects.1)
+      (builds from.history from.beside objects.0 k.stands (number_next C number old w Stands from k next) objects.1)
 
   -- the change isn't followed
   pub change_builds_still : (Then : Keeps B) (stop : Stop) (x : Option Outside)
-      → ((h : History) (b : B) (M : Objects) → Stands h b → HasObjects h M
+      → ((h : History) (b : B) (M : Objects) → Stands h b → number.0 ≡ kept h + 1 → HasObjects h M
       → (now ≡ was) ⊎ CostsAtMost C M events was now)
       → Told (λ w v. (from : Kept B) (body : List ℕ) → ReadAll Change body events → IsKept Stands old from w
       → AnswerBuilds C from (Frame number.0 body) Then (Err stop) was now v) x x
@@ -213,7 +213,7 @@ module _ (laws : StoreLaws) (C : Costs) (number : Sequence) (events : List Event
 
   -- the change isn't kept
   pub change_builds_only : (S : Outside → Outside → Type 0) (Then : Keeps B) (stop : Stop) (x y : Option Outside)
-      → ((h : History) (b : B) (M : Objects) → Stands h b → HasObjects h M
+      → ((h : History) (b : B) (M : Objects) → Stands h b → number.0 ≡ kept h + 1 → HasObjects h M
       → (now ≡ was) ⊎ CostsAtMost C M events was now)
       → Told S x y
       → Told (λ w v. (from : Kept B) (body : List ℕ) → ReadAll Change body events → IsKept Stands old from w
@@ -223,15 +223,17 @@ module _ (laws : StoreLaws) (C : Costs) (number : Sequence) (events : List Event
       → IsKept Stands old from w → AnswerBuilds C from (Frame number.0 body) Then (Err stop) was now v) told
       (λ w v r from body gives k. change_builds from body w k gives builds)
 
-  module _ (few : (h : History) (b : B) (M : Objects) → Stands h b → HasObjects h M → CostsAtMost C M events was now)
+  module _ (few : (h : History) (b : B) (M : Objects) → Stands h b → number.0 ≡ kept h + 1 → HasObjects h M
+      → CostsAtMost C M events was now)
       (before counted : ℕ) (u : Unit {0}) (answer : AddAnswer old new number events (Ok u) before counted)
-      (follows : (h : History) (b : B) → Stands h b → After (with_change h events) b) where
+      (follows : (h : History) (b : B) → Stands h b → number.0 ≡ kept h + 1 → After (with_change h events) b) where
     kept_builds : (result : Result (Unit {0}) Stop) (from : Kept B) (body : List ℕ) (w o v : Outside)
         → ReadAll Change body events → IsKept Stands old from w → Adds old new events (Ok u) w o
         → v.a ≡ o.a → v.b ≡ o.b → AnswerBuilds C from (Frame number.0 body) (IsKept After new) result was now v
     kept_builds (Ok x) from body w o v gives k adds same_a same_b =
         let objects = laws.objects from.history in
-        let most = few from.history from.beside objects.0 k.stands objects.1 in
+        let is = number_next C number old w Stands from k next in
+        let most = few from.history from.beside objects.0 k.stands is objects.1 in
         record {
           to = with_record from events;
           n = most.0;
@@ -242,7 +244,7 @@ module _ (laws : StoreLaws) (C : Costs) (number : Sequence) (events : List Event
               adds);
         }
     kept_builds (Err stop) from body w o v gives k adds same_a same_b =
-        change_builds from body w k gives (λ h b M s has. inr (few h b M s has))
+        change_builds from body w k gives (λ h b M s is has. inr (few h b M s is has))
 
     -- the change is kept, and then it is told so
     pub change_builds_kept : (x y z : Option Outside) (chunk : List ℕ) (result : Result (Unit {0}) Stop)

@@ -94,7 +94,7 @@ module _ (laws : StoreLaws) {B : Type 0} (R : Replies B) (number : Sequence) (ev
     (Stands After : History → B → Type 0) (before now : ℕ) where
   pub change_answers : (x y z : Option Outside) (u : Unit {0}) (line chunk : List ℕ) (result : Result (Unit {0}) Stop)
       → IfErr result (λ e. e ≡ SiteFault) → AddAnswer old new number events (Ok u) before now
-      → ((h : History) (b : B) → Stands h b → After (with_change h events) b)
+      → ((h : History) (b : B) → Stands h b → number.0 ≡ kept h + 1 → After (with_change h events) b)
       → line ≡ applied_line number.0 → chunk ≡ line
       → Told (Adds old new events (Ok u)) x y → Told (PutsOn chunk result) y z
       → Told (λ w v. (from : Kept B) (body : List ℕ) → ReadAll Change body events → IsKept Stands old from w

@@ -124,7 +124,7 @@ impl<A: Answerer> Talk<A> {
         let Some(change) = spelled else {
             return Err(Stop::Limit);
         };
-        let Ok(()) = self.answerer.follow(events, steps) else {
+        let Ok(()) = self.answerer.follow(number, events, steps) else {
             return Err(Stop::NoMemory);
         };
         match self.journal.add(site, &change) {

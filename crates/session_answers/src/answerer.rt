@@ -1,5 +1,5 @@
 //! What answers a session.
-ghost use Rattle.std.specs.Prelude.{◌≡◌, ◌⊎◌, IfOk, OnOk, OnErr};
+ghost use Rattle.std.specs.Prelude.{◌≡◌, ◌⊎◌, ◌+◌, IfOk, OnOk, OnErr};
 ghost use Rattle.road_base.specs.History.{History, HasObjects, kept as kept_number, with_change};
 ghost use Rattle.road_base.specs.Objects.{Objects};
 ghost use Rattle.session_input.specs.Texts.{text_of};
@@ -36,18 +36,27 @@ pub trait Answerer: Sized + Drop {
             → (c : Self.Beside) × Self.replies (Self.fixed self.old) h b (text_of line.now) (said r) c
             × Self.stands self.new h c) };
 
-    /// Follows a change. Where no memory is found it stands for nothing more.
-    fn follow<L: Ledger>(&mut self, events: &[Event], steps: &mut Steps<L>) -> Result<(), NoMemory>
+    /// Follows a change under its number, which is the one behind that of the last change. Where no memory is found it
+    /// stands for nothing more.
+    fn follow<L: Ledger>(
+        &mut self,
+        number: Sequence,
+        events: &[Event],
+        steps: &mut Steps<L>,
+    ) -> Result<(), NoMemory>
         ensures fixed { Self.fixed self.new ≡ Self.fixed self.old }
         ensures follows { OnOk result ((h : History) (b : Self.Beside)
             → Self.stands self.old h b
+            → number.0 ≡ kept_number h + 1
             → Self.stands self.new (with_change h events.now) b) }
         ensures few { OnOk result ((h : History) (b : Self.Beside) (M : Objects)
             → Self.stands self.old h b
+            → number.0 ≡ kept_number h + 1
             → HasObjects h M
             → CostsAtMost (Self.costs (Self.fixed self.old)) M events.now steps.old steps.new) }
         ensures failed { OnErr result ((h : History) (b : Self.Beside) (M : Objects)
             → Self.stands self.old h b
+            → number.0 ≡ kept_number h + 1
             → HasObjects h M
             → (steps.new ≡ steps.old)
             ⊎ CostsAtMost (Self.costs (Self.fixed self.old)) M events.now steps.old steps.new) };

@@ -85,4 +85,4 @@ returns-clause-builds g c =
     c.add.new.self (replies_of self) (g.A.Answerer.stands self.answerer) (g.A.Answerer.stands c.follow.new.self)
     c.args.steps.now c.follow.new.steps c.requires.next room
     _ (held self) c.stop_of.result (g.W.Site.outside c.args.site.now) (g.W.Site.outside c.add.new.site)
-    (λ h b M s has. inr (c.in-Ok-follow.ensures.few h b M s has)) (c.in-Err.ensures.told events spells)
+    (λ h b M s is has. inr (c.in-Ok-follow.ensures.few h b M s is has)) (c.in-Err.ensures.told events spells)
