@@ -9,6 +9,7 @@ use Rattle.road_io.specs.Outside.{Outside}
 use Rattle.sequence_journal.specs.declared.load.Loaded.{Loaded}
 use Rattle.store_switch.specs.LiveFile.{reads_of}
 use Rattle.store_switch.specs.StoreLoading.{StoreLoaded, LoadsStore}
+use Rattle.pinned_readers.specs.PinnedRuns.{Pins}
 use Rattle.session_replies.specs.Replies.{road_costs}
 use Rattle.session.specs.Conversation.{Kept}
 use Rattle.session.specs.Building.{Start, BuildsOf}
@@ -71,12 +72,12 @@ module _ (laws : StoreLaws) (l : Loaded) (status : Status) (old new : ℕ) where
       subst (λ (o : Outside). BuildsOver o bytes behind) here (
         λ s M objects.
             let same : opening mine ≡ opening s = same_opening laws (reads_of w) mine s in
-            let history : k.history ≡ s.history = ap (λ (o : Kept (Unit {0})). o.history) same in
+            let history : k.history ≡ s.history = ap (λ (o : Kept Pins). o.history) same in
             let b = builds bytes behind u (opening mine) M has left refl (opened l w u k)
             (subst (λ (h : History). HasObjects h M) (sym history) objects) in (
               b.0,
               b.1,
-              subst (λ (o : Kept (Unit {0})). BuildsOf road_costs o b.0 behind (status ≢ ReadFault)
+              subst (λ (o : Kept Pins). BuildsOf road_costs o b.0 behind (status ≢ ReadFault)
                   (old + length (highways M)) new) same b.2,
             ),
         λ never. absurd (never mine),

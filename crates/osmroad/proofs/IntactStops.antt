@@ -14,6 +14,7 @@ use Rattle.sequence_journal.specs.Layout.{NoBase}
 use Rattle.sequence_journal.specs.Basing.{base_alone}
 use Rattle.store_switch.specs.LiveFile.{IsLive, NoBases, BothDurable, reads_of}
 use Rattle.store_switch.specs.TwoFiles.{StandOn, StandFor, CanBeLoaded, AreIntact}
+use Rattle.pinned_readers.specs.PinnedRuns.{Pins}
 use Rattle.session.specs.Conversation.{Kept}
 use Rattle.session.specs.Conversing.{LeavesSession}
 use Rattle.osmroad.specs.declared.command.BaseProfile.{BaseProfile}
@@ -146,7 +147,7 @@ module _ (laws : StoreLaws) (w : Outside) (durable : BothDurable w) (intact : Ar
         (λ never. could_intact (l.otherwise (λ s. never s.history (s.live, s.generation, s.stands, s.small))))
         store_or_none
       where
-        session_intact : (from : Kept (Unit {0})) → LeavesSession (replies_over from) from read ended w left
+        session_intact : (from : Kept Pins) → LeavesSession (replies_over from) from read ended w left
             → AreIntact (image_of left)
         session_intact from k = ⊎_elim
             (intact_for left k.from.history) (intact_for left k.to.history) k.leaves.files

@@ -6,13 +6,14 @@ use Rattle.std.specs.FinMap.{empty}
 use Rattle.road_base.specs.declared.event.Event.{Event}
 use Rattle.road_base.specs.Objects.{Objects}
 use Rattle.road_base.specs.Applying.{IsApplied}
-use Rattle.road_base.specs.History.{History, HasObjects}
+use Rattle.road_base.specs.History.{History, HasObjects, kept}
 use Rattle.road_model.specs.Highways.{highways}
 use Rattle.road_io.specs.Outside.{Outside}
 use Rattle.road_io.proofs.ToldCalls.{told_same, told_weaker}
 use Rattle.sequence_journal.specs.declared.journal.Journal.{Journal}
 use Rattle.sequence_journal.specs.declared.load.Loaded.{Loaded}
 use Rattle.store_switch.specs.TwoFiles.{IsOnStore}
+use Rattle.pinned_readers.specs.PinnedRuns.{Pins, no_pins}
 use Rattle.session_answers.specs.Replies.{Replies}
 use Rattle.session_replies.specs.Replies.{road_costs}
 use Rattle.session.specs.declared.end.End.{End}
@@ -23,24 +24,31 @@ use Rattle.session.specs.Building.{Start, BuildsOf, SessionBuilds}
 use Rattle.session.proofs.HeldSource.{behind_of, held_still}
 use Rattle.osmroad.specs.Sessions.{IsOpening, ServesBuilding}
 
--- the journal and the objects of a loaded store are kept
-abbrev pub Keeping : Loaded → Objects → Keeps (Unit {0})
-Keeping l M = IsKept (λ h beside. HasObjects h M) l.journal
+-- the journal of a loaded store is kept, for which something answers
+abbrev pub Keeping : Loaded → (History → Pins → Type 0) → Keeps Pins
+Keeping l Stands = IsKept Stands l.journal
+
+-- with nothing pinned it stands for the histories of these objects with the number of the loaded store
+abbrev pub StandsOver : Loaded → Objects → (History → Pins → Type 0) → Type 0
+StandsOver l M Stands = (h : History) → HasObjects h M → kept h ≡ l.journal.kept.0 → Stands h no_pins
 
 -- what answers for what the events leave stands for the history with which the session opens
-pub kept_for : (l : Loaded) (M : Objects) → IsApplied empty l.events.items M → (o : Kept (Unit {0})) (w : Outside)
-    → IsOpening l o w → Keeping l M o w
-kept_for l M applied o w is = record {
+pub kept_for : (l : Loaded) (M : Objects) (Stands : History → Pins → Type 0) → StandsOver l M Stands
+    → IsApplied empty l.events.items M → (o : Kept Pins) (w : Outside) → IsOpening l o w → Keeping l Stands o w
+kept_for l M Stands stands applied o w is = record {
   on_store = is.on_store;
   small = is.small;
-  stands = subst (λ (events : List Event). IsApplied empty events M) is.events applied;
+  stands = subst (λ (pins : Pins). Stands o.history pins) (sym is.pins)
+      (stands o.history (subst (λ (events : List Event). IsApplied empty events M) is.events applied)
+      (sym is.on_store.at.last));
   room = is.room;
 }
 
-pub converses_over : (R : Replies (Unit {0})) (l : Loaded) (M : Objects) → IsApplied empty l.events.items M
+pub converses_over : (R : Replies Pins) (l : Loaded) (M : Objects) (Stands : History → Pins → Type 0)
+    → StandsOver l M Stands → IsApplied empty l.events.items M
     → (end : End) (held remaining : Option (List ℕ)) (x y : Option Outside)
-    → Converses R (Keeping l M) end held remaining x y → Converses R (IsOpening l) end held remaining x y
-converses_over R l M applied end held remaining x y c = record {
+    → Converses R (Keeping l Stands) end held remaining x y → Converses R (IsOpening l) end held remaining x y
+converses_over R l M Stands stands applied end held remaining x y c = record {
   bytes = c.bytes;
   read = c.read;
   behind = c.behind;
@@ -50,9 +58,9 @@ converses_over R l M applied end held remaining x y c = record {
   source = c.source;
   whole = c.whole;
   ends = told_weaker x y
-      (λ w v. (o : Kept (Unit {0})) → Keeping l M o w → SessionEnds R o c.read c.ended end w v)
-      (λ w v. (o : Kept (Unit {0})) → IsOpening l o w → SessionEnds R o c.read c.ended end w v) c.ends
-      (λ w v ends o is. ends o (kept_for l M applied o w is));
+      (λ w v. (o : Kept Pins) → Keeping l Stands o w → SessionEnds R o c.read c.ended end w v)
+      (λ w v. (o : Kept Pins) → IsOpening l o w → SessionEnds R o c.read c.ended end w v) c.ends
+      (λ w v ends o is. ends o (kept_for l M Stands stands applied o w is));
 }
 
 -- ---- no memory is found for the objects
@@ -64,8 +72,8 @@ not_at_end at = ⊎_elim
     (λ unfinished. let e : NoMemory ≡ Unfinished = unfinished in cc)
     at
 
-pub converses_nothing : (R : Replies (Unit {0})) (l : Loaded)
-    → ((o : Kept (Unit {0})) (j : Journal) (w : Outside) → IsOnStore j o.history w
+pub converses_nothing : (R : Replies Pins) (l : Loaded)
+    → ((o : Kept Pins) (j : Journal) (w : Outside) → IsOnStore j o.history w
     → SessionEnds R o [] false NoMemory w w)
     → (held : Option (List ℕ)) (x : Option Outside) → Converses R (IsOpening l) NoMemory held held x x
 converses_nothing R l law held x = record {
@@ -77,7 +85,7 @@ converses_nothing R l law held x = record {
   ended = false;
   source = λ ended. absurd (false≢true ended);
   whole = λ at. absurd (not_at_end at);
-  ends = told_same x (λ w v. (o : Kept (Unit {0})) → IsOpening l o w → SessionEnds R o [] false NoMemory w v)
+  ends = told_same x (λ w v. (o : Kept Pins) → IsOpening l o w → SessionEnds R o [] false NoMemory w v)
       (λ w o is. law o l.journal w is.on_store);
 }
 
@@ -89,7 +97,7 @@ LoadBuilds l old new =
     (objects : Objects) → IsApplied empty l.events.items objects → new ≤ old + length (highways objects)
 
 -- counted from more on
-builds_from : (o : Kept (Unit {0})) (read behind : List ℕ) (no_read_failed : Type 0) (old more new : ℕ) → old ≤ more
+builds_from : (o : Kept Pins) (read behind : List ℕ) (no_read_failed : Type 0) (old more new : ℕ) → old ≤ more
     → BuildsOf road_costs o read behind no_read_failed old new
     → BuildsOf road_costs o read behind no_read_failed more new
 builds_from o read behind no_read_failed old more new less (inl b) = inl (record {
@@ -122,17 +130,18 @@ builds_from o read behind no_read_failed old more new less (inr b) = inr (
 )
 
 -- the events of the loaded store are those of the history
-of_history : (l : Loaded) (o : Kept (Unit {0})) (w : Outside) → IsOpening l o w → (M : Objects)
+of_history : (l : Loaded) (o : Kept Pins) (w : Outside) → IsOpening l o w → (M : Objects)
     → HasObjects o.history M → IsApplied empty l.events.items M
 of_history l o w is M has = subst (λ (events : List Event). IsApplied empty events M) (sym is.events) has
 
-pub builds_over : (l : Loaded) (M : Objects) → IsApplied empty l.events.items M → (no_read_failed : Type 0)
+pub builds_over : (l : Loaded) (M : Objects) (Stands : History → Pins → Type 0) → StandsOver l M Stands
+    → IsApplied empty l.events.items M → (no_read_failed : Type 0)
     → (held remaining : Option (List ℕ)) (x : Option Outside) (old mid new : ℕ) → LoadBuilds l old mid
-    → SessionBuilds road_costs (Keeping l M) no_read_failed held remaining x mid new
+    → SessionBuilds road_costs (Keeping l Stands) no_read_failed held remaining x mid new
     → ServesBuilding l no_read_failed held remaining x old new
-builds_over l M applied no_read_failed held remaining x old mid new load builds =
+builds_over l M Stands stands applied no_read_failed held remaining x old mid new load builds =
     λ bytes behind w o N was is tells opens has.
-    let b = builds bytes behind w o was is tells (kept_for l M applied o w opens) in (
+    let b = builds bytes behind w o was is tells (kept_for l M Stands stands applied o w opens) in (
       b.0,
       b.1,
       builds_from o b.0 behind no_read_failed mid (old + length (highways N)) new

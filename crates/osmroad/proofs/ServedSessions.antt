@@ -14,6 +14,7 @@ use Rattle.sequence_journal.specs.Standing.{history_bytes}
 use Rattle.store_switch.specs.LiveFile.{reads_of}
 use Rattle.store_switch.specs.TwoFiles.{LeavesStore}
 use Rattle.store_switch.specs.StoreLoading.{StoreLoaded, LeavesAlike, LoadsStore}
+use Rattle.pinned_readers.specs.PinnedRuns.{Pins, no_pins}
 use Rattle.session_answers.specs.Replies.{Replies}
 use Rattle.session_replies.specs.Replies.{road_replies}
 use Rattle.session.specs.declared.end.End.{End}
@@ -78,7 +79,7 @@ is_served end status is = subst IsServed (sym is) (ended_served end)
 
 -- ---- what was put by a session, since the run began
 
-module _ (R : Replies (Unit {0})) (from : Kept (Unit {0})) (read : List ℕ) (ended : Bool) (w u : Outside) (same :
+module _ (R : Replies Pins) (from : Kept Pins) (read : List ℕ) (ended : Bool) (w u : Outside) (same :
     u.output ≡ w.output) where
   all_put_since : (end : End) (v : Outside) → PutsAll R from read ended end u v → PutsAll R from read ended end w v
   all_put_since end v p = record {
@@ -121,7 +122,7 @@ module _ (R : Replies (Unit {0})) (from : Kept (Unit {0})) (read : List ℕ) (en
 -- ---- each moment of the load
 
 -- a session that has said nothing yet
-silent_session : (R : Replies (Unit {0})) (from : Kept (Unit {0})) (read : List ℕ) (ended : Bool) (w : Outside) (left
+silent_session : (R : Replies Pins) (from : Kept Pins) (read : List ℕ) (ended : Bool) (w : Outside) (left
     : Left)
     → LeavesStore from.history w.output left → LeavesSession R from read ended w left
 silent_session R from read ended w left store =
@@ -180,13 +181,14 @@ opened l w u k = record {
   events = k.events;
   on_store = k.ready;
   small = k.kept_small;
+  pins = refl;
   room = ap room_at (sym k.ready.at.gate);
 }
 
-abbrev pub opening_at : ℕ → History → Kept (Unit {0})
+abbrev pub opening_at : ℕ → History → Kept Pins
 opening_at generation h = record {
   history = h;
-  beside = tt;
+  beside = no_pins;
   room = room_at (length (history_bytes generation h));
 }
 
@@ -200,7 +202,7 @@ module _ (laws : StoreLaws) where
       → (left : Left)
       → LeavesSession (replies_over (opening s)) (opening s) read ended u left → LeavesServed read ended w left
   session_leaves read ended w u same s left l = record {
-    stored = λ t. inr (subst (λ (o : Kept (Unit {0})). LeavesSession (replies_over o) o read ended w left)
+    stored = λ t. inr (subst (λ (o : Kept Pins). LeavesSession (replies_over o) o read ended w left)
         (same_opening (reads_of w) s t)
         (leaves_since (replies_over (opening s)) (opening s) read ended w u same left l));
     otherwise = λ never. absurd (never s);
@@ -209,7 +211,7 @@ module _ (laws : StoreLaws) where
   module _ (l : Loaded) (read : List ℕ) (ended : Bool) (end : End) (status : Status) (is : status ≡ end_status end)
     where
       session_runs : (w u v : Outside) → LoadsStore (Ok l) w u
-          → ((o : Kept (Unit {0})) → IsOpening l o u
+          → ((o : Kept Pins) → IsOpening l o u
           → SessionEnds (road_replies (rules_of l.journal.profile)) o read ended end u v)
           → SessionRuns read ended status w v
       session_runs w u v load ends =
@@ -261,7 +263,7 @@ module _ (laws : StoreLaws) where
         reads = subst (λ (s : Status). ReadsSession s c.bytes c.read) (sym serves.is)
             (session_reads serves.end c.bytes c.read c.behind c.all (λ at. (c.source (c.whole at)).0));
         runs = told_then x y z (LoadsStore (Ok l))
-            (λ u v. (o : Kept (Unit {0})) → IsOpening l o u
+            (λ u v. (o : Kept Pins) → IsOpening l o u
             → SessionEnds (road_replies (rules_of l.journal.profile)) o c.read c.ended serves.end u v)
             (SessionRuns c.read c.ended status) told c.ends
             (λ w u v load ends. session_runs l c.read c.ended serves.end status serves.is w u v load ends);

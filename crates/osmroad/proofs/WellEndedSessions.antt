@@ -4,6 +4,7 @@ use Rattle.std.proofs.Common.{inl, inr, refl, subst}
 use Rattle.road_io.specs.Told.{Rose}
 use Rattle.road_io.specs.Outside.{Outside}
 use Rattle.store_switch.specs.LiveFile.{reads_of}
+use Rattle.pinned_readers.specs.PinnedRuns.{Pins}
 use Rattle.session_answers.specs.Replies.{Replies}
 use Rattle.session.specs.declared.end.End.{End}
 use Rattle.session.specs.declared.end.End.TheVariants.{Done as DoneEnd, Unfinished, ReadFault as ReadFaultEnd}
@@ -30,8 +31,8 @@ abbrev pub IsDone : Status → Type 0
 IsDone status = (status ≡ Done) ⊎ (status ≡ NoMemory)
 
 -- a session ends inside a frame only where its source ended
-unfinished_saying : (R : Replies (Unit {0})) (from : Kept (Unit {0})) (before : ℕ) (rest : List ℕ) (ended : Bool)
-    (end : End) (out : List ℕ) (to : Kept (Unit {0}))
+unfinished_saying : (R : Replies Pins) (from : Kept Pins) (before : ℕ) (rest : List ℕ) (ended : Bool)
+    (end : End) (out : List ℕ) (to : Kept Pins)
     → EndsSaying R from before rest ended end out to → end ≡ Unfinished → ended ≡ true
 unfinished_saying R from before rest ended end out to (OfEnd at_end none is o t) same = at_end
 unfinished_saying R from before rest ended end out to (OfLast at_end p m l r is) same = at_end
@@ -41,8 +42,8 @@ unfinished_saying R from before rest ended end out to (OfFull m taken more a b s
 unfinished_saying R from before rest ended end out to (OfFullLast at_end p m l full is o t) same = at_end
 unfinished_saying R from before rest ended end out to (OfReadFault p is o t) same = absurd (cc)
 
-unfinished_at_end : (R : Replies (Unit {0})) (opening : Kept (Unit {0})) (read : List ℕ) (ended : Bool) (out : List ℕ)
-    (to : Kept (Unit {0}))
+unfinished_at_end : (R : Replies Pins) (opening : Kept Pins) (read : List ℕ) (ended : Bool) (out : List ℕ)
+    (to : Kept Pins)
     → SessionGives R opening read ended Unfinished out to → ended ≡ true
 unfinished_at_end R opening read ended out to g =
     unfinished_saying R g.from (length g.front) g.rest ended Unfinished g.last to g.ends refl

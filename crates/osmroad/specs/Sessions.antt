@@ -13,6 +13,7 @@ use Rattle.sequence_journal.specs.Standing.{history_bytes}
 use Rattle.store_switch.specs.LiveFile.{reads_of}
 use Rattle.store_switch.specs.TwoFiles.{IsOnStore}
 use Rattle.store_switch.specs.StoreLoading.{StillRead, StillStands}
+use Rattle.pinned_readers.specs.PinnedRuns.{Pins, no_pins}
 use Rattle.session_answers.specs.Replies.{Replies}
 use Rattle.session_replies.specs.Replies.{road_replies, road_costs}
 use Rattle.session.specs.declared.end.End.{End}
@@ -67,15 +68,17 @@ pub record AnswersFaults (fault status : Status) (before now : ℕ) : Type 0 whe
 -- ---- over a store that was loaded
 
 -- What a session may open with over a store that was loaded: its events are those of a history, for which the journal
--- stands on the files, of which the live one has at most 2^40 bytes; and the room is that behind the next gate.
-pub record IsOpening (loaded : Loaded) (opening : Kept (Unit {0})) (w : Outside) : Type 0 where
+-- stands on the files, of which the live one has at most 2^40 bytes; nothing is pinned; and the room is that behind the
+-- next gate.
+pub record IsOpening (loaded : Loaded) (opening : Kept Pins) (w : Outside) : Type 0 where
   pub events : loaded.events.items ≡ all_events opening.history
   pub on_store : IsOnStore loaded.journal opening.history w
   pub small : length (reads_of w loaded.journal.file) ≤ 2 ^ 40
+  pub pins : opening.beside ≡ no_pins
   pub room : opening.room ≡ room_at loaded.journal.gate
 
 -- a session ended, and this is the status that says how
-pub record Serves (R : Replies (Unit {0})) (loaded : Loaded) (status : Status) (held remaining : Option (List ℕ))
+pub record Serves (R : Replies Pins) (loaded : Loaded) (status : Status) (held remaining : Option (List ℕ))
     (before now : Option Outside) : Type 0 where
   pub end : End
   pub is : status ≡ end_status end
@@ -86,7 +89,7 @@ pub record Serves (R : Replies (Unit {0})) (loaded : Loaded) (status : Status) (
 abbrev pub ServesBuilding : Loaded → (no_read_failed : Type 0) → Option (List ℕ) → Option (List ℕ) → Option Outside → ℕ
     → ℕ → Type 0
 ServesBuilding loaded no_read_failed held remaining before old new =
-    (bytes behind : List ℕ) (w : Outside) (opening : Kept (Unit {0})) (M : Objects)
+    (bytes behind : List ℕ) (w : Outside) (opening : Kept Pins) (M : Objects)
     → held ≡ Some bytes → remaining ≡ Some behind → before ≡ Some w → IsOpening loaded opening w
     → HasObjects opening.history M
     → (read : List ℕ) × (bytes ≡ read ++ behind)
@@ -94,16 +97,17 @@ ServesBuilding loaded no_read_failed held remaining before old new =
 
 -- ---- over the two files
 
--- what is kept when the session opens: the history of the files, and the room behind the next gate of the live one
-abbrev pub opening : {files : Files} → IsStore files → Kept (Unit {0})
+-- what is kept when the session opens: the history of the files, nothing pinned, and the room behind the next gate of
+-- the live one
+abbrev pub opening : {files : Files} → IsStore files → Kept Pins
 opening s = record {
   history = s.history;
-  beside = tt;
+  beside = no_pins;
   room = room_at (length (history_bytes s.generation s.history));
 }
 
 -- what lines are answered with in a session that opens so: under the rules of its history's profile
-abbrev pub replies_over : Kept (Unit {0}) → Replies (Unit {0})
+abbrev pub replies_over : Kept Pins → Replies Pins
 replies_over kept = road_replies (rules_of kept.history.profile)
 
 -- The line was put that says why the files aren't loaded: all of it, under its status; or a front of it, where the site
@@ -164,10 +168,10 @@ pub record EndsSession (status : Status) (held remaining : Option (List ℕ)) (b
 -- No front of the bytes passes a limit in the session that opens with the store, of which only all of them end with the
 -- source, and the bytes don't end inside a frame.
 pub record EndsWell (files : Files) (bytes : List ℕ) : Type 0 where
-  pub within : (s : IsStore files) (read behind : List ℕ) (ended : Bool) (out : List ℕ) (to : Kept (Unit {0}))
+  pub within : (s : IsStore files) (read behind : List ℕ) (ended : Bool) (out : List ℕ) (to : Kept Pins)
       → bytes ≡ read ++ behind → (ended ≡ true → behind ≡ [])
       → SessionGives (replies_over (opening s)) (opening s) read ended LimitEnd out to → ⊥
-  pub finished : (s : IsStore files) (out : List ℕ) (to : Kept (Unit {0}))
+  pub finished : (s : IsStore files) (out : List ℕ) (to : Kept Pins)
       → SessionGives (replies_over (opening s)) (opening s) bytes true Unfinished out to → ⊥
 
 -- ---- how many blocks are built

@@ -69,7 +69,9 @@ pub fn serve<P: Profile, S: Source, W: Site, L: Ledger>(
     let Ok(engine) = Engine::load(alloc, profile, events, steps) else {
         return Status::NoMemory;
     };
-    let answerer = RoadAnswerer::new(alloc, engine);
+    let Ok(answerer) = RoadAnswerer::new(alloc, journal.kept(), engine) else {
+        return Status::NoMemory;
+    };
     status_of(converse(alloc, answerer, journal, source, site, steps))
 }
 

@@ -2,3 +2,5 @@ pub mod FurtherMessages
 pub mod Replies
 pub mod Texts
 pub mod CostTexts
+pub mod PinMessages
+pub mod PinTexts

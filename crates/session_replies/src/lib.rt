@@ -10,6 +10,8 @@ mod cost_texts;
 mod follower;
 mod further_messages;
 pub mod laws;
+mod pin_messages;
+mod pin_texts;
 mod queries;
 mod texts;
 
