@@ -4,3 +4,4 @@ pub mod Texts
 pub mod CostTexts
 pub mod PinMessages
 pub mod PinTexts
+pub mod PinReplies

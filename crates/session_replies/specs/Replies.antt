@@ -1,10 +1,11 @@
 -- What a session replies to a line, over the objects and the kept number that it has come to.
 use Rattle.std.specs.Prelude.{◌≡◌, ℕ, List, [], ◌++◌, length, Option, Some, None}
 use Rattle.std.specs.FinMap.{FinMap}
+use Rattle.std.specs.Option.{option_and_then}
 use Rattle.road_base.specs.Objects.{Objects}
 use Rattle.road_base.specs.declared.ids.NodeId.{NodeId}
 use Rattle.road_base.specs.declared.ids.Step.{Step}
-use Rattle.road_base.specs.History.{HasObjects, kept}
+use Rattle.road_base.specs.History.{History, HasObjects, kept}
 use Rattle.road_model.specs.declared.blocks.Block.{Block}
 use Rattle.road_model.specs.declared.follower.Question.{Question}
 use Rattle.road_model.specs.declared.follower.Question.TheVariants.{Graph as OfGraph, State as OfState}
@@ -28,10 +29,14 @@ use Rattle.least_cost.specs.declared.answers.Shortest.{Shortest}
 use Rattle.least_cost.specs.declared.answers.Cheapest.{Cheapest}
 use Rattle.least_cost.specs.Cheapest.{IsShortest, IsCheapest}
 use Rattle.moment_rules.specs.AtMoment.{rules_at}
+use Rattle.pinned_readers.specs.PinnedRuns.{Pins}
 use Rattle.session_answers.specs.Replies.{Replies, Costs}
 use Rattle.session_replies.specs.declared.further_messages.FurtherMessage.{FurtherMessage}
 use Rattle.session_replies.specs.declared.further_messages.FurtherMessage.TheVariants.{DriveAt, Route, Certify}
+use Rattle.session_replies.specs.declared.pin_messages.PinMessage.{PinMessage}
 use Rattle.session_replies.specs.FurtherMessages.{further_message}
+use Rattle.session_replies.specs.PinMessages.{pin_message}
+use Rattle.session_replies.specs.PinReplies.{IsPinReply}
 use Rattle.session_replies.specs.CostTexts.{shortest_line, cheapest_said}
 use Rattle.session_replies.specs.Texts.{unknown_line, state_line, verdict_line, found_line, graph_line}
 
@@ -97,10 +102,18 @@ abbrev pub IsLineReply : Objects → Rules → ℕ → Option (List ℕ) → Lis
 IsLineReply M P kept None out = out ≡ unknown_line
 IsLineReply M P kept (Some text) out = IsReply M P kept (asked text) (further_message text) out
 
--- What the lines of a session are answered with under the rules of a profile: over the objects of the history, with its
--- kept number. Nothing stands beside the history.
-abbrev pub road_replies : Rules → Replies (Unit {0})
-road_replies P h beside text out then = (M : Objects) × HasObjects h M × IsLineReply M P (kept h) text out
+-- The reply to a line, and what is pinned then. What isn't about pins is answered over the objects of the history, with
+-- its kept number, and leaves the pins.
+abbrev pub IsReplyAmong : Rules → History → Pins → (about_pins : Option PinMessage) → (text : Option (List ℕ)) → List ℕ
+    → (then : Pins) → Type 0
+IsReplyAmong P h pins (Some asks) text out then = IsPinReply (answers_to P) h pins asks out then
+IsReplyAmong P h pins None text out then =
+    ((M : Objects) × HasObjects h M × IsLineReply M P (kept h) text out) × (then ≡ pins)
+
+-- What the lines of a session are answered with under the rules of a profile. Beside the history stands what readers
+-- have pinned.
+abbrev pub road_replies : Rules → Replies Pins
+road_replies P h pins text out then = IsReplyAmong P h pins (option_and_then pin_message text) text out then
 
 -- for a change so many blocks are built as there are ways that it touches
 abbrev pub road_costs : Costs

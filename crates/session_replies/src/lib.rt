@@ -2,7 +2,7 @@
 //!
 //! A reply takes the time of its query (`drive_queries`, `least_cost`), and of its bytes; `drive-at` also that of
 //! reading the conditional values on its ways (`moment_rules`). A change takes the time of following it
-//! (`change_apply`). Nothing is put here.
+//! (`change_apply`), and a pin or a release that of `pinned_readers`. Nothing is put here.
 #![tactic(auto)]
 
 mod answerer;
@@ -11,6 +11,7 @@ mod follower;
 mod further_messages;
 pub mod laws;
 mod pin_messages;
+mod pin_replies;
 mod pin_texts;
 mod queries;
 mod texts;

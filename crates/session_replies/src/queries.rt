@@ -7,7 +7,7 @@ ghost use Rattle.session_answers.specs.Said.{said};
 ghost use Rattle.moment_rules.specs.AtMoment.{rules_at};
 ghost use Rattle.session_replies.specs.FurtherMessages.{further_message, HasSteps};
 ghost use Rattle.session_replies.specs.Replies.{IsReply, IsFurtherReply, IsDriveReply, IsGraphReply, IsStateReply};
-ghost use Rattle.session_replies.specs.Replies.{IsRouteReply, IsCertifyReply};
+ghost use Rattle.session_replies.specs.Replies.{IsLineReply, IsRouteReply, IsCertifyReply};
 ghost use Rattle.session_replies.specs.Texts.{unknown_line, found_line};
 
 use crate::cost_texts::{cheapest_reply, shortest_reply};
@@ -15,7 +15,7 @@ use crate::further_messages::{FurtherMessage, further_message};
 use crate::texts::{found_reply, graph_head, line_alone, state, unknown, verdict_reply};
 use back_references::Indexed;
 use change_apply::Engine;
-use drive_queries::{Asked, WordTable, counts, judge, reach};
+use drive_queries::{Asked, WordTable, counts, judge, message, reach};
 use graph_file::laws::walked_file;
 use graph_file::write;
 use least_cost::{least, shortest};
@@ -26,8 +26,23 @@ use road_model::laws::walk_law;
 use session_answers::Reply;
 use std::alloc::Global;
 
+/// The reply to a line that asks of the newest state.
+pub fn newest_reply<P: Profile>(
+    alloc: Global,
+    engine: &Engine<P>,
+    kept: Sequence,
+    line: &str,
+) -> Result<Reply, NoMemory>
+    requires { IsProfile (P.rules engine.now.profile).number }
+    ensures { IfOk result (λ r.
+        IsLineReply engine.now.world (P.rules engine.now.profile) kept.0 (Some line.now) (said r)) }
+{
+    let asked = message(alloc, line)?;
+    reply_to(alloc, engine, kept, &asked, line)
+}
+
 /// The reply to a message. The kept number is that of the last change. What isn't known is looked for in the line.
-pub fn reply_to<P: Profile>(
+fn reply_to<P: Profile>(
     alloc: Global,
     engine: &Engine<P>,
     kept: Sequence,
