@@ -13,7 +13,7 @@ use Rattle.road_io.proofs.ToldCalls.{told_same, told_weaker}
 use Rattle.sequence_journal.specs.declared.journal.Journal.{Journal}
 use Rattle.sequence_journal.specs.declared.load.Loaded.{Loaded}
 use Rattle.store_switch.specs.TwoFiles.{IsOnStore}
-use Rattle.pinned_readers.specs.PinnedRuns.{Pins, no_pins}
+use Rattle.pinned_readers.specs.PinnedRuns.{Pins}
 use Rattle.session_answers.specs.Replies.{Replies}
 use Rattle.session_replies.specs.Replies.{road_costs}
 use Rattle.session.specs.declared.end.End.{End}
@@ -30,7 +30,7 @@ Keeping l Stands = IsKept Stands l.journal
 
 -- with nothing pinned it stands for the histories of these objects with the number of the loaded store
 abbrev pub StandsOver : Loaded → Objects → (History → Pins → Type 0) → Type 0
-StandsOver l M Stands = (h : History) → HasObjects h M → kept h ≡ l.journal.kept.0 → Stands h no_pins
+StandsOver l M Stands = (h : History) → HasObjects h M → kept h ≡ l.journal.kept.0 → Stands h empty
 
 -- what answers for what the events leave stands for the history with which the session opens
 pub kept_for : (l : Loaded) (M : Objects) (Stands : History → Pins → Type 0) → StandsOver l M Stands

@@ -2,6 +2,7 @@
 use Rattle.std.proofs.Common.{◌≡◌, ◌⊎◌, inl, inr, ℕ, List, [], ◌++◌, length, take, Option, Bool, IfSome}
 use Rattle.std.proofs.Common.{Ok, refl, sym, ◌∙◌, ap, subst}
 use Rattle.std.proofs.lemmas.List.{append-nil}
+use Rattle.std.specs.FinMap.{empty}
 use Rattle.std.specs.Io.{StartsWith}
 use Rattle.road_base.specs.History.{History}
 use Rattle.access_profile.specs.Profiles.{rules_of}
@@ -14,7 +15,7 @@ use Rattle.sequence_journal.specs.Standing.{history_bytes}
 use Rattle.store_switch.specs.LiveFile.{reads_of}
 use Rattle.store_switch.specs.TwoFiles.{LeavesStore}
 use Rattle.store_switch.specs.StoreLoading.{StoreLoaded, LeavesAlike, LoadsStore}
-use Rattle.pinned_readers.specs.PinnedRuns.{Pins, no_pins}
+use Rattle.pinned_readers.specs.PinnedRuns.{Pins}
 use Rattle.session_answers.specs.Replies.{Replies}
 use Rattle.session_replies.specs.Replies.{road_replies}
 use Rattle.session.specs.declared.end.End.{End}
@@ -188,7 +189,7 @@ opened l w u k = record {
 abbrev pub opening_at : ℕ → History → Kept Pins
 opening_at generation h = record {
   history = h;
-  beside = no_pins;
+  beside = empty;
   room = room_at (length (history_bytes generation h));
 }
 

@@ -2,6 +2,7 @@
 -- leaves.
 use Rattle.std.specs.Prelude.{◌≡◌, ◌≢◌, ◌⊎◌, ℕ, ◌+◌, ◌<◌, ◌≤◌, ◌^◌, List, [], ◌++◌, length, take, Option}
 use Rattle.std.specs.Prelude.{Some, Bool, true}
+use Rattle.std.specs.FinMap.{empty}
 use Rattle.road_base.specs.History.{HasObjects, all_events}
 use Rattle.road_base.specs.Objects.{Objects}
 use Rattle.road_model.specs.Highways.{highways}
@@ -13,7 +14,7 @@ use Rattle.sequence_journal.specs.Standing.{history_bytes}
 use Rattle.store_switch.specs.LiveFile.{reads_of}
 use Rattle.store_switch.specs.TwoFiles.{IsOnStore}
 use Rattle.store_switch.specs.StoreLoading.{StillRead, StillStands}
-use Rattle.pinned_readers.specs.PinnedRuns.{Pins, no_pins}
+use Rattle.pinned_readers.specs.PinnedRuns.{Pins}
 use Rattle.session_answers.specs.Replies.{Replies}
 use Rattle.session_replies.specs.Replies.{road_replies, road_costs}
 use Rattle.session.specs.declared.end.End.{End}
@@ -74,7 +75,7 @@ pub record IsOpening (loaded : Loaded) (opening : Kept Pins) (w : Outside) : Typ
   pub events : loaded.events.items ≡ all_events opening.history
   pub on_store : IsOnStore loaded.journal opening.history w
   pub small : length (reads_of w loaded.journal.file) ≤ 2 ^ 40
-  pub pins : opening.beside ≡ no_pins
+  pub pins : opening.beside ≡ empty
   pub room : opening.room ≡ room_at loaded.journal.gate
 
 -- a session ended, and this is the status that says how
@@ -102,7 +103,7 @@ ServesBuilding loaded no_read_failed held remaining before old new =
 abbrev pub opening : {files : Files} → IsStore files → Kept Pins
 opening s = record {
   history = s.history;
-  beside = no_pins;
+  beside = empty;
   room = room_at (length (history_bytes s.generation s.history));
 }
 
