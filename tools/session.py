@@ -11,7 +11,8 @@ Use: session.py STORE               < MESSAGES   sends the messages one at a tim
      session.py STORE graph FILE                 writes the graph to the file
      session.py STORE frame N FILE               sends the lines of the file as change N
 
-Of the first use: `--graph FILE` behind STORE names the file to which the message `graph` writes.
+Of the first use: `--graph FILE` behind STORE names the file to which the messages `graph` and `ask K graph` write.
+There `pin K` pins the newest state for reader K, `ask K MESSAGE` asks that state, and `release K` lets it go.
 STORE is a store's name: that of its files NAME.a and NAME.b, without the ending.
 The program is that of the variable OSMROAD, else crates/osmroad/out/osmroad beside tools/, else osmroad on the PATH.
 
@@ -28,9 +29,12 @@ As a module:
         print(town.reach(101, 104))                     # ['w201.0+', 'w201.1+', 'w202.0+'], or None
         print(town.route(101, 104))                     # Route(cost=20002, steps=['w201.0+', ..]), or None
         print(town.drive(['w201.0+', 'w202.0+']))       # Verdict(legal=False, step=2, rule='apart')
-        town.frame(town.kept() + 1, ['n105 v2 dD'])     # returns when the change is kept
+        with town.pin() as reader:                      # a state that stays while the map goes on
+            town.frame(town.kept() + 1, ['n105 v2 dD'])     # returns when the change is kept
+            print(reader.reach(101, 104))               # of the map as it was when it was pinned
 """
 import collections
+import itertools
 import os
 import re
 import shutil
@@ -48,6 +52,7 @@ Route = collections.namedtuple('Route', 'cost steps')
 HERE = os.path.dirname(os.path.realpath(__file__))
 BESIDE = os.path.join(HERE, '..', 'crates', 'osmroad', 'out', 'osmroad')
 LARGEST = 2 ** 64 - 1
+LARGEST_READER = 2 ** 32 - 1
 
 ENDS = {
     1: 'usage: the name of a store is not empty and does not begin with -',
@@ -89,6 +94,29 @@ class NoNode(Exception):
     def __init__(self, node):
         super().__init__(f'no node {node} that is visible and has a location')
         self.node = node
+
+
+class PinBusy(Exception):
+    """The reader has pinned a state already, and keeps it."""
+
+    def __init__(self, reader):
+        super().__init__(f'reader {reader} has pinned a state')
+        self.reader = reader
+
+
+class PinsFull(Exception):
+    """As many readers have pinned a state as may."""
+
+    def __init__(self):
+        super().__init__('64 readers have pinned a state')
+
+
+class NoPin(Exception):
+    """The reader has no state pinned: it was released."""
+
+    def __init__(self, reader):
+        super().__init__(f'reader {reader} has no state pinned')
+        self.reader = reader
 
 
 class Refused(Exception):
@@ -147,7 +175,12 @@ def number_of_frame(words):
 
 def asks_for_bytes(words):
     """Whether the reply to a line of these words may have bytes behind it."""
-    return words == ['graph'] or len(words) == 3 and words[0] == 'certify'
+    return asks_for_graph(words) or len(words) == 3 and words[0] == 'certify'
+
+
+def asks_for_graph(words):
+    """Whether they ask for a graph, of the newest state or of a pinned one."""
+    return words == ['graph'] or len(words) == 3 and words[0] == 'ask' and words[2] == 'graph'
 
 
 def encoded(line):
@@ -173,7 +206,35 @@ def change_bytes(lines):
     return change
 
 
-class Session:
+class Answers:
+    """What the newest state and a pinned one are asked alike: by the words of a message (`_asked`), and by those of one
+    whose reply has bytes behind it (`_with_bytes`)."""
+
+    def state(self):
+        """The number of the last change, and how many ways, pieces, contexts and arcs the graph has."""
+        return State(*[int(word) for word in self._asked('state')[2::2]])
+
+    def graph(self):
+        """The bytes of the graph (docs/FORMATS.md), which tools/graph.py reads."""
+        return self._with_bytes('graph')[1]
+
+    def drive(self, steps):
+        """Whether the drive of these steps is legal, and else which step breaks which rule, as 'no 303' or 'apart'."""
+        return self._verdict('drive', *steps)
+
+    def _verdict(self, *words):
+        words = self._asked(*words)
+        return Verdict(True, None, None) if words == ['legal'] else Verdict(False, int(words[1]), ' '.join(words[2:]))
+
+    def reach(self, start, goal):
+        """The steps of some legal drive from a node to another; None where there is none."""
+        words = self._asked('reach', str(start), str(goal))
+        if words[0] == 'no-node':
+            raise NoNode(int(words[1]))
+        return words[1:] if words[0] == 'drive' else None
+
+
+class Session(Answers):
     """A session over a store. Its methods may be called from several threads: they take turns.
 
     A message is sent whole, and then its reply is read. That can't block for good: the program reads all of a message,
@@ -186,6 +247,7 @@ class Session:
         self.status = None
         self.said = ''
         self.owed = False
+        self.readers = {}
         try:
             self.process = subprocess.Popen([program or default_program(), store, 'session'],
                                             stdin=subprocess.PIPE, stdout=subprocess.PIPE)
@@ -250,16 +312,13 @@ class Session:
         return reply.split(' ')
 
     def ask(self, line):
-        """The reply to one line, which begins no frame and asks for no bytes, as `graph` and `certify A B` do."""
+        """The reply to one line, which begins no frame and asks for no bytes, as `graph` and `certify A B` do, and
+        `ask K graph`."""
         words = words_of(line)
         if '\n' in line or not words or asks_for_bytes(words) or number_of_frame(words) is not None:
             raise ValueError('not one line with a reply of one line')
         with self.turn:
             return self._exchange(encoded(line) + b'\n')
-
-    def state(self):
-        """The kept number, and how many ways, pieces, contexts and arcs the graph has."""
-        return State(*[int(word) for word in self._asked('state')[2::2]])
 
     def kept(self):
         """The number of the last change that the store keeps."""
@@ -278,10 +337,6 @@ class Session:
             self.owed = False
             return reply, data
 
-    def graph(self):
-        """The bytes of the graph (docs/FORMATS.md), which tools/graph.py reads."""
-        return self._with_bytes('graph')[1]
-
     def certify(self, start, goal):
         """The bytes of a certificate of what `route` answers (docs/SESSION.md), which tools/graph.py checks."""
         words, data = self._with_bytes('certify', str(start), str(goal))
@@ -294,15 +349,7 @@ class Session:
     def drive(self, steps, moment=None):
         """Whether the drive of these steps is legal, and else which step breaks which rule, as 'no 303' or 'apart'; at
         a moment, if one is given, such as '2024-05-06T23:00'."""
-        words = self._asked(*(['drive'] if moment is None else ['drive-at', moment]), *steps)
-        return Verdict(True, None, None) if words == ['legal'] else Verdict(False, int(words[1]), ' '.join(words[2:]))
-
-    def reach(self, start, goal):
-        """The steps of some legal drive from a node to another; None where there is none."""
-        words = self._asked('reach', str(start), str(goal))
-        if words[0] == 'no-node':
-            raise NoNode(int(words[1]))
-        return words[1:] if words[0] == 'drive' else None
+        return self._verdict(*(['drive'] if moment is None else ['drive-at', moment]), *steps)
 
     def route(self, start, goal):
         """The cost and the steps of a legal drive from a node to another than which none costs less; None where there
@@ -311,6 +358,22 @@ class Session:
         if words[0] == 'no-node':
             raise NoNode(int(words[1]))
         return Route(int(words[1]), words[3:]) if words[0] == 'cost' else None
+
+    def pin(self, reader=None):
+        """Pins the newest state, and returns a Reader of it; `reader` is its number, the least that isn't pinned here
+        where none is given."""
+        with self.turn:
+            if reader is None:
+                reader = next(number for number in itertools.count() if number not in self.readers)
+            elif not 0 <= reader <= LARGEST_READER:
+                raise ValueError('a number of 32 bits is wanted')
+            words = self._asked('pin', str(reader))
+            if words == ['pins', 'full']:
+                raise PinsFull()
+            if words[0] == 'pin':
+                raise PinBusy(reader)
+            self.readers[reader] = Reader(self, reader, int(words[3]))
+            return self.readers[reader]
 
     def frame(self, number, lines):
         """Sends a change, as bytes or as lines. Where it returns, the change is kept, whatever stops then."""
@@ -331,6 +394,44 @@ class Session:
         else:
             raise Faulty(int(words[1]), int(words[3]), int(words[5]), words[6])
         return reply
+
+
+class Reader(Answers):
+    """A reader of the state that was the newest one when it was pinned: it is answered from that, whatever the session
+    follows since, until it is released or the session ends. `sequence` is the number of the state's last change."""
+
+    def __init__(self, session, number, sequence):
+        self.session, self.number, self.sequence = session, number, sequence
+
+    def __enter__(self):
+        return self
+
+    def __exit__(self, kind, value, trace):
+        if self.session.status is None and not self.session.owed:
+            self.release()
+
+    def _asked(self, *words):
+        return self._pinned(lambda: self.session._asked('ask', str(self.number), *words))
+
+    def _with_bytes(self, *words):
+        return self._pinned(lambda: self.session._with_bytes('ask', str(self.number), *words))
+
+    def _pinned(self, ask):
+        """What is asked, where the state is still pinned."""
+        with self.session.turn:
+            if self.session.readers.get(self.number) is not self:
+                raise NoPin(self.number)
+            reply = ask()
+            if self.session.said == f'no pin {self.number}':
+                raise NoPin(self.number)
+            return reply
+
+    def release(self):
+        """Lets the state go. One that was released stays so."""
+        with self.session.turn:
+            if self.session.readers.get(self.number) is self:
+                self.session._asked('release', str(self.number))
+                del self.session.readers[self.number]
 
 
 # ---------------------------------------------------------------------------------------------------------- the command
@@ -385,10 +486,12 @@ def read_lines():
         raise Trouble(2, f'standard input: {error.strerror}') from None
 
 
-def save_graph(session, name):
-    graph = session.graph()
-    write_file(name, graph)
-    say(f'graph {len(graph)}')
+def save_graph(session, words, name):
+    """Sends a message that asks for a graph, and writes the graph to the file, where the reply has one."""
+    words, graph = session._with_bytes(*words)
+    if words[0] == 'graph':
+        write_file(name, graph)
+    say(session.said)
 
 
 def save_certificate(session, start, goal, name):
@@ -429,10 +532,10 @@ def talk(session, graph_file):
         words = words_of(text)
         if number_of_frame(words) is not None:
             talk_frame(session, line, lines)
-        elif words == ['graph'] and graph_file is not None:
-            save_graph(session, graph_file)
+        elif asks_for_graph(words) and graph_file is not None:
+            save_graph(session, words, graph_file)
         elif asks_for_bytes(words):
-            named = '--graph FILE' if words == ['graph'] else 'session.py STORE certify A B FILE'
+            named = '--graph FILE' if asks_for_graph(words) else 'session.py STORE certify A B FILE'
             tell(f'session.py: name a file for the bytes: {named}')
             status = 1
         elif words:
@@ -443,7 +546,7 @@ def talk(session, graph_file):
 def answer(session, words):
     """One message as words of the command line."""
     if words[0] == 'graph':
-        save_graph(session, words[1])
+        save_graph(session, words[:1], words[1])
     elif words[0] == 'certify':
         save_certificate(session, *words[1:])
     elif words[0] == 'frame':
