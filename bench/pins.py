@@ -163,6 +163,7 @@ def questions(pair, path):
                 took[asks].append(pair.read.ask(asks + message)[1])
         print(f'  {message}: {middle(took[""]):.1f} ms of the newest state, {middle(took["ask 1 "]):.1f} ms of a '
               'pinned one', flush=True)
+    pair.plain.ask('graph')         # takes its memory too
     pair.release(1)
 
 
