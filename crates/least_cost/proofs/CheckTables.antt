@@ -63,50 +63,43 @@ module _ (spots : List Spot) (list : List (Option ℕ)) (costs : List ℕ)
       ]
     ]
 
-    module _ (b : NodeId) (C : Option ℕ) (number n : ℕ) (x : At) (arc : TurnArc) (s : Spot)
-        (to_number from_number : Option ℕ) (sum : ℕ)
-        (here : n < length spots) (is : s ≡ get_or spots n s)
-        (leads : LeadsBy (map at_of spots) x arc n)
+    module _ (b : NodeId) (C : Option ℕ) (number n : ℕ) (x : At) (arc : TurnArc) (to_number from_number : Option ℕ)
+        (sum : ℕ) (leads : LeadsBy (map at_of spots) x arc n)
         (from_is : slice_get list number ≡ Some from_number) (to_is : slice_get list n ≡ Some to_number)
         (summed : slice_get costs n ≡ Some sum) where
-      target_at : slice_get (map at_of spots) n ≡ Some (at_of s)
-      target_at = spot_read spots n s here is
-
-      pub over_holds : AtMost to_number (plus from_number (Some sum)) → HoldsAtEnds b C from_number s.piece.now.places
-          → HoldsOnArc (map at_of spots) list b C number x arc
+      pub over_holds : AtMost to_number (plus from_number (Some sum))
+          → HoldsAtEnds b C from_number leads.to.piece.places → HoldsOnArc (map at_of spots) list b C number x arc
       over_holds g ends m to at_to key =
           let k : key_of to ≡ key_of leads.to = key ∙ sym leads.named in
           let same : m ≡ n = one_place m n to leads.to at_to leads.at k in
-          let one : to ≡ at_of s
-          = one_stands (map at_of spots) n to (at_of s) (ap (slice_get (map at_of spots)) (sym same) ∙ at_to)
-          target_at in
+          let one : to ≡ leads.to
+          = one_stands (map at_of spots) n to leads.to (ap (slice_get (map at_of spots)) (sym same) ∙ at_to)
+          leads.at in
           let from : from_number ≡ number_at list number = sym (ap number_in from_is) in
           let there : to_number ≡ number_at list m = sym (ap (number_at list) same ∙ ap number_in to_is) in
-          let h : HoldsOver b C from_number to_number (at_of s).piece.places = record {
+          let h : HoldsOver b C from_number to_number leads.to.piece.places = record {
             goes_on = subst (λ v. AtMost to_number (plus from_number (Some v)))
-                (sum_is n sum (at_of s) target_at summed) g;
+                (sum_is n sum leads.to leads.at summed) g;
             ends = ends;
           } in
           subst (λ y. HoldsOver b C (number_at list number) (number_at list m) y.piece.places) (sym one)
-          (subst (λ v. HoldsOver b C v (number_at list m) (at_of s).piece.places) from
-          (subst (λ v. HoldsOver b C from_number v (at_of s).piece.places) there h))
+          (subst (λ v. HoldsOver b C v (number_at list m) leads.to.piece.places) from
+          (subst (λ v. HoldsOver b C from_number v leads.to.piece.places) there h))
 
       over_all : HoldsOnArc (map at_of spots) list b C number x arc
-          → HoldsOver b C from_number to_number (at_of s).piece.places
+          → HoldsOver b C from_number to_number leads.to.piece.places
       over_all h =
-          let e = one_stands (map at_of spots) n (at_of s) leads.to target_at leads.at in
-          let key = ap key_of e ∙ leads.named in
-          subst (λ v. HoldsOver b C v to_number (at_of s).piece.places) (ap number_in from_is)
-          (subst (λ v. HoldsOver b C (number_at list number) v (at_of s).piece.places) (ap number_in to_is)
-          (h n (at_of s) target_at key))
+          subst (λ v. HoldsOver b C v to_number leads.to.piece.places) (ap number_in from_is)
+          (subst (λ v. HoldsOver b C (number_at list number) v leads.to.piece.places) (ap number_in to_is)
+          (h n leads.to leads.at leads.named))
 
       pub over_goes_on : HoldsOnArc (map at_of spots) list b C number x arc
           → AtMost to_number (plus from_number (Some sum))
       over_goes_on h = subst (λ v. AtMost to_number (plus from_number (Some v)))
-          (sym (sum_is n sum (at_of s) target_at summed)) (over_all h).goes_on
+          (sym (sum_is n sum leads.to leads.at summed)) (over_all h).goes_on
 
       pub over_ends : HoldsOnArc (map at_of spots) list b C number x arc
-          → HoldsAtEnds b C from_number s.piece.now.places
+          → HoldsAtEnds b C from_number leads.to.piece.places
       over_ends h = (over_all h).ends
 
   -- a context that was read
@@ -127,9 +120,16 @@ module _ (spots : List Spot) (list : List (Option ℕ)) (costs : List ℕ)
           (subst (λ u. HoldsAtStarts a b C u (at_of s).piece.places) (ap number_in v_is)
           (subst (λ y. HoldsAtStarts a b C (number_at list number) y.piece.places) read_is h))
 
-module _ (b : NodeId) (C v : Option ℕ) (places same : List Place) (are : places ≡ same) where
-  pub ends_read : HoldsAtEnds b C v places → HoldsAtEnds b C v same
-  ends_read h = subst (λ l. HoldsAtEnds b C v l) are h
+-- the places of a context that was read
+module _ (spots : List Spot) (b : NodeId) (C v : Option ℕ) (n : ℕ) (x : At) (s : Spot) (places : List Place)
+    (within : n < length spots) (is : s ≡ get_or spots n s) (at : slice_get (map at_of spots) n ≡ Some x)
+    (are : places ≡ s.piece.now.places) where
+  same_places : places ≡ x.piece.places
+  same_places = are ∙ ap (λ (y : At). y.piece.places)
+      (one_stands (map at_of spots) n (at_of s) x (spot_read spots n s within is) at)
 
-  pub ends_back : HoldsAtEnds b C v same → HoldsAtEnds b C v places
-  ends_back h = subst (λ l. HoldsAtEnds b C v l) (sym are) h
+  pub ends_read : HoldsAtEnds b C v places → HoldsAtEnds b C v x.piece.places
+  ends_read h = subst (λ l. HoldsAtEnds b C v l) same_places h
+
+  pub ends_back : HoldsAtEnds b C v x.piece.places → HoldsAtEnds b C v places
+  ends_back h = subst (λ l. HoldsAtEnds b C v l) (sym same_places) h

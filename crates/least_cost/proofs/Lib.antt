@@ -24,3 +24,4 @@ pub mod CheckShown
 pub mod CheckPlaces
 pub mod CheckTables
 pub mod CheckRoutes
+pub mod NearContexts

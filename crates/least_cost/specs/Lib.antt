@@ -7,3 +7,4 @@ pub mod Trails
 pub mod PlaceCosts
 pub mod Lowered
 pub mod Shown
+pub mod LastPieces

@@ -10,7 +10,7 @@ ghost use Rattle.context_search.specs.Reaching.{LeadsTo};
 ghost use Rattle.context_search.specs.Sought.{AreSpots};
 ghost use Rattle.least_cost.specs.Certified.{IsCertificate, IsCertified};
 
-use crate::conditions::{Claim, NumberedContexts, holds_everywhere, piece_costs};
+use crate::conditions::{Claim, hold};
 use crate::costs::drive_cost;
 use crate::potentials::Potentials;
 use context_search::{Spot, spots_in_order};
@@ -27,8 +27,8 @@ use way_lines::{head, tail};
 /// numbers show that none costs less; or, where no route is given, whether they show that there is none. The numbers
 /// have to be as many as the contexts. The blocks are those of the world under the profile.
 ///
-/// Takes what judging the route takes, and one pass over contexts and arcs: for each arc the time of a short search by
-/// names. Takes memory in proportion to the contexts.
+/// Takes what judging the route takes, and one pass over contexts and arcs: for each arc a few steps where the numbers
+/// of ways are spread evenly, and at most the time of a search by names. Takes memory in proportion to the contexts.
 pub fn check<M: World, P: Profile, B: LendsBlocks>(
     alloc: Global,
     world: &M,
@@ -208,14 +208,7 @@ fn shows_over<M: World, P: Profile>(
     if !are_as_many(numbers, spots) {
         return Ok(false);
     }
-    let sums = piece_costs(alloc, spots)?;
-    let costs = sums.as_slice();
-    let numbered = NumberedContexts {
-        spots,
-        numbers,
-        costs,
-    };
-    let holds = holds_everywhere(alloc, &numbered, claim)?;
+    let holds = hold(alloc, spots, numbers, claim)?;
     Ok(holds)
 }
 

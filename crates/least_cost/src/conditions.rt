@@ -13,9 +13,11 @@ ghost use Rattle.least_cost.specs.Certified.{AtMost};
 ghost use Rattle.least_cost.specs.PlaceCosts.{places_cost};
 ghost use Rattle.least_cost.specs.Shown.{number_at, HoldsAtEnds, HoldsAtStarts, HoldsOnArc, HoldsAtContext};
 ghost use Rattle.least_cost.specs.Shown.{HoldsEverywhere, piece_cost, AreNumbered};
+ghost use Rattle.least_cost.specs.LastPieces.{AreKept, is_passed, last_piece, passes};
 
+use crate::context_finder::ContextFinder;
 use crate::costs::{places_cost, step_cost};
-use context_search::{Spot, find_spot, put_names};
+use context_search::{Spot, put_names};
 use road_base::{NoMemory, NodeId};
 use road_model::laws::name_order;
 use road_model::{PieceName, Place, TurnArc};
@@ -29,16 +31,61 @@ pub struct Claim {
     pub cost: Option<u128>,
 }
 
-/// All contexts in order, a number at each, and the costs of their last pieces.
+/// All contexts in order, what they are found by, a number at each, and of their last pieces what they cost and whether
+/// they pass node b.
 #[derive(Clone, Copy)]
 pub struct NumberedContexts<'s, 'b> {
     pub spots: &'s [Spot<'b>],
+    pub finder: &'s ContextFinder,
     pub numbers: &'s [Option<u128>],
     pub costs: &'s [u128],
+    pub passed: &'s [bool],
+}
+
+/// Whether the numbers, one for each of the contexts, show the claim. Goes over contexts and arcs once, and takes some
+/// 43 bytes for each context.
+pub fn hold(
+    alloc: Global,
+    spots: &[Spot<'_>],
+    numbers: &[Option<u128>],
+    claim: &Claim,
+) -> Result<bool, NoMemory>
+    requires up { IsTrue (rises key_cmp (map key_of (map at_of spots.now))) }
+    requires targets { HasTargets (map at_of spots.now) }
+    requires count { length numbers.now ≡ length spots.now }
+    ensures yes { IfOk result (λ yes. IsTrue yes
+        → HoldsEverywhere (map at_of spots.now) numbers.now claim.now.a claim.now.b claim.now.cost) }
+    ensures no { IfOk result (λ yes. IsFalse yes
+        → HoldsEverywhere (map at_of spots.now) numbers.now claim.now.a claim.now.b claim.now.cost
+        → ⊥) }
+{
+    let finder = ContextFinder::of(alloc, spots)?;
+    let sums = piece_costs(alloc, spots)?;
+    let marks = passing(alloc, spots, claim.b)?;
+    let numbered = NumberedContexts {
+        spots,
+        finder: &finder,
+        numbers,
+        costs: sums.as_slice(),
+        passed: marks.as_slice(),
+    };
+    let holds = holds_everywhere(alloc, &numbered, claim)?;
+    Ok(holds)
+}
+
+/// Whether the last pieces of the contexts pass the node.
+fn passing(alloc: Global, spots: &[Spot<'_>], node: NodeId) -> Result<Vec<bool>, NoMemory>
+    ensures { IfOk result (λ v. v.items ≡ map (is_passed node) (map at_of spots.now)) }
+{
+    let mut marks = Vec::with_capacity(alloc, spots.len())?;
+    for spot in spots {
+        marks.push(passes(spot.piece.places.items(), node))?;
+    }
+    Ok(marks)
 }
 
 /// The costs of the last pieces of the contexts.
-pub fn piece_costs(alloc: Global, spots: &[Spot<'_>]) -> Result<Vec<u128>, NoMemory>
+fn piece_costs(alloc: Global, spots: &[Spot<'_>]) -> Result<Vec<u128>, NoMemory>
     ensures { IfOk result (λ v. v.items ≡ map piece_cost (map at_of spots.now)) }
 {
     let mut costs = Vec::with_capacity(alloc, spots.len())?;
@@ -49,12 +96,14 @@ pub fn piece_costs(alloc: Global, spots: &[Spot<'_>]) -> Result<Vec<u128>, NoMem
 }
 
 /// Whether the numbers show the claim at each context. Goes over contexts and arcs once.
-pub fn holds_everywhere(
+fn holds_everywhere(
     alloc: Global,
     numbered: &NumberedContexts<'_, '_>,
     claim: &Claim,
 ) -> Result<bool, NoMemory>
-    requires { AreNumbered (map at_of numbered.now.spots.now) numbered.now.numbers.now numbered.now.costs.now }
+    requires numbered { AreNumbered (map at_of numbered.now.spots.now) numbered.now.numbers.now numbered.now.costs.now }
+    requires kept { AreKept (map at_of numbered.now.spots.now) claim.now.b numbered.now.finder.now
+        numbered.now.passed.now }
     ensures yes { IfOk result (λ yes. IsTrue yes
         → HoldsEverywhere (map at_of numbered.now.spots.now) numbered.now.numbers.now
         claim.now.a claim.now.b claim.now.cost) }
@@ -82,6 +131,8 @@ fn holds_at(
     number: usize,
 ) -> Result<bool, NoMemory>
     requires numbered { AreNumbered (map at_of numbered.now.spots.now) numbered.now.numbers.now numbered.now.costs.now }
+    requires kept { AreKept (map at_of numbered.now.spots.now) claim.now.b numbered.now.finder.now
+        numbered.now.passed.now }
     requires within { number < length numbered.now.spots.now }
     ensures yes { IfOk result (λ yes. IsTrue yes → (x : At)
         → slice_get (map at_of numbered.now.spots.now) number ≡ Some x
@@ -140,6 +191,8 @@ fn holds_on_arcs(
     number: usize,
 ) -> Result<bool, NoMemory>
     requires numbered { AreNumbered (map at_of numbered.now.spots.now) numbered.now.numbers.now numbered.now.costs.now }
+    requires kept { AreKept (map at_of numbered.now.spots.now) claim.now.b numbered.now.finder.now
+        numbered.now.passed.now }
     requires within { number < length numbered.now.spots.now }
     ensures yes { IfOk result (λ yes. IsTrue yes → (x : At) (arc : TurnArc)
         → slice_get (map at_of numbered.now.spots.now) number ≡ Some x
@@ -174,6 +227,8 @@ fn holds_on_arc(
     arc: TurnArc,
 ) -> Result<bool, NoMemory>
     requires numbered { AreNumbered (map at_of numbered.now.spots.now) numbered.now.numbers.now numbered.now.costs.now }
+    requires kept { AreKept (map at_of numbered.now.spots.now) claim.now.b numbered.now.finder.now
+        numbered.now.passed.now }
     requires within { number < length numbered.now.spots.now }
     requires has { (x : At) → slice_get (map at_of numbered.now.spots.now) number ≡ Some x
         → Contains x.context.arcs arc }
@@ -188,15 +243,47 @@ fn holds_on_arc(
         → ⊥) }
 {
     name_order();
-    let to = target(names, numbered.spots, number, arc)?;
-    let spot = numbered.spots[to];
-    let places = spot.piece.places.items();
+    let to = target(names, numbered.spots, numbered.finder, number, arc)?;
     let from = number_of(numbered.numbers, number);
     let limit = number_of(numbered.numbers, to);
     let sum = sum_of(numbered.costs, to);
     let goes_on = is_at_most(limit, from, sum);
-    let ends = holds_at_ends(places, claim.b, claim.cost, from);
+    let ends = holds_up_to_goal(numbered, claim, to, from);
     Ok(goes_on && ends)
+}
+
+/// Whether the cost is at most the number and what it costs on the last piece of the context up to each step that ends
+/// at node b.
+fn holds_up_to_goal(
+    numbered: &NumberedContexts<'_, '_>,
+    claim: &Claim,
+    to: usize,
+    number: Option<u128>,
+) -> bool
+    requires kept { AreKept (map at_of numbered.now.spots.now) claim.now.b numbered.now.finder.now
+        numbered.now.passed.now }
+    requires within { to < length numbered.now.spots.now }
+    ensures yes { IsTrue result → (x : At)
+        → slice_get (map at_of numbered.now.spots.now) to ≡ Some x
+        → HoldsAtEnds claim.now.b claim.now.cost number x.piece.places }
+    ensures no { IsFalse result → (x : At)
+        → slice_get (map at_of numbered.now.spots.now) to ≡ Some x
+        → HoldsAtEnds claim.now.b claim.now.cost number x.piece.places
+        → ⊥ }
+{
+    if !is_marked(numbered.passed, to) {
+        return true;
+    }
+    let spot = numbered.spots[to];
+    holds_at_ends(spot.piece.places.items(), claim.b, claim.cost, number)
+}
+
+/// The mark at the place.
+fn is_marked(marks: &[bool], place: usize) -> bool
+    requires { place < length marks.now }
+    ensures { slice_get marks.now place ≡ Some result }
+{
+    marks[place]
 }
 
 /// The arc at the place.
@@ -227,9 +314,11 @@ fn sum_of(sums: &[u128], place: usize) -> u128
 fn target(
     names: &mut Vec<PieceName>,
     spots: &[Spot<'_>],
+    finder: &ContextFinder,
     from: usize,
     arc: TurnArc,
 ) -> Result<usize, NoMemory>
+    requires of { finder.now ≡ map last_piece (map at_of spots.now) }
     requires up { IsTrue (rises key_cmp (map key_of (map at_of spots.now))) }
     requires targets { HasTargets (map at_of spots.now) }
     requires within { from < length spots.now }
@@ -240,7 +329,7 @@ fn target(
 {
     let count = (arc.length as usize).saturating_sub(1);
     put_names(names, &spots[from], count)?;
-    match find_spot(spots, arc.piece, names) {
+    match finder.find(spots, arc.piece, names) {
         Some(number) => Ok(number),
         None => unreachable!(),
     }
@@ -298,9 +387,6 @@ fn holds_at_ends(places: &[Place], node: NodeId, cost: Option<u128>, number: Opt
     ensures yes { IsTrue result → HoldsAtEnds node cost number places.now }
     ensures no { IsFalse result → HoldsAtEnds node cost number places.now → ⊥ }
 {
-    if !passes(places, node) {
-        return true;
-    }
     for step in 0..places.len() {
         if !holds_at_end(places, step, node, cost, number) {
             return false;
@@ -333,14 +419,9 @@ fn holds_at_end(
 
 /// Whether one of the places is at the node.
 fn passes(places: &[Place], node: NodeId) -> bool
-    ensures { IsFalse result → (k : ℕ) (place : Place) → slice_get places.now k ≡ Some place → place.node ≡ node → ⊥ }
+    ensures { result ≡ passes node places.now }
 {
-    for place in places {
-        if place.node == node {
-            return true;
-        }
-    }
-    false
+    places.iter().any(|place| place.node == node)
 }
 
 /// Whether the step begins at the node.

@@ -6,12 +6,13 @@
 //! search goes on from the one over which a drive may cost least (`frontier`): what was driven, and the difference of
 //! latitudes that is left, which no drive costs less than. Of n contexts and arcs that it comes to, each takes the
 //! logarithm of n, with a look-up in the blocks, and memory is taken in proportion to them; the rest of the map takes
-//! nothing. The drive is put together in the time of its steps (`trails`). `least` takes one pass over all contexts
-//! besides, for a number at each (`numbers`).
+//! nothing. The drive is put together in the time of its steps (`trails`). `least` takes some passes over all contexts
+//! besides, for a number at each (`numbers`), and for each that the search came to a look-up among them.
 //!
-//! `check` knows no search: it takes one pass over contexts and arcs (`conditions`), each arc with a search for its
-//! target by names, and the time to judge the route. The cost of a step is found by a division of 128 bits and a whole
-//! root of 64 (`costs`).
+//! `check` knows no search: it takes some passes over contexts and one over arcs (`conditions`), each arc with a look-up
+//! of its target, and the time to judge the route. A look-up by names takes a few steps where the numbers of ways are
+//! spread evenly, and at most the time of a search among all contexts (`context_finder`). The cost of a step is found by
+//! a division of 128 bits and a whole root of 64 (`costs`).
 #![tactic(auto)]
 
 mod answers;
@@ -19,6 +20,7 @@ mod beginning;
 mod candidates;
 mod checking;
 mod conditions;
+mod context_finder;
 mod costs;
 mod frontier;
 pub mod laws;

@@ -3,12 +3,14 @@ ghost use Rattle.std.specs.Prelude.{◌≡◌, ◌∷◌, List, length, map, IfO
 ghost use Rattle.ordered_lists.specs.Orders.{rises};
 ghost use Rattle.context_search.specs.Marks.{at_of, key_of, key_cmp};
 ghost use Rattle.least_cost.specs.declared.visiting.CostVisit.{CostVisit};
+ghost use Rattle.least_cost.specs.LastPieces.{last_piece};
 ghost use Rattle.least_cost.specs.Latitudes.{latitudes_left};
 ghost use Rattle.least_cost.specs.Lowered.{least_at, less_left, lesser_of, number_left};
 
+use crate::context_finder::ContextFinder;
 use crate::places::latitudes_left;
 use crate::visiting::CostVisit;
-use context_search::{Spot, find_spot};
+use context_search::Spot;
 use road_base::{Location, NoMemory};
 use std::alloc::Global;
 
@@ -24,7 +26,8 @@ fn lesser_of(a: Option<u128>, b: Option<u128>) -> Option<u128>
 }
 
 /// The number that the search leaves at each of the contexts, which are all, in their order: over the visits, where
-/// it found a drive of the cost to the location. Takes for each visit the time of a look-up among the contexts.
+/// it found a drive of the cost to the location. Takes one pass over the contexts, and for each visit a few steps where
+/// the numbers of ways are spread evenly, at most the time of a search among the contexts.
 pub fn numbers(
     alloc: Global,
     spots: &[Spot<'_>],
@@ -65,15 +68,22 @@ fn least_costs(
     requires listed { (v : CostVisit) → Contains visits.now v → Contains (map at_of spots.now) (at_of v.spot) }
     ensures { IfOk result (λ l. l.items ≡ map (least_at visits.now) (map at_of spots.now)) }
 {
+    let finder = ContextFinder::of(alloc, spots)?;
     let mut costs = Vec::from_elem(alloc, None, spots.len())?;
     for place in (0..visits.len()).rev() {
-        lower(&mut costs, spots, &visits[place]);
+        lower(&mut costs, spots, &finder, &visits[place]);
     }
     Ok(costs)
 }
 
 /// Lowers the cost of the context of the visit to its own, if that is less.
-fn lower(costs: &mut Vec<Option<u128>>, spots: &[Spot<'_>], visit: &CostVisit<'_>)
+fn lower(
+    costs: &mut Vec<Option<u128>>,
+    spots: &[Spot<'_>],
+    finder: &ContextFinder,
+    visit: &CostVisit<'_>,
+)
+    requires of { finder.now ≡ map last_piece (map at_of spots.now) }
     requires up { IsTrue (rises key_cmp (map key_of (map at_of spots.now))) }
     requires listed { Contains (map at_of spots.now) (at_of visit.now.spot) }
     requires count { length costs.old.items ≡ length spots.now }
@@ -82,7 +92,7 @@ fn lower(costs: &mut Vec<Option<u128>>, spots: &[Spot<'_>], visit: &CostVisit<'_
         → costs.new.items ≡ map (least_at (visit.now ∷ visits)) (map at_of spots.now) }
 {
     let names = visit.spot.context.before.items();
-    let Some(number) = find_spot(spots, visit.spot.piece.name, names) else {
+    let Some(number) = finder.find(spots, visit.spot.piece.name, names) else {
         unreachable!()
     };
     costs[number] = lesser_of(Some(visit.cost), costs[number]);

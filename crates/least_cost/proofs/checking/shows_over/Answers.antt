@@ -18,17 +18,17 @@ returns-then-not-are_as_many g c =
           ∙ length-map spots at_of)),
     )
 
-pub holds_everywhere-requires : goal.holds_everywhere-requires
-holds_everywhere-requires g c =
+pub hold-requires-clause-up : goal.hold-requires-clause-up
+hold-requires-clause-up g c = c.requires.up
+
+pub hold-requires-clause-targets : goal.hold-requires-clause-targets
+hold-requires-clause-targets g c =
     let M = g.M.World.objects c.args.network.now.world.now in
     let P = g.P.Profile.rules c.args.network.now.profile in
-    let spots = c.args.spots.now in
-    record {
-      up = c.requires.up;
-      targets = has_targets M P (map at_of spots) c.requires;
-      count = c.are_as_many.ensures.yes c.if-not-are_as_many.false ∙ sym (length-map spots at_of);
-      sums = c.as_slice-costs.ensures.value ∙ c.in_ok-sums.ensures;
-    }
+    has_targets M P (map at_of c.args.spots.now) c.requires
+
+pub hold-requires-clause-count : goal.hold-requires-clause-count
+hold-requires-clause-count g c = c.are_as_many.ensures.yes c.if-not-are_as_many.false
 
 pub returns : goal.returns
 returns g c =
