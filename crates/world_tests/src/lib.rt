@@ -13,6 +13,8 @@ mod change_apply_tests;
 #[cfg(test)]
 mod drive_queries_tests;
 #[cfg(test)]
+mod engine_copy_tests;
+#[cfg(test)]
 mod least_cost_tests;
 #[cfg(test)]
 mod object_store_tests;
