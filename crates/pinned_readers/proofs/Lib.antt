@@ -1,3 +1,9 @@
 pub mod KeyedMaps
 pub mod NumberKeys
 pub mod NumbersAmong
+pub mod NumberMaps
+pub mod EarlierHistories
+pub mod HeldFollowers
+pub mod PinSteps
+pub mod ChangeSteps
+pub mod HeldCounts

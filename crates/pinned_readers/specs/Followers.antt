@@ -2,7 +2,7 @@
 use Rattle.std.specs.Prelude.{◌≡◌, ◌⊎◌, ℕ, ◌<◌, ◌≤◌, List, Option, Some, None, IsSome, refl}
 use Rattle.std.specs.Coded.{Coded, code_by, coded×, coded_ℕ}
 use Rattle.std.specs.Ordering.{nat_cmp}
-use Rattle.std.specs.FinMap.{FinMap, get, insert, len, code}
+use Rattle.std.specs.FinMap.{FinMap, get, insert, remove, len, code}
 use Rattle.std.specs.declared.result.Result.{Result}
 use Rattle.std.specs.declared.result.Result.TheVariants.{Ok, Err}
 use Rattle.road_base.specs.declared.ids.Sequence.{Sequence}
@@ -24,7 +24,7 @@ pub record Followers (F : Type 0) : Type 0 where
 -- by which a proof tells two of them apart
 abbrev pub coded_followers : {F : Type 0} → Coded F → Coded (Followers F)
 coded_followers {F} coded =
-    code_by (ℕ × F × FinMap nat_cmp F × Pins)
+    code_by _
     (coded× coded_ℕ (coded× coded (coded× (code coded_ℕ coded) (code coded_ℕ coded_ℕ))))
     (λ s. (s.number, (s.newest, (s.older, s.pins))))
     (λ p. record { number = p.0; newest = p.1.0; older = p.1.1.0; pins = p.1.1.1 })
@@ -56,6 +56,16 @@ abbrev pub Goes : {F : Type 0} → (F → Objects) → (old new : Followers F) �
 Goes objects old new IsStep = (h : History) (pins : Pins)
     → StandsFor objects old h pins
     → (then : Pins) × IsStep h pins then × StandsFor objects new h then
+
+-- the follower at the number isn't held any more, if nobody is pinned there
+abbrev pub IsDropped : {F : Type 0} → Pins → ℕ → (old new : FinMap nat_cmp F) → Type 0
+IsDropped pins n old new =
+    (IsPinnedNumber pins n × (new ≡ old)) ⊎ ((IsPinnedNumber pins n → ⊥) × (new ≡ remove old n))
+
+-- the follower is held at the number, if somebody is pinned there
+abbrev pub IsKept : {F : Type 0} → Pins → ℕ → F → (old new : FinMap nat_cmp F) → Type 0
+IsKept pins n f old new =
+    (IsPinnedNumber pins n × (new ≡ insert old n f)) ⊎ ((IsPinnedNumber pins n → ⊥) × (new ≡ old))
 
 -- what a pin answers in the rule's words; nothing where no memory was found
 abbrev pub pin_answer : Result Sequence PinError → Option PinAnswer

@@ -72,12 +72,11 @@ impl PinTable {
         Ok(())
     }
 
-    /// Releases the reader. Answers the number at which it was pinned.
-    pub fn remove(&mut self, reader: u32) -> Option<Sequence>
-        ensures number { option_map (λ n. n.0) result ≡ get self.old reader }
-        ensures removed { self.new ≡ remove self.old reader }
+    /// Releases the reader, if it is pinned.
+    pub fn remove(&mut self, reader: u32)
+        ensures { self.new ≡ remove self.old reader }
     {
-        self.by_reader.remove(&reader)
+        let _ = self.by_reader.remove(&reader);
     }
 }
 

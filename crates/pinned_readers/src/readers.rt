@@ -8,11 +8,12 @@ ghost use Rattle.road_model.specs.Questions.{HasSteps};
 ghost use Rattle.pinned_readers.specs.declared.errors.AskError.TheVariants.{NoPin as IsNotPinned};
 ghost use Rattle.pinned_readers.specs.PinnedRuns.{Pins, IsPinnedNumber, most_readers};
 ghost use Rattle.pinned_readers.specs.PinnedRuns.{IsPinStep, IsAskStep, IsReleaseStep, IsReplyTo};
-ghost use Rattle.pinned_readers.specs.Followers.{StandsFor, Goes, held, pin_answer, release_answer};
+ghost use Rattle.pinned_readers.specs.Followers.{IsDropped, IsKept, StandsFor, Goes, held, pin_answer, release_answer};
 
 use crate::errors::{AskError, NoPin, PinError};
 use crate::older::OlderStates;
 use crate::pins::PinTable;
+use road_base::laws::history_objects;
 use road_base::{Event, NoMemory, Sequence, Steps};
 use road_model::{Follower, Question};
 use std::alloc::Global;
@@ -80,10 +81,10 @@ impl<F: Follower> Readers<F> {
         if self.pins.len() >= MOST_READERS {
             return Err(PinError::Full);
         }
-        match self.pins.insert(reader, self.number) {
-            Ok(()) => Ok(self.number),
-            Err(_) => Err(PinError::NoMemory),
-        }
+        let Ok(()) = self.pins.insert(reader, self.number) else {
+            return Err(PinError::NoMemory);
+        };
+        Ok(self.number)
     }
 
     /// Appends a reply to the question, for the state that the reader has pinned. `NoPin` where it is not pinned. Where
@@ -135,12 +136,11 @@ impl<F: Follower> Readers<F> {
         ensures number { self.new.number ≡ self.old.number }
         ensures newest { self.new.newest ≡ self.old.newest }
     {
-        let Some(number) = self.pins.remove(reader) else {
+        let Some(number) = self.pins.get(reader) else {
             return Err(NoPin);
         };
-        if !self.pins.has_number(number) {
-            self.older.remove(number);
-        }
+        self.pins.remove(reader);
+        drop_unneeded(number, &self.pins, &mut self.older);
         Ok(number)
     }
 
@@ -162,13 +162,10 @@ impl<F: Follower> Readers<F> {
             ⊎ ((n : ℕ) × F.most (F.fixed self.old.newest) (F.objects self.old.newest) events.now n
             × (steps.new ≤ steps.old + n)) }
     {
-        if self.pins.has_number(self.number) {
-            let number = self.number;
-            follow_apart(number, &mut self.newest, &mut self.older, events, steps)?;
-        } else {
-            self.newest.follow(events, steps)?;
-        }
-        self.number = Sequence(self.number.0 + 1);
+        history_objects();
+        let number = self.number;
+        follow(number, &self.pins, &mut self.newest, &mut self.older, events, steps)?;
+        self.number = Sequence(number.0 + 1);
         Ok(())
     }
 
@@ -198,6 +195,40 @@ impl<F: Follower> Readers<F> {
         ensures few { result ≤ most_readers + 1 }
     {
         self.older.len() + 1
+    }
+}
+
+/// Drops the follower at the number, if nobody is pinned there.
+fn drop_unneeded<F: Drop>(number: Sequence, pins: &PinTable, older: &mut OlderStates<F>)
+    ensures { IsDropped pins.now number.0 older.old older.new }
+{
+    if !pins.has_number(number) {
+        older.remove(number);
+    }
+}
+
+/// Lets the newest follower go on, or a copy of it where somebody is pinned at its number: then it stays there. Where no
+/// memory is found both are as before.
+fn follow<F: Follower, L: Ledger>(
+    number: Sequence,
+    pins: &PinTable,
+    newest: &mut F,
+    older: &mut OlderStates<F>,
+    events: &[Event],
+    steps: &mut Steps<L>,
+) -> Result<(), NoMemory>
+    ensures kept { OnOk result (IsKept pins.now number.0 newest.old older.old older.new) }
+    ensures follows { OnOk result (IsApplied (F.objects newest.old) events.now (F.objects newest.new)) }
+    ensures older { OnErr result (older.new ≡ older.old) }
+    ensures newest { OnErr result (newest.new ≡ newest.old) }
+    ensures fixed { F.fixed newest.new ≡ F.fixed newest.old }
+    ensures few { (steps.new ≡ steps.old)
+        ⊎ ((n : ℕ) × F.most (F.fixed newest.old) (F.objects newest.old) events.now n × (steps.new ≤ steps.old + n)) }
+{
+    if pins.has_number(number) {
+        follow_apart(number, newest, older, events, steps)
+    } else {
+        newest.follow(events, steps)
     }
 }
 
