@@ -1,9 +1,9 @@
 #!/usr/bin/env python3
-"""Measures what readers cost who pin states of a session (docs/SESSION.md): beside the session in which they pin it holds
-one in which nobody does, sends both the same frames of 20 events, in an order that is drawn for each, and prints both.
-Times are by the clock, from the first byte sent to the last of the reply, or the session's own processor time. Use:
-pins.py PROGRAM STORE TOWN.opl KIND FRAMES; the town is one of gen_town.py, the kinds are those of frames.py, FRAMES is
-how many are sent with pins taken and released all along. bench/pins.sh calls it.
+"""Measures what readers cost who pin states of a session (docs/SESSION.md): beside the session in which they pin it
+holds one in which nobody does, sends both the same frames of 20 events, in an order that is drawn for each, and prints
+both. Times are by the clock, from the first byte sent to the last of the reply, or the session's own processor time.
+Use: pins.py PROGRAM STORE TOWN.opl KIND FRAMES; the town is one of gen_town.py, the kinds are those of frames.py, and
+FRAMES is how many are sent with pins taken and released all along, and behind one pin. bench/pins.sh calls it.
 """
 import os
 import random
@@ -167,6 +167,27 @@ def questions(pair, path):
     pair.release(1)
 
 
+def tell_tenths(what, took, memory):
+    """The first tenth of the frames, that in the middle, and the last one, with the memory of both sessions."""
+    tenth = max(1, len(took) // 10)
+    for which, begin in ('first', 0), ('middle', len(took) // 2), ('last', len(took) - tenth):
+        tell(f'{what}, the {which} tenth', took[begin:begin + tenth])
+        read, plain = (mean(side) for side in zip(*memory[begin:begin + tenth]))
+        print(f'    memory {read:.0f} and {plain:.0f} MB', flush=True)
+
+
+def one_held(pair, count):
+    """Frames behind one pin, which stays."""
+    took, memory = [], []
+    pair.pin(1)
+    for _ in range(count):
+        took.append(pair.follow())
+        memory.append((pair.read.memory(), pair.plain.memory()))
+    tell_tenths(f'{count} frames behind one pin', took, memory)
+    print(f'  its release: {pair.release(1):.3f} ms', flush=True)
+    tell('frames behind its release', [pair.follow() for _ in range(CYCLES)])
+
+
 def all_along(pair, count):
     """Frames, with a pin behind each, which is released some frames later."""
     took, held, memory = [], [], []
@@ -182,12 +203,7 @@ def all_along(pair, count):
             pair.release(held.pop(pair.draws.randrange(len(held))))
         took.append(pair.follow())
         memory.append((pair.read.memory(), pair.plain.memory()))
-    tenth = max(1, count // 10)
-    for what, part in (('first', slice(0, tenth)), ('middle', slice(count // 2, count // 2 + tenth)),
-                       ('last', slice(-tenth, None))):
-        tell(f'{count} frames with pins all along, the {what} tenth', took[part])
-        read, plain = (mean(side) for side in zip(*memory[part]))
-        print(f'    memory {read:.0f} and {plain:.0f} MB', flush=True)
+    tell_tenths(f'{count} frames with pins all along', took, memory)
     for reader in held:
         pair.release(reader)
     pair.tell_memory('all released')
@@ -205,6 +221,7 @@ def main():
     many_states(pair)
     questions(pair, path)
     all_along(pair, int(count))
+    one_held(pair, int(count))
     same = pair.read.ask('graph')[0] == pair.plain.ask('graph')[0]
     status = pair.read.close(), pair.plain.close()
     files = []

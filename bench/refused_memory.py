@@ -185,9 +185,11 @@ def main():
         sys.exit('FAILED: two of the histories have one graph')
     queries = ('state\ndrive w201.0+ w201.1+ w202.0+\ndrive w201.0+ w201.1+ w203.0+ w203.0-\nreach 101 104\n'
                'reach 101 9\nreach 101 109\nreach 101\n')
-    session = (queries + frames_of(changes[:1], 8) + queries + frames_of(changes[:1], 8)
+    asks = [f'ask {reader} {question}\n' for reader in (1, 2, 3) for question in queries.splitlines()[:4]]
+    session = (queries + 'pin 1\n' + frames_of(changes[:1], 8) + queries + frames_of(changes[:1], 8) + 'pin 2\n'
                + '#seq 9\nn1 v9 x8\nn2 x5\nw3 v1 dX\n#end\n' + frames_of(changes[1:2], 9) + queries + 'graph\n'
-               + '#seq 12\nn1 v9\n#end\n' + frames_of(changes[2:], 10) + queries + '\xff\n\n' + 'graph\n').encode()
+               + ''.join(asks) + 'ask 1 graph\nrelease 1\npin 3\n#seq 12\nn1 v9\n#end\n' + frames_of(changes[2:], 10)
+               + queries + ''.join(asks) + '\xff\n\n' + 'graph\n').encode()
 
     if run([kept_store, 'create', str(BASE)], extract.encode())[0]:
         sys.exit('FAILED: no store')

@@ -1,10 +1,10 @@
 #!/usr/bin/env bash
 # Refuses each allocation of a run in turn, once and then for good (by the C code below), in a session with good,
-# hostile, refused and stale frames and all queries, and in `create`, `apply`, `checkpoint`, `raise`, `graph`, `audit`,
-# `compile` (under profile 2 too) and `inspect`, each on a fresh copy of its store. Each run ends with status 10 or 3
-# and what was put until then, or as without a refusal; and the store then stands (refused_memory.py). Wants python3,
-# gcc, and the program as `rt run` builds it. Its arguments are the first two of gen_town.py for the town of the
-# session, 6 and 1 where left out.
+# hostile, refused and stale frames, readers and queries, and in `create`, `apply`, `checkpoint`, `raise`, `graph`,
+# `audit`, `compile` (under profile 2 too) and `inspect`, each on a fresh copy of its store. Each run ends with status
+# 10 or 3 and what was put until then, or as without a refusal; and the store then stands (refused_memory.py). Wants
+# python3, gcc, and the program as `rt run` builds it. Its arguments are the first two of gen_town.py for the town of
+# the session, 6 and 1 where left out.
 set -eu
 . "$(dirname "$0")/program.sh"
 memory=$(mktemp -d -p /dev/shm)

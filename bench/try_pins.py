@@ -1,8 +1,8 @@
 #!/usr/bin/env python3
 """Tries readers that pin states of a session, against stores that were stopped at these states.
 
-A small map is drawn, and sixty changes of it. Of each number a store is made that holds just the changes up to it, and a
-session on it, in which nobody pins, is asked for its graph, its state, drives and ways to nodes. Then
+A small map is drawn, and sixty changes of it. Of each number a store is made that holds just the changes up to it, and
+a session on it, in which nobody pins, is asked for its graph, its state, drives and ways to nodes. Then
 
 - all lists of LENGTH steps `pin`, `ask`, `release` and a change, over three readers and three changes (readers that
   only exchange their numbers count once), with all readers and the newest state asked behind each: many lists in one
@@ -11,8 +11,8 @@ session on it, in which nobody pins, is asked for its graph, its state, drives a
 - such sessions, ended by SIGKILL at drawn moments.
 
 Each reply must be what the rule of pins says, and each answer to a reader that of the store stopped at the number that
-it pinned, byte for byte. Behind each session the files must be those of the store stopped there, and behind a kill those
-of a store with the changes told, or one more.
+it pinned, byte for byte. Behind each session the files must be those of the store stopped there, and behind a kill
+those of a store with the changes told, or one more.
 
 Use: try_pins.py PROGRAM [MAPS [FIRST [LENGTH]]], with 3 maps where left out, of the seeds from FIRST on, and lists of 5
 steps. It prints how much was tried; its status is 1 where something isn't as it must be, with the messages up to there.
@@ -303,7 +303,8 @@ def try_kill(stopped, draw, longest):
     """Ends a session at a drawn moment, and looks at what was put and what is kept."""
     talk = drawn_conversation(stopped, draw, len(stopped.changes))
     store = stopped.new_store('killed')
-    with subprocess.Popen([stopped.program, store, 'session'], stdin=subprocess.PIPE, stdout=subprocess.PIPE) as session:
+    words = [stopped.program, store, 'session']
+    with subprocess.Popen(words, stdin=subprocess.PIPE, stdout=subprocess.PIPE) as session:
         output = []
         reader = threading.Thread(target=lambda: output.append(session.stdout.read()))
         writer = threading.Thread(target=feed, args=(session.stdin, b''.join(talk.messages)))

@@ -121,6 +121,8 @@ mod moment_tests;
 #[cfg(test)]
 mod older_store_tests;
 #[cfg(test)]
+mod pin_tests;
+#[cfg(test)]
 mod raise_tests;
 #[cfg(test)]
 mod route_tests;

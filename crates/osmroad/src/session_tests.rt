@@ -98,7 +98,7 @@ fn check_on(
 }
 
 /// The same on a new site.
-fn check(rt: &impl Abort, alloc: Global, session: &Session) -> Result<(), NoMemory> {
+pub fn check(rt: &impl Abort, alloc: Global, session: &Session) -> Result<(), NoMemory> {
     let mut site = empty_site(alloc);
     check_on(rt, alloc, session, &mut site)
 }
