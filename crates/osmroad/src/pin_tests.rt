@@ -32,7 +32,8 @@ const FULL: Session = Session {
         pin 56\npin 57\npin 58\npin 59\npin 60\npin 61\npin 62\npin 63\npin 64\npin 0\n\
         ask 64 state\nrelease 63\npin 64\n",
     status: Status::Done,
-    output: &[b"\
+    output: &[
+        b"\
         created 1\npinned 0 sequence 1\npinned 1 sequence 1\npinned 2 sequence 1\n\
         pinned 3 sequence 1\npinned 4 sequence 1\npinned 5 sequence 1\npinned 6 sequence 1\n\
         pinned 7 sequence 1\npinned 8 sequence 1\npinned 9 sequence 1\npinned 10 sequence 1\n\
@@ -50,7 +51,8 @@ const FULL: Session = Session {
         pinned 55 sequence 1\npinned 56 sequence 1\npinned 57 sequence 1\npinned 58 sequence 1\n\
         pinned 59 sequence 1\npinned 60 sequence 1\npinned 61 sequence 1\npinned 62 sequence 1\n\
         pinned 63 sequence 1\npins full\npin 0 busy\nno pin 64\nreleased 63\n\
-        pinned 64 sequence 1\n"],
+        pinned 64 sequence 1\n",
+    ],
 };
 
 /// What isn't in form is no message, whether or not the reader has pinned a state.
