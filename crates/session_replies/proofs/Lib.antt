@@ -1,5 +1,4 @@
 mod RepliesAsked
 mod RoadAnswers
 mod FrameMessages
-mod FollowedChanges
-mod FollowedQuestions
+mod PinTouches
