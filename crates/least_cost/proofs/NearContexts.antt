@@ -1,6 +1,7 @@
 -- Contexts by their last pieces, and what is kept of these at their places.
-use Rattle.std.proofs.Common.{◌≡◌, ℕ, zero, suc, ◌+◌, ◌<◌, List, [], ◌∷◌, length, map, Bool, true, false, Option, Some}
+use Rattle.std.proofs.Common.{rules, ◌≡◌, ℕ, ◌+◌, ◌<◌, List, [], ◌∷◌, length, map, Bool, true, false, Option, Some}
 use Rattle.std.proofs.Common.{slice_get, get_or, Contains, IsFalse, sym, ap, ◌∙◌, subst, arith}
+use Rattle.std.specs.Bool.{Decides}
 use Rattle.std.specs.List.{HoldsAt}
 use Rattle.std.proofs.lemmas.List.{length-map}
 use Rattle.std.proofs.lemmas.List.Folds.{list_any_at}
@@ -10,21 +11,25 @@ use Rattle.road_base.specs.declared.ids.NodeId.{NodeId}
 use Rattle.road_model.specs.declared.lists.PieceName.{PieceName}
 use Rattle.road_model.specs.declared.lists.Place.{Place}
 use Rattle.road_model.specs.Lines.{same_node}
+use Rattle.road_model.specs.contracts.lists.PieceNamePartialEq.TheImpl as name
 use Rattle.road_model.proofs.SameNodes.{same_from_node}
 use Rattle.context_search.specs.Ends.{StopsBy}
 use Rattle.context_search.specs.declared.spots.Spot.{Spot}
 use Rattle.context_search.specs.Marks.{At, at_of, key_of}
 use Rattle.least_cost.specs.declared.context_finder.LastPiece.{LastPiece}
-use Rattle.least_cost.specs.LastPieces.{last_piece, IsAlone, passes, is_passed}
+use Rattle.least_cost.specs.LastPieces.{alone, last_piece, IsAlone, passes, is_passed}
 use Rattle.least_cost.specs.Shown.{HoldsAtEnds}
 use Rattle.least_cost.proofs.CheckSpots.{map_at}
 
-no_pieces : (names : List PieceName) → length names ≡ 0 → names ≡ []
+pub names_decide : (a b : PieceName) → Decides (name.eq-value.it a b) (a ≡ b)
+names_decide a b = search rules
+
+pub no_pieces : (names : List PieceName) → length names ≡ 0 → names ≡ []
 no_pieces [] e = λ i. []
 no_pieces (x ∷ names) e = absurd (omega arith)
 
 alone_named : (s : Spot) (piece : PieceName) (before : List PieceName) → before ≡ []
-    → last_piece (at_of s) ≡ record { name = piece; before = 0 } → key_of (at_of s) ≡ (piece, before)
+    → last_piece (at_of s) ≡ alone piece → key_of (at_of s) ≡ (piece, before)
 alone_named s piece before none e =
     let name : s.piece.now.name ≡ piece = ap (λ (r : LastPiece). r.name) e in
     let count : length s.context.now.before ≡ 0 = ap (λ (r : LastPiece). r.before) e in

@@ -12,10 +12,14 @@ use Rattle.least_cost.specs.declared.context_finder.LastPiece.{LastPiece}
 abbrev pub last_piece : At → LastPiece
 last_piece x = record { name = x.piece.name; before = length x.context.before }
 
--- no pieces are before it, and this one stands alone at the place
+-- the piece, with none before it
+abbrev pub alone : PieceName → LastPiece
+alone piece = record { name = piece; before = 0 }
+
+-- no pieces are before it, and the piece stands alone at the place
 pub record IsAlone (list : List LastPiece) (piece : PieceName) (before : List PieceName) (place : ℕ) : Type 0 where
   pub none : before ≡ []
-  pub at : slice_get list place ≡ Some (record { name = piece; before = 0 })
+  pub at : slice_get list place ≡ Some (alone piece)
 
 -- whether a piece with these places passes the node
 abbrev pub passes : NodeId → List Place → Bool

@@ -16,7 +16,7 @@ ghost use Rattle.least_cost.specs.Shown.{HoldsEverywhere, piece_cost, AreNumbere
 ghost use Rattle.least_cost.specs.LastPieces.{AreKept, is_passed, last_piece, passes};
 
 use crate::context_finder::ContextFinder;
-use crate::costs::{places_cost, step_cost};
+use crate::costs::places_cost;
 use context_search::{Spot, put_names};
 use road_base::{NoMemory, NodeId};
 use road_model::laws::name_order;

@@ -3,7 +3,7 @@ ghost use Rattle.std.specs.Prelude.{◌≡◌, ◌<◌, ◌≤◌, length, map, 
 ghost use Rattle.std.specs.List.{HoldsAt};
 ghost use Rattle.ordered_lists.specs.Orders.{rises};
 ghost use Rattle.context_search.specs.Marks.{At, at_of, key_of, key_cmp};
-ghost use Rattle.least_cost.specs.LastPieces.{last_piece, IsAlone};
+ghost use Rattle.least_cost.specs.LastPieces.{alone, last_piece, IsAlone};
 
 use context_search::{Spot, find_spot};
 use ordered_lists::{Numbered, Ranges};
@@ -63,14 +63,14 @@ impl ContextFinder {
         ensures some { IfSome result (HoldsAt (λ s. key_of (at_of s) ≡ (piece, before.now)) spots.now) }
         ensures none { IfNone result ((x : At) → Contains (map at_of spots.now) x → key_of x ≡ (piece, before.now) → ⊥) }
     {
-        match self.alone(piece, before) {
+        match self.find_alone(piece, before) {
             Some(place) => Some(place),
             None => find_spot(spots, piece, before),
         }
     }
 
     /// Where the context of the piece alone stands, if there are no pieces before it and it is found.
-    fn alone(&self, piece: PieceName, before: &[PieceName]) -> Option<usize>
+    fn find_alone(&self, piece: PieceName, before: &[PieceName]) -> Option<usize>
         ensures { IfSome result (λ i. IsAlone self.now piece before.now i) }
     {
         if !before.is_empty() {
@@ -79,12 +79,32 @@ impl ContextFinder {
         let Some((from, to)) = self.ranges.part_of(piece.way.0) else {
             return None;
         };
-        let place = first_from(self.list.as_slice(), piece, from, to);
-        match self.list.get(place) {
-            Some(last) if last.before == 0 && last.name == piece => Some(place),
-            _ => None,
+        let list = self.list.as_slice();
+        let place = first_from(list, piece, from, to);
+        if stands_alone(list, piece, place) {
+            Some(place)
+        } else {
+            None
         }
     }
+}
+
+/// Whether the piece stands there alone.
+fn stands_alone(list: &[LastPiece], piece: PieceName, place: usize) -> bool
+    ensures { IsTrue result → slice_get list.now place ≡ Some (alone piece) }
+{
+    match list.get(place) {
+        Some(last) => is_alone(last, piece),
+        None => false,
+    }
+}
+
+/// Whether it is the piece, and none is before it.
+#[tactic(auto, using(crate::proofs::NearContexts::names_decide))]
+fn is_alone(last: &LastPiece, piece: PieceName) -> bool
+    ensures { IsTrue result → last.now ≡ alone piece }
+{
+    last.before == 0 && last.name == piece
 }
 
 /// The last pieces of the contexts.

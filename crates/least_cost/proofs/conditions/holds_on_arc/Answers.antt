@@ -2,9 +2,6 @@ use Rattle.std.proofs.Common.{arith}
 use Rattle.least_cost.proofs.CheckTables.{numbers_count, costs_count, over_holds, over_goes_on, over_ends}
 use Rattle.least_cost.proofs.conditions.holds_on_arc.Goals as goal
 
-pub target-to-requires-clause-of : goal.target-to-requires-clause-of
-target-to-requires-clause-of c = c.requires.kept.pieces
-
 pub number_of-from-requires : goal.number_of-from-requires
 number_of-from-requires c =
     let t = c.args.numbered.now in
