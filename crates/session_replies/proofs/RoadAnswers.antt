@@ -1,58 +1,100 @@
 -- What the road network answers in a session, and what it follows.
-use Rattle.std.proofs.Common.{◌≡◌, ◌⊎◌, inl, inr, ⊎_elim, ℕ, List, length, Option, None, Some, Result, IfOk, refl, sym}
-use Rattle.std.proofs.Common.{subst}
-use Rattle.std.proofs.Common.{arith}
-use Rattle.session_replies.specs.Texts.{unknown_line}
+use Rattle.std.proofs.Common.{◌≡◌, ◌∙◌, ◌⊎◌, inl, inr, ⊎_elim, ℕ, ◌+◌, ◌<◌, ◌≤◌, List, length, Option, None, Some, Result}
+use Rattle.std.proofs.Common.{IfOk, refl, sym, subst, arith}
 use Rattle.std.proofs.lemmas.Result.{IfOk-weaker}
 use Rattle.road_base.specs.declared.event.Event.{Event}
+use Rattle.road_base.specs.Applying.{IsApplied}
 use Rattle.road_base.specs.History.{History, HasObjects, kept}
 use Rattle.road_base.specs.Objects.{Objects}
 use Rattle.road_model.specs.Rules.{Rules}
-use Rattle.drive_queries.specs.declared.messages.Asked.{Asked}
-use Rattle.drive_queries.specs.Messages.{asked}
-use Rattle.change_apply.specs.Engines.{Touches, BuildsTouched}
+use Rattle.change_apply.specs.Engines.{Touches}
+use Rattle.pinned_readers.specs.PinnedRuns.{Pins}
 use Rattle.session_answers.specs.declared.reply.Reply.{Reply}
 use Rattle.session_answers.specs.Replies.{CostsAtMost}
 use Rattle.session_answers.specs.Said.{said}
-use Rattle.session_replies.specs.FurtherMessages.{further_message}
-use Rattle.session_replies.specs.Replies.{IsReply, IsLineReply, road_replies, road_costs}
+use Rattle.session_replies.specs.declared.pin_messages.PinMessage.{PinMessage}
+use Rattle.session_replies.specs.PinMessages.{pin_message}
+use Rattle.session_replies.specs.PinReplies.{IsPinReply}
+use Rattle.session_replies.specs.Replies.{IsLineReply, IsReplyAmong, answers_to, road_replies, road_costs}
+use Rattle.session_replies.specs.Texts.{unknown_line}
+use Rattle.session_replies.proofs.PinTouches.{touched_ways}
 
-pub line_reply : {E : Type 0} (P : Rules) (M after : Objects) (number : ℕ) (line : Option (List ℕ)) (r : Result Reply E)
-    → after ≡ M → IfOk r (λ x. IsLineReply M P number line (said x))
-    → IfOk r (λ x. (h : History) (b : Unit {0}) → HasObjects h M → number ≡ kept h
-    → (c : Unit {0}) × road_replies P h b line (said x) c × HasObjects h after)
-line_reply {E} P M after number line r same is = IfOk-weaker r _ _
-    (λ x holds h b has n. (
-      tt,
-      (M, has, subst (λ (k : ℕ). IsLineReply M P k line (said x)) n holds),
-      subst (λ (O : Objects). HasObjects h O) (sym same) has,
-    )) is
+-- ---- lines
 
-pub text_reply : {E : Type 0} (P : Rules) (M : Objects) (number : ℕ) (line : Option (List ℕ)) (text : List ℕ)
-    (message : Asked) (r : Result Reply E) → line ≡ Some text → message ≡ asked text
-    → IfOk r (λ x. IsReply M P number message (further_message text) (said x))
-    → IfOk r (λ x. IsLineReply M P number line (said x))
-text_reply {E} P M number line text message r is asks holds = IfOk-weaker r _ _
-    (λ x reply. subst (λ (o : Option (List ℕ)). IsLineReply M P number o (said x)) (sym is)
-    (subst (λ (a : Asked). IsReply M P number a (further_message text) (said x)) asks reply)) holds
+module _ {E : Type 0} (P : Rules) (number : ℕ) (line : Option (List ℕ)) (r : Result Reply E)
+    (Stands After : History → Pins → Type 0) where
+  -- from what it stands for, the reply is one to the line, and it stands for what is pinned then
+  abbrev pub Answers : Type 0
+  Answers = IfOk r (λ x. (h : History) (pins : Pins) → Stands h pins → number ≡ kept h
+      → (then : Pins) × road_replies P h pins line (said x) then × After h then)
 
--- what was built for the change of an engine's objects was built for that of the history's
-pub touched_most : (M O : Objects) (events : List Event) (old new : ℕ) → O ≡ M → Touches M events
-    → BuildsTouched M events old new → CostsAtMost road_costs O events old new
-touched_most M O events old new same touches builds =
+  -- the line is no text
+  pub unread_answered : ((h : History) (pins : Pins) → Stands h pins → After h pins)
+      → ((h : History) → (M : Objects) × HasObjects h M) → line ≡ None → IfOk r (λ x. said x ≡ unknown_line) → Answers
+  unread_answered stays objects is reply = IfOk-weaker r _ _
+      (λ x unknown h pins stands n. let M = objects h in (
+        pins,
+        subst (λ (l : Option (List ℕ)). road_replies P h pins l (said x) pins) (sym is)
+            ((M.0, M.1, unknown), refl),
+        stays h pins stands,
+      )) reply
+
+  module _ (text : List ℕ) (asks : Option PinMessage) (is : line ≡ Some text) (read : asks ≡ pin_message text) where
+    -- it is about pins
+    pub pins_answered : (message : PinMessage) → asks ≡ Some message
+        → IfOk r (λ x. (h : History) (pins : Pins) → Stands h pins
+        → (then : Pins) × IsPinReply (answers_to P) h pins message (said x) then × After h then)
+        → Answers
+    pins_answered message some reply = IfOk-weaker r _ _
+        (λ x step h pins stands n. let s = step h pins stands in (
+          s.0,
+          subst (λ (l : Option (List ℕ)). road_replies P h pins l (said x) s.0) (sym is)
+              (subst (λ (a : Option PinMessage). IsReplyAmong P h pins a (Some text) (said x) s.0) (sym some ∙ read)
+              s.1),
+          s.2,
+        )) reply
+
+    -- it asks of the newest state
+    pub newest_answered : (M : Objects) → ((h : History) (pins : Pins) → Stands h pins → HasObjects h M)
+        → ((h : History) (pins : Pins) → Stands h pins → After h pins) → asks ≡ None
+        → IfOk r (λ x. IsLineReply M P number (Some text) (said x)) → Answers
+    newest_answered M has stays none reply = IfOk-weaker r _ _
+        (λ x holds h pins stands n. (
+          pins,
+          subst (λ (l : Option (List ℕ)). road_replies P h pins l (said x) pins) (sym is)
+              (subst (λ (a : Option PinMessage). IsReplyAmong P h pins a (Some text) (said x) pins) (sym none ∙ read)
+              ((M, has h pins stands, subst (λ (k : ℕ). IsLineReply M P k (Some text) (said x)) n holds), refl)),
+          stays h pins stands,
+        )) reply
+
+-- ---- changes
+
+-- a change's number is above that of what it changes
+pub not_risen : (number last kept : ℕ) → number ≤ last → last ≡ kept → number ≡ kept + 1 → ⊥
+not_risen number last kept below same next = omega (arith, below, same, next)
+
+pub fits_next : (number last bound : ℕ) → (number ≤ last → ⊥) → number < bound → last + 1 < bound
+fits_next number last bound above fits = omega (arith, above, fits)
+
+-- no block, or no more than the change costs
+abbrev pub BuildsFew : Objects → List Event → ℕ → ℕ → Type 0
+BuildsFew M events old new = (new ≡ old) ⊎ CostsAtMost road_costs M events old new
+
+-- what a change touches
+pub touched : ((M : Objects) (events : List Event) → (N : Objects) × IsApplied M events N)
+    → (M : Objects) (events : List Event) → Touches M events
+touched some M events =
+    let after = some M events in
+    let ways = touched_ways M after.0 in
+    record { after = after.0; applied = after.1; ways = ways.0; touched = ways.1 }
+
+-- what was built for the change of the newest objects was built for that of the history's
+pub costs_most : (M O : Objects) (events : List Event) (old new : ℕ) → O ≡ M → Touches M events
+    → BuildsFew M events old new → CostsAtMost road_costs O events old new
+costs_most M O events old new same touches builds =
     subst (λ (N : Objects). CostsAtMost road_costs N events old new) (sym same)
-    (⊎_elim
-    (λ none. (length touches.ways, (touches, refl), omega (arith, none)))
-    (λ some. (length some.0.ways, (some.0, refl), some.1))
-    builds)
+    (⊎_elim (λ none. (length touches.ways, (touches, refl), omega (arith, none))) (λ some. some) builds)
 
-pub touched_some : (M O : Objects) (events : List Event) (old new : ℕ) → O ≡ M → BuildsTouched M events old new
-    → (new ≡ old) ⊎ CostsAtMost road_costs O events old new
-touched_some M O events old new same builds =
-    subst (λ (N : Objects). (new ≡ old) ⊎ CostsAtMost road_costs N events old new) (sym same)
-    (⊎_elim (λ none. inl none) (λ some. inr (length some.0.ways, (some.0, refl), some.1)) builds)
-
-pub none_reply : {E : Type 0} (P : Rules) (M : Objects) (number : ℕ) (line : Option (List ℕ)) (r : Result Reply E)
-    → line ≡ None → IfOk r (λ x. said x ≡ unknown_line) → IfOk r (λ x. IsLineReply M P number line (said x))
-none_reply {E} P M number line r is holds = IfOk-weaker r _ _
-    (λ x reply. subst (λ (o : Option (List ℕ)). IsLineReply M P number o (said x)) (sym is) reply) holds
+pub costs_some : (M O : Objects) (events : List Event) (old new : ℕ) → O ≡ M → BuildsFew M events old new
+    → BuildsFew O events old new
+costs_some M O events old new same builds = subst (λ (N : Objects). BuildsFew N events old new) (sym same) builds

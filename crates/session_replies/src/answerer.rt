@@ -14,7 +14,7 @@ use crate::pin_replies::pin_message_reply;
 use crate::queries::{newest_reply, unknown_reply};
 use change_apply::Engine;
 use pinned_readers::Readers;
-use road_base::laws::history_objects;
+use road_base::laws::{applied_stands, history_objects};
 use road_base::{Event, NoMemory, Sequence, Steps};
 use road_model::{Follower, Profile};
 use session_answers::{Answerer, Reply};
@@ -63,6 +63,7 @@ impl<P: Profile> Answerer for RoadAnswerer<P> {
     ghost stands = { λ a h pins. StandsFor ⟦<RoadFollower<P> as Follower>⟧.objects a.readers h pins };
 
     fn reply(&mut self, kept: Sequence, line: &Line<'_>) -> Result<Reply, NoMemory> {
+        history_objects();
         let Some(text) = line.text() else {
             return unknown_reply(self.alloc);
         };
@@ -80,6 +81,7 @@ impl<P: Profile> Answerer for RoadAnswerer<P> {
         steps: &mut Steps<L>,
     ) -> Result<(), NoMemory> {
         history_objects();
+        applied_stands();
         if number.0 <= self.readers.number().0 {
             // The numbers of changes rise, so none has this one.
             return Ok(());
