@@ -1,6 +1,6 @@
 -- A change that is accepted.
-use Rattle.std.proofs.Common.{◌≡◌, ◌∙◌, ◌⊎◌, inl, inr, ◌+◌, ◌<◌, ◌≤◌, ℕ, List, refl, sym, ap, subst, arith}
-use Rattle.std.specs.Prelude.{Option, Some, None, is_some, IsSome}
+use Rattle.std.proofs.Common.{◌≡◌, ◌∙◌, inl, inr, ◌+◌, ◌<◌, ◌≤◌, ℕ, List, sym, ap, subst, arith}
+use Rattle.std.specs.Prelude.{Some, is_some, IsSome}
 use Rattle.std.specs.Ordering.{nat_cmp}
 use Rattle.std.specs.FinMap.{FinMap, get, insert}
 use Rattle.road_base.specs.declared.event.Event.{Event}
@@ -9,7 +9,7 @@ use Rattle.road_base.specs.Applying.{IsApplied}
 use Rattle.road_base.specs.History.{History, HasObjects, kept, with_change}
 use Rattle.pinned_readers.specs.PinnedRuns.{Pins, IsPinnedAt, IsPinnedNumber, up_to}
 use Rattle.pinned_readers.specs.Followers.{Followers, AreNeeded, StandsFor, IsKept, held}
-use Rattle.pinned_readers.proofs.NumberMaps.{at_put, put_cases, beside_put, some_of, is_some_by}
+use Rattle.pinned_readers.proofs.NumberMaps.{at_put, put_cases, beside_put, some_of}
 use Rattle.pinned_readers.proofs.EarlierHistories.{all_of, before_change}
 use Rattle.pinned_readers.proofs.HeldFollowers.{less_differ, held_at, held_older, newest_objects}
 
@@ -37,15 +37,15 @@ module _ {F Fixed : Type 0} (fixed : F → Fixed) (s : Followers F) (are : AreNe
   stays : (n : ℕ) (f : F) → get older n ≡ Some f → Stays n f
   stays n f here = elim keeps [
     | inl kept ↦
-      elim (put_cases s.older s.number s.newest n f (ap (λ (m : FinMap nat_cmp F). get m n) (sym kept.1) ∙ here)) [
-        | inl same ↦ record {
-          within = omega (arith, same.0);
-          alike = ap fixed (sym same.1);
-          needed = subst (λ k. IsPinnedNumber s.pins k) (sym same.0) kept.0;
-          before = held_at s n f same.0 same.1;
-        }
-        | inr at ↦ stays_older n f at
-      ]
+        elim (put_cases s.older s.number s.newest n f (ap (λ (m : FinMap nat_cmp F). get m n) (sym kept.1) ∙ here)) [
+          | inl same ↦ record {
+            within = omega (arith, same.0);
+            alike = ap fixed (sym same.1);
+            needed = subst (λ k. IsPinnedNumber s.pins k) (sym same.0) kept.0;
+            before = held_at s n f same.0 same.1;
+          }
+          | inr at ↦ stays_older n f at
+        ]
     | inr same ↦ stays_older n f (ap (λ (m : FinMap nat_cmp F). get m n) (sym same.1) ∙ here)
   ]
 
@@ -53,10 +53,10 @@ module _ {F Fixed : Type 0} (fixed : F → Fixed) (s : Followers F) (are : AreNe
   still_held reader n at = elim keeps [
     | inl kept ↦ ap (λ (m : FinMap nat_cmp F). is_some (get m n)) kept.1 ∙ elim (are.pinned reader n at) [
       | inl same ↦ ap (λ k. is_some (get (insert s.older s.number s.newest) k)) same
-        ∙ ap is_some (at_put s.older s.number s.newest)
+          ∙ ap is_some (at_put s.older s.number s.newest)
       | inr some ↦
-        let f = some_of (get s.older n) some in
-        ap is_some (beside_put s.older s.number s.newest n (less_differ n s.number (are.below n f.0 f.1))) ∙ some
+          let f = some_of (get s.older n) some in
+          ap is_some (beside_put s.older s.number s.newest n (less_differ n s.number (are.below n f.0 f.1))) ∙ some
     ]
     | inr same ↦ ap (λ (m : FinMap nat_cmp F). is_some (get m n)) same.1 ∙ elim (are.pinned reader n at) [
       | inl newest ↦ absurd (same.0 (reader, subst (λ k. IsPinnedAt s.pins reader k) newest at))
@@ -101,13 +101,13 @@ module _ {F Fixed : Type 0} (fixed : F → Fixed) (s : Followers F) (are : AreNe
     then_followed : (n : ℕ) (f : F) → get (held after) n ≡ Some f → HasObjects (up_to (with_change h change) n) (objects f)
     then_followed n f here = elim (put_cases older (s.number + 1) next n f here) [
       | inl same ↦
-        subst (λ (g : F). HasObjects (up_to (with_change h change) n) (objects g)) same.1
-        (subst (λ g. HasObjects g (objects next))
-        (sym (ap (up_to (with_change h change)) (same.0 ∙ then_kept) ∙ all_of (with_change h change))) then_has)
+          subst (λ (g : F). HasObjects (up_to (with_change h change) n) (objects g)) same.1
+          (subst (λ g. HasObjects g (objects next))
+          (sym (ap (up_to (with_change h change)) (same.0 ∙ then_kept) ∙ all_of (with_change h change))) then_has)
       | inr before ↦
-        let was = stays n f before in
-        subst (λ g. HasObjects g (objects f)) (sym (before_change h change n (within_before n was.within)))
-        (stands.followed n f was.before)
+          let was = stays n f before in
+          subst (λ g. HasObjects g (objects f)) (sym (before_change h change n (within_before n was.within)))
+          (stands.followed n f was.before)
     ]
 
     pub change_stands : StandsFor objects after (with_change h change) pins

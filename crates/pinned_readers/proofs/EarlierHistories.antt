@@ -1,6 +1,6 @@
 -- Histories without their last changes.
-use Rattle.std.proofs.Common.{◌≡◌, ◌∙◌, ◌+◌, ◌-◌, ◌≤◌, ℕ, List, [], ◌∷◌, ◌++◌, length, take, refl, sym, ap, subst, arith}
-use Rattle.std.proofs.lemmas.List.{take_all, take-append-le, length-take-le, length-append}
+use Rattle.std.proofs.Common.{◌≡◌, ◌-◌, ◌≤◌, ℕ, List, [], ◌∷◌, length, ap, arith}
+use Rattle.std.proofs.lemmas.List.{take_all, take-append-le, length-take-le}
 use Rattle.road_base.specs.declared.event.Event.{Event}
 use Rattle.road_base.specs.History.{History, kept, with_change}
 use Rattle.pinned_readers.specs.PinnedRuns.{up_to}

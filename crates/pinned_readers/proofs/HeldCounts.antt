@@ -1,7 +1,7 @@
 -- How many followers are held.
-use Rattle.std.proofs.Common.{◌≡◌, ◌∙◌, ◌||◌, ◌&&◌, ◌+◌, ◌≤◌, ℕ, Bool, true, false, cond, List, [], ◌∷◌, map, length, refl, sym}
-use Rattle.std.proofs.Common.{ap, subst, arith}
-use Rattle.std.specs.Prelude.{Option, Some, None, is_some, IsSome, T, not}
+use Rattle.std.proofs.Common.{◌≡◌, ◌∙◌, ◌||◌, ◌≤◌, ℕ, Bool, true, false, cond, List, [], ◌∷◌, map, refl, sym}
+use Rattle.std.proofs.Common.{ap, arith}
+use Rattle.std.specs.Prelude.{Some, T}
 use Rattle.std.specs.Ordering.{nat_cmp, is_lt, is_eq, eq_by_cmp}
 use Rattle.std.specs.declared.cmp.Ordering.{Ordering}
 use Rattle.std.specs.declared.cmp.Ordering.TheVariants.{Less, Equal, Greater}
@@ -9,14 +9,14 @@ use Rattle.std.specs.Cmp.{nat_cmp_total, eq_by_cmp_equiv}
 use Rattle.std.specs.List.{list_any, IsDistinct, AllByRecursion}
 use Rattle.std.specs.Set.{is_member}
 use Rattle.std.specs.FinMap.{FinMap, get, len, keys, values, entries, entries_sorted, find, is_sorted, contains_key-keys}
-use Rattle.std.specs.FinMap.{get-entries, len-entries, nat_cmp-IsAntisymmetric}
+use Rattle.std.specs.FinMap.{get-entries, len-entries}
 use Rattle.std.specs.FinMap.Entries.{below_all}
 use Rattle.std.proofs.lemmas.Bool.{and_parts}
 use Rattle.std.proofs.lemmas.List.{length-map}
 use Rattle.std.proofs.lemmas.Option.{none-some, same_Some}
 use Rattle.std.proofs.lemmas.Map.Keys.{IsDistinct-cons}
 use Rattle.std.proofs.lemmas.Map.Made.{length-le_from_is_member}
-use Rattle.pinned_readers.specs.PinnedRuns.{Pins, most_readers}
+use Rattle.pinned_readers.specs.PinnedRuns.{most_readers}
 use Rattle.pinned_readers.specs.Followers.{Followers, AreNeeded}
 use Rattle.pinned_readers.proofs.NumberMaps.{false_true, itself, some_of}
 
@@ -53,9 +53,9 @@ among q (e ∷ es) n h =
     elim (eq_by_cmp nat_cmp q e.0) as (λ b. cond b (Some e.1) (find nat_cmp q es) ≡ Some n
     → (eq_by_cmp nat_cmp n e.1 || list_any (eq_by_cmp nat_cmp n) (map (λ e. e.1) es)) ≡ true) [
       | true ↦ λ is. ap (λ b. b || list_any (eq_by_cmp nat_cmp n) (map (λ e. e.1) es))
-        (ap (λ k. eq_by_cmp nat_cmp n k) (same_Some e.1 n is) ∙ itself n)
+          (ap (λ k. eq_by_cmp nat_cmp n k) (same_Some e.1 n is) ∙ itself n)
       | false ↦ λ rest. elim (eq_by_cmp nat_cmp n e.1) as (λ b. (b || list_any (eq_by_cmp nat_cmp n) (map (λ e. e.1) es))
-        ≡ true) [ true ↦ refl | false ↦ among q es n rest ]
+          ≡ true) [ true ↦ refl | false ↦ among q es n rest ]
     ] h
 
 -- there are no more numbers of pins than pins
@@ -63,14 +63,21 @@ pub few_older : {F Fixed : Type 0} (fixed : F → Fixed) (s : Followers F) → A
     → len s.older ≤ most_readers
 few_older {F} fixed s are =
     let all : (q : ℕ) → is_member (eq_by_cmp nat_cmp) (keys s.older) q ≡ true
-        → is_member (eq_by_cmp nat_cmp) (values s.pins) q ≡ true =
-        λ q member. let f = some_of (get s.older q) (contains_key-keys s.older q ∙ member) in
-        let p = are.needed q f.0 f.1 in
-        among p.0 (entries s.pins) q (sym (get-entries s.pins p.0) ∙ p.1) in
+    → is_member (eq_by_cmp nat_cmp) (values s.pins) q ≡ true =
+    λ q member. let f = some_of (get s.older q) (contains_key-keys s.older q ∙ member) in
+    let p = are.needed q f.0 f.1 in
+    among p.0 (entries s.pins) q (sym (get-entries s.pins p.0) ∙ p.1) in
     let fits = length-le_from_is_member (eq_by_cmp_equiv nat_cmp_total) (keys s.older) (values s.pins)
-        (distinct_keys s.older) all in
+    (distinct_keys s.older) all in
     let older = len-entries s.older in
     let pins = len-entries s.pins in
     let few = are.few in
-    omega (arith, fits, older, pins, few, length-map (entries s.older) (λ (e : ℕ × F). e.0),
-    length-map (entries s.pins) (λ (e : ℕ × ℕ). e.1))
+    omega (
+      arith,
+      fits,
+      older,
+      pins,
+      few,
+      length-map (entries s.older) (λ (e : ℕ × F). e.0),
+      length-map (entries s.pins) (λ (e : ℕ × ℕ). e.1),
+    )

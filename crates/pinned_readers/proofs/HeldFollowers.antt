@@ -1,6 +1,6 @@
 -- Which followers are held, and for which states of the rule they stand.
-use Rattle.std.proofs.Common.{◌≡◌, ◌∙◌, ◌⊎◌, inl, inr, ◌+◌, ◌<◌, ◌≤◌, ℕ, cond, refl, sym, ap, subst, arith}
-use Rattle.std.specs.Prelude.{Option, Some, None, is_some, IsSome}
+use Rattle.std.proofs.Common.{◌≡◌, ◌∙◌, ◌⊎◌, inl, inr, ◌+◌, ◌<◌, ℕ, cond, refl, sym, ap, subst, arith}
+use Rattle.std.specs.Prelude.{Some, None, is_some, IsSome}
 use Rattle.std.specs.Ordering.{nat_cmp}
 use Rattle.std.specs.Cmp.{nat_cmp_total}
 use Rattle.std.specs.FinMap.{FinMap, get, insert, empty, len, len-insert, len-empty}
@@ -84,9 +84,9 @@ pub fresh_needed : {F Fixed : Type 0} (fixed : F → Fixed) (number : ℕ) (stat
     → AreNeeded fixed (record { number = number; newest = state; older = older; pins = pins })
 fresh_needed {F} fixed number state older pins none nobody =
     let no : (n : ℕ) (f : F) → get older n ≡ Some f → ⊥ =
-        λ n f at. nothing_in n f (ap (λ m. get m n) (sym none) ∙ at) in
+    λ n f at. nothing_in n f (ap (λ m. get m n) (sym none) ∙ at) in
     let unpinned : (reader n : ℕ) → IsPinnedAt pins reader n → ⊥ =
-        λ reader n at. nothing_in reader n (ap (λ m. get m reader) (sym nobody) ∙ at) in
+    λ reader n at. nothing_in reader n (ap (λ m. get m reader) (sym nobody) ∙ at) in
     let count : len pins ≡ 0 = ap len nobody ∙ len-empty nat_cmp ℕ in record {
       below = λ n f at. absurd (no n f at);
       alike = λ n f at. absurd (no n f at);
@@ -104,8 +104,8 @@ fresh_stands {F} objects number state older pins none nobody h is has = record {
   pinned = nobody;
   followed = λ n f at. elim (put_cases older number state n f at) [
     | inl same ↦
-      subst (λ (g : F). HasObjects (up_to h n) (objects g)) same.1
-      (subst (λ g. HasObjects g (objects state)) (sym (ap (up_to h) (same.0 ∙ is) ∙ all_of h)) has)
+        subst (λ (g : F). HasObjects (up_to h n) (objects g)) same.1
+        (subst (λ g. HasObjects g (objects state)) (sym (ap (up_to h) (same.0 ∙ is) ∙ all_of h)) has)
     | inr before ↦ absurd (nothing_in n f (ap (λ m. get m n) (sym none) ∙ before))
   ];
 }

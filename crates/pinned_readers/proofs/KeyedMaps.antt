@@ -78,12 +78,12 @@ module _ {K X Y : Type 0} {R : K → K → Ordering} {f : K → ℕ} (keys : Num
   len_distinct [] d = len-empty nat_cmp Y
   len_distinct (e ∷ es) d =
       let none : get (numbered es) (f e.0) ≡ None =
-          get_numbered e.0 es
-          ∙ ap (option_map g) (lookup-none (is_at (R e.0)) es
-          (none_past_head (eq_by_cmp_equiv keys.total) e.0 e es d (ap is_eq (tied_itself keys.total e.0)))) in
+      get_numbered e.0 es
+      ∙ ap (option_map g) (lookup-none (is_at (R e.0)) es
+      (none_past_head (eq_by_cmp_equiv keys.total) e.0 e es d (ap is_eq (tied_itself keys.total e.0)))) in
       let more : len (numbered (e ∷ es)) ≡ len (numbered es) + 1 =
-          len-insert nat_cmp_total (numbered es) (f e.0) (g e.1)
-          ∙ ap (λ o. cond (is_some o) (len (numbered es)) (len (numbered es) + 1)) none in
+      len-insert nat_cmp_total (numbered es) (f e.0) (g e.1)
+      ∙ ap (λ o. cond (is_some o) (len (numbered es)) (len (numbered es) + 1)) none in
       let rest = len_distinct es (IsDistinct-tail (eq_by_cmp R) e.0 (keys_of es) d) in
       omega (arith, more, rest)
 

@@ -2,7 +2,7 @@
 use Rattle.std.proofs.Common.{◌≡◌, ℕ, refl}
 use Rattle.std.specs.Prelude.{Option, Some, None}
 use Rattle.std.specs.Option.{option_map}
-use Rattle.std.specs.Ordering.{nat_cmp, on}
+use Rattle.std.specs.Ordering.{nat_cmp}
 use Rattle.std.specs.Cmp.{nat_cmp_total, on_total}
 use Rattle.road_base.specs.declared.ids.Sequence.{Sequence}
 use Rattle.road_base.specs.contracts.ids.SequenceOrd.TheImpl.{ghosts as sequence_order}

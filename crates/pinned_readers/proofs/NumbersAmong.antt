@@ -1,6 +1,6 @@
 -- Whether a number is among the values of an ordered map.
 use Rattle.std.proofs.Common.{◌≡◌, ◌∙◌, ◌||◌, ℕ, Bool, true, false, List, [], ◌∷◌, refl, sym, ap, subst}
-use Rattle.std.specs.Prelude.{Option, Some, None, is_some, nat_eq, T, not}
+use Rattle.std.specs.Prelude.{Option, Some, None, nat_eq, T, not}
 use Rattle.std.specs.Option.{option_map}
 use Rattle.std.specs.List.{list_any, IsDistinct}
 use Rattle.std.specs.Ordering.{nat_cmp, is_eq, eq_by_cmp}
@@ -8,7 +8,6 @@ use Rattle.std.specs.Cmp.{nat_cmp_total, tied_itself, eq_by_cmp_equiv, unsigned_
 use Rattle.std.specs.Map.{lookup, keys_of, values_of}
 use Rattle.std.specs.BTreeMap as tree
 use Rattle.std.specs.BTreeMap.{BTreeMap, is_at}
-use Rattle.std.specs.FinMap.{get}
 use Rattle.std.proofs.lemmas.Map.{lookup-none}
 use Rattle.std.proofs.lemmas.Map.Entries.{none_past_head, lookup_head, lookup_tail}
 use Rattle.std.proofs.lemmas.Map.Keys.{IsDistinct-from_sorted, IsDistinct-tail}
@@ -35,7 +34,7 @@ module _ {X : Type 0} (p : X → Bool) where
   apart k e es v d found =
       elim (is_eq (nat_cmp k e.0)) as (λ b. is_eq (nat_cmp k e.0) ≡ b → b ≡ false) [
         | true ↦ λ t. absurd (none-some v (sym (lookup-none (is_at (nat_cmp k)) es
-          (none_past_head (eq_by_cmp_equiv nat_cmp_total) k e es d t)) ∙ found))
+            (none_past_head (eq_by_cmp_equiv nat_cmp_total) k e es d t)) ∙ found))
         | false ↦ λ t. refl
       ] refl
 
@@ -51,12 +50,12 @@ module _ {X : Type 0} (p : X → Bool) where
           passes = is;
         }
         | false ↦ λ _ rest.
-          let r = some_found es (IsDistinct-tail (eq_by_cmp nat_cmp) e.0 (keys_of es) d) rest in record {
-            key = r.key;
-            value = r.value;
-            at = lookup_tail (is_at (nat_cmp r.key)) e es (apart r.key e es r.value d r.at) ∙ r.at;
-            passes = r.passes;
-          }
+            let r = some_found es (IsDistinct-tail (eq_by_cmp nat_cmp) e.0 (keys_of es) d) rest in record {
+              key = r.key;
+              value = r.value;
+              at = lookup_tail (is_at (nat_cmp r.key)) e es (apart r.key e es r.value d r.at) ∙ r.at;
+              passes = r.passes;
+            }
       ] refl h
 
   found_some : (test : ℕ → Bool) (es : List (ℕ × X)) (v : X) → lookup test es ≡ Some v → p v ≡ true
@@ -65,7 +64,7 @@ module _ {X : Type 0} (p : X → Bool) where
   found_some test (e ∷ es) v found is =
       elim (test e.0) as (λ b. test e.0 ≡ b → (p e.1 || list_any p (values_of es)) ≡ true) [
         | true ↦ λ t. ap (λ b. b || list_any p (values_of es))
-          (ap p (same_Some e.1 v (sym (lookup_head test e es t) ∙ found)) ∙ is)
+            (ap p (same_Some e.1 v (sym (lookup_head test e es t) ∙ found)) ∙ is)
         | false ↦ λ t. elim (p e.1) as (λ b. (b || list_any p (values_of es)) ≡ true) [
           | true ↦ refl
           | false ↦ found_some test es v (sym (lookup_tail test e es t) ∙ found) is
@@ -80,13 +79,15 @@ from_mapped (Some s) n e = (s, refl, same_Some s.0 n e)
 pub number_among : (m : BTreeMap ℕ Sequence) (n : ℕ) → tree.IsOrdered nat_cmp m
     → list_any (λ s. nat_eq s.0 n) (tree.values m) ≡ true → IsPinnedNumber (pins_in m) n
 number_among m n ordered any =
-    let r = some_found (λ s. nat_eq s.0 n) m.entries (IsDistinct-from_sorted nat_cmp (keys_of m.entries) ordered) any in
-    (r.key, get_numbered reader_keys (λ s. s.0) r.key m.entries ∙ ap (option_map (λ s. s.0)) r.at
-    ∙ ap Some ((unsigned_Decides r.value.0 n).0 r.passes))
+    let r = some_found (λ s. nat_eq s.0 n) m.entries (IsDistinct-from_sorted nat_cmp (keys_of m.entries) ordered) any in (
+      r.key,
+      get_numbered reader_keys (λ s. s.0) r.key m.entries ∙ ap (option_map (λ s. s.0)) r.at
+          ∙ ap Some ((unsigned_Decides r.value.0 n).0 r.passes),
+    )
 
 pub among_number : (m : BTreeMap ℕ Sequence) (n : ℕ) → IsPinnedNumber (pins_in m) n
     → list_any (λ s. nat_eq s.0 n) (tree.values m) ≡ true
 among_number m n pinned =
     let r = from_mapped (lookup (is_at (nat_cmp pinned.0)) m.entries) n
-        (sym (get_numbered reader_keys (λ s. s.0) pinned.0 m.entries) ∙ pinned.1) in
+    (sym (get_numbered reader_keys (λ s. s.0) pinned.0 m.entries) ∙ pinned.1) in
     found_some (λ s. nat_eq s.0 n) (is_at (nat_cmp pinned.0)) m.entries r.0 r.1 ((unsigned_Decides r.0.0 n).1 r.2)

@@ -9,9 +9,9 @@ use Rattle.std.specs.FinMap.{FinMap, get, insert, remove, len, len-insert, len-r
 use Rattle.std.proofs.lemmas.Option.{none-some, same_Some}
 use Rattle.road_base.specs.declared.ids.Sequence.{Sequence}
 use Rattle.road_base.specs.Objects.{Objects}
-use Rattle.road_base.specs.History.{History, HasObjects, kept}
+use Rattle.road_base.specs.History.{History, kept}
 use Rattle.road_model.specs.declared.follower.Question.{Question}
-use Rattle.pinned_readers.specs.PinnedRuns.{Pins, IsPinnedAt, IsPinnedNumber, IsState, most_readers, up_to}
+use Rattle.pinned_readers.specs.PinnedRuns.{Pins, IsPinnedAt, IsPinnedNumber, most_readers}
 use Rattle.pinned_readers.specs.PinnedRuns.{IsPinStep, IsAskStep, IsReleaseStep, IsReplyTo, Busy, Full, Pinned}
 use Rattle.pinned_readers.specs.Followers.{Followers, AreNeeded, StandsFor, Goes, IsDropped, held}
 use Rattle.pinned_readers.proofs.NumberMaps.{put_cases, beside_put, cut_cases, beside_cut, same_or_apart, none_of, false_true}
@@ -54,9 +54,15 @@ module _ {F : Type 0} (objects : F → Objects) (s : Followers F) (reader : ℕ)
 
   pub full : get s.pins reader ≡ None → most_readers ≤ len s.pins
       → Goes objects s s (λ h pins then. IsPinStep h pins reader Full then)
-  full none many h pins stands =
-      (pins, (subst (λ (p : Pins). get p reader ≡ None) stands.pinned none,
-      subst (λ (p : Pins). most_readers ≤ len p) stands.pinned many, refl), stands)
+  full none many h pins stands = (
+    pins,
+    (
+      subst (λ (p : Pins). get p reader ≡ None) stands.pinned none,
+      subst (λ (p : Pins). most_readers ≤ len p) stands.pinned many,
+      refl,
+    ),
+    stands,
+  )
 
   abbrev pub with_pin : Followers F
   with_pin = record { number = s.number; newest = s.newest; older = s.older; pins = insert s.pins reader s.number }
@@ -79,20 +85,30 @@ module _ {F : Type 0} (objects : F → Objects) (s : Followers F) (reader : ℕ)
 
   pub pins_on : get s.pins reader ≡ None → len s.pins < most_readers
       → Goes objects s with_pin (λ h pins then. IsPinStep h pins reader (Pinned s.number) then)
-  pins_on none room h pins stands =
-      (insert pins reader s.number, (subst (λ (p : Pins). get p reader ≡ None) stands.pinned none,
-      subst (λ (p : Pins). len p < most_readers) stands.pinned room, stands.number, refl), pin_stands h pins stands)
+  pins_on none room h pins stands = (
+    insert pins reader s.number,
+    (
+      subst (λ (p : Pins). get p reader ≡ None) stands.pinned none,
+      subst (λ (p : Pins). len p < most_readers) stands.pinned room,
+      stands.number,
+      refl,
+    ),
+    pin_stands h pins stands,
+  )
 
   pub pins_needed : {Fixed : Type 0} (fixed : F → Fixed) → AreNeeded fixed s → get s.pins reader ≡ None
       → len s.pins < most_readers → AreNeeded fixed with_pin
   pins_needed fixed are none room =
       let count : len (insert s.pins reader s.number) ≡ len s.pins + 1 =
-          len-insert nat_cmp_total s.pins reader s.number
-          ∙ ap (λ o. cond (is_some o) (len s.pins) (len s.pins + 1)) none in record {
+      len-insert nat_cmp_total s.pins reader s.number
+      ∙ ap (λ o. cond (is_some o) (len s.pins) (len s.pins + 1)) none in record {
         below = are.below;
         alike = are.alike;
-        needed = λ n f at. let p = are.needed n f at in (p.0, beside_put s.pins reader s.number p.0
-        (λ same. none-some n (sym none ∙ ap (λ r. get s.pins r) (sym same) ∙ p.1)) ∙ p.1);
+        needed = λ n f at. let p = are.needed n f at in (
+          p.0,
+          beside_put s.pins reader s.number p.0
+              (λ same. none-some n (sym none ∙ ap (λ r. get s.pins r) (sym same) ∙ p.1)) ∙ p.1,
+        );
         pinned = λ r n at. elim (put_cases s.pins reader s.number r n at) [
           | inl same ↦ inl (sym same.1)
           | inr before ↦ are.pinned r n before
@@ -110,10 +126,16 @@ pub asked : {F Fixed : Type 0} (fixed : F → Fixed) (objects : F → Objects)
     → IsAskStep (IsReplyTo (replies (fixed s.newest)) q) h pins reader (Some r)
 asked fixed objects replies s reader n f q r at holds alike reply h pins stands =
     let pinned : IsPinnedAt pins reader n = subst (λ (p : Pins). IsPinnedAt p reader n) stands.pinned at in
-    let within = stands.valid reader n pinned in
-    (n, pinned, (objects f, stands.followed n f holds,
-    subst (λ k. replies (fixed s.newest) (objects f) k q r) (sym (kept_up_to h n within.0 within.1))
-    (subst (λ x. replies x (objects f) n q r) alike reply)))
+    let within = stands.valid reader n pinned in (
+      n,
+      pinned,
+      (
+        objects f,
+        stands.followed n f holds,
+        subst (λ k. replies (fixed s.newest) (objects f) k q r) (sym (kept_up_to h n within.0 within.1))
+            (subst (λ x. replies x (objects f) n q r) alike reply),
+      ),
+    )
 
 pub not_asked : {F : Type 0} (objects : F → Objects) (s : Followers F) (reader : ℕ) → get s.pins reader ≡ None
     → (h : History) (pins : Pins) → StandsFor objects s h pins → get pins reader ≡ None
@@ -141,11 +163,11 @@ module _ {F Fixed : Type 0} (fixed : F → Fixed) (s : Followers F) (are : AreNe
   still_needed k f here =
       let p = are.needed k f (was k f here) in elim (same_or_apart p.0 reader) [
         | inl same ↦
-          let one : n ≡ k = same_Some n k (sym at ∙ ap (λ r. get s.pins r) (sym same) ∙ p.1) in elim dropped [
-            | inl stays ↦ subst (λ m. IsPinnedNumber (remove s.pins reader) m) one stays.0
-            | inr cut ↦ absurd ((cut_cases s.older n k f (ap (λ (m : FinMap nat_cmp F). get m k) (sym cut.1) ∙ here)).0
-              (sym one))
-          ]
+            let one : n ≡ k = same_Some n k (sym at ∙ ap (λ r. get s.pins r) (sym same) ∙ p.1) in elim dropped [
+              | inl stays ↦ subst (λ m. IsPinnedNumber (remove s.pins reader) m) one stays.0
+              | inr cut ↦ absurd ((cut_cases s.older n k f (ap (λ (m : FinMap nat_cmp F). get m k) (sym cut.1) ∙ here)).0
+                  (sym one))
+            ]
         | inr apart ↦ (p.0, beside_cut s.pins reader p.0 apart.differ ∙ p.1)
       ]
 
@@ -155,9 +177,9 @@ module _ {F Fixed : Type 0} (fixed : F → Fixed) (s : Followers F) (are : AreNe
     | inr some ↦ elim dropped [
       | inl stays ↦ inr (ap (λ (m : FinMap nat_cmp F). is_some (get m k)) stays.1 ∙ some)
       | inr cut ↦
-        let differ : k ≡ n → ⊥ = λ same. cut.0 (subst (λ m. IsPinnedNumber (remove s.pins reader) m) same (r, pinned)) in
-        inr (ap (λ (m : FinMap nat_cmp F). is_some (get m k)) cut.1
-        ∙ ap is_some (beside_cut s.older n k differ) ∙ some)
+          let differ : k ≡ n → ⊥ = λ same. cut.0 (subst (λ m. IsPinnedNumber (remove s.pins reader) m) same (r, pinned)) in
+          inr (ap (λ (m : FinMap nat_cmp F). is_some (get m k)) cut.1
+          ∙ ap is_some (beside_cut s.older n k differ) ∙ some)
     ]
   ]
 
@@ -168,18 +190,21 @@ module _ {F Fixed : Type 0} (fixed : F → Fixed) (s : Followers F) (are : AreNe
     needed = still_needed;
     pinned = still_held;
     few = subst (λ m. m ≤ most_readers) (sym (len-remove nat_cmp_total s.pins reader))
-    (no_longer (is_some (get s.pins reader)) (len s.pins) are.few);
+        (no_longer (is_some (get s.pins reader)) (len s.pins) are.few);
   }
 
   pub released : (objects : F → Objects)
       → Goes objects s without (λ h pins then. IsReleaseStep pins reader (Some n) then)
-  released objects h pins stands =
-      (remove pins reader, (subst (λ (p : Pins). IsPinnedAt p reader n) stands.pinned at, refl), record {
-        valid = λ r k here. stands.valid r k ((cut_cases pins reader r k here).1);
-        number = stands.number;
-        pinned = ap (λ (p : Pins). remove p reader) stands.pinned;
-        followed = followed_still objects s h pins stands older (λ k f here. held_older fixed s are k f (was k f here));
-      })
+  released objects h pins stands = (
+    remove pins reader,
+    (subst (λ (p : Pins). IsPinnedAt p reader n) stands.pinned at, refl),
+    record {
+      valid = λ r k here. stands.valid r k ((cut_cases pins reader r k here).1);
+      number = stands.number;
+      pinned = ap (λ (p : Pins). remove p reader) stands.pinned;
+      followed = followed_still objects s h pins stands older (λ k f here. held_older fixed s are k f (was k f here));
+    },
+  )
 
 pub not_released : {F : Type 0} (objects : F → Objects) (s : Followers F) (reader : ℕ) → get s.pins reader ≡ None
     → Goes objects s s (λ h pins then. IsReleaseStep pins reader None then)

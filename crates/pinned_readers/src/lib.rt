@@ -11,6 +11,8 @@ mod errors;
 mod older;
 mod pins;
 mod readers;
+#[cfg(test)]
+mod tests;
 
 pub use errors::{AskError, NoPin, PinError};
 pub use readers::Readers;

@@ -89,12 +89,7 @@ impl<F: Follower> Readers<F> {
 
     /// Appends a reply to the question, for the state that the reader has pinned. `NoPin` where it is not pinned. Where
     /// it refuses it appends nothing.
-    pub fn ask(
-        &self,
-        reader: u32,
-        question: &Question,
-        out: &mut Vec<u8>,
-    ) -> Result<(), AskError>
+    pub fn ask(&self, reader: u32, question: &Question, out: &mut Vec<u8>) -> Result<(), AskError>
         requires { HasSteps question.now }
         ensures reply { OnOk result ((r : List ℕ)
             × (out.new.items ≡ out.old.items ++ r)
@@ -164,7 +159,14 @@ impl<F: Follower> Readers<F> {
     {
         history_objects();
         let number = self.number;
-        follow(number, &self.pins, &mut self.newest, &mut self.older, events, steps)?;
+        follow(
+            number,
+            &self.pins,
+            &mut self.newest,
+            &mut self.older,
+            events,
+            steps,
+        )?;
         self.number = Sequence(number.0 + 1);
         Ok(())
     }

@@ -1,4 +1,4 @@
-use Rattle.std.proofs.Common.{◌≡◌, ◌∙◌, sym, ap}
+use Rattle.std.proofs.Common.{◌∙◌, sym, ap}
 use Rattle.std.specs.FinMap.{get}
 use Rattle.pinned_readers.proofs.KeyedMaps.{get_numbered}
 use Rattle.pinned_readers.proofs.NumberKeys.{sequence_keys, same_option}

@@ -1,4 +1,4 @@
-use Rattle.std.proofs.Common.{◌≡◌, ◌∙◌, subst, sym}
+use Rattle.std.proofs.Common.{◌∙◌, subst, sym}
 use Rattle.pinned_readers.specs.PinnedRuns.{Pins, IsPinnedNumber}
 use Rattle.pinned_readers.proofs.NumbersAmong.{number_among, among_number}
 use Rattle.pinned_readers.proofs.pins.PinTable.has_number.Goals as goal

@@ -1,4 +1,4 @@
-use Rattle.std.proofs.Common.{◌≡◌, ◌∙◌, ap}
+use Rattle.std.proofs.Common.{◌∙◌, ap}
 use Rattle.std.specs.FinMap.{insert}
 use Rattle.pinned_readers.proofs.KeyedMaps.{inserted}
 use Rattle.pinned_readers.proofs.NumberKeys.{reader_keys}

@@ -1,4 +1,4 @@
-use Rattle.std.proofs.Common.{◌≡◌, ◌∙◌, sym, ap}
+use Rattle.std.proofs.Common.{◌∙◌, sym, ap}
 use Rattle.std.specs.FinMap.{len}
 use Rattle.pinned_readers.proofs.KeyedMaps.{len_numbered}
 use Rattle.pinned_readers.proofs.NumberKeys.{reader_keys}

@@ -1,4 +1,4 @@
-use Rattle.std.proofs.Common.{◌≡◌, subst}
+use Rattle.std.proofs.Common.{subst}
 use Rattle.std.specs.Prelude.{IsSome}
 use Rattle.std.specs.FinMap.{get}
 use Rattle.pinned_readers.specs.PinnedRuns.{IsPinnedAt}
@@ -18,9 +18,12 @@ follower-requires g c =
 pub returns-in-Ok-clause-reply : goal.returns-in-Ok-clause-reply
 returns-in-Ok-clause-reply g c =
     let r = c.in-Ok.ensures.reply in
-    let number = c.in-Some.number in
-    (r.0, r.2, asked g.F.Follower.fixed g.F.Follower.objects g.F.Follower.replies c.args.self.now c.args.reader number.0
-    c.follower.result.now c.args.question.now r.0
-    (subst (λ v. IsPinnedAt v.pins c.args.reader number.0) c.self.view_is
-    (pinned_from c.self.inside.pins c.args.reader c.get.result number c.get.ensures c.in-Some.is))
-    c.follower.ensures.held c.follower.ensures.fixed r.1)
+    let number = c.in-Some.number in (
+      r.0,
+      r.2,
+      asked g.F.Follower.fixed g.F.Follower.objects g.F.Follower.replies c.args.self.now c.args.reader number.0
+          c.follower.result.now c.args.question.now r.0
+          (subst (λ v. IsPinnedAt v.pins c.args.reader number.0) c.self.view_is
+          (pinned_from c.self.inside.pins c.args.reader c.get.result number c.get.ensures c.in-Some.is))
+          c.follower.ensures.held c.follower.ensures.fixed r.1,
+    )

@@ -24,5 +24,5 @@ pub returns-clause-few : goal.returns-clause-few
 returns-clause-few g c =
     let count = c.len.ensures.count in
     let few = few_older g.F.Follower.fixed
-        (followers c.self.inside.number.0 c.self.inside.newest c.self.inside.older c.self.inside.pins) c.self.invariant in
+    (followers c.self.inside.number.0 c.self.inside.newest c.self.inside.older c.self.inside.pins) c.self.invariant in
     omega (arith, count, few)

@@ -1,4 +1,4 @@
-use Rattle.std.proofs.Common.{◌≡◌, subst, sym}
+use Rattle.std.proofs.Common.{subst, sym}
 use Rattle.pinned_readers.specs.Followers.{StandsFor}
 use Rattle.pinned_readers.proofs.HeldFollowers.{followers, newest_objects}
 use Rattle.pinned_readers.proofs.readers.Readers.newest.Goals as goal

@@ -1,4 +1,4 @@
-use Rattle.std.proofs.Common.{◌≡◌, ◌∙◌, ◌≤◌, subst, sym}
+use Rattle.std.proofs.Common.{◌∙◌, ◌≤◌, subst, sym}
 use Rattle.pinned_readers.specs.PinnedRuns.{Pins, IsPinStep, most_readers, Busy, Full, Pinned}
 use Rattle.pinned_readers.specs.Followers.{AreNeeded, Goes}
 use Rattle.pinned_readers.proofs.HeldFollowers.{followers}

@@ -1,10 +1,10 @@
-use Rattle.std.proofs.Common.{◌≡◌, subst, sym}
+use Rattle.std.proofs.Common.{subst, sym}
 use Rattle.std.specs.Prelude.{None, Some}
 use Rattle.std.specs.FinMap.{remove}
 use Rattle.pinned_readers.specs.PinnedRuns.{Pins, IsReleaseStep}
 use Rattle.pinned_readers.specs.Followers.{AreNeeded, Goes, IsDropped}
 use Rattle.pinned_readers.proofs.HeldFollowers.{followers}
-use Rattle.pinned_readers.proofs.PinSteps.{pinned_from, unpinned_from, not_released, release_needed, released, without}
+use Rattle.pinned_readers.proofs.PinSteps.{pinned_from, unpinned_from, not_released, release_needed, released}
 use Rattle.pinned_readers.proofs.readers.Readers.release.Goals as goal
 
 pub returns-in_default-clause-step : goal.returns-in_default-clause-step
