@@ -98,7 +98,8 @@ module _ {F Fixed : Type 0} (fixed : F → Fixed) (s : Followers F) (are : AreNe
     then_has =
         more.grows h change (objects s.newest) (objects next) (newest_objects objects s h pins stands) more.applied
 
-    then_followed : (n : ℕ) (f : F) → get (held after) n ≡ Some f → HasObjects (up_to (with_change h change) n) (objects f)
+    then_followed : (n : ℕ) (f : F) → get (held after) n ≡ Some f
+        → HasObjects (up_to (with_change h change) n) (objects f)
     then_followed n f here = elim (put_cases older (s.number + 1) next n f here) [
       | inl same ↦
           subst (λ (g : F). HasObjects (up_to (with_change h change) n) (objects g)) same.1

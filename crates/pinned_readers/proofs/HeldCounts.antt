@@ -8,8 +8,8 @@ use Rattle.std.specs.declared.cmp.Ordering.TheVariants.{Less, Equal, Greater}
 use Rattle.std.specs.Cmp.{nat_cmp_total, eq_by_cmp_equiv}
 use Rattle.std.specs.List.{list_any, IsDistinct, AllByRecursion}
 use Rattle.std.specs.Set.{is_member}
-use Rattle.std.specs.FinMap.{FinMap, get, len, keys, values, entries, entries_sorted, find, is_sorted, contains_key-keys}
-use Rattle.std.specs.FinMap.{get-entries, len-entries}
+use Rattle.std.specs.FinMap.{FinMap, get, len, keys, values, entries, entries_sorted, find, is_sorted}
+use Rattle.std.specs.FinMap.{contains_key-keys, get-entries, len-entries}
 use Rattle.std.specs.FinMap.Entries.{below_all}
 use Rattle.std.proofs.lemmas.Bool.{and_parts}
 use Rattle.std.proofs.lemmas.List.{length-map}
@@ -54,7 +54,8 @@ among q (e ∷ es) n h =
     → (eq_by_cmp nat_cmp n e.1 || list_any (eq_by_cmp nat_cmp n) (map (λ e. e.1) es)) ≡ true) [
       | true ↦ λ is. ap (λ b. b || list_any (eq_by_cmp nat_cmp n) (map (λ e. e.1) es))
           (ap (λ k. eq_by_cmp nat_cmp n k) (same_Some e.1 n is) ∙ itself n)
-      | false ↦ λ rest. elim (eq_by_cmp nat_cmp n e.1) as (λ b. (b || list_any (eq_by_cmp nat_cmp n) (map (λ e. e.1) es))
+      | false ↦ λ rest. elim (eq_by_cmp nat_cmp n e.1)
+          as (λ b. (b || list_any (eq_by_cmp nat_cmp n) (map (λ e. e.1) es))
           ≡ true) [ true ↦ refl | false ↦ among q es n rest ]
     ] h
 

@@ -79,7 +79,8 @@ from_mapped (Some s) n e = (s, refl, same_Some s.0 n e)
 pub number_among : (m : BTreeMap ℕ Sequence) (n : ℕ) → tree.IsOrdered nat_cmp m
     → list_any (λ s. nat_eq s.0 n) (tree.values m) ≡ true → IsPinnedNumber (pins_in m) n
 number_among m n ordered any =
-    let r = some_found (λ s. nat_eq s.0 n) m.entries (IsDistinct-from_sorted nat_cmp (keys_of m.entries) ordered) any in (
+    let once = IsDistinct-from_sorted nat_cmp (keys_of m.entries) ordered in
+    let r = some_found (λ s. nat_eq s.0 n) m.entries once any in (
       r.key,
       get_numbered reader_keys (λ s. s.0) r.key m.entries ∙ ap (option_map (λ s. s.0)) r.at
           ∙ ap Some ((unsigned_Decides r.value.0 n).0 r.passes),

@@ -1,5 +1,6 @@
 -- The steps of the rule: pins, questions and releases.
-use Rattle.std.proofs.Common.{◌≡◌, ◌∙◌, ◌⊎◌, inl, inr, ◌+◌, ◌-◌, ◌<◌, ◌≤◌, ℕ, Bool, true, false, cond, List, refl, sym, ap}
+use Rattle.std.proofs.Common.{◌≡◌, ◌∙◌, ◌⊎◌, inl, inr, ◌+◌, ◌-◌, ◌<◌, ◌≤◌, ℕ, Bool, true, false, cond, List}
+use Rattle.std.proofs.Common.{refl, sym, ap}
 use Rattle.std.proofs.Common.{subst, arith}
 use Rattle.std.specs.Prelude.{Option, Some, None, is_some, IsSome}
 use Rattle.std.specs.Option.{option_map}
@@ -14,7 +15,8 @@ use Rattle.road_model.specs.declared.follower.Question.{Question}
 use Rattle.pinned_readers.specs.PinnedRuns.{Pins, IsPinnedAt, IsPinnedNumber, most_readers}
 use Rattle.pinned_readers.specs.PinnedRuns.{IsPinStep, IsAskStep, IsReleaseStep, IsReplyTo, Busy, Full, Pinned}
 use Rattle.pinned_readers.specs.Followers.{Followers, AreNeeded, StandsFor, Goes, IsDropped, held}
-use Rattle.pinned_readers.proofs.NumberMaps.{put_cases, beside_put, cut_cases, beside_cut, same_or_apart, none_of, false_true}
+use Rattle.pinned_readers.proofs.NumberMaps.{put_cases, beside_put, cut_cases, beside_cut, same_or_apart}
+use Rattle.pinned_readers.proofs.NumberMaps.{none_of, false_true}
 use Rattle.pinned_readers.proofs.EarlierHistories.{base_kept, kept_up_to}
 use Rattle.pinned_readers.proofs.HeldFollowers.{held_older, followed_still}
 
@@ -165,7 +167,8 @@ module _ {F Fixed : Type 0} (fixed : F → Fixed) (s : Followers F) (are : AreNe
         | inl same ↦
             let one : n ≡ k = same_Some n k (sym at ∙ ap (λ r. get s.pins r) (sym same) ∙ p.1) in elim dropped [
               | inl stays ↦ subst (λ m. IsPinnedNumber (remove s.pins reader) m) one stays.0
-              | inr cut ↦ absurd ((cut_cases s.older n k f (ap (λ (m : FinMap nat_cmp F). get m k) (sym cut.1) ∙ here)).0
+              | inr cut ↦ absurd ((cut_cases s.older n k f
+                  (ap (λ (m : FinMap nat_cmp F). get m k) (sym cut.1) ∙ here)).0
                   (sym one))
             ]
         | inr apart ↦ (p.0, beside_cut s.pins reader p.0 apart.differ ∙ p.1)
@@ -177,7 +180,8 @@ module _ {F Fixed : Type 0} (fixed : F → Fixed) (s : Followers F) (are : AreNe
     | inr some ↦ elim dropped [
       | inl stays ↦ inr (ap (λ (m : FinMap nat_cmp F). is_some (get m k)) stays.1 ∙ some)
       | inr cut ↦
-          let differ : k ≡ n → ⊥ = λ same. cut.0 (subst (λ m. IsPinnedNumber (remove s.pins reader) m) same (r, pinned)) in
+          let differ : k ≡ n → ⊥ =
+          λ same. cut.0 (subst (λ m. IsPinnedNumber (remove s.pins reader) m) same (r, pinned)) in
           inr (ap (λ (m : FinMap nat_cmp F). is_some (get m k)) cut.1
           ∙ ap is_some (beside_cut s.older n k differ) ∙ some)
     ]

@@ -122,8 +122,8 @@ impl<F: Follower> Readers<F> {
         }
     }
 
-    /// Releases the reader, and answers the number that it had pinned. A state that nobody else has pinned is dropped, if
-    /// it isn't the newest one. Takes no memory.
+    /// Releases the reader, and answers the number that it had pinned. A state that nobody else has pinned is dropped,
+    /// if it isn't the newest one. Takes no memory.
     pub fn release(&mut self, reader: u32) -> Result<Sequence, NoPin>
         ensures step { Goes F.objects self.old self.new
             (λ h pins then. IsReleaseStep pins reader (release_answer result) then) }
@@ -139,8 +139,8 @@ impl<F: Follower> Readers<F> {
         Ok(number)
     }
 
-    /// Goes on to what the events leave, which get the next number. Where somebody has pinned the newest state, a copy of
-    /// it follows, and it stays for its readers.
+    /// Goes on to what the events leave, which gets the next number. Where somebody has pinned the newest state, a copy
+    /// of it follows, and it stays for its readers.
     pub fn apply<L: Ledger>(
         &mut self,
         events: &[Event],
@@ -209,8 +209,8 @@ fn drop_unneeded<F: Drop>(number: Sequence, pins: &PinTable, older: &mut OlderSt
     }
 }
 
-/// Lets the newest follower go on, or a copy of it where somebody is pinned at its number: then it stays there. Where no
-/// memory is found both are as before.
+/// Lets the newest follower go on, or a copy of it where somebody is pinned at its number: then it stays there. Where
+/// no memory is found both are as before.
 fn follow<F: Follower, L: Ledger>(
     number: Sequence,
     pins: &PinTable,

@@ -9,7 +9,8 @@ use Rattle.pinned_readers.proofs.readers.Readers.release.Goals as goal
 
 pub returns-in_default-clause-step : goal.returns-in_default-clause-step
 returns-in_default-clause-step g c =
-    subst (λ v. Goes g.F.Follower.objects v v (λ h pins then. IsReleaseStep pins c.args.reader None then)) c.self.view_is
+    subst (λ v. Goes g.F.Follower.objects v v (λ h pins then. IsReleaseStep pins c.args.reader None then))
+    c.self.view_is
     (not_released g.F.Follower.objects
     (followers c.self.inside.number.0 c.self.inside.newest c.self.inside.older c.self.inside.pins) c.args.reader
     (unpinned_from c.self.inside.pins c.args.reader c.get.result c.get.ensures c.in_default.is))
