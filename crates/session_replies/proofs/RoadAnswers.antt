@@ -1,6 +1,6 @@
 -- What the road network answers in a session, and what it follows.
 use Rattle.std.proofs.Common.{◌≡◌, ◌∙◌, ◌⊎◌, inl, inr, ⊎_elim, ℕ, ◌+◌, ◌<◌, ◌≤◌, List, length, Option, None, Some, Result}
-use Rattle.std.proofs.Common.{IfOk, refl, sym, subst, arith}
+use Rattle.std.proofs.Common.{Ok, Err, IfOk, OnOk, OnErr, refl, sym, subst, arith}
 use Rattle.std.proofs.lemmas.Result.{IfOk-weaker}
 use Rattle.road_base.specs.declared.event.Event.{Event}
 use Rattle.road_base.specs.Applying.{IsApplied}
@@ -75,6 +75,15 @@ not_risen number last kept below same next = omega (arith, below, same, next)
 
 pub fits_next : (number last bound : ℕ) → (number ≤ last → ⊥) → number < bound → last + 1 < bound
 fits_next number last bound above fits = omega (arith, above, fits)
+
+-- what holds anyway
+pub ok_anyway : {T E : Type 0} (result : Result T E) (P : Type 0) → P → OnOk result P
+ok_anyway (Ok x) P p = p
+ok_anyway (Err e) P p = tt
+
+pub err_anyway : {T E : Type 0} (result : Result T E) (P : Type 0) → P → OnErr result P
+err_anyway (Ok x) P p = tt
+err_anyway (Err e) P p = p
 
 -- no block, or no more than the change costs
 abbrev pub BuildsFew : Objects → List Event → ℕ → ℕ → Type 0
