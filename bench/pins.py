@@ -19,7 +19,7 @@ from frames import frame, processor_time                    # noqa: E402
 from town_nodes import Town as Nodes                        # noqa: E402
 
 READERS = 64
-CYCLES, BEHIND = 40, 5
+CYCLES, BEHIND, HELD = 40, 5, 16
 
 
 def mean(times):
@@ -189,24 +189,33 @@ def one_held(pair, count):
 
 
 def all_along(pair, count):
-    """Frames, with a pin behind each, which is released some frames later."""
-    took, held, memory = [], [], []
+    """Frames, each behind a pin of its own, which is released some frames later: so at each moment somebody reads."""
+    took, memory = [], []
     for number in range(count):
-        reader = number % (READERS // 2)
-        if reader in held:
-            held.remove(reader)
-            pair.release(reader)
-        if len(held) < READERS // 2:
-            pair.pin(reader)
-            held.append(reader)
-        while held and pair.draws.random() < 0.6:
-            pair.release(held.pop(pair.draws.randrange(len(held))))
+        if number >= HELD:
+            pair.release(number % HELD)
+        pair.pin(number % HELD)
         took.append(pair.follow())
         memory.append((pair.read.memory(), pair.plain.memory()))
-    tell_tenths(f'{count} frames with pins all along', took, memory)
-    for reader in held:
+    tell_tenths(f'{count} frames with {HELD} pins all along', took, memory)
+    for reader in range(HELD):
         pair.release(reader)
+    for times in 'behind them all', 'behind these':
+        tell(f'frames {times}, without pins', [pair.follow() for _ in range(CYCLES)])
     pair.tell_memory('all released')
+
+
+def compare_and_close(pair):
+    """Both have come to the same graph and files."""
+    same = pair.read.ask('graph')[0] == pair.plain.ask('graph')[0]
+    status = pair.read.close(), pair.plain.close()
+    files = []
+    for session in pair.read, pair.plain:
+        with open(f'{session.store}.a', 'rb') as file:
+            files.append(file.read())
+    if not same or status != (0, 0) or files[0] != files[1]:
+        sys.exit('the session with readers came to another graph or other files than the one without')
+    print('  graph and files of both are the same', flush=True)
 
 
 def main():
@@ -220,17 +229,13 @@ def main():
     many_states(pair)
     many_states(pair)
     questions(pair, path)
-    all_along(pair, int(count))
-    one_held(pair, int(count))
-    same = pair.read.ask('graph')[0] == pair.plain.ask('graph')[0]
-    status = pair.read.close(), pair.plain.close()
-    files = []
-    for session in pair.read, pair.plain:
-        with open(f'{session.store}.a', 'rb') as file:
-            files.append(file.read())
-    if not same or status != (0, 0) or files[0] != files[1]:
-        sys.exit('the session with readers came to another graph or other files than the one without')
-    print('  graph and files of both are the same')
+    compare_and_close(pair)
+    # what the readers before have let go would hide what these take
+    for measure in all_along, one_held:
+        pair = Pair(program, store, path, kind)
+        pair.tell_memory('opened anew')
+        measure(pair, int(count))
+        compare_and_close(pair)
 
 
 main()
