@@ -1,11 +1,12 @@
 //! What steps and drives cost.
-ghost use Rattle.std.specs.Prelude.{◌≡◌, ◌≤◌, ◌<◌, ◌^◌, ◌+◌, ◌*◌, ◌+ℤ◌, ◌-ℤ◌, unsigned_abs, IfSome, length};
-ghost use Rattle.least_cost.specs.Costs.{lon_difference, narrowed, straight, cost_between, location_of};
+ghost use Rattle.std.specs.Prelude.{◌≡◌, ◌≤◌, ◌<◌, ◌^◌, ◌+◌, ◌*◌, ◌/◌, ◌+ℤ◌, ◌-ℤ◌, unsigned_abs, IfSome, length};
+ghost use Rattle.least_cost.specs.Costs.{lon_difference, narrowed, straight, root, cost_between, location_of};
 ghost use Rattle.least_cost.specs.Costs.{step_cost_of, cost_of};
 ghost use Rattle.least_cost.specs.PlaceCosts.{places_cost};
 
 use road_base::{Location, NodeId, Step};
 use road_model::{Place, World};
+use std::num::{nearest_u64_to_f64, saturating_f64_to_u64};
 use way_lines::{head, tail};
 
 /// The cost of a step from one location to another: one more than the straight line between them in units of 1e-7
@@ -51,9 +52,32 @@ fn narrowed(across: u64, sum: u64) -> u64
     ensures is { result ≡ narrowed across sum }
     ensures small { result ≤ 1800000000 }
 {
-    let square = u128::from(sum * sum);
-    let turn = 12_960_000_000_000_000_000_u128;
-    (u128::from(across) * (turn - 4 * square) / (turn + square)) as u64
+    let square = sum * sum;
+    let turn = 12_960_000_000_000_000_000_u64;
+    fraction(across, turn - 4 * square, turn + square)
+}
+
+/// So many times the part of the whole, rounded down.
+fn fraction(times: u64, part: u64, whole: u64) -> u64
+    requires part { part ≤ whole }
+    requires whole { 0 < whole }
+    ensures is { result ≡ times * part / whole }
+    ensures small { result ≤ times }
+{
+    let product = u128::from(times) * u128::from(part);
+    let guess = guessed_fraction(times, part, whole);
+    let guessed = u128::from(guess) * u128::from(whole);
+    if guessed <= product && product - guessed < u128::from(whole) {
+        guess
+    } else {
+        (product / u128::from(whole)) as u64
+    }
+}
+
+/// About so many times the part of the whole: what it mostly is, rounded down.
+fn guessed_fraction(times: u64, part: u64, whole: u64) -> u64 {
+    let ratio = nearest_u64_to_f64(part) / nearest_u64_to_f64(whole);
+    saturating_f64_to_u64(nearest_u64_to_f64(times) * ratio)
 }
 
 /// What the sides of a right angle span, rounded down.
@@ -63,7 +87,28 @@ fn straight(across: u64, up: u64) -> u64
     ensures is { result ≡ straight across up }
     ensures small { result + 1 < 2 ^ 32 }
 {
-    (across * across + up * up).isqrt()
+    root(across * across + up * up)
+}
+
+/// The greatest whole number whose square is at most n.
+fn root(n: u64) -> u64
+    ensures is { result ≡ root n }
+    ensures low { result * result ≤ n }
+{
+    let guess = guessed_root(n);
+    let next = guess + 1;
+    if guess * guess <= n && n < next * next {
+        guess
+    } else {
+        n.isqrt()
+    }
+}
+
+/// About the root of the number: what it mostly is, rounded down.
+fn guessed_root(n: u64) -> u64
+    ensures { result + 1 < 2 ^ 32 }
+{
+    saturating_f64_to_u64(nearest_u64_to_f64(n).sqrt()).min(4_294_967_294)
 }
 
 /// The cost of the drive, the sum over its steps. None exactly where a step names no pair of a visible way or one of
