@@ -1,4 +1,5 @@
 pub mod CostSizes
+pub mod CostNames
 pub mod CostRoots
 pub mod LawCosts
 pub mod LawLeast

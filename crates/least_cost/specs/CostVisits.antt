@@ -33,9 +33,9 @@ ContextNames = PieceName × List PieceName
 abbrev pub names_at : CostVisit → ContextNames
 names_at v = key_of (at_of v.spot)
 
--- the visit stands in the list, and is of the context of these names
-pub record StandsAs (visits : List CostVisit) (q : ContextNames) (visit : CostVisit) : Type 0 where
-  pub place : ℕ
+-- the visit at the place is of the context of these names
+pub record StandsAs (visits : List CostVisit) (q : ContextNames) (place : ℕ) : Type 0 where
+  pub visit : CostVisit
   pub at : slice_get visits place ≡ Some visit
   pub named : names_at visit ≡ q
 

@@ -56,7 +56,7 @@ fn begin_on<'a>(
     };
     let left = places_cost(places_from(spot.piece.places.items(), start.first));
     let whole = places_cost(spot.piece.places.items());
-    let known = search.latest_of(&spot);
+    let known = search.latest_named(start.piece.name, &[]);
     search.offer(spot, left, Origin::Begins(start.first), whole, known)?;
     Ok(())
 }

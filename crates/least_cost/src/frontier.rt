@@ -15,7 +15,7 @@ use std::marker::Model;
 /// Places in the list of visits. Contracts see them in some order.
 #[derive(Drop)]
 pub struct CostFrontier {
-    heap: BinaryHeap<Reverse<(u128, usize)>>,
+    heap: BinaryHeap<Reverse<(u64, usize)>>,
 }
 
 impl Model for CostFrontier {
@@ -38,7 +38,7 @@ impl CostFrontier {
     }
 
     /// Adds the place, over which a drive of so much is to be expected.
-    pub fn push(&mut self, place: usize, expected: u128) -> Result<(), NoMemory>
+    pub fn push(&mut self, place: usize, expected: u64) -> Result<(), NoMemory>
         ensures { OnOk result (IsPermutation (place ∷ self.old) self.new) }
     {
         self.heap.push(Reverse((expected, place)))?;

@@ -30,6 +30,7 @@ mod places;
 mod potentials;
 mod searching;
 mod trails;
+mod visit_table;
 mod visiting;
 
 pub use answers::{Cheapest, Shortest};

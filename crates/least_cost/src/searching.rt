@@ -1,15 +1,15 @@
 //! The search by cost over contexts and arcs.
-ghost use Rattle.std.specs.Prelude.{◌≡◌, ◌⊎◌, ◌<◌, ◌∷◌, [], ℕ, List, IfOk, OnOk, IfSome, Some, Contains, IsTrue};
+ghost use Rattle.std.specs.Prelude.{◌≡◌, ◌⊎◌, ◌<◌, ◌-◌, ◌∷◌, [], ℕ, List, IfOk, OnOk, IfSome, Some, Contains, IsTrue};
 ghost use Rattle.std.specs.Prelude.{slice_get, length};
 ghost use Rattle.std.specs.List.Sorted.{IsPermutation};
 ghost use Rattle.graph_blocks.specs.Lent.{map_of as block_map};
 ghost use Rattle.context_search.specs.declared.ends.Begin.{Begin};
 ghost use Rattle.least_cost.specs.declared.visiting.CostVisit.{CostVisit};
 ghost use Rattle.context_search.specs.Listed.{AreInOrder, contexts_in};
-ghost use Rattle.context_search.specs.Marks.{At, at_of, key_of};
+ghost use Rattle.context_search.specs.Marks.{at_of, names_behind};
 ghost use Rattle.context_search.specs.Visits.{HasTargets};
 ghost use Rattle.least_cost.specs.Certified.{AtMost};
-ghost use Rattle.least_cost.specs.CostVisits.{IsVisiting, Widens, AreFollowed, IsFollowedBy, StandsAs, Visiting};
+ghost use Rattle.least_cost.specs.CostVisits.{IsVisiting, Widens, AreFollowed, IsFollowedBy, StandsAs};
 ghost use Rattle.least_cost.specs.PlaceCosts.{places_cost};
 ghost use Rattle.least_cost.specs.CostVisits.{IsMetBy, IsOver, IsBettered, IsDone, LeadsOn, Extends, AreWaiting};
 ghost use Rattle.least_cost.specs.CostVisits.{IsFoundAfter, cost_in};
@@ -78,7 +78,7 @@ fn pass<'a>(
     ensures found { IfOk result (IsFoundAfter goals.now search.new.visits best.entry) }
 {
     let visit = search.at(place);
-    if is_passed(search, &visit, to, cost_in(&best)) {
+    if is_passed(search, place, to, cost_in(&best)) {
         return Ok(best);
     }
     go_on(alloc, search, blocks, &visit, place)?;
@@ -86,28 +86,24 @@ fn pass<'a>(
     Ok(found)
 }
 
-/// Whether there is no need to go on from the visit.
-fn is_passed<'a>(
-    search: &CostSearch<'a>,
-    visit: &CostVisit<'a>,
-    to: Location,
-    best: Option<u128>,
-) -> bool
-    ensures { IsTrue result → IsOver best to visit.now ⊎ IsBettered search.now.visits visit.now }
+/// Whether there is no need to go on from the visit at the place.
+fn is_passed<'a>(search: &CostSearch<'a>, place: usize, to: Location, best: Option<u128>) -> bool
+    requires { place < length search.now.visits }
+    ensures { (v : CostVisit) → slice_get search.now.visits place ≡ Some v → IsTrue result
+        → IsOver best to v ⊎ IsBettered search.now.visits v }
 {
-    if search.is_bettered(visit) {
-        return true;
-    }
-    is_over(visit, to, best)
+    search.is_bettered(place) || is_over(&search.at(place), to, best)
 }
 
 /// Whether no drive of less can come to the location over the visit.
 fn is_over(visit: &CostVisit<'_>, to: Location, best: Option<u128>) -> bool
     ensures { IsTrue result → IsOver best to visit.now }
 {
-    let left = latitudes_left(visit.spot.piece.places.items(), to);
     match best {
-        Some(cost) => cost <= visit.cost.saturating_add(u128::from(left)),
+        Some(cost) => {
+            let left = latitudes_left(visit.spot.piece.places.items(), to);
+            cost <= visit.cost.saturating_add(u128::from(left))
+        }
         None => false,
     }
 }
@@ -152,55 +148,66 @@ fn follow<'a>(
     ensures { OnOk result (IsFollowedBy (contexts_in (block_map blocks.now)) place visit.now arc search.old
         search.new) }
 {
-    let spot = target(alloc, blocks, &visit.spot, arc)?;
-    let known = search.latest_of(&spot);
-    let (spot, whole) = with_cost(spot, &known);
+    let mut names = Vec::new(alloc);
+    let count = (arc.length as usize).saturating_sub(1);
+    put_names(&mut names, &visit.spot, count)?;
+    let known = search.latest_named(arc.piece, &names);
+    let (spot, whole) = target(search, blocks, &visit.spot, arc, &names, known);
     let cost = sum(visit.cost, whole)?;
     search.offer(spot, cost, Origin::Follows(place), whole, known)?;
     Ok(())
 }
 
-/// The context as the visit that is known of it has it, with the cost of its piece; where none is known, as it is
-/// given.
-fn with_cost<'a>(spot: Spot<'a>, known: &Option<CostVisit<'a>>) -> (Spot<'a>, u128)
-    ensures named { (visits : List CostVisit)
-        → IfSome known.now (StandsAs visits (key_of (at_of spot.entry)))
-        → key_of (at_of result.0) ≡ key_of (at_of spot.entry) }
-    ensures listed { (L : List At) (m : Visiting)
-        → IsVisiting L m
-        → IfSome known.now (StandsAs m.visits (key_of (at_of spot.entry)))
-        → Contains L (at_of spot.entry)
-        → Contains L (at_of result.0) }
-    ensures whole { (L : List At) (m : Visiting)
-        → IsVisiting L m
-        → IfSome known.now (StandsAs m.visits (key_of (at_of spot.entry)))
-        → result.1 ≡ places_cost result.0.piece.now.places }
-{
-    match known {
-        Some(visit) => (visit.spot, visit.whole),
-        None => (spot, places_cost(spot.piece.places.items())),
-    }
-}
-
-/// The context to which the arc leads from this one.
+/// The context to which the arc leads from this one, and the cost of its piece: as the visit has it that is known of
+/// it, else as it is found in the blocks by its names.
 fn target<'a>(
-    alloc: Global,
+    search: &CostSearch<'a>,
     blocks: &View<'a, WayId, Block>,
     from: &Spot<'a>,
     arc: TurnArc,
-) -> Result<Spot<'a>, NoMemory>
+    names: &[PieceName],
+    known: Option<usize>,
+) -> (Spot<'a>, u128)
+    requires order { AreInOrder (block_map blocks.now) }
+    requires targets { HasTargets (contexts_in (block_map blocks.now)) }
+    requires search { IsVisiting (contexts_in (block_map blocks.now)) search.now }
+    requires listed { Contains (contexts_in (block_map blocks.now)) (at_of from.now) }
+    requires has { Contains (at_of from.now).context.arcs arc }
+    requires names { names.now ≡ names_behind (at_of from.now) (arc.length - 1) }
+    requires known { IfSome known (StandsAs search.now.visits (arc.piece, names.now)) }
+    ensures listed { Contains (contexts_in (block_map blocks.now)) (at_of result.0) }
+    ensures leads { LeadsOn (at_of from.now) arc (at_of result.0) }
+    ensures whole { result.1 ≡ places_cost result.0.piece.now.places }
+{
+    match known {
+        Some(place) => {
+            let visit = search.at(place);
+            (visit.spot, visit.whole)
+        }
+        None => {
+            let spot = found(blocks, from, arc, names);
+            (spot, places_cost(spot.piece.places.items()))
+        }
+    }
+}
+
+/// The context to which the arc leads from this one, found in the blocks by its names.
+fn found<'a>(
+    blocks: &View<'a, WayId, Block>,
+    from: &Spot<'a>,
+    arc: TurnArc,
+    names: &[PieceName],
+) -> Spot<'a>
     requires order { AreInOrder (block_map blocks.now) }
     requires targets { HasTargets (contexts_in (block_map blocks.now)) }
     requires listed { Contains (contexts_in (block_map blocks.now)) (at_of from.now) }
     requires has { Contains (at_of from.now).context.arcs arc }
-    ensures listed { IfOk result (λ s. Contains (contexts_in (block_map blocks.now)) (at_of s)) }
-    ensures leads { IfOk result (λ s. LeadsOn (at_of from.now) arc (at_of s)) }
+    requires names { names.now ≡ names_behind (at_of from.now) (arc.length - 1) }
+    ensures listed { Contains (contexts_in (block_map blocks.now)) (at_of result) }
+    ensures leads { LeadsOn (at_of from.now) arc (at_of result) }
 {
-    let mut names = Vec::new(alloc);
-    let count = (arc.length as usize).saturating_sub(1);
-    put_names(&mut names, from, count)?;
-    match spot_at(blocks, arc.piece, &names) {
-        Some(spot) => Ok(spot),
+    match spot_at(blocks, arc.piece, names) {
+        Some(spot) => spot,
         None => unreachable!(),
     }
 }
