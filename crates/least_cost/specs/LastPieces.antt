@@ -29,7 +29,7 @@ passes b places = list_any (λ place. same_node place.node b) places
 abbrev pub is_passed : NodeId → At → Bool
 is_passed b x = passes b x.piece.places
 
--- what is kept beside all contexts: their last pieces, and whether these pass the node
-pub record AreKept (L : List At) (b : NodeId) (last : List LastPiece) (passed : List Bool) : Type 0 where
+-- the lists that stand beside all contexts: of their last pieces, and of whether these pass the node
+pub record StandBeside (L : List At) (b : NodeId) (last : List LastPiece) (passed : List Bool) : Type 0 where
   pub pieces : last ≡ map last_piece L
   pub marks : passed ≡ map (is_passed b) L

@@ -13,7 +13,7 @@ ghost use Rattle.least_cost.specs.Certified.{AtMost};
 ghost use Rattle.least_cost.specs.PlaceCosts.{places_cost};
 ghost use Rattle.least_cost.specs.Shown.{number_at, HoldsAtEnds, HoldsAtStarts, HoldsOnArc, HoldsAtContext};
 ghost use Rattle.least_cost.specs.Shown.{HoldsEverywhere, piece_cost, AreNumbered};
-ghost use Rattle.least_cost.specs.LastPieces.{AreKept, is_passed, last_piece, passes};
+ghost use Rattle.least_cost.specs.LastPieces.{StandBeside, is_passed, last_piece, passes};
 
 use crate::context_finder::ContextFinder;
 use crate::costs::places_cost;
@@ -102,7 +102,7 @@ fn holds_everywhere(
     claim: &Claim,
 ) -> Result<bool, NoMemory>
     requires numbered { AreNumbered (map at_of numbered.now.spots.now) numbered.now.numbers.now numbered.now.costs.now }
-    requires kept { AreKept (map at_of numbered.now.spots.now) claim.now.b numbered.now.finder.now
+    requires beside { StandBeside (map at_of numbered.now.spots.now) claim.now.b numbered.now.finder.now
         numbered.now.passed.now }
     ensures yes { IfOk result (λ yes. IsTrue yes
         → HoldsEverywhere (map at_of numbered.now.spots.now) numbered.now.numbers.now
@@ -131,7 +131,7 @@ fn holds_at(
     number: usize,
 ) -> Result<bool, NoMemory>
     requires numbered { AreNumbered (map at_of numbered.now.spots.now) numbered.now.numbers.now numbered.now.costs.now }
-    requires kept { AreKept (map at_of numbered.now.spots.now) claim.now.b numbered.now.finder.now
+    requires beside { StandBeside (map at_of numbered.now.spots.now) claim.now.b numbered.now.finder.now
         numbered.now.passed.now }
     requires within { number < length numbered.now.spots.now }
     ensures yes { IfOk result (λ yes. IsTrue yes → (x : At)
@@ -191,7 +191,7 @@ fn holds_on_arcs(
     number: usize,
 ) -> Result<bool, NoMemory>
     requires numbered { AreNumbered (map at_of numbered.now.spots.now) numbered.now.numbers.now numbered.now.costs.now }
-    requires kept { AreKept (map at_of numbered.now.spots.now) claim.now.b numbered.now.finder.now
+    requires beside { StandBeside (map at_of numbered.now.spots.now) claim.now.b numbered.now.finder.now
         numbered.now.passed.now }
     requires within { number < length numbered.now.spots.now }
     ensures yes { IfOk result (λ yes. IsTrue yes → (x : At) (arc : TurnArc)
@@ -227,7 +227,7 @@ fn holds_on_arc(
     arc: TurnArc,
 ) -> Result<bool, NoMemory>
     requires numbered { AreNumbered (map at_of numbered.now.spots.now) numbered.now.numbers.now numbered.now.costs.now }
-    requires kept { AreKept (map at_of numbered.now.spots.now) claim.now.b numbered.now.finder.now
+    requires beside { StandBeside (map at_of numbered.now.spots.now) claim.now.b numbered.now.finder.now
         numbered.now.passed.now }
     requires within { number < length numbered.now.spots.now }
     requires has { (x : At) → slice_get (map at_of numbered.now.spots.now) number ≡ Some x
@@ -260,7 +260,7 @@ fn holds_up_to_goal(
     to: usize,
     number: Option<u128>,
 ) -> bool
-    requires kept { AreKept (map at_of numbered.now.spots.now) claim.now.b numbered.now.finder.now
+    requires beside { StandBeside (map at_of numbered.now.spots.now) claim.now.b numbered.now.finder.now
         numbered.now.passed.now }
     requires within { to < length numbered.now.spots.now }
     ensures yes { IsTrue result → (x : At)

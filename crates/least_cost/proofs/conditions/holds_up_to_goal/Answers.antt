@@ -7,14 +7,14 @@ use Rattle.least_cost.proofs.conditions.holds_up_to_goal.Goals as goal
 pub is_marked-requires : goal.is_marked-requires
 is_marked-requires c =
     let t = c.args.numbered.now in
-    let e = marks_count c.args.claim.now.b t.spots.now t.passed.now c.requires.kept.marks in
+    let e = marks_count c.args.claim.now.b t.spots.now t.passed.now c.requires.beside.marks in
     omega arith
 
 pub returns-then-not-is_marked-clause-yes : goal.returns-then-not-is_marked-clause-yes
 returns-then-not-is_marked-clause-yes c yes_is x at =
     let t = c.args.numbered.now in
     let m = c.args.claim.now in
-    let mark = mark_is m.b t.spots.now t.passed.now c.requires.kept.marks c.args.to x c.is_marked.result at
+    let mark = mark_is m.b t.spots.now t.passed.now c.requires.beside.marks c.args.to x c.is_marked.result at
     c.is_marked.ensures in
     ends_passed_over m.b m.cost c.args.number x.piece.places (sym mark ∙ c.if-not-is_marked.true)
 
