@@ -30,7 +30,7 @@ Keeping l Stands = IsKept Stands l.journal
 
 -- with nothing pinned it stands for the histories of these objects with the number of the loaded store
 abbrev pub StandsOver : Loaded → Objects → (History → Pins → Type 0) → Type 0
-StandsOver l M Stands = (h : History) → HasObjects h M → kept h ≡ l.journal.kept.0 → Stands h empty
+StandsOver l M Stands = (h : History) → l.journal.kept.0 ≡ kept h → HasObjects h M → Stands h empty
 
 -- what answers for what the events leave stands for the history with which the session opens
 pub kept_for : (l : Loaded) (M : Objects) (Stands : History → Pins → Type 0) → StandsOver l M Stands
@@ -39,8 +39,7 @@ kept_for l M Stands stands applied o w is = record {
   on_store = is.on_store;
   small = is.small;
   stands = subst (λ (pins : Pins). Stands o.history pins) (sym is.pins)
-      (stands o.history (subst (λ (events : List Event). IsApplied empty events M) is.events applied)
-      (sym is.on_store.at.last));
+      (stands o.history is.on_store.at.last (subst (λ (events : List Event). IsApplied empty events M) is.events applied));
   room = is.room;
 }
 

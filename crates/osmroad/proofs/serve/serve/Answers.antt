@@ -1,9 +1,7 @@
-use Rattle.std.proofs.Common.{◌≡◌, ◌≢◌, refl, sym, ap, subst, ◌∙◌}
-use Rattle.std.specs.FinMap.{empty}
-use Rattle.road_base.specs.Applying.{IsApplied}
+use Rattle.std.proofs.Common.{◌≡◌, ◌≢◌, ◌∙◌, refl, sym, ap, subst}
+use Rattle.road_base.specs.declared.ids.Sequence.{Sequence}
 use Rattle.road_base.specs.Profiles.{IsProfile}
 use Rattle.road_io.proofs.ToldCalls.{some_weaker}
-use Rattle.change_apply.specs.Engines.{Followed}
 use Rattle.session.specs.declared.end.End.TheVariants.{NoMemory, ReadFault}
 use Rattle.session.specs.Conversing.{IsReadyAt, Converses}
 use Rattle.session_replies.specs.Replies.{road_replies}
@@ -30,23 +28,36 @@ pub returns-in_default-clause-builds : goal.returns-in_default-clause-builds
 returns-in_default-clause-builds g c = builds_nothing c.args.loaded _ (g.S.Source.bytes_left c.args.source.now)
     (g.W.Site.outside c.args.site.now) c.args.steps.now c.load.new.steps c.load.ensures.built
 
+-- ---- or for what answers
+
+pub returns-in_default-new-clause-serves : goal.returns-in_default-new-clause-serves
+returns-in_default-new-clause-serves g c =
+    let P = g.P.Profile.rules c.args.profile in
+    record {
+      end = NoMemory;
+      is = refl;
+      converses = converses_nothing (road_replies P) c.args.loaded (c.nothing_read.ensures P)
+          (g.S.Source.bytes_left c.args.source.now) (g.W.Site.outside c.args.site.now);
+    }
+
+pub returns-in_default-new-clause-builds : goal.returns-in_default-new-clause-builds
+returns-in_default-new-clause-builds g c = builds_nothing c.args.loaded _ (g.S.Source.bytes_left c.args.source.now)
+    (g.W.Site.outside c.args.site.now) c.args.steps.now c.load.new.steps c.load.ensures.built
+
 -- ---- the engine answers
 
-pub new-answerer-requires : goal.new-answerer-requires
-new-answerer-requires g c = record {
-  known = subst (λ (p : g.row.P.Denot). IsProfile (g.P.Profile.rules p).number) (sym c.in-Ok.ensures.profile)
-      c.requires.known;
-}
+pub new-requires : goal.new-requires
+new-requires g c =
+    subst (λ (p : g.row.P.Denot). IsProfile (g.P.Profile.rules p).number) (sym c.in-Ok.ensures.profile) c.requires.known
 
 pub converse-requires-clause-opens : goal.converse-requires-clause-opens
 converse-requires-clause-opens g c =
     let loaded = c.args.loaded in
-    let M = c.new-answerer.result.engine.world in
-    let applied : IsApplied empty loaded.events.items M =
-    subst (λ (e : Followed g.row.P.Denot). IsApplied empty loaded.events.items e.world) (sym c.new-answerer.ensures)
-    c.in-Ok.ensures.loaded in
-    some_weaker (g.W.Site.outside c.args.site.now) (IsReadyAt (IsOpening loaded)) (IsReadyAt (Keeping loaded M))
-    c.requires.opens (λ w ready. (ready.0, kept_for loaded M applied ready.0 w ready.1))
+    let M = c.in-Ok.engine.world in
+    some_weaker (g.W.Site.outside c.args.site.now) (IsReadyAt (IsOpening loaded)) (IsReadyAt (Keeping loaded _))
+    c.requires.opens (λ w ready. (ready.0, kept_for loaded M _
+    (λ h last has. c.in-Ok-new.ensures.stands h (ap (λ (n : Sequence). n.0) c.kept.ensures ∙ last) has)
+    c.in-Ok.ensures.loaded ready.0 w ready.1))
 
 pub returns-clause-serves : goal.returns-clause-serves
 returns-clause-serves g c =
@@ -55,19 +66,15 @@ returns-clause-serves g c =
     let left = g.S.Source.bytes_left c.converse.new.source in
     let before = g.W.Site.outside c.args.site.now in
     let after = g.W.Site.outside c.converse.new.site in
-    let engine = c.new-answerer.result.engine in
-    let applied : IsApplied empty loaded.events.items engine.world =
-    subst (λ (e : Followed g.row.P.Denot). IsApplied empty loaded.events.items e.world) (sym c.new-answerer.ensures)
-    c.in-Ok.ensures.loaded in
-    let profile : engine.profile ≡ c.args.profile =
-    ap (λ (e : Followed g.row.P.Denot). e.profile) c.new-answerer.ensures ∙ c.in-Ok.ensures.profile in
     record {
       end = c.converse.result;
       is = c.status_of.ensures;
-      converses = converses_over (road_replies (g.P.Profile.rules c.args.profile)) loaded engine.world applied
-          c.converse.result held left before after
-          (subst (λ (p : g.row.P.Denot). Converses (road_replies (g.P.Profile.rules p)) (Keeping loaded engine.world)
-          c.converse.result held left before after) profile c.converse.ensures.converses);
+      converses = converses_over (road_replies (g.P.Profile.rules c.args.profile)) loaded c.in-Ok.engine.world _
+          (λ h last has. c.in-Ok-new.ensures.stands h (ap (λ (n : Sequence). n.0) c.kept.ensures ∙ last) has)
+          c.in-Ok.ensures.loaded c.converse.result held left before after
+          (subst (λ (p : g.row.P.Denot). Converses (road_replies (g.P.Profile.rules p)) (Keeping loaded _)
+          c.converse.result held left before after) (c.in-Ok-new.ensures.profile ∙ c.in-Ok.ensures.profile)
+          c.converse.ensures.converses);
     }
 
 pub returns-clause-builds : goal.returns-clause-builds
@@ -76,13 +83,11 @@ returns-clause-builds g c =
     let held = g.S.Source.bytes_left c.args.source.now in
     let left = g.S.Source.bytes_left c.converse.new.source in
     let before = g.W.Site.outside c.args.site.now in
-    let M = c.new-answerer.result.engine.world in
-    let applied : IsApplied empty loaded.events.items M =
-    subst (λ (e : Followed g.row.P.Denot). IsApplied empty loaded.events.items e.world) (sym c.new-answerer.ensures)
-    c.in-Ok.ensures.loaded in
     served_builds loaded c.converse.result c.status_of.result c.status_of.ensures held left before c.args.steps.now
     c.converse.new.steps
-    (builds_over loaded M applied (c.converse.result ≢ ReadFault) held left before c.args.steps.now c.load.new.steps
+    (builds_over loaded c.in-Ok.engine.world _
+    (λ h last has. c.in-Ok-new.ensures.stands h (ap (λ (n : Sequence). n.0) c.kept.ensures ∙ last) has)
+    c.in-Ok.ensures.loaded (c.converse.result ≢ ReadFault) held left before c.args.steps.now c.load.new.steps
     c.converse.new.steps c.load.ensures.built c.converse.ensures.builds)
 
 pub returns-clause-reads : goal.returns-clause-reads
