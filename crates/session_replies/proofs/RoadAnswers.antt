@@ -1,6 +1,6 @@
 -- What the road network answers in a session, and what it follows.
-use Rattle.std.proofs.Common.{◌≡◌, ◌∙◌, ◌⊎◌, inl, inr, ⊎_elim, ℕ, ◌+◌, ◌<◌, ◌≤◌, List, length, Option, None, Some, Result}
-use Rattle.std.proofs.Common.{Ok, Err, IfOk, OnOk, OnErr, refl, sym, subst, arith}
+use Rattle.std.proofs.Common.{◌≡◌, ◌∙◌, ◌⊎◌, ⊎_elim, ℕ, List, length, Option, None, Some, Result, Ok, Err, IfOk, OnOk}
+use Rattle.std.proofs.Common.{OnErr, refl, sym, subst, arith}
 use Rattle.std.proofs.lemmas.Result.{IfOk-weaker}
 use Rattle.road_base.specs.declared.event.Event.{Event}
 use Rattle.road_base.specs.Applying.{IsApplied}
@@ -68,13 +68,6 @@ module _ {E : Type 0} (P : Rules) (number : ℕ) (line : Option (List ℕ)) (r :
         )) reply
 
 -- ---- changes
-
--- a change's number is above that of what it changes
-pub not_risen : (number last kept : ℕ) → number ≤ last → last ≡ kept → number ≡ kept + 1 → ⊥
-not_risen number last kept below same next = omega (arith, below, same, next)
-
-pub fits_next : (number last bound : ℕ) → (number ≤ last → ⊥) → number < bound → last + 1 < bound
-fits_next number last bound above fits = omega (arith, above, fits)
 
 -- what holds anyway
 pub ok_anyway : {T E : Type 0} (result : Result T E) (P : Type 0) → P → OnOk result P

@@ -66,10 +66,7 @@ fn question_of(asked: Asked) -> Option<Question>
 }
 
 /// The number of a reader, and what is asked of the state that is kept for it.
-fn asked_reader(
-    alloc: Global,
-    mut words: FieldIter<'_>,
-) -> Result<Option<PinMessage>, NoMemory>
+fn asked_reader(alloc: Global, mut words: FieldIter<'_>) -> Result<Option<PinMessage>, NoMemory>
     ensures asks { IfOk result (λ asks. asks ≡ asked_reader (fields_left words.entry)) }
     ensures steps { IfOk result (λ asks. IfSome asks AsksQuestion) }
 {

@@ -55,9 +55,12 @@ converse-requires-clause-opens g c =
     let loaded = c.args.loaded in
     let M = c.in-Ok.engine.world in
     some_weaker (g.W.Site.outside c.args.site.now) (IsReadyAt (IsOpening loaded)) (IsReadyAt (Keeping loaded _))
-    c.requires.opens (λ w ready. (ready.0, kept_for loaded M _
-    (λ h last has. c.in-Ok-new.ensures.stands h (ap (λ (n : Sequence). n.0) c.kept.ensures ∙ last) has)
-    c.in-Ok.ensures.loaded ready.0 w ready.1))
+    c.requires.opens (λ w ready. (
+      ready.0,
+      kept_for loaded M _
+          (λ h last has. c.in-Ok-new.ensures.stands h (ap (λ (n : Sequence). n.0) c.kept.ensures ∙ last) has)
+          c.in-Ok.ensures.loaded ready.0 w ready.1,
+    ))
 
 pub returns-clause-serves : goal.returns-clause-serves
 returns-clause-serves g c =
