@@ -317,16 +317,26 @@ def try_kill(stopped, draw, longest):
     wanted = b''.join(talk.replies)
     if not wanted.startswith(output[0]):
         raise Wrong(f'{output[0][-200:]!r} was put before the kill')
-    told = [int(number) for number in re.findall(rb'^applied (\d+)\n', output[0], re.MULTILINE)]
+    told = last_told(talk.replies, len(output[0]))
     status, said = run(stopped.program, store, 'apply', '0')
     found = re.fullmatch(rb'sequence 0 kept (\d+)\n', said)
-    told, kept = max(told, default=FIRST_NUMBER), int(found[1]) if found and status == 5 else None
+    kept = int(found[1]) if found and status == 5 else None
     if kept not in (told, told + 1):
         raise Wrong(f'{said!r} behind a kill, where {told} was told')
     status, said = run(stopped.program, store, 'session', given=text_of(stopped.questions).encode())
     if status or said != b''.join(stopped.answers[kept].values()) or read_files(store) != stopped.files[kept]:
         raise Wrong(f'the store behind a kill is another one than that of {kept}')
     return 0 < len(output[0]) < len(wanted)
+
+
+def last_told(replies, size):
+    """The last number that is acknowledged by a reply that lies whole in so many bytes."""
+    told = FIRST_NUMBER
+    for reply in replies:
+        size -= len(reply)
+        if size >= 0 and reply.startswith(b'applied '):
+            told = int(reply.split()[1])
+    return told
 
 
 def feed(pipe, data):
