@@ -3,7 +3,7 @@
 //! Contracts don't speak of it: what it answers is compared with the names before it is relied on.
 ghost use Rattle.std.specs.Prelude.{◌<◌, ◌+◌, ◌^◌};
 
-use road_base::{Dir, NoMemory, WayId};
+use road_base::{Dir, NoMemory};
 use road_model::PieceName;
 use std::alloc::Global;
 use std::collections::BTreeMap;
@@ -140,25 +140,16 @@ impl<'a> VisitTable<'a> {
     }
 }
 
-/// The mark of a context of the piece behind so many others. The upper 27 bits are mixed from the way and the stretch
-/// of its line where the piece begins, so that neighbouring pieces, to which drives come one soon after the other, share
-/// a bucket; the lower five tell them apart.
+/// The mark of a context of the piece behind so many others: for most contexts another one.
 fn mark_of(piece: PieceName, before: usize) -> u32 {
     let direction = match piece.dir {
         Dir::Forward => 0,
         Dir::Backward => 1,
     };
-    let within = (before % 4) as u32 * 8 + piece.index % 4 * 2 + direction;
-    stretch_mark(piece.way, piece.index / 4) * 32 + within
-}
-
-/// A number of 27 bits for the stretch of the way: for most others another one.
-fn stretch_mark(way: WayId, stretch: u32) -> u32
-    ensures { result < 2 ^ 27 }
-{
-    let way = way.0.cast_unsigned().wrapping_mul(FIBONACCI);
-    let mixed = way ^ (way >> 32) ^ u64::from(stretch);
-    (mixed.wrapping_mul(FIBONACCI) >> 37) as u32
+    let within = u64::from(piece.index) * 2 + direction;
+    let within = within ^ (before as u64).wrapping_mul(0x2_0000_0000);
+    let number = piece.way.0.cast_unsigned().wrapping_mul(FIBONACCI) ^ within;
+    ((number ^ (number >> 32)).wrapping_mul(FIBONACCI) >> 32) as u32
 }
 
 /// The place of the first slot of the mark's bucket, of so many buckets: of twice as many, the bucket is one of the two
