@@ -1,4 +1,4 @@
-use Rattle.std.proofs.Common.{◌≡◌, ◌≢◌, ◌∙◌, refl, sym, ap, subst}
+use Rattle.std.proofs.Common.{◌≢◌, ◌∙◌, refl, sym, ap, subst}
 use Rattle.road_base.specs.declared.ids.Sequence.{Sequence}
 use Rattle.road_base.specs.Profiles.{IsProfile}
 use Rattle.road_io.proofs.ToldCalls.{some_weaker}
@@ -47,8 +47,10 @@ returns-in_default-new-clause-builds g c = builds_nothing c.args.loaded _ (g.S.S
 -- ---- the engine answers
 
 pub new-requires : goal.new-requires
-new-requires g c =
-    subst (λ (p : g.row.P.Denot). IsProfile (g.P.Profile.rules p).number) (sym c.in-Ok.ensures.profile) c.requires.known
+new-requires g c = record {
+  known = subst (λ (p : g.row.P.Denot). IsProfile (g.P.Profile.rules p).number) (sym c.in-Ok.ensures.profile)
+      c.requires.known;
+}
 
 pub converse-requires-clause-opens : goal.converse-requires-clause-opens
 converse-requires-clause-opens g c =
@@ -64,20 +66,23 @@ converse-requires-clause-opens g c =
 
 pub returns-clause-serves : goal.returns-clause-serves
 returns-clause-serves g c =
+    let R = g.P.Profile.rules in
     let loaded = c.args.loaded in
     let held = g.S.Source.bytes_left c.args.source.now in
     let left = g.S.Source.bytes_left c.converse.new.source in
     let before = g.W.Site.outside c.args.site.now in
     let after = g.W.Site.outside c.converse.new.site in
+    let converses =
+    converses_over (road_replies (R c.in-Ok-new.answerer.readers.newest.engine.profile)) loaded
+    c.in-Ok.engine.world _
+    (λ h last has. c.in-Ok-new.ensures.stands h (ap (λ (n : Sequence). n.0) c.kept.ensures ∙ last) has)
+    c.in-Ok.ensures.loaded c.converse.result held left before after c.converse.ensures.converses in
     record {
       end = c.converse.result;
       is = c.status_of.ensures;
-      converses = converses_over (road_replies (g.P.Profile.rules c.args.profile)) loaded c.in-Ok.engine.world _
-          (λ h last has. c.in-Ok-new.ensures.stands h (ap (λ (n : Sequence). n.0) c.kept.ensures ∙ last) has)
-          c.in-Ok.ensures.loaded c.converse.result held left before after
-          (subst (λ (p : g.row.P.Denot). Converses (road_replies (g.P.Profile.rules p)) (Keeping loaded _)
-          c.converse.result held left before after) (c.in-Ok-new.ensures.profile ∙ c.in-Ok.ensures.profile)
-          c.converse.ensures.converses);
+      converses = subst (λ (p : g.row.P.Denot).
+          Converses (road_replies (R p)) (IsOpening loaded) c.converse.result held left before after)
+          (c.in-Ok-new.ensures.profile ∙ c.in-Ok.ensures.profile) converses;
     }
 
 pub returns-clause-builds : goal.returns-clause-builds
