@@ -1,5 +1,5 @@
 -- A session over a store that was loaded, from the conversation of what answers for its objects.
-use Rattle.std.proofs.Common.{◌≡◌, ℕ, ◌+◌, ◌≤◌, List, [], ◌++◌, length, Option, Some, Bool, false, true}
+use Rattle.std.proofs.Common.{◌≡◌, ℕ, ◌+◌, ◌≤◌, List, [], ◌++◌, length, Option, Some, false, true}
 use Rattle.std.proofs.Common.{inl, inr, ⊎_elim, refl, sym, subst, arith}
 use Rattle.std.proofs.lemmas.Bool.{false≢true}
 use Rattle.std.specs.FinMap.{empty}
@@ -39,7 +39,8 @@ kept_for l M Stands stands applied o w is = record {
   on_store = is.on_store;
   small = is.small;
   stands = subst (λ (pins : Pins). Stands o.history pins) (sym is.pins)
-      (stands o.history is.on_store.at.last (subst (λ (events : List Event). IsApplied empty events M) is.events applied));
+      (stands o.history is.on_store.at.last
+      (subst (λ (events : List Event). IsApplied empty events M) is.events applied));
   room = is.room;
 }
 
