@@ -1,4 +1,6 @@
 mod RepliesAsked
 mod RoadAnswers
 mod FrameMessages
+mod FollowedChanges
+mod FollowedQuestions
 mod PinTouches
