@@ -1,11 +1,11 @@
 -- The walks over the blocks of a graph file are those of its object map.
 use Rattle.std.proofs.Common.{◌≡◌, ℕ, ◌-◌, List, [], ◌∷◌, ◌++◌, length, map, drop, refl, sym, ap, ◌∙◌, subst, arith}
-use Rattle.std.proofs.Common.{length-append, Contains}
-use Rattle.std.proofs.lemmas.List.{map-append, length-map}
+use Rattle.std.proofs.Common.{length-append, Contains, IsTrue}
+use Rattle.std.proofs.lemmas.List.{map-append, map-id, length-map}
 use Rattle.road_base.specs.declared.ids.Step.{Step}
 use Rattle.road_base.specs.Objects.{Objects}
 use Rattle.ordered_lists.proofs.ListMembers.{In, in_from_contains}
-use Rattle.ordered_lists.proofs.Splits.{Nil, Last, ends}
+use Rattle.ordered_lists.proofs.Splits.{Nil, Last, ends, same_last}
 use Rattle.road_model.specs.declared.lists.PieceName.{PieceName}
 use Rattle.road_model.specs.declared.lists.TurnArc.{TurnArc}
 use Rattle.road_model.specs.declared.lists.Piece.{Piece}
@@ -14,12 +14,12 @@ use Rattle.road_model.specs.Rules.{Rules}
 use Rattle.road_model.specs.Pieces.{Span, IsPiece, spell}
 use Rattle.road_model.specs.Contexts.{Every, One, Many, spell_all}
 use Rattle.road_model.specs.Network.{IsContext, IsArc, spell_pieces}
-use Rattle.ordered_lists.specs.Orders.{Lists}
-use Rattle.road_model.specs.Orders.{way_cmp, name_cmp}
-use Rattle.road_model.specs.Blocks.{IsPieceEntry, IsArcEntry, IsBlock, IsRoadBlock, name_of}
+use Rattle.ordered_lists.specs.Orders.{Lists, rises}
+use Rattle.road_model.specs.Orders.{way_cmp, name_cmp, names_cmp}
+use Rattle.road_model.specs.Blocks.{IsPieceEntry, IsArcEntry, IsSourceEntry, IsBlock, IsRoadBlock, name_of}
 use Rattle.road_model.specs.Walks.{WalksTo, Start, Go, IsWalk, IsJunctionDrive}
 use Rattle.road_model.specs.FileWalks.{HasPiece, HasContext, HasArc, last_names, FileWalksTo, Begin, Follow}
-use Rattle.road_model.specs.FileWalks.{IsReadFrom, IsNamedWalk, AreFileWalks, piece_steps}
+use Rattle.road_model.specs.FileWalks.{HasSource, LeadsTo, IsReadFrom, IsNamedWalk, AreFileWalks, piece_steps}
 use Rattle.road_model.proofs.LongestContext.{Every-tail}
 use Rattle.road_model.proofs.UniqueEntries.{one_piece}
 use Rattle.road_model.proofs.SomeGraph.{names_tell, context_of, piece_entry, entry_named, has_block}
@@ -89,6 +89,10 @@ module _ (M : Objects) (P : Rules) where
       is : IsContext M P pieces
       named : map name_of pieces ≡ names
       arcs : Lists (λ (a : TurnArc). a.piece) name_cmp (IsArcEntry M P pieces) h.context.arcs
+      before : List Span
+      last : Span
+      ends : pieces ≡ before ++ last ∷ []
+      sources : Lists (λ (s : List PieceName). s) names_cmp (IsSourceEntry M P last pieces) h.context.sources
 
     spot : (names : List PieceName) (h : HasContext bs names) → Spot names h
     spot names h =
@@ -99,6 +103,10 @@ module _ (M : Objects) (P : Rules) where
           is = k.context;
           named = names_of k.before e.piece ∙ (λ i. sym k.named i ++ sym e.named i ∷ []) ∙ sym h.named;
           arcs = k.arcs;
+          before = k.before;
+          last = e.piece;
+          ends = refl;
+          sources = k.sources;
         }
 
     -- ---- from the object map to what stands in the blocks
@@ -172,6 +180,33 @@ module _ (M : Objects) (P : Rules) where
           leads = sym (target_names b a k);
         }
 
+    -- an arc that stands there is one of the object map
+    record Led (names : List PieceName) (n : PieceName) (target : List PieceName) : Type 0 where
+      from : List Span
+      piece : Span
+      to : List Span
+      arc : IsArc M P from piece to
+      from_is : names ≡ map name_of from
+      piece_is : n ≡ name_of piece
+      to_is : target ≡ map name_of to
+
+    led : (names : List PieceName) (n : PieceName) (target : List PieceName) → HasArc bs names n target →
+        Led names n target
+    led names n target arc =
+        let s = spot names arc.from in
+        let k = s.arcs.sound arc.arc arc.in_context in
+        record {
+          from = s.pieces;
+          piece = k.piece;
+          to = k.target;
+          arc = k.arc;
+          from_is = sym s.named;
+          piece_is = sym arc.by ∙ k.named;
+          to_is = arc.leads
+              ∙ (λ i. last_names arc.arc.length (sym s.named i ++ sym arc.by i ∷ []))
+              ∙ target_names s.pieces arc.arc k;
+        }
+
     driven : (d c : List Span) → WalksTo M P d c → FileWalksTo bs (map name_of d) (map name_of c)
     driven d c (Start p i e f) = Begin (name_of p) (stands (p ∷ []) (One p refl i)) (ap (map name_of) e)
         (ap (map name_of) f)
@@ -200,19 +235,16 @@ module _ (M : Objects) (P : Rules) where
     follows : (front names : List PieceName) (n : PieceName) (target : List PieceName) →
         IsNamedWalk M P front names → HasArc bs names n target → IsNamedWalk M P (front ++ n ∷ []) target
     follows front names n target w arc =
-        let s = spot names arc.from in
-        let same = same_spot w.longest (reached M P w.pieces w.longest w.walks).longest.holds names arc.from
-        (sym w.context_is) s in
-        let k = s.arcs.sound arc.arc arc.in_context in
-        let t : name_of k.piece ≡ n = sym k.named ∙ arc.by in
+        let l = led names n target arc in
+        let same : l.from ≡ w.longest = names_tell M P l.from w.longest (context_pieces M P l.from l.arc.from)
+        (context_pieces M P w.longest (reached M P w.pieces w.longest w.walks).longest.holds)
+        (sym l.from_is ∙ w.context_is) in
         record {
-          pieces = w.pieces ++ k.piece ∷ [];
-          longest = k.target;
-          walks = Go w.pieces s.pieces k.piece (subst (WalksTo M P w.pieces) (sym same) w.walks) k.arc refl;
-          walk_is = (λ i. w.walk_is i ++ sym t i ∷ []) ∙ sym (names_of w.pieces k.piece);
-          context_is = arc.leads
-              ∙ (λ i. last_names arc.arc.length (sym s.named i ++ sym arc.by i ∷ []))
-              ∙ target_names s.pieces arc.arc k;
+          pieces = w.pieces ++ l.piece ∷ [];
+          longest = l.to;
+          walks = Go w.pieces l.from l.piece (subst (WalksTo M P w.pieces) (sym same) w.walks) l.arc refl;
+          walk_is = (λ i. w.walk_is i ++ l.piece_is i ∷ []) ∙ sym (names_of w.pieces l.piece);
+          context_is = l.to_is;
         }
 
     walked : (walk context : List PieceName) → FileWalksTo bs walk context → IsNamedWalk M P walk context
@@ -228,11 +260,54 @@ module _ (M : Objects) (P : Rules) where
     targets : (names : List PieceName) (n : PieceName) (target : List PieceName) → HasArc bs names n target →
         HasContext bs target
     targets names n target arc =
-        let s = spot names arc.from in
-        let k = s.arcs.sound arc.arc arc.in_context in
-        let e : target ≡ map name_of k.target = arc.leads
-        ∙ (λ i. last_names arc.arc.length (sym s.named i ++ sym arc.by i ∷ [])) ∙ target_names s.pieces arc.arc k in
-        subst (HasContext bs) (sym e) (stands k.target k.arc.to.holds)
+        let l = led names n target arc in
+        subst (HasContext bs) (sym l.to_is) (stands l.to l.arc.to.holds)
+
+    -- ---- sources
+
+    -- a source that is listed is where an arc leads on
+    source_leads : (target names : List PieceName) → HasSource bs target names → LeadsTo bs names target
+    source_leads target names h =
+        let s = spot target h.to in
+        let k = s.sources.sound names h.listed in
+        record {
+          before = map name_of s.before;
+          piece = name_of s.last;
+          ends = sym s.named ∙ ap (map name_of) s.ends ∙ names_of s.before s.last;
+          arc = subst (HasArc bs names (name_of s.last)) s.named
+              (subst (λ l. HasArc bs l (name_of s.last) (map name_of s.pieces)) (sym k.named)
+              (leads k.from s.pieces s.last k.arc));
+        }
+
+    -- the last piece of a context is told by its last name
+    last_is : (target : List PieceName) (h : HasContext bs target) (s : Spot target h) (before : List PieceName)
+        (p : Span) → IsPiece M P p → target ≡ before ++ name_of p ∷ [] → s.last ≡ p
+    last_is target h s before p i e =
+        let is : IsPiece M P s.last = last_piece s.before s.last (subst (IsContext M P) s.ends s.is) in
+        let same = same_last (map name_of s.before) (name_of s.last) before (name_of p)
+        (sym (names_of s.before s.last) ∙ ap (map name_of) (sym s.ends) ∙ s.named ∙ e) in
+        one_piece M P s.last p is i same.last
+
+    -- an arc that leads to a context has its own context among the sources there
+    leads_source : (target names : List PieceName) → LeadsTo bs names target → HasSource bs target names
+    leads_source target names h =
+        let l = led names h.piece target h.arc in
+        let to = targets names h.piece target h.arc in
+        let s = spot target to in
+        let same : s.pieces ≡ l.to = same_spot l.to l.arc.to.holds target to (sym l.to_is) s in
+        let last : s.last ≡ l.piece = last_is target to s h.before l.piece l.arc.by
+        (h.ends ∙ ap (λ n. h.before ++ n ∷ []) l.piece_is) in
+        let arc : IsArc M P l.from s.last s.pieces = subst (IsArc M P l.from s.last) (sym same)
+        (subst (λ p. IsArc M P l.from p l.to) (sym last) l.arc) in
+        record {
+          to = to;
+          listed = s.sources.complete names (record { from = l.from; arc = arc; named = l.from_is });
+        }
+
+    once : (names : List PieceName) (h : HasContext bs names) → IsTrue (rises names_cmp h.context.sources)
+    once names h =
+        let s = spot names h in
+        subst (λ l. IsTrue (rises names_cmp l)) (map-id h.context.sources) s.sources.ascending
 
     -- ---- what walks spell
 
@@ -329,4 +404,6 @@ module _ (M : Objects) (P : Rules) where
       drives = λ s. (to_junctions s, from_junctions s);
       one_walk = one_walk;
       places = λ p h. entry_passed M P p h.block.way (entry_is p h);
+      sources = λ target names. (source_leads target names, leads_source target names);
+      once = once;
     }

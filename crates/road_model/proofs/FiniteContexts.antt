@@ -26,7 +26,7 @@ use Rattle.ordered_lists.proofs.SortedLists.{listed}
 
 -- ---- lists of at most n members
 
-NoMore : {X : Type 0} (Q : X → Type 0) → ℕ → List X → Type 0
+unfoldable pub NoMore : {X : Type 0} (Q : X → Type 0) → ℕ → List X → Type 0
 NoMore Q n l = Every Q l × (length l ≤ n)
 
 none_more : {X : Type 0} (Q : X → Type 0) (l : List X) → NoMore Q 0 l → l ≡ []
@@ -50,7 +50,7 @@ from_none : {X : Type 0} (Q : X → Type 0) (l : List X) → l ≡ [] → NoMore
 unfolding NoMore
 from_none Q l e = rw e (tt, omega arith)
 
-fin_lists : {X : Type 0} {Q : X → Type 0} → Finite Q → (n : ℕ) → Finite (NoMore Q n)
+pub fin_lists : {X : Type 0} {Q : X → Type 0} → Finite Q → (n : ℕ) → Finite (NoMore Q n)
 fin_lists {Q = Q} f zero = fin_by (fin_one []) (λ l e. from_none Q l e) (none_more Q)
 fin_lists {Q = Q} f (suc n) = fin_by
     (fin_or (fin_one []) (fin_bind f (λ x. fin_bind (fin_lists f n) (λ m. fin_one (x ∷ m))))) (from_first Q n)
@@ -102,12 +102,12 @@ module _ (M : Objects) (P : Rules) where
 
   module _ (c : List Span) where
     -- the context goes on with the piece
-    record GoesBy (t : Span) : Type 0 where
-      from : IsContext M P c
-      by : IsPiece M P t
-      legal : Legal M P (spell_pieces c ++ spell t)
+    pub record GoesBy (t : Span) : Type 0 where
+      pub from : IsContext M P c
+      pub by : IsPiece M P t
+      pub legal : Legal M P (spell_pieces c ++ spell t)
 
-    by_decided : (t : Span) → Decided (GoesBy t)
+    pub by_decided : (t : Span) → Decided (GoesBy t)
     by_decided t = decided_like (λ h. record { from = h.0; by = h.1.0; legal = h.1.1 }) (λ h. (h.from, (h.by, h.legal)))
         (decided_both (is_context_decided c)
         (decided_both (piece_decided M P t) (legal_decided M P (spell_pieces c ++ spell t))))
@@ -115,7 +115,7 @@ module _ (M : Objects) (P : Rules) where
     fin_goes : Finite GoesBy
     fin_goes = fin_by (fin_pass GoesBy by_decided (fin_pieces M P)) (λ t h. h.0) (λ t h. (h, h.by))
 
-    target : (t : Span) → GoesBy t → (e : List Span) × IsContextOf M P (c ++ t ∷ []) e
+    pub target : (t : Span) → GoesBy t → (e : List Span) × IsContextOf M P (c ++ t ∷ []) e
     target t g =
         longest_of_any M P (continues M P) (c ++ t ∷ []) (cons_not_nil c t [])
         (Every-append (IsPiece M P) c (t ∷ []) (context_pieces M P c g.from) (g.by, tt))

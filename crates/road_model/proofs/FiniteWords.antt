@@ -372,7 +372,7 @@ pub record More (v u : List Step) : Type 0 where
   pub rest : List Step
   pub is : u ≡ v ++ next ∷ rest
 
-decided_dir : (a b : Dir) → Decided (a ≡ b)
+pub decided_dir : (a b : Dir) → Decided (a ≡ b)
 decided_dir Forward Forward = inl refl
 decided_dir Forward Backward = inr (λ e. cc)
 decided_dir Backward Forward = inr (λ e. cc)

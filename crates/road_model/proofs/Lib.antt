@@ -27,6 +27,7 @@ pub mod FirstBroken
 pub mod ReferredNodes
 pub mod FinitePieces
 pub mod FiniteContexts
+pub mod SourceLists
 pub mod SomeGraph
 pub mod BrokenSteps
 pub mod LocalLinks
@@ -36,6 +37,7 @@ pub mod LocalRules
 pub mod LocalWords
 pub mod LocalDrives
 pub mod LocalContexts
+pub mod LocalSources
 pub mod LocalBlocks
 pub mod FilePlaces
 pub mod FileWalks

@@ -10,7 +10,7 @@ use Rattle.road_base.specs.Objects.{Objects, node_of, way_of}
 use Rattle.road_model.specs.Rules.{Rules}
 use Rattle.road_model.specs.Lines.{changes, refs_of, line_of, node_at, names_pair, end_at}
 use Rattle.road_model.specs.Driving.{is_open, open_way, is_road, located, node_located, shut, node_shut, turning_place}
-use Rattle.road_model.specs.Driving.{node_turns}
+use Rattle.road_model.specs.Driving.{node_turns, is_marked, zone_way}
 
 module _ (M N : Objects) where
   pub line_same : (w : WayId) → way_of M w ≡ way_of N w → line_of M w ≡ line_of N w
@@ -37,6 +37,10 @@ module _ (M N : Objects) where
   pub open_same : (P : Rules) (w : WayId) (d : Dir) → way_of M w ≡ way_of N w → is_open M P w d ≡ is_open N P w d
   unfolding is_open
   open_same P w d e = ap (λ o. open_way P o d) e
+
+  pub marked_same : (P : Rules) (w : WayId) (d : Dir) → way_of M w ≡ way_of N w → is_marked M P w d ≡ is_marked N P w d
+  unfolding is_marked
+  marked_same P w d e = ap (λ o. zone_way P o d) e
 
   pub road_same : (P : Rules) (w : WayId) → way_of M w ≡ way_of N w → is_road M P w ≡ is_road N P w
   road_same P w e = λ i. open_same P w Forward e i || open_same P w Backward e i

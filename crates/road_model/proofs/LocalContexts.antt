@@ -226,7 +226,7 @@ module _ (M : Objects) (P : Rules) (needs : NeedsHighway P) where
   )
 
   -- where a piece follows another, their ways share a node
-  piece_near : (before : List Span) (p t : Span) → IsPiece M P p → IsPiece M P t
+  pub piece_near : (before : List Span) (p t : Span) → IsPiece M P p → IsPiece M P t
       → Legal M P (spell_pieces (before ++ p ∷ []) ++ spell t) → IsWithin M 2 (WayKey p.way) (WayKey t.way)
   piece_near before p t hp ht l =
       let r = last_step p hp (ends (spell p)) in
@@ -244,7 +244,7 @@ module _ (M : Objects) (P : Rules) (needs : NeedsHighway P) where
       (subst (λ w. IsWithin M 2 (WayKey r.1.way) (WayKey w)) first_way
       (pass_near r.1 f.begin from on (l.follows front r.1 f.begin f.others whole)))
 
-  piece_of : (before : List Span) (p : Span) → IsContext M P (before ++ p ∷ []) → IsPiece M P p
+  pub piece_of : (before : List Span) (p : Span) → IsContext M P (before ++ p ∷ []) → IsPiece M P p
   piece_of before p h = (Every-tail (IsPiece M P) before (p ∷ []) (context_pieces M P (before ++ p ∷ []) h)).0
 
 pub arc_kept : (M N : Objects) (P : Rules) → NeedsHighway P → (before : List Span) (p t : Span) (e : List Span)

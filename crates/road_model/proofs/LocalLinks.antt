@@ -93,7 +93,7 @@ module _ (M : Objects) where
   within_behind (suc n) a b c l (inr h) = inr (h.0, within_behind n a b h.0 l h.1, h.2)
 
   -- being within some links is symmetric
-  within_turned : (n : ℕ) (a b : Key) → IsWithin M n a b → IsWithin M n b a
+  pub within_turned : (n : ℕ) (a b : Key) → IsWithin M n a b → IsWithin M n b a
   within_turned zero a b h = sym h
   within_turned (suc n) a b (inl h) = inl (within_turned n a b h)
   within_turned (suc n) a b (inr h) = within_behind n b h.0 a (link_turned h.0 b h.2) (within_turned n a h.0 h.1)
@@ -168,6 +168,10 @@ same_less M N m n w fewer same h = same (
   ],
 )
 
--- so is what a change doesn't touch
-pub untouched_same : (M N : Objects) (w : WayId) → (IsTouched M N w → ⊥) → IsSameWithin forward_radius M N w
-untouched_same M N w untouched = same_less M N forward_radius link_radius w (omega arith) untouched
+-- within the link radius of what a change doesn't touch all is the same
+pub untouched_same : (M N : Objects) (w : WayId) → (IsTouched M N w → ⊥) → IsSameWithin link_radius M N w
+untouched_same M N w untouched = untouched
+
+-- so it is within the forward radius, which is less
+pub same_forward : (M N : Objects) (w : WayId) → IsSameWithin link_radius M N w → IsSameWithin forward_radius M N w
+same_forward M N w same = same_less M N forward_radius link_radius w (omega arith) same

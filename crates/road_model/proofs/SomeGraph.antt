@@ -1,6 +1,6 @@
 -- Every way has a block, and every object map a graph.
 use Rattle.std.proofs.Common.{◌≡◌, ℕ, zero, suc, ◌+◌, ◌-◌, ◌<◌, ◌≤◌, List, [], ◌∷◌, ◌++◌, length, map, inl, refl, sym}
-use Rattle.std.proofs.Common.{ap, ◌∙◌, subst, arith, Option, Some, None, slice_get, false, IsTrue}
+use Rattle.std.proofs.Common.{ap, ◌∙◌, subst, arith, Option, Some, None, slice_get, IsTrue}
 use Rattle.std.specs.Prelude.{is_some}
 use Rattle.std.proofs.lemmas.Bool.{false≢true}
 use Rattle.road_base.specs.declared.ids.NodeId.{NodeId}
@@ -10,6 +10,7 @@ use Rattle.road_base.specs.declared.ids.Dir.TheVariants.{Forward, Backward}
 use Rattle.road_base.specs.declared.location.Location.{Location}
 use Rattle.road_base.specs.declared.objects.Node.{Node}
 use Rattle.road_base.specs.Objects.{Objects, node_of}
+use Rattle.road_model.specs.declared.lists.PieceName.{PieceName}
 use Rattle.road_model.specs.declared.lists.Place.{Place}
 use Rattle.road_model.specs.declared.lists.TurnArc.{TurnArc}
 use Rattle.road_model.specs.declared.lists.Context.{Context}
@@ -17,14 +18,14 @@ use Rattle.road_model.specs.declared.lists.Piece.{Piece}
 use Rattle.road_model.specs.declared.blocks.Block.{Block}
 use Rattle.road_model.specs.Rules.{Rules}
 use Rattle.road_model.specs.Lines.{node_at}
-use Rattle.road_model.specs.Driving.{located, node_located}
+use Rattle.road_model.specs.Driving.{located, node_located, is_marked}
 use Rattle.road_model.specs.Pieces.{Span, IsPiece}
 use Rattle.road_model.specs.Contexts.{Every}
 use Rattle.road_model.specs.Network.{IsContext}
 use Rattle.ordered_lists.specs.Orders.{Lists}
 use Rattle.road_model.specs.Orders.{name_cmp, names_cmp, way_cmp}
-use Rattle.road_model.specs.Blocks.{IsPlaceOf, IsArcEntry, IsContextEntry, IsPieceEntry, IsBlock, IsRoadBlock, name_of}
-use Rattle.road_model.specs.Blocks.{place_position}
+use Rattle.road_model.specs.Blocks.{IsPlaceOf, IsArcEntry, IsSourceEntry, IsContextEntry, IsPieceEntry, IsBlock}
+use Rattle.road_model.specs.Blocks.{IsRoadBlock, name_of, place_position}
 use Rattle.road_model.specs.Format.{graph_bytes}
 use Rattle.road_model.specs.Naming.{HasBlock, HasGraph}
 use Rattle.ordered_lists.proofs.ListMembers.{In, in_from_contains, contains_from_in}
@@ -38,6 +39,7 @@ use Rattle.road_model.proofs.WalkLists.{context_pieces}
 use Rattle.road_model.proofs.StepEnds.{some_located}
 use Rattle.road_model.proofs.FinitePieces.{IsOf, piece_located, fin_pieces, fin_pieces_of}
 use Rattle.road_model.proofs.FiniteContexts.{fin_before, arcs_of}
+use Rattle.road_model.proofs.SourceLists.{sources_of}
 use Rattle.ordered_lists.proofs.SortedLists.{listed}
 
 -- ---- a list that has at each place below n something of which a fact holds
@@ -113,13 +115,23 @@ module _ (M : Objects) (P : Rules) where
 
   module _ (p : Span) where
     context_entry : List Span → Context
-    context_entry b = record { before = map name_of b; arcs = (arcs_of M P (b ++ p ∷ [])).0 }
+    context_entry b = record {
+      before = map name_of b;
+      arcs = (arcs_of M P (b ++ p ∷ [])).0;
+      sources = (sources_of M P p (b ++ p ∷ [])).0;
+    }
 
     unfoldable pub context_of : (b : List Span) → IsContext M P (b ++ p ∷ []) → (e : Context) × IsContextEntry M P p e
     unfolding context_entry
     context_of b c = (
       context_entry b,
-      record { before = b; context = c; named = refl; arcs = (arcs_of M P (b ++ p ∷ [])).1 },
+      record {
+        before = b;
+        context = c;
+        named = refl;
+        arcs = (arcs_of M P (b ++ p ∷ [])).1;
+        sources = (sources_of M P p (b ++ p ∷ [])).1;
+      },
     )
 
     -- the arcs of the context of the pieces b and p
@@ -130,13 +142,23 @@ module _ (M : Objects) (P : Rules) where
     same_arcs b xs ys l m = lists_unique (λ (a : TurnArc). a.piece) name_cmp name_cmp_total
         (IsArcEntry M P (b ++ p ∷ [])) xs ys l m
 
+    -- the sources of the context of the pieces b and p
+    abbrev AreSources : List Span → List (List PieceName) → Type 0
+    AreSources b xs = Lists (λ (s : List PieceName). s) names_cmp (IsSourceEntry M P p (b ++ p ∷ [])) xs
+
+    same_sources : (b : List Span) (xs ys : List (List PieceName)) → AreSources b xs → AreSources b ys → xs ≡ ys
+    same_sources b xs ys l m = lists_unique (λ (s : List PieceName). s) names_cmp names_cmp_total
+        (IsSourceEntry M P p (b ++ p ∷ [])) xs ys l m
+
     context_is : (e : Context) (k : IsContextEntry M P p e) → e ≡ context_entry k.before
     unfolding context_entry
     context_is e k =
         let n = k.named in
         let r = arcs_of M P (k.before ++ p ∷ []) in
         let a = same_arcs k.before e.arcs r.0 k.arcs r.1 in
-        λ i. record { before = n i; arcs = a i }
+        let q = sources_of M P p (k.before ++ p ∷ []) in
+        let s = same_sources k.before e.sources q.0 k.sources q.1 in
+        λ i. record { before = n i; arcs = a i; sources = s i }
 
     fin_contexts : Finite (IsContextEntry M P p)
     unfolding context_of
@@ -151,7 +173,9 @@ module _ (M : Objects) (P : Rules) where
         (before_pieces l.before l.context) (sym k.named ∙ e ∙ l.named) in
         let arcs : a.arcs ≡ b.arcs = same_arcs l.before a.arcs b.arcs
         (subst (λ v. AreArcs v a.arcs) f k.arcs) l.arcs in
-        λ i. record { before = e i; arcs = arcs i }
+        let sources : a.sources ≡ b.sources = same_sources l.before a.sources b.sources
+        (subst (λ v. AreSources v a.sources) f k.sources) l.sources in
+        λ i. record { before = e i; arcs = arcs i; sources = sources i }
 
     contexts_of : (xs : List Context) × Lists (λ c. c.before) names_cmp (IsContextEntry M P p) xs
     contexts_of = listed
@@ -164,14 +188,20 @@ module _ (M : Objects) (P : Rules) where
     piece_entry p h =
         let t = places_of p h.is in
         let c = contexts_of p in (
-          record { name = name_of p; end = p.end; zone = false; places = t.list; contexts = c.0 },
+          record {
+            name = name_of p;
+            end = p.end;
+            zone = is_marked M P w p.dir;
+            places = t.list;
+            contexts = c.0;
+          },
           record {
             piece = p;
             is = h.is;
             of = h.way;
             named = refl;
             end_is = refl;
-            unmarked = refl;
+            marked = refl;
             count = t.count;
             places = t.each;
             contexts = c.1;
@@ -242,4 +272,4 @@ module _ (M : Objects) (P : Rules) where
   pub has_graph : HasGraph M P
   has_graph =
       let l = listed (λ (b : Block). b.way) way_cmp way_cmp_total way_cmp_exact fin_road_blocks one_road_block in
-      (graph_bytes P.number l.0, record { blocks = l.0; listed = l.1; spelled = refl })
+      (graph_bytes 2 P.number l.0, record { blocks = l.0; listed = l.1; spelled = refl })

@@ -7,6 +7,7 @@ use Rattle.road_model.specs.declared.lists.Context.{Context}
 use Rattle.road_model.specs.declared.lists.Piece.{Piece}
 use Rattle.road_model.specs.declared.blocks.Block.{Block}
 use Rattle.road_model.specs.Rules.{Rules}
+use Rattle.road_model.specs.Driving.{is_marked}
 use Rattle.road_model.specs.Pieces.{IsPlain, Span, IsPiece}
 use Rattle.ordered_lists.specs.Orders.{Lists}
 use Rattle.road_model.specs.Orders.{name_cmp, names_cmp, way_cmp}
@@ -55,7 +56,7 @@ same_entry : (M : Objects) (P : Rules) (w : WayId) (e f : Piece) (a : IsPieceEnt
     (b : IsPieceEntry M P w f) → e.name ≡ f.name → a.piece ≡ b.piece → e ≡ f
 same_entry M P w e f a b n p =
     let end : e.end ≡ f.end = cc (a.end_is, b.end_is, p) in
-    let zone : e.zone ≡ f.zone = a.unmarked ∙ sym b.unmarked in
+    let zone : e.zone ≡ f.zone = a.marked ∙ ap (λ (q : Span). is_marked M P w q.dir) p ∙ sym b.marked in
     let l : length e.places ≡ length f.places = cc (a.count, b.count, p) in
     let places : e.places ≡ f.places = places_same M b.piece e.places f.places l
     (subst (λ q. (k : ℕ) (x : Place) → slice_get e.places k ≡ Some x → IsPlaceOf M q k x) p a.places) b.places in

@@ -1,5 +1,5 @@
 -- What the block of a way lists.
-use Rattle.std.specs.Prelude.{◌≡◌, ℕ, ◌+◌, ◌-◌, List, [], ◌∷◌, ◌++◌, length, map, Some, false, slice_get, IsTrue}
+use Rattle.std.specs.Prelude.{◌≡◌, ℕ, ◌+◌, ◌-◌, List, [], ◌∷◌, ◌++◌, length, map, Some, slice_get, IsTrue}
 use Rattle.std.specs.Prelude.{Contains}
 use Rattle.road_base.specs.declared.ids.WayId.{WayId}
 use Rattle.road_base.specs.declared.ids.Dir.TheVariants.{Forward, Backward}
@@ -13,6 +13,7 @@ use Rattle.road_model.specs.declared.lists.Piece.{Piece}
 use Rattle.road_model.specs.declared.blocks.Block.{Block}
 use Rattle.road_model.specs.Rules.{Rules}
 use Rattle.road_model.specs.Lines.{node_at}
+use Rattle.road_model.specs.Driving.{is_marked}
 use Rattle.road_model.specs.Pieces.{Span, IsPiece}
 use Rattle.road_model.specs.Network.{IsContext, IsArc}
 use Rattle.ordered_lists.specs.Orders.{Lists, rises}
@@ -29,12 +30,20 @@ pub record IsArcEntry (M : Objects) (P : Rules) (c : List Span) (a : TurnArc) : 
   pub named : a.piece ≡ name_of piece
   pub length_is : a.length ≡ length target
 
--- a context of the piece as it is written: the names of the pieces before it, and its arcs
+-- a source of context c of piece p as it is written: the names of the pieces of a context from which an arc by the
+-- piece leads to c
+pub record IsSourceEntry (M : Objects) (P : Rules) (p : Span) (c : List Span) (s : List PieceName) : Type 0 where
+  pub from : List Span
+  pub arc : IsArc M P from p c
+  pub named : s ≡ map name_of from
+
+-- a context of the piece as it is written: the names of the pieces before it, its arcs and its sources
 pub record IsContextEntry (M : Objects) (P : Rules) (p : Span) (e : Context) : Type 0 where
   pub before : List Span
   pub context : IsContext M P (before ++ p ∷ [])
   pub named : e.before ≡ map name_of before
   pub arcs : Lists (λ a. a.piece) name_cmp (IsArcEntry M P (before ++ p ∷ [])) e.arcs
+  pub sources : Lists (λ s. s) names_cmp (IsSourceEntry M P p (before ++ p ∷ [])) e.sources
 
 -- the position on the way's line at which a piece is after k steps
 abbrev pub place_position : Span → ℕ → ℕ
@@ -47,26 +56,22 @@ pub record IsPlaceOf (M : Objects) (p : Span) (k : ℕ) (e : Place) : Type 0 whe
   pub visible : node_of M e.node ≡ Some body
   pub location : body.location ≡ Some e.location
 
--- a piece of the way as it is written: its name and end, no mark, all its nodes in order of travel, and its contexts
+-- a piece of the way as it is written: its name and end, its mark, all its nodes in order of travel, and its contexts
 pub record IsPieceEntry (M : Objects) (P : Rules) (w : WayId) (e : Piece) : Type 0 where
   pub piece : Span
   pub is : IsPiece M P piece
   pub of : piece.way ≡ w
   pub named : e.name ≡ name_of piece
   pub end_is : e.end ≡ piece.end
-  pub unmarked : e.zone ≡ false
+  pub marked : e.zone ≡ is_marked M P w piece.dir
   pub count : length e.places ≡ piece.end - piece.index + 1
   pub places : (k : ℕ) (x : Place) → slice_get e.places k ≡ Some x → IsPlaceOf M piece k x
   pub contexts : Lists (λ c. c.before) names_cmp (IsContextEntry M P piece) e.contexts
 
--- the forward part of a way's block: its pieces, each with what may follow it
-pub record IsForward (M : Objects) (P : Rules) (w : WayId) (b : Block) : Type 0 where
+-- the block of a way: its pieces, each with what may follow it and what it may follow
+pub record IsBlock (M : Objects) (P : Rules) (w : WayId) (b : Block) : Type 0 where
   pub way : b.way ≡ w
   pub pieces : Lists (λ p. p.name) name_cmp (IsPieceEntry M P w) b.pieces
-
--- the block of a way, which is its forward part
-abbrev pub IsBlock : Objects → Rules → WayId → Block → Type 0
-IsBlock = IsForward
 
 -- the block of a way that has pieces
 pub record IsRoadBlock (M : Objects) (P : Rules) (b : Block) : Type 0 where

@@ -19,6 +19,14 @@ open_way P (Some w) d = is_free (P.direction w.tags d)
 unfoldable pub is_open : Objects → Rules → WayId → Dir → Bool
 is_open M P w d = open_way P (way_of M w) d
 
+abbrev pub zone_way : Rules → Option Way → Dir → Bool
+zone_way P None d = false
+zone_way P (Some w) d = P.zone w.tags d
+
+-- the way is visible, and the profile marks its tags in the direction as those of a zone
+unfoldable pub is_marked : Objects → Rules → WayId → Dir → Bool
+is_marked M P w d = zone_way P (way_of M w) d
+
 -- a road: the way is visible and some direction is free
 abbrev pub is_road : Objects → Rules → WayId → Bool
 is_road M P w = is_open M P w Forward || is_open M P w Backward

@@ -1,7 +1,9 @@
 -- Walks over the blocks that a graph file spells, made as a reader of the file makes them: by the names alone that
 -- stand there.
 use Rattle.std.specs.Prelude.{◌≡◌, ℕ, ◌+◌, ◌-◌, ◌↔◌, List, [], ◌∷◌, ◌++◌, length, map, drop, Option, Some, slice_get}
-use Rattle.std.specs.Prelude.{Contains}
+use Rattle.std.specs.Prelude.{IsTrue, Contains}
+use Rattle.ordered_lists.specs.Orders.{rises}
+use Rattle.road_model.specs.Orders.{names_cmp}
 use Rattle.road_base.specs.declared.ids.NodeId.{NodeId}
 use Rattle.road_base.specs.declared.ids.Step.{Step}
 use Rattle.road_base.specs.declared.objects.Node.{Node}
@@ -48,6 +50,18 @@ pub record HasArc (blocks : List Block) (names : List PieceName) (piece : PieceN
     pub in_context : Contains from.context.arcs arc
     pub by : arc.piece ≡ piece
     pub leads : target ≡ last_names arc.length (names ++ piece ∷ [])
+
+-- the context of these names lists the source
+pub record HasSource (blocks : List Block) (names source : List PieceName) : Type 0 where
+  pub to : HasContext blocks names
+  pub listed : Contains to.context.sources source
+
+-- an arc leads from the context of these names, by its last piece, to the context of the names `target`
+pub record LeadsTo (blocks : List Block) (names target : List PieceName) : Type 0 where
+  pub before : List PieceName
+  pub piece : PieceName
+  pub ends : target ≡ before ++ piece ∷ []
+  pub arc : HasArc blocks names piece target
 
 -- ---- walks
 
@@ -106,7 +120,8 @@ pub record IsNamedWalk (M : Objects) (P : Rules) (walk context : List PieceName)
 -- Whoever walks over the blocks, walks over the object map: by the same pieces to the same contexts, and an arc that
 -- stands there leads to a context that stands there. A walk spells the same drive here and there, and no other; what
 -- the walks spell are exactly the legal drives from junction to junction, each spelled by one walk; and the places of
--- each piece are the nodes that its steps pass.
+-- each piece are the nodes that its steps pass. The sources of a context are the contexts from which an arc leads there,
+-- each once, so that whoever goes from a context to its sources goes along the arcs backwards.
 pub record AreFileWalks (M : Objects) (P : Rules) (blocks : List Block) : Type 0 where
   pub walks : (walk context : List PieceName) → FileWalksTo blocks walk context ↔ IsNamedWalk M P walk context
   pub targets : (names : List PieceName) (piece : PieceName) (target : List PieceName)
@@ -117,3 +132,5 @@ pub record AreFileWalks (M : Objects) (P : Rules) (blocks : List Block) : Type 0
   pub drives : (s : List Step) → ((walk : List PieceName) × IsReadFrom blocks walk s) ↔ IsJunctionDrive M P s
   pub one_walk : (v w : List PieceName) (s : List Step) → IsReadFrom blocks v s → IsReadFrom blocks w s → v ≡ w
   pub places : (p : Piece) → HasPiece blocks p → ArePassed M (piece_steps p) p.places
+  pub sources : (target names : List PieceName) → HasSource blocks target names ↔ LeadsTo blocks names target
+  pub once : (names : List PieceName) (h : HasContext blocks names) → IsTrue (rises names_cmp h.context.sources)

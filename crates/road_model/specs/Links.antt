@@ -56,7 +56,7 @@ AreChanged M N keys = Lists (λ k. k) key_cmp (Differs M N) keys
 
 -- how many links lead from a changed key to a way at most, if the change may alter the way's block
 abbrev pub link_radius : ℕ
-link_radius = 6
+link_radius = 8
 
 -- the way, visible or not, is within the link radius of the key
 abbrev pub IsNear : Objects → Key → WayId → Type 0

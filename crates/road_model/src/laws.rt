@@ -19,8 +19,8 @@ ghost use Rattle.road_model.specs.Words.{IsWord};
 ghost use Rattle.road_model.specs.Contexts.{Every};
 ghost use Rattle.road_model.specs.Network.{AnyWord, Legal, GoesOn, IsContext, IsContextOf, HasNoWords, spell_pieces};
 ghost use Rattle.road_model.specs.Network.{IsArc};
-ghost use Rattle.road_model.specs.Links.{HasMember, RefersTo, IsTouched};
-ghost use Rattle.road_model.specs.Local.{IsSameWithin, forward_radius};
+ghost use Rattle.road_model.specs.Links.{HasMember, RefersTo, IsTouched, link_radius};
+ghost use Rattle.road_model.specs.Local.{IsSameWithin, forward_radius, HasSameArcs, HasSameSources};
 ghost use Rattle.road_model.specs.Blocks.{name_of, IsRoadBlock, IsPlaceOf, IsBlock};
 ghost use Rattle.road_model.specs.declared.lists.Place.{Place};
 ghost use Rattle.road_model.specs.Highways.{IsHighway};
@@ -364,6 +364,30 @@ pub fn local_arcs<P: Profile>(profile: &P, way: WayId)
         → p.way ≡ way
         → IsArc M (P.rules profile.now) (before ++ p ∷ []) t target
         ↔ IsArc N (P.rules profile.now) (before ++ p ∷ []) t target }
+{}
+
+/// In the same case all is the same in both that stands in the way's block but the sources.
+pub fn local_blocks<P: Profile>(profile: &P, way: WayId)
+    ensures { (M N : Objects)
+        → IsSameWithin forward_radius M N way
+        → HasSameArcs M N (P.rules profile.now) way }
+{}
+
+/// Where no such key is within the link radius of the way, the same arcs lead by its pieces in both: a source of one
+/// of its contexts is a context of a way that shares a node with it, and so is at most two links away.
+pub fn local_sources<P: Profile>(profile: &P, way: WayId)
+    ensures { (M N : Objects)
+        → IsSameWithin link_radius M N way
+        → HasSameSources M N (P.rules profile.now) way }
+{}
+
+/// A block is what stands in it: where all but the sources is the same in two object maps, and the same arcs lead by
+/// the way's pieces, its block is the same in both.
+pub fn same_blocks<P: Profile>(profile: &P)
+    ensures { (M N : Objects) (w : WayId) (b : Block)
+        → HasSameArcs M N (P.rules profile.now) w
+        → HasSameSources M N (P.rules profile.now) w
+        → IsBlock M (P.rules profile.now) w b ↔ IsBlock N (P.rules profile.now) w b }
 {}
 
 /// A change alters no block of a way that it doesn't touch: where the way isn't within the link radius of a key whose

@@ -6,8 +6,9 @@
 //! made of. A graph's blocks lie in one list in the order of their ways: to find one is a binary search, or a look at
 //! two places where the caller knows where it may stand. One behind all others is put at the cost of a push; to put any
 //! other whose way is new, and to take one out, moves the blocks behind it. A piece with one context, from which three
-//! arcs or fewer lead, as most pieces have, takes the memory of one list beside its own place: that of its nodes. A
-//! copy costs the size of what is copied, and everything else a constant.
+//! arcs or fewer lead and which has three sources of one piece each or fewer, as most pieces have, takes the memory of
+//! one list beside its own place: that of its nodes. A copy costs the size of what is copied, and everything else a
+//! constant.
 #![tactic(auto)]
 
 mod access_keys;
@@ -27,7 +28,9 @@ pub use answers::{Access, AccessKey, ClosedBy, RuleKind, Unusable};
 pub use blocks::{Block, Blocks};
 pub use follower::{Follower, Question};
 pub use links::LINK_RADIUS;
-pub use lists::{Arcs, Context, Contexts, Names, Piece, PieceName, Pieces, Place, Places, TurnArc};
+pub use lists::{
+    Arcs, Context, Contexts, Names, Piece, PieceName, Pieces, Place, Places, Sources, TurnArc,
+};
 pub use network::Network;
 pub use profile::Profile;
 pub use tag_rules::{has_highway, is_restriction};

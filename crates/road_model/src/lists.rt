@@ -1,5 +1,5 @@
 //! Pieces, contexts and arcs of the turn-expanded graph, and lists of them.
-ghost use Rattle.std.specs.Prelude.{◌≡◌, IfOk, IfSome};
+ghost use Rattle.std.specs.Prelude.{◌≡◌, [], ◌∷◌, IfOk, IfSome};
 
 use road_base::{Dir, Location, NoMemory, NodeId, WayId};
 use smallvec::SmallVec;
@@ -9,6 +9,9 @@ use std::marker::Model;
 
 /// Most contexts have so many arcs or fewer: at a crossing one to each side, and one straight on.
 const FEW_ARCS: usize = 3;
+
+/// Most contexts have so many sources or fewer: at a crossing one from each side, and one from straight behind.
+const FEW_SOURCES: usize = 3;
 
 /// What names a piece: its way, its lower position on the way's line, and its direction. Names are compared in this
 /// order.
@@ -34,11 +37,13 @@ pub struct TurnArc {
     pub length: u32,
 }
 
-/// A context of a piece: the pieces driven before it, as far as they matter, and the arcs from there.
+/// A context of a piece: the pieces driven before it, as far as they matter, the arcs from there, and its sources: the
+/// contexts from which an arc leads there, each by the names of all its pieces.
 #[derive(Drop)]
 pub struct Context {
     pub before: Names,
     pub arcs: Arcs,
+    pub sources: Sources,
 }
 
 /// A run of a way between two junctions in one direction: its name, its upper position on the way's line, its mark, the
@@ -47,7 +52,7 @@ pub struct Context {
 pub struct Piece {
     pub name: PieceName,
     pub end: u32,
-    /// Whether the piece is marked as one of a zone.
+    /// Whether the piece is marked as one of a zone, as the profile says of its way's tags in its direction.
     pub zone: bool,
     pub places: Places,
     pub contexts: Contexts,
@@ -60,7 +65,23 @@ impl Context {
     {
         let before = self.before.copy()?;
         let arcs = self.arcs.copy()?;
-        Ok(Context { before, arcs })
+        let sources = self.sources.copy()?;
+        Ok(Context {
+            before,
+            arcs,
+            sources,
+        })
+    }
+}
+
+impl Default for PieceName {
+    /// What stands where a short list has room for a name.
+    fn default() -> PieceName {
+        PieceName {
+            way: WayId(0),
+            index: 0,
+            dir: Dir::Forward,
+        }
     }
 }
 
@@ -68,13 +89,16 @@ impl Default for TurnArc {
     /// What stands where a short list has room for an arc.
     fn default() -> TurnArc {
         TurnArc {
-            piece: PieceName {
-                way: WayId(0),
-                index: 0,
-                dir: Dir::Forward,
-            },
+            piece: PieceName::default(),
             length: 0,
         }
+    }
+}
+
+impl MadeWith<Global> for Names {
+    /// What stands where a short list has room for names.
+    fn made_with(alloc: Global) -> Names {
+        Names::from_list(Vec::new(alloc))
     }
 }
 
@@ -84,6 +108,7 @@ impl MadeWith<Global> for Context {
         Context {
             before: Names::from_list(Vec::new(alloc)),
             arcs: Arcs::from_list(Vec::new(alloc)),
+            sources: Sources::from_list(Vec::new(alloc)),
         }
     }
 }
@@ -105,10 +130,10 @@ impl Piece {
     }
 }
 
-/// Names of pieces.
+/// Names of pieces. One alone takes no memory of its own.
 #[derive(Drop)]
 pub struct Names {
-    list: Vec<PieceName>,
+    list: SmallVec<PieceName, 1>,
 }
 
 impl Model for Names {
@@ -125,7 +150,21 @@ impl Names {
     pub fn from_list(list: Vec<PieceName>) -> Names
         ensures { result ≡ list.items }
     {
-        Names { list }
+        match list.as_slice() {
+            [name] => Names::one(*list.allocator(), *name),
+            _ => Names {
+                list: SmallVec::from_vec(list),
+            },
+        }
+    }
+
+    /// One name alone. Takes no memory.
+    pub fn one(alloc: Global, name: PieceName) -> Names
+        ensures { result ≡ name ∷ [] }
+    {
+        Names {
+            list: SmallVec::from_buf(alloc, [name]),
+        }
     }
 
     /// In their stated order: of travel, or ascending.
@@ -139,7 +178,7 @@ impl Names {
     pub fn copy(&self) -> Result<Names, NoMemory>
         ensures { IfOk result (λ l. l ≡ self.now) }
     {
-        let list = self.list.clone()?;
+        let list = SmallVec::from_slice(*self.list.allocator(), self.list.as_slice())?;
         Ok(Names { list })
     }
 }
@@ -196,6 +235,54 @@ fn few_arcs(list: &Vec<TurnArc>) -> Option<SmallVec<TurnArc, FEW_ARCS>>
         return None;
     }
     SmallVec::from_slice(*list.allocator(), list.as_slice()).ok()
+}
+
+/// The sources of a context: of each context from which an arc leads there, the names of all its pieces. Three or fewer
+/// take no memory of their own.
+#[derive(Drop)]
+pub struct Sources {
+    list: SmallVec<Names, FEW_SOURCES>,
+}
+
+impl Model for Sources {
+    ghost use Rattle.std.specs.Prelude.{List};
+    ghost use Rattle.road_model.specs.declared.lists.PieceName.{PieceName};
+
+    ghost Value = { List (List PieceName) };
+
+    ghost view = { λ l. l.list.items };
+}
+
+impl Sources {
+    /// Takes no memory.
+    pub fn from_list(list: Vec<Names>) -> Sources
+        ensures { result ≡ list.items }
+    {
+        let mut list = SmallVec::from_vec(list);
+        if list.len() <= FEW_SOURCES {
+            list.shrink_to_fit();
+        }
+        Sources { list }
+    }
+
+    /// By length and then by names, in a graph.
+    pub fn items(&self) -> &[Names]
+        ensures { result.now ≡ self.now }
+    {
+        self.list.as_slice()
+    }
+
+    /// An equal value.
+    pub fn copy(&self) -> Result<Sources, NoMemory>
+        ensures { IfOk result (λ l. l ≡ self.now) }
+    {
+        let from = self.list.as_slice();
+        let mut list = SmallVec::with_capacity(*self.list.allocator(), from.len())?;
+        for item in from {
+            list.push(item.copy()?)?;
+        }
+        Ok(Sources { list })
+    }
 }
 
 /// The nodes that a piece passes.

@@ -1,7 +1,6 @@
-use Rattle.road_model.proofs.LocalLinks.{untouched_same}
-use Rattle.road_model.proofs.LocalBlocks.{same_block}
+use Rattle.road_model.proofs.LocalBlocks.{untouched_block}
 use Rattle.road_model.proofs.laws.locality.Goals as goal
 
 pub returns : goal.returns
-returns g c M N b untouched = same_block M N (g.P.Profile.rules c.args.profile.now)
-    (g.met.P.Profile.free_needs_highway c.args.profile.now) c.args.way b (untouched_same M N c.args.way untouched)
+returns g c M N b untouched = untouched_block M N (g.P.Profile.rules c.args.profile.now)
+    (g.met.P.Profile.free_needs_highway c.args.profile.now) c.args.way b untouched
