@@ -11,18 +11,22 @@ use crate::entry_run::EntryRun;
 use crate::floor::Floor;
 use crate::layers::Layers;
 use crate::prepared::Prepared;
-use crate::sinking::{Sinking, sink, split};
+use crate::sinking::{Sinking, is_own, sink, split, split_all};
 use crate::view::View;
 use ordered_lists::{Keyed, Kinded, Slotted};
 use std::alloc::{AllocError, Global};
 use std::marker::Model;
 use std::rc::Rc;
 
+/// All layers are gone through where entries have come late, and since then such a share of as many as there are.
+const SHARE: usize = 2;
+
 /// Values, each at its key. Contracts see the pairs of keys and values, ascending.
 ///
 /// A list of values, the floor, never changes while it is shared; what changes lies over it, in at most eight layers.
 /// Maps that are made of one another share the floor, and the layers that weren't merged. Where nobody shares the floor
-/// any more, values that were put at keys that stand in it come into it, in the places of those that stood there.
+/// any more, values that are put at keys that stand in it come into it, in the places of those that stood there; and
+/// those that were put while it was shared do so once as many changes have come as half of the entries in the layers.
 #[derive(Drop)]
 pub struct LayeredMap<K: Ord + Copy + Slotted + Kinded, V: Keyed<K>> {
     alloc: Global,
@@ -31,6 +35,9 @@ pub struct LayeredMap<K: Ord + Copy + Slotted + Kinded, V: Keyed<K>> {
     /// What `commit` makes of the floor and of the layers where nobody else shares the floor. None where that is what
     /// they are.
     sinking: Option<Sinking<K, V>>,
+    /// How many entries have come since one came while the floor was shared, that one with them; zero where none came
+    /// since all layers were gone through.
+    late: usize,
 }
 
 impl<K: Ord + Copy + Slotted + Kinded, V: Keyed<K>> Model for LayeredMap<K, V> {
@@ -58,6 +65,7 @@ impl<K: Ord + Copy + Slotted + Kinded, V: Keyed<K>> LayeredMap<K, V> {
             floor: None,
             layers: Layers::new(alloc),
             sinking: None,
+            late: 0,
         }
     }
 
@@ -74,6 +82,7 @@ impl<K: Ord + Copy + Slotted + Kinded, V: Keyed<K>> LayeredMap<K, V> {
             floor: Some(floor),
             layers: Layers::new(alloc),
             sinking: None,
+            late: 0,
         })
     }
 
@@ -109,13 +118,15 @@ impl<K: Ord + Copy + Slotted + Kinded, V: Keyed<K>> LayeredMap<K, V> {
             floor,
             layers,
             sinking: None,
+            late: self.late,
         })
     }
 
     /// Finds what the changes leave, whose keys rise. The map stays as it is, but that the keys are marked in its
     /// filter. Takes two look-ups for each change; those that stand are put into a layer of less than 64 entries, which
     /// is copied, and merged with the one behind it as that grows, so that each is copied with eight others at most
-    /// once for each layer.
+    /// once for each layer. Where changes came while the floor was shared, all layers are gone through once as many came
+    /// since as half of their entries.
     pub fn prepare(&mut self, changes: Vec<Change<K, V>>) -> Result<Prepared<K, V>, AllocError>
         requires exact { IsAntisymmetric K.cmp }
         requires rising { Rise K.cmp (map (change_pair V.key) changes.items) }
@@ -168,14 +179,66 @@ impl<K: Ord + Copy + Slotted + Kinded, V: Keyed<K>> LayeredMap<K, V> {
         requires keyed { AreKeyed V.key K.cmp run }
         ensures { IfOk result (λ m. m ≡ over K.cmp run self.now) }
     {
-        let floor = shared_floor(&self.floor)?;
+        let is_own = is_own(&self.floor);
+        let next = self.layered(run)?;
+        if is_own && next.is_due() {
+            next.split_anew()
+        } else {
+            Ok(next)
+        }
+    }
+
+    /// What these entries leave over the layers, beside this map.
+    fn layered(&self, run: EntryRun<K, Option<V>>) -> Result<LayeredMap<K, V>, AllocError>
+        requires exact { IsAntisymmetric K.cmp }
+        requires keyed { AreKeyed V.key K.cmp run }
+        ensures { IfOk result (λ m. m ≡ over K.cmp run self.now) }
+    {
+        let late = self.late_with(run.len());
         let sinking = split(self.alloc, &run, &self.layers, &self.floor)?;
+        let floor = shared_floor(&self.floor)?;
         let layers = self.layers.with(self.alloc, run)?;
         Ok(LayeredMap {
             alloc: self.alloc,
             floor,
             layers,
             sinking,
+            late,
+        })
+    }
+
+    /// How many entries have come since one came late, where so many more come now.
+    fn late_with(&self, more: usize) -> usize {
+        if self.late == 0 && is_own(&self.floor) {
+            0
+        } else {
+            self.late.saturating_add(more)
+        }
+    }
+
+    /// Whether all layers are to be gone through.
+    fn is_due(&self) -> bool {
+        self.late > 0 && self.late >= self.layers.len() / SHARE
+    }
+
+    /// The same map, of which entries of all layers come into the floor where nobody else shares that.
+    fn split_anew(self) -> Result<LayeredMap<K, V>, AllocError>
+        requires { IsAntisymmetric K.cmp }
+        ensures { IfOk result (λ m. m ≡ self) }
+    {
+        let LayeredMap {
+            alloc,
+            floor,
+            layers,
+            ..
+        } = self;
+        let sinking = split_all(alloc, &layers, &floor)?;
+        Ok(LayeredMap {
+            alloc,
+            floor,
+            layers,
+            sinking,
+            late: 0,
         })
     }
 
@@ -189,13 +252,15 @@ impl<K: Ord + Copy + Slotted + Kinded, V: Keyed<K>> LayeredMap<K, V> {
             floor,
             layers,
             sinking,
+            late,
         } = self;
-        let (floor, layers) = sink(floor, layers, sinking);
+        let (floor, layers, stays) = sink(floor, layers, sinking);
         LayeredMap {
             alloc,
             floor,
             layers,
             sinking: None,
+            late: if stays { late.max(1) } else { late },
         }
     }
 }

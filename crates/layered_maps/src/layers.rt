@@ -67,6 +67,19 @@ impl<K: Ord + Copy + Slotted, V: Drop> Layers<K, V> {
         self.runs.as_slice()
     }
 
+    /// How many entries the runs have.
+    pub fn len(&self) -> usize {
+        count(self.runs.as_slice())
+    }
+
+    /// All entries in one run, of each key the first one. Takes the time of a merge of all runs, the last ones first.
+    pub fn merged(&self, alloc: Global) -> Result<EntryRun<K, V>, AllocError>
+        ensures entries { IfOk result (λ r. r ≡ self.now) }
+        ensures rising { IfOk result (λ r. Rise K.cmp self.now) }
+    {
+        all_of(alloc, self.runs.as_slice())
+    }
+
     /// The value of the key, and None exactly where the key has none. Where it has none this takes one or two tests,
     /// unless both slots of its number are marked for other keys; else the time of a search in each run. Takes no
     /// memory.
@@ -93,7 +106,7 @@ impl<K: Ord + Copy + Slotted, V: Drop> Layers<K, V> {
     pub fn clean(&mut self, alloc: Global) -> Result<(), AllocError>
         ensures { self.new ≡ self.old }
     {
-        let entries = count(self.runs.as_slice());
+        let entries = self.len();
         let others = self.marks.count().saturating_sub(entries);
         if others > FEW.max(entries / SHARE) {
             self.marks = marked(alloc, self.runs.as_slice())?;
@@ -131,6 +144,19 @@ fn count<K: Ord + Copy, V: Drop>(runs: &[Rc<EntryRun<K, V>>]) -> usize {
         all = all.saturating_add(run.len());
     }
     all
+}
+
+/// The entries of these runs in one.
+fn all_of<K: Ord + Copy, V: Drop>(
+    alloc: Global,
+    runs: &[Rc<EntryRun<K, V>>],
+) -> Result<EntryRun<K, V>, AllocError>
+    ensures { IfOk result (λ r. r ≡ laid K.cmp (values_of runs.now)) }
+{
+    match runs.split_first() {
+        None => Ok(EntryRun::of(Vec::new(alloc))),
+        Some((first, behind)) => first.merged(alloc, &all_of(alloc, behind)?),
+    }
 }
 
 /// Marks at the numbers of the keys of all runs.

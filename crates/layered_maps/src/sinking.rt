@@ -22,8 +22,8 @@ pub struct Sinking<K: Ord + Copy + Slotted + Kinded, V: Keyed<K>> {
 }
 
 /// What is told of a run that comes over these layers: the values of keys that stand in the floor, and in no layer,
-/// come into the floor, and all others stay over it. None where no value comes into it. Takes two look-ups for each
-/// entry, and a copy of each value that comes into the floor.
+/// come into the floor, and all others stay over it. None where no value comes into it, or where somebody else shares
+/// it. Takes two look-ups for each entry, and a copy of each value that comes into the floor.
 pub fn split<K: Ord + Copy + Slotted + Kinded, V: Keyed<K>>(
     alloc: Global,
     run: &EntryRun<K, Option<V>>,
@@ -39,12 +39,61 @@ pub fn split<K: Ord + Copy + Slotted + Kinded, V: Keyed<K>>(
     let Some(floor) = floor else {
         return Ok(None);
     };
+    if Rc::strong_count(floor) > 1 {
+        return Ok(None);
+    }
+    split_over(alloc, run, layers, floor)
+}
+
+/// The same of all entries of these layers, whoever shares the floor: what stays over it then are entries whose keys
+/// don't stand in it, and keys that have no value. Takes the time of a merge of all layers, a look-up for each entry,
+/// and a copy of each value that comes into the floor.
+pub fn split_all<K: Ord + Copy + Slotted + Kinded, V: Keyed<K>>(
+    alloc: Global,
+    layers: &Layers<K, Option<V>>,
+    floor: &Option<Rc<Floor<K, V>>>,
+) -> Result<Option<Sinking<K, V>>, AllocError>
+    requires exact { IsAntisymmetric K.cmp }
+    requires layers { AreKeyed V.key K.cmp layers.now }
+    requires floor { Rise K.cmp (floor_pairs floor.now) }
+    ensures { IfOk result (λ s. IsSinking V.key K.cmp s layers.now (floor_pairs floor.now)) }
+{
+    let Some(floor) = floor else {
+        return Ok(None);
+    };
+    let all = layers.merged(alloc)?;
+    split_over(alloc, &all, &Layers::new(alloc), floor)
+}
+
+/// What is told of a run that comes over these layers and this floor.
+fn split_over<K: Ord + Copy + Slotted + Kinded, V: Keyed<K>>(
+    alloc: Global,
+    run: &EntryRun<K, Option<V>>,
+    layers: &Layers<K, Option<V>>,
+    floor: &Floor<K, V>,
+) -> Result<Option<Sinking<K, V>>, AllocError>
+    requires exact { IsAntisymmetric K.cmp }
+    requires run { AreKeyed V.key K.cmp run.now }
+    requires layers { AreKeyed V.key K.cmp layers.now }
+    requires floor { Rise K.cmp floor.now }
+    ensures { IfOk result (λ s. IsSinking V.key K.cmp s (put_all K.cmp run.now layers.now) floor.now) }
+{
     let (rest, values) = split_entries(alloc, run.entries(), layers, floor)?;
     if values.is_empty() {
         return Ok(None);
     }
     let layers = layers.with(alloc, EntryRun::of(rest))?;
     Ok(Some(Sinking { layers, values }))
+}
+
+/// Whether there is a floor, and nobody else shares it.
+pub fn is_own<K: Ord + Copy + Slotted + Kinded, V: Keyed<K>>(
+    floor: &Option<Rc<Floor<K, V>>>,
+) -> bool {
+    let Some(floor) = floor else {
+        return false;
+    };
+    Rc::strong_count(floor) == 1
 }
 
 /// The entries that stay over the floor, with their values shared, and copies of the values that come into it.
@@ -91,13 +140,13 @@ fn sunk_value<K: Ord + Copy + Slotted + Kinded, V: Keyed<K>>(
     Ok(Some(value.duplicate()?))
 }
 
-/// The floor and what lies over it: what they come to, where nobody else shares the floor, and else as they are. Takes
-/// no memory.
+/// The floor and what lies over it: what they come to, where nobody else shares the floor, and else as they are; and
+/// whether values stay over the floor for that. Takes no memory.
 pub fn sink<K: Ord + Copy + Slotted + Kinded, V: Keyed<K>>(
     floor: Option<Rc<Floor<K, V>>>,
     layers: Layers<K, Option<V>>,
     sinking: Option<Sinking<K, V>>,
-) -> (Option<Rc<Floor<K, V>>>, Layers<K, Option<V>>)
+) -> (Option<Rc<Floor<K, V>>>, Layers<K, Option<V>>, bool)
     requires exact { IsAntisymmetric K.cmp }
     requires keyed { AreKeyed V.key K.cmp layers }
     requires floor { Rise K.cmp (floor_pairs floor) }
@@ -108,7 +157,7 @@ pub fn sink<K: Ord + Copy + Slotted + Kinded, V: Keyed<K>>(
 {
     match (floor, sinking) {
         (Some(floor), Some(sinking)) => sink_own(floor, layers, sinking),
-        (floor, _) => (floor, layers),
+        (floor, _) => (floor, layers, false),
     }
 }
 
@@ -116,7 +165,7 @@ fn sink_own<K: Ord + Copy + Slotted + Kinded, V: Keyed<K>>(
     floor: Rc<Floor<K, V>>,
     layers: Layers<K, Option<V>>,
     sinking: Sinking<K, V>,
-) -> (Option<Rc<Floor<K, V>>>, Layers<K, Option<V>>)
+) -> (Option<Rc<Floor<K, V>>>, Layers<K, Option<V>>, bool)
     requires exact { IsAntisymmetric K.cmp }
     requires keyed { AreKeyed V.key K.cmp layers }
     requires floor { Rise K.cmp floor.value }
@@ -127,9 +176,9 @@ fn sink_own<K: Ord + Copy + Slotted + Kinded, V: Keyed<K>>(
 {
     let (floor, is_own) = replace_all(floor, sinking.values);
     if is_own {
-        (Some(floor), sinking.layers)
+        (Some(floor), sinking.layers, false)
     } else {
-        (Some(floor), layers)
+        (Some(floor), layers, true)
     }
 }
 

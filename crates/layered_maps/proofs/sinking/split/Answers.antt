@@ -1,25 +1,17 @@
-use Rattle.std.proofs.Common.{map, sym, ap, ◌∙◌, subst}
-use Rattle.layered_maps.specs.Layers.{pair, put_all, Rise}
-use Rattle.layered_maps.specs.Maps.{floor_pairs, stays}
-use Rattle.layered_maps.proofs.FoundPairs.{some_rise}
-use Rattle.layered_maps.proofs.OverPairs.{sunken_as}
+use Rattle.std.proofs.Common.{sym, ap, ◌∙◌, subst}
+use Rattle.std.specs.Result.{IfOk}
+use Rattle.layered_maps.specs.Layers.{put_all, Rise}
+use Rattle.layered_maps.specs.Maps.{floor_pairs}
+use Rattle.layered_maps.specs.Sinking.{IsSinking}
 use Rattle.layered_maps.proofs.sinking.split.Goals as goal
 
-pub of-requires : goal.of-requires
-of-requires g c =
-    let R = g.K.Ord.cmp in
-    let es = map pair c.entries.result.now in
-    subst (Rise R) (sym c.in_ok-rest.ensures.rest)
-    (some_rise R g.met.K.Ord.total (stays R c.args.layers.now c.deref.result.now) es
-    (subst (Rise R) (sym c.entries.ensures.pairs) c.entries.ensures.rising))
+pub split_over-requires-clause-floor : goal.split_over-requires-clause-floor
+split_over-requires-clause-floor g c =
+    subst (Rise g.K.Ord.cmp) (sym (c.deref.ensures ∙ ap floor_pairs (sym c.in-Some.is))) c.requires.floor
 
 pub returns : goal.returns
 returns g c =
     let R = g.K.Ord.cmp in
-    let layers = c.args.layers.now in
-    sunken_as g.V.Keyed.key R g.met.K.Ord.total c.requires.exact c.args.run.now layers
-    (floor_pairs c.args.floor.now) (map pair c.entries.result.now) c.deref.result.now c.in_ok-layers.layers
-    (map pair c.in_ok-rest.rest.items) c.in_ok-rest.values.items c.entries.ensures.pairs
-    (c.deref.ensures ∙ ap floor_pairs (sym c.in-Some.is)) c.in_ok-rest.ensures.rest c.in_ok-rest.ensures.values
-    (c.in_ok-layers.ensures ∙ ap (λ l. put_all R l layers) c.of.ensures)
-    c.entries.ensures.rising c.requires.run c.requires.layers c.requires.floor
+    let all = put_all R c.args.run.now c.args.layers.now in
+    subst (λ f. IfOk c.split_over.result (λ s. IsSinking g.V.Keyed.key R s all f))
+    (c.deref.ensures ∙ ap floor_pairs (sym c.in-Some.is)) c.split_over.ensures
