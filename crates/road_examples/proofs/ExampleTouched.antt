@@ -1,6 +1,6 @@
--- The ways that a change touches, on a chain of five ways.
+-- The ways that a change touches, on a chain of six ways.
 --
--- 1 --- w1 --- 2 --- w2 --- 3 --- w3 --- 4 --- w4 --- 5 --- w5 --- 6
+-- 1 --- w1 --- 2 --- w2 --- 3 --- w3 --- 4 --- w4 --- 5 --- w5 --- 6 --- w6 --- 7
 use Rattle.std.proofs.Common.{◌≡◌, ℕ, zero, suc, pos, ◌+◌, ◌*◌, ◌≤◌, List, [], ◌∷◌, ◌⊎◌, inl, inr, refl, sym, ap, subst}
 use Rattle.std.proofs.Common.{arith, Option, Some, None, Bool, true, false, Contains, codes, lit<}
 use Rattle.std.specs.Ordering.{int_eq}
@@ -26,7 +26,7 @@ use Rattle.road_examples.proofs.ExampleMaps.{way_shown, relation_shown}
 abbrev chain : TagList → List (Key × Entry)
 chain tags =
     way_entry 1 tags 1 2 ∷ way_entry 2 residential 2 3 ∷ way_entry 3 residential 3 4
-    ∷ way_entry 4 residential 4 5 ∷ way_entry 5 residential 5 6 ∷ []
+    ∷ way_entry 4 residential 4 5 ∷ way_entry 5 residential 5 6 ∷ way_entry 6 residential 6 7 ∷ []
 
 -- the first way's tags may change
 abbrev chain_map : TagList → Objects
@@ -78,7 +78,8 @@ beside_shown tags w n b (inr (inl a)) h = beside_at residential 2 3 w n b refl a
 beside_shown tags w n b (inr (inr (inl a))) h = beside_at residential 3 4 w n b refl a.0 a.1 h
 beside_shown tags w n b (inr (inr (inr (inl a)))) h = beside_at residential 4 5 w n b refl a.0 a.1 h
 beside_shown tags w n b (inr (inr (inr (inr (inl a))))) h = beside_at residential 5 6 w n b refl a.0 a.1 h
-beside_shown tags w n b (inr (inr (inr (inr (inr none))))) h = absurd none
+beside_shown tags w n b (inr (inr (inr (inr (inr (inl a)))))) h = beside_at residential 6 7 w n b refl a.0 a.1 h
+beside_shown tags w n b (inr (inr (inr (inr (inr (inr none)))))) h = absurd none
 
 beside : (tags : TagList) (w : WayId) (n : NodeId) → RefersTo (chain_map tags) w n → Beside w n
 beside tags w n r = beside_shown tags w n r.body (way_is tags w r.body r.is) r.member
@@ -136,7 +137,7 @@ first_changed : Differs before after (WayKey (way 1))
 unfolding visible
 first_changed h = false≢true (ap (λ (o : Option Body). is_service (way_in o)) (simp looked_up at h))
 
--- ---- the ways within six links of way 1
+-- ---- the ways within eight links of way 1
 
 ends : (w a b : ℕ) → way_of before (way w) ≡ Some (way_body residential a b) →
     RefersTo before (way w) (node a) × RefersTo before (way w) (node b)
@@ -159,48 +160,54 @@ third_within : IsWithin before 4 (WayKey (way 1)) (WayKey (way 3))
 unfolding way_of visible
 third_within = next_way 2 2 2 3 3 4 (simp looked_up refl) (simp looked_up refl) second_within
 
-fourth_near : IsNear before (WayKey (way 1)) (way 4)
+fourth_within : IsWithin before 6 (WayKey (way 1)) (WayKey (way 4))
 unfolding way_of visible
-fourth_near = next_way 4 3 3 4 4 5 (simp looked_up refl) (simp looked_up refl) third_within
+fourth_within = next_way 4 3 3 4 4 5 (simp looked_up refl) (simp looked_up refl) third_within
+
+fifth_near : IsNear before (WayKey (way 1)) (way 5)
+unfolding way_of visible
+fifth_near = next_way 6 4 4 5 5 6 (simp looked_up refl) (simp looked_up refl) fourth_within
 
 touched : (w : WayId) (i : ℕ) → IsNear before (WayKey (way 1)) (way i) → w ≡ way i → IsTouched before after w
 touched w i h e = subst (IsTouched before after) (sym e) (WayKey (way 1), first_changed, inl h)
 
--- way 5 is eight links away
-fifth_not_near : (tags : TagList) → IsNear (chain_map tags) (WayKey (way 1)) (way 5) → ⊥
-fifth_not_near tags h = let l = within tags 6 (WayKey (way 1)) (WayKey (way 5)) h in omega arith
+-- way 6 is ten links away
+sixth_not_near : (tags : TagList) → IsNear (chain_map tags) (WayKey (way 1)) (way 6) → ⊥
+sixth_not_near tags h = let l = within tags 8 (WayKey (way 1)) (WayKey (way 6)) h in omega arith
 
-abbrev first_four : List WayId
-first_four = way 1 ∷ way 2 ∷ way 3 ∷ way 4 ∷ []
+abbrev first_five : List WayId
+first_five = way 1 ∷ way 2 ∷ way 3 ∷ way 4 ∷ way 5 ∷ []
 
 near_shown : (tags : TagList) (w : WayId) (b : Way) → IsNear (chain_map tags) (WayKey (way 1)) w →
-    ShowWay (chain tags) w b → In w first_four
+    ShowWay (chain tags) w b → In w first_five
 near_shown tags w b h (inl a) = inl a.0
 near_shown tags w b h (inr (inl a)) = inr (inl a.0)
 near_shown tags w b h (inr (inr (inl a))) = inr (inr (inl a.0))
 near_shown tags w b h (inr (inr (inr (inl a)))) = inr (inr (inr (inl a.0)))
-near_shown tags w b h (inr (inr (inr (inr (inl a))))) =
-    absurd (fifth_not_near tags (subst (IsNear (chain_map tags) (WayKey (way 1))) a.0 h))
-near_shown tags w b h (inr (inr (inr (inr (inr none))))) = absurd none
+near_shown tags w b h (inr (inr (inr (inr (inl a))))) = inr (inr (inr (inr (inl a.0))))
+near_shown tags w b h (inr (inr (inr (inr (inr (inl a)))))) =
+    absurd (sixth_not_near tags (subst (IsNear (chain_map tags) (WayKey (way 1))) a.0 h))
+near_shown tags w b h (inr (inr (inr (inr (inr (inr none)))))) = absurd none
 
-near_among : (tags : TagList) (w : WayId) → IsNear (chain_map tags) (WayKey (way 1)) w → In w first_four
+near_among : (tags : TagList) (w : WayId) → IsNear (chain_map tags) (WayKey (way 1)) w → In w first_five
 near_among tags w h =
-    elim (reached tags 6 (WayKey (way 1)) w h) [ inl e ↦ inl (cc) | inr s ↦ near_shown tags w s.0 h s.1 ]
+    elim (reached tags 8 (WayKey (way 1)) w h) [ inl e ↦ inl (cc) | inr s ↦ near_shown tags w s.0 h s.1 ]
 
-all_touched : (w : WayId) → IsTouched before after w → In w first_four
+all_touched : (w : WayId) → IsTouched before after w → In w first_five
 all_touched w (k, d, inl h) = near_among residential w (subst (λ x. IsNear before x w) (changed_alone k d) h)
 all_touched w (k, d, inr h) = near_among service w (subst (λ x. IsNear after x w) (changed_alone k d) h)
 
-each_touched : (w : WayId) → In w first_four → IsTouched before after w
-each_touched w (inl e) = touched w 1 (inl (inl (inl (inl (inl (inl refl)))))) e
-each_touched w (inr (inl e)) = touched w 2 (inl (inl (inl (inl second_within)))) e
-each_touched w (inr (inr (inl e))) = touched w 3 (inl (inl third_within)) e
-each_touched w (inr (inr (inr (inl e)))) = touched w 4 fourth_near e
-each_touched w (inr (inr (inr (inr none)))) = absurd none
+each_touched : (w : WayId) → In w first_five → IsTouched before after w
+each_touched w (inl e) = touched w 1 (inl (inl (inl (inl (inl (inl (inl (inl refl)))))))) e
+each_touched w (inr (inl e)) = touched w 2 (inl (inl (inl (inl (inl (inl second_within)))))) e
+each_touched w (inr (inr (inl e))) = touched w 3 (inl (inl (inl (inl third_within)))) e
+each_touched w (inr (inr (inr (inl e)))) = touched w 4 (inl (inl fourth_within)) e
+each_touched w (inr (inr (inr (inr (inl e))))) = touched w 5 fifth_near e
+each_touched w (inr (inr (inr (inr (inr none))))) = absurd none
 
-touched_are : AreTouched before after first_four
+touched_are : AreTouched before after first_five
 touched_are = record {
   ascending = refl;
-  sound = λ w h. each_touched w (in_from_contains first_four w h);
-  complete = λ w h. contains_from_in first_four w (all_touched w h);
+  sound = λ w h. each_touched w (in_from_contains first_five w h);
+  complete = λ w h. contains_from_in first_five w (all_touched w h);
 }
