@@ -1,27 +1,5 @@
--- Departures: what they are, and those over one way more.
-use Rattle.std.proofs.Common.{
-  ◌≡◌,
-  ℕ,
-  ◌+◌,
-  ◌<◌,
-  inl,
-  inr,
-  List,
-  length,
-  map,
-  take,
-  get_or,
-  slice_get,
-  Contains,
-  Some,
-  IsTrue,
-  refl,
-  sym,
-  ap,
-  subst,
-  ◌∙◌,
-}
-use Rattle.std.specs.Ordering.{is_lt}
+-- Departures: what they are, and over which ways one departs.
+use Rattle.std.proofs.Common.{◌≡◌, ℕ, slice_get, Some, IsTrue, refl, sym, ap, subst, ◌∙◌}
 use Rattle.road_base.specs.declared.ids.NodeId.{NodeId}
 use Rattle.road_base.specs.declared.ids.WayId.{WayId}
 use Rattle.road_base.specs.Objects.{Objects}
@@ -31,17 +9,11 @@ use Rattle.road_model.specs.Lines.{node_at, tail_position}
 use Rattle.road_model.specs.Driving.{is_road, drivable}
 use Rattle.road_model.specs.Pieces.{spell}
 use Rattle.road_model.specs.Links.{RefersTo}
-use Rattle.ordered_lists.specs.Orders.{Lists, rises}
-use Rattle.road_model.specs.Orders.{way_cmp, name_cmp}
 use Rattle.way_pieces.specs.declared.departures.Departure.{Departure}
 use Rattle.way_pieces.specs.Names.{IsNameFrom, IsDeparture}
-use Rattle.way_pieces.specs.Departures.{IsOver, Gains}
-use Rattle.ordered_lists.proofs.JoinedLists.{lists_extended, has_before, has_last, one_more}
-use Rattle.road_model.proofs.TotalOrders.{way_cmp_total}
+use Rattle.way_pieces.specs.Departures.{IsOver}
 use Rattle.way_pieces.proofs.FirstSteps.{stands, step_drives, head_there, front}
-use Rattle.way_pieces.proofs.AscendingLists.{taken_below}
 use Rattle.way_pieces.proofs.DrivenSteps.{drivable_parts, end_node, open_road}
-use Rattle.way_pieces.proofs.NameOrder.{way_first}
 
 module _ (M : Objects) (P : Rules) (v : NodeId) where
   module _ (d : Departure) (dep : IsDeparture M P v d) where
@@ -84,33 +56,7 @@ departs M P v n is =
       ),
     )
 
--- ---- way by way
-
 module _ (M : Objects) (P : Rules) (v : NodeId) where
-  -- the departures over the ways so far
-  abbrev pub SoFar : List WayId → Departure → Type 0
-  SoFar ways z = Contains ways z.first.way × IsDeparture M P v z
-
-  -- one way more
-  pub way_gained : (ways : List WayId) (i : ℕ) (d : WayId) (xs ys : List Departure)
-      → IsTrue (rises way_cmp (map (λ w. w) ways)) → i < length ways
-      → Lists (λ z. z.piece) name_cmp (SoFar (take i ways)) xs → Gains (IsOver M P v (get_or ways i d)) xs ys
-      → Lists (λ z. z.piece) name_cmp (SoFar (take (i + 1) ways)) ys
-  way_gained ways i d xs ys up within before gained =
-      lists_extended (λ z. z.piece) name_cmp (SoFar (take i ways)) (IsOver M P v (get_or ways i d))
-      (SoFar (take (i + 1) ways)) xs gained.more ys gained.appended before gained.listed
-      (λ a b so over.
-      let less = taken_below way_cmp way_cmp_total ways up i d a.first.way within so.0 in
-      way_first a.piece b.piece
-      (subst (λ w. IsTrue (is_lt (way_cmp w b.piece.way))) (sym (name_way M P v a so.1))
-      (subst (λ w. IsTrue (is_lt (way_cmp a.first.way w))) (sym (name_way M P v b over.1 ∙ over.0)) less)))
-      (λ z so. (has_before ways i d z.first.way within so.0, so.1))
-      (λ z over. (has_last ways i d z.first.way within over.0, over.1))
-      (λ z so. elim (one_more ways i d z.first.way within so.0) [
-        | inl same ↦ inr (same, so.1)
-        | inr less ↦ inl (less, so.1)
-      ])
-
   -- where a road refers to the nodes that it passes, the departure's way refers to the node
   pub passes : (z : Departure) → IsDeparture M P v z
       → ((w : WayId) (i : ℕ) (u : NodeId) → IsTrue (is_road M P w) → node_at M w i ≡ Some u → RefersTo M w u)

@@ -5,8 +5,13 @@ pub mod NameOrder
 pub mod SpanOrder
 pub mod FirstSteps
 pub mod DepartureLists
+pub mod WaysSoFar
+pub mod AtNodes
 pub mod StartOrder
+pub mod StopOrder
+pub mod ArrivalLists
 pub mod CutRoads
 pub mod KeptLists
 pub mod ListedDirections
+pub mod LastPlaces
 pub mod ListedPieces

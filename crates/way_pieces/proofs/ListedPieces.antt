@@ -1,6 +1,6 @@
--- The pieces that a block lists are those of the way, and they start where its line says.
-use Rattle.std.proofs.Common.{◌≡◌, ℕ, ◌+◌, ◌-◌, ◌<◌, List, [], ◌∷◌, length, map, filter_map, slice_get, Some, IsTrue}
-use Rattle.std.proofs.Common.{Contains, inl, inr, refl, sym, ap, subst, ◌∙◌, arith}
+-- The pieces that a block lists are those of the way, and they start and end where its line says.
+use Rattle.std.proofs.Common.{◌≡◌, ℕ, suc, ◌+◌, ◌-◌, ◌<◌, List, [], ◌∷◌, length, map, filter_map, slice_get, Option, Some}
+use Rattle.std.proofs.Common.{IsTrue, Contains, inl, inr, refl, sym, ap, subst, ◌∙◌, arith}
 use Rattle.std.specs.List.{cons_option}
 use Rattle.std.specs.List.Sorted.{IsSortedByKey, IsStableByKey}
 use Rattle.road_base.specs.declared.ids.NodeId.{NodeId}
@@ -20,16 +20,21 @@ use Rattle.road_model.specs.Orders.{node_cmp, name_cmp}
 use Rattle.way_lines.specs.declared.road_line.LineNode.{LineNode}
 use Rattle.way_lines.specs.RoadLines.{line_node}
 use Rattle.way_pieces.specs.declared.spans.PieceSpan.{PieceSpan}
-use Rattle.way_pieces.specs.declared.starts.Start.{Start}
-use Rattle.way_pieces.specs.Listed.{listed_span, start_along, listed_start}
+use Rattle.way_pieces.specs.declared.arrivals.Arrival.{Arrival}
+use Rattle.way_pieces.specs.declared.at_nodes.AtNode.{AtNode}
+use Rattle.way_pieces.specs.declared.departures.Departure.{Departure}
+use Rattle.way_pieces.specs.Listed.{listed_span, start_along, listed_start, stop_along, listed_stop}
 use Rattle.way_pieces.specs.Names.{IsSpanOn, piece_of}
-use Rattle.way_pieces.specs.RoadPieces.{AreSpans, AreStarts}
+use Rattle.way_pieces.specs.RoadPieces.{AreSpans, AreStarts, AreStops}
 use Rattle.way_pieces.specs.Starts.{node_in, start_on}
+use Rattle.way_pieces.specs.Stops.{stop_on}
 use Rattle.ordered_lists.proofs.ListMembers.{In, contains_map, contains_from_map, contains_from_in}
 use Rattle.road_model.proofs.UniqueEntries.{one_piece}
 use Rattle.road_model.proofs.TotalOrders.{name_cmp_total, node_cmp_total, node_cmp_exact}
 use Rattle.junctions.proofs.Positions.{some_same}
+use Rattle.way_pieces.proofs.LastPlaces.{last_two}
 use Rattle.way_pieces.proofs.StartOrder.{span, there, line_by, within, are_starts}
+use Rattle.way_pieces.proofs.StopOrder.{are_stops}
 
 names_listed : (es : List Piece) → map (λ e. e.name) es ≡ map (λ s. s.name) (map listed_span es)
 names_listed [] = refl
@@ -71,7 +76,7 @@ module _ (M : Objects) (P : Rules) (w : WayId) where
       complete = span_complete;
     }
 
--- ---- where they start
+-- ---- where they start and end
 
 module _ (M : Objects) (P : Rules) (nodes : List LineNode) (w : WayId)
     (line : nodes ≡ map (line_node M P) (line_of M w)) where
@@ -92,7 +97,7 @@ module _ (M : Objects) (P : Rules) (nodes : List LineNode) (w : WayId)
       let to = same_place (i + 1) (i + 1) y.node (omega arith) refl (each 1 y refl) in
       λ z. Some (record {
         node = from z;
-        departure = record {
+        item = record {
           piece = record { way = w; index = i; dir = Forward };
           first = record { way = w; index = i; dir = Forward };
           toward = to z;
@@ -103,20 +108,40 @@ module _ (M : Objects) (P : Rules) (nodes : List LineNode) (w : WayId)
       let to = same_place (j - 1) (j - 1) y.node (omega arith) refl (each 1 y refl) in
       λ z. Some (record {
         node = from z;
-        departure = record {
+        item = record {
           piece = record { way = w; index = i; dir = Backward };
           first = record { way = w; index = j - 1; dir = Backward };
           toward = to z;
         };
       })
 
-starts_read : (nodes : List LineNode) (es : List Piece)
-    → ((e : Piece) → In e es → listed_start e ≡ Some (start_on nodes (listed_span e)))
-    → filter_map listed_start es ≡ map (start_on nodes) (map listed_span es)
-starts_read nodes [] each = refl
-starts_read nodes (e ∷ es) each =
-    ap (λ o. cons_option o (filter_map listed_start es)) (each e (inl refl))
-    ∙ ap (λ l. start_on nodes (listed_span e) ∷ l) (starts_read nodes es (λ f i. each f (inr i)))
+  stop_read : (i j : ℕ) (d : Dir) (places : List Place) → i < j → j < length nodes → length places ≡ j - i + 1
+      → ((k : ℕ) (x : Place) → slice_get places k ≡ Some x
+      → node_at M w (place_position (record { way = w; index = i; end = j; dir = d }) k) ≡ Some x.node)
+      → stop_along (span w i j d) places ≡ Some (stop_on nodes (span w i j d))
+  stop_read i j Forward places up inside count each =
+      let r = last_two (span w i j Forward) places (j - i - 1) (omega arith) in
+      let from = same_place (i + (j - i - 1)) (j - 1) (r.from).node (omega arith) (omega arith)
+      (each (j - i - 1) r.from r.before) in
+      let to = same_place (i + (suc (j - i - 1))) j (r.to).node (omega arith) (omega arith)
+      (each (suc (j - i - 1)) r.to r.last) in
+      r.read ∙ (λ z. Some (record { node = to z; item = record { span = span w i j Forward; from = from z } }))
+  stop_read i j Backward places up inside count each =
+      let r = last_two (span w i j Backward) places (j - i - 1) (omega arith) in
+      let from = same_place (j - (j - i - 1)) (i + 1) (r.from).node (omega arith) (omega arith)
+      (each (j - i - 1) r.from r.before) in
+      let to = same_place (j - (suc (j - i - 1))) i (r.to).node (omega arith) (omega arith)
+      (each (suc (j - i - 1)) r.to r.last) in
+      r.read ∙ (λ z. Some (record { node = to z; item = record { span = span w i j Backward; from = from z } }))
+
+-- what is read of each piece
+all_read : {A : Type 0} (read : Piece → Option A) (on : PieceSpan → A) (es : List Piece)
+    → ((e : Piece) → In e es → read e ≡ Some (on (listed_span e)))
+    → filter_map read es ≡ map on (map listed_span es)
+all_read read on [] each = refl
+all_read {A = A} read on (e ∷ es) each =
+    ap (λ o. cons_option o (filter_map read es)) (each e (inl refl))
+    ∙ ap (λ (l : List A). on (listed_span e) ∷ l) (all_read read on es (λ f i. each f (inr i)))
 
 module _ (M : Objects) (P : Rules) (w : WayId) where
   abbrev nodes : List LineNode
@@ -133,13 +158,35 @@ module _ (M : Objects) (P : Rules) (w : WayId) where
       (subst (λ (p : Span). (k : ℕ) (x : Place) → slice_get e.places k ≡ Some x
       → node_at M p.way (place_position p k) ≡ Some x.node) (listed_is M P w e is) is.nodes)
 
+  -- and ends there
+  stop_is : (e : Piece) → IsListedPiece M P w e → listed_stop e ≡ Some (stop_on nodes (listed_span e))
+  stop_is e is =
+      let on = listed_on M P w e is in
+      let fits = within M P w nodes (λ road. refl) (listed_span e) on in
+      stop_read M P nodes e.name.way (line_by M P w nodes (λ road. refl) (listed_span e) on)
+      e.name.index e.end e.name.dir e.places fits.0 fits.1
+      (is.count ∙ ap (λ (p : Span). p.end - p.index + 1) (listed_is M P w e is))
+      (subst (λ (p : Span). (k : ℕ) (x : Place) → slice_get e.places k ≡ Some x
+      → node_at M p.way (place_position p k) ≡ Some x.node) (listed_is M P w e is) is.nodes)
+
   -- the starts that are read, sorted
-  pub starts_listed : (b : Block) → ListsPieces M P w b → (old new : List Start)
+  pub starts_listed : (b : Block) → ListsPieces M P w b → (old new : List (AtNode Departure))
       → old ≡ filter_map listed_start b.pieces → IsSortedByKey (λ s. s.node) node_cmp new
       → IsStableByKey (λ s. s.node) node_cmp old new → AreStarts M P w new
   starts_listed b lists old new made sorted stable =
       are_starts M P w name_cmp_total node_cmp_total node_cmp_exact nodes (λ road. refl) (map listed_span b.pieces)
       (are_listed M P w b lists) old new
-      (made ∙ starts_read nodes b.pieces
+      (made ∙ all_read listed_start (start_on nodes) b.pieces
       (λ e i. start_is e (lists.sound e (contains_from_in b.pieces e i))))
+      sorted stable
+
+  -- the ends that are read, sorted
+  pub stops_listed : (b : Block) → ListsPieces M P w b → (old new : List (AtNode Arrival))
+      → old ≡ filter_map listed_stop b.pieces → IsSortedByKey (λ s. s.node) node_cmp new
+      → IsStableByKey (λ s. s.node) node_cmp old new → AreStops M P w new
+  stops_listed b lists old new made sorted stable =
+      are_stops M P w name_cmp_total node_cmp_total node_cmp_exact nodes (λ road. refl) (map listed_span b.pieces)
+      (are_listed M P w b lists) old new
+      (made ∙ all_read listed_stop (stop_on nodes) b.pieces
+      (λ e i. stop_is e (lists.sound e (contains_from_in b.pieces e i))))
       sorted stable

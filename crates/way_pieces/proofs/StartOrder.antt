@@ -1,36 +1,10 @@
--- The starts of a way's pieces are its departures, and those of a node stand together once they are sorted.
-use Rattle.std.proofs.Common.{
-  ◌≡◌,
-  ℕ,
-  suc,
-  ◌+◌,
-  ◌-◌,
-  ◌<◌,
-  Bool,
-  true,
-  List,
-  [],
-  ◌∷◌,
-  length,
-  map,
-  get_or,
-  pos,
-  Some,
-  IsTrue,
-  Contains,
-  refl,
-  sym,
-  ap,
-  subst,
-  ◌∙◌,
-  arith,
-}
-use Rattle.std.specs.Ordering.{is_eq}
-use Rattle.std.specs.Cmp.{IsTotalOrder, Equal-is}
+-- The starts of a way's pieces are its departures.
+use Rattle.std.proofs.Common.{◌≡◌, ℕ, suc, ◌+◌, ◌-◌, ◌<◌, List, ◌∷◌, length, map, get_or, Some, IsTrue, refl, sym, ap}
+use Rattle.std.proofs.Common.{subst, ◌∙◌, arith}
+use Rattle.std.specs.Cmp.{IsTotalOrder}
 use Rattle.std.specs.FinMap.{IsAntisymmetric}
-use Rattle.std.specs.List.{All, filter}
+use Rattle.std.specs.List.{All}
 use Rattle.std.specs.List.Sorted.{IsSortedByKey, IsStableByKey}
-use Rattle.std.proofs.lemmas.Cmp.{tied_itself}
 use Rattle.std.proofs.lemmas.List.Elements.{Contains-get_or}
 use Rattle.road_base.specs.declared.ids.NodeId.{NodeId}
 use Rattle.road_base.specs.declared.ids.WayId.{WayId}
@@ -39,36 +13,24 @@ use Rattle.road_base.specs.declared.ids.Dir.{Dir}
 use Rattle.road_base.specs.declared.ids.Dir.TheVariants.{Forward, Backward}
 use Rattle.road_base.specs.Objects.{Objects}
 use Rattle.road_model.specs.Rules.{Rules}
-use Rattle.road_model.specs.Lines.{
-  same_node,
-  line_of,
-  node_at,
-  tail_of,
-  head_of,
-  forward_steps,
-  backward_steps,
-  steps_from,
-}
+use Rattle.road_model.specs.Lines.{line_of, node_at, tail_of, head_of, forward_steps, backward_steps, steps_from}
 use Rattle.road_model.specs.Driving.{is_road}
 use Rattle.way_lines.specs.declared.road_line.LineNode.{LineNode}
 use Rattle.way_lines.specs.RoadLines.{line_node}
-use Rattle.ordered_lists.specs.Orders.{Lists, rises}
+use Rattle.ordered_lists.specs.Orders.{Lists}
 use Rattle.road_model.specs.Orders.{node_cmp, name_cmp}
 use Rattle.way_pieces.specs.declared.spans.PieceSpan.{PieceSpan}
 use Rattle.way_pieces.specs.declared.departures.Departure.{Departure}
-use Rattle.way_pieces.specs.declared.starts.Start.{Start}
+use Rattle.way_pieces.specs.declared.at_nodes.AtNode.{AtNode}
 use Rattle.way_pieces.specs.Names.{IsDeparture, IsSpanOn, piece_of}
 use Rattle.way_pieces.specs.Departures.{IsOver}
 use Rattle.way_pieces.specs.RoadPieces.{AreStarts}
-use Rattle.way_pieces.specs.Starts.{IsWithin, no_node, node_in, start_toward, start_on, leaving}
+use Rattle.way_pieces.specs.Starts.{IsWithin, no_node, node_in, start_toward, start_on}
+use Rattle.way_pieces.proofs.AtNodes.{by_node}
 use Rattle.way_pieces.proofs.SpanOrder.{span_of}
-use Rattle.ordered_lists.proofs.ListMembers.{contains_map, contains_from_map}
-use Rattle.ordered_lists.proofs.FilteredLists.{contains_filter, contains_from_filter}
-use Rattle.ordered_lists.proofs.SortedParts.{kept_by_sort}
 use Rattle.ordered_lists.proofs.Splits.{same_head}
 use Rattle.way_pieces.proofs.DepartureLists.{name_way}
 use Rattle.way_pieces.proofs.DrivenSteps.{as_long, named_end, node_there, piece_last, piece_road}
-use Rattle.ordered_lists.proofs.AscendingLists.{rises_kept}
 use Rattle.junctions.proofs.Positions.{some_same}
 
 -- ---- what a start has of its piece
@@ -76,17 +38,17 @@ use Rattle.junctions.proofs.Positions.{some_same}
 abbrev pub span : WayId → ℕ → ℕ → Dir → PieceSpan
 span w i j d = record { name = record { way = w; index = i; dir = d }; end = j }
 
-name_is : (nodes : List LineNode) (s : PieceSpan) (d : Dir) → (start_toward nodes s d).departure.piece ≡ s.name
+name_is : (nodes : List LineNode) (s : PieceSpan) (d : Dir) → (start_toward nodes s d).item.piece ≡ s.name
 name_is nodes s Forward = refl
 name_is nodes s Backward = refl
 
-way_is : (nodes : List LineNode) (s : PieceSpan) (d : Dir) → (start_toward nodes s d).departure.first.way ≡ s.name.way
+way_is : (nodes : List LineNode) (s : PieceSpan) (d : Dir) → (start_toward nodes s d).item.first.way ≡ s.name.way
 way_is nodes s Forward = refl
 way_is nodes s Backward = refl
 
 -- a piece begins with its start's step
 begins_with : (nodes : List LineNode) (w : WayId) (i j : ℕ) (d : Dir) → i < j
-    → (more : List Step) × (steps_from w i (j - i) d ≡ (start_on nodes (span w i j d)).departure.first ∷ more)
+    → (more : List Step) × (steps_from w i (j - i) d ≡ (start_on nodes (span w i j d)).item.first ∷ more)
 begins_with nodes w i j Forward up =
     let n : j - i ≡ suc (j - i - 1) = omega arith in
     (forward_steps w (i + 1) (j - i - 1), ap (λ k. forward_steps w i k) n)
@@ -101,14 +63,14 @@ begins_with nodes w i j Backward up =
 
 module _ (M : Objects) (P : Rules) (nodes : List LineNode) (w : WayId)
     (line : nodes ≡ map (line_node M P) (line_of M w)) where
-  line_within : (k : ℕ) → k < length nodes → k < length (line_of M w)
+  pub line_within : (k : ℕ) → k < length nodes → k < length (line_of M w)
   line_within k within = let same = as_long M P w nodes line in omega arith
 
   pub there : (k : ℕ) → k < length nodes → node_at M w k ≡ Some (node_in nodes k)
   there k within = node_there M P w nodes line k no_node within
 
   leaves : (i j : ℕ) (d : Dir) → i < j → j < length nodes
-      → tail_of M (start_on nodes (span w i j d)).departure.first ≡ Some (start_on nodes (span w i j d)).node
+      → tail_of M (start_on nodes (span w i j d)).item.first ≡ Some (start_on nodes (span w i j d)).node
   leaves i j Forward up within =
       named_end M (record { way = w; index = i; dir = Forward }) i (line_within (i + 1) (omega arith))
       ∙ there i (omega arith)
@@ -119,8 +81,8 @@ module _ (M : Objects) (P : Rules) (nodes : List LineNode) (w : WayId)
       ∙ subst (λ k. node_at M w k ≡ Some (node_in nodes j)) same (there j within)
 
   toward : (i j : ℕ) (d : Dir) → i < j → j < length nodes
-      → head_of M (start_on nodes (span w i j d)).departure.first
-      ≡ Some (start_on nodes (span w i j d)).departure.toward
+      → head_of M (start_on nodes (span w i j d)).item.first
+      ≡ Some (start_on nodes (span w i j d)).item.toward
   toward i j Forward up within =
       named_end M (record { way = w; index = i; dir = Forward }) (i + 1) (line_within (i + 1) (omega arith))
       ∙ there (i + 1) (omega arith)
@@ -149,7 +111,7 @@ module _ (M : Objects) (P : Rules) (w : WayId) (nodes : List LineNode)
 
   -- a piece's start is a departure
   start_departs : (s : PieceSpan) → IsSpanOn M P w s
-      → IsDeparture M P (start_on nodes s).node (start_on nodes s).departure
+      → IsDeparture M P (start_on nodes s).node (start_on nodes s).item
   start_departs s on =
       let fits = within s on in
       let opening = begins_with nodes s.name.way s.name.index s.end s.name.dir fits.0 in
@@ -163,7 +125,7 @@ module _ (M : Objects) (P : Rules) (w : WayId) (nodes : List LineNode)
         toward = toward M P nodes s.name.way (line_by s on) s.name.index s.end s.name.dir fits.0 fits.1;
       }
 
-  start_over : (s : PieceSpan) → IsSpanOn M P w s → IsOver M P (start_on nodes s).node w (start_on nodes s).departure
+  start_over : (s : PieceSpan) → IsSpanOn M P w s → IsOver M P (start_on nodes s).node w (start_on nodes s).item
   start_over s on = (way_is nodes s s.name.dir ∙ on.of, start_departs s on)
 
   -- each departure over the way is a piece's start
@@ -178,96 +140,23 @@ module _ (M : Objects) (P : Rules) (w : WayId) (nodes : List LineNode)
       is = (is_over.1).is;
     }
 
-    same_first : (start_on nodes own).departure.first ≡ z.first
+    same_first : (start_on nodes own).item.first ≡ z.first
     same_first =
         let opening = begins_with nodes own.name.way own.name.index own.end own.name.dir ((is_over.1).is).ascends in
-        same_head (start_on nodes own).departure.first z.first opening.0 (is_over.1).more
+        same_head (start_on nodes own).item.first z.first opening.0 (is_over.1).more
         (sym opening.1 ∙ (is_over.1).begins)
 
     same_start_node : (start_on nodes own).node ≡ v
     same_start_node = some_same (start_on nodes own).node v
         (sym (start_departs own own_span).leaves ∙ (ap (tail_of M) same_first ∙ (is_over.1).leaves))
 
-    same_departure : (start_on nodes own).departure ≡ z
+    same_departure : (start_on nodes own).item ≡ z
     same_departure =
-        let toward = some_same (start_on nodes own).departure.toward z.toward
+        let toward = some_same (start_on nodes own).item.toward z.toward
         (sym (start_departs own own_span).toward ∙ (ap (head_of M) same_first ∙ (is_over.1).toward)) in
-        let name : (start_on nodes own).departure.piece ≡ z.piece = name_is nodes own own.name.dir
+        let name : (start_on nodes own).item.piece ≡ z.piece = name_is nodes own own.name.dir
         ∙ sym (is_over.1).named in
         λ x. record { piece = name x; first = same_first x; toward = toward x }
-
--- ---- the starts of one node
-
-names_are : (nodes : List LineNode) (spans : List PieceSpan)
-    → map (λ t. t.departure.piece) (map (start_on nodes) spans) ≡ map (λ s. s.name) spans
-names_are nodes [] = refl
-names_are nodes (s ∷ ss) =
-    ap (λ n. n ∷ map (λ t. t.departure.piece) (map (start_on nodes) ss)) (name_is nodes s s.name.dir)
-    ∙ ap (λ l. s.name ∷ l) (names_are nodes ss)
-
-names_through : (ts : List Start) → map (λ t. t.departure.piece) ts ≡ map (λ d. d.piece) (map (λ t. t.departure) ts)
-names_through [] = refl
-names_through (t ∷ ts) = ap (λ l. t.departure.piece ∷ l) (names_through ts)
-
-module _ (M : Objects) (P : Rules) (w : WayId) (nodes : List LineNode)
-    (line : IsTrue (is_road M P w) → nodes ≡ map (line_node M P) (line_of M w)) (names : IsTotalOrder name_cmp)
-    (total : IsTotalOrder node_cmp) (exact : IsAntisymmetric node_cmp) (spans : List PieceSpan)
-    (lists : Lists (λ s. s.name) name_cmp (IsSpanOn M P w) spans) (v : NodeId) where
-  abbrev here : Start → Bool
-  here t = same_node t.node v
-
-  abbrev starts : List Start
-  starts = map (start_on nodes) spans
-
-  sound : (z : Departure) → Contains (leaving v starts) z → IsOver M P v w z
-  sound z has =
-      let t = contains_from_map (λ t. t.departure) (filter here starts) z has in
-      let passes = contains_from_filter here starts t.0 t.1 in
-      let s = contains_from_map (start_on nodes) spans t.0 passes.0 in
-      let over = start_over M P w nodes line s.0 (lists.sound s.0 s.1) in
-      let same : (start_on nodes s.0).node ≡ v = ap (λ (u : Start). u.node) (sym s.2)
-      ∙ exact (t.0).node v ((Equal-is _).0 passes.1) in
-      let departure : (start_on nodes s.0).departure ≡ z = ap (λ (u : Start). u.departure) (sym s.2)
-      ∙ sym t.2 in
-      subst (λ u. IsOver M P u w z) same (subst (IsOver M P (start_on nodes s.0).node w) departure over)
-
-  complete : (z : Departure) → IsOver M P v w z → Contains (leaving v starts) z
-  complete z is_over =
-      let s = own M P w nodes line v z is_over in
-      let has = contains_map (start_on nodes) spans s (lists.complete s (own_span M P w nodes line v z is_over)) in
-      let node = same_start_node M P w nodes line v z is_over in
-      let passes : here (start_on nodes s) ≡ true = ap (λ u. same_node u v) node ∙ ap is_eq (tied_itself total v) in
-      subst (Contains (leaving v starts)) (same_departure M P w nodes line v z is_over)
-      (contains_map (λ t. t.departure) (filter here starts) (start_on nodes s)
-      (contains_filter here starts (start_on nodes s) has passes))
-
-  pub starts_listed : Lists (λ d. d.piece) name_cmp (IsOver M P v w) (leaving v starts)
-  starts_listed = record {
-    ascending = subst (λ l. IsTrue (rises name_cmp l)) (names_through (filter here starts))
-        (rises_kept (λ t. t.departure.piece) name_cmp names here starts
-        (subst (λ l. IsTrue (rises name_cmp l)) (sym (names_are nodes spans)) lists.ascending));
-    sound = sound;
-    complete = complete;
-  }
-
--- ---- sorted by node
-
--- some start at the node
-abbrev pub start_at : NodeId → Start
-start_at v = record {
-  node = v;
-  departure = record {
-    piece = record { way = record { 0 = pos 0 }; index = 0; dir = Forward };
-    first = record { way = record { 0 = pos 0 }; index = 0; dir = Forward };
-    toward = v;
-  };
-}
-
--- a stable sort leaves the starts of each node as they were
-pub leaving_kept : IsTotalOrder node_cmp → (v : NodeId) (xs ys : List Start)
-    → IsStableByKey (λ s. s.node) node_cmp xs ys → leaving v xs ≡ leaving v ys
-leaving_kept total v xs ys stable = ap (λ (l : List Start). map (λ s. s.departure) l)
-    (kept_by_sort (λ (s : Start). s.node) node_cmp total (start_at v) xs ys stable)
 
 -- ---- the starts of a way
 
@@ -275,13 +164,17 @@ module _ (M : Objects) (P : Rules) (w : WayId) (names : IsTotalOrder name_cmp) (
     (exact : IsAntisymmetric node_cmp) where
   -- the starts of its pieces, sorted
   pub are_starts : (nodes : List LineNode) → (IsTrue (is_road M P w) → nodes ≡ map (line_node M P) (line_of M w))
-      → (spans : List PieceSpan) → Lists (λ s. s.name) name_cmp (IsSpanOn M P w) spans → (old new : List Start)
-      → old ≡ map (start_on nodes) spans → IsSortedByKey (λ s. s.node) node_cmp new
-      → IsStableByKey (λ s. s.node) node_cmp old new → AreStarts M P w new
-  are_starts nodes line spans lists old new made sorted stable = record {
-    ascending = sorted;
-    exactly = λ v.
-        subst (λ (l : List Departure). Lists (λ d. d.piece) name_cmp (IsOver M P v w) l)
-        (sym (ap (leaving v) made) ∙ leaving_kept total v old new stable)
-        (starts_listed M P w nodes line names total exact spans lists v);
-  }
+      → (spans : List PieceSpan) → Lists (λ s. s.name) name_cmp (IsSpanOn M P w) spans
+      → (old new : List (AtNode Departure)) → old ≡ map (start_on nodes) spans
+      → IsSortedByKey (λ s. s.node) node_cmp new → IsStableByKey (λ s. s.node) node_cmp old new
+      → AreStarts M P w new
+  are_starts nodes line spans lists =
+      by_node (λ d. d.piece) (start_on nodes) (λ s. name_is nodes s s.name.dir) (λ v. IsOver M P v w) names total exact
+      (IsSpanOn M P w) spans lists (start_over M P w nodes line)
+      (λ v z over. (
+        own M P w nodes line v z over,
+        (
+          own_span M P w nodes line v z over,
+          (same_start_node M P w nodes line v z over, same_departure M P w nodes line v z over),
+        ),
+      ))

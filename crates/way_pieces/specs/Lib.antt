@@ -1,7 +1,10 @@
+pub mod Arrivals
+pub mod AtNodes
 pub mod Departures
 pub mod Known
 pub mod Listed
 pub mod Names
 pub mod RoadPieces
 pub mod Starts
+pub mod Stops
 pub mod Stretches

@@ -1,5 +1,5 @@
 -- Names of pieces, what one of them spells, and pieces with what their callers need of them.
-use Rattle.std.specs.Prelude.{◌≡◌, List, ◌∷◌, Some, slice_get}
+use Rattle.std.specs.Prelude.{◌≡◌, List, [], ◌∷◌, ◌++◌, Some, slice_get}
 use Rattle.road_base.specs.declared.ids.NodeId.{NodeId}
 use Rattle.road_base.specs.declared.ids.WayId.{WayId}
 use Rattle.road_base.specs.declared.ids.Step.{Step}
@@ -10,6 +10,7 @@ use Rattle.road_model.specs.Lines.{tail_of, head_of}
 use Rattle.road_model.specs.Pieces.{Span, IsPiece, spell}
 use Rattle.road_model.specs.Blocks.{name_of}
 use Rattle.way_pieces.specs.declared.spans.PieceSpan.{PieceSpan}
+use Rattle.way_pieces.specs.declared.arrivals.Arrival.{Arrival}
 use Rattle.way_pieces.specs.declared.departures.Departure.{Departure}
 
 -- the name is that of a piece of the way
@@ -57,3 +58,16 @@ pub record IsDeparture (M : Objects) (P : Rules) (v : NodeId) (d : Departure) : 
   pub begins : spell piece ≡ d.first ∷ more
   pub leaves : tail_of M d.first ≡ Some v
   pub toward : head_of M d.first ≡ Some d.toward
+
+-- the piece's last step leads from node u to node v
+pub record Arrives (M : Objects) (p : Span) (u v : NodeId) : Type 0 where
+  pub front : List Step
+  pub last : Step
+  pub ends : spell p ≡ front ++ last ∷ []
+  pub tail : tail_of M last ≡ Some u
+  pub head : head_of M last ≡ Some v
+
+-- a piece that comes to the node, with the node before its end
+pub record IsArrival (M : Objects) (P : Rules) (v : NodeId) (a : Arrival) : Type 0 where
+  pub is : IsPiece M P (piece_of a.span)
+  pub arrives : Arrives M (piece_of a.span) a.from v

@@ -1,18 +1,18 @@
--- The pieces of a way, its line, and the departures over it by the node that they leave.
+-- The pieces of a way, its line, and the departures and arrivals over it by their nodes.
 use Rattle.std.specs.Prelude.{◌≡◌, ◌≤◌, ℕ, ⊤, List, Option, Some, IfSome, length, slice_get}
-use Rattle.std.specs.List.Sorted.{IsSortedByKey}
-use Rattle.road_base.specs.declared.ids.NodeId.{NodeId}
 use Rattle.road_base.specs.declared.ids.WayId.{WayId}
 use Rattle.road_base.specs.Objects.{Objects}
 use Rattle.road_model.specs.Rules.{Rules}
 use Rattle.road_model.specs.Blocks.{ListsPieces}
 use Rattle.ordered_lists.specs.Orders.{Lists}
-use Rattle.road_model.specs.Orders.{node_cmp, name_cmp}
+use Rattle.road_model.specs.Orders.{name_cmp}
 use Rattle.way_lines.specs.declared.roads.Road.{Road}
 use Rattle.way_lines.specs.declared.road_line.RoadLine.{RoadLine}
 use Rattle.way_lines.specs.RoadLines.{AreRoads, IsRoad, IsRoadLine}
 use Rattle.way_pieces.specs.declared.spans.PieceSpan.{PieceSpan}
-use Rattle.way_pieces.specs.declared.starts.Start.{Start}
+use Rattle.way_pieces.specs.declared.arrivals.Arrival.{Arrival}
+use Rattle.way_pieces.specs.declared.at_nodes.AtNode.{AtNode}
+use Rattle.way_pieces.specs.declared.departures.Departure.{Departure}
 use Rattle.way_pieces.specs.declared.met_ways.PieceSource.{PieceSource}
 use Rattle.way_pieces.specs.declared.met_ways.PieceSource.TheVariants.{Own, Listed, Cut}
 use Rattle.way_pieces.specs.declared.met_ways.MetWay.{MetWay}
@@ -20,22 +20,27 @@ use Rattle.way_pieces.specs.declared.road_pieces.WayPieces.{WayPieces}
 use Rattle.way_pieces.specs.declared.road_pieces.CutRoad.{CutRoad}
 use Rattle.way_pieces.specs.declared.road_pieces.RoadPieces.{RoadPieces}
 use Rattle.way_pieces.specs.Names.{IsSpanOn}
+use Rattle.way_pieces.specs.Arrivals.{arriving, IsComingOver}
+use Rattle.way_pieces.specs.AtNodes.{AreByNode}
 use Rattle.way_pieces.specs.Departures.{IsOver}
-use Rattle.way_pieces.specs.Starts.{leaving}
 
 -- all pieces of the way, by position and forward before backward
 abbrev pub AreSpans : Objects → Rules → WayId → List PieceSpan → Type 0
 AreSpans M P w spans = Lists (λ s. s.name) name_cmp (IsSpanOn M P w) spans
 
--- the starts ascend by node, and those of a node are the departures over the way, ascending by name
-pub record AreStarts (M : Objects) (P : Rules) (w : WayId) (starts : List Start) : Type 0 where
-  pub ascending : IsSortedByKey (λ s. s.node) node_cmp starts
-  pub exactly : (v : NodeId) → Lists (λ d. d.piece) name_cmp (IsOver M P v w) (leaving v starts)
+-- the departures over the way by the node that they leave
+abbrev pub AreStarts : Objects → Rules → WayId → List (AtNode Departure) → Type 0
+AreStarts M P w starts = AreByNode (λ d. d.piece) (λ v. IsOver M P v w) starts
 
--- the pieces of the way, and where they start
+-- the arrivals over the way by the node where they end
+abbrev pub AreStops : Objects → Rules → WayId → List (AtNode Arrival) → Type 0
+AreStops M P w stops = AreByNode arriving (λ v. IsComingOver M P v w) stops
+
+-- the pieces of the way, and where they start and end
 pub record AreWayPieces (M : Objects) (P : Rules) (w : WayId) (t : WayPieces) : Type 0 where
   pub spans : AreSpans M P w t.spans.items
   pub starts : AreStarts M P w t.starts.items
+  pub stops : AreStops M P w t.stops.items
 
 -- where the pieces of the way are those that a block lists, it does list them
 abbrev pub IsSource : Objects → Rules → WayId → PieceSource → Type 0
@@ -58,12 +63,12 @@ pub record IsLineOf (M : Objects) (P : Rules) (w : WayId) (l : RoadLine) : Type 
 abbrev pub IsKeptLineOf : Objects → Rules → WayId → Option RoadLine → Type 0
 IsKeptLineOf M P w line = IfSome line (IsLineOf M P w)
 
--- the pieces of the way, where they start, and its line, where it is kept
+-- the pieces of the way, where they start and end, and its line, where it is kept
 pub record IsCutRoad (M : Objects) (P : Rules) (w : WayId) (c : CutRoad) : Type 0 where
   pub pieces : AreWayPieces M P w c.pieces
   pub line : IsKeptLineOf M P w c.line
 
--- the pieces of each road, where they start as far as that is kept, and its line where it is kept
+-- the pieces of each road, where they start and end as far as that is kept, and its line where it is kept
 pub record AreRoadPieces (M : Objects) (P : Rules) (p : RoadPieces) : Type 0 where
   pub roads : AreRoads M P p.roads
   pub span_count : length p.spans ≡ length p.roads.roads.items
@@ -71,10 +76,14 @@ pub record AreRoadPieces (M : Objects) (P : Rules) (p : RoadPieces) : Type 0 whe
       → slice_get p.roads.roads.items k ≡ Some road
       → slice_get p.spans k ≡ Some spans
       → AreSpans M P road.way spans
-  pub starts : (k : ℕ) (road : Road) (starts : List Start)
+  pub starts : (k : ℕ) (road : Road) (starts : List (AtNode Departure))
       → slice_get p.roads.roads.items k ≡ Some road
       → slice_get p.starts k ≡ Some starts
       → AreStarts M P road.way starts
+  pub stops : (k : ℕ) (road : Road) (stops : List (AtNode Arrival))
+      → slice_get p.roads.roads.items k ≡ Some road
+      → slice_get p.stops k ≡ Some stops
+      → AreStops M P road.way stops
   pub lines : (k : ℕ) (road : Road) (line : Option RoadLine)
       → slice_get p.roads.roads.items k ≡ Some road
       → slice_get p.lines.items k ≡ Some line

@@ -1,4 +1,4 @@
-//! The pieces of a way as its block lists them, where they start, and the directions in which the way is open.
+//! The pieces of a way as its block lists them, where they start and end, and the directions in which the way is open.
 ghost use Rattle.std.specs.Prelude.{◌≡◌, ◌↔◌, [], None, IfOk, IfSome, map};
 ghost use Rattle.std.specs.List.{filter_map, list_any};
 ghost use Rattle.road_base.specs.declared.ids.WayId.{WayId};
@@ -7,11 +7,13 @@ ghost use Rattle.road_model.specs.Rules.{Rules};
 ghost use Rattle.road_model.specs.Blocks.{ListsPieces};
 ghost use Rattle.way_lines.specs.RoadLines.{IsRoad};
 ghost use Rattle.way_pieces.specs.Listed.{first_index, goes, listed_span, start_along, listed_start};
-ghost use Rattle.way_pieces.specs.RoadPieces.{AreSpans, AreStarts};
+ghost use Rattle.way_pieces.specs.Listed.{stop_along, listed_stop};
+ghost use Rattle.way_pieces.specs.RoadPieces.{AreSpans, AreStarts, AreStops};
 
+use crate::arrivals::Arrival;
+use crate::at_nodes::{AtNode, put_in_order};
 use crate::departures::Departure;
 use crate::spans::PieceSpan;
-use crate::starts::{Start, put_in_order};
 use road_base::{Dir, NoMemory, Step, WayId};
 use road_model::{Block, Piece, Place};
 use std::alloc::Global;
@@ -83,7 +85,7 @@ fn listed_span(piece: &Piece) -> PieceSpan
 }
 
 /// Where the pieces start that the block lists, by node.
-pub fn starts_in(alloc: Global, block: &Block) -> Result<Vec<Start>, NoMemory>
+pub fn starts_in(alloc: Global, block: &Block) -> Result<Vec<AtNode<Departure>>, NoMemory>
     ensures { IfOk result (λ v. (M : Objects) (P : Rules) (w : WayId)
         → ListsPieces M P w block.now
         → AreStarts M P w v.items) }
@@ -94,7 +96,7 @@ pub fn starts_in(alloc: Global, block: &Block) -> Result<Vec<Start>, NoMemory>
 }
 
 /// Where each of the pieces starts that passes two nodes or more: all of them, in a graph.
-fn listed_starts(alloc: Global, pieces: &[Piece]) -> Result<Vec<Start>, NoMemory>
+fn listed_starts(alloc: Global, pieces: &[Piece]) -> Result<Vec<AtNode<Departure>>, NoMemory>
     ensures { IfOk result (λ v. v.items ≡ filter_map listed_start pieces.now) }
 {
     let mut starts = Vec::with_capacity(alloc, pieces.len())?;
@@ -107,15 +109,15 @@ fn listed_starts(alloc: Global, pieces: &[Piece]) -> Result<Vec<Start>, NoMemory
 }
 
 /// The start of the piece that passes these places, in order of travel.
-fn start_along(span: PieceSpan, places: &[Place]) -> Option<Start>
+fn start_along(span: PieceSpan, places: &[Place]) -> Option<AtNode<Departure>>
     ensures { result ≡ start_along span places.now }
 {
     let [from, to, ..] = places else {
         return None;
     };
-    Some(Start {
+    Some(AtNode {
         node: from.node,
-        departure: Departure {
+        item: Departure {
             piece: span.name,
             first: Step {
                 way: span.name.way,
@@ -123,6 +125,46 @@ fn start_along(span: PieceSpan, places: &[Place]) -> Option<Start>
                 dir: span.name.dir,
             },
             toward: to.node,
+        },
+    })
+}
+
+/// Where the pieces end that the block lists, by node.
+pub fn stops_in(alloc: Global, block: &Block) -> Result<Vec<AtNode<Arrival>>, NoMemory>
+    ensures { IfOk result (λ v. (M : Objects) (P : Rules) (w : WayId)
+        → ListsPieces M P w block.now
+        → AreStops M P w v.items) }
+{
+    let mut stops = listed_stops(alloc, block.pieces.items())?;
+    put_in_order(&mut stops)?;
+    Ok(stops)
+}
+
+/// Where each of the pieces ends that passes two nodes or more: all of them, in a graph.
+fn listed_stops(alloc: Global, pieces: &[Piece]) -> Result<Vec<AtNode<Arrival>>, NoMemory>
+    ensures { IfOk result (λ v. v.items ≡ filter_map listed_stop pieces.now) }
+{
+    let mut stops = Vec::with_capacity(alloc, pieces.len())?;
+    for piece in pieces {
+        if let Some(stop) = stop_along(listed_span(piece), piece.places.items()) {
+            stops.push(stop)?;
+        }
+    }
+    Ok(stops)
+}
+
+/// The end of the piece that passes these places, in order of travel.
+fn stop_along(span: PieceSpan, places: &[Place]) -> Option<AtNode<Arrival>>
+    ensures { result ≡ stop_along span places.now }
+{
+    let [.., from, to] = places else {
+        return None;
+    };
+    Some(AtNode {
+        node: to.node,
+        item: Arrival {
+            span,
+            from: from.node,
         },
     })
 }

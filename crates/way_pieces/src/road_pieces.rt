@@ -9,30 +9,35 @@ ghost use Rattle.ordered_lists.specs.Orders.{Lists};
 ghost use Rattle.road_model.specs.Orders.{name_cmp};
 ghost use Rattle.road_model.specs.Networks.{on};
 ghost use Rattle.way_lines.specs.RoadLines.{AreRoads, IsRoad, IsRoadLine};
-ghost use Rattle.way_pieces.specs.Names.{IsDeparture};
+ghost use Rattle.way_pieces.specs.Names.{IsDeparture, IsArrival};
+ghost use Rattle.way_pieces.specs.Arrivals.{arriving, IsComingOver};
 ghost use Rattle.way_pieces.specs.Departures.{IsOver, Gains};
-ghost use Rattle.way_pieces.specs.RoadPieces.{AreSpans, AreStarts, AreWayPieces, IsLineOf};
+ghost use Rattle.way_pieces.specs.RoadPieces.{AreSpans, AreStarts, AreStops, AreWayPieces, IsLineOf};
 ghost use Rattle.way_pieces.specs.RoadPieces.{IsCutRoad, IsMetWay, AreRoadPieces};
 
+use crate::arrivals::Arrival;
+use crate::at_nodes::{AtNode, add_items, put_in_order, standing_at};
 use crate::departures::Departure;
 use crate::known::KnownBlocks;
-use crate::listed::{spans_in, starts_in};
+use crate::listed::{spans_in, starts_in, stops_in};
 use crate::met_ways::{MetWay, PieceSource, met_ways, roads_of};
 use crate::spans::{PieceSpan, spans_along};
-use crate::starts::{Start, add_starts, leaving, put_in_order, starts_of};
+use crate::starts::starts_of;
+use crate::stops::stops_of;
 use junctions::junctions_along;
 use ordered_lists::Groups;
-use road_base::{Dir, NoMemory, NodeId, WayId};
+use road_base::{NoMemory, NodeId, WayId};
 use road_model::laws::{name_order, number_order, roads_refer};
 use road_model::{Block, Network, Profile, World};
 use std::alloc::Global;
 use way_lines::{LineNode, Road, RoadLine, Roads};
 
-/// The pieces of a way by their names, and where they start by the nodes from which one departs.
+/// The pieces of a way by their names, and where they start and end by the nodes there.
 #[derive(Drop)]
 pub struct WayPieces {
     pub spans: Vec<PieceSpan>,
-    pub starts: Vec<Start>,
+    pub starts: Vec<AtNode<Departure>>,
+    pub stops: Vec<AtNode<Arrival>>,
 }
 
 impl WayPieces {
@@ -69,7 +74,13 @@ impl WayPieces {
         let spans = spans_along(alloc, network, line, junctions.as_slice())?;
         let mut starts = starts_of(alloc, line.nodes.as_slice(), spans.as_slice())?;
         put_in_order(&mut starts)?;
-        Ok(WayPieces { spans, starts })
+        let mut stops = stops_of(alloc, line.nodes.as_slice(), spans.as_slice())?;
+        put_in_order(&mut stops)?;
+        Ok(WayPieces {
+            spans,
+            starts,
+            stops,
+        })
     }
 
     /// The pieces of the way that the block lists.
@@ -80,7 +91,12 @@ impl WayPieces {
     {
         let spans = spans_in(alloc, block)?;
         let starts = starts_in(alloc, block)?;
-        Ok(WayPieces { spans, starts })
+        let stops = stops_in(alloc, block)?;
+        Ok(WayPieces {
+            spans,
+            starts,
+            stops,
+        })
     }
 }
 
@@ -99,22 +115,35 @@ pub fn spans_of<M: World, P: Profile>(
     Ok(pieces.spans)
 }
 
-/// Adds the nodes where the pieces of the way end whose line these nodes are.
+/// Adds the nodes where the pieces of the way start and end whose line these nodes are. The pieces ascend.
 fn add_ends(
     ends: &mut Vec<NodeId>,
     nodes: &[LineNode],
     spans: &[PieceSpan],
 ) -> Result<(), NoMemory> {
+    let mut next = 0;
     for span in spans {
-        let position = match span.name.dir {
-            Dir::Forward => span.end,
-            Dir::Backward => span.name.index,
-        };
-        if let Some(end) = nodes.get(position as usize) {
-            ends.push(end.node)?;
-        }
+        next = add_end(ends, nodes, span.name.index, next)?;
+        next = add_end(ends, nodes, span.end, next)?;
     }
     Ok(())
+}
+
+/// Adds the node at the position, unless the position is below the next one that is to be added. Answers the next one
+/// after that.
+fn add_end(
+    ends: &mut Vec<NodeId>,
+    nodes: &[LineNode],
+    position: u32,
+    next: u32,
+) -> Result<u32, NoMemory> {
+    if position < next {
+        return Ok(next);
+    }
+    if let Some(end) = nodes.get(position as usize) {
+        ends.push(end.node)?;
+    }
+    Ok(position.saturating_add(1))
 }
 
 /// How many pieces a way has that is yet to be cut, as a guess.
@@ -179,7 +208,7 @@ impl CutRoad {
         })
     }
 
-    /// Adds the nodes where the pieces of the way end, where its line is kept.
+    /// Adds the nodes where the pieces of the way start and end, where its line is kept.
     fn add_own_ends(&self, ends: &mut Vec<NodeId>) -> Result<(), NoMemory> {
         match &self.line {
             Some(line) => add_ends(ends, line.nodes.as_slice(), self.pieces.spans.as_slice()),
@@ -194,7 +223,8 @@ impl CutRoad {
 pub struct RoadPieces {
     roads: Roads,
     spans: Groups<PieceSpan>,
-    starts: Groups<Start>,
+    starts: Groups<AtNode<Departure>>,
+    stops: Groups<AtNode<Arrival>>,
     ends: Vec<NodeId>,
     lines: Vec<Option<RoadLine>>,
 }
@@ -212,18 +242,21 @@ impl RoadPieces {
         let roads = Roads::of(alloc, network, ways)?;
         let mut spans = Groups::new(alloc);
         let mut starts = Groups::new(alloc);
+        let mut stops = Groups::new(alloc);
         let mut ends = Vec::new(alloc);
         for road in roads.items() {
             let line = RoadLine::of(alloc, network, *road)?;
             let pieces = WayPieces::along(alloc, network, &roads, &line)?;
             spans.push(pieces.spans.as_slice())?;
             starts.push(pieces.starts.as_slice())?;
+            stops.push(pieces.stops.as_slice())?;
             add_ends(&mut ends, line.nodes.as_slice(), pieces.spans.as_slice())?;
         }
         Ok(RoadPieces {
             roads,
             spans,
             starts,
+            stops,
             ends,
             lines: Vec::new(alloc),
         })
@@ -249,12 +282,14 @@ impl RoadPieces {
         let pieces = guessed_pieces(ways.as_slice());
         let mut spans = Groups::with_capacity(alloc, met.len(), pieces)?;
         let mut starts = Groups::with_capacity(alloc, met.len(), pieces)?;
+        let mut stops = Groups::with_capacity(alloc, met.len(), pieces)?;
         let mut ends = Vec::with_capacity(alloc, own.len().saturating_mul(PIECES))?;
         let mut lines = Vec::with_capacity(alloc, met.len())?;
         for way in ways.as_slice() {
             let cut = CutRoad::of(alloc, network, &roads, way)?;
             spans.push(cut.pieces.spans.as_slice())?;
             starts.push(cut.pieces.starts.as_slice())?;
+            stops.push(cut.pieces.stops.as_slice())?;
             cut.add_own_ends(&mut ends)?;
             lines.push(cut.line)?;
         }
@@ -262,6 +297,7 @@ impl RoadPieces {
             roads,
             spans,
             starts,
+            stops,
             ends,
             lines,
         })
@@ -274,14 +310,14 @@ impl RoadPieces {
         &self.roads
     }
 
-    /// The nodes where the pieces of the own ways end, or those of all ways where none are told apart; in no order,
-    /// some more than once.
+    /// The nodes where the pieces of the own ways start and end, or those of all ways where none are told apart; in
+    /// no order, some more than once.
     pub fn ends(&self) -> &[NodeId] {
         self.ends.as_slice()
     }
 
-    /// The same roads and pieces, where these start and end, and the lines, let go: what leaves a node is then cut for
-    /// each call.
+    /// The same roads and pieces; where these start and end, and the lines, are let go: what leaves a node or comes to
+    /// it is then cut for each call.
     pub fn without_starts(self, alloc: Global) -> RoadPieces
         ensures are { (M : Objects) (P : Rules) → AreRoadPieces M P self → AreRoadPieces M P result }
         ensures roads { result.roads ≡ self.roads }
@@ -291,6 +327,7 @@ impl RoadPieces {
             roads,
             spans,
             starts: Groups::new(alloc),
+            stops: Groups::new(alloc),
             ends: Vec::new(alloc),
             lines: Vec::new(alloc),
         }
@@ -323,7 +360,7 @@ impl RoadPieces {
     }
 
     /// Where the pieces of the way start, by node, if it is found among these.
-    fn starts_of(&self, way: WayId) -> Option<&[Start]>
+    fn starts_of(&self, way: WayId) -> Option<&[AtNode<Departure>]>
         ensures { IfSome result (λ starts. (M : Objects) (P : Rules)
             → AreRoadPieces M P self.now
             → AreStarts M P way starts.now) }
@@ -333,6 +370,19 @@ impl RoadPieces {
             return None;
         }
         Some(self.starts.at(at))
+    }
+
+    /// Where the pieces of the way end, by node, if it is found among these.
+    fn stops_of(&self, way: WayId) -> Option<&[AtNode<Arrival>]>
+        ensures { IfSome result (λ stops. (M : Objects) (P : Rules)
+            → AreRoadPieces M P self.now
+            → AreStops M P way stops.now) }
+    {
+        let at = self.roads.position_of(way)?;
+        if at >= self.stops.len() {
+            return None;
+        }
+        Some(self.stops.at(at))
     }
 
     /// The pieces whose first step leaves the node, each once, ascending by name. A way at the node that isn't found
@@ -364,12 +414,52 @@ impl RoadPieces {
         node: NodeId,
     ) -> Result<(), NoMemory>
         requires { on network.now AreRoadPieces self.now }
-        ensures { OnOk result (Gains (on network.now IsOver node way) departures.old.items departures.new.items) }
+        ensures { OnOk result (Gains (λ d. d.piece) (on network.now IsOver node way)
+            departures.old.items departures.new.items) }
     {
         if let Some(starts) = self.starts_of(way) {
-            return add_starts(departures, leaving(starts, node));
+            return add_items(departures, standing_at(starts, node));
         }
         let own = WayPieces::of(alloc, network, &self.roads, self.roads.road(network, way))?;
-        add_starts(departures, leaving(own.starts.as_slice(), node))
+        add_items(departures, standing_at(own.starts.as_slice(), node))
+    }
+
+    /// The pieces that end at the node, each once, ascending by name. A way at the node that isn't found among these is
+    /// cut for this call alone.
+    pub fn arrivals<M: World, P: Profile>(
+        &self,
+        alloc: Global,
+        network: &Network<'_, M, P>,
+        node: NodeId,
+    ) -> Result<Vec<Arrival>, NoMemory>
+        requires { on network.now AreRoadPieces self.now }
+        ensures { IfOk result (λ v. Lists (λ a. a.span.name) name_cmp (on network.now IsArrival node) v.items) }
+    {
+        roads_refer(&network.profile);
+        let mut arrivals = Vec::new(alloc);
+        for way in network.world.ways_at(node) {
+            self.add_coming(alloc, &mut arrivals, network, *way, node)?;
+        }
+        Ok(arrivals)
+    }
+
+    /// Adds the arrivals at the node over the way.
+    fn add_coming<M: World, P: Profile>(
+        &self,
+        alloc: Global,
+        arrivals: &mut Vec<Arrival>,
+        network: &Network<'_, M, P>,
+        way: WayId,
+        node: NodeId,
+    ) -> Result<(), NoMemory>
+        requires { on network.now AreRoadPieces self.now }
+        ensures { OnOk result (Gains arriving (on network.now IsComingOver node way)
+            arrivals.old.items arrivals.new.items) }
+    {
+        if let Some(stops) = self.stops_of(way) {
+            return add_items(arrivals, standing_at(stops, node));
+        }
+        let own = WayPieces::of(alloc, network, &self.roads, self.roads.road(network, way))?;
+        add_items(arrivals, standing_at(own.stops.as_slice(), node))
     }
 }

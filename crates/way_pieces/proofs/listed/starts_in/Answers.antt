@@ -6,6 +6,6 @@ use Rattle.way_pieces.proofs.listed.starts_in.Goals as goal
 
 pub returns : goal.returns
 returns c = λ M P w lists.
-    starts_listed M P w c.args.block.now lists c.in_ok-starts.starts.items c.put_in_order.new.starts.items
+    starts_listed M P w c.args.block.now lists c.in_ok-starts.starts.items c.put_in_order.new.items.items
     (c.in_ok-starts.ensures ∙ ap (filter_map listed_start) c.items.ensures)
     c.in_ok-put_in_order.ensures.sorted c.in_ok-put_in_order.ensures.stable

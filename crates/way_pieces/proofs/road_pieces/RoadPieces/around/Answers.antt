@@ -1,10 +1,10 @@
--- The pieces of one way more, where they start, and its line, where it is kept.
+-- The pieces of one way more, where they start and end, and its line, where it is kept.
 use Rattle.std.proofs.Common.{◌≡◌, List, length, map, refl, sym, ap, subst, ◌∙◌, arith}
 use Rattle.std.specs.List.{All}
 use Rattle.std.proofs.lemmas.List.{length-map}
 use Rattle.way_lines.specs.declared.roads.Road.{Road}
 use Rattle.way_pieces.specs.declared.met_ways.MetWay.{MetWay}
-use Rattle.way_pieces.specs.RoadPieces.{AreSpans, AreStarts, IsKeptLineOf, IsMetWay}
+use Rattle.way_pieces.specs.RoadPieces.{AreSpans, AreStarts, AreStops, IsKeptLineOf, IsMetWay}
 use Rattle.way_pieces.proofs.CutRoads.{known_of, one_longer, roads_in, ways_in, one_met}
 use Rattle.way_pieces.proofs.road_pieces.RoadPieces.around.Goals as goal
 
@@ -21,6 +21,8 @@ loop-way-preserved g c =
           c.loop-way.invariant.span_count c.in_ok-push.ensures.ok;
       start_count = one_longer c.loop-way.starts c.push-in-loop-way.new.self c.as_slice-in-loop-way-2.result.now i
           c.loop-way.invariant.start_count c.in_ok-push-2.ensures.ok;
+      stop_count = one_longer c.loop-way.stops c.push-in-loop-way-2.new.self c.as_slice-in-loop-way-3.result.now i
+          c.loop-way.invariant.stop_count c.in_ok-push-3.ensures.ok;
       spans = one_met (AreSpans M P) ways i way c.loop-way.spans c.push.new.self cut.pieces.spans.items
           c.as_slice-in-loop-way.result.now c.loop-way-test.true c.way-item.is c.loop-way.invariant.span_count
           c.in_ok-push.ensures.ok c.as_slice-in-loop-way.ensures.value c.in_ok-cut.ensures.pieces.spans
@@ -29,10 +31,14 @@ loop-way-preserved g c =
           cut.pieces.starts.items c.as_slice-in-loop-way-2.result.now c.loop-way-test.true c.way-item.is
           c.loop-way.invariant.start_count c.in_ok-push-2.ensures.ok c.as_slice-in-loop-way-2.ensures.value
           c.in_ok-cut.ensures.pieces.starts c.loop-way.invariant.starts;
-      line_count = one_longer c.loop-way.lines.items c.push-in-loop-way-2.new.self.items cut.line i
-          c.loop-way.invariant.line_count c.in_ok-push-3.ensures.items;
-      lines = one_met (IsKeptLineOf M P) ways i way c.loop-way.lines.items c.push-in-loop-way-2.new.self.items cut.line
-          cut.line c.loop-way-test.true c.way-item.is c.loop-way.invariant.line_count c.in_ok-push-3.ensures.items refl
+      stops = one_met (AreStops M P) ways i way c.loop-way.stops c.push-in-loop-way-2.new.self
+          cut.pieces.stops.items c.as_slice-in-loop-way-3.result.now c.loop-way-test.true c.way-item.is
+          c.loop-way.invariant.stop_count c.in_ok-push-3.ensures.ok c.as_slice-in-loop-way-3.ensures.value
+          c.in_ok-cut.ensures.pieces.stops c.loop-way.invariant.stops;
+      line_count = one_longer c.loop-way.lines.items c.push-in-loop-way-3.new.self.items cut.line i
+          c.loop-way.invariant.line_count c.in_ok-push-4.ensures.items;
+      lines = one_met (IsKeptLineOf M P) ways i way c.loop-way.lines.items c.push-in-loop-way-3.new.self.items cut.line
+          cut.line c.loop-way-test.true c.way-item.is c.loop-way.invariant.line_count c.in_ok-push-4.ensures.items refl
           c.in_ok-cut.ensures.line c.loop-way.invariant.lines;
     }
 
@@ -54,6 +60,7 @@ returns-clause-are g c =
       span_count = omega arith;
       spans = known_of (AreSpans M P) (roads_in ways) roads c.loop-way.spans same c.loop-way.invariant.spans;
       starts = known_of (AreStarts M P) (roads_in ways) roads c.loop-way.starts same c.loop-way.invariant.starts;
+      stops = known_of (AreStops M P) (roads_in ways) roads c.loop-way.stops same c.loop-way.invariant.stops;
       lines = known_of (IsKeptLineOf M P) (roads_in ways) roads c.loop-way.lines.items same
           c.loop-way.invariant.lines;
     }

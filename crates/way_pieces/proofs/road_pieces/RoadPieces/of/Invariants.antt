@@ -1,5 +1,5 @@
 use Rattle.std.proofs.Common.{◌≡◌, length}
-use Rattle.way_pieces.specs.RoadPieces.{AreSpans, AreStarts}
+use Rattle.way_pieces.specs.RoadPieces.{AreSpans, AreStarts, AreStops}
 use Rattle.way_pieces.proofs.CutRoads.{AreKnown}
 use Rattle.way_pieces.proofs.road_pieces.RoadPieces.of.Given as goal
 
@@ -11,6 +11,8 @@ invariant-loop-road g l =
     record {
       span_count : length l.spans ≡ l.road-index;
       start_count : length l.starts ≡ l.road-index;
+      stop_count : length l.stops ≡ l.road-index;
       spans : AreKnown (AreSpans M P) l.road-items l.spans;
       starts : AreKnown (AreStarts M P) l.road-items l.starts;
+      stops : AreKnown (AreStops M P) l.road-items l.stops;
     }
