@@ -12,6 +12,7 @@ mod StillTurns
 mod StillContexts
 mod StillArcs
 mod StillBlocks
+mod LedBlocks
 mod WayGaps
 mod NearLists
 mod MetWays

@@ -8,7 +8,7 @@ use Rattle.road_model.specs.declared.blocks.Block.{Block}
 use Rattle.road_model.specs.Rules.{Rules}
 use Rattle.road_model.specs.Pieces.{Span, IsPiece}
 use Rattle.road_model.specs.Local.{IsSameWithin}
-use Rattle.road_model.specs.Blocks.{IsPieceEntry, IsForward, IsListedPiece, ListsPieces, name_of, place_position}
+use Rattle.road_model.specs.Blocks.{IsPieceEntry, IsBlock, IsListedPiece, ListsPieces, name_of, place_position}
 use Rattle.road_model.proofs.FinitePieces.{IsOf}
 use Rattle.road_model.proofs.SomeGraph.{piece_entry, entry_named}
 use Rattle.road_model.proofs.LocalLinks.{IsAlike, alike_from, way_same, within_itself}
@@ -31,7 +31,7 @@ module _ (M : Objects) (P : Rules) (w : WayId) where
   }
 
   -- the block of a way lists its pieces
-  pub block_lists : (b : Block) → IsForward M P w b → ListsPieces M P w b
+  pub block_lists : (b : Block) → IsBlock M P w b → ListsPieces M P w b
   block_lists b is = record {
     way = is.way;
     ascending = is.pieces.ascending;
@@ -71,7 +71,7 @@ module _ (M N : Objects) (P : Rules) (w : WayId) where
   }
 
   -- where nothing within two links of the way differs, its block lists its pieces behind the change too
-  pub far_block_lists : NeedsHighway P → (b : Block) → IsSameWithin 2 M N w → IsForward M P w b → ListsPieces N P w b
+  pub far_block_lists : NeedsHighway P → (b : Block) → IsSameWithin 2 M N w → IsBlock M P w b → ListsPieces N P w b
   far_block_lists needs b far is =
       let near : IsAlike M N 2 (WayKey w) = alike_from M N 2 w far in
       let body = way_same M N w (near (WayKey w) (inl (within_itself M 2 (WayKey w)))) in

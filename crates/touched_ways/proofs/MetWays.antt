@@ -1,20 +1,18 @@
 -- Ways that share a node with one of some ways, and ways that a restriction names beside one of some ways.
-use Rattle.std.proofs.Common.{◌≡◌, ◌↔◌, ◌≤◌, ◌⊎◌, inl, inr, IsTrue, List, [], ◌∷◌, ◌++◌, length, sym, ap}
-use Rattle.std.proofs.Common.{subst, arith, Contains}
+use Rattle.std.proofs.Common.{◌↔◌, ◌⊎◌, inl, inr, IsTrue, List, sym, subst, Contains}
 use Rattle.road_base.specs.declared.ids.WayId.{WayId}
 use Rattle.road_base.specs.declared.ids.RelationId.{RelationId}
 use Rattle.road_base.specs.declared.ids.Key.{Key}
 use Rattle.road_base.specs.declared.ids.Key.TheVariants.{Node as NodeKey, Way as WayKey, Relation as RelationKey}
 use Rattle.road_base.specs.Objects.{Objects}
-use Rattle.ordered_lists.proofs.ListMembers.{contains_none}
 use Rattle.road_model.specs.Links.{IsLink}
 use Rattle.ordered_lists.specs.Orders.{Lists, rises}
 use Rattle.road_model.specs.Orders.{way_cmp}
 use Rattle.ordered_lists.proofs.JoinedLists.{lists_same}
 use Rattle.touched_ways.specs.declared.found.Reached.{Reached}
-use Rattle.touched_ways.specs.Altering.{AreNamedTogether, HereOrBeside, MeetsOne}
+use Rattle.touched_ways.specs.Altering.{AreNamedTogether, AreSplit, HereOrBeside, MeetsOne}
 use Rattle.touched_ways.specs.Searches.{Finds, GivenBy, IsFound, IsWayLink}
-use Rattle.touched_ways.proofs.WayLists.{same, one_longer, was_or_last, still_has, last_has}
+use Rattle.touched_ways.proofs.WayLists.{same}
 
 -- ---- an ascending list of the ways that were found
 
@@ -86,74 +84,22 @@ with_those_beside M ways beside all are both = lists_same _ _ _ _ all both
     (λ w h. elim h [ inl own ↦ inl own | inr other ↦ inr (are.complete w other) ])
 
 -- those of some ways that are among them, where the ways were those that meet one of some others
-pub those_met : (M : Objects) (ways others met found both : List WayId) → Lists (λ w. w) way_cmp (MeetsOne M others) met
-    → Lists (λ w. w) way_cmp (HereOrBeside M (Contains met)) found → (w : WayId)
-    → Contains both w ↔ (Contains ways w × Contains found w)
-    → Contains both w ↔ (Contains ways w × HereOrBeside M (MeetsOne M others) w)
-those_met M ways others met found both first second w are = (
-  λ has. let r = are.0 has in (
-    r.0,
-    elim (second.sound w r.1) [
+pub those_met : (M : Objects) (ways others met found among rest : List WayId)
+    → Lists (λ w. w) way_cmp (MeetsOne M others) met
+    → Lists (λ w. w) way_cmp (HereOrBeside M (Contains met)) found → AreSplit found ways among rest → (w : WayId)
+    → Contains among w ↔ (Contains ways w × HereOrBeside M (MeetsOne M others) w)
+those_met M ways others met found among rest first second are w = (
+  λ has. (
+    are.within w has,
+    elim (second.sound w (are.first w has)) [
       | inl here ↦ inl (first.sound w here)
       | inr other ↦ inr (other.0, other.1, first.sound other.0 other.2)
     ],
   ),
-  λ has. are.1 (
-    has.0,
-    second.complete w (elim has.1 [
-      | inl here ↦ inl (first.complete w here)
-      | inr other ↦ inr (other.0, other.1, first.complete other.0 other.2)
-    ]),
-  ),
+  λ has.
+      let is : Contains found w = second.complete w (elim has.1 [
+        | inl here ↦ inl (first.complete w here)
+        | inr other ↦ inr (other.0, other.1, first.complete other.0 other.2)
+      ]) in
+      elim (are.either w has.0) [ inl here ↦ here | inr there ↦ absurd (are.second w there is) ],
 )
-
--- ---- those of a list that were found
-
--- no more ways than the list has: those of the list's that were found
-pub record AreFoundOf (found list met : List WayId) : Type 0 where
-  pub few : length met ≤ length list
-  pub exactly : (w : WayId) → Contains met w ↔ (Contains list w × Contains found w)
-
-module _ (found : List WayId) where
-  pub found_none : (met : List WayId) → met ≡ [] → AreFoundOf found [] met
-  found_none met empty = let none : length met ≡ 0 = ap length empty in record {
-    few = omega arith;
-    exactly = λ w. (
-      λ has. absurd (contains_none w (subst (λ l. Contains l w) empty has)),
-      λ has. absurd (contains_none w has.0),
-    );
-  }
-
-  -- the list has one way more, its last
-  module _ (list more met : List WayId) (way : WayId) (longer : more ≡ list ++ way ∷ [])
-      (are : AreFoundOf found list met) where
-    -- it was found
-    pub found_more : Contains found way → (next : List WayId) → next ≡ met ++ way ∷ [] → AreFoundOf found more next
-    found_more is next pushed = record {
-      few = let so_far = are.few in
-          omega (arith, one_longer list more way longer, one_longer met next way pushed);
-      exactly = λ w. (
-        λ has. elim (was_or_last met next way pushed w has) [
-          | inl earlier ↦
-              let r = (are.exactly w).0 earlier in (still_has list more way longer w r.0, r.1)
-          | inr last ↦ (last_has list more way longer w last, subst (Contains found) (sym last) is)
-        ],
-        λ has. elim (was_or_last list more way longer w has.0) [
-          | inl earlier ↦ still_has met next way pushed w ((are.exactly w).1 (earlier, has.1))
-          | inr last ↦ last_has met next way pushed w last
-        ],
-      );
-    }
-
-    -- it wasn't
-    pub found_same : (Contains found way → ⊥) → AreFoundOf found more met
-    found_same not = record {
-      few = let so_far = are.few in omega (arith, one_longer list more way longer);
-      exactly = λ w. (
-        λ has. let r = (are.exactly w).0 has in (still_has list more way longer w r.0, r.1),
-        λ has. elim (was_or_last list more way longer w has.0) [
-          | inl earlier ↦ (are.exactly w).1 (earlier, has.1)
-          | inr last ↦ absurd (not (subst (Contains found) last has.1))
-        ],
-      );
-    }

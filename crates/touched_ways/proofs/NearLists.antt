@@ -139,8 +139,10 @@ near_touched : (M N : Objects) (w : WayId) → IsNearChange M N w → IsTouched 
 near_touched M N w (k, differs, near_by) = (
   k,
   differs,
-  elim near_by
-      [ inl here ↦ inl (inl (inl (inl (inl here)))) | inr there ↦ inr (inl (inl (inl (inl there)))) ],
+  elim near_by [
+    | inl here ↦ inl (inl (inl (inl (inl (inl (inl here))))))
+    | inr there ↦ inr (inl (inl (inl (inl (inl (inl there))))))
+  ],
 )
 
 module _ (M N : Objects) (ways close all near away : List WayId) (are : AreSplit close all near away)

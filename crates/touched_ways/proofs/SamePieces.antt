@@ -10,7 +10,7 @@ use Rattle.road_model.specs.declared.blocks.Block.{Block}
 use Rattle.road_model.specs.Rules.{Rules}
 use Rattle.road_model.specs.Pieces.{Span, IsPiece}
 use Rattle.road_model.specs.Local.{IsSameWithin}
-use Rattle.road_model.specs.Blocks.{IsPieceEntry, IsForward, name_of}
+use Rattle.road_model.specs.Blocks.{IsPieceEntry, IsBlock, name_of}
 use Rattle.ordered_lists.proofs.ListMembers.{contains_map, contains_from_map}
 use Rattle.road_model.proofs.UniqueEntries.{one_piece}
 use Rattle.road_model.proofs.FinitePieces.{IsOf}
@@ -21,7 +21,7 @@ use Rattle.touched_ways.specs.Altering.{HasSamePieces, listed_pieces}
 
 -- ---- where all within two links is the same
 
-alike_pieces : (M N : Objects) (P : Rules) → NeedsHighway P → (w : WayId) → IsAlike M N 2 (WayKey w)
+pub alike_pieces : (M N : Objects) (P : Rules) → NeedsHighway P → (w : WayId) → IsAlike M N 2 (WayKey w)
     → HasSamePieces M N P w
 alike_pieces M N P needs w near p of =
     let al : IsAlike M N 2 (WayKey p.way) = subst (λ v. IsAlike M N 2 (WayKey v)) (sym of) near in
@@ -51,7 +51,7 @@ same_span q p named end =
     let dir : q.dir ≡ p.dir = ap (λ n. n.dir) named in
     λ i. record { way = way i; index = index i; end = end i; dir = dir i }
 
-listed_kept : (M N : Objects) (P : Rules) (w : WayId) (b c : Block) → IsForward M P w b → IsForward N P w c
+listed_kept : (M N : Objects) (P : Rules) (w : WayId) (b c : Block) → IsBlock M P w b → IsBlock N P w c
     → listed_pieces b ≡ listed_pieces c → (p : Span) → p.way ≡ w → IsPiece M P p → IsPiece N P p
 listed_kept M N P w b c was is same p of h =
     let place : IsOf M P w p = record { is = h; way = of } in
@@ -67,7 +67,7 @@ listed_kept M N P w b c was is same p of h =
     subst (IsPiece N P) q entry.is
 
 -- a way whose blocks list the same pieces has the same
-pub listed_same : (M N : Objects) (P : Rules) (w : WayId) (b c : Block) → IsForward M P w b → IsForward N P w c
+pub listed_same : (M N : Objects) (P : Rules) (w : WayId) (b c : Block) → IsBlock M P w b → IsBlock N P w c
     → listed_pieces b ≡ listed_pieces c → HasSamePieces M N P w
 listed_same M N P w b c was is same p of =
     (listed_kept M N P w b c was is same p of, listed_kept N M P w c b is was (sym same) p of)

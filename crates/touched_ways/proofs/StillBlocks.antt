@@ -1,75 +1,46 @@
--- The forward parts of the blocks of settled ways are the same in both object maps.
-use Rattle.std.proofs.Common.{◌↔◌, inl, inr, List, [], ◌∷◌, ◌++◌, sym, subst}
+-- All that stands in the blocks of settled ways but the sources is the same in both object maps.
+use Rattle.std.proofs.Common.{◌≡◌, inl, inr, sym, subst}
 use Rattle.road_base.specs.declared.ids.WayId.{WayId}
 use Rattle.road_base.specs.Objects.{Objects}
-use Rattle.road_model.specs.declared.lists.TurnArc.{TurnArc}
-use Rattle.road_model.specs.declared.lists.Context.{Context}
-use Rattle.road_model.specs.declared.lists.Piece.{Piece}
-use Rattle.road_model.specs.declared.blocks.Block.{Block}
 use Rattle.road_model.specs.Rules.{Rules}
-use Rattle.road_model.specs.Pieces.{Span, IsPiece}
-use Rattle.road_model.specs.Blocks.{IsArcEntry, IsContextEntry, IsPieceEntry, IsForward}
-use Rattle.road_model.proofs.LocalLinks.{untouched_same}
-use Rattle.road_model.proofs.LocalPieces.{NeedsHighway, piece_kept, place_kept}
-use Rattle.road_model.proofs.LocalBlocks.{same_block, lists_kept}
+use Rattle.road_model.specs.Pieces.{Span}
+use Rattle.road_model.specs.Local.{HasSameArcs}
+use Rattle.road_model.proofs.LocalLinks.{untouched_same, same_forward}
+use Rattle.road_model.proofs.LocalBodies.{marked_same}
+use Rattle.road_model.proofs.LocalPieces.{NeedsHighway, place_kept}
+use Rattle.road_model.proofs.LocalContexts.{piece_of}
+use Rattle.road_model.proofs.LocalBlocks.{local_blocks}
 use Rattle.touched_ways.specs.Altering.{IsUnaltered}
-use Rattle.touched_ways.proofs.StillWays.{IsSettled, settled_turned, settled_from}
+use Rattle.touched_ways.proofs.SamePieces.{alike_pieces}
+use Rattle.touched_ways.proofs.StillWays.{IsSettled, settled_turned, settled_from, own_body}
 use Rattle.touched_ways.proofs.StillContexts.{context_kept}
 use Rattle.touched_ways.proofs.StillArcs.{arc_kept}
 
-module _ (M N : Objects) (P : Rules) (needs : NeedsHighway P) where
-  arc_entry : (before : List Span) (p : Span) → IsSettled M N P p.way → IsPiece M P p → (a : TurnArc)
-      → IsArcEntry M P (before ++ p ∷ []) a → IsArcEntry N P (before ++ p ∷ []) a
-  arc_entry before p q h a e = record {
-    piece = e.piece;
-    target = e.target;
-    arc = arc_kept M N P needs before p e.piece q h e.target e.arc;
-    named = e.named;
-    length_is = e.length_is;
-  }
+settled_arcs : (M N : Objects) (P : Rules) → NeedsHighway P → (w : WayId) → IsSettled M N P w → HasSameArcs M N P w
+settled_arcs M N P needs w s =
+    let here : (p : Span) → p.way ≡ w → IsSettled M N P p.way = λ p of. subst (IsSettled M N P) (sym of) s in
+    let there : (p : Span) → p.way ≡ w → IsSettled N M P p.way = λ p of. settled_turned M N P p.way (here p of) in
+    let pieces = alike_pieces M N P needs w s.own.alike in
+    record {
+      pieces = pieces;
+      marks = λ d. marked_same M N P w d (own_body M N P w s.own);
+      places = λ p k x of is. (
+        place_kept M N P needs p (here p of).own.alike is k x,
+        place_kept N M P needs p (there p of).own.alike ((pieces p of).0 is) k x,
+      );
+      contexts = λ before p of. (
+        λ c. context_kept M N P needs before p (here p of) (piece_of M P needs before p c) c,
+        λ c. context_kept N M P needs before p (there p of) (piece_of N P needs before p c) c,
+      );
+      arcs = λ before p t target of. (
+        λ a. arc_kept M N P needs before p t (here p of) (piece_of M P needs before p a.from) target a,
+        λ a. arc_kept N M P needs before p t (there p of) (piece_of N P needs before p a.from) target a,
+      );
+    }
 
-module _ (M N : Objects) (P : Rules) (needs : NeedsHighway P) where
-  context_entry : (p : Span) → IsSettled M N P p.way → IsPiece M P p → IsPiece N P p → (e : Context)
-      → IsContextEntry M P p e → IsContextEntry N P p e
-  context_entry p q h k e c = record {
-    before = c.before;
-    context = context_kept M N P needs c.before p q h c.context;
-    named = c.named;
-    arcs = lists_kept e.arcs (arc_entry M N P needs c.before p q h)
-        (arc_entry N M P needs c.before p (settled_turned M N P p.way q) k) c.arcs;
-  }
-
-module _ (M N : Objects) (P : Rules) (needs : NeedsHighway P) where
-  piece_entry : (w : WayId) → IsSettled M N P w → (e : Piece) → IsPieceEntry M P w e → IsPieceEntry N P w e
-  piece_entry w settled e p =
-      let q : IsSettled M N P p.piece.way = subst (IsSettled M N P) (sym p.of) settled in
-      let is = piece_kept M N P needs p.piece q.own.alike p.is in
-      record {
-        piece = p.piece;
-        is = is;
-        of = p.of;
-        named = p.named;
-        end_is = p.end_is;
-        unmarked = p.unmarked;
-        count = p.count;
-        places = λ k x at. place_kept M N P needs p.piece q.own.alike p.is k x (p.places k x at);
-        contexts = lists_kept e.contexts (context_entry M N P needs p.piece q p.is is)
-            (context_entry N M P needs p.piece (settled_turned M N P p.piece.way q) is p.is) p.contexts;
-      }
-
-block_kept : (M N : Objects) (P : Rules) → NeedsHighway P → (w : WayId) → IsSettled M N P w → (b : Block)
-    → IsForward M P w b → IsForward N P w b
-block_kept M N P needs w q b h = record {
-  way = h.way;
-  pieces = lists_kept b.pieces (piece_entry M N P needs w q) (piece_entry N M P needs w (settled_turned M N P w q))
-      h.pieces;
-}
-
--- a way that a change leaves unaltered keeps the forward part of its block
-pub unaltered_block : (M N : Objects) (P : Rules) → NeedsHighway P → (w : WayId) (b : Block) → IsUnaltered M N P w
-    → IsForward M P w b ↔ IsForward N P w b
-unaltered_block M N P needs w b (inl untouched) =
-    same_block M N P needs w b (untouched_same M N w untouched)
-unaltered_block M N P needs w b (inr (own, others)) =
-    let s = settled_from M N P w own others in
-    (block_kept M N P needs w s b, block_kept N M P needs w (settled_turned M N P w s) b)
+-- a way that a change leaves unaltered keeps all that stands in its block but the sources
+pub unaltered_arcs : (M N : Objects) (P : Rules) → NeedsHighway P → (w : WayId) → IsUnaltered M N P w
+    → HasSameArcs M N P w
+unaltered_arcs M N P needs w (inl untouched) =
+    local_blocks M N P needs w (same_forward M N w (untouched_same M N w untouched))
+unaltered_arcs M N P needs w (inr (own, others)) = settled_arcs M N P needs w (settled_from M N P w own others)

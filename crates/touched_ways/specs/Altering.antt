@@ -1,5 +1,6 @@
 -- Which blocks a change may alter. It may alter those of the ways near what it changes, those of ways that share a node
--- with a way whose pieces it alters, and those of the ways that a restriction names beside one of these.
+-- with a way whose pieces it alters, those of the ways that a restriction names beside one of these, and those of ways
+-- by whose pieces another arc leads than before.
 use Rattle.std.specs.Prelude.{◌≡◌, ◌↔◌, ◌⊎◌, ℕ, ◌+◌, List, Contains, map, length, IsTrue}
 use Rattle.road_base.specs.declared.ids.NodeId.{NodeId}
 use Rattle.road_base.specs.declared.ids.WayId.{WayId}
@@ -8,13 +9,17 @@ use Rattle.road_base.specs.declared.ids.Key.{Key}
 use Rattle.road_base.specs.declared.ids.Key.TheVariants.{Way as WayKey}
 use Rattle.road_base.specs.Objects.{Objects}
 use Rattle.road_model.specs.declared.lists.PieceName.{PieceName}
+use Rattle.road_model.specs.declared.lists.TurnArc.{TurnArc}
+use Rattle.road_model.specs.declared.lists.Context.{Context}
+use Rattle.road_model.specs.declared.lists.Piece.{Piece}
 use Rattle.road_model.specs.declared.blocks.Block.{Block}
 use Rattle.road_model.specs.Rules.{Rules}
 use Rattle.ordered_lists.specs.Orders.{rises}
 use Rattle.road_model.specs.Orders.{way_cmp}
 use Rattle.road_model.specs.Pieces.{Span, IsPiece}
 use Rattle.road_model.specs.Links.{RefersTo, HasMember, IsWithin, Differs, IsTouched, AreTouched}
-use Rattle.road_model.specs.Local.{IsSameWithin}
+use Rattle.road_model.specs.Local.{IsSameWithin, HasSameArcs}
+use Rattle.road_model.specs.Blocks.{IsBlock}
 
 -- a key within two links of the way differs
 abbrev pub IsNearChange : Objects → Objects → WayId → Type 0
@@ -52,6 +57,41 @@ IsStill M N P w = IsSameWithin 2 M N w × MeetsSamePieces M N P w
 abbrev pub IsUnaltered : Objects → Objects → Rules → WayId → Type 0
 IsUnaltered M N P w =
     (IsTouched M N w → ⊥) ⊎ (IsStill M N P w × ((v : WayId) → AreNamedTogether N w v → IsStill M N P v))
+
+-- ---- arcs that lead to a way
+
+-- the contexts list the arc, behind these names
+pub record ListsArcBehind (cs : List Context) (before : List PieceName) (a : TurnArc) : Type 0 where
+  pub context : Context
+  pub listed : Contains cs context
+  pub behind : context.before ≡ before
+  pub arc : Contains context.arcs a
+
+-- the pieces list the arc, in the context of the piece of this name and of these names before it
+pub record ListsArc (ps : List Piece) (name : PieceName) (before : List PieceName) (a : TurnArc) : Type 0 where
+  pub piece : Piece
+  pub listed : Contains ps piece
+  pub named : piece.name ≡ name
+  pub arc : ListsArcBehind piece.contexts before a
+
+-- both list the same arcs by pieces of the way
+abbrev pub ListSameArcs : WayId → List Piece → List Piece → Type 0
+ListSameArcs w ps qs = (name : PieceName) (before : List PieceName) (a : TurnArc) → a.piece.way ≡ w
+    → ListsArc ps name before a ↔ ListsArc qs name before a
+
+-- the blocks of way v in M and in N list the same arcs by pieces of way w
+pub record HasSameArcsTo (M N : Objects) (P : Rules) (w v : WayId) : Type 0 where
+  pub was : Block
+  pub is : Block
+  pub before : IsBlock M P v was
+  pub after : IsBlock N P v is
+  pub same : ListSameArcs w was.pieces is.pieces
+
+-- way v has the same arcs in M and in N, or its blocks list the same by pieces of way w
+abbrev pub IsLedAlike : Objects → Objects → Rules → WayId → WayId → Type 0
+IsLedAlike M N P w v = HasSameArcs M N P v ⊎ HasSameArcsTo M N P w v
+
+-- ---- ways in parts
 
 -- The touched ways in two parts: those near what the change changes, with those that a restriction names beside one
 -- near, ascending, and the others.

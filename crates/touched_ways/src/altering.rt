@@ -1,5 +1,5 @@
 //! The ways whose blocks a change may alter.
-ghost use Rattle.std.specs.Prelude.{◌≡◌, ◌↔◌, ◌≤◌, Contains, IfOk, IsTrue, length};
+ghost use Rattle.std.specs.Prelude.{◌≡◌, ◌↔◌, ◌+◌, ◌⊎◌, Contains, IfOk, IsTrue, length};
 ghost use Rattle.std.specs.List.{AllWithin};
 ghost use Rattle.std.specs.declared.cmp.Ordering.TheVariants.{Less, Greater};
 ghost use Rattle.road_base.specs.declared.ids.WayId.{WayId as WayNumber};
@@ -44,30 +44,41 @@ pub fn part<M: World>(
         → AreParted was (M.objects next.now) touched t.near t.far) }
 {
     let close = with_beside(alloc, next, near_change)?;
-    split(alloc, touched, &close)
+    let parts = split(alloc, &touched, &close)?;
+    Ok(TouchedWays {
+        all: touched,
+        near: parts.among,
+        far: parts.others,
+    })
 }
 
-/// The ways in two parts, each in their order: those among the close ones, which ascend, and the others.
-fn split(alloc: Global, ways: Ways, close: &Ways) -> Result<TouchedWays, NoMemory>
+/// Ways in two parts, each in their order: those that are among some others, and the rest.
+#[derive(Drop)]
+pub struct SplitWays {
+    pub among: Ways,
+    pub others: Ways,
+}
+
+/// The ways in two parts: those among the close ones, which ascend, and the others. Goes along the ways once, with one
+/// search at most for each close one.
+pub fn split(alloc: Global, ways: &Ways, close: &Ways) -> Result<SplitWays, NoMemory>
     requires { IsTrue (rises way_cmp close.now) }
-    ensures all { IfOk result (λ t. t.all ≡ ways) }
-    ensures split { IfOk result (λ t. AreSplit close.now ways t.near t.far) }
+    ensures { IfOk result (λ parts. AreSplit close.now ways.now parts.among parts.others) }
 {
     name_order();
-    let mut near = Vec::new(alloc);
-    let mut far = Vec::with_capacity(alloc, ways.items().len())?;
+    let mut among = Vec::new(alloc);
+    let mut others = Vec::with_capacity(alloc, ways.items().len())?;
     let mut gap = 0;
     for way in ways.items() {
         if is_among_next(close, *way, &mut gap) {
-            near.push(*way)?;
+            among.push(*way)?;
         } else {
-            far.push(*way)?;
+            others.push(*way)?;
         }
     }
-    Ok(TouchedWays {
-        all: ways,
-        near: Ways::from_list(near),
-        far: Ways::from_list(far),
+    Ok(SplitWays {
+        among: Ways::from_list(among),
+        others: Ways::from_list(others),
     })
 }
 
@@ -139,39 +150,24 @@ fn are_above(ways: &[WayId], from: usize, way: WayId) -> bool
     }
 }
 
-/// Those of the ways that share a node with one of `others`, and those that a restriction names beside a way that does,
-/// in their order. Takes the time and memory of the ways at the nodes of `others`, and of the members of the
+/// The ways in two parts: those that share a node with one of `others` or that a restriction names beside a way that
+/// does, and the rest. Takes the time and memory of the ways at the nodes of `others`, and of the members of the
 /// restrictions that name these, and goes along the ways once, with a search for each that was found so.
 pub fn meeting<M: World>(
     alloc: Global,
     world: &M,
     ways: &Ways,
     others: &[WayId],
-) -> Result<Ways, NoMemory>
-    ensures few { IfOk result (λ met. length met ≤ length ways.now) }
-    ensures exactly { IfOk result (λ met. (w : WayNumber) → Contains met w
+) -> Result<SplitWays, NoMemory>
+    ensures count { IfOk result (λ parts. length parts.among + length parts.others ≡ length ways.now) }
+    ensures exactly { IfOk result (λ parts. (w : WayNumber) → Contains parts.among w
         ↔ (Contains ways.now w × HereOrBeside (M.objects world.now) (MeetsOne (M.objects world.now) others.now) w)) }
+    ensures either { IfOk result (λ parts. (w : WayNumber) → Contains ways.now w
+        → Contains parts.among w ⊎ Contains parts.others w) }
 {
     let met = ways_met(alloc, world, others)?;
     let found = with_beside(alloc, world, &met)?;
-    both_of(alloc, ways, &found)
-}
-
-/// Those of the ways that were found, in their order.
-fn both_of(alloc: Global, ways: &Ways, found: &Ways) -> Result<Ways, NoMemory>
-    requires { IsTrue (rises way_cmp found.now) }
-    ensures few { IfOk result (λ both. length both ≤ length ways.now) }
-    ensures exactly { IfOk result
-        (λ both. (w : WayNumber) → Contains both w ↔ (Contains ways.now w × Contains found.now w)) }
-{
-    let mut both = Vec::new(alloc);
-    let mut gap = 0;
-    for way in ways.items() {
-        if is_among_next(found, *way, &mut gap) {
-            both.push(*way)?;
-        }
-    }
-    Ok(Ways::from_list(both))
+    split(alloc, ways, &found)
 }
 
 /// The ways that share a node with one of these, ascending, as does each of these that has a node. Ways without the key

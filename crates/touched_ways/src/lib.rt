@@ -1,4 +1,4 @@
-//! The ways that a change touches: those within the link radius, six links, of what changed.
+//! The ways that a change touches: those within the link radius, eight links, of what changed.
 //!
 //! A search over links goes round by round, over what the last round found. What a round finds is listed by kind,
 //! without a look-up, in lists whose memory is guessed from the nodes and ways that are followed, and taken at once.
@@ -12,8 +12,8 @@
 //! world before the change and in the one behind it, and all others in the latter alone, since there they are the same.
 //! `merge` goes along both lists once. `part` follows the links of the restrictions that name a way near the change,
 //! and goes along the touched ways once. `meeting` follows the links of the ways to be met, finds the ways at these
-//! nodes as the last round does, and those that restrictions name beside them, and goes along its ways once. Both take
-//! one search at most for each way that they look for.
+//! nodes as the last round does, and those that restrictions name beside them, and goes along its ways once. Both part
+//! ways as `split` does, with one search at most for each way that they look for.
 #![tactic(auto)]
 
 mod altering;
@@ -28,6 +28,6 @@ mod rounds;
 mod search;
 mod seen;
 
-pub use altering::{TouchedWays, is_among, meeting, part, ways_met};
+pub use altering::{SplitWays, TouchedWays, is_among, meeting, part, split, ways_met};
 pub use merging::merge;
 pub use rounds::{NearWays, reached, surroundings};

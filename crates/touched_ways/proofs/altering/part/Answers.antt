@@ -1,11 +1,7 @@
 use Rattle.std.proofs.Common.{List, IsTrue, subst}
-use Rattle.std.proofs.lemmas.Result.{IfOk-weaker}
 use Rattle.road_base.specs.declared.ids.WayId.{WayId}
-use Rattle.road_base.specs.Objects.{Objects}
-use Rattle.road_model.specs.Links.{AreTouched}
-use Rattle.ordered_lists.specs.Orders.{Lists, rises}
+use Rattle.ordered_lists.specs.Orders.{rises}
 use Rattle.road_model.specs.Orders.{way_cmp}
-use Rattle.touched_ways.specs.Altering.{AreParted, AreSplit, IsNearChange}
 use Rattle.touched_ways.proofs.WayLists.{same}
 use Rattle.touched_ways.proofs.NearLists.{parted}
 use Rattle.touched_ways.proofs.altering.part.Goals as goal
@@ -15,13 +11,8 @@ split-requires g c =
     subst (λ (l : List WayId). IsTrue (rises way_cmp l)) (same c.in_ok-close.close) c.in_ok-close.ensures.ascending
 
 pub returns-clause-parted : goal.returns-clause-parted
-returns-clause-parted g c =
+returns-clause-parted g c was lists touched =
     let N = g.M.World.objects c.args.next.now in
-    let ways = c.args.near_change.now in
-    let close = c.in_ok-close.close in
-    IfOk-weaker c.split.result (λ t. AreSplit close c.args.touched t.near t.far)
-    (λ t. (was : Objects) → Lists (λ w. w) way_cmp (IsNearChange was N) ways → AreTouched was N c.args.touched
-    → AreParted was N c.args.touched t.near t.far)
-    (λ t are was lists touched. parted was N ways close c.args.touched t.near t.far are c.in_ok-close.ensures lists
-    touched)
-    c.split.ensures.split
+    let parts = c.in_ok-parts.parts in
+    parted was N c.args.near_change.now c.in_ok-close.close c.args.touched parts.among parts.others
+    c.in_ok-parts.ensures c.in_ok-close.ensures lists touched

@@ -15,8 +15,8 @@ returns g c =
     let keys = c.args.changed.now in
     let s = c.rounds.new.search in
     let begun = subst (λ (l : List Key). IsBegun l c.in_ok-search.search) c.items.ensures c.in_ok-search.ensures in
-    let round = rounds_more M (IsWithinAny M keys) (reach_any M keys) 5 0 c.in_ok-search.search s
+    let round = rounds_more M (IsWithinAny M keys) (reach_any M keys) 7 0 c.in_ok-search.search s
     (begun_any M keys c.in_ok-search.search begun) c.in_ok-rounds.ensures in
     IfOk-weaker c.last_round.result
     (Lists (λ w. w) way_cmp (λ w. IsSeen s (WayKey w) ⊎ IsFurther M s (WayKey w))) (AreReached M keys)
-    (ways_reached M (IsWithinAny M keys) (reach_any M keys) 5 s round) c.last_round.ensures
+    (ways_reached M (IsWithinAny M keys) (reach_any M keys) 7 s round) c.last_round.ensures

@@ -28,7 +28,7 @@ returns-clause-all g c changed =
     let near = more 1 0 c.round_in_both.new.search c.rounds.new.search
     (first_round M N keys changed c.in_ok-search.search c.round_in_both.new.search begun
     c.in_ok-round_in_both.ensures) c.in_ok-rounds.ensures in
-    let far = more 3 1 c.rounds.new.search c.rounds-2.new.search near c.in_ok-rounds-2.ensures in
+    let far = more 5 1 c.rounds.new.search c.rounds-2.new.search near c.in_ok-rounds-2.ensures in
     all_ways M N keys changed c.in_ok-all.all
-    (ways_reached N (λ n. IsWithinInOne M N keys (suc n)) (reach_behind M N keys changed) 4 c.rounds-2.new.search far
+    (ways_reached N (λ n. IsWithinInOne M N keys (suc n)) (reach_behind M N keys changed) 6 c.rounds-2.new.search far
     c.in_ok-all.all c.in_ok-all.ensures)
