@@ -42,14 +42,15 @@ use Rattle.road_model.specs.Network.{IsContext}
 use Rattle.road_model.specs.Turning.{HasTurnSteps}
 use Rattle.ordered_lists.specs.Orders.{rises}
 use Rattle.road_model.specs.Orders.{names_cmp}
-use Rattle.road_model.specs.Blocks.{name_of, IsContextEntry}
+use Rattle.road_model.specs.Blocks.{name_of}
 use Rattle.turn_automata.specs.Trees.{IsClosed}
 use Rattle.turn_automata.specs.Watched.{IsWatchable}
 use Rattle.turn_automata.specs.Machines.{Machine}
 use Rattle.expanded_graph.specs.declared.states.StateFacts.{StateFacts}
 use Rattle.expanded_graph.specs.States.{AreStates}
-use Rattle.expanded_graph.specs.Contexts.{AreEndingsWith, IsContextIn, HasContexts}
-use Rattle.ordered_lists.proofs.ListMembers.{In, push_cases, from_map, in_from_contains, contains_from_in, in_end, in_left}
+use Rattle.expanded_graph.specs.Contexts.{AreEndingsWith, IsBareContext, IsContextIn, HasContexts}
+use Rattle.ordered_lists.proofs.ListMembers.{In, push_cases, from_map, in_from_contains, contains_from_in, in_end}
+use Rattle.ordered_lists.proofs.ListMembers.{in_left}
 use Rattle.ordered_lists.proofs.AscendingLists.{Climbs, climbs_take, below_end}
 use Rattle.ordered_lists.proofs.Comparisons.{not_itself}
 use Rattle.ordered_lists.proofs.ListPlaces.{one_stands}
@@ -68,7 +69,7 @@ before_of e = e.before
 
 -- the contexts written so far: the piece alone, and one in each of the states so far
 pub record Gathered (M : Objects) (P : Rules) (m : Machine) (p : Span) (ns : List ℕ) (es : List Context) : Type 0 where
-  pub sound : (e : Context) → In e es → IsContextEntry M P p e
+  pub sound : (e : Context) → In e es → IsBareContext M P p e
   pub alone : (e : Context) × In e es × (e.before ≡ [])
   pub from : (e : Context) → In e es → (e.before ≡ []) ⊎ ((n : ℕ) × In n ns × IsContextIn M P m p n e)
   pub all : (n : ℕ) → In n ns → (e : Context) × In e es × IsContextIn M P m p n e
@@ -76,9 +77,9 @@ pub record Gathered (M : Objects) (P : Rules) (m : Machine) (p : Span) (ns : Lis
 
 module _ (M : Objects) (P : Rules) (laws : StepLaws M P) (total : IsTotalOrder names_cmp)
     (ties : IsAntisymmetric names_cmp) (m : Machine) (closed : IsClosed m.states) (p : Span) where
-  pub gathered_alone : (e : Context) → IsContextEntry M P p e → e.before ≡ [] → Gathered M P m p [] (e ∷ [])
+  pub gathered_alone : (e : Context) → IsBareContext M P p e → e.before ≡ [] → Gathered M P m p [] (e ∷ [])
   gathered_alone e h none = record {
-    sound = λ x i. elim i [ inl same ↦ subst (IsContextEntry M P p) (sym same) h | inr j ↦ absurd j ];
+    sound = λ x i. elim i [ inl same ↦ subst (IsBareContext M P p) (sym same) h | inr j ↦ absurd j ];
     alone = (e, inl refl, none);
     from = λ x i. elim i [ inl same ↦ inl (ap before_of same ∙ none) | inr j ↦ absurd j ];
     all = λ n i. absurd i;
@@ -104,7 +105,7 @@ module _ (M : Objects) (P : Rules) (laws : StepLaws M P) (total : IsTotalOrder n
       pub gathered_more : Gathered M P m p (ns ++ n ∷ []) (es ++ x ∷ [])
       gathered_more = record {
         sound = λ e i. elim (push_cases es x e i)
-            [ inl j ↦ so_far.sound e j | inr same ↦ subst (IsContextEntry M P p) (sym same) h.entry ];
+            [ inl j ↦ so_far.sound e j | inr same ↦ subst (IsBareContext M P p) (sym same) h.entry ];
         alone = let a = so_far.alone in (a.0, in_left es (x ∷ []) a.0 a.1, a.2);
         from = λ e i. elim (push_cases es x e i) [
           | inl j ↦ elim (so_far.from e j) [ inl none ↦ inl none | inr r ↦ inr (r.0, in_left ns (n ∷ []) r.0 r.1, r.2) ]

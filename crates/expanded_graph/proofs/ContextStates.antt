@@ -40,7 +40,7 @@ use Rattle.road_model.specs.Network.{Legal, IsContext}
 use Rattle.road_model.specs.Turning.{HasTurnSteps, BeginsWord, EndsPiece}
 use Rattle.ordered_lists.specs.Orders.{Lists}
 use Rattle.road_model.specs.Orders.{name_cmp}
-use Rattle.road_model.specs.Blocks.{name_of, IsArcEntry, IsContextEntry}
+use Rattle.road_model.specs.Blocks.{name_of, IsArcEntry}
 use Rattle.road_model.specs.Naming.{OnePiece}
 use Rattle.turn_automata.specs.Trees.{IsClosed}
 use Rattle.turn_automata.specs.Watched.{IsWatchable, IsProperPrefix}
@@ -48,8 +48,8 @@ use Rattle.turn_automata.specs.Machines.{Machine, StandsFor, Watches}
 use Rattle.expanded_graph.specs.declared.states.StateFacts.{StateFacts}
 use Rattle.expanded_graph.specs.Near.{IsStepNear, Shares}
 use Rattle.expanded_graph.specs.States.{AreFacts, AreStates}
-use Rattle.expanded_graph.specs.Contexts.{IsReached, IsEnding, EndsWithName, IsContextIn}
-use Rattle.expanded_graph.specs.Travel.{Arrives}
+use Rattle.expanded_graph.specs.Contexts.{IsReached, IsEnding, EndsWithName, IsBareContext, IsContextIn}
+use Rattle.way_pieces.specs.Names.{Arrives}
 use Rattle.ordered_lists.proofs.ListMembers.{In, in_from_contains, contains_from_in, at_in, in_at, in_end, in_left}
 use Rattle.expanded_graph.proofs.Ends.{spell_ends, last_step}
 use Rattle.expanded_graph.proofs.LastSteps.{last_drives}
@@ -152,9 +152,10 @@ module _ (M : Objects) (P : Rules) (laws : StepLaws M P) (m : Machine) (facts : 
     }
 
     pub context_in : (x : Context) → x.before ≡ map name_of context_there.0
-        → Lists (λ a. a.piece) name_cmp (IsArcEntry M P (context_there.0 ++ p ∷ [])) x.arcs → IsContextIn M P m p n x
-    context_in x names arcs = record {
-      entry = record { before = context_there.0; context = context_there.3; named = names; arcs = arcs };
+        → Lists (λ a. a.piece) name_cmp (IsArcEntry M P (context_there.0 ++ p ∷ [])) x.arcs → x.sources ≡ []
+        → IsContextIn M P m p n x
+    context_in x names arcs none = record {
+      entry = record { before = context_there.0; context = context_there.3; named = names; arcs = arcs; none = none };
       longer = context_there.1;
       steps = list;
       at = e.at;
@@ -229,7 +230,7 @@ same_pieces M P one (x ∷ a) (y ∷ b) f g e =
     cc
 
 module _ (M : Objects) (P : Rules) (one : OnePiece M P) (p : Span) where
-  same_before : (e f : Context) (h : IsContextEntry M P p e) (k : IsContextEntry M P p f) → e.before ≡ f.before
+  same_before : (e f : Context) (h : IsBareContext M P p e) (k : IsBareContext M P p f) → e.before ≡ f.before
       → h.before ≡ k.before
   same_before e f h k same =
       same_pieces M P one h.before k.before
@@ -238,14 +239,15 @@ module _ (M : Objects) (P : Rules) (one : OnePiece M P) (p : Span) where
       (sym h.named ∙ (same ∙ k.named))
 
   -- a context is written in one way
-  pub one_context : IsTotalOrder name_cmp → (e f : Context) → IsContextEntry M P p e → IsContextEntry M P p f
+  pub one_context : IsTotalOrder name_cmp → (e f : Context) → IsBareContext M P p e → IsBareContext M P p f
       → e.before ≡ f.before → e ≡ f
   one_context total e f h k same =
       let before = same_before e f h k same in
       let arcs = lists_unique (λ (a : TurnArc). a.piece) name_cmp total (IsArcEntry M P (k.before ++ p ∷ [])) e.arcs
       f.arcs (subst (λ b. Lists (λ a. a.piece) name_cmp (IsArcEntry M P (b ++ p ∷ [])) e.arcs) before h.arcs)
       k.arcs in
-      λ i. record { before = same i; arcs = arcs i }
+      let sources : e.sources ≡ f.sources = h.none ∙ sym k.none in
+      λ i. record { before = same i; arcs = arcs i; sources = sources i }
 
   -- contexts that end in different states have different names
   pub one_state : (m : Machine) → IsClosed m.states → (n k : ℕ) (e f : Context) → IsContextIn M P m p n e
@@ -279,5 +281,6 @@ module _ (M : Objects) (P : Rules) (alone : (s : Step) → IsTrue (drivable M P 
     }
 
     pub entry_alone : (x : Context) → x.before ≡ [] → Lists (λ a. a.piece) name_cmp (IsArcEntry M P (p ∷ [])) x.arcs
-        → IsContextEntry M P p x
-    entry_alone x none arcs = record { before = []; context = One p refl piece; named = none; arcs = arcs }
+        → x.sources ≡ [] → IsBareContext M P p x
+    entry_alone x none arcs bare =
+        record { before = []; context = One p refl piece; named = none; arcs = arcs; none = bare }

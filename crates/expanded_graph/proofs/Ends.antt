@@ -10,7 +10,8 @@ use Rattle.road_base.specs.declared.ids.Dir.{Dir}
 use Rattle.road_base.specs.declared.ids.Dir.TheVariants.{Forward, Backward}
 use Rattle.road_base.specs.Objects.{Objects}
 use Rattle.road_model.specs.Rules.{Rules}
-use Rattle.road_model.specs.Lines.{line_of, node_at, head_of, head_position, forward_steps, backward_steps, steps_from}
+use Rattle.road_model.specs.Lines.{line_of, node_at, head_of, head_position, tail_of, tail_position, forward_steps}
+use Rattle.road_model.specs.Lines.{backward_steps, steps_from}
 use Rattle.road_model.specs.Driving.{located, drivable}
 use Rattle.road_model.specs.Pieces.{IsPlain, Span, IsPiece, spell}
 use Rattle.road_model.specs.Blocks.{name_of}
@@ -151,6 +152,19 @@ module _ (M : Objects) (P : Rules) where
       let b = both_located s h in
       let at = head_at s.way s.index s.dir b.0 b.1 in
       (at.0, named_end M s (head_position s.dir s.index) (on_line s.way (s.index + 1) b.1) ∙ at.1)
+
+  tail_at : (w : WayId) (i : ℕ) (d : Dir) → IsTrue (located M (node_at M w i))
+      → IsTrue (located M (node_at M w (i + 1)))
+      → (v : NodeId) × (node_at M w (tail_position d i) ≡ Some v)
+  tail_at w i Forward a b = located_some (node_at M w i) a
+  tail_at w i Backward a b = located_some (node_at M w (i + 1)) b
+
+  -- a drivable step begins somewhere
+  pub has_tail : (s : Step) → IsTrue (drivable M P s) → (v : NodeId) × (tail_of M s ≡ Some v)
+  has_tail s h =
+      let b = both_located s h in
+      let at = tail_at s.way s.index s.dir b.0 b.1 in
+      (at.0, named_end M s (tail_position s.dir s.index) (on_line s.way (s.index + 1) b.1) ∙ at.1)
 
   first_within : (d : Dir) (i j : ℕ) → i < j → (i ≤ first_index d i j) × (first_index d i j < j)
   first_within Forward i j h = (omega arith, h)

@@ -15,7 +15,16 @@ pub mod NamesBefore
 pub mod ContextStates
 pub mod DistinctNames
 pub mod ContextLists
-pub mod ContextForms
+pub mod ContextOrder
 pub mod PiecePlaces
+pub mod SourceEnds
+pub mod SourceArcs
+pub mod SourceStates
+pub mod SourceArrivals
+pub mod SourceOrder
+pub mod SourceLists
+pub mod SourceContexts
+pub mod SourceWritten
 pub mod WrittenPieces
 pub mod Pairs
+pub mod KnownNodes

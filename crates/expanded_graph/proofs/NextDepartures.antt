@@ -47,7 +47,7 @@ use Rattle.road_model.specs.Naming.{OnePiece}
 use Rattle.way_pieces.specs.declared.departures.Departure.{Departure}
 use Rattle.way_pieces.specs.Names.{IsDeparture}
 use Rattle.expanded_graph.specs.declared.intersections.Intersection.{Intersection}
-use Rattle.expanded_graph.specs.Travel.{Arrives}
+use Rattle.way_pieces.specs.Names.{Arrives}
 use Rattle.expanded_graph.specs.Intersections.{IsIntersection, may_follow}
 use Rattle.ordered_lists.proofs.ListMembers.{In, in_from_contains, contains_from_in, all_one}
 use Rattle.ordered_lists.proofs.AscendingLists.{one_name_alone}

@@ -60,14 +60,17 @@ use Rattle.road_model.specs.Driving.{node_located, located}
 use Rattle.road_model.specs.Pieces.{IsPiece}
 use Rattle.road_model.specs.Blocks.{IsPlaceOf, place_position}
 use Rattle.way_pieces.specs.declared.spans.PieceSpan.{PieceSpan}
-use Rattle.way_pieces.specs.Names.{piece_of}
+use Rattle.way_pieces.specs.declared.departures.Departure.{Departure}
+use Rattle.way_pieces.specs.Names.{IsDeparture, piece_of}
 use Rattle.way_lines.specs.declared.road_line.LineNode.{LineNode}
 use Rattle.way_lines.specs.RoadLines.{location_in, location_of, line_node}
-use Rattle.expanded_graph.specs.Travel.{Arrives, place_of, nodes_on, travelled}
+use Rattle.way_pieces.specs.Names.{Arrives}
+use Rattle.expanded_graph.specs.Travel.{place_of, nodes_on, travelled}
 use Rattle.ordered_lists.proofs.ListMembers.{In, at_in}
 use Rattle.road_model.proofs.FinitePieces.{piece_located}
 use Rattle.way_pieces.proofs.DrivenSteps.{named_end}
-use Rattle.expanded_graph.proofs.Ends.{last_index, last_step, spell_ends, piece_on_line}
+use Rattle.expanded_graph.proofs.Ends.{step, first_index, first_step, spell_begins, last_index, last_step, spell_ends}
+use Rattle.expanded_graph.proofs.Ends.{piece_on_line}
 
 -- ---- lists of those that lie somewhere
 
@@ -371,3 +374,60 @@ module _ (M : Objects) (P : Rules) (s : PieceSpan) (nodes : List LineNode) (asce
       ∙ way_node_there (s.name.index + 1) d (omega arith))
       (last_end _ ∙ ap (λ x. node_at M s.name.way (head_position x (last_index x s.name.index s.end))) is
       ∙ way_node_there s.name.index e (omega arith))
+
+  -- ---- where a piece starts
+
+  first_up : (d : Dir) (i j : ℕ) → i < j → first_index d i j + 1 ≤ j
+  first_up Forward i j up = omega arith
+  first_up Backward i j up = omega arith
+
+  -- the nodes of the first step
+  first_end : (i : ℕ) → end_at M (first_step (piece_of s)) i ≡ node_at M s.name.way i
+  first_end i =
+      let whole : length nodes ≡ length (line_of M s.name.way) =
+      ap length line ∙ length-map (line_of M s.name.way) (line_node M P) in
+      let up = first_up s.name.dir s.name.index s.end ascends in
+      named_end M (first_step (piece_of s)) i (omega arith)
+
+  module _ (is : IsPiece M P (piece_of s)) where
+    starts_by : (z : Departure) (v : NodeId) → z.piece ≡ s.name → z.first ≡ first_step (piece_of s)
+        → tail_of M (first_step (piece_of s)) ≡ Some v → head_of M (first_step (piece_of s)) ≡ Some z.toward
+        → IsDeparture M P v z
+    starts_by z v named first e f =
+        let r = spell_begins (piece_of s) ascends in
+        record {
+          piece = piece_of s;
+          is = is;
+          named = named;
+          more = r.rest;
+          begins = r.is ∙ ap (λ x. x ∷ r.rest) (sym first);
+          leaves = ap (tail_of M) first ∙ e;
+          toward = ap (head_of M) first ∙ f;
+        }
+
+    pub starts_forward : s.name.dir ≡ Forward → (d e : LineNode) (z : Departure) (v : NodeId) → z.piece ≡ s.name
+        → z.first ≡ record { way = s.name.way; index = s.name.index; dir = s.name.dir }
+        → v ≡ (get_or nodes s.name.index d).node → z.toward ≡ (get_or nodes (s.name.index + 1) e).node
+        → IsDeparture M P v z
+    starts_forward along d e z v named first at toward =
+        let index : s.name.index ≡ first_index s.name.dir s.name.index s.end =
+        sym (ap (λ x. first_index x s.name.index s.end) along) in
+        starts_by z v named (first ∙ ap (λ k. step s.name.way k s.name.dir) index)
+        (first_end _ ∙ ap (λ x. node_at M s.name.way (tail_position x (first_index x s.name.index s.end))) along
+        ∙ (way_node_there s.name.index d (omega arith) ∙ ap Some (sym at)))
+        (first_end _ ∙ ap (λ x. node_at M s.name.way (head_position x (first_index x s.name.index s.end))) along
+        ∙ (way_node_there (s.name.index + 1) e (omega arith) ∙ ap Some (sym toward)))
+
+    pub starts_backward : s.name.dir ≡ Backward → (d e : LineNode) (z : Departure) (v : NodeId) → z.piece ≡ s.name
+        → z.first ≡ record { way = s.name.way; index = s.end - 1; dir = s.name.dir }
+        → v ≡ (get_or nodes s.end d).node → z.toward ≡ (get_or nodes (s.end - 1) e).node
+        → IsDeparture M P v z
+    starts_backward against d e z v named first at toward =
+        let index : s.end - 1 ≡ first_index s.name.dir s.name.index s.end =
+        sym (ap (λ x. first_index x s.name.index s.end) against) in
+        let up : s.end - 1 + 1 ≡ s.end = omega arith in
+        starts_by z v named (first ∙ ap (λ k. step s.name.way k s.name.dir) index)
+        (first_end _ ∙ ap (λ x. node_at M s.name.way (tail_position x (first_index x s.name.index s.end))) against
+        ∙ (ap (node_at M s.name.way) up ∙ (way_node_there s.end d inside ∙ ap Some (sym at))))
+        (first_end _ ∙ ap (λ x. node_at M s.name.way (head_position x (first_index x s.name.index s.end))) against
+        ∙ (way_node_there (s.end - 1) e (omega arith) ∙ ap Some (sym toward)))

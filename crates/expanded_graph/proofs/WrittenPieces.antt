@@ -23,7 +23,6 @@ use Rattle.std.proofs.Common.{
   arith,
   IsTrue,
   true,
-  false,
   Some,
   slice_get,
   Contains,
@@ -42,17 +41,19 @@ use Rattle.road_model.specs.declared.lists.Piece.{Piece}
 use Rattle.road_model.specs.Rules.{Rules}
 use Rattle.road_model.specs.declared.blocks.Block.{Block}
 use Rattle.road_model.specs.Lines.{line_of}
-use Rattle.road_model.specs.Driving.{is_open, is_road, drivable}
+use Rattle.road_model.specs.Driving.{is_open, is_marked, is_road, drivable}
 use Rattle.road_model.specs.Pieces.{Span, IsPiece}
 use Rattle.ordered_lists.specs.Orders.{Lists, rises}
 use Rattle.road_model.specs.Orders.{way_cmp, name_cmp, names_cmp}
-use Rattle.road_model.specs.Blocks.{IsContextEntry, IsPieceEntry, IsForward}
+use Rattle.road_model.specs.Blocks.{IsContextEntry, IsPieceEntry, IsBlock}
 use Rattle.road_model.specs.Format.{IsContextForm, IsPieceForm, begins_alone, place_cmp}
 use Rattle.road_model.specs.Naming.{OneEntry}
 use Rattle.way_pieces.specs.declared.spans.PieceSpan.{PieceSpan}
 use Rattle.way_pieces.specs.Names.{piece_of, IsSpanOn}
 use Rattle.way_lines.specs.declared.road_line.LineNode.{LineNode}
 use Rattle.way_lines.specs.RoadLines.{line_node}
+use Rattle.expanded_graph.specs.declared.marks.ZoneMarks.{ZoneMarks}
+use Rattle.expanded_graph.specs.Marks.{AreMarks, mark_in}
 use Rattle.expanded_graph.specs.Travel.{place_of, nodes_on}
 use Rattle.ordered_lists.proofs.ListMembers.{In, in_map, from_map, in_from_contains, contains_from_in}
 use Rattle.expanded_graph.proofs.PlaceOrder.{places_rise}
@@ -78,19 +79,20 @@ module _ (M : Objects) (P : Rules) (w : WayId) where
 
   module _ (s : PieceSpan) (on : IsSpanOn M P w s) (nodes : List LineNode)
       (line : nodes ≡ map (line_node M P) (line_of M w)) (e : Piece) (named : e.name ≡ s.name)
-      (ended : e.end ≡ s.end) (unmarked : e.zone ≡ false)
+      (ended : e.end ≡ s.end)
       (placed : e.places ≡ filter_map place_of (nodes_on s nodes)) where
     count : length e.places ≡ s.end - s.name.index + 1
     count = ap length placed ∙ places_count M P s on.is nodes (own_line nodes s on line)
 
-    pub entry : Lists (λ c. c.before) names_cmp (IsContextEntry M P (piece_of s)) e.contexts → IsPieceEntry M P w e
-    entry contexts = record {
+    pub entry : e.zone ≡ is_marked M P w s.name.dir
+        → Lists (λ c. c.before) names_cmp (IsContextEntry M P (piece_of s)) e.contexts → IsPieceEntry M P w e
+    entry marked contexts = record {
       piece = piece_of s;
       is = on.is;
       of = on.of;
       named = named;
       end_is = ended;
-      unmarked = unmarked;
+      marked = marked;
       count = count;
       places = λ k x h. places_at M P s on.is nodes (own_line nodes s on line) k x
           (subst (λ l. slice_get l k ≡ Some x) placed h);
@@ -98,7 +100,7 @@ module _ (M : Objects) (P : Rules) (w : WayId) where
     }
 
     pub form : length nodes ≤ 65535 → Lists (λ c. c.before) names_cmp (IsContextEntry M P (piece_of s)) e.contexts
-        → begins_alone e.contexts → AllByRecursion IsContextForm e.contexts → IsPieceForm e
+        → begins_alone e.contexts → AllByRecursion (IsContextForm true) e.contexts → IsPieceForm true e
     form short contexts first forms =
         let up = on.is.ascends in
         let inside = within M P s on.is nodes (own_line nodes s on line) in
@@ -106,7 +108,6 @@ module _ (M : Objects) (P : Rules) (w : WayId) where
         record {
           ascends = omega arith;
           bounded = omega arith;
-          unmarked = unmarked;
           place_count = omega (arith, count);
           first_alone = first;
           contexts_ascend = contexts.ascending;
@@ -155,7 +156,7 @@ module _ (M : Objects) (P : Rules) (w : WayId) where
     pieces_rise total = places_rise (λ (p : Piece). p.name) total w pieces way_of_entry names_ascend
 
     -- the block with these pieces
-    pub is_block : OneEntry M P → (b : Block) → b.way ≡ w → b.pieces ≡ pieces → IsForward M P w b
+    pub is_block : OneEntry M P → (b : Block) → b.way ≡ w → b.pieces ≡ pieces → IsBlock M P w b
     is_block one b of has =
         record {
           way = of;
@@ -163,10 +164,10 @@ module _ (M : Objects) (P : Rules) (w : WayId) where
               (pieces_listed one);
         }
 
-    pub has_form : IsTotalOrder way_cmp → All IsPieceForm pieces → (l : List Piece) → l ≡ pieces
-        → AllByRecursion IsPieceForm l × IsTrue (rises place_cmp (map (λ (p : Piece). p.name) l))
+    pub has_form : IsTotalOrder way_cmp → All (IsPieceForm true) pieces → (l : List Piece) → l ≡ pieces
+        → AllByRecursion (IsPieceForm true) l × IsTrue (rises place_cmp (map (λ (p : Piece). p.name) l))
     has_form total forms l same = (
-      subst (AllByRecursion IsPieceForm) (sym same) (recursion_from_All IsPieceForm pieces forms),
+      subst (AllByRecursion (IsPieceForm true)) (sym same) (recursion_from_All (IsPieceForm true) pieces forms),
       ap
           (λ (x : List Piece). rises place_cmp (map (λ (p : Piece). p.name) x)) same ∙ pieces_rise total,
     )
@@ -191,3 +192,10 @@ module _ (M : Objects) (P : Rules) (w : WayId) where
       let first = on.sound s (contains_from_in (s ∷ spans) s (inl refl)) in
       let opens = piece_open (piece_of s) first.is in
       open_road s.name.dir (subst (λ v. is_open M P v s.name.dir ≡ true) first.of opens)
+
+-- ---- marks
+
+pub marked_in : (M : Objects) (P : Rules) (w : WayId) (m : ZoneMarks) → AreMarks M P w m → (d : Dir)
+    → mark_in m d ≡ is_marked M P w d
+marked_in M P w m are Forward = are.forward
+marked_in M P w m are Backward = are.backward

@@ -7,7 +7,7 @@ use Rattle.expanded_graph.specs.declared.coming.Coming.{Coming}
 use Rattle.expanded_graph.specs.Contexts.{AreEndings, IsReached}
 use Rattle.expanded_graph.specs.Intersections.{IsIntersection}
 use Rattle.expanded_graph.specs.States.{AreStates}
-use Rattle.expanded_graph.specs.Travel.{Arrives}
+use Rattle.way_pieces.specs.Names.{Arrives}
 
 -- The piece is one of the network, and comes to the intersection, of which all is known, from the node. The automaton
 -- watches for the words near its way, its states have their facts, and the endings are those of these states.

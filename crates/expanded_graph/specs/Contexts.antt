@@ -12,15 +12,15 @@ use Rattle.road_model.specs.declared.lists.Context.{Context}
 use Rattle.road_model.specs.Rules.{Rules}
 use Rattle.road_model.specs.Pieces.{Span}
 use Rattle.road_model.specs.Network.{Legal, IsContext}
-use Rattle.ordered_lists.specs.Orders.{rises}
+use Rattle.ordered_lists.specs.Orders.{Lists, rises}
 use Rattle.road_model.specs.Orders.{name_cmp, names_cmp}
 use Rattle.road_model.specs.Turning.{HasTurnSteps}
-use Rattle.road_model.specs.Blocks.{IsContextEntry, name_of}
+use Rattle.road_model.specs.Blocks.{IsArcEntry, name_of}
 use Rattle.turn_automata.specs.Machines.{Machine, StandsFor, Watches}
 use Rattle.expanded_graph.specs.declared.states.StateFacts.{StateFacts}
 use Rattle.expanded_graph.specs.declared.endings.Ending.{Ending}
 use Rattle.expanded_graph.specs.States.{AreStates}
-use Rattle.expanded_graph.specs.Travel.{Arrives}
+use Rattle.way_pieces.specs.Names.{Arrives}
 
 -- Context c ends at node v, to which its last piece comes from node u. The automaton watches for the words near this
 -- piece's way, and its state with number n is the one in which the context's turn steps leave it.
@@ -76,17 +76,25 @@ pub record AreEndings (m : Machine) (facts : List StateFacts) (es : List Ending)
   pub each : (name : PieceName)
       → AreEndingsWith m facts name.way name (map (λ e. e.state) (filter (λ e. same_name e.piece name) es))
 
--- the context of the piece that ends in the state with number n, as it is written
+-- a context of the piece as it is written before its sources are: the names of the pieces before it, and its arcs
+pub record IsBareContext (M : Objects) (P : Rules) (p : Span) (e : Context) : Type 0 where
+  pub before : List Span
+  pub context : IsContext M P (before ++ p ∷ [])
+  pub named : e.before ≡ map name_of before
+  pub arcs : Lists (λ a. a.piece) name_cmp (IsArcEntry M P (before ++ p ∷ [])) e.arcs
+  pub none : e.sources ≡ []
+
+-- the context of the piece that ends in the state with number n, as it is written before its sources are
 pub record IsContextIn (M : Objects) (P : Rules) (m : Machine) (p : Span) (n : ℕ) (e : Context) : Type 0 where
-  pub entry : IsContextEntry M P p e
+  pub entry : IsBareContext M P p e
   pub longer : entry.before ≡ [] → ⊥
   pub steps : List Step
   pub at : StandsFor m n steps
   pub turn : HasTurnSteps (entry.before ++ p ∷ []) steps
 
--- each context of the piece is written once
+-- each context of the piece is written once, without its sources
 pub record HasContexts (M : Objects) (P : Rules) (p : Span) (es : List Context) : Type 0 where
-  pub sound : (e : Context) → Contains es e → IsContextEntry M P p e
+  pub sound : (e : Context) → Contains es e → IsBareContext M P p e
   pub all : (before : List Span) → IsContext M P (before ++ p ∷ []) → (e : Context) × Contains es e
       × (e.before ≡ map name_of before)
   pub distinct : IsDistinct (eq_by_cmp names_cmp) (map (λ e. e.before) es)

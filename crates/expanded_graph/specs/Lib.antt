@@ -1,7 +1,9 @@
 pub mod Coming
 pub mod Contexts
 pub mod Known
+pub mod Marks
 pub mod Near
+pub mod Sources
 pub mod States
 pub mod Travel
 pub mod Intersections

@@ -1,14 +1,9 @@
--- The nodes of a line with where they lie, those that a piece passes, and where it ends.
-use Rattle.std.specs.Prelude.{◌≡◌, ◌+◌, ◌-◌, List, [], ◌∷◌, ◌++◌, take, drop, reverse, Option, Some}
+-- The nodes of a line with where they lie, and those that a piece passes.
+use Rattle.std.specs.Prelude.{◌+◌, ◌-◌, List, take, drop, reverse, Option}
 use Rattle.std.specs.Option.{option_map}
-use Rattle.road_base.specs.declared.ids.NodeId.{NodeId}
-use Rattle.road_base.specs.declared.ids.Step.{Step}
 use Rattle.road_base.specs.declared.ids.Dir.{Dir}
 use Rattle.road_base.specs.declared.ids.Dir.TheVariants.{Forward, Backward}
-use Rattle.road_base.specs.Objects.{Objects}
 use Rattle.road_model.specs.declared.lists.Place.{Place}
-use Rattle.road_model.specs.Lines.{tail_of, head_of}
-use Rattle.road_model.specs.Pieces.{Span, spell}
 use Rattle.way_pieces.specs.declared.spans.PieceSpan.{PieceSpan}
 use Rattle.way_lines.specs.declared.road_line.LineNode.{LineNode}
 
@@ -24,11 +19,3 @@ travelled Backward xs = reverse xs
 -- those of a way's nodes that the piece passes, in order of travel
 abbrev pub nodes_on : PieceSpan → List LineNode → List LineNode
 nodes_on s nodes = travelled s.name.dir (take (s.end - s.name.index + 1) (drop s.name.index nodes))
-
--- the piece's last step leads from node u to node v
-pub record Arrives (M : Objects) (p : Span) (u v : NodeId) : Type 0 where
-  pub front : List Step
-  pub last : Step
-  pub ends : spell p ≡ front ++ last ∷ []
-  pub tail : tail_of M last ≡ Some u
-  pub head : head_of M last ≡ Some v

@@ -56,7 +56,7 @@ pub fn arcs_at<M: World, P: Profile>(
 }
 
 /// The arc by the departure: none where it may not follow at the intersection, or a restriction forbids it.
-fn arc_by<M: World, P: Profile>(
+pub fn arc_by<M: World, P: Profile>(
     coming: &Coming<'_, M, P>,
     state: State,
     departure: Departure,

@@ -1,8 +1,8 @@
 //! The block of a way.
-ghost use Rattle.std.specs.Prelude.{◌≡◌, ◌≤◌, ◌+◌, [], length, map, IfOk, IsTrue, Contains};
+ghost use Rattle.std.specs.Prelude.{◌≡◌, ◌≤◌, ◌+◌, [], length, map, IfOk, IsTrue, true, Contains};
 ghost use Rattle.std.specs.List.{AllByRecursion};
 ghost use Rattle.ordered_lists.specs.Orders.{rises};
-ghost use Rattle.road_model.specs.Blocks.{IsForward};
+ghost use Rattle.road_model.specs.Blocks.{IsBlock};
 ghost use Rattle.road_model.specs.Format.{IsPieceForm, place_cmp};
 ghost use Rattle.road_model.specs.Lines.{line_of};
 ghost use Rattle.road_model.specs.Networks.{on, made_on, map_of};
@@ -21,8 +21,8 @@ use std::sync::ledger::Ledger;
 use way_lines::RoadLine;
 use way_pieces::{PieceSpan, WayPieces};
 
-/// The block of the way: its pieces with their nodes and locations, contexts and arcs. A way that isn't visible or is
-/// no road has no pieces. Adds one to the counter, also where no memory is found.
+/// The block of the way: its pieces with their marks, nodes and locations, and contexts with arcs and sources. A way
+/// that isn't visible or is no road has no pieces. Adds one to the counter, also where no memory is found.
 pub fn build_block<M: World, P: Profile, L: Ledger>(
     alloc: Global,
     world: &M,
@@ -30,8 +30,8 @@ pub fn build_block<M: World, P: Profile, L: Ledger>(
     way: WayId,
     steps: &mut Steps<L>,
 ) -> Result<Block, NoMemory>
-    ensures block { IfOk result (IsForward (M.objects world.now) (P.rules profile.now) way) }
-    ensures form { IfOk result (λ b. AllByRecursion IsPieceForm b.pieces
+    ensures block { IfOk result (IsBlock (M.objects world.now) (P.rules profile.now) way) }
+    ensures form { IfOk result (λ b. AllByRecursion (IsPieceForm true) b.pieces
         × IsTrue (rises place_cmp (map (λ p. p.name) b.pieces))) }
     ensures tick { steps.new ≡ steps.old + 1 }
 {
@@ -45,8 +45,8 @@ pub fn block_alone<M: World, P: Profile>(
     network: &Network<'_, M, P>,
     way: WayId,
 ) -> Result<Block, NoMemory>
-    ensures block { IfOk result (on network.now IsForward way) }
-    ensures form { IfOk result (λ b. AllByRecursion IsPieceForm b.pieces
+    ensures block { IfOk result (on network.now IsBlock way) }
+    ensures form { IfOk result (λ b. AllByRecursion (IsPieceForm true) b.pieces
         × IsTrue (rises place_cmp (map (λ p. p.name) b.pieces))) }
 {
     let tables = Tables::of(alloc, network, &[way], &NoneKnown)?;
@@ -62,8 +62,8 @@ pub fn block_of<M: World, P: Profile>(
 ) -> Result<Block, NoMemory>
     requires tables { on network.now AreTables tables.now }
     requires serve { Contains tables.now.ways.items way }
-    ensures block { IfOk result (on network.now IsForward way) }
-    ensures form { IfOk result (λ b. AllByRecursion IsPieceForm b.pieces
+    ensures block { IfOk result (on network.now IsBlock way) }
+    ensures form { IfOk result (λ b. AllByRecursion (IsPieceForm true) b.pieces
         × IsTrue (rises place_cmp (map (λ p. p.name) b.pieces))) }
 {
     if let Some(spans) = tables.pieces.spans_of(way) {
@@ -85,8 +85,8 @@ fn block_with<M: World, P: Profile>(
     requires tables { on network.now AreTables tables.now }
     requires serve { Contains tables.now.ways.items way }
     requires spans { on network.now AreSpans way spans.now }
-    ensures block { IfOk result (on network.now IsForward way) }
-    ensures form { IfOk result (λ b. AllByRecursion IsPieceForm b.pieces
+    ensures block { IfOk result (on network.now IsBlock way) }
+    ensures form { IfOk result (λ b. AllByRecursion (IsPieceForm true) b.pieces
         × IsTrue (rises place_cmp (map (λ p. p.name) b.pieces))) }
 {
     one_name(&network.profile);
@@ -115,8 +115,8 @@ fn block_along<M: World, P: Profile>(
         ≡ map (made_on network.now line_node) (line_of (map_of network.now) line.now.road.way) }
     requires short { length line.now.nodes.items ≤ 65535 }
     requires spans { on network.now AreSpans line.now.road.way spans.now }
-    ensures block { IfOk result (on network.now IsForward line.now.road.way) }
-    ensures form { IfOk result (λ b. AllByRecursion IsPieceForm b.pieces
+    ensures block { IfOk result (on network.now IsBlock line.now.road.way) }
+    ensures form { IfOk result (λ b. AllByRecursion (IsPieceForm true) b.pieces
         × IsTrue (rises place_cmp (map (λ p. p.name) b.pieces))) }
 {
     name_order();

@@ -1,8 +1,8 @@
 //! What builds the blocks of ways one after another.
-ghost use Rattle.std.specs.Prelude.{◌≡◌, ◌+◌, map, IfOk, IsTrue};
+ghost use Rattle.std.specs.Prelude.{◌≡◌, ◌+◌, map, IfOk, IsTrue, true};
 ghost use Rattle.std.specs.List.{AllByRecursion};
 ghost use Rattle.ordered_lists.specs.Orders.{rises};
-ghost use Rattle.road_model.specs.Blocks.{IsForward};
+ghost use Rattle.road_model.specs.Blocks.{IsBlock};
 ghost use Rattle.way_pieces.specs.Known.{AreKnown};
 ghost use Rattle.road_model.specs.Format.{IsPieceForm, place_cmp};
 ghost use Rattle.road_model.specs.Networks.{on};
@@ -85,11 +85,11 @@ impl<'a, M: World, P: Profile> GraphBuilder<'a, M, P> {
         self.network.profile
     }
 
-    /// The block of the way: its pieces with their nodes and locations, contexts and arcs. A way that isn't visible
-    /// or is no road has no pieces. Adds one to the counter, also where no memory is found.
+    /// The block of the way: its pieces with their marks, nodes and locations, and contexts with arcs and sources. A
+    /// way that isn't visible or is no road has no pieces. Adds one to the counter, also where no memory is found.
     pub fn block<L: Ledger>(&self, way: WayId, steps: &mut Steps<L>) -> Result<Block, NoMemory>
-        ensures block { IfOk result (IsForward (M.objects self.now.world) (P.rules self.now.profile) way) }
-        ensures form { IfOk result (λ b. AllByRecursion IsPieceForm b.pieces
+        ensures block { IfOk result (IsBlock (M.objects self.now.world) (P.rules self.now.profile) way) }
+        ensures form { IfOk result (λ b. AllByRecursion (IsPieceForm true) b.pieces
             × IsTrue (rises place_cmp (map (λ p. p.name) b.pieces))) }
         ensures tick { steps.new ≡ steps.old + 1 }
     {

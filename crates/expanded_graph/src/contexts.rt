@@ -1,15 +1,15 @@
-//! The contexts of a piece: the piece alone, and behind other pieces those that begin a word of a restriction.
+//! The contexts of a piece with their arcs: the piece alone, and behind other pieces those that begin a word of a
+//! restriction.
 ghost use Rattle.std.specs.Prelude.{◌≡◌, [], map, IfOk, OnOk, IsTrue};
-ghost use Rattle.std.specs.List.{AllByRecursion, IsDistinct};
+ghost use Rattle.std.specs.List.{IsDistinct};
 ghost use Rattle.std.specs.List.Sorted.{IsPermutation};
 ghost use Rattle.std.specs.Ordering.{eq_by_cmp};
 ghost use Rattle.ordered_lists.specs.Orders.{Lists, rises};
 ghost use Rattle.road_model.specs.Orders.{names_cmp};
-ghost use Rattle.road_model.specs.Blocks.{IsContextEntry};
-ghost use Rattle.road_model.specs.Format.{IsContextForm, begins_alone};
+ghost use Rattle.road_model.specs.Format.{begins_alone};
 ghost use Rattle.way_pieces.specs.Names.{piece_of};
 ghost use Rattle.expanded_graph.specs.Coming.{IsComing};
-ghost use Rattle.expanded_graph.specs.Contexts.{IsEnding, EndsWithName, IsContextIn, HasContexts};
+ghost use Rattle.expanded_graph.specs.Contexts.{IsBareContext, IsEnding, EndsWithName, IsContextIn, HasContexts};
 ghost use Rattle.road_model.specs.Networks.{on};
 
 use crate::arcs::arcs_at;
@@ -19,25 +19,23 @@ use crate::last_steps::last_step;
 use crate::names::names_before;
 use road_base::NoMemory;
 use road_model::laws::{context_steps, drive_grows, name_order, one_name};
-use road_model::{Arcs, Context, Names, Profile, World};
+use road_model::{Arcs, Context, Names, Profile, Sources, World};
 use std::alloc::Global;
 use std::cmp::Ordering;
 use turn_automata::State;
 
-/// The contexts of the piece that comes to an intersection, by length and names.
+/// The contexts of the piece that comes to an intersection, by length and names, without their sources.
 pub fn contexts_of<M: World, P: Profile>(
     alloc: Global,
     coming: &Coming<'_, M, P>,
 ) -> Result<Vec<Context>, NoMemory>
     requires { IsComing coming.now }
     ensures listed { IfOk result (λ v. Lists (λ c. c.before) names_cmp
-        (on coming.now.network.now IsContextEntry (piece_of coming.now.span)) v.items) }
+        (on coming.now.network.now IsBareContext (piece_of coming.now.span)) v.items) }
     ensures alone { IfOk result (λ v. begins_alone v.items) }
-    ensures forms { IfOk result (λ v. AllByRecursion IsContextForm v.items) }
 {
     name_order();
     one_name(&coming.network.profile);
-    context_steps(&coming.network.profile);
     let mut contexts = all_contexts(alloc, coming)?;
     put_in_order(&mut contexts)?;
     Ok(contexts)
@@ -73,7 +71,7 @@ fn context_alone<M: World, P: Profile>(
     coming: &Coming<'_, M, P>,
 ) -> Result<Context, NoMemory>
     requires { IsComing coming.now }
-    ensures entry { IfOk result (on coming.now.network.now IsContextEntry (piece_of coming.now.span)) }
+    ensures entry { IfOk result (on coming.now.network.now IsBareContext (piece_of coming.now.span)) }
     ensures alone { IfOk result (λ e. e.before ≡ []) }
 {
     drive_grows(&coming.network.profile);
@@ -82,6 +80,7 @@ fn context_alone<M: World, P: Profile>(
     Ok(Context {
         before: Names::from_list(Vec::new(alloc)),
         arcs: Arcs::from_list(arcs),
+        sources: Sources::from_list(Vec::new(alloc)),
     })
 }
 
@@ -106,6 +105,7 @@ fn context_in<M: World, P: Profile>(
     Ok(Context {
         before: Names::from_list(names),
         arcs: Arcs::from_list(arcs),
+        sources: Sources::from_list(Vec::new(alloc)),
     })
 }
 
@@ -121,7 +121,7 @@ fn put_in_order(contexts: &mut Vec<Context>) -> Result<(), NoMemory>
 }
 
 /// Compares lists of names by length, then name by name.
-fn by_names(a: &Names, b: &Names) -> Ordering
+pub fn by_names(a: &Names, b: &Names) -> Ordering
     ensures { result ≡ names_cmp a.now b.now }
 {
     name_order();

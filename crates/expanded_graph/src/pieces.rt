@@ -1,5 +1,5 @@
 //! Pieces with the nodes that they pass and their contexts.
-ghost use Rattle.std.specs.Prelude.{◌≡◌, ◌≤◌, length, map, IfOk, Contains};
+ghost use Rattle.std.specs.Prelude.{◌≡◌, ◌≤◌, length, map, IfOk, true, Contains};
 ghost use Rattle.std.specs.List.{All, AllByRecursion};
 ghost use Rattle.road_model.specs.Lines.{line_of};
 ghost use Rattle.road_model.specs.Pieces.{IsPiece};
@@ -9,16 +9,22 @@ ghost use Rattle.road_model.specs.Blocks.{IsContextEntry, IsPieceEntry};
 ghost use Rattle.road_model.specs.Format.{IsContextForm, IsPieceForm, begins_alone};
 ghost use Rattle.road_model.specs.Networks.{on, made_on, map_of};
 ghost use Rattle.way_lines.specs.RoadLines.{line_node};
-ghost use Rattle.way_pieces.specs.Names.{IsSpanOn, piece_of};
+ghost use Rattle.way_pieces.specs.Names.{Arrives, IsDeparture, IsSpanOn, piece_of};
+ghost use Rattle.expanded_graph.specs.Contexts.{IsBareContext};
+ghost use Rattle.expanded_graph.specs.Intersections.{IsIntersection};
+ghost use Rattle.expanded_graph.specs.Marks.{AreMarks};
 ghost use Rattle.expanded_graph.specs.Tables.{AreTables};
-ghost use Rattle.expanded_graph.specs.Travel.{Arrives};
 
+use crate::attached::with_sources;
 use crate::coming::Coming;
 use crate::contexts::contexts_of;
 use crate::intersections::Intersection;
-use crate::places::{Arrival, arrival_of, places_of};
+use crate::marks::ZoneMarks;
+use crate::places::{PieceEnd, PieceStart, end_of, places_of, start_of};
+use crate::sources::leading_at;
 use crate::tables::Tables;
-use road_base::NoMemory;
+use road_base::{NoMemory, NodeId};
+use road_model::laws::{context_steps, contexts, name_order, one_name};
 use road_model::{Context, Contexts, Network, Piece, Places, Profile, World};
 use std::alloc::Global;
 use way_lines::{NodeRules, RoadLine};
@@ -40,22 +46,24 @@ pub fn pieces_along<M: World, P: Profile>(
     requires spans { All (on network.now IsSpanOn line.now.road.way) spans.now }
     ensures names { IfOk result (λ v. map (λ p. p.name) v.items ≡ map (λ s. s.name) spans.now) }
     ensures entries { IfOk result (λ v. All (on network.now IsPieceEntry line.now.road.way) v.items) }
-    ensures forms { IfOk result (λ v. All IsPieceForm v.items) }
+    ensures forms { IfOk result (λ v. All (IsPieceForm true) v.items) }
 {
+    let marks = ZoneMarks::of(network, line.road.way);
     let mut pieces = Vec::with_capacity(alloc, spans.len())?;
     for span in spans {
-        let piece = piece_at(alloc, network, tables, line, *span)?;
+        let piece = piece_at(alloc, network, tables, line, marks, *span)?;
         pieces.push(piece)?;
     }
     Ok(pieces)
 }
 
-/// The piece of the way at the span.
+/// The piece of the way at the span. The marks are those of the way.
 fn piece_at<M: World, P: Profile>(
     alloc: Global,
     network: &Network<'_, M, P>,
     tables: &Tables,
     line: &RoadLine,
+    marks: ZoneMarks,
     span: PieceSpan,
 ) -> Result<Piece, NoMemory>
     requires tables { on network.now AreTables tables.now }
@@ -63,66 +71,109 @@ fn piece_at<M: World, P: Profile>(
     requires line { line.now.nodes.items
         ≡ map (made_on network.now line_node) (line_of (map_of network.now) line.now.road.way) }
     requires short { length line.now.nodes.items ≤ 65535 }
+    requires marks { on network.now AreMarks line.now.road.way marks }
     requires span { on network.now IsSpanOn line.now.road.way span }
     ensures name { IfOk result (λ p. p.name ≡ span.name) }
     ensures entry { IfOk result (on network.now IsPieceEntry line.now.road.way) }
-    ensures form { IfOk result IsPieceForm }
+    ensures form { IfOk result (IsPieceForm true) }
 {
     let nodes = line.nodes.as_slice();
     let places = places_of(alloc, nodes, span)?;
-    let arrival = arrival_of(network, nodes, span);
-    let contexts = contexts_at(alloc, network, tables, span, arrival)?;
+    let start = start_of(network, nodes, span);
+    let end = end_of(network, nodes, span);
+    let contexts = contexts_between(alloc, network, tables, span, start, end)?;
     Ok(Piece {
         name: span.name,
         end: span.end,
-        zone: false,
+        zone: marks.toward(span.name.dir),
         places: Places::from_list(places),
         contexts: Contexts::from_list(contexts),
     })
 }
 
-/// The contexts of the piece of a way that the tables serve, where it ends with this arrival. What leaves a node that
-/// isn't found among the intersections is found for this piece alone.
-fn contexts_at<'a, M: World, P: Profile>(
+/// The contexts with their sources of the piece of a way that the tables serve, where it starts and ends so.
+fn contexts_between<M: World, P: Profile>(
     alloc: Global,
-    network: &'a Network<'a, M, P>,
-    tables: &'a Tables,
+    network: &Network<'_, M, P>,
+    tables: &Tables,
     span: PieceSpan,
-    arrival: Arrival,
+    start: PieceStart,
+    end: PieceEnd,
 ) -> Result<Vec<Context>, NoMemory>
     requires tables { on network.now AreTables tables.now }
     requires serve { Contains tables.now.ways.items span.name.way }
     requires piece { on network.now IsPiece (piece_of span) }
-    requires arrives { Arrives (map_of network.now) (piece_of span) arrival.from arrival.at }
+    requires leaves { on network.now IsDeparture start.at start.departure }
+    requires named { start.departure.piece ≡ span.name }
+    requires arrives { Arrives (map_of network.now) (piece_of span) end.from end.at }
     ensures listed { IfOk result (λ v. Lists (λ c. c.before) names_cmp (on network.now IsContextEntry (piece_of span))
         v.items) }
     ensures alone { IfOk result (λ v. begins_alone v.items) }
-    ensures forms { IfOk result (λ v. AllByRecursion IsContextForm v.items) }
+    ensures forms { IfOk result (λ v. AllByRecursion (IsContextForm true) v.items) }
 {
-    let from = arrival.from;
-    let states = &tables.states;
-    let endings = tables.endings.as_slice();
-    if let Some(intersection) = tables.intersections.find(arrival.at) {
-        let coming = Coming {
-            network,
-            states,
-            endings,
-            intersection,
-            span,
-            from,
-        };
-        return contexts_of(alloc, &coming);
+    name_order();
+    one_name(&network.profile);
+    context_steps(&network.profile);
+    contexts(&network.profile);
+    let bare = contexts_at(alloc, network, tables, span, end)?;
+    let leading = leading_at(alloc, network, tables, start)?;
+    let written = with_sources(alloc, network, bare, leading)?;
+    Ok(written)
+}
+
+/// The contexts without their sources of the piece of a way that the tables serve, where it ends so. What is to be
+/// known of a node that isn't found among the intersections is found for this piece alone.
+fn contexts_at<M: World, P: Profile>(
+    alloc: Global,
+    network: &Network<'_, M, P>,
+    tables: &Tables,
+    span: PieceSpan,
+    end: PieceEnd,
+) -> Result<Vec<Context>, NoMemory>
+    requires tables { on network.now AreTables tables.now }
+    requires serve { Contains tables.now.ways.items span.name.way }
+    requires piece { on network.now IsPiece (piece_of span) }
+    requires arrives { Arrives (map_of network.now) (piece_of span) end.from end.at }
+    ensures listed { IfOk result (λ v. Lists (λ c. c.before) names_cmp (on network.now IsBareContext (piece_of span))
+        v.items) }
+    ensures alone { IfOk result (λ v. begins_alone v.items) }
+{
+    if let Some(intersection) = tables.intersections.find(end.at) {
+        return contexts_there(alloc, network, tables, intersection, span, end.from);
     }
-    let departures = tables.pieces.departures(alloc, network, arrival.at)?;
-    let rules = NodeRules::of(network, arrival.at);
+    let departures = tables.pieces.departures(alloc, network, end.at)?;
+    let arrivals = tables.pieces.arrivals(alloc, network, end.at)?;
+    let rules = NodeRules::of(network, end.at);
     let intersection = Intersection {
         rules,
         departures: departures.as_slice(),
+        arrivals: arrivals.as_slice(),
     };
+    contexts_there(alloc, network, tables, intersection, span, end.from)
+}
+
+/// The contexts without their sources of the piece, which comes to the intersection from the node.
+fn contexts_there<M: World, P: Profile>(
+    alloc: Global,
+    network: &Network<'_, M, P>,
+    tables: &Tables,
+    intersection: Intersection<'_>,
+    span: PieceSpan,
+    from: NodeId,
+) -> Result<Vec<Context>, NoMemory>
+    requires tables { on network.now AreTables tables.now }
+    requires serve { Contains tables.now.ways.items span.name.way }
+    requires intersection { on network.now IsIntersection intersection }
+    requires piece { on network.now IsPiece (piece_of span) }
+    requires arrives { Arrives (map_of network.now) (piece_of span) from intersection.rules.node }
+    ensures listed { IfOk result (λ v. Lists (λ c. c.before) names_cmp (on network.now IsBareContext (piece_of span))
+        v.items) }
+    ensures alone { IfOk result (λ v. begins_alone v.items) }
+{
     let coming = Coming {
         network,
-        states,
-        endings,
+        states: &tables.states,
+        endings: tables.endings.as_slice(),
         intersection,
         span,
         from,

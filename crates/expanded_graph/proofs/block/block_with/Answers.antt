@@ -8,7 +8,7 @@ use Rattle.road_base.specs.Objects.{Objects}
 use Rattle.road_model.specs.Rules.{Rules}
 use Rattle.road_model.specs.Lines.{line_of}
 use Rattle.road_model.specs.Driving.{is_road}
-use Rattle.road_model.specs.Blocks.{IsPieceEntry, IsForward}
+use Rattle.road_model.specs.Blocks.{IsPieceEntry, IsBlock}
 use Rattle.way_lines.specs.declared.road_line.RoadLine.{RoadLine}
 use Rattle.way_lines.specs.RoadLines.{IsRoadLine, line_node}
 use Rattle.way_pieces.specs.declared.spans.PieceSpan.{PieceSpan}
@@ -66,7 +66,7 @@ pub returns-in-Some-clause-block : goal.returns-in-Some-clause-block
 returns-in-Some-clause-block g c =
     let M = g.M.World.objects c.args.network.now.world.now in
     let P = g.P.Profile.rules c.args.network.now.profile in
-    subst (λ (w : WayId). IfOk c.block_along.result (IsForward M P w))
+    subst (λ (w : WayId). IfOk c.block_along.result (IsBlock M P w))
     (c.in-Some.ensures M P c.requires.tables.pieces).of c.block_along.ensures.block
 
 pub block_along-requires-2-clause-line : goal.block_along-requires-2-clause-line

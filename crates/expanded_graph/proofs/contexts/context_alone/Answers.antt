@@ -25,3 +25,4 @@ returns-clause-entry g c =
     (sym c.from_list-2.ensures) (c.in_ok-arcs.ensures (p ∷ []) reached) in
     entry_alone M P (c.drive_grows.ensures.alone M) m facts p c.requires.piece c.requires.states last.0
     c.last_step.result last.1 n c.start-state.ensures.state _ (c.from_list.ensures ∙ c.new.ensures.items) arcs
+    (c.from_list-3.ensures ∙ c.new-2.ensures.items)

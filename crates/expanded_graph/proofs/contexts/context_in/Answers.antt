@@ -41,3 +41,4 @@ returns g c =
     context_in M P laws m facts c.closed.ensures.closed c.closed.ensures.lists p c.requires.coming.piece
     c.requires.coming.states
     c.args.state.0 c.requires.ending c.requires.named _ (c.from_list.ensures ∙ names) arcs
+    (c.from_list-3.ensures ∙ c.new.ensures.items)

@@ -1,6 +1,6 @@
 -- All contexts are there, in order.
 use Rattle.way_pieces.specs.Names.{piece_of}
-use Rattle.expanded_graph.proofs.ContextForms.{listed, first_alone, forms}
+use Rattle.expanded_graph.proofs.ContextOrder.{listed, first_alone}
 use Rattle.expanded_graph.proofs.contexts.contexts_of.Goals as goal
 
 pub put_in_order-requires : goal.put_in_order-requires
@@ -11,7 +11,7 @@ returns-clause-listed g c =
     let M = g.M.World.objects c.args.coming.now.network.now.world.now in
     let P = g.P.Profile.rules c.args.coming.now.network.now.profile in
     listed M P (c.one_name.ensures.pieces M) c.name_order.ensures.names c.name_order.ensures.lists
-    (c.context_steps.ensures.short M) (piece_of c.args.coming.now.span) c.requires.piece c.in_ok-contexts.contexts.items
+    (piece_of c.args.coming.now.span) c.requires.piece c.in_ok-contexts.contexts.items
     c.put_in_order.new.contexts.items c.in_ok-contexts.ensures c.in_ok-put_in_order.ensures.same
     c.in_ok-put_in_order.ensures.ascending
 
@@ -20,15 +20,6 @@ returns-clause-alone g c =
     let M = g.M.World.objects c.args.coming.now.network.now.world.now in
     let P = g.P.Profile.rules c.args.coming.now.network.now.profile in
     first_alone M P (c.one_name.ensures.pieces M) c.name_order.ensures.names c.name_order.ensures.lists
-    (c.context_steps.ensures.short M) (piece_of c.args.coming.now.span) c.requires.piece c.in_ok-contexts.contexts.items
-    c.put_in_order.new.contexts.items c.in_ok-contexts.ensures c.in_ok-put_in_order.ensures.same
-    c.in_ok-put_in_order.ensures.ascending
-
-pub returns-clause-forms : goal.returns-clause-forms
-returns-clause-forms g c =
-    let M = g.M.World.objects c.args.coming.now.network.now.world.now in
-    let P = g.P.Profile.rules c.args.coming.now.network.now.profile in
-    forms M P (c.one_name.ensures.pieces M) c.name_order.ensures.names c.name_order.ensures.lists
-    (c.context_steps.ensures.short M) (piece_of c.args.coming.now.span) c.requires.piece c.in_ok-contexts.contexts.items
+    (piece_of c.args.coming.now.span) c.requires.piece c.in_ok-contexts.contexts.items
     c.put_in_order.new.contexts.items c.in_ok-contexts.ensures c.in_ok-put_in_order.ensures.same
     c.in_ok-put_in_order.ensures.ascending

@@ -1,5 +1,5 @@
 -- The piece lies on the line, and what is written of it is as it is to be.
-use Rattle.std.proofs.Common.{◌≡◌, ◌≤◌, List, length, filter_map, refl, sym, ◌∙◌, subst}
+use Rattle.std.proofs.Common.{true, ◌≡◌, ◌≤◌, List, length, filter_map, refl, sym, ◌∙◌, subst}
 use Rattle.std.specs.List.{AllByRecursion}
 use Rattle.road_model.specs.declared.lists.Context.{Context}
 use Rattle.ordered_lists.specs.Orders.{Lists}
@@ -9,7 +9,7 @@ use Rattle.road_model.specs.Format.{IsContextForm, begins_alone}
 use Rattle.way_pieces.specs.Names.{piece_of}
 use Rattle.expanded_graph.specs.Travel.{place_of, nodes_on}
 use Rattle.expanded_graph.proofs.PiecePlaces.{within}
-use Rattle.expanded_graph.proofs.WrittenPieces.{own_line, entry, form}
+use Rattle.expanded_graph.proofs.WrittenPieces.{own_line, entry, form, marked_in}
 use Rattle.expanded_graph.proofs.pieces.piece_at.Goals as goal
 
 pub places_of-requires-clause-within : goal.places_of-requires-clause-within
@@ -20,16 +20,30 @@ places_of-requires-clause-within g c =
     (own_line M P c.args.line.now.road.way c.as_slice-nodes.result.now c.args.span c.requires.span
     (c.as_slice-nodes.ensures.value ∙ c.requires.line))
 
-pub arrival_of-arrival-requires-clause-within : goal.arrival_of-arrival-requires-clause-within
-arrival_of-arrival-requires-clause-within g c =
+pub start_of-start-requires-clause-within : goal.start_of-start-requires-clause-within
+start_of-start-requires-clause-within g c =
     let M = g.M.World.objects c.args.network.now.world.now in
     let P = g.P.Profile.rules c.args.network.now.profile in
     within M P c.args.span c.requires.span.is c.as_slice-nodes.result.now
     (own_line M P c.args.line.now.road.way c.as_slice-nodes.result.now c.args.span c.requires.span
     (c.as_slice-nodes.ensures.value ∙ c.requires.line))
 
-pub arrival_of-arrival-requires-clause-line : goal.arrival_of-arrival-requires-clause-line
-arrival_of-arrival-requires-clause-line g c =
+pub end_of-end-requires-clause-within : goal.end_of-end-requires-clause-within
+end_of-end-requires-clause-within g c =
+    let M = g.M.World.objects c.args.network.now.world.now in
+    let P = g.P.Profile.rules c.args.network.now.profile in
+    within M P c.args.span c.requires.span.is c.as_slice-nodes.result.now
+    (own_line M P c.args.line.now.road.way c.as_slice-nodes.result.now c.args.span c.requires.span
+    (c.as_slice-nodes.ensures.value ∙ c.requires.line))
+
+pub start_of-start-requires-clause-line : goal.start_of-start-requires-clause-line
+start_of-start-requires-clause-line g c =
+    own_line (g.M.World.objects c.args.network.now.world.now) (g.P.Profile.rules c.args.network.now.profile)
+    c.args.line.now.road.way c.as_slice-nodes.result.now c.args.span c.requires.span
+    (c.as_slice-nodes.ensures.value ∙ c.requires.line)
+
+pub end_of-end-requires-clause-line : goal.end_of-end-requires-clause-line
+end_of-end-requires-clause-line g c =
     own_line (g.M.World.objects c.args.network.now.world.now) (g.P.Profile.rules c.args.network.now.profile)
     c.args.line.now.road.way c.as_slice-nodes.result.now c.args.span c.requires.span
     (c.as_slice-nodes.ensures.value ∙ c.requires.line)
@@ -45,8 +59,9 @@ returns-clause-entry g c =
     let listed =
     subst (λ (l : List Context). Lists (λ x. x.before) names_cmp (IsContextEntry M P (piece_of s)) l)
     (sym c.from_list-2.ensures) c.in_ok-contexts.ensures.listed in
+    let marked = c.toward.ensures ∙ marked_in M P c.args.line.now.road.way c.args.marks c.requires.marks s.name.dir in
     entry M P c.args.line.now.road.way s c.requires.span nodes (c.as_slice-nodes.ensures.value ∙ c.requires.line) _
-    refl refl refl placed listed
+    refl refl placed marked listed
 
 pub returns-clause-form : goal.returns-clause-form
 returns-clause-form g c =
@@ -60,7 +75,8 @@ returns-clause-form g c =
     subst (λ (l : List Context). Lists (λ x. x.before) names_cmp (IsContextEntry M P (piece_of s)) l)
     (sym c.from_list-2.ensures) c.in_ok-contexts.ensures.listed in
     let first = subst begins_alone (sym c.from_list-2.ensures) c.in_ok-contexts.ensures.alone in
-    let forms = subst (AllByRecursion IsContextForm) (sym c.from_list-2.ensures) c.in_ok-contexts.ensures.forms in
+    let forms = subst (AllByRecursion (IsContextForm true)) (sym c.from_list-2.ensures)
+    c.in_ok-contexts.ensures.forms in
     form M P c.args.line.now.road.way s c.requires.span nodes (c.as_slice-nodes.ensures.value ∙ c.requires.line) _
-    refl refl refl placed (subst (λ l. length l ≤ 65535) (sym c.as_slice-nodes.ensures.value) c.requires.short) listed
+    refl refl placed (subst (λ l. length l ≤ 65535) (sym c.as_slice-nodes.ensures.value) c.requires.short) listed
     first forms

@@ -1,5 +1,5 @@
 -- One piece more was written.
-use Rattle.std.proofs.Common.{[], ◌∷◌, ◌++◌}
+use Rattle.std.proofs.Common.{[], ◌∷◌, ◌++◌, true}
 use Rattle.std.proofs.lemmas.List.Elements.{All-push, All-same}
 use Rattle.road_model.specs.Blocks.{IsPieceEntry}
 use Rattle.road_model.specs.Format.{IsPieceForm}
@@ -18,6 +18,6 @@ loop-span-preserved g c =
           c.loop-span-test.true grown c.in_ok-piece.ensures.name c.loop-span.invariant.names;
       entries = All-same Is c.push.new.self.items (so_far ++ piece ∷ []) grown
           (All-push Is so_far piece c.loop-span.invariant.entries c.in_ok-piece.ensures.entry);
-      forms = All-same IsPieceForm c.push.new.self.items (so_far ++ piece ∷ []) grown
-          (All-push IsPieceForm so_far piece c.loop-span.invariant.forms c.in_ok-piece.ensures.form);
+      forms = All-same (IsPieceForm true) c.push.new.self.items (so_far ++ piece ∷ []) grown
+          (All-push (IsPieceForm true) so_far piece c.loop-span.invariant.forms c.in_ok-piece.ensures.form);
     }

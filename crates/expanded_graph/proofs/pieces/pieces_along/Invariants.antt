@@ -1,4 +1,4 @@
-use Rattle.std.proofs.Common.{◌≡◌, map, take}
+use Rattle.std.proofs.Common.{◌≡◌, map, take, true}
 use Rattle.std.specs.List.{All}
 use Rattle.road_model.specs.Blocks.{IsPieceEntry}
 use Rattle.road_model.specs.Format.{IsPieceForm}
@@ -11,5 +11,5 @@ invariant-loop-span g l = record {
   entries : All
       (IsPieceEntry (g.M.World.objects l.network.world.now) (g.P.Profile.rules l.network.profile) l.line.road.way)
       l.pieces.items;
-  forms : All IsPieceForm l.pieces.items;
+  forms : All (IsPieceForm true) l.pieces.items;
 }

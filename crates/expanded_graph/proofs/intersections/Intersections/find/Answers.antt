@@ -1,4 +1,4 @@
--- What stands at the place in both lists is told of the node there.
+-- What stands at the place in the lists is told of the node there.
 use Rattle.std.proofs.Common.{◌≡◌, length, Some, slice_get, ap}
 use Rattle.std.proofs.lemmas.Option.{slice_get_read}
 use Rattle.expanded_graph.proofs.intersections.Intersections.find.Goals as goal
@@ -10,4 +10,9 @@ returns-clause-is c = λ M P known.
     let here = c.index.result.now in
     let stands : slice_get rules at ≡ Some here =
     slice_get_read rules _ at here (ap length c.as_slice.ensures.value) c.in_ok-at.ensures c.index.ensures in
-    known.each at here c.at.result.now stands c.at.ensures
+    let leaving = known.leaving at here c.at.result.now stands c.at.ensures in
+    record {
+      rules = leaving.0;
+      leaving = leaving.1;
+      coming = known.coming at here c.at-2.result.now stands c.at-2.ensures;
+    }

@@ -1,4 +1,5 @@
--- The pieces are right without where they start, too.
+-- The pieces are right without where they start, too, and the tables serve these ways.
+use Rattle.std.proofs.Common.{ap, ◌∙◌}
 use Rattle.expanded_graph.proofs.tables.Tables.of_all.Goals as goal
 
 pub over-requires-clause-pieces : goal.over-requires-clause-pieces
@@ -6,3 +7,7 @@ over-requires-clause-pieces g c =
     let M = g.M.World.objects c.args.network.now.world.now in
     let P = g.P.Profile.rules c.args.network.now.profile in
     c.without_starts-pieces.ensures.are M P c.in_ok-pieces.ensures.are
+
+pub returns-clause-ways : goal.returns-clause-ways
+returns-clause-ways g c =
+    ap (λ v. v.items) c.in_ok-tables.ensures.ways ∙ c.in_ok-served.ensures.items_if_clones_equal (λ x y is. is)

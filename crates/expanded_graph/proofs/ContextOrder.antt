@@ -1,53 +1,26 @@
--- All contexts of a piece in order are what is to be listed, in the form in which graphs are written.
-use Rattle.std.proofs.Common.{
-  ◌≡◌,
-  ◌+◌,
-  ◌≤◌,
-  List,
-  [],
-  ◌∷◌,
-  ◌++◌,
-  length,
-  map,
-  inl,
-  inr,
-  refl,
-  sym,
-  ap,
-  ◌∙◌,
-  subst,
-  arith,
-  IsTrue,
-  Contains,
-  length-append,
-}
+-- All contexts of a piece in order are what is to be listed, the piece alone first.
+use Rattle.std.proofs.Common.{◌≡◌, List, [], ◌∷◌, length, map, inl, inr, refl, sym, ap, ◌∙◌, subst, arith, IsTrue}
+use Rattle.std.proofs.Common.{Contains}
 use Rattle.std.specs.declared.cmp.Ordering.TheVariants.{Greater}
 use Rattle.std.specs.Ordering.{nat_cmp, is_lt, ordering_then}
 use Rattle.std.specs.Cmp.{IsTotalOrder, nat_cmp_is}
 use Rattle.std.specs.Cmp.Lexicographic.{slice_cmp}
-use Rattle.std.specs.List.{AllByRecursion}
 use Rattle.std.specs.List.Sorted.{IsPermutation}
 use Rattle.std.proofs.lemmas.Bool.{false≢true}
-use Rattle.std.proofs.lemmas.List.{length-map}
 use Rattle.std.proofs.lemmas.List.Sorted.{Contains-permutation, IsPermutation-sym}
 use Rattle.road_base.specs.Objects.{Objects}
 use Rattle.road_model.specs.declared.lists.PieceName.{PieceName}
-use Rattle.road_model.specs.declared.lists.TurnArc.{TurnArc}
 use Rattle.road_model.specs.declared.lists.Context.{Context}
 use Rattle.road_model.specs.Rules.{Rules}
 use Rattle.road_model.specs.Pieces.{Span, IsPiece}
 use Rattle.road_model.specs.Contexts.{One}
-use Rattle.road_model.specs.Network.{IsContext}
 use Rattle.ordered_lists.specs.Orders.{Lists, rises}
 use Rattle.road_model.specs.Orders.{name_cmp, names_cmp}
-use Rattle.road_model.specs.Blocks.{name_of, IsContextEntry}
-use Rattle.road_model.specs.Format.{IsContextForm, begins_alone}
+use Rattle.road_model.specs.Format.{begins_alone}
 use Rattle.road_model.specs.Naming.{OnePiece}
-use Rattle.expanded_graph.specs.Contexts.{HasContexts}
-use Rattle.ordered_lists.proofs.ListMembers.{In, in_from_contains, contains_from_in}
+use Rattle.expanded_graph.specs.Contexts.{IsBareContext, HasContexts}
+use Rattle.ordered_lists.proofs.ListMembers.{In, in_from_contains}
 use Rattle.ordered_lists.proofs.AscendingLists.{climbs}
-use Rattle.road_model.proofs.WalkLists.{some_context}
-use Rattle.expanded_graph.proofs.DistinctNames.{each_member}
 use Rattle.expanded_graph.proofs.ContextStates.{one_context}
 
 no_less : (l : List PieceName) → IsTrue (is_lt (names_cmp l [])) → l ≡ []
@@ -57,10 +30,10 @@ no_less (x ∷ l) h =
     absurd (false≢true (ap (λ o. is_lt (ordering_then o (slice_cmp name_cmp (x ∷ l) []))) above ∙ h))
 
 module _ (M : Objects) (P : Rules) (one : OnePiece M P) (names : IsTotalOrder name_cmp)
-    (lists : IsTotalOrder names_cmp) (short : (c : List Span) → IsContext M P c → length c ≤ 1026) (p : Span)
-    (piece : IsPiece M P p) (es fs : List Context) (has : HasContexts M P p es) (moved : IsPermutation es fs)
+    (lists : IsTotalOrder names_cmp) (p : Span) (piece : IsPiece M P p) (es fs : List Context)
+    (has : HasContexts M P p es) (moved : IsPermutation es fs)
     (up : IsTrue (rises names_cmp (map (λ c. c.before) fs))) where
-  pub listed : Lists (λ c. c.before) names_cmp (IsContextEntry M P p) fs
+  pub listed : Lists (λ c. c.before) names_cmp (IsBareContext M P p) fs
   listed = record {
     ascending = up;
     sound = λ e there. has.sound e (Contains-permutation fs es e (IsPermutation-sym es fs moved) there);
@@ -83,30 +56,3 @@ module _ (M : Objects) (P : Rules) (one : OnePiece M P) (names : IsTotalOrder na
 
   pub first_alone : begins_alone fs
   first_alone = first_is fs up alone.0 (in_from_contains fs alone.0 alone.1) alone.2
-
-  target : (e : Context) (h : IsContextEntry M P p e) (a : TurnArc) → In a e.arcs → (1 ≤ a.length)
-      × (a.length ≤ length e.before + 2)
-  target e h a i =
-      let k = h.arcs.sound a (contains_from_in e.arcs a i) in
-      let low = some_context M P k.target k.arc.to.holds in
-      let whole = ap length k.arc.to.is in
-      let l = length-append k.arc.to.front k.target in
-      let m = length-append (h.before ++ p ∷ []) (k.piece ∷ []) in
-      let n = length-append h.before (p ∷ []) in
-      let b : length e.before ≡ length h.before = ap length h.named ∙ length-map h.before name_of in
-      let count = k.length_is in
-      (omega arith, omega (arith, whole, l, m, n))
-
-  form : (e : Context) → IsContextEntry M P p e → IsContextForm e
-  form e h =
-      let few = short (h.before ++ p ∷ []) h.context in
-      let n = length-append h.before (p ∷ []) in
-      let b : length e.before ≡ length h.before = ap length h.named ∙ length-map h.before name_of in
-      record {
-        short = omega arith;
-        arcs_ascend = h.arcs.ascending;
-        targets = each_member (λ a. (1 ≤ a.length) × (a.length ≤ length e.before + 2)) e.arcs (target e h);
-      }
-
-  pub forms : AllByRecursion IsContextForm fs
-  forms = each_member IsContextForm fs (λ e i. form e (listed.sound e (contains_from_in fs e i)))

@@ -1,5 +1,5 @@
 use Rattle.expanded_graph.proofs.PiecePlaces.{arrives_forward, arrives_backward}
-use Rattle.expanded_graph.proofs.places.arrival_of.Goals as goal
+use Rattle.expanded_graph.proofs.places.end_of.Goals as goal
 
 pub returns-in-Forward : goal.returns-in-Forward
 returns-in-Forward g c =
