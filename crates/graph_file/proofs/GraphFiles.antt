@@ -1,6 +1,6 @@
 -- Graph files and the blocks that are read from them.
-use Rattle.std.proofs.Common.{◌≡◌, ℕ, suc, ◌<◌, ◌≤◌, ◌^◌, ◌&&◌, List, [], ◌∷◌, ◌++◌, length, map, drop, IsTrue, refl}
-use Rattle.std.proofs.Common.{inl, inr, sym, ap, subst, ◌∙◌, arith, append-nil, append_assoc, codes}
+use Rattle.std.proofs.Common.{◌≡◌, ℕ, ◌<◌, ◌≤◌, ◌^◌, Bool, true, false, not, List, [], ◌∷◌, ◌++◌, length, map, drop}
+use Rattle.std.proofs.Common.{IsTrue, refl, inl, inr, sym, ap, subst, ◌∙◌, arith, append-nil, append_assoc, codes}
 use Rattle.std.specs.Prelude.{◌==◌}
 use Rattle.std.specs.List.{AllByRecursion}
 use Rattle.std.specs.Ordering.{is_lt}
@@ -9,24 +9,25 @@ use Rattle.std.specs.FinMap.{FinMap, entries, insert, entries-insert, put, empty
 use Rattle.std.proofs.lemmas.Bool.{and_parts, or_cases, eqb-true}
 use Rattle.std.proofs.lemmas.List.{drop_at}
 use Rattle.road_base.specs.Profiles.{IsProfile}
-use Rattle.road_base.specs.Bytes.{u32_bytes, u64_bytes, i64_bytes, joined}
+use Rattle.road_base.specs.Bytes.{u32_bytes}
 use Rattle.road_base.specs.declared.ids.WayId.{WayId}
 use Rattle.ordered_lists.proofs.Comparisons.{less, over, turned}
-use Rattle.road_model.specs.declared.lists.PieceName.{PieceName}
 use Rattle.road_model.specs.declared.lists.Piece.{Piece}
 use Rattle.road_model.specs.declared.blocks.Block.{Block}
 use Rattle.ordered_lists.specs.Orders.{rises, rises_from}
 use Rattle.road_model.specs.Orders.{way_cmp}
 use Rattle.road_model.specs.BlockMap.{entry_of}
-use Rattle.road_model.specs.Format.{piece_bytes, block_bytes, graph_bytes, place_cmp, IsPieceForm, IsBlockForm}
-use Rattle.road_model.specs.Format.{PieceFits, BlockFits, IsGraphFile}
+use Rattle.road_model.specs.Format.{magic_bytes, block_bytes, graph_bytes, is_sourced, IsVersion, IsPieceForm}
+use Rattle.road_model.specs.Format.{IsBlockForm, PieceFits, BlockFits, IsGraphFile}
 use Rattle.ordered_lists.proofs.AscendingLists.{rest_rises}
 use Rattle.spelled_bytes.specs.Reading.{Begins, IsOneSpelling}
-use Rattle.spelled_bytes.specs.OneSpelling.{u32_one}
-use Rattle.graph_file.specs.GraphReading.{list_bytes, ListFits, IsPieceAt, IsWayBlock, IsOfItsWay, IsFile}
+use Rattle.spelled_bytes.specs.OneSpelling.{u32_one, differ}
+use Rattle.graph_file.specs.GraphReading.{list_bytes, ListFits, Unless, IsBarePiece, IsBareBlock, IsPieceAt, IsWayBlock}
+use Rattle.graph_file.specs.GraphReading.{IsOfItsWay, IsFile}
 use Rattle.graph_file.specs.OneSpelling.{list_one, block_one}
 use Rattle.graph_file.proofs.Files.{way_cmp_total, no_entries}
 use Rattle.graph_file.proofs.PieceCount.{few_pieces}
+use Rattle.graph_file.proofs.SpelledBlocks.{as_many, block_at, same_file, same_ways, way_blocks}
 
 -- ---- the bytes behind the magic
 
@@ -45,22 +46,61 @@ profile_one x y bytes r s first second = u32_one x y bytes r s
     (record { fits = profile_fits x first.fits; parts = first.parts })
     (record { fits = profile_fits y second.fits; parts = second.parts })
 
--- what begins with the profile's number
-pub numbered : (bytes rest : List ℕ) → bytes ≡ codes "OSMROAD1" ++ rest → (profile : ℕ) (bs : List Block)
-    → IsFile profile bytes bs → Begins u32_bytes IsProfile rest profile (list_bytes block_bytes bs)
-numbered bytes rest head profile bs file = record {
-  fits = file.known;
-  parts = cancel (codes "OSMROAD1") rest (u32_bytes profile ++ list_bytes block_bytes bs) (sym head ∙ file.spelled);
-}
+-- a file begins with the magic of its version, and that of another version begins otherwise
+seven : (bytes r s : List ℕ) → bytes ≡ codes "OSMROAD1" ++ r → bytes ≡ codes "OSMROAD2" ++ s → ⊥
+seven bytes r s first second =
+    differ 49 50 (drop 7 bytes) r s refl (ap (drop 7) first) (ap (drop 7) second)
+
+pub other_magic : (sourced : Bool) (bytes r s : List ℕ) → bytes ≡ magic_bytes sourced ++ r
+    → bytes ≡ magic_bytes (not sourced) ++ s → ⊥
+other_magic false bytes r s first second = seven bytes r s first second
+other_magic true bytes r s first second = seven bytes s r second first
+
+pub magic_one : (v w : ℕ) → IsVersion v → IsVersion w → (bytes r s : List ℕ) → bytes ≡ magic_bytes (is_sourced v) ++ r
+    → bytes ≡ magic_bytes (is_sourced w) ++ s → v ≡ w
+magic_one v w (inl one) (inl other) bytes r s first second = one ∙ sym other
+magic_one v w (inr two) (inr other) bytes r s first second = two ∙ sym other
+magic_one v w (inl one) (inr two) bytes r s first second = absurd (seven bytes r s
+    (first ∙ ap (λ n. magic_bytes (is_sourced n) ++ r) one) (second ∙ ap (λ n. magic_bytes (is_sourced n) ++ s) two))
+magic_one v w (inr two) (inl one) bytes r s first second = absurd (seven bytes s r
+    (second ∙ ap (λ n. magic_bytes (is_sourced n) ++ s) one) (first ∙ ap (λ n. magic_bytes (is_sourced n) ++ r) two))
+
+-- what is behind the magic of the version v begins with the profile's number, where the bytes are a file
+pub numbered : (v : ℕ) → IsVersion v → (bytes rest : List ℕ) → bytes ≡ magic_bytes (is_sourced v) ++ rest
+    → (version profile : ℕ) (bs : List Block) → IsFile version profile bytes bs
+    → (v ≡ version) × Begins u32_bytes IsProfile rest profile (list_bytes (block_bytes (is_sourced v)) bs)
+numbered v known bytes rest head version profile bs file =
+    let behind : List ℕ = u32_bytes profile ++ list_bytes (block_bytes (is_sourced version)) bs in
+    let same : v ≡ version = magic_one v version known file.known_version bytes rest behind head file.spelled in (
+      same,
+      record {
+        fits = file.known;
+        parts = cancel (magic_bytes (is_sourced v)) rest
+            (u32_bytes profile ++ list_bytes (block_bytes (is_sourced v)) bs)
+            (sym head ∙ file.spelled ∙ ap (λ n. graph_bytes n profile bs) (sym same));
+      },
+    )
 
 -- and what is behind it
-pub behind : (bytes front rest : List ℕ) (number : ℕ) → bytes ≡ codes "OSMROAD1" ++ front
-    → Begins u32_bytes IsProfile front number rest → (profile : ℕ) (bs : List Block) → IsFile profile bytes bs
-    → (number ≡ profile) × Begins (list_bytes block_bytes) (ListFits IsWayBlock) rest bs []
-behind bytes front rest number head found profile bs file =
-    let same = profile_one number profile front rest (list_bytes block_bytes bs) found
-    (numbered bytes front head profile bs file) in
-    (same.0, record { fits = file.some; parts = same.1 ∙ sym (append-nil (list_bytes block_bytes bs)) })
+pub behind : (v : ℕ) → IsVersion v → (bytes front rest : List ℕ) (number : ℕ)
+    → bytes ≡ magic_bytes (is_sourced v) ++ front → Begins u32_bytes IsProfile front number rest
+    → (version profile : ℕ) (bs : List Block) → IsFile version profile bytes bs
+    → (number ≡ profile) × Begins (list_bytes (block_bytes (is_sourced v))) (ListFits (IsWayBlock (is_sourced v))) rest
+    bs []
+behind v known bytes front rest number head found version profile bs file =
+    let spelled : List ℕ = list_bytes (block_bytes (is_sourced v)) bs in
+    let first = numbered v known bytes front head version profile bs file in
+    let same = profile_one number profile front rest spelled found first.1 in (
+      same.0,
+      record {
+        fits = subst (λ n. ListFits (IsWayBlock (is_sourced n)) bs) (sym first.0) file.some;
+        parts = same.1 ∙ sym (append-nil spelled);
+      },
+    )
+
+pub blocks_one : (sourced : Bool)
+    → IsOneSpelling (list_bytes (block_bytes sourced)) (ListFits (IsWayBlock sourced))
+blocks_one sourced = list_one (block_bytes sourced) (IsWayBlock sourced) (block_one sourced)
 
 -- ---- blocks that are put one behind the other
 
@@ -98,187 +138,147 @@ all_to : {A : Type 0} (F G : A → Type 0) → ((x : A) → F x → G x) → (xs
 all_to F G to [] all = tt
 all_to F G to (x ∷ xs) all = (to x all.0, all_to F G to xs all.1)
 
-block_form : (b : Block) → IsWayBlock b → IsBlockForm b
-block_form b is = record {
+block_form : (sourced : Bool) (b : Block) → IsWayBlock sourced b → IsBlockForm sourced b
+block_form sourced b is = record {
   some = is.some;
   ascend = is.ascend;
-  pieces = all_to (IsPieceAt b.way) IsPieceForm (λ p at. at.form) b.pieces is.pieces;
+  pieces = all_to (IsPieceAt sourced b.way) (IsPieceForm sourced) (λ p at. at.form) b.pieces is.pieces;
 }
 
-block_fits : (b : Block) → IsWayBlock b → BlockFits b
-block_fits b is = record {
+block_fits : (sourced : Bool) (b : Block) → IsWayBlock sourced b → BlockFits sourced b
+block_fits sourced b is = record {
   way = is.way;
-  pieces = all_to (IsPieceAt b.way) PieceFits (λ p at. at.fits) b.pieces is.pieces;
+  pieces = all_to (IsPieceAt sourced b.way) (PieceFits sourced) (λ p at. at.fits) b.pieces is.pieces;
 }
 
-of_its_way : (b : Block) → IsWayBlock b → IsOfItsWay b
-of_its_way b is = all_to (IsPieceAt b.way) (λ p. p.name.way ≡ b.way) (λ p at. at.way_is) b.pieces is.pieces
+of_its_way : (sourced : Bool) (b : Block) → IsWayBlock sourced b → IsOfItsWay b
+of_its_way sourced b is =
+    all_to (IsPieceAt sourced b.way) (λ p. p.name.way ≡ b.way) (λ p at. at.way_is) b.pieces is.pieces
 
-pub forms : (bs : List Block) → AllByRecursion IsWayBlock bs → AllByRecursion IsBlockForm bs
-forms = all_to IsWayBlock IsBlockForm block_form
+pub forms : (sourced : Bool) (bs : List Block) → AllByRecursion (IsWayBlock sourced) bs
+    → AllByRecursion (IsBlockForm sourced) bs
+forms sourced = all_to (IsWayBlock sourced) (IsBlockForm sourced) (block_form sourced)
 
-pub ways : (bs : List Block) → AllByRecursion IsWayBlock bs → AllByRecursion IsOfItsWay bs
-ways = all_to IsWayBlock IsOfItsWay of_its_way
+pub ways : (sourced : Bool) (bs : List Block) → AllByRecursion (IsWayBlock sourced) bs → AllByRecursion IsOfItsWay bs
+ways sourced = all_to (IsWayBlock sourced) IsOfItsWay (of_its_way sourced)
 
-pub grammar : (profile : ℕ) (bytes : List ℕ) (bs : List Block) → IsFile profile bytes bs → IsGraphFile bytes
-grammar profile bytes bs file = record {
+-- what is read of a file of version 1 has no marks and no sources
+bare_block : (b : Block) → IsWayBlock false b → IsBareBlock b
+bare_block b is = all_to (IsPieceAt false b.way) IsBarePiece (λ p at. at.bare) b.pieces is.pieces
+
+pub bare_blocks : (version : ℕ) (bs : List Block) → AllByRecursion (IsWayBlock (is_sourced version)) bs → version ≡ 1
+    → AllByRecursion IsBareBlock bs
+bare_blocks version bs all one =
+    all_to (IsWayBlock false) IsBareBlock bare_block bs
+    (subst (λ v. AllByRecursion (IsWayBlock (is_sourced v)) bs) one all)
+
+pub grammar : (version profile : ℕ) (bytes : List ℕ) (bs : List Block) → IsFile version profile bytes bs
+    → IsGraphFile bytes
+grammar version profile bytes bs file = record {
+  version = version;
+  known_version = file.known_version;
   profile = profile;
   known = file.known;
   blocks = bs;
   ascend = file.ascend;
-  forms = forms bs file.some.1;
-  fit = all_to IsWayBlock BlockFits block_fits bs file.some.1;
+  forms = forms (is_sourced version) bs file.some.1;
+  fit = all_to (IsWayBlock (is_sourced version)) (BlockFits (is_sourced version)) (block_fits (is_sourced version)) bs
+      file.some.1;
   count = file.some.0;
   spelled = file.spelled;
 }
 
-own_pieces : (w : WayId) (ps : List Piece) → AllByRecursion IsPieceForm ps → AllByRecursion PieceFits ps
-    → AllByRecursion (λ p. p.name.way ≡ w) ps → AllByRecursion (IsPieceAt w) ps
-own_pieces w [] form fits own = tt
-own_pieces w (p ∷ ps) form fits own =
-    (record { way_is = own.0; form = form.0; fits = fits.0 }, own_pieces w ps form.1 fits.1 own.1)
+-- each block's own pieces, without marks and sources where none are spelled
+unless_piece : (sourced : Bool) (p : Piece) (ps : List Piece) → Unless sourced (AllByRecursion IsBarePiece (p ∷ ps))
+    → Unless sourced (IsBarePiece p) × Unless sourced (AllByRecursion IsBarePiece ps)
+unless_piece false p ps bare = bare
+unless_piece true p ps bare = (tt, tt)
 
-own_blocks : (bs : List Block) → AllByRecursion IsBlockForm bs → AllByRecursion BlockFits bs
-    → AllByRecursion IsOfItsWay bs → AllByRecursion IsWayBlock bs
-own_blocks [] form fits own = tt
-own_blocks (b ∷ bs) form fits own = (
-  record {
-    way = fits.0.way;
-    count = let few : length b.pieces ≤ 131068 = few_pieces b.pieces form.0.ascend form.0.pieces in omega arith;
-    some = form.0.some;
-    ascend = form.0.ascend;
-    pieces = own_pieces b.way b.pieces form.0.pieces fits.0.pieces own.0;
-  },
-  own_blocks bs form.1 fits.1 own.1,
-)
+unless_block : (sourced : Bool) (b : Block) (bs : List Block) → Unless sourced (AllByRecursion IsBareBlock (b ∷ bs))
+    → Unless sourced (AllByRecursion IsBarePiece b.pieces) × Unless sourced (AllByRecursion IsBareBlock bs)
+unless_block false b bs bare = bare
+unless_block true b bs bare = (tt, tt)
+
+own_pieces : (sourced : Bool) (w : WayId) (ps : List Piece) → AllByRecursion (IsPieceForm sourced) ps
+    → AllByRecursion (PieceFits sourced) ps → AllByRecursion (λ p. p.name.way ≡ w) ps
+    → Unless sourced (AllByRecursion IsBarePiece ps) → AllByRecursion (IsPieceAt sourced w) ps
+own_pieces sourced w [] form fits own bare = tt
+own_pieces sourced w (p ∷ ps) form fits own bare =
+    let each = unless_piece sourced p ps bare in (
+      record { way_is = own.0; form = form.0; fits = fits.0; bare = each.0 },
+      own_pieces sourced w ps form.1 fits.1 own.1 each.1,
+    )
+
+own_blocks : (sourced : Bool) (bs : List Block) → AllByRecursion (IsBlockForm sourced) bs
+    → AllByRecursion (BlockFits sourced) bs → AllByRecursion IsOfItsWay bs
+    → Unless sourced (AllByRecursion IsBareBlock bs) → AllByRecursion (IsWayBlock sourced) bs
+own_blocks sourced [] form fits own bare = tt
+own_blocks sourced (b ∷ bs) form fits own bare =
+    let each = unless_block sourced b bs bare in (
+      record {
+        way = fits.0.way;
+        count =
+            let few : length b.pieces ≤ 131068 = few_pieces sourced b.pieces form.0.ascend form.0.pieces in
+            omega arith;
+        some = form.0.some;
+        ascend = form.0.ascend;
+        pieces = own_pieces sourced b.way b.pieces form.0.pieces fits.0.pieces own.0 each.0;
+      },
+      own_blocks sourced bs form.1 fits.1 own.1 each.1,
+    )
 
 -- blocks of their ways, in form, are the file that they spell
-pub file_of : (profile : ℕ) (bytes : List ℕ) (bs : List Block) → IsProfile profile → bytes ≡ graph_bytes profile bs
-    → length bs < 2 ^ 64
-    → IsTrue (rises way_cmp (map (λ b. b.way) bs)) → AllByRecursion IsBlockForm bs → AllByRecursion BlockFits bs
-    → AllByRecursion IsOfItsWay bs → IsFile profile bytes bs
-file_of profile bytes bs known spelled count up form fits own =
-    record { known = known; spelled = spelled; some = (count, own_blocks bs form fits own); ascend = up }
+pub file_of : (version profile : ℕ) (bytes : List ℕ) (bs : List Block) → IsVersion version → IsProfile profile
+    → bytes ≡ graph_bytes version profile bs → length bs < 2 ^ 64 → IsTrue (rises way_cmp (map (λ b. b.way) bs))
+    → AllByRecursion (IsBlockForm (is_sourced version)) bs → AllByRecursion (BlockFits (is_sourced version)) bs
+    → AllByRecursion IsOfItsWay bs → Unless (is_sourced version) (AllByRecursion IsBareBlock bs)
+    → IsFile version profile bytes bs
+file_of version profile bytes bs known_version known spelled count up form fits own bare = record {
+  known_version = known_version;
+  known = known;
+  spelled = spelled;
+  some = (count, own_blocks (is_sourced version) bs form fits own bare);
+  ascend = up;
+}
 
--- the bytes of a file have one profile and one list of blocks
-pub one_file : (m n : ℕ) (bytes : List ℕ) (a b : List Block) → IsFile m bytes a → IsFile n bytes b → (m ≡ n) × (a ≡ b)
-one_file m n bytes a b f g =
-    let rest : List ℕ = list_bytes block_bytes a in
+-- the bytes of a file have one version, one profile and one list of blocks
+pub one_file : (v w m n : ℕ) (bytes : List ℕ) (a b : List Block) → IsFile v m bytes a → IsFile w n bytes b
+    → (v ≡ w) × (m ≡ n) × (a ≡ b)
+one_file v w m n bytes a b f g =
+    let rest : List ℕ = list_bytes (block_bytes (is_sourced v)) a in
     let front : List ℕ = u32_bytes m ++ rest in
-    let first : Begins u32_bytes IsProfile front m rest = numbered bytes front f.spelled m a f in
-    let other = behind bytes front rest m f.spelled first n b g in (
+    let mine = numbered v f.known_version bytes front f.spelled v m a f in
+    let same = numbered v f.known_version bytes front f.spelled w n b g in
+    let other = behind v f.known_version bytes front rest m f.spelled mine.1 w n b g in
+    let own = behind v f.known_version bytes front rest m f.spelled mine.1 v m a f in (
+      same.0,
       other.0,
-      (list_one block_bytes IsWayBlock block_one a b rest [] [] (behind bytes front rest m f.spelled first m a f).1
-          other.1).0,
+      (blocks_one (is_sourced v) a b rest [] [] own.1 other.1).0,
     )
 
 -- what the bytes of a file are spelled for
-pub file_profile : (m n : ℕ) (bytes : List ℕ) (a b : List Block) → IsFile m bytes a → IsProfile n
-    → bytes ≡ graph_bytes n b → m ≡ n
-file_profile m n bytes a b file known spelled =
-    let rest : List ℕ = list_bytes block_bytes b in
-    (profile_one m n (u32_bytes n ++ rest) (list_bytes block_bytes a) rest
-    (numbered bytes (u32_bytes n ++ rest) spelled m a file) (record { fits = known; parts = refl })).0
-
--- a piece under the name that it has in the block of the way, which its bytes don't spell
-abbrev piece_at : WayId → Piece → Piece
-piece_at w p = record {
-  name = record { way = w; index = p.name.index; dir = p.name.dir };
-  end = p.end;
-  zone = p.zone;
-  places = p.places;
-  contexts = p.contexts;
-}
-
-abbrev block_at : Block → Block
-block_at b = record { way = b.way; pieces = map (piece_at b.way) b.pieces }
-
-as_many : {A B : Type 0} (f : A → B) (xs : List A) → length (map f xs) ≡ length xs
-as_many f [] = refl
-as_many f (x ∷ xs) = ap suc (as_many f xs)
-
-same_pieces : (w : WayId) (ps : List Piece) → joined piece_bytes (map (piece_at w) ps) ≡ joined piece_bytes ps
-same_pieces w [] = refl
-same_pieces w (p ∷ ps) = ap (λ l. piece_bytes p ++ l) (same_pieces w ps)
-
-same_block : (b : Block) → block_bytes (block_at b) ≡ block_bytes b
-same_block b = λ i. i64_bytes b.way.0
-    ++ (u32_bytes (as_many (piece_at b.way) b.pieces i) ++ same_pieces b.way b.pieces i)
-
-same_blocks : (bs : List Block) → joined block_bytes (map block_at bs) ≡ joined block_bytes bs
-same_blocks [] = refl
-same_blocks (b ∷ bs) = λ i. same_block b i ++ same_blocks bs i
-
-same_file : (profile : ℕ) (bs : List Block) → graph_bytes profile (map block_at bs) ≡ graph_bytes profile bs
-same_file profile bs = λ i. codes "OSMROAD1"
-    ++ (u32_bytes profile ++ (u64_bytes (as_many block_at bs i) ++ same_blocks bs i))
-
-same_ways : (bs : List Block) → map (λ b. b.way) (map block_at bs) ≡ map (λ b. b.way) bs
-same_ways [] = refl
-same_ways (b ∷ bs) = ap (λ l. b.way ∷ l) (same_ways bs)
-
-same_rise : (w : WayId) (n : PieceName) (ps : List Piece)
-    → rises_from place_cmp (record { way = w; index = n.index; dir = n.dir })
-    (map (λ (p : Piece). p.name) (map (piece_at w) ps)) ≡ rises_from place_cmp n (map (λ p. p.name) ps)
-same_rise w n [] = refl
-same_rise w n (p ∷ ps) = ap (λ b. is_lt (place_cmp n p.name) && b) (same_rise w p.name ps)
-
-same_rises : (w : WayId) (ps : List Piece) → rises place_cmp (map (λ (p : Piece). p.name) (map (piece_at w) ps))
-    ≡ rises place_cmp (map (λ p. p.name) ps)
-same_rises w [] = refl
-same_rises w (p ∷ ps) = same_rise w p.name ps
-
-still_some : (w : WayId) (ps : List Piece) → (ps ≡ [] → ⊥) → map (piece_at w) ps ≡ [] → ⊥
-still_some w [] some none = some refl
-still_some w (p ∷ ps) some none = omega (arith, ap length none)
-
-pieces_at : (w : WayId) (ps : List Piece) → AllByRecursion IsPieceForm ps → AllByRecursion PieceFits ps
-    → AllByRecursion (IsPieceAt w) (map (piece_at w) ps)
-pieces_at w [] form fits = tt
-pieces_at w (p ∷ ps) form fits = (
-  record {
-    way_is = refl;
-    form = record {
-      ascends = form.0.ascends;
-      bounded = form.0.bounded;
-      unmarked = form.0.unmarked;
-      place_count = form.0.place_count;
-      first_alone = form.0.first_alone;
-      contexts_ascend = form.0.contexts_ascend;
-      contexts = form.0.contexts;
-    };
-    fits = record {
-      places = fits.0.places;
-      contexts = fits.0.contexts;
-      context_count = fits.0.context_count;
-    };
-  },
-  pieces_at w ps form.1 fits.1,
-)
-
-way_block : (b : Block) → IsBlockForm b → BlockFits b → IsWayBlock (block_at b)
-way_block b form fits = record {
-  way = fits.way;
-  count =
-      let few : length b.pieces ≤ 131068 = few_pieces b.pieces form.ascend form.pieces in
-      let same : length (map (piece_at b.way) b.pieces) ≡ length b.pieces = as_many (piece_at b.way) b.pieces in
-      omega arith;
-  some = still_some b.way b.pieces form.some;
-  ascend = same_rises b.way b.pieces ∙ form.ascend;
-  pieces = pieces_at b.way b.pieces form.pieces fits.pieces;
-}
-
-way_blocks : (bs : List Block) → AllByRecursion IsBlockForm bs → AllByRecursion BlockFits bs
-    → AllByRecursion IsWayBlock (map block_at bs)
-way_blocks [] form fits = tt
-way_blocks (b ∷ bs) form fits = (way_block b form.0 fits.0, way_blocks bs form.1 fits.1)
+pub file_profile : (v w m n : ℕ) (bytes : List ℕ) (a b : List Block) → IsFile v m bytes a → IsVersion w → IsProfile n
+    → bytes ≡ graph_bytes w n b → (v ≡ w) × (m ≡ n)
+file_profile v w m n bytes a b file known_version known spelled =
+    let rest : List ℕ = list_bytes (block_bytes (is_sourced w)) b in
+    let is = numbered w known_version bytes (u32_bytes n ++ rest) spelled v m a file in (
+      sym is.0,
+      (profile_one m n (u32_bytes n ++ rest) (list_bytes (block_bytes (is_sourced w)) a) rest is.1
+          (record { fits = known; parts = refl })).0,
+    )
 
 -- what is in the grammar is the file of blocks whose pieces are those of their way
-pub none_in_grammar : (bytes : List ℕ) → ((profile : ℕ) (bs : List Block) → IsFile profile bytes bs → ⊥)
-    → IsGraphFile bytes → ⊥
-none_in_grammar bytes none is = none is.profile (map block_at is.blocks) (record {
-  known = is.known;
-  spelled = is.spelled ∙ sym (same_file is.profile is.blocks);
-  some = (subst (λ n. n < 2 ^ 64) (sym (as_many block_at is.blocks)) is.count, way_blocks is.blocks is.forms is.fit);
-  ascend = subst (λ l. IsTrue (rises way_cmp l)) (sym (same_ways is.blocks)) is.ascend;
-})
+pub none_in_grammar : (bytes : List ℕ)
+    → ((version profile : ℕ) (bs : List Block) → IsFile version profile bytes bs → ⊥) → IsGraphFile bytes → ⊥
+none_in_grammar bytes none is =
+    let b = is_sourced is.version in
+    none is.version is.profile (map (block_at b) is.blocks) (record {
+      known_version = is.known_version;
+      known = is.known;
+      spelled = is.spelled ∙ sym (same_file is.version is.profile is.blocks);
+      some = (
+        subst (λ n. n < 2 ^ 64) (sym (as_many (block_at b) is.blocks)) is.count,
+        way_blocks b is.blocks is.forms is.fit,
+      );
+      ascend = subst (λ l. IsTrue (rises way_cmp l)) (sym (same_ways b is.blocks)) is.ascend;
+    })

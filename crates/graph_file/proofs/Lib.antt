@@ -4,6 +4,8 @@ pub mod BlockCount
 pub mod Files
 pub mod WrittenBlocks
 pub mod Ascents
+pub mod ContextParts
 pub mod PieceParts
+pub mod SpelledBlocks
 pub mod GraphFiles
 pub mod LookUps

@@ -1,7 +1,7 @@
 -- What a search by name finds in an ascending list, and the pieces of a graph by their names.
 use Rattle.std.proofs.Common.{◌≡◌, ℕ, ◌<◌, List, length, map, inl, inr, refl, sym, ap, subst, ◌∙◌, arith, Some, IsTrue}
 use Rattle.std.proofs.Common.{Contains, Ordering, Ok, Err, slice_index_or, Option, None, IfSome, IfNone, Bor}
-use Rattle.std.proofs.Common.{[], ◌∷◌, ◌&&◌}
+use Rattle.std.proofs.Common.{[], ◌∷◌, ◌&&◌, Bool}
 use Rattle.std.specs.Ordering.{is_lt, ordering_then}
 use Rattle.std.specs.declared.cmp.Ordering.TheVariants.{Less, Equal, Greater}
 use Rattle.std.specs.Cmp.{IsTotalOrder}
@@ -24,7 +24,8 @@ use Rattle.road_model.specs.Format.{place_cmp}
 use Rattle.road_model.proofs.TotalOrders.{way_cmp_total, name_cmp_total}
 use Rattle.ordered_lists.proofs.SortedMaps.{map_of, get_member, search_found, search_below, search_behind}
 use Rattle.graph_file.specs.GraphReading.{IsPieceAt, IsWayBlock}
-use Rattle.graph_file.specs.LookUps.{AreOrdered, HasNamed, HasContextsOf, HasContextAt, HasArcsOf}
+use Rattle.graph_file.specs.LookUps.{AreOrdered, HasNamed, HasContextsOf, HasContextAt, HasArcsOf, HasSourcesAt}
+use Rattle.graph_file.specs.LookUps.{HasSourcesOf}
 
 module _ {A N : Type 0} (name : A → N) (R : N → N → Ordering) (total : IsTotalOrder R) where
   -- members of one name are one
@@ -114,18 +115,19 @@ levels : (w : WayId) (ps : List Piece) → AllByRecursion (λ p. p.name.way ≡ 
 levels w [] all = refl
 levels w (p ∷ ps) all = levels_from w p.name ps all.0 all.1
 
-ways_at : (w : WayId) (ps : List Piece) → AllByRecursion (IsPieceAt w) ps → AllByRecursion (λ p. p.name.way ≡ w) ps
-ways_at w [] all = tt
-ways_at w (p ∷ ps) all = (all.0.way_is, ways_at w ps all.1)
+ways_at : (sourced : Bool) (w : WayId) (ps : List Piece) → AllByRecursion (IsPieceAt sourced w) ps
+    → AllByRecursion (λ p. p.name.way ≡ w) ps
+ways_at sourced w [] all = tt
+ways_at sourced w (p ∷ ps) all = (all.0.way_is, ways_at sourced w ps all.1)
 
-pub are_ordered : (bs : List Block) → AllByRecursion IsWayBlock bs → AreOrdered bs
-are_ordered bs all = record {
+pub are_ordered : (sourced : Bool) (bs : List Block) → AllByRecursion (IsWayBlock sourced) bs → AreOrdered bs
+are_ordered sourced bs all = record {
   ascend = λ b has.
-      let is = all_at IsWayBlock bs b all has in
-      levels b.way b.pieces (ways_at b.way b.pieces is.pieces) ∙ is.ascend;
+      let is = all_at (IsWayBlock sourced) bs b all has in
+      levels b.way b.pieces (ways_at sourced b.way b.pieces is.pieces) ∙ is.ascend;
   ways = λ b p has has_piece.
-      let is = all_at IsWayBlock bs b all has in
-      (all_at (IsPieceAt b.way) b.pieces p is.pieces has_piece).way_is;
+      let is = all_at (IsWayBlock sourced) bs b all has in
+      (all_at (IsPieceAt sourced b.way) b.pieces p is.pieces has_piece).way_is;
 }
 
 -- what the one piece of a name has is the only thing that a piece of the name has
@@ -141,6 +143,15 @@ pub only_arcs : (bs : List Block) (n : PieceName) (k : ℕ) (cs items : List Con
 only_arcs bs n k cs items r are only at l h = let f = only h.contexts h.has in
     let same : cs ≡ h.contexts = cc in
     at l (subst (λ v. HasContextAt v k l) (sym (are ∙ same)) h.at)
+
+pub only_sources : (bs : List Block) (n : PieceName) (k : ℕ) (cs items : List Context)
+    (r : Option (List (List PieceName))) → items ≡ cs
+    → ((l : List Context) → HasContextsOf bs n l → Some cs ≡ Some l)
+    → ((l : List (List PieceName)) → HasSourcesAt items k l → r ≡ Some l) → (l : List (List PieceName))
+    → HasSourcesOf bs n k l → r ≡ Some l
+only_sources bs n k cs items r are only at l h = let f = only h.contexts h.has in
+    let same : cs ≡ h.contexts = cc in
+    at l (subst (λ v. HasSourcesAt v k l) (sym (are ∙ same)) h.at)
 
 pub not_none : {A : Type 0} (x : A) → ◌≡◌ {A = Option A} None (Some x) → ⊥
 not_none x e = cc

@@ -1,5 +1,6 @@
 -- How many pieces the block of a way has at most.
-use Rattle.std.proofs.Common.{◌≡◌, ℕ, ◌+◌, ◌*◌, ◌<◌, ◌≤◌, ◌⊎◌, inl, inr, true, IsTrue, List, [], ◌∷◌, length, map, refl}
+use Rattle.std.proofs.Common.{◌≡◌, ℕ, ◌+◌, ◌*◌, ◌<◌, ◌≤◌, ◌⊎◌, inl, inr, Bool, true, IsTrue, List, [], ◌∷◌, length, map}
+use Rattle.std.proofs.Common.{refl}
 use Rattle.std.proofs.Common.{arith}
 use Rattle.std.specs.List.{AllByRecursion}
 use Rattle.std.specs.Ordering.{nat_cmp, is_lt, ordering_then}
@@ -51,27 +52,29 @@ rank_rises m n up =
     ]
 
 -- a position of a piece lies below 65,534
-rank_small : (p : Piece) → IsPieceForm p → rank p.name ≤ 131067
+rank_small : (sourced : Bool) (p : Piece) → IsPieceForm sourced p → rank p.name ≤ 131067
 unfolding rank
-rank_small p form =
+rank_small sourced p form =
     let low : p.name.index < p.end = form.ascends in
     let high : p.end ≤ 65534 = form.bounded in
     let one : dir_rank p.name.dir ≤ 1 = dir_rank_small p.name.dir in
     omega arith
 
-few_above : (n : PieceName) (ps : List Piece) → rank n ≤ 131067 → IsTrue (rises_from place_cmp n (map (λ p. p.name) ps))
-    → AllByRecursion IsPieceForm ps → rank n + length ps ≤ 131067
-few_above n [] small up forms = omega arith
-few_above n (p ∷ ps) small up forms =
+few_above : (sourced : Bool) (n : PieceName) (ps : List Piece) → rank n ≤ 131067
+    → IsTrue (rises_from place_cmp n (map (λ p. p.name) ps)) → AllByRecursion (IsPieceForm sourced) ps
+    → rank n + length ps ≤ 131067
+few_above sourced n [] small up forms = omega arith
+few_above sourced n (p ∷ ps) small up forms =
     let next : rank n < rank p.name = rank_rises n p.name (first_so _ _ up) in
-    let rest : rank p.name + length ps ≤ 131067 = few_above p.name ps (rank_small p forms.0) (second_so _ _ up) forms.1
-    in
+    let rest : rank p.name + length ps ≤ 131067 = few_above sourced p.name ps (rank_small sourced p forms.0)
+    (second_so _ _ up) forms.1 in
     omega arith
 
 -- pieces that ascend by position and direction are at most twice as many as there are positions
-pub few_pieces : (ps : List Piece) → IsTrue (rises place_cmp (map (λ p. p.name) ps)) → AllByRecursion IsPieceForm ps
-    → length ps ≤ 131068
-few_pieces [] up forms = omega arith
-few_pieces (p ∷ ps) up forms =
-    let rest : rank p.name + length ps ≤ 131067 = few_above p.name ps (rank_small p forms.0) up forms.1 in
+pub few_pieces : (sourced : Bool) (ps : List Piece) → IsTrue (rises place_cmp (map (λ p. p.name) ps))
+    → AllByRecursion (IsPieceForm sourced) ps → length ps ≤ 131068
+few_pieces sourced [] up forms = omega arith
+few_pieces sourced (p ∷ ps) up forms =
+    let rest : rank p.name + length ps ≤ 131067 = few_above sourced p.name ps (rank_small sourced p forms.0) up
+    forms.1 in
     omega arith

@@ -1,9 +1,9 @@
 -- Blocks that are written one after another.
-use Rattle.std.proofs.Common.{◌≡◌, ℕ, ◌+◌, List, [], ◌∷◌, ◌++◌, codes, sym, ap, ◌∙◌, append_assoc}
+use Rattle.std.proofs.Common.{◌≡◌, ℕ, ◌+◌, List, [], ◌∷◌, ◌++◌, sym, ap, subst, ◌∙◌, append_assoc}
 use Rattle.std.proofs.Common.{length-append, arith}
 use Rattle.road_base.specs.Bytes.{u32_bytes, u64_bytes, joined}
 use Rattle.road_model.specs.declared.blocks.Block.{Block}
-use Rattle.road_model.specs.Format.{block_bytes, BlockFits, IsBlockForm}
+use Rattle.road_model.specs.Format.{is_sourced, magic_bytes, block_bytes, BlockFits, IsBlockForm}
 use Rattle.graph_file.specs.declared.writer.GraphWriter.{GraphWriter}
 use Rattle.graph_file.specs.Writing.{HasWritten}
 use Rattle.road_base.proofs.Appends.{joined_more, all_more}
@@ -17,18 +17,26 @@ appended magic profile count body block =
     ∙ ap (λ l. profile ++ l) (append_assoc count body block))
 
 -- a block more was put
-pub one_more : (profile : ℕ) (blocks : List Block) (block : Block) (old new : GraphWriter)
-    → HasWritten profile blocks old
-    → new.bytes.items ≡ old.bytes.items ++ block_bytes block → new.count ≡ old.count + 1 → IsBlockForm block
-    → BlockFits block
-    → HasWritten profile (blocks ++ block ∷ []) new
-one_more profile blocks block old new has bytes count form fits = record {
-  count = let so_far = has.count in let longer = length-append blocks (block ∷ []) in omega arith;
-  bytes =
-      bytes ∙ ap (λ l. l ++ block_bytes block) has.bytes
-      ∙ appended (codes "OSMROAD1") (u32_bytes profile) (u64_bytes 0) (joined block_bytes blocks) (block_bytes block)
-      ∙ ap (λ l. codes "OSMROAD1" ++ (u32_bytes profile ++ (u64_bytes 0 ++ l)))
-      (sym (joined_more block_bytes blocks block));
-  forms = all_more IsBlockForm blocks block has.forms form;
-  fit = all_more BlockFits blocks block has.fit fits;
-}
+pub one_more : (version profile : ℕ) (blocks : List Block) (block : Block) (old new : GraphWriter)
+    → HasWritten version profile blocks old → new.version ≡ old.version
+    → new.bytes.items ≡ old.bytes.items ++ block_bytes (is_sourced old.version) block → new.count ≡ old.count + 1
+    → IsBlockForm (is_sourced old.version) block → BlockFits (is_sourced old.version) block
+    → HasWritten version profile (blocks ++ block ∷ []) new
+one_more version profile blocks block old new has same bytes count form fits =
+    let spell = block_bytes (is_sourced version) in
+    let magic : List ℕ = magic_bytes (is_sourced version) in
+    let more : new.bytes.items ≡ old.bytes.items ++ spell block
+    = bytes ∙ ap (λ v. old.bytes.items ++ block_bytes (is_sourced v) block) has.version_is in
+    record {
+      known_version = has.known_version;
+      version_is = same ∙ has.version_is;
+      count = let so_far = has.count in let longer = length-append blocks (block ∷ []) in omega arith;
+      bytes =
+          more ∙ ap (λ l. l ++ spell block) has.bytes
+          ∙ appended magic (u32_bytes profile) (u64_bytes 0) (joined spell blocks) (spell block)
+          ∙ ap (λ l. magic ++ (u32_bytes profile ++ (u64_bytes 0 ++ l))) (sym (joined_more spell blocks block));
+      forms = all_more (IsBlockForm (is_sourced version)) blocks block has.forms
+          (subst (λ v. IsBlockForm (is_sourced v) block) has.version_is form);
+      fit = all_more (BlockFits (is_sourced version)) blocks block has.fit
+          (subst (λ v. BlockFits (is_sourced v) block) has.version_is fits);
+    }

@@ -36,3 +36,16 @@ pub record HasArcsOf (blocks : List Block) (name : PieceName) (place : ℕ) (arc
   pub contexts : List Context
   pub has : HasContextsOf blocks name contexts
   pub at : HasContextAt contexts place arcs
+
+-- there is a context at the place, which has these sources
+pub record HasSourcesAt (contexts : List Context) (place : ℕ) (sources : List (List PieceName)) : Type 0 where
+  pub context : Context
+  pub at : slice_get contexts place ≡ Some context
+  pub sources_are : context.sources ≡ sources
+
+-- the blocks have a piece of this name with a context at the place, which has these sources
+pub record HasSourcesOf (blocks : List Block) (name : PieceName) (place : ℕ) (sources : List (List PieceName)) : Type 0
+  where
+    pub contexts : List Context
+    pub has : HasContextsOf blocks name contexts
+    pub at : HasSourcesAt contexts place sources

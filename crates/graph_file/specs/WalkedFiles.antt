@@ -6,11 +6,10 @@ use Rattle.road_model.specs.Rules.{Rules}
 use Rattle.road_model.specs.FileWalks.{AreFileWalks}
 use Rattle.graph_file.specs.GraphReading.{IsFile}
 
--- the bytes are a graph file of the rules' profile, with these blocks and no others whatever profile it is read for,
--- and
--- whoever walks over them walks over the object map
+-- the bytes are a graph file of version 2 and of the rules' profile, with these blocks and no others whatever version
+-- and profile it is read for, and whoever walks over them walks over the object map
 pub record IsWalkedFile (M : Objects) (P : Rules) (bytes : List ℕ) : Type 0 where
   pub blocks : List Block
-  pub file : IsFile P.number bytes blocks
-  pub only : (n : ℕ) (others : List Block) → IsFile n bytes others → others ≡ blocks
+  pub file : IsFile 2 P.number bytes blocks
+  pub only : (v n : ℕ) (others : List Block) → IsFile v n bytes others → others ≡ blocks
   pub walks : AreFileWalks M P blocks

@@ -7,7 +7,7 @@ ghost use Rattle.road_model.specs.Orders.{name_cmp, names_cmp, way_cmp};
 ghost use Rattle.road_model.specs.Format.{place_cmp};
 
 use road_model::laws::name_order;
-use road_model::{Block, Context, Piece, TurnArc};
+use road_model::{Block, Context, Names, Piece, TurnArc};
 
 /// What ascends in a graph file.
 pub trait Ascending {
@@ -28,14 +28,23 @@ impl Ascending for TurnArc {
 }
 
 /// By length, and then by names.
+impl Ascending for Names {
+    ghost order = { names_cmp };
+
+    fn is_below(&self, other: &Names) -> bool {
+        name_order();
+        let here = self.items();
+        let there = other.items();
+        here.len().cmp(&there.len()).then(here.cmp(there)).is_lt()
+    }
+}
+
+/// By the names of the pieces before.
 impl Ascending for Context {
     ghost order = { λ a b. names_cmp a.before b.before };
 
     fn is_below(&self, other: &Context) -> bool {
-        name_order();
-        let here = self.before.items();
-        let there = other.before.items();
-        here.len().cmp(&there.len()).then(here.cmp(there)).is_lt()
+        self.before.is_below(&other.before)
     }
 }
 

@@ -12,23 +12,23 @@ ghost use Rattle.graph_file.specs.WalkedFiles.{IsWalkedFile};
 use road_model::Profile;
 use road_model::laws::file_walks;
 
-/// A graph file is of one profile and has one list of blocks, and no other.
+/// A graph file is of one version and one profile and has one list of blocks, and no other.
 pub fn one_file()
-    ensures { (m n : ℕ) (bytes : List ℕ) (a b : List Block)
-        → IsFile m bytes a
-        → IsFile n bytes b
-        → (m ≡ n) × (a ≡ b) }
+    ensures { (v w m n : ℕ) (bytes : List ℕ) (a b : List Block)
+        → IsFile v m bytes a
+        → IsFile w n bytes b
+        → (v ≡ w) × (m ≡ n) × (a ≡ b) }
 {}
 
-/// The blocks of an object map's roads are named by their ways. Whoever reads its graph file by the grammar, and walks
-/// over the blocks that it spells, makes the object map's walks.
+/// The blocks of an object map's roads are named by their ways. Whoever reads its graph file of version 2 by the
+/// grammar, and walks over the blocks that it spells, makes the object map's walks.
 pub fn walked_file<P: Profile>(profile: &P)
     ensures own { (M : Objects) (blocks : List Block)
         → Lists (λ b. b.way) way_cmp (IsRoadBlock M (P.rules profile.now)) blocks
         → AllByRecursion IsOfItsWay blocks }
     ensures walks { (M : Objects) (bytes : List ℕ) (blocks : List Block)
         → Lists (λ b. b.way) way_cmp (IsRoadBlock M (P.rules profile.now)) blocks
-        → IsFile (P.rules profile.now).number bytes blocks
+        → IsFile 2 (P.rules profile.now).number bytes blocks
         → IsWalkedFile M (P.rules profile.now) bytes }
 {
     one_file();

@@ -3,12 +3,12 @@ ghost use Rattle.std.specs.Prelude.{◌≡◌, ◌++◌, IfOk, IfErr};
 ghost use Rattle.spelled_bytes.specs.Reading.{Begins, NoneBegins, IfMalformed};
 ghost use Rattle.graph_file.specs.GraphReading.{list_bytes, ListFits};
 
-use crate::pieces::GraphFile;
+use crate::grammar::GraphFile;
 use spelled_bytes::{Spell, Unread, read_all};
 use std::alloc::Global;
 
 /// Reads how many there are, and these.
-pub fn read_list<T: Spell<GraphFile> + Drop>(
+pub fn read_list<G, T: Spell<GraphFile<G>> + Drop>(
     alloc: Global,
     bytes: &[u8],
 ) -> Result<(Vec<T>, &[u8]), Unread>
@@ -16,6 +16,6 @@ pub fn read_list<T: Spell<GraphFile> + Drop>(
     ensures malformed { IfErr result (λ e. IfMalformed e
         (NoneBegins (list_bytes T.spelling) (ListFits T.fits) bytes.now)) }
 {
-    let (count, rest) = <u64 as Spell<GraphFile>>::read(alloc, bytes)?;
-    read_all::<GraphFile, T>(alloc, count, rest)
+    let (count, rest) = <u64 as Spell<GraphFile<G>>>::read(alloc, bytes)?;
+    read_all::<GraphFile<G>, T>(alloc, count, rest)
 }

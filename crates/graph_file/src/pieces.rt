@@ -1,15 +1,14 @@
-//! Blocks, pieces, contexts and arcs, as the file spells them.
-ghost use Rattle.std.specs.Prelude.{◌≡◌, ◌++◌, ◌<◌, ◌^◌, FitsSigned, OnOk, OnErr};
+//! Blocks, pieces, contexts, arcs and sources, as the file spells them.
+ghost use Rattle.std.specs.Prelude.{◌≡◌, ◌++◌, ◌<◌, ◌^◌, length, FitsSigned, IsTrue, OnOk, OnErr};
 ghost use Rattle.std.specs.Int.{w64};
-ghost use Rattle.road_model.specs.Format.{dir_bytes, name_bytes, place_bytes, arc_bytes, context_bytes, piece_bytes};
-ghost use Rattle.road_model.specs.Format.{block_bytes, IsContextForm, IsPieceForm, IsBlockForm, NameFits, ContextFits};
-ghost use Rattle.road_model.specs.Format.{PieceFits, BlockFits};
+ghost use Rattle.std.specs.List.{AllByRecursion};
+ghost use Rattle.road_model.specs.Format.{dir_bytes, mark_bytes, name_bytes, place_bytes, arc_bytes, source_bytes};
+ghost use Rattle.road_model.specs.Format.{sources_bytes, context_bytes, piece_bytes, block_bytes, NameFits, SourcesFit};
+ghost use Rattle.road_model.specs.Format.{ContextFits, PieceFits, BlockFits, IsContextForm, IsPieceForm, IsBlockForm};
 
+use crate::grammar::{Grammar, GraphFile};
 use road_base::{Dir, Format, LittleEndian, NoMemory, put_all};
-use road_model::{Block, Context, Piece, PieceName, Place, TurnArc};
-
-/// The format of a graph file.
-pub struct GraphFile;
+use road_model::{Block, Context, Names, Piece, PieceName, Place, Sources, TurnArc};
 
 /// Appends the direction's byte. Where no memory is found nothing is appended.
 fn put_dir(dir: Dir, out: &mut Vec<u8>) -> Result<(), NoMemory>
@@ -19,7 +18,18 @@ fn put_dir(dir: Dir, out: &mut Vec<u8>) -> Result<(), NoMemory>
     (dir as u8).put(out)
 }
 
-impl Format<PieceName> for GraphFile {
+/// Appends the mark, where marks are spelled. Where no memory is found nothing is appended.
+fn put_mark<G: Grammar>(mark: bool, out: &mut Vec<u8>) -> Result<(), NoMemory>
+    ensures ok { OnOk result (out.new.items ≡ out.old.items ++ mark_bytes G.sourced mark) }
+    ensures err { OnErr result (out.new.items ≡ out.old.items) }
+{
+    if !G::is_sourced() {
+        return Ok(());
+    }
+    u8::from(mark).put(out)
+}
+
+impl<G> Format<PieceName> for GraphFile<G> {
     ghost spelling = { name_bytes };
 
     ghost fits = { NameFits };
@@ -31,7 +41,7 @@ impl Format<PieceName> for GraphFile {
     }
 }
 
-impl Format<Place> for GraphFile {
+impl<G> Format<Place> for GraphFile<G> {
     ghost spelling = { place_bytes };
 
     ghost fits = { λ x. FitsSigned w64 x.node.0 };
@@ -43,63 +53,98 @@ impl Format<Place> for GraphFile {
     }
 }
 
-impl Format<TurnArc> for GraphFile {
+impl<G> Format<TurnArc> for GraphFile<G> {
     ghost spelling = { arc_bytes };
 
     ghost fits = { λ a. NameFits a.piece × (a.length < 2 ^ 32) };
 
     fn put(arc: &TurnArc, out: &mut Vec<u8>) -> Result<(), NoMemory> {
-        GraphFile::put(&arc.piece, out)?;
+        <GraphFile<G> as Format<PieceName>>::put(&arc.piece, out)?;
         arc.length.put(out)
     }
 }
 
-impl Format<Context> for GraphFile {
-    ghost spelling = { context_bytes };
+/// The names of a source.
+impl<G> Format<Names> for GraphFile<G> {
+    ghost spelling = { source_bytes };
 
-    ghost has_form = { IsContextForm };
+    ghost has_form = { λ s. length s < 2 ^ 32 };
 
-    ghost fits = { ContextFits };
+    ghost fits = { AllByRecursion NameFits };
+
+    fn put(source: &Names, out: &mut Vec<u8>) -> Result<(), NoMemory> {
+        let names = source.items();
+        (names.len() as u32).put(out)?;
+        put_all::<GraphFile<G>, PieceName>(names, out)
+    }
+}
+
+/// Sources; no bytes where none are spelled.
+impl<G: Grammar> Format<Sources> for GraphFile<G> {
+    ghost spelling = { sources_bytes G.sourced };
+
+    ghost has_form = { λ ss. IsTrue G.sourced → AllByRecursion (λ s. length s < 2 ^ 32) ss };
+
+    ghost fits = { λ ss. IsTrue G.sourced → SourcesFit ss };
+
+    fn put(sources: &Sources, out: &mut Vec<u8>) -> Result<(), NoMemory> {
+        if !G::is_sourced() {
+            return Ok(());
+        }
+        let sources = sources.items();
+        (sources.len() as u64).put(out)?;
+        put_all::<GraphFile<G>, Names>(sources, out)
+    }
+}
+
+impl<G: Grammar> Format<Context> for GraphFile<G> {
+    ghost spelling = { context_bytes G.sourced };
+
+    ghost has_form = { IsContextForm G.sourced };
+
+    ghost fits = { ContextFits G.sourced };
 
     fn put(context: &Context, out: &mut Vec<u8>) -> Result<(), NoMemory> {
         let before = context.before.items();
         let arcs = context.arcs.items();
         (before.len() as u32 + 1).put(out)?;
-        put_all::<GraphFile, PieceName>(before, out)?;
+        put_all::<GraphFile<G>, PieceName>(before, out)?;
         (arcs.len() as u64).put(out)?;
-        put_all::<GraphFile, TurnArc>(arcs, out)
+        put_all::<GraphFile<G>, TurnArc>(arcs, out)?;
+        <GraphFile<G> as Format<Sources>>::put(&context.sources, out)
     }
 }
 
-impl Format<Piece> for GraphFile {
-    ghost spelling = { piece_bytes };
+impl<G: Grammar> Format<Piece> for GraphFile<G> {
+    ghost spelling = { piece_bytes G.sourced };
 
-    ghost has_form = { IsPieceForm };
+    ghost has_form = { IsPieceForm G.sourced };
 
-    ghost fits = { PieceFits };
+    ghost fits = { PieceFits G.sourced };
 
     fn put(piece: &Piece, out: &mut Vec<u8>) -> Result<(), NoMemory> {
         let contexts = piece.contexts.items();
         piece.name.index.put(out)?;
         piece.end.put(out)?;
         put_dir(piece.name.dir, out)?;
-        put_all::<GraphFile, Place>(piece.places.items(), out)?;
+        put_mark::<G>(piece.zone, out)?;
+        put_all::<GraphFile<G>, Place>(piece.places.items(), out)?;
         (contexts.len() as u64).put(out)?;
-        put_all::<GraphFile, Context>(contexts, out)
+        put_all::<GraphFile<G>, Context>(contexts, out)
     }
 }
 
-impl Format<Block> for GraphFile {
-    ghost spelling = { block_bytes };
+impl<G: Grammar> Format<Block> for GraphFile<G> {
+    ghost spelling = { block_bytes G.sourced };
 
-    ghost has_form = { IsBlockForm };
+    ghost has_form = { IsBlockForm G.sourced };
 
-    ghost fits = { BlockFits };
+    ghost fits = { BlockFits G.sourced };
 
     fn put(block: &Block, out: &mut Vec<u8>) -> Result<(), NoMemory> {
         let pieces = block.pieces.items();
         block.way.0.put(out)?;
         (pieces.len() as u32).put(out)?;
-        put_all::<GraphFile, Piece>(pieces, out)
+        put_all::<GraphFile<G>, Piece>(pieces, out)
     }
 }

@@ -10,21 +10,22 @@ ghost use Rattle.graph_file.specs.OneSpelling.{block_one};
 
 use crate::ascending::do_ascend;
 use crate::extent::Extent;
-use crate::pieces::GraphFile;
+use crate::grammar::{Grammar, GraphFile};
 use road_base::WayId;
 use road_model::{Block, Contexts, Piece, PieceName, Pieces, Place, Places};
 use spelled_bytes::{Spell, Unread, read_all};
 use std::alloc::Global;
 
 /// Reads a piece of the way.
-fn read_piece(alloc: Global, way: WayId, bytes: &[u8]) -> Result<(Piece, &[u8]), Unread>
-    ensures found { IfOk result (λ x. Begins piece_bytes (IsPieceAt way) bytes.now x.0 x.1.now) }
-    ensures malformed { IfErr result (λ e. IfMalformed e (NoneBegins piece_bytes (IsPieceAt way) bytes.now)) }
+fn read_piece<G: Grammar>(alloc: Global, way: WayId, bytes: &[u8]) -> Result<(Piece, &[u8]), Unread>
+    ensures found { IfOk result (λ x. Begins (piece_bytes G.sourced) (IsPieceAt G.sourced way) bytes.now x.0 x.1.now) }
+    ensures malformed { IfErr result (λ e. IfMalformed e
+        (NoneBegins (piece_bytes G.sourced) (IsPieceAt G.sourced way) bytes.now)) }
 {
-    let (extent, rest) = Extent::read(alloc, bytes)?;
+    let (extent, rest) = <Extent as Spell<GraphFile<G>>>::read(alloc, bytes)?;
     let count = (extent.end - extent.index + 1) as u64;
-    let (places, rest) = read_all::<GraphFile, Place>(alloc, count, rest)?;
-    let (contexts, rest) = Contexts::read(alloc, rest)?;
+    let (places, rest) = read_all::<GraphFile<G>, Place>(alloc, count, rest)?;
+    let (contexts, rest) = <Contexts as Spell<GraphFile<G>>>::read(alloc, rest)?;
     let piece = Piece {
         name: PieceName {
             way,
@@ -32,7 +33,7 @@ fn read_piece(alloc: Global, way: WayId, bytes: &[u8]) -> Result<(Piece, &[u8]),
             dir: extent.dir,
         },
         end: extent.end,
-        zone: false,
+        zone: extent.zone,
         places: Places::from_list(places),
         contexts,
     };
@@ -40,21 +41,21 @@ fn read_piece(alloc: Global, way: WayId, bytes: &[u8]) -> Result<(Piece, &[u8]),
 }
 
 /// Reads so many pieces of the way. Takes memory for those alone that it has read.
-fn read_pieces(
+fn read_pieces<G: Grammar>(
     alloc: Global,
     way: WayId,
     count: u32,
     bytes: &[u8],
 ) -> Result<(Vec<Piece>, &[u8]), Unread>
-    ensures found { IfOk result (λ x. Begins (joined piece_bytes) (AreSoMany (IsPieceAt way) count) bytes.now x.0.items
-        x.1.now) }
+    ensures found { IfOk result (λ x. Begins (joined (piece_bytes G.sourced))
+        (AreSoMany (IsPieceAt G.sourced way) count) bytes.now x.0.items x.1.now) }
     ensures malformed { IfErr result (λ e. IfMalformed e
-        (NoneBegins (joined piece_bytes) (AreSoMany (IsPieceAt way) count) bytes.now)) }
+        (NoneBegins (joined (piece_bytes G.sourced)) (AreSoMany (IsPieceAt G.sourced way) count) bytes.now)) }
 {
     let mut items = Vec::new(alloc);
     let mut rest = bytes;
     for _ in 0..count {
-        let (item, after) = read_piece(alloc, way, rest)?;
+        let (item, after) = read_piece::<G>(alloc, way, rest)?;
         items.push(item)?;
         rest = after;
     }
@@ -62,17 +63,17 @@ fn read_pieces(
 }
 
 /// A block with pieces, which ascend.
-impl Spell<GraphFile> for Block {
-    ghost spelling = { block_bytes };
+impl<G: Grammar> Spell<GraphFile<G>> for Block {
+    ghost spelling = { block_bytes G.sourced };
 
-    ghost fits = { IsWayBlock };
+    ghost fits = { IsWayBlock G.sourced };
 
-    ghost one = { block_one };
+    ghost one = { block_one G.sourced };
 
     fn read(alloc: Global, bytes: &[u8]) -> Result<(Block, &[u8]), Unread> {
-        let ((number, count), rest) = <(i64, u32) as Spell<GraphFile>>::read(alloc, bytes)?;
+        let ((number, count), rest) = <(i64, u32) as Spell<GraphFile<G>>>::read(alloc, bytes)?;
         let way = WayId(number);
-        let (list, rest) = read_pieces(alloc, way, count, rest)?;
+        let (list, rest) = read_pieces::<G>(alloc, way, count, rest)?;
         if !are_of_a_way(&list) {
             return Err(Unread::Malformed);
         }

@@ -20,7 +20,7 @@ pub returns-clause-walks : goal.returns-clause-walks
 returns-clause-walks g c = λ M bytes blocks listed file. record {
   blocks = blocks;
   file = file;
-  only = λ n others is. (c.one_file.ensures n (g.P.Profile.rules c.args.profile.now).number bytes others blocks is
-      file).1;
+  only = λ v n others is. (c.one_file.ensures v 2 n (g.P.Profile.rules c.args.profile.now).number bytes others blocks is
+      file).2;
   walks = c.file_walks.ensures M blocks listed;
 }

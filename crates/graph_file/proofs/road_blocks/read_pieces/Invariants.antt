@@ -7,4 +7,5 @@ use Rattle.graph_file.proofs.road_blocks.read_pieces.Given as goal
 
 -- the bytes begin with what was read so far
 abbrev pub invariant-loop : goal.invariant-loop
-invariant-loop l = Begins (joined piece_bytes) (AreSoMany (IsPieceAt l.way) l.counter) l.bytes l.items.items l.rest
+invariant-loop g l = Begins (joined (piece_bytes g.G.Grammar.sourced))
+    (AreSoMany (IsPieceAt g.G.Grammar.sourced l.way) l.counter) l.bytes l.items.items l.rest

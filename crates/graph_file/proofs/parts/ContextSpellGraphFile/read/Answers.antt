@@ -1,48 +1,37 @@
--- A context stands where its two lists stand.
-use Rattle.std.proofs.Common.{◌+◌, ◌++◌, length, ap, ◌∙◌, append_assoc, sym}
+-- A context stands where its three lists stand.
+use Rattle.std.proofs.Common.{◌∙◌, sym}
 use Rattle.std.proofs.lemmas.Bool.{false≢true}
 use Rattle.std.proofs.lemmas.Result.{err_from_is_err_and}
-use Rattle.road_base.specs.Bytes.{u32_bytes, joined}
 use Rattle.road_model.specs.declared.lists.Context.{Context}
-use Rattle.road_model.specs.Format.{name_bytes, arc_bytes, IsContextForm}
-use Rattle.spelled_bytes.specs.Spelling.{pair_bytes, PairFits}
-use Rattle.spelled_bytes.specs.OneSpelling.{pair_one}
-use Rattle.graph_file.specs.GraphReading.{names_bytes, NamesFit, list_bytes, ListFits, ArcFits}
-use Rattle.graph_file.specs.OneSpelling.{names_one, arcs_one, context_parts}
-use Rattle.spelled_bytes.proofs.Fronts.{malformed_weaker, unfit_missing}
+use Rattle.spelled_bytes.proofs.Fronts.{malformed_weaker}
+use Rattle.graph_file.specs.OneSpelling.{ContextLists, lists_of, context_lists}
+use Rattle.graph_file.proofs.ContextParts.{renamed, unfit_lists, whole_context}
 use Rattle.graph_file.proofs.parts.ContextSpellGraphFile.read.Goals as goal
 
-pub returns-in_err-before-clause-malformed : goal.returns-in_err-before-clause-malformed
-returns-in_err-before-clause-malformed c =
+pub returns-in_err-front-clause-malformed : goal.returns-in_err-front-clause-malformed
+returns-in_err-front-clause-malformed g c =
     let p = err_from_is_err_and c.from_residual.result c.from_residual.ensures.1 in
-    rw (p.1, p.2) (malformed_weaker c.in_err-before.field-0.0
-    (λ none (x : Context) r whole. let parts = context_parts x c.args.bytes.now r whole in
-    none (x.before, x.arcs) r (record { fits = parts.fits; parts = parts.parts })) c.in_err-before.ensures.malformed)
+    rw (p.1, p.2) (malformed_weaker c.in_err-front.field-0.0
+    (λ none (x : Context) r whole. let parts = context_lists g.G.Grammar.sourced x c.args.bytes.now r whole in
+    none (lists_of x) r (record { fits = parts.fits; parts = parts.parts })) c.in_err-front.ensures.malformed)
 
-pub returns-then-not-lead_on-clause-malformed : goal.returns-then-not-lead_on-clause-malformed
-returns-then-not-lead_on-clause-malformed c = λ x r whole.
-    let read = c.in_ok-before.ensures.found in
-    let parts = context_parts x c.args.bytes.now r whole in
-    unfit_missing (pair_bytes names_bytes (list_bytes arc_bytes)) (PairFits NamesFit (ListFits ArcFits))
-    (λ p. IsContextForm (record { before = p.0; arcs = p.1 }))
-    (pair_one names_bytes NamesFit (list_bytes arc_bytes) (ListFits ArcFits) names_one arcs_one) c.args.bytes.now
-    (c.in_ok-before.before, c.in_ok-before.arcs) c.in_ok-before.rest.now
-    (record { fits = read.fits; parts = read.parts })
-    (λ form. false≢true (sym c.if-not-lead_on.true ∙ c.lead_on.ensures.1 (form.arcs_ascend, form.targets)))
-    (x.before, x.arcs) r (record { fits = parts.fits; parts = parts.parts })
-    (let form = whole.fits.form in
-    record { short = form.short; arcs_ascend = form.arcs_ascend; targets = form.targets })
+pub returns-then-not-are_of_a_context-clause-malformed : goal.returns-then-not-are_of_a_context-clause-malformed
+returns-then-not-are_of_a_context-clause-malformed g c =
+    let read = c.in_ok-front.ensures.found in
+    let lists : ContextLists = (c.into_names-before.result, (c.in_ok-front.arcs, c.in_ok-front.sources)) in
+    unfit_lists g.G.Grammar.sourced c.args.bytes.now lists c.in_ok-front.rest.now
+    (renamed g.G.Grammar.sourced c.args.bytes.now c.in_ok-front.front c.into_names-before.result c.in_ok-front.arcs
+    c.in_ok-front.sources c.in_ok-front.rest.now (record { fits = read.fits; parts = read.parts })
+    c.into_names-before.ensures)
+    (λ is. false≢true (sym c.if-not-are_of_a_context.true ∙ c.are_of_a_context.ensures.1 is))
 
 pub returns-clause-found : goal.returns-clause-found
-returns-clause-found c =
-    let read = c.in_ok-before.ensures.found in
-    let led = c.lead_on.ensures.0 c.if-not-lead_on.false in
-    record {
-      fits = record {
-        form = record { short = read.fits.0.0; arcs_ascend = led.0; targets = led.1 };
-        fits = record { names = read.fits.0.1; arcs = read.fits.1.1; arc_count = read.fits.1.0 };
-      };
-      parts = read.parts ∙ ap (λ l. l ++ c.in_ok-before.rest.now)
-          (append_assoc (u32_bytes (length c.in_ok-before.before + 1)) (joined name_bytes c.in_ok-before.before)
-          (list_bytes arc_bytes c.in_ok-before.arcs));
-    }
+returns-clause-found g c =
+    let read = c.in_ok-front.ensures.found in
+    let fit = c.are_of_a_context.ensures.0 c.if-not-are_of_a_context.false in
+    whole_context g.G.Grammar.sourced
+    (record { before = c.into_names-before.result; arcs = c.in_ok-front.arcs; sources = c.in_ok-front.sources })
+    c.args.bytes.now c.in_ok-front.rest.now
+    (renamed g.G.Grammar.sourced c.args.bytes.now c.in_ok-front.front c.into_names-before.result c.in_ok-front.arcs
+    c.in_ok-front.sources c.in_ok-front.rest.now (record { fits = read.fits; parts = read.parts })
+    c.into_names-before.ensures) fit.0 fit.1

@@ -4,7 +4,7 @@ use Rattle.spelled_bytes.proofs.Fronts.{malformed_weaker}
 use Rattle.graph_file.proofs.parts.PieceNameSpellGraphFile.read.Goals as goal
 
 pub returns-in_err-way-clause-malformed : goal.returns-in_err-way-clause-malformed
-returns-in_err-way-clause-malformed c =
+returns-in_err-way-clause-malformed g c =
     let p = err_from_is_err_and c.from_residual.result c.from_residual.ensures.1 in
     rw (p.1, p.2) (malformed_weaker c.in_err-way.field-0.0
     (λ none (x : PieceName) r whole. none (x.way.0, (x.index, x.dir)) r

@@ -4,9 +4,10 @@ use Rattle.graph_file.proofs.GraphFiles.{file_of}
 use Rattle.graph_file.proofs.writer.GraphWriter.finish.Goals as goal
 
 pub returns-clause-file : goal.returns-clause-file
-returns-clause-file c = λ profile blocks known has up own.
+returns-clause-file c = λ version profile blocks known bare has up own.
     let h = has.count in
     let l = c.args.self.long in
-    let spelled : c.set_count.new.bytes.items ≡ graph_bytes profile blocks = search rules in
+    let spelled : c.set_count.new.bytes.items ≡ graph_bytes version profile blocks = search rules in
     let count : length blocks < 2 ^ 64 = search rules in
-    file_of profile c.set_count.new.bytes.items blocks known spelled count up has.forms has.fit own
+    file_of version profile c.set_count.new.bytes.items blocks has.known_version known spelled count up has.forms
+    has.fit own bare
