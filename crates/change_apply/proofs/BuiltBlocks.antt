@@ -104,13 +104,13 @@ module _ (M : Objects) (P : Rules) where
         (by_test v b (eq_by_cmp way_cmp v block.way) refl)
 
 -- the block that is put has the form
-pub in_form : IsTotalOrder way_cmp → (block : Block) (m : FinMap way_cmp Block) → IsBlockForm block → AreInForm (get m)
+pub in_form : IsTotalOrder way_cmp → (block : Block) (m : FinMap way_cmp Block) → IsBlockForm true block → AreInForm (get m)
     → AreInForm (get (insert m block.way block))
 in_form total block m form all w b got =
     at (eq_by_cmp way_cmp w block.way) (sym (get-insert total m block.way block w) ∙ got)
   where
-    at : (t : Bool) → cond t (Some block) (get m w) ≡ Some b → IsBlockForm b
-    at true e = let same : block ≡ b = cc in subst (λ x. IsBlockForm x) same form
+    at : (t : Bool) → cond t (Some block) (get m w) ≡ Some b → IsBlockForm true b
+    at true e = let same : block ≡ b = cc in subst (λ x. IsBlockForm true x) same form
     at false e = all w b e
 
 pub none_in_form : (m : FinMap way_cmp Block) → m ≡ empty → AreInForm (get m)
@@ -119,12 +119,12 @@ none_in_form m bare w b got =
 
 -- the blocks of a list, which are all of the map
 all_in_form : (m : FinMap way_cmp Block) (bs : List Block)
-    → ((b : Block) → In b bs → get m b.way ≡ Some b) → AreInForm (get m) → AllByRecursion IsBlockForm bs
+    → ((b : Block) → In b bs → get m b.way ≡ Some b) → AreInForm (get m) → AllByRecursion (IsBlockForm true) bs
 all_in_form m [] each all = tt
 all_in_form m (b ∷ bs) each all = (all b.way b (each b (inl refl)), all_in_form m bs (λ x i. each x (inr i)) all)
 
 pub listed_forms : (m : FinMap way_cmp Block) → ((b : Block) → Contains (values m) b ↔ (get m b.way ≡ Some b))
-    → AreInForm (get m) → AllByRecursion IsBlockForm (values m)
+    → AreInForm (get m) → AllByRecursion (IsBlockForm true) (values m)
 listed_forms m each all = all_in_form m (values m) (λ b i. (each b).0 (contains_from_in (values m) b i)) all
 
 -- in the order of their ways they are those of the graph

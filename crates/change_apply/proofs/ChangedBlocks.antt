@@ -66,13 +66,22 @@ found_in w (d ∷ es) b got =
     first_or_later w d es b (eq_by_cmp way_cmp w d.0) refl got (λ is. found_in w es b is)
 
 -- a block that a list's map has stands at its way
-at_its_way : (m : FinMap way_cmp Block) → IsAntisymmetric way_cmp → (list : List Block) → entries m ≡ map entry_of list
+pub at_its_way : (m : FinMap way_cmp Block) → IsAntisymmetric way_cmp → (list : List Block) → entries m ≡ map entry_of list
     → (w : WayId) (b : Block) → get m w ≡ Some b → b.way ≡ w
 at_its_way m ties list are w b got =
     let r = found_in w (map entry_of list) b (sym (get-entries m w ∙ ap (find way_cmp w) are) ∙ got) in
     let e = from_map entry_of list r.0 r.1 in
     let same : e.0 ≡ b = ap (λ (x : WayId × Block). x.1) (sym e.2) ∙ r.3 in
     sym (ties w r.0.0 r.2 ∙ ap (λ (x : WayId × Block). x.0) e.2 ∙ ap (λ (x : Block). x.way) same)
+
+-- and is one of the list's
+pub listed_at : (m : FinMap way_cmp Block) → IsAntisymmetric way_cmp → (list : List Block)
+    → entries m ≡ map entry_of list → (w : WayId) (b : Block) → get m w ≡ Some b → Contains list b
+listed_at m ties list are w b got =
+    let r = found_in w (map entry_of list) b (sym (get-entries m w ∙ ap (find way_cmp w) are) ∙ got) in
+    let e = from_map entry_of list r.0 r.1 in
+    let same : e.0 ≡ b = ap (λ (x : WayId × Block). x.1) (sym e.2) ∙ r.3 in
+    subst (Contains list) same (contains_from_in list e.0 e.1)
 
 -- ---- pairs whose ways rise
 

@@ -6,3 +6,5 @@ pub mod ChangedBlocks
 pub mod AlteredBlocks
 mod KnownBlocks
 mod EqualBlocks
+mod SourcedArcs
+mod SourcedBlocks

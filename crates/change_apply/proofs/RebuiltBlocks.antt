@@ -15,7 +15,6 @@ use Rattle.road_model.specs.Orders.{way_cmp}
 use Rattle.road_model.specs.Blocks.{IsBlock, IsRoadBlock}
 use Rattle.road_model.specs.Naming.{OneBlock}
 use Rattle.road_model.specs.Format.{IsBlockForm}
-use Rattle.touched_ways.specs.Altering.{IsUnaltered}
 use Rattle.change_apply.specs.Engines.{AreInForm, AreKept, IsBlockAt}
 use Rattle.change_apply.specs.Rebuilding.{with_pieces, block_at, IsBuilt, IsRebuiltWith, AreRebuilt}
 use Rattle.ordered_lists.proofs.ListMembers.{contains_from_in, in_from_contains, contains_head, contains_later}
@@ -158,70 +157,70 @@ at_other before after listed w same =
 
 module _ (M N : Objects) (P : Rules) (ways : List WayId) (before after : List (WayId × Block))
     (listed : FinMap way_cmp Block) (total : IsTotalOrder way_cmp) (ties : IsAntisymmetric way_cmp)
-    (one : OneBlock N P) (stay : (w : WayId) (b : Block) → IsUnaltered M N P w → IsBlock M P w b ↔ IsBlock N P w b)
-    (others : (w : WayId) → (Contains ways w → ⊥) → IsUnaltered M N P w) (rebuilt : AreRebuilt N P ways before after)
-  where
-    -- at a way whose block was built
-    module _ (w : WayId) (b : Block) (is : IsBuilt N P w b) (found : find way_cmp w after ≡ Some b) where
-      built_block : IsBlockAt N P w (with_pieces b)
-      built_block c = (to, from)
-        where
-          to : with_pieces b ≡ Some c → (c.way ≡ w) × IsRoadBlock N P c
-          to e =
-              let r = pieces_of b.pieces b c e in
-              let own : IsBlock N P b.way b = subst (λ v. IsBlock N P v b) (sym is.block.way) is.block in
-              let road : IsRoadBlock N P b = record { block = own; some = r.1 } in
-              subst (λ (x : Block). (x.way ≡ w) × IsRoadBlock N P x) r.0 (is.block.way, road)
-
-          from : (c.way ≡ w) × IsRoadBlock N P c → with_pieces b ≡ Some c
-          from r =
-              let here : IsBlock N P w c = subst (λ v. IsBlock N P v c) r.0 r.1.block in
-              let same : b ≡ c = one w b c is.block here in
-              some_pieces b.pieces b (λ none. r.1.some (ap (λ x. x.pieces) (sym same) ∙ none)) ∙ ap Some same
-
-      built_form : (c : Block) → with_pieces b ≡ Some c → IsBlockForm c
-      built_form c e =
-          let r = pieces_of b.pieces b c e in
-          let form : IsBlockForm b = record { some = r.1; ascend = is.ascend; pieces = is.pieces } in
-          subst (λ (x : Block). IsBlockForm x) r.0 form
-
-    -- at any other way
-    other_block : (w : WayId) (at : Option Block) → IsUnaltered M N P w → IsBlockAt M P w at → IsBlockAt N P w at
-    other_block w at unaltered is c = (to, from)
+    (one : OneBlock N P) (stay : (w : WayId) → (Contains ways w → ⊥) → (b : Block) → IsBlock M P w b ↔ IsBlock N P w b)
+    (rebuilt : AreRebuilt N P ways before after) where
+  -- at a way whose block was built
+  module _ (w : WayId) (b : Block) (is : IsBuilt N P w b) (found : find way_cmp w after ≡ Some b) where
+    built_block : IsBlockAt N P w (with_pieces b)
+    built_block c = (to, from)
       where
-        to : at ≡ Some c → (c.way ≡ w) × IsRoadBlock N P c
+        to : with_pieces b ≡ Some c → (c.way ≡ w) × IsRoadBlock N P c
         to e =
-            let r = (is c).0 e in
-            let here : IsBlock M P w c = subst (λ v. IsBlock M P v c) r.0 r.1.block in
-            let there = (stay w c unaltered).0 here in
-            (r.0, record { block = subst (λ v. IsBlock N P v c) (sym r.0) there; some = r.1.some })
+            let r = pieces_of b.pieces b c e in
+            let own : IsBlock N P b.way b = subst (λ v. IsBlock N P v b) (sym is.block.way) is.block in
+            let road : IsRoadBlock N P b = record { block = own; some = r.1 } in
+            subst (λ (x : Block). (x.way ≡ w) × IsRoadBlock N P x) r.0 (is.block.way, road)
 
-        from : (c.way ≡ w) × IsRoadBlock N P c → at ≡ Some c
+        from : (c.way ≡ w) × IsRoadBlock N P c → with_pieces b ≡ Some c
         from r =
-            let there : IsBlock N P w c = subst (λ v. IsBlock N P v c) r.0 r.1.block in
-            let here = (stay w c unaltered).1 there in
-            (is c).1 (r.0, record { block = subst (λ v. IsBlock M P v c) (sym r.0) here; some = r.1.some })
+            let here : IsBlock N P w c = subst (λ v. IsBlock N P v c) r.0 r.1.block in
+            let same : b ≡ c = one w b c is.block here in
+            some_pieces b.pieces b (λ none. r.1.some (ap (λ x. x.pieces) (sym same) ∙ none)) ∙ ap Some same
 
-    -- what stands at each way is its block behind the change, where it was before
-    pub kept_behind : AreKept M P (block_at before listed) → AreKept N P (block_at after listed)
-    kept_behind kept = record { blocks = blocks; forms = forms }
-      where
-        blocks : (w : WayId) → IsBlockAt N P w (block_at after listed w)
-        blocks w = elim (listed_or_not total ties ways w) [
-          | inl has ↦ let r = rebuilt.built w has in
-              subst (λ (o : Option Block). IsBlockAt N P w o) (sym (at_built after listed w r.0 r.2))
-              (built_block w r.0 r.1 r.2)
-          | inr not ↦ subst (λ (o : Option Block). IsBlockAt N P w o)
-              (sym (at_other before after listed w (rebuilt.stays w not)))
-              (other_block w (block_at before listed w) (others w not) (kept.blocks w))
-        ]
+    built_form : (c : Block) → with_pieces b ≡ Some c → IsBlockForm true c
+    built_form c e =
+        let r = pieces_of b.pieces b c e in
+        let form : IsBlockForm true b = record { some = r.1; ascend = is.ascend; pieces = is.pieces } in
+        subst (λ (x : Block). IsBlockForm true x) r.0 form
 
-        forms : AreInForm (block_at after listed)
-        forms w c e = elim (listed_or_not total ties ways w) [
-          | inl has ↦ let r = rebuilt.built w has in
-              built_form w r.0 r.1 r.2 c (sym (at_built after listed w r.0 r.2) ∙ e)
-          | inr not ↦ kept.forms w c (sym (at_other before after listed w (rebuilt.stays w not)) ∙ e)
-        ]
+  -- at any other way
+  other_block : (w : WayId) (at : Option Block) → ((b : Block) → IsBlock M P w b ↔ IsBlock N P w b)
+      → IsBlockAt M P w at → IsBlockAt N P w at
+  other_block w at same is c = (to, from)
+    where
+      to : at ≡ Some c → (c.way ≡ w) × IsRoadBlock N P c
+      to e =
+          let r = (is c).0 e in
+          let here : IsBlock M P w c = subst (λ v. IsBlock M P v c) r.0 r.1.block in
+          let there = (same c).0 here in
+          (r.0, record { block = subst (λ v. IsBlock N P v c) (sym r.0) there; some = r.1.some })
+
+      from : (c.way ≡ w) × IsRoadBlock N P c → at ≡ Some c
+      from r =
+          let there : IsBlock N P w c = subst (λ v. IsBlock N P v c) r.0 r.1.block in
+          let here = (same c).1 there in
+          (is c).1 (r.0, record { block = subst (λ v. IsBlock M P v c) (sym r.0) here; some = r.1.some })
+
+  -- what stands at each way is its block behind the change, where it was before
+  pub kept_behind : AreKept M P (block_at before listed) → AreKept N P (block_at after listed)
+  kept_behind kept = record { blocks = blocks; forms = forms }
+    where
+      blocks : (w : WayId) → IsBlockAt N P w (block_at after listed w)
+      blocks w = elim (listed_or_not total ties ways w) [
+        | inl has ↦ let r = rebuilt.built w has in
+            subst (λ (o : Option Block). IsBlockAt N P w o) (sym (at_built after listed w r.0 r.2))
+            (built_block w r.0 r.1 r.2)
+        | inr not ↦ subst (λ (o : Option Block). IsBlockAt N P w o)
+            (sym (at_other before after listed w (rebuilt.stays w not)))
+            (other_block w (block_at before listed w) (stay w not) (kept.blocks w))
+      ]
+
+      forms : AreInForm (block_at after listed)
+      forms w c e = elim (listed_or_not total ties ways w) [
+        | inl has ↦ let r = rebuilt.built w has in
+            built_form w r.0 r.1 r.2 c (sym (at_built after listed w r.0 r.2) ∙ e)
+        | inr not ↦ kept.forms w c (sym (at_other before after listed w (rebuilt.stays w not)) ∙ e)
+      ]
 
 -- ---- however they are held
 

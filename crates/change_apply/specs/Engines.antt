@@ -1,5 +1,5 @@
 -- What contracts see of an engine, and the blocks of some ways.
-use Rattle.std.specs.Prelude.{◌≡◌, ◌↔◌, ◌⊎◌, ℕ, ◌+◌, ◌≤◌, List, Option, Some, Contains, length, refl}
+use Rattle.std.specs.Prelude.{◌≡◌, ◌↔◌, ◌⊎◌, ℕ, ◌+◌, ◌≤◌, List, Option, Some, Contains, length, refl, true}
 use Rattle.std.specs.Coded.{Coded, code_by, coded×}
 use Rattle.std.specs.FinMap.{FinMap, get}
 use Rattle.road_base.specs.declared.ids.WayId.{WayId}
@@ -33,9 +33,9 @@ AreBlocksAmong M P ways m = (w : WayId) (b : Block)
 abbrev pub IsBlockAt : Objects → Rules → WayId → Option Block → Type 0
 IsBlockAt M P w at = (b : Block) → (at ≡ Some b) ↔ ((b.way ≡ w) × IsRoadBlock M P b)
 
--- each of the blocks has the form in which a graph file holds it
+-- each of the blocks has the form in which a graph file with sources holds it
 abbrev pub AreInForm : (WayId → Option Block) → Type 0
-AreInForm at = (w : WayId) (b : Block) → at w ≡ Some b → IsBlockForm b
+AreInForm at = (w : WayId) (b : Block) → at w ≡ Some b → IsBlockForm true b
 
 -- the blocks of all ways with pieces, each at its way, as a graph file holds them
 pub record AreKept (M : Objects) (P : Rules) (at : WayId → Option Block) : Type 0 where

@@ -1,3 +1,4 @@
 pub mod Engines
 pub mod Rebuilding
+pub mod Sourcing
 pub mod Standing

@@ -1,5 +1,5 @@
 -- Blocks that were built, over those that stood before.
-use Rattle.std.specs.Prelude.{◌≡◌, ℕ, List, [], ◌∷◌, ◌++◌, Option, Some, None, Contains, IsTrue, map}
+use Rattle.std.specs.Prelude.{◌≡◌, ℕ, List, [], ◌∷◌, ◌++◌, Option, Some, None, Contains, IsTrue, map, true}
 use Rattle.std.specs.List.{AllByRecursion}
 use Rattle.std.specs.FinMap.{FinMap, entries, find, get}
 use Rattle.road_base.specs.declared.ids.WayId.{WayId}
@@ -10,9 +10,8 @@ use Rattle.road_model.specs.declared.blocks.Block.{Block}
 use Rattle.road_model.specs.Rules.{Rules}
 use Rattle.ordered_lists.specs.Orders.{rises}
 use Rattle.road_model.specs.Orders.{way_cmp}
-use Rattle.road_model.specs.Blocks.{IsForward}
+use Rattle.road_model.specs.Blocks.{IsBlock}
 use Rattle.road_model.specs.Format.{IsPieceForm, place_cmp}
-use Rattle.touched_ways.specs.Altering.{listed_pieces}
 
 -- the block, if it has pieces
 abbrev pub with_pieces : Block → Option Block
@@ -34,19 +33,19 @@ block_at rebuilt listed w = elim (find way_cmp w rebuilt) [ None ↦ get listed 
 abbrev pub listed : List Piece → List (PieceName × ℕ)
 listed ps = map (λ p. (p.name, p.end)) ps
 
--- those of the pieces of the option's block; none where there is no block
-abbrev pub pieces_in : Option Block → List (PieceName × ℕ)
+-- the pieces of the option's block; none where there is no block
+abbrev pub pieces_in : Option Block → List Piece
 pieces_in None = []
-pieces_in (Some b) = listed_pieces b
+pieces_in (Some b) = b.pieces
 
--- those of the pieces of the way
-abbrev pub pieces_at : List (WayId × Block) → FinMap way_cmp Block → WayId → List (PieceName × ℕ)
+-- the pieces of the block of the way
+abbrev pub pieces_at : List (WayId × Block) → FinMap way_cmp Block → WayId → List Piece
 pieces_at rebuilt listed w = pieces_in (block_at rebuilt listed w)
 
--- the forward part of the way's block, in the form in which a graph file holds it
+-- the block of the way, in the form in which a graph file with sources holds it
 pub record IsBuilt (M : Objects) (P : Rules) (w : WayId) (b : Block) : Type 0 where
-  pub block : IsForward M P w b
-  pub pieces : AllByRecursion IsPieceForm b.pieces
+  pub block : IsBlock M P w b
+  pub pieces : AllByRecursion (IsPieceForm true) b.pieces
   pub ascend : IsTrue (rises place_cmp (map (λ p. p.name) b.pieces))
 
 -- the block of this way was built and stands at it; all else is as before

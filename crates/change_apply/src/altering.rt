@@ -8,7 +8,6 @@ ghost use Rattle.change_apply.specs.Standing.{built_in};
 use crate::known::Standing;
 use crate::sameness::same_spans;
 use road_base::{NoMemory, WayId};
-use road_model::Piece;
 use std::alloc::Global;
 
 /// Those of the ways that list other pieces, by names and ends, in the blocks that stand after than in those before, in
@@ -22,27 +21,16 @@ pub fn altered(
     ensures { IfOk result (λ altered. (w : WayNumber)
         → Contains ways.now w
         → (Contains altered.items w → ⊥)
-        → pieces_at (built_in before.now) (map_of before.now.blocks.now) w
-        ≡ pieces_at (built_in after.now) (map_of after.now.blocks.now) w) }
+        → listed (pieces_at (built_in before.now) (map_of before.now.blocks.now) w)
+        ≡ listed (pieces_at (built_in after.now) (map_of after.now.blocks.now) w)) }
 {
     let mut altered = Vec::new(alloc);
     for way in ways {
-        let was = pieces_at(before, *way);
-        let is = pieces_at(after, *way);
+        let was = before.pieces(*way);
+        let is = after.pieces(*way);
         if !same_spans(was, is) {
             altered.push(*way)?;
         }
     }
     Ok(altered)
-}
-
-/// The pieces of the way's block that stands; none where none does.
-fn pieces_at<'a>(standing: &'a Standing<'_>, way: WayId) -> &'a [Piece]
-    ensures { listed result.now
-        ≡ pieces_at (built_in standing.now) (map_of standing.now.blocks.now) way }
-{
-    match standing.newest(way) {
-        Some(block) => block.pieces.items(),
-        None => &[],
-    }
 }

@@ -12,20 +12,22 @@ ghost use Rattle.change_apply.specs.Rebuilding.{AreRebuilt, IsRebuiltWith, block
 ghost use Rattle.touched_ways.specs.Altering.{AreParted};
 
 use crate::altering::altered;
+use crate::joining::joined;
 use crate::known::{Standing, StandingBut};
+use crate::sources::led_to;
 use back_references::Indexed;
 use expanded_graph::GraphBuilder;
 use graph_blocks::{RoadBlocks, road_blocks};
 use road_base::{NoMemory, Steps, WayId, Ways};
-use road_model::laws::{has_block, name_order, one_block, roads_refer};
+use road_model::laws::{blocks_stay, has_block, name_order, one_block, roads_refer};
 use road_model::{Blocks, Network, Profile, World};
 use std::alloc::Global;
 use std::sync::ledger::Ledger;
 use touched_ways::laws::{
-    block_lists_pieces, far_blocks_list_pieces, far_pieces_stay, listed_pieces_stay,
-    unaltered_blocks_stay,
+    block_lists_pieces, far_blocks_list_pieces, far_pieces_stay, led_blocks_stay,
+    listed_pieces_stay, unaltered_blocks_stay,
 };
-use touched_ways::{TouchedWays, meeting};
+use touched_ways::{TouchedWays, meeting, split};
 use way_pieces::KnownBlocks;
 
 /// The blocks of all ways with pieces: one is built for each visible way with the key `highway`.
@@ -166,17 +168,19 @@ fn rebuild_one<M: World, P: Profile, L: Ledger>(
 pub struct Rebuilt {
     /// Those of ways near the change, or named beside one near.
     pub near: Blocks,
-    /// Those of ways that meet one of these with other pieces than before, or are named beside one that does.
-    pub met: Blocks,
+    /// Those of ways that meet one of these with other pieces than before, or are named beside one that does, and those
+    /// of ways by whose pieces another arc leads than before.
+    pub later: Blocks,
     pub count: u64,
 }
 
 /// Builds over the world that a change leaves, `next`, the blocks of the touched ways that are near it or that a
-/// restriction names beside one near, and then those of the other touched ways that meet one of them whose pieces are
-/// others than before, or that a restriction names beside a way that does. With them, what stands at every way is its
-/// block, as it was in the world before, the network's. The pieces of the ways that they meet are taken from the blocks
-/// that stand: before the first step from those of ways that aren't built in it, since the pieces of these are the
-/// same, and before the second from all.
+/// restriction names beside one near, then those of the other touched ways that meet one of them whose pieces are
+/// others than before, or that a restriction names beside a way that does, and then those of the rest by whose pieces
+/// an arc leads that is in one alone of the two blocks, before and after, of a way that was built: where no such arc
+/// is, the sources are the same. With them, what stands at every way is its block, as it was in the world before, the
+/// network's. The pieces of the ways that they meet are taken from the blocks that stand: before the first step from
+/// those of ways that aren't built in it, since the pieces of these are the same, and after it from all.
 pub fn rebuild_touched<'b, M: World, P: Profile, L: Ledger>(
     alloc: Global,
     network: &Network<'_, Indexed, P>,
@@ -189,7 +193,7 @@ pub fn rebuild_touched<'b, M: World, P: Profile, L: Ledger>(
         touched.now.all touched.now.near touched.now.far }
     requires kept { AreKept network.now.world.now (P.rules network.now.profile) (get (map_of blocks.now)) }
     ensures kept { IfOk result (λ r. AreKept (M.objects next.now) (P.rules network.now.profile)
-        (block_at (over r.met.map (over r.near.map [])) (map_of blocks.now))) }
+        (block_at (over r.later.map (over r.near.map [])) (map_of blocks.now))) }
     ensures count { IfOk result (λ r. steps.new ≡ steps.old + r.count) }
     ensures few { steps.new ≤ steps.old + (length touched.now.near + length touched.now.far) }
 {
@@ -197,7 +201,9 @@ pub fn rebuild_touched<'b, M: World, P: Profile, L: Ledger>(
     name_order();
     one_block(&profile);
     has_block(&profile);
+    blocks_stay(&profile);
     unaltered_blocks_stay(&profile);
+    led_blocks_stay(&profile);
     far_pieces_stay(&profile);
     listed_pieces_stay(&profile);
     block_lists_pieces(&profile);
@@ -218,13 +224,23 @@ pub fn rebuild_touched<'b, M: World, P: Profile, L: Ledger>(
         fresh: &near,
     };
     let altered = altered(alloc, &before, &after, near_ways)?;
-    let met_ways = meeting(alloc, next, &touched.far, altered.as_slice())?;
+    let far = meeting(alloc, next, &touched.far, altered.as_slice())?;
+    let met_ways = far.among.items();
     let no_ways = Ways::from_list(Vec::new(alloc));
     let known = StandingBut {
         standing: after,
         but: &no_ways,
     };
-    let met = rebuild(alloc, next, profile, met_ways.items(), &known, steps)?;
-    let count = near_ways.len() as u64 + met_ways.items().len() as u64;
-    Ok(Rebuilt { near, met, count })
+    let met = rebuild(alloc, next, profile, met_ways, &known, steps)?;
+    let behind_met = Standing {
+        blocks,
+        fresh: &met,
+    };
+    let led = led_to(alloc, &before, near_ways, &after, met_ways, &behind_met)?;
+    let rest = split(alloc, &far.others, &led)?;
+    let sourced_ways = rest.among.items();
+    let sourced = rebuild(alloc, next, profile, sourced_ways, &known, steps)?;
+    let count = near_ways.len() as u64 + met_ways.len() as u64 + sourced_ways.len() as u64;
+    let later = joined(alloc, met, sourced)?;
+    Ok(Rebuilt { near, later, count })
 }

@@ -25,8 +25,8 @@ use std::alloc::Global;
 pub struct BlockChanges {
     /// At the ways near it.
     pub near: Vec<Change<WayId, Block>>,
-    /// At the ways that meet those with other pieces. They come behind the others.
-    pub met: Vec<Change<WayId, Block>>,
+    /// At the ways that meet those with other pieces, and at those to which other arcs lead. They come behind the others.
+    pub later: Vec<Change<WayId, Block>>,
 }
 
 /// What changes of the blocks, so that these stand. Takes a look-up for each and, where one stands, the time of one run
@@ -37,25 +37,25 @@ pub fn changes_of(
     rebuilt: Rebuilt,
 ) -> Result<BlockChanges, NoMemory>
     ensures near { IfOk result (λ c. Rise way_cmp (map (change_pair way_of) c.near.items)) }
-    ensures met { IfOk result (λ c. Rise way_cmp (map (change_pair way_of) c.met.items)) }
+    ensures later { IfOk result (λ c. Rise way_cmp (map (change_pair way_of) c.later.items)) }
     ensures leaves { IfOk result (λ c. (w : WayNumber)
-        → find way_cmp w (changed_by way_of way_cmp c.met.items (changed_by way_of way_cmp c.near.items blocks.now))
-        ≡ block_at (over rebuilt.met.map (over rebuilt.near.map [])) (map_of blocks.now) w) }
+        → find way_cmp w (changed_by way_of way_cmp c.later.items (changed_by way_of way_cmp c.near.items blocks.now))
+        ≡ block_at (over rebuilt.later.map (over rebuilt.near.map [])) (map_of blocks.now) w) }
 {
     name_order();
     let none = Blocks::new(alloc);
-    let Rebuilt { near, met, .. } = rebuilt;
+    let Rebuilt { near, later, .. } = rebuilt;
     let behind_near = Standing {
         blocks,
         fresh: &near,
     };
-    let met = changes_over(alloc, &behind_near, met)?;
+    let later = changes_over(alloc, &behind_near, later)?;
     let before = Standing {
         blocks,
         fresh: &none,
     };
     let near = changes_over(alloc, &before, near)?;
-    Ok(BlockChanges { near, met })
+    Ok(BlockChanges { near, later })
 }
 
 /// What changes of the blocks that stand, so that the fresh ones do.

@@ -1,5 +1,5 @@
 //! What follows changes.
-ghost use Rattle.std.specs.Prelude.{◌≡◌, ◌+◌, ◌≤◌, List, length, map, IfOk, OnOk, OnErr};
+ghost use Rattle.std.specs.Prelude.{◌≡◌, ◌+◌, ◌≤◌, List, length, map, true, IfOk, OnOk, OnErr};
 ghost use Rattle.std.specs.List.{AllByRecursion};
 ghost use Rattle.std.specs.FinMap.{empty, find, get, values};
 ghost use Rattle.road_base.specs.declared.event.Event.{Event as EventValue};
@@ -136,7 +136,7 @@ impl<P: Profile> Engine<P> {
             &prepared,
             steps,
         )?;
-        let exchange = self.blocks.prepare_both(changes.near, changes.met)?;
+        let exchange = self.blocks.prepare_both(changes.near, changes.later)?;
         self.world.commit(prepared);
         self.blocks.commit(exchange);
         Ok(report)
@@ -162,7 +162,7 @@ impl<P: Profile> Engine<P> {
         ensures blocks { AreBlocksOf self.now.world (P.rules self.now.profile) (map_of result.now) }
         ensures listed { Lists (λ b. b.way) way_cmp (IsRoadBlock self.now.world (P.rules self.now.profile))
             (values (map_of result.now)) }
-        ensures forms { AllByRecursion IsBlockForm (values (map_of result.now)) }
+        ensures forms { AllByRecursion (IsBlockForm true) (values (map_of result.now)) }
     {
         values_in_order();
         &self.blocks
@@ -180,10 +180,10 @@ fn rebuild_after<P: Profile, L: Ledger>(
     requires before { prepared.now.before ≡ network.now.world.now }
     requires kept { AreKept network.now.world.now (P.rules network.now.profile) (get (map_of blocks.now)) }
     ensures near { IfOk result (λ r. Rise way_cmp (map (change_pair way_of) r.0.near.items)) }
-    ensures met { IfOk result (λ r. Rise way_cmp (map (change_pair way_of) r.0.met.items)) }
+    ensures later { IfOk result (λ r. Rise way_cmp (map (change_pair way_of) r.0.later.items)) }
     ensures kept { IfOk result (λ r. AreKept prepared.now.after (P.rules network.now.profile)
         (λ w. find way_cmp w
-        (changed_by way_of way_cmp r.0.met.items (changed_by way_of way_cmp r.0.near.items blocks.now)))) }
+        (changed_by way_of way_cmp r.0.later.items (changed_by way_of way_cmp r.0.near.items blocks.now)))) }
     ensures touched { IfOk result (λ r. (ways : List WayNumber)
         → AreTouched network.now.world.now prepared.now.after ways
         → r.1.touched ≡ length ways) }

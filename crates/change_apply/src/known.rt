@@ -3,12 +3,13 @@ ghost use Rattle.std.specs.Prelude.{◌≡◌, IsTrue, option_copied};
 ghost use Rattle.ordered_lists.specs.Orders.{rises};
 ghost use Rattle.road_model.specs.Orders.{way_cmp};
 ghost use Rattle.graph_blocks.specs.Lent.{map_of};
+ghost use Rattle.change_apply.specs.Rebuilding.{pieces_at};
 ghost use Rattle.change_apply.specs.Standing.{built_in, newest, newest_but};
 
 use graph_blocks::RoadBlocks;
 use road_base::{WayId, Ways};
 use road_model::laws::name_order;
-use road_model::{Block, Blocks};
+use road_model::{Block, Blocks, Piece};
 use touched_ways::is_among;
 use way_pieces::KnownBlocks;
 
@@ -31,6 +32,16 @@ impl<'a> Standing<'a> {
         match self.fresh.get(way) {
             Some(block) => Some(block),
             None => self.blocks.get(way),
+        }
+    }
+
+    /// The pieces of the way's newest block; none where it has no block. Takes what `newest` takes.
+    pub fn pieces(&self, way: WayId) -> &[Piece]
+        ensures { result.now ≡ pieces_at (built_in self.now) (map_of self.now.blocks.now) way }
+    {
+        match self.newest(way) {
+            Some(block) => block.pieces.items(),
+            None => &[],
         }
     }
 }

@@ -2,9 +2,11 @@
 //!
 //! `Engine::load` costs what a compilation costs: it holds the objects, their references, and the block of each way
 //! with pieces. `Engine::apply` finds the ways that a change touches, and over the world that the change would leave
-//! builds the blocks of those near it, or named by a restriction beside one near, and then of those that meet a way
-//! whose pieces it altered, or are named beside one that does, beside what stands. The pieces of the ways that these
-//! meet it takes from the blocks that stand. It finds what changes of the blocks: one that is equal to the one that
+//! builds the blocks of those near it, or named by a restriction beside one near, then of those that meet a way whose
+//! pieces it altered, or are named beside one that does, and then of those by whose pieces another arc leads than
+//! before, which changes the sources of their contexts; all that beside what stands. The pieces of the ways that these
+//! meet it takes from the blocks that stand. Other arcs it finds in one run over the blocks that were built and those
+//! that stood at their ways. It finds what changes of the blocks: one that is equal to the one that
 //! stands is dropped, so that what stands stays where it lies in memory; one without pieces leaves its way without a
 //! block. Only then, and without taking memory, it exchanges the worlds and the blocks; where no memory is found
 //! nothing changes. So a change costs what it touches: the look-ups of the touched ways, the blocks that are built, and
@@ -17,8 +19,10 @@ mod altering;
 mod building;
 mod changes;
 mod engine;
+mod joining;
 mod known;
 mod sameness;
+mod sources;
 mod touching;
 
 pub use engine::{Engine, Report};

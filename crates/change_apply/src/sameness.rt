@@ -2,7 +2,7 @@
 ghost use Rattle.std.specs.Prelude.{◌≡◌, ◌↔◌, IsTrue};
 ghost use Rattle.change_apply.specs.Rebuilding.{listed};
 
-use road_model::{Block, Context, Piece, PieceName, Place, TurnArc};
+use road_model::{Block, Context, Names, Piece, PieceName, Place, TurnArc};
 
 /// Whether both blocks are equal. Takes the time of one run over both, up to the first difference.
 pub fn same_block(a: &Block, b: &Block) -> bool
@@ -85,7 +85,24 @@ fn same_contexts(a: &[Context], b: &[Context]) -> bool
 fn same_context(a: &Context, b: &Context) -> bool
     ensures { IsTrue result ↔ (a.now ≡ b.now) }
 {
-    same_names(a.before.items(), b.before.items()) && same_arcs(a.arcs.items(), b.arcs.items())
+    same_names(a.before.items(), b.before.items())
+        && same_arcs(a.arcs.items(), b.arcs.items())
+        && same_sources(a.sources.items(), b.sources.items())
+}
+
+/// Whether both lists of sources are equal.
+fn same_sources(a: &[Names], b: &[Names]) -> bool
+    ensures { IsTrue result ↔ (a.now ≡ b.now) }
+{
+    if a.len() != b.len() {
+        return false;
+    }
+    for at in 0..a.len() {
+        if !same_names(a[at].items(), b[at].items()) {
+            return false;
+        }
+    }
+    true
 }
 
 /// Whether both lists of names are equal.
@@ -95,8 +112,8 @@ fn same_names(a: &[PieceName], b: &[PieceName]) -> bool
     a == b
 }
 
-/// Whether both lists of arcs are equal.
-fn same_arcs(a: &[TurnArc], b: &[TurnArc]) -> bool
+/// Whether both lists of arcs are equal. Takes the time of one run over both, up to the first difference.
+pub fn same_arcs(a: &[TurnArc], b: &[TurnArc]) -> bool
     ensures { IsTrue result ↔ (a.now ≡ b.now) }
 {
     a == b

@@ -1,6 +1,6 @@
 use Rattle.std.proofs.Common.{◌≡◌, take}
 use Rattle.graph_blocks.specs.Lent.{map_of}
-use Rattle.change_apply.specs.Rebuilding.{pieces_at}
+use Rattle.change_apply.specs.Rebuilding.{listed, pieces_at}
 use Rattle.change_apply.specs.Standing.{built_in}
 use Rattle.change_apply.proofs.ComparedPieces.{AreSame}
 use Rattle.change_apply.proofs.altering.altered.Given as goal
@@ -8,5 +8,5 @@ use Rattle.change_apply.proofs.altering.altered.Given as goal
 -- of the ways so far, those that aren't among the altered ones list the same pieces
 abbrev pub invariant-loop-way : goal.invariant-loop-way
 invariant-loop-way l =
-    AreSame (λ w. pieces_at (built_in l.before) (map_of l.before.blocks.now) w
-    ≡ pieces_at (built_in l.after) (map_of l.after.blocks.now) w) (take l.way-index l.ways) l.altered.items
+    AreSame (λ w. listed (pieces_at (built_in l.before) (map_of l.before.blocks.now) w)
+    ≡ listed (pieces_at (built_in l.after) (map_of l.after.blocks.now) w)) (take l.way-index l.ways) l.altered.items

@@ -1,4 +1,4 @@
-use Rattle.std.proofs.Common.{◌≡◌, [], Result, Ok, Err, OnOk, ◌++◌, ◌∷◌, sym, subst, ◌∙◌}
+use Rattle.std.proofs.Common.{◌≡◌, true, [], Result, Ok, Err, OnOk, ◌++◌, ◌∷◌, sym, subst, ◌∙◌}
 use Rattle.std.specs.FinMap.{FinMap, get}
 use Rattle.road_base.specs.declared.ids.WayId.{WayId}
 use Rattle.road_model.specs.declared.blocks.Block.{Block}
@@ -42,7 +42,7 @@ returns-clause-forms g c = on_ok c.insert.result c.insert.ensures.ok (λ put all
     let block = c.in_ok-block.block in
     let test = some_by_test c.items.result.now c.is_empty.result c.is_empty.ensures c.if-is_empty.false in
     let some : block.pieces ≡ [] → ⊥ = λ none. test (c.items.ensures ∙ none) in
-    let form : IsBlockForm block = record {
+    let form : IsBlockForm true block = record {
       some = some;
       ascend = c.in_ok-block.ensures.form.1;
       pieces = c.in_ok-block.ensures.form.0;

@@ -14,7 +14,7 @@ returns-clause-leaves c = λ w.
     let pairs = c.args.blocks.now in
     let listed = map_of pairs in
     let near = c.args.rebuilt.near.map in
-    let met = c.args.rebuilt.met.map in
+    let later = c.args.rebuilt.later.map in
     let none : over c.new-none.result.map [] ≡ [] = over_empty c.new-none.result.map [] c.new-none.ensures in
     let first = changed_by way_of way_cmp c.in_ok-near.near.items pairs in
     let stands : (v : WayId) → find way_cmp v pairs ≡ block_at [] listed v =
@@ -24,6 +24,6 @@ returns-clause-leaves c = λ w.
     let behind : (v : WayId) → find way_cmp v first ≡ block_at (over near []) listed v =
     λ v. c.in_ok-near.ensures.leaves pairs before v
     ∙ with_fresh_as near (λ u. find way_cmp u pairs) (block_at [] listed) v (stands v) ∙ at_fresh near [] listed v in
-    c.in_ok-met.ensures.leaves first behind w
-    ∙ with_fresh_as met (λ u. find way_cmp u first) (block_at (over near []) listed) w (behind w)
-    ∙ at_fresh met (over near []) listed w
+    c.in_ok-later.ensures.leaves first behind w
+    ∙ with_fresh_as later (λ u. find way_cmp u first) (block_at (over near []) listed) w (behind w)
+    ∙ at_fresh later (over near []) listed w

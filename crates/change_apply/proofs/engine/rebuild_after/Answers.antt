@@ -62,9 +62,9 @@ returns-clause-kept g c =
     let P = g.P.Profile.rules c.args.network.now.profile in
     let changes = c.in_ok-changes.changes in
     let rebuilt = c.in_ok-rebuilt.rebuilt in
-    let at = block_at (over rebuilt.met.map (over rebuilt.near.map [])) (map_of c.args.blocks.now) in
+    let at = block_at (over rebuilt.later.map (over rebuilt.near.map [])) (map_of c.args.blocks.now) in
     kept_as c.args.prepared.now.after P at
-    (λ w. find way_cmp w (changed_by way_of way_cmp changes.met.items
+    (λ w. find way_cmp w (changed_by way_of way_cmp changes.later.items
     (changed_by way_of way_cmp changes.near.items c.args.blocks.now)))
     c.in_ok-changes.ensures.leaves
     (subst (λ (x : Objects). AreKept x P at) c.of-next.ensures c.in_ok-rebuilt.ensures.kept)

@@ -102,7 +102,7 @@ pub invariant_of-self-2 : goal.invariant_of-self-2
 invariant_of-self-2 g c =
     let P = g.P.Profile.rules c.self.inside.profile in
     let changes = c.in_ok-changes.changes in
-    let after = changed_by way_of way_cmp changes.met.items
+    let after = changed_by way_of way_cmp changes.later.items
     (changed_by way_of way_cmp changes.near.items c.self.inside.blocks) in
     let is : c.commit-2.new.self ≡ after = c.commit-2.ensures ∙ c.in_ok-exchange.ensures.after in
     let kept = subst (λ p. AreKept c.in_ok-prepared.prepared.after (g.P.Profile.rules p) (λ w. find way_cmp w after))

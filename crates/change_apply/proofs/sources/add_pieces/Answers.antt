@@ -1,0 +1,33 @@
+use Rattle.std.proofs.Common.{◌≡◌, ◌+◌, List, [], ◌∷◌, ◌++◌, take, sym, ap, subst, ◌∙◌}
+use Rattle.std.proofs.lemmas.List.{take_all, take_more}
+use Rattle.road_model.specs.declared.lists.Context.{Context}
+use Rattle.road_model.specs.declared.lists.Piece.{Piece}
+use Rattle.change_apply.specs.Sourcing.{AreLed, AreLedBehind}
+use Rattle.change_apply.proofs.SourcedArcs.{more_pieces}
+use Rattle.change_apply.proofs.sources.add_pieces.Goals as goal
+
+pub loop-piece-preserved : goal.loop-piece-preserved
+loop-piece-preserved c =
+    let pieces = c.args.pieces.now in
+    let others = c.args.others.now in
+    let i = c.loop-piece.piece-index in
+    let piece = c.piece-item.result in
+    let more = c.add_contexts.new.led.items in
+    let keeps = c.in_ok-add_contexts.ensures.keeps in
+    let contexts = c.contexts_at-contexts.result.now in
+    let longer : take (i + 1) pieces ≡ take i pieces ++ piece ∷ [] =
+    take_more pieces i _ c.loop-piece-test.true ∙ ap (λ x. take i pieces ++ x ∷ []) (sym c.piece-item.is) in
+    let led : AreLedBehind piece.contexts contexts more =
+    subst (λ (l : List Context). AreLedBehind l contexts more) c.items.ensures c.in_ok-add_contexts.ensures.led in
+    record {
+      keeps = λ w has. keeps w (c.loop-piece.invariant.keeps w has);
+      led =
+          subst (λ (l : List Piece). AreLed l others more) (sym longer)
+          (more_pieces (take i pieces) others c.loop-piece.led.items more piece contexts c.loop-piece.invariant.led keeps
+          led c.contexts_at-contexts.ensures);
+    }
+
+pub returns-clause-led : goal.returns-clause-led
+returns-clause-led c =
+    subst (λ (l : List Piece). AreLed l c.args.others.now c.loop-piece.led.items)
+    (take_all c.loop-piece.piece-index c.args.pieces.now c.loop-piece-test.false) c.loop-piece.invariant.led
