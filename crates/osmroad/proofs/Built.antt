@@ -1,6 +1,6 @@
 -- The blocks of ways, one way after another.
 use Rattle.std.proofs.Common.{◌≡◌, ℕ, IsTrue, List, [], ◌∷◌, ◌++◌, map}
-use Rattle.std.proofs.Common.{inl, inr, sym, ap, subst, ◌∙◌}
+use Rattle.std.proofs.Common.{inl, inr, sym, ap, subst, ◌∙◌, true}
 use Rattle.std.specs.Cmp.{IsTotalOrder}
 use Rattle.std.specs.declared.cmp.Ordering.TheVariants.{Less}
 use Rattle.std.specs.List.{AllByRecursion}
@@ -61,7 +61,7 @@ module _ (M : Objects) (P : Rules) where
   -- the block of a way above all others is put behind their blocks
   pub one_more : IsTotalOrder way_cmp → OneBlock M P → (ways : List WayId) (block : Block) (old new : GraphWriter)
       → IsTrue (rises way_cmp (ways ++ block.way ∷ [])) → HasBlocksOf M P ways old → IsRoadBlock M P block
-      → ((blocks : List Block) → HasWritten P.number blocks old → HasWritten P.number (blocks ++ block ∷ []) new)
+      → ((blocks : List Block) → HasWritten 2 P.number blocks old → HasWritten 2 P.number (blocks ++ block ∷ []) new)
       → HasBlocksOf M P (ways ++ block.way ∷ []) new
   one_more total one ways block old new up has road put = record {
     blocks = has.blocks ++ block ∷ [];
@@ -109,7 +109,7 @@ module _ (M : Objects) (P : Rules) where
   -- and so the graph
   pub whole_graph : (ways : List WayId) (writer : GraphWriter) (bytes : List ℕ)
       → AreRoadWays M P ways → HasBlocksOf M P ways writer
-      → ((blocks : List Block) → HasWritten P.number blocks writer → bytes ≡ graph_bytes P.number blocks)
+      → ((blocks : List Block) → HasWritten 2 P.number blocks writer → bytes ≡ graph_bytes 2 P.number blocks)
       → IsGraph M P bytes
   whole_graph ways writer bytes all has spelled = record {
     blocks = has.blocks;
@@ -120,12 +120,12 @@ module _ (M : Objects) (P : Rules) where
   -- the file of all roads is walked as the object map
   pub whole_file : (ways : List WayId) (writer : GraphWriter) (bytes : List ℕ)
       → AreRoadWays M P ways → HasBlocksOf M P ways writer
-      → ((blocks : List Block) → HasWritten P.number blocks writer → IsTrue (rises way_cmp (map (λ b. b.way) blocks))
-      → AllByRecursion IsOfItsWay blocks → IsFile P.number bytes blocks)
+      → ((blocks : List Block) → HasWritten 2 P.number blocks writer → IsTrue (rises way_cmp (map (λ b. b.way) blocks))
+      → AllByRecursion IsOfItsWay blocks → IsFile 2 P.number bytes blocks)
       → ((blocks : List Block) → Lists (λ b. b.way) way_cmp (IsRoadBlock M P) blocks
       → AllByRecursion IsOfItsWay blocks)
       → ((file : List ℕ) (blocks : List Block) → Lists (λ b. b.way) way_cmp (IsRoadBlock M P) blocks
-      → IsFile P.number file blocks → IsWalkedFile M P file)
+      → IsFile 2 P.number file blocks → IsWalkedFile M P file)
       → IsWalkedFile M P bytes
   whole_file ways writer bytes all has file own law =
       let listed = all_listed ways writer all has in
@@ -135,6 +135,6 @@ module _ (M : Objects) (P : Rules) where
 -- ---- lists that are empty or not
 
 -- a block with pieces has the form that is written
-pub block_form : (b : Block) → (b.pieces ≡ [] → ⊥) → AllByRecursion IsPieceForm b.pieces
-    → IsTrue (rises place_cmp (map (λ p. p.name) b.pieces)) → IsBlockForm b
+pub block_form : (b : Block) → (b.pieces ≡ [] → ⊥) → AllByRecursion (IsPieceForm true) b.pieces
+    → IsTrue (rises place_cmp (map (λ p. p.name) b.pieces)) → IsBlockForm true b
 block_form b some pieces ascend = record { some = some; ascend = ascend; pieces = pieces }

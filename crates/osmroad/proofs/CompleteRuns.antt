@@ -72,7 +72,7 @@ inspect_done : (bytes : List ℕ) (status : Status) (out : List ℕ) → (HasToo
     → InspectGives bytes status out → status ≡ Done
 inspect_done bytes status out few is (InspectGives.OfTooMuch much e o) = absurd (few much)
 inspect_done bytes status out few is (InspectGives.OfNoGraph w none e o) = absurd (none is)
-inspect_done bytes status out few is (InspectGives.OfGraph w g profile blocks file e o) = e
+inspect_done bytes status out few is (InspectGives.OfGraph w g version profile blocks file e o) = e
 
 checkpoint_done : OneLive → (base : BaseProfile) (files : Files) (status : Status) (out : List ℕ)
     (after : Option History) → IsReadable files → CanBeCheckpointed files → CheckpointGives base files status out after

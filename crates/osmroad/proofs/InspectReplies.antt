@@ -81,13 +81,13 @@ module _ (held left : Option (List ℕ)) (x : Option Outside) where
         (stands_still x))
 
     -- and is one with these blocks
-    pub counted_graph : (result : Result LastWords Failure) (profile : ℕ) (blocks : List Block)
+    pub counted_graph : (result : Result LastWords Failure) (version profile : ℕ) (blocks : List Block)
         → Replies Done (counts_line (totals_of blocks)) result
-        → IsGraphFile bytes → IsFile profile bytes blocks → Prepares inspect result held left x x
-    counted_graph result profile blocks says is file = gathered result
+        → IsGraphFile bytes → IsFile version profile bytes blocks → Prepares inspect result held left x x
+    counted_graph result version profile blocks says is file = gathered result
         (replied inspect bytes bytes Done (counts_line (totals_of blocks)) result x x says
         (will_put_alone inspect bytes (λ stored. stored) bytes Done (counts_line (totals_of blocks)) x (inl refl) refl
-        (InspectGives.OfGraph all.within is profile blocks file refl refl, refl))
+        (InspectGives.OfGraph all.within is version profile blocks file refl refl, refl))
         (stands_still x))
 
 -- ---- faults of the source

@@ -89,21 +89,21 @@ one_inspect bytes status another out other (InspectGives.OfTooMuch m e o) (Inspe
     (both _ _ _ e f, both _ _ _ o p)
 one_inspect bytes status another out other (InspectGives.OfTooMuch m e o) (InspectGives.OfNoGraph v n f p) =
     absurd (v m)
-one_inspect bytes status another out other (InspectGives.OfTooMuch m e o) (InspectGives.OfGraph v g n l x f p) =
+one_inspect bytes status another out other (InspectGives.OfTooMuch m e o) (InspectGives.OfGraph v g y n l x f p) =
     absurd (v m)
 one_inspect bytes status another out other (InspectGives.OfNoGraph w n e o) (InspectGives.OfTooMuch k f p) =
     absurd (w k)
 one_inspect bytes status another out other (InspectGives.OfNoGraph w n e o) (InspectGives.OfNoGraph v k f p) =
     (both _ _ _ e f, both _ _ _ o p)
-one_inspect bytes status another out other (InspectGives.OfNoGraph w n e o) (InspectGives.OfGraph v g m l x f p) =
+one_inspect bytes status another out other (InspectGives.OfNoGraph w n e o) (InspectGives.OfGraph v g y m l x f p) =
     absurd (n g)
-one_inspect bytes status another out other (InspectGives.OfGraph w g m l x e o) (InspectGives.OfTooMuch k f p) =
+one_inspect bytes status another out other (InspectGives.OfGraph w g a m l x e o) (InspectGives.OfTooMuch k f p) =
     absurd (w k)
-one_inspect bytes status another out other (InspectGives.OfGraph w g m l x e o) (InspectGives.OfNoGraph v k f p) =
+one_inspect bytes status another out other (InspectGives.OfGraph w g a m l x e o) (InspectGives.OfNoGraph v k f p) =
     absurd (k g)
-one_inspect bytes status another out other (InspectGives.OfGraph w g m l x e o) (InspectGives.OfGraph v h n k y f p) = (
+one_inspect bytes status another out other (InspectGives.OfGraph w g a m l x e o) (InspectGives.OfGraph v h b n k y f p) = (
   both _ _ _ e f,
-  o ∙ (ap (λ (blocks : List Block). counts_line (totals_of blocks)) (one_file m n bytes l k x y).1
+  o ∙ (ap (λ (blocks : List Block). counts_line (totals_of blocks)) (one_file a b m n bytes l k x y).2
       ∙ sym p),
 )
 

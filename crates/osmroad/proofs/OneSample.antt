@@ -21,8 +21,8 @@ module _ (P : Rules) (map : OneMap) (graph : (M : Objects) → OneGraph M P) whe
       let objects = map empty b.objects a.objects events b.applied a.applied in
       let bytes : a.graph ≡ b.graph = graph a.objects a.graph b.graph a.is
       (subst (λ (M : Objects). IsGraph M P b.graph) objects b.is) in
-      let blocks : a.blocks ≡ b.blocks = (one_file P.number P.number b.graph a.blocks b.blocks
-      (subst (λ (l : List ℕ). IsFile P.number l a.blocks) bytes a.file) b.file).1 in
+      let blocks : a.blocks ≡ b.blocks = (one_file 2 2 P.number P.number b.graph a.blocks b.blocks
+      (subst (λ (l : List ℕ). IsFile 2 P.number l a.blocks) bytes a.file) b.file).2 in
       a.spelled
       ∙ (ap (λ (l : List Block). sample_line q (totals_of l) (length a.graph)) blocks
       ∙ (ap (λ (l : List ℕ). sample_line q (totals_of b.blocks) (length l)) bytes ∙ sym b.spelled))

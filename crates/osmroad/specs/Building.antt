@@ -19,4 +19,4 @@ pub record IsBlockAmong (M : Objects) (P : Rules) (ways : List WayId) (block : B
 pub record HasBlocksOf (M : Objects) (P : Rules) (ways : List WayId) (writer : GraphWriter) : Type 0 where
   pub blocks : List Block
   pub listed : Lists (λ b. b.way) way_cmp (IsBlockAmong M P ways) blocks
-  pub written : HasWritten P.number blocks writer
+  pub written : HasWritten 2 P.number blocks writer

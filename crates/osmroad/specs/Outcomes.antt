@@ -61,13 +61,13 @@ pub data CompileGives (profile : ℕ) (bytes : List ℕ) (status : Status) (out 
   OfExtract : IsWithinLimits bytes → IsCompiled profile bytes out → status ≡ Done
       → CompileGives profile bytes status out
 
--- `- inspect`: the bytes are a graph file, of any known profile, of which `out` says how large it is
+-- `- inspect`: the bytes are a graph file, of either version and any known profile, of which `out` says how large it is
 pub data InspectGives (bytes : List ℕ) (status : Status) (out : List ℕ) : Type 0 where
   OfTooMuch : HasTooManyBytes bytes → status ≡ Limit → out ≡ limit_line → InspectGives bytes status out
   OfNoGraph : (HasTooManyBytes bytes → ⊥) → (IsGraphFile bytes → ⊥)
       → status ≡ Refused → out ≡ refused_graph_line → InspectGives bytes status out
   OfGraph : (HasTooManyBytes bytes → ⊥) → IsGraphFile bytes
-      → (profile : ℕ) (blocks : List Block) → IsFile profile bytes blocks
+      → (version profile : ℕ) (blocks : List Block) → IsFile version profile bytes blocks
       → status ≡ Done → out ≡ counts_line (totals_of blocks) → InspectGives bytes status out
 
 -- `STORE create N`: where no file has an open base, the files then stand for base N, of profile 1, with the events of

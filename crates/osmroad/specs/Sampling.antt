@@ -26,7 +26,7 @@ pub record IsSampleLine (P : Rules) (q : ℕ) (events : List Event) (line : List
   pub graph : List ℕ
   pub is : IsGraph objects P graph
   pub blocks : List Block
-  pub file : IsFile P.number graph blocks
+  pub file : IsFile 2 P.number graph blocks
   pub spelled : line ≡ sample_line q (totals_of blocks) (length graph)
 
 -- the lines of the first so many lists: that of the base, which is change 0, and then those of the changes

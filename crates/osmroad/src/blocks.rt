@@ -11,8 +11,8 @@ ghost use Rattle.osmroad.specs.Building.{HasBlocksOf};
 
 use back_references::Indexed;
 use expanded_graph::GraphBuilder;
-use graph_file::GraphWriter;
 use graph_file::laws::walked_file;
+use graph_file::{GraphWriter, VERSION};
 use road_base::{NoMemory, Steps, WayId};
 use road_model::Profile;
 use road_model::laws::{name_order, one_block};
@@ -20,7 +20,7 @@ use std::alloc::Global;
 use std::sync::ledger::Ledger;
 
 /// About what the block of a way with one piece in each direction takes.
-const ROOM_A_WAY: usize = 192;
+const ROOM_A_WAY: usize = 256;
 
 /// The graph's bytes: the block of each of the ways that has pieces is built, written and let go, one after another.
 pub fn write_blocks<P: Profile, L: Ledger>(
@@ -38,7 +38,7 @@ pub fn write_blocks<P: Profile, L: Ledger>(
     let profile = builder.profile();
     walked_file(&profile);
     let room = ways.len().saturating_mul(ROOM_A_WAY);
-    let mut writer = GraphWriter::new(alloc, profile.number(), room)?;
+    let mut writer = GraphWriter::new(alloc, VERSION, profile.number(), room)?;
     for way in ways {
         write_block(builder, *way, &mut writer, steps)?;
     }
@@ -52,6 +52,8 @@ fn write_block<P: Profile, L: Ledger>(
     writer: &mut GraphWriter,
     steps: &mut Steps<L>,
 ) -> Result<(), NoMemory>
+    requires { (ways : List WayId)
+        × HasBlocksOf builder.now.world (P.rules builder.now.profile) ways writer.old }
     ensures written { OnOk result ((ways : List WayId)
         → IsTrue (rises way_cmp (ways ++ way ∷ []))
         → HasBlocksOf builder.now.world (P.rules builder.now.profile) ways writer.old

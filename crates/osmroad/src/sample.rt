@@ -21,7 +21,7 @@ use crate::profiles::{FIRST_PROFILE, profile_of};
 use crate::status::Status;
 use change_apply::Engine;
 use drive_queries::{Totals, counts};
-use graph_file::{Graph, write};
+use graph_file::{Graph, VERSION, write};
 use reply_lines::counts_text;
 use road_base::laws::applied_in_turn;
 use road_base::{NoMemory, Steps};
@@ -126,7 +126,12 @@ fn line_of<P: Profile>(alloc: Global, change: u32, engine: &Engine<P>) -> Result
         → IsSampleLine (P.rules engine.now.profile) change events line.items) }
 {
     let mut graph = Vec::new(alloc);
-    write(engine.profile().number(), engine.blocks(), &mut graph)?;
+    write(
+        VERSION,
+        engine.profile().number(),
+        engine.blocks(),
+        &mut graph,
+    )?;
     let totals = totals_of(alloc, &graph)?;
     sample_line(alloc, change, &totals, graph.len())
 }
@@ -134,8 +139,8 @@ fn line_of<P: Profile>(alloc: Global, change: u32, engine: &Engine<P>) -> Result
 /// How large the graph is whose file has these bytes.
 fn totals_of(alloc: Global, bytes: &[u8]) -> Result<Totals, NoMemory>
     requires { IsGraphFile bytes.now }
-    ensures { IfOk result (λ totals. (profile : ℕ) × (blocks : List Block)
-        × IsFile profile bytes.now blocks
+    ensures { IfOk result (λ totals. (version : ℕ) × (profile : ℕ) × (blocks : List Block)
+        × IsFile version profile bytes.now blocks
         × (totals ≡ totals_of blocks)) }
 {
     match Graph::read(alloc, bytes)? {

@@ -112,13 +112,13 @@ const STREET_FOLLOWED: Session = Session {
     output: &[
         b"created 4\ngraph 20\n",
         NO_GRAPH,
-        b"applied 5\ngraph 220\n",
+        b"applied 5\ngraph 272\n",
         STREET_GRAPH,
         b"no-node 9\n",
     ],
 };
 
-const FORK_LINES: &[u8] =
+pub const FORK_LINES: &[u8] =
     b"n1 v1 x0.001 y0\nn2 v1 x0.002 y0\nn3 v1 x0.003 y0\nn4 v1 x0.004 y0\nn5 v1 x0.005 y0\n\
     n6 v1 x0.006 y0\nw1 v1 Thighway=residential Nn1,n2\nw2 v1 Thighway=residential Nn2,n3\n\
     w3 v1 Thighway=residential Nn3,n4\nw4 v1 Thighway=residential Nn4,n5\n\
@@ -276,17 +276,17 @@ fn a_session_follows_to_what_compiles(rt: HostRuntime) -> Result<(), Fail> {
         (
             STREET_CUT,
             b"n2 v1 x0.001 y0\n",
-            b"created 4\napplied 5\ngraph 220\n",
+            b"created 4\napplied 5\ngraph 272\n",
         ),
         (
             JUNCTION_LINES,
             b"n5 v1 x0.005 y0\nw12 v1 Thighway=residential Nn3,n5\n",
-            b"created 4\napplied 5\ngraph 1067\n",
+            b"created 4\napplied 5\ngraph 1430\n",
         ),
         (
             FORK_LINES,
             b"r21 v2 dD\n",
-            b"created 4\napplied 5\ngraph 1008\n",
+            b"created 4\napplied 5\ngraph 1408\n",
         ),
     ];
     for (extract, change, head) in cases {

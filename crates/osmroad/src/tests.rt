@@ -2,7 +2,7 @@
 ghost use Rattle.std.specs.Prelude.{◌≡◌, ◌<◌};
 
 use crate::failure_tests::with_byte;
-use crate::session_tests;
+use crate::session_tests::{self, FORK_LINES};
 use crate::status::Status;
 use crate::store_tests::joined;
 use road_base::NoMemory;
@@ -57,8 +57,29 @@ const STREET_SURROUNDINGS: &[u8] = b"\
     r2 Ttype=restriction,restriction=no_u_turn Mw10@from,n9@via,w10@to\n";
 
 /// The graph of `STREET`, as the format spells it: a header; way 10 with two pieces; each with its positions and
-/// direction, its nodes, and one context with one arc to the other piece.
+/// direction, not marked, its nodes, and one context with one arc to the other piece, which is its one source too.
 pub const STREET_GRAPH: &[u8] = b"\
+    \x4f\x53\x4d\x52\x4f\x41\x44\x32\x01\x00\x00\x00\x01\x00\x00\x00\x00\x00\x00\x00\
+    \x0a\x00\x00\x00\x00\x00\x00\x00\x02\x00\x00\x00\
+    \x00\x00\x00\x00\x02\x00\x00\x00\x00\x00\
+    \x01\x00\x00\x00\x00\x00\x00\x00\x00\x00\x00\x00\x00\x00\x00\x00\
+    \x02\x00\x00\x00\x00\x00\x00\x00\x10\x27\x00\x00\x00\x00\x00\x00\
+    \x03\x00\x00\x00\x00\x00\x00\x00\x20\x4e\x00\x00\x00\x00\x00\x00\
+    \x01\x00\x00\x00\x00\x00\x00\x00\x01\x00\x00\x00\x01\x00\x00\x00\x00\x00\x00\x00\
+    \x0a\x00\x00\x00\x00\x00\x00\x00\x00\x00\x00\x00\x01\x01\x00\x00\x00\
+    \x01\x00\x00\x00\x00\x00\x00\x00\x01\x00\x00\x00\
+    \x0a\x00\x00\x00\x00\x00\x00\x00\x00\x00\x00\x00\x01\
+    \x00\x00\x00\x00\x02\x00\x00\x00\x01\x00\
+    \x03\x00\x00\x00\x00\x00\x00\x00\x20\x4e\x00\x00\x00\x00\x00\x00\
+    \x02\x00\x00\x00\x00\x00\x00\x00\x10\x27\x00\x00\x00\x00\x00\x00\
+    \x01\x00\x00\x00\x00\x00\x00\x00\x00\x00\x00\x00\x00\x00\x00\x00\
+    \x01\x00\x00\x00\x00\x00\x00\x00\x01\x00\x00\x00\x01\x00\x00\x00\x00\x00\x00\x00\
+    \x0a\x00\x00\x00\x00\x00\x00\x00\x00\x00\x00\x00\x00\x01\x00\x00\x00\
+    \x01\x00\x00\x00\x00\x00\x00\x00\x01\x00\x00\x00\
+    \x0a\x00\x00\x00\x00\x00\x00\x00\x00\x00\x00\x00\x00";
+
+/// The same graph as a file of version 1, as it was put before.
+const STREET_GRAPH_BEFORE: &[u8] = b"\
     \x4f\x53\x4d\x52\x4f\x41\x44\x31\x01\x00\x00\x00\x01\x00\x00\x00\x00\x00\x00\x00\
     \x0a\x00\x00\x00\x00\x00\x00\x00\x02\x00\x00\x00\
     \x00\x00\x00\x00\x02\x00\x00\x00\x00\
@@ -74,39 +95,151 @@ pub const STREET_GRAPH: &[u8] = b"\
     \x01\x00\x00\x00\x00\x00\x00\x00\x01\x00\x00\x00\x01\x00\x00\x00\x00\x00\x00\x00\
     \x0a\x00\x00\x00\x00\x00\x00\x00\x00\x00\x00\x00\x00\x01\x00\x00\x00";
 
-/// The same in parts: the header and the head of way 10; its piece along it; and that against it, but for its last
-/// byte.
-const STREET_HEAD: &[u8] = b"OSMROAD1\x01\0\0\0\x01\0\0\0\0\0\0\0\x0a\0\0\0\0\0\0\0\x02\0\0\0";
+/// `STREET_GRAPH` in parts: the header and the head of way 10; its piece along it; and that against it, but for its
+/// last byte.
+const STREET_HEAD: &[u8] = b"OSMROAD2\x01\0\0\0\x01\0\0\0\0\0\0\0\x0a\0\0\0\0\0\0\0\x02\0\0\0";
 
-const STREET_ALONG: &[u8] = b"\0\0\0\0\x02\0\0\0\0\
+const STREET_ALONG: &[u8] = b"\0\0\0\0\x02\0\0\0\0\0\
     \x01\0\0\0\0\0\0\0\0\0\0\0\0\0\0\0\
     \x02\0\0\0\0\0\0\0\x10\x27\0\0\0\0\0\0\
     \x03\0\0\0\0\0\0\0\x20\x4e\0\0\0\0\0\0\
     \x01\0\0\0\0\0\0\0\x01\0\0\0\x01\0\0\0\0\0\0\0\
-    \x0a\0\0\0\0\0\0\0\0\0\0\0\x01\x01\0\0\0";
+    \x0a\0\0\0\0\0\0\0\0\0\0\0\x01\x01\0\0\0\
+    \x01\0\0\0\0\0\0\0\x01\0\0\0\x0a\0\0\0\0\0\0\0\0\0\0\0\x01";
 
-const STREET_AGAINST: &[u8] = b"\0\0\0\0\x02\0\0\0\x01\
+const STREET_AGAINST: &[u8] = b"\0\0\0\0\x02\0\0\0\x01\0\
     \x03\0\0\0\0\0\0\0\x20\x4e\0\0\0\0\0\0\
     \x02\0\0\0\0\0\0\0\x10\x27\0\0\0\0\0\0\
     \x01\0\0\0\0\0\0\0\0\0\0\0\0\0\0\0\
     \x01\0\0\0\0\0\0\0\x01\0\0\0\x01\0\0\0\0\0\0\0\
-    \x0a\0\0\0\0\0\0\0\0\0\0\0\0\x01\0\0";
+    \x0a\0\0\0\0\0\0\0\0\0\0\0\0\x01\0\0\0\
+    \x01\0\0\0\0\0\0\0\x01\0\0\0\x0a\0\0\0\0\0\0\0\0\0\0\0";
 
 /// Way 10 round from node 1 to itself, driven against its line alone.
 const RING: &[u8] = b"n1 x0.001 y0\nn2 x0.002 y0\nn3 x0.003 y0\n\
     w10 Thighway=residential,junction=roundabout,oneway=-1 Nn1,n2,n3,n1\n";
 
-/// The graph of `RING`: one piece over the nodes 1, 3, 2, 1, with one arc, to itself.
+/// The graph of `RING`: one piece over the nodes 1, 3, 2, 1, with one arc, to itself, and so one source.
 const RING_GRAPH: &[u8] = b"\
-    OSMROAD1\x01\x00\x00\x00\x01\x00\x00\x00\x00\x00\x00\x00\
+    OSMROAD2\x01\x00\x00\x00\x01\x00\x00\x00\x00\x00\x00\x00\
     \x0a\x00\x00\x00\x00\x00\x00\x00\x01\x00\x00\x00\
-    \x00\x00\x00\x00\x03\x00\x00\x00\x01\
+    \x00\x00\x00\x00\x03\x00\x00\x00\x01\x00\
     \x01\x00\x00\x00\x00\x00\x00\x00\x10\x27\x00\x00\x00\x00\x00\x00\
     \x03\x00\x00\x00\x00\x00\x00\x00\x30\x75\x00\x00\x00\x00\x00\x00\
     \x02\x00\x00\x00\x00\x00\x00\x00\x20\x4e\x00\x00\x00\x00\x00\x00\
     \x01\x00\x00\x00\x00\x00\x00\x00\x10\x27\x00\x00\x00\x00\x00\x00\
     \x01\x00\x00\x00\x00\x00\x00\x00\x01\x00\x00\x00\x01\x00\x00\x00\x00\x00\x00\x00\
-    \x0a\x00\x00\x00\x00\x00\x00\x00\x00\x00\x00\x00\x01\x01\x00\x00\x00";
+    \x0a\x00\x00\x00\x00\x00\x00\x00\x00\x00\x00\x00\x01\x01\x00\x00\x00\
+    \x01\x00\x00\x00\x00\x00\x00\x00\x01\x00\x00\x00\
+    \x0a\x00\x00\x00\x00\x00\x00\x00\x00\x00\x00\x00\x01";
+
+/// The graph of `FORK_LINES`. Way 3 along its line has three contexts: alone it has no source, behind way 2 the one of
+/// way 2 alone, and behind the ways 1 and 2 that of way 2 behind way 1.
+const FORK_GRAPH: &[u8] = b"\
+    OSMROAD2\x01\0\0\0\x05\0\0\0\0\0\0\0\
+    \x01\0\0\0\0\0\0\0\x02\0\0\0\
+    \0\0\0\0\x01\0\0\0\0\0\
+    \x01\0\0\0\0\0\0\0\x10'\0\0\0\0\0\0\
+    \x02\0\0\0\0\0\0\0\x20N\0\0\0\0\0\0\
+    \x01\0\0\0\0\0\0\0\
+    \x01\0\0\0\x01\0\0\0\0\0\0\0\
+    \x02\0\0\0\0\0\0\0\0\0\0\0\0\x02\0\0\0\
+    \x01\0\0\0\0\0\0\0\
+    \x01\0\0\0\x01\0\0\0\0\0\0\0\0\0\0\0\x01\
+    \0\0\0\0\x01\0\0\0\x01\0\
+    \x02\0\0\0\0\0\0\0\x20N\0\0\0\0\0\0\
+    \x01\0\0\0\0\0\0\0\x10'\0\0\0\0\0\0\
+    \x01\0\0\0\0\0\0\0\
+    \x01\0\0\0\x01\0\0\0\0\0\0\0\
+    \x01\0\0\0\0\0\0\0\0\0\0\0\0\x01\0\0\0\
+    \x01\0\0\0\0\0\0\0\
+    \x01\0\0\0\x02\0\0\0\0\0\0\0\0\0\0\0\x01\
+    \x02\0\0\0\0\0\0\0\x02\0\0\0\
+    \0\0\0\0\x01\0\0\0\0\0\
+    \x02\0\0\0\0\0\0\0\x20N\0\0\0\0\0\0\
+    \x03\0\0\0\0\0\0\x000u\0\0\0\0\0\0\
+    \x02\0\0\0\0\0\0\0\
+    \x01\0\0\0\x01\0\0\0\0\0\0\0\
+    \x03\0\0\0\0\0\0\0\0\0\0\0\0\x02\0\0\0\
+    \0\0\0\0\0\0\0\0\
+    \x02\0\0\0\x01\0\0\0\0\0\0\0\0\0\0\0\0\x01\0\0\0\0\0\0\0\
+    \x03\0\0\0\0\0\0\0\0\0\0\0\0\x03\0\0\0\
+    \x01\0\0\0\0\0\0\0\
+    \x01\0\0\0\x01\0\0\0\0\0\0\0\0\0\0\0\0\
+    \0\0\0\0\x01\0\0\0\x01\0\
+    \x03\0\0\0\0\0\0\x000u\0\0\0\0\0\0\
+    \x02\0\0\0\0\0\0\0\x20N\0\0\0\0\0\0\
+    \x01\0\0\0\0\0\0\0\
+    \x01\0\0\0\x01\0\0\0\0\0\0\0\
+    \x01\0\0\0\0\0\0\0\0\0\0\0\x01\x01\0\0\0\
+    \x01\0\0\0\0\0\0\0\
+    \x01\0\0\0\x03\0\0\0\0\0\0\0\0\0\0\0\x01\
+    \x03\0\0\0\0\0\0\0\x02\0\0\0\
+    \0\0\0\0\x01\0\0\0\0\0\
+    \x03\0\0\0\0\0\0\x000u\0\0\0\0\0\0\
+    \x04\0\0\0\0\0\0\0@\x9c\0\0\0\0\0\0\
+    \x03\0\0\0\0\0\0\0\
+    \x01\0\0\0\x02\0\0\0\0\0\0\0\
+    \x04\0\0\0\0\0\0\0\0\0\0\0\0\x01\0\0\0\
+    \x05\0\0\0\0\0\0\0\0\0\0\0\0\x01\0\0\0\
+    \0\0\0\0\0\0\0\0\
+    \x02\0\0\0\x02\0\0\0\0\0\0\0\0\0\0\0\0\x01\0\0\0\0\0\0\0\
+    \x05\0\0\0\0\0\0\0\0\0\0\0\0\x01\0\0\0\
+    \x01\0\0\0\0\0\0\0\
+    \x01\0\0\0\x02\0\0\0\0\0\0\0\0\0\0\0\0\
+    \x03\0\0\0\x01\0\0\0\0\0\0\0\0\0\0\0\0\x02\0\0\0\0\0\0\0\0\0\0\0\0\x01\0\0\0\0\0\0\0\
+    \x05\0\0\0\0\0\0\0\0\0\0\0\0\x01\0\0\0\
+    \x01\0\0\0\0\0\0\0\
+    \x02\0\0\0\x01\0\0\0\0\0\0\0\0\0\0\0\0\x02\0\0\0\0\0\0\0\0\0\0\0\0\
+    \0\0\0\0\x01\0\0\0\x01\0\
+    \x04\0\0\0\0\0\0\0@\x9c\0\0\0\0\0\0\
+    \x03\0\0\0\0\0\0\x000u\0\0\0\0\0\0\
+    \x01\0\0\0\0\0\0\0\
+    \x01\0\0\0\x01\0\0\0\0\0\0\0\
+    \x02\0\0\0\0\0\0\0\0\0\0\0\x01\x01\0\0\0\
+    \x02\0\0\0\0\0\0\0\
+    \x01\0\0\0\x04\0\0\0\0\0\0\0\0\0\0\0\x01\
+    \x01\0\0\0\x05\0\0\0\0\0\0\0\0\0\0\0\x01\
+    \x04\0\0\0\0\0\0\0\x02\0\0\0\
+    \0\0\0\0\x01\0\0\0\0\0\
+    \x04\0\0\0\0\0\0\0@\x9c\0\0\0\0\0\0\
+    \x05\0\0\0\0\0\0\0P\xc3\0\0\0\0\0\0\
+    \x01\0\0\0\0\0\0\0\
+    \x01\0\0\0\x01\0\0\0\0\0\0\0\
+    \x04\0\0\0\0\0\0\0\0\0\0\0\x01\x01\0\0\0\
+    \x02\0\0\0\0\0\0\0\
+    \x01\0\0\0\x03\0\0\0\0\0\0\0\0\0\0\0\0\
+    \x01\0\0\0\x05\0\0\0\0\0\0\0\0\0\0\0\x01\
+    \0\0\0\0\x01\0\0\0\x01\0\
+    \x05\0\0\0\0\0\0\0P\xc3\0\0\0\0\0\0\
+    \x04\0\0\0\0\0\0\0@\x9c\0\0\0\0\0\0\
+    \x01\0\0\0\0\0\0\0\
+    \x01\0\0\0\x02\0\0\0\0\0\0\0\
+    \x03\0\0\0\0\0\0\0\0\0\0\0\x01\x01\0\0\0\
+    \x05\0\0\0\0\0\0\0\0\0\0\0\0\x01\0\0\0\
+    \x01\0\0\0\0\0\0\0\
+    \x01\0\0\0\x04\0\0\0\0\0\0\0\0\0\0\0\0\
+    \x05\0\0\0\0\0\0\0\x02\0\0\0\
+    \0\0\0\0\x01\0\0\0\0\0\
+    \x04\0\0\0\0\0\0\0@\x9c\0\0\0\0\0\0\
+    \x06\0\0\0\0\0\0\0`\xea\0\0\0\0\0\0\
+    \x01\0\0\0\0\0\0\0\
+    \x01\0\0\0\x01\0\0\0\0\0\0\0\
+    \x05\0\0\0\0\0\0\0\0\0\0\0\x01\x01\0\0\0\
+    \x04\0\0\0\0\0\0\0\
+    \x01\0\0\0\x03\0\0\0\0\0\0\0\0\0\0\0\0\
+    \x01\0\0\0\x04\0\0\0\0\0\0\0\0\0\0\0\x01\
+    \x02\0\0\0\x02\0\0\0\0\0\0\0\0\0\0\0\0\x03\0\0\0\0\0\0\0\0\0\0\0\0\
+    \x03\0\0\0\x01\0\0\0\0\0\0\0\0\0\0\0\0\x02\0\0\0\0\0\0\0\0\0\0\0\0\x03\0\0\0\0\0\0\0\0\0\0\0\0\
+    \0\0\0\0\x01\0\0\0\x01\0\
+    \x06\0\0\0\0\0\0\0`\xea\0\0\0\0\0\0\
+    \x04\0\0\0\0\0\0\0@\x9c\0\0\0\0\0\0\
+    \x01\0\0\0\0\0\0\0\
+    \x01\0\0\0\x02\0\0\0\0\0\0\0\
+    \x03\0\0\0\0\0\0\0\0\0\0\0\x01\x01\0\0\0\
+    \x04\0\0\0\0\0\0\0\0\0\0\0\0\x01\0\0\0\
+    \x01\0\0\0\0\0\0\0\
+    \x01\0\0\0\x05\0\0\0\0\0\0\0\0\0\0\0\0";
 
 /// `STREET` without its middle node, and then with it, each line with a version.
 pub const STREET_CUT: &[u8] =
@@ -116,10 +249,10 @@ const STREET_MENDED: &[u8] =
     b"n1 v1 x0 y0\nn3 v1 x0.002 y0\nw10 v1 Thighway=residential Nn1,n2,n3\nn2 v1 x0.001 y0\n";
 
 /// The graph of nothing, of profile 2.
-pub const NO_GRAPH_RAISED: &[u8] = b"OSMROAD1\x02\x00\x00\x00\x00\x00\x00\x00\x00\x00\x00\x00";
+pub const NO_GRAPH_RAISED: &[u8] = b"OSMROAD2\x02\x00\x00\x00\x00\x00\x00\x00\x00\x00\x00\x00";
 
 /// The graph of nothing: the header alone.
-pub const NO_GRAPH: &[u8] = b"OSMROAD1\x01\x00\x00\x00\x00\x00\x00\x00\x00\x00\x00\x00";
+pub const NO_GRAPH: &[u8] = b"OSMROAD2\x01\x00\x00\x00\x00\x00\x00\x00\x00\x00\x00\x00";
 
 pub const USAGE: &[u8] =
     b"usage: osmroad STORE create N|apply N|session|graph [MOMENT]|audit|checkpoint|raise, or osmroad - \
@@ -226,6 +359,7 @@ fn extracts_are_compiled(rt: HostRuntime) -> Result<(), Fail> {
         compiles(RING, Status::Done, RING_GRAPH),
         compiles(STREET_CUT, Status::Done, NO_GRAPH),
         compiles(STREET_MENDED, Status::Done, STREET_GRAPH),
+        compiles(FORK_LINES, Status::Done, FORK_GRAPH),
     ];
     for case in &cases {
         check(&rt, rt.alloc(), case)?;
@@ -296,13 +430,14 @@ fn inspected(
     check(rt, alloc, &case)
 }
 
-/// A byte more, or pieces in another order are no graph.
+/// A graph of version 1 is counted as that of version 2. A byte more, or pieces in another order are no graph.
 #[test]
 fn graph_files_are_counted(rt: HostRuntime) -> Result<(), Fail> {
     let counts = b"ways 1 pieces 2 contexts 2 arcs 2\n";
     let none = b"refused graph\n";
-    let cases: [(&[&[u8]], Status, &[u8]); 5] = [
+    let cases: [(&[&[u8]], Status, &[u8]); 6] = [
         (&[STREET_GRAPH], Status::Done, counts),
+        (&[STREET_GRAPH_BEFORE], Status::Done, counts),
         (
             &[STREET_HEAD, STREET_ALONG, STREET_AGAINST, b"\0"],
             Status::Done,
@@ -329,8 +464,8 @@ fn graph_files_are_counted(rt: HostRuntime) -> Result<(), Fail> {
 /// No front of a graph's bytes is a graph, but for all of them.
 #[test]
 fn fronts_of_graph_files_are_refused(rt: HostRuntime) -> Result<(), Fail> {
-    assert_eq!(rt; STREET_GRAPH.len(), 220);
-    for n in 0..220 {
+    assert_eq!(rt; STREET_GRAPH.len(), 272);
+    for n in 0..272 {
         let front: &[&[u8]] = &[&STREET_GRAPH[..n]];
         inspected(&rt, rt.alloc(), front, Status::Refused, b"refused graph\n")?;
     }

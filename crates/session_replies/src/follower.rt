@@ -67,7 +67,7 @@ impl<P: Profile> Follower for RoadFollower<P> {
         out: &mut Vec<u8>,
     ) -> Result<(), NoMemory> {
         let reply = reply_about(self.alloc, &self.engine, number, question)?;
-        put(&reply, out)
+        put(reply, out)
     }
 }
 
@@ -91,8 +91,31 @@ fn reply_about<P: Profile>(
     }
 }
 
+/// Appends the bytes of the reply, or nothing where no memory is found. Where nothing stands there yet, what is behind
+/// the line, as a whole graph, is moved there and not copied.
+fn put(reply: Reply, out: &mut Vec<u8>) -> Result<(), NoMemory>
+    ensures bytes { OnOk result (out.new.items ≡ out.old.items ++ said reply) }
+    ensures err { OnErr result (out.new.items ≡ out.old.items) }
+{
+    if out.is_empty() {
+        *out = in_one(reply)?;
+        return Ok(());
+    }
+    append(&reply, out)
+}
+
+/// The bytes of the reply in one list. What is behind the line stays in its memory, and the line comes in front.
+fn in_one(reply: Reply) -> Result<Vec<u8>, NoMemory>
+    ensures { IfOk result (λ v. v.items ≡ said reply) }
+{
+    let Reply { line, mut behind } = reply;
+    behind.extend_from_slice(&line)?;
+    behind.rotate_right(line.len());
+    Ok(behind)
+}
+
 /// Appends the bytes of the reply, or nothing where no memory is found.
-fn put(reply: &Reply, out: &mut Vec<u8>) -> Result<(), NoMemory>
+fn append(reply: &Reply, out: &mut Vec<u8>) -> Result<(), NoMemory>
     ensures bytes { OnOk result (out.new.items ≡ out.old.items ++ said reply.now) }
     ensures err { OnErr result (out.new.items ≡ out.old.items) }
 {

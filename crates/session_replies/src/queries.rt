@@ -17,7 +17,7 @@ use back_references::Indexed;
 use change_apply::Engine;
 use drive_queries::{Asked, WordTable, counts, judge, message, reach};
 use graph_file::laws::walked_file;
-use graph_file::write;
+use graph_file::{VERSION, write};
 use least_cost::{least, shortest};
 use moment_rules::{AtMoment, Moment};
 use road_base::{NoMemory, NodeId, Sequence, Step};
@@ -121,7 +121,7 @@ pub fn graph_reply<P: Profile>(alloc: Global, engine: &Engine<P>) -> Result<Repl
     walk_law(&profile);
     walked_file(&profile);
     let mut graph = Vec::new(alloc);
-    write(profile.number(), engine.blocks(), &mut graph)?;
+    write(VERSION, profile.number(), engine.blocks(), &mut graph)?;
     let line = graph_head(alloc, &graph)?;
     Ok(Reply {
         line,

@@ -4,6 +4,7 @@ use Rattle.ordered_lists.specs.Orders.{rises}
 use Rattle.road_model.specs.Orders.{way_cmp}
 use Rattle.road_model.specs.Blocks.{IsBlock, IsRoadBlock}
 use Rattle.road_model.specs.Naming.{OneBlock}
+use Rattle.road_model.specs.Format.{IsBlockForm, is_sourced}
 use Rattle.osmroad.specs.Building.{HasBlocksOf}
 use Rattle.osmroad.proofs.Built.{same_blocks, no_pieces, one_more, block_form}
 use Rattle.osmroad.proofs.blocks.write_block.Goals as goal
@@ -30,7 +31,8 @@ put-requires g c =
     let block = c.in_ok-block.block in
     let test = some_by_test c.items.result.now c.is_empty.result c.is_empty.ensures c.if-is_empty.false in
     let some : block.pieces ≡ [] → ⊥ = λ none. test (c.items.ensures ∙ none) in
-    block_form block some c.in_ok-block.ensures.form.0 c.in_ok-block.ensures.form.1
+    subst (λ v. IsBlockForm (is_sourced v) block) (sym c.requires.1.written.version_is)
+    (block_form block some c.in_ok-block.ensures.form.0 c.in_ok-block.ensures.form.1)
 
 pub returns-clause-written : goal.returns-clause-written
 returns-clause-written g c = on_ok c.put.result c.put.ensures.put (λ put ways up has.
@@ -47,4 +49,4 @@ returns-clause-written g c = on_ok c.put.result c.put.ensures.put (λ put ways u
     let above = subst (λ (w : WayId). IsTrue (rises way_cmp (ways ++ w ∷ []))) (sym is.way) up in
     subst (λ (w : WayId). HasBlocksOf M P (ways ++ w ∷ []) c.put.new.self) is.way
     (one_more M P c.name_order.ensures.ways one ways block
-    c.args.writer.now c.put.new.self above has road (put P.number)))
+    c.args.writer.now c.put.new.self above has road (put 2 P.number)))

@@ -14,6 +14,9 @@ use Rattle.ordered_lists.proofs.RisingLists.{take_rises}
 use Rattle.osmroad.proofs.Built.{whole_graph, whole_file}
 use Rattle.osmroad.proofs.blocks.write_blocks.Goals as goal
 
+pub write_block-requires : goal.write_block-requires
+write_block-requires g c = (take c.loop-way.way-index c.args.ways.now, c.loop-way.invariant.written)
+
 pub loop-way-preserved : goal.loop-way-preserved
 loop-way-preserved g c =
     let M = c.args.builder.now.world in
@@ -39,7 +42,7 @@ returns-clause-graph g c =
     let writer = c.loop-way.writer in
     let has = subst (λ (l : List WayId). HasBlocksOf M P l writer) whole c.loop-way.invariant.written in
     whole_graph M P ways writer c.finish.result.items c.requires.ways has
-    (c.finish.ensures.bytes P.number)
+    (c.finish.ensures.bytes 2 P.number)
 
 pub returns-clause-file : goal.returns-clause-file
 returns-clause-file g c =
@@ -50,11 +53,11 @@ returns-clause-file g c =
     let writer = c.loop-way.writer in
     let has = subst (λ (l : List WayId). HasBlocksOf M P l writer) whole c.loop-way.invariant.written in
     whole_file M P ways writer c.finish.result.items c.requires.ways has
-    (λ blocks. c.finish.ensures.file P.number blocks c.requires.known)
+    (λ blocks. c.finish.ensures.file 2 P.number blocks c.requires.known tt)
     (subst (λ (p : g.row.P.Denot). (blocks : List Block) → Lists (λ b. b.way) way_cmp (IsRoadBlock M
     (g.P.Profile.rules p)) blocks
     → AllByRecursion IsOfItsWay blocks) c.profile-profile.ensures (c.walked_file.ensures.own M))
     (subst (λ (p : g.row.P.Denot). (file : List ℕ) (blocks : List Block)
     → Lists (λ b. b.way) way_cmp (IsRoadBlock M (g.P.Profile.rules p)) blocks
-    → IsFile (g.P.Profile.rules p).number file blocks → IsWalkedFile M (g.P.Profile.rules p) file)
+    → IsFile 2 (g.P.Profile.rules p).number file blocks → IsWalkedFile M (g.P.Profile.rules p) file)
     c.profile-profile.ensures (c.walked_file.ensures.walks M))

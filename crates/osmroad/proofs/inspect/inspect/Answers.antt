@@ -62,15 +62,15 @@ returns-in_err-fixed-in-None-clause-reads g c =
 pub returns-in_ok-out-in-Some-clause-prepares : goal.returns-in_ok-out-in-Some-clause-prepares
 returns-in_ok-out-in-Some-clause-prepares g c = λ outside.
     let blocks = values c.in-Some.graph.blocks.map in
-    let file : IsFile c.in-Some.graph.profile c.deref.result.now blocks = rw c.in-Some.is at
+    let file : IsFile c.in-Some.graph.version c.in-Some.graph.profile c.deref.result.now blocks = rw c.in-Some.is at
     c.in_ok-graph.ensures.file in
     let is : IsGraphFile c.deref.result.now = rw c.in-Some.is at c.in_ok-graph.ensures.grammar in
     counted_graph (g.S.Source.bytes_left c.args.source.now) (g.S.Source.bytes_left c.gather.new.source) outside
     c.in-Ok.bytes.items c.in-Ok.ensures.ok (Ok (record { status = Done; out = c.in_ok-out-in-Some.out }))
-    c.in-Some.graph.profile blocks
+    c.in-Some.graph.version c.in-Some.graph.profile blocks
     (refl, c.in_ok-out-in-Some.ensures)
     (subst (λ (l : List ℕ). IsGraphFile l) c.deref.ensures.value is)
-    (subst (λ (l : List ℕ). IsFile c.in-Some.graph.profile l blocks) c.deref.ensures.value file)
+    (subst (λ (l : List ℕ). IsFile c.in-Some.graph.version c.in-Some.graph.profile l blocks) c.deref.ensures.value file)
 
 pub returns-in_ok-out-in-Some-clause-reads : goal.returns-in_ok-out-in-Some-clause-reads
 returns-in_ok-out-in-Some-clause-reads g c =

@@ -1,4 +1,4 @@
-use Rattle.std.proofs.Common.{◌≡◌, ◌∙◌, ◌++◌, ℕ, List, ap, sym, subst, length}
+use Rattle.std.proofs.Common.{◌≡◌, ◌∙◌, ◌++◌, ℕ, List, ap, sym, subst, length, inr, refl}
 use Rattle.std.specs.FinMap.{values}
 use Rattle.road_model.specs.Format.{graph_bytes, IsGraphFile}
 use Rattle.road_base.specs.Profiles.{IsProfile}
@@ -23,8 +23,8 @@ write-requires-clause-forms g c = c.blocks-2.ensures.forms
 pub totals_of-requires : goal.totals_of-requires
 totals_of-requires g c =
     let blocks = values (map_of c.blocks-2.result.now) in
-    let bytes : c.write.new.out.items ≡ graph_bytes c.number.result blocks =
-    c.in_ok-write.ensures.bytes ∙ ap (λ (l : List ℕ). l ++ graph_bytes c.number.result blocks) c.new-graph.ensures.items
+    let bytes : c.write.new.out.items ≡ graph_bytes 2 c.number.result blocks =
+    c.in_ok-write.ensures.bytes ∙ ap (λ (l : List ℕ). l ++ graph_bytes 2 c.number.result blocks) c.new-graph.ensures.items
     in
     subst IsGraphFile (sym (c.deref.ensures.value ∙ bytes)) c.in_ok-write.ensures.grammar
 
@@ -36,12 +36,14 @@ returns g c =
     c.profile.ensures in
     let blocks = values (map_of c.blocks-2.result.now) in
     let graph = c.write.new.out.items in
-    let bytes : graph ≡ graph_bytes c.number.result blocks =
-    c.in_ok-write.ensures.bytes ∙ ap (λ (l : List ℕ). l ++ graph_bytes c.number.result blocks) c.new-graph.ensures.items
+    let bytes : graph ≡ graph_bytes 2 c.number.result blocks =
+    c.in_ok-write.ensures.bytes ∙ ap (λ (l : List ℕ). l ++ graph_bytes 2 c.number.result blocks) c.new-graph.ensures.items
     in
     let read = c.in_ok-totals.ensures in
-    let file : IsFile read.0 graph read.1 = subst (λ (l : List ℕ). IsFile read.0 l read.1) c.deref.ensures.value
-    read.2 in
+    let file : IsFile read.0 read.1 graph read.2 = subst (λ (l : List ℕ). IsFile read.0 read.1 l read.2)
+    c.deref.ensures.value read.3 in
+    let same = file_profile read.0 2 read.1 P.number graph read.2 blocks file (inr refl) c.requires
+    (bytes ∙ ap (λ (n : ℕ). graph_bytes 2 n blocks) number) in
     let size : c.len.result ≡ length graph = c.len.ensures ∙ c.write.new.out.ok.0 in
     ok_maps c.sample_line.result c.sample_line.ensures (λ line spelled. λ events applied. record {
       objects = c.args.engine.now.world;
@@ -50,13 +52,12 @@ returns g c =
       is = record {
         blocks = blocks;
         listed = c.blocks-2.ensures.listed;
-        spelled = bytes ∙ ap (λ (n : ℕ). graph_bytes n blocks) number;
+        spelled = bytes ∙ ap (λ (n : ℕ). graph_bytes 2 n blocks) number;
       };
-      blocks = read.1;
-      file = subst (λ (n : ℕ). IsFile n graph read.1)
-          (file_profile read.0 P.number graph read.1 blocks file c.requires
-          (bytes ∙ ap (λ (n : ℕ). graph_bytes n blocks) number)) file;
+      blocks = read.2;
+      file = subst (λ (v : ℕ). IsFile v P.number graph read.2) same.0
+          (subst (λ (n : ℕ). IsFile read.0 n graph read.2) same.1 file);
       spelled = spelled
-          ∙ (ap (λ (t : Totals). sample_line c.args.change t c.len.result) read.3
-          ∙ ap (λ (n : ℕ). sample_line c.args.change (totals_of read.1) n) size);
+          ∙ (ap (λ (t : Totals). sample_line c.args.change t c.len.result) read.4
+          ∙ ap (λ (n : ℕ). sample_line c.args.change (totals_of read.2) n) size);
     })

@@ -12,5 +12,6 @@ pub returns : goal.returns
 returns c =
     let blocks = values c.in-Some.graph.blocks.map in
     let profile = c.in-Some.graph.profile in
-    let file : IsFile profile c.args.bytes.now blocks = rw c.in-Some.is at c.in_ok-graph.ensures.file in
-    (profile, blocks, file, c.counts.ensures)
+    let version = c.in-Some.graph.version in
+    let file : IsFile version profile c.args.bytes.now blocks = rw c.in-Some.is at c.in_ok-graph.ensures.file in
+    (version, profile, blocks, file, c.counts.ensures)

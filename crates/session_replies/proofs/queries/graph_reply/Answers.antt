@@ -30,22 +30,22 @@ returns g c =
     let mine = subst (λ p. Lists (λ (b : Block). b.way) way_cmp (IsRoadBlock M (R p)) blocks) (sym same) listed in
     let number = c.number.result in
     let bytes = c.write.new.out.items in
-    let spelled : bytes ≡ graph_bytes number blocks =
-    c.in_ok-write.ensures.bytes ∙ ap (λ (l : List ℕ). l ++ graph_bytes number blocks) c.new-graph.ensures.items in
+    let spelled : bytes ≡ graph_bytes 2 number blocks =
+    c.in_ok-write.ensures.bytes ∙ ap (λ (l : List ℕ). l ++ graph_bytes 2 number blocks) c.new-graph.ensures.items in
     record {
       graph = bytes;
       is = record {
         blocks = blocks;
         listed = listed;
         spelled = spelled
-            ∙ ap (λ (n : ℕ). graph_bytes n blocks) (c.number.ensures ∙ ap (λ p. (R p).number) same);
+            ∙ ap (λ (n : ℕ). graph_bytes 2 n blocks) (c.number.ensures ∙ ap (λ p. (R p).number) same);
       };
       walks = subst (λ p. AreWalked M (R p)) same (c.walk_law.ensures M);
       file = subst (λ p. IsWalkedFile M (R p) bytes) same
           (subst (λ (l : List ℕ). IsWalkedFile M (R c.profile-profile.result) l) (sym spelled)
-          (c.walked_file.ensures.walks M (graph_bytes number blocks) blocks mine
-          (subst (λ (n : ℕ). IsFile n (graph_bytes number blocks) blocks) c.number.ensures
-          (c.in_ok-write.ensures.file (c.walked_file.ensures.own M blocks mine)))));
+          (c.walked_file.ensures.walks M (graph_bytes 2 number blocks) blocks mine
+          (subst (λ (n : ℕ). IsFile 2 n (graph_bytes 2 number blocks) blocks) c.number.ensures
+          (c.in_ok-write.ensures.file (c.walked_file.ensures.own M blocks mine) tt))));
       spelled = ap (λ (l : List ℕ). l ++ bytes)
           (c.in_ok-line.ensures ∙ ap (λ (l : List ℕ). graph_line l) c.deref.ensures.value);
     }
