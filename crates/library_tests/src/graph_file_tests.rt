@@ -1,11 +1,12 @@
 //! Graph files whose bytes were spelled by hand.
-ghost use Rattle.std.specs.Prelude.{◌≡◌, ◌+◌, ◌≤◌, IfOk, pos, vec_len};
-ghost use Rattle.road_model.specs.Format.{IsBlockForm, IsContextForm, IsPieceForm};
+ghost use Rattle.std.specs.Prelude.{◌≡◌, ◌+◌, ◌≤◌, true, false, [], ◌∷◌, IfOk, pos, vec_len};
+ghost use Rattle.road_model.specs.Format.{IsVersion, is_sourced, IsBlockForm, IsContextForm, IsPieceForm};
 
-use graph_file::{Graph, GraphWriter, write};
+use graph_file::{Graph, GraphWriter, VERSION, write};
 use road_base::{Dir, Location, NoMemory, NodeId, WayId};
 use road_model::{
-    Arcs, Block, Blocks, Context, Contexts, Names, Piece, PieceName, Pieces, Place, Places, TurnArc,
+    Arcs, Block, Blocks, Context, Contexts, Names, Piece, PieceName, Pieces, Place, Places,
+    Sources, TurnArc,
 };
 use std::alloc::Global;
 use std::process::Abort;
@@ -30,6 +31,49 @@ const THERE_AND_BACK: &[u8] = b"OSMROAD1\x01\0\0\0\x01\0\0\0\0\0\0\0\
     \x01\0\0\0\
     \x01\0\0\0\0\0\0\0\
     \x0a\0\0\0\0\0\0\0\0\0\0\0\0\x01\0\0\0";
+
+/// The same in version 2, in which each piece shows its mark and each context its source.
+const SOURCED: &[u8] = b"OSMROAD2\x01\0\0\0\x01\0\0\0\0\0\0\0\
+    \x0a\0\0\0\0\0\0\0\x02\0\0\0\
+    \0\0\0\0\x02\0\0\0\0\0\
+    \x01\0\0\0\0\0\0\0\0\0\0\0\0\0\0\0\
+    \x02\0\0\0\0\0\0\0\x10\x27\0\0\0\0\0\0\
+    \x03\0\0\0\0\0\0\0\x20\x4e\0\0\0\0\0\0\
+    \x01\0\0\0\0\0\0\0\
+    \x01\0\0\0\
+    \x01\0\0\0\0\0\0\0\
+    \x0a\0\0\0\0\0\0\0\0\0\0\0\x01\x01\0\0\0\
+    \x01\0\0\0\0\0\0\0\
+    \x01\0\0\0\x0a\0\0\0\0\0\0\0\0\0\0\0\x01\
+    \0\0\0\0\x02\0\0\0\x01\0\
+    \x03\0\0\0\0\0\0\0\x20\x4e\0\0\0\0\0\0\
+    \x02\0\0\0\0\0\0\0\x10\x27\0\0\0\0\0\0\
+    \x01\0\0\0\0\0\0\0\0\0\0\0\0\0\0\0\
+    \x01\0\0\0\0\0\0\0\
+    \x01\0\0\0\
+    \x01\0\0\0\0\0\0\0\
+    \x0a\0\0\0\0\0\0\0\0\0\0\0\0\x01\0\0\0\
+    \x01\0\0\0\0\0\0\0\
+    \x01\0\0\0\x0a\0\0\0\0\0\0\0\0\0\0\0\0";
+
+/// Way 20 with a marked piece that has two contexts, of which the first has two sources, and the second, of three
+/// pieces, one.
+const LONG_SOURCES: &[u8] = b"OSMROAD2\x02\0\0\0\x01\0\0\0\0\0\0\0\
+    \x14\0\0\0\0\0\0\0\x01\0\0\0\
+    \0\0\0\0\x01\0\0\0\0\x01\
+    \x01\0\0\0\0\0\0\0\0\0\0\0\0\0\0\0\
+    \x02\0\0\0\0\0\0\0\x10\x27\0\0\0\0\0\0\
+    \x02\0\0\0\0\0\0\0\
+    \x01\0\0\0\
+    \0\0\0\0\0\0\0\0\
+    \x02\0\0\0\0\0\0\0\
+    \x01\0\0\0\x07\0\0\0\0\0\0\0\0\0\0\0\0\
+    \x02\0\0\0\x06\0\0\0\0\0\0\0\0\0\0\0\0\x07\0\0\0\0\0\0\0\0\0\0\0\0\
+    \x03\0\0\0\
+    \x05\0\0\0\0\0\0\0\0\0\0\0\0\x06\0\0\0\0\0\0\0\0\0\0\0\0\
+    \0\0\0\0\0\0\0\0\
+    \x01\0\0\0\0\0\0\0\
+    \x02\0\0\0\x05\0\0\0\0\0\0\0\0\0\0\0\0\x06\0\0\0\0\0\0\0\0\0\0\0\0";
 
 /// Behind a byte 7: way -1, with a piece that has two contexts, the second of two pieces.
 const WITH_A_NAME: &[u8] = b"\x07OSMROAD1\x01\0\0\0\x01\0\0\0\0\0\0\0\
@@ -63,10 +107,19 @@ fn place(node: i64, location: Location) -> Place {
     }
 }
 
-/// A piece of way 10 with one context, from which one arc leads back.
+/// A source of one piece.
+fn from_one(alloc: Global, piece: PieceName) -> Result<Sources, NoMemory>
+    ensures { IfOk result (λ l. l ≡ (piece ∷ []) ∷ []) }
+{
+    let source = Names::one(alloc, piece);
+    Ok(Sources::from_list(vec![in alloc; source]?))
+}
+
+/// A piece of way 10 with one context, from which one arc leads back, and to which one leads from there.
 fn along(alloc: Global, dir: Dir, places: Vec<Place>, back: Dir) -> Result<Piece, NoMemory>
     requires { vec_len places ≡ 3 }
-    ensures form { IfOk result (λ p. IsPieceForm p) }
+    ensures plain { IfOk result (λ p. IsPieceForm false p) }
+    ensures sourced { IfOk result (λ p. IsPieceForm true p) }
     ensures named { IfOk result (λ p. p.name ≡ record { way = record { 0 = pos 10 }; index = 0; dir = dir }) }
 {
     let arc = TurnArc {
@@ -76,6 +129,7 @@ fn along(alloc: Global, dir: Dir, places: Vec<Place>, back: Dir) -> Result<Piece
     let context = Context {
         before: Names::from_list(Vec::new(alloc)),
         arcs: Arcs::from_list(vec![in alloc; arc]?),
+        sources: from_one(alloc, name(10, 0, back))?,
     };
     Ok(Piece {
         name: name(10, 0, dir),
@@ -87,7 +141,8 @@ fn along(alloc: Global, dir: Dir, places: Vec<Place>, back: Dir) -> Result<Piece
 }
 
 fn both_ways(alloc: Global) -> Result<Block, NoMemory>
-    ensures { IfOk result (λ b. IsBlockForm b) }
+    ensures plain { IfOk result (λ b. IsBlockForm false b) }
+    ensures sourced { IfOk result (λ b. IsBlockForm true b) }
 {
     let first = place(1, Location { lon: 0, lat: 0 });
     let middle = place(2, Location { lon: 10000, lat: 0 });
@@ -102,11 +157,12 @@ fn both_ways(alloc: Global) -> Result<Block, NoMemory>
     })
 }
 
-/// A context with one arc, to a target of the length.
+/// A context with one arc, to a target of the length, and no sources.
 fn context(alloc: Global, before: Vec<PieceName>, length: u32) -> Result<Context, NoMemory>
     requires short { vec_len before ≤ 1 }
     requires target { (1 ≤ length) × (length ≤ vec_len before + 2) }
-    ensures form { IfOk result (λ c. IsContextForm c) }
+    ensures plain { IfOk result (λ c. IsContextForm false c) }
+    ensures sourced { IfOk result (λ c. IsContextForm true c) }
     ensures before { IfOk result (λ c. c.before ≡ before.items) }
 {
     let arc = TurnArc {
@@ -116,11 +172,13 @@ fn context(alloc: Global, before: Vec<PieceName>, length: u32) -> Result<Context
     Ok(Context {
         before: Names::from_list(before),
         arcs: Arcs::from_list(vec![in alloc; arc]?),
+        sources: Sources::from_list(Vec::new(alloc)),
     })
 }
 
 fn with_two_contexts(alloc: Global) -> Result<Piece, NoMemory>
-    ensures { IfOk result (λ p. IsPieceForm p) }
+    ensures plain { IfOk result (λ p. IsPieceForm false p) }
+    ensures sourced { IfOk result (λ p. IsPieceForm true p) }
 {
     let first = place(
         -5,
@@ -143,7 +201,8 @@ fn with_two_contexts(alloc: Global) -> Result<Piece, NoMemory>
 }
 
 fn one_way(alloc: Global) -> Result<Block, NoMemory>
-    ensures { IfOk result (λ b. IsBlockForm b) }
+    ensures plain { IfOk result (λ b. IsBlockForm false b) }
+    ensures sourced { IfOk result (λ b. IsBlockForm true b) }
 {
     let piece = with_two_contexts(alloc)?;
     Ok(Block {
@@ -152,21 +211,32 @@ fn one_way(alloc: Global) -> Result<Block, NoMemory>
     })
 }
 
-fn write_one(alloc: Global, block: Block, out: &mut Vec<u8>) -> Result<(), NoMemory>
-    requires { IsBlockForm block }
+fn write_one(alloc: Global, version: u32, block: Block, out: &mut Vec<u8>) -> Result<(), NoMemory>
+    requires version { IsVersion version }
+    requires form { IsBlockForm (is_sourced version) block }
 {
     let mut blocks = Blocks::new(alloc);
     blocks.insert(block)?;
-    write(1, &blocks, out)
+    write(version, 1, &blocks, out)
 }
 
 #[test]
 fn writes_one_block(rt: HostRuntime) -> Result<(), Fail> {
     let alloc = rt.alloc();
     let mut out = Vec::new(alloc);
-    write_one(alloc, both_ways(alloc)?, &mut out)?;
+    write_one(alloc, 1, both_ways(alloc)?, &mut out)?;
     assert_eq!(rt; out.len(), 220);
     assert_eq!(rt; out.as_slice(), THERE_AND_BACK);
+    Ok(())
+}
+
+#[test]
+fn writes_one_block_with_sources(rt: HostRuntime) -> Result<(), Fail> {
+    let alloc = rt.alloc();
+    let mut out = Vec::new(alloc);
+    write_one(alloc, VERSION, both_ways(alloc)?, &mut out)?;
+    assert_eq!(rt; out.len(), 272);
+    assert_eq!(rt; out.as_slice(), SOURCED);
     Ok(())
 }
 
@@ -174,20 +244,30 @@ fn writes_one_block(rt: HostRuntime) -> Result<(), Fail> {
 fn writes_behind_what_is_there(rt: HostRuntime) -> Result<(), Fail> {
     let alloc = rt.alloc();
     let mut out = vec![in alloc; 7]?;
-    write_one(alloc, one_way(alloc)?, &mut out)?;
+    write_one(alloc, 1, one_way(alloc)?, &mut out)?;
     assert_eq!(rt; out.as_slice(), WITH_A_NAME);
     Ok(())
 }
 
-#[test]
-fn writes_no_blocks(rt: HostRuntime) -> Result<(), Fail> {
-    let alloc = rt.alloc();
+/// The bytes of a graph without blocks.
+fn write_none(alloc: Global, version: u32) -> Result<Vec<u8>, NoMemory>
+    requires { IsVersion version }
+{
     let blocks = Blocks::new(alloc);
     let mut out = Vec::new(alloc);
-    write(1, &blocks, &mut out)?;
+    write(version, 1, &blocks, &mut out)?;
+    Ok(out)
+}
+
+#[test]
+fn writes_no_blocks(rt: HostRuntime) -> Result<(), Fail> {
     assert_eq!(rt;
-        out.as_slice(),
+        write_none(rt.alloc(), 1)?.as_slice(),
         b"OSMROAD1\x01\0\0\0\0\0\0\0\0\0\0\0".as_slice()
+    );
+    assert_eq!(rt;
+        write_none(rt.alloc(), VERSION)?.as_slice(),
+        b"OSMROAD2\x01\0\0\0\0\0\0\0\0\0\0\0".as_slice()
     );
     Ok(())
 }
@@ -195,7 +275,7 @@ fn writes_no_blocks(rt: HostRuntime) -> Result<(), Fail> {
 #[test]
 fn writer_puts_blocks_in_turn(rt: HostRuntime) -> Result<(), Fail> {
     let alloc = rt.alloc();
-    let mut writer = GraphWriter::new(alloc, 1, 0)?;
+    let mut writer = GraphWriter::new(alloc, 1, 1, 0)?;
     writer.put(&one_way(alloc)?)?;
     writer.put(&both_ways(alloc)?)?;
     let mut expected = b"OSMROAD1\x01\0\0\0\x02\0\0\0\0\0\0\0".to_vec(alloc)?;
@@ -207,7 +287,7 @@ fn writer_puts_blocks_in_turn(rt: HostRuntime) -> Result<(), Fail> {
 
 /// Puts the block 70,000 times.
 fn put_often(file: &mut GraphWriter, block: &Block) -> Result<(), NoMemory>
-    requires { IsBlockForm block.now }
+    requires { IsBlockForm (is_sourced file.old.version) block.now }
 {
     for _ in 0..70_000u32 {
         file.put(block)?;
@@ -217,9 +297,9 @@ fn put_often(file: &mut GraphWriter, block: &Block) -> Result<(), NoMemory>
 
 /// The bytes of a file of so many blocks.
 fn long_file(alloc: Global, block: &Block) -> Result<Vec<u8>, NoMemory>
-    requires { IsBlockForm block.now }
+    requires { IsBlockForm false block.now }
 {
-    let mut file = GraphWriter::new(alloc, 1, 64)?;
+    let mut file = GraphWriter::new(alloc, 1, 1, 64)?;
     put_often(&mut file, block)?;
     Ok(file.finish())
 }
@@ -235,9 +315,9 @@ fn writes_more_blocks_than_two_bytes_count(rt: HostRuntime) -> Result<(), Fail> 
     Ok(())
 }
 
-/// The bytes of the way that is driven both ways, with another byte at the place.
-fn with_byte(alloc: Global, at: usize, byte: u8) -> Result<Vec<u8>, NoMemory> {
-    let mut bytes = THERE_AND_BACK.to_vec(alloc)?;
+/// The bytes with another byte at the place.
+fn with_byte(alloc: Global, bytes: &[u8], at: usize, byte: u8) -> Result<Vec<u8>, NoMemory> {
+    let mut bytes = bytes.to_vec(alloc)?;
     if let Some(place) = bytes.get_mut(at) {
         *place = byte;
     }
@@ -248,37 +328,33 @@ fn is_refused(alloc: Global, bytes: &[u8]) -> Result<bool, NoMemory> {
     Ok(Graph::read(alloc, bytes)?.is_none())
 }
 
-#[test]
-fn reads_back_what_was_written(rt: HostRuntime) -> Result<(), Fail> {
-    let alloc = rt.alloc();
-    for bytes in [THERE_AND_BACK, &WITH_A_NAME[1..]] {
-        let read = Graph::read(alloc, bytes)?;
-        assert!(rt; read.is_some());
-        if let Some(graph) = read {
-            let mut out = Vec::new(alloc);
-            write(graph.profile, &graph.blocks, &mut out)?;
-            assert_eq!(rt; out.as_slice(), bytes);
-        }
-    }
-    Ok(())
-}
-
-/// The profile of a graph that is read, and whether it is written as it was.
-fn read_and_written(alloc: Global, bytes: &[u8]) -> Result<Option<(u32, bool)>, NoMemory> {
+/// The version and the profile of a graph that is read, and whether it is written as it was.
+fn read_and_written(alloc: Global, bytes: &[u8]) -> Result<Option<(u32, u32, bool)>, NoMemory> {
     let Some(graph) = Graph::read(alloc, bytes)? else {
         return Ok(None);
     };
     let mut out = Vec::new(alloc);
-    write(graph.profile, &graph.blocks, &mut out)?;
-    Ok(Some((graph.profile, out.as_slice() == bytes)))
+    write(graph.version, graph.profile, &graph.blocks, &mut out)?;
+    Ok(Some((graph.version, graph.profile, out.as_slice() == bytes)))
+}
+
+#[test]
+fn reads_back_what_was_written(rt: HostRuntime) -> Result<(), Fail> {
+    let alloc = rt.alloc();
+    for bytes in [THERE_AND_BACK, &WITH_A_NAME[1..]] {
+        assert_eq!(rt; read_and_written(alloc, bytes)?, Some((1, 1, true)));
+    }
+    assert_eq!(rt; read_and_written(alloc, SOURCED)?, Some((2, 1, true)));
+    assert_eq!(rt; read_and_written(alloc, LONG_SOURCES)?, Some((2, 2, true)));
+    Ok(())
 }
 
 #[test]
 fn graphs_have_a_profile(rt: HostRuntime) -> Result<(), Fail> {
     for profile in [1, 2] {
-        let bytes = with_byte(rt.alloc(), 8, profile)?;
+        let bytes = with_byte(rt.alloc(), THERE_AND_BACK, 8, profile)?;
         let read = read_and_written(rt.alloc(), &bytes)?;
-        assert_eq!(rt; read, Some((profile as u32, true)), "profile {profile}");
+        assert_eq!(rt; read, Some((1, profile as u32, true)), "profile {profile}");
     }
     Ok(())
 }
@@ -314,7 +390,7 @@ const REFUSED: &[(usize, u8)] = &[
 fn refuses_what_is_not_a_graph_file(rt: HostRuntime) -> Result<(), Fail> {
     let alloc = rt.alloc();
     for (at, byte) in REFUSED.iter() {
-        let bytes = with_byte(alloc, *at, *byte)?;
+        let bytes = with_byte(alloc, THERE_AND_BACK, *at, *byte)?;
         assert!(rt; is_refused(alloc, &bytes)?, "byte {at}");
     }
     let mut longer = THERE_AND_BACK.to_vec(alloc)?;
@@ -323,6 +399,40 @@ fn refuses_what_is_not_a_graph_file(rt: HostRuntime) -> Result<(), Fail> {
     for end in 0..THERE_AND_BACK.len() {
         assert!(rt;
             is_refused(alloc, &THERE_AND_BACK[..end])?,
+            "the first {end} bytes"
+        );
+    }
+    Ok(())
+}
+
+/// The same for a file with marks and sources.
+const REFUSED_SOURCES: &[(usize, u8)] = &[
+    // the magic without marks and sources, one of no version, and a third mark
+    (7, b'1'),
+    (7, b'3'),
+    (41, 2),
+    // no sources, one more, and 2 ^ 63
+    (127, 0),
+    (127, 2),
+    (134, 0x80),
+    // a source without pieces, one with another's, and one with 2 ^ 31
+    (135, 0),
+    (135, 2),
+    (138, 0x80),
+    // a source that goes in a third direction
+    (151, 2),
+];
+
+#[test]
+fn refuses_what_is_not_a_graph_file_with_sources(rt: HostRuntime) -> Result<(), Fail> {
+    let alloc = rt.alloc();
+    for (at, byte) in REFUSED_SOURCES.iter() {
+        let bytes = with_byte(alloc, SOURCED, *at, *byte)?;
+        assert!(rt; is_refused(alloc, &bytes)?, "byte {at}");
+    }
+    for end in 0..SOURCED.len() {
+        assert!(rt;
+            is_refused(alloc, &SOURCED[..end])?,
             "the first {end} bytes"
         );
     }
@@ -364,6 +474,53 @@ fn refuses_pieces_and_contexts_out_of_order(rt: HostRuntime) -> Result<(), Fail>
     Ok(())
 }
 
+/// The three parts, one behind the other.
+fn in_turn(alloc: Global, front: &[u8], middle: &[u8], last: &[u8]) -> Result<Vec<u8>, NoMemory> {
+    let mut bytes = front.to_vec(alloc)?;
+    bytes.extend_from_slice(middle)?;
+    bytes.extend_from_slice(last)?;
+    Ok(bytes)
+}
+
+/// The file whose context of three pieces has a source of so many, all of one name.
+fn with_source_of(alloc: Global, count: u8) -> Result<Vec<u8>, NoMemory> {
+    let mut bytes = in_turn(alloc, &LONG_SOURCES[..195], &[count], b"\0\0\0")?;
+    for _ in 0..count {
+        bytes.extend_from_slice(&LONG_SOURCES[199..212])?;
+    }
+    Ok(bytes)
+}
+
+#[test]
+fn refuses_sources_that_are_too_short(rt: HostRuntime) -> Result<(), Fail> {
+    let alloc = rt.alloc();
+    for count in [0, 1] {
+        assert!(rt;
+            is_refused(alloc, &with_source_of(alloc, count)?)?,
+            "{count}"
+        );
+    }
+    for count in [2, 3] {
+        let read = read_and_written(alloc, &with_source_of(alloc, count)?)?;
+        assert_eq!(rt; read, Some((2, 2, true)), "{count}");
+    }
+    Ok(())
+}
+
+#[test]
+fn refuses_sources_out_of_order(rt: HostRuntime) -> Result<(), Fail> {
+    let alloc = rt.alloc();
+    let first = &LONG_SOURCES[102..119];
+    let second = &LONG_SOURCES[119..149];
+    let mut exchanged = exchanged(alloc, &LONG_SOURCES[..102], first, second)?;
+    exchanged.extend_from_slice(&LONG_SOURCES[149..])?;
+    assert_eq!(rt; exchanged.len(), LONG_SOURCES.len());
+    assert!(rt; is_refused(alloc, &exchanged)?);
+    let twice = in_turn(alloc, &LONG_SOURCES[..119], first, &LONG_SOURCES[149..])?;
+    assert!(rt; is_refused(alloc, &twice)?);
+    Ok(())
+}
+
 fn count_of_contexts(graph: &Graph, piece: PieceName) -> Option<usize> {
     match graph.contexts(piece) {
         Some(contexts) => Some(contexts.items().len()),
@@ -375,6 +532,25 @@ fn count_of_contexts(graph: &Graph, piece: PieceName) -> Option<usize> {
 fn first_arc(graph: &Graph, piece: PieceName, place: usize) -> Option<TurnArc> {
     match graph.arcs(piece, place) {
         Some(arcs) => arcs.items().first().copied(),
+        None => None,
+    }
+}
+
+/// How many sources the piece's context at the place has.
+fn count_of_sources(graph: &Graph, piece: PieceName, place: usize) -> Option<usize> {
+    match graph.sources(piece, place) {
+        Some(sources) => Some(sources.items().len()),
+        None => None,
+    }
+}
+
+/// The last name of the first source of the piece's context at the place.
+fn last_of_first(graph: &Graph, piece: PieceName, place: usize) -> Option<PieceName> {
+    match graph.sources(piece, place) {
+        Some(sources) => match sources.items().first() {
+            Some(names) => names.items().last().copied(),
+            None => None,
+        },
         None => None,
     }
 }
@@ -436,6 +612,7 @@ fn check_missing(rt: &impl Abort, graph: &Graph) {
     for piece in MISSING {
         assert_eq!(rt; count_of_contexts(graph, piece), None);
         assert_eq!(rt; first_arc(graph, piece, 0), None);
+        assert_eq!(rt; count_of_sources(graph, piece, 0), None);
     }
 }
 
@@ -446,6 +623,14 @@ fn check_there_and_back(rt: &impl Abort, graph: &Graph) {
     assert_eq!(rt; first_arc(graph, BACK, 0), Some(arc(THERE, 1)));
     assert_eq!(rt; first_arc(graph, BACK, 1), None);
     check_missing(rt, graph);
+}
+
+/// What the same graph has in version 2.
+fn check_sources(rt: &impl Abort, graph: &Graph) {
+    assert_eq!(rt; count_of_sources(graph, THERE, 0), Some(1));
+    assert_eq!(rt; last_of_first(graph, THERE, 0), Some(BACK));
+    assert_eq!(rt; last_of_first(graph, BACK, 0), Some(THERE));
+    assert_eq!(rt; count_of_sources(graph, BACK, 1), None);
 }
 
 /// What the graph with the piece of two contexts has.
@@ -466,7 +651,12 @@ fn graph_of(alloc: Global, bytes: &[u8]) -> Result<Graph, Fail> {
 
 #[test]
 fn looks_up_what_a_piece_has(rt: HostRuntime) -> Result<(), Fail> {
-    check_there_and_back(&rt, &graph_of(rt.alloc(), THERE_AND_BACK)?);
+    let plain = graph_of(rt.alloc(), THERE_AND_BACK)?;
+    assert_eq!(rt; count_of_sources(&plain, THERE, 0), Some(0));
+    check_there_and_back(&rt, &plain);
+    let sourced = graph_of(rt.alloc(), SOURCED)?;
+    check_there_and_back(&rt, &sourced);
+    check_sources(&rt, &sourced);
     check_along(&rt, &graph_of(rt.alloc(), &WITH_A_NAME[1..])?);
     Ok(())
 }

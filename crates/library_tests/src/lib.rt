@@ -17,6 +17,8 @@ mod checkpoint_tests;
 #[cfg(test)]
 mod graph_file_tests;
 #[cfg(test)]
+mod layered_maps_tests;
+#[cfg(test)]
 mod least_cost_tests;
 pub mod makers;
 #[cfg(test)]

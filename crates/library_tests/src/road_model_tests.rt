@@ -5,7 +5,7 @@ use crate::makers::tags;
 use road_base::{Dir, Location, NoMemory, NodeId, Tags, WayId};
 use road_model::{
     Access, Arcs, Block, Blocks, Context, Contexts, Names, Piece, PieceName, Pieces, Place, Places,
-    Profile, RuleKind, TurnArc, has_highway, is_restriction, laws,
+    Profile, RuleKind, Sources, TurnArc, has_highway, is_restriction, laws,
 };
 use std::alloc::Global;
 use std::test::Fail;
@@ -18,7 +18,7 @@ fn name(way: i64) -> PieceName {
     }
 }
 
-/// A block with one piece, of one context with one arc.
+/// A block with one piece, of one context with one arc and one source.
 fn block_of(alloc: Global, way: i64, end: u32) -> Result<Block, NoMemory> {
     let arc = TurnArc {
         piece: name(9),
@@ -27,6 +27,7 @@ fn block_of(alloc: Global, way: i64, end: u32) -> Result<Block, NoMemory> {
     let context = Context {
         before: Names::from_list(vec![in alloc; name(7)]?),
         arcs: Arcs::from_list(vec![in alloc; arc]?),
+        sources: Sources::from_list(vec![in alloc; Names::one(alloc, name(7))]?),
     };
     let place = Place {
         node: NodeId(1),

@@ -3,7 +3,7 @@ ghost use Rattle.std.specs.Prelude.{◌≡◌, ◌<◌};
 
 use access_profile::Motorcar;
 use change_apply::{Engine, Report};
-use graph_file::write;
+use graph_file::{VERSION, write};
 use library_tests::makers::events_of;
 use road_base::{Dir, Event, NoMemory, Steps, WayId};
 use road_model::{Piece, PieceName, Profile};
@@ -20,7 +20,7 @@ const NOTHING: Report = Report {
 /// The bytes of the graph.
 fn graph_of(alloc: Global, engine: &Engine<Motorcar>) -> Result<Vec<u8>, Fail> {
     let mut bytes = Vec::new(alloc);
-    write(Motorcar.number(), engine.blocks(), &mut bytes)?;
+    write(VERSION, Motorcar.number(), engine.blocks(), &mut bytes)?;
     Ok(bytes)
 }
 
@@ -128,24 +128,26 @@ const CHAIN: &[u8] = b"n1 v1 x0.001 y0\nn2 v1 x0.002 y0\nn3 v1 x0.003 y0\nn4 v1 
     w7 v1 Thighway=residential Nn7,n8\nw8 v1 Thighway=residential Nn8,n9\n\
     w9 v1 Thighway=residential Nn9,n10\nw10 v1 Thighway=residential Nn10,n11\n";
 
-/// Node 2 lies elsewhere: the ways 1 and 2 are one link away, way 3 three, way 4 five, and way 5 seven. Where no
-/// restriction names a way, blocks are built up to two links away, and farther on where pieces change: here none do.
+/// Node 2 lies elsewhere: the ways 1 and 2 are one link away, way 3 three, way 4 five, way 5 seven, and way 6 nine,
+/// which is too far to be touched. Where no restriction names a way, blocks are built up to two links away, and farther
+/// on where pieces or arcs change: here none do.
 const MOVED: &[u8] = b"n2 v2 x0.0025 y0\n";
 
 /// A restriction names the ways 3 and 4, neither of which is near node 2: so none of their blocks is built where it
-/// moves. Way 3 is three links away, the restriction four, and way 4 five.
+/// moves. Way 3 is three links away, the restriction four, way 4 five, and way 5 seven.
 const FAR_TURN: &[u8] =
     b"r1 v1 Ttype=restriction,restriction=no_straight_on Mw3@from,n4@via,w4@to\n";
 
 /// A restriction names the ways 2, 3 and 4. Way 2 is near node 2: so where it moves, the blocks of the ways 3 and 4 are
-/// built too, which are named beside it. The restriction is two links away, the ways 3 and 4 three, and way 5 five.
+/// built too, which are named beside it. The restriction is two links away, the ways 3 and 4 three, way 5 five, and way
+/// 6 seven.
 const NEAR_TURN: &[u8] =
     b"r1 v1 Ttype=restriction,restriction=no_straight_on Mw2@from,w3@via,w4@to\n";
 
 /// Nothing changes: the entry that stands has the same version.
 const SAME: &[u8] = b"n2 v1 x0.0025 y0\n";
 
-/// Way 3 goes: the ways 2 and 4 were two links away, 1 and 5 four, 6 six.
+/// Way 3 goes: the ways 2 and 4 were two links away, 1 and 5 four, 6 six, 7 eight.
 const GONE: &[u8] = b"w3 v2 dD\n";
 
 /// Way 3 comes back and reaches node 9, so that the ways 8 and 9 are two links away, 7 and 10 four.
@@ -169,30 +171,45 @@ const BESIDE: &[u8] = b"r1 v1 Ttype=restriction,restriction=no_straight_on Mw2@f
 const BEHIND: &[u8] = b"n7 v1 x0.006 y0\nw5 v1 Thighway=residential Nn5,n7\n\
     r1 v1 Ttype=restriction,restriction=no_straight_on Mw3@from,n5@via,w5@to\n";
 
-/// Way 11 passes node 3. Way 10 leaves where it ends, then the ways 13 and 14.
+/// Way 11 passes node 3. Way 10 leaves where it ends, then the ways 13, 14 and 15.
 const PLAIN: &[u8] = b"n1 v1 x0.001 y0\nn2 v1 x0.002 y0\nn3 v1 x0.003 y0\nn4 v1 x0.004 y0\n\
-    n6 v1 x0.006 y0\nn7 v1 x0.007 y0\nw10 v1 Thighway=residential Nn1,n2\n\
+    n6 v1 x0.006 y0\nn7 v1 x0.007 y0\nn8 v1 x0.008 y0\nw10 v1 Thighway=residential Nn1,n2\n\
     w11 v1 Thighway=residential Nn4,n3,n2\nw13 v1 Thighway=residential Nn1,n6\n\
-    w14 v1 Thighway=residential Nn6,n7\n";
+    w14 v1 Thighway=residential Nn6,n7\nw15 v1 Thighway=residential Nn7,n8\n";
 
 /// Way 12 comes to node 3, with its other node. Way 11 is two links away, way 10 four: it is built, since way 11 gets
-/// other pieces. Way 13 is six links away, and way 14 eight, which is too far to be touched.
+/// other pieces. Way 13 is six links away, way 14 eight, and way 15 ten, which is too far to be touched.
 const JUNCTION_MADE: &[u8] = b"n5 v1 x0.005 y0\nw12 v1 Thighway=residential Nn3,n5\n";
 
+/// Ways 10 and 11 run beside each other, one each way, and end at node 3, which way 14 leaves; a restriction names the
+/// ways 10 to 13. Way 15 leaves where way 12 ends.
+const BESIDE_EACH_OTHER: &[u8] = b"n2 v1 x0.001 y0.002\nn3 v1 x0.002 y0.002\nn4 v1 x0.003 y0.002\n\
+    n5 v1 x0.001 y0.001\nn6 v1 x0.002 y0.001\nn7 v1 x0.002 y0\n\
+    w10 v1 Thighway=residential,oneway=yes Nn2,n3\nw11 v1 Thighway=residential,oneway=yes Nn3,n2\n\
+    w12 v1 Thighway=residential Nn2,n5\nw13 v1 Thighway=residential Nn5,n6\n\
+    w14 v1 Thighway=residential Nn3,n4\nw15 v1 Thighway=residential Nn5,n7\n\
+    r20 v1 Ttype=restriction,restriction=no_straight_on Mw10@from,w11@via,w12@via,w13@to\n";
+
+/// Without node 4 way 14 has no pieces, so that node 3 is a dead end, and way 12 has a further context, from which an
+/// arc leads by way 15: so that one is built too, for its sources. It is seven links away, and neither near the change
+/// nor beside a way that is.
+const DEAD_END: &[u8] = b"n4 v2 dD\n";
+
 /// Changes, how many ways the last of them touches, and how many blocks are built behind it.
-const ROWS: [(&[&[u8]], u64, u64); 12] = [
+const ROWS: [(&[&[u8]], u64, u64); 13] = [
     (&[CHAIN], 10, 10),
     (&[CHAIN, SAME], 0, 0),
-    (&[CHAIN, MOVED], 4, 2),
-    (&[CHAIN, FAR_TURN, MOVED], 4, 2),
-    (&[CHAIN, NEAR_TURN, MOVED], 5, 4),
-    (&[CHAIN, MOVED, GONE], 6, 3),
+    (&[CHAIN, MOVED], 5, 2),
+    (&[CHAIN, FAR_TURN, MOVED], 5, 2),
+    (&[CHAIN, NEAR_TURN, MOVED], 6, 4),
+    (&[CHAIN, MOVED, GONE], 7, 3),
     (&[CHAIN, MOVED, GONE, LONGER], 10, 5),
     (&[PASSED], 3, 3),
     (&[PASSED, JOINED], 4, 3),
     (&[PASSED, BESIDE, JOINED], 4, 4),
-    (&[PASSED, BEHIND, JOINED], 4, 3),
-    (&[PLAIN, JUNCTION_MADE], 4, 3),
+    (&[PASSED, BEHIND, JOINED], 5, 3),
+    (&[PLAIN, JUNCTION_MADE], 5, 3),
+    (&[BESIDE_EACH_OTHER, DEAD_END], 6, 6),
 ];
 
 #[test]

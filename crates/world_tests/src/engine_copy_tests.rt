@@ -3,7 +3,7 @@ ghost use Rattle.std.specs.Prelude.{◌≡◌, ◌<◌};
 
 use access_profile::Motorcar;
 use change_apply::Engine;
-use graph_file::write;
+use graph_file::{VERSION, write};
 use library_tests::makers::events_of;
 use road_base::Steps;
 use road_model::Profile;
@@ -27,7 +27,7 @@ const CHANGE: &[u8] =
 /// The bytes of the graph.
 fn graph_of(alloc: Global, engine: &Engine<Motorcar>) -> Result<Vec<u8>, Fail> {
     let mut bytes = Vec::new(alloc);
-    write(Motorcar.number(), engine.blocks(), &mut bytes)?;
+    write(VERSION, Motorcar.number(), engine.blocks(), &mut bytes)?;
     Ok(bytes)
 }
 
