@@ -11,7 +11,7 @@ use Rattle.road_model.specs.declared.lists.TurnArc.{TurnArc}
 use Rattle.road_model.specs.Rules.{Rules}
 use Rattle.road_model.specs.Pieces.{Span}
 use Rattle.road_model.specs.Network.{IsContext}
-use Rattle.road_model.specs.Blocks.{name_of, IsPieceEntry, IsArcEntry}
+use Rattle.road_model.specs.Blocks.{name_of, IsPieceEntry, IsArcEntry, IsSourceEntry}
 use Rattle.road_model.specs.Orders.{name_cmp, names_cmp}
 use Rattle.road_model.proofs.TotalOrders.{name_cmp_total, names_cmp_total, names_cmp_exact}
 use Rattle.road_model.proofs.UniqueEntries.{one_entry}
@@ -70,7 +70,14 @@ module _ (M : Objects) (P : Rules) where
       let arcs : x.context.arcs ≡ y.context.arcs = lists_unique (λ (a : TurnArc). a.piece) name_cmp name_cmp_total
       (IsArcEntry M P (t.entry.before ++ t.listed.piece ∷ [])) x.context.arcs y.context.arcs
       (subst (λ v. Lists (λ a. a.piece) name_cmp (IsArcEntry M P v) x.context.arcs) whole s.entry.arcs) t.entry.arcs in
-      λ i. record { piece = piece i; context = record { before = before i; arcs = arcs i } }
+      let sources : x.context.sources ≡ y.context.sources = lists_unique (λ (n : List PieceName). n) names_cmp
+      names_cmp_total (IsSourceEntry M P t.listed.piece (t.entry.before ++ t.listed.piece ∷ []))
+      x.context.sources y.context.sources
+      (subst (λ p. Lists (λ n. n) names_cmp (IsSourceEntry M P p (t.entry.before ++ t.listed.piece ∷ []))
+      x.context.sources) same.last
+      (subst (λ v. Lists (λ n. n) names_cmp (IsSourceEntry M P s.listed.piece v) x.context.sources) whole
+      s.entry.sources)) t.entry.sources in
+      λ i. record { piece = piece i; context = record { before = before i; arcs = arcs i; sources = sources i } }
 
   abbrev Spotted : At → Type 0
   Spotted x = (c : List Span) × IsSpot M P c x

@@ -1,5 +1,6 @@
 //! Contexts found by their names among all of a graph, in a few steps where the numbers of ways are spread evenly.
-ghost use Rattle.std.specs.Prelude.{◌≡◌, ◌<◌, ◌≤◌, length, map, slice_get, IfOk, IfSome, IfNone, IsTrue, Some, Contains};
+ghost use Rattle.std.specs.Prelude.{◌≡◌, ◌<◌, ◌≤◌, length, map, slice_get, IfOk, IfSome, IfNone, IsTrue, Some};
+ghost use Rattle.std.specs.Prelude.{Contains};
 ghost use Rattle.std.specs.List.{HoldsAt};
 ghost use Rattle.ordered_lists.specs.Orders.{rises};
 ghost use Rattle.context_search.specs.Marks.{At, at_of, key_of, key_cmp};
@@ -61,7 +62,8 @@ impl ContextFinder {
         requires up { IsTrue (rises key_cmp (map key_of (map at_of spots.now))) }
         ensures within { IfSome result (λ i. i < length spots.now) }
         ensures some { IfSome result (HoldsAt (λ s. key_of (at_of s) ≡ (piece, before.now)) spots.now) }
-        ensures none { IfNone result ((x : At) → Contains (map at_of spots.now) x → key_of x ≡ (piece, before.now) → ⊥) }
+        ensures none { IfNone result
+            ((x : At) → Contains (map at_of spots.now) x → key_of x ≡ (piece, before.now) → ⊥) }
     {
         match self.find_alone(piece, before) {
             Some(place) => Some(place),

@@ -58,8 +58,8 @@ pub fn least<M: World, P: Profile, B: LendsBlocks>(
 /// A legal drive of least cost from node a to node b, also where they are the same, or why there is none. The blocks
 /// are those of the world under the profile.
 ///
-/// Of n contexts and arcs that the search comes to, each takes the logarithm of n at most, and each context a look-up in
-/// the blocks. The rest of the map takes nothing.
+/// Of n contexts and arcs that the search comes to, each takes the logarithm of n at most, and each context a look-up
+/// in the blocks. The rest of the map takes nothing.
 pub fn shortest<M: World, P: Profile, B: LendsBlocks>(
     alloc: Global,
     world: &M,

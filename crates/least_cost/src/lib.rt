@@ -11,9 +11,9 @@
 //! (`trails`). `least` takes some passes over all contexts besides, for a number at each (`numbers`), and for each that
 //! the search came to a look-up among them.
 //!
-//! `check` knows no search: it takes some passes over contexts and one over arcs (`conditions`), each arc with a look-up
-//! of its target, and the time to judge the route. A look-up by names takes a few steps where the numbers of ways are
-//! spread evenly, and at most the time of a search among all contexts (`context_finder`).
+//! `check` knows no search: it takes some passes over contexts and one over arcs (`conditions`), each arc with a
+//! look-up of its target, and the time to judge the route. A look-up by names takes a few steps where the numbers of
+//! ways are spread evenly, and at most the time of a search among all contexts (`context_finder`).
 //!
 //! A step's cost needs a quotient and a whole root. Each is guessed in floating point and checked by multiplications,
 //! and found without floats where the guess isn't it (`costs`).

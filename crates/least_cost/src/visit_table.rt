@@ -46,8 +46,9 @@ pub enum Sought {
 ///
 /// Each context has a mark, which is mixed from its names, and the mark a bucket of eight slots, one of which holds the
 /// place. At most half of all slots are taken: then the buckets are doubled, and each becomes two. Contexts for which
-/// their bucket has no room, and all but the first of those that share a mark, are in an ordered map apart. So a look-up
-/// mostly takes the time of one bucket, and never more than the logarithm of their number, whatever names are chosen.
+/// their bucket has no room, and all but the first of those that share a mark, are in an ordered map apart. So a
+/// look-up mostly takes the time of one bucket, and never more than the logarithm of their number, whatever names are
+/// chosen.
 #[derive(Drop)]
 pub struct VisitTable<'a> {
     slots: Vec<Slot>,

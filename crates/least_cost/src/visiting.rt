@@ -1,5 +1,6 @@
 //! The contexts that a search by cost has come to.
-ghost use Rattle.std.specs.Prelude.{◌≡◌, ◌↔◌, ◌<◌, ◌∷◌, [], ℕ, List, length, IfOk, OnOk, IfSome, IfNone, Some, IsTrue, slice_get};
+ghost use Rattle.std.specs.Prelude.{◌≡◌, ◌↔◌, ◌<◌, ◌∷◌, [], ℕ, List, length, IfOk, OnOk, IfSome, IfNone};
+ghost use Rattle.std.specs.Prelude.{Some, IsTrue, slice_get};
 ghost use Rattle.std.specs.List.Sorted.{IsPermutation};
 ghost use Rattle.context_search.specs.Marks.{at_of, key_of};
 ghost use Rattle.least_cost.specs.CostVisits.{IsOffered, IsVisitedAt, IsBettered, StandsAs, ContextNames, names_at};
