@@ -158,22 +158,26 @@ def keep_tags(found, way, line, where):
 
 
 def print_counts(graph):
-    """How many ways, pieces, contexts and arcs the graph has."""
-    print(f'ways {len(graph.ways)} pieces {len(graph.keys)} contexts {len(graph.contexts_at)} arcs {graph.arcs}')
+    """How many ways, pieces, contexts and arcs the graph has, and how many of the pieces are marked, if any are."""
+    counts = f'ways {len(graph.ways)} pieces {len(graph.keys)} contexts {len(graph.contexts_at)} arcs {graph.arcs}'
+    print(counts, *['marked', sum(graph.marks)] if any(graph.marks) else [])
 
 
 def print_text(network):
-    """A line for each piece with its nodes, for each of its contexts, and for each of their arcs.
+    """A line for each piece with its nodes, for each of its contexts, and for each of their arcs and sources.
 
-    10.0+ is the piece that begins along way 10 at its position 0, and 10.0- the one against the way that ends there.
+    10.0+ is the piece that begins along way 10 at its position 0, and 10.0- the one against the way that ends there. A
+    piece is marked where its direction is open to destination traffic alone.
     """
     for piece in range(len(network.keys)):
-        lines = [f'piece {spelled(network, piece)} over']
+        lines = [f'piece {spelled(network, piece)} {"marked " if network.marks[piece] else ""}over']
         lines[0] += ''.join([f' {node}' for node, _, _ in network.places(piece)])
         for context in network.contexts(piece):
             lines.append('  context ' + spelled(network, *network.pieces(context)))
             for target in network.arcs_of(context):
                 lines.append('    arc to ' + spelled(network, *network.pieces(target)))
+            for origin in network.sources_of(context):
+                lines.append('    source ' + spelled(network, *network.pieces(origin)))
         print('\n'.join(lines))
 
 
@@ -196,6 +200,8 @@ def print_geojson(graph, options):
             'from_node': places[0][0], 'to_node': places[-1][0],
             'contexts': len(graph.contexts(piece)), 'arcs': arcs, 'metres': round(metres(places), 3),
         }
+        if graph.marks[piece]:
+            properties['marked'] = True
         properties.update((key, value) for key, value in zip(KEYS, tags.get(way, ())) if value)
         line = ', '.join([f'[{lon / 1e7}, {lat / 1e7}]' for _, lon, lat in places])
         print(f'{between}{{"type": "Feature", "properties": {json.dumps(properties)}, '
@@ -265,28 +271,55 @@ def write_csv(network, options, folder):
 # ----------------------------------------------------------------------------------------------------------------- diff
 
 
-def shape(graph, block):
-    """The names of the pieces of a way, and their places."""
-    pieces = range(graph.first_pieces[block], graph.first_pieces[block + 1])
-    return [(graph.keys[piece], graph.ends[piece]) for piece in pieces], [graph.places(piece) for piece in pieces]
+def pieces_of(graph, block):
+    return range(graph.first_pieces[block], graph.first_pieces[block + 1])
+
+
+def names_and_ends(graph, block):
+    return [(graph.keys[piece], graph.ends[piece]) for piece in pieces_of(graph, block)]
+
+
+def places_of(graph, block):
+    return [graph.places(piece) for piece in pieces_of(graph, block)]
+
+
+def arcs_of(graph, block):
+    """The contexts of a way with their arcs, as they are spelled."""
+    contexts = range(graph.first_contexts[graph.first_pieces[block]],
+                     graph.first_contexts[graph.first_pieces[block + 1]])
+    return [graph.data[graph.contexts_at[at]:graph.sources_at[at]] for at in contexts]
+
+
+def marks_of(graph, block):
+    return [graph.marks[piece] for piece in pieces_of(graph, block)]
+
+
+def bytes_of_block(graph, block):
+    return graph.data[graph.blocks[block]:graph.blocks[block + 1]]
 
 
 def altered(old, new, block, other):
-    """What differs first between a way's blocks in two graphs, or nothing."""
-    was, now = [graph.data[graph.blocks[at]:graph.blocks[at + 1]] for graph, at in ((old, block), (new, other))]
-    if was == now:
-        return None
-    (pieces, places), (other_pieces, other_places) = shape(old, block), shape(new, other)
-    return 'pieces' if pieces != other_pieces else 'places' if places != other_places else 'turns'
+    """What differs first between a way's blocks in two graphs, or nothing. A graph of version 1 says nothing of marks
+    and sources."""
+    looks = [('pieces', names_and_ends), ('places', places_of), ('turns', arcs_of)]
+    if old.version == new.version:
+        if bytes_of_block(old, block) == bytes_of_block(new, other):
+            return None
+        looks += [('marks', marks_of), ('sources', bytes_of_block)]
+    return next((what for what, look in looks if look(old, block) != look(new, other)), None)
 
 
 def print_diff(old, new):
     """Which ways are gone, new and altered from one graph to another, and how many.
 
     A line for each, in the order of their numbers. Of an altered way it is said what differs first: where its pieces
-    begin and end (`pieces`), their nodes and locations (`places`), or which piece may follow which (`turns`). Graphs of
-    two profiles are told so in a line before all others. The status is 0 also where there is nothing to say.
+    begin and end (`pieces`), their nodes and locations (`places`), which piece may follow which (`turns`), which of
+    them are marked (`marks`), or from where one comes to them (`sources`). Graphs of two versions or two profiles are
+    told so in lines before all others; of two versions neither marks nor sources are compared. The status is 0 also
+    where there is nothing to say.
     """
+    if old.version != new.version:
+        print(f'version {old.version} and then {new.version}')
     if old.profile != new.profile:
         print(f'profile {old.profile} and then {new.profile}')
     counts = {'gone': 0, 'new': 0, 'altered': 0, 'as before': 0}
@@ -541,58 +574,128 @@ def ends_of_drive(graph, word):
     return found, f'node {node}'
 
 
+class Frontier:
+    """How far contexts are from one end of a drive: from there, or to there. Each has the context from which it was
+    come upon, and those that may yet lead on wait."""
+
+    def __init__(self, count):
+        self.best, self.came = array('d', [math.inf]) * count, array('q', [-1]) * count
+        self.waiting = []
+
+    def offer(self, length, context, by):
+        """A context at this length, come upon by another one. Whether that is the best so far."""
+        if length >= self.best[context]:
+            return False
+        self.best[context], self.came[context] = length, by
+        heapq.heappush(self.waiting, (length, context))
+        return True
+
+    def least(self):
+        """No context that waits has less."""
+        return self.waiting[0][0] if self.waiting else math.inf
+
+    def take(self):
+        """The context with the least length; None where it was come upon for less since."""
+        length, context = heapq.heappop(self.waiting)
+        return context if length == self.best[context] else None
+
+
 class Search:
     """Dijkstra's algorithm with contexts in the place of nodes: a context tells all that restrictions ask of the drive
-    so far. A walk begins at a context of one piece. A drive may begin and end inside a piece."""
+    so far. A walk begins at a context of one piece. A drive may begin and end inside a piece. In a graph of version 2
+    the search goes from both ends, by arcs ahead and by sources behind; without sources it goes ahead alone."""
 
     def __init__(self, network, starts, goals, still):
         self.network, self.goals = network, goals
         self.lengths = array('d', [-1.0]) * len(network.keys)
-        self.best, self.came = array('d', [math.inf]) * len(network.owners), array('q', [-1]) * len(network.owners)
-        self.queue = []
-        self.length, self.end = math.inf, None      # of the shortest drive that was found, and its last context
+        self.ahead, self.behind = Frontier(len(network.owners)), Frontier(len(network.owners))
+        # the length of the shortest drive that was found, the last context that `ahead` tells of it, and, where that
+        # isn't told by `behind`, the context inside which it ends, and where
+        self.length, self.found = math.inf, None
         self.starts = {piece: at[0] for piece, at in starts.items() if at[0] < network.last(piece)}
         for piece, first in self.starts.items():
             self.go_on(0.0, network.first_contexts[piece], -1, first, still)
+        if network.version == 2:
+            for piece in goals:
+                self.come_to(piece)
 
     def whole(self, piece):
         if self.lengths[piece] < 0:
             self.lengths[piece] = metres(self.network.places(piece))
         return self.lengths[piece]
 
+    def goal_behind(self, piece, first, still=False):
+        """The first goal on a piece behind a position, or at it where a drive may end where it begins; or None."""
+        return next((goal for goal in self.goals.get(piece, ()) if goal > first or still and goal == first), None)
+
     def go_on(self, length, context, before, first, still=False):
         """A drive of this length so far goes on from a position of a context's piece, to a goal and to the piece's end.
         Whether a goal may lie where the drive begins is said by `still`."""
         piece = self.network.owners[context]
-        for goal in self.goals.get(piece, ()):
-            if goal > first or still and goal == first:
-                end = length + metres(cut(self.network.places(piece), first, goal))
-                if end < self.length:
-                    self.length, self.end = end, (context, before, goal)
-                break
+        goal = self.goal_behind(piece, first, still)
+        if goal is not None:
+            self.keep(length + metres(cut(self.network.places(piece), first, goal)), before, context, goal)
         rest = metres(cut(self.network.places(piece), first, self.network.last(piece))) if first else self.whole(piece)
-        if length + rest < self.best[context]:
-            self.best[context], self.came[context] = length + rest, before
-            heapq.heappush(self.queue, (length + rest, context))
+        if self.ahead.offer(length + rest, context, before):
+            self.keep(length + rest + self.behind.best[context], context)
+
+    def keep(self, length, before, context=-1, goal=None):
+        if length < self.length:
+            self.length, self.found = length, (before, context, goal)
+
+    def come_to(self, piece):
+        """The drives that come to a goal of this piece from its beginning."""
+        goal = self.goal_behind(piece, 0)
+        if goal is not None:
+            length = metres(cut(self.network.places(piece), 0, goal))
+            for context in self.network.contexts(piece):
+                self.come_from(length, context, ~context)
+
+    def come_from(self, length, context, by):
+        """The drives of this length that begin with a context, and the sources from which they may come."""
+        for origin in self.network.sources_of(context):
+            if self.behind.offer(length, origin, by):
+                self.keep(self.ahead.best[origin] + length, origin)
+
+    def step_ahead(self):
+        context = self.ahead.take()
+        if context is not None:
+            for target in self.network.arcs_of(context):
+                self.go_on(self.ahead.best[context], target, context, 0)
+
+    def step_behind(self):
+        context = self.behind.take()
+        if context is not None:
+            length = self.behind.best[context] + self.whole(self.network.owners[context])
+            self.come_from(length, context, context)
 
     def run(self):
         """The shortest drive: each piece with the positions between which it is driven. None where there is none."""
-        while self.queue and self.queue[0][0] < self.length:
-            length, context = heapq.heappop(self.queue)
-            if length == self.best[context]:
-                for target in self.network.arcs_of(context):
-                    self.go_on(length, target, context, 0)
-        if self.end is None:
-            return None
-        context, before, last = self.end
-        walk = []
-        while True:
-            piece = self.network.owners[context]
-            walk.append((piece, self.starts[piece] if before < 0 else 0, last))
-            if before < 0:
-                return walk[::-1]
-            context, before = before, self.came[before]
-            last = self.network.last(self.network.owners[context])
+        both = self.network.version == 2
+        while self.ahead.least() + (self.behind.least() if both else 0) < self.length:
+            if both and self.behind.least() < self.ahead.least():
+                self.step_behind()
+            else:
+                self.step_ahead()
+        return self.walk() if self.found else None
+
+    def walk(self):
+        before, context, goal = self.found
+        contexts, at = [], before
+        while at >= 0:
+            contexts.append(at)
+            at = self.ahead.came[at]
+        contexts.reverse()
+        while context < 0:
+            by = self.behind.came[contexts[-1]]
+            if by < 0:          # the drive ends inside this one
+                context, goal = ~by, self.goal_behind(self.network.owners[~by], 0)
+            else:
+                contexts.append(by)
+        pieces = [self.network.owners[at] for at in contexts + [context]]
+        firsts = [self.starts[pieces[0]]] + [0] * (len(pieces) - 1)
+        lasts = [self.network.last(piece) for piece in pieces[:-1]] + [goal]
+        return list(zip(pieces, firsts, lasts))
 
 
 def print_route(network, start, goal):
@@ -606,9 +709,9 @@ def print_route(network, start, goal):
     walk = search.run()
     if walk is None:
         raise Refusal(f'no drive leads from {from_there} to {to_there}'.rstrip(','))
-    print(f'{search.length:.0f} m from {from_there} to {to_there}'.rstrip(','))
-    for piece, first, last in walk:
-        part = cut(network.places(piece), first, last)
+    parts = [cut(network.places(piece), first, last) for piece, first, last in walk]
+    print(f'{sum(map(metres, parts)):.0f} m from {from_there} to {to_there}'.rstrip(','))
+    for (piece, _, _), part in zip(walk, parts):
         print('piece', spelled(network, piece), 'over', *[degrees(at) if at[0] is None else at[0] for at in part])
 
 

@@ -1,8 +1,9 @@
 """Reads a graph that osmroad wrote, by its written format alone (docs/FORMATS.md), and needs nothing but Python.
 
-The bytes stay as they were read, and beside them stand arrays of numbers: ways, pieces, contexts and arcs are known by
-their numbers, counted from 0 in the order of the file. A graph in the grammar is read as a Graph, and one whose arcs
-are to be followed as a Network. Nothing here takes more than some bytes for each byte of the graph.
+It reads both versions of graph files. The bytes stay as they were read, and beside them stand arrays of numbers: ways,
+pieces, contexts, arcs and sources are known by their numbers, counted from 0 in the order of the file. A graph in the
+grammar is read as a Graph, and one whose arcs and sources are to be followed as a Network. Nothing here takes more than
+some bytes for each byte of the graph.
 """
 import struct
 import sys
@@ -16,8 +17,9 @@ class Refusal(Exception):
 
 HEAD, BLOCK, PIECE = struct.Struct('<8sIQ'), struct.Struct('<qI'), struct.Struct('<IIB')
 PLACE, NAME, ARC = struct.Struct('<qii'), struct.Struct('<qIB'), struct.Struct('<qIBI')
-LENGTH, COUNT = struct.Struct('<I'), struct.Struct('<Q')
+MARK, LENGTH, COUNT = struct.Struct('<B'), struct.Struct('<I'), struct.Struct('<Q')
 PROFILES = (1, 2)
+VERSIONS = {b'OSMROAD1': 1, b'OSMROAD2': 2}     # the second one has marks and sources
 
 
 class Reader:
@@ -49,13 +51,20 @@ class Reader:
         return form.iter_unpack(self.data[at:self.at])
 
     def context(self):
-        """The names of the next context but its last, and its arcs."""
+        """The names of the next context but its last, and its arcs; its sources stand behind these."""
         (length,) = self.one(LENGTH)
         if length == 0:
             self.need(False, 'a context without pieces')
         names = tuple(self.many(NAME, length - 1)) if length > 1 else ()
         (count,) = self.one(COUNT)
         return names, self.many(ARC, count)
+
+    def sources(self):
+        """The next sources, each as the names of all its pieces."""
+        (count,) = self.one(COUNT)
+        for _ in range(count):
+            (length,) = self.one(LENGTH)
+            yield tuple(self.many(NAME, length))
 
 
 def check_arcs(reader, arcs, longest):
@@ -72,17 +81,36 @@ def check_arcs(reader, arcs, longest):
     return count
 
 
+def check_sources(reader, sources, shortest):
+    """How many sources these are. They must ascend by length and names, and have at least so many pieces."""
+    before, count = (0,), 0
+    for names in sources:
+        if len(names) < shortest:
+            reader.need(False, 'a source too short')
+        key = (len(names), names)
+        if not before < key:
+            reader.need(False, 'sources out of order')
+        if max(direction for _, _, direction in names) > 1:
+            reader.need(False, 'no such direction')
+        before = key
+        count += 1
+    return count
+
+
 class Graph:
     """A graph file as arrays. What begins at a number of an array whose name begins with `first_` ends where the next
-    one begins, and such an array has one number more for the end of the last. The number of its profile is `profile`.
+    one begins, and such an array has one number more for the end of the last. The numbers of its version and of its
+    profile are `version` and `profile`. In a file of version 1 nothing is marked, and no context has sources.
     """
 
     def __init__(self, data):
         self.data = data
         self.ways, self.first_pieces, self.blocks = array('q'), array('I'), array('Q')
         self.piece_ways, self.keys, self.ends, self.places_at = array('q'), array('I'), array('H'), array('Q')
+        self.marks = array('B')
         self.first_contexts, self.contexts_at, self.first_arcs = array('I'), array('Q'), array('I')
-        self.arcs = 0
+        self.sources_at, self.first_sources = array('Q'), array('I')
+        self.arcs = self.sources = 0
         reader = Reader(data)
         try:
             self.read(reader)
@@ -91,9 +119,11 @@ class Graph:
         self.first_pieces.append(len(self.keys))
         self.first_contexts.append(len(self.contexts_at))
         self.first_arcs.append(self.arcs)
+        self.first_sources.append(self.sources)
 
     def read(self, reader):
-        reader.need(self.data[:8] == b'OSMROAD1', 'no OSMROAD1')
+        self.version = VERSIONS.get(bytes(self.data[:8]), 0)
+        reader.need(self.version, 'neither OSMROAD1 nor OSMROAD2')
         _, self.profile, blocks = reader.one(HEAD)
         reader.need(self.profile in PROFILES, 'an unknown profile')
         for _ in range(blocks):
@@ -116,6 +146,8 @@ class Graph:
         self.piece_ways.append(way)
         self.keys.append(2 * index + direction)
         self.ends.append(end)
+        self.marks.append(reader.one(MARK)[0] if self.version == 2 else 0)
+        reader.need(self.marks[-1] < 2, 'no such mark')
         self.places_at.append(reader.skip(PLACE.size * (end - index + 1)))
         west, south, east, north = self.box(len(self.keys) - 1)
         if west < -1800000000 or east > 1800000000 or south < -900000000 or north > 900000000:
@@ -138,6 +170,10 @@ class Graph:
         if names and max(direction for _, _, direction in names) > 1:
             reader.need(False, 'no such direction')
         self.arcs += check_arcs(reader, arcs, len(names) + 2)
+        self.sources_at.append(reader.at)
+        self.first_sources.append(self.sources)
+        if self.version == 2:
+            self.sources += check_sources(reader, reader.sources(), max(1, len(names)))
         return key
 
     # a piece, by its number
@@ -201,11 +237,12 @@ class Graph:
 
 
 class Network(Graph):
-    """A graph whose contexts are known by the numbers of their pieces, and arcs by the contexts to which they lead."""
+    """A graph whose contexts are known by the numbers of their pieces, arcs by the contexts to which they lead, and
+    sources by their contexts. In a file of version 2 the sources must be the arcs seen from behind."""
 
     def __init__(self, data):
         super().__init__(data)
-        self.owners, self.targets = array('I'), array('I')
+        self.owners, self.targets, self.origins = array('I'), array('I'), array('I')
         for piece in range(len(self.keys)):
             self.owners.extend([piece] * len(self.contexts(piece)))
         # the pieces of the contexts of several pieces, and the numbers of these contexts by their pieces
@@ -222,15 +259,36 @@ class Network(Graph):
             reader.at = at
             _, arcs = reader.context()
             self.targets.extend(self.leads(reader, self.pieces(context), arcs))
+        if self.version == 2:
+            self.read_origins(reader)
+
+    def read_origins(self, reader):
+        """The contexts that are sources. Arcs ascend by the pieces to which they lead: so whoever goes over all
+        contexts in order meets as a source of each exactly those of which it is the next target."""
+        following = self.first_arcs[:-1]
+        for context, at in enumerate(self.sources_at):
+            reader.at = at
+            for names in reader.sources():
+                origin = self.find_context([self.find(*name) for name in names])
+                reader.need(origin >= 0, 'a source that is not there')
+                arc = following[origin]
+                reader.need(arc < self.first_arcs[origin + 1] and self.targets[arc] == context,
+                            'a source without an arc, or an arc without a source')
+                following[origin] += 1
+                self.origins.append(origin)
+        reader.need(following == self.first_arcs[1:], 'an arc without a source')
+
+    def find_context(self, pieces):
+        """The context of these pieces, or -1."""
+        if min(pieces) < 0 or len(pieces) > 1:
+            return self.by_pieces.get(tuple(pieces), -1)
+        return self.first_contexts[pieces[0]]
 
     def leads(self, reader, pieces, arcs):
         """The contexts to which the arcs of a context of these pieces lead."""
         for way, index, direction, length in arcs:
-            piece = target = self.find(way, index, direction)
-            if piece >= 0 and length == 1:
-                target = self.first_contexts[piece]
-            elif piece >= 0:
-                target = self.by_pieces.get(pieces[1 - length:] + (piece,), -1)
+            before = pieces[1 - length:] if length > 1 else ()
+            target = self.find_context(before + (self.find(way, index, direction),))
             reader.need(target >= 0, 'an arc to a piece or a context that is not there')
             yield target
 
@@ -241,6 +299,10 @@ class Network(Graph):
     def arcs_of(self, context):
         """The contexts to which the arcs of a context lead, in the order of the arcs."""
         return self.targets[self.first_arcs[context]:self.first_arcs[context + 1]]
+
+    def sources_of(self, context):
+        """The contexts that are the sources of a context, in their order; none in a file of version 1."""
+        return self.origins[self.first_sources[context]:self.first_sources[context + 1]]
 
 
 def spelled(graph, *pieces):

@@ -48,7 +48,9 @@ class Graph {
     this.buffer = buffer;
     this.bytes = new DataView(buffer);
     const magic = String.fromCharCode(...new Uint8Array(buffer, 0, Math.min(8, buffer.byteLength)));
-    if (magic !== 'OSMROAD1' || this.bytes.getUint32(8, true) !== 1) throw new Error('the bytes are no graph');
+    if (magic !== 'OSMROAD1' && magic !== 'OSMROAD2') throw new Error('the bytes are no graph');
+    this.sourced = magic === 'OSMROAD2';        // then pieces have marks, and contexts sources
+    this.head = this.sourced ? 10 : 9;          // bytes of a piece before its places
     try {
       this.readBlocks(this.count(12));
     } catch (error) {
@@ -71,7 +73,7 @@ class Graph {
       for (let piece = 0; piece < pieces; piece++) {
         table.pieces.push(at);
         table.owners.push(block);
-        at += 9 + RECORD * (this.bytes.getUint32(at + 4, true) - this.bytes.getUint32(at, true) + 1);
+        at += this.head + RECORD * (this.bytes.getUint32(at + 4, true) - this.bytes.getUint32(at, true) + 1);
         table.contexts.push(at);
         at = this.behindContexts(at);
       }
@@ -94,7 +96,17 @@ class Graph {
     for (; contexts > 0; contexts--) {
       at += 4 + NAME * (this.bytes.getUint32(at, true) - 1);
       at += 8 + ARC * this.count(at);
+      at = this.behindSources(at);
     }
+    return at;
+  }
+
+  /** The byte behind the sources of a context, if a file has them. */
+  behindSources(at) {
+    if (!this.sourced) return at;
+    let sources = this.count(at);
+    at += 8;
+    for (; sources > 0; sources--) at += 4 + NAME * this.bytes.getUint32(at, true);
     return at;
   }
 
@@ -103,7 +115,7 @@ class Graph {
   end(piece) { return this.bytes.getUint32(this.pieceAt[piece] + 4, true); }
   direction(piece) { return this.bytes.getUint8(this.pieceAt[piece] + 8); }
   places(piece) { return this.end(piece) - this.index(piece) + 1; }
-  placeAt(piece, place) { return this.pieceAt[piece] + 9 + RECORD * place; }
+  placeAt(piece, place) { return this.pieceAt[piece] + this.head + RECORD * place; }
   lon(piece, place) { return this.bytes.getInt32(this.placeAt(piece, place) + 8, true); }
   lat(piece, place) { return this.bytes.getInt32(this.placeAt(piece, place) + 12, true); }
   node(piece, place) { return this.bytes.getBigInt64(this.placeAt(piece, place), true); }
@@ -173,6 +185,7 @@ class Graph {
       }
       at += 12;
       for (let names = this.count(at - 8); names > 0; names--, at += ARC) arcs.push(this.pieceNamed(at));
+      at = this.behindSources(at);
       contexts.push({ before, arcs });
     }
     return contexts;
