@@ -1,7 +1,8 @@
 #!/usr/bin/env python3
 """Tries graphs at a moment: on the drawn maps of bench/try_routes.py, whose ways get conditional access keys with drawn
 values, in form and out of it, `osmroad NAME graph MOMENT` must give the bytes that `osmroad - compile` gives of the map
-as bench/at_moment.py writes it for that moment; and so of a file, if one is named.
+as bench/at_moment.py writes it for that moment; and so of a file, if one is named. Then the store is raised, and the
+same holds of `osmroad - compile 2`, with the marks of that moment.
 
 Use: try_moments.py PROGRAM [MAPS [FIRST [FILE.opl]]], with 200 maps where left out, of the seeds from FIRST on. It
 prints how many graphs were compared and how many differ from the one without a moment; its status is 1 where one isn't
@@ -65,12 +66,16 @@ def compare(program, lines, moments):
     with tempfile.TemporaryDirectory() as room:
         store = os.path.join(room, 'store')
         output([program, store, 'create', '1'], lines)
-        plain, wrong, others = output([program, '-', 'compile'], lines), [], 0
-        for moment in moments:
-            then = output([sys.executable, os.path.join(HERE, 'at_moment.py'), moment], lines)
-            graph = output([program, store, 'graph', moment], b'')
-            wrong += [moment] if graph != output([program, '-', 'compile'], then) else []
-            others += graph != plain
+        thens = {moment: output([sys.executable, os.path.join(HERE, 'at_moment.py'), moment], lines)
+                 for moment in moments}
+        wrong, others = [], 0
+        for profile in [], ['2']:
+            plain = output([program, '-', 'compile', *profile], lines)
+            for moment, then in thens.items():
+                graph = output([program, store, 'graph', moment], b'')
+                wrong += [moment] if graph != output([program, '-', 'compile', *profile], then) else []
+                others += graph != plain
+            output([program, store, 'raise'], b'')
         return wrong, others
 
 
@@ -85,7 +90,7 @@ def main(program, maps=200, first=0, file=None):
         else:
             lines = with_conditions(drawn_map(seed)[0], draw)
         wrong, others = compare(program, lines, [drawn_moment(draw) for _ in range(5)])
-        compared, altered = compared + 5, altered + others
+        compared, altered = compared + 10, altered + others
         if wrong:
             print(f'{name} at {wrong[0]}: another graph than that of the map at this moment')
             return 1

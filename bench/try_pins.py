@@ -372,4 +372,5 @@ def main(program, maps=3, first=0, length=5):
     return 0
 
 
-sys.exit(main(*sys.argv[1:]))
+if __name__ == '__main__':
+    sys.exit(main(*sys.argv[1:]))
