@@ -35,6 +35,3 @@ pub use memory_source::MemorySource;
 pub use outside::{Failed, Site, Source, Which};
 pub use parts::{behind, front};
 pub use real::{RealSite, RealSource};
-
-#[cfg(test)]
-mod steps;

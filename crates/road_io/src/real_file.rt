@@ -176,23 +176,3 @@ fn folder_of(name: &str) -> &str {
         None => ".",
     }
 }
-
-#[cfg(test)]
-mod tests {
-    use super::*;
-
-    const FOLDERS: [(&str, &str); 5] = [
-        ("map.a", "."),
-        ("maps/map.a", "maps"),
-        ("/srv/maps/map.a", "/srv/maps"),
-        ("/map.a", "/"),
-        ("../map.a", ".."),
-    ];
-
-    #[test]
-    fn folders(rt: HostRuntime) {
-        for (name, folder) in FOLDERS {
-            assert_eq!(rt; folder_of(name), folder);
-        }
-    }
-}
