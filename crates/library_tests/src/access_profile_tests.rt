@@ -403,7 +403,8 @@ const KINDS: [(&str, RuleKind); 16] = [
 
 /// The kind of a restriction with these tags.
 fn kind_of(alloc: Global, of: &str) -> Result<RuleKind, Fail> {
-    Ok(Motorcar.rule(&tags(alloc, of)?))
+    let tags = tags(alloc, of)?;
+    Ok(Motorcar.rule(&tags))
 }
 
 #[test]
@@ -446,7 +447,8 @@ fn excepted(alloc: Global, value: &str) -> Result<Tags, Fail> {
 
 /// The kind of a restriction with that exception.
 fn kind_beside(alloc: Global, value: &str) -> Result<RuleKind, Fail> {
-    Ok(Motorcar.rule(&excepted(alloc, value)?))
+    let tags = excepted(alloc, value)?;
+    Ok(Motorcar.rule(&tags))
 }
 
 #[test]

@@ -2,7 +2,6 @@
 use crate::makers::tags;
 use barrier_rules::barrier_open;
 use std::alloc::Global;
-use std::process::Abort;
 use std::test::Fail;
 
 const OPEN: [&str; 10] = [
@@ -35,6 +34,12 @@ const SHUT: [&str; 14] = [
     "gate;bollard",
 ];
 
+/// Whether one may pass by these tags.
+fn is_passable(alloc: Global, of: &str) -> Result<bool, Fail> {
+    let tags = tags(alloc, of)?;
+    Ok(barrier_open(&tags))
+}
+
 /// The first of these kinds of barriers that doesn't answer so beside the tags.
 fn first_other<'a>(
     alloc: Global,
@@ -44,30 +49,18 @@ fn first_other<'a>(
 ) -> Result<Option<&'a str>, Fail> {
     for kind in kinds {
         let of = format!(in alloc; "barrier={kind} {rest}")?;
-        if barrier_open(&tags(alloc, &of)?) != open {
+        if is_passable(alloc, &of)? != open {
             return Ok(Some(*kind));
         }
     }
     Ok(None)
 }
 
-/// All of these kinds of barriers answer so beside the tags.
-fn check_kinds(
-    rt: &impl Abort,
-    alloc: Global,
-    kinds: &[&str],
-    rest: &str,
-    open: bool,
-) -> Result<(), Fail> {
-    let other = first_other(alloc, kinds, rest, open)?;
-    assert_eq!(rt; other, None, "at {rest:?}");
-    Ok(())
-}
-
-/// One may pass by these tags.
-fn check_passable(rt: &impl Abort, alloc: Global, of: &str) -> Result<(), Fail> {
-    assert!(rt; barrier_open(&tags(alloc, of)?), "at {of:?}");
-    Ok(())
+/// Whether the barriers that are open without a key answer so beside the tags, and so those that are shut.
+fn answer(alloc: Global, rest: &str, open: bool, shut: bool) -> Result<bool, Fail> {
+    let first_open = first_other(alloc, &OPEN, rest, open)?;
+    let first_shut = first_other(alloc, &SHUT, rest, shut)?;
+    Ok(first_open.is_none() && first_shut.is_none())
 }
 
 /// Tags that decide nothing.
@@ -79,17 +72,29 @@ const RESTS: [&str; 5] = [
     "motor_vehicle:lanes=yes",
 ];
 
+/// Whether the tags decide nothing, at barriers and elsewhere.
+fn decide_nothing(alloc: Global, rest: &str) -> Result<bool, Fail> {
+    let bare = format!(in alloc; "highway=crossing {rest}")?;
+    Ok(is_passable(alloc, &bare)? && answer(alloc, rest, true, false)?)
+}
+
+/// The first of the tags that decides anything.
+fn first_deciding(alloc: Global) -> Result<Option<&'static str>, Fail> {
+    for rest in RESTS {
+        if !decide_nothing(alloc, rest)? {
+            return Ok(Some(rest));
+        }
+    }
+    Ok(None)
+}
+
 #[test]
 fn barriers_decide_without_a_key(rt: HostRuntime) -> Result<(), Fail> {
-    for rest in RESTS {
-        let bare = format!(in rt.alloc(); "highway=crossing {rest}")?;
-        check_passable(&rt, rt.alloc(), &bare)?;
-        check_kinds(&rt, rt.alloc(), &OPEN, rest, true)?;
-        check_kinds(&rt, rt.alloc(), &SHUT, rest, false)?;
-    }
+    assert_eq!(rt; first_deciding(rt.alloc())?, None);
     Ok(())
 }
 
+/// Tags, and whether one may pass a barrier by them.
 const KEYS: [(&str, bool); 20] = [
     ("motorcar=yes", true),
     ("motor_vehicle=permissive", true),
@@ -113,12 +118,23 @@ const KEYS: [(&str, bool); 20] = [
     ("motor_vehicle=yes motorcar=", false),
 ];
 
+/// Whether the tags decide so at each barrier, and nothing elsewhere.
+fn decide(alloc: Global, keys: &str, open: bool) -> Result<bool, Fail> {
+    Ok(is_passable(alloc, keys)? && answer(alloc, keys, open, open)?)
+}
+
+/// The first of the tags that decides otherwise.
+fn first_undecided(alloc: Global) -> Result<Option<&'static str>, Fail> {
+    for (keys, open) in KEYS {
+        if !decide(alloc, keys, open)? {
+            return Ok(Some(keys));
+        }
+    }
+    Ok(None)
+}
+
 #[test]
 fn first_key_decides_at_a_barrier(rt: HostRuntime) -> Result<(), Fail> {
-    for (keys, open) in KEYS {
-        check_kinds(&rt, rt.alloc(), &OPEN, keys, open)?;
-        check_kinds(&rt, rt.alloc(), &SHUT, keys, open)?;
-        check_passable(&rt, rt.alloc(), keys)?;
-    }
+    assert_eq!(rt; first_undecided(rt.alloc())?, None);
     Ok(())
 }

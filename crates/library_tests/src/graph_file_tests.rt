@@ -9,7 +9,6 @@ use road_model::{
     Sources, TurnArc,
 };
 use std::alloc::Global;
-use std::process::Abort;
 use std::test::Fail;
 
 /// Way 10 over the nodes 1, 2 and 3, which may be driven both ways and turned on at both ends.
@@ -325,7 +324,8 @@ fn with_byte(alloc: Global, bytes: &[u8], at: usize, byte: u8) -> Result<Vec<u8>
 }
 
 fn is_refused(alloc: Global, bytes: &[u8]) -> Result<bool, NoMemory> {
-    Ok(Graph::read(alloc, bytes)?.is_none())
+    let graph = Graph::read(alloc, bytes)?;
+    Ok(graph.is_none())
 }
 
 /// The version and the profile of a graph that is read, and whether it is written as it was.
@@ -608,37 +608,35 @@ const ON: PieceName = PieceName {
     dir: Dir::Forward,
 };
 
-fn check_missing(rt: &impl Abort, graph: &Graph) {
-    for piece in MISSING {
-        assert_eq!(rt; count_of_contexts(graph, piece), None);
-        assert_eq!(rt; first_arc(graph, piece, 0), None);
-        assert_eq!(rt; count_of_sources(graph, piece, 0), None);
-    }
+fn is_missing(graph: &Graph, piece: PieceName) -> bool {
+    count_of_contexts(graph, piece).is_none()
+        && first_arc(graph, piece, 0).is_none()
+        && count_of_sources(graph, piece, 0).is_none()
 }
 
-/// What the graph of the way that is driven both ways has.
-fn check_there_and_back(rt: &impl Abort, graph: &Graph) {
-    assert_eq!(rt; count_of_contexts(graph, THERE), Some(1));
-    assert_eq!(rt; first_arc(graph, THERE, 0), Some(arc(BACK, 1)));
-    assert_eq!(rt; first_arc(graph, BACK, 0), Some(arc(THERE, 1)));
-    assert_eq!(rt; first_arc(graph, BACK, 1), None);
-    check_missing(rt, graph);
+/// Whether the graph has what that of the way that is driven both ways has, and nothing of pieces that it hasn't.
+fn leads_there_and_back(graph: &Graph) -> bool {
+    count_of_contexts(graph, THERE) == Some(1)
+        && first_arc(graph, THERE, 0) == Some(arc(BACK, 1))
+        && first_arc(graph, BACK, 0) == Some(arc(THERE, 1))
+        && first_arc(graph, BACK, 1).is_none()
+        && MISSING.iter().all(|piece| is_missing(graph, *piece))
 }
 
-/// What the same graph has in version 2.
-fn check_sources(rt: &impl Abort, graph: &Graph) {
-    assert_eq!(rt; count_of_sources(graph, THERE, 0), Some(1));
-    assert_eq!(rt; last_of_first(graph, THERE, 0), Some(BACK));
-    assert_eq!(rt; last_of_first(graph, BACK, 0), Some(THERE));
-    assert_eq!(rt; count_of_sources(graph, BACK, 1), None);
+/// Whether the graph has the sources of the same graph in version 2.
+fn knows_whence(graph: &Graph) -> bool {
+    count_of_sources(graph, THERE, 0) == Some(1)
+        && last_of_first(graph, THERE, 0) == Some(BACK)
+        && last_of_first(graph, BACK, 0) == Some(THERE)
+        && count_of_sources(graph, BACK, 1).is_none()
 }
 
-/// What the graph with the piece of two contexts has.
-fn check_along(rt: &impl Abort, graph: &Graph) {
-    assert_eq!(rt; count_of_contexts(graph, ALONG), Some(2));
-    assert_eq!(rt; first_arc(graph, ALONG, 0), Some(arc(ON, 1)));
-    assert_eq!(rt; first_arc(graph, ALONG, 1), Some(arc(ON, 3)));
-    assert_eq!(rt; first_arc(graph, ALONG, 2), None);
+/// Whether the graph has what that with the piece of two contexts has.
+fn leads_along(graph: &Graph) -> bool {
+    count_of_contexts(graph, ALONG) == Some(2)
+        && first_arc(graph, ALONG, 0) == Some(arc(ON, 1))
+        && first_arc(graph, ALONG, 1) == Some(arc(ON, 3))
+        && first_arc(graph, ALONG, 2).is_none()
 }
 
 /// The graph of a graph file.
@@ -652,11 +650,22 @@ fn graph_of(alloc: Global, bytes: &[u8]) -> Result<Graph, Fail> {
 #[test]
 fn looks_up_what_a_piece_has(rt: HostRuntime) -> Result<(), Fail> {
     let plain = graph_of(rt.alloc(), THERE_AND_BACK)?;
-    assert_eq!(rt; count_of_sources(&plain, THERE, 0), Some(0));
-    check_there_and_back(&rt, &plain);
+    assert!(rt; count_of_sources(&plain, THERE, 0) == Some(0));
+    assert!(rt; leads_there_and_back(&plain));
+    Ok(())
+}
+
+#[test]
+fn looks_up_whence_a_piece_is_reached(rt: HostRuntime) -> Result<(), Fail> {
     let sourced = graph_of(rt.alloc(), SOURCED)?;
-    check_there_and_back(&rt, &sourced);
-    check_sources(&rt, &sourced);
-    check_along(&rt, &graph_of(rt.alloc(), &WITH_A_NAME[1..])?);
+    assert!(rt; leads_there_and_back(&sourced));
+    assert!(rt; knows_whence(&sourced));
+    Ok(())
+}
+
+#[test]
+fn looks_up_what_each_context_has(rt: HostRuntime) -> Result<(), Fail> {
+    let graph = graph_of(rt.alloc(), &WITH_A_NAME[1..])?;
+    assert!(rt; leads_along(&graph));
     Ok(())
 }

@@ -1,9 +1,9 @@
 //! Tests of the libraries that know no world: tables and vectors from outside, and each public call that takes memory
 //! once on its happy path, with ample memory.
 //!
-//! A crate is proved once more with its tests, so those of the libraries stand together here, and those of the
-//! libraries that look at a world in `world_tests`. `road_io` alone has tests of its own, which look into it; whole
-//! runs are tried in `osmroad`. `makers` makes texts, tags and events for them, in the time of what is made.
+//! A crate is proved once more with its tests, so those of the libraries stand together here, those of the libraries
+//! that look at a world in `world_tests`, and those of `road_io` in `road_io_tests`. Whole runs are tried in `osmroad`.
+//! `makers` makes texts, tags and events for them, in the time of what is made.
 #![tactic(auto)]
 
 #[cfg(test)]

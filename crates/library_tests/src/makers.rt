@@ -31,14 +31,32 @@ pub fn tags_of(list: Vec<(Text, Text)>) -> Result<Tags, Fail>
     Ok(Tags::from_list(list))
 }
 
-/// Tags of pairs such as `access=no`, parted by spaces, in any order.
-pub fn tags(alloc: Global, of: &str) -> Result<Tags, Fail> {
+fn add_pair(
+    alloc: Global,
+    list: &mut Vec<(Text, Text)>,
+    key: &str,
+    value: &str,
+) -> Result<(), NoMemory> {
+    let key = text(alloc, key)?;
+    let value = text(alloc, value)?;
+    list.push((key, value))?;
+    Ok(())
+}
+
+/// The pairs such as `access=no`, parted by spaces, in their order.
+fn pairs(alloc: Global, of: &str) -> Result<Vec<(Text, Text)>, NoMemory> {
     let mut list = Vec::new(alloc);
     for pair in of.split(' ') {
         if let Some((key, value)) = pair.split_once('=') {
-            list.push((text(alloc, key)?, text(alloc, value)?))?;
+            add_pair(alloc, &mut list, key, value)?;
         }
     }
+    Ok(list)
+}
+
+/// Tags of pairs such as `access=no`, parted by spaces, in any order.
+pub fn tags(alloc: Global, of: &str) -> Result<Tags, Fail> {
+    let mut list = pairs(alloc, of)?;
     list.sort_by(|a, b| a.0.as_str().cmp(b.0.as_str()))?;
     tags_of(list)
 }

@@ -106,7 +106,8 @@ fn nodes_are_read_whole(rt: HostRuntime) -> Result<(), Fail> {
 fn many_tags(alloc: Global, count: usize) -> Result<String, AllocError> {
     let mut line = String::from_str(alloc, "n1 v1 Tlast=")?;
     for number in 1..count {
-        line.push_str(&format!(in alloc; ",{number}=")?)?;
+        let tag = format!(in alloc; ",{number}=")?;
+        line.push_str(&tag)?;
     }
     Ok(line)
 }

@@ -28,12 +28,14 @@ const EACH_BODY: [&[u8]; 4] = [NODE, WAY, RELATION, b"n1 v1 dD"];
 
 /// A copy of the body of the event.
 fn copied(alloc: Global, line: &[u8]) -> Result<Body, Fail> {
-    Ok(event_of(alloc, line)?.body.copy()?)
+    let event = event_of(alloc, line)?;
+    Ok(event.body.copy()?)
 }
 
 /// A copy of the node's tags.
 fn copied_tags(alloc: Global) -> Result<Tags, Fail> {
-    match &event_of(alloc, NODE)?.body {
+    let event = event_of(alloc, NODE)?;
+    match &event.body {
         Body::Node(node) => Ok(node.tags.copy()?),
         _ => Err(Fail::from("the line spells no node")),
     }
@@ -81,7 +83,8 @@ fn a_key_is_looked_up(rt: HostRuntime) -> Result<(), Fail> {
 
 #[test]
 fn a_node_is_copied(rt: HostRuntime) -> Result<(), Fail> {
-    let copied = event_of(rt.alloc(), NODE)?.copy()?;
+    let event = event_of(rt.alloc(), NODE)?;
+    let copied = event.copy()?;
     assert_eq!(rt; copied.key, Key::Node(NodeId(4)));
     assert_eq!(rt; copied.version, 3);
     assert!(rt; is_at_place(&copied.body));
@@ -155,7 +158,8 @@ const STEPS: [Step; 2] = [
 
 #[test]
 fn a_drive_is_copied(rt: HostRuntime) -> Result<(), Fail> {
-    let copied = Drive::from_list(STEPS.to_vec(rt.alloc())?).copy()?;
+    let drive = Drive::from_list(STEPS.to_vec(rt.alloc())?);
+    let copied = drive.copy()?;
     assert_eq!(rt; copied.items(), STEPS.as_slice());
     Ok(())
 }
@@ -170,7 +174,8 @@ const KEYS: [Key; 3] = [
 #[test]
 fn keys_are_copied(rt: HostRuntime) -> Result<(), Fail> {
     assert!(rt; KEYS[0] < KEYS[1] && KEYS[1] < KEYS[2]);
-    let copied = Keys::from_list(KEYS.to_vec(rt.alloc())?).copy()?;
+    let keys = Keys::from_list(KEYS.to_vec(rt.alloc())?);
+    let copied = keys.copy()?;
     assert_eq!(rt; copied.items(), KEYS.as_slice());
     Ok(())
 }
@@ -179,7 +184,8 @@ const WAYS: [WayId; 2] = [WayId(9), WayId(-9)];
 
 #[test]
 fn ways_are_copied(rt: HostRuntime) -> Result<(), Fail> {
-    let copied = Ways::from_list(WAYS.to_vec(rt.alloc())?).copy()?;
+    let ways = Ways::from_list(WAYS.to_vec(rt.alloc())?);
+    let copied = ways.copy()?;
     assert_eq!(rt; copied.items(), WAYS.as_slice());
     Ok(())
 }

@@ -146,24 +146,35 @@ fn load_a(alloc: Global, site: &mut MemorySite) -> Answer {
     Ok((loaded.journal.kept().0, site.file(Which::A).len()))
 }
 
+/// The same of a new site whose file A has these bytes.
+fn load_of(alloc: Global, file: Vec<u8>) -> Answer {
+    let mut site = site_of(alloc, file, Vec::new(alloc));
+    load_a(alloc, &mut site)
+}
+
 #[test]
 fn files_are_loaded_and_repaired(rt: HostRuntime) -> Result<(), Fail> {
     let alloc = rt.alloc();
     for (name, parts, change, answer) in FILES.iter() {
         let file = file_of(alloc, parts, *change)?;
-        let mut site = site_of(alloc, file, Vec::new(alloc));
-        assert_eq!(rt; load_a(alloc, &mut site), *answer, "{name}");
+        assert_eq!(rt; load_of(alloc, file), *answer, "{name}");
     }
     Ok(())
 }
 
+type HeadAnswer = Result<Option<BaseHead>, JournalError>;
+
+/// The head of this file of a site whose file A is a base with a record, and whose file B is empty.
+fn head_in(alloc: Global, file: Which) -> Result<HeadAnswer, AllocError> {
+    let bytes = file_of(alloc, &[BASE, RECORD, b"\0"], None)?;
+    let mut site = site_of(alloc, bytes, Vec::new(alloc));
+    Ok(head(&mut site, file))
+}
+
 #[test]
 fn a_head_is_read(rt: HostRuntime) -> Result<(), Fail> {
-    let alloc = rt.alloc();
-    let file = file_of(alloc, &[BASE, RECORD, b"\0"], None)?;
-    let mut site = site_of(alloc, file, Vec::new(alloc));
-    assert_eq!(rt; head(&mut site, Which::A), Ok(Some(head_of(1))));
-    assert_eq!(rt; head(&mut site, Which::B), Ok(None));
+    assert!(rt; head_in(rt.alloc(), Which::A)? == Ok(Some(head_of(1))));
+    assert!(rt; head_in(rt.alloc(), Which::B)? == Ok(None));
     Ok(())
 }
 
@@ -180,11 +191,7 @@ fn head_of(profile: u32) -> BaseHead {
 const PROFILES: [(usize, u8, u32); 4] = [(9, 0, 0), (9, 2, 2), (9, 3, 3), (12, 255, 0xff00_0001)];
 
 /// The head of file A with this byte changed.
-fn head_with(
-    alloc: Global,
-    at: usize,
-    byte: u8,
-) -> Result<Result<Option<BaseHead>, JournalError>, AllocError> {
+fn head_with(alloc: Global, at: usize, byte: u8) -> Result<HeadAnswer, AllocError> {
     let file = file_of(alloc, &[BASE, b"\0"], Some((at, byte)))?;
     let mut site = site_of(alloc, file, Vec::new(alloc));
     Ok(head(&mut site, Which::A))
@@ -224,14 +231,23 @@ fn load_profile(alloc: Global, site: &mut MemorySite) -> Result<u32, JournalErro
     Ok(loaded.journal.profile())
 }
 
+/// Whether file A of the site is the base with the record and a closed gate, with a byte changed.
+fn has_record(
+    alloc: Global,
+    site: &MemorySite,
+    change: Option<(usize, u8)>,
+) -> Result<bool, AllocError> {
+    let whole = file_of(alloc, &[BASE, RECORD, b"\0"], change)?;
+    Ok(site.file(Which::A) == whole.as_slice())
+}
+
 #[test]
 fn a_base_has_its_profile(rt: HostRuntime) -> Result<(), Fail> {
     let alloc = rt.alloc();
     let mut site = site_of(alloc, Vec::new(alloc), Vec::new(alloc));
-    assert_eq!(rt; write_and_add_raised(alloc, &mut site), Ok(2));
-    let whole = file_of(alloc, &[BASE, RECORD, b"\0"], Some((9, 2)))?;
-    assert!(rt; site.file(Which::A) == whole.as_slice());
-    assert_eq!(rt; load_profile(alloc, &mut site), Ok(2));
+    assert!(rt; write_and_add_raised(alloc, &mut site) == Ok(2));
+    assert!(rt; has_record(alloc, &site, Some((9, 2)))?);
+    assert!(rt; load_profile(alloc, &mut site) == Ok(2));
     Ok(())
 }
 
@@ -253,16 +269,18 @@ fn are_shapes(calls: &[Entry]) -> bool {
         .all(|(entry, wanted)| shape(entry) == *wanted)
 }
 
+/// Whether these are nine calls, and behind them those of an addition.
+fn ends_with_the_addition(calls: &[Entry]) -> bool {
+    calls.len() == 13 && are_shapes(&calls[9..])
+}
+
 #[test]
 fn an_addition_writes_behind_the_gate_and_opens_it(rt: HostRuntime) -> Result<(), Fail> {
     let alloc = rt.alloc();
     let mut site = site_of(alloc, Vec::new(alloc), Vec::new(alloc));
-    assert_eq!(rt; write_and_add(alloc, &mut site), Ok(1));
-    let whole = file_of(alloc, &[BASE, RECORD, b"\0"], None)?;
-    assert!(rt; site.file(Which::A) == whole.as_slice());
-    let calls = site.calls();
-    assert_eq!(rt; calls.len(), 13);
-    assert!(rt; are_shapes(&calls[9..]));
+    assert!(rt; write_and_add(alloc, &mut site) == Ok(1));
+    assert!(rt; has_record(alloc, &site, None)?);
+    assert!(rt; ends_with_the_addition(site.calls()));
     Ok(())
 }
 
@@ -282,9 +300,8 @@ fn spell_and_add(alloc: Global, site: &mut MemorySite) -> Result<(), JournalErro
 fn a_spelled_change_is_added(rt: HostRuntime) -> Result<(), Fail> {
     let alloc = rt.alloc();
     let mut site = site_of(alloc, Vec::new(alloc), Vec::new(alloc));
-    assert_eq!(rt; spell_and_add(alloc, &mut site), Ok(()));
-    let whole = file_of(alloc, &[BASE, RECORD, b"\0"], None)?;
-    assert!(rt; site.file(Which::A) == whole.as_slice());
+    assert!(rt; spell_and_add(alloc, &mut site).is_ok());
+    assert!(rt; has_record(alloc, &site, None)?);
     Ok(())
 }
 
@@ -314,29 +331,44 @@ fn base_site(alloc: Global, fails: &[u64]) -> Result<MemorySite, AllocError> {
     Ok(site_of(alloc, file, fails.to_vec(alloc)?))
 }
 
+/// How many calls a load of file A makes on a new site.
+fn calls_to_load(alloc: Global, site: &mut MemorySite) -> u64 {
+    let _answer = load_a(alloc, site);
+    site.calls().len() as u64
+}
+
 /// How many calls loading a base makes.
 fn calls_of_a_load(alloc: Global) -> Result<u64, AllocError> {
     let mut site = base_site(alloc, &[])?;
-    let _ = load_a(alloc, &mut site);
-    Ok(site.calls().len() as u64)
+    Ok(calls_to_load(alloc, &mut site))
+}
+
+/// What adding to a base answers, where the call of this number fails.
+fn add_with_fault(alloc: Global, call: u64) -> Result<(bool, u64), JournalError> {
+    let mut site = base_site(alloc, &[call])?;
+    add_to(alloc, &mut site)
 }
 
 #[test]
 fn a_call_that_fails_closes_the_journal(rt: HostRuntime) -> Result<(), Fail> {
-    let alloc = rt.alloc();
-    let first = calls_of_a_load(alloc)?;
-    for (call, kept) in STOPS.iter() {
-        let mut site = base_site(alloc, &[first.saturating_add(*call)])?;
-        assert_eq!(rt; add_to(alloc, &mut site), Ok((true, *kept)), "call {call}");
+    let first = calls_of_a_load(rt.alloc())?;
+    for (call, kept) in STOPS {
+        let added = add_with_fault(rt.alloc(), first.saturating_add(call));
+        assert_eq!(rt; added, Ok((true, kept)), "call {call}");
     }
     Ok(())
+}
+
+/// What the journal on file A says of the number.
+fn check_on(alloc: Global, site: &mut MemorySite, number: u64) -> Result<(), JournalError> {
+    let loaded = Journal::load(alloc, site, Which::A)?;
+    loaded.journal.check(Sequence(number))
 }
 
 /// What the journal of a base says of the number.
 fn checked(alloc: Global, number: u64) -> Result<(), JournalError> {
     let mut site = base_site(alloc, &[])?;
-    let loaded = Journal::load(alloc, &mut site, Which::A)?;
-    loaded.journal.check(Sequence(number))
+    check_on(alloc, &mut site, number)
 }
 
 #[test]
@@ -369,7 +401,6 @@ fn long_file(alloc: Global, records: u32) -> Result<Vec<u8>, AllocError> {
 fn a_long_file_is_loaded(rt: HostRuntime) -> Result<(), Fail> {
     let alloc = rt.alloc();
     let file = long_file(alloc, 3000)?;
-    let mut site = site_of(alloc, file, Vec::new(alloc));
-    assert_eq!(rt; load_a(alloc, &mut site), Ok((3005, 75_046)));
+    assert!(rt; load_of(alloc, file) == Ok((3005, 75_046)));
     Ok(())
 }

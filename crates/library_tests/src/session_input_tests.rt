@@ -91,7 +91,8 @@ fn messages(alloc: Global, parts: &[&[u8]]) -> Result<String, Fail> {
 
 /// Whether the session that comes in these parts has these messages.
 fn has_messages(alloc: Global, parts: &[&[u8]], wanted: &str) -> Result<bool, Fail> {
-    Ok(messages(alloc, parts)?.as_str() == wanted)
+    let messages = messages(alloc, parts)?;
+    Ok(messages.as_str() == wanted)
 }
 
 /// Sessions, and their messages.
