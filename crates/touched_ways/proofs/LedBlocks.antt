@@ -27,11 +27,11 @@ use Rattle.road_model.proofs.FiniteContexts.{arcs_of}
 use Rattle.road_model.proofs.SourceLists.{sources_of}
 use Rattle.road_model.proofs.SomeGraph.{piece_entry, entry_named, names_tell}
 use Rattle.road_model.proofs.LocalBlocks.{lists_kept}
-use Rattle.touched_ways.specs.Altering.{ListsArc, HasSameArcsTo, IsLedAlike}
+use Rattle.touched_ways.specs.Altering.{ListsArc, IsLedAlike}
 
 -- ---- lists that are joined
 
-same_ends : {A : Type 0} (xs ys us vs : List A) → xs ++ ys ≡ us ++ vs → length ys ≡ length vs → ys ≡ vs
+pub same_ends : {A : Type 0} (xs ys us vs : List A) → xs ++ ys ≡ us ++ vs → length ys ≡ length vs → ys ≡ vs
 same_ends xs ys us vs e l =
     let both : length xs + length ys ≡ length us + length vs =
     sym (length-append xs ys) ∙ ap length e ∙ length-append us vs in
@@ -57,11 +57,11 @@ module _ (M : Objects) (P : Rules) where
   last_piece before p c = (Every-tail (IsPiece M P) before (p ∷ []) (context_pieces M P (before ++ p ∷ []) c)).0
 
   -- the arc as a block writes it
-  abbrev arc_to : Span → List Span → TurnArc
+  abbrev pub arc_to : Span → List Span → TurnArc
   arc_to p c = record { piece = name_of p; length = length c }
 
   -- the block of a way lists an arc from the contexts of its pieces
-  listed_arc : (v : WayId) (b : Block) → IsBlock M P v b → (before : List Span) (q p : Span) (c : List Span)
+  pub listed_arc : (v : WayId) (b : Block) → IsBlock M P v b → (before : List Span) (q p : Span) (c : List Span)
       → q.way ≡ v → IsArc M P (before ++ q ∷ []) p c
       → ListsArc b.pieces (name_of q) (map name_of before) (arc_to p c)
   listed_arc v b is before q p c of a =
@@ -102,19 +102,19 @@ module _ (M : Objects) (P : Rules) where
       }
 
   -- an arc whose block writes these names
-  record IsNamedArc (name : PieceName) (names : List PieceName) (a : TurnArc) : Type 0 where
-    before : List Span
-    last : Span
-    piece : Span
-    target : List Span
-    arc : IsArc M P (before ++ last ∷ []) piece target
-    behind : names ≡ map name_of before
-    from : name ≡ name_of last
-    by : a.piece ≡ name_of piece
-    length_is : a.length ≡ length target
+  pub record IsNamedArc (name : PieceName) (names : List PieceName) (a : TurnArc) : Type 0 where
+    pub before : List Span
+    pub last : Span
+    pub piece : Span
+    pub target : List Span
+    pub arc : IsArc M P (before ++ last ∷ []) piece target
+    pub behind : names ≡ map name_of before
+    pub from : name ≡ name_of last
+    pub by : a.piece ≡ name_of piece
+    pub length_is : a.length ≡ length target
 
   -- what the block of a way lists are such
-  arc_listed : (v : WayId) (b : Block) → IsBlock M P v b → (name : PieceName) (names : List PieceName) (a : TurnArc)
+  pub arc_listed : (v : WayId) (b : Block) → IsBlock M P v b → (name : PieceName) (names : List PieceName) (a : TurnArc)
       → ListsArc b.pieces name names a → IsNamedArc name names a
   arc_listed v b is name names a l =
       let e = is.pieces.sound l.piece l.listed in
@@ -134,7 +134,7 @@ module _ (M : Objects) (P : Rules) where
 
 -- ---- in both object maps
 
-turned : (M N : Objects) (P : Rules) (w : WayId) → HasSameArcs M N P w → HasSameArcs N M P w
+pub turned : (M N : Objects) (P : Rules) (w : WayId) → HasSameArcs M N P w → HasSameArcs N M P w
 turned M N P w h = record {
   pieces = λ p of. let e = h.pieces p of in (e.1, e.0);
   marks = λ d. sym (h.marks d);
@@ -164,7 +164,8 @@ module _ (M N : Objects) (P : Rules) (w : WayId) (same : HasSameArcs M N P w) wh
       let from : map name_of (r.before ++ r.last ∷ []) ≡ map name_of (b ++ q ∷ []) =
       pushed_named r.before b r.last q (sym r.behind) (sym r.from) in
       let whole : map name_of (r.arc.to.front ++ r.target) ≡ map name_of (a.to.front ++ c) =
-      ap (map name_of) (sym r.arc.to.is) ∙ pushed_named (r.before ++ r.last ∷ []) (b ++ q ∷ []) r.piece p from (sym r.by)
+      ap (map name_of) (sym r.arc.to.is)
+      ∙ pushed_named (r.before ++ r.last ∷ []) (b ++ q ∷ []) r.piece p from (sym r.by)
       ∙ ap (map name_of) a.to.is in
       let target : r.target ≡ c = names_tell N P r.target c (context_pieces N P r.target r.arc.to.holds)
       (context_pieces N P c there) (ends_named r.arc.to.front a.to.front r.target c whole (sym r.length_is)) in
@@ -221,7 +222,8 @@ module _ (M N : Objects) (P : Rules) (w : WayId) (same : HasSameArcs M N P w)
         named = c.named;
         arcs = lists_kept e.arcs (arc_entry M N P w same c.before p of) (arc_entry N M P w back c.before p of) c.arcs;
         sources = lists_kept e.sources (source_kept M N P w same led p of (c.before ++ p ∷ []) there)
-            (source_kept N M P w back (λ v. led_turned M N P w v (led v)) p of (c.before ++ p ∷ []) c.context) c.sources;
+            (source_kept N M P w back (λ v. led_turned M N P w v (led v)) p of (c.before ++ p ∷ []) c.context)
+            c.sources;
       }
 
 module _ (M N : Objects) (P : Rules) (w : WayId) (same : HasSameArcs M N P w)

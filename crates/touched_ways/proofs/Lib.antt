@@ -13,6 +13,7 @@ mod StillContexts
 mod StillArcs
 mod StillBlocks
 mod LedBlocks
+mod ArcSources
 mod WayGaps
 mod NearLists
 mod MetWays

@@ -1,7 +1,7 @@
 -- Which blocks a change may alter. It may alter those of the ways near what it changes, those of ways that share a node
 -- with a way whose pieces it alters, those of the ways that a restriction names beside one of these, and those of ways
 -- by whose pieces another arc leads than before.
-use Rattle.std.specs.Prelude.{◌≡◌, ◌↔◌, ◌⊎◌, ℕ, ◌+◌, List, Contains, map, length, IsTrue}
+use Rattle.std.specs.Prelude.{◌≡◌, ◌↔◌, ◌⊎◌, ℕ, ◌+◌, List, [], ◌∷◌, ◌++◌, Contains, map, length, IsTrue}
 use Rattle.road_base.specs.declared.ids.NodeId.{NodeId}
 use Rattle.road_base.specs.declared.ids.WayId.{WayId}
 use Rattle.road_base.specs.declared.ids.RelationId.{RelationId}
@@ -19,7 +19,7 @@ use Rattle.road_model.specs.Orders.{way_cmp}
 use Rattle.road_model.specs.Pieces.{Span, IsPiece}
 use Rattle.road_model.specs.Links.{RefersTo, HasMember, IsWithin, Differs, IsTouched, AreTouched}
 use Rattle.road_model.specs.Local.{IsSameWithin, HasSameArcs}
-use Rattle.road_model.specs.Blocks.{IsBlock}
+use Rattle.road_model.specs.Blocks.{IsBlock, IsSourceEntry, name_of}
 
 -- a key within two links of the way differs
 abbrev pub IsNearChange : Objects → Objects → WayId → Type 0
@@ -90,6 +90,27 @@ pub record HasSameArcsTo (M N : Objects) (P : Rules) (w v : WayId) : Type 0 wher
 -- way v has the same arcs in M and in N, or its blocks list the same by pieces of way w
 abbrev pub IsLedAlike : Objects → Objects → Rules → WayId → WayId → Type 0
 IsLedAlike M N P w v = HasSameArcs M N P v ⊎ HasSameArcsTo M N P w v
+
+-- these are the names of a context from which an arc leads to the context of the piece of that name behind those before
+pub record IsNamedSource (M : Objects) (P : Rules) (name : PieceName) (before s : List PieceName) : Type 0 where
+  pub front : List Span
+  pub piece : Span
+  pub source : IsSourceEntry M P piece (front ++ piece ∷ []) s
+  pub behind : before ≡ map name_of front
+  pub named : name ≡ name_of piece
+
+-- the pieces list an arc by the piece of that name from the context of the names s, to its context behind those before:
+-- these are the last ones of s, one less than the arc's target has
+pub record ListsArcFrom (ps : List Piece) (name : PieceName) (before s : List PieceName) : Type 0 where
+  pub front : List PieceName
+  pub last : PieceName
+  pub from : s ≡ front ++ last ∷ []
+  pub arc : TurnArc
+  pub listed : ListsArc ps last front arc
+  pub by : arc.piece ≡ name
+  pub others : List PieceName
+  pub target : s ≡ others ++ before
+  pub length_is : arc.length ≡ length before + 1
 
 -- ---- ways in parts
 

@@ -1,11 +1,13 @@
 //! What is said of the ways whose blocks a change doesn't alter.
-ghost use Rattle.std.specs.Prelude.{◌≡◌, ◌↔◌};
+ghost use Rattle.std.specs.Prelude.{◌≡◌, ◌↔◌, List, [], ◌∷◌, ◌++◌};
 ghost use Rattle.road_base.specs.declared.ids.WayId.{WayId};
 ghost use Rattle.road_base.specs.Objects.{Objects};
 ghost use Rattle.road_model.specs.declared.blocks.Block.{Block};
+ghost use Rattle.road_model.specs.declared.lists.PieceName.{PieceName};
 ghost use Rattle.road_model.specs.Blocks.{IsBlock, ListsPieces};
 ghost use Rattle.road_model.specs.Local.{IsSameWithin, HasSameArcs};
-ghost use Rattle.touched_ways.specs.Altering.{HasSamePieces, IsLedAlike, IsUnaltered, listed_pieces};
+ghost use Rattle.touched_ways.specs.Altering.{HasSamePieces, IsLedAlike, IsNamedSource, ListsArcFrom};
+ghost use Rattle.touched_ways.specs.Altering.{IsUnaltered, listed_pieces};
 
 use road_model::Profile;
 
@@ -25,6 +27,23 @@ pub fn led_blocks_stay<P: Profile>(profile: &P)
         → HasSameArcs M N (P.rules profile.now) w
         → ((v : WayId) → IsLedAlike M N (P.rules profile.now) w v)
         → IsBlock M (P.rules profile.now) w b ↔ IsBlock N (P.rules profile.now) w b }
+{}
+
+/// The sources that end on a way are the arcs that its block lists, seen from behind.
+pub fn arcs_are_sources<P: Profile>(profile: &P)
+    ensures { (M : Objects) (b : Block) (name last : PieceName) (before front : List PieceName)
+        → IsBlock M (P.rules profile.now) last.way b
+        → IsNamedSource M (P.rules profile.now) name before (front ++ last ∷ [])
+        ↔ ListsArcFrom b.pieces name before (front ++ last ∷ []) }
+{}
+
+/// Where all that stands in a way's block but the sources is the same before and after a change, so are the sources of
+/// other contexts that end on the way.
+pub fn sources_from_stay<P: Profile>(profile: &P)
+    ensures { (M N : Objects) (name last : PieceName) (before front : List PieceName)
+        → HasSameArcs M N (P.rules profile.now) last.way
+        → IsNamedSource M (P.rules profile.now) name before (front ++ last ∷ [])
+        ↔ IsNamedSource N (P.rules profile.now) name before (front ++ last ∷ []) }
 {}
 
 /// Where nothing differs within two links of a way, its pieces are the same before and after a change.
