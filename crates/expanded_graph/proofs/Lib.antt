@@ -25,6 +25,11 @@ pub mod SourceOrder
 pub mod SourceLists
 pub mod SourceContexts
 pub mod SourceWritten
+pub mod SourcePlain
+pub mod Taken
+pub mod Options
+pub mod WatchedPieces
+pub mod BarePieces
 pub mod WrittenPieces
 pub mod Pairs
 pub mod KnownNodes

@@ -18,7 +18,12 @@ use Rattle.std.proofs.Common.{
   subst,
   arith,
   length-append,
+  ◌⊎◌,
+  inl,
+  inr,
+  refl,
 }
+use Rattle.std.proofs.lemmas.Option.{same_Some}
 
 -- whatever stands at one place of both is so
 abbrev pub AreSoTogether : {A B : Type 0} → (A → B → Type 0) → List A → List B → Type 0
@@ -69,3 +74,17 @@ module _ {A B : Type 0} (Is : A → B → Type 0) (xs more : List A) (ys others 
       more_at Is xs ys x y count so is k a b
       (subst (λ l. slice_get l k ≡ Some a) grown ha)
       (subst (λ l. slice_get l k ≡ Some b) others_grown hb)
+
+-- ---- what stands in a list that grew
+
+pub none_stands : {A : Type 0} (x : A) (k : ℕ) → slice_get [] k ≡ Some x → ⊥
+none_stands x zero h = cc
+none_stands x (suc k) h = cc
+
+-- what stands in the list with one more at its end stood there before, or is that one
+pub pushed_at : {A : Type 0} (xs : List A) (y x : A) (k : ℕ) → slice_get (xs ++ y ∷ []) k ≡ Some x
+    → (slice_get xs k ≡ Some x) ⊎ ((k ≡ length xs) × (y ≡ x))
+pushed_at [] y x zero h = inr (refl, same_Some _ _ h)
+pushed_at [] y x (suc k) h = absurd (none_stands x k h)
+pushed_at (z ∷ xs) y x zero h = inl h
+pushed_at (z ∷ xs) y x (suc k) h = elim (pushed_at xs y x k h) [ inl i ↦ inl i | inr r ↦ inr (ap suc r.0, r.1) ]

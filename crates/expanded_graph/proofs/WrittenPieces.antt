@@ -54,6 +54,8 @@ use Rattle.way_lines.specs.declared.road_line.LineNode.{LineNode}
 use Rattle.way_lines.specs.RoadLines.{line_node}
 use Rattle.expanded_graph.specs.declared.marks.ZoneMarks.{ZoneMarks}
 use Rattle.expanded_graph.specs.Marks.{AreMarks, mark_in}
+use Rattle.expanded_graph.specs.Bare.{IsBarePiece}
+use Rattle.expanded_graph.specs.Contexts.{IsBareContext}
 use Rattle.expanded_graph.specs.Travel.{place_of, nodes_on}
 use Rattle.ordered_lists.proofs.ListMembers.{In, in_map, from_map, in_from_contains, contains_from_in}
 use Rattle.expanded_graph.proofs.PlaceOrder.{places_rise}
@@ -84,6 +86,22 @@ module _ (M : Objects) (P : Rules) (w : WayId) where
     count : length e.places ≡ s.end - s.name.index + 1
     count = ap length placed ∙ places_count M P s on.is nodes (own_line nodes s on line)
 
+    -- before the sources of its contexts are written
+    pub bare_entry : e.zone ≡ is_marked M P w s.name.dir
+        → Lists (λ c. c.before) names_cmp (IsBareContext M P (piece_of s)) e.contexts → IsBarePiece M P w e
+    bare_entry marked contexts = record {
+      piece = piece_of s;
+      is = on.is;
+      of = on.of;
+      named = named;
+      end_is = ended;
+      marked = marked;
+      count = count;
+      places = λ k x h. places_at M P s on.is nodes (own_line nodes s on line) k x
+          (subst (λ l. slice_get l k ≡ Some x) placed h);
+      contexts = contexts;
+    }
+
     pub entry : e.zone ≡ is_marked M P w s.name.dir
         → Lists (λ c. c.before) names_cmp (IsContextEntry M P (piece_of s)) e.contexts → IsPieceEntry M P w e
     entry marked contexts = record {
@@ -99,9 +117,9 @@ module _ (M : Objects) (P : Rules) (w : WayId) where
       contexts = contexts;
     }
 
-    pub form : length nodes ≤ 65535 → Lists (λ c. c.before) names_cmp (IsContextEntry M P (piece_of s)) e.contexts
+    pub form : length nodes ≤ 65535 → IsTrue (rises names_cmp (map (λ c. c.before) e.contexts))
         → begins_alone e.contexts → AllByRecursion (IsContextForm true) e.contexts → IsPieceForm true e
-    form short contexts first forms =
+    form short ascending first forms =
         let up = on.is.ascends in
         let inside = within M P s on.is nodes (own_line nodes s on line) in
         let index : e.name.index ≡ s.name.index = ap (λ n. n.index) named in
@@ -110,7 +128,7 @@ module _ (M : Objects) (P : Rules) (w : WayId) where
           bounded = omega arith;
           place_count = omega (arith, count);
           first_alone = first;
-          contexts_ascend = contexts.ascending;
+          contexts_ascend = ascending;
           contexts = forms;
         }
 

@@ -1,11 +1,15 @@
+pub mod Arrivals
+pub mod Bare
 pub mod Coming
 pub mod Contexts
 pub mod Known
 pub mod Marks
 pub mod Near
+pub mod Onward
 pub mod Sources
 pub mod States
 pub mod Travel
 pub mod Intersections
 pub mod Pair
 pub mod Tables
+pub mod Watched

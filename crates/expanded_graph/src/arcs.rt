@@ -1,6 +1,7 @@
 //! What may follow a context at the intersection where it ends.
 ghost use Rattle.std.specs.Prelude.{◌≡◌, ◌+◌, ◌<◌, ◌^◌, ℕ, List, [], ◌∷◌, ◌++◌, length, slice_get, Contains};
-ghost use Rattle.std.specs.Prelude.{Some, IfOk, IfSome, IfNone};
+ghost use Rattle.std.specs.Prelude.{Some, IfOk, IfSome, IfNone, IsTrue};
+ghost use Rattle.road_base.specs.declared.ids.NodeId.{NodeId};
 ghost use Rattle.road_base.specs.declared.ids.Step.{Step};
 ghost use Rattle.road_model.specs.declared.lists.TurnArc.{TurnArc};
 ghost use Rattle.road_model.specs.Pieces.{Span};
@@ -10,7 +11,8 @@ ghost use Rattle.road_model.specs.Blocks.{IsArcEntry};
 ghost use Rattle.turn_automata.specs.Machines.{StandsFor};
 ghost use Rattle.expanded_graph.specs.declared.states.StateFacts.{StateFacts};
 ghost use Rattle.expanded_graph.specs.Coming.{IsComing, IsReachedIn};
-ghost use Rattle.expanded_graph.specs.Intersections.{may_follow};
+ghost use Rattle.expanded_graph.specs.Contexts.{IsReached};
+ghost use Rattle.expanded_graph.specs.Intersections.{IsIntersection, AreFree, may_follow};
 ghost use Rattle.road_model.specs.Networks.{on};
 
 use crate::coming::Coming;
@@ -20,7 +22,7 @@ use road_base::{NoMemory, NodeId};
 use road_model::laws::{
     context_goes_on, context_target, contexts, name_order, one_name, steps_depart, words_on_ways,
 };
-use road_model::{Profile, TurnArc, World};
+use road_model::{Network, Profile, TurnArc, World};
 use std::alloc::Global;
 use turn_automata::State;
 use turn_automata::laws::{watched_decides, watched_grows};
@@ -76,19 +78,113 @@ pub fn arc_by<M: World, P: Profile>(
     name_order();
     one_name(&coming.network.profile);
     steps_depart(&coming.network.profile);
-    words_on_ways(&coming.network.profile);
     context_goes_on(&coming.network.profile);
-    context_target(&coming.network.profile);
-    watched_decides();
-    watched_grows();
-    coming.states.automaton.closed();
     if !may_follow(&coming.intersection, coming.from, departure) {
         return None;
     }
-    let Some(next) = coming.states.automaton.go(state, departure.first) else {
+    if state.0 == 0 && coming.intersection.is_free {
+        return Some(arc_alone(departure));
+    }
+    arc_ahead(
+        coming.network,
+        coming.states,
+        &coming.intersection,
+        state,
+        departure,
+    )
+}
+
+/// The arc by the departure to its piece alone.
+pub fn arc_alone(departure: Departure) -> TurnArc
+    ensures { result ≡ record { piece = departure.piece; length = 1 } }
+{
+    TurnArc {
+        piece: departure.piece,
+        length: 1,
+    }
+}
+
+/// Whether arcs lead by all departures to their pieces alone, from contexts in the first state that may go on by them
+/// at the intersection. Where it is false they may still do so.
+pub fn are_free<M: World, P: Profile>(
+    network: &Network<'_, M, P>,
+    states: &States,
+    intersection: &Intersection<'_>,
+) -> bool
+    requires count { length states.now.facts.items ≡ length states.now.automaton.states }
+    requires intersection { on network.now IsIntersection intersection.now }
+    ensures { IsTrue result → on network.now AreFree states.now.automaton states.now.facts.items
+        intersection.now.rules intersection.now.departures.now }
+{
+    let departures = intersection.departures;
+    for departure in departures {
+        if !is_free(network, states, intersection, *departure) {
+            return false;
+        }
+    }
+    true
+}
+
+/// Whether an arc leads by the departure to its piece alone, from contexts in the first state that may go on by it.
+fn is_free<M: World, P: Profile>(
+    network: &Network<'_, M, P>,
+    states: &States,
+    intersection: &Intersection<'_>,
+    departure: Departure,
+) -> bool
+    requires count { length states.now.facts.items ≡ length states.now.automaton.states }
+    requires intersection { on network.now IsIntersection intersection.now }
+    requires departure { Contains intersection.now.departures.now departure }
+    ensures { IsTrue result → (u : NodeId) (c : List Span) → IsTrue (may_follow intersection.now u departure)
+        → on network.now IsReached states.now.automaton states.now.facts.items 0 u intersection.now.rules.node c
+        → on network.now IsArcEntry c (record { piece = departure.piece; length = 1 }) }
+{
+    states.automaton.closed();
+    match arc_ahead(network, states, intersection, State(0), departure) {
+        Some(arc) => arc.length == 1,
+        None => false,
+    }
+}
+
+/// The arc by the departure from a context in the state that may go on by it at the intersection: none where a
+/// restriction forbids it.
+pub fn arc_ahead<M: World, P: Profile>(
+    network: &Network<'_, M, P>,
+    states: &States,
+    intersection: &Intersection<'_>,
+    state: State,
+    departure: Departure,
+) -> Option<TurnArc>
+    requires count { length states.now.facts.items ≡ length states.now.automaton.states }
+    requires intersection { on network.now IsIntersection intersection.now }
+    requires state { state.0 < length states.now.automaton.states }
+    requires departure { Contains intersection.now.departures.now departure }
+    ensures named { IfSome result (λ a. a.piece ≡ departure.piece) }
+    ensures arc { IfSome result (λ a. (u : NodeId) (c : List Span)
+        → IsTrue (may_follow intersection.now u departure)
+        → on network.now IsReached states.now.automaton states.now.facts.items state.0 u
+        intersection.now.rules.node c
+        → on network.now IsArcEntry c a) }
+    ensures none { IfNone result ((u : NodeId) (c : List Span) (a : TurnArc)
+        → on network.now IsReached states.now.automaton states.now.facts.items state.0 u
+        intersection.now.rules.node c
+        → on network.now IsArcEntry c a
+        → a.piece ≡ departure.piece
+        → ⊥) }
+{
+    name_order();
+    one_name(&network.profile);
+    steps_depart(&network.profile);
+    words_on_ways(&network.profile);
+    context_goes_on(&network.profile);
+    context_target(&network.profile);
+    watched_decides();
+    watched_grows();
+    states.automaton.closed();
+    let Some(next) = states.automaton.go(state, departure.first) else {
         return None;
     };
-    let length = target_len(coming.states, next);
+    let length = target_len(states, next);
     Some(TurnArc {
         piece: departure.piece,
         length,
@@ -97,7 +193,7 @@ pub fn arc_by<M: World, P: Profile>(
 
 /// Whether who comes from the node `from` may go on by the departure: back there where one may turn round, which is
 /// at a place to turn, where nothing goes through and at a dead end, and elsewhere where the node isn't shut.
-fn may_follow(intersection: &Intersection<'_>, from: NodeId, departure: Departure) -> bool
+pub fn may_follow(intersection: &Intersection<'_>, from: NodeId, departure: Departure) -> bool
     ensures { result ≡ may_follow intersection.now from departure }
 {
     if departure.toward == from {

@@ -1,26 +1,48 @@
 //! The arcs that lead to the contexts of a piece, found from the contexts that come to the node where it starts.
-ghost use Rattle.std.specs.Prelude.{◌≡◌, ◌≤◌, ◌<◌, ◌-◌, List, [], ◌∷◌, ◌++◌, length, map, drop, Contains, IfOk, OnOk};
+ghost use Rattle.std.specs.Prelude.{
+  ◌≡◌,
+  ◌≤◌,
+  ◌<◌,
+  ◌-◌,
+  List,
+  [],
+  ◌∷◌,
+  ◌++◌,
+  length,
+  map,
+  drop,
+  Contains,
+  IfOk,
+  OnOk,
+  IsTrue,
+};
 ghost use Rattle.road_model.specs.Pieces.{Span, IsPiece};
 ghost use Rattle.road_model.specs.Blocks.{name_of};
 ghost use Rattle.road_model.specs.Networks.{on};
 ghost use Rattle.way_pieces.specs.Names.{IsArrival, IsDeparture, piece_of};
 ghost use Rattle.expanded_graph.specs.Coming.{IsComing, IsReachedIn};
-ghost use Rattle.expanded_graph.specs.Intersections.{IsIntersection};
+ghost use Rattle.expanded_graph.specs.Intersections.{AreFree, IsIntersection, may_follow};
 ghost use Rattle.expanded_graph.specs.Contexts.{IsEnding, EndsWithName};
+ghost use Rattle.expanded_graph.specs.Arrivals.{AreComing};
+ghost use Rattle.expanded_graph.specs.Onward.{IsOnward};
 ghost use Rattle.expanded_graph.specs.Sources.{AreLeading, EndsIn, Gains, IsLeadingOf, IsLeadingBehind};
+ghost use Rattle.expanded_graph.specs.Watched.{IsPlainPiece};
 ghost use Rattle.expanded_graph.specs.Tables.{AreTables};
 
-use crate::arcs::arc_by;
+use crate::arcs::{arc_ahead, arc_alone, arc_by, may_follow};
+use crate::arrivals::{ToldArrival, not_told_apart};
 use crate::coming::Coming;
 use crate::endings::endings_with;
-use crate::intersections::Intersection;
+use crate::intersections::{Confluence, Intersection};
 use crate::last_steps::last_step;
 use crate::names::names_before;
 use crate::places::PieceStart;
-use crate::tables::{Tables, states_with_endings};
+use crate::states::States;
+use crate::tables::Tables;
+use crate::watched::WatchedWays;
 use road_base::NoMemory;
-use road_model::laws::{context_steps, contexts, drive_grows, one_name};
-use road_model::{Names, Network, PieceName, Profile, World};
+use road_model::laws::{context_steps, contexts, drive_grows, name_order, one_name, steps_depart};
+use road_model::{Names, Network, PieceName, Profile, TurnArc, World};
 use std::alloc::Global;
 use turn_automata::State;
 use way_lines::NodeRules;
@@ -46,48 +68,172 @@ pub fn leading_at<M: World, P: Profile>(
     requires start { on network.now IsDeparture start.at start.departure }
     ensures { IfOk result (λ v. on network.now AreLeading start.departure.piece v.items) }
 {
-    if let Some(intersection) = tables.intersections.find(start.at) {
-        return leading_by(alloc, network, tables, intersection, start.departure);
+    if let Some(meeting) = tables.intersections.find_meeting(start.at) {
+        return leading_by(alloc, network, tables, meeting, start.departure);
     }
     let departures = tables.pieces.departures(alloc, network, start.at)?;
-    let arrivals = tables.pieces.arrivals(alloc, network, start.at)?;
+    let coming = tables.pieces.arrivals(alloc, network, start.at)?;
+    let arrivals = not_told_apart(alloc, coming.as_slice())?;
     let rules = NodeRules::of(network, start.at);
     let intersection = Intersection {
         rules,
         departures: departures.as_slice(),
+        is_free: false,
+    };
+    let meeting = Confluence {
+        intersection,
         arrivals: arrivals.as_slice(),
     };
-    leading_by(alloc, network, tables, intersection, start.departure)
+    leading_by(alloc, network, tables, meeting, start.departure)
 }
 
-/// The arcs by the departure.
+/// The arcs by the departure. Those from plain arrivals are found by one step of the automaton for all of them.
 fn leading_by<M: World, P: Profile>(
     alloc: Global,
     network: &Network<'_, M, P>,
     tables: &Tables,
-    intersection: Intersection<'_>,
+    meeting: Confluence<'_>,
     departure: Departure,
 ) -> Result<Vec<Leading>, NoMemory>
     requires tables { on network.now AreTables tables.now }
-    requires intersection { on network.now IsIntersection intersection }
-    requires departure { Contains intersection.departures.now departure }
+    requires intersection { on network.now IsIntersection meeting.intersection }
+    requires arrivals { on network.now AreComing tables.now.watched.states.automaton
+        tables.now.watched.states.facts.items meeting.intersection.rules.node meeting.arrivals.now }
+    requires free { IsTrue meeting.intersection.is_free → on network.now AreFree tables.now.watched.states.automaton
+        tables.now.watched.states.facts.items meeting.intersection.rules meeting.intersection.departures.now }
+    requires departure { Contains meeting.intersection.departures.now departure }
     ensures { IfOk result (λ v. on network.now AreLeading departure.piece v.items) }
 {
     one_name(&network.profile);
-    let arrivals = intersection.arrivals;
+    let states = &tables.watched.states;
+    let intersection = meeting.intersection;
+    let onward = onward_by(network, states, intersection, departure);
+    let arrivals = meeting.arrivals;
     let mut list = Vec::with_capacity(alloc, arrivals.len())?;
-    for arrival in arrivals {
-        add_from(
+    for incoming in arrivals {
+        add_arrival(
             alloc,
             &mut list,
             network,
             tables,
             intersection,
-            *arrival,
-            departure,
+            incoming.told(),
+            onward,
         )?;
     }
     Ok(list)
+}
+
+/// A departure, and the arc by it from contexts in the first state that may go on so, if there is one.
+#[derive(Clone, Copy)]
+pub struct Onward {
+    pub departure: Departure,
+    pub arc: Option<TurnArc>,
+}
+
+/// The departure with the arc by it from contexts in the first state.
+fn onward_by<M: World, P: Profile>(
+    network: &Network<'_, M, P>,
+    states: &States,
+    intersection: Intersection<'_>,
+    departure: Departure,
+) -> Onward
+    requires count { length states.now.facts.items ≡ length states.now.automaton.states }
+    requires intersection { on network.now IsIntersection intersection }
+    requires free { IsTrue intersection.is_free → on network.now AreFree states.now.automaton states.now.facts.items
+        intersection.rules intersection.departures.now }
+    requires departure { Contains intersection.departures.now departure }
+    ensures departure { result.departure ≡ departure }
+    ensures is { on network.now IsOnward states.now.automaton states.now.facts.items intersection.entry result }
+{
+    states.automaton.closed();
+    if intersection.is_free {
+        return Onward {
+            departure,
+            arc: Some(arc_alone(departure)),
+        };
+    }
+    Onward {
+        departure,
+        arc: arc_ahead(network, states, &intersection, State(0), departure),
+    }
+}
+
+/// Adds the arcs by the departure from the contexts of the piece that comes: none where who comes may not go on so.
+fn add_arrival<M: World, P: Profile>(
+    alloc: Global,
+    list: &mut Vec<Leading>,
+    network: &Network<'_, M, P>,
+    tables: &Tables,
+    intersection: Intersection<'_>,
+    told: ToldArrival,
+    onward: Onward,
+) -> Result<(), NoMemory>
+    requires tables { on network.now AreTables tables.now }
+    requires intersection { on network.now IsIntersection intersection }
+    requires free { IsTrue intersection.is_free → on network.now AreFree tables.now.watched.states.automaton
+        tables.now.watched.states.facts.items intersection.rules intersection.departures.now }
+    requires arrival { on network.now IsArrival intersection.rules.node told.arrival }
+    requires plain { IsTrue told.is_plain → on network.now IsPlainPiece tables.now.watched.states.automaton
+        tables.now.watched.states.facts.items (piece_of told.arrival.span) }
+    requires departure { Contains intersection.departures.now onward.departure }
+    requires onward { on network.now IsOnward tables.now.watched.states.automaton
+        tables.now.watched.states.facts.items intersection onward }
+    ensures { OnOk result ((p : Span) → on network.now IsPiece p → onward.departure.piece ≡ name_of p
+        → Gains (on network.now IsLeadingBehind (piece_of told.arrival.span) p)
+        list.old.items list.new.items) }
+{
+    name_order();
+    one_name(&network.profile);
+    steps_depart(&network.profile);
+    let arrival = told.arrival;
+    if !may_follow(&intersection, arrival.from, onward.departure) {
+        return Ok(());
+    }
+    if told.is_plain {
+        return add_plain(alloc, list, network, tables, intersection, arrival, onward);
+    }
+    add_from(
+        alloc,
+        list,
+        network,
+        tables,
+        intersection,
+        arrival,
+        onward.departure,
+    )
+}
+
+/// Adds the arc by the departure from the piece that comes, which is plain and may go on so, if there is one.
+fn add_plain<M: World, P: Profile>(
+    alloc: Global,
+    list: &mut Vec<Leading>,
+    network: &Network<'_, M, P>,
+    tables: &Tables,
+    intersection: Intersection<'_>,
+    arrival: Arrival,
+    onward: Onward,
+) -> Result<(), NoMemory>
+    requires intersection { on network.now IsIntersection intersection }
+    requires arrival { on network.now IsArrival intersection.rules.node arrival }
+    requires plain { on network.now IsPlainPiece tables.now.watched.states.automaton
+        tables.now.watched.states.facts.items (piece_of arrival.span) }
+    requires departure { Contains intersection.departures.now onward.departure }
+    requires follows { IsTrue (may_follow intersection arrival.from onward.departure) }
+    requires onward { on network.now IsOnward tables.now.watched.states.automaton
+        tables.now.watched.states.facts.items intersection onward }
+    ensures { OnOk result ((p : Span) → on network.now IsPiece p → onward.departure.piece ≡ name_of p
+        → Gains (on network.now IsLeadingBehind (piece_of arrival.span) p) list.old.items list.new.items) }
+{
+    one_name(&network.profile);
+    contexts(&network.profile);
+    let Some(arc) = onward.arc else {
+        return Ok(());
+    };
+    let source = Names::one(alloc, arrival.span.name);
+    let before = last_names(alloc, source.items(), arc.length as usize - 1)?;
+    list.push(Leading { before, source })?;
+    Ok(())
 }
 
 /// Adds the arcs by the departure from the contexts of the piece that arrives. Where the tables don't serve its way,
@@ -103,6 +249,8 @@ fn add_from<M: World, P: Profile>(
 ) -> Result<(), NoMemory>
     requires tables { on network.now AreTables tables.now }
     requires intersection { on network.now IsIntersection intersection }
+    requires free { IsTrue intersection.is_free → on network.now AreFree tables.now.watched.states.automaton
+        tables.now.watched.states.facts.items intersection.rules intersection.departures.now }
     requires arrival { on network.now IsArrival intersection.rules.node arrival }
     requires departure { Contains intersection.departures.now departure }
     ensures { OnOk result ((p : Span) → on network.now IsPiece p → departure.piece ≡ name_of p
@@ -112,8 +260,8 @@ fn add_from<M: World, P: Profile>(
     if tables.serve(span.name.way) {
         let coming = Coming {
             network,
-            states: &tables.states,
-            endings: tables.endings.as_slice(),
+            states: &tables.watched.states,
+            endings: tables.watched.endings.as_slice(),
             intersection,
             span,
             from,
@@ -121,12 +269,15 @@ fn add_from<M: World, P: Profile>(
         return add_behind(alloc, list, &coming, departure);
     }
     let ways = [span.name.way];
-    let (states, endings) = states_with_endings(alloc, network, &tables.pieces, &ways)?;
+    let own = WatchedWays::of(alloc, network, &tables.pieces, ways.to_vec(alloc)?)?;
     let coming = Coming {
         network,
-        states: &states,
-        endings: endings.as_slice(),
-        intersection,
+        states: &own.states,
+        endings: own.endings.as_slice(),
+        intersection: Intersection {
+            is_free: false,
+            ..intersection
+        },
         span,
         from,
     };
@@ -239,6 +390,7 @@ fn last_names(alloc: Global, names: &[PieceName], count: usize) -> Result<Names,
     ensures { IfOk result (λ l. l ≡ drop (length names.now - count) names.now) }
 {
     match &names[names.len() - count..] {
+        [] => Ok(Names::from_list(Vec::new(alloc))),
         [name] => Ok(Names::one(alloc, *name)),
         last => Ok(Names::from_list(last.to_vec(alloc)?)),
     }

@@ -32,13 +32,13 @@ returns-then-is_empty-clause-block g c =
     nil_from_length _ (eqb-true _ _ (sym c.is_empty.ensures ∙ c.if-is_empty.true)) in
     let on = subst (λ (l : List PieceSpan). AreSpans M P w l) none c.requires.spans in
     is_block M P w [] on [] refl (All-nil (IsPieceEntry M P w)) (c.one_name.ensures.entries M) _
-    (ap (λ b. b.way) c.bare_block.ensures) (ap (λ b. b.pieces) c.bare_block.ensures)
+    (ap (λ b. b.way) c.empty_block.ensures) (ap (λ b. b.pieces) c.empty_block.ensures)
 
 pub block_along-requires-clause-serve : goal.block_along-requires-clause-serve
 block_along-requires-clause-serve g c =
     let M = g.M.World.objects c.args.network.now.world.now in
     let P = g.P.Profile.rules c.args.network.now.profile in
-    subst (Contains c.args.tables.now.ways.items) (sym (c.in-Some.ensures M P c.requires.tables.pieces).of)
+    subst (Contains c.args.tables.now.watched.ways.items) (sym (c.in-Some.ensures M P c.requires.tables.pieces).of)
     c.requires.serve
 
 pub block_along-requires-clause-line : goal.block_along-requires-clause-line

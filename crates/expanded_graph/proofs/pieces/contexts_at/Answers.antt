@@ -2,16 +2,23 @@
 use Rattle.std.proofs.Common.{List, sym, subst}
 use Rattle.ordered_lists.specs.Orders.{Lists}
 use Rattle.road_model.specs.Orders.{name_cmp}
-use Rattle.way_pieces.specs.declared.arrivals.Arrival.{Arrival}
 use Rattle.way_pieces.specs.declared.departures.Departure.{Departure}
-use Rattle.way_pieces.specs.Names.{Arrives, IsArrival, IsDeparture, piece_of}
+use Rattle.way_pieces.specs.Names.{Arrives, IsDeparture, piece_of}
 use Rattle.expanded_graph.proofs.pieces.contexts_at.Goals as goal
 
 pub contexts_there-requires-clause-intersection : goal.contexts_there-requires-clause-intersection
 contexts_there-requires-clause-intersection g c =
     let M = g.M.World.objects c.args.network.now.world.now in
     let P = g.P.Profile.rules c.args.network.now.profile in
-    c.in-Some.ensures.is M P c.requires.tables.intersections
+    let states = c.args.tables.now.watched.states in
+    c.in-Some.ensures.is M P states.automaton states.facts.items c.requires.tables.intersections
+
+pub contexts_there-requires-clause-free : goal.contexts_there-requires-clause-free
+contexts_there-requires-clause-free g c =
+    let M = g.M.World.objects c.args.network.now.world.now in
+    let P = g.P.Profile.rules c.args.network.now.profile in
+    let states = c.args.tables.now.watched.states in
+    c.in-Some.ensures.free M P states.automaton states.facts.items c.requires.tables.intersections
 
 pub contexts_there-requires-clause-arrives : goal.contexts_there-requires-clause-arrives
 contexts_there-requires-clause-arrives g c =
@@ -23,17 +30,12 @@ contexts_there-requires-2-clause-intersection g c =
     let M = g.M.World.objects c.args.network.now.world.now in
     let P = g.P.Profile.rules c.args.network.now.profile in
     let rules = c.of-rules in
-    let same = rules.ensures.node in
     record {
       rules = rules.ensures.rules;
       leaving =
-          subst (λ v. Lists (λ d. d.piece) name_cmp (IsDeparture M P v) c.as_slice.result.now) (sym same)
+          subst (λ v. Lists (λ d. d.piece) name_cmp (IsDeparture M P v) c.as_slice.result.now) (sym rules.ensures.node)
           (subst (λ (l : List Departure). Lists (λ d. d.piece) name_cmp (IsDeparture M P c.args.end.at) l)
           (sym c.as_slice.ensures.value) c.in_ok-departures.ensures);
-      coming =
-          subst (λ v. Lists (λ a. a.span.name) name_cmp (IsArrival M P v) c.as_slice-2.result.now) (sym same)
-          (subst (λ (l : List Arrival). Lists (λ a. a.span.name) name_cmp (IsArrival M P c.args.end.at) l)
-          (sym c.as_slice-2.ensures.value) c.in_ok-arrivals.ensures);
     }
 
 pub contexts_there-requires-2-clause-arrives : goal.contexts_there-requires-2-clause-arrives

@@ -78,5 +78,5 @@ returns-clause-form g c =
     let forms = subst (AllByRecursion (IsContextForm true)) (sym c.from_list-2.ensures)
     c.in_ok-contexts.ensures.forms in
     form M P c.args.line.now.road.way s c.requires.span nodes (c.as_slice-nodes.ensures.value ∙ c.requires.line) _
-    refl refl placed (subst (λ l. length l ≤ 65535) (sym c.as_slice-nodes.ensures.value) c.requires.short) listed
-    first forms
+    refl refl placed (subst (λ l. length l ≤ 65535) (sym c.as_slice-nodes.ensures.value) c.requires.short)
+    listed.ascending first forms

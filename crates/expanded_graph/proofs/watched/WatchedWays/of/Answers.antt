@@ -1,13 +1,12 @@
--- The states are those on these ways.
+-- The states are those near these ways.
 use Rattle.std.proofs.Common.{List, sym, subst, Contains}
 use Rattle.road_base.specs.declared.ids.WayId.{WayId}
-use Rattle.expanded_graph.proofs.tables.Tables.over.Goals as goal
+use Rattle.expanded_graph.proofs.watched.WatchedWays.of.Goals as goal
 
 pub returns-clause-are : goal.returns-clause-are
 returns-clause-are g c = record {
-  pieces = c.requires.pieces;
-  intersections = c.requires.intersections;
+  count = c.in_ok-states.ensures.count;
   states = λ w has.
       c.in_ok-states.ensures.states w (subst (λ (l : List WayId). Contains l w) (sym c.as_slice.ensures.value) has);
-  endings = c.in_ok-states.ensures.endings;
+  endings = c.in_ok-endings.ensures;
 }
