@@ -2,6 +2,7 @@ pub mod DrivePlaces
 pub mod DriveParts
 pub mod DriveOver
 pub mod DriveSearch
+pub mod OnePhaseDrives
 pub mod NamedMembers
 pub mod LookUps
 pub mod SearchKeys

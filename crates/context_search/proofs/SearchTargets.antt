@@ -16,12 +16,14 @@ use Rattle.road_model.specs.Contexts.{Every, One}
 use Rattle.road_model.specs.Network.{IsContext}
 use Rattle.road_model.specs.Blocks.{IsPieceEntry, IsArcEntry, name_of}
 use Rattle.road_model.specs.Naming.{OnePiece}
+use Rattle.road_model.specs.Driving.{is_marked}
 use Rattle.road_model.proofs.LongestContext.{Every-front}
 use Rattle.road_model.proofs.WalkLists.{context_pieces}
 use Rattle.context_search.specs.declared.ends.Begin.{Begin}
 use Rattle.context_search.specs.Marks.{At, key_of, names_behind}
 use Rattle.context_search.specs.Visits.{HasTargets}
 use Rattle.context_search.specs.Sought.{IsSpot, AreSpots, AreStarts}
+use Rattle.context_search.specs.PhaseWalks.{mark_of}
 use Rattle.context_search.specs.Routes.{spelled}
 use Rattle.road_model.proofs.SomeGraph.{names_tell}
 use Rattle.road_model.proofs.FileWalks.{context_ends}
@@ -39,6 +41,10 @@ module _ (M : Objects) (P : Rules) where
       ap (λ n. steps_from n.way n.index (e.end - n.index) n.dir) l.named
       ∙ ap (λ z. steps_from p.way p.index (z - p.index) p.dir) l.end_is
 
+  -- a piece is marked as it is written
+  pub entry_marked : (w : WayId) (e : Piece) (l : IsPieceEntry M P w e) → e.zone ≡ mark_of M P l.piece
+  entry_marked w e l = l.marked ∙ ap (λ (v : WayId). is_marked M P v l.piece.dir) (sym l.of)
+
   -- the names of the context of the pieces b and q
   pub spot_named : (b : List Span) (q : Span) (x : At) → IsSpot M P (b ++ q ∷ []) x
       → key_of x ≡ (name_of q, map name_of b)
@@ -53,6 +59,12 @@ module _ (M : Objects) (P : Rules) where
   spot_spelled b q x s =
       let l = same_last b q s.entry.before s.listed.piece s.is in
       entry_spells s.way x.piece s.listed ∙ ap spell (sym l.last)
+
+  -- the last piece of a context is marked as it is written
+  pub spot_marked : (b : List Span) (q : Span) (x : At) → IsSpot M P (b ++ q ∷ []) x → x.piece.zone ≡ mark_of M P q
+  spot_marked b q x s =
+      let l = same_last b q s.entry.before s.listed.piece s.is in
+      entry_marked s.way x.piece s.listed ∙ ap (mark_of M P) (sym l.last)
 
   -- the context to which an arc leads, and its names
   pub record Target (x : At) (a : TurnArc) (t : Span) (e : List Span) : Type 0 where

@@ -18,6 +18,8 @@ use Rattle.context_search.specs.declared.ends.Begin.{Begin}
 use Rattle.context_search.specs.declared.ends.Goal.{Goal}
 use Rattle.context_search.specs.declared.marks.TreeVisit.{TreeVisit}
 use Rattle.context_search.specs.Marks.{At, at_of}
+use Rattle.context_search.specs.Phases.{PhaseRules}
+use Rattle.context_search.specs.PhaseWalks.{LeadsIn, InOne}
 use Rattle.context_search.specs.Reaching.{LeadsTo}
 use Rattle.context_search.specs.Searching.{StopsAt, LeadsWithin}
 use Rattle.context_search.specs.Sought.{IsStartAt, IsGoalAt, AreSpots, AreGoals}
@@ -30,9 +32,9 @@ nothing_at : (k : ℕ) (v : TreeVisit) → slice_get [] k ≡ Some v → ⊥
 nothing_at zero v e = cc
 nothing_at (suc k) v e = cc
 
-module _ (L : List At) (m n : Marks) where
+module _ (F : PhaseRules) (L : List At) (m n : Marks) where
   -- a search that has nothing visited
-  pub new_search : AreKnown n → n.visits ≡ [] → n.waiting ≡ [] → IsSearch L n
+  pub new_search : AreKnown n → n.visits ≡ [] → n.waiting ≡ [] → IsSearch F L n
   new_search known none quiet =
       let not : (k : ℕ) (v : TreeVisit) → slice_get n.visits k ≡ Some v → ⊥
       = λ k v e. nothing_at k v (subst (λ (l : List TreeVisit). slice_get l k ≡ Some v) none e) in
@@ -44,16 +46,16 @@ module _ (L : List At) (m n : Marks) where
       }
 
   -- all first visits wait
-  pub first_closed : (goals : BTreeMap PieceName Goal) → m.visits ≡ [] → Grows L m n → AreClosed goals n
+  pub first_closed : (goals : BTreeMap PieceName Goal) → m.visits ≡ [] → Grows L m n → AreClosed F L goals n
   first_closed goals none g k v e = elim (g.new k v e) [
     | inl old ↦ absurd (nothing_at k v (subst (λ (l : List TreeVisit). slice_get l k ≡ Some v) none old))
     | inr waits ↦ inl waits
   ]
 
-  pub still_begun : (starts : List Begin) → AreBegun starts m → NoneBegun m n → AreBegun starts n
+  pub still_begun : (starts : List Begin) → AreBegun F starts m → NoneBegun m n → AreBegun F starts n
   still_begun starts begun none k first v e o = begun k first v (none k first v e o) o
 
-  pub descends : IsSearch L n → Descend n.visits
+  pub descends : IsSearch F L n → Descend n.visits
   descends s k j v e o = (s.comes k j v e o).0
 
 module _ (M : Objects) (P : Rules) where
@@ -64,8 +66,9 @@ module _ (M : Objects) (P : Rules) where
       let j = l.end_is in
       omega arith
 
-  pub visits_spelled : (L : List At) (m : Marks) → AreSpots M P L → IsSearch L m → AreSpelled m.visits
-  visits_spelled L m are s k v e =
+  pub visits_spelled : (F : PhaseRules) (L : List At) (m : Marks) → AreSpots M P L → IsSearch F L m
+      → AreSpelled m.visits
+  visits_spelled F L m are s k v e =
       let r = are.sound (at_of v.spot) (s.listed k v e) in
       entry_ascends r.1.way v.spot.piece.now r.1.listed
 
@@ -75,9 +78,9 @@ module _ (M : Objects) (P : Rules) where
       (slice_get_within (spell is.listed.piece) g.last is.stops.step is.stops.at)
 
   -- the goal that is met is one
-  pub met_goal : (b : NodeId) (goals : BTreeMap PieceName Goal) (visits : List TreeVisit) (place : ℕ) (g : Goal)
-      → AreGoals M P b goals → (met : Meets goals visits place g) → IsGoalAt M P b met.arc.piece g
-  met_goal b goals visits place g are met = are.sound met.arc.piece g met.met
+  pub met_goal : (F : PhaseRules) (b : NodeId) (goals : BTreeMap PieceName Goal) (visits : List TreeVisit) (place : ℕ)
+      (g : Goal) → AreGoals M P b goals → (met : Meets F goals visits place g) → IsGoalAt M P b met.arc.piece g
+  met_goal F b goals visits place g are met = are.sound met.arc.piece g met.met
 
   -- a piece on which a drive begins and then ends
   module _ (one : OnePiece M P) (a b : NodeId) (s : Begin) (g : Goal) (from : IsStartAt M P a s)
@@ -98,3 +101,12 @@ module _ (M : Objects) (P : Rules) where
         subst (λ d. LeadsTo M P a b (take (g.last + 1 - s.first) (drop s.first d)))
         (sym (entry_spells M P from.way s.piece.now from.listed))
         (leads from.listed.piece s.first g.last from.listed.is from.begins stops l)
+
+    -- the same of phases, of which none is asked on one piece
+    pub led_within : (F : PhaseRules) → s.first ≤ g.last
+        → LeadsIn M P F a b (take (g.last + 1 - s.first) (drop s.first (spelled s.piece.now)))
+    led_within F l =
+        let stops = subst (λ z. StopsAt M z g.last b) (sym same_piece) to.stops in
+        InOne from.listed.piece s.first g.last from.listed.is from.begins stops l
+        (ap (λ d. take (g.last + 1 - s.first) (drop s.first d))
+        (entry_spells M P from.way s.piece.now from.listed))

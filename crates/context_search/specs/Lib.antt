@@ -7,3 +7,5 @@ pub mod Routes
 pub mod Sought
 pub mod Ends
 pub mod DriveOver
+pub mod Phases
+pub mod PhaseWalks

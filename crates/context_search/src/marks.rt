@@ -1,8 +1,7 @@
 //! The contexts that a search has visited.
 ghost use Rattle.std.specs.Prelude.{◌≡◌, ◌<◌, ◌∷◌, [], length, IfOk, OnOk, IfSome, IfNone, Some, slice_get};
 ghost use Rattle.std.specs.List.Sorted.{IsPermutation};
-ghost use Rattle.context_search.specs.Marks.{at_of, key_of};
-ghost use Rattle.context_search.specs.Visits.{AreKnown, IsMarked, names_in};
+ghost use Rattle.context_search.specs.Visits.{AreKnown, IsMarked, names_in, state_key};
 
 use crate::frontier::{Frontier, length_of};
 use crate::spots::Spot;
@@ -22,19 +21,21 @@ pub enum Origin {
     Follows(usize),
 }
 
-/// A context that can be come to, how it was, and how far it is to the end of its piece.
+/// A context that can be come to in a phase, how it was, and how far it is to the end of its piece.
 #[derive(Clone, Copy, Drop)]
 pub struct TreeVisit<'a> {
     pub spot: Spot<'a>,
+    pub phase: u8,
     pub origin: Origin,
     pub driven: u64,
 }
 
-/// What names a context: its piece, and the pieces before it. Names are compared in this order.
+/// What names a context in a phase: its piece, the pieces before it, and the phase. Names are compared in this order.
 #[derive(Clone, Copy, Drop, PartialEq, Eq, PartialOrd, Ord)]
 pub struct ContextName<'a> {
     pub piece: PieceName,
     pub before: &'a [PieceName],
+    pub phase: u8,
 }
 
 /// The visits in their order, the names of their contexts, and those from which the search hasn't gone on.
@@ -93,14 +94,20 @@ impl<'a> Search<'a> {
         self.frontier.pop()
     }
 
-    /// Visits the context, where it isn't visited yet. So much was driven before its piece.
-    pub fn mark(&mut self, spot: Spot<'a>, origin: Origin, before: u64) -> Result<(), NoMemory>
+    /// Visits the context in the phase, where that isn't done yet. So much was driven before its piece.
+    pub fn mark(
+        &mut self,
+        spot: Spot<'a>,
+        phase: u8,
+        origin: Origin,
+        before: u64,
+    ) -> Result<(), NoMemory>
         requires { AreKnown self.old }
         ensures known { OnOk result (AreKnown self.new) }
-        ensures marked { OnOk result (IsMarked spot.entry origin self.old self.new) }
+        ensures marked { OnOk result (IsMarked spot.entry phase origin self.old self.new) }
     {
         name_order();
-        let name = name_of(spot);
+        let name = name_of(spot, phase);
         if self.known.contains(&name) {
             return Ok(());
         }
@@ -108,6 +115,7 @@ impl<'a> Search<'a> {
         self.frontier.push(self.visits.len(), driven, spot.piece)?;
         self.visits.push(TreeVisit {
             spot,
+            phase,
             origin,
             driven,
         })?;
@@ -116,12 +124,13 @@ impl<'a> Search<'a> {
     }
 }
 
-/// The context's names.
-fn name_of<'a>(spot: Spot<'a>) -> ContextName<'a>
-    ensures { names_in result ≡ key_of (at_of spot.entry) }
+/// The context's names, and the phase.
+fn name_of<'a>(spot: Spot<'a>, phase: u8) -> ContextName<'a>
+    ensures { names_in result ≡ state_key spot.entry phase }
 {
     ContextName {
         piece: spot.piece.name,
         before: spot.context.before.items(),
+        phase,
     }
 }

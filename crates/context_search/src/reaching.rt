@@ -8,14 +8,16 @@ ghost use Rattle.context_search.specs.declared.ends.Begin.{Begin};
 ghost use Rattle.context_search.specs.declared.ends.Goal.{Goal};
 ghost use Rattle.context_search.specs.Marks.{at_of};
 ghost use Rattle.context_search.specs.Visits.{goal_in};
+ghost use Rattle.context_search.specs.PhaseWalks.{IsFoundIn};
 ghost use Rattle.context_search.specs.Reaching.{IsFound};
 ghost use Rattle.context_search.specs.Sought.{AreEnds, AreSpots};
 
 use crate::ends::{Begin, DriveEnds, Goal, ends_of, goal_at};
 use crate::following::{begin, run};
 use crate::found::Found;
-use crate::laws::{listed_contexts, searched_drives};
+use crate::laws::{drives_over, listed_contexts, searched_drives};
 use crate::marks::Search;
+use crate::phases::{OnePhase, Phases};
 use crate::routes::{along, within};
 use crate::spots::{Spot, spots_of};
 use graph_blocks::{LendsBlocks, walk};
@@ -43,6 +45,29 @@ pub fn reach<M: World, P: Profile, B: LendsBlocks>(
     requires { AreBlocksOf (M.objects world.now) (P.rules profile.now) (B.map blocks.now) }
     ensures { IfOk result (IsFound (M.objects world.now) (P.rules profile.now) a b) }
 {
+    searched_drives(profile);
+    drives_over(profile);
+    reach_in_phases(alloc, world, profile, blocks, &OnePhase, a, b)
+}
+
+/// A drive from node a to node b, also where they are the same, by a walk in these phases, or why there is none. Such a
+/// drive stays on one piece, of which nothing is asked, or begins on a piece in the phase that starts with it, and goes
+/// on by each further piece, the last one too, from the phase that it is in. The blocks are those of the world under
+/// the profile.
+///
+/// Takes what `reach` takes, once for each phase in which the search comes to a context.
+pub fn reach_in_phases<M: World, P: Profile, B: LendsBlocks, F: Phases>(
+    alloc: Global,
+    world: &M,
+    profile: &P,
+    blocks: &B,
+    phases: &F,
+    a: NodeId,
+    b: NodeId,
+) -> Result<Found, NoMemory>
+    requires { AreBlocksOf (M.objects world.now) (P.rules profile.now) (B.map blocks.now) }
+    ensures { IfOk result (IsFoundIn (M.objects world.now) (P.rules profile.now) (F.rules phases.now) a b) }
+{
     if !is_located(world, a) {
         return Ok(Found::NoNode(a));
     }
@@ -53,6 +78,7 @@ pub fn reach<M: World, P: Profile, B: LendsBlocks>(
         alloc,
         &Network::new(world, *profile),
         &blocks.lend(),
+        phases,
         a,
         b,
         to,
@@ -71,10 +97,11 @@ fn location_of<M: World>(world: &M, node: NodeId) -> Option<Location>
 }
 
 /// A drive from node a to node b, which lies there, or that there is none.
-fn drive_to<M: World, P: Profile>(
+fn drive_to<M: World, P: Profile, F: Phases>(
     alloc: Global,
     network: &Network<'_, M, P>,
     blocks: &View<'_, WayId, Block>,
+    phases: &F,
     a: NodeId,
     b: NodeId,
     to: Location,
@@ -82,37 +109,38 @@ fn drive_to<M: World, P: Profile>(
     requires blocks { on network.now AreBlocksOf (block_map blocks.now) }
     requires from { IsTrue (located (map_of network.now) (Some a)) }
     requires to { IsTrue (located (map_of network.now) (Some b)) }
-    ensures { IfOk result (on network.now IsFound a b) }
+    ensures { IfOk result (on network.now IsFoundIn (F.rules phases.now) a b) }
 {
     let ends = ends_of(alloc, network, blocks, a, b)?;
-    drive_between(alloc, network, blocks, &ends, to)
+    drive_between(alloc, network, blocks, phases, &ends, to)
 }
 
 /// A drive between these ends, of which the last one lies there, or that there is none.
-fn drive_between<M: World, P: Profile>(
+fn drive_between<M: World, P: Profile, F: Phases>(
     alloc: Global,
     network: &Network<'_, M, P>,
     blocks: &View<'_, WayId, Block>,
+    phases: &F,
     ends: &DriveEnds<'_>,
     to: Location,
 ) -> Result<Found, NoMemory>
     requires blocks { on network.now AreBlocksOf (block_map blocks.now) }
     requires ends { on network.now AreEnds ends.now }
-    ensures { IfOk result (on network.now IsFound ends.now.a ends.now.b) }
+    ensures { IfOk result (on network.now IsFoundIn (F.rules phases.now) ends.now.a ends.now.b) }
 {
-    searched_drives(&network.profile);
     one_name(&network.profile);
     if let Some((start, goal)) = inside_one(&ends.starts, &ends.goals) {
         return Ok(Found::Drive(within(alloc, &start, &goal)?));
     }
-    drive_over(alloc, network, blocks, ends, to)
+    drive_over(alloc, network, blocks, phases, ends, to)
 }
 
 /// A drive over several pieces, where none begins and ends on one piece.
-fn drive_over<M: World, P: Profile>(
+fn drive_over<M: World, P: Profile, F: Phases>(
     alloc: Global,
     network: &Network<'_, M, P>,
     blocks: &View<'_, WayId, Block>,
+    phases: &F,
     ends: &DriveEnds<'_>,
     to: Location,
 ) -> Result<Found, NoMemory>
@@ -122,14 +150,13 @@ fn drive_over<M: World, P: Profile>(
         → goal_in ends.now.goals s.piece.now.name ≡ Some g
         → s.first ≤ g.last
         → ⊥ }
-    ensures { IfOk result (on network.now IsFound ends.now.a ends.now.b) }
+    ensures { IfOk result (on network.now IsFoundIn (F.rules phases.now) ends.now.a ends.now.b) }
 {
-    searched_drives(&network.profile);
     listed_contexts(&network.profile);
     one_name(&network.profile);
     let mut search = Search::new(alloc, to);
-    begin(&mut search, blocks, &ends.starts)?;
-    match run(alloc, &mut search, blocks, &ends.goals)? {
+    begin(&mut search, blocks, phases, &ends.starts)?;
+    match run(alloc, &mut search, blocks, phases, &ends.goals)? {
         Some(meeting) => Ok(Found::Drive(along(alloc, search.visits(), &meeting)?)),
         None => Ok(Found::Nowhere),
     }

@@ -1,5 +1,5 @@
 -- The visits lead along legal drives, and where none of them meets a goal no drive does.
-use Rattle.std.proofs.Common.{◌≡◌, ◌<◌, [], Some, Option, MatchOption, List, Contains, length, sym, subst}
+use Rattle.std.proofs.Common.{◌≡◌, ◌<◌, Some, Option, MatchOption, List, Contains, length, sym, subst}
 use Rattle.std.proofs.Common.{ℕ, slice_get, ◌≤◌, refl}
 use Rattle.std.proofs.lemmas.Option.{slice_get_within}
 use Rattle.graph_blocks.specs.Lent.{map_of}
@@ -10,9 +10,9 @@ use Rattle.context_search.specs.declared.marks.TreeVisit.{TreeVisit}
 use Rattle.context_search.specs.Listed.{contexts_in}
 use Rattle.context_search.specs.Routes.{Descend, AreSpelled, IsRoute}
 use Rattle.context_search.specs.Sought.{AreStarts}
-use Rattle.context_search.specs.Visits.{IsClosed, IsVisited, Meets, goal_in}
-use Rattle.context_search.proofs.SearchSeen.{searched}
-use Rattle.context_search.proofs.SearchDriven.{driven, leads_along}
+use Rattle.context_search.specs.Visits.{IsClosed, IsVisited, Meets, first_key, goal_in}
+use Rattle.context_search.proofs.SearchSeen.{none_leads}
+use Rattle.context_search.proofs.SearchDriven.{driven, led_along}
 use Rattle.context_search.proofs.SearchTargets.{start_listed, has_targets}
 use Rattle.context_search.proofs.SearchTogether.{new_search, still_begun, met_goal, first_closed}
 use Rattle.context_search.proofs.SearchTogether.{descends, entry_ascends, visits_spelled, goal_within}
@@ -37,7 +37,8 @@ pub begin-requires-clause-search : goal.begin-requires-clause-search
 begin-requires-clause-search g c =
     let L = contexts_in (map_of c.args.blocks.now) in
     let made = c.new-search.ensures in
-    new_search L c.new-search.result c.new-search.result made.known made.visits made.waiting
+    new_search (g.F.Phases.rules c.args.phases.now) L
+    c.new-search.result c.new-search.result made.known made.visits made.waiting
 
 pub run-requires-clause-order : goal.run-requires-clause-order
 run-requires-clause-order g c =
@@ -53,13 +54,15 @@ run-requires-clause-targets g c =
 
 pub run-requires-clause-closed : goal.run-requires-clause-closed
 run-requires-clause-closed g c =
-    first_closed (contexts_in (map_of c.args.blocks.now)) c.new-search.result c.begin.new.search c.args.ends.now.goals
+    first_closed (g.F.Phases.rules c.args.phases.now) (contexts_in (map_of c.args.blocks.now))
+    c.new-search.result c.begin.new.search c.args.ends.now.goals
     c.new-search.ensures.visits c.in_ok-begin.ensures.grows
 
 pub along-requires-clause-descend : goal.along-requires-clause-descend
 along-requires-clause-descend g c =
     subst (λ (l : List TreeVisit). Descend l) (sym c.visits.ensures)
-    (descends (contexts_in (map_of c.args.blocks.now)) c.run.new.search c.run.new.search c.in_ok-meeting.ensures.search)
+    (descends (g.F.Phases.rules c.args.phases.now) (contexts_in (map_of c.args.blocks.now)) c.run.new.search
+    c.run.new.search c.in_ok-meeting.ensures.search)
 
 pub along-requires-clause-spelled : goal.along-requires-clause-spelled
 along-requires-clause-spelled g c =
@@ -67,17 +70,20 @@ along-requires-clause-spelled g c =
     let P = g.P.Profile.rules c.args.network.now.profile in
     let m = map_of c.args.blocks.now in
     subst (λ (l : List TreeVisit). AreSpelled l) (sym c.visits.ensures)
-    (visits_spelled M P (contexts_in m) c.run.new.search (c.listed_contexts.ensures.spots M m c.requires.graph)
+    (visits_spelled M P (g.F.Phases.rules c.args.phases.now) (contexts_in m)
+    c.run.new.search (c.listed_contexts.ensures.spots M m c.requires.graph)
     c.in_ok-meeting.ensures.search)
 
 pub along-requires-clause-place : goal.along-requires-clause-place
 along-requires-clause-place g c =
+    let F = g.F.Phases.rules c.args.phases.now in
+    let L = contexts_in (map_of c.args.blocks.now) in
     let G = c.args.ends.now.goals in
     let vs = c.run.new.search.visits in
     let at = c.in-Some.meeting in
-    let met : Meets G vs at.place at.goal = subst (λ (r : Option Meeting). MatchOption r
-    ((k : ℕ) (v : TreeVisit) → slice_get vs k ≡ Some v → IsClosed G vs v)
-    (λ (m : Meeting). Meets G vs m.place m.goal)) c.in-Some.is c.in_ok-meeting.ensures.met in
+    let met : Meets F G vs at.place at.goal = subst (λ (r : Option Meeting). MatchOption r
+    ((k : ℕ) (v : TreeVisit) → slice_get vs k ≡ Some v → IsClosed F L G vs v)
+    (λ (m : Meeting). Meets F G vs m.place m.goal)) c.in-Some.is c.in_ok-meeting.ensures.met in
     subst (λ (l : List TreeVisit). at.place < length l) (sym c.visits.ensures)
     (slice_get_within vs at.place met.visit met.at)
 
@@ -85,26 +91,30 @@ pub along-requires-clause-ascends : goal.along-requires-clause-ascends
 along-requires-clause-ascends g c =
     let M = g.M.World.objects c.args.network.now.world.now in
     let P = g.P.Profile.rules c.args.network.now.profile in
+    let F = g.F.Phases.rules c.args.phases.now in
+    let L = contexts_in (map_of c.args.blocks.now) in
     let G = c.args.ends.now.goals in
     let vs = c.run.new.search.visits in
     let at = c.in-Some.meeting in
-    let met : Meets G vs at.place at.goal = subst (λ (r : Option Meeting). MatchOption r
-    ((k : ℕ) (v : TreeVisit) → slice_get vs k ≡ Some v → IsClosed G vs v)
-    (λ (m : Meeting). Meets G vs m.place m.goal)) c.in-Some.is c.in_ok-meeting.ensures.met in
-    let is = met_goal M P c.args.ends.now.b G vs at.place at.goal c.requires.ends.goals met in
+    let met : Meets F G vs at.place at.goal = subst (λ (r : Option Meeting). MatchOption r
+    ((k : ℕ) (v : TreeVisit) → slice_get vs k ≡ Some v → IsClosed F L G vs v)
+    (λ (m : Meeting). Meets F G vs m.place m.goal)) c.in-Some.is c.in_ok-meeting.ensures.met in
+    let is = met_goal M P F c.args.ends.now.b G vs at.place at.goal c.requires.ends.goals met in
     entry_ascends M P is.way at.goal.piece.now is.listed
 
 pub along-requires-clause-last : goal.along-requires-clause-last
 along-requires-clause-last g c =
     let M = g.M.World.objects c.args.network.now.world.now in
     let P = g.P.Profile.rules c.args.network.now.profile in
+    let F = g.F.Phases.rules c.args.phases.now in
+    let L = contexts_in (map_of c.args.blocks.now) in
     let G = c.args.ends.now.goals in
     let vs = c.run.new.search.visits in
     let at = c.in-Some.meeting in
-    let met : Meets G vs at.place at.goal = subst (λ (r : Option Meeting). MatchOption r
-    ((k : ℕ) (v : TreeVisit) → slice_get vs k ≡ Some v → IsClosed G vs v)
-    (λ (m : Meeting). Meets G vs m.place m.goal)) c.in-Some.is c.in_ok-meeting.ensures.met in
-    let is = met_goal M P c.args.ends.now.b G vs at.place at.goal c.requires.ends.goals met in
+    let met : Meets F G vs at.place at.goal = subst (λ (r : Option Meeting). MatchOption r
+    ((k : ℕ) (v : TreeVisit) → slice_get vs k ≡ Some v → IsClosed F L G vs v)
+    (λ (m : Meeting). Meets F G vs m.place m.goal)) c.in-Some.is c.in_ok-meeting.ensures.met in
+    let is = met_goal M P F c.args.ends.now.b G vs at.place at.goal c.requires.ends.goals met in
     goal_within M P c.args.ends.now.b met.arc.piece at.goal is
 
 pub returns-in-Some : goal.returns-in-Some
@@ -114,26 +124,26 @@ returns-in-Some g c =
     let blocks = map_of c.args.blocks.now in
     let L = contexts_in blocks in
     let spots = c.listed_contexts.ensures.spots M blocks c.requires.graph in
+    let F = g.F.Phases.rules c.args.phases.now in
     let G = c.args.ends.now.goals in
     let vs = c.run.new.search.visits in
     let at = c.in-Some.meeting in
-    let met : Meets G vs at.place at.goal = subst (λ (r : Option Meeting). MatchOption r
-    ((k : ℕ) (v : TreeVisit) → slice_get vs k ≡ Some v → IsClosed G vs v)
-    (λ (m : Meeting). Meets G vs m.place m.goal)) c.in-Some.is c.in_ok-meeting.ensures.met in
+    let met : Meets F G vs at.place at.goal = subst (λ (r : Option Meeting). MatchOption r
+    ((k : ℕ) (v : TreeVisit) → slice_get vs k ≡ Some v → IsClosed F L G vs v)
+    (λ (m : Meeting). Meets F G vs m.place m.goal)) c.in-Some.is c.in_ok-meeting.ensures.met in
     let S = c.deref.result.now in
     let a = c.args.ends.now.a in
     let b = c.args.ends.now.b in
     let d = c.in_ok-along-in-Some.field-0 in
     let one = c.one_name.ensures.pieces M in
     let from = subst (λ (l : List Begin). AreStarts M P a l) (sym c.deref.ensures.value) c.requires.ends.starts in
-    let begun = still_begun L c.begin.new.search c.run.new.search S c.in_ok-begin.ensures.begun
+    let begun = still_begun F L c.begin.new.search c.run.new.search S c.in_ok-begin.ensures.begun
     c.in_ok-meeting.ensures.begun in
     let route : IsRoute vs at.place at.goal d = subst (λ (l : List TreeVisit). IsRoute l at.place at.goal d)
     c.visits.ensures c.in_ok-along-in-Some.ensures in
-    let r = driven M P vs a route.first one L spots c.run.new.search refl S from
+    let r = driven M P F vs a route.first one L spots c.run.new.search refl S from
     c.in_ok-meeting.ensures.search begun route.chain in
-    leads_along M P vs a route.first one b G c.requires.ends.goals (c.searched_drives.ensures.along M a b)
-    route.places at.place at.goal r met d route.is
+    led_along M P F vs a route.first one b G c.requires.ends.goals route.places at.place at.goal r met d route.is
 
 pub returns : goal.returns
 returns g c =
@@ -142,6 +152,7 @@ returns g c =
     let blocks = map_of c.args.blocks.now in
     let L = contexts_in blocks in
     let spots = c.listed_contexts.ensures.spots M blocks c.requires.graph in
+    let F = g.F.Phases.rules c.args.phases.now in
     let G = c.args.ends.now.goals in
     let S = c.deref.result.now in
     let vs = c.run.new.search.visits in
@@ -149,14 +160,14 @@ returns g c =
     let b = c.args.ends.now.b in
     let one = c.one_name.ensures.pieces M in
     let from = subst (λ (l : List Begin). AreStarts M P a l) (sym c.deref.ensures.value) c.requires.ends.starts in
-    let closed : (k : ℕ) (v : TreeVisit) → slice_get vs k ≡ Some v → IsClosed G vs v
+    let closed : (k : ℕ) (v : TreeVisit) → slice_get vs k ≡ Some v → IsClosed F L G vs v
     = subst (λ (r : Option Meeting). MatchOption r
-    ((k : ℕ) (v : TreeVisit) → slice_get vs k ≡ Some v → IsClosed G vs v)
-    (λ (m : Meeting). Meets G vs m.place m.goal)) c.in-None.is c.in_ok-meeting.ensures.met in
-    let started : (s : Begin) → Contains S s → IsVisited vs (s.piece.now.name, [])
-    = λ s has. c.in_ok-meeting.ensures.stays (s.piece.now.name, []) (c.in_ok-begin.ensures.all s has) in
+    ((k : ℕ) (v : TreeVisit) → slice_get vs k ≡ Some v → IsClosed F L G vs v)
+    (λ (m : Meeting). Meets F G vs m.place m.goal)) c.in-None.is c.in_ok-meeting.ensures.met in
+    let started : (s : Begin) → Contains S s → IsVisited vs (first_key F s)
+    = λ s has. c.in_ok-meeting.ensures.stays (first_key F s) (c.in_ok-begin.ensures.all s has) in
     let apart : (s : Begin) (g : Goal) → Contains S s → goal_in G s.piece.now.name ≡ Some g → s.first ≤ g.last → ⊥
     = λ s g has. c.requires.apart s g (subst (λ (l : List Begin). Contains l s) c.deref.ensures.value has) in
-    let r = searched M P L one spots a b S G vs from c.requires.ends.goals closed
-    c.in_ok-meeting.ensures.search.listed started apart in
-    (c.requires.ends.from, c.requires.ends.to, λ d leads. c.searched_drives.ensures.nowhere M a b r.0 r.1 d leads)
+    let none = none_leads M P F L one spots a b S G vs from c.requires.ends.goals
+    c.in_ok-meeting.ensures.search.listed closed started apart in
+    (c.requires.ends.from, c.requires.ends.to, none)

@@ -1,28 +1,16 @@
-use Rattle.std.proofs.Common.{IfOk, sym, ap, subst}
-use Rattle.std.specs.FinMap.{FinMap}
-use Rattle.road_base.specs.Objects.{Objects}
-use Rattle.road_model.specs.declared.blocks.Block.{Block}
-use Rattle.road_model.specs.Rules.{Rules}
-use Rattle.road_model.specs.Orders.{way_cmp}
-use Rattle.road_model.specs.BlockMap.{AreBlocksOf}
+use Rattle.std.proofs.lemmas.Result.{IfOk-weaker}
+use Rattle.context_search.specs.Phases.{one_phase}
+use Rattle.context_search.specs.PhaseWalks.{IsFoundIn}
 use Rattle.context_search.specs.Reaching.{IsFound}
+use Rattle.context_search.proofs.OnePhaseDrives.{found_in_one}
 use Rattle.context_search.proofs.reaching.reach.Goals as goal
-
-pub drive_to-requires-clause-blocks : goal.drive_to-requires-clause-blocks
-drive_to-requires-clause-blocks g c =
-    let world = ap g.M.World.objects c.new.ensures.world in
-    let profile = ap g.P.Profile.rules c.new.ensures.profile in
-    let M = g.M.World.objects c.new.result.world.now in
-    let P = g.P.Profile.rules c.new.result.profile in
-    let blocks = g.B.LendsBlocks.map c.args.blocks.now in
-    subst (λ (m : FinMap way_cmp Block). AreBlocksOf M P m) (sym c.lend.ensures)
-    (subst (λ (N : Objects). AreBlocksOf N P blocks) (sym world)
-    (subst (λ (Q : Rules). AreBlocksOf (g.M.World.objects c.args.world.now) Q blocks) (sym profile) c.requires))
 
 pub returns : goal.returns
 returns g c =
-    let world = ap g.M.World.objects c.new.ensures.world in
-    let profile = ap g.P.Profile.rules c.new.ensures.profile in
-    subst (λ (M : Objects). IfOk c.drive_to.result (IsFound M (g.P.Profile.rules c.args.profile.now) c.args.a c.args.b))
-    world (subst (λ (P : Rules). IfOk c.drive_to.result
-    (IsFound (g.M.World.objects c.new.result.world.now) P c.args.a c.args.b)) profile c.drive_to.ensures)
+    let M = g.M.World.objects c.args.world.now in
+    let P = g.P.Profile.rules c.args.profile.now in
+    let a = c.args.a in
+    let b = c.args.b in
+    IfOk-weaker c.reach_in_phases.result (IsFoundIn M P one_phase a b) (IsFound M P a b)
+    (found_in_one M P a b (c.searched_drives.ensures.within M a b) (c.searched_drives.ensures.along M a b)
+    (c.drives_over.ensures M a b)) c.reach_in_phases.ensures
