@@ -1,0 +1,5 @@
+pub mod Zones
+pub mod Phases
+pub mod ZoneWalks
+pub mod PhaseNumbers
+pub mod ZoneReaching
