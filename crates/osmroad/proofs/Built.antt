@@ -17,7 +17,6 @@ use Rattle.road_model.specs.Naming.{OneBlock}
 use Rattle.graph_file.specs.declared.writer.GraphWriter.{GraphWriter}
 use Rattle.graph_file.specs.Writing.{HasWritten}
 use Rattle.graph_file.specs.GraphReading.{IsFile, IsOfItsWay}
-use Rattle.graph_file.specs.WalkedFiles.{IsWalkedFile}
 use Rattle.road_model.specs.Highways.{AreRoadWays}
 use Rattle.osmroad.specs.Building.{HasBlocksOf, IsBlockAmong}
 use Rattle.ordered_lists.proofs.ListMembers.{In, contains_from_in, in_from_contains, contains_more, in_left, in_end}
@@ -117,17 +116,17 @@ module _ (M : Objects) (P : Rules) where
     spelled = spelled has.blocks has.written;
   }
 
-  -- the file of all roads is walked as the object map
-  pub whole_file : (ways : List WayId) (writer : GraphWriter) (bytes : List ℕ)
+  -- the file of all roads has what a law says of the files of all roads
+  pub whole_file : (Q : List ℕ → Type 0) (ways : List WayId) (writer : GraphWriter) (bytes : List ℕ)
       → AreRoadWays M P ways → HasBlocksOf M P ways writer
       → ((blocks : List Block) → HasWritten 2 P.number blocks writer → IsTrue (rises way_cmp (map (λ b. b.way) blocks))
       → AllByRecursion IsOfItsWay blocks → IsFile 2 P.number bytes blocks)
       → ((blocks : List Block) → Lists (λ b. b.way) way_cmp (IsRoadBlock M P) blocks
       → AllByRecursion IsOfItsWay blocks)
       → ((file : List ℕ) (blocks : List Block) → Lists (λ b. b.way) way_cmp (IsRoadBlock M P) blocks
-      → IsFile 2 P.number file blocks → IsWalkedFile M P file)
-      → IsWalkedFile M P bytes
-  whole_file ways writer bytes all has file own law =
+      → IsFile 2 P.number file blocks → Q file)
+      → Q bytes
+  whole_file Q ways writer bytes all has file own law =
       let listed = all_listed ways writer all has in
       law bytes has.blocks listed
       (file has.blocks has.written has.listed.ascending (own has.blocks listed))

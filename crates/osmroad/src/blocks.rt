@@ -6,6 +6,7 @@ ghost use Rattle.ordered_lists.specs.Orders.{rises};
 ghost use Rattle.road_model.specs.Orders.{way_cmp};
 ghost use Rattle.road_model.specs.Format.{IsGraph};
 ghost use Rattle.graph_file.specs.WalkedFiles.{IsWalkedFile};
+ghost use Rattle.zone_files.specs.ZoneFileWalks.{IsZoneFile};
 ghost use Rattle.road_model.specs.Highways.{AreRoadWays};
 ghost use Rattle.osmroad.specs.Building.{HasBlocksOf};
 
@@ -18,6 +19,7 @@ use road_model::Profile;
 use road_model::laws::{name_order, one_block};
 use std::alloc::Global;
 use std::sync::ledger::Ledger;
+use zone_files::laws::zone_file;
 
 /// About what the block of a way with one piece in each direction takes.
 const ROOM_A_WAY: usize = 256;
@@ -33,10 +35,12 @@ pub fn write_blocks<P: Profile, L: Ledger>(
     requires ways { AreRoadWays builder.now.world (P.rules builder.now.profile) ways.now }
     ensures graph { IfOk result (λ out. IsGraph builder.now.world (P.rules builder.now.profile) out.items) }
     ensures file { IfOk result (λ out. IsWalkedFile builder.now.world (P.rules builder.now.profile) out.items) }
+    ensures zones { IfOk result (λ out. IsZoneFile builder.now.world (P.rules builder.now.profile) out.items) }
     ensures built { steps.new ≤ steps.old + length ways.now }
 {
     let profile = builder.profile();
     walked_file(&profile);
+    zone_file(&profile);
     let room = ways.len().saturating_mul(ROOM_A_WAY);
     let mut writer = GraphWriter::new(alloc, VERSION, profile.number(), room)?;
     for way in ways {

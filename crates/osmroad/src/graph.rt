@@ -7,6 +7,7 @@ ghost use Rattle.road_base.specs.Profiles.{IsProfile};
 ghost use Rattle.road_model.specs.Format.{IsGraph};
 ghost use Rattle.road_model.specs.Highways.{AreRoadWays, highways};
 ghost use Rattle.graph_file.specs.WalkedFiles.{IsWalkedFile};
+ghost use Rattle.zone_files.specs.ZoneFileWalks.{IsZoneFile};
 ghost use Rattle.osmroad.specs.Compiled.{IsGraphOf};
 
 use crate::blocks::write_blocks;
@@ -52,6 +53,7 @@ fn graph_over<P: Profile, L: Ledger>(
     requires known { IsProfile (P.rules profile).number }
     ensures graph { IfOk result (λ out. IsGraph world.now (P.rules profile) out.items) }
     ensures file { IfOk result (λ out. IsWalkedFile world.now (P.rules profile) out.items) }
+    ensures zones { IfOk result (λ out. IsZoneFile world.now (P.rules profile) out.items) }
     ensures built { steps.new ≤ steps.old + length (highways world.now) }
 {
     roads_refer(&profile);
@@ -71,6 +73,7 @@ fn graph_of_ways<P: Profile, L: Ledger>(
     requires ways { AreRoadWays world.now (P.rules profile) ways.now }
     ensures graph { IfOk result (λ out. IsGraph world.now (P.rules profile) out.items) }
     ensures file { IfOk result (λ out. IsWalkedFile world.now (P.rules profile) out.items) }
+    ensures zones { IfOk result (λ out. IsZoneFile world.now (P.rules profile) out.items) }
     ensures built { steps.new ≤ steps.old + length ways.now }
 {
     let builder = GraphBuilder::of_all(alloc, world, profile, ways)?;

@@ -132,3 +132,5 @@ mod session_tests;
 mod store_tests;
 #[cfg(test)]
 mod tests;
+#[cfg(test)]
+mod zone_tests;

@@ -1,4 +1,5 @@
 mod RepliesAsked
+mod ZoneSteps
 mod RoadAnswers
 mod FrameMessages
 mod FollowedChanges

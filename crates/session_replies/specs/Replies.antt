@@ -16,6 +16,7 @@ use Rattle.road_model.specs.BlockMap.{AreBlocksOf}
 use Rattle.road_model.specs.Format.{IsGraph}
 use Rattle.road_model.specs.Walks.{AreWalked}
 use Rattle.graph_file.specs.WalkedFiles.{IsWalkedFile}
+use Rattle.zone_files.specs.ZoneFileWalks.{IsZoneFile}
 use Rattle.drive_queries.specs.declared.messages.Asked.{Asked}
 use Rattle.drive_queries.specs.declared.messages.Asked.TheVariants.{Empty, Seq, Graph, State, Drive, Reach, Unknown}
 use Rattle.drive_judging.specs.declared.verdict.Verdict.{Verdict}
@@ -28,25 +29,30 @@ use Rattle.change_apply.specs.Engines.{Touches}
 use Rattle.least_cost.specs.declared.answers.Shortest.{Shortest}
 use Rattle.least_cost.specs.declared.answers.Cheapest.{Cheapest}
 use Rattle.least_cost.specs.Cheapest.{IsShortest, IsCheapest}
+use Rattle.destination_drives.specs.ZoneReaching.{IsZoneFound}
 use Rattle.moment_rules.specs.AtMoment.{rules_at}
 use Rattle.pinned_readers.specs.PinnedRuns.{Pins}
 use Rattle.session_answers.specs.Replies.{Replies, Costs}
 use Rattle.session_replies.specs.declared.further_messages.FurtherMessage.{FurtherMessage}
 use Rattle.session_replies.specs.declared.further_messages.FurtherMessage.TheVariants.{DriveAt, Route, Certify}
+use Rattle.session_replies.specs.declared.further_messages.FurtherMessage.TheVariants.{ZoneDrive, ZoneReach}
+use Rattle.session_replies.specs.declared.zone_verdicts.ZoneVerdict.{ZoneVerdict}
 use Rattle.session_replies.specs.declared.pin_messages.PinMessage.{PinMessage}
 use Rattle.session_replies.specs.FurtherMessages.{further_message}
 use Rattle.session_replies.specs.PinMessages.{pin_message}
 use Rattle.session_replies.specs.PinReplies.{IsPinReply}
 use Rattle.session_replies.specs.CostTexts.{shortest_line, cheapest_said}
+use Rattle.session_replies.specs.ZoneVerdicts.{IsZoneVerdict, zone_verdict_line}
 use Rattle.session_replies.specs.Texts.{unknown_line, state_line, verdict_line, found_line, graph_line}
 
 -- The graph of the objects: its walks are the drives that may be driven there, and whoever walks over its bytes by the
--- grammar makes these walks.
+-- grammar makes these walks, and by the marks there those that go through no zone.
 pub record IsGraphReply (M : Objects) (P : Rules) (out : List ℕ) : Type 0 where
   pub graph : List ℕ
   pub is : IsGraph M P graph
   pub walks : AreWalked M P
   pub file : IsWalkedFile M P graph
+  pub zones : IsZoneFile M P graph
   pub spelled : out ≡ graph_line graph ++ graph
 
 -- the kept number, and how large the graph of the objects is
@@ -67,6 +73,14 @@ IsRouteReply M P a b out = (found : Shortest) × IsShortest M P a b found × (ou
 abbrev pub IsCertifyReply : Objects → Rules → NodeId → NodeId → List ℕ → Type 0
 IsCertifyReply M P a b out = (found : Cheapest) × IsCheapest M P a b found × (out ≡ cheapest_said found)
 
+-- whether the drive is legal and goes through no zone, and else at which step and why it isn't so
+abbrev pub IsZoneDriveReply : Objects → Rules → List Step → List ℕ → Type 0
+IsZoneDriveReply M P d out = (verdict : ZoneVerdict) × IsZoneVerdict M P d verdict × (out ≡ zone_verdict_line verdict)
+
+-- a legal drive that goes through no zone
+abbrev pub IsZoneReachReply : Objects → Rules → NodeId → NodeId → List ℕ → Type 0
+IsZoneReachReply M P a b out = (found : Found) × IsZoneFound M P a b found × (out ≡ found_line found)
+
 -- what is answered to a line that is no message of `drive_queries`: at a moment the rules of the profile of the same
 -- number decide that hold then
 abbrev pub IsFurtherReply : Objects → Rules → Option FurtherMessage → List ℕ → Type 0
@@ -74,6 +88,8 @@ IsFurtherReply M P None out = out ≡ unknown_line
 IsFurtherReply M P (Some (DriveAt moment d)) out = IsDriveReply M (rules_at P.number moment) d out
 IsFurtherReply M P (Some (Route a b)) out = IsRouteReply M P a b out
 IsFurtherReply M P (Some (Certify a b)) out = IsCertifyReply M P a b out
+IsFurtherReply M P (Some (ZoneDrive d)) out = IsZoneDriveReply M P d out
+IsFurtherReply M P (Some (ZoneReach a b)) out = IsZoneReachReply M P a b out
 
 -- What a message is answered with, over the objects and the kept number. One without a word gets nothing. A line that
 -- begins a frame is answered with its frame, and so doesn't come here. One that isn't known asks what is further asked.

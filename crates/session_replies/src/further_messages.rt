@@ -4,6 +4,7 @@ ghost use Rattle.opl_lexer.specs.Left.{fields_left};
 ghost use Rattle.moment_rules.specs.MomentTexts.{moment_of};
 ghost use Rattle.session_replies.specs.FurtherMessages.{further_message, further_drive, HasSteps};
 ghost use Rattle.session_replies.specs.FurtherMessages.{further_route, further_certify};
+ghost use Rattle.session_replies.specs.FurtherMessages.{further_zone_drive, further_zone_reach};
 
 use drive_queries::{Asked, asked_drive, asked_reach};
 use moment_rules::{Moment, one_moment, parse_moment};
@@ -20,6 +21,11 @@ pub enum FurtherMessage {
     Route(NodeId, NodeId),
     /// `certify A B`: what shows the least cost of drives from node A to node B, or that there is none.
     Certify(NodeId, NodeId),
+    /// `zone-drive STEP ..`: whether the drive is legal, and goes through no road that is open to destination traffic
+    /// alone. It has one step at least.
+    ZoneDrive(Drive),
+    /// `zone-reach A B`: such a drive from node A to node B.
+    ZoneReach(NodeId, NodeId),
 }
 
 /// The moment that the word is.
@@ -52,7 +58,8 @@ fn further_drive(
 
 /// The numbers of two nodes, for a drive of least cost.
 fn further_route(words: FieldIter<'_>) -> Option<FurtherMessage>
-    ensures { result ≡ further_route (fields_left words.entry) }
+    ensures asks { result ≡ further_route (fields_left words.entry) }
+    ensures drives { IfSome result HasSteps }
 {
     match asked_reach(words) {
         Asked::Reach(from, to) => Some(FurtherMessage::Route(from, to)),
@@ -62,10 +69,36 @@ fn further_route(words: FieldIter<'_>) -> Option<FurtherMessage>
 
 /// The numbers of two nodes, for what shows the least cost.
 fn further_certify(words: FieldIter<'_>) -> Option<FurtherMessage>
-    ensures { result ≡ further_certify (fields_left words.entry) }
+    ensures asks { result ≡ further_certify (fields_left words.entry) }
+    ensures drives { IfSome result HasSteps }
 {
     match asked_reach(words) {
         Asked::Reach(from, to) => Some(FurtherMessage::Certify(from, to)),
+        _ => None,
+    }
+}
+
+/// Steps, at least one, of a drive that goes through no zone.
+fn further_zone_drive(
+    alloc: Global,
+    words: FieldIter<'_>,
+) -> Result<Option<FurtherMessage>, NoMemory>
+    ensures asks { IfOk result (λ asks. asks ≡ further_zone_drive (fields_left words.entry)) }
+    ensures drives { IfOk result (λ asks. IfSome asks HasSteps) }
+{
+    match asked_drive(alloc, words)? {
+        Asked::Drive(drive) => Ok(Some(FurtherMessage::ZoneDrive(drive))),
+        _ => Ok(None),
+    }
+}
+
+/// The numbers of two nodes, for a drive that goes through no zone.
+fn further_zone_reach(words: FieldIter<'_>) -> Option<FurtherMessage>
+    ensures asks { result ≡ further_zone_reach (fields_left words.entry) }
+    ensures drives { IfSome result HasSteps }
+{
+    match asked_reach(words) {
+        Asked::Reach(from, to) => Some(FurtherMessage::ZoneReach(from, to)),
         _ => None,
     }
 }
@@ -83,6 +116,8 @@ pub fn further_message(alloc: Global, line: &str) -> Result<Option<FurtherMessag
         "drive-at" => further_drive(alloc, words),
         "route" => Ok(further_route(words)),
         "certify" => Ok(further_certify(words)),
+        "zone-drive" => further_zone_drive(alloc, words),
+        "zone-reach" => Ok(further_zone_reach(words)),
         _ => Ok(None),
     }
 }

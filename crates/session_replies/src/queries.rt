@@ -8,13 +8,16 @@ ghost use Rattle.moment_rules.specs.AtMoment.{rules_at};
 ghost use Rattle.session_replies.specs.FurtherMessages.{further_message, HasSteps};
 ghost use Rattle.session_replies.specs.Replies.{IsReply, IsFurtherReply, IsDriveReply, IsGraphReply, IsStateReply};
 ghost use Rattle.session_replies.specs.Replies.{IsLineReply, IsRouteReply, IsCertifyReply};
+ghost use Rattle.session_replies.specs.Replies.{IsZoneDriveReply, IsZoneReachReply};
 ghost use Rattle.session_replies.specs.Texts.{unknown_line, found_line};
 
 use crate::cost_texts::{cheapest_reply, shortest_reply};
 use crate::further_messages::{FurtherMessage, further_message};
 use crate::texts::{found_reply, graph_head, line_alone, state, unknown, verdict_reply};
+use crate::zone_verdicts::{judge_zones, zone_verdict_reply};
 use back_references::Indexed;
 use change_apply::Engine;
+use destination_drives::zone_reach;
 use drive_queries::{Asked, WordTable, counts, judge, message, reach};
 use graph_file::laws::walked_file;
 use graph_file::{VERSION, write};
@@ -25,6 +28,7 @@ use road_model::Profile;
 use road_model::laws::walk_law;
 use session_answers::Reply;
 use std::alloc::Global;
+use zone_files::laws::zone_file;
 
 /// The reply to a line that asks of the newest state.
 pub fn newest_reply<P: Profile>(
@@ -102,6 +106,8 @@ fn further_reply<P: Profile>(
         ),
         FurtherMessage::Route(a, b) => route_reply(alloc, engine, *a, *b),
         FurtherMessage::Certify(a, b) => certify_reply(alloc, engine, *a, *b),
+        FurtherMessage::ZoneDrive(drive) => zone_drive_reply(alloc, engine, drive.items()),
+        FurtherMessage::ZoneReach(a, b) => zone_reach_reply(alloc, engine, *a, *b),
     }
 }
 
@@ -120,6 +126,7 @@ pub fn graph_reply<P: Profile>(alloc: Global, engine: &Engine<P>) -> Result<Repl
     let profile = engine.profile();
     walk_law(&profile);
     walked_file(&profile);
+    zone_file(&profile);
     let mut graph = Vec::new(alloc);
     write(VERSION, profile.number(), engine.blocks(), &mut graph)?;
     let line = graph_head(alloc, &graph)?;
@@ -244,4 +251,53 @@ fn certify_reply<P: Profile>(
         b,
     )?;
     cheapest_reply(alloc, &found)
+}
+
+/// Whether the drive is legal and goes through no zone, and else at which step and why it isn't so. It has one step at
+/// least.
+fn zone_drive_reply<P: Profile>(
+    alloc: Global,
+    engine: &Engine<P>,
+    drive: &[Step],
+) -> Result<Reply, NoMemory>
+    requires { drive.now ≢ [] }
+    ensures { IfOk result (λ r. IsZoneDriveReply engine.now.world (P.rules engine.now.profile) drive.now (said r)) }
+{
+    zones_judged_reply(alloc, engine.world(), &engine.profile(), drive)
+}
+
+/// The verdict on the drive, which has one step at least, under this profile, with its zones.
+fn zones_judged_reply<P: Profile>(
+    alloc: Global,
+    world: &Indexed,
+    profile: &P,
+    drive: &[Step],
+) -> Result<Reply, NoMemory>
+    requires { drive.now ≢ [] }
+    ensures { IfOk result (λ r. IsZoneDriveReply world.now (P.rules profile.now) drive.now (said r)) }
+{
+    let table = WordTable::of(alloc, world, profile, drive)?;
+    let verdict = judge(world, profile, &table, drive);
+    let verdict = judge_zones(world, profile, verdict, drive);
+    Ok(line_alone(alloc, zone_verdict_reply(alloc, &verdict)?))
+}
+
+/// A drive from node a to node b that goes through no zone.
+fn zone_reach_reply<P: Profile>(
+    alloc: Global,
+    engine: &Engine<P>,
+    a: NodeId,
+    b: NodeId,
+) -> Result<Reply, NoMemory>
+    ensures { IfOk result (λ r. IsZoneReachReply engine.now.world (P.rules engine.now.profile) a b (said r)) }
+{
+    let found = zone_reach(
+        alloc,
+        engine.world(),
+        &engine.profile(),
+        engine.blocks(),
+        a,
+        b,
+    )?;
+    Ok(line_alone(alloc, found_reply(alloc, &found)?))
 }

@@ -9,6 +9,7 @@ use Rattle.road_model.specs.declared.blocks.Block.{Block}
 use Rattle.road_model.specs.Blocks.{IsRoadBlock}
 use Rattle.graph_file.specs.GraphReading.{IsFile, IsOfItsWay}
 use Rattle.graph_file.specs.WalkedFiles.{IsWalkedFile}
+use Rattle.zone_files.specs.ZoneFileWalks.{IsZoneFile}
 use Rattle.osmroad.specs.Building.{HasBlocksOf}
 use Rattle.ordered_lists.proofs.RisingLists.{take_rises}
 use Rattle.osmroad.proofs.Built.{whole_graph, whole_file}
@@ -52,7 +53,7 @@ returns-clause-file g c =
     let whole = take_all c.loop-way.way-index ways (omega (arith, c.loop-way-test.false)) in
     let writer = c.loop-way.writer in
     let has = subst (λ (l : List WayId). HasBlocksOf M P l writer) whole c.loop-way.invariant.written in
-    whole_file M P ways writer c.finish.result.items c.requires.ways has
+    whole_file M P (IsWalkedFile M P) ways writer c.finish.result.items c.requires.ways has
     (λ blocks. c.finish.ensures.file 2 P.number blocks c.requires.known tt)
     (subst (λ (p : g.row.P.Denot). (blocks : List Block) → Lists (λ b. b.way) way_cmp (IsRoadBlock M
     (g.P.Profile.rules p)) blocks
@@ -61,3 +62,21 @@ returns-clause-file g c =
     → Lists (λ b. b.way) way_cmp (IsRoadBlock M (g.P.Profile.rules p)) blocks
     → IsFile 2 (g.P.Profile.rules p).number file blocks → IsWalkedFile M (g.P.Profile.rules p) file)
     c.profile-profile.ensures (c.walked_file.ensures.walks M))
+
+pub returns-clause-zones : goal.returns-clause-zones
+returns-clause-zones g c =
+    let M = c.args.builder.now.world in
+    let P = g.P.Profile.rules c.args.builder.now.profile in
+    let ways = c.args.ways.now in
+    let whole = take_all c.loop-way.way-index ways (omega (arith, c.loop-way-test.false)) in
+    let writer = c.loop-way.writer in
+    let has = subst (λ (l : List WayId). HasBlocksOf M P l writer) whole c.loop-way.invariant.written in
+    whole_file M P (IsZoneFile M P) ways writer c.finish.result.items c.requires.ways has
+    (λ blocks. c.finish.ensures.file 2 P.number blocks c.requires.known tt)
+    (subst (λ (p : g.row.P.Denot). (blocks : List Block) → Lists (λ b. b.way) way_cmp (IsRoadBlock M
+    (g.P.Profile.rules p)) blocks
+    → AllByRecursion IsOfItsWay blocks) c.profile-profile.ensures (c.walked_file.ensures.own M))
+    (subst (λ (p : g.row.P.Denot). (file : List ℕ) (blocks : List Block)
+    → Lists (λ b. b.way) way_cmp (IsRoadBlock M (g.P.Profile.rules p)) blocks
+    → IsFile 2 (g.P.Profile.rules p).number file blocks → IsZoneFile M (g.P.Profile.rules p) file)
+    c.profile-profile.ensures (c.zone_file.ensures M))

@@ -4,21 +4,22 @@ use Rattle.road_base.specs.Objects.{Objects}
 use Rattle.road_model.specs.Highways.{highways}
 use Rattle.osmroad.proofs.graph.graph_of.Goals as goal
 
-both : {T E : Type 0} {A B C : T → Type 0} (r : Result T E) → IfOk r A → IfOk r B → ((x : T) → A x → B x → C x)
-    → IfOk r C
-both (Ok x) a b f = f x a b
-both (Err e) a b f = tt
+each : {T E : Type 0} {A B C D : T → Type 0} (r : Result T E) → IfOk r A → IfOk r B → IfOk r C
+    → ((x : T) → A x → B x → C x → D x) → IfOk r D
+each (Ok x) a b c f = f x a b c
+each (Err e) a b c f = tt
 
 pub returns-clause-graph : goal.returns-clause-graph
 returns-clause-graph g c =
     let M = c.in_ok-world.world in
-    both c.graph_over-graph.result c.graph_over-graph.ensures.graph c.graph_over-graph.ensures.file
-    (λ out graph file. record {
+    each c.graph_over-graph.result c.graph_over-graph.ensures.graph c.graph_over-graph.ensures.file
+    c.graph_over-graph.ensures.zones (λ out graph file zones. record {
       objects = M;
       applied = c.in_ok-world.ensures;
       graph = graph;
       walks = c.walk_law.ensures M;
       file = file;
+      zones = zones;
     })
 
 -- no more blocks were built than there are such ways among any objects that the events leave

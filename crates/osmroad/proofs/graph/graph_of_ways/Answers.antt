@@ -4,6 +4,7 @@ use Rattle.road_base.specs.Profiles.{IsProfile}
 use Rattle.road_model.specs.Format.{IsGraph}
 use Rattle.road_model.specs.Highways.{AreRoadWays}
 use Rattle.graph_file.specs.WalkedFiles.{IsWalkedFile}
+use Rattle.zone_files.specs.ZoneFileWalks.{IsZoneFile}
 use Rattle.expanded_graph.specs.Pair.{Pair}
 use Rattle.osmroad.proofs.graph.graph_of_ways.Goals as goal
 
@@ -29,3 +30,9 @@ returns-clause-file g c =
     subst (λ (b : Pair Objects g.row.P.Denot). IfOk c.write_blocks-graph.result
     (λ out. IsWalkedFile b.world (g.P.Profile.rules b.profile) out.items)) c.in_ok-builder.ensures
     c.write_blocks-graph.ensures.file
+
+pub returns-clause-zones : goal.returns-clause-zones
+returns-clause-zones g c =
+    subst (λ (b : Pair Objects g.row.P.Denot). IfOk c.write_blocks-graph.result
+    (λ out. IsZoneFile b.world (g.P.Profile.rules b.profile) out.items)) c.in_ok-builder.ensures
+    c.write_blocks-graph.ensures.zones

@@ -24,7 +24,8 @@ pub totals_of-requires : goal.totals_of-requires
 totals_of-requires g c =
     let blocks = values (map_of c.blocks-2.result.now) in
     let bytes : c.write.new.out.items ≡ graph_bytes 2 c.number.result blocks =
-    c.in_ok-write.ensures.bytes ∙ ap (λ (l : List ℕ). l ++ graph_bytes 2 c.number.result blocks) c.new-graph.ensures.items
+    c.in_ok-write.ensures.bytes
+    ∙ ap (λ (l : List ℕ). l ++ graph_bytes 2 c.number.result blocks) c.new-graph.ensures.items
     in
     subst IsGraphFile (sym (c.deref.ensures.value ∙ bytes)) c.in_ok-write.ensures.grammar
 
@@ -37,7 +38,8 @@ returns g c =
     let blocks = values (map_of c.blocks-2.result.now) in
     let graph = c.write.new.out.items in
     let bytes : graph ≡ graph_bytes 2 c.number.result blocks =
-    c.in_ok-write.ensures.bytes ∙ ap (λ (l : List ℕ). l ++ graph_bytes 2 c.number.result blocks) c.new-graph.ensures.items
+    c.in_ok-write.ensures.bytes
+    ∙ ap (λ (l : List ℕ). l ++ graph_bytes 2 c.number.result blocks) c.new-graph.ensures.items
     in
     let read = c.in_ok-totals.ensures in
     let file : IsFile read.0 read.1 graph read.2 = subst (λ (l : List ℕ). IsFile read.0 read.1 l read.2)

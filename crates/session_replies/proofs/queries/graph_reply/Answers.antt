@@ -10,6 +10,7 @@ use Rattle.road_base.specs.Profiles.{IsProfile}
 use Rattle.graph_blocks.specs.Lent.{map_of}
 use Rattle.graph_file.specs.GraphReading.{IsFile}
 use Rattle.graph_file.specs.WalkedFiles.{IsWalkedFile}
+use Rattle.zone_files.specs.ZoneFileWalks.{IsZoneFile}
 use Rattle.session_replies.specs.Texts.{graph_line}
 use Rattle.session_replies.proofs.queries.graph_reply.Goals as goal
 
@@ -32,6 +33,9 @@ returns g c =
     let bytes = c.write.new.out.items in
     let spelled : bytes ≡ graph_bytes 2 number blocks =
     c.in_ok-write.ensures.bytes ∙ ap (λ (l : List ℕ). l ++ graph_bytes 2 number blocks) c.new-graph.ensures.items in
+    let is_file : IsFile 2 (R c.profile-profile.result).number (graph_bytes 2 number blocks) blocks =
+    subst (λ (n : ℕ). IsFile 2 n (graph_bytes 2 number blocks) blocks) c.number.ensures
+    (c.in_ok-write.ensures.file (c.walked_file.ensures.own M blocks mine) tt) in
     record {
       graph = bytes;
       is = record {
@@ -43,9 +47,10 @@ returns g c =
       walks = subst (λ p. AreWalked M (R p)) same (c.walk_law.ensures M);
       file = subst (λ p. IsWalkedFile M (R p) bytes) same
           (subst (λ (l : List ℕ). IsWalkedFile M (R c.profile-profile.result) l) (sym spelled)
-          (c.walked_file.ensures.walks M (graph_bytes 2 number blocks) blocks mine
-          (subst (λ (n : ℕ). IsFile 2 n (graph_bytes 2 number blocks) blocks) c.number.ensures
-          (c.in_ok-write.ensures.file (c.walked_file.ensures.own M blocks mine) tt))));
+          (c.walked_file.ensures.walks M (graph_bytes 2 number blocks) blocks mine is_file));
+      zones = subst (λ p. IsZoneFile M (R p) bytes) same
+          (subst (λ (l : List ℕ). IsZoneFile M (R c.profile-profile.result) l) (sym spelled)
+          (c.zone_file.ensures M (graph_bytes 2 number blocks) blocks mine is_file));
       spelled = ap (λ (l : List ℕ). l ++ bytes)
           (c.in_ok-line.ensures ∙ ap (λ (l : List ℕ). graph_line l) c.deref.ensures.value);
     }
