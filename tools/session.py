@@ -5,9 +5,11 @@ Use: session.py STORE               < MESSAGES   sends the messages one at a tim
      session.py STORE state                      the kept number, and how many ways, pieces, contexts and arcs there are
      session.py STORE reach A B                  some legal drive from node A to node B
      session.py STORE route A B                  what a drive from node A to node B costs at least, and such a drive
+     session.py STORE zone-reach A B             some legal drive from node A to node B through no road for destinations
      session.py STORE certify A B FILE           writes a certificate of that to the file, which graph.py checks
      session.py STORE drive STEP ..              whether a drive is legal: steps such as w12.3+, w12.4+, w13.0-
      session.py STORE drive-at MOMENT STEP ..    whether it is at a moment such as 2024-05-06T23:00
+     session.py STORE zone-drive STEP ..         whether it is legal and goes through no road for destinations
      session.py STORE graph FILE                 writes the graph to the file
      session.py STORE frame N FILE               sends the lines of the file as change N
 
@@ -228,7 +230,10 @@ class Answers:
 
     def reach(self, start, goal):
         """The steps of some legal drive from a node to another; None where there is none."""
-        words = self._asked('reach', str(start), str(goal))
+        return self._reached('reach', start, goal)
+
+    def _reached(self, message, start, goal):
+        words = self._asked(message, str(start), str(goal))
         if words[0] == 'no-node':
             raise NoNode(int(words[1]))
         return words[1:] if words[0] == 'drive' else None
@@ -350,6 +355,15 @@ class Session(Answers):
         """Whether the drive of these steps is legal, and else which step breaks which rule, as 'no 303' or 'apart'; at
         a moment, if one is given, such as '2024-05-06T23:00'."""
         return self._verdict(*(['drive'] if moment is None else ['drive-at', moment]), *steps)
+
+    def zone_drive(self, steps):
+        """Whether the drive of these steps is legal and goes through no road that is for destination traffic alone, and
+        else which step breaks which rule, 'through' where it is that."""
+        return self._verdict('zone-drive', *steps)
+
+    def zone_reach(self, start, goal):
+        """The steps of some such drive from a node to another; None where there is none."""
+        return self._reached('zone-reach', start, goal)
 
     def route(self, start, goal):
         """The cost and the steps of a legal drive from a node to another than which none costs less; None where there
@@ -568,8 +582,8 @@ def answer(session, words):
 
 def is_command(words):
     """Whether the words behind STORE are one of the uses."""
-    wanted = {'state': 1, 'reach': 3, 'route': 3, 'certify': 4, 'graph': 2, 'frame': 3, '--graph': 2}
-    if not words or words[0] == 'drive':
+    wanted = {'state': 1, 'reach': 3, 'zone-reach': 3, 'route': 3, 'certify': 4, 'graph': 2, 'frame': 3, '--graph': 2}
+    if not words or words[0] in ('drive', 'zone-drive'):
         return len(words) != 1
     if words[0] == 'drive-at':
         return len(words) > 2
