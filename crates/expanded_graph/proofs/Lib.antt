@@ -1,4 +1,5 @@
 pub mod PlaceOrder
+mod PlainSources
 pub mod Ends
 pub mod TurnStepLists
 pub mod Between

@@ -6,6 +6,7 @@ pub mod Known
 pub mod Marks
 pub mod Near
 pub mod Onward
+pub mod Plain
 pub mod Sources
 pub mod States
 pub mod Travel

@@ -42,17 +42,23 @@ impl Incoming {
         }
     }
 
+    /// The name of the piece.
+    pub fn name(&self) -> PieceName
+        ensures { result ≡ (arrival_of self.now).span.name }
+    {
+        PieceName {
+            way: self.way,
+            index: self.index,
+            dir: self.dir,
+        }
+    }
+
     /// The piece with both its positions, the node from which it comes, and whether it is plain.
     pub fn told(self) -> ToldArrival
         ensures { result ≡ record { arrival = arrival_of self; is_plain = self.is_plain } }
     {
-        let name = PieceName {
-            way: self.way,
-            index: self.index,
-            dir: self.dir,
-        };
         let span = PieceSpan {
-            name,
+            name: self.name(),
             end: self.end,
         };
         let arrival = Arrival {

@@ -1,8 +1,10 @@
 //! The states in which contexts of two pieces or more end, found by the pieces with which they end.
 ghost use Rattle.std.specs.Prelude.{◌≡◌, ◌<◌, ◌≤◌, ◌-◌, ◌↔◌, length, filter, take, drop, Some, IfOk, OnOk};
+ghost use Rattle.std.specs.Prelude.{IsTrue, false, slice_index_or};
 ghost use Rattle.std.specs.List.Sorted.{IsSortedByKey, IsStableByKey};
 ghost use Rattle.road_model.specs.declared.lists.PieceName.{PieceName};
 ghost use Rattle.road_model.specs.Orders.{name_cmp};
+ghost use Rattle.expanded_graph.specs.declared.endings.Ending.{Ending as EndingOf};
 ghost use Rattle.expanded_graph.specs.Contexts.{IsEnding, AreEndings, EndsWithName, same_name};
 
 use crate::states::States;
@@ -76,8 +78,23 @@ pub fn endings_with(endings: &[Ending], piece: PieceName) -> &[Ending]
 {
     name_order();
     let low = endings.partition_point(|ending| ending.piece.cmp(&piece).is_lt());
+    if is_apart(endings, low, piece) {
+        return part(endings, low, low);
+    }
     let high = endings.partition_point(|ending| ending.piece.cmp(&piece).is_le());
     part(endings, low, high)
+}
+
+/// Whether no ending is at the position, or one with another piece.
+fn is_apart(endings: &[Ending], at: usize, piece: PieceName) -> bool
+    ensures { IsTrue result → (d : EndingOf) → at < length endings.now
+        → same_name (slice_index_or endings.now at d).piece piece ≡ false }
+{
+    name_order();
+    if at >= endings.len() {
+        return true;
+    }
+    !endings[at].piece.cmp(&piece).is_eq()
 }
 
 /// Those from the one position on, below the other.

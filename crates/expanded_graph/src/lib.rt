@@ -33,7 +33,8 @@
 //! may follow: the state behind that step tells whether there is an arc, and where it leads. The sources of a piece are
 //! looked for among all that comes to the node where it starts: from a plain piece that may go on so they take no step
 //! of the automaton where the node is free, and from each other one that may, one step, the logarithm of the number of
-//! endings, and one such step for each of its contexts. What leads to the piece is sorted. All else takes time and
+//! endings, and one such step for each of its contexts. What leads to the piece is sorted, but not where the node is
+//! free and all that may go on so is plain: then these pieces are the sources, in their order. All else takes time and
 //! memory of the order of the block.
 #![tactic(auto)]
 
@@ -52,6 +53,8 @@ mod names;
 mod none_known;
 mod pieces;
 mod places;
+mod plain;
+mod sourced;
 mod sources;
 mod states;
 mod tables;

@@ -16,16 +16,15 @@ ghost use Rattle.expanded_graph.specs.Intersections.{AreFree, IsIntersection};
 ghost use Rattle.expanded_graph.specs.Marks.{AreMarks};
 ghost use Rattle.expanded_graph.specs.Tables.{AreTables};
 
-use crate::attached::with_sources;
 use crate::coming::Coming;
 use crate::contexts::contexts_of;
 use crate::intersections::Intersection;
 use crate::marks::ZoneMarks;
 use crate::places::{PieceEnd, PieceStart, end_of, places_of, start_of};
-use crate::sources::leading_at;
+use crate::sourced::sourced_at;
 use crate::tables::Tables;
 use road_base::{NoMemory, NodeId};
-use road_model::laws::{context_steps, contexts, name_order, one_name};
+use road_model::laws::{context_steps, name_order, one_name};
 use road_model::{Context, Contexts, Network, Piece, Places, Profile, World};
 use std::alloc::Global;
 use way_lines::{NodeRules, RoadLine};
@@ -176,10 +175,8 @@ fn contexts_between<M: World, P: Profile>(
     name_order();
     one_name(&network.profile);
     context_steps(&network.profile);
-    contexts(&network.profile);
     let bare = contexts_at(alloc, network, tables, span, end)?;
-    let leading = leading_at(alloc, network, tables, start)?;
-    let written = with_sources(alloc, network, bare, leading)?;
+    let written = sourced_at(alloc, network, tables, start, bare)?;
     Ok(written)
 }
 

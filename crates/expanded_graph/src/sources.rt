@@ -19,7 +19,7 @@ ghost use Rattle.std.specs.Prelude.{
 ghost use Rattle.road_model.specs.Pieces.{Span, IsPiece};
 ghost use Rattle.road_model.specs.Blocks.{name_of};
 ghost use Rattle.road_model.specs.Networks.{on};
-ghost use Rattle.way_pieces.specs.Names.{IsArrival, IsDeparture, piece_of};
+ghost use Rattle.way_pieces.specs.Names.{IsArrival, piece_of};
 ghost use Rattle.expanded_graph.specs.Coming.{IsComing, IsReachedIn};
 ghost use Rattle.expanded_graph.specs.Intersections.{AreFree, IsIntersection, may_follow};
 ghost use Rattle.expanded_graph.specs.Contexts.{IsEnding, EndsWithName};
@@ -30,13 +30,12 @@ ghost use Rattle.expanded_graph.specs.Watched.{IsPlainPiece};
 ghost use Rattle.expanded_graph.specs.Tables.{AreTables};
 
 use crate::arcs::{arc_ahead, arc_alone, arc_by, may_follow};
-use crate::arrivals::{ToldArrival, not_told_apart};
+use crate::arrivals::ToldArrival;
 use crate::coming::Coming;
 use crate::endings::endings_with;
 use crate::intersections::{Confluence, Intersection};
 use crate::last_steps::last_step;
 use crate::names::names_before;
-use crate::places::PieceStart;
 use crate::states::States;
 use crate::tables::Tables;
 use crate::watched::WatchedWays;
@@ -45,7 +44,6 @@ use road_model::laws::{context_steps, contexts, drive_grows, name_order, one_nam
 use road_model::{Names, Network, PieceName, Profile, TurnArc, World};
 use std::alloc::Global;
 use turn_automata::State;
-use way_lines::NodeRules;
 use way_pieces::{Arrival, Departure};
 
 /// An arc to a context of a piece: the names that the context has before the piece, and the names of the context from
@@ -56,39 +54,9 @@ pub struct Leading {
     pub source: Names,
 }
 
-/// The arcs by the piece that starts so, in any order. What is to be known of a node that isn't found among the
-/// intersections is found for this piece alone.
-pub fn leading_at<M: World, P: Profile>(
-    alloc: Global,
-    network: &Network<'_, M, P>,
-    tables: &Tables,
-    start: PieceStart,
-) -> Result<Vec<Leading>, NoMemory>
-    requires tables { on network.now AreTables tables.now }
-    requires start { on network.now IsDeparture start.at start.departure }
-    ensures { IfOk result (λ v. on network.now AreLeading start.departure.piece v.items) }
-{
-    if let Some(meeting) = tables.intersections.find_meeting(start.at) {
-        return leading_by(alloc, network, tables, meeting, start.departure);
-    }
-    let departures = tables.pieces.departures(alloc, network, start.at)?;
-    let coming = tables.pieces.arrivals(alloc, network, start.at)?;
-    let arrivals = not_told_apart(alloc, coming.as_slice())?;
-    let rules = NodeRules::of(network, start.at);
-    let intersection = Intersection {
-        rules,
-        departures: departures.as_slice(),
-        is_free: false,
-    };
-    let meeting = Confluence {
-        intersection,
-        arrivals: arrivals.as_slice(),
-    };
-    leading_by(alloc, network, tables, meeting, start.departure)
-}
-
-/// The arcs by the departure. Those from plain arrivals are found by one step of the automaton for all of them.
-fn leading_by<M: World, P: Profile>(
+/// The arcs by the departure, in any order. Those from plain arrivals are found by one step of the automaton for all of
+/// them.
+pub fn leading_by<M: World, P: Profile>(
     alloc: Global,
     network: &Network<'_, M, P>,
     tables: &Tables,

@@ -1,26 +1,11 @@
--- The arcs that lead to the contexts of the piece are those by the piece that starts so.
-use Rattle.std.proofs.Common.{[], ◌∷◌, ◌++◌}
+-- The contexts are those of the piece that starts so.
 use Rattle.way_pieces.specs.Names.{piece_of}
 use Rattle.expanded_graph.proofs.SourceContexts.{begins_same, forms}
-use Rattle.expanded_graph.proofs.SourceLists.{one_by_source}
 use Rattle.expanded_graph.proofs.pieces.contexts_between.Goals as goal
-
-pub with_sources-requires : goal.with_sources-requires
-with_sources-requires g c =
-    let M = g.M.World.objects c.args.network.now.world.now in
-    let P = g.P.Profile.rules c.args.network.now.profile in
-    let p = piece_of c.args.span in
-    record {
-      leading = one_by_source M P (c.one_name.ensures.pieces M) c.name_order.ensures.lists
-          c.name_order.ensures.list_ties p c.in_ok-leading.leading.items
-          (c.in_ok-leading.ensures p c.requires.piece c.requires.named)
-          (λ d b e f k. c.contexts.ensures.one M (d ++ p ∷ []) b e f.to k.to);
-    }
 
 pub returns-clause-listed : goal.returns-clause-listed
 returns-clause-listed g c =
-    c.in_ok-written.ensures.listed (piece_of c.args.span) c.in_ok-bare.ensures.listed
-    (c.in_ok-leading.ensures (piece_of c.args.span) c.requires.piece c.requires.named)
+    c.in_ok-written.ensures.listed (piece_of c.args.span) c.requires.piece c.requires.named c.in_ok-bare.ensures.listed
 
 pub returns-clause-alone : goal.returns-clause-alone
 returns-clause-alone g c =
@@ -34,5 +19,4 @@ returns-clause-forms g c =
     let p = piece_of c.args.span in
     forms M P (c.one_name.ensures.pieces M) c.name_order.ensures.names c.name_order.ensures.lists p
     (c.context_steps.ensures.short M) c.in_ok-written.written.items
-    (c.in_ok-written.ensures.listed p c.in_ok-bare.ensures.listed
-    (c.in_ok-leading.ensures p c.requires.piece c.requires.named))
+    (c.in_ok-written.ensures.listed p c.requires.piece c.requires.named c.in_ok-bare.ensures.listed)

@@ -7,31 +7,31 @@ use Rattle.way_pieces.specs.declared.arrivals.Arrival.{Arrival}
 use Rattle.way_pieces.specs.declared.departures.Departure.{Departure}
 use Rattle.way_pieces.specs.Names.{IsArrival, IsDeparture}
 use Rattle.expanded_graph.specs.Arrivals.{AreComing}
-use Rattle.expanded_graph.proofs.sources.leading_at.Goals as goal
+use Rattle.expanded_graph.proofs.sourced.sourced_at.Goals as goal
 
-pub leading_by-requires-clause-intersection : goal.leading_by-requires-clause-intersection
-leading_by-requires-clause-intersection g c =
+pub sourced_by-requires-clause-intersection : goal.sourced_by-requires-clause-intersection
+sourced_by-requires-clause-intersection g c =
     let M = g.M.World.objects c.args.network.now.world.now in
     let P = g.P.Profile.rules c.args.network.now.profile in
     let states = c.args.tables.now.watched.states in
     (c.in-Some.ensures.is M P states.automaton states.facts.items c.requires.tables.intersections).0
 
-pub leading_by-requires-clause-arrivals : goal.leading_by-requires-clause-arrivals
-leading_by-requires-clause-arrivals g c =
+pub sourced_by-requires-clause-arrivals : goal.sourced_by-requires-clause-arrivals
+sourced_by-requires-clause-arrivals g c =
     let M = g.M.World.objects c.args.network.now.world.now in
     let P = g.P.Profile.rules c.args.network.now.profile in
     let states = c.args.tables.now.watched.states in
     (c.in-Some.ensures.is M P states.automaton states.facts.items c.requires.tables.intersections).1
 
-pub leading_by-requires-clause-free : goal.leading_by-requires-clause-free
-leading_by-requires-clause-free g c =
+pub sourced_by-requires-clause-free : goal.sourced_by-requires-clause-free
+sourced_by-requires-clause-free g c =
     let M = g.M.World.objects c.args.network.now.world.now in
     let P = g.P.Profile.rules c.args.network.now.profile in
     let states = c.args.tables.now.watched.states in
     c.in-Some.ensures.free M P states.automaton states.facts.items c.requires.tables.intersections
 
-pub leading_by-requires-clause-departure : goal.leading_by-requires-clause-departure
-leading_by-requires-clause-departure g c =
+pub sourced_by-requires-clause-departure : goal.sourced_by-requires-clause-departure
+sourced_by-requires-clause-departure g c =
     let M = g.M.World.objects c.args.network.now.world.now in
     let P = g.P.Profile.rules c.args.network.now.profile in
     let states = c.args.tables.now.watched.states in
@@ -39,8 +39,8 @@ leading_by-requires-clause-departure g c =
     known.leaving.complete c.args.start.departure
     (subst (λ v. IsDeparture M P v c.args.start.departure) (sym c.in-Some.ensures.node) c.requires.start)
 
-pub leading_by-requires-2-clause-intersection : goal.leading_by-requires-2-clause-intersection
-leading_by-requires-2-clause-intersection g c =
+pub sourced_by-requires-2-clause-intersection : goal.sourced_by-requires-2-clause-intersection
+sourced_by-requires-2-clause-intersection g c =
     let M = g.M.World.objects c.args.network.now.world.now in
     let P = g.P.Profile.rules c.args.network.now.profile in
     let rules = c.of-rules in
@@ -53,8 +53,8 @@ leading_by-requires-2-clause-intersection g c =
           (sym c.as_slice-2.ensures.value) c.in_ok-departures.ensures);
     }
 
-pub leading_by-requires-2-clause-arrivals : goal.leading_by-requires-2-clause-arrivals
-leading_by-requires-2-clause-arrivals g c =
+pub sourced_by-requires-2-clause-arrivals : goal.sourced_by-requires-2-clause-arrivals
+sourced_by-requires-2-clause-arrivals g c =
     let M = g.M.World.objects c.args.network.now.world.now in
     let P = g.P.Profile.rules c.args.network.now.profile in
     let states = c.args.tables.now.watched.states in
@@ -72,7 +72,7 @@ leading_by-requires-2-clause-arrivals g c =
       plain = λ x has is. absurd (false≢true (sym (told.ensures.none x has) ∙ is));
     })
 
-pub leading_by-requires-2-clause-departure : goal.leading_by-requires-2-clause-departure
-leading_by-requires-2-clause-departure g c =
+pub sourced_by-requires-2-clause-departure : goal.sourced_by-requires-2-clause-departure
+sourced_by-requires-2-clause-departure g c =
     subst (λ (l : List Departure). Contains l c.args.start.departure) (sym c.as_slice-2.ensures.value)
     (c.in_ok-departures.ensures.complete c.args.start.departure c.requires.start)
