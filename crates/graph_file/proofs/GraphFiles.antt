@@ -23,8 +23,8 @@ use Rattle.ordered_lists.proofs.AscendingLists.{rest_rises}
 use Rattle.spelled_bytes.specs.Reading.{Begins, IsOneSpelling}
 use Rattle.spelled_bytes.specs.OneSpelling.{u32_one, differ}
 use Rattle.graph_file.specs.GraphReading.{list_bytes, ListFits, Unless, IsBarePiece, IsBareBlock, IsPieceAt, IsWayBlock}
-use Rattle.graph_file.specs.GraphReading.{IsOfItsWay, IsFile}
-use Rattle.graph_file.specs.OneSpelling.{list_one, block_one}
+use Rattle.graph_file.specs.GraphReading.{IsOfItsWay, IsFile, BeginsFile}
+use Rattle.graph_file.specs.OneSpelling.{list_one, block_one, three}
 use Rattle.graph_file.proofs.Files.{way_cmp_total, no_entries}
 use Rattle.graph_file.proofs.PieceCount.{few_pieces}
 use Rattle.graph_file.proofs.SpelledBlocks.{as_many, block_at, same_file, same_ways, way_blocks}
@@ -65,36 +65,65 @@ magic_one v w (inl one) (inr two) bytes r s first second = absurd (seven bytes r
 magic_one v w (inr two) (inl one) bytes r s first second = absurd (seven bytes s r
     (second ∙ ap (λ n. magic_bytes (is_sourced n) ++ s) one) (first ∙ ap (λ n. magic_bytes (is_sourced n) ++ r) two))
 
--- what is behind the magic of the version v begins with the profile's number, where the bytes are a file
+-- what a file's bytes are and what stands behind them, part by part
+pub in_parts : (version profile : ℕ) (bs : List Block) (r : List ℕ) → graph_bytes version profile bs ++ r
+    ≡ magic_bytes (is_sourced version) ++ (u32_bytes profile ++ (list_bytes (block_bytes (is_sourced version)) bs ++ r))
+in_parts version profile bs r = three (magic_bytes (is_sourced version)) (u32_bytes profile)
+    (list_bytes (block_bytes (is_sourced version)) bs) r
+
+-- a whole file has nothing behind it
+pub begins_whole : (version profile : ℕ) (bytes : List ℕ) (bs : List Block) → IsFile version profile bytes bs
+    → BeginsFile version profile bytes bs []
+begins_whole version profile bytes bs file = record {
+  file = record {
+    known_version = file.known_version;
+    known = file.known;
+    spelled = refl;
+    some = file.some;
+    ascend = file.ascend;
+  };
+  parts = file.spelled ∙ sym (append-nil (graph_bytes version profile bs));
+}
+
+-- a file in front of bytes
+pub begins_front : (version profile : ℕ) (x r : List ℕ) (bs : List Block) → IsFile version profile x bs
+    → BeginsFile version profile (x ++ r) bs r
+begins_front version profile x r bs file = record {
+  file = (begins_whole version profile x bs file).file;
+  parts = ap (λ l. l ++ r) file.spelled;
+}
+
+-- what is behind the magic of the version v begins with the profile's number, where the bytes begin with a file
 pub numbered : (v : ℕ) → IsVersion v → (bytes rest : List ℕ) → bytes ≡ magic_bytes (is_sourced v) ++ rest
-    → (version profile : ℕ) (bs : List Block) → IsFile version profile bytes bs
-    → (v ≡ version) × Begins u32_bytes IsProfile rest profile (list_bytes (block_bytes (is_sourced v)) bs)
-numbered v known bytes rest head version profile bs file =
-    let behind : List ℕ = u32_bytes profile ++ list_bytes (block_bytes (is_sourced version)) bs in
-    let same : v ≡ version = magic_one v version known file.known_version bytes rest behind head file.spelled in (
+    → (version profile : ℕ) (bs : List Block) (r : List ℕ) → BeginsFile version profile bytes bs r
+    → (v ≡ version) × Begins u32_bytes IsProfile rest profile (list_bytes (block_bytes (is_sourced v)) bs ++ r)
+numbered v known bytes rest head version profile bs r begins =
+    let behind : List ℕ = u32_bytes profile ++ (list_bytes (block_bytes (is_sourced version)) bs ++ r) in
+    let parts : bytes ≡ magic_bytes (is_sourced version) ++ behind = begins.parts ∙ in_parts version profile bs r in
+    let same : v ≡ version = magic_one v version known begins.file.known_version bytes rest behind head parts in (
       same,
       record {
-        fits = file.known;
+        fits = begins.file.known;
         parts = cancel (magic_bytes (is_sourced v)) rest
-            (u32_bytes profile ++ list_bytes (block_bytes (is_sourced v)) bs)
-            (sym head ∙ file.spelled ∙ ap (λ n. graph_bytes n profile bs) (sym same));
+            (u32_bytes profile ++ (list_bytes (block_bytes (is_sourced v)) bs ++ r))
+            (sym head ∙ begins.parts ∙ ap (λ n. graph_bytes n profile bs ++ r) (sym same) ∙ in_parts v profile bs r);
       },
     )
 
 -- and what is behind it
 pub behind : (v : ℕ) → IsVersion v → (bytes front rest : List ℕ) (number : ℕ)
     → bytes ≡ magic_bytes (is_sourced v) ++ front → Begins u32_bytes IsProfile front number rest
-    → (version profile : ℕ) (bs : List Block) → IsFile version profile bytes bs
+    → (version profile : ℕ) (bs : List Block) (r : List ℕ) → BeginsFile version profile bytes bs r
     → (number ≡ profile) × Begins (list_bytes (block_bytes (is_sourced v))) (ListFits (IsWayBlock (is_sourced v))) rest
-    bs []
-behind v known bytes front rest number head found version profile bs file =
-    let spelled : List ℕ = list_bytes (block_bytes (is_sourced v)) bs in
-    let first = numbered v known bytes front head version profile bs file in
+    bs r
+behind v known bytes front rest number head found version profile bs r begins =
+    let spelled : List ℕ = list_bytes (block_bytes (is_sourced v)) bs ++ r in
+    let first = numbered v known bytes front head version profile bs r begins in
     let same = profile_one number profile front rest spelled found first.1 in (
       same.0,
       record {
-        fits = subst (λ n. ListFits (IsWayBlock (is_sourced n)) bs) (sym first.0) file.some;
-        parts = same.1 ∙ sym (append-nil spelled);
+        fits = subst (λ n. ListFits (IsWayBlock (is_sourced n)) bs) (sym first.0) begins.file.some;
+        parts = same.1;
       },
     )
 
@@ -241,38 +270,51 @@ file_of version profile bytes bs known_version known spelled count up form fits 
   ascend = up;
 }
 
+-- the file that bytes begin with has one version, one profile and one list of blocks, and one end
+pub one_begins : (v w m n : ℕ) (bytes r s : List ℕ) (a b : List Block) → BeginsFile v m bytes a r
+    → BeginsFile w n bytes b s → (v ≡ w) × (m ≡ n) × (a ≡ b) × (r ≡ s)
+one_begins v w m n bytes r s a b f g =
+    let known = f.file.known_version in
+    let rest : List ℕ = list_bytes (block_bytes (is_sourced v)) a ++ r in
+    let front : List ℕ = u32_bytes m ++ rest in
+    let head : bytes ≡ magic_bytes (is_sourced v) ++ front = f.parts ∙ in_parts v m a r in
+    let mine = numbered v known bytes front head v m a r f in
+    let same = numbered v known bytes front head w n b s g in
+    let other = behind v known bytes front rest m head mine.1 w n b s g in
+    let own = behind v known bytes front rest m head mine.1 v m a r f in
+    let blocks = blocks_one (is_sourced v) a b rest r s own.1 other.1 in
+    (same.0, other.0, blocks.0, blocks.1)
+
 -- the bytes of a file have one version, one profile and one list of blocks
 pub one_file : (v w m n : ℕ) (bytes : List ℕ) (a b : List Block) → IsFile v m bytes a → IsFile w n bytes b
     → (v ≡ w) × (m ≡ n) × (a ≡ b)
 one_file v w m n bytes a b f g =
-    let rest : List ℕ = list_bytes (block_bytes (is_sourced v)) a in
-    let front : List ℕ = u32_bytes m ++ rest in
-    let mine = numbered v f.known_version bytes front f.spelled v m a f in
-    let same = numbered v f.known_version bytes front f.spelled w n b g in
-    let other = behind v f.known_version bytes front rest m f.spelled mine.1 w n b g in
-    let own = behind v f.known_version bytes front rest m f.spelled mine.1 v m a f in (
-      same.0,
-      other.0,
-      (blocks_one (is_sourced v) a b rest [] [] own.1 other.1).0,
-    )
+    let one = one_begins v w m n bytes [] [] a b (begins_whole v m bytes a f) (begins_whole w n bytes b g) in
+    (one.0, one.1, one.2)
+
+pub one_front : (v w m n : ℕ) (x y r s : List ℕ) (a b : List Block) → IsFile v m x a → IsFile w n y b
+    → x ++ r ≡ y ++ s → (v ≡ w) × (m ≡ n) × (a ≡ b) × (r ≡ s)
+one_front v w m n x y r s a b f g same =
+    one_begins v w m n (y ++ s) r s a b
+    (subst (λ l. BeginsFile v m l a r) same (begins_front v m x r a f)) (begins_front w n y s b g)
 
 -- what the bytes of a file are spelled for
 pub file_profile : (v w m n : ℕ) (bytes : List ℕ) (a b : List Block) → IsFile v m bytes a → IsVersion w → IsProfile n
     → bytes ≡ graph_bytes w n b → (v ≡ w) × (m ≡ n)
 file_profile v w m n bytes a b file known_version known spelled =
     let rest : List ℕ = list_bytes (block_bytes (is_sourced w)) b in
-    let is = numbered w known_version bytes (u32_bytes n ++ rest) spelled v m a file in (
+    let is = numbered w known_version bytes (u32_bytes n ++ rest) spelled v m a [] (begins_whole v m bytes a file) in (
       sym is.0,
-      (profile_one m n (u32_bytes n ++ rest) (list_bytes (block_bytes (is_sourced w)) a) rest is.1
+      (profile_one m n (u32_bytes n ++ rest) (list_bytes (block_bytes (is_sourced w)) a ++ []) rest is.1
           (record { fits = known; parts = refl })).0,
     )
 
--- what is in the grammar is the file of blocks whose pieces are those of their way
-pub none_in_grammar : (bytes : List ℕ)
-    → ((version profile : ℕ) (bs : List Block) → IsFile version profile bytes bs → ⊥) → IsGraphFile bytes → ⊥
-none_in_grammar bytes none is =
+-- the file of a grammar's bytes: that of blocks whose pieces are those of their way
+pub file_in_grammar : (bytes : List ℕ) (is : IsGraphFile bytes)
+    → IsFile is.version is.profile bytes (map (block_at (is_sourced is.version)) is.blocks)
+file_in_grammar bytes is =
     let b = is_sourced is.version in
-    none is.version is.profile (map (block_at b) is.blocks) (record {
+    record {
       known_version = is.known_version;
       known = is.known;
       spelled = is.spelled ∙ sym (same_file is.version is.profile is.blocks);
@@ -281,4 +323,22 @@ none_in_grammar bytes none is =
         way_blocks b is.blocks is.forms is.fit,
       );
       ascend = subst (λ l. IsTrue (rises way_cmp l)) (sym (same_ways b is.blocks)) is.ascend;
-    })
+    }
+
+-- where bytes begin with no file, no front of them is in the grammar
+pub none_in_front : (bytes : List ℕ)
+    → ((version profile : ℕ) (bs : List Block) (rest : List ℕ) → BeginsFile version profile bytes bs rest → ⊥)
+    → (front rest : List ℕ) → bytes ≡ front ++ rest → IsGraphFile front → ⊥
+none_in_front bytes none front rest parts is =
+    let bs : List Block = map (block_at (is_sourced is.version)) is.blocks in
+    none is.version is.profile bs rest
+    (subst (λ l. BeginsFile is.version is.profile l bs rest) (sym parts)
+    (begins_front is.version is.profile front rest bs (file_in_grammar front is)))
+
+-- behind a file something is left, so the whole is in no grammar
+pub more_in_none : (version profile : ℕ) (bytes r : List ℕ) (bs : List Block)
+    → BeginsFile version profile bytes bs r → (r ≡ [] → ⊥) → IsGraphFile bytes → ⊥
+more_in_none version profile bytes r bs begins more is =
+    let all : List Block = map (block_at (is_sourced is.version)) is.blocks in
+    more (one_begins version is.version profile is.profile bytes r [] bs all begins
+    (begins_whole is.version is.profile bytes all (file_in_grammar bytes is))).3

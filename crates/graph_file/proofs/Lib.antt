@@ -8,4 +8,5 @@ pub mod ContextParts
 pub mod PieceParts
 pub mod SpelledBlocks
 pub mod GraphFiles
+pub mod JoinedFiles
 pub mod LookUps

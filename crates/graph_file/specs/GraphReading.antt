@@ -134,3 +134,8 @@ pub record IsFile (version profile : ℕ) (bytes : List ℕ) (blocks : List Bloc
   pub spelled : bytes ≡ graph_bytes version profile blocks
   pub some : ListFits (IsWayBlock (is_sourced version)) blocks
   pub ascend : IsTrue (rises way_cmp (map (λ b. b.way) blocks))
+
+-- the bytes are a graph file of this version and profile with these blocks, and then the rest
+pub record BeginsFile (version profile : ℕ) (bytes : List ℕ) (blocks : List Block) (rest : List ℕ) : Type 0 where
+  pub file : IsFile version profile (graph_bytes version profile blocks) blocks
+  pub parts : bytes ≡ graph_bytes version profile blocks ++ rest

@@ -15,6 +15,7 @@ ghost use Rattle.road_model.specs.Format.{graph_bytes, magic_bytes, block_bytes,
 ghost use Rattle.road_model.specs.Format.{IsGraphFile};
 ghost use Rattle.spelled_bytes.specs.Reading.{Begins, NoneBegins, IfMalformed};
 ghost use Rattle.graph_file.specs.GraphReading.{list_bytes, ListFits, IsWayBlock, IsBareBlock, IsFile, IsOfItsWay};
+ghost use Rattle.graph_file.specs.GraphReading.{BeginsFile};
 ghost use Rattle.graph_file.specs.LookUps.{AreOrdered, HasContextsOf, HasContextAt, HasArcsOf, HasSourcesAt};
 ghost use Rattle.graph_file.specs.LookUps.{HasSourcesOf};
 
@@ -56,15 +57,46 @@ impl Graph {
             (λ g. IsFile g.version g.profile bytes.now (values g.blocks.map))) }
         ensures none { IfOk result (λ r. IfNone r (IsGraphFile bytes.now → ⊥)) }
     {
-        match read_file(alloc, bytes) {
-            Ok((version, (profile, list))) => {
+        match Graph::read_front(alloc, bytes) {
+            Ok(Some((graph, rest))) => {
+                if rest.len() > 0 {
+                    return Ok(None);
+                }
+                Ok(Some(graph))
+            }
+            Ok(None) => Ok(None),
+            Err(error) => Err(error),
+        }
+    }
+
+    /// The graph of version 1 or 2 that the bytes begin with, and what stands behind it; None exactly where they begin
+    /// with none. A graph tells its own end, so no other front of the bytes is one.
+    pub fn read_front(alloc: Global, bytes: &[u8]) -> Result<Option<(Graph, &[u8])>, NoMemory>
+        ensures version { IfOk result (λ r. IfSome r (λ g. IsVersion g.0.version)) }
+        ensures profile { IfOk result (λ r. IfSome r (λ g. IsProfile g.0.profile)) }
+        ensures front { IfOk result (λ r. IfSome r
+            (λ g. bytes.now ≡ graph_bytes g.0.version g.0.profile (values g.0.blocks.map) ++ g.1.now)) }
+        ensures forms { IfOk result (λ r. IfSome r
+            (λ g. AllByRecursion (IsBlockForm (is_sourced g.0.version)) (values g.0.blocks.map))) }
+        ensures bare { IfOk result (λ r. IfSome r
+            (λ g. g.0.version ≡ 1 → AllByRecursion IsBareBlock (values g.0.blocks.map))) }
+        ensures ways { IfOk result (λ r. IfSome r (λ g. AllByRecursion IsOfItsWay (values g.0.blocks.map))) }
+        ensures grammar { IfOk result (λ r. IfSome r
+            (λ g. IsGraphFile (graph_bytes g.0.version g.0.profile (values g.0.blocks.map)))) }
+        ensures file { IfOk result (λ r. IfSome r (λ g. IsFile g.0.version g.0.profile
+            (graph_bytes g.0.version g.0.profile (values g.0.blocks.map)) (values g.0.blocks.map))) }
+        ensures none { IfOk result (λ r. IfNone r
+            ((front rest : List ℕ) → bytes.now ≡ front ++ rest → IsGraphFile front → ⊥)) }
+    {
+        match read_blocks(alloc, bytes) {
+            Ok((version, (profile, (list, rest)))) => {
                 let blocks = into_blocks(alloc, list)?;
                 let graph = Graph {
                     version,
                     profile,
                     blocks,
                 };
-                Ok(Some(graph))
+                Ok(Some((graph, rest)))
             }
             Err(Unread::Malformed) => Ok(None),
             Err(Unread::Memory) => Err(NoMemory),
@@ -177,10 +209,11 @@ fn read_list_of(alloc: Global, version: u32, bytes: &[u8]) -> Result<(Vec<Block>
 }
 
 /// Reads the version of a file, the profile's number, and its blocks, which ascend.
-fn read_file(alloc: Global, bytes: &[u8]) -> Result<(u32, (u32, Vec<Block>)), Unread>
-    ensures found { IfOk result (λ r. IsFile r.0 r.1.0 bytes.now r.1.1.items) }
+fn read_blocks(alloc: Global, bytes: &[u8]) -> Result<(u32, (u32, (Vec<Block>, &[u8]))), Unread>
+    ensures found { IfOk result (λ r. BeginsFile r.0 r.1.0 bytes.now r.1.1.0.items r.1.1.1.now) }
     ensures malformed { IfErr result (λ e. IfMalformed e
-        ((version profile : ℕ) (list : List Block) → IsFile version profile bytes.now list → ⊥)) }
+        ((version profile : ℕ) (list : List Block) (rest : List ℕ)
+        → BeginsFile version profile bytes.now list rest → ⊥)) }
 {
     let (version, rest) = match behind_magic(bytes) {
         Some(front) => front,
@@ -188,13 +221,10 @@ fn read_file(alloc: Global, bytes: &[u8]) -> Result<(u32, (u32, Vec<Block>)), Un
     };
     let (profile, rest) = read_profile(alloc, rest)?;
     let (list, rest) = read_list_of(alloc, version, rest)?;
-    if rest.len() > 0 {
-        return Err(Unread::Malformed);
-    }
     if !do_ascend::<Block>(&list) {
         return Err(Unread::Malformed);
     }
-    Ok((version, (profile, list)))
+    Ok((version, (profile, (list, rest))))
 }
 
 /// The blocks of ascending ways, each at its way.

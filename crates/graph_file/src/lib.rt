@@ -7,8 +7,9 @@
 //! in the file, so their cost grows with the bytes that they write, and they take no memory beside them. How many
 //! blocks there are stands before the blocks: the writer keeps the place and fills it at the end.
 //!
-//! `Graph::read` goes once over the bytes and reads a graph of either version back. A count that the bytes announce
-//! takes no memory: what is taken grows with the parts that were read, and so with the bytes. What a graph has of a
+//! `Graph::read` goes once over the bytes and reads a graph of either version back, and `Graph::read_front` the graph
+//! that stands in front of others: it goes over the bytes of that graph alone. A count that the bytes announce takes no
+//! memory: what is taken grows with the parts that were read, and so with the bytes. What a graph has of a
 //! piece is found by two binary searches, over the blocks and over one block's pieces, and takes no memory.
 #![tactic(auto)]
 

@@ -1,42 +1,20 @@
-use Rattle.std.proofs.Common.{sym, subst}
-use Rattle.std.specs.List.{AllByRecursion}
-use Rattle.road_model.specs.Format.{IsBlockForm, is_sourced}
-use Rattle.graph_file.specs.GraphReading.{IsFile, IsBareBlock, IsOfItsWay}
-use Rattle.graph_file.specs.LookUps.{AreOrdered}
-use Rattle.graph_file.proofs.LookUps.{are_ordered}
-use Rattle.graph_file.proofs.GraphFiles.{forms, ways, bare_blocks, grammar, none_in_grammar}
+use Rattle.std.proofs.Common.{[], length, sym, ap, arith, append-nil}
+use Rattle.std.specs.FinMap.{values}
+use Rattle.graph_file.specs.GraphReading.{BeginsFile}
+use Rattle.graph_file.proofs.GraphFiles.{more_in_none}
 use Rattle.graph_file.proofs.graph.Graph.read.Goals as goal
 
-pub returns-in_ok-blocks-in-Ok-clause-forms : goal.returns-in_ok-blocks-in-Ok-clause-forms
-returns-in_ok-blocks-in-Ok-clause-forms c =
-    subst (AllByRecursion (IsBlockForm (is_sourced c.in-Ok.version))) (sym c.in_ok-blocks-in-Ok.ensures)
-    (forms (is_sourced c.in-Ok.version) c.in-Ok.list.items c.in-Ok.ensures.found.some.1)
+pub returns-then-rest-gt0-clause-none : goal.returns-then-rest-gt0-clause-none
+returns-then-rest-gt0-clause-none c =
+    let graph = c.in-Ok-Some.graph in
+    let begins : BeginsFile graph.version graph.profile c.args.bytes.now (values graph.blocks.map)
+    c.in-Ok-Some.rest.now = record {
+      file = rw c.in-Ok-Some.field-0-is at c.in-Ok-Some.ensures.file;
+      parts = rw c.in-Ok-Some.field-0-is at c.in-Ok-Some.ensures.front;
+    } in
+    more_in_none graph.version graph.profile c.args.bytes.now c.in-Ok-Some.rest.now (values graph.blocks.map) begins
+    (λ none. omega (arith, ap length none, c.if-rest-gt0.true))
 
-pub returns-in_ok-blocks-in-Ok-clause-bare : goal.returns-in_ok-blocks-in-Ok-clause-bare
-returns-in_ok-blocks-in-Ok-clause-bare c = λ one.
-    subst (AllByRecursion IsBareBlock) (sym c.in_ok-blocks-in-Ok.ensures)
-    (bare_blocks c.in-Ok.version c.in-Ok.list.items c.in-Ok.ensures.found.some.1 one)
-
-pub returns-in_ok-blocks-in-Ok-clause-ways : goal.returns-in_ok-blocks-in-Ok-clause-ways
-returns-in_ok-blocks-in-Ok-clause-ways c =
-    subst (AllByRecursion IsOfItsWay) (sym c.in_ok-blocks-in-Ok.ensures)
-    (ways (is_sourced c.in-Ok.version) c.in-Ok.list.items c.in-Ok.ensures.found.some.1)
-
-pub returns-in_ok-blocks-in-Ok-clause-grammar : goal.returns-in_ok-blocks-in-Ok-clause-grammar
-returns-in_ok-blocks-in-Ok-clause-grammar c =
-    grammar c.in-Ok.version c.in-Ok.profile c.args.bytes.now c.in-Ok.list.items c.in-Ok.ensures.found
-
-pub returns-in-Err-Malformed-clause-none : goal.returns-in-Err-Malformed-clause-none
-returns-in-Err-Malformed-clause-none c =
-    none_in_grammar c.args.bytes.now (rw c.in-Err-Malformed.field-0-is at c.in-Err-Malformed.ensures.malformed)
-
-pub returns-in_ok-blocks-in-Ok-clause-file : goal.returns-in_ok-blocks-in-Ok-clause-file
-returns-in_ok-blocks-in-Ok-clause-file c =
-    subst (IsFile c.in-Ok.version c.in-Ok.profile c.args.bytes.now) (sym c.in_ok-blocks-in-Ok.ensures)
-    c.in-Ok.ensures.found
-
-pub invariant_of-graph : goal.invariant_of-graph
-invariant_of-graph c = record {
-  ordered = subst AreOrdered (sym c.in_ok-blocks-in-Ok.ensures)
-      (are_ordered (is_sourced c.in-Ok.version) c.in-Ok.list.items c.in-Ok.ensures.found.some.1);
-}
+pub returns-in-Ok-None-clause-none : goal.returns-in-Ok-None-clause-none
+returns-in-Ok-None-clause-none c = λ is.
+    (rw c.in-Ok-None.field-0-is at c.in-Ok-None.ensures.none) c.args.bytes.now [] (sym (append-nil c.args.bytes.now)) is
