@@ -12,16 +12,17 @@ use Rattle.sequence_journal.specs.declared.error.JournalError.TheVariants.{Store
 use Rattle.sequence_journal.specs.declared.journal.Journal.{Journal}
 use Rattle.sequence_journal.specs.Journal.{CountsFaults}
 use Rattle.sequence_journal.specs.Adding.{AddAnswer}
-use Rattle.osmroad.specs.declared.last_words.LastWords.{LastWords}
-use Rattle.osmroad.specs.declared.last_words.Failure.{Failure}
-use Rattle.osmroad.specs.declared.last_words.Failure.TheVariants.{ReadFault as ReadFailure, SiteFault as SiteFailure}
-use Rattle.osmroad.specs.declared.last_words.Failure.TheVariants.{NoMemory as NoMemoryFailure}
-use Rattle.osmroad.specs.declared.status.Status.{Status}
-use Rattle.osmroad.specs.declared.input.InputError.{InputError}
-use Rattle.osmroad.specs.declared.input.InputError.TheVariants.{Failed, TooLong, Refused}
-use Rattle.osmroad.specs.declared.input.InputError.TheVariants.{NoMemory as NoMemoryInput}
-use Rattle.osmroad.specs.Input.{Stopped}
-use Rattle.osmroad.specs.Replies.{Replies, RefusesInput, RefusesStore, RefusesChange}
+use Rattle.last_words.specs.declared.words.LastWords.{LastWords}
+use Rattle.last_words.specs.declared.words.Failure.{Failure}
+use Rattle.last_words.specs.declared.words.Failure.TheVariants.{ReadFault as ReadFailure, SiteFault as SiteFailure}
+use Rattle.last_words.specs.declared.words.Failure.TheVariants.{NoMemory as NoMemoryFailure}
+use Rattle.last_words.specs.declared.status.Status.{Status}
+use Rattle.bounded_input.specs.declared.input.InputError.{InputError}
+use Rattle.bounded_input.specs.declared.input.InputError.TheVariants.{Failed, TooLong, Refused}
+use Rattle.bounded_input.specs.declared.input.InputError.TheVariants.{NoMemory as NoMemoryInput}
+use Rattle.bounded_input.specs.Input.{Stopped}
+use Rattle.last_words.specs.Replies.{Replies, RefusesInput}
+use Rattle.osmroad.specs.Replies.{RefusesStore, RefusesChange}
 use Rattle.osmroad.specs.Replies.{CountsReads, CountsCalls}
 
 -- ---- faults of the site

@@ -24,18 +24,19 @@ use Rattle.store_switch.specs.TwoFiles.{StandFor, IsOnStore, LeavesEither}
 use Rattle.store_switch.specs.StoreLoading.{StoreLoaded, LoadsStore, IsLoadError}
 use Rattle.osmroad.specs.declared.command.Command.{Command}
 use Rattle.osmroad.specs.declared.command.Command.TheVariants.{Apply}
-use Rattle.osmroad.specs.declared.input.InputError.{InputError}
-use Rattle.osmroad.specs.declared.input.InputError.TheVariants.{Failed, TooLong, Refused as RefusedInput}
-use Rattle.osmroad.specs.declared.input.InputError.TheVariants.{NoMemory as NoMemoryInput}
-use Rattle.osmroad.specs.declared.last_words.LastWords.{LastWords}
-use Rattle.osmroad.specs.declared.last_words.Failure.{Failure}
-use Rattle.osmroad.specs.declared.last_words.Failure.TheVariants.{ReadFault, SiteFault as SiteFailure}
-use Rattle.osmroad.specs.declared.last_words.Failure.TheVariants.{NoMemory as NoMemoryFailure}
-use Rattle.osmroad.specs.declared.status.Status.{Status}
-use Rattle.osmroad.specs.declared.status.Status.TheVariants.{Done, Refused, Limit, OutOfSequence as OutOfSequenceStatus}
-use Rattle.osmroad.specs.Texts.{applied_line, limit_line, refused_line, sequence_line}
-use Rattle.osmroad.specs.Limits.{PassesLimit, PassesAtLast}
-use Rattle.osmroad.specs.Input.{Ended, ReadWhole, Stopped}
+use Rattle.bounded_input.specs.declared.input.InputError.{InputError}
+use Rattle.bounded_input.specs.declared.input.InputError.TheVariants.{Failed, TooLong, Refused as RefusedInput}
+use Rattle.bounded_input.specs.declared.input.InputError.TheVariants.{NoMemory as NoMemoryInput}
+use Rattle.last_words.specs.declared.words.LastWords.{LastWords}
+use Rattle.last_words.specs.declared.words.Failure.{Failure}
+use Rattle.last_words.specs.declared.words.Failure.TheVariants.{ReadFault, SiteFault as SiteFailure}
+use Rattle.last_words.specs.declared.words.Failure.TheVariants.{NoMemory as NoMemoryFailure}
+use Rattle.last_words.specs.declared.status.Status.{Status}
+use Rattle.last_words.specs.declared.status.Status.TheVariants.{Done, Refused, Limit, OutOfSequence as OutOfSequenceStatus}
+use Rattle.last_words.specs.Texts.{limit_line, refused_line}
+use Rattle.osmroad.specs.Texts.{applied_line, sequence_line}
+use Rattle.bounded_input.specs.Limits.{PassesLimit, PassesAtLast}
+use Rattle.bounded_input.specs.Input.{Ended, ReadWhole, Stopped}
 use Rattle.road_io.specs.Parts.{Took}
 use Rattle.osmroad.specs.Opening.{Files}
 use Rattle.osmroad.specs.Outcomes.{AreInput, ApplyGives}
@@ -43,11 +44,12 @@ use Rattle.osmroad.specs.Outcomes.{OfStore, OfTooMuch, OfSequence, OfFault, OfFu
 use Rattle.osmroad.specs.Stops.{Before, Without, With}
 use Rattle.osmroad.specs.Stops.{LeavesChange, LeavesStored, LeftBy}
 use Rattle.osmroad.specs.Run.{IsReply, Reads, StandAsBefore, files_of}
-use Rattle.osmroad.specs.Replies.{Says, RefusesInput, RefusesStore, RefusesChange, IsPrepared, WillPut}
+use Rattle.last_words.specs.Replies.{Says, RefusesInput}
+use Rattle.osmroad.specs.Replies.{RefusesStore, RefusesChange, IsPrepared, WillPut}
 use Rattle.osmroad.specs.Replies.{Prepares}
 use Rattle.session.proofs.HeldSource.{behind_of}
 use Rattle.osmroad.proofs.Replied.{replied}
-use Rattle.osmroad.proofs.PassedLimits.{still_passes}
+use Rattle.bounded_input.proofs.PassedLimits.{still_passes}
 use Rattle.road_io.proofs.SourceParts.{took_nothing}
 use Rattle.session.proofs.OutputFronts.{starts_whole, nothing_put}
 use Rattle.osmroad.proofs.OutputFronts.{other_put}

@@ -16,8 +16,8 @@ use Rattle.session.specs.Building.{Start, BuildsOf}
 use Rattle.session.specs.declared.end.End.{End}
 use Rattle.session.specs.declared.end.End.TheVariants.{Done, Unfinished, SiteFault, Limit, NoMemory}
 use Rattle.session.specs.declared.end.End.TheVariants.{ReadFault as ReadFaultEnd}
-use Rattle.osmroad.specs.declared.status.Status.{Status}
-use Rattle.osmroad.specs.declared.status.Status.TheVariants.{ReadFault}
+use Rattle.last_words.specs.declared.status.Status.{Status}
+use Rattle.last_words.specs.declared.status.Status.TheVariants.{ReadFault}
 use Rattle.osmroad.specs.Opening.{IsStore}
 use Rattle.osmroad.specs.StoreLaws.{StoreLaws}
 use Rattle.osmroad.specs.Sessions.{ServesBuilding, SessionRunBuilds, opening, end_status}

@@ -27,19 +27,20 @@ use Rattle.osmroad.specs.declared.command.BaseProfile.{BaseProfile}
 use Rattle.osmroad.specs.declared.command.BaseProfile.TheVariants.{Kept, Raised}
 use Rattle.osmroad.specs.declared.command.Command.{Command}
 use Rattle.osmroad.specs.declared.command.Command.TheVariants.{Checkpoint}
-use Rattle.osmroad.specs.declared.last_words.LastWords.{LastWords}
-use Rattle.osmroad.specs.declared.last_words.Failure.{Failure}
-use Rattle.osmroad.specs.declared.last_words.Failure.TheVariants.{SiteFault as SiteFailure, NoMemory as NoMemoryFailure}
-use Rattle.osmroad.specs.declared.status.Status.{Status}
-use Rattle.osmroad.specs.declared.status.Status.TheVariants.{Done, Limit}
-use Rattle.osmroad.specs.Texts.{limit_line}
+use Rattle.last_words.specs.declared.words.LastWords.{LastWords}
+use Rattle.last_words.specs.declared.words.Failure.{Failure}
+use Rattle.last_words.specs.declared.words.Failure.TheVariants.{SiteFault as SiteFailure, NoMemory as NoMemoryFailure}
+use Rattle.last_words.specs.declared.status.Status.{Status}
+use Rattle.last_words.specs.declared.status.Status.TheVariants.{Done, Limit}
+use Rattle.last_words.specs.Texts.{limit_line}
 use Rattle.osmroad.specs.Checkpoints.{AreItsEntries, HasNoRoom, IsCheckpointOf, profile_of_base, base_line}
 use Rattle.osmroad.specs.Checkpoints.{checkpointed}
 use Rattle.osmroad.specs.Checkpoints.{OfStore, OfNoRoom, OfEntries}
 use Rattle.osmroad.specs.Stops.{Before, Without, With}
 use Rattle.osmroad.specs.Stops.{LeavesCheckpoint, LeavesStored, LeftBy}
 use Rattle.osmroad.specs.Run.{StandAsBefore}
-use Rattle.osmroad.specs.Replies.{Says, RefusesStore, CountsCalls, IsPrepared, WillPut, Prepares}
+use Rattle.last_words.specs.Replies.{Says}
+use Rattle.osmroad.specs.Replies.{RefusesStore, CountsCalls, IsPrepared, WillPut, Prepares}
 use Rattle.osmroad.specs.StoreLaws.{StoreLaws, CheckpointLaws}
 use Rattle.osmroad.proofs.AnsweredFaults.{failed_calls, reply_calls}
 use Rattle.session.proofs.HeldSource.{behind_of}

@@ -8,21 +8,22 @@ use Rattle.opl_objects.specs.StreamLines.{fault_at}
 use Rattle.access_profile.specs.Profiles.{rules_of}
 use Rattle.osmroad.specs.declared.command.Command.{Command}
 use Rattle.osmroad.specs.declared.command.Command.TheVariants.{Compile}
-use Rattle.osmroad.specs.declared.input.InputError.{InputError}
-use Rattle.osmroad.specs.declared.input.InputError.TheVariants.{Failed, TooLong, Refused, NoMemory}
-use Rattle.osmroad.specs.declared.last_words.LastWords.{LastWords}
-use Rattle.osmroad.specs.declared.last_words.Failure.{Failure}
-use Rattle.osmroad.specs.declared.last_words.Failure.TheVariants.{ReadFault, NoMemory as MemoryFailure}
-use Rattle.osmroad.specs.declared.status.Status.TheVariants.{Done, Limit}
-use Rattle.osmroad.specs.declared.status.Status.TheVariants.{Refused as RefusedStatus}
-use Rattle.osmroad.specs.Input.{ReadWhole, Stopped, Cause}
-use Rattle.osmroad.specs.Compiled.{IsGraphOf}
-use Rattle.osmroad.specs.Texts.{limit_line, refused_line}
+use Rattle.bounded_input.specs.declared.input.InputError.{InputError}
+use Rattle.bounded_input.specs.declared.input.InputError.TheVariants.{Failed, TooLong, Refused, NoMemory}
+use Rattle.last_words.specs.declared.words.LastWords.{LastWords}
+use Rattle.last_words.specs.declared.words.Failure.{Failure}
+use Rattle.last_words.specs.declared.words.Failure.TheVariants.{ReadFault, NoMemory as MemoryFailure}
+use Rattle.last_words.specs.declared.status.Status.TheVariants.{Done, Limit}
+use Rattle.last_words.specs.declared.status.Status.TheVariants.{Refused as RefusedStatus}
+use Rattle.bounded_input.specs.Input.{ReadWhole, Stopped, Cause}
+use Rattle.compiled_graph.specs.Compiled.{IsGraphOf}
+use Rattle.last_words.specs.Texts.{limit_line, refused_line}
 use Rattle.osmroad.specs.Outcomes.{InputRefusal, CompileGives}
-use Rattle.osmroad.specs.Replies.{RefusesInput, WillPut, IsPrepared, Prepares}
+use Rattle.last_words.specs.Replies.{RefusesInput}
+use Rattle.osmroad.specs.Replies.{WillPut, IsPrepared, Prepares}
 use Rattle.session.proofs.HeldSource.{behind_of}
 use Rattle.osmroad.proofs.HeldSource.{all_read}
-use Rattle.osmroad.proofs.PassedLimits.{still_passes}
+use Rattle.bounded_input.proofs.PassedLimits.{still_passes}
 use Rattle.osmroad.proofs.Replied.{replied}
 use Rattle.osmroad.proofs.Prepared.{by_failure, prepares, prepares_whole}
 use Rattle.osmroad.proofs.WithoutStore.{silent_still, stands_still, leaves_still, will_put_alone}

@@ -8,13 +8,13 @@ use Rattle.osmroad.specs.declared.command.BaseProfile.{BaseProfile}
 use Rattle.osmroad.specs.declared.command.Command.{Command}
 use Rattle.osmroad.specs.declared.command.Command.TheVariants.{Compile, Inspect, Sample, Create, Apply}
 use Rattle.osmroad.specs.declared.command.Command.TheVariants.{Graph, Audit, Checkpoint}
-use Rattle.osmroad.specs.declared.status.Status.{Status}
-use Rattle.osmroad.specs.declared.status.Status.TheVariants.{Done}
-use Rattle.osmroad.specs.declared.last_words.LastWords.{LastWords}
+use Rattle.last_words.specs.declared.status.Status.{Status}
+use Rattle.last_words.specs.declared.status.Status.TheVariants.{Done}
+use Rattle.last_words.specs.declared.words.LastWords.{LastWords}
 use Rattle.store_switch.specs.LiveFile.{NoBases}
 use Rattle.osmroad.specs.Opening.{Files, IsStore, size_with_change}
 use Rattle.road_model.specs.Format.{IsGraphFile}
-use Rattle.osmroad.specs.Limits.{HasTooManyBytes}
+use Rattle.bounded_input.specs.Limits.{HasTooManyBytes}
 use Rattle.osmroad.specs.Outcomes.{AreInput, CompileGives, InspectGives, CreateGives, ApplyGives, ShowGives, Gives}
 use Rattle.osmroad.specs.Checkpoints.{CheckpointGives}
 use Rattle.osmroad.specs.Run.{IsReadable, CanBeAdded, CanBeCheckpointed, CanBeDone, files_of}

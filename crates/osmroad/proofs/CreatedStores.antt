@@ -28,17 +28,18 @@ use Rattle.store_switch.specs.StoreLoading.{StillRead}
 use Rattle.store_switch.specs.StoreCreating.{CreatesStore, LeavesNewOrNone, IsCreateError}
 use Rattle.osmroad.specs.declared.command.Command.{Command}
 use Rattle.osmroad.specs.declared.command.Command.TheVariants.{Create}
-use Rattle.osmroad.specs.declared.input.InputError.{InputError}
-use Rattle.osmroad.specs.declared.input.InputError.TheVariants.{Failed, TooLong, Refused as RefusedInput}
-use Rattle.osmroad.specs.declared.input.InputError.TheVariants.{NoMemory as NoMemoryInput}
-use Rattle.osmroad.specs.declared.last_words.LastWords.{LastWords}
-use Rattle.osmroad.specs.declared.last_words.Failure.{Failure}
-use Rattle.osmroad.specs.declared.last_words.Failure.TheVariants.{ReadFault, SiteFault as SiteFailure}
-use Rattle.osmroad.specs.declared.last_words.Failure.TheVariants.{NoMemory as NoMemoryFailure}
-use Rattle.osmroad.specs.declared.status.Status.{Status}
-use Rattle.osmroad.specs.declared.status.Status.TheVariants.{Done, Refused, Limit, StoreExists as StoreExistsStatus}
-use Rattle.osmroad.specs.Texts.{created_line, limit_line, refused_line, store_exists_line}
-use Rattle.osmroad.specs.Input.{Ended, ReadWhole, Stopped}
+use Rattle.bounded_input.specs.declared.input.InputError.{InputError}
+use Rattle.bounded_input.specs.declared.input.InputError.TheVariants.{Failed, TooLong, Refused as RefusedInput}
+use Rattle.bounded_input.specs.declared.input.InputError.TheVariants.{NoMemory as NoMemoryInput}
+use Rattle.last_words.specs.declared.words.LastWords.{LastWords}
+use Rattle.last_words.specs.declared.words.Failure.{Failure}
+use Rattle.last_words.specs.declared.words.Failure.TheVariants.{ReadFault, SiteFault as SiteFailure}
+use Rattle.last_words.specs.declared.words.Failure.TheVariants.{NoMemory as NoMemoryFailure}
+use Rattle.last_words.specs.declared.status.Status.{Status}
+use Rattle.last_words.specs.declared.status.Status.TheVariants.{Done, Refused, Limit, StoreExists as StoreExistsStatus}
+use Rattle.last_words.specs.Texts.{limit_line, refused_line}
+use Rattle.osmroad.specs.Texts.{created_line, store_exists_line}
+use Rattle.bounded_input.specs.Input.{Ended, ReadWhole, Stopped}
 use Rattle.road_io.specs.Parts.{Took}
 use Rattle.osmroad.specs.Opening.{Files}
 use Rattle.osmroad.specs.Outcomes.{AreInput, InputRefusal}
@@ -46,10 +47,11 @@ use Rattle.osmroad.specs.Outcomes.{OfOldStore, OfInput, OfExtract, OfTooMuch, Of
 use Rattle.osmroad.specs.Stops.{Before, Without, With}
 use Rattle.osmroad.specs.Stops.{CouldLeave, LeavesCreated, LeftBy}
 use Rattle.osmroad.specs.Run.{IsReply, Reads, StandAsBefore, files_of}
-use Rattle.osmroad.specs.Replies.{Says, RefusesInput, RefusesStore, IsPrepared, WillPut, Prepares}
+use Rattle.last_words.specs.Replies.{Says, RefusesInput}
+use Rattle.osmroad.specs.Replies.{RefusesStore, IsPrepared, WillPut, Prepares}
 use Rattle.session.proofs.HeldSource.{behind_of}
 use Rattle.osmroad.proofs.Replied.{replied}
-use Rattle.osmroad.proofs.PassedLimits.{still_passes}
+use Rattle.bounded_input.proofs.PassedLimits.{still_passes}
 use Rattle.road_io.proofs.SourceParts.{took_nothing}
 use Rattle.road_io.proofs.QuietRuns.{quiet_left}
 use Rattle.session.proofs.OutputFronts.{starts_whole, nothing_put}

@@ -3,7 +3,7 @@ use Rattle.std.proofs.Common.{◌≡◌, ℕ, List, [], ◌++◌, Option, None, 
 use Rattle.std.proofs.lemmas.List.{append-nil}
 use Rattle.session.specs.Conversing.{HeldBytes}
 use Rattle.session.proofs.HeldSource.{behind_of}
-use Rattle.osmroad.specs.Input.{Ended}
+use Rattle.bounded_input.specs.Input.{Ended}
 
 behind_nothing : (left : Option (List ℕ)) → Ended left → behind_of left ≡ []
 behind_nothing None e = refl

@@ -8,18 +8,20 @@ use Rattle.graph_file.specs.GraphReading.{IsFile}
 use Rattle.drive_queries.specs.Counting.{totals_of}
 use Rattle.osmroad.specs.declared.command.Command.{Command}
 use Rattle.osmroad.specs.declared.command.Command.TheVariants.{Inspect}
-use Rattle.osmroad.specs.declared.input.InputError.{InputError}
-use Rattle.osmroad.specs.declared.input.InputError.TheVariants.{Failed, TooLong, Refused, NoMemory}
-use Rattle.osmroad.specs.declared.last_words.LastWords.{LastWords}
-use Rattle.osmroad.specs.declared.last_words.Failure.{Failure}
-use Rattle.osmroad.specs.declared.last_words.Failure.TheVariants.{ReadFault, NoMemory as MemoryFailure}
-use Rattle.osmroad.specs.declared.status.Status.TheVariants.{Done, Limit}
-use Rattle.osmroad.specs.declared.status.Status.TheVariants.{Refused as RefusedStatus}
-use Rattle.osmroad.specs.Limits.{HasTooManyBytes}
-use Rattle.osmroad.specs.SourceBytes.{Gathered, GatherStopped, GatherCause}
-use Rattle.osmroad.specs.Texts.{limit_line, refused_graph_line, counts_line}
+use Rattle.bounded_input.specs.declared.input.InputError.{InputError}
+use Rattle.bounded_input.specs.declared.input.InputError.TheVariants.{Failed, TooLong, Refused, NoMemory}
+use Rattle.last_words.specs.declared.words.LastWords.{LastWords}
+use Rattle.last_words.specs.declared.words.Failure.{Failure}
+use Rattle.last_words.specs.declared.words.Failure.TheVariants.{ReadFault, NoMemory as MemoryFailure}
+use Rattle.last_words.specs.declared.status.Status.TheVariants.{Done, Limit}
+use Rattle.last_words.specs.declared.status.Status.TheVariants.{Refused as RefusedStatus}
+use Rattle.bounded_input.specs.Limits.{HasTooManyBytes}
+use Rattle.bounded_input.specs.SourceBytes.{Gathered, GatherStopped, GatherCause}
+use Rattle.last_words.specs.Texts.{limit_line}
+use Rattle.osmroad.specs.Texts.{refused_graph_line, counts_line}
 use Rattle.osmroad.specs.Outcomes.{InspectGives}
-use Rattle.osmroad.specs.Replies.{Replies, RefusesInput, CountsReads, IsPrepared, Prepares}
+use Rattle.last_words.specs.Replies.{Replies, RefusesInput}
+use Rattle.osmroad.specs.Replies.{CountsReads, IsPrepared, Prepares}
 use Rattle.osmroad.proofs.AnsweredFaults.{reads_calm, reply_no_failure}
 use Rattle.session.proofs.HeldSource.{behind_of}
 use Rattle.osmroad.proofs.Replied.{replied}

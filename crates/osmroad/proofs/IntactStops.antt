@@ -23,7 +23,7 @@ use Rattle.osmroad.specs.declared.command.Command.TheVariants.{Compile, Inspect,
 use Rattle.osmroad.specs.declared.command.Command.TheVariants.{Graph, Audit, Checkpoint}
 use Rattle.osmroad.specs.declared.command.Request.{Request}
 use Rattle.osmroad.specs.declared.command.Request.TheVariants.{Session, Command as CommandRequest}
-use Rattle.osmroad.specs.declared.status.Status.{Status}
+use Rattle.last_words.specs.declared.status.Status.{Status}
 use Rattle.osmroad.specs.Opening.{IsStore}
 use Rattle.osmroad.specs.Checkpoints.{checkpointed}
 use Rattle.osmroad.specs.Stops.{CouldLeave, LeavesFirst, LeavesBase, LeavesChange, LeavesHistory, LeavesCheckpoint}

@@ -3,10 +3,6 @@ pub mod DistinctLists
 pub mod OneFinding
 pub mod AuditLines
 mod WalkedEntries
-pub mod Built
-pub mod LineLengths
-pub mod InputEnds
-pub mod PassedLimits
 pub mod CitedLaws
 pub mod HeldSource
 pub mod Replied

@@ -18,12 +18,13 @@ use Rattle.store_switch.specs.LiveFile.{IsLive, NoBases, reads_of}
 use Rattle.store_switch.specs.TwoFiles.{StandFor, CanBeLoaded, LeavesStore}
 use Rattle.store_switch.specs.StoreLoading.{StoreLoaded, StillRead, LeavesAlike, LoadsStore, IsLoadError}
 use Rattle.osmroad.specs.declared.command.Command.{Command}
-use Rattle.osmroad.specs.declared.last_words.LastWords.{LastWords}
-use Rattle.osmroad.specs.declared.last_words.Failure.{Failure}
-use Rattle.osmroad.specs.declared.last_words.Failure.TheVariants.{SiteFault as SiteFailure, NoMemory as NoMemoryFailure}
-use Rattle.osmroad.specs.declared.status.Status.{Status}
-use Rattle.osmroad.specs.declared.status.Status.TheVariants.{NoStore as NoStoreStatus, Damaged as DamagedStatus, Limit}
-use Rattle.osmroad.specs.Texts.{no_store_line, damaged_line, limit_line}
+use Rattle.last_words.specs.declared.words.LastWords.{LastWords}
+use Rattle.last_words.specs.declared.words.Failure.{Failure}
+use Rattle.last_words.specs.declared.words.Failure.TheVariants.{SiteFault as SiteFailure, NoMemory as NoMemoryFailure}
+use Rattle.last_words.specs.declared.status.Status.{Status}
+use Rattle.last_words.specs.declared.status.Status.TheVariants.{NoStore as NoStoreStatus, Damaged as DamagedStatus, Limit}
+use Rattle.last_words.specs.Texts.{limit_line}
+use Rattle.osmroad.specs.Texts.{no_store_line, damaged_line}
 use Rattle.osmroad.specs.Opening.{IsStore, StoreRefusal}
 use Rattle.osmroad.specs.Opening.{OfNoStore, OfTooLarge, OfDamage}
 use Rattle.osmroad.specs.Stops.{CouldLeave, LeavesFirst, LeavesStored}

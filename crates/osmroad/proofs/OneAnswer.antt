@@ -23,9 +23,10 @@ use Rattle.osmroad.specs.declared.command.BaseProfile.{BaseProfile}
 use Rattle.osmroad.specs.declared.command.Command.{Command}
 use Rattle.osmroad.specs.declared.command.Command.TheVariants.{Compile, Inspect, Sample, Create, Apply}
 use Rattle.osmroad.specs.declared.command.Command.TheVariants.{Graph, Audit, Checkpoint}
-use Rattle.osmroad.specs.declared.status.Status.{Status}
+use Rattle.last_words.specs.declared.status.Status.{Status}
 use Rattle.osmroad.specs.Texts.{sequence_line, counts_line}
-use Rattle.osmroad.specs.Compiled.{IsGraphOf, rules_shown}
+use Rattle.compiled_graph.specs.Compiled.{IsGraphOf}
+use Rattle.osmroad.specs.Shown.{rules_shown}
 use Rattle.osmroad.specs.Audited.{IsAuditOf}
 use Rattle.osmroad.specs.Opening.{Files, IsStore, StoreRefusal, size_with_change}
 use Rattle.osmroad.specs.Checkpoints.{AreItsEntries, HasNoRoom, CheckpointGives, base_line, checkpointed}

@@ -5,13 +5,13 @@ use Rattle.std.proofs.Common.{refl, sym, ap, subst}
 use Rattle.road_io.specs.Told.{Told}
 use Rattle.road_io.specs.Outside.{Outside, LeavesOnly}
 use Rattle.osmroad.specs.declared.command.Command.{Command}
-use Rattle.osmroad.specs.declared.last_words.LastWords.{LastWords}
-use Rattle.osmroad.specs.declared.last_words.Failure.{Failure}
-use Rattle.osmroad.specs.declared.last_words.Failure.TheVariants.{NoMemory as NoMemoryFailure}
-use Rattle.osmroad.specs.Input.{Ended}
+use Rattle.last_words.specs.declared.words.LastWords.{LastWords}
+use Rattle.last_words.specs.declared.words.Failure.{Failure}
+use Rattle.last_words.specs.declared.words.Failure.TheVariants.{NoMemory as NoMemoryFailure}
+use Rattle.bounded_input.specs.Input.{Ended}
 use Rattle.road_io.specs.Parts.{Took}
 use Rattle.osmroad.specs.Stops.{LeftBy}
-use Rattle.osmroad.specs.declared.status.Status.{Status}
+use Rattle.last_words.specs.declared.status.Status.{Status}
 use Rattle.osmroad.specs.Outcomes.{Gives}
 use Rattle.session.specs.Conversing.{HeldBytes}
 use Rattle.osmroad.specs.Run.{IsReply, Reads}

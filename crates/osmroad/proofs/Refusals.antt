@@ -6,8 +6,9 @@ use Rattle.opl_lexer.specs.Reading.{FaultAt, ReadAll, input_fault}
 use Rattle.road_io.specs.declared.outside.Which.{Which}
 use Rattle.sequence_journal.specs.Standing.{DamagedAt}
 use Rattle.store_switch.specs.LiveFile.{IsLive, NoBases}
-use Rattle.osmroad.specs.declared.status.Status.{Status}
-use Rattle.osmroad.specs.Texts.{refused_line, damaged_line}
+use Rattle.last_words.specs.declared.status.Status.{Status}
+use Rattle.last_words.specs.Texts.{refused_line}
+use Rattle.osmroad.specs.Texts.{damaged_line}
 use Rattle.osmroad.specs.Opening.{Files, IsStore, IsTooLarge, IsDamaged, StoreRefusal, OfNoStore, OfTooLarge, OfDamage}
 use Rattle.osmroad.specs.Outcomes.{AreInput, InputRefusal}
 use Rattle.osmroad.specs.Run.{IsReadable}

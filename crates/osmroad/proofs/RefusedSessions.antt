@@ -14,17 +14,19 @@ use Rattle.sequence_journal.specs.declared.error.JournalError.TheVariants.{NoMem
 use Rattle.sequence_journal.specs.declared.load.Loaded.{Loaded}
 use Rattle.sequence_journal.specs.Journal.{CountsFaults}
 use Rattle.store_switch.specs.StoreLoading.{StillRead, LoadsStore, IsLoadError}
-use Rattle.osmroad.specs.declared.last_words.LastWords.{LastWords}
-use Rattle.osmroad.specs.declared.last_words.Failure.{Failure}
-use Rattle.osmroad.specs.declared.last_words.Failure.TheVariants.{ReadFault as ReadFailure, SiteFault as SiteFailure}
-use Rattle.osmroad.specs.declared.last_words.Failure.TheVariants.{NoMemory as MemoryFailure}
-use Rattle.osmroad.specs.declared.status.Status.{Status}
-use Rattle.osmroad.specs.declared.status.Status.TheVariants.{Done, Usage, ReadFault, SiteFault, Refused, Limit}
-use Rattle.osmroad.specs.declared.status.Status.TheVariants.{NoMemory, NoStore, StoreExists as StoreExistsStatus}
-use Rattle.osmroad.specs.declared.status.Status.TheVariants.{Damaged as DamagedStatus, OutOfSequence as SequenceStatus}
-use Rattle.osmroad.specs.Texts.{no_store_line, damaged_line, limit_line}
-use Rattle.osmroad.specs.Run.{EndsPut, PutsSome}
-use Rattle.osmroad.specs.Replies.{Says, RefusesStore, CountsCalls, failure_status}
+use Rattle.last_words.specs.declared.words.LastWords.{LastWords}
+use Rattle.last_words.specs.declared.words.Failure.{Failure}
+use Rattle.last_words.specs.declared.words.Failure.TheVariants.{ReadFault as ReadFailure, SiteFault as SiteFailure}
+use Rattle.last_words.specs.declared.words.Failure.TheVariants.{NoMemory as MemoryFailure}
+use Rattle.last_words.specs.declared.status.Status.{Status}
+use Rattle.last_words.specs.declared.status.Status.TheVariants.{Done, Usage, ReadFault, SiteFault, Refused, Limit}
+use Rattle.last_words.specs.declared.status.Status.TheVariants.{NoMemory, NoStore, StoreExists as StoreExistsStatus}
+use Rattle.last_words.specs.declared.status.Status.TheVariants.{Damaged as DamagedStatus, OutOfSequence as SequenceStatus}
+use Rattle.last_words.specs.Texts.{limit_line}
+use Rattle.osmroad.specs.Texts.{no_store_line, damaged_line}
+use Rattle.last_words.specs.Puts.{EndsPut, PutsSome}
+use Rattle.last_words.specs.Replies.{Says, failure_status}
+use Rattle.osmroad.specs.Replies.{RefusesStore, CountsCalls}
 use Rattle.osmroad.specs.StoreLaws.{StoreLaws}
 use Rattle.osmroad.specs.Sessions.{IsNotServed, AnswersFaults, PutsLine, OfRefusal, OfFault, OfMemory, LeavesServed}
 use Rattle.osmroad.specs.Sessions.{SessionRuns, ReadsSession, EndsSession}

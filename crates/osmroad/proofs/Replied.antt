@@ -3,11 +3,12 @@ use Rattle.std.proofs.Common.{ℕ, List, Option, Result, Ok, Err, sym, subst}
 use Rattle.road_io.specs.Told.{Told}
 use Rattle.road_io.specs.Outside.{Outside}
 use Rattle.osmroad.specs.declared.command.Command.{Command}
-use Rattle.osmroad.specs.declared.last_words.LastWords.{LastWords}
-use Rattle.osmroad.specs.declared.last_words.Failure.{Failure}
-use Rattle.osmroad.specs.declared.status.Status.{Status}
+use Rattle.last_words.specs.declared.words.LastWords.{LastWords}
+use Rattle.last_words.specs.declared.words.Failure.{Failure}
+use Rattle.last_words.specs.declared.status.Status.{Status}
 use Rattle.osmroad.specs.Run.{StandAsBefore}
-use Rattle.osmroad.specs.Replies.{Replies, WillPut, WillFail, IsPrepared}
+use Rattle.last_words.specs.Replies.{Replies}
+use Rattle.osmroad.specs.Replies.{WillPut, WillFail, IsPrepared}
 
 -- a reply says what will be put; where memory ended in its place, the files stand as before
 pub replied : (command : Option Command) (bytes read : List ℕ) (status : Status) (out : List ℕ)

@@ -14,18 +14,20 @@ use Rattle.osmroad.specs.declared.command.BaseProfile.{BaseProfile}
 use Rattle.osmroad.specs.declared.command.Command.{Command}
 use Rattle.osmroad.specs.declared.command.Command.TheVariants.{Compile, Inspect, Sample, Create, Apply}
 use Rattle.osmroad.specs.declared.command.Command.TheVariants.{Graph, Audit, Checkpoint}
-use Rattle.osmroad.specs.declared.last_words.LastWords.{LastWords}
-use Rattle.osmroad.specs.declared.last_words.Failure.{Failure}
-use Rattle.osmroad.specs.declared.last_words.Failure.TheVariants.{ReadFault as ReadFailure, SiteFault as SiteFailure}
-use Rattle.osmroad.specs.declared.last_words.Failure.TheVariants.{NoMemory as MemoryFailure}
-use Rattle.osmroad.specs.declared.status.Status.{Status}
-use Rattle.osmroad.specs.declared.status.Status.TheVariants.{Done, Usage, ReadFault, SiteFault, Refused, Limit}
-use Rattle.osmroad.specs.declared.status.Status.TheVariants.{NoMemory, OutOfSequence, NoStore, StoreExists, Damaged}
+use Rattle.last_words.specs.declared.words.LastWords.{LastWords}
+use Rattle.last_words.specs.declared.words.Failure.{Failure}
+use Rattle.last_words.specs.declared.words.Failure.TheVariants.{ReadFault as ReadFailure, SiteFault as SiteFailure}
+use Rattle.last_words.specs.declared.words.Failure.TheVariants.{NoMemory as MemoryFailure}
+use Rattle.last_words.specs.declared.status.Status.{Status}
+use Rattle.last_words.specs.declared.status.Status.TheVariants.{Done, Usage, ReadFault, SiteFault, Refused, Limit}
+use Rattle.last_words.specs.declared.status.Status.TheVariants.{NoMemory, OutOfSequence, NoStore, StoreExists, Damaged}
 use Rattle.osmroad.specs.Stops.{LeftBy}
-use Rattle.osmroad.specs.Run.{IsReading, IsReply, Grows, GrowsInto, EndsPut, PutsSome, files_of}
+use Rattle.last_words.specs.Puts.{Grows, GrowsInto, EndsPut, PutsSome}
+use Rattle.osmroad.specs.Run.{IsReading, IsReply, files_of}
 use Rattle.session.specs.Conversing.{HeldBytes}
 use Rattle.osmroad.specs.Run.{StandAfter, Reads, PutsAll, EndsWith, Ends}
-use Rattle.osmroad.specs.Replies.{WillPut, WillFail, Prepares, failure_status}
+use Rattle.last_words.specs.Replies.{failure_status}
+use Rattle.osmroad.specs.Replies.{WillPut, WillFail, Prepares}
 use Rattle.session.proofs.HeldSource.{behind_of, held_still}
 
 -- ---- statuses with which something is put

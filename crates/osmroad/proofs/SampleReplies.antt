@@ -9,14 +9,15 @@ use Rattle.road_io.specs.Outside.{Outside}
 use Rattle.sample_town.specs.Lists.{Progress, next_list, after_list}
 use Rattle.osmroad.specs.declared.command.Command.{Command}
 use Rattle.osmroad.specs.declared.command.Command.TheVariants.{Sample}
-use Rattle.osmroad.specs.declared.last_words.LastWords.{LastWords}
-use Rattle.osmroad.specs.declared.last_words.Failure.{Failure}
-use Rattle.osmroad.specs.declared.last_words.Failure.TheVariants.{NoMemory as MemoryFailure}
-use Rattle.osmroad.specs.declared.status.Status.TheVariants.{Done}
+use Rattle.last_words.specs.declared.words.LastWords.{LastWords}
+use Rattle.last_words.specs.declared.words.Failure.{Failure}
+use Rattle.last_words.specs.declared.words.Failure.TheVariants.{NoMemory as MemoryFailure}
+use Rattle.last_words.specs.declared.status.Status.TheVariants.{Done}
 use Rattle.road_model.specs.Rules.{Rules}
 use Rattle.access_profile.specs.Profiles.{rules_of}
 use Rattle.osmroad.specs.Sampling.{events_of_lists, IsSampleLine, IsSample, Led}
-use Rattle.osmroad.specs.Replies.{Replies, IsPrepared, Prepares}
+use Rattle.last_words.specs.Replies.{Replies}
+use Rattle.osmroad.specs.Replies.{IsPrepared, Prepares}
 use Rattle.session.proofs.HeldSource.{behind_of}
 use Rattle.road_io.proofs.SourceParts.{took_nothing}
 use Rattle.osmroad.proofs.Replied.{replied}

@@ -26,8 +26,8 @@ use Rattle.session.specs.Conversation.{Kept, Start, room_at}
 use Rattle.session.specs.Endings.{OfNothing}
 use Rattle.session.specs.Conversing.{IsReadyAt, LeavesReply, LeavesSession, PutsAll, PutsFront, EndsWith}
 use Rattle.session.specs.Conversing.{SessionEnds, IsAtEnd, CountsReads, CountsCalls}
-use Rattle.osmroad.specs.declared.status.Status.{Status}
-use Rattle.osmroad.specs.declared.status.Status.TheVariants.{ReadFault, SiteFault}
+use Rattle.last_words.specs.declared.status.Status.{Status}
+use Rattle.last_words.specs.declared.status.Status.TheVariants.{ReadFault, SiteFault}
 use Rattle.osmroad.specs.Opening.{Files, IsStore}
 use Rattle.osmroad.specs.StoreLaws.{StoreLaws}
 use Rattle.osmroad.specs.Sessions.{end_status, IsServed, AnswersFaults, IsOpening, Serves, opening, replies_over}

@@ -18,22 +18,24 @@ use Rattle.store_switch.specs.TwoFiles.{StandFor, CanBeLoaded}
 use Rattle.store_switch.specs.StoreLoading.{StoreLoaded, LoadsStore, IsLoadError}
 use Rattle.osmroad.specs.declared.command.Command.{Command}
 use Rattle.osmroad.specs.declared.command.Command.TheVariants.{Graph, Audit}
-use Rattle.osmroad.specs.declared.last_words.LastWords.{LastWords}
-use Rattle.osmroad.specs.declared.last_words.Failure.{Failure}
-use Rattle.osmroad.specs.declared.last_words.Failure.TheVariants.{NoMemory as NoMemoryFailure}
-use Rattle.osmroad.specs.declared.status.Status.{Status}
-use Rattle.osmroad.specs.declared.status.Status.TheVariants.{Done, NoStore, Damaged, Limit}
+use Rattle.last_words.specs.declared.words.LastWords.{LastWords}
+use Rattle.last_words.specs.declared.words.Failure.{Failure}
+use Rattle.last_words.specs.declared.words.Failure.TheVariants.{NoMemory as NoMemoryFailure}
+use Rattle.last_words.specs.declared.status.Status.{Status}
+use Rattle.last_words.specs.declared.status.Status.TheVariants.{Done, NoStore, Damaged, Limit}
 use Rattle.road_model.specs.Highways.{highways}
 use Rattle.access_profile.specs.Profiles.{rules_of}
 use Rattle.moment_rules.specs.declared.moment.Moment.{Moment}
 use Rattle.osmroad.specs.Opening.{Files}
 use Rattle.osmroad.specs.Outcomes.{Gives, ShowGives}
 use Rattle.osmroad.specs.Outcomes.{OfStore, OfHistory}
-use Rattle.osmroad.specs.Compiled.{IsGraphOf, rules_shown}
+use Rattle.compiled_graph.specs.Compiled.{IsGraphOf}
+use Rattle.osmroad.specs.Shown.{rules_shown}
 use Rattle.osmroad.specs.Audited.{IsAuditOf}
 use Rattle.osmroad.specs.Stops.{LeavesStored, LeavesHistory, LeftBy}
 use Rattle.osmroad.specs.Run.{IsReply, IsStored, Reads, StandAfter, StandAsBefore, Builds, files_of}
-use Rattle.osmroad.specs.Replies.{Says, RefusesStore, IsPrepared, WillPut, Prepares}
+use Rattle.last_words.specs.Replies.{Says}
+use Rattle.osmroad.specs.Replies.{RefusesStore, IsPrepared, WillPut, Prepares}
 use Rattle.session.proofs.HeldSource.{behind_of}
 use Rattle.osmroad.proofs.Replied.{replied}
 use Rattle.road_io.proofs.SourceParts.{took_nothing}

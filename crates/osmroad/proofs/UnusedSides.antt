@@ -2,9 +2,9 @@
 use Rattle.std.proofs.Common.{◌≡◌, ℕ, List, Option, Result, Err, refl, subst, arith}
 use Rattle.road_io.specs.Outside.{Outside}
 use Rattle.osmroad.specs.declared.command.Command.{Command}
-use Rattle.osmroad.specs.declared.last_words.LastWords.{LastWords}
-use Rattle.osmroad.specs.declared.last_words.Failure.{Failure}
-use Rattle.osmroad.specs.declared.last_words.Failure.TheVariants.{ReadFault, SiteFault}
+use Rattle.last_words.specs.declared.words.LastWords.{LastWords}
+use Rattle.last_words.specs.declared.words.Failure.{Failure}
+use Rattle.last_words.specs.declared.words.Failure.TheVariants.{ReadFault, SiteFault}
 use Rattle.osmroad.specs.Run.{IsReading, IsStored}
 use Rattle.osmroad.specs.Replies.{IsPrepared, Prepares, CountsReads, CountsCalls}
 

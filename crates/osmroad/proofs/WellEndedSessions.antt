@@ -15,8 +15,8 @@ use Rattle.session.specs.Conversation.{Kept}
 use Rattle.session.specs.Endings.{EndsSaying, OfEnd, OfLast, OfUnfinished, OfTooMuch, OfFull, OfFullLast, OfReadFault}
 use Rattle.session.specs.Endings.{SessionGives}
 use Rattle.osmroad.specs.declared.command.Request.TheVariants.{Session}
-use Rattle.osmroad.specs.declared.status.Status.{Status}
-use Rattle.osmroad.specs.declared.status.Status.TheVariants.{Done, ReadFault, SiteFault, NoMemory}
+use Rattle.last_words.specs.declared.status.Status.{Status}
+use Rattle.last_words.specs.declared.status.Status.TheVariants.{Done, ReadFault, SiteFault, NoMemory}
 use Rattle.osmroad.specs.Opening.{IsStore}
 use Rattle.osmroad.specs.Run.{IsReadable, files_of}
 use Rattle.osmroad.specs.Requests.{RunCanBeDone}

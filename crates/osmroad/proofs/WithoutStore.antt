@@ -9,7 +9,7 @@ use Rattle.road_io.proofs.ToldCalls.{told_same}
 use Rattle.osmroad.specs.declared.command.Command.{Command}
 use Rattle.osmroad.specs.declared.command.Command.TheVariants.{Compile, Inspect, Sample, Create, Apply}
 use Rattle.osmroad.specs.declared.command.Command.TheVariants.{Graph, Audit, Checkpoint}
-use Rattle.osmroad.specs.declared.status.Status.{Status}
+use Rattle.last_words.specs.declared.status.Status.{Status}
 use Rattle.osmroad.specs.Outcomes.{Gives}
 use Rattle.osmroad.specs.Stops.{CouldLeave, LeftBy}
 use Rattle.osmroad.specs.Run.{IsStored, IsReply, Reads, StandAfter, StandAsBefore, files_of}

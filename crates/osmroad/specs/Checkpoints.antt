@@ -7,10 +7,11 @@ use Rattle.sequence_journal.specs.Basing.{base_size}
 use Rattle.store_switch.specs.Checkpointing.{AreEntries, IsRaised, checkpoint_of}
 use Rattle.osmroad.specs.declared.command.BaseProfile.{BaseProfile}
 use Rattle.osmroad.specs.declared.command.BaseProfile.TheVariants.{Kept, Raised}
-use Rattle.osmroad.specs.declared.status.Status.{Status}
-use Rattle.osmroad.specs.declared.status.Status.TheVariants.{Done, Limit}
+use Rattle.last_words.specs.declared.status.Status.{Status}
+use Rattle.last_words.specs.declared.status.Status.TheVariants.{Done, Limit}
 use Rattle.osmroad.specs.Opening.{Files, IsStore, StoreRefusal}
-use Rattle.osmroad.specs.Texts.{limit_line, checkpoint_line, raise_line}
+use Rattle.last_words.specs.Texts.{limit_line}
+use Rattle.osmroad.specs.Texts.{checkpoint_line, raise_line}
 
 -- one event for each entry of the history's objects, deletions too, in key order
 pub record AreItsEntries (h : History) (events : List Event) : Type 0 where

@@ -1,14 +1,8 @@
-pub mod Compiled
+pub mod Shown
 pub mod Audit
 pub mod Audited
-pub mod Building
-pub mod Limits
 pub mod Texts
-pub mod Input
-pub mod Reading
-pub mod SourceBytes
 pub mod Sampling
-pub mod Status
 pub mod Commands
 pub mod Opening
 pub mod StoreLaws

@@ -7,9 +7,10 @@ use Rattle.road_io.specs.declared.outside.Which.{Which}
 use Rattle.sequence_journal.specs.Standing.{DamagedAt, history_bytes}
 use Rattle.store_switch.specs.LiveFile.{IsLive, NoBases}
 use Rattle.store_switch.specs.TwoFiles.{StandOn}
-use Rattle.osmroad.specs.declared.status.Status.{Status}
-use Rattle.osmroad.specs.declared.status.Status.TheVariants.{NoStore, Damaged, Limit}
-use Rattle.osmroad.specs.Texts.{no_store_line, damaged_line, limit_line}
+use Rattle.last_words.specs.declared.status.Status.{Status}
+use Rattle.last_words.specs.declared.status.Status.TheVariants.{NoStore, Damaged, Limit}
+use Rattle.last_words.specs.Texts.{limit_line}
+use Rattle.osmroad.specs.Texts.{no_store_line, damaged_line}
 
 -- the bytes of the two files
 abbrev pub Files : Type 0

@@ -19,12 +19,15 @@ use Rattle.store_switch.specs.LiveFile.{NoBases}
 use Rattle.osmroad.specs.declared.command.Command.{Command}
 use Rattle.osmroad.specs.declared.command.Command.TheVariants.{Compile, Inspect, Sample, Create, Apply}
 use Rattle.osmroad.specs.declared.command.Command.TheVariants.{Graph, Audit, Checkpoint}
-use Rattle.osmroad.specs.declared.status.Status.{Status}
-use Rattle.osmroad.specs.declared.status.Status.TheVariants.{Done, Usage, Refused, OutOfSequence, StoreExists, Limit}
-use Rattle.osmroad.specs.Limits.{PassesLimit, HasTooManyBytes}
-use Rattle.osmroad.specs.Texts.{usage_line, limit_line, store_exists_line, created_line, applied_line}
-use Rattle.osmroad.specs.Texts.{sequence_line, refused_line, refused_graph_line, counts_line}
-use Rattle.osmroad.specs.Compiled.{IsGraphOf, rules_shown}
+use Rattle.last_words.specs.declared.status.Status.{Status}
+use Rattle.last_words.specs.declared.status.Status.TheVariants.{Done, Usage, Refused, OutOfSequence, StoreExists, Limit}
+use Rattle.bounded_input.specs.Limits.{PassesLimit, HasTooManyBytes}
+use Rattle.last_words.specs.Texts.{limit_line}
+use Rattle.osmroad.specs.Texts.{usage_line, store_exists_line, created_line, applied_line}
+use Rattle.last_words.specs.Texts.{refused_line}
+use Rattle.osmroad.specs.Texts.{sequence_line, refused_graph_line, counts_line}
+use Rattle.compiled_graph.specs.Compiled.{IsGraphOf}
+use Rattle.osmroad.specs.Shown.{rules_shown}
 use Rattle.osmroad.specs.Audited.{IsAuditOf}
 use Rattle.osmroad.specs.Sampling.{IsSample}
 use Rattle.osmroad.specs.Checkpoints.{CheckpointGives}

@@ -4,7 +4,6 @@ use Rattle.std.specs.Io.{StartsWith}
 use Rattle.road_base.specs.History.{History}
 use Rattle.road_base.specs.declared.ids.Sequence.{Sequence}
 use Rattle.opl_objects.specs.declared.fault.Fault.{Fault}
-use Rattle.opl_objects.specs.StreamLines.{fault_at}
 use Rattle.road_io.specs.Told.{Told, Rose}
 use Rattle.road_io.specs.Disk.{IsImage}
 use Rattle.road_io.specs.Outside.{Outside, Left, LeavesOnly}
@@ -18,48 +17,23 @@ use Rattle.sequence_journal.specs.declared.error.JournalError.TheVariants.{NoMem
 use Rattle.sequence_journal.specs.declared.journal.Journal.{Journal}
 use Rattle.sequence_journal.specs.Adding.{IsNext}
 use Rattle.osmroad.specs.declared.command.Command.{Command}
-use Rattle.osmroad.specs.declared.input.InputError.{InputError}
-use Rattle.osmroad.specs.declared.input.InputError.TheVariants.{Failed, TooLong, Refused as RefusedInput}
-use Rattle.osmroad.specs.declared.input.InputError.TheVariants.{NoMemory as NoMemoryInput}
-use Rattle.osmroad.specs.declared.last_words.LastWords.{LastWords}
-use Rattle.osmroad.specs.declared.last_words.Failure.{Failure}
-use Rattle.osmroad.specs.declared.last_words.Failure.TheVariants.{ReadFault, SiteFault, NoMemory}
-use Rattle.osmroad.specs.declared.status.Status.{Status}
-use Rattle.osmroad.specs.declared.status.Status.TheVariants.{Refused, OutOfSequence, NoStore, StoreExists}
-use Rattle.osmroad.specs.declared.status.Status.TheVariants.{Damaged, Limit}
-use Rattle.osmroad.specs.declared.status.Status.TheVariants.{ReadFault as ReadFaultStatus}
-use Rattle.osmroad.specs.declared.status.Status.TheVariants.{SiteFault as SiteFaultStatus}
-use Rattle.osmroad.specs.declared.status.Status.TheVariants.{NoMemory as NoMemoryStatus}
-use Rattle.osmroad.specs.Texts.{limit_line, refused_line, sequence_line, damaged_line}
+use Rattle.bounded_input.specs.declared.input.InputError.TheVariants.{Refused as RefusedInput}
+use Rattle.last_words.specs.declared.words.LastWords.{LastWords}
+use Rattle.last_words.specs.declared.words.Failure.{Failure}
+use Rattle.last_words.specs.declared.words.Failure.TheVariants.{ReadFault, SiteFault, NoMemory}
+use Rattle.last_words.specs.declared.status.Status.{Status}
+use Rattle.last_words.specs.declared.status.Status.TheVariants.{OutOfSequence, NoStore, StoreExists}
+use Rattle.last_words.specs.declared.status.Status.TheVariants.{Damaged, Limit}
+use Rattle.last_words.specs.Texts.{limit_line}
+use Rattle.last_words.specs.Replies.{Replies, RefusesInput}
+use Rattle.osmroad.specs.Texts.{sequence_line, damaged_line}
 use Rattle.osmroad.specs.Texts.{no_store_line, store_exists_line}
 use Rattle.osmroad.specs.Outcomes.{Gives}
 use Rattle.osmroad.specs.Stops.{LeftBy}
 use Rattle.session.specs.Conversing.{HeldBytes}
 use Rattle.osmroad.specs.Run.{IsReading, IsStored, IsReply, PassesFor, Reads, StandAfter, StandAsBefore, files_of}
 
--- ---- replies
-
--- the status of a failure
-abbrev pub failure_status : Failure → Status
-failure_status ReadFault = ReadFaultStatus
-failure_status SiteFault = SiteFaultStatus
-failure_status NoMemory = NoMemoryStatus
-
--- this status and these bytes
-abbrev pub Says : Status → List ℕ → LastWords → Type 0
-Says status out r = (r.status ≡ status) × (r.out.items ≡ out)
-
--- a reply of this status and these bytes; memory may end before it is made
-abbrev pub Replies : Status → List ℕ → Result LastWords Failure → Type 0
-Replies status out (Ok r) = Says status out r
-Replies status out (Err failure) = failure ≡ NoMemory
-
--- how an input is refused
-abbrev pub RefusesInput : InputError → Result LastWords Failure → Type 0
-RefusesInput Failed result = result ≡ Err ReadFault
-RefusesInput TooLong result = Replies Limit limit_line result
-RefusesInput (RefusedInput fault) result = Replies Refused (refused_line (fault_at fault)) result
-RefusesInput NoMemoryInput result = result ≡ Err NoMemory
+-- ---- refusals
 
 -- how a store is refused
 abbrev pub RefusesStore : JournalError → Result LastWords Failure → Type 0

@@ -3,7 +3,7 @@ use Rattle.std.specs.Prelude.{◌⊎◌, ℕ, List, Option, None, Some}
 use Rattle.road_io.specs.Outside.{Outside}
 use Rattle.osmroad.specs.declared.command.Request.{Request}
 use Rattle.osmroad.specs.declared.command.Request.TheVariants.{Session, Command as CommandRequest}
-use Rattle.osmroad.specs.declared.status.Status.{Status}
+use Rattle.last_words.specs.declared.status.Status.{Status}
 use Rattle.osmroad.specs.Opening.{Files}
 use Rattle.osmroad.specs.Run.{IsStored, MayEnd, Ends, IsReadable, CanBeDone, Builds}
 use Rattle.osmroad.specs.Sessions.{IsServed, IsNotServed, EndsSession, EndsWell, SessionRunBuilds}

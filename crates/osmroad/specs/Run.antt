@@ -1,5 +1,5 @@
 -- How a run ends: what was read and put, for what the files then stand, and what a stop leaves.
-use Rattle.std.specs.Prelude.{◌≡◌, ◌⊎◌, ℕ, ◌+◌, ◌≤◌, ◌^◌, List, [], ◌++◌, length, take, Option, None, Some}
+use Rattle.std.specs.Prelude.{◌≡◌, ◌⊎◌, ℕ, ◌+◌, ◌≤◌, ◌^◌, List, [], ◌++◌, length, Option, None, Some}
 use Rattle.std.specs.Prelude.{IfSome}
 use Rattle.std.specs.FinMap.{empty}
 use Rattle.road_base.specs.declared.event.Event.{Event}
@@ -10,9 +10,9 @@ use Rattle.opl_lexer.specs.declared.mode.Mode.TheVariants.{Extract, Change}
 use Rattle.opl_lexer.specs.Reading.{ReadAll}
 use Rattle.road_model.specs.Format.{IsGraphFile}
 use Rattle.road_model.specs.Highways.{highways}
-use Rattle.road_io.specs.Told.{Told, Rose}
+use Rattle.road_io.specs.Told.{Told}
 use Rattle.road_io.specs.declared.outside.Which.{Which}
-use Rattle.road_io.specs.Outside.{Outside, LeavesOnly, extended, other}
+use Rattle.road_io.specs.Outside.{Outside, LeavesOnly, other}
 use Rattle.sequence_journal.specs.Standing.{DamagedAt}
 use Rattle.store_switch.specs.LiveFile.{IsLive, NoBases, reads_of}
 use Rattle.store_switch.specs.TwoFiles.{StandOn, StandFor, CanBeLoaded}
@@ -21,10 +21,11 @@ use Rattle.session.specs.Conversing.{HeldBytes}
 use Rattle.osmroad.specs.declared.command.Command.{Command}
 use Rattle.osmroad.specs.declared.command.Command.TheVariants.{Compile, Inspect, Sample, Create, Apply}
 use Rattle.osmroad.specs.declared.command.Command.TheVariants.{Graph, Audit, Checkpoint}
-use Rattle.osmroad.specs.declared.status.Status.{Status}
-use Rattle.osmroad.specs.declared.status.Status.TheVariants.{Done, Usage, ReadFault, SiteFault, Refused, Limit}
-use Rattle.osmroad.specs.declared.status.Status.TheVariants.{NoMemory, OutOfSequence, NoStore, StoreExists, Damaged}
-use Rattle.osmroad.specs.Limits.{PassesLimit, PassesAtLast, HasTooManyBytes}
+use Rattle.last_words.specs.declared.status.Status.{Status}
+use Rattle.last_words.specs.declared.status.Status.TheVariants.{Done, Usage, ReadFault, SiteFault, Refused, Limit}
+use Rattle.last_words.specs.declared.status.Status.TheVariants.{NoMemory, OutOfSequence, NoStore, StoreExists, Damaged}
+use Rattle.bounded_input.specs.Limits.{PassesLimit, PassesAtLast, HasTooManyBytes}
+use Rattle.last_words.specs.Puts.{Grows, GrowsInto}
 use Rattle.osmroad.specs.Opening.{Files, IsStore, size_with_change}
 use Rattle.osmroad.specs.Checkpoints.{AreItsEntries, HasNoRoom}
 use Rattle.osmroad.specs.Outcomes.{Gives, AreInput}
@@ -83,27 +84,6 @@ MayEnd command ReadFault = IsReading command
 MayEnd command SiteFault = Unit {0}
 MayEnd command NoMemory = IsAsked command
 MayEnd command status = IsReply command status
-
--- ---- what was put
-
--- the output grew by these bytes
-abbrev pub Grows : List ℕ → Option Outside → Option Outside → Type 0
-Grows out = Told (λ before now. now.output ≡ before.output ++ out)
-
--- the output grew by a front of these bytes
-abbrev pub GrowsInto : List ℕ → Option Outside → Option Outside → Type 0
-GrowsInto out = Told (λ before now. (n : ℕ) × (now.output ≡ before.output ++ take n out))
-
--- How the last put ended: the status that was wanted, all of the chunk, and no fault; or a fault, a front of the chunk,
--- and a count that rose.
-abbrev pub EndsPut : List ℕ → Status → Status → Option Outside → Option Outside → ℕ → ℕ → Type 0
-EndsPut chunk wanted status before now faults_before faults_now =
-    ((status ≡ wanted) × Grows chunk before now × (faults_now ≡ faults_before))
-    ⊎ ((status ≡ SiteFault) × GrowsInto chunk before now × Rose faults_before faults_now)
-
--- nothing was done, or a front of the chunk was put
-abbrev pub PutsSome : List ℕ → Outside → Outside → Type 0
-PutsSome chunk before now = (now ≡ before) ⊎ ((n : ℕ) × (now ≡ extended (take n chunk) before))
 
 -- ---- what the files say
 

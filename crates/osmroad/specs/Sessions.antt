@@ -25,9 +25,9 @@ use Rattle.session.specs.Conversation.{Kept, room_at}
 use Rattle.session.specs.Conversing.{LeavesSession, EndsWith, EndsSource, Converses, HeldBytes}
 use Rattle.session.specs.Endings.{SessionGives}
 use Rattle.session.specs.Building.{BuildsOf}
-use Rattle.osmroad.specs.declared.status.Status.{Status}
-use Rattle.osmroad.specs.declared.status.Status.TheVariants.{Done, ReadFault, SiteFault, Refused, Limit}
-use Rattle.osmroad.specs.declared.status.Status.TheVariants.{NoMemory, NoStore, Damaged}
+use Rattle.last_words.specs.declared.status.Status.{Status}
+use Rattle.last_words.specs.declared.status.Status.TheVariants.{Done, ReadFault, SiteFault, Refused, Limit}
+use Rattle.last_words.specs.declared.status.Status.TheVariants.{NoMemory, NoStore, Damaged}
 use Rattle.osmroad.specs.Opening.{Files, IsStore, StoreRefusal}
 use Rattle.osmroad.specs.Stops.{CouldLeave, LeavesFirst}
 

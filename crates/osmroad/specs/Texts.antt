@@ -2,9 +2,7 @@
 use Rattle.std.specs.Prelude.{◌++◌, ℕ, List, [], ◌∷◌, codes}
 use Rattle.std.specs.Fmt.{decimal}
 use Rattle.opl_lexer.specs.Letters.{newline}
-use Rattle.opl_lexer.specs.Reading.{FaultAt}
 use Rattle.drive_queries.specs.declared.totals.Totals.{Totals}
-use Rattle.opl_objects.specs.Texts.{kind_name}
 use Rattle.reply_lines.specs.Texts.{counts_bytes}
 use Rattle.road_io.specs.declared.outside.Which.{Which}
 use Rattle.road_io.specs.declared.outside.Which.TheVariants.{A, B}
@@ -13,9 +11,6 @@ abbrev pub usage_line : List ℕ
 usage_line =
     codes "usage: osmroad STORE create N|apply N|session|graph [MOMENT]|audit|checkpoint|raise, or osmroad - "
     ++ (codes "compile|compile 2|inspect|sample N" ++ newline ∷ [])
-
-abbrev pub limit_line : List ℕ
-limit_line = codes "limit" ++ newline ∷ []
 
 abbrev pub no_store_line : List ℕ
 no_store_line = codes "no store" ++ newline ∷ []
@@ -62,9 +57,3 @@ file_letter B = codes "b"
 -- the file, and the place of the gate of its first part in fault
 abbrev pub damaged_line : Which → ℕ → List ℕ
 damaged_line file offset = codes "damaged " ++ (file_letter file ++ (codes " " ++ (decimal offset ++ newline ∷ [])))
-
--- `refused line L field F KIND`, with its newline
-abbrev pub refused_line : FaultAt → List ℕ
-refused_line fault = codes "refused line "
-    ++ (decimal fault.line ++ (codes " field "
-    ++ (decimal fault.field ++ (codes " " ++ (kind_name fault.kind ++ newline ∷ [])))))

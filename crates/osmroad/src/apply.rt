@@ -2,14 +2,15 @@
 ghost use Rattle.std.specs.Prelude.{◌≡◌, Some};
 ghost use Rattle.osmroad.specs.declared.command.Command.TheVariants.{Apply as ApplyCommand};
 ghost use Rattle.opl_objects.specs.declared.fault.Fault.{Fault};
-ghost use Rattle.osmroad.specs.declared.input.InputError.{InputError};
-ghost use Rattle.osmroad.specs.Replies.{Prepares, RefusesInput, RefusesChange, CountsReads, CountsCalls};
+ghost use Rattle.bounded_input.specs.declared.input.InputError.{InputError};
+ghost use Rattle.last_words.specs.Replies.{RefusesInput};
+ghost use Rattle.osmroad.specs.Replies.{Prepares, RefusesChange, CountsReads, CountsCalls};
 
-use crate::input::{InputError, read_events};
-use crate::last_words::{Failure, LastWords, refuse_change, refuse_input, refuse_store};
 use crate::laws::store_laws;
-use crate::status::Status;
+use crate::store_refusals::{refuse_change, refuse_store};
 use crate::texts::applied_text;
+use bounded_input::{InputError, read_events};
+use last_words::{Failure, LastWords, Status, refuse_input};
 use opl_lexer::Mode;
 use road_base::Sequence;
 use road_io::{Site, Source};

@@ -6,11 +6,11 @@ ghost use Rattle.osmroad.specs.Checkpoints.{profile_of_base, base_line};
 ghost use Rattle.osmroad.specs.Replies.{Prepares, CountsCalls};
 
 use crate::command::BaseProfile;
-use crate::last_words::{Failure, LastWords, refuse_store};
 use crate::laws::store_laws;
 use crate::profiles::RAISED_PROFILE;
-use crate::status::Status;
+use crate::store_refusals::refuse_store;
 use crate::texts::{checkpoint_text, raise_text};
+use last_words::{Failure, LastWords, Status};
 use object_store::Base;
 use road_base::Sequence;
 use road_io::Site;

@@ -6,11 +6,9 @@ ghost use Rattle.osmroad.specs.declared.command.Command.TheVariants.{Compile as 
 ghost use Rattle.osmroad.specs.Run.{Builds};
 ghost use Rattle.osmroad.specs.Replies.{Prepares, CountsReads};
 
-use crate::graph::graph_of;
-use crate::input::read_events;
-use crate::last_words::{Failure, LastWords, refuse_input};
-use crate::profiles::profile_of;
-use crate::status::Status;
+use bounded_input::read_events;
+use compiled_graph::{graph_of, profile_of};
+use last_words::{Failure, LastWords, Status, refuse_input};
 use opl_lexer::Mode;
 use opl_lexer::laws::one_reading;
 use road_base::Steps;

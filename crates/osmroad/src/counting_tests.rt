@@ -3,13 +3,13 @@ ghost use Rattle.std.specs.Prelude.{◌≡◌, ◌<◌};
 ghost use Rattle.access_profile.specs.Motorcar.{motorcar_rules};
 ghost use Rattle.access_profile.specs.NeedsHighway.{highway_of_free};
 
-use crate::input::read_events;
 use crate::serve::serve;
 use crate::session_tests::{empty_site, run_on};
-use crate::status::Status;
 use crate::tests::compiled;
 use access_profile::Motorcar;
+use bounded_input::read_events;
 use change_apply::Engine;
+use last_words::Status;
 use opl_lexer::Mode;
 use road_base::{Dir, Event, NoMemory, Steps, Tags};
 use road_io::{MemorySite, MemorySource};

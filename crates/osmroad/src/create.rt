@@ -3,10 +3,10 @@ ghost use Rattle.std.specs.Prelude.{◌≡◌, Some};
 ghost use Rattle.osmroad.specs.declared.command.Command.TheVariants.{Create as CreateCommand};
 ghost use Rattle.osmroad.specs.Replies.{Prepares, CountsReads, CountsCalls};
 
-use crate::input::read_events;
-use crate::last_words::{Failure, LastWords, refuse_input, refuse_store};
-use crate::status::Status;
+use crate::store_refusals::refuse_store;
 use crate::texts::created_text;
+use bounded_input::read_events;
+use last_words::{Failure, LastWords, Status, refuse_input};
 use opl_lexer::Mode;
 use road_base::Sequence;
 use road_io::{Site, Source};

@@ -3,12 +3,12 @@ use crate::session_tests::{
     REFUSED_FRAMES, REFUSED_MESSAGES, SESSION, Session, VILLAGE_FOLLOWED, check_output,
     check_status, empty_site, ended, run_on,
 };
-use crate::status::Status;
 use crate::store_tests::{
     APPLY, AUDIT, CHECKPOINT, CREATE, Case, GRAPH, MADE, RAISE, RECORD, SPELLED, check, is_cut,
     is_put, is_sync, is_write, joined,
 };
 use crate::tests::{NO_GRAPH, NO_GRAPH_RAISED, STREET_CUT, STREET_GRAPH};
+use last_words::Status;
 use road_base::NoMemory;
 use road_io::{Call, Entry, MemorySite, Which};
 use std::alloc::Global;

@@ -6,11 +6,10 @@ ghost use Rattle.osmroad.specs.declared.command.Command.TheVariants.{Inspect as 
 ghost use Rattle.osmroad.specs.Texts.{counts_line};
 ghost use Rattle.osmroad.specs.Replies.{Prepares, CountsReads};
 
-use crate::gather::gather;
-use crate::last_words::{Failure, LastWords, refuse_input};
-use crate::status::Status;
+use bounded_input::gather;
 use drive_queries::counts;
 use graph_file::Graph;
+use last_words::{Failure, LastWords, Status, refuse_input};
 use reply_lines::counts_text;
 use road_base::NoMemory;
 use road_io::Source;

@@ -2,13 +2,14 @@
 ghost use Rattle.std.specs.Prelude.{◌≡◌, List, Option, None, Some, ℕ};
 ghost use Rattle.road_base.specs.History.{History};
 ghost use Rattle.osmroad.specs.declared.command.Command.{Command};
-ghost use Rattle.osmroad.specs.declared.status.Status.{Status};
+ghost use Rattle.last_words.specs.declared.status.Status.{Status};
 ghost use Rattle.osmroad.specs.Opening.{Files};
 ghost use Rattle.osmroad.specs.Outcomes.{Gives};
 ghost use Rattle.osmroad.specs.Run.{IsStored};
 ghost use Rattle.osmroad.specs.StoreLaws.{StoreLaws, ChangeLaws, CheckpointLaws};
 
-use crate::profiles::{FIRST_PROFILE, RAISED_PROFILE, profile_of};
+use crate::profiles::{FIRST_PROFILE, RAISED_PROFILE};
+use compiled_graph::profile_of;
 use opl_lexer::laws::one_reading;
 use road_base::laws::one_map;
 use road_model::laws::{number_order, one_graph};

@@ -1,6 +1,6 @@
 //! The longest restrictions that have words, the last numbers of a store, and lines that are too long.
 use crate::session_tests::{SESSION, check_status, empty_site, ended};
-use crate::status::Status;
+use last_words::Status;
 use road_base::NoMemory;
 use road_io::MemorySite;
 use std::alloc::Global;

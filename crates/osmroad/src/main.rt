@@ -5,45 +5,39 @@
 //! standard output and the two files of the store. `command` says what the words ask; `compile`, `inspect`, `sample`,
 //! `create`, `apply`, `stored` and `checkpoint` each prepare last words (`last_words`), which are then put once.
 //!
-//! A graph is built so: the input is read part by part into events (`input`), of each object the first event of the
-//! greatest version stands (`graph`), and for each visible way with the key `highway` its block is built, written if it
-//! has pieces, and let go (`blocks`). Time grows as n log n with the input, the graph, and the words that are looked at
-//! for each way (`expanded_graph`); memory stays a small multiple of the input and the words, and holds the graph's
-//! bytes once. The graph of a town is about as large as its extract; that of a node with very many ways grows with the
-//! square of their number. `create` costs its input, and holds what it writes once; `apply` costs the live file and its
-//! input, and so do `graph` and `audit`, with the graph, or the words of each restriction; at a moment `graph` reads
-//! the values of conditional access keys besides. `checkpoint` and `raise` cost the live file and what they write, and
-//! hold the objects, a copy of them, and their bytes. `inspect` costs its input, and holds it and the graph; `sample`
-//! costs eleven graphs of 7,080 ways, one after another.
+//! A graph is built so: the input is read part by part into events (`bounded_input`), of each object the first event of
+//! the greatest version stands, and for each visible way with the key `highway` its block is built, written if it has
+//! pieces, and let go (`compiled_graph`). Time grows as n log n with the input, the graph, and the words that are
+//! looked at for each way (`expanded_graph`); memory stays a small multiple of the input and the words, and holds the
+//! graph's bytes once. The graph of a town is about as large as its extract; that of a node with very many ways grows
+//! with the square of their number. `create` costs its input, and holds what it writes once; `apply` costs the live
+//! file and its input, and so do `graph` and `audit`, with the graph, or the words of each restriction; at a moment
+//! `graph` reads the values of conditional access keys besides. `checkpoint` and `raise` cost the live file and what
+//! they write, and hold the objects, a copy of them, and their bytes. `inspect` costs its input, and holds it and the
+//! graph; `sample` costs eleven graphs of 7,080 ways, one after another.
 #![tactic(auto)]
 
 ghost use Rattle.std.specs.Prelude.{◌≡◌, ◌<◌};
 
 mod apply;
 mod audit;
-mod blocks;
 mod checkpoint;
 mod command;
 mod compile;
 mod create;
 mod findings;
-mod gather;
-mod graph;
-mod input;
 mod inspect;
-mod last_words;
 mod laws;
-mod limits;
 mod profiles;
 mod run;
 mod sample;
 mod serve;
-mod status;
+mod store_refusals;
 mod stored;
 mod texts;
 
 use crate::run::run;
-use crate::status::Status;
+use last_words::Status;
 use road_base::{NoMemory, Steps};
 use road_io::{RealSite, RealSource};
 use std::alloc::Global;

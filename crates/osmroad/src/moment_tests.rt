@@ -1,6 +1,6 @@
 //! Drives at moments of civil time, in a session.
 use crate::session_tests::{SESSION, VILLAGE, check_output, check_status, empty_site};
-use crate::status::Status;
+use last_words::Status;
 use road_base::NoMemory;
 use road_io::MemorySite;
 use std::alloc::Global;

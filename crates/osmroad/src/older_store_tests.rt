@@ -1,9 +1,9 @@
 //! Stores whose files an older program wrote, which knew profile 1 alone: they open as before, under that profile, go
 //! on as before, and can be raised.
 use crate::session_tests::{SESSION, check_output, check_status};
-use crate::status::Status;
 use crate::store_tests::{AUDIT, CHECKPOINT, Case, GRAPH, check, joined};
 use crate::tests::{NO_GRAPH, STREET_GRAPH};
+use last_words::Status;
 use road_base::NoMemory;
 use road_io::{MemorySite, Which};
 use std::alloc::Global;

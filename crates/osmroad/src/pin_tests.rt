@@ -1,7 +1,7 @@
 //! Readers who pin states of a session.
 use crate::session_tests::{Session, check};
-use crate::status::Status;
 use crate::tests::STREET_CUT;
+use last_words::Status;
 use std::test::Fail;
 
 /// The change brings the street, and the state from before it is asked.

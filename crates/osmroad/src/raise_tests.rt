@@ -1,8 +1,8 @@
 //! Stores that are raised to profile 2.
 use crate::session_tests::{check_output, check_status, empty_site};
-use crate::status::Status;
 use crate::store_tests::{AUDIT, CHECKPOINT, Case, GRAPH, RAISE, RECORD, SPELLED, check, joined};
 use crate::tests::NO_GRAPH_RAISED;
+use last_words::Status;
 use road_base::NoMemory;
 use road_io::{MemorySite, Which};
 use std::alloc::Global;

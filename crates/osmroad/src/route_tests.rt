@@ -1,7 +1,7 @@
 //! Drives of least cost in a session, and what shows their cost.
 use crate::session_tests::{SESSION, check_output, check_status, empty_site};
-use crate::status::Status;
 use crate::store_tests::joined;
+use last_words::Status;
 use road_base::NoMemory;
 use road_io::MemorySite;
 use std::alloc::Global;

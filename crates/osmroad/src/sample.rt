@@ -16,12 +16,12 @@ ghost use Rattle.access_profile.specs.Profiles.{rules_of};
 ghost use Rattle.osmroad.specs.Sampling.{IsSampleLine, IsSample, Led};
 ghost use Rattle.osmroad.specs.Replies.{Prepares};
 
-use crate::last_words::{Failure, LastWords};
-use crate::profiles::{FIRST_PROFILE, profile_of};
-use crate::status::Status;
+use crate::profiles::FIRST_PROFILE;
 use change_apply::Engine;
+use compiled_graph::profile_of;
 use drive_queries::{Totals, counts};
 use graph_file::{Graph, VERSION, write};
+use last_words::{Failure, LastWords, Status};
 use reply_lines::counts_text;
 use road_base::laws::applied_in_turn;
 use road_base::{NoMemory, Steps};

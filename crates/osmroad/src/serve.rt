@@ -11,11 +11,11 @@ ghost use Rattle.session_replies.specs.Replies.{road_replies};
 ghost use Rattle.osmroad.specs.Sessions.{end_status, IsServed, IsNotServed, IsOpening, AnswersFaults};
 ghost use Rattle.osmroad.specs.Sessions.{Serves, ServesBuilding, SessionRuns, EndsSession, SessionRunBuilds};
 
-use crate::last_words::{put_last, refuse_store};
 use crate::laws::store_laws;
-use crate::profiles::profile_of;
-use crate::status::Status;
+use crate::store_refusals::refuse_store;
 use change_apply::Engine;
+use compiled_graph::profile_of;
+use last_words::{Status, put_last};
 use road_base::Steps;
 use road_io::{Site, Source};
 use road_model::Profile;

@@ -2,9 +2,9 @@
 ghost use Rattle.std.specs.Prelude.{◌≡◌, ◌<◌};
 
 use crate::run::run;
-use crate::status::Status;
 use crate::store_tests::joined;
 use crate::tests::{NO_GRAPH, STREET_CUT, STREET_GRAPH, USAGE};
+use last_words::Status;
 use road_base::{NoMemory, Steps};
 use road_io::{MemorySite, MemorySource, Which};
 use std::alloc::Global;

@@ -2,8 +2,8 @@
 ghost use Rattle.std.specs.Prelude.{◌≡◌, ◌<◌};
 
 use crate::run::run;
-use crate::status::Status;
 use crate::tests::{NO_GRAPH, USAGE};
+use last_words::Status;
 use road_base::{NoMemory, Steps};
 use road_io::{Call, Entry, MemorySite, MemorySource, Which};
 use std::alloc::Global;

@@ -3,8 +3,8 @@ ghost use Rattle.std.specs.Prelude.{◌≡◌, ◌<◌};
 
 use crate::failure_tests::with_byte;
 use crate::session_tests::{self, FORK_LINES};
-use crate::status::Status;
 use crate::store_tests::joined;
+use last_words::Status;
 use road_base::NoMemory;
 use road_io::MemorySite;
 use std::alloc::Global;

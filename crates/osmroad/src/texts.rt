@@ -1,23 +1,12 @@
 //! The lines that are last put.
 ghost use Rattle.std.specs.Prelude.{◌≡◌, ◌++◌, ◌∷◌, [], codes, IfOk, string_bytes, ℕ};
 ghost use Rattle.std.specs.Fmt.{decimal};
-ghost use Rattle.opl_objects.specs.StreamLines.{fault_at};
-ghost use Rattle.osmroad.specs.Texts.{refused_line, created_line, applied_line, sequence_line};
+ghost use Rattle.osmroad.specs.Texts.{created_line, applied_line, sequence_line};
 ghost use Rattle.osmroad.specs.Texts.{checkpoint_line, raise_line, file_letter, damaged_line};
 
-use opl_objects::{Fault, kind_name};
 use road_base::Sequence;
 use road_io::Which;
 use std::alloc::{AllocError, Global};
-
-/// The last line where an input is in fault.
-pub fn refused_text(alloc: Global, fault: &Fault) -> Result<String, AllocError>
-    ensures { IfOk result (λ text. string_bytes text ≡ refused_line (fault_at fault.now)) }
-{
-    let Fault { line, field, kind } = *fault;
-    let name = kind_name(kind);
-    format!(in alloc; "refused line {line} field {field} {name}\n")
-}
 
 /// The line where a store is made.
 pub fn created_text(alloc: Global, number: Sequence) -> Result<String, AllocError>

@@ -1,7 +1,7 @@
 //! Drives in a session that go through no road which is open to destination traffic alone.
 use crate::session_tests::{SESSION, check_output, check_status, empty_site};
-use crate::status::Status;
 use crate::store_tests::RAISE;
+use last_words::Status;
 use road_base::NoMemory;
 use std::alloc::Global;
 use std::process::Abort;

@@ -1,8 +1,8 @@
 use Rattle.std.proofs.Common.{ℕ, Ok, Err, ap, subst, ◌∙◌}
 use Rattle.std.proofs.lemmas.Result.{err_from_is_err_and}
 use Rattle.access_profile.specs.Profiles.{rules_of}
-use Rattle.osmroad.specs.Compiled.{IsGraphOf}
-use Rattle.osmroad.specs.declared.status.Status.TheVariants.{Done}
+use Rattle.compiled_graph.specs.Compiled.{IsGraphOf}
+use Rattle.last_words.specs.declared.status.Status.TheVariants.{Done}
 use Rattle.osmroad.proofs.CompileReplies.{refused_extract, read_extract, failed_extract, will_put_graph}
 use Rattle.osmroad.proofs.compile.compile.Goals as goal
 

@@ -2,7 +2,7 @@ use Rattle.std.proofs.Common.{Ok, refl, subst, List, ℕ}
 use Rattle.std.specs.FinMap.{values}
 use Rattle.road_model.specs.Format.{IsGraphFile}
 use Rattle.graph_file.specs.GraphReading.{IsFile}
-use Rattle.osmroad.specs.declared.status.Status.TheVariants.{Done}
+use Rattle.last_words.specs.declared.status.Status.TheVariants.{Done}
 use Rattle.osmroad.proofs.Prepared.{no_memory}
 use Rattle.osmroad.proofs.AnsweredFaults.{failed_reads, reads_calm}
 use Rattle.osmroad.proofs.InspectReplies.{stopped_file, stopped_reads, failed_file, no_graph, counted_graph}

@@ -1,7 +1,7 @@
 use Rattle.std.proofs.Common.{[], map, Option, None, Some, refl, sym, ap, ◌∙◌, subst}
 use Rattle.osmroad.specs.declared.command.Request.{Request}
 use Rattle.osmroad.specs.declared.command.Request.TheVariants.{Session, Command as CommandRequest}
-use Rattle.osmroad.specs.declared.status.Status.TheVariants.{Usage}
+use Rattle.last_words.specs.declared.status.Status.TheVariants.{Usage}
 use Rattle.osmroad.specs.Commands.{asked}
 use Rattle.osmroad.specs.Texts.{usage_line}
 use Rattle.osmroad.specs.Run.{files_of}

@@ -2,8 +2,9 @@ use Rattle.std.proofs.Common.{◌≡◌, List, ℕ, Option, Some, inl, inr, sym,
 use Rattle.road_io.specs.Told.{Told, Rose}
 use Rattle.road_io.specs.Outside.{Outside}
 use Rattle.road_io.proofs.ToldCalls.{told_weaker}
-use Rattle.osmroad.specs.declared.status.Status.{Status}
-use Rattle.osmroad.specs.Run.{EndsPut, PutsSome, Ends}
+use Rattle.last_words.specs.declared.status.Status.{Status}
+use Rattle.last_words.specs.Puts.{EndsPut, PutsSome}
+use Rattle.osmroad.specs.Run.{Ends}
 use Rattle.osmroad.proofs.RunEnds.{ends_prepared, ends_failed}
 use Rattle.osmroad.proofs.CompleteRuns.{done}
 use Rattle.osmroad.proofs.run.run_command.Goals as goal

@@ -8,7 +8,7 @@ use Rattle.graph_file.proofs.GraphFiles.{file_profile}
 use Rattle.drive_queries.specs.declared.totals.Totals.{Totals}
 use Rattle.drive_queries.specs.Counting.{totals_of}
 use Rattle.osmroad.specs.Texts.{sample_line}
-use Rattle.osmroad.proofs.InputEnds.{ok_maps}
+use Rattle.bounded_input.proofs.InputEnds.{ok_maps}
 use Rattle.osmroad.proofs.sample.line_of.Goals as goal
 
 -- the number of the graph's profile is that of the engine's

@@ -1,5 +1,5 @@
 use Rattle.std.proofs.Common.{Ok, refl}
-use Rattle.osmroad.specs.declared.status.Status.TheVariants.{Done}
+use Rattle.last_words.specs.declared.status.Status.TheVariants.{Done}
 use Rattle.osmroad.proofs.Prepared.{no_memory}
 use Rattle.osmroad.proofs.SampleReplies.{failed_sample, put_sample}
 use Rattle.osmroad.proofs.sample.sample.Goals as goal

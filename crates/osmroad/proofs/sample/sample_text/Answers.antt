@@ -6,7 +6,7 @@ use Rattle.road_base.specs.Profiles.{IsProfile}
 use Rattle.access_profile.specs.declared.of_number.ProfileOf.{ProfileOf}
 use Rattle.access_profile.specs.Profiles.{rules_of}
 use Rattle.osmroad.specs.Sampling.{IsSample}
-use Rattle.osmroad.proofs.InputEnds.{ok_maps}
+use Rattle.bounded_input.proofs.InputEnds.{ok_maps}
 use Rattle.osmroad.proofs.sample.sample_text.Goals as goal
 
 pub all_lines-requires : goal.all_lines-requires

@@ -1,9 +1,9 @@
 use Rattle.std.proofs.Common.{List, [], ℕ, false, subst, sym}
 use Rattle.road_io.specs.Told.{Told}
-use Rattle.osmroad.specs.declared.status.Status.{Status}
-use Rattle.osmroad.specs.Run.{EndsPut, PutsSome}
+use Rattle.last_words.specs.declared.status.Status.{Status}
+use Rattle.last_words.specs.Puts.{EndsPut, PutsSome}
 use Rattle.osmroad.specs.Sessions.{IsNotServed, AnswersFaults, SessionRuns}
-use Rattle.osmroad.specs.declared.status.Status.TheVariants.{SiteFault}
+use Rattle.last_words.specs.declared.status.Status.TheVariants.{SiteFault}
 use Rattle.osmroad.proofs.RefusedSessions.{refusal_runs, refusal_named, refusal_calls}
 use Rattle.osmroad.proofs.RefusedSessions.{failed_runs, failed_named, failed_calls}
 use Rattle.osmroad.proofs.serve.refuse.Goals as goal

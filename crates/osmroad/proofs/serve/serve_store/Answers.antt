@@ -1,6 +1,6 @@
 use Rattle.std.proofs.Common.{ℕ, inl, inr, subst, sym, ◌∙◌}
 use Rattle.road_base.specs.Profiles.{IsProfile}
-use Rattle.osmroad.specs.declared.status.Status.TheVariants.{SiteFault}
+use Rattle.last_words.specs.declared.status.Status.TheVariants.{SiteFault}
 use Rattle.access_profile.specs.Profiles.{rules_of}
 use Rattle.session_replies.specs.Replies.{road_replies}
 use Rattle.osmroad.specs.Sessions.{AnswersFaults, Serves}

@@ -2,7 +2,7 @@ use Rattle.std.proofs.Common.{ℕ, IfOk, sym, subst}
 use Rattle.road_base.specs.Profiles.{IsProfile}
 use Rattle.moment_rules.specs.declared.moment.Moment.{Moment}
 use Rattle.moment_rules.specs.AtMoment.{rules_at}
-use Rattle.osmroad.specs.Compiled.{IsGraphOf}
+use Rattle.compiled_graph.specs.Compiled.{IsGraphOf}
 use Rattle.osmroad.proofs.stored.graph_at.Goals as goal
 
 pub graph_of-requires : goal.graph_of-requires

@@ -1,7 +1,8 @@
 use Rattle.std.proofs.Common.{ℕ, Option, IfOk, sym, subst}
 use Rattle.access_profile.specs.Profiles.{rules_of}
 use Rattle.moment_rules.specs.declared.moment.Moment.{Moment}
-use Rattle.osmroad.specs.Compiled.{IsGraphOf, rules_shown}
+use Rattle.compiled_graph.specs.Compiled.{IsGraphOf}
+use Rattle.osmroad.specs.Shown.{rules_shown}
 use Rattle.osmroad.proofs.stored.graph_shown.Goals as goal
 
 pub returns-in-None-clause-graph : goal.returns-in-None-clause-graph

@@ -2,7 +2,8 @@ use Rattle.std.proofs.Common.{ℕ, Some, refl, subst, sym, arith}
 use Rattle.road_base.specs.Profiles.{IsProfile}
 use Rattle.sequence_journal.specs.declared.load.Loaded.{Loaded}
 use Rattle.osmroad.specs.declared.command.Command.TheVariants.{Graph}
-use Rattle.osmroad.specs.Compiled.{IsGraphOf, rules_shown}
+use Rattle.compiled_graph.specs.Compiled.{IsGraphOf}
+use Rattle.osmroad.specs.Shown.{rules_shown}
 use Rattle.osmroad.proofs.Prepared.{no_memory}
 use Rattle.osmroad.proofs.AnsweredFaults.{fault_calls, failed_calls, calls_calm}
 use Rattle.osmroad.proofs.ShownStores.{graph_shows, show_refused, show_failed, show_done, graph_built}

@@ -1,0 +1,5 @@
+pub mod LineLengths
+pub mod InputEnds
+pub mod PassedLimits
+pub mod LinesBehind
+pub mod StreamEnds

@@ -1,0 +1,4 @@
+pub mod Texts
+pub mod Status
+pub mod Puts
+pub mod Replies
