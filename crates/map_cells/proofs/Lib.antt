@@ -1,0 +1,7 @@
+mod KeptLinks
+mod CellReach
+mod RoadParts
+mod PartBlocks
+mod WayOwners
+mod NestedCells
+mod EmptyCells

@@ -1,0 +1,4 @@
+pub mod Areas
+pub mod Cells
+pub mod Owners
+pub mod Parts
