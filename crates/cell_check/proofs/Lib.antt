@@ -1,0 +1,9 @@
+pub mod ClosedKeys
+pub mod FoundKeys
+pub mod LinkRounds
+pub mod LinkedKeys
+pub mod NamedKeys
+pub mod OwnPlaces
+pub mod OwnWays
+pub mod ReachedKeys
+pub mod SearchedWays
