@@ -1,0 +1,9 @@
+pub mod IntervalNumbers
+pub mod WorldPlaces
+pub mod MergedTallies
+pub mod CountedMore
+pub mod GrownEdges
+pub mod NearTallies
+pub mod CoveredParts
+pub mod PlannedCells
+pub mod PlannedWorlds

@@ -1,0 +1,6 @@
+pub mod Grids
+pub mod Regions
+pub mod Sums
+pub mod CountedPlaces
+pub mod CellPlans
+pub mod Dividing
