@@ -1,0 +1,9 @@
+pub mod CountedWays
+pub mod TwiceInFiles
+pub mod RisingBlocks
+pub mod SortedBlocks
+pub mod FrontFiles
+pub mod MergedFiles
+pub mod OneMerge
+pub mod PutBlocks
+pub mod CutBlocks
