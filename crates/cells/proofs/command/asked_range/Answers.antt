@@ -1,0 +1,13 @@
+use Rattle.std.proofs.Common.{ℕ, List, Bor, map, arith}
+use Rattle.std.proofs.lemmas.List.{length-map}
+use Rattle.cells.proofs.OtherWords.{no_range}
+use Rattle.cells.proofs.command.asked_range.Goals as goal
+
+abbrev text : Bor (List ℕ) → List ℕ
+text w = w.now
+
+pub returns-in-len1 : goal.returns-in-len1
+returns-in-len1 c =
+    let long = length-map c.args.words.now text in
+    let few = c.in-len1.len_below in
+    no_range (map text c.args.words.now) (λ e. omega arith)

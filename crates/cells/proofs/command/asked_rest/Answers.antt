@@ -1,0 +1,19 @@
+use Rattle.std.proofs.Common.{ℕ, List, Bor, map, arith}
+use Rattle.std.proofs.lemmas.List.{length-map}
+use Rattle.cells.proofs.OtherWords.{no_rest}
+use Rattle.cells.proofs.command.asked_rest.Goals as goal
+
+abbrev text : Bor (List ℕ) → List ℕ
+text w = w.now
+
+pub returns-in-len1 : goal.returns-in-len1
+returns-in-len1 c =
+    let long = length-map c.args.words.now text in
+    let few = c.in-len1.len_below in
+    no_rest (map text c.args.words.now) (λ e. omega arith)
+
+pub returns-in_default : goal.returns-in_default
+returns-in_default c =
+    let long = length-map c.args.words.now text in
+    let many = c.in_default.len_at_least in
+    no_rest (map text c.args.words.now) (λ e. omega arith)

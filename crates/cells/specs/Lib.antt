@@ -1,0 +1,9 @@
+pub mod Texts
+pub mod Commands
+pub mod Made
+pub mod Planning
+pub mod Outcomes
+pub mod Run
+pub mod Replies
+pub mod WholeGraph
+pub mod Ranges
