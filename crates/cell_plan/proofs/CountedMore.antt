@@ -11,12 +11,12 @@ use Rattle.cell_plan.specs.Sums.{tallied, lying, weight}
 -- a place more, and the tally of its square
 pub counted_more : (wanted : ℕ → ℕ → Bool) (side : ℕ) (tallies : List Tally) (t : Tally) (places : List Location)
     (p : Location) → tallied wanted tallies ≡ lying wanted side places → t.column ≡ units_east p / side
-    → t.row ≡ units_north p / side → t.count ≡ 1 → tallied wanted (tallies ++ t ∷ []) ≡ lying wanted side
-    (places ++ p ∷ [])
+    → t.row ≡ units_north p / side → t.count ≡ 1
+    → tallied wanted tallies + weight wanted t ≡ lying wanted side (places ++ p ∷ [])
 counted_more wanted side tallies t places p same column row one =
     let here : Location → ℕ = λ q. cond (wanted (units_east q / side) (units_north q / side)) 1 0 in
     let last : weight wanted t ≡ here p = λ i. cond (wanted (column i) (row i)) (one i) 0 in
-    sum_by_push (weight wanted) tallies t ∙ ((λ i. same i + last i) ∙ sym (sum_by_push here places p))
+    (λ i. same i + last i) ∙ sym (sum_by_push here places p)
 
 -- what lies in squares of twice the side
 pub lying_coarser : (wanted : ℕ → ℕ → Bool) (side : ℕ) (places : List Location)

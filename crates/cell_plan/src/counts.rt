@@ -1,9 +1,9 @@
 //! How many places lie where.
-ghost use Rattle.std.specs.Prelude.{◌≡◌, ◌≤◌, ◌*◌, ◌∷◌, ◌++◌, [], List, OnOk, OnErr};
+ghost use Rattle.std.specs.Prelude.{◌≡◌, ◌≤◌, ◌*◌, ◌∷◌, ◌++◌, [], List, OnOk, OnErr, max};
 ghost use Rattle.road_base.specs.declared.location.Location.{Location as Place};
 
 use crate::grid::Grid;
-use crate::merging::{halve, put_together};
+use crate::merging::{add_tally, halve, put_together};
 use crate::sums::Tally;
 use road_base::{Location, NoMemory};
 use std::alloc::Global;
@@ -11,8 +11,8 @@ use std::alloc::Global;
 /// The most squares that are held when the grid isn't made coarser: 2^24.
 const MOST_SQUARES: usize = 16_777_216;
 
-/// The least number of places that are gathered before they are put together with those held.
-const LEAST_ROOM: usize = 4096;
+/// The least number of tallies that are gathered before they are put together with those held: 2^18.
+const LEAST_ROOM: usize = 262_144;
 
 /// How many of the places that came lie in each square of a grid over the world. Holds at most some 21 million squares
 /// of 16 bytes, in a list that grows by doubling.
@@ -26,19 +26,21 @@ pub struct PlaceCounts {
 impl PlaceCounts {
     ghost use Rattle.cell_plan.specs.CountedPlaces.{HasCounted};
 
-    /// No places. Takes no memory.
-    pub fn new(alloc: Global) -> PlaceCounts
-        ensures { HasCounted [] result }
+    /// No places, to be planned with a margin of so many units of 1e-7 degree: the side of a square is the greatest
+    /// power of two that is at most an eighth of it, and 2^8 where that is less. Takes no memory.
+    pub fn new(alloc: Global, margin: u32) -> PlaceCounts
+        ensures none { HasCounted [] result }
+        ensures fine { result.grid.side * 8 ≤ max margin 2048 }
     {
         PlaceCounts {
-            grid: Grid::finest(),
+            grid: Grid::for_margin(margin),
             tallies: Vec::new(alloc),
             settled: 0,
         }
     }
 
     /// Counts one more place. Where no memory is found the place isn't counted. For n places this takes the time of
-    /// n log n in all.
+    /// n log n in all; places of one square that come one behind another take one step each.
     pub fn add(&mut self, place: Location) -> Result<(), NoMemory>
         ensures ok { OnOk result
             ((places : List Place) → HasCounted places self.old → HasCounted (places ++ place ∷ []) self.new) }
@@ -47,11 +49,10 @@ impl PlaceCounts {
         if self.is_due() {
             self.settle();
         }
-        self.tallies.push(self.grid.tally(place))?;
-        Ok(())
+        add_tally(&mut self.tallies, self.grid.tally(place))
     }
 
-    /// Whether so many places were gathered since the last time that they are to be put together with those held: a
+    /// Whether so many tallies were gathered since the last time that they are to be put together with those held: a
     /// quarter as many as were held then.
     fn is_due(&self) -> bool {
         let gathered = self.tallies.len().saturating_sub(self.settled);

@@ -7,9 +7,9 @@ ghost use Rattle.cell_plan.specs.Dividing.{Covers, AreFarIn, HoldsNear, AreGrown
 
 use crate::cells::{PlanRule, PlannedCell};
 use crate::grid::Grid;
-use crate::growth::grow;
+use crate::growth::{grow, shorter_side};
 use crate::intervals::Rect;
-use crate::near::{chosen, thinned, total_in, total_near};
+use crate::near::{amount_near, chosen, thinned, total_in};
 use crate::region::Region;
 use crate::sums::Tally;
 use road_base::NoMemory;
@@ -22,8 +22,8 @@ pub struct Job {
     pub rule: PlanRule,
 }
 
-/// The part of a square's side by which its cell is grown at least.
-const GROWN_PART: u64 = 16;
+/// The part of a cell's shorter side by which it is grown at least.
+const GROWN_PART: u64 = 32;
 
 /// Adds the cells of a square behind those planned so far. The tallies are those of the squares near it, and its cell
 /// is grown within a region around it.
@@ -48,9 +48,10 @@ pub fn divide(
     let Some(cell) = job.grid.cell(square) else {
         return Ok(());
     };
-    let grown = grow(cell, job.growth(square), within);
+    let grown = grow(cell, job.growth(cell), within);
     let touched = job.grid.touched(grown);
-    if job.is_final(square, total_near(tallies, square, touched)?) {
+    let amount = amount_near(tallies, square, touched)?;
+    if job.is_final(square, amount.places) {
         let count = total_in(tallies, square)?;
         cells.push(PlannedCell {
             cell: cell.area(),
@@ -59,7 +60,7 @@ pub fn divide(
         })?;
         return Ok(());
     }
-    let thinned = thinned(alloc, tallies, square, touched)?;
+    let thinned = thinned(alloc, tallies, square, touched, amount.tallies)?;
     let near = chosen(&thinned, tallies);
     let parts = square.quadrants();
     divide(alloc, job, parts.south_west, grown, near, cells)?;
@@ -70,11 +71,11 @@ pub fn divide(
 }
 
 impl Job {
-    /// How many units of latitude the square's cell is grown by.
-    fn growth(self, square: Rect) -> u64
+    /// How many units of latitude the cell is grown by.
+    fn growth(self, cell: Region) -> u64
         ensures { self.rule.margin ≤ result }
     {
-        u64::from(self.rule.margin).max(self.side_of(square) / GROWN_PART)
+        u64::from(self.rule.margin).max(shorter_side(cell) / GROWN_PART)
     }
 
     /// Whether the square isn't divided further, where so many places lie near it.

@@ -1,6 +1,6 @@
 //! The grid in whose squares places are counted.
 ghost use Rattle.std.specs.Prelude.{◌≡◌, ◌<◌, ◌≤◌, ◌+◌, ◌-◌, ◌*◌, ◌/◌, ◌^◌, ℕ, IsTrue, MatchOption};
-ghost use Rattle.std.specs.Prelude.{unsigned_abs, pos, ◌+ℤ◌};
+ghost use Rattle.std.specs.Prelude.{unsigned_abs, pos, ◌+ℤ◌, max};
 ghost use Rattle.road_base.specs.declared.location.Location.{Location as Place};
 ghost use Rattle.cell_plan.specs.Grids.{units_east, units_north, in_interval, in_squares, touched, touched_interval};
 ghost use Rattle.cell_plan.specs.Regions.{IsCellOf};
@@ -10,8 +10,11 @@ use crate::region::{EAST_END, NORTH_END, Region, SOUTH_START};
 use crate::sums::Tally;
 use road_base::Location;
 
-/// The side of a square at first, in units of 1e-7 degree: 2^8, some 3 metres.
+/// The least side of a square, in units of 1e-7 degree: 2^8, some 3 metres.
 const FINEST: u64 = 256;
+
+/// How many squares at first lie side by side in a margin, at least, where they are larger than the least.
+const IN_MARGIN: u64 = 8;
 
 /// The side beyond which squares grow no more, of which four make the root square.
 const COARSEST: u64 = 2_147_483_648;
@@ -25,9 +28,15 @@ pub struct Grid {
 }
 
 impl Grid {
-    /// The grid with which counting begins.
-    pub fn finest() -> Grid {
-        Grid { side: FINEST }
+    /// The grid with which counting begins, where cells are grown by that margin at least.
+    pub fn for_margin(margin: u32) -> Grid
+        ensures { result.side * 8 ≤ max margin 2048 }
+    {
+        let mut side = FINEST;
+        while side * 2 * IN_MARGIN <= u64::from(margin) {
+            side *= 2;
+        }
+        Grid { side }
     }
 
     /// Whether the squares may still grow.

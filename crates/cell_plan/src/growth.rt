@@ -39,6 +39,21 @@ pub fn grow(cell: Region, by: u64, within: Region) -> Region
     }
 }
 
+/// How many units of latitude are as long as the cell's shorter side, or a few more: as long as it is from south to
+/// north, or from west to east where it lies nearest to the equator. A part of a cell has no longer one.
+pub fn shorter_side(cell: Region) -> u64 {
+    let rows = cell.units.rows;
+    rows.len()
+        .min(units_of_latitude(cell.units.columns.len(), nearest(rows)))
+}
+
+/// How many units of latitude are as long as these units of longitude, at so many units of latitude from the equator,
+/// rounded down to whole degrees.
+fn units_of_latitude(units: u64, latitude: u64) -> u64 {
+    let more = u64::from(widening(latitude / DEGREE));
+    units.saturating_mul(1000) / (1000 + more)
+}
+
 /// How many units of longitude are at least as long, at so many units of latitude from the equator, as `by` units of
 /// latitude; never fewer. Beyond 89 degrees as many as there.
 fn to_the_sides(by: u64, latitude: u64) -> u64
@@ -54,6 +69,13 @@ fn widening(degrees: u64) -> u32 {
         Some(more) => *more,
         None => WIDENING[89],
     }
+}
+
+/// How many units these rows are away from the equator.
+fn nearest(rows: Interval) -> u64 {
+    rows.start
+        .saturating_sub(EQUATOR)
+        .max(EQUATOR.saturating_sub(rows.end))
 }
 
 /// How many units these rows reach from the equator.

@@ -4,9 +4,10 @@
 //! The root square has its south-west corner at -1,800,000,000 in both coordinates and the side 2^32, in units of 1e-7
 //! degree. Squares are half-open, and halved in both directions. A cell is what of a square lies in the world.
 //!
-//! Places are counted in the squares of a grid, whose side begins at 2^8 units and is doubled whenever more than 2^24
-//! squares are held. So at most some 21 million squares of 16 bytes are held (twice as much while the list grows),
-//! whatever comes. To add n places takes the time of n log n.
+//! Places are counted in the squares of a grid. Their side is at first the greatest power of two that is at most an
+//! eighth of the margin, but 2^8 units at least, and is doubled whenever more than 2^24 squares are held. So at most
+//! some 21 million squares of 16 bytes are held (twice as much while the list grows), whatever comes. To add n places
+//! takes the time of n log n.
 //!
 //! A plan goes through the squares held once for each level of the quadtree, times a constant for those near several
 //! squares of a level: no square is divided whose side isn't above the margin. That constant is about 25 at the

@@ -1,8 +1,27 @@
 //! Tallies of one square put together.
-ghost use Rattle.std.specs.Prelude.{◌≡◌, ◌≤◌, ◌+◌, ◌/◌, ◌<◌, ℕ, Bool, length, take, drop};
-ghost use Rattle.cell_plan.specs.Sums.{tallied};
+ghost use Rattle.std.specs.Prelude.{◌≡◌, ◌≤◌, ◌+◌, ◌/◌, ◌<◌, ℕ, Bool, OnOk, OnErr, length, take, drop};
+ghost use Rattle.cell_plan.specs.Sums.{tallied, weight};
 
 use crate::sums::Tally;
+use road_base::NoMemory;
+
+/// Adds a tally: to the last one, where that is of the same square and their sum fits, and else behind it. Where no
+/// memory is found it isn't added.
+pub fn add_tally(tallies: &mut Vec<Tally>, tally: Tally) -> Result<(), NoMemory>
+    ensures ok { OnOk result ((wanted : ℕ → ℕ → Bool)
+        → tallied wanted tallies.new.items ≡ tallied wanted tallies.old.items + weight wanted tally) }
+    ensures err { OnErr result (tallies.new.items ≡ tallies.old.items) }
+{
+    let count = tallies.len();
+    if count > 0 {
+        if let Some(sum) = tallies[count - 1].with(tally) {
+            tallies[count - 1] = sum;
+            return Ok(());
+        }
+    }
+    tallies.push(tally)?;
+    Ok(())
+}
 
 /// Puts the tallies of each square together in one (where their sum fits), in the order of the columns, then of the
 /// rows. Takes the time of a sort, and no memory.

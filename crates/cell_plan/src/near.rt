@@ -10,6 +10,26 @@ use crate::sums::Tally;
 use road_base::NoMemory;
 use std::alloc::Global;
 
+/// How many tallies, and how many places they sum up to.
+#[derive(Clone, Copy)]
+pub struct Amount {
+    pub tallies: usize,
+    pub places: u64,
+}
+
+impl Amount {
+    /// One tally more. No memory is found where the sum doesn't fit.
+    fn with(self, tally: Tally) -> Result<Amount, NoMemory>
+        ensures { IfOk result (λ a. a.places ≡ self.places + tally.count) }
+    {
+        let places = plus(self.places, tally.count)?;
+        Ok(Amount {
+            tallies: self.tallies.saturating_add(1),
+            places,
+        })
+    }
+}
+
 /// What the tallies of these squares sum up to. No memory is found where the sum doesn't fit.
 pub fn total_in(tallies: &[Tally], squares: Rect) -> Result<u64, NoMemory>
     ensures { IfOk result (λ sum. sum ≡ tallied (in_rect squares) tallies.now) }
@@ -23,31 +43,34 @@ pub fn total_in(tallies: &[Tally], squares: Rect) -> Result<u64, NoMemory>
     Ok(sum)
 }
 
-/// What the tallies sum up to that are of one of the square's squares, or of those that are touched. No memory is found
-/// where the sum doesn't fit.
-pub fn total_near(tallies: &[Tally], square: Rect, touched: Rect) -> Result<u64, NoMemory>
-    ensures { IfOk result (λ sum. sum ≡ tallied (is_near square touched) tallies.now) }
+/// How many the tallies are that are of one of the square's squares, or of those that are touched, and what they sum up
+/// to. No memory is found where the sum doesn't fit.
+pub fn amount_near(tallies: &[Tally], square: Rect, touched: Rect) -> Result<Amount, NoMemory>
+    ensures { IfOk result (λ near. near.places ≡ tallied (is_near square touched) tallies.now) }
 {
-    let mut sum: u64 = 0;
+    let mut near = Amount {
+        tallies: 0,
+        places: 0,
+    };
     for tally in tallies {
         if tally.is_near(square, touched) {
-            sum = plus(sum, tally.count)?;
+            near = near.with(*tally)?;
         }
     }
-    Ok(sum)
+    Ok(near)
 }
 
-/// The tallies that are of one of the square's squares, or of those that are touched. None where that leaves out fewer
-/// than an eighth of them.
+/// The tallies that are of one of the square's squares, or of those that are touched, which are so many. None where
+/// that leaves out fewer than an eighth of them.
 pub fn thinned(
     alloc: Global,
     tallies: &[Tally],
     square: Rect,
     touched: Rect,
+    count: usize,
 ) -> Result<Option<Vec<Tally>>, NoMemory>
     ensures { IfOk result (λ list. IfSome list (λ near. KeepsNear square touched tallies.now near.items)) }
 {
-    let count = count_near(tallies, square, touched);
     if count > tallies.len() - tallies.len() / 8 {
         return Ok(None);
     }
@@ -65,14 +88,6 @@ pub fn chosen<'a>(thinned: &'a Option<Vec<Tally>>, all: &'a [Tally]) -> &'a [Tal
         Some(near) => near.as_slice(),
         None => all,
     }
-}
-
-/// How many of the tallies are of one of the square's squares, or of those that are touched.
-fn count_near(tallies: &[Tally], square: Rect, touched: Rect) -> usize {
-    tallies
-        .iter()
-        .filter(|tally| tally.is_near(square, touched))
-        .count()
 }
 
 /// The tallies that are of one of the square's squares, or of those that are touched. Memory for so many is taken at

@@ -48,10 +48,10 @@ returns-then-is_final-clause-counted t c = λ places held before.
       count =
           c.in_ok-count.count;
     } in
-    let near = c.in_ok-total_near.ensures ∙ ap (λ r. tallied (is_near square r) tallies) c.touched-touched.ensures in
+    let near = c.in_ok-amount.ensures ∙ ap (λ r. tallied (is_near square r) tallies) c.touched-touched.ensures in
     let new = is_counted side c.args.job.grid.positive square c.args.within.units c.in-Some.cell.units
     c.grow-grown.result.units tallies c.grow-grown.ensures.within places held rule added c.in-Some.ensures
-    c.area.ensures c.area-then-is_final.ensures c.in_ok-count.ensures c.in_ok-total_near.field-0 near
+    c.area.ensures c.area-then-is_final.ensures c.in_ok-count.ensures c.in_ok-amount.amount.places near
     (c.if-is_final.ensures.small refl) in
     counted_more c.args.cells.now.items c.push.new.self.items added c.in_ok-push.ensures.items rule side places new
     before
