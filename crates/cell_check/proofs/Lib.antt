@@ -7,3 +7,5 @@ pub mod OwnPlaces
 pub mod OwnWays
 pub mod ReachedKeys
 pub mod SearchedWays
+pub mod OpenedKeys
+pub mod OwnedEntries

@@ -1,9 +1,9 @@
 -- The ways to which the search didn't come pass, and the others don't.
-use Rattle.std.proofs.Common.{◌≡◌, ◌⊎◌, inl, inr, ℕ, ◌+◌, ◌<◌, Bool, true, IsTrue, cond, List, [], ◌∷◌, ◌++◌}
+use Rattle.std.proofs.Common.{◌≡◌, ◌↔◌, ◌⊎◌, inl, inr, ℕ, ◌+◌, ◌<◌, Bool, true, IsTrue, cond, List, [], ◌∷◌, ◌++◌}
 use Rattle.std.proofs.Common.{map, length, take, get_or}
 use Rattle.std.proofs.lemmas.List.{take_more}
-use Rattle.std.proofs.lemmas.List.Elements.{filter_more, filter_map-append}
-use Rattle.std.proofs.Common.{Contains, Option, Some, None, refl, sym, ap, subst, ◌∙◌}
+use Rattle.std.proofs.lemmas.List.Elements.{filter_more, filter_map-append, Contains-append_left, Contains-append_right}
+use Rattle.std.proofs.Common.{Contains, Option, Some, None, refl, sym, ap, subst, ◌∙◌, append_assoc}
 use Rattle.std.specs.Prelude.{filter, filter_map, is_some, is_none}
 use Rattle.std.specs.List.{cons_option}
 use Rattle.std.specs.Option.{option_map}
@@ -27,18 +27,35 @@ use Rattle.cell_check.specs.declared.checking.Failing.{Failing}
 use Rattle.cell_check.specs.declared.search.LinkSearch.{LinkSearch}
 use Rattle.cell_check.specs.Candidates.{IsCandidate}
 use Rattle.cell_check.specs.Checks.{AreFailing}
-use Rattle.cell_check.specs.Closing.{AreOpenAmong}
+use Rattle.cell_check.specs.Closing.{AddsOpen}
 use Rattle.cell_check.specs.Outcomes.{AreOpenStarts, IsSearchDone, is_passed, failing_in}
 use Rattle.cell_check.specs.Searches.{IsAt, IsBegun, AreRounds}
 use Rattle.cell_check.proofs.LinkRounds.{begun_round, all_rounds, leads}
+use Rattle.cell_check.proofs.ClosedKeys.{none_open}
 use Rattle.cell_check.proofs.OwnWays.{same_ways}
 
 -- ---- the search from all that aren't closed
 
-pub started : (M : Objects) (area : Area) (keys starts : List Key) → ((k : Key) → IsCandidate M k → Contains keys k)
-    → AreOpenAmong M area keys starts → AreOpenStarts M area starts
-started M area keys starts candidates opens =
-    record { none = opens.none; all = λ k candidate. opens.all k (candidates k candidate) }
+pub started : (M : Objects) (area : Area) (keys ls some starts : List Key)
+    → ((k : Key) → IsCandidate M k → Contains keys k ⊎ Contains ls k) → AddsOpen M area keys [] some
+    → AddsOpen M area ls some starts → AreOpenStarts M area starts
+started M area keys ls some starts candidates first second =
+    let opens = second keys (first [] (none_open M area [] refl)) in
+    record {
+      none = opens.none;
+      all = λ k candidate. opens.all k (elim (candidates k candidate) [
+        | inl by_way ↦ Contains-append_left keys ls k by_way
+        | inr by_rule ↦ Contains-append_right keys ls k by_rule
+      ]);
+    }
+
+-- the same keys
+pub same_starts : (M : Objects) (area : Area) (starts once : List Key)
+    → ((k : Key) → Contains once k ↔ Contains starts k) → AreOpenStarts M area starts → AreOpenStarts M area once
+same_starts M area starts once same are = record {
+  none = λ k has. are.none k ((same k).0 has);
+  all = λ k candidate. elim (are.all k candidate) [ inl closed ↦ inl closed | inr has ↦ inr ((same k).1 has) ];
+}
 
 pub searched : (M : Objects) (area : Area) (starts : List Key) (s t : LinkSearch) → AreOpenStarts M area starts
     → IsBegun starts s → AreRounds M closed_radius s t → IsSearchDone M area t
@@ -53,17 +70,22 @@ searched M area starts s t are begun rounds =
 
 -- ---- one way more is looked at
 
-pub kept_next : (p : WayId → Bool) (old new ws : List WayId) (i : ℕ) (d : WayId) → i < length ws
-    → old ≡ filter p (take i ws) → new ≡ old ++ filter p (get_or ws i d ∷ []) → new ≡ filter p (take (i + 1) ws)
-kept_next p old new ws i d within before here =
-    here ∙ ap (λ l. l ++ filter p (get_or ws i d ∷ [])) before ∙ sym (filter_more p ws i d within)
+pub kept_next : (p : WayId → Bool) (first old new ws : List WayId) (i : ℕ) (d : WayId) → i < length ws
+    → old ≡ first ++ filter p (take i ws) → new ≡ old ++ filter p (get_or ws i d ∷ [])
+    → new ≡ first ++ filter p (take (i + 1) ws)
+kept_next p first old new ws i d within before here =
+    here ∙ ap (λ l. l ++ filter p (get_or ws i d ∷ [])) before
+    ∙ append_assoc first (filter p (take i ws)) (filter p (get_or ws i d ∷ []))
+    ∙ ap (λ l. first ++ l) (sym (filter_more p ws i d within))
 
-pub told_next : (f : WayId → Option Failing) (old new : List Failing) (ws : List WayId) (i : ℕ) (d : WayId)
-    → i < length ws → old ≡ filter_map f (take i ws) → new ≡ old ++ filter_map f (get_or ws i d ∷ [])
-    → new ≡ filter_map f (take (i + 1) ws)
-told_next f old new ws i d within before here =
+pub told_next : (f : WayId → Option Failing) (first old new : List Failing) (ws : List WayId) (i : ℕ) (d : WayId)
+    → i < length ws → old ≡ first ++ filter_map f (take i ws) → new ≡ old ++ filter_map f (get_or ws i d ∷ [])
+    → new ≡ first ++ filter_map f (take (i + 1) ws)
+told_next f first old new ws i d within before here =
     here ∙ ap (λ l. l ++ filter_map f (get_or ws i d ∷ [])) before
-    ∙ sym (filter_map-append f (take i ws) (get_or ws i d ∷ [])) ∙ ap (filter_map f) (sym (take_more ws i d within))
+    ∙ append_assoc first (filter_map f (take i ws)) (filter_map f (get_or ws i d ∷ []))
+    ∙ ap (λ l. first ++ l) (sym (filter_map-append f (take i ws) (get_or ws i d ∷ []))
+    ∙ ap (filter_map f) (sym (take_more ws i d within)))
 
 -- ---- ways that pass
 

@@ -1,5 +1,5 @@
 -- What tells whether a key is closed.
-use Rattle.std.specs.Prelude.{◌≡◌, ◌⊎◌, Bool, true, false, List, Some, Contains}
+use Rattle.std.specs.Prelude.{◌≡◌, ◌⊎◌, ◌++◌, Bool, true, false, List, Some, Contains}
 use Rattle.road_base.specs.declared.ids.NodeId.{NodeId}
 use Rattle.road_base.specs.declared.ids.Key.{Key}
 use Rattle.road_base.specs.declared.objects.Body.{Body}
@@ -32,3 +32,8 @@ AreThere M keys = (k : Key) → Contains keys k → IsThere M k
 pub record AreOpenAmong (M : Objects) (area : Area) (keys open_keys : List Key) : Type 0 where
   pub none : (k : Key) → Contains open_keys k → IsClosed M area k → ⊥
   pub all : (k : Key) → Contains keys k → IsClosed M area k ⊎ Contains open_keys k
+
+-- to keys that are open, before, those of the keys were added that aren't closed
+abbrev pub AddsOpen : Objects → Area → List Key → List Key → List Key → Type 0
+AddsOpen M area keys before after = (judged : List Key) → AreOpenAmong M area judged before
+    → AreOpenAmong M area (judged ++ keys) after

@@ -9,7 +9,11 @@ use Rattle.road_base.specs.Objects.{Objects, key_cmp}
 use Rattle.road_model.specs.Links.{IsWithin}
 use Rattle.map_cells.specs.declared.area.Area.{Area}
 use Rattle.map_cells.specs.Cells.{IsClosed, closed_radius}
+use Rattle.map_cells.specs.Owners.{IsOwn}
+use Rattle.ordered_lists.specs.Orders.{Lists}
+use Rattle.road_model.specs.Orders.{way_cmp}
 use Rattle.cell_check.specs.declared.checking.Failing.{Failing}
+use Rattle.cell_check.specs.declared.gathering.OpenAndOwn.{OpenAndOwn}
 use Rattle.cell_check.specs.declared.search.LinkSearch.{LinkSearch}
 use Rattle.cell_check.specs.Candidates.{IsCandidate}
 use Rattle.cell_check.specs.Searches.{IsAt, HasCome}
@@ -18,6 +22,11 @@ use Rattle.cell_check.specs.Searches.{IsAt, HasCome}
 pub record AreOpenStarts (M : Objects) (area : Area) (starts : List Key) : Type 0 where
   pub none : (k : Key) → Contains starts k → IsClosed M area k → ⊥
   pub all : (k : Key) → IsCandidate M k → IsClosed M area k ⊎ Contains starts k
+
+-- the starts are those, and the others are the ways that the cell owns
+pub record AreOpenAndOwn (M : Objects) (area cell : Area) (found : OpenAndOwn) : Type 0 where
+  pub starts : AreOpenStarts M area found.starts.items
+  pub own : Lists (λ w. w) way_cmp (IsOwn M cell) found.own.items
 
 -- the search came to what is within the closed radius of a candidate that isn't closed, and to nothing else that isn't
 -- so near to a key that isn't closed

@@ -7,7 +7,7 @@ ghost use Rattle.map_cells.specs.Owners.{IsOwn};
 ghost use Rattle.cell_check.specs.Checks.{AreFailing};
 ghost use Rattle.cell_check.specs.Outcomes.{is_passed, failing_in};
 
-use crate::owners::own_ways;
+use crate::gathering::gather;
 use crate::rounds::reached;
 use crate::search::LinkSearch;
 use back_references::Indexed;
@@ -38,57 +38,39 @@ pub fn check(alloc: Global, world: &Indexed, area: Area, cell: Area) -> Result<C
     ensures failing { IfOk result (λ c. AreFailing world.now area cell c.failing.items) }
 {
     name_order();
-    let search = reached(alloc, world, &area)?;
-    let own = own_ways(alloc, world, &cell)?;
-    let passing = passing_among(alloc, &search, own.as_slice())?;
-    let failing = failing_among(alloc, &search, own.as_slice())?;
-    Ok(Checked { passing, failing })
+    let found = gather(alloc, world, &area, &cell)?;
+    let search = reached(alloc, world, found.starts.as_slice())?;
+    let mut checked = Checked {
+        passing: Vec::new(alloc),
+        failing: Vec::new(alloc),
+    };
+    tell_all(&search, found.own.as_slice(), &mut checked)?;
+    Ok(checked)
 }
 
-/// The ways to which the search didn't come, in their order.
-fn passing_among(alloc: Global, search: &LinkSearch, ways: &[WayId]) -> Result<Vec<WayId>, NoMemory>
-    ensures { IfOk result (λ passing. passing.items ≡ filter (is_passed search.now) ways.now) }
+/// Adds the ways, in their order: to those that pass, or with the key where the search began that came to them.
+fn tell_all(search: &LinkSearch, ways: &[WayId], checked: &mut Checked) -> Result<(), NoMemory>
+    ensures passing { OnOk result (checked.new.passing.items
+        ≡ checked.old.passing.items ++ filter (is_passed search.now) ways.now) }
+    ensures failing { OnOk result (checked.new.failing.items
+        ≡ checked.old.failing.items ++ filter_map (failing_in search.now) ways.now) }
 {
-    let mut passing = Vec::new(alloc);
     for way in ways {
-        add_passing(search, *way, &mut passing)?;
-    }
-    Ok(passing)
-}
-
-/// Adds the way, if the search didn't come to it.
-fn add_passing(search: &LinkSearch, way: WayId, passing: &mut Vec<WayId>) -> Result<(), NoMemory>
-    ensures { OnOk result
-        (passing.new.items ≡ passing.old.items ++ filter (is_passed search.now) (way ∷ [])) }
-{
-    if search.start_of(Key::Way(way)).is_none() {
-        passing.push(way)?;
+        tell(search, *way, checked)?;
     }
     Ok(())
 }
 
-/// The ways to which the search came, in their order, and where it began.
-fn failing_among(
-    alloc: Global,
-    search: &LinkSearch,
-    ways: &[WayId],
-) -> Result<Vec<Failing>, NoMemory>
-    ensures { IfOk result (λ failing. failing.items ≡ filter_map (failing_in search.now) ways.now) }
+/// Adds the way.
+fn tell(search: &LinkSearch, way: WayId, checked: &mut Checked) -> Result<(), NoMemory>
+    ensures passing { OnOk result (checked.new.passing.items
+        ≡ checked.old.passing.items ++ filter (is_passed search.now) (way ∷ [])) }
+    ensures failing { OnOk result (checked.new.failing.items
+        ≡ checked.old.failing.items ++ filter_map (failing_in search.now) (way ∷ [])) }
 {
-    let mut failing = Vec::new(alloc);
-    for way in ways {
-        add_failing(search, *way, &mut failing)?;
-    }
-    Ok(failing)
-}
-
-/// Adds the way, if the search came to it.
-fn add_failing(search: &LinkSearch, way: WayId, failing: &mut Vec<Failing>) -> Result<(), NoMemory>
-    ensures { OnOk result
-        (failing.new.items ≡ failing.old.items ++ filter_map (failing_in search.now) (way ∷ [])) }
-{
-    if let Some(key) = search.start_of(Key::Way(way)) {
-        failing.push(Failing { way, key })?;
+    match search.start_of(Key::Way(way)) {
+        None => checked.passing.push(way)?,
+        Some(key) => checked.failing.push(Failing { way, key })?,
     }
     Ok(())
 }

@@ -1,40 +1,42 @@
 //! Which keys are closed.
-ghost use Rattle.std.specs.Prelude.{◌≡◌, ◌↔◌, ◌++◌, ◌∷◌, [], IfOk, OnOk, IsTrue, List, map};
-ghost use Rattle.road_base.specs.declared.ids.Key.{Key as KeyValue};
+ghost use Rattle.std.specs.Prelude.{◌≡◌, ◌↔◌, ◌++◌, ◌∷◌, [], OnOk, IsTrue, cond, map};
 ghost use Rattle.map_cells.specs.Cells.{IsLocatedIn, IsInner, IsThere, HasItsMembers, IsClosed};
-ghost use Rattle.cell_check.specs.Closing.{HasNodeIn, AreThere, IsVisible, AreOpenAmong, is_shown};
+ghost use Rattle.cell_check.specs.Closing.{HasNodeIn, AreThere, IsVisible, AddsOpen, is_shown};
 
 use crate::owners::place_of;
 use back_references::Indexed;
 use map_cells::Area;
 use road_base::{Body, Key, Member, NoMemory, NodeId, RelationId, WayId};
 use road_model::World;
-use std::alloc::Global;
 
-/// Those of the keys that aren't closed, in their order.
-pub fn open_among(
-    alloc: Global,
+/// Adds those of the keys that aren't closed, in their order.
+pub fn add_open_among(
     world: &Indexed,
     area: &Area,
     keys: &[Key],
-) -> Result<Vec<Key>, NoMemory>
-    ensures { IfOk result (λ starts. AreOpenAmong world.now area.now keys.now starts.items) }
+    starts: &mut Vec<Key>,
+) -> Result<(), NoMemory>
+    ensures { OnOk result (AddsOpen world.now area.now keys.now starts.old.items starts.new.items) }
 {
-    let mut starts = Vec::new(alloc);
     for key in keys {
-        add_open(world, area, *key, &mut starts)?;
+        add_open(world, area, *key, starts)?;
     }
-    Ok(starts)
+    Ok(())
 }
 
 /// Adds the key, if it isn't closed.
 fn add_open(world: &Indexed, area: &Area, key: Key, starts: &mut Vec<Key>) -> Result<(), NoMemory>
-    ensures { OnOk result ((keys : List KeyValue)
-        → AreOpenAmong world.now area.now keys starts.old.items
-        → AreOpenAmong world.now area.now (keys ++ key ∷ []) starts.new.items) }
+    ensures { OnOk result (AddsOpen world.now area.now (key ∷ []) starts.old.items starts.new.items) }
 {
-    if !is_closed(world, area, key) {
-        starts.push(key)?;
+    add_if(!is_closed(world, area, key), key, starts)
+}
+
+/// Adds the value, if it is wanted.
+pub fn add_if<T: Copy>(wanted: bool, value: T, list: &mut Vec<T>) -> Result<(), NoMemory>
+    ensures { OnOk result (list.new.items ≡ list.old.items ++ cond wanted (value ∷ []) []) }
+{
+    if wanted {
+        list.push(value)?;
     }
     Ok(())
 }
@@ -51,7 +53,7 @@ fn is_closed(world: &Indexed, area: &Area, key: Key) -> bool
 }
 
 /// Whether the node is visible, and located in the area.
-fn is_located_in<M: World>(world: &M, area: &Area, node: NodeId) -> bool
+pub fn is_located_in<M: World>(world: &M, area: &Area, node: NodeId) -> bool
     ensures { IsTrue result ↔ IsLocatedIn (M.objects world.now) area.now node }
 {
     match place_of(world, node) {

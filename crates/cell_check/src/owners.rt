@@ -1,56 +1,18 @@
-//! The ways that a cell owns.
-ghost use Rattle.std.specs.Prelude.{◌≡◌, IfOk, filter};
+//! Where a way begins, which tells who owns it.
+ghost use Rattle.std.specs.Prelude.{◌≡◌};
 ghost use Rattle.road_base.specs.Objects.{node_of};
-ghost use Rattle.ordered_lists.specs.Orders.{Lists};
-ghost use Rattle.road_model.specs.Orders.{way_cmp};
-ghost use Rattle.map_cells.specs.Owners.{place_in, first_place, IsOwn};
-ghost use Rattle.cell_check.specs.Owning.{owns};
+ghost use Rattle.map_cells.specs.Owners.{place_in, first_place};
+ghost use Rattle.cell_check.specs.Owning.{lies_in};
 
-use back_references::Indexed;
 use map_cells::Area;
-use road_base::{Location, NoMemory, NodeId, WayId};
-use road_model::laws::name_order;
-use road_model::{World, has_highway};
-use std::alloc::Global;
+use road_base::{Location, NodeId};
+use road_model::World;
 
-/// The ways with the key `highway` whose first located node lies in the cell, ascending.
-pub fn own_ways(alloc: Global, world: &Indexed, cell: &Area) -> Result<Vec<WayId>, NoMemory>
-    ensures { IfOk result (λ own. Lists (λ w. w) way_cmp (IsOwn world.now cell.now) own.items) }
+/// Whether the first located one of the nodes lies in the cell: so a cell owns a way.
+pub fn begins_in<M: World>(world: &M, cell: &Area, nodes: &[NodeId]) -> bool
+    ensures { result ≡ lies_in cell.now (first_place (M.objects world.now) nodes.now) }
 {
-    name_order();
-    let ways = world.highways()?;
-    own_among(alloc, world, cell, ways.as_slice())
-}
-
-/// Those of the ways that the cell owns, in their order.
-fn own_among<M: World>(
-    alloc: Global,
-    world: &M,
-    cell: &Area,
-    ways: &[WayId],
-) -> Result<Vec<WayId>, NoMemory>
-    ensures { IfOk result (λ own. own.items ≡ filter (owns (M.objects world.now) cell.now) ways.now) }
-{
-    let mut own = Vec::new(alloc);
-    for way in ways {
-        if is_own(world, cell, *way) {
-            own.push(*way)?;
-        }
-    }
-    Ok(own)
-}
-
-/// Whether the cell owns the way.
-fn is_own<M: World>(world: &M, cell: &Area, way: WayId) -> bool
-    ensures { result ≡ owns (M.objects world.now) cell.now way }
-{
-    let Some(body) = world.way(way) else {
-        return false;
-    };
-    if !has_highway(&body.tags) {
-        return false;
-    }
-    match first_place(world, body.refs.items()) {
+    match first_place(world, nodes) {
         Some(place) => cell.holds(place),
         None => false,
     }

@@ -1,14 +1,11 @@
 //! The search over links, round by round, from all keys that aren't closed.
 ghost use Rattle.std.specs.Prelude.{IfOk, OnOk};
+ghost use Rattle.map_cells.specs.declared.area.Area.{Area as AreaValue};
 ghost use Rattle.cell_check.specs.Searches.{AreRounds, Finds, IsBegun, IsLinkedTo, IsNext};
 ghost use Rattle.cell_check.specs.Outcomes.{AreOpenStarts, IsSearchDone};
 
-use crate::candidates::candidates;
-use crate::closing::open_among;
 use crate::links::follow;
 use crate::search::{LinkSearch, Reached};
-use back_references::Indexed;
-use map_cells::Area;
 use road_base::{Key, NoMemory};
 use road_model::{LINK_RADIUS, World};
 use std::alloc::Global;
@@ -16,24 +13,16 @@ use std::alloc::Global;
 /// One link less than the link radius: so far from a way each key has to be closed.
 const CLOSED_RADIUS: u32 = LINK_RADIUS - 1;
 
-/// The search that came to all that is within the closed radius of a key that isn't closed, and to which something is
-/// linked or which is that of a way with the key `highway`.
-pub fn reached(alloc: Global, world: &Indexed, area: &Area) -> Result<LinkSearch, NoMemory>
-    ensures { IfOk result (IsSearchDone world.now area.now) }
+/// The search that came to all that is within the closed radius of one of these keys, which are those that aren't
+/// closed in some area.
+pub fn reached<M: World>(alloc: Global, world: &M, starts: &[Key]) -> Result<LinkSearch, NoMemory>
+    ensures { IfOk result (λ search. (area : AreaValue)
+        → AreOpenStarts (M.objects world.now) area starts.now
+        → IsSearchDone (M.objects world.now) area search) }
 {
-    let starts = starts_in(alloc, world, area)?;
-    let mut search = begin(alloc, starts.as_slice())?;
+    let mut search = begin(alloc, starts)?;
     rounds(alloc, world, &mut search, CLOSED_RADIUS)?;
     Ok(search)
-}
-
-/// All keys that aren't closed and to which something is linked or which are those of ways with the key `highway`, and
-/// maybe others that aren't closed, each once. What was gathered for them is dropped before the search begins.
-fn starts_in(alloc: Global, world: &Indexed, area: &Area) -> Result<Vec<Key>, NoMemory>
-    ensures { IfOk result (λ starts. AreOpenStarts world.now area.now starts.items) }
-{
-    let keys = candidates(alloc, world)?;
-    open_among(alloc, world, area, keys.as_slice())
 }
 
 /// The search that has come to the keys, from themselves.

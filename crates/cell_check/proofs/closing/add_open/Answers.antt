@@ -1,14 +1,8 @@
-use Rattle.std.proofs.Common.{sym, ◌∙◌}
-use Rattle.std.proofs.lemmas.Bool.{false≢true}
-use Rattle.cell_check.proofs.ClosedKeys.{one_open, one_closed}
+use Rattle.std.proofs.lemmas.Result.{on_ok_weaker}
+use Rattle.cell_check.proofs.OpenedKeys.{adds_if}
 use Rattle.cell_check.proofs.closing.add_open.Goals as goal
 
-pub returns-in_ok-push : goal.returns-in_ok-push
-returns-in_ok-push c keys before =
-    one_open c.args.world.now c.args.area.now keys c.args.starts.now.items c.push.new.self.items c.args.key before
-    (λ closed. false≢true (sym c.if-not-is_closed.true ∙ c.is_closed.ensures.1 closed)) c.in_ok-push.ensures.items
-
-pub returns-else-not-is_closed : goal.returns-else-not-is_closed
-returns-else-not-is_closed c keys before =
-    one_closed c.args.world.now c.args.area.now keys c.args.starts.now.items c.args.starts.now.items c.args.key before
-    (c.is_closed.ensures.0 c.if-not-is_closed.false)
+pub returns : goal.returns
+returns c = on_ok_weaker c.add_if.result
+    (λ more. adds_if c.args.world.now c.args.area.now c.is_closed.result c.args.key c.args.starts.now.items
+    c.add_if.new.list.items c.is_closed.ensures more) c.add_if.ensures
