@@ -1,7 +1,6 @@
 -- What must be done is done.
 use Rattle.std.proofs.Common.{◌≡◌, ℕ, List, Option, Some, Ok, subst}
 use Rattle.road_base.specs.declared.event.Event.{Event}
-use Rattle.road_model.specs.Format.{IsGraphFile}
 use Rattle.opl_lexer.specs.declared.mode.Mode.TheVariants.{Extract}
 use Rattle.opl_lexer.specs.Reading.{FaultAt, ReadAll, input_fault}
 use Rattle.last_words.specs.declared.words.LastWords.{LastWords}

@@ -1,6 +1,6 @@
 -- What is prepared of graphs.
-use Rattle.std.proofs.Common.{◌≡◌, ◌<◌, ◌+◌, ◌^◌, ℕ, List, ◌++◌, length, Option, Some, Result, Ok, Err}
-use Rattle.std.proofs.Common.{refl, sym, ◌∙◌, subst, arith, length-append}
+use Rattle.std.proofs.Common.{◌≡◌, ◌<◌, ℕ, List, ◌++◌, Option, Result, Ok, Err}
+use Rattle.std.proofs.Common.{refl, sym, subst, arith, length-append}
 use Rattle.bounded_input.specs.declared.input.InputError.{InputError}
 use Rattle.bounded_input.specs.declared.input.InputError.TheVariants.{Failed, TooLong, Refused, NoMemory}
 use Rattle.bounded_input.specs.Limits.{HasTooManyBytes}
@@ -13,7 +13,6 @@ use Rattle.last_words.specs.declared.status.Status.TheVariants.{Limit}
 use Rattle.last_words.specs.Texts.{limit_line}
 use Rattle.last_words.specs.Replies.{RefusesInput}
 use Rattle.cells.specs.declared.command.GraphCommand.{GraphCommand}
-use Rattle.cells.specs.declared.command.Command.{Command}
 use Rattle.cells.specs.declared.command.Command.TheVariants.{Graphs}
 use Rattle.cells.specs.Outcomes.{GraphsGive}
 use Rattle.cells.specs.Run.{ReadsSource}

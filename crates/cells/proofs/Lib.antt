@@ -15,9 +15,11 @@ mod WholeMembers
 mod WholeCells
 mod WholeGraphs
 mod WholePlans
+mod WholeReports
 mod PartBlocks
 mod WayWords
 mod PlacesCounted
+mod PlacesWithin
 mod AreaWords
 mod PlannedLines
 mod OtherWords

@@ -1,12 +1,12 @@
 -- How many blocks are built, of what was read.
-use Rattle.std.proofs.Common.{◌≡◌, ◌≤◌, ◌+◌, ℕ, List, ◌++◌, length, Option, Some, None, refl, sym, ◌∙◌, subst, arith}
+use Rattle.std.proofs.Common.{◌≡◌, ℕ, List, Option, Some, None, refl, ◌∙◌, subst, arith}
 use Rattle.road_base.specs.declared.event.Event.{Event}
 use Rattle.opl_lexer.specs.declared.mode.Mode.{Mode}
 use Rattle.opl_lexer.specs.declared.mode.Mode.TheVariants.{Extract}
 use Rattle.opl_lexer.specs.Reading.{ReadAll}
 use Rattle.bounded_input.specs.Input.{ReadWhole}
 use Rattle.cells.specs.declared.command.MapCommand.{MapCommand}
-use Rattle.cells.specs.declared.command.MapCommand.TheVariants.{Part, Rest, Ways}
+use Rattle.cells.specs.declared.command.MapCommand.TheVariants.{Part, Rest, Cell, Ways}
 use Rattle.cells.specs.declared.command.Command.{Command}
 use Rattle.cells.specs.declared.command.Command.TheVariants.{Plan, Map, Graphs}
 use Rattle.cells.specs.Run.{BuildsOf, BuildsPart, Builds}
@@ -20,6 +20,7 @@ OneReading = (mode : Mode) (bytes : List ℕ) (events others : List Event) → R
 pub builds_none : (command : MapCommand) (held : Option (List ℕ)) (n : ℕ) → Builds (Some (Map command)) held n n
 builds_none (Part cut profile) held n = λ bytes events is read objects ways applied listed. omega arith
 builds_none (Rest cut) held n = refl
+builds_none (Cell cut profile) held n = λ bytes events is read objects ways applied listed. omega arith
 builds_none (Ways profile ways) held n = omega arith
 
 pub builds_nothing : (command : Option Command) (held : Option (List ℕ)) (n : ℕ) → Builds command held n n
@@ -43,4 +44,6 @@ module _ (one : OneReading) (held left : Option (List ℕ)) (events : List Event
   builds_whole (Part cut profile) old new built = λ bytes others is read.
       subst (λ (l : List Event). BuildsPart cut l old new) (same_events bytes others is read) built
   builds_whole (Rest cut) old new built = built
+  builds_whole (Cell cut profile) old new built = λ bytes others is read.
+      subst (λ (l : List Event). BuildsPart cut l old new) (same_events bytes others is read) built
   builds_whole (Ways profile ways) old new built = built

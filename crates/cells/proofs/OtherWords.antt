@@ -1,6 +1,6 @@
 -- Words of another number than a command has.
 use Rattle.std.proofs.Common.{◌≡◌, ℕ, List, [], ◌∷◌, length, None, refl}
-use Rattle.cells.specs.Commands.{asked_part, asked_rest, asked_range}
+use Rattle.cells.specs.Commands.{profiled_cell_of, asked_rest, asked_range}
 
 pub no_rest : (words : List (List ℕ)) → (length words ≡ 2 → ⊥) → None ≡ asked_rest words
 no_rest [] other = refl
@@ -14,9 +14,10 @@ no_range (one ∷ []) other = refl
 no_range (one ∷ two ∷ []) other = absurd (other refl)
 no_range (one ∷ two ∷ three ∷ more) other = refl
 
-pub no_part : (words : List (List ℕ)) → (length words ≡ 2 → ⊥) → (length words ≡ 3 → ⊥) → None ≡ asked_part words
-no_part [] other another = refl
-no_part (one ∷ []) other another = refl
-no_part (one ∷ two ∷ []) other another = absurd (other refl)
-no_part (one ∷ two ∷ three ∷ []) other another = absurd (another refl)
-no_part (one ∷ two ∷ three ∷ four ∷ more) other another = refl
+pub no_profiled_cell : (words : List (List ℕ)) → (length words ≡ 2 → ⊥) → (length words ≡ 3 → ⊥)
+    → None ≡ profiled_cell_of words
+no_profiled_cell [] other another = refl
+no_profiled_cell (one ∷ []) other another = refl
+no_profiled_cell (one ∷ two ∷ []) other another = absurd (other refl)
+no_profiled_cell (one ∷ two ∷ three ∷ []) other another = absurd (another refl)
+no_profiled_cell (one ∷ two ∷ three ∷ four ∷ more) other another = refl

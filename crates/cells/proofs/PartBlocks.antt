@@ -1,13 +1,15 @@
 -- The blocks of a part are the map's.
-use Rattle.std.proofs.Common.{◌≡◌, ◌≤◌, ◌+◌, ℕ, List, length, map, IsTrue, sym, ap, ◌∙◌, subst, arith}
+use Rattle.std.proofs.Common.{◌≡◌, ◌≤◌, ◌+◌, ℕ, List, ◌++◌, ◌∷◌, length, map, IsTrue, refl, ap, subst, arith}
 use Rattle.std.specs.Prelude.{◌↔◌, Contains, IfOk, Result, Ok, Err}
 use Rattle.std.specs.Cmp.{IsTotalOrder}
 use Rattle.std.specs.FinMap.{empty}
+use Rattle.std.specs.List.{flat_map}
 use Rattle.std.proofs.lemmas.List.{map-id}
 use Rattle.road_base.specs.declared.event.Event.{Event}
 use Rattle.road_base.specs.declared.ids.WayId.{WayId}
 use Rattle.road_base.specs.Objects.{Objects}
 use Rattle.road_base.specs.Applying.{IsApplied}
+use Rattle.opl_lexer.specs.Letters.{newline}
 use Rattle.ordered_lists.specs.Orders.{Lists, rises}
 use Rattle.ordered_lists.proofs.AscendingLists.{lists_unique}
 use Rattle.road_model.specs.declared.blocks.Block.{Block}
@@ -17,8 +19,12 @@ use Rattle.road_model.specs.Blocks.{IsBlock}
 use Rattle.compiled_graph.specs.Building.{HasBlocksAmong, IsBlockAmong}
 use Rattle.map_cells.specs.declared.area.Area.{Area}
 use Rattle.map_cells.specs.Cells.{IsCell, Passes, IsCut}
+use Rattle.cell_check.specs.declared.checking.Failing.{Failing}
+use Rattle.cell_check.specs.Checks.{AreFailing}
+use Rattle.cell_plan.specs.CellPlans.{places_in}
 use Rattle.cells.specs.declared.command.CutCell.{CutCell}
-use Rattle.cells.specs.Made.{IsOwnPassing, IsPart, IsOfWays}
+use Rattle.cells.specs.Texts.{failing_line, report_lines}
+use Rattle.cells.specs.Made.{IsOwnPassing, IsPart, IsReport, IsOfWays, places_of}
 use Rattle.cells.specs.Run.{BuildsPart}
 
 pub if_ok : {T E : Type 0} (r : Result T E) (Before After : T → Type 0) → ((t : T) → Before t → After t)
@@ -74,6 +80,20 @@ module _ (P : Rules) (events : List Event) (objects : Objects) (applied : IsAppl
     blocks = has;
     whole = λ M is. blocks_of_map P M objects ways
         (λ w b i. law M objects cut.area w b is (listed.sound w i).1) out has;
+  }
+
+  pub is_report : CellLaw P → (cut : CutCell) → Lists (λ w. w) way_cmp (IsOwnPassing objects cut) ways
+      → (failing : List Failing) → AreFailing objects cut.area cut.cell failing
+      → (graph : List ℕ) → HasBlocksAmong objects P ways graph → (out : List ℕ)
+      → out ≡ graph ++ newline ∷ report_lines (places_in cut.cell (places_of events)) ways failing
+      → IsReport cut P events out
+  unfolding is_part
+  is_report law cut listed failing are graph has out spelled = record {
+    graph = graph;
+    part = is_part law cut listed graph has;
+    lines = flat_map failing_line failing;
+    rest = record { objects = objects; applied = applied; failing = failing; are = are; spelled = refl };
+    spelled = spelled;
   }
 
   pub is_of_ways : CutLaw P → (out : List ℕ) → HasBlocksAmong objects P ways out → IsOfWays P ways events out

@@ -1,6 +1,6 @@
 -- Places that are counted, one event after another.
 use Rattle.std.proofs.Common.{◌≡◌, ℕ, ◌<◌, ◌+◌, List, [], ◌∷◌, ◌++◌, take, get_or, length, refl, sym, ap, ◌∙◌, subst}
-use Rattle.std.proofs.Common.{Option, None, Some, append_assoc}
+use Rattle.std.proofs.Common.{None, Some, append_assoc}
 use Rattle.std.proofs.lemmas.List.{append-nil, take_more}
 use Rattle.std.proofs.lemmas.List.Elements.{filter_map-append}
 use Rattle.std.proofs.lemmas.List.Concat.{flat_map-append}
@@ -13,7 +13,7 @@ use Rattle.cells.specs.declared.plan.PlaceCounter.{PlaceCounter}
 use Rattle.cells.specs.Made.{place_of, places_of}
 use Rattle.cells.specs.Planning.{CountsPlaces}
 
-places_more : (taken more : List Event) → places_of (taken ++ more) ≡ places_of taken ++ places_of more
+pub places_more : (taken more : List Event) → places_of (taken ++ more) ≡ places_of taken ++ places_of more
 places_more taken more = filter_map-append (λ e. place_of e.body) taken more
 
 -- an event with a place

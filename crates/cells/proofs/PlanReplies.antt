@@ -1,5 +1,5 @@
 -- What is prepared of a text that is read as a stream.
-use Rattle.std.proofs.Common.{◌≡◌, ◌⊎◌, ◌<◌, ◌+◌, ◌^◌, ℕ, List, [], ◌++◌, length, Option, Some, Result, Err}
+use Rattle.std.proofs.Common.{◌≡◌, ◌<◌, ℕ, List, ◌++◌, Option, Some, Result, Err}
 use Rattle.std.proofs.Common.{inl, inr, refl, sym, ◌∙◌, subst, arith, length-append}
 use Rattle.std.proofs.lemmas.List.{get_or_append_left}
 use Rattle.road_base.specs.declared.event.Event.{Event}
@@ -9,7 +9,6 @@ use Rattle.opl_objects.specs.StreamLines.{fault_at}
 use Rattle.opl_objects.proofs.StreamFaults.{ended_fault-stays, ended_fault-is_first}
 use Rattle.bounded_input.specs.declared.input.InputError.{InputError}
 use Rattle.bounded_input.specs.declared.input.InputError.TheVariants.{Failed, TooLong, Refused, NoMemory}
-use Rattle.bounded_input.specs.Input.{Ended}
 use Rattle.bounded_input.specs.Limits.{PassesStreamLimit, HasLongLine}
 use Rattle.bounded_input.specs.Streaming.{IsStreamed, IsFirstFault, StreamCause, StreamStopped}
 use Rattle.last_words.specs.declared.words.LastWords.{LastWords}
@@ -20,7 +19,6 @@ use Rattle.last_words.specs.declared.status.Status.TheVariants.{Refused as Refus
 use Rattle.last_words.specs.Texts.{limit_line, refused_line}
 use Rattle.last_words.specs.Replies.{Replies, RefusesInput}
 use Rattle.cell_plan.specs.declared.cells.PlanRule.{PlanRule}
-use Rattle.cells.specs.declared.command.Command.{Command}
 use Rattle.cells.specs.declared.command.Command.TheVariants.{Plan}
 use Rattle.cells.specs.Made.{IsPlan}
 use Rattle.cells.specs.Outcomes.{TextRefusal, PlanGives}

@@ -1,6 +1,6 @@
 -- How a run ends, from what was prepared and how it was put.
-use Rattle.std.proofs.Common.{◌≡◌, ◌⊎◌, ℕ, List, [], ◌++◌, take, Option, None, Some, Ok, Err}
-use Rattle.std.proofs.Common.{inl, inr, refl, sym, ap, ◌∙◌, subst}
+use Rattle.std.proofs.Common.{◌≡◌, ◌⊎◌, ℕ, List, [], ◌++◌, Option, None, Some, Ok, Err}
+use Rattle.std.proofs.Common.{inl, inr, refl, sym, ap, subst}
 use Rattle.std.proofs.lemmas.List.{append-nil}
 use Rattle.road_io.specs.Told.{Told}
 use Rattle.road_io.specs.Outside.{Outside}
@@ -10,17 +10,15 @@ use Rattle.last_words.specs.declared.words.Failure.{Failure}
 use Rattle.last_words.specs.declared.words.Failure.TheVariants.{ReadFault as ReadFailure, SiteFault as SiteFailure}
 use Rattle.last_words.specs.declared.words.Failure.TheVariants.{NoMemory as MemoryFailure}
 use Rattle.last_words.specs.declared.status.Status.{Status}
-use Rattle.last_words.specs.declared.status.Status.TheVariants.{Done, Usage, ReadFault, SiteFault, Refused, Limit}
-use Rattle.last_words.specs.declared.status.Status.TheVariants.{NoMemory, OutOfSequence, NoStore, StoreExists, Damaged}
+use Rattle.last_words.specs.declared.status.Status.TheVariants.{Done, Usage, Refused, Limit}
+use Rattle.last_words.specs.declared.status.Status.TheVariants.{NoMemory}
 use Rattle.last_words.specs.Puts.{Grows, EndsPut, PutsSome}
 use Rattle.last_words.specs.Replies.{failure_status}
-use Rattle.cells.specs.declared.command.GraphCommand.{GraphCommand}
-use Rattle.cells.specs.declared.command.MapCommand.{MapCommand}
 use Rattle.cells.specs.declared.command.Command.{Command}
 use Rattle.cells.specs.declared.command.Command.TheVariants.{Plan, Map, Graphs}
 use Rattle.cells.specs.Outcomes.{TextRefusal, PlanGives, MapGives, GraphsGive, Gives}
-use Rattle.cells.specs.Run.{HeldBytes, MayEnd, Reads, ReadsSource, Puts, PutsAll, Ends, TouchesNoFile}
-use Rattle.cells.specs.Replies.{WillPut, WillFail, Prepares}
+use Rattle.cells.specs.Run.{MayEnd, Reads, Puts, PutsAll, Ends, TouchesNoFile}
+use Rattle.cells.specs.Replies.{WillPut, Prepares}
 use Rattle.cells.proofs.HeldSource.{behind_of, held_still}
 
 -- ---- statuses with which something is put

@@ -1,5 +1,5 @@
 -- What is prepared of a text within limits.
-use Rattle.std.proofs.Common.{◌≡◌, ◌⊎◌, ◌<◌, ℕ, List, ◌++◌, Option, Some, Result, Err, inl, inr, refl, sym, ◌∙◌, subst}
+use Rattle.std.proofs.Common.{◌≡◌, ◌<◌, ℕ, List, ◌++◌, Option, Result, Err, inr, refl, sym, subst}
 use Rattle.road_base.specs.declared.event.Event.{Event}
 use Rattle.opl_lexer.specs.declared.mode.Mode.TheVariants.{Extract}
 use Rattle.opl_objects.specs.StreamLines.{fault_at}
@@ -15,7 +15,6 @@ use Rattle.last_words.specs.declared.status.Status.TheVariants.{Refused as Refus
 use Rattle.last_words.specs.Texts.{limit_line, refused_line}
 use Rattle.last_words.specs.Replies.{Replies, RefusesInput}
 use Rattle.cells.specs.declared.command.MapCommand.{MapCommand}
-use Rattle.cells.specs.declared.command.Command.{Command}
 use Rattle.cells.specs.declared.command.Command.TheVariants.{Map}
 use Rattle.cells.specs.Outcomes.{TextRefusal, MapGives, IsMade}
 use Rattle.cells.specs.Replies.{IsPrepared, Prepares, CountsReads}

@@ -1,5 +1,5 @@
 -- What the words of a run ask.
-use Rattle.std.specs.Prelude.{ℕ, ℤ, ◌+◌, ◌*◌, ◌^◌, List, [], ◌∷◌, Option, Some, None, Bool, cond, ◌&&◌}
+use Rattle.std.specs.Prelude.{ℕ, ℤ, ◌*◌, ◌^◌, List, [], ◌∷◌, Option, Some, None, cond, ◌&&◌}
 use Rattle.std.specs.Prelude.{bytes_eq, codes, if◌then◌else◌}
 use Rattle.std.specs.Option.{option_and_then, option_map}
 use Rattle.road_base.specs.declared.ids.WayId.{WayId}
@@ -12,9 +12,10 @@ use Rattle.road_model.specs.Orders.{way_cmp}
 use Rattle.map_cells.specs.declared.area.Area.{Area}
 use Rattle.cell_plan.specs.declared.cells.PlanRule.{PlanRule}
 use Rattle.cells.specs.declared.command.CutCell.{CutCell}
+use Rattle.cells.specs.declared.command.ProfiledCell.{ProfiledCell}
 use Rattle.cells.specs.declared.command.ProfileNumber.{ProfileNumber}
 use Rattle.cells.specs.declared.command.ProfileNumber.TheVariants.{First, Second}
-use Rattle.cells.specs.declared.command.MapCommand.TheVariants.{Part, Rest, Ways}
+use Rattle.cells.specs.declared.command.MapCommand.TheVariants.{Part, Rest, Cell, Ways}
 use Rattle.cells.specs.declared.command.GraphCommand.TheVariants.{Range, Merge}
 use Rattle.cells.specs.declared.command.Command.{Command}
 use Rattle.cells.specs.declared.command.Command.TheVariants.{Plan, Map, Graphs}
@@ -90,19 +91,26 @@ asked_plan (nodes ∷ []) = plan_within nodes 3000
 asked_plan (nodes ∷ metres ∷ []) = option_and_then (plan_within nodes) (metres_of metres)
 asked_plan (one ∷ two ∷ three ∷ more) = None
 
-abbrev pub part_of : List ℕ → List ℕ → ProfileNumber → Option Command
-part_of box cell number = option_map (λ cut. Map (Part cut number)) (cut_cell_of box cell)
+abbrev pub cut_under : List ℕ → List ℕ → ProfileNumber → Option ProfiledCell
+cut_under box cell number = option_map (λ c. record { cut = c; profile = number }) (cut_cell_of box cell)
 
 -- under another profile than 1; its number is the one word `2`
-abbrev pub part_under : List ℕ → List ℕ → List ℕ → Option Command
-part_under box cell number = if bytes_eq number (codes "2") then part_of box cell Second else None
+abbrev pub cut_under_second : List ℕ → List ℕ → List ℕ → Option ProfiledCell
+cut_under_second box cell number = if bytes_eq number (codes "2") then cut_under box cell Second else None
+
+-- `BOX CELL [2]`
+abbrev pub profiled_cell_of : List (List ℕ) → Option ProfiledCell
+profiled_cell_of [] = None
+profiled_cell_of (box ∷ []) = None
+profiled_cell_of (box ∷ cell ∷ []) = cut_under box cell First
+profiled_cell_of (box ∷ cell ∷ number ∷ []) = cut_under_second box cell number
+profiled_cell_of (one ∷ two ∷ three ∷ four ∷ more) = None
 
 abbrev pub asked_part : List (List ℕ) → Option Command
-asked_part [] = None
-asked_part (box ∷ []) = None
-asked_part (box ∷ cell ∷ []) = part_of box cell First
-asked_part (box ∷ cell ∷ number ∷ []) = part_under box cell number
-asked_part (one ∷ two ∷ three ∷ four ∷ more) = None
+asked_part words = option_map (λ c. Map (Part c.cut c.profile)) (profiled_cell_of words)
+
+abbrev pub asked_cell : List (List ℕ) → Option Command
+asked_cell words = option_map (λ c. Map (Cell c.cut c.profile)) (profiled_cell_of words)
 
 abbrev pub asked_rest : List (List ℕ) → Option Command
 asked_rest [] = None
@@ -135,11 +143,12 @@ asked_by name words =
     if bytes_eq name (codes "plan") then asked_plan words
     else (if bytes_eq name (codes "part") then asked_part words
     else (if bytes_eq name (codes "rest") then asked_rest words
+    else (if bytes_eq name (codes "cell") then asked_cell words
     else (if bytes_eq name (codes "range") then asked_range words
-    else (if bytes_eq name (codes "merge") then asked_merge words else None))))
+    else (if bytes_eq name (codes "merge") then asked_merge words else None)))))
 
--- `plan NODES [METRES]`, `part BOX CELL [2]`, `rest BOX CELL`, `ways PROFILE WAY..`, `range FROM TO` and `merge`; other
--- words are no command's
+-- `plan NODES [METRES]`, `part BOX CELL [2]`, `rest BOX CELL`, `cell BOX CELL [2]`, `ways PROFILE WAY..`,
+-- `range FROM TO` and `merge`; other words are no command's
 abbrev pub asked : List (List ℕ) → Option Command
 asked [] = None
 asked (name ∷ words) = if bytes_eq name (codes "ways") then asked_ways words else asked_by name words

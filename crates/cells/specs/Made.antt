@@ -1,5 +1,5 @@
 -- What is made of a map, or of a cell of one.
-use Rattle.std.specs.Prelude.{◌≡◌, ◌≤◌, ℕ, List, [], ◌++◌, Option, Some, None, map, filter, length, Contains, IsTrue}
+use Rattle.std.specs.Prelude.{◌≡◌, ℕ, List, ◌++◌, ◌∷◌, Option, None, map, Contains}
 use Rattle.std.specs.List.{flat_map, filter_map}
 use Rattle.std.specs.FinMap.{empty}
 use Rattle.road_base.specs.declared.event.Event.{Event}
@@ -10,19 +10,33 @@ use Rattle.road_base.specs.declared.objects.Body.TheVariants.{Node, Way, Relatio
 use Rattle.road_base.specs.Objects.{Objects}
 use Rattle.road_base.specs.Applying.{IsApplied}
 use Rattle.ordered_lists.specs.Orders.{Lists}
+use Rattle.opl_lexer.specs.Letters.{newline}
 use Rattle.road_model.specs.Orders.{way_cmp}
 use Rattle.road_model.specs.Rules.{Rules}
 use Rattle.compiled_graph.specs.Building.{HasBlocksAmong}
-use Rattle.map_cells.specs.Areas.{is_in, CoverWorld}
+use Rattle.map_cells.specs.Areas.{CoverWorld}
 use Rattle.map_cells.specs.Cells.{IsCell, Passes, IsCut}
 use Rattle.map_cells.specs.Owners.{IsOwn}
 use Rattle.cell_check.specs.declared.checking.Failing.{Failing}
 use Rattle.cell_check.specs.Checks.{AreFailing}
 use Rattle.cell_plan.specs.declared.cells.PlanRule.{PlanRule}
 use Rattle.cell_plan.specs.declared.cells.PlannedCell.{PlannedCell}
-use Rattle.cell_plan.specs.CellPlans.{IsGrown, IsCounted}
+use Rattle.cell_plan.specs.CellPlans.{IsGrown, IsCounted, places_in}
 use Rattle.cells.specs.declared.command.CutCell.{CutCell}
-use Rattle.cells.specs.Texts.{cell_line, failing_line}
+use Rattle.cells.specs.Texts.{cell_line, failing_line, report_lines}
+
+-- ---- places
+
+-- where the body is, if it is a located node's
+abbrev pub place_of : Body → Option Location
+place_of (Node n) = n.location
+place_of (Way w) = None
+place_of (Relation r) = None
+place_of Deleted = None
+
+-- the places of the visible located nodes, in the order in which they come
+abbrev pub places_of : List Event → List Location
+places_of events = filter_map (λ e. place_of e.body) events
 
 -- ---- parts
 
@@ -48,6 +62,15 @@ pub record IsRestOf (cut : CutCell) (events : List Event) (out : List ℕ) : Typ
   pub are : AreFailing objects cut.area cut.cell failing
   pub spelled : out ≡ flat_map failing_line failing
 
+-- The graph of the own ways that pass, behind it a newline, and then a line for each of these, one for each own way that
+-- fails, and at last how many nodes lie in the cell, and how many ways pass and fail.
+pub record IsReport (cut : CutCell) (P : Rules) (events : List Event) (out : List ℕ) : Type 0 where
+  pub graph : List ℕ
+  pub part : IsPart cut P events graph
+  pub lines : List ℕ
+  pub rest : IsRestOf cut events lines
+  pub spelled : out ≡ graph ++ newline ∷ report_lines (places_in cut.cell (places_of events)) part.ways rest.failing
+
 -- The graph of these ways, of the objects that the events leave. Whatever map these objects are cut from by links, for
 -- each of these ways, the blocks are the map's.
 pub record IsOfWays (P : Rules) (ways : List WayId) (events : List Event) (out : List ℕ) : Type 0 where
@@ -57,17 +80,6 @@ pub record IsOfWays (P : Rules) (ways : List WayId) (events : List Event) (out :
   pub whole : (M : Objects) → ((w : WayId) → Contains ways w → IsCut M objects w) → HasBlocksAmong M P ways out
 
 -- ---- a plan
-
--- where the body is, if it is a located node's
-abbrev pub place_of : Body → Option Location
-place_of (Node n) = n.location
-place_of (Way w) = None
-place_of (Relation r) = None
-place_of Deleted = None
-
--- the places of the visible located nodes, in the order in which they come
-abbrev pub places_of : List Event → List Location
-places_of events = filter_map (λ e. place_of e.body) events
 
 -- A line for each cell. The cells cover the world and don't overlap. Each has its number of nodes, is grown by the margin,
 -- and is divided as the rule says, down to squares of the grid in which the nodes were counted.

@@ -14,14 +14,14 @@ use Rattle.graph_merge.specs.Merging.{IsMerged, IsRefusedFor}
 use Rattle.graph_merge.specs.Ranges.{IsRange, IsNoGraph}
 use Rattle.cell_plan.specs.declared.cells.PlanRule.{PlanRule}
 use Rattle.cells.specs.declared.command.MapCommand.{MapCommand}
-use Rattle.cells.specs.declared.command.MapCommand.TheVariants.{Part, Rest, Ways}
+use Rattle.cells.specs.declared.command.MapCommand.TheVariants.{Part, Rest, Cell, Ways}
 use Rattle.cells.specs.declared.command.GraphCommand.{GraphCommand}
 use Rattle.cells.specs.declared.command.GraphCommand.TheVariants.{Range, Merge}
 use Rattle.cells.specs.declared.command.Command.{Command}
 use Rattle.cells.specs.declared.command.Command.TheVariants.{Plan, Map, Graphs}
 use Rattle.cells.specs.Commands.{number_of}
 use Rattle.cells.specs.Texts.{usage_line, refused_graph_line, refused_way_line}
-use Rattle.cells.specs.Made.{IsPart, IsRestOf, IsOfWays, IsPlan}
+use Rattle.cells.specs.Made.{IsPart, IsRestOf, IsReport, IsOfWays, IsPlan}
 
 -- ---- texts that are refused
 
@@ -50,9 +50,10 @@ pub data PlanGives (rule : PlanRule) (bytes : List ℕ) (status : Status) (out :
 abbrev pub IsMade : MapCommand → List Event → List ℕ → Type 0
 IsMade (Part cut profile) events out = IsPart cut (rules_of (number_of profile)) events out
 IsMade (Rest cut) events out = IsRestOf cut events out
+IsMade (Cell cut profile) events out = IsReport cut (rules_of (number_of profile)) events out
 IsMade (Ways profile ways) events out = IsOfWays (rules_of (number_of profile)) ways events out
 
--- `part BOX CELL [2]`, `rest BOX CELL` and `ways PROFILE WAY..`
+-- `part BOX CELL [2]`, `rest BOX CELL`, `cell BOX CELL [2]` and `ways PROFILE WAY..`
 pub data MapGives (command : MapCommand) (bytes : List ℕ) (status : Status) (out : List ℕ) : Type 0 where
   OfText : TextRefusal PassesLimit ⊥ bytes status out → MapGives command bytes status out
   OfMap : (PassesLimit bytes → ⊥) → (events : List Event) → ReadAll Extract bytes events

@@ -1,5 +1,5 @@
 -- How a run ends: what was read and put.
-use Rattle.std.specs.Prelude.{◌≡◌, ◌⊎◌, ℕ, ◌+◌, ◌≤◌, List, [], ◌++◌, length, take, Option, None, Some}
+use Rattle.std.specs.Prelude.{◌≡◌, ◌⊎◌, ℕ, ◌+◌, ◌≤◌, List, [], ◌++◌, length, Option, None, Some}
 use Rattle.std.specs.FinMap.{empty}
 use Rattle.road_base.specs.declared.event.Event.{Event}
 use Rattle.road_base.specs.declared.ids.WayId.{WayId}
@@ -20,7 +20,7 @@ use Rattle.last_words.specs.Puts.{Grows, GrowsInto}
 use Rattle.graph_merge.specs.Merging.{IsMergeable}
 use Rattle.cells.specs.declared.command.CutCell.{CutCell}
 use Rattle.cells.specs.declared.command.MapCommand.{MapCommand}
-use Rattle.cells.specs.declared.command.MapCommand.TheVariants.{Part, Rest, Ways}
+use Rattle.cells.specs.declared.command.MapCommand.TheVariants.{Part, Rest, Cell, Ways}
 use Rattle.cells.specs.declared.command.GraphCommand.TheVariants.{Range, Merge}
 use Rattle.cells.specs.declared.command.Command.{Command}
 use Rattle.cells.specs.declared.command.Command.TheVariants.{Plan, Map, Graphs}
@@ -137,11 +137,14 @@ BuildsPart cut events old new = (objects : Objects) (ways : List WayId)
 abbrev pub BuildsOf : MapCommand → List Event → ℕ → ℕ → Type 0
 BuildsOf (Part cut profile) events old new = BuildsPart cut events old new
 BuildsOf (Rest cut) events old new = new ≡ old
+BuildsOf (Cell cut profile) events old new = BuildsPart cut events old new
 BuildsOf (Ways profile ways) events old new = new ≤ old + length ways
 
 -- no more blocks are built than there are ways to be written; other commands build none
 abbrev pub Builds : Option Command → Option (List ℕ) → ℕ → ℕ → Type 0
 Builds (Some (Map (Part cut profile))) held old new = (bytes : List ℕ) (events : List Event)
+    → held ≡ Some bytes → ReadAll Extract bytes events → BuildsPart cut events old new
+Builds (Some (Map (Cell cut profile))) held old new = (bytes : List ℕ) (events : List Event)
     → held ≡ Some bytes → ReadAll Extract bytes events → BuildsPart cut events old new
 Builds (Some (Map (Ways profile ways))) held old new = new ≤ old + length ways
 Builds command held old new = new ≡ old

@@ -1,5 +1,6 @@
 -- The lines that are put, each with its newline.
-use Rattle.std.specs.Prelude.{◌++◌, ℕ, List, [], ◌∷◌, codes}
+use Rattle.std.specs.Prelude.{◌++◌, ℕ, List, [], ◌∷◌, codes, length}
+use Rattle.std.specs.List.{flat_map}
 use Rattle.std.specs.Fmt.{decimal, signed_decimal}
 use Rattle.road_base.specs.declared.ids.WayId.{WayId}
 use Rattle.road_base.specs.declared.ids.Key.{Key}
@@ -10,8 +11,8 @@ use Rattle.cell_check.specs.declared.checking.Failing.{Failing}
 use Rattle.cell_plan.specs.declared.cells.PlannedCell.{PlannedCell}
 
 abbrev pub usage_line : List ℕ
-usage_line = codes "usage: cells plan NODES [METRES]|part BOX CELL [2]|rest BOX CELL|ways PROFILE WAY..|"
-    ++ (codes "range FROM TO|merge" ++ newline ∷ [])
+usage_line = codes "usage: cells plan NODES [METRES]|part BOX CELL [2]|rest BOX CELL|cell BOX CELL [2]|"
+    ++ (codes "ways PROFILE WAY..|range FROM TO|merge" ++ newline ∷ [])
 
 -- the graph of this number, counted from 1, isn't one, or is of another version or profile than the first
 abbrev pub refused_graph_line : ℕ → List ℕ
@@ -39,3 +40,17 @@ key_text (Relation r) = codes "r" ++ signed_decimal r.0
 -- `w12 n34`: a way that fails, and the key near it that isn't closed
 abbrev pub failing_line : Failing → List ℕ
 failing_line f = codes "w" ++ (signed_decimal f.way.0 ++ (codes " " ++ (key_text f.key ++ newline ∷ [])))
+
+-- `w12`: a way that passes
+abbrev pub passing_line : WayId → List ℕ
+passing_line w = codes "w" ++ (signed_decimal w.0 ++ newline ∷ [])
+
+-- `NODES PASSING FAILING`: how many nodes lie in the cell, and how many of its own ways pass, and fail
+abbrev pub counts_line : ℕ → ℕ → ℕ → List ℕ
+counts_line nodes passing failing =
+    decimal nodes ++ (codes " " ++ (decimal passing ++ (codes " " ++ (decimal failing ++ newline ∷ []))))
+
+-- a line for each own way that passes, one for each that fails, and at last how many there are
+abbrev pub report_lines : ℕ → List WayId → List Failing → List ℕ
+report_lines nodes passing failing = flat_map passing_line passing
+    ++ (flat_map failing_line failing ++ counts_line nodes (length passing) (length failing))

@@ -1,5 +1,5 @@
 -- A map that is compiled cell by cell, by runs of this program.
-use Rattle.std.specs.Prelude.{◌≡◌, ◌⊎◌, ℕ, nat_lt, List, map, Some, Contains}
+use Rattle.std.specs.Prelude.{◌≡◌, ◌⊎◌, ℕ, nat_lt, List, ◌++◌, ◌∷◌, map, Some, Contains}
 use Rattle.std.specs.List.{flat_map, filter}
 use Rattle.std.specs.FinMap.{empty}
 use Rattle.road_base.specs.declared.event.Event.{Event}
@@ -12,6 +12,7 @@ use Rattle.road_base.specs.Applying.{IsApplied}
 use Rattle.road_model.specs.Rules.{Rules}
 use Rattle.road_model.specs.Format.{IsGraph}
 use Rattle.graph_file.specs.WalkedFiles.{IsWalkedFile}
+use Rattle.opl_lexer.specs.Letters.{newline}
 use Rattle.opl_lexer.specs.declared.mode.Mode.TheVariants.{Extract}
 use Rattle.opl_lexer.specs.Reading.{ReadAll}
 use Rattle.map_cells.specs.Areas.{IsInside, CoverNodes}
@@ -23,7 +24,7 @@ use Rattle.cells.specs.declared.command.CutCell.{CutCell}
 use Rattle.cells.specs.declared.command.ProfileNumber.{ProfileNumber}
 use Rattle.cells.specs.declared.command.MapCommand.TheVariants.{Part, Rest, Ways}
 use Rattle.cells.specs.declared.command.Command.TheVariants.{Map}
-use Rattle.cells.specs.Texts.{cell_line, failing_line}
+use Rattle.cells.specs.Texts.{cell_line, failing_line, report_lines}
 use Rattle.cells.specs.Outcomes.{Gives}
 
 -- the objects that a text holds
@@ -64,6 +65,17 @@ pub record IsCompiledCell (M : Objects) (profile : ProfileNumber) (c : CompiledC
   pub kept : (objects : Objects) → AreObjectsOf c.text objects → IsCell M objects c.cut.area
   pub part : Gives (Some (Map (Part c.cut profile))) c.text Done c.graph
   pub rest : Gives (Some (Map (Rest c.cut))) c.text Done c.rest
+
+-- What `cell` put for a text has what `part` puts for it, and then, behind a newline, a line for each of some ways, what
+-- `rest` puts, and a line of three counts.
+pub record HasPartAndRest (cut : CutCell) (profile : ProfileNumber) (text out : List ℕ) : Type 0 where
+  pub graph : List ℕ
+  pub part : Gives (Some (Map (Part cut profile))) text Done graph
+  pub passing : List WayId
+  pub failing : List Failing
+  pub rest : Gives (Some (Map (Rest cut))) text Done (flat_map failing_line failing)
+  pub nodes : ℕ
+  pub spelled : out ≡ graph ++ newline ∷ report_lines nodes passing failing
 
 -- ways that were cut out by links: their numbers, the text of what was cut, and the graph that `ways` put for it
 pub record CompiledWays : Type 0 where

@@ -1,8 +1,9 @@
 //! What the words of a run ask.
 ghost use Rattle.std.specs.Prelude.{◌≡◌, ◌≤◌, map, None, Some, IfOk, IfSome, IfNone};
 ghost use Rattle.std.specs.Option.{option_map, option_and_then};
-ghost use Rattle.cells.specs.Commands.{asked, asked_by, asked_plan, plan_within, asked_part, part_of, asked_rest, part_under};
-ghost use Rattle.cells.specs.Commands.{asked_ways, asked_range, range_between, asked_merge, cut_cell_of, profile_of};
+ghost use Rattle.cells.specs.Commands.{asked, asked_by, asked_plan, plan_within, asked_part, asked_rest, asked_cell};
+ghost use Rattle.cells.specs.Commands.{profiled_cell_of, cut_under, cut_under_second, cut_cell_of, profile_of};
+ghost use Rattle.cells.specs.Commands.{asked_ways, asked_range, range_between, asked_merge};
 ghost use Rattle.cells.specs.Commands.{metres_of, way_of_word, each_way, ways_of, number_of};
 
 use crate::areas::area_of;
@@ -39,6 +40,13 @@ impl ProfileNumber {
     }
 }
 
+/// A cell that was cut out of the map, and the profile under which its ways are compiled.
+#[derive(Clone, Copy, PartialEq, Eq, Debug)]
+struct ProfiledCell {
+    cut: CutCell,
+    profile: ProfileNumber,
+}
+
 /// What is made of the map on the source.
 #[derive(Drop)]
 pub enum MapCommand {
@@ -46,6 +54,8 @@ pub enum MapCommand {
     Part(CutCell, ProfileNumber),
     /// The cell's own ways that fail.
     Rest(CutCell),
+    /// Both, and the own ways that pass, of one reading.
+    Cell(CutCell, ProfileNumber),
     /// The graph of these ways.
     Ways(ProfileNumber, AscendingWays),
 }
@@ -77,9 +87,9 @@ const MOST_METRES: u64 = 1_000_000;
 /// So many units of 1e-7 degree of latitude, or fewer, are a metre.
 const UNITS_A_METRE: u64 = 91;
 
-/// What the words ask: `plan NODES [METRES]`, `part BOX CELL [2]`, `rest BOX CELL`, `ways PROFILE WAY..`,
-/// `range FROM TO` or `merge`. BOX and CELL are areas (`areas`), NODES is digits, a value of 64 bits, METRES at most
-/// 1,000,000, PROFILE 1 or 2, and FROM, TO and WAY are numbers of ways, each WAY below the next.
+/// What the words ask: `plan NODES [METRES]`, `part BOX CELL [2]`, `rest BOX CELL`, `cell BOX CELL [2]`,
+/// `ways PROFILE WAY..`, `range FROM TO` or `merge`. BOX and CELL are areas (`areas`), NODES is digits, a value of
+/// 64 bits, METRES at most 1,000,000, PROFILE 1 or 2, and FROM, TO and WAY are numbers of ways, each WAY below the next.
 pub fn asked(alloc: Global, words: &[&str]) -> Result<Option<Command>, NoMemory>
     ensures { IfOk result (λ command. command ≡ asked (map (λ w. w.now) words.now)) }
 {
@@ -107,6 +117,9 @@ fn asked_by(name: &str, words: &[&str]) -> Option<Command>
     }
     if name == "rest" {
         return asked_rest(words);
+    }
+    if name == "cell" {
+        return asked_cell(words);
     }
     if name == "range" {
         return asked_range(words);
@@ -152,30 +165,45 @@ fn metres_of(word: &str) -> Option<u64>
 fn asked_part(words: &[&str]) -> Option<Command>
     ensures { result ≡ asked_part (map (λ w. w.now) words.now) }
 {
+    let ProfiledCell { cut, profile } = profiled_cell_of(words)?;
+    Some(Command::Map(MapCommand::Part(cut, profile)))
+}
+
+fn asked_cell(words: &[&str]) -> Option<Command>
+    ensures { result ≡ asked_cell (map (λ w. w.now) words.now) }
+{
+    let ProfiledCell { cut, profile } = profiled_cell_of(words)?;
+    Some(Command::Map(MapCommand::Cell(cut, profile)))
+}
+
+/// `BOX CELL`, under profile 1, or `BOX CELL 2`.
+fn profiled_cell_of(words: &[&str]) -> Option<ProfiledCell>
+    ensures { result ≡ profiled_cell_of (map (λ w. w.now) words.now) }
+{
     match words {
         [] => None,
         [_] => None,
-        [area, cell] => part_of(area, cell, ProfileNumber::First),
-        [area, cell, number] => part_under(area, cell, number),
+        [area, cell] => cut_under(area, cell, ProfileNumber::First),
+        [area, cell, number] => cut_under_second(area, cell, number),
         _ => None,
     }
 }
 
-fn part_under(area: &str, cell: &str, number: &str) -> Option<Command>
-    ensures { result ≡ part_under area.now cell.now number.now }
+fn cut_under_second(area: &str, cell: &str, number: &str) -> Option<ProfiledCell>
+    ensures { result ≡ cut_under_second area.now cell.now number.now }
 {
     if number == "2" {
-        part_of(area, cell, ProfileNumber::Second)
+        cut_under(area, cell, ProfileNumber::Second)
     } else {
         None
     }
 }
 
-fn part_of(area: &str, cell: &str, number: ProfileNumber) -> Option<Command>
-    ensures { result ≡ part_of area.now cell.now number }
+fn cut_under(area: &str, cell: &str, profile: ProfileNumber) -> Option<ProfiledCell>
+    ensures { result ≡ cut_under area.now cell.now profile }
 {
     let cut = cut_cell_of(area, cell)?;
-    Some(Command::Map(MapCommand::Part(cut, number)))
+    Some(ProfiledCell { cut, profile })
 }
 
 fn cut_cell_of(area: &str, cell: &str) -> Option<CutCell>

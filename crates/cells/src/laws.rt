@@ -6,10 +6,13 @@ ghost use Rattle.graph_merge.specs.Merging.{IsMerged};
 ghost use Rattle.map_cells.specs.Cells.{AreRoads};
 ghost use Rattle.cell_plan.specs.declared.cells.PlanRule.{PlanRule as PlanRuleValue};
 ghost use Rattle.last_words.specs.declared.status.Status.TheVariants.{Done};
-ghost use Rattle.cells.specs.declared.command.Command.TheVariants.{Plan};
+ghost use Rattle.cells.specs.declared.command.CutCell.{CutCell};
+ghost use Rattle.cells.specs.declared.command.ProfileNumber.{ProfileNumber as ProfileNumberValue};
+ghost use Rattle.cells.specs.declared.command.MapCommand.TheVariants.{Cell};
+ghost use Rattle.cells.specs.declared.command.Command.TheVariants.{Plan, Map};
 ghost use Rattle.cells.specs.Commands.{number_of};
 ghost use Rattle.cells.specs.Outcomes.{Gives};
-ghost use Rattle.cells.specs.WholeGraph.{HasNodesOf, ArePlannedFor};
+ghost use Rattle.cells.specs.WholeGraph.{HasNodesOf, ArePlannedFor, HasPartAndRest};
 ghost use Rattle.cells.specs.WholeGraph.{CompiledCell, CompiledWays, IsCompiledInCells};
 ghost use Rattle.cells.specs.WholeGraph.{AreAllGraphs, IsWholeGraph};
 ghost use Rattle.cells.specs.Ranges.{all_bytes, MergedRange, AreMergedRanges, AreJoined, ArePutTogether};
@@ -33,6 +36,13 @@ pub fn planned_cells()
     applied_stands();
     empty_cells();
 }
+
+/// What `cell` puts has what `part` and `rest` put for the same text.
+pub fn part_and_rest()
+    ensures { (cut : CutCell) (profile : ProfileNumberValue) (text out : List ℕ)
+        → Gives (Some (Map (Cell cut profile))) text Done out
+        → HasPartAndRest cut profile text out }
+{}
 
 /// Graphs may be merged range by range of way numbers: `range` cuts each of them, and `merge` merges what is cut for a
 /// range. What comes of all ranges, joined, is the one merge of the graphs, however large they are together.

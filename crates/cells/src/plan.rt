@@ -23,7 +23,7 @@ struct PlaceCounter {
 }
 
 /// Where the body is, if it is a located node's.
-fn place_of(body: &Body) -> Option<Location>
+pub fn place_of(body: &Body) -> Option<Location>
     ensures { result ≡ place_of body.now }
 {
     match body {
@@ -77,7 +77,7 @@ pub fn plan_cells<S: Source>(
     ensures reads { CountsReads (S.faults source.old) (S.faults source.new) result }
 {
     let mut counter = PlaceCounter {
-        counts: PlaceCounts::new(alloc),
+        counts: PlaceCounts::new(alloc, rule.margin),
     };
     match stream_events(alloc, Mode::Extract, source, &mut counter) {
         Ok(()) => {

@@ -35,7 +35,13 @@ const TWO_GRAPHS: &[u8] = b"OSMROAD2\x01\0\0\0\0\0\0\0\0\0\0\0OSMROAD2\x01\0\0\0
 const TWO_PROFILES: &[u8] = b"OSMROAD2\x01\0\0\0\0\0\0\0\0\0\0\0OSMROAD2\x02\0\0\0\0\0\0\0\0\0\0\0";
 
 const USAGE: &[u8] =
-    b"usage: cells plan NODES [METRES]|part BOX CELL [2]|rest BOX CELL|ways PROFILE WAY..|range FROM TO|merge\n";
+    b"usage: cells plan NODES [METRES]|part BOX CELL [2]|rest BOX CELL|cell BOX CELL [2]|\
+ways PROFILE WAY..|range FROM TO|merge\n";
+
+/// What `cell` puts where the cell has no way, and where its only way fails.
+const NO_WAYS: &[u8] = b"OSMROAD2\x02\0\0\0\0\0\0\0\0\0\0\0\n0 0 0\n";
+
+const ONE_FAILS: &[u8] = b"OSMROAD2\x01\0\0\0\0\0\0\0\0\0\0\0\nw10 n3\n1 0 1\n";
 
 /// A run: its words, its input, and what is expected of it.
 #[derive(Clone, Copy)]
@@ -118,6 +124,8 @@ fn commands_end_as_expected(rt: HostRuntime) -> Result<(), Fail> {
         done(&["part", AREA, APART, "2"], CROSSING, NO_GRAPH_RAISED),
         done(&["rest", AREA, CELL], CROSSING, b""),
         done(&["rest", NEAR, CELL], CROSSING, b"w10 n3\n"),
+        done(&["cell", AREA, APART, "2"], CROSSING, NO_WAYS),
+        done(&["cell", NEAR, CELL], CROSSING, ONE_FAILS),
         done(&["ways", "2", "12", "13"], CROSSING, NO_GRAPH_RAISED),
         done(&["range", "0", "5"], NO_GRAPH, NO_GRAPH),
         done(&["merge"], TWO_GRAPHS, NO_GRAPH),
@@ -130,7 +138,7 @@ fn commands_end_as_expected(rt: HostRuntime) -> Result<(), Fail> {
 }
 
 /// Words that no command has.
-const WRONG_WORDS: [&[&str]; 12] = [
+const WRONG_WORDS: [&[&str]; 14] = [
     &[],
     &["plan"],
     &["plan", "-1"],
@@ -139,6 +147,8 @@ const WRONG_WORDS: [&[&str]; 12] = [
     &["part", AREA, CELL, "1"],
     &["part", AREA, "0,0,1800000001,0"],
     &["rest", AREA, "0,0,0,0,0"],
+    &["cell", AREA],
+    &["cell", AREA, CELL, "1"],
     &["ways", "1"],
     &["ways", "3", "1"],
     &["ways", "1", "5", "5"],

@@ -3,7 +3,7 @@ ghost use Rattle.std.specs.Prelude.{◌≡◌, ◌++◌, IfOk, string_bytes};
 ghost use Rattle.std.specs.List.{flat_map};
 ghost use Rattle.std.specs.Fmt.{signed_decimal};
 ghost use Rattle.cells.specs.Texts.{refused_graph_line, refused_way_line, area_text, cell_line, key_text};
-ghost use Rattle.cells.specs.Texts.{failing_line};
+ghost use Rattle.cells.specs.Texts.{failing_line, passing_line, counts_line, report_lines};
 ghost use Rattle.cells.specs.Outcomes.{fault_line};
 
 use cell_check::Failing;
@@ -104,5 +104,54 @@ pub fn rest_text(alloc: Global, failing: &[Failing]) -> Result<Vec<u8>, AllocErr
         let line = failing_text(alloc, one)?;
         out.extend_from_slice(line.as_bytes())?;
     }
+    Ok(out)
+}
+
+/// The line of a way that passes.
+fn passing_text(alloc: Global, way: WayId) -> Result<String, AllocError>
+    ensures { IfOk result (λ text. string_bytes text ≡ passing_line way) }
+{
+    let number = way.0;
+    format!(in alloc; "w{number}\n")
+}
+
+/// A line for each way that passes.
+fn passing_lines(alloc: Global, passing: &[WayId]) -> Result<Vec<u8>, AllocError>
+    ensures { IfOk result (λ out. out.items ≡ flat_map passing_line passing.now) }
+{
+    let mut out = Vec::new(alloc);
+    for way in passing {
+        let line = passing_text(alloc, *way)?;
+        out.extend_from_slice(line.as_bytes())?;
+    }
+    Ok(out)
+}
+
+/// The line of how many nodes lie in a cell, and how many of its own ways pass, and fail.
+fn counts_text(
+    alloc: Global,
+    nodes: usize,
+    passing: usize,
+    failing: usize,
+) -> Result<String, AllocError>
+    ensures { IfOk result (λ text. string_bytes text ≡ counts_line nodes passing failing) }
+{
+    format!(in alloc; "{nodes} {passing} {failing}\n")
+}
+
+/// A line for each own way that passes, one for each that fails, and at last how many there are.
+pub fn report_text(
+    alloc: Global,
+    nodes: usize,
+    passing: &[WayId],
+    failing: &[Failing],
+) -> Result<Vec<u8>, AllocError>
+    ensures { IfOk result (λ out. out.items ≡ report_lines nodes passing.now failing.now) }
+{
+    let mut out = passing_lines(alloc, passing)?;
+    let rest = rest_text(alloc, failing)?;
+    out.extend_from_slice(&rest)?;
+    let counts = counts_text(alloc, nodes, passing.len(), failing.len())?;
+    out.extend_from_slice(counts.as_bytes())?;
     Ok(out)
 }

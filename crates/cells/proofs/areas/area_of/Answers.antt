@@ -1,4 +1,4 @@
-use Rattle.std.proofs.Common.{◌∷◌, sym, ap, ◌∙◌}
+use Rattle.std.proofs.Common.{sym, ap, ◌∙◌}
 use Rattle.cells.specs.Commands.{area_of_parts}
 use Rattle.cells.proofs.areas.area_of.Goals as goal
 

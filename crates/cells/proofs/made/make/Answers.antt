@@ -1,4 +1,4 @@
-use Rattle.std.proofs.Common.{Ok, refl}
+use Rattle.std.proofs.Common.{refl}
 use Rattle.cells.proofs.Prepared.{no_memory, failed_reads, reads_calm}
 use Rattle.cells.proofs.TextReplies.{refused_text, input_reads, failed_text, read_text}
 use Rattle.cells.proofs.MadeBlocks.{builds_none, builds_whole}

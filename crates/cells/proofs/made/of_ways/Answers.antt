@@ -1,7 +1,5 @@
-use Rattle.std.proofs.Common.{◌≡◌, ◌≤◌, ◌+◌, ℕ, List, length, IsTrue, sym, subst, ◌∙◌}
+use Rattle.std.proofs.Common.{◌≤◌, ◌+◌, ℕ, List, length, subst, ◌∙◌}
 use Rattle.road_base.specs.declared.ids.WayId.{WayId}
-use Rattle.ordered_lists.specs.Orders.{rises}
-use Rattle.road_model.specs.Orders.{way_cmp}
 use Rattle.access_profile.specs.Profiles.{rules_of}
 use Rattle.compiled_graph.specs.Building.{HasBlocksAmong}
 use Rattle.cells.specs.Commands.{number_of}

@@ -1,14 +1,10 @@
 use Rattle.std.proofs.Common.{ℕ, subst, List}
 use Rattle.access_profile.specs.Profiles.{rules_of}
-use Rattle.ordered_lists.specs.Orders.{rises}
-use Rattle.road_model.specs.Orders.{way_cmp}
 use Rattle.road_base.specs.declared.ids.WayId.{WayId}
 use Rattle.compiled_graph.specs.Building.{HasBlocksAmong}
 use Rattle.cells.specs.Commands.{number_of}
-use Rattle.cells.specs.Made.{IsPart}
-use Rattle.cells.proofs.PartBlocks.{CellLaw, if_ok, names_rise, is_part, nothing_built, part_built}
-use Rattle.std.specs.Prelude.{IsTrue}
-use Rattle.std.proofs.Common.{sym, ◌≡◌, length, ◌≤◌, ◌+◌, ◌∙◌}
+use Rattle.cells.proofs.PartBlocks.{CellLaw, if_ok, is_part, nothing_built, part_built}
+use Rattle.std.proofs.Common.{length, ◌≤◌, ◌+◌, ◌∙◌}
 use Rattle.cells.proofs.made.part.Goals as goal
 
 pub returns-clause-made : goal.returns-clause-made

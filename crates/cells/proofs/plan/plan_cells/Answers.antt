@@ -1,6 +1,4 @@
-use Rattle.std.proofs.Common.{[], Ok, refl}
-use Rattle.bounded_input.specs.Streaming.{TakesMore}
-use Rattle.cells.specs.Planning.{CountsPlaces}
+use Rattle.std.proofs.Common.{[], refl}
 use Rattle.cells.proofs.Prepared.{no_memory, failed_reads, reads_calm}
 use Rattle.cells.proofs.PlanReplies.{refused_stream, stream_reads, failed_stream, read_stream}
 use Rattle.cells.proofs.plan.plan_cells.Goals as goal
@@ -38,7 +36,7 @@ returns-in_ok-out-in-Ok-clause-prepares g c =
     let whole = c.in-Ok.ensures.ok in
     read_stream c.args.rule (g.S.Source.bytes_left c.args.source.now)
     (g.S.Source.bytes_left c.stream_events.new.source) _ whole _ c.in_ok-out-in-Ok.out.items
-    (refl, refl) (c.in_ok-out-in-Ok.ensures whole.events (whole.taken [] c.new.ensures))
+    (refl, refl) (c.in_ok-out-in-Ok.ensures whole.events (whole.taken [] c.new.ensures.none))
 
 pub returns-in_ok-out-in-Ok-clause-reads : goal.returns-in_ok-out-in-Ok-clause-reads
 returns-in_ok-out-in-Ok-clause-reads g c =

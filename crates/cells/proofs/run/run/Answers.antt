@@ -1,4 +1,4 @@
-use Rattle.std.proofs.Common.{◌≡◌, map, Option, Some, None, refl, sym, subst, ◌∙◌}
+use Rattle.std.proofs.Common.{map, Option, refl, sym, subst, ◌∙◌}
 use Rattle.cells.specs.declared.command.Command.{Command}
 use Rattle.cells.specs.Commands.{asked}
 use Rattle.cells.specs.Texts.{usage_line}

@@ -1,7 +1,6 @@
-use Rattle.std.proofs.Common.{◌≡◌, List, ℕ, Option, Some, inl, inr, sym, ap, ◌∙◌, subst}
-use Rattle.road_io.specs.Told.{Told, Rose}
+use Rattle.std.proofs.Common.{List, ℕ, Some, inl, inr, sym, ◌∙◌, subst}
 use Rattle.last_words.specs.declared.status.Status.{Status}
-use Rattle.last_words.specs.Puts.{EndsPut, PutsSome}
+use Rattle.last_words.specs.Puts.{EndsPut}
 use Rattle.cells.specs.Run.{Ends, MayEnd}
 use Rattle.cells.proofs.RunEnds.{ends_prepared, put_may_end, put_untouched, still_untouched, ends_failed, failed_may_end}
 use Rattle.cells.proofs.CompleteRuns.{done}
