@@ -33,9 +33,7 @@ look() {
 # RUN: how many places all cuts have, for each place of the roads
 growth() {
     local file
-    for file in "$1"/cut/*/*.osm.pbf; do
-        osmium cat --no-progress -f opl,add_metadata=false -t node "$file"
-    done | awk -v all="$(wc -l <"$room/nodes.opl")" 'END { print NR / all }'
+    cat "$1"/cut/*/*.opl | grep -c '^n' | awk -v all="$(wc -l <"$room/nodes.opl")" '{ print $1 / all }'
 }
 
 for map in "$@"; do
@@ -54,7 +52,7 @@ for map in "$@"; do
         look "$room/run" 1
         rm -rf "$room/run"
         snakemake -s "$tools/Snakefile" -j "${JOBS:-4}" --resources mem_mb=16000 --directory "$room/run" --quiet all \
-            --config input="$room/map.osm.pbf" nodes="$places" metres="$metres" memory=6000 ways=500 bytes="$bytes" \
+            --notemp --config input="$room/map.osm.pbf" nodes="$places" metres="$metres" memory=6000 ways=500 bytes="$bytes" \
             profile=2 cells="$cells" 2>"$room/said" || { cat "$room/said"; exit 1; }
         look "$room/run" 2
     done

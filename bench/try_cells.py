@@ -6,8 +6,8 @@ graph of the whole map.
 
 The same is asked of weaker checks: over fewer links, or with one of the three rules left out. Each must let through a
 way near which something differs, or it would be the better check. With a PROGRAM, and OSMROAD, each map is compiled by
-them too: `part` and `rest` must say what the check of bench/cell_model.py says, and the blocks must be the whole map's;
-and it is counted how many wrong blocks each weaker check would let through.
+them too: `part`, `rest` and `cell` must say what the check of bench/cell_model.py says, and the blocks must be the
+whole map's; and it is counted how many wrong blocks each weaker check would let through.
 
 Use: try_cells.py MAPS [FIRST [PROGRAM OSMROAD]]: so many maps, of the seeds from FIRST on. Its status is 1 where a way
 passes that must not, or a program says otherwise; and where a weaker check wasn't refuted, which wants some thousands
@@ -139,12 +139,16 @@ class Trial:
         self.programs, self.counts = programs, collections.Counter()
 
     def ask_programs(self, cut, area, cell, passing, failing, true_blocks):
-        """What `part` and `rest` say, and the blocks of the whole cut."""
+        """What `part`, `rest` and `cell` say, and the blocks of the whole cut."""
         program, osmroad = self.programs
         words = [spelled(area), spelled(cell)]
         part = run([program, 'part', *words], cut.text())
         rest = run([program, 'rest', *words], cut.text()).decode().split('\n')[:-1]
         must([line.split(' ')[0] for line in rest] == [f'w{way}' for way in sorted(failing)], f'rest is {rest}')
+        places = sum(cell_model.is_in(cell, place) for place in cut.nodes.values())
+        lines = [*(f'w{way}' for way in sorted(passing)), *rest, f'{places} {len(passing)} {len(failing)}']
+        both = run([program, 'cell', *words], cut.text())
+        must(both == part + '\n'.join(['', *lines, '']).encode(), f'cell is {both[len(part):]}')
         found = blocks(part)
         must(found == {way: true_blocks[way] for way in passing if way in true_blocks}, 'a part has other blocks')
         self.counts['blocks compared'] += len(found)

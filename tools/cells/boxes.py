@@ -52,10 +52,10 @@ def degrees(units):
     return float('{}{}.{:07}'.format('-' if units < 0 else '', *divmod(abs(units), 10**7)))
 
 
-def put(boxes):
-    """The configuration with these boxes by their numbers."""
-    extracts = [{'output': f'{number}.osm.pbf', 'bbox': {name: degrees(box[at]) for name, at, _ in EDGES}}
-                for number, box in boxes]
+def put(boxes, suffix, form):
+    """The configuration with these boxes by their numbers, for files of this form."""
+    extracts = [{'output': f'{number}.{suffix}', 'output_format': form,
+                 'bbox': {name: degrees(box[at]) for name, at, _ in EDGES}} for number, box in boxes]
     json.dump({'extracts': extracts}, sys.stdout, indent=0)
 
 
@@ -67,12 +67,13 @@ def numbered(items, number, size):
 def regions(number, size, path):
     boxes = boxes_of(path)
     batches = [boxes[at:at + size] for at in range(0, len(boxes), size)]
-    put((batch, [choose(box[at] for box in parts) for _, at, choose in EDGES])
-        for batch, parts in numbered(batches, number, size))
+    around = ((batch, [choose(box[at] for box in parts) for _, at, choose in EDGES])
+              for batch, parts in numbered(batches, number, size))
+    put(around, 'osm.pbf', 'pbf,pbf_compression=lz4,add_metadata=false')
 
 
 def cells(number, size, path):
-    put(numbered(boxes_of(path), number, size))
+    put(numbered(boxes_of(path), number, size), 'opl', 'opl,add_metadata=false')
 
 
 def main(command='', *words):
