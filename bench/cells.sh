@@ -52,8 +52,8 @@ for map in "$@"; do
         look "$room/run" 1
         rm -rf "$room/run"
         snakemake -s "$tools/Snakefile" -j "${JOBS:-4}" --resources mem_mb=16000 --directory "$room/run" --quiet all \
-            --notemp --config input="$room/map.osm.pbf" nodes="$places" metres="$metres" memory=6000 ways=500 bytes="$bytes" \
-            profile=2 cells="$cells" 2>"$room/said" || { cat "$room/said"; exit 1; }
+            --notemp --config input="$room/map.osm.pbf" nodes="$places" metres="$metres" memory=6000 ways=500 \
+            bytes="$bytes" profile=2 cells="$cells" 2>"$room/said" || { cat "$room/said"; exit 1; }
         look "$room/run" 2
     done
 done

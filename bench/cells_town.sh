@@ -69,7 +69,7 @@ step lists 2000
 lists=$(ls "$run/lists" | wc -l)
 [ "$lists" -eq 0 ] || step near
 for list in $(seq "$lists"); do step rest "$list" 1; done
-step bounds "${BYTES:-800000000}"
+step bounds "${BYTES:-600000000}"
 for part in $(seq "$found") $(seq -f 'rest-%.0f' "$lists"); do step split "$part"; done
 for range in $(seq "$(wc -l <"$run/bounds.txt")"); do step merge "$range"; done
 step ledger

@@ -5,7 +5,7 @@
 #   parallel.sh INPUT RUN      INPUT is a file that osmium reads, RUN the folder of the run, which may be there already
 #
 # What it may be told, by variables: JOBS at once (4), PROFILE (1), NODES (4000000), METRES (3000), MEMORY (15000), WAYS
-# (2000), BYTES (800000000), as in the Snakefile; CELLS and CACHE, as in `step`; and OPTIONS of parallel, as
+# (2000), BYTES (600000000), as in the Snakefile; CELLS and CACHE, as in `step`; and OPTIONS of parallel, as
 # `--sshlogin a,b,c`, where RUN and this folder have the same path on all hosts, and RUN is shared by them.
 # Run again with the same words it goes on where it stopped: a step whose file is there isn't made again.
 set -euo pipefail
@@ -42,7 +42,7 @@ once lists lists "${WAYS:-2000}"
 lists=$(ls lists | wc -l)
 [ "$lists" -eq 0 ] || once near.osm.pbf near
 seq "$lists" | each "${JOBS:-4}" part/rest- .graph rest {} "$profile"
-once bounds.txt bounds "${BYTES:-800000000}"
+once bounds.txt bounds "${BYTES:-600000000}"
 { seq "$number"; seq -f 'rest-%.0f' "$lists"; } | each "${JOBS:-4}" split/ '' split {}
 seq "$(wc -l <bounds.txt)" | each "${JOBS:-4}" merged/ .graph merge {}
 once ledger.txt ledger
