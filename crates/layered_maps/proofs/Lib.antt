@@ -5,6 +5,8 @@ mod LayerPairs
 mod MarkedPairs
 pub mod FoundPairs
 mod FloorPairs
+mod FoundPlaces
+mod JoinedLists
 pub mod OverPairs
 mod WalkedPairs
 mod WalkSteps
@@ -16,3 +18,5 @@ pub mod FirstLists
 mod KeyedLists
 mod SortedPairs
 pub mod HeldLists
+pub mod UnseenPairs
+mod LastValues

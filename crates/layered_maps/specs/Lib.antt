@@ -5,3 +5,4 @@ pub mod Walks
 pub mod Sinking
 pub mod Exchanges
 pub mod Lists
+pub mod PartLists

@@ -9,35 +9,28 @@ use crate::change::Change;
 use crate::change_lists::{entries_of, mark_keys};
 use crate::entry_run::EntryRun;
 use crate::floor::Floor;
+use crate::items::Items;
 use crate::layers::Layers;
 use crate::prepared::Prepared;
-use crate::sinking::{Sinking, is_own, sink, split, split_all};
+use crate::sinking::{Sinking, own_places, sink, split};
 use crate::view::View;
 use ordered_lists::{Keyed, Kinded, Slotted};
 use std::alloc::{AllocError, Global};
 use std::marker::Model;
 use std::rc::Rc;
 
-/// All layers are gone through where entries have come late, and since then such a share of as many as there are.
-const SHARE: usize = 2;
-
 /// Values, each at its key. Contracts see the pairs of keys and values, ascending.
 ///
-/// A list of values, the floor, never changes while it is shared; what changes lies over it, in at most eight layers.
-/// Maps that are made of one another share the floor, and the layers that weren't merged. Where nobody shares the floor
-/// any more, values that are put at keys that stand in it come into it, in the places of those that stood there; and
-/// those that were put while it was shared do so once as many changes have come as half of the entries in the layers.
+/// The floor is a list of values; what changes comes into it, where it has the key, and lies over it else, in at most
+/// eight layers. Maps that are made of one another share the parts of the floor that are the same, and the layers that
+/// weren't merged.
 #[derive(Drop)]
 pub struct LayeredMap<K: Ord + Copy + Slotted + Kinded, V: Keyed<K>> {
     alloc: Global,
     floor: Option<Rc<Floor<K, V>>>,
     layers: Layers<K, Option<V>>,
-    /// What `commit` makes of the floor and of the layers where nobody else shares the floor. None where that is what
-    /// they are.
+    /// What `commit` makes of the floor and of the layers. None where that is what they are.
     sinking: Option<Sinking<K, V>>,
-    /// How many entries have come since one came while the floor was shared, that one with them; zero where none came
-    /// since all layers were gone through.
-    late: usize,
 }
 
 impl<K: Ord + Copy + Slotted + Kinded, V: Keyed<K>> Model for LayeredMap<K, V> {
@@ -65,24 +58,23 @@ impl<K: Ord + Copy + Slotted + Kinded, V: Keyed<K>> LayeredMap<K, V> {
             floor: None,
             layers: Layers::new(alloc),
             sinking: None,
-            late: 0,
         }
     }
 
-    /// These values, whose keys rise. They are moved, not copied. Takes about two bytes a value, and the time of a run
-    /// over them.
+    /// These values, whose keys rise. They are moved, not copied. Takes seven bytes a value in a list of more than
+    /// 1,048,576, 20 in another, and the time of a run over them.
     pub fn of(list: Vec<V>) -> Result<LayeredMap<K, V>, AllocError>
         requires { IsTrue (rises K.cmp (map V.key list.items)) }
         ensures { IfOk result (λ m. m ≡ map (keyed V.key) list.items) }
     {
         let alloc = *list.allocator();
-        let floor = Rc::new(alloc, Floor::of(alloc, list))?;
+        let floor = Floor::of(alloc, list)?;
+        let floor = Rc::new(alloc, floor)?;
         Ok(LayeredMap {
             alloc,
             floor: Some(floor),
             layers: Layers::new(alloc),
             sinking: None,
-            late: 0,
         })
     }
 
@@ -91,8 +83,8 @@ impl<K: Ord + Copy + Slotted + Kinded, V: Keyed<K>> LayeredMap<K, V> {
         ensures { result ≡ self.now }
     {
         match &self.floor {
-            None => View::over(&[], None, &self.layers),
-            Some(floor) => View::over(floor.list(), Some(floor.ranges()), &self.layers),
+            None => View::over(Items::of_slice(&[]), None, &self.layers),
+            Some(floor) => View::over(floor.items(), Some(floor.places()), &self.layers),
         }
     }
 
@@ -118,15 +110,14 @@ impl<K: Ord + Copy + Slotted + Kinded, V: Keyed<K>> LayeredMap<K, V> {
             floor,
             layers,
             sinking: None,
-            late: self.late,
         })
     }
 
     /// Finds what the changes leave, whose keys rise. The map stays as it is, but that the keys are marked in its
-    /// filter. Takes two look-ups for each change; those that stand are put into a layer of less than 64 entries, which
-    /// is copied, and merged with the one behind it as that grows, so that each is copied with eight others at most
-    /// once for each layer. Where changes came while the floor was shared, all layers are gone through once as many came
-    /// since as half of their entries.
+    /// filter, and that it takes copies of those parts of its floor that others share and in which values of these keys
+    /// stand. Takes three look-ups for each change. The changes of other keys are put into a layer of less than 64
+    /// entries, which is copied, and merged with the one behind it as that grows, so that each is copied with eight
+    /// others at most once for each layer.
     pub fn prepare(&mut self, changes: Vec<Change<K, V>>) -> Result<Prepared<K, V>, AllocError>
         requires exact { IsAntisymmetric K.cmp }
         requires rising { Rise K.cmp (map (change_pair V.key) changes.items) }
@@ -136,8 +127,8 @@ impl<K: Ord + Copy + Slotted + Kinded, V: Keyed<K>> LayeredMap<K, V> {
     {
         mark_keys(self.alloc, changes.as_slice(), &mut self.layers)?;
         let run = EntryRun::of(entries_of(self.alloc, changes)?);
-        let after = self.with(run)?;
-        Ok(Prepared::new(self.share()?, after))
+        let prepared = self.prepared(run)?;
+        Ok(prepared)
     }
 
     /// The same of changes in two lists, in each of which the keys rise: those of the second one come behind those of
@@ -159,8 +150,9 @@ impl<K: Ord + Copy + Slotted + Kinded, V: Keyed<K>> LayeredMap<K, V> {
         mark_keys(self.alloc, second.as_slice(), &mut self.layers)?;
         let first = EntryRun::of(entries_of(self.alloc, first)?);
         let second = EntryRun::of(entries_of(self.alloc, second)?);
-        let after = self.with(second.merged(self.alloc, &first)?)?;
-        Ok(Prepared::new(self.share()?, after))
+        let run = second.merged(self.alloc, &first)?;
+        let prepared = self.prepared(run)?;
+        Ok(prepared)
     }
 
     /// Leaves what was prepared, whatever this map was before. Takes a look-up for each value that comes into the
@@ -173,28 +165,33 @@ impl<K: Ord + Copy + Slotted + Kinded, V: Keyed<K>> LayeredMap<K, V> {
         *self = prepared.into_after().sunk();
     }
 
+    /// What these entries leave. The map stays the same.
+    fn prepared(&mut self, run: EntryRun<K, Option<V>>) -> Result<Prepared<K, V>, AllocError>
+        requires exact { IsAntisymmetric K.cmp }
+        requires keyed { AreKeyed V.key K.cmp run }
+        ensures same { self.new ≡ self.old }
+        ensures before { IfOk result (λ p. p.before ≡ self.old) }
+        ensures after { IfOk result (λ p. p.after ≡ over K.cmp run self.old) }
+    {
+        self.own(&run)?;
+        let after = self.with(run)?;
+        Ok(Prepared::new(self.share()?, after))
+    }
+
+    /// The same map, in which nobody else shares what values of this run change in the floor.
+    fn own(&mut self, run: &EntryRun<K, Option<V>>) -> Result<(), AllocError>
+        requires { IsAntisymmetric K.cmp }
+        ensures { self.new ≡ self.old }
+    {
+        own_places(self.alloc, run, &mut self.floor)
+    }
+
     /// What these entries leave, beside this map.
     fn with(&self, run: EntryRun<K, Option<V>>) -> Result<LayeredMap<K, V>, AllocError>
         requires exact { IsAntisymmetric K.cmp }
         requires keyed { AreKeyed V.key K.cmp run }
         ensures { IfOk result (λ m. m ≡ over K.cmp run self.now) }
     {
-        let is_own = is_own(&self.floor);
-        let next = self.layered(run)?;
-        if is_own && next.is_due() {
-            next.split_anew()
-        } else {
-            Ok(next)
-        }
-    }
-
-    /// What these entries leave over the layers, beside this map.
-    fn layered(&self, run: EntryRun<K, Option<V>>) -> Result<LayeredMap<K, V>, AllocError>
-        requires exact { IsAntisymmetric K.cmp }
-        requires keyed { AreKeyed V.key K.cmp run }
-        ensures { IfOk result (λ m. m ≡ over K.cmp run self.now) }
-    {
-        let late = self.late_with(run.len());
         let sinking = split(self.alloc, &run, &self.layers, &self.floor)?;
         let floor = shared_floor(&self.floor)?;
         let layers = self.layers.with(self.alloc, run)?;
@@ -203,46 +200,10 @@ impl<K: Ord + Copy + Slotted + Kinded, V: Keyed<K>> LayeredMap<K, V> {
             floor,
             layers,
             sinking,
-            late,
         })
     }
 
-    /// How many entries have come since one came late, where so many more come now.
-    fn late_with(&self, more: usize) -> usize {
-        if self.late == 0 && is_own(&self.floor) {
-            0
-        } else {
-            self.late.saturating_add(more)
-        }
-    }
-
-    /// Whether all layers are to be gone through.
-    fn is_due(&self) -> bool {
-        self.late > 0 && self.late >= self.layers.len() / SHARE
-    }
-
-    /// The same map, of which entries of all layers come into the floor where nobody else shares that.
-    fn split_anew(self) -> Result<LayeredMap<K, V>, AllocError>
-        requires { IsAntisymmetric K.cmp }
-        ensures { IfOk result (λ m. m ≡ self) }
-    {
-        let LayeredMap {
-            alloc,
-            floor,
-            layers,
-            ..
-        } = self;
-        let sinking = split_all(alloc, &layers, &floor)?;
-        Ok(LayeredMap {
-            alloc,
-            floor,
-            layers,
-            sinking,
-            late: 0,
-        })
-    }
-
-    /// The same map. Where nobody else shares the floor, what was prepared comes into it.
+    /// The same map. What was prepared comes into the floor, where nobody else shares what changes in it.
     fn sunk(self) -> LayeredMap<K, V>
         requires { IsAntisymmetric K.cmp }
         ensures { result ≡ self }
@@ -252,15 +213,13 @@ impl<K: Ord + Copy + Slotted + Kinded, V: Keyed<K>> LayeredMap<K, V> {
             floor,
             layers,
             sinking,
-            late,
         } = self;
-        let (floor, layers, stays) = sink(floor, layers, sinking);
+        let (floor, layers) = sink(floor, layers, sinking);
         LayeredMap {
             alloc,
             floor,
             layers,
             sinking: None,
-            late: if stays { late.max(1) } else { late },
         }
     }
 }

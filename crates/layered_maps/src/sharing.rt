@@ -39,7 +39,7 @@ pub fn stacked<R: Drop>(alloc: Global, first: R, runs: &[Rc<R>]) -> Result<Vec<R
 }
 
 /// Adds these runs, shared.
-fn add_shared<R: Drop>(runs: &[Rc<R>], list: &mut Vec<Rc<R>>) -> Result<(), AllocError>
+pub fn add_shared<R: Drop>(runs: &[Rc<R>], list: &mut Vec<Rc<R>>) -> Result<(), AllocError>
     ensures { OnOk result (values_of list.new.items ≡ values_of list.old.items ++ values_of runs.now) }
 {
     for run in runs {

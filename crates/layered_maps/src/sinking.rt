@@ -1,5 +1,5 @@
-//! What comes into a map's floor, where nobody else shares that.
-ghost use Rattle.std.specs.Prelude.{◌≡◌, Some, IfOk, if◌then◌else◌, filter, is_some, map};
+//! What comes into a map's floor.
+ghost use Rattle.std.specs.Prelude.{◌≡◌, Some, IfOk, drop, filter, is_some, map};
 ghost use Rattle.std.specs.FinMap.{IsAntisymmetric};
 ghost use Rattle.std.specs.Option.{option_to_list};
 ghost use Rattle.layered_maps.specs.Layers.{pair, put_all, Rise};
@@ -21,9 +21,65 @@ pub struct Sinking<K: Ord + Copy + Slotted + Kinded, V: Keyed<K>> {
     pub values: Vec<V>,
 }
 
+/// Sees to it that nobody else shares what values of this run change in the floor: its list of branches, the branches
+/// of their leaves, and the leaves. What others share is copied. The floor stays the same. Takes a look-up for each
+/// value, and where a value comes to what others share copies of its leaf's values, or some reference counts.
+pub fn own_places<K: Ord + Copy + Slotted + Kinded, V: Keyed<K>>(
+    alloc: Global,
+    run: &EntryRun<K, Option<V>>,
+    floor: &mut Option<Rc<Floor<K, V>>>,
+) -> Result<(), AllocError>
+    requires { IsAntisymmetric K.cmp }
+    ensures { floor_pairs floor.new ≡ floor_pairs floor.old }
+{
+    match floor {
+        Some(floor) => own_all(alloc, run.entries(), floor),
+        None => Ok(()),
+    }
+}
+
+/// The same of entries and a floor.
+fn own_all<K: Ord + Copy + Slotted + Kinded, V: Keyed<K>>(
+    alloc: Global,
+    entries: &[Entry<K, Option<V>>],
+    floor: &mut Rc<Floor<K, V>>,
+) -> Result<(), AllocError>
+    requires { IsAntisymmetric K.cmp }
+    ensures { floor.new.value ≡ floor.old.value }
+{
+    for entry in entries {
+        let value: &Option<V> = &entry.value;
+        if value.is_some() {
+            own_place(alloc, entry.key, floor)?;
+        }
+    }
+    Ok(())
+}
+
+/// The same of a key.
+fn own_place<K: Ord + Copy + Slotted + Kinded, V: Keyed<K>>(
+    alloc: Global,
+    key: K,
+    floor: &mut Rc<Floor<K, V>>,
+) -> Result<(), AllocError>
+    requires { IsAntisymmetric K.cmp }
+    ensures { floor.new.value ≡ floor.old.value }
+{
+    if Rc::strong_count(floor) > 1 {
+        if floor.get(key).is_none() {
+            return Ok(());
+        }
+        *floor = Rc::new(alloc, floor.share()?)?;
+    }
+    match Rc::get_mut(floor) {
+        Some(own) => own.own(key),
+        None => Ok(()),
+    }
+}
+
 /// What is told of a run that comes over these layers: the values of keys that stand in the floor, and in no layer,
-/// come into the floor, and all others stay over it. None where no value comes into it, or where somebody else shares
-/// it. Takes two look-ups for each entry, and a copy of each value that comes into the floor.
+/// come into the floor, and all others stay over it. None where no value comes into it. Takes two look-ups for each
+/// entry, and a copy of each value that comes into the floor.
 pub fn split<K: Ord + Copy + Slotted + Kinded, V: Keyed<K>>(
     alloc: Global,
     run: &EntryRun<K, Option<V>>,
@@ -36,36 +92,13 @@ pub fn split<K: Ord + Copy + Slotted + Kinded, V: Keyed<K>>(
     requires floor { Rise K.cmp (floor_pairs floor.now) }
     ensures { IfOk result (λ s. IsSinking V.key K.cmp s (put_all K.cmp run.now layers.now) (floor_pairs floor.now)) }
 {
-    let Some(floor) = floor else {
-        return Ok(None);
-    };
-    if Rc::strong_count(floor) > 1 {
-        return Ok(None);
+    match floor {
+        Some(floor) => split_over(alloc, run, layers, floor),
+        None => Ok(None),
     }
-    split_over(alloc, run, layers, floor)
 }
 
-/// The same of all entries of these layers, whoever shares the floor: what stays over it then are entries whose keys
-/// don't stand in it, and keys that have no value. Takes the time of a merge of all layers, a look-up for each entry,
-/// and a copy of each value that comes into the floor.
-pub fn split_all<K: Ord + Copy + Slotted + Kinded, V: Keyed<K>>(
-    alloc: Global,
-    layers: &Layers<K, Option<V>>,
-    floor: &Option<Rc<Floor<K, V>>>,
-) -> Result<Option<Sinking<K, V>>, AllocError>
-    requires exact { IsAntisymmetric K.cmp }
-    requires layers { AreKeyed V.key K.cmp layers.now }
-    requires floor { Rise K.cmp (floor_pairs floor.now) }
-    ensures { IfOk result (λ s. IsSinking V.key K.cmp s layers.now (floor_pairs floor.now)) }
-{
-    let Some(floor) = floor else {
-        return Ok(None);
-    };
-    let all = layers.merged(alloc)?;
-    split_over(alloc, &all, &Layers::new(alloc), floor)
-}
-
-/// What is told of a run that comes over these layers and this floor.
+/// The same of a floor.
 fn split_over<K: Ord + Copy + Slotted + Kinded, V: Keyed<K>>(
     alloc: Global,
     run: &EntryRun<K, Option<V>>,
@@ -84,16 +117,6 @@ fn split_over<K: Ord + Copy + Slotted + Kinded, V: Keyed<K>>(
     }
     let layers = layers.with(alloc, EntryRun::of(rest))?;
     Ok(Some(Sinking { layers, values }))
-}
-
-/// Whether there is a floor, and nobody else shares it.
-pub fn is_own<K: Ord + Copy + Slotted + Kinded, V: Keyed<K>>(
-    floor: &Option<Rc<Floor<K, V>>>,
-) -> bool {
-    let Some(floor) = floor else {
-        return false;
-    };
-    Rc::strong_count(floor) == 1
 }
 
 /// The entries that stay over the floor, with their values shared, and copies of the values that come into it.
@@ -140,13 +163,13 @@ fn sunk_value<K: Ord + Copy + Slotted + Kinded, V: Keyed<K>>(
     Ok(Some(value.duplicate()?))
 }
 
-/// The floor and what lies over it: what they come to, where nobody else shares the floor, and else as they are; and
-/// whether values stay over the floor for that. Takes no memory.
+/// The floor and what lies over it: what they come to, where nobody else shares what changes in the floor, and else
+/// these layers, over a floor in which some of the values may stand too. Takes no memory.
 pub fn sink<K: Ord + Copy + Slotted + Kinded, V: Keyed<K>>(
     floor: Option<Rc<Floor<K, V>>>,
     layers: Layers<K, Option<V>>,
     sinking: Option<Sinking<K, V>>,
-) -> (Option<Rc<Floor<K, V>>>, Layers<K, Option<V>>, bool)
+) -> (Option<Rc<Floor<K, V>>>, Layers<K, Option<V>>)
     requires exact { IsAntisymmetric K.cmp }
     requires keyed { AreKeyed V.key K.cmp layers }
     requires floor { Rise K.cmp (floor_pairs floor) }
@@ -156,16 +179,17 @@ pub fn sink<K: Ord + Copy + Slotted + Kinded, V: Keyed<K>>(
     ensures same { over K.cmp result.1 (floor_pairs result.0) ≡ over K.cmp layers (floor_pairs floor) }
 {
     match (floor, sinking) {
-        (Some(floor), Some(sinking)) => sink_own(floor, layers, sinking),
-        (floor, _) => (floor, layers, false),
+        (Some(floor), Some(sinking)) => sink_into(floor, layers, sinking),
+        (floor, _) => (floor, layers),
     }
 }
 
-fn sink_own<K: Ord + Copy + Slotted + Kinded, V: Keyed<K>>(
+/// The same of a floor, and values that come into it.
+fn sink_into<K: Ord + Copy + Slotted + Kinded, V: Keyed<K>>(
     floor: Rc<Floor<K, V>>,
     layers: Layers<K, Option<V>>,
     sinking: Sinking<K, V>,
-) -> (Option<Rc<Floor<K, V>>>, Layers<K, Option<V>>, bool)
+) -> (Option<Rc<Floor<K, V>>>, Layers<K, Option<V>>)
     requires exact { IsAntisymmetric K.cmp }
     requires keyed { AreKeyed V.key K.cmp layers }
     requires floor { Rise K.cmp floor.value }
@@ -174,31 +198,27 @@ fn sink_own<K: Ord + Copy + Slotted + Kinded, V: Keyed<K>>(
     ensures rising { Rise K.cmp (floor_pairs result.0) }
     ensures same { over K.cmp result.1 (floor_pairs result.0) ≡ over K.cmp layers floor.value }
 {
-    let (floor, is_own) = replace_all(floor, sinking.values);
-    if is_own {
-        (Some(floor), sinking.layers, false)
+    let (floor, left) = replace_all(floor, sinking.values);
+    if left == 0 {
+        (Some(floor), sinking.layers)
     } else {
-        (Some(floor), layers, true)
+        (Some(floor), layers)
     }
 }
 
-/// The floor with these values in the place of its own, where nobody else shares it, and else as it is; and which of
-/// both.
+/// The floor with these values in the place of its own, the last of them first, until one comes to what somebody else
+/// shares; and how many are left then.
 fn replace_all<K: Ord + Copy + Slotted + Kinded, V: Keyed<K>>(
     floor: Rc<Floor<K, V>>,
     values: Vec<V>,
-) -> (Rc<Floor<K, V>>, bool)
+) -> (Rc<Floor<K, V>>, usize)
     requires { IsAntisymmetric K.cmp }
-    ensures { result.0.value
-        ≡ (if result.1 then replaced_by V.key K.cmp values.items floor.value else floor.value) }
+    ensures { result.0.value ≡ replaced_by V.key K.cmp (drop result.1 values.items) floor.value }
 {
     let mut floor = floor;
-    let is_own = match Rc::get_mut(&mut floor) {
-        Some(own) => {
-            own.replace_all(values);
-            true
-        }
-        None => false,
+    let left = match Rc::get_mut(&mut floor) {
+        Some(own) => own.replace_all(values),
+        None => values.len(),
     };
-    (floor, is_own)
+    (floor, left)
 }

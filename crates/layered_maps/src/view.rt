@@ -5,18 +5,20 @@ ghost use Rattle.ordered_lists.specs.Orders.{rises};
 ghost use Rattle.layered_maps.specs.Maps.{AreKeyed, from_key, keyed, layer_pairs, over};
 
 use crate::changes::Changes;
-use crate::keyed_search::{value_near, values_from};
+use crate::items::Items;
+use crate::keyed_search::{all_values, value_between, values_from};
 use crate::layers::Layers;
+use crate::places::KeyPlaces;
 use crate::walk::Walk;
-use ordered_lists::{Keyed, KindRanges, Kinded, Slotted};
+use ordered_lists::{Keyed, Kinded, Slotted};
 use std::marker::Model;
 
 /// A map, lent: the list of its floor, and what lies over that. Contracts see the pairs of keys and values, ascending.
 /// Where the keys of the list may stand is no part of what the map is.
 #[derive(Drop)]
 pub struct View<'a, K: Ord + Copy + Slotted + Kinded, V: Keyed<K>> {
-    list: &'a [V],
-    ranges: Option<&'a KindRanges>,
+    items: Items<'a, V>,
+    places: Option<&'a KeyPlaces>,
     layers: Option<&'a Layers<K, Option<V>>>,
 }
 
@@ -27,9 +29,9 @@ impl<'a, K: Ord + Copy + Slotted + Kinded, V: Keyed<K>> Model for View<'a, K, V>
 
     ghost Value = { List (K × V) };
 
-    ghost view = { λ v. over K.cmp (layer_pairs (option_copied v.layers)) (map (keyed V.key) v.list.now) };
+    ghost view = { λ v. over K.cmp (layer_pairs (option_copied v.layers)) (map (keyed V.key) v.items) };
 
-    ghost invariant = { λ v. IsTrue (rises K.cmp (map V.key v.list.now))
+    ghost invariant = { λ v. IsTrue (rises K.cmp (map V.key v.items))
         × AreKeyed V.key K.cmp (layer_pairs (option_copied v.layers)) };
 }
 
@@ -40,25 +42,25 @@ impl<'a, K: Ord + Copy + Slotted + Kinded, V: Keyed<K>> View<'a, K, V> {
         ensures { result ≡ map (keyed V.key) list.now }
     {
         View {
-            list,
-            ranges: None,
+            items: Items::of_slice(list),
+            places: None,
             layers: None,
         }
     }
 
     /// These layers over a list in which the keys rise, with where they may stand in it.
     pub(crate) fn over(
-        list: &'a [V],
-        ranges: Option<&'a KindRanges>,
+        items: Items<'a, V>,
+        places: Option<&'a KeyPlaces>,
         layers: &'a Layers<K, Option<V>>,
     ) -> View<'a, K, V>
-        requires ascending { IsTrue (rises K.cmp (map V.key list.now)) }
+        requires ascending { IsTrue (rises K.cmp (map V.key items)) }
         requires keyed { AreKeyed V.key K.cmp layers.now }
-        ensures { result ≡ over K.cmp layers.now (map (keyed V.key) list.now) }
+        ensures { result ≡ over K.cmp layers.now (map (keyed V.key) items.entry) }
     {
         View {
-            list,
-            ranges,
+            items,
+            places,
             layers: Some(layers),
         }
     }
@@ -71,13 +73,18 @@ impl<'a, K: Ord + Copy + Slotted + Kinded, V: Keyed<K>> View<'a, K, V> {
     {
         match changed_in(self.layers, key) {
             Some(change) => standing(change),
-            None => value_near(self.list, key, place_in(self.ranges, self.list, key)),
+            None => value_between(
+                &self.items,
+                key,
+                Slotted::number(&key),
+                part_of(self.places, key),
+            ),
         }
     }
 
     /// How many values there are, nearly: those of the floor. Nothing is promised.
     pub fn room(&self) -> usize {
-        self.list.len()
+        self.items.len()
     }
 
     /// All values, ascending by key. Takes no memory.
@@ -86,7 +93,7 @@ impl<'a, K: Ord + Copy + Slotted + Kinded, V: Keyed<K>> View<'a, K, V> {
         ensures pairs { map (keyed V.key) result ≡ self.now }
         ensures rising { IsTrue (rises K.cmp (map V.key result)) }
     {
-        Walk::new(changes_of(self.layers), self.list)
+        Walk::new(changes_of(self.layers), all_values::<K, V>(&self.items))
     }
 
     /// The values of keys that aren't below this one, ascending by key. Takes the time of a search in the floor and in
@@ -95,7 +102,10 @@ impl<'a, K: Ord + Copy + Slotted + Kinded, V: Keyed<K>> View<'a, K, V> {
         requires { IsAntisymmetric K.cmp }
         ensures { map (keyed V.key) result ≡ from_key K.cmp key self.now }
     {
-        Walk::new(changes_from(self.layers, key), values_from(self.list, key))
+        Walk::new(
+            changes_from(self.layers, key),
+            values_from(&self.items, key),
+        )
     }
 }
 
@@ -148,14 +158,10 @@ fn standing<V>(change: &Option<V>) -> Option<&V>
     }
 }
 
-/// Where the key's value may stand in the list.
-fn place_in<K: Ord + Copy + Slotted + Kinded, V: Keyed<K>>(
-    ranges: Option<&KindRanges>,
-    list: &[V],
-    key: K,
-) -> usize {
-    match ranges {
-        Some(ranges) => ranges.place(list, key.kind(), Slotted::number(&key)),
-        None => 0,
+/// Between which positions of the list the key's value may stand.
+fn part_of<K: Copy + Slotted + Kinded>(places: Option<&KeyPlaces>, key: K) -> (usize, usize) {
+    match places {
+        Some(places) => places.part_of(key.kind(), Slotted::number(&key)),
+        None => (0, 0),
     }
 }

@@ -6,6 +6,7 @@ ghost use Rattle.layered_maps.specs.Maps.{keyed, over};
 ghost use Rattle.layered_maps.specs.Walks.{IsDue, IsNext, IsNotDue, behind_key};
 
 use crate::changes::Changes;
+use crate::items::Rest;
 use ordered_lists::Keyed;
 use std::marker::Model;
 
@@ -15,7 +16,7 @@ use std::marker::Model;
 pub struct Walk<'a, K: Ord + Copy, V: Keyed<K>> {
     changes: Changes<'a, K, Option<V>>,
     /// What is left of the floor.
-    rest: &'a [V],
+    rest: Rest<'a, V>,
 }
 
 impl<'a, K: Ord + Copy, V: Keyed<K>> Model for Walk<'a, K, V> {
@@ -26,17 +27,17 @@ impl<'a, K: Ord + Copy, V: Keyed<K>> Model for Walk<'a, K, V> {
 
     ghost Value = { List V };
 
-    ghost view = { λ w. map (λ p. p.1) (over K.cmp w.changes (map (keyed V.key) w.rest.now)) };
+    ghost view = { λ w. map (λ p. p.1) (over K.cmp w.changes (map (keyed V.key) w.rest)) };
 
-    ghost invariant = { λ w. IsTrue (rises K.cmp (map V.key w.rest.now)) × IsAntisymmetric K.cmp };
+    ghost invariant = { λ w. IsTrue (rises K.cmp (map V.key w.rest)) × IsAntisymmetric K.cmp };
 }
 
 impl<'a, K: Ord + Copy, V: Keyed<K>> Walk<'a, K, V> {
     /// What has changed, over what stands below.
-    pub fn new(changes: Changes<'a, K, Option<V>>, rest: &'a [V]) -> Walk<'a, K, V>
+    pub fn new(changes: Changes<'a, K, Option<V>>, rest: Rest<'a, V>) -> Walk<'a, K, V>
         requires exact { IsAntisymmetric K.cmp }
-        requires ascending { IsTrue (rises K.cmp (map V.key rest.now)) }
-        ensures { result ≡ map (λ p. p.1) (over K.cmp changes.entry (map (keyed V.key) rest.now)) }
+        requires ascending { IsTrue (rises K.cmp (map V.key rest)) }
+        ensures { result ≡ map (λ p. p.1) (over K.cmp changes.entry (map (keyed V.key) rest.entry)) }
     {
         Walk { changes, rest }
     }
@@ -45,15 +46,15 @@ impl<'a, K: Ord + Copy, V: Keyed<K>> Walk<'a, K, V> {
     pub fn next(&mut self) -> Option<&'a V>
         ensures { IsNext (option_copied result) self.old self.new }
     {
-        while let Some(key) = due(self.changes.key(), self.rest) {
-            self.rest = behind(self.rest, key);
+        while let Some(key) = due(self.changes.key(), &self.rest) {
+            self.rest = behind(&self.rest, key);
             match self.changes.take(key) {
                 Some(Some(value)) => return Some(value),
                 Some(None) => {}
                 None => return None,
             }
         }
-        match self.rest.split_first() {
+        match self.rest.split() {
             None => None,
             Some((value, behind)) => {
                 self.rest = behind;
@@ -64,7 +65,7 @@ impl<'a, K: Ord + Copy, V: Keyed<K>> Walk<'a, K, V> {
 }
 
 /// The least key that has changed, if no value of a lower key stands in the floor.
-fn due<K: Ord + Copy, V: Keyed<K>>(least: Option<K>, rest: &[V]) -> Option<K>
+fn due<K: Ord + Copy, V: Keyed<K>>(least: Option<K>, rest: &Rest<'_, V>) -> Option<K>
     ensures some { IfSome result (λ k. IsDue V.key K.cmp least k rest.now) }
     ensures none { IfNone result (IsNotDue V.key K.cmp least rest.now) }
 {
@@ -76,11 +77,11 @@ fn due<K: Ord + Copy, V: Keyed<K>>(least: Option<K>, rest: &[V]) -> Option<K>
 }
 
 /// The values without the first one, if that has the key.
-fn behind<K: Ord + Copy, V: Keyed<K>>(values: &[V], key: K) -> &[V]
-    ensures { map (keyed V.key) result.now ≡ behind_key K.cmp key (map (keyed V.key) values.now) }
+fn behind<'a, K: Ord + Copy, V: Keyed<K>>(values: &Rest<'a, V>, key: K) -> Rest<'a, V>
+    ensures { map (keyed V.key) result ≡ behind_key K.cmp key (map (keyed V.key) values.now) }
 {
-    match values.split_first() {
+    match values.split() {
         Some((first, behind)) if first.key().cmp(&key).is_eq() => behind,
-        _ => values,
+        _ => values.again(),
     }
 }

@@ -11,7 +11,7 @@ returns-in-Some-clause-value g c =
     let found : find R c.args.key layers ≡ Some c.in-Some.change.now
     = sym c.changed_in.ensures ∙ ap option_copied c.in-Some.is in
     c.standing.ensures
-    ∙ got_changed g.V.Keyed.key R g.met.K.Ord.total c.args.key layers (map (keyed g.V.Keyed.key) c.self.inside.list.now)
+    ∙ got_changed g.V.Keyed.key R g.met.K.Ord.total c.args.key layers (map (keyed g.V.Keyed.key) c.self.inside.items)
     c.in-Some.change.now found
     ∙ ap (find R c.args.key) c.self.view_is
 
@@ -30,11 +30,11 @@ returns-in-None-clause-value g c =
     let layers = layer_pairs (option_copied c.self.inside.layers) in
     let none : find R c.args.key layers ≡ None = sym c.changed_in.ensures ∙ ap option_copied c.in-None.is in
     got_standing g.V.Keyed.key R g.met.K.Ord.total c.args.key layers
-    (map (keyed g.V.Keyed.key) c.self.inside.list.now) (option_copied c.value_near.result) none c.value_near.ensures
+    (map (keyed g.V.Keyed.key) c.self.inside.items) (option_copied c.value_between.result) none c.value_between.ensures
     ∙ ap (find R c.args.key) c.self.view_is
 
 pub returns-in-None-clause-key : goal.returns-in-None-clause-key
 returns-in-None-clause-key g c =
     key_standing g.V.Keyed.key g.K.Ord.cmp g.met.K.Ord.total c.args.key
-    (layer_pairs (option_copied c.self.inside.layers)) c.requires c.self.inside.list.now
-    (option_copied c.value_near.result) c.value_near.ensures
+    (layer_pairs (option_copied c.self.inside.layers)) c.requires c.self.inside.items
+    (option_copied c.value_between.result) c.value_between.ensures

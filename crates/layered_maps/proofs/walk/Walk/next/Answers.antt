@@ -11,11 +11,11 @@ pub invariant_of-self : goal.invariant_of-self
 invariant_of-self g c =
     let R = g.K.Ord.cmp in
     let key = g.V.Keyed.key in
-    let rest = c.loop-key.self-inside.rest.now in
+    let rest = c.loop-key.self-inside.rest in
     let k = c.in-Some.key in
     let due = subst (λ least. IsDue key R least k rest) c.key.ensures.key c.in-Some.ensures.some in (
       still_rises key R g.met.K.Ord.total c.loop-key.invariant.1 c.loop-key.self-inside.changes c.take.new.self rest
-          c.behind-self-inside.result.now k c.loop-key.invariant.0 c.key.ensures.rising due
+          c.behind-self-inside.result k c.loop-key.invariant.0 c.key.ensures.rising due
           c.behind-self-inside.ensures,
       c.loop-key.invariant.1,
     )
@@ -25,14 +25,14 @@ returns-in-Some-Some g c =
     let R = g.K.Ord.cmp in
     let key = g.V.Keyed.key in
     let changes = c.loop-key.self-inside.changes in
-    let rest = c.loop-key.self-inside.rest.now in
+    let rest = c.loop-key.self-inside.rest in
     let k = c.in-Some.key in
     let due = subst (λ least. IsDue key R least k rest) c.key.ensures.key c.in-Some.ensures.some in
     let taken = subst (λ x. IsTaken k (Some x) changes c.take.new.self) c.in-Some-Some.field-0-is
     (subst (λ o. IsTaken k o changes c.take.new.self) (ap option_copied c.in-Some-Some.is) c.take.ensures) in
     sym c.self.view_is ∙ sym c.loop-key.invariant.2
     ∙ step_put key R g.met.K.Ord.total c.loop-key.invariant.1 changes c.take.new.self rest
-    c.behind-self-inside.result.now k c.loop-key.invariant.0 c.key.ensures.rising due c.behind-self-inside.ensures
+    c.behind-self-inside.result k c.loop-key.invariant.0 c.key.ensures.rising due c.behind-self-inside.ensures
     c.in-Some-Some.value taken
 
 pub loop-key-preserved : goal.loop-key-preserved
@@ -40,28 +40,28 @@ loop-key-preserved g c =
     let R = g.K.Ord.cmp in
     let key = g.V.Keyed.key in
     let changes = c.loop-key.self-inside.changes in
-    let rest = c.loop-key.self-inside.rest.now in
+    let rest = c.loop-key.self-inside.rest in
     let k = c.in-Some.key in
     let due = subst (λ least. IsDue key R least k rest) c.key.ensures.key c.in-Some.ensures.some in
     let taken = subst (λ x. IsTaken k (Some x) changes c.take.new.self) c.in-Some-None.field-0-is
     (subst (λ o. IsTaken k o changes c.take.new.self) (ap option_copied c.in-Some-None.is) c.take.ensures) in (
       still_rises key R g.met.K.Ord.total c.loop-key.invariant.1 changes c.take.new.self rest
-          c.behind-self-inside.result.now k c.loop-key.invariant.0 c.key.ensures.rising due
+          c.behind-self-inside.result k c.loop-key.invariant.0 c.key.ensures.rising due
           c.behind-self-inside.ensures,
       c.loop-key.invariant.1,
       sym (step_gone key R g.met.K.Ord.total c.loop-key.invariant.1 changes c.take.new.self rest
-          c.behind-self-inside.result.now k c.loop-key.invariant.0 c.key.ensures.rising due
+          c.behind-self-inside.result k c.loop-key.invariant.0 c.key.ensures.rising due
           c.behind-self-inside.ensures taken) ∙ c.loop-key.invariant.2,
     )
 
-pub returns-in-Some-split_first : goal.returns-in-Some-split_first
-returns-in-Some-split_first g c =
+pub returns-in-Some-split : goal.returns-in-Some-split
+returns-in-Some-split g c =
     let R = g.K.Ord.cmp in
     let key = g.V.Keyed.key in
     let changes = c.loop-key.self-inside.changes in
-    let value = c.in-Some-split_first.value.now in
-    let behind = c.in-Some-split_first.behind.now in
-    let split = c.in-Some-split_first.ensures.cases.0 in
+    let value = c.in-Some-split.value.now in
+    let behind = c.in-Some-split.behind in
+    let split = c.in-Some-split.ensures.some in
     let none = subst (λ rest. IsNotDue key R c.key.result rest) split c.in_default.ensures.none in
     sym c.self.view_is ∙ sym c.loop-key.invariant.2 ∙ ap (left key R changes) split
     ∙ step_floor key R g.met.K.Ord.total c.loop-key.invariant.1 changes value behind c.key.ensures.rising

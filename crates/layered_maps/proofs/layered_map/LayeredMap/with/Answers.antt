@@ -3,7 +3,7 @@ use Rattle.layered_maps.specs.Layers.{put_all, Rise}
 use Rattle.layered_maps.specs.Maps.{AreKeyed, floor_pairs, over}
 use Rattle.layered_maps.specs.Sinking.{IsSinking}
 use Rattle.layered_maps.proofs.OverPairs.{keyed_all, over_all}
-use Rattle.layered_maps.proofs.layered_map.LayeredMap.layered.Goals as goal
+use Rattle.layered_maps.proofs.layered_map.LayeredMap.with.Goals as goal
 
 pub invariant_of-result : goal.invariant_of-result
 invariant_of-result g c =
