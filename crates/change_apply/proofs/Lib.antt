@@ -8,3 +8,6 @@ mod KnownBlocks
 mod EqualBlocks
 mod SourcedArcs
 mod SourcedBlocks
+mod FewBuilt
+mod PreparedKeys
+mod EngineChanges

@@ -18,6 +18,19 @@ still : {A : Type 0} (led more : List WayId) (w : WayId) → Keeps led more → 
 still led more w keeps (inl here) = inl here
 still led more w keeps (inr there) = inr (keeps w there)
 
+-- what was added has this
+abbrev pub AddsOnly : List WayId → List WayId → (WayId → Type 0) → Type 0
+AddsOnly led more Is = (w : WayId) → Contains more w → Contains led w ⊎ Is w
+
+pub adds_none : (led : List WayId) (Is : WayId → Type 0) → AddsOnly led led Is
+adds_none led Is w has = inl has
+
+-- so has what is added by one step more
+pub adds_more : (first led more : List WayId) (Is Next : WayId → Type 0) → AddsOnly first led Is
+    → AddsOnly led more Next → ((w : WayId) → Next w → Is w) → AddsOnly first more Is
+adds_more first led more Is Next so_far step all w has = elim (step w has)
+    [ inl earlier ↦ so_far w earlier | inr new ↦ inr (all w new) ]
+
 -- ---- arcs
 
 pub no_arcs : (others : List TurnArc) (led : List WayId) → AreArcsLed [] others led

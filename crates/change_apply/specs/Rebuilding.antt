@@ -8,10 +8,11 @@ use Rattle.road_model.specs.declared.lists.Piece.{Piece}
 use Rattle.road_model.specs.declared.lists.PieceName.{PieceName}
 use Rattle.road_model.specs.declared.blocks.Block.{Block}
 use Rattle.road_model.specs.Rules.{Rules}
-use Rattle.ordered_lists.specs.Orders.{rises}
+use Rattle.ordered_lists.specs.Orders.{Lists, rises}
 use Rattle.road_model.specs.Orders.{way_cmp}
 use Rattle.road_model.specs.Blocks.{IsBlock}
 use Rattle.road_model.specs.Format.{IsPieceForm, place_cmp}
+use Rattle.touched_ways.specs.Altering.{HereOrBeside, MeetsOne}
 
 -- the block, if it has pieces
 abbrev pub with_pieces : Block → Option Block
@@ -41,6 +42,14 @@ pieces_in (Some b) = b.pieces
 -- the pieces of the block of the way
 abbrev pub pieces_at : List (WayId × Block) → FinMap way_cmp Block → WayId → List Piece
 pieces_at rebuilt listed w = pieces_in (block_at rebuilt listed w)
+
+-- the ways that meet one of the close ways whose pieces are others after than before, or that a restriction names
+-- beside a way that does, but the near ones, ascending
+pub record AreMet (N : Objects) (before after : WayId → List Piece) (close near met : List WayId) : Type 0 where
+  pub altered : List WayId
+  pub only : (w : WayId) → Contains altered w → Contains close w
+  pub same : (w : WayId) → Contains close w → (Contains altered w → ⊥) → listed (before w) ≡ listed (after w)
+  pub exactly : Lists (λ w. w) way_cmp (λ w. HereOrBeside N (MeetsOne N altered) w × (Contains near w → ⊥)) met
 
 -- the block of the way, in the form in which a graph file with sources holds it
 pub record IsBuilt (M : Objects) (P : Rules) (w : WayId) (b : Block) : Type 0 where

@@ -5,13 +5,16 @@ ghost use Rattle.road_base.specs.declared.ids.WayId.{WayId};
 ghost use Rattle.road_model.specs.Highways.{AreRoadWays, highways};
 ghost use Rattle.way_pieces.specs.Known.{AreKnown};
 ghost use Rattle.road_model.specs.Naming.{OneBlock};
+ghost use Rattle.road_model.specs.Links.{AreTouched};
+ghost use Rattle.road_model.specs.Orders.{way_cmp};
+ghost use Rattle.ordered_lists.specs.Orders.{Lists};
 ghost use Rattle.change_apply.specs.Engines.{AreBlocksAmong, AreInForm, AreKept};
 ghost use Rattle.road_model.specs.declared.blocks.Block.{Block as BlockValue};
 ghost use Rattle.graph_blocks.specs.Lent.{map_of};
 ghost use Rattle.change_apply.specs.Rebuilding.{AreRebuilt, IsRebuiltWith, block_at, over};
-ghost use Rattle.touched_ways.specs.Altering.{AreParted};
+ghost use Rattle.touched_ways.specs.Altering.{IsNearChange};
 
-use crate::altering::altered;
+use crate::altering::met_by;
 use crate::joining::joined;
 use crate::known::{Standing, StandingBut};
 use crate::sources::led_to;
@@ -19,15 +22,15 @@ use back_references::Indexed;
 use expanded_graph::GraphBuilder;
 use graph_blocks::{RoadBlocks, road_blocks};
 use road_base::{NoMemory, Steps, WayId, Ways};
-use road_model::laws::{blocks_stay, has_block, name_order, one_block, roads_refer};
+use road_model::laws::{has_block, name_order, one_block, roads_refer};
 use road_model::{Blocks, Network, Profile, World};
 use std::alloc::Global;
 use std::sync::ledger::Ledger;
 use touched_ways::laws::{
     block_lists_pieces, far_blocks_list_pieces, far_pieces_stay, led_blocks_stay,
-    listed_pieces_stay, unaltered_blocks_stay,
+    led_ways_are_touched, listed_pieces_stay, near_ways_are_touched, unaltered_blocks_stay,
 };
-use touched_ways::{TouchedWays, meeting, split};
+use touched_ways::with_beside;
 use way_pieces::KnownBlocks;
 
 /// The blocks of all ways with pieces: one is built for each visible way with the key `highway`.
@@ -168,40 +171,41 @@ fn rebuild_one<M: World, P: Profile, L: Ledger>(
 pub struct Rebuilt {
     /// Those of ways near the change, or named beside one near.
     pub near: Blocks,
-    /// Those of ways that meet one of these with other pieces than before, or are named beside one that does, and those
-    /// of ways by whose pieces another arc leads than before.
+    /// Those of ways that meet one near the change with other pieces than before, or are named beside one that does,
+    /// and those of ways by whose pieces another arc leads than before.
     pub later: Blocks,
     pub count: u64,
 }
 
-/// Builds over the world that a change leaves, `next`, the blocks of the touched ways that are near it or that a
-/// restriction names beside one near, then those of the other touched ways that meet one of them whose pieces are
-/// others than before, or that a restriction names beside a way that does, and then those of the rest by whose pieces
-/// an arc leads that is in one alone of the two blocks, before and after, of a way that was built: where no such arc
-/// is, the sources are the same. With them, what stands at every way is its block, as it was in the world before, the
-/// network's. The pieces of the ways that they meet are taken from the blocks that stand: before the first step from
-/// those of ways that aren't built in it, since the pieces of these are the same, and after it from all.
-pub fn rebuild_touched<'b, M: World, P: Profile, L: Ledger>(
+/// Builds over the world that a change leaves, `next`, the blocks of the ways within two links of the change, `close`,
+/// and of those that a restriction names beside one of them, then those of other ways that meet one of these close ways
+/// whose pieces are others than before, or that a restriction names beside a way that does, and then those of the rest
+/// by whose pieces an arc leads that is in one alone of the two blocks, before and after, of a way that was built:
+/// where no such arc is, the sources are the same. With them, what stands at every way is its block, as it was in the
+/// world before, the network's. The pieces of the ways that they meet are taken from the blocks that stand: before the
+/// first step from those of ways that aren't close, since the pieces of these are the same, and after it from all.
+pub fn rebuild_around<'b, M: World, P: Profile, L: Ledger>(
     alloc: Global,
     network: &Network<'_, Indexed, P>,
     next: &M,
-    touched: &'b TouchedWays,
+    close: &'b Ways,
     blocks: &'b RoadBlocks,
     steps: &mut Steps<L>,
 ) -> Result<Rebuilt, NoMemory>
-    requires parted { AreParted network.now.world.now (M.objects next.now)
-        touched.now.all touched.now.near touched.now.far }
+    requires close { Lists (λ w. w) way_cmp (IsNearChange network.now.world.now (M.objects next.now)) close.now }
     requires kept { AreKept network.now.world.now (P.rules network.now.profile) (get (map_of blocks.now)) }
     ensures kept { IfOk result (λ r. AreKept (M.objects next.now) (P.rules network.now.profile)
         (block_at (over r.later.map (over r.near.map [])) (map_of blocks.now))) }
     ensures count { IfOk result (λ r. steps.new ≡ steps.old + r.count) }
-    ensures few { steps.new ≤ steps.old + (length touched.now.near + length touched.now.far) }
+    ensures few { (ways : List WayId) → AreTouched network.now.world.now (M.objects next.now) ways
+        → steps.new ≤ steps.old + length ways }
 {
     let profile = network.profile;
     name_order();
     one_block(&profile);
     has_block(&profile);
-    blocks_stay(&profile);
+    near_ways_are_touched();
+    led_ways_are_touched(&profile);
     unaltered_blocks_stay(&profile);
     led_blocks_stay(&profile);
     far_pieces_stay(&profile);
@@ -213,34 +217,33 @@ pub fn rebuild_touched<'b, M: World, P: Profile, L: Ledger>(
         blocks,
         fresh: &none,
     };
-    let near_ways = touched.near.items();
+    let near_ways = with_beside(alloc, next, close)?;
     let known = StandingBut {
         standing: before,
-        but: &touched.near,
+        but: close,
     };
-    let near = rebuild(alloc, next, profile, near_ways, &known, steps)?;
+    let near_list = near_ways.items();
+    let near = rebuild(alloc, next, profile, near_list, &known, steps)?;
     let after = Standing {
         blocks,
         fresh: &near,
     };
-    let altered = altered(alloc, &before, &after, near_ways)?;
-    let far = meeting(alloc, next, &touched.far, altered.as_slice())?;
-    let met_ways = far.among.items();
+    let met_ways = met_by(alloc, next, &before, &after, close, &near_ways)?;
     let no_ways = Ways::from_list(Vec::new(alloc));
     let known = StandingBut {
         standing: after,
         but: &no_ways,
     };
-    let met = rebuild(alloc, next, profile, met_ways, &known, steps)?;
+    let met_list = met_ways.items();
+    let met = rebuild(alloc, next, profile, met_list, &known, steps)?;
     let behind_met = Standing {
         blocks,
         fresh: &met,
     };
-    let led = led_to(alloc, &before, near_ways, &after, met_ways, &behind_met)?;
-    let rest = split(alloc, &far.others, &led)?;
-    let sourced_ways = rest.among.items();
-    let sourced = rebuild(alloc, next, profile, sourced_ways, &known, steps)?;
-    let count = near_ways.len() as u64 + met_ways.len() as u64 + sourced_ways.len() as u64;
-    let later = joined(alloc, met, sourced)?;
+    let led_ways = led_to(alloc, &before, &near_ways, &after, &met_ways, &behind_met)?;
+    let led_list = led_ways.items();
+    let led = rebuild(alloc, next, profile, led_list, &known, steps)?;
+    let count = near_list.len() as u64 + met_list.len() as u64 + led_list.len() as u64;
+    let later = joined(alloc, met, led)?;
     Ok(Rebuilt { near, later, count })
 }

@@ -2,7 +2,6 @@
 ghost use Rattle.std.specs.Prelude.{◌≡◌, ◌+◌, ◌≤◌, List, length, map, true, IfOk, OnOk, OnErr};
 ghost use Rattle.std.specs.List.{AllByRecursion};
 ghost use Rattle.std.specs.FinMap.{empty, find, get, values};
-ghost use Rattle.road_base.specs.declared.event.Event.{Event as EventValue};
 ghost use Rattle.road_base.specs.declared.ids.WayId.{WayId as WayNumber};
 ghost use Rattle.road_base.specs.Objects.{Objects};
 ghost use Rattle.road_base.specs.Applying.{IsApplied};
@@ -19,9 +18,9 @@ ghost use Rattle.graph_blocks.specs.Lent.{map_of};
 ghost use Rattle.change_apply.specs.Engines.{AreKept, BuildsTouched, Touches};
 ghost use Rattle.change_apply.specs.Rebuilding.{way_of};
 
-use crate::building::{build, rebuild_touched};
+use crate::building::{build, rebuild_around};
 use crate::changes::{BlockChanges, changes_of};
-use crate::touching::touched_by;
+use crate::touching::{close_to, touched_by};
 use back_references::{Indexed, Next, Prepared};
 use graph_blocks::RoadBlocks;
 use graph_blocks::laws::values_in_order;
@@ -32,6 +31,7 @@ use road_model::{Network, Profile};
 use std::alloc::Global;
 use std::marker::Model;
 use std::sync::ledger::Ledger;
+use touched_ways::laws::some_touched_ways;
 
 /// What a change cost.
 #[derive(Clone, Copy, PartialEq, Eq, Debug)]
@@ -107,8 +107,33 @@ impl<P: Profile> Engine<P> {
     }
 
     /// Applies the events: of each key the first one of the greatest version stands, its entry here before all of
-    /// them. The blocks are then those of what the events left: one is built for each way that the events touch and
-    /// whose block they may alter, and all others stay. Where no memory is found nothing changes.
+    /// them. The blocks are then those of what the events left: one is built for each way whose block they may alter,
+    /// and all others stay. It tells how many were built. Where no memory is found nothing changes.
+    pub fn follow<L: Ledger>(
+        &mut self,
+        events: &[Event],
+        steps: &mut Steps<L>,
+    ) -> Result<u64, NoMemory>
+        ensures applied { OnOk result (IsApplied self.old.world events.now self.new.world) }
+        ensures profile { self.new.profile ≡ self.old.profile }
+        ensures err { OnErr result (self.new ≡ self.old) }
+        ensures rebuilt { IfOk result (λ r. steps.new ≡ steps.old + r) }
+        ensures built { BuildsTouched self.old.world events.now steps.old steps.new }
+    {
+        one_map();
+        name_order();
+        some_touched_ways();
+        let prepared = self.world.prepare(events)?;
+        let network = Network::new(&self.world, self.profile);
+        let (changes, count) = rebuild_after(self.alloc, &network, &self.blocks, &prepared, steps)?;
+        let exchange = self.blocks.prepare_both(changes.near, changes.later)?;
+        self.world.commit(prepared);
+        self.blocks.commit(exchange);
+        Ok(count)
+    }
+
+    /// The same as `follow`, and tells also how many ways the events touch, which takes the time of finding these and of
+    /// finding what the events leave once more.
     pub fn apply<L: Ledger>(
         &mut self,
         events: &[Event],
@@ -125,21 +150,25 @@ impl<P: Profile> Engine<P> {
         ensures ways { OnOk result (Touches self.old.world events.now) }
         ensures built { BuildsTouched self.old.world events.now steps.old steps.new }
     {
+        some_touched_ways();
+        let touched = self.count_touched(events)?;
+        let rebuilt = self.follow(events, steps)?;
+        Ok(Report { touched, rebuilt })
+    }
+
+    /// How many ways the events touch.
+    fn count_touched(&self, events: &[Event]) -> Result<u64, NoMemory>
+        ensures { IfOk result (λ n. (after : Objects) (ways : List WayNumber)
+            → IsApplied self.now.world events.now after
+            → AreTouched self.now.world after ways
+            → n ≡ length ways) }
+    {
         one_map();
         name_order();
-        let prepared = self.world.prepare(events)?;
-        let network = Network::new(&self.world, self.profile);
-        let (changes, report) = rebuild_after(
-            self.alloc,
-            &network,
-            &self.blocks,
-            &prepared,
-            steps,
-        )?;
-        let exchange = self.blocks.prepare_both(changes.near, changes.later)?;
-        self.world.commit(prepared);
-        self.blocks.commit(exchange);
-        Ok(report)
+        let mut world = self.world.copy()?;
+        let prepared = world.prepare(events)?;
+        let touched = touched_by(self.alloc, &world, &prepared)?;
+        Ok(touched.items().len() as u64)
     }
 
     /// The profile.
@@ -169,14 +198,15 @@ impl<P: Profile> Engine<P> {
     }
 }
 
-/// Builds the blocks that the prepared change alters, and finds what changes of those that stand.
+/// Builds the blocks that the prepared change alters, and finds what changes of those that stand, and how many were
+/// built.
 fn rebuild_after<P: Profile, L: Ledger>(
     alloc: Global,
     network: &Network<'_, Indexed, P>,
     blocks: &RoadBlocks,
     prepared: &Prepared,
     steps: &mut Steps<L>,
-) -> Result<(BlockChanges, Report), NoMemory>
+) -> Result<(BlockChanges, u64), NoMemory>
     requires before { prepared.now.before ≡ network.now.world.now }
     requires kept { AreKept network.now.world.now (P.rules network.now.profile) (get (map_of blocks.now)) }
     ensures near { IfOk result (λ r. Rise way_cmp (map (change_pair way_of) r.0.near.items)) }
@@ -184,26 +214,16 @@ fn rebuild_after<P: Profile, L: Ledger>(
     ensures kept { IfOk result (λ r. AreKept prepared.now.after (P.rules network.now.profile)
         (λ w. find way_cmp w
         (changed_by way_of way_cmp r.0.later.items (changed_by way_of way_cmp r.0.near.items blocks.now)))) }
-    ensures touched { IfOk result (λ r. (ways : List WayNumber)
+    ensures count { IfOk result (λ r. steps.new ≡ steps.old + r.1) }
+    ensures few { (ways : List WayNumber)
         → AreTouched network.now.world.now prepared.now.after ways
-        → r.1.touched ≡ length ways) }
-    ensures count { IfOk result (λ r. steps.new ≡ steps.old + r.1.rebuilt) }
-    ensures few { IfOk result (λ r. r.1.rebuilt ≤ r.1.touched) }
-    ensures ways { OnOk result ((events : List EventValue)
-        → IsApplied network.now.world.now events prepared.now.after
-        → Touches network.now.world.now events) }
-    ensures built { (events : List EventValue)
-        → IsApplied network.now.world.now events prepared.now.after
-        → BuildsTouched network.now.world.now events steps.old steps.new }
+        → steps.new ≤ steps.old + length ways }
 {
     name_order();
-    let touched = touched_by(alloc, network.world, prepared)?;
+    let close = close_to(alloc, network.world, prepared)?;
     let next = Next::of(network.world, prepared);
-    let rebuilt = rebuild_touched(alloc, network, &next, &touched, blocks, steps)?;
-    let report = Report {
-        touched: touched.all.items().len() as u64,
-        rebuilt: rebuilt.count,
-    };
+    let rebuilt = rebuild_around(alloc, network, &next, &close, blocks, steps)?;
+    let count = rebuilt.count;
     let changes = changes_of(alloc, blocks, rebuilt)?;
-    Ok((changes, report))
+    Ok((changes, count))
 }

@@ -9,6 +9,7 @@ ghost use Rattle.graph_blocks.specs.Lent.{map_of};
 ghost use Rattle.touched_ways.specs.Altering.{ListSameArcs, ListsArc, ListsArcBehind};
 ghost use Rattle.change_apply.specs.Rebuilding.{pieces_at};
 ghost use Rattle.change_apply.specs.Sourcing.{AreArcsLed, AreLed, AreLedBehind};
+ghost use Rattle.change_apply.specs.Sourcing.{IsLedFrom, LeadBehind, LeadTo, ListArcTo};
 ghost use Rattle.change_apply.specs.Standing.{built_in};
 
 use crate::known::Standing;
@@ -18,32 +19,46 @@ use road_base::{NoMemory, WayId, Ways};
 use road_model::laws::name_order;
 use road_model::{Context, Piece, PieceName, TurnArc};
 use std::alloc::Global;
+use touched_ways::apart_from;
 
-/// The ways, ascending, by whose pieces an arc leads that stands in one of two blocks of a way alone: in the block that
-/// stood before, or in the one that was built for it, if it is one of these ways. Takes the time of a run over the
-/// blocks of each, and of a sort of what differs; and no memory where nothing does.
+/// The ways, ascending, but those of both lists, by whose pieces an arc leads that stands in one of two blocks of a way
+/// alone: in the block that stood before, or in the one that was built for it, if it is one of these ways. Takes the
+/// time of a run over the blocks of each, and of a sort of what differs; and no memory where nothing does.
 pub fn led_to(
     alloc: Global,
     before: &Standing<'_>,
-    near_ways: &[WayId],
+    near_ways: &Ways,
     near: &Standing<'_>,
-    met_ways: &[WayId],
+    met_ways: &Ways,
     met: &Standing<'_>,
 ) -> Result<Ways, NoMemory>
+    requires near_ways { IsTrue (rises way_cmp near_ways.now) }
+    requires met_ways { IsTrue (rises way_cmp met_ways.now) }
     ensures ascending { IfOk result (λ led. IsTrue (rises way_cmp led)) }
+    ensures apart { IfOk result (λ led. (w : WayNumber) → Contains led w
+        → (Contains near_ways.now w → ⊥) × (Contains met_ways.now w → ⊥)) }
+    ensures only { IfOk result (λ led. (w : WayNumber) → Contains led w
+        → IsLedFrom (pieces_at (built_in before.now) (map_of before.now.blocks.now))
+        (pieces_at (built_in near.now) (map_of near.now.blocks.now)) near_ways.now w
+        ⊎ IsLedFrom (pieces_at (built_in before.now) (map_of before.now.blocks.now))
+        (pieces_at (built_in met.now) (map_of met.now.blocks.now)) met_ways.now w) }
     ensures near { IfOk result (λ led. (v w : WayNumber) → Contains near_ways.now v → (Contains led w → ⊥)
+        → (Contains near_ways.now w → ⊥) → (Contains met_ways.now w → ⊥)
         → ListSameArcs w (pieces_at (built_in before.now) (map_of before.now.blocks.now) v)
         (pieces_at (built_in near.now) (map_of near.now.blocks.now) v)) }
     ensures met { IfOk result (λ led. (v w : WayNumber) → Contains met_ways.now v → (Contains led w → ⊥)
+        → (Contains near_ways.now w → ⊥) → (Contains met_ways.now w → ⊥)
         → ListSameArcs w (pieces_at (built_in before.now) (map_of before.now.blocks.now) v)
         (pieces_at (built_in met.now) (map_of met.now.blocks.now) v)) }
 {
     name_order();
     let mut led = Vec::new(alloc);
-    add_led(before, near, near_ways, &mut led)?;
-    add_led(before, met, met_ways, &mut led)?;
+    add_led(before, near, near_ways.items(), &mut led)?;
+    add_led(before, met, met_ways.items(), &mut led)?;
     leave_once(&mut led);
-    Ok(Ways::from_list(led))
+    let all = Ways::from_list(led);
+    let others = apart_from(alloc, &all, near_ways)?;
+    apart_from(alloc, &others, met_ways)
 }
 
 /// Adds the ways by whose pieces an arc leads that stands in one of two blocks of one of these ways alone.
@@ -54,6 +69,9 @@ fn add_led(
     led: &mut Vec<WayId>,
 ) -> Result<(), NoMemory>
     ensures keeps { OnOk result ((w : WayNumber) → Contains led.old.items w → Contains led.new.items w) }
+    ensures only { OnOk result ((w : WayNumber) → Contains led.new.items w → Contains led.old.items w
+        ⊎ IsLedFrom (pieces_at (built_in before.now) (map_of before.now.blocks.now))
+        (pieces_at (built_in after.now) (map_of after.now.blocks.now)) ways.now w) }
     ensures alike { OnOk result ((v w : WayNumber) → Contains ways.now v → (Contains led.new.items w → ⊥)
         → ListSameArcs w (pieces_at (built_in before.now) (map_of before.now.blocks.now) v)
         (pieces_at (built_in after.now) (map_of after.now.blocks.now) v)) }
@@ -69,6 +87,8 @@ fn add_led(
 /// Adds the ways by whose pieces an arc leads that stands in one of both lists of pieces alone.
 fn add_either(was: &[Piece], is: &[Piece], led: &mut Vec<WayId>) -> Result<(), NoMemory>
     ensures keeps { OnOk result ((w : WayNumber) → Contains led.old.items w → Contains led.new.items w) }
+    ensures only { OnOk result ((w : WayNumber) → Contains led.new.items w
+        → Contains led.old.items w ⊎ (ListArcTo was.now w ⊎ ListArcTo is.now w)) }
     ensures alike { OnOk result ((w : WayNumber) → (Contains led.new.items w → ⊥) → ListSameArcs w was.now is.now) }
 {
     add_pieces(was, is, led)?;
@@ -79,6 +99,8 @@ fn add_either(was: &[Piece], is: &[Piece], led: &mut Vec<WayId>) -> Result<(), N
 /// gone along once.
 fn add_pieces(pieces: &[Piece], others: &[Piece], led: &mut Vec<WayId>) -> Result<(), NoMemory>
     ensures keeps { OnOk result ((w : WayNumber) → Contains led.old.items w → Contains led.new.items w) }
+    ensures only { OnOk result ((w : WayNumber) → Contains led.new.items w
+        → Contains led.old.items w ⊎ ListArcTo pieces.now w) }
     ensures led { OnOk result (AreLed pieces.now others.now led.new.items) }
 {
     let mut at = 0;
@@ -97,6 +119,8 @@ fn add_contexts(
     led: &mut Vec<WayId>,
 ) -> Result<(), NoMemory>
     ensures keeps { OnOk result ((w : WayNumber) → Contains led.old.items w → Contains led.new.items w) }
+    ensures only { OnOk result ((w : WayNumber) → Contains led.new.items w
+        → Contains led.old.items w ⊎ LeadBehind contexts.now w) }
     ensures led { OnOk result (AreLedBehind contexts.now others.now led.new.items) }
 {
     let mut at = 0;
@@ -112,6 +136,8 @@ fn add_contexts(
 /// The same of arcs, which ascend by piece.
 fn add_arcs(arcs: &[TurnArc], others: &[TurnArc], led: &mut Vec<WayId>) -> Result<(), NoMemory>
     ensures keeps { OnOk result ((w : WayNumber) → Contains led.old.items w → Contains led.new.items w) }
+    ensures only { OnOk result ((w : WayNumber) → Contains led.new.items w
+        → Contains led.old.items w ⊎ LeadTo arcs.now w) }
     ensures led { OnOk result (AreArcsLed arcs.now others.now led.new.items) }
 {
     if same_arcs(arcs, others) {
@@ -123,6 +149,8 @@ fn add_arcs(arcs: &[TurnArc], others: &[TurnArc], led: &mut Vec<WayId>) -> Resul
 /// The same, arc by arc.
 fn add_each_arc(arcs: &[TurnArc], others: &[TurnArc], led: &mut Vec<WayId>) -> Result<(), NoMemory>
     ensures keeps { OnOk result ((w : WayNumber) → Contains led.old.items w → Contains led.new.items w) }
+    ensures only { OnOk result ((w : WayNumber) → Contains led.new.items w
+        → Contains led.old.items w ⊎ LeadTo arcs.now w) }
     ensures led { OnOk result (AreArcsLed arcs.now others.now led.new.items) }
 {
     let mut at = 0;
@@ -141,6 +169,8 @@ fn add_unless_at(
     led: &mut Vec<WayId>,
 ) -> Result<(), NoMemory>
     ensures keeps { OnOk result ((w : WayNumber) → Contains led.old.items w → Contains led.new.items w) }
+    ensures only { OnOk result ((w : WayNumber) → Contains led.new.items w
+        → Contains led.old.items w ⊎ (arc.piece.way ≡ w)) }
     ensures adds { OnOk result (Contains others.now arc ⊎ Contains led.new.items arc.piece.way) }
 {
     if is_at(others, at, arc) {

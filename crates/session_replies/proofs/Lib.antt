@@ -4,4 +4,3 @@ mod RoadAnswers
 mod FrameMessages
 mod FollowedChanges
 mod FollowedQuestions
-mod PinTouches

@@ -6,6 +6,8 @@ use Rattle.road_base.specs.declared.event.Event.{Event}
 use Rattle.road_base.specs.Applying.{IsApplied}
 use Rattle.road_base.specs.History.{History, HasObjects, kept}
 use Rattle.road_base.specs.Objects.{Objects}
+use Rattle.road_base.specs.declared.ids.WayId.{WayId}
+use Rattle.road_model.specs.Links.{AreTouched}
 use Rattle.road_model.specs.Rules.{Rules}
 use Rattle.change_apply.specs.Engines.{Touches}
 use Rattle.pinned_readers.specs.PinnedRuns.{Pins}
@@ -17,7 +19,6 @@ use Rattle.session_replies.specs.PinMessages.{pin_message}
 use Rattle.session_replies.specs.PinReplies.{IsPinReply}
 use Rattle.session_replies.specs.Replies.{IsLineReply, IsReplyAmong, answers_to, road_replies, road_costs}
 use Rattle.session_replies.specs.Texts.{unknown_line}
-use Rattle.session_replies.proofs.PinTouches.{touched_ways}
 
 -- ---- lines
 
@@ -84,10 +85,11 @@ BuildsFew M events old new = (new ≡ old) ⊎ CostsAtMost road_costs M events o
 
 -- what a change touches
 pub touched : ((M : Objects) (events : List Event) → (N : Objects) × IsApplied M events N)
-    → (M : Objects) (events : List Event) → Touches M events
-touched some M events =
+    → ((M N : Objects) → (ways : List WayId) × AreTouched M N ways) → (M : Objects) (events : List Event)
+    → Touches M events
+touched some listed M events =
     let after = some M events in
-    let ways = touched_ways M after.0 in
+    let ways = listed M after.0 in
     record { after = after.0; applied = after.1; ways = ways.0; touched = ways.1 }
 
 -- what was built for the change of the newest objects was built for that of the history's

@@ -21,6 +21,7 @@ use session_answers::{Answerer, Reply};
 use session_input::Line;
 use std::alloc::Global;
 use std::sync::ledger::Ledger;
+use touched_ways::laws::some_touched_ways;
 
 /// Answers the lines of a session over the objects of an engine and their blocks, under its profile. For readers who
 /// have pinned them it keeps older states beside the newest one.
@@ -82,6 +83,7 @@ impl<P: Profile> Answerer for RoadAnswerer<P> {
     ) -> Result<(), NoMemory> {
         history_objects();
         applied_stands();
+        some_touched_ways();
         if number.0 <= self.readers.number().0 {
             // The numbers of changes rise, so none has this one.
             return Ok(());

@@ -56,7 +56,7 @@ impl<P: Profile> Follower for RoadFollower<P> {
         events: &[Event],
         steps: &mut Steps<L>,
     ) -> Result<(), NoMemory> {
-        self.engine.apply(events, steps)?;
+        self.engine.follow(events, steps)?;
         Ok(())
     }
 

@@ -78,12 +78,12 @@ linked : (M : Objects) (n : ℕ) (a b : Key) → IsLink M a b → IsWithin M (su
 linked M n a b l = inr (a, within_itself M n a, l)
 
 module _ (M N : Objects) (keys : List Key) (changed : AreChanged M N keys) where
-  turned : AreChanged N M keys
+  pub turned : AreChanged N M keys
   turned = lists_same (λ k. k) key_cmp (Differs M N) (Differs N M) keys changed
       (λ k d e. d (sym e)) (λ k d e. d (sym e))
 
   -- one link of N further
-  one_further : (n : ℕ) (a b : Key) → IsWithinInOne M N keys n a → IsLink N a b → IsWithinInOne M N keys (suc n) b
+  pub one_further : (n : ℕ) (a b : Key) → IsWithinInOne M N keys n a → IsLink N a b → IsWithinInOne M N keys (suc n) b
   one_further n a b (c, has, inr there) l = (c, has, inr (inr (a, there, l)))
   one_further n a b (c, has, inl here) l = elim (link_stays N M keys turned a b l) [
     | inl same ↦ (c, has, inl (inr (a, here, same)))
@@ -91,7 +91,7 @@ module _ (M N : Objects) (keys : List Key) (changed : AreChanged M N keys) where
     | inr (inr end) ↦ (b, end, inr (within_itself N (suc n) b))
   ]
 
-  one_more : (n : ℕ) (a : Key) → IsWithinInOne M N keys n a → IsWithinInOne M N keys (suc n) a
+  pub one_more : (n : ℕ) (a : Key) → IsWithinInOne M N keys n a → IsWithinInOne M N keys (suc n) a
   one_more n a (c, has, inl here) = (c, has, inl (inl here))
   one_more n a (c, has, inr there) = (c, has, inr (inl there))
 

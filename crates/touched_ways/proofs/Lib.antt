@@ -4,7 +4,7 @@ mod LinkedKeys
 mod FollowedNodes
 mod LinkRounds
 mod ChangedLinks
-mod WayLists
+pub mod WayLists
 mod SamePieces
 mod ListedPieces
 mod StillWays
@@ -17,3 +17,5 @@ mod ArcSources
 mod WayGaps
 mod NearLists
 mod MetWays
+pub mod FiniteTouched
+mod TouchedAround

@@ -157,13 +157,6 @@ pub record IsRound (M : Objects) (Near : Key → Type 0) (s : LinkSearch) : Type
   pub ways : (w : WayId) → Near (WayKey w) → IsSeen s (WayKey w)
   pub followed : (a b : Key) → Near a → IsLink M a b → Near b ⊎ IsFrontier s a
 
--- the ways that were seen
-pub ways_seen : (M : Objects) (Near : Key → Type 0) (s : LinkSearch) (ways : List WayId) → IsRound M Near s
-    → Lists (λ w. w) way_cmp (λ w. Contains s.ways.all.items w) ways
-    → Lists (λ w. w) way_cmp (λ w. Near (WayKey w)) ways
-ways_seen M Near s ways round lists = lists_same (λ w. w) way_cmp (λ w. Contains s.ways.all.items w)
-    (λ w. Near (WayKey w)) ways lists (λ w h. round.seen (WayKey w) h) (λ w h. round.ways w h)
-
 module _ (M : Objects) (Within : ℕ → Key → Type 0) (reach : IsReach M Within) where
   module _ (n : ℕ) (s : LinkSearch) (round : IsRound M (Within n) s) where
     -- what is further

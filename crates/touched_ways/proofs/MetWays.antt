@@ -10,7 +10,7 @@ use Rattle.ordered_lists.specs.Orders.{Lists, rises}
 use Rattle.road_model.specs.Orders.{way_cmp}
 use Rattle.ordered_lists.proofs.JoinedLists.{lists_same}
 use Rattle.touched_ways.specs.declared.found.Reached.{Reached}
-use Rattle.touched_ways.specs.Altering.{AreNamedTogether, AreSplit, HereOrBeside, MeetsOne}
+use Rattle.touched_ways.specs.Altering.{AreNamedTogether, HereOrBeside, MeetsOne}
 use Rattle.touched_ways.specs.Searches.{Finds, GivenBy, IsFound, IsWayLink}
 use Rattle.touched_ways.proofs.WayLists.{same}
 
@@ -83,23 +83,16 @@ with_those_beside M ways beside all are both = lists_same _ _ _ _ all both
     (λ w h. elim h [ inl own ↦ inl own | inr other ↦ inr (are.sound w other) ])
     (λ w h. elim h [ inl own ↦ inl own | inr other ↦ inr (are.complete w other) ])
 
--- those of some ways that are among them, where the ways were those that meet one of some others
-pub those_met : (M : Objects) (ways others met found among rest : List WayId)
-    → Lists (λ w. w) way_cmp (MeetsOne M others) met
-    → Lists (λ w. w) way_cmp (HereOrBeside M (Contains met)) found → AreSplit found ways among rest → (w : WayId)
-    → Contains among w ↔ (Contains ways w × HereOrBeside M (MeetsOne M others) w)
-those_met M ways others met found among rest first second are w = (
-  λ has. (
-    are.within w has,
-    elim (second.sound w (are.first w has)) [
+-- the ways that meet one of some, and those beside these
+pub those_meeting : (M : Objects) (ways met found : List WayId) → Lists (λ w. w) way_cmp (MeetsOne M ways) met
+    → Lists (λ w. w) way_cmp (HereOrBeside M (Contains met)) found
+    → Lists (λ w. w) way_cmp (HereOrBeside M (MeetsOne M ways)) found
+those_meeting M ways met found first second = lists_same _ _ _ _ found second
+    (λ w h. elim h [
       | inl here ↦ inl (first.sound w here)
       | inr other ↦ inr (other.0, other.1, first.sound other.0 other.2)
-    ],
-  ),
-  λ has.
-      let is : Contains found w = second.complete w (elim has.1 [
-        | inl here ↦ inl (first.complete w here)
-        | inr other ↦ inr (other.0, other.1, first.complete other.0 other.2)
-      ]) in
-      elim (are.either w has.0) [ inl here ↦ here | inr there ↦ absurd (are.second w there is) ],
-)
+    ])
+    (λ w h. elim h [
+      | inl here ↦ inl (first.complete w here)
+      | inr other ↦ inr (other.0, other.1, first.complete other.0 other.2)
+    ])

@@ -1,7 +1,7 @@
 -- Which blocks a change may alter. It may alter those of the ways near what it changes, those of ways that share a node
 -- with a way whose pieces it alters, those of the ways that a restriction names beside one of these, and those of ways
 -- by whose pieces another arc leads than before.
-use Rattle.std.specs.Prelude.{◌≡◌, ◌↔◌, ◌⊎◌, ℕ, ◌+◌, List, [], ◌∷◌, ◌++◌, Contains, map, length, IsTrue}
+use Rattle.std.specs.Prelude.{◌≡◌, ◌↔◌, ◌⊎◌, ℕ, ◌+◌, List, [], ◌∷◌, ◌++◌, Contains, map, length}
 use Rattle.road_base.specs.declared.ids.NodeId.{NodeId}
 use Rattle.road_base.specs.declared.ids.WayId.{WayId}
 use Rattle.road_base.specs.declared.ids.RelationId.{RelationId}
@@ -14,10 +14,8 @@ use Rattle.road_model.specs.declared.lists.Context.{Context}
 use Rattle.road_model.specs.declared.lists.Piece.{Piece}
 use Rattle.road_model.specs.declared.blocks.Block.{Block}
 use Rattle.road_model.specs.Rules.{Rules}
-use Rattle.ordered_lists.specs.Orders.{rises}
-use Rattle.road_model.specs.Orders.{way_cmp}
 use Rattle.road_model.specs.Pieces.{Span, IsPiece}
-use Rattle.road_model.specs.Links.{RefersTo, HasMember, IsWithin, Differs, IsTouched, AreTouched}
+use Rattle.road_model.specs.Links.{RefersTo, HasMember, IsWithin, Differs, IsTouched}
 use Rattle.road_model.specs.Local.{IsSameWithin, HasSameArcs}
 use Rattle.road_model.specs.Blocks.{IsBlock, IsSourceEntry, name_of}
 
@@ -36,6 +34,14 @@ HereOrBeside M Is w = Is w ⊎ ((v : WayId) × AreNamedTogether M w v × Is v)
 -- the way shares a node with one of these
 abbrev pub MeetsOne : Objects → List WayId → WayId → Type 0
 MeetsOne M ways w = (v : WayId) × (n : NodeId) × Contains ways v × RefersTo M w n × RefersTo M v n
+
+-- the way shares a node with one near the change
+abbrev pub MeetsChange : Objects → Objects → WayId → Type 0
+MeetsChange M N w = (v : WayId) × (n : NodeId) × IsNearChange M N v × RefersTo N w n × RefersTo N v n
+
+-- the way is near the change, or meets one that is, or a restriction names it beside one of these
+abbrev pub IsAround : Objects → Objects → WayId → Type 0
+IsAround M N w = HereOrBeside N (λ v. IsNearChange M N v ⊎ MeetsChange M N v) w
 
 -- the way has the same pieces in M and in N
 abbrev pub HasSamePieces : Objects → Objects → Rules → WayId → Type 0
@@ -111,25 +117,3 @@ pub record ListsArcFrom (ps : List Piece) (name : PieceName) (before s : List Pi
   pub others : List PieceName
   pub target : s ≡ others ++ before
   pub length_is : arc.length ≡ length before + 1
-
--- ---- ways in parts
-
--- The touched ways in two parts: those near what the change changes, with those that a restriction names beside one
--- near, ascending, and the others.
-pub record AreParted (M N : Objects) (all near away : List WayId) : Type 0 where
-  pub count : length near + length away ≡ length all
-  pub touched : AreTouched M N all
-  pub ascending : IsTrue (rises way_cmp near)
-  pub close : (w : WayId) → Contains near w → HereOrBeside N (IsNearChange M N) w
-  pub far : (w : WayId) → (Contains near w → ⊥) → IsSameWithin 2 M N w
-  pub beside : (w v : WayId) → Contains away w → AreNamedTogether N w v → IsSameWithin 2 M N v
-  pub others : (w : WayId) → (Contains near w → ⊥) → (Contains away w → ⊥) → IsTouched M N w → ⊥
-
--- each way of the list is in one of two others: in the first where it is among the close ones, in the list's order
-pub record AreSplit (close list near far : List WayId) : Type 0 where
-  pub count : length near + length far ≡ length list
-  pub within : (w : WayId) → Contains near w → Contains list w
-  pub ascending : IsTrue (rises way_cmp list) → IsTrue (rises way_cmp near)
-  pub first : (w : WayId) → Contains near w → Contains close w
-  pub second : (w : WayId) → Contains far w → Contains close w → ⊥
-  pub either : (w : WayId) → Contains list w → Contains near w ⊎ Contains far w

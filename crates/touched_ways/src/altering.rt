@@ -1,14 +1,11 @@
 //! The ways whose blocks a change may alter.
-ghost use Rattle.std.specs.Prelude.{◌≡◌, ◌↔◌, ◌+◌, ◌⊎◌, Contains, IfOk, IsTrue, length};
+ghost use Rattle.std.specs.Prelude.{◌≡◌, ◌↔◌, Contains, IfOk, IsTrue, length};
 ghost use Rattle.std.specs.List.{AllWithin};
 ghost use Rattle.std.specs.declared.cmp.Ordering.TheVariants.{Less, Greater};
 ghost use Rattle.road_base.specs.declared.ids.WayId.{WayId as WayNumber};
-ghost use Rattle.road_base.specs.Objects.{Objects};
-ghost use Rattle.road_model.specs.Links.{AreTouched};
 ghost use Rattle.ordered_lists.specs.Orders.{Lists, rises};
 ghost use Rattle.road_model.specs.Orders.{way_cmp};
-ghost use Rattle.touched_ways.specs.Altering.{AreNamedTogether, AreParted, AreSplit, HereOrBeside, IsNearChange};
-ghost use Rattle.touched_ways.specs.Altering.{MeetsOne};
+ghost use Rattle.touched_ways.specs.Altering.{AreNamedTogether, HereOrBeside, MeetsOne};
 
 use crate::found::Reached;
 use crate::merging::merge;
@@ -19,67 +16,23 @@ use road_model::World;
 use road_model::laws::{name_order, number_order};
 use std::alloc::Global;
 
-/// The ways that a change touches, ascending: those near what it changes, with those that a restriction names beside
-/// one near, and the others.
-#[derive(Drop)]
-pub struct TouchedWays {
-    pub all: Ways,
-    pub near: Ways,
-    pub far: Ways,
-}
-
-/// Parts the touched ways: `near_change` are those near what the change changes, in the world that was or in the one
-/// that it leaves, `next`. Goes along the ways once, with a search for each that is near, and takes the time and memory
-/// of the members of the restrictions that name a way that is near.
-pub fn part<M: World>(
-    alloc: Global,
-    next: &M,
-    touched: Ways,
-    near_change: &Ways,
-) -> Result<TouchedWays, NoMemory>
-    ensures all { IfOk result (λ t. t.all ≡ touched) }
-    ensures parted { IfOk result (λ t. (was : Objects)
-        → Lists (λ w. w) way_cmp (IsNearChange was (M.objects next.now)) near_change.now
-        → AreTouched was (M.objects next.now) touched
-        → AreParted was (M.objects next.now) touched t.near t.far) }
-{
-    let close = with_beside(alloc, next, near_change)?;
-    let parts = split(alloc, &touched, &close)?;
-    Ok(TouchedWays {
-        all: touched,
-        near: parts.among,
-        far: parts.others,
-    })
-}
-
-/// Ways in two parts, each in their order: those that are among some others, and the rest.
-#[derive(Drop)]
-pub struct SplitWays {
-    pub among: Ways,
-    pub others: Ways,
-}
-
-/// The ways in two parts: those among the close ones, which ascend, and the others. Goes along the ways once, with one
-/// search at most for each close one.
-pub fn split(alloc: Global, ways: &Ways, close: &Ways) -> Result<SplitWays, NoMemory>
-    requires { IsTrue (rises way_cmp close.now) }
-    ensures { IfOk result (λ parts. AreSplit close.now ways.now parts.among parts.others) }
+/// These ways without those among the others, ascending. Goes along the ways once, with one search among the others at
+/// most for each.
+pub fn apart_from(alloc: Global, ways: &Ways, others: &Ways) -> Result<Ways, NoMemory>
+    requires ways { IsTrue (rises way_cmp ways.now) }
+    requires others { IsTrue (rises way_cmp others.now) }
+    ensures { IfOk result (Lists (λ w. w) way_cmp
+        (λ w. Contains ways.now w × (Contains others.now w → ⊥))) }
 {
     name_order();
-    let mut among = Vec::new(alloc);
-    let mut others = Vec::with_capacity(alloc, ways.items().len())?;
+    let mut apart = Vec::new(alloc);
     let mut gap = 0;
     for way in ways.items() {
-        if is_among_next(close, *way, &mut gap) {
-            among.push(*way)?;
-        } else {
-            others.push(*way)?;
+        if !is_among_next(others, *way, &mut gap) {
+            apart.push(*way)?;
         }
     }
-    Ok(SplitWays {
-        among: Ways::from_list(among),
-        others: Ways::from_list(others),
-    })
+    Ok(Ways::from_list(apart))
 }
 
 /// Whether the way is one of these, which ascend. Takes no memory.
@@ -150,24 +103,14 @@ fn are_above(ways: &[WayId], from: usize, way: WayId) -> bool
     }
 }
 
-/// The ways in two parts: those that share a node with one of `others` or that a restriction names beside a way that
-/// does, and the rest. Takes the time and memory of the ways at the nodes of `others`, and of the members of the
-/// restrictions that name these, and goes along the ways once, with a search for each that was found so.
-pub fn meeting<M: World>(
-    alloc: Global,
-    world: &M,
-    ways: &Ways,
-    others: &[WayId],
-) -> Result<SplitWays, NoMemory>
-    ensures count { IfOk result (λ parts. length parts.among + length parts.others ≡ length ways.now) }
-    ensures exactly { IfOk result (λ parts. (w : WayNumber) → Contains parts.among w
-        ↔ (Contains ways.now w × HereOrBeside (M.objects world.now) (MeetsOne (M.objects world.now) others.now) w)) }
-    ensures either { IfOk result (λ parts. (w : WayNumber) → Contains ways.now w
-        → Contains parts.among w ⊎ Contains parts.others w) }
+/// The ways that share a node with one of these or that a restriction names beside a way that does, ascending. Takes
+/// the time and memory of the ways at the nodes of these, and of the members of the restrictions that name those.
+pub fn meeting<M: World>(alloc: Global, world: &M, ways: &[WayId]) -> Result<Ways, NoMemory>
+    ensures { IfOk result (Lists (λ w. w) way_cmp
+        (HereOrBeside (M.objects world.now) (MeetsOne (M.objects world.now) ways.now))) }
 {
-    let met = ways_met(alloc, world, others)?;
-    let found = with_beside(alloc, world, &met)?;
-    split(alloc, ways, &found)
+    let met = ways_met(alloc, world, ways)?;
+    with_beside(alloc, world, &met)
 }
 
 /// The ways that share a node with one of these, ascending, as does each of these that has a node. Ways without the key
@@ -186,8 +129,9 @@ pub fn ways_met<M: World>(alloc: Global, world: &M, ways: &[WayId]) -> Result<Wa
     Ok(Ways::from_list(met))
 }
 
-/// These ways, and those that a restriction names beside one of them, ascending.
-fn with_beside<M: World>(alloc: Global, world: &M, ways: &Ways) -> Result<Ways, NoMemory>
+/// These ways, and those that a restriction names beside one of them, ascending. Takes the time and memory of the
+/// restrictions that name these, and of their members.
+pub fn with_beside<M: World>(alloc: Global, world: &M, ways: &Ways) -> Result<Ways, NoMemory>
     ensures { IfOk result (Lists (λ w. w) way_cmp (HereOrBeside (M.objects world.now) (λ v. Contains ways.now v))) }
 {
     let beside = ways_beside(alloc, world, ways.items())?;

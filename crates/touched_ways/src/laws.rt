@@ -1,15 +1,36 @@
-//! What is said of the ways whose blocks a change doesn't alter.
-ghost use Rattle.std.specs.Prelude.{◌≡◌, ◌↔◌, List, [], ◌∷◌, ◌++◌};
+//! What is said of the ways that a change touches, and of those whose blocks it doesn't alter.
+ghost use Rattle.std.specs.Prelude.{◌≡◌, ◌↔◌, ◌⊎◌, List, [], ◌∷◌, ◌++◌};
 ghost use Rattle.road_base.specs.declared.ids.WayId.{WayId};
 ghost use Rattle.road_base.specs.Objects.{Objects};
 ghost use Rattle.road_model.specs.declared.blocks.Block.{Block};
 ghost use Rattle.road_model.specs.declared.lists.PieceName.{PieceName};
+ghost use Rattle.road_model.specs.declared.lists.TurnArc.{TurnArc};
 ghost use Rattle.road_model.specs.Blocks.{IsBlock, ListsPieces};
+ghost use Rattle.road_model.specs.Links.{AreTouched, IsTouched};
 ghost use Rattle.road_model.specs.Local.{IsSameWithin, HasSameArcs};
 ghost use Rattle.touched_ways.specs.Altering.{HasSamePieces, IsLedAlike, IsNamedSource, ListsArcFrom};
-ghost use Rattle.touched_ways.specs.Altering.{IsUnaltered, listed_pieces};
+ghost use Rattle.touched_ways.specs.Altering.{IsAround, IsUnaltered, ListsArc, listed_pieces};
 
 use road_model::Profile;
+
+/// There is a list of the ways that a change touches.
+pub fn some_touched_ways()
+    ensures { (M N : Objects) → (ways : List WayId) × AreTouched M N ways }
+{}
+
+/// A way near a change, or that meets one near it, or that a restriction names beside one of these, is touched.
+pub fn near_ways_are_touched()
+    ensures { (M N : Objects) (w : WayId) → IsAround M N w → IsTouched M N w }
+{}
+
+/// So is each to which an arc leads from the block of such a way, be it the block before the change or behind it.
+pub fn led_ways_are_touched<P: Profile>(profile: &P)
+    ensures { (M N : Objects) (w : WayId) (b : Block) (name : PieceName) (before : List PieceName) (a : TurnArc)
+        → IsAround M N w
+        → IsBlock M (P.rules profile.now) w b ⊎ IsBlock N (P.rules profile.now) w b
+        → ListsArc b.pieces name before a
+        → IsTouched M N a.piece.way }
+{}
 
 /// Where nothing differs within two links of a way, and the ways that share a node with it have the same pieces, and
 /// so it is with each way that a restriction names beside it, all that stands in its block but the sources is the same

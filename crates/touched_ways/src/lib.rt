@@ -8,12 +8,14 @@
 //! followed that takes time of the order of n log n, and memory for the ways and restrictions seen and for what a round
 //! finds, and nothing of the size of the map.
 //!
-//! `surroundings` finds what is near a change in one such search: the links of the changed keys are followed in the
-//! world before the change and in the one behind it, and all others in the latter alone, since there they are the same.
-//! `merge` goes along both lists once. `part` follows the links of the restrictions that name a way near the change,
-//! and goes along the touched ways once. `meeting` follows the links of the ways to be met, finds the ways at these
-//! nodes as the last round does, and those that restrictions name beside them, and goes along its ways once. Both part
-//! ways as `split` does, with one search at most for each way that they look for.
+//! `near_change` finds the ways within two links of a change, and `surroundings` all that it touches, each in one such
+//! search: the links of the changed keys are followed in the world before the change and in the one behind it, and all
+//! others in the latter alone, since there they are the same. `merge` goes along both lists once. `with_beside` follows
+//! the links of the restrictions that name one of its ways. `meeting` follows the links of the ways to be met, finds
+//! the ways at these nodes as the last round does, and those that restrictions name beside them. `apart_from` goes
+//! along its ways once, with one search at most for each. Who follows a change needs no more than what is near it, and
+//! what meets ways whose pieces it altered: that these are touched, and that there is a list of all touched ways, is
+//! what the laws say.
 #![tactic(auto)]
 
 mod altering;
@@ -28,6 +30,6 @@ mod rounds;
 mod search;
 mod seen;
 
-pub use altering::{SplitWays, TouchedWays, is_among, meeting, part, split, ways_met};
+pub use altering::{apart_from, is_among, meeting, ways_met, with_beside};
 pub use merging::merge;
-pub use rounds::{NearWays, reached, surroundings};
+pub use rounds::{near_change, reached, surroundings};

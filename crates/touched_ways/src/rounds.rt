@@ -17,17 +17,6 @@ use road_model::{LINK_RADIUS, World};
 use std::alloc::Global;
 use std::collections::BTreeSet;
 
-/// How many links lead at most to a way whose pieces a change may alter.
-const FEW_LINKS: u32 = 2;
-
-/// The ways near a change, visible or not, ascending: those within two links of a changed key, and those within the
-/// link radius of one. A way is within zero links of itself.
-#[derive(Drop)]
-pub struct NearWays {
-    pub near: Ways,
-    pub all: Ways,
-}
-
 /// The ways within the link radius of the keys, ascending. Takes the time and memory of what is reached.
 pub fn reached<M: World>(alloc: Global, world: &M, changed: &Keys) -> Result<Ways, NoMemory>
     ensures { IfOk result (AreReached (M.objects world.now) changed.now) }
@@ -37,27 +26,38 @@ pub fn reached<M: World>(alloc: Global, world: &M, changed: &Keys) -> Result<Way
     last_round(alloc, world, search)
 }
 
-/// The ways within two links and those within the link radius of the changed keys, in the world before a change or in
-/// the one behind it, in one search. A link that is in one of them alone has a changed key at an end, so those of the
-/// world before are followed from the changed keys alone. Takes the time and memory of what is reached.
+/// The ways within two links of the changed keys, ascending, visible or not, in the world before a change or in the one
+/// behind it. A link that is in one of them alone has a changed key at an end, so those of the world before are
+/// followed from the changed keys alone. Takes the time and memory of what is reached.
+pub fn near_change<M: World, N: World>(
+    alloc: Global,
+    before: &M,
+    after: &N,
+    changed: &Keys,
+) -> Result<Ways, NoMemory>
+    ensures { IfOk result (λ ways. AreChanged (M.objects before.now) (N.objects after.now) changed.now
+        → Lists (λ w. w) way_cmp (IsNearChange (M.objects before.now) (N.objects after.now)) ways) }
+{
+    let mut search = begin(alloc, changed.items())?;
+    round_in_both(alloc, before, after, &mut search)?;
+    last_round(alloc, after, search)
+}
+
+/// The ways within the link radius of the changed keys, ascending, visible or not, in the world before a change or in
+/// the one behind it, found in the same way.
 pub fn surroundings<M: World, N: World>(
     alloc: Global,
     before: &M,
     after: &N,
     changed: &Keys,
-) -> Result<NearWays, NoMemory>
-    ensures near { IfOk result (λ s. AreChanged (M.objects before.now) (N.objects after.now) changed.now
-        → Lists (λ w. w) way_cmp (IsNearChange (M.objects before.now) (N.objects after.now)) s.near) }
-    ensures all { IfOk result (λ s. AreChanged (M.objects before.now) (N.objects after.now) changed.now
-        → AreTouched (M.objects before.now) (N.objects after.now) s.all) }
+) -> Result<Ways, NoMemory>
+    ensures { IfOk result (λ ways. AreChanged (M.objects before.now) (N.objects after.now) changed.now
+        → AreTouched (M.objects before.now) (N.objects after.now) ways) }
 {
     let mut search = begin(alloc, changed.items())?;
     round_in_both(alloc, before, after, &mut search)?;
-    rounds(alloc, after, &mut search, FEW_LINKS - 1)?;
-    let near = search.ways(alloc)?;
-    rounds(alloc, after, &mut search, LINK_RADIUS - FEW_LINKS - 1)?;
-    let all = last_round(alloc, after, search)?;
-    Ok(NearWays { near, all })
+    rounds(alloc, after, &mut search, LINK_RADIUS - 2)?;
+    last_round(alloc, after, search)
 }
 
 /// The search that has reached the keys.

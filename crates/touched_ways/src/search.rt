@@ -48,16 +48,6 @@ impl LinkSearch {
         Ok(())
     }
 
-    /// The ways seen, ascending.
-    pub fn ways(&self, alloc: Global) -> Result<Ways, NoMemory>
-        ensures { IfOk result (Lists (λ w. w) way_cmp (λ w. Contains self.now.ways.all.items w)) }
-    {
-        let mut ways = Vec::from_slice(alloc, self.ways.all.as_slice())?;
-        name_order();
-        leave_once(&mut ways);
-        Ok(Ways::from_list(ways))
-    }
-
     /// The ways seen and those given, ascending. Only the latter are to be sorted.
     pub fn ways_with(self, last: Vec<WayId>) -> Result<Ways, NoMemory>
         ensures { IfOk result

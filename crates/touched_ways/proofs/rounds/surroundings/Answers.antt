@@ -1,34 +1,29 @@
-use Rattle.std.proofs.Common.{List, suc, subst}
+use Rattle.std.proofs.Common.{◌⊎◌, List, suc, subst}
+use Rattle.std.proofs.lemmas.Result.{IfOk-weaker}
 use Rattle.road_base.specs.declared.ids.Key.{Key}
-use Rattle.touched_ways.specs.Searches.{IsBegun}
-use Rattle.touched_ways.proofs.LinkRounds.{rounds_more, ways_seen, ways_reached}
-use Rattle.touched_ways.proofs.ChangedLinks.{IsWithinInOne, reach_behind, first_round, near_ways, all_ways}
+use Rattle.road_base.specs.declared.ids.Key.TheVariants.{Way as WayKey}
+use Rattle.ordered_lists.specs.Orders.{Lists}
+use Rattle.road_model.specs.Orders.{way_cmp}
+use Rattle.road_model.specs.Links.{AreChanged, AreTouched}
+use Rattle.touched_ways.specs.Searches.{IsBegun, IsSeen, IsFurther}
+use Rattle.touched_ways.proofs.LinkRounds.{rounds_more, ways_reached}
+use Rattle.touched_ways.proofs.ChangedLinks.{IsWithinInOne, reach_behind, first_round, all_ways}
 use Rattle.touched_ways.proofs.rounds.surroundings.Goals as goal
 
-pub returns-clause-near : goal.returns-clause-near
-returns-clause-near g c changed =
+pub returns : goal.returns
+returns g c =
     let M = g.M.World.objects c.args.before.now in
     let N = g.N.World.objects c.args.after.now in
     let keys = c.args.changed.now in
     let begun = subst (λ (l : List Key). IsBegun l c.in_ok-search.search) c.items.ensures c.in_ok-search.ensures in
-    let round = rounds_more N (λ n. IsWithinInOne M N keys (suc n)) (reach_behind M N keys changed) 1 0
+    IfOk-weaker c.last_round.result
+    (Lists (λ w. w) way_cmp (λ w. IsSeen c.rounds.new.search (WayKey w) ⊎ IsFurther N c.rounds.new.search (WayKey w)))
+    (λ ways. AreChanged M N keys → AreTouched M N ways)
+    (λ ways lists changed.
+    let far = rounds_more N (λ n. IsWithinInOne M N keys (suc n)) (reach_behind M N keys changed) 6 0
     c.round_in_both.new.search c.rounds.new.search
     (first_round M N keys changed c.in_ok-search.search c.round_in_both.new.search begun
     c.in_ok-round_in_both.ensures) c.in_ok-rounds.ensures in
-    near_ways M N keys changed c.in_ok-near.near
-    (ways_seen N (IsWithinInOne M N keys 2) c.rounds.new.search c.in_ok-near.near round c.in_ok-near.ensures)
-
-pub returns-clause-all : goal.returns-clause-all
-returns-clause-all g c changed =
-    let M = g.M.World.objects c.args.before.now in
-    let N = g.N.World.objects c.args.after.now in
-    let keys = c.args.changed.now in
-    let begun = subst (λ (l : List Key). IsBegun l c.in_ok-search.search) c.items.ensures c.in_ok-search.ensures in
-    let more = rounds_more N (λ n. IsWithinInOne M N keys (suc n)) (reach_behind M N keys changed) in
-    let near = more 1 0 c.round_in_both.new.search c.rounds.new.search
-    (first_round M N keys changed c.in_ok-search.search c.round_in_both.new.search begun
-    c.in_ok-round_in_both.ensures) c.in_ok-rounds.ensures in
-    let far = more 5 1 c.rounds.new.search c.rounds-2.new.search near c.in_ok-rounds-2.ensures in
-    all_ways M N keys changed c.in_ok-all.all
-    (ways_reached N (λ n. IsWithinInOne M N keys (suc n)) (reach_behind M N keys changed) 6 c.rounds-2.new.search far
-    c.in_ok-all.all c.in_ok-all.ensures)
+    all_ways M N keys changed ways
+    (ways_reached N (λ n. IsWithinInOne M N keys (suc n)) (reach_behind M N keys changed) 6 c.rounds.new.search far
+    ways lists)) c.last_round.ensures

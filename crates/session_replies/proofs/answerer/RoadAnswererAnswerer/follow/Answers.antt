@@ -10,7 +10,7 @@ returns-clause-few g c =
     ok_anyway c.apply.result _ (λ h pins O stands next has.
     costs_most M O events c.args.steps.now c.apply.new.steps
     (c.history_objects.ensures.one h O M has (newest_objects _ readers h pins stands))
-    (touched c.applied_stands.ensures M events) c.apply.ensures.few)
+    (touched c.applied_stands.ensures c.some_touched_ways.ensures M events) c.apply.ensures.few)
 
 pub returns-clause-failed : goal.returns-clause-failed
 returns-clause-failed g c =

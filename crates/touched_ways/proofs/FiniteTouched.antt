@@ -1,4 +1,4 @@
--- The ways that a change touches are finitely many, so there is a list of them.
+-- The keys that a change alters and the ways that it touches are finitely many, so there are lists of them.
 use Rattle.std.proofs.Common.{◌≡◌, ℕ, zero, suc, List, [], ◌∷◌, ◌++◌, map, ◌⊎◌, inl, inr, refl, sym, ap, ◌∙◌, subst}
 use Rattle.std.proofs.Common.{Option, Some, None, IsTrue, Contains, Bool, true, false, cond}
 use Rattle.std.specs.FinMap.{get, entries, get-entries, find}
@@ -15,12 +15,13 @@ use Rattle.road_base.specs.declared.objects.Relation.{Relation}
 use Rattle.road_base.specs.Objects.{Objects, Entry, key_cmp, visible, body_in, way_in, relation_in, way_of, relation_of}
 use Rattle.road_model.specs.Rules.{has_highway, is_restriction}
 use Rattle.road_model.specs.Links.{RefersTo, HasMember, IsLink, IsWithin, Differs, IsNear, IsTouched, AreTouched}
-use Rattle.road_model.specs.Links.{link_radius}
+use Rattle.road_model.specs.Links.{AreChanged, link_radius}
 use Rattle.road_model.specs.Orders.{way_cmp}
 use Rattle.ordered_lists.proofs.ListMembers.{In, in_left, in_right, in_from_contains, contains_from_in}
 use Rattle.ordered_lists.proofs.Decided.{Decided, decided_both, decided_not, decided_like, decided_true, decided_int}
 use Rattle.ordered_lists.proofs.Enumerated.{Finite, fin_none, fin_one, fin_or, fin_by, fin_bind, fin_list}
 use Rattle.ordered_lists.proofs.SortedLists.{listed}
+use Rattle.road_base.proofs.KeyOrder.{key_cmp_total, key_cmp-IsAntisymmetric}
 use Rattle.road_model.proofs.TotalOrders.{way_cmp_total, way_cmp_exact}
 use Rattle.road_model.proofs.Positions.{decided_way, decided_node, same_way, same_node_id}
 use Rattle.road_model.proofs.FiniteWords.{fin_pass}
@@ -238,6 +239,9 @@ module _ (M N : Objects) where
       (λ k. decided_not (decided_by coded_visible (visible M k) (visible N k)))
       (fin_list (keys_in (entries M) ++ keys_in (entries N)))) (λ k h. h.0)
       (λ k d. (d, changed_if k d (visible M k) (visible N k) refl refl))
+
+  pub changed_keys : (keys : List Key) × AreChanged M N keys
+  changed_keys = listed (λ k. k) key_cmp key_cmp_total key_cmp-IsAntisymmetric fin_changed (λ x y i j e. e)
 
   fin_touched : Finite (λ w. IsTouched M N w)
   fin_touched = fin_bind fin_changed (λ k. fin_or (fin_near M k) (fin_near N k))
