@@ -1,6 +1,6 @@
 //! A small world, with ample memory.
 use back_references::{Indexed, Next};
-use library_tests::makers::{are_same, deletion, events_of};
+use object_tests::makers::{are_same, deletion, events_of};
 use road_base::{Event, Key, NoMemory, NodeId, RelationId, WayId};
 use road_model::World;
 use std::alloc::Global;

@@ -1,8 +1,8 @@
 //! The happy path of each public call, with ample memory.
 ghost use Rattle.std.specs.Prelude.{◌≤◌, length};
 
-use library_tests::makers::{are_same, event_of, events_of};
 use object_store::Objects;
+use object_tests::makers::{are_same, event_of, events_of};
 use ordered_lists::Ranges;
 use road_base::{Body, Event, Key, NoMemory, NodeId};
 use std::alloc::Global;

@@ -4,7 +4,7 @@ use back_references::Indexed;
 use road_base::{Key, Keys, NoMemory, NodeId, RelationId, WayId, Ways};
 use std::alloc::Global;
 use std::test::Fail;
-use touched_ways::{NearWays, TouchedWays, meeting, merge, part, reached, surroundings};
+use touched_ways::{apart_from, meeting, merge, near_change, reached, surroundings, with_beside};
 
 /// Way 10 over the nodes 1 and 2, way 11 over 4, 3 and 2, way 13 over 1 and 6, way 14 over 6 and 7, and way 15 over 7
 /// and 8.
@@ -94,82 +94,98 @@ const MOVED: &[u8] =
     w14 Thighway=road Nn5,n6\nw20 Thighway=road Nn7,n8\nw21 Thighway=road Nn8,n9\nw22 Thighway=road Nn9,n10\n\
     w23 Thighway=road Nn10,n11\nw24 Thighway=road Nn11,n12\n";
 
-/// The ways near a change of way 12 from the one world to the other, and those that it touches.
-fn about_between(alloc: Global, was: &Indexed, is: &Indexed) -> Result<NearWays, Fail> {
+/// Whether a change of way 12 from the one world to the other has these ways within two links, and touches those.
+fn is_about(
+    alloc: Global,
+    was: &Indexed,
+    is: &Indexed,
+    near: &[i64],
+    all: &[i64],
+) -> Result<bool, NoMemory> {
     let keys = Keys::from_list(Vec::from_slice(alloc, &[Key::Way(WayId(12))])?);
-    Ok(surroundings(alloc, was, is, &keys)?)
+    let close = near_change(alloc, was, is, &keys)?;
+    let touched = surroundings(alloc, was, is, &keys)?;
+    Ok(are(&close, near) && are(&touched, all))
 }
 
 /// The same, from that world to the one of these lines.
-fn about_since(alloc: Global, was: &Indexed, after: &[u8]) -> Result<NearWays, Fail> {
+fn is_about_since(alloc: Global, was: &Indexed, after: &[u8]) -> Result<bool, Fail> {
     let is = world_of(alloc, after)?;
-    about_between(alloc, was, &is)
-}
-
-/// The same, from the world of the lines before to that of the lines after.
-fn about_way_12(alloc: Global, before: &[u8], after: &[u8]) -> Result<NearWays, Fail> {
-    let was = world_of(alloc, before)?;
-    about_since(alloc, &was, after)
+    Ok(is_about(
+        alloc,
+        was,
+        &is,
+        &[11, 12, 13, 20],
+        &[10, 11, 12, 13, 14, 20, 21, 22, 23],
+    )?)
 }
 
 #[test]
 fn ways_about_a_moved_way(rt: HostRuntime) -> Result<(), Fail> {
     for (before, after) in [(ROWS, MOVED), (MOVED, ROWS)] {
-        let found = about_way_12(rt.alloc(), before, after)?;
-        assert!(rt; are(&found.near, &[11, 12, 13, 20]));
-        assert!(rt; are(&found.all, &[10, 11, 12, 13, 14, 20, 21, 22, 23]));
+        let was = world_of(rt.alloc(), before)?;
+        assert!(rt; is_about_since(rt.alloc(), &was, after)?);
     }
     Ok(())
 }
 
-/// Whether the far ones of the ways that meet the way are this one alone.
+/// Whether these are the ways that meet the way, and those of them that aren't near a change of way 12.
 fn meets(
     alloc: Global,
     world: &Indexed,
-    touched: &TouchedWays,
     way: i64,
-    met: i64,
+    met: &[i64],
+    apart: &[i64],
 ) -> Result<bool, NoMemory> {
-    let ways = meeting(alloc, world, &touched.far, &[WayId(way)])?;
-    Ok(are(&ways.among, &[met]))
+    let near = Ways::from_list(Vec::from_slice(
+        alloc,
+        &[WayId(11), WayId(12), WayId(13), WayId(20)],
+    )?);
+    let ways = meeting(alloc, world, &[WayId(way)])?;
+    let others = apart_from(alloc, &ways, &near)?;
+    Ok(are(&ways, met) && are(&others, apart))
 }
 
-/// Ways at the ends of those that are near the change, and the far ones that they meet.
-const MET: [(i64, i64); 4] = [(11, 10), (13, 14), (20, 21), (24, 23)];
+/// A way, those that meet it in the moved world, and those of them that aren't near the change.
+const MET: [(i64, &[i64], &[i64]); 4] = [
+    (11, &[10, 11, 12], &[10]),
+    (13, &[13, 14], &[14]),
+    (20, &[12, 20, 21], &[21]),
+    (24, &[23, 24], &[23, 24]),
+];
 
-fn all_meet(alloc: Global, world: &Indexed, touched: &TouchedWays) -> Result<bool, NoMemory> {
-    for (way, met) in MET {
-        if !meets(alloc, world, touched, way, met)? {
+fn all_meet(alloc: Global, world: &Indexed) -> Result<bool, NoMemory> {
+    for (way, met, apart) in MET {
+        if !meets(alloc, world, way, met, apart)? {
             return Ok(false);
         }
     }
     Ok(true)
 }
 
-/// Whether the ways that a change of way 12 touches come in the parts that they should in the world behind it.
-fn come_in_parts(alloc: Global, world: &Indexed, found: NearWays) -> Result<bool, NoMemory> {
-    let touched = part(alloc, world, found.all, &found.near)?;
-    Ok(
-        are(&touched.near, &[11, 12, 13, 20])
-            && are(&touched.far, &[10, 14, 21, 22, 23])
-            && are(&touched.all, &[10, 11, 12, 13, 14, 20, 21, 22, 23])
-            && all_meet(alloc, world, &touched)?,
-    )
+#[test]
+fn ways_that_meet_a_way(rt: HostRuntime) -> Result<(), Fail> {
+    let world = world_of(rt.alloc(), MOVED)?;
+    assert!(rt; all_meet(rt.alloc(), &world)?);
+    Ok(())
 }
 
-fn parts_between(alloc: Global, was: &Indexed, is: &Indexed) -> Result<bool, Fail> {
-    let found = about_between(alloc, was, is)?;
-    Ok(come_in_parts(alloc, is, found)?)
-}
+/// A restriction names the ways 10, 12 and 14.
+const NAMED: &[u8] =
+    b"w10 Thighway=road Nn1,n2\nw11 Thighway=road Nn2,n3\nw12 Thighway=road Nn3,n4\n\
+    w14 Thighway=road Nn5,n6\nr5 Ttype=restriction Mw10@from,w12@via,w14@to\n";
 
-fn parts_since(alloc: Global, was: &Indexed) -> Result<bool, Fail> {
-    let is = world_of(alloc, MOVED)?;
-    parts_between(alloc, was, &is)
+/// Whether the way has these beside it.
+fn has_beside(alloc: Global, world: &Indexed, way: i64, want: &[i64]) -> Result<bool, NoMemory> {
+    let ways = Ways::from_list(Vec::from_slice(alloc, &[WayId(way)])?);
+    let all = with_beside(alloc, world, &ways)?;
+    Ok(are(&all, want))
 }
 
 #[test]
-fn touched_ways_in_two_parts(rt: HostRuntime) -> Result<(), Fail> {
-    let was = world_of(rt.alloc(), ROWS)?;
-    assert!(rt; parts_since(rt.alloc(), &was)?);
+fn ways_beside_a_way(rt: HostRuntime) -> Result<(), Fail> {
+    let world = world_of(rt.alloc(), NAMED)?;
+    assert!(rt; has_beside(rt.alloc(), &world, 12, &[10, 12, 14])?);
+    assert!(rt; has_beside(rt.alloc(), &world, 11, &[11])?);
     Ok(())
 }

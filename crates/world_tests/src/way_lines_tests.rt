@@ -2,7 +2,7 @@
 use crate::worlds::world_of;
 use access_profile::Motorcar;
 use back_references::Indexed;
-use library_tests::makers::no_tags;
+use object_tests::makers::no_tags;
 use road_base::{Dir, NoMemory, NodeId, Refs, Step, Way, WayId};
 use road_model::Network;
 use std::alloc::Global;

@@ -4,7 +4,7 @@ ghost use Rattle.std.specs.FinMap.{empty};
 ghost use Rattle.road_base.specs.Applying.{IsApplied};
 
 use back_references::Indexed;
-use library_tests::makers::extract_of;
+use object_tests::makers::extract_of;
 use road_base::{Event, NoMemory};
 use std::alloc::Global;
 use std::test::Fail;

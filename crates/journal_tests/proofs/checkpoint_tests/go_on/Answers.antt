@@ -1,0 +1,11 @@
+use Rattle.std.proofs.Common.{sym, subst}
+use Rattle.road_base.specs.Profiles.{IsProfile}
+use Rattle.journal_tests.proofs.checkpoint_tests.go_on.Goals as goal
+
+pub checkpoint-requires-clause-known : goal.checkpoint-requires-clause-known
+checkpoint-requires-clause-known c =
+    subst IsProfile (sym c.profile-profile.ensures) c.in_ok-loaded.ensures.known
+
+pub checkpoint-requires-clause-on_store : goal.checkpoint-requires-clause-on_store
+checkpoint-requires-clause-on_store c = λ not_closed.
+    (c.in_ok-loaded.ensures.told.answer.history, c.in_ok-loaded.ensures.told.answer.ready)

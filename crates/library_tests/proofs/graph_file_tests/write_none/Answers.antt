@@ -1,6 +1,0 @@
-use Rattle.road_model.specs.Format.{is_sourced}
-use Rattle.graph_file.proofs.Files.{forms_of_none}
-use Rattle.library_tests.proofs.graph_file_tests.write_none.Goals as goal
-
-pub write-requires-clause-forms : goal.write-requires-clause-forms
-write-requires-clause-forms c = forms_of_none (is_sourced c.args.version) _ c.new-blocks.ensures

@@ -1,9 +1,0 @@
-use Rattle.std.proofs.Common.{refl, sym, subst}
-use Rattle.road_base.specs.Profiles.{IsProfile}
-use Rattle.world_tests.proofs.change_apply_tests.graph_of.Goals as goal
-
-pub write-requires-clause-profile : goal.write-requires-clause-profile
-write-requires-clause-profile c = subst IsProfile (sym c.number.ensures) refl
-
-pub write-requires-clause-forms : goal.write-requires-clause-forms
-write-requires-clause-forms c = c.blocks-2.ensures.forms
