@@ -315,7 +315,7 @@ fn node(alloc: Global, number: i64) -> Event {
         key: Key::Node(NodeId(number)),
         version: 1,
         body: Body::Node(Node {
-            tags: Tags::from_list(Vec::new(alloc)),
+            tags: Tags::new(),
             location: None,
         }),
     }

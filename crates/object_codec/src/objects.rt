@@ -154,7 +154,7 @@ impl Spell<EventFormat> for Refs {
 
     fn read(alloc: Global, bytes: &[u8]) -> Result<(Refs, &[u8]), Unread> {
         let (list, rest) = read_list::<NodeId>(alloc, bytes)?;
-        Ok((Refs::from_list(list), rest))
+        Ok((Refs::from_list(list)?, rest))
     }
 }
 
@@ -219,7 +219,7 @@ impl Spell<EventFormat> for Members {
 
     fn read(alloc: Global, bytes: &[u8]) -> Result<(Members, &[u8]), Unread> {
         let (list, rest) = read_list::<Member>(alloc, bytes)?;
-        Ok((Members::from_list(list), rest))
+        Ok((Members::from_list(list)?, rest))
     }
 }
 

@@ -53,7 +53,7 @@ impl Spell<EventFormat> for Tags {
         if !Tags::are_ascending(&list) {
             return Err(Unread::Malformed);
         }
-        Ok((Tags::from_list(list), rest))
+        Ok((Tags::from_list(list)?, rest))
     }
 }
 

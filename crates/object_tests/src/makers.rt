@@ -1,5 +1,5 @@
 //! Texts, tags and events for tests, and their comparison.
-ghost use Rattle.std.specs.Prelude.{◌≡◌, [], IfOk};
+ghost use Rattle.std.specs.Prelude.{◌≡◌, IfOk};
 ghost use Rattle.road_base.specs.declared.objects.Body.TheVariants.{Deleted};
 
 use opl_objects::{Mode, ReadError, Reader};
@@ -11,14 +11,7 @@ use std::test::Fail;
 pub fn text(alloc: Global, of: &str) -> Result<Text, NoMemory>
     ensures { IfOk result (λ t. t ≡ of.now) }
 {
-    Ok(Text::from_string(String::from_str(alloc, of)?))
-}
-
-/// No tags. Takes no memory.
-pub fn no_tags(alloc: Global) -> Tags
-    ensures { result ≡ [] }
-{
-    Tags::from_list(Vec::new(alloc))
+    Text::of(alloc, of)
 }
 
 /// The tags of these pairs of a key and a value, which ascend by key.
@@ -28,7 +21,7 @@ pub fn tags_of(list: Vec<(Text, Text)>) -> Result<Tags, Fail>
     if list.len() > 65_535 || !Tags::are_ascending(&list) {
         return Err(Fail::from("the keys don't ascend"));
     }
-    Ok(Tags::from_list(list))
+    Ok(Tags::from_list(list)?)
 }
 
 fn add_pair(

@@ -227,7 +227,7 @@ pub fn refs(alloc: Global, contents: &str) -> Result<Refs, LexError>
         list.push(id)?;
         next = behind;
     }
-    Ok(Refs::from_list(list))
+    Ok(Refs::from_list(list)?)
 }
 
 /// The key that a letter and a number name.
@@ -277,5 +277,5 @@ pub fn members(alloc: Global, contents: &str) -> Result<Members, LexError>
         list.push(member(alloc, item)?)?;
         next = behind;
     }
-    Ok(Members::from_list(list))
+    Ok(Members::from_list(list)?)
 }

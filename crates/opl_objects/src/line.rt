@@ -60,7 +60,7 @@ fn read_object(
     let Some(key) = key(object) else {
         return Err(BAD_NUMBER);
     };
-    let mut parts = Parts::new(alloc);
+    let mut parts = Parts::new();
     parts.read(alloc, key, others)?;
     if mode == Mode::Change && !parts.has_version() {
         return Err(NO_VERSION);

@@ -125,18 +125,18 @@ fn fault_at(field: u32, error: LexError) -> LineError
 impl Parts {
     /// No field was read.
     #[inline]
-    pub fn new(alloc: Global) -> Parts
+    pub fn new() -> Parts
         ensures { AreRead [] result }
     {
         Parts {
             seen: Seen::new(),
             version: 0,
             deleted: false,
-            tags: Tags::from_list(Vec::new(alloc)),
+            tags: Tags::new(),
             lon: None,
             lat: None,
-            refs: Refs::from_list(Vec::new(alloc)),
-            members: Members::from_list(Vec::new(alloc)),
+            refs: Refs::new(),
+            members: Members::new(),
         }
     }
 

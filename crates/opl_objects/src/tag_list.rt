@@ -74,7 +74,7 @@ pub fn tags(alloc: Global, contents: &str) -> Result<Tags, LexError>
 {
     let list = pairs(alloc, contents)?;
     if Tags::are_ascending(&list) {
-        return Ok(Tags::from_list(list));
+        return Ok(Tags::from_list(list)?);
     }
-    Ok(Tags::from_list(in_order(list)?))
+    Ok(Tags::from_list(in_order(list)?)?)
 }

@@ -1,4 +1,5 @@
 pub mod Texts
+pub mod Lists
 pub mod Tags
 pub mod Ranges
 pub mod Kinds

@@ -6,6 +6,7 @@
 //! else costs the logarithm of their number; everything else costs a constant.
 #![tactic(auto)]
 
+mod boxed_list;
 mod bytes;
 mod event;
 mod ids;

@@ -1,13 +1,14 @@
 //! Lists of numbers and steps, which contracts see as lists.
-ghost use Rattle.std.specs.Prelude.{◌≡◌, ◌↔◌, IfOk, IsTrue, ◌≤◌, length};
+ghost use Rattle.std.specs.Prelude.{◌≡◌, ◌↔◌, [], IfOk, IsTrue, ◌≤◌, length};
 
+use crate::boxed_list::BoxedList;
 use crate::{Key, NoMemory, NodeId, Step, WayId};
 use std::marker::Model;
 
 /// The nodes that a way names, at most 65,535 of them.
 #[derive(Drop)]
 pub struct Refs {
-    list: Vec<NodeId>,
+    list: BoxedList<NodeId>,
 }
 
 impl Model for Refs {
@@ -16,18 +17,28 @@ impl Model for Refs {
 
     ghost Value = { List NodeId };
 
-    ghost view = { λ l. l.list.items };
+    ghost view = { λ l. l.list };
 
-    ghost invariant = { λ l. length l.list.items ≤ 65535 };
+    ghost invariant = { λ l. length l.list ≤ 65535 };
 }
 
 impl Refs {
-    /// Takes no memory.
-    pub fn from_list(list: Vec<NodeId>) -> Refs
-        requires { length list.items ≤ 65535 }
-        ensures { result ≡ list.items }
+    /// None. Takes no memory.
+    pub fn new() -> Refs
+        ensures { result ≡ [] }
     {
-        Refs { list }
+        Refs {
+            list: BoxedList::new(),
+        }
+    }
+
+    /// These, in this order.
+    pub fn from_list(list: Vec<NodeId>) -> Result<Refs, NoMemory>
+        requires { length list.items ≤ 65535 }
+        ensures { IfOk result (λ r. r ≡ list.items) }
+    {
+        let list = BoxedList::of(list)?;
+        Ok(Refs { list })
     }
 
     /// In the order in which the way names them.
@@ -35,21 +46,21 @@ impl Refs {
         ensures items { result.now ≡ self.now }
         ensures short { length self.now ≤ 65535 }
     {
-        self.list.as_slice()
+        self.list.items()
     }
 
     /// Whether the two are equal.
     pub fn same(&self, other: &Refs) -> bool
         ensures { IsTrue result ↔ (self.now ≡ other.now) }
     {
-        self.list.as_slice() == other.list.as_slice()
+        self.list.items() == other.list.items()
     }
 
     /// An equal value.
     pub fn copy(&self) -> Result<Refs, NoMemory>
         ensures { IfOk result (λ l. l ≡ self.now) }
     {
-        let list = self.list.clone()?;
+        let list = self.list.copy()?;
         Ok(Refs { list })
     }
 }

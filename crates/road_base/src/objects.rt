@@ -1,7 +1,9 @@
 //! Nodes, ways and relations.
-ghost use Rattle.std.specs.Prelude.{◌≡◌, ◌↔◌, IfOk, IsTrue, ◌≤◌, length};
+ghost use Rattle.std.specs.Prelude.{◌≡◌, ◌↔◌, [], IfOk, IsTrue, ◌≤◌, length};
 
+use crate::boxed_list::BoxedList;
 use crate::{Key, Location, NoMemory, Refs, Tags, Text};
+use std::alloc::Global;
 use std::marker::Model;
 
 /// A node. Its location is missing where the source doesn't tell it.
@@ -28,7 +30,7 @@ pub struct Member {
 /// The members of a relation, at most 65,535 of them.
 #[derive(Drop)]
 pub struct Members {
-    list: Vec<Member>,
+    list: BoxedList<Member>,
 }
 
 impl Model for Members {
@@ -37,9 +39,9 @@ impl Model for Members {
 
     ghost Value = { List Member };
 
-    ghost view = { λ m. m.list.items };
+    ghost view = { λ m. m.list };
 
-    ghost invariant = { λ m. length m.list.items ≤ 65535 };
+    ghost invariant = { λ m. length m.list ≤ 65535 };
 }
 
 /// A relation.
@@ -117,12 +119,22 @@ impl Member {
 }
 
 impl Members {
-    /// Takes no memory.
-    pub fn from_list(list: Vec<Member>) -> Members
-        requires { length list.items ≤ 65535 }
-        ensures { result ≡ list.items }
+    /// None. Takes no memory.
+    pub fn new() -> Members
+        ensures { result ≡ [] }
     {
-        Members { list }
+        Members {
+            list: BoxedList::new(),
+        }
+    }
+
+    /// These, in this order.
+    pub fn from_list(list: Vec<Member>) -> Result<Members, NoMemory>
+        requires { length list.items ≤ 65535 }
+        ensures { IfOk result (λ m. m ≡ list.items) }
+    {
+        let list = BoxedList::of(list)?;
+        Ok(Members { list })
     }
 
     /// In the order in which the relation names them.
@@ -130,26 +142,24 @@ impl Members {
         ensures items { result.now ≡ self.now }
         ensures short { length self.now ≤ 65535 }
     {
-        self.list.as_slice()
+        self.list.items()
     }
 
     /// Whether the two are equal.
     pub fn same(&self, other: &Members) -> bool
         ensures { IsTrue result ↔ (self.now ≡ other.now) }
     {
-        same_members(self.list.as_slice(), other.list.as_slice())
+        same_members(self.list.items(), other.list.items())
     }
 
     /// An equal value.
     pub fn copy(&self) -> Result<Members, NoMemory>
         ensures { IfOk result (λ m. m ≡ self.now) }
     {
-        let from = self.list.as_slice();
-        let mut list = Vec::with_capacity(*self.list.allocator(), from.len())?;
-        for member in from {
-            list.push(member.copy()?)?;
-        }
-        Ok(Members { list })
+        let Some(from) = self.list.held() else {
+            return Ok(Members::new());
+        };
+        Members::from_list(copied_members(*from.allocator(), from.as_slice())?)
     }
 }
 
@@ -206,6 +216,17 @@ fn same_location(this: Option<Location>, that: Option<Location>) -> bool
         (None, None) => true,
         _ => false,
     }
+}
+
+/// Equal members.
+fn copied_members(alloc: Global, members: &[Member]) -> Result<Vec<Member>, NoMemory>
+    ensures { IfOk result (λ v. v.items ≡ members.now) }
+{
+    let mut list = Vec::with_capacity(alloc, members.len())?;
+    for member in members {
+        list.push(member.copy()?)?;
+    }
+    Ok(list)
 }
 
 fn same_members(these: &[Member], those: &[Member]) -> bool

@@ -1,10 +1,12 @@
 //! The tags of an object.
-ghost use Rattle.std.specs.Prelude.{◌≡◌, ◌↔◌, IfOk, IsTrue, ◌≤◌, length, take, option_copied};
+ghost use Rattle.std.specs.Prelude.{◌≡◌, ◌↔◌, [], IfOk, IsTrue, ◌≤◌, length, take, option_copied};
 ghost use Rattle.std.specs.Ordering.{nat_cmp};
 ghost use Rattle.std.specs.Cmp.Lexicographic.{slice_cmp};
 ghost use Rattle.road_base.specs.Tags.{IsAscending, is_ascending, value_of};
 
+use crate::boxed_list::BoxedList;
 use crate::{NoMemory, Text};
+use std::alloc::Global;
 use std::cmp::Ordering;
 use std::marker::Model;
 
@@ -14,7 +16,7 @@ const FEW: usize = 16;
 /// Keys with their values, the keys strictly ascending by bytes, at most 65,535 of them.
 #[derive(Drop)]
 pub struct Tags {
-    list: Vec<(Text, Text)>,
+    list: BoxedList<(Text, Text)>,
 }
 
 impl Model for Tags {
@@ -23,9 +25,9 @@ impl Model for Tags {
 
     ghost Value = { List (List ℕ × List ℕ) };
 
-    ghost view = { λ t. t.list.items };
+    ghost view = { λ t. t.list };
 
-    ghost invariant = { λ t. IsAscending t.list.items × (length t.list.items ≤ 65535) };
+    ghost invariant = { λ t. IsAscending t.list × (length t.list ≤ 65535) };
 }
 
 impl Tags {
@@ -41,13 +43,23 @@ impl Tags {
         true
     }
 
-    /// Takes no memory.
-    pub fn from_list(list: Vec<(Text, Text)>) -> Tags
+    /// None. Takes no memory.
+    pub fn new() -> Tags
+        ensures { result ≡ [] }
+    {
+        Tags {
+            list: BoxedList::new(),
+        }
+    }
+
+    /// These pairs.
+    pub fn from_list(list: Vec<(Text, Text)>) -> Result<Tags, NoMemory>
         requires ascending { IsAscending list.items }
         requires short { length list.items ≤ 65535 }
-        ensures { result ≡ list.items }
+        ensures { IfOk result (λ t. t ≡ list.items) }
     {
-        Tags { list }
+        let list = BoxedList::of(list)?;
+        Ok(Tags { list })
     }
 
     /// The pairs, in the order of their keys.
@@ -56,14 +68,14 @@ impl Tags {
         ensures ascending { IsAscending self.now }
         ensures short { length self.now ≤ 65535 }
     {
-        self.list.as_slice()
+        self.list.items()
     }
 
     /// The value of a key, None exactly where the key isn't carried.
     pub fn get(&self, key: &str) -> Option<&str>
         ensures { option_copied result ≡ value_of key.now self.now }
     {
-        let list = self.list.as_slice();
+        let list = self.list.items();
         if list.len() <= FEW {
             return value_among(list, key);
         }
@@ -77,20 +89,29 @@ impl Tags {
     pub fn same(&self, other: &Tags) -> bool
         ensures { IsTrue result ↔ (self.now ≡ other.now) }
     {
-        same_pairs(self.list.as_slice(), other.list.as_slice())
+        same_pairs(self.list.items(), other.list.items())
     }
 
     /// An equal value.
     pub fn copy(&self) -> Result<Tags, NoMemory>
         ensures { IfOk result (λ t. t ≡ self.now) }
     {
-        let from = self.list.as_slice();
-        let mut list = Vec::with_capacity(*self.list.allocator(), from.len())?;
-        for pair in from {
-            list.push((pair.0.copy()?, pair.1.copy()?))?;
-        }
-        Ok(Tags { list })
+        let Some(from) = self.list.held() else {
+            return Ok(Tags::new());
+        };
+        Tags::from_list(copied_pairs(*from.allocator(), from.as_slice())?)
     }
+}
+
+/// Equal pairs.
+fn copied_pairs(alloc: Global, pairs: &[(Text, Text)]) -> Result<Vec<(Text, Text)>, NoMemory>
+    ensures { IfOk result (λ v. v.items ≡ pairs.now) }
+{
+    let mut list = Vec::with_capacity(alloc, pairs.len())?;
+    for pair in pairs {
+        list.push((pair.0.copy()?, pair.1.copy()?))?;
+    }
+    Ok(list)
 }
 
 /// The value of a key among few pairs: they are gone through until a key begins with a later byte.

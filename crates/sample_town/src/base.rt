@@ -36,11 +36,11 @@ const FIRST_COLUMNS: u32 = COLUMNS - 3;
 /// How many kinds of restrictions there are.
 const KINDS: u32 = 4;
 
-fn add_nodes(alloc: Global, list: &mut Vec<Event>) -> Result<(), NoMemory>
+fn add_nodes(list: &mut Vec<Event>) -> Result<(), NoMemory>
     ensures { OnOk result (list.new.items ≡ list.old.items ++ listed base_node 3600) }
 {
     for place in 0..NODES {
-        list.push(node(alloc, BASE, Crossing::nth(place)))?;
+        list.push(node(BASE, Crossing::nth(place)))?;
     }
     Ok(())
 }
@@ -107,7 +107,7 @@ pub fn base_events(alloc: Global, draws: &mut Draws) -> Result<Vec<Event>, NoMem
     ensures state { OnOk result (draws.new.state ≡ after_draws 8880 draws.old.state) }
 {
     let mut list = Vec::with_capacity(alloc, EVENTS as usize)?;
-    add_nodes(alloc, &mut list)?;
+    add_nodes(&mut list)?;
     add_ways_east(alloc, &mut list, draws)?;
     add_ways_north(alloc, &mut list, draws)?;
     add_restrictions(alloc, &mut list, draws)?;

@@ -35,7 +35,7 @@ fn draw_event(alloc: Global, change: u32, draws: &mut Draws) -> Result<Event, No
     ensures state { draws.new.state ≡ after_event draws.old.state }
 {
     match draws.below(KINDS) {
-        OF_NODE => Ok(node(alloc, change, Crossing::nth(draws.below(NODES)))),
+        OF_NODE => Ok(node(change, Crossing::nth(draws.below(NODES)))),
         OF_WAY => {
             let place = draws.below(WAYS_EAST);
             let oneway = draws.below(ANSWERS) == ONEWAY;

@@ -117,7 +117,7 @@ fn tag(alloc: Global, key: &str, value: &str) -> Result<(Text, Text), NoMemory>
 
 /// The node of a crossing in the version of a change, which moves it to the east. The base is change 0. Takes no
 /// memory.
-pub fn node(alloc: Global, change: u32, at: Crossing) -> Event
+pub fn node(change: u32, at: Crossing) -> Event
     requires { change ≤ 10 }
     ensures { result ≡ node change at.row at.column }
 {
@@ -126,7 +126,7 @@ pub fn node(alloc: Global, change: u32, at: Crossing) -> Event
         lat: (SPACING * at.row) as i32,
     };
     let node = Node {
-        tags: Tags::from_list(Vec::new(alloc)),
+        tags: Tags::new(),
         location: Some(location),
     };
     Event {
@@ -144,7 +144,7 @@ fn way_tags(alloc: Global, oneway: bool) -> Result<Tags, NoMemory>
     if oneway {
         list.push(tag(alloc, "oneway", "yes")?)?;
     }
-    Ok(Tags::from_list(list))
+    Tags::from_list(list)
 }
 
 /// The way over two nodes in the version of a change.
@@ -161,7 +161,7 @@ fn way(
     ensures { IfOk result (λ e. e ≡ way change id tail head oneway) }
 {
     let tags = way_tags(alloc, oneway)?;
-    let refs = Refs::from_list(vec![in alloc; tail, head]?);
+    let refs = Refs::from_list(vec![in alloc; tail, head]?)?;
     Ok(Event {
         key: Key::Way(id),
         version: FIRST_VERSION + change,
@@ -212,7 +212,7 @@ fn restriction_tags(alloc: Global, kind: u32) -> Result<Tags, NoMemory>
     let mut list = Vec::new(alloc);
     list.push(tag(alloc, "restriction", value)?)?;
     list.push(tag(alloc, "type", "restriction")?)?;
-    Ok(Tags::from_list(list))
+    Tags::from_list(list)
 }
 
 fn member(alloc: Global, item: Key, role: &str) -> Result<Member, NoMemory>
@@ -230,7 +230,7 @@ fn turn(alloc: Global, from: WayId, via: Key, to: WayId) -> Result<Members, NoMe
     list.push(member(alloc, Key::Way(from), "from")?)?;
     list.push(member(alloc, via, "via")?)?;
     list.push(member(alloc, Key::Way(to), "to")?)?;
-    Ok(Members::from_list(list))
+    Members::from_list(list)
 }
 
 /// The members of the restriction of this kind from a crossing.

@@ -2,8 +2,7 @@
 use crate::worlds::world_of;
 use access_profile::Motorcar;
 use back_references::Indexed;
-use object_tests::makers::no_tags;
-use road_base::{Dir, NoMemory, NodeId, Refs, Step, Way, WayId};
+use road_base::{Dir, NoMemory, NodeId, Refs, Step, Tags, Way, WayId};
 use road_model::Network;
 use std::alloc::Global;
 use std::process::Abort;
@@ -22,8 +21,8 @@ fn way(alloc: Global, refs: &[i64]) -> Result<Way, Fail> {
         return Err(Fail::from("too many references"));
     }
     Ok(Way {
-        tags: no_tags(alloc),
-        refs: Refs::from_list(list),
+        tags: Tags::new(),
+        refs: Refs::from_list(list)?,
     })
 }
 

@@ -38,4 +38,4 @@ pub returns-clause-ok : goal.returns-clause-ok
 returns-clause-ok c =
     let rest = ap (λ o. other_parts 44 (option_copied o)) c.in_default.is in
     let so_far = rw rest at c.loop-next.invariant in
-    rw c.from_list.ensures (read_all member_of c.args.contents.now c.loop-next.list.items so_far)
+    rw c.in_ok-from_list.ensures (read_all member_of c.args.contents.now c.loop-next.list.items so_far)

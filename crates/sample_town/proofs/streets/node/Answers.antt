@@ -8,5 +8,5 @@ returns c =
     let lon : to_z w32 (10000 * c.args.at.column + c.args.change) ≡ pos (10000 * c.args.at.column + c.args.change) =
     omega (arith, ints) in
     let lat : to_z w32 (10000 * c.args.at.row) ≡ pos (10000 * c.args.at.row) = omega (arith, ints) in
-    is_node _ c.args.change c.args.at.row c.args.at.column c.node.result c.from_list.result _ refl refl refl
+    is_node _ c.args.change c.args.at.row c.args.at.column c.node.result c.new.result _ refl refl refl
     c.node.ensures (cc) lon lat

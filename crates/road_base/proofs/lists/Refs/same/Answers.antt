@@ -15,5 +15,5 @@ node_eq-Decides a b = (
 
 pub returns : goal.returns
 returns c =
-    let d = slice_eq-Decides node_eq-Decides c.as_slice.result.now c.as_slice-2.result.now c.eq.result c.eq.ensures in
+    let d = slice_eq-Decides node_eq-Decides c.items.result.now c.items-2.result.now c.eq.result c.eq.ensures in
     (λ h. let e = d.0 h in cc, λ h. d.1 (cc))
