@@ -47,7 +47,8 @@ body_of version profile bs =
     let count : List ℕ = u64_bytes (length bs) in
     let body : List ℕ = joined (block_bytes (is_sourced version)) bs in
     let size : length (head ++ count) ≡ 20 = length-append head count
-    ∙ ap (λ n. n + length count) (head_length (is_sourced version) profile) ∙ ap (λ n. 12 + n) (count_length (length bs))
+    ∙ ap (λ n. n + length count) (head_length (is_sourced version) profile)
+    ∙ ap (λ n. 12 + n) (count_length (length bs))
     in
     ap (drop 20) (sym (append_assoc (magic_bytes (is_sourced version)) (u32_bytes profile) (count ++ body))
     ∙ sym (append_assoc head count body))

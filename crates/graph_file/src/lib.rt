@@ -1,7 +1,8 @@
 //! The bytes of a graph file.
 //!
 //! There are two versions of graph files: in a file of version 2 each piece shows its mark and each context its
-//! sources, in one of version 1 neither. Each version is a grammar of its own, and what both have alike is written once.
+//! sources, in one of version 1 neither. Each version is a grammar of its own, and what both have alike is written
+//! once.
 //!
 //! `GraphWriter` is given one block after another, and `write` all at once. Both append each number where it stands
 //! in the file, so their cost grows with the bytes that they write, and they take no memory beside them. How many

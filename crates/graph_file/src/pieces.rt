@@ -29,16 +29,54 @@ fn put_mark<G: Grammar>(mark: bool, out: &mut Vec<u8>) -> Result<(), NoMemory>
     u8::from(mark).put(out)
 }
 
+/// The bytes of the name: the way, the index, and the direction.
+#[inline]
+fn bytes_of_name(name: &PieceName) -> [u8; 13]
+    ensures bytes { result ≡ name_bytes name.now }
+    ensures fit { NameFits name.now }
+{
+    let way = name.way.0.to_le_bytes();
+    let index = name.index.to_le_bytes();
+    [
+        way[0],
+        way[1],
+        way[2],
+        way[3],
+        way[4],
+        way[5],
+        way[6],
+        way[7],
+        index[0],
+        index[1],
+        index[2],
+        index[3],
+        name.dir as u8,
+    ]
+}
+
 impl<G> Format<PieceName> for GraphFile<G> {
     ghost spelling = { name_bytes };
 
     ghost fits = { NameFits };
 
     fn put(name: &PieceName, out: &mut Vec<u8>) -> Result<(), NoMemory> {
-        name.way.0.put(out)?;
-        name.index.put(out)?;
-        put_dir(name.dir, out)
+        Ok(out.extend_from_slice(&bytes_of_name(name))?)
     }
+}
+
+/// The bytes of the place: the node, and where it is.
+#[inline]
+fn bytes_of_place(place: &Place) -> [u8; 16]
+    ensures bytes { result ≡ place_bytes place.now }
+    ensures fit { FitsSigned w64 place.now.node.0 }
+{
+    let node = place.node.0.to_le_bytes();
+    let lon = place.location.lon.to_le_bytes();
+    let lat = place.location.lat.to_le_bytes();
+    [
+        node[0], node[1], node[2], node[3], node[4], node[5], node[6], node[7], lon[0], lon[1],
+        lon[2], lon[3], lat[0], lat[1], lat[2], lat[3],
+    ]
 }
 
 impl<G> Format<Place> for GraphFile<G> {
@@ -47,10 +85,22 @@ impl<G> Format<Place> for GraphFile<G> {
     ghost fits = { λ x. FitsSigned w64 x.node.0 };
 
     fn put(place: &Place, out: &mut Vec<u8>) -> Result<(), NoMemory> {
-        place.node.0.put(out)?;
-        place.location.lon.put(out)?;
-        place.location.lat.put(out)
+        Ok(out.extend_from_slice(&bytes_of_place(place))?)
     }
+}
+
+/// The bytes of the arc: the name of its piece, and its length.
+#[inline]
+fn bytes_of_arc(arc: &TurnArc) -> [u8; 17]
+    ensures bytes { result ≡ arc_bytes arc.now }
+    ensures fit { NameFits arc.now.piece × (arc.now.length < 2 ^ 32) }
+{
+    let name = bytes_of_name(&arc.piece);
+    let length = arc.length.to_le_bytes();
+    [
+        name[0], name[1], name[2], name[3], name[4], name[5], name[6], name[7], name[8], name[9],
+        name[10], name[11], name[12], length[0], length[1], length[2], length[3],
+    ]
 }
 
 impl<G> Format<TurnArc> for GraphFile<G> {
@@ -59,8 +109,7 @@ impl<G> Format<TurnArc> for GraphFile<G> {
     ghost fits = { λ a. NameFits a.piece × (a.length < 2 ^ 32) };
 
     fn put(arc: &TurnArc, out: &mut Vec<u8>) -> Result<(), NoMemory> {
-        <GraphFile<G> as Format<PieceName>>::put(&arc.piece, out)?;
-        arc.length.put(out)
+        Ok(out.extend_from_slice(&bytes_of_arc(arc))?)
     }
 }
 
