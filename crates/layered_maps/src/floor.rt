@@ -39,7 +39,7 @@ impl<K: Ord + Copy + Slotted + Kinded, V: Keyed<K>> Model for Floor<K, V> {
 
 impl<K: Ord + Copy + Slotted + Kinded, V: Keyed<K>> Floor<K, V> {
     /// These values. They are moved, not copied. Takes about two bytes a value for the places of their keys, if there
-    /// is so much memory, five for the parts of a list of more than 1,048,576 values, 18 for those of another, and the
+    /// is so much memory, three for the parts of a list of more than 1,048,576 values, 18 for those of another, and the
     /// time of a run over them.
     pub fn of(alloc: Global, list: Vec<V>) -> Result<Floor<K, V>, AllocError>
         requires { IsTrue (rises K.cmp (map V.key list.items)) }

@@ -1,7 +1,7 @@
 //! Maps that change while others hold what they were: a floor of which the parts that are the same are shared, and what
 //! has changed beside it.
 //!
-//! A `LayeredMap` keeps values at keys. Its floor is one list of values, ascending by key, in leaves of 4 or 16 values
+//! A `LayeredMap` keeps values at keys. Its floor is one list of values, ascending by key, in leaves of 4 or 32 values
 //! and branches of 64 leaves, with hints where the numbers of the keys stand. Values that are put at keys of the floor
 //! come into it, in the places of those that stood there; what somebody else shares of the floor is copied before, so
 //! that nobody who holds the floor as it was sees them, and all other parts stay shared. What else has changed lies

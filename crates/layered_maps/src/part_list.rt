@@ -13,7 +13,7 @@ use std::marker::Model;
 const LONG: usize = 1_048_576;
 
 /// How many values a leaf of a long list has: it takes some 70 bytes beside them.
-const LARGE_LEAF: usize = 16;
+const LARGE_LEAF: usize = 32;
 
 /// How many one of another list has: where somebody else shares it, a change of one value copies so many.
 const SMALL_LEAF: usize = 4;
