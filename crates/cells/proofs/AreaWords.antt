@@ -38,7 +38,8 @@ onto : (b : ℕ) (first : List ℕ) (others : List (List ℕ)) → onto_first b 
 onto b first others = refl
 
 one_part : (b : ℕ) (bs : List ℕ) (cuts : Bool) → HasPart bs
-    → (first : List ℕ) × (others : List (List ℕ)) × (cond cuts ([] ∷ parts 44 bs) (onto_first b (parts 44 bs)) ≡ first ∷ others)
+    → (first : List ℕ) × (others : List (List ℕ)) × (cond cuts ([] ∷ parts 44 bs) (onto_first b (parts 44 bs))
+    ≡ first ∷ others)
 one_part b bs true h = ([], parts 44 bs, refl)
 one_part b bs false h = (b ∷ h.first, h.others, ap (onto_first b) h.are)
 

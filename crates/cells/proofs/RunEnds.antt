@@ -179,30 +179,32 @@ module _ (usage : List ℕ) (before now : Option Outside) (faults_before faults_
   -- the words are no command's
   pub ends_usage : (held : Option (List ℕ)) → ((bytes : List ℕ) → Gives None bytes Usage usage) → (status : Status)
       → EndsPut usage Usage status before now faults_before faults_now → Ends None status held held before now
-  ends_usage held gives status (inl put) = subst (λ (s : Status). Ends None s held held before now) (sym put.0) (record {
-    bytes = behind_of held;
-    read = [];
-    behind = behind_of held;
-    all = refl;
-    holds = held_still held;
-    reads = refl;
-    puts = record { out = usage; gives = gives (behind_of held); grows = put.1 };
-  })
-  ends_usage held gives status (inr put) = subst (λ (s : Status). Ends None s held held before now) (sym put.0) (record {
-    bytes = behind_of held;
-    read = [];
-    behind = behind_of held;
-    all = refl;
-    holds = held_still held;
-    reads = refl;
-    puts = record {
-      status = Usage;
-      out = usage;
-      reads = refl;
-      gives = gives (behind_of held);
-      grows = put.1;
-    };
-  })
+  ends_usage held gives status (inl put) = subst (λ (s : Status). Ends None s held held before now) (sym put.0)
+      (record {
+        bytes = behind_of held;
+        read = [];
+        behind = behind_of held;
+        all = refl;
+        holds = held_still held;
+        reads = refl;
+        puts = record { out = usage; gives = gives (behind_of held); grows = put.1 };
+      })
+  ends_usage held gives status (inr put) = subst (λ (s : Status). Ends None s held held before now) (sym put.0)
+      (record {
+        bytes = behind_of held;
+        read = [];
+        behind = behind_of held;
+        all = refl;
+        holds = held_still held;
+        reads = refl;
+        puts = record {
+          status = Usage;
+          out = usage;
+          reads = refl;
+          gives = gives (behind_of held);
+          grows = put.1;
+        };
+      })
 
   pub usage_may_end : (status : Status) → EndsPut usage Usage status before now faults_before faults_now
       → MayEnd None status

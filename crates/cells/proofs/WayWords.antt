@@ -44,7 +44,8 @@ one_more_way (first ∷ words) ways word way are is =
     ∙ (ap (option_and_then (λ w. option_map (λ ws. w ∷ ws) (Some (f.others ++ way ∷ [])))) f.first_is
     ∙ ap (λ (l : List WayId). Some (l ++ way ∷ [])) (sym f.ways_are))
 
-none_behind : (a : Option WayId) → option_and_then (λ w. option_map (λ ws. w ∷ ws) (let n : Option (List WayId) = None in n)) a ≡ None
+none_behind : (a : Option WayId) → option_and_then (λ w. option_map (λ ws. w ∷ ws)
+    (let n : Option (List WayId) = None in n)) a ≡ None
 none_behind None = refl
 none_behind (Some w) = refl
 

@@ -44,8 +44,8 @@ places_of events = filter_map (λ e. place_of e.body) events
 abbrev pub IsOwnPassing : Objects → CutCell → WayId → Type 0
 IsOwnPassing objects cut w = IsOwn objects cut.cell w × Passes objects cut.area w
 
--- The graph of the own ways that pass, of the objects that the events leave. Whatever map these objects are the cell of,
--- for the area that was cut, the blocks are the map's.
+-- The graph of the own ways that pass, of the objects that the events leave. Whatever map these objects are the cell
+-- of, for the area that was cut, the blocks are the map's.
 pub record IsPart (cut : CutCell) (P : Rules) (events : List Event) (out : List ℕ) : Type 0 where
   pub objects : Objects
   pub applied : IsApplied empty events objects
@@ -62,8 +62,8 @@ pub record IsRestOf (cut : CutCell) (events : List Event) (out : List ℕ) : Typ
   pub are : AreFailing objects cut.area cut.cell failing
   pub spelled : out ≡ flat_map failing_line failing
 
--- The graph of the own ways that pass, behind it a newline, and then a line for each of these, one for each own way that
--- fails, and at last how many nodes lie in the cell, and how many ways pass and fail.
+-- The graph of the own ways that pass, behind it a newline, and then a line for each of these, one for each own way
+-- that fails, and at last how many nodes lie in the cell, and how many ways pass and fail.
 pub record IsReport (cut : CutCell) (P : Rules) (events : List Event) (out : List ℕ) : Type 0 where
   pub graph : List ℕ
   pub part : IsPart cut P events graph
@@ -81,8 +81,8 @@ pub record IsOfWays (P : Rules) (ways : List WayId) (events : List Event) (out :
 
 -- ---- a plan
 
--- A line for each cell. The cells cover the world and don't overlap. Each has its number of nodes, is grown by the margin,
--- and is divided as the rule says, down to squares of the grid in which the nodes were counted.
+-- A line for each cell. The cells cover the world and don't overlap. Each has its number of nodes, is grown by the
+-- margin, and is divided as the rule says, down to squares of the grid in which the nodes were counted.
 pub record IsPlan (rule : PlanRule) (events : List Event) (out : List ℕ) : Type 0 where
   pub cells : List PlannedCell
   pub cover : CoverWorld (map (λ c. c.cell) cells)

@@ -50,8 +50,8 @@ ReadsRefused (Plan rule) bytes read = PassesStreamLimit read → ⊥
 ReadsRefused (Map command) bytes read = read ≡ bytes
 ReadsRefused (Graphs command) bytes read = read ≡ bytes
 
--- What was read of these bytes, by how it ended: all of them, no more than the limits allow, or more than is allowed and
--- nothing behind the part in which the limit was passed.
+-- What was read of these bytes, by how it ended: all of them, no more than the limits allow, or more than is allowed
+-- and nothing behind the part in which the limit was passed.
 abbrev pub ReadsSource : Command → Status → List ℕ → List ℕ → Type 0
 ReadsSource command Done bytes read = read ≡ bytes
 ReadsSource command Usage bytes read = ⊥
@@ -99,8 +99,8 @@ Puts command bytes read status before now = PutsAll command bytes status before 
 abbrev pub HeldBytes : List ℕ → List ℕ → Option (List ℕ) → Option (List ℕ) → Type 0
 HeldBytes bytes behind = Told (λ before now. (before ≡ bytes) × (now ≡ behind))
 
--- How a run ends: the bytes that the source held, those of them that were read, and what was put. Where the source tells
--- nothing, these are some bytes that begin with those that were read.
+-- How a run ends: the bytes that the source held, those of them that were read, and what was put. Where the source
+-- tells nothing, these are some bytes that begin with those that were read.
 pub record Ends (command : Option Command) (status : Status) (held remaining : Option (List ℕ))
     (before now : Option Outside) : Type 0 where
   pub bytes : List ℕ
@@ -121,7 +121,8 @@ TouchesNoFile = Told (λ before now. (now.a ≡ before.a) × (now.b ≡ before.b
 -- where they are graphs of one version and profile, and no way has a block in two
 abbrev pub CanBeDone : Option Command → List ℕ → Type 0
 CanBeDone None bytes = ⊥
-CanBeDone (Some (Plan rule)) bytes = (PassesStreamLimit bytes → ⊥) × (events : List Event) × ReadAll Extract bytes events
+CanBeDone (Some (Plan rule)) bytes = (PassesStreamLimit bytes → ⊥) × (events : List Event)
+    × ReadAll Extract bytes events
 CanBeDone (Some (Map command)) bytes = (PassesLimit bytes → ⊥) × (events : List Event) × ReadAll Extract bytes events
 CanBeDone (Some (Graphs (Range from to))) bytes = (HasTooManyBytes bytes → ⊥) × IsGraphFile bytes
 CanBeDone (Some (Graphs Merge)) bytes = (HasTooManyBytes bytes → ⊥) × IsMergeable bytes

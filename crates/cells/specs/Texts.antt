@@ -25,7 +25,8 @@ refused_way_line w = codes "refused way " ++ (signed_decimal w.0 ++ newline ∷ 
 -- `WEST,SOUTH,EAST,NORTH`, in units of 1e-7 degree
 abbrev pub area_text : Area → List ℕ
 area_text a = signed_decimal a.west
-    ++ (codes "," ++ (signed_decimal a.south ++ (codes "," ++ (signed_decimal a.east ++ (codes "," ++ signed_decimal a.north)))))
+    ++ (codes "," ++ (signed_decimal a.south ++ (codes ","
+    ++ (signed_decimal a.east ++ (codes "," ++ signed_decimal a.north)))))
 
 -- `CELL BOX COUNT`: the cell, the area that is cut for it, and how many nodes lie in the cell
 abbrev pub cell_line : PlannedCell → List ℕ

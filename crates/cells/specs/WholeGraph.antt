@@ -66,8 +66,8 @@ pub record IsCompiledCell (M : Objects) (profile : ProfileNumber) (c : CompiledC
   pub part : Gives (Some (Map (Part c.cut profile))) c.text Done c.graph
   pub rest : Gives (Some (Map (Rest c.cut))) c.text Done c.rest
 
--- What `cell` put for a text has what `part` puts for it, and then, behind a newline, a line for each of some ways, what
--- `rest` puts, and a line of three counts.
+-- What `cell` put for a text has what `part` puts for it, and then, behind a newline, a line for each of some ways,
+-- what `rest` puts, and a line of three counts.
 pub record HasPartAndRest (cut : CutCell) (profile : ProfileNumber) (text out : List ℕ) : Type 0 where
   pub graph : List ℕ
   pub part : Gives (Some (Map (Part cut profile))) text Done graph

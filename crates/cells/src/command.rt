@@ -87,9 +87,9 @@ const MOST_METRES: u64 = 1_000_000;
 /// So many units of 1e-7 degree of latitude, or fewer, are a metre.
 const UNITS_A_METRE: u64 = 91;
 
-/// What the words ask: `plan NODES [METRES]`, `part BOX CELL [2]`, `rest BOX CELL`, `cell BOX CELL [2]`,
-/// `ways PROFILE WAY..`, `range FROM TO` or `merge`. BOX and CELL are areas (`areas`), NODES is digits, a value of
-/// 64 bits, METRES at most 1,000,000, PROFILE 1 or 2, and FROM, TO and WAY are numbers of ways, each WAY below the next.
+/// What the words ask: `plan NODES [METRES]`, `part BOX CELL [2]`, `rest BOX CELL`, `cell BOX CELL [2]`, `ways PROFILE
+/// WAY..`, `range FROM TO` or `merge`. BOX and CELL are areas (`areas`), NODES is digits, a value of 64 bits, METRES at
+/// most 1,000,000, PROFILE 1 or 2, and FROM, TO and WAY are numbers of ways, each WAY below the next.
 pub fn asked(alloc: Global, words: &[&str]) -> Result<Option<Command>, NoMemory>
     ensures { IfOk result (λ command. command ≡ asked (map (λ w. w.now) words.now)) }
 {

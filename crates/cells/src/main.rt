@@ -1,8 +1,8 @@
 //! cells compiles a map cell by cell, and merges what comes of it to the graph that the whole map has.
 //!
 //! `run` is the one call that does all that the program does, over any source and site; `main` hands it standard input
-//! and standard output. `command` says what the words ask; `plan`, `made` and `graphs` each prepare last words, which are
-//! then put once. `laws` says what all of it comes to: the merge of all parts is the map's graph, byte for byte.
+//! and standard output. `command` says what the words ask; `plan`, `made` and `graphs` each prepare last words, which
+//! are then put once. `laws` says what all of it comes to: the merge of all parts is the map's graph, byte for byte.
 //!
 //! `plan` costs n log n in the nodes and keeps no text: its memory is bounded (`cell_plan`). `part`, `rest` and `ways`
 //! cost n log n in their text and their graph, and hold the objects, what is searched among them, and the graph once.

@@ -70,18 +70,18 @@ fn run_command<S: Source, W: Site, L: Ledger>(
 }
 
 /// Does what the words ask, reading from the source and putting to the site, and answers how it ended. It returns for
-/// any words, source and site: a source that never ends is left as soon as it passed a limit. The first read or put that
-/// fails ends it: nothing is tried again.
+/// any words, source and site: a source that never ends is left as soon as it passed a limit. The first read or put
+/// that fails ends it: nothing is tried again.
 ///
 /// `plan NODES [METRES]` puts a line for each cell of the nodes on the source, `CELL BOX COUNT`; its text has no limit
-/// that a map reaches, but 2^24 bytes in a line. `part BOX CELL [2]` puts the graph of those ways of the cell that can be
-/// told to be the map's from the area that was cut, under profile 1 or 2, `rest BOX CELL` a line for each other way of
-/// the cell, `cell BOX CELL [2]` the graph of `part`, a newline, a line `w12` for each of its ways, the lines of `rest`,
-/// and a line `NODES PASSING FAILING` of how many nodes lie in the cell and how many of its ways pass and fail, and
-/// `ways PROFILE WAY..` the graph of these ways; their text has at most 2^30 bytes. `range FROM TO` puts the blocks of
-/// ways from FROM on and below TO of the graph on the source, and `merge` one graph with the blocks of the graphs on the
-/// source, one behind the other; these have at most 2^30 bytes. `steps` rises by one for each block that is built. Other
-/// words are answered by the usage line. What all of it is good for is the law `whole_graph`.
+/// that a map reaches, but 2^24 bytes in a line. `part BOX CELL [2]` puts the graph of those ways of the cell that can
+/// be told to be the map's from the area that was cut, under profile 1 or 2, `rest BOX CELL` a line for each other way
+/// of the cell, `cell BOX CELL [2]` the graph of `part`, a newline, a line `w12` for each of its ways, the lines of
+/// `rest`, and a line `NODES PASSING FAILING` of how many nodes lie in the cell and how many of its ways pass and fail,
+/// and `ways PROFILE WAY..` the graph of these ways; their text has at most 2^30 bytes. `range FROM TO` puts the blocks
+/// of ways from FROM on and below TO of the graph on the source, and `merge` one graph with the blocks of the graphs on
+/// the source, one behind the other; these have at most 2^30 bytes. `steps` rises by one for each block that is built.
+/// Other words are answered by the usage line. What all of it is good for is the law `whole_graph`.
 pub fn run<S: Source, W: Site, L: Ledger>(
     alloc: Global,
     words: &[&str],

@@ -129,7 +129,8 @@ module _ (M N : Objects) (P : Rules) (close near met led : List WayId)
         after = is.1.block;
         same =
             subst (λ l. ListSameArcs w l is.0.pieces) was.2
-            (subst (λ l. ListSameArcs w (pieces_at before stood v) l) (built_pieces N P before stood ways now built v i) alike);
+            (subst (λ l. ListSameArcs w (pieces_at before stood v) l)
+            (built_pieces N P before stood ways now built v i) alike);
       }
 
   -- so it is with every way, for one that isn't among those to which other arcs lead

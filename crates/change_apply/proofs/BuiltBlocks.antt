@@ -104,7 +104,8 @@ module _ (M : Objects) (P : Rules) where
         (by_test v b (eq_by_cmp way_cmp v block.way) refl)
 
 -- the block that is put has the form
-pub in_form : IsTotalOrder way_cmp → (block : Block) (m : FinMap way_cmp Block) → IsBlockForm true block → AreInForm (get m)
+pub in_form : IsTotalOrder way_cmp → (block : Block) (m : FinMap way_cmp Block) → IsBlockForm true block
+    → AreInForm (get m)
     → AreInForm (get (insert m block.way block))
 in_form total block m form all w b got =
     at (eq_by_cmp way_cmp w block.way) (sym (get-insert total m block.way block w) ∙ got)

@@ -66,7 +66,8 @@ found_in w (d ∷ es) b got =
     first_or_later w d es b (eq_by_cmp way_cmp w d.0) refl got (λ is. found_in w es b is)
 
 -- a block that a list's map has stands at its way
-pub at_its_way : (m : FinMap way_cmp Block) → IsAntisymmetric way_cmp → (list : List Block) → entries m ≡ map entry_of list
+pub at_its_way : (m : FinMap way_cmp Block) → IsAntisymmetric way_cmp → (list : List Block) → entries m
+    ≡ map entry_of list
     → (w : WayId) (b : Block) → get m w ≡ Some b → b.way ≡ w
 at_its_way m ties list are w b got =
     let r = found_in w (map entry_of list) b (sym (get-entries m w ∙ ap (find way_cmp w) are) ∙ got) in

@@ -25,7 +25,8 @@ use std::alloc::Global;
 pub struct BlockChanges {
     /// At the ways near it.
     pub near: Vec<Change<WayId, Block>>,
-    /// At the ways that meet those with other pieces, and at those to which other arcs lead. They come behind the others.
+    /// At the ways that meet those with other pieces, and at those to which other arcs lead. They come behind the
+    /// others.
     pub later: Vec<Change<WayId, Block>>,
 }
 

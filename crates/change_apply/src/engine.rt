@@ -132,8 +132,8 @@ impl<P: Profile> Engine<P> {
         Ok(count)
     }
 
-    /// The same as `follow`, and tells also how many ways the events touch, which takes the time of finding these and of
-    /// finding what the events leave once more.
+    /// The same as `follow`, and tells also how many ways the events touch, which takes the time of finding these and
+    /// of finding what the events leave once more.
     pub fn apply<L: Ledger>(
         &mut self,
         events: &[Event],

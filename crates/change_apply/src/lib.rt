@@ -11,9 +11,9 @@
 //! taking memory, it exchanges the worlds and the blocks; where no memory is found nothing changes. So a change costs
 //! the look-ups of the ways near it, the blocks that are built, and for each that a way gets or loses in the long run
 //! the logarithm of their number; nothing of the size of the world, and no more than what it touches. `Engine::apply`
-//! does the same, and counts the ways that are touched beside.
-//! The blocks are `graph_blocks::RoadBlocks`; they are asked by `&self`. `Engine::copy` shares all that stands: it takes
-//! a few reference counts, whatever the size of the world, and what changes alter behind it stands twice.
+//! does the same, and counts the ways that are touched beside. The blocks are `graph_blocks::RoadBlocks`; they are
+//! asked by `&self`. `Engine::copy` shares all that stands: it takes a few reference counts, whatever the size of the
+//! world, and what changes alter behind it stands twice.
 #![tactic(auto)]
 
 mod altering;

@@ -88,8 +88,8 @@ fn graph_over<P: Profile, L: Ledger>(
     blocks_among(alloc, world, profile, roads, roads, steps)
 }
 
-/// The blocks of these ways, where the roads are the ways with pieces, ascending, and maybe others: of any other way the
-/// block is built as well, but at a higher cost.
+/// The blocks of these ways, where the roads are the ways with pieces, ascending, and maybe others: of any other way
+/// the block is built as well, but at a higher cost.
 fn blocks_among<P: Profile, L: Ledger>(
     alloc: Global,
     world: &Indexed,

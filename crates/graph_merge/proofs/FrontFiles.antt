@@ -63,7 +63,8 @@ more_some [] x e = cc
 more_some (y ∷ xs) x e = cc
 
 -- one more was read
-pub next_read : (count : ℕ) (old new : CollectedGraphs) (all bytes rest : List ℕ) (version profile : ℕ) (bs : List Block)
+pub next_read : (count : ℕ) (old new : CollectedGraphs) (all bytes rest : List ℕ) (version profile : ℕ)
+    (bs : List Block)
     → HasFront count old all bytes → version ≡ old.version → profile ≡ old.profile
     → IsFile version profile (graph_bytes version profile bs) bs → bytes ≡ graph_bytes version profile bs ++ rest
     → new.version ≡ old.version → new.profile ≡ old.profile → new.blocks.items ≡ old.blocks.items ++ bs

@@ -51,7 +51,8 @@ same_kind v w p q (f ∷ fs) (g ∷ gs) rest some other first second same =
     record { version = one.0; profile = one.1 }
 
 -- the same bytes are one list of files
-pub same_files : (v w p q : ℕ) (a b : List (List Block)) (bytes : List ℕ) → AreGraphs v p a bytes → AreGraphs w q b bytes
+pub same_files : (v w p q : ℕ) (a b : List (List Block)) (bytes : List ℕ) → AreGraphs v p a bytes
+    → AreGraphs w q b bytes
     → (v ≡ w) × (p ≡ q) × (a ≡ b)
 same_files v w p q a b bytes first second =
     let same : joined (graph_bytes v p) a ≡ joined (graph_bytes w q) b = sym first.spelled ∙ second.spelled in

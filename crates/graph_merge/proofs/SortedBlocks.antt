@@ -42,7 +42,8 @@ module _ (bs : List Block) (sorted : IsSortedByKey (λ (b : Block). b.way) way_c
   far : (i : ℕ) (d : Block) → stop.place + 1 ≤ i → i < length bs → is_lt (way_cmp (get_or bs i d).way w) ≡ false
   far i d behind within =
       subst (λ v. is_lt (way_cmp (get_or bs i d).way v) ≡ false) (stop.way_is d)
-      (sorted_far (λ (x y : Block). is_lt (way_cmp x.way y.way)) (ranks_by way_cmp_total (λ (b : Block). b.way)) bs sorted
+      (sorted_far (λ (x y : Block). is_lt (way_cmp x.way y.way)) (ranks_by way_cmp_total (λ (b : Block). b.way)) bs
+      sorted
       (stop.place + 1) i d behind within)
 
   before_is : (d : Block) → (get_or bs stop.place d).way ≡ w
@@ -51,7 +52,8 @@ module _ (bs : List Block) (sorted : IsSortedByKey (λ (b : Block). b.way) way_c
       let x : WayId = (get_or bs stop.place d).way in
       let back : is_lt (way_cmp w x) ≡ false =
       subst (λ v. is_lt (way_cmp v x) ≡ false) (stop.way_is d)
-      (sorted_far (λ (x y : Block). is_lt (way_cmp x.way y.way)) (ranks_by way_cmp_total (λ (b : Block). b.way)) bs sorted
+      (sorted_far (λ (x y : Block). is_lt (way_cmp x.way y.way)) (ranks_by way_cmp_total (λ (b : Block). b.way)) bs
+      sorted
       stop.place (stop.place + 1) d (omega arith) within) in
       way_cmp_exact x w (tied (way_cmp x w) (stop.stops d)
       (ap is_lt (sym (turned way_cmp way_cmp_total x w (way_cmp x w) refl)) ∙ back))

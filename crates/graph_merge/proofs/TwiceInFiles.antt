@@ -13,7 +13,13 @@ all_of files = flat_map (λ f. f) files
 
 -- the files behind the first one have it, a place earlier
 later : (f : List Block) (fs : List (List Block)) (n : ℕ) (w : WayId) → HasWayAt (f ∷ fs) (suc n) w → HasWayAt fs n w
-later f fs n w has = record { file = has.file; at = has.at; block = has.block; stands = has.stands; way_is = has.way_is }
+later f fs n w has = record {
+  file = has.file;
+  at = has.at;
+  block = has.block;
+  stands = has.stands;
+  way_is = has.way_is;
+}
 
 shifted : (f : List Block) (fs : List (List Block)) (n : ℕ) (w : WayId) → HasWayAt fs n w → HasWayAt (f ∷ fs) (suc n) w
 shifted f fs n w has =

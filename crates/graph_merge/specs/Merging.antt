@@ -94,7 +94,8 @@ pub record BreaksBehind (bytes : List ℕ) (count : ℕ) : Type 0 where
 
 -- the graph file of this number, counted from one, isn't one, or is of another version or profile than the first
 abbrev pub BreaksAt : List ℕ → ℕ → Type 0
-BreaksAt bytes number = ((number ≡ 1) × HasNoFront bytes) ⊎ ((count : ℕ) × (number ≡ count + 1) × BreaksBehind bytes count)
+BreaksAt bytes number = ((number ≡ 1) × HasNoFront bytes)
+    ⊎ ((count : ℕ) × (number ≡ count + 1) × BreaksBehind bytes count)
 
 -- the bytes are graph files, two of which have a block of the way, and no lesser way has blocks in two
 pub record HasTwice (bytes : List ℕ) (w : WayId) : Type 0 where

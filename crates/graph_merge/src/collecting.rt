@@ -38,8 +38,8 @@ impl CollectedGraphs {
         }
     }
 
-    /// Adds the blocks of the graph that the bytes begin with, and answers what stands behind it; None exactly where they
-    /// begin with no graph of this version and profile.
+    /// Adds the blocks of the graph that the bytes begin with, and answers what stands behind it; None exactly where
+    /// they begin with no graph of this version and profile.
     fn add_next<'a>(&mut self, alloc: Global, bytes: &'a [u8]) -> Result<Option<&'a [u8]>, NoMemory>
         ensures version { self.new.version ≡ self.old.version }
         ensures profile { self.new.profile ≡ self.old.profile }

@@ -102,11 +102,12 @@ one_inspect bytes status another out other (InspectGives.OfGraph w g a m l x e o
     absurd (w k)
 one_inspect bytes status another out other (InspectGives.OfGraph w g a m l x e o) (InspectGives.OfNoGraph v k f p) =
     absurd (k g)
-one_inspect bytes status another out other (InspectGives.OfGraph w g a m l x e o) (InspectGives.OfGraph v h b n k y f p) = (
-  both _ _ _ e f,
-  o ∙ (ap (λ (blocks : List Block). counts_line (totals_of blocks)) (one_file a b m n bytes l k x y).2
-      ∙ sym p),
-)
+one_inspect bytes status another out other (InspectGives.OfGraph w g a m l x e o)
+    (InspectGives.OfGraph v h b n k y f p) = (
+      both _ _ _ e f,
+      o ∙ (ap (λ (blocks : List Block). counts_line (totals_of blocks)) (one_file a b m n bytes l k x y).2
+          ∙ sym p),
+    )
 
 -- ---- a new store
 

@@ -120,8 +120,8 @@ pub record IsNamedWalk (M : Objects) (P : Rules) (walk context : List PieceName)
 -- Whoever walks over the blocks, walks over the object map: by the same pieces to the same contexts, and an arc that
 -- stands there leads to a context that stands there. A walk spells the same drive here and there, and no other; what
 -- the walks spell are exactly the legal drives from junction to junction, each spelled by one walk; and the places of
--- each piece are the nodes that its steps pass. The sources of a context are the contexts from which an arc leads there,
--- each once, so that whoever goes from a context to its sources goes along the arcs backwards.
+-- each piece are the nodes that its steps pass. The sources of a context are the contexts from which an arc leads
+-- there, each once, so that whoever goes from a context to its sources goes along the arcs backwards.
 pub record AreFileWalks (M : Objects) (P : Rules) (blocks : List Block) : Type 0 where
   pub walks : (walk context : List PieceName) → FileWalksTo blocks walk context ↔ IsNamedWalk M P walk context
   pub targets : (names : List PieceName) (piece : PieceName) (target : List PieceName)

@@ -143,10 +143,10 @@ pub record BlockFits (sourced : Bool) (b : Block) : Type 0 where
   pub way : FitsSigned w64 b.way.0
   pub pieces : AllByRecursion (PieceFits sourced) b.pieces
 
--- The bytes are in the grammar of a graph file of either version: they spell blocks that ascend by way, each with pieces
--- that ascend by position and direction, each with its contexts, of which the first has one piece, by length and names,
--- each with its arcs by name, and in version 2 with its sources by length and names. Locations are in range by their
--- type.
+-- The bytes are in the grammar of a graph file of either version: they spell blocks that ascend by way, each with
+-- pieces that ascend by position and direction, each with its contexts, of which the first has one piece, by length and
+-- names, each with its arcs by name, and in version 2 with its sources by length and names. Locations are in range by
+-- their type.
 pub record IsGraphFile (bytes : List ℕ) : Type 0 where
   pub version : ℕ
   pub known_version : IsVersion version

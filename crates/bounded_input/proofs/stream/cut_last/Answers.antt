@@ -19,7 +19,8 @@ lacks_behind bs from none =
     let inside : from + i < length bs = omega (arith, length-drop from bs) in
     rw get_or-drop (not_there (slice_index bs (from + i)) (none (from + i) (omega arith) inside)))
 
-cut_at : (bs : List ℕ) (at : ℕ) → IsLastByte (is_byte 10) bs (Some at) → IsLastCut bs (take (at + 1) bs) (drop (at + 1) bs)
+cut_at : (bs : List ℕ) (at : ℕ) → IsLastByte (is_byte 10) bs (Some at)
+    → IsLastCut bs (take (at + 1) bs) (drop (at + 1) bs)
 cut_at bs at last =
     let inside = last.0.high in
     let here : slice_index bs at ≡ 10 = (Decides-eqb (slice_index bs at) 10).0 last.1 in

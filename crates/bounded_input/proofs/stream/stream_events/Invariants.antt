@@ -7,7 +7,8 @@ use Rattle.bounded_input.specs.OpenStreams.{IsOpenAt}
 use Rattle.bounded_input.specs.Streaming.{TakesMore}
 use Rattle.bounded_input.proofs.stream.stream_events.Given as goal
 
--- these bytes were read so far, the events of their whole lines were taken, no read failed, and there is room for a part
+-- these bytes were read so far, the events of their whole lines were taken, no read failed, and there is room for a
+-- part
 pub record Streams (mode : Mode) (Before Now : List Event → Type 0) (before now : Option (List ℕ)) (stream : OpenStream)
     (faults_before faults_now len : ℕ) : Type 0 where
   pub read : List ℕ

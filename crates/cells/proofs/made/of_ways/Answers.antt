@@ -17,7 +17,8 @@ returns-clause-made g c =
     (λ out has. is_of_ways (rules_of (number_of c.args.number)) c.args.events.items world c.in_ok-world.ensures ways law
     out.items
     (subst (λ (n : ℕ). HasBlocksAmong world (rules_of n) ways out.items) number
-    (subst (λ (l : List WayId). HasBlocksAmong world (rules_of c.profile_of-profile.result.number) l out.items) c.items.ensures.items has)))
+    (subst (λ (l : List WayId). HasBlocksAmong world (rules_of c.profile_of-profile.result.number) l out.items)
+    c.items.ensures.items has)))
     c.part_of-graph.ensures.part
 
 pub returns-clause-built : goal.returns-clause-built

@@ -18,7 +18,8 @@ returns-clause-made g c =
     (λ out has. is_part (rules_of (number_of c.args.number)) c.args.events.items world c.in_ok-world.ensures passing law
     c.args.cut_cell c.in_ok-checked.ensures.passing out.items
     (subst (λ (n : ℕ). HasBlocksAmong world (rules_of n) passing out.items) (c.profile_of-profile.ensures ∙ is)
-    (subst (λ (l : List WayId). HasBlocksAmong world (rules_of c.profile_of-profile.result.number) l out.items) c.deref.ensures.value has)))
+    (subst (λ (l : List WayId). HasBlocksAmong world (rules_of c.profile_of-profile.result.number) l out.items)
+    c.deref.ensures.value has)))
     c.part_of-graph.ensures.part
 
 pub returns-in_err-world-clause-built : goal.returns-in_err-world-clause-built

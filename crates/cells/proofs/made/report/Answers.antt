@@ -33,7 +33,8 @@ returns-clause-made g c =
     ∙ (ap (λ (l : List WayId). report_lines nodes l c.deref-3.result.now) c.deref-2.ensures.value
     ∙ ap (λ (l : List Failing). report_lines nodes passing l) c.deref-3.ensures.value) in
     if_ok c.with_lines.result _ _
-    (λ out is. is_report (rules_of (number_of c.args.number)) c.args.events.items world c.in_ok-world.ensures passing law
+    (λ out is. is_report (rules_of (number_of c.args.number)) c.args.events.items world c.in_ok-world.ensures passing
+    law
     c.args.cut_cell c.in_ok-checked.ensures.passing failing c.in_ok-checked.ensures.failing graph has out.items
     (is ∙ ap (λ (l : List ℕ). graph ++ newline ∷ l)
     (c.deref-5.ensures.value ∙ (spelled ∙ ap (λ (n : ℕ). report_lines n passing failing) counted))))

@@ -15,11 +15,13 @@ pub returns-in-Ok-Some-clause-ends : goal.returns-in-Ok-Some-clause-ends
 returns-in-Ok-Some-clause-ends g c =
     subst (λ (r : Option Command). Ends r c.run_command.result (g.S.Source.bytes_left c.args.source.now)
     (g.S.Source.bytes_left c.run_command.new.source) (g.W.Site.outside c.args.site.now)
-    (g.W.Site.outside c.run_command.new.site)) (sym c.in-Ok-Some.field-0-is ∙ c.in-Ok-Some.ensures) c.run_command.ensures.ends
+    (g.W.Site.outside c.run_command.new.site)) (sym c.in-Ok-Some.field-0-is ∙ c.in-Ok-Some.ensures)
+    c.run_command.ensures.ends
 
 pub returns-in-Ok-Some-clause-named : goal.returns-in-Ok-Some-clause-named
 returns-in-Ok-Some-clause-named g c =
-    subst (λ (r : Option Command). MayEnd r c.run_command.result) (sym c.in-Ok-Some.field-0-is ∙ c.in-Ok-Some.ensures) c.run_command.ensures.named
+    subst (λ (r : Option Command). MayEnd r c.run_command.result) (sym c.in-Ok-Some.field-0-is ∙ c.in-Ok-Some.ensures)
+    c.run_command.ensures.named
 
 pub returns-in-Ok-Some-clause-complete : goal.returns-in-Ok-Some-clause-complete
 returns-in-Ok-Some-clause-complete g c = λ bytes is can.
@@ -38,7 +40,8 @@ returns-in-Ok-None-clause-ends g c =
     let held = g.S.Source.bytes_left c.args.source.now in
     let before = g.W.Site.outside c.args.site.now in
     let after = g.W.Site.outside c.put_last.new.site in
-    subst (λ (r : Option Command). Ends r c.put_last.result held held before after) (sym c.in-Ok-None.field-0-is ∙ c.in-Ok-None.ensures)
+    subst (λ (r : Option Command). Ends r c.put_last.result held held before after)
+    (sym c.in-Ok-None.field-0-is ∙ c.in-Ok-None.ensures)
     (ends_usage usage_line before after (g.W.Site.faults c.args.site.now) (g.W.Site.faults c.put_last.new.site) held
     (λ bytes. (refl, refl)) c.put_last.result c.put_last.ensures.ends)
 
@@ -55,7 +58,8 @@ returns-in-Ok-None-clause-untouched g c =
 
 pub returns-in-Ok-None-clause-complete : goal.returns-in-Ok-None-clause-complete
 returns-in-Ok-None-clause-complete g c = λ bytes is can no_read_fault no_site_fault.
-    absurd (subst (λ (r : Option Command). CanBeDone r bytes) (sym (sym c.in-Ok-None.field-0-is ∙ c.in-Ok-None.ensures)) can)
+    absurd (subst (λ (r : Option Command). CanBeDone r bytes)
+    (sym (sym c.in-Ok-None.field-0-is ∙ c.in-Ok-None.ensures)) can)
 
 pub returns-in-Ok-None-clause-built : goal.returns-in-Ok-None-clause-built
 returns-in-Ok-None-clause-built g c =

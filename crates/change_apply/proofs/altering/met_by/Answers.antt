@@ -13,7 +13,8 @@ use Rattle.change_apply.specs.Standing.{built_in}
 use Rattle.change_apply.proofs.altering.met_by.Goals as goal
 
 pub apart_from-requires-clause-ways : goal.apart_from-requires-clause-ways
-apart_from-requires-clause-ways g c = subst (λ (l : List WayId). IsTrue (rises way_cmp l)) (same c.in_ok-meeting.meeting)
+apart_from-requires-clause-ways g c = subst (λ (l : List WayId). IsTrue (rises way_cmp l))
+    (same c.in_ok-meeting.meeting)
     c.in_ok-meeting.ensures.ascending
 
 pub returns : goal.returns

@@ -20,7 +20,8 @@ returns-clause-sound c =
     let sorted = subst (λ (l : List Block). IsPermutation l c.sort_by_key.new.self.items) c.in_ok-append.ensures.items
     c.in_ok-sort_by_key.ensures.permutation in
     IfOk-weaker c.blocks_of.result _ _ (λ j sound w b got. joined_sound first second c.sort_by_key.new.self.items
-    c.args.first.map c.args.second.map j.map sorted c.into_list-list.ensures.each c.into_list-more.ensures.each sound w b
+    c.args.first.map c.args.second.map j.map sorted c.into_list-list.ensures.each c.into_list-more.ensures.each sound w
+    b
     got) c.blocks_of.ensures.sound
 
 pub returns-clause-complete : goal.returns-clause-complete

@@ -40,7 +40,8 @@ loop-piece-preserved c =
           (λ w x. (piece.name, x.0, x.1, record { piece = piece; listed = listed; named = refl; arc = x.2 }, x.3));
       led =
           subst (λ (l : List Piece). AreLed l others more) (sym longer)
-          (more_pieces (take i pieces) others c.loop-piece.led.items more piece contexts c.loop-piece.invariant.led keeps
+          (more_pieces (take i pieces) others c.loop-piece.led.items more piece contexts c.loop-piece.invariant.led
+          keeps
           led c.contexts_at-contexts.ensures);
     }
 

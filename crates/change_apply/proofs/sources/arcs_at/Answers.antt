@@ -7,7 +7,8 @@ pub returns-in-Some : goal.returns-in-Some
 returns-in-Some c a has =
     let there = c.in-Some.ensures.lookup.3 in
     let context = c.in-Some.context.now in
-    let equal = (slice_eq-Decides names_decide c.items.result.now c.args.before.now c.eq.result c.eq.ensures).0 c.if-eq.true
+    let equal = (slice_eq-Decides names_decide c.items.result.now c.args.before.now c.eq.result c.eq.ensures).0
+    c.if-eq.true
     in
     record {
       context = context;

@@ -49,7 +49,8 @@ returns-clause-only c =
     (λ l. (w : WayId) → Contains l w → IsLedFrom before first near w ⊎ IsLedFrom before second met w)
     (λ l are w has.
     let there = (c.in_ok-others.ensures.sound w (are.sound w has).0).0 in
-    let all = (c.leave_once.ensures.exactly w).0 (subst (λ (x : List WayId). Contains x w) c.from_list-all.ensures there) in
+    let all = (c.leave_once.ensures.exactly w).0 (subst (λ (x : List WayId). Contains x w) c.from_list-all.ensures
+    there) in
     elim (c.in_ok-add_led-2.ensures.only w all) [
       | inl earlier ↦ elim (c.in_ok-add_led.ensures.only w earlier) [
         | inl none ↦ absurd (contains_none w (subst (λ (x : List WayId). Contains x w) c.new-led.ensures.items none))

@@ -20,7 +20,8 @@ loop-at-preserved g c =
     let mark = is_zone_step (g.M.World.objects c.args.world.now) (g.P.Profile.rules c.args.profile.now) in
     phase_goes_on mark c.args.drive.now c.loop-at.at _ c.loop-at.phase c.in-Some.next c.loop-at-test.true
     c.loop-at.invariant
-    (goes_by c.loop-at.phase c.is_zone_step.result _ c.go.result (Some c.in-Some.next) c.is_zone_step.ensures c.go.ensures
+    (goes_by c.loop-at.phase c.is_zone_step.result _ c.go.result (Some c.in-Some.next) c.is_zone_step.ensures
+    c.go.ensures
     c.in-Some.is)
 
 pub returns-clause-none : goal.returns-clause-none

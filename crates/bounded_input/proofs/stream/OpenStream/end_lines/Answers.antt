@@ -59,4 +59,5 @@ returns-clause-err g c =
     let bytes = c.as_slice-bytes.result.now in
     let same = c.as_slice-bytes.ensures.value ∙ c.in-Ok.ensures.items in
     on_err c.hand_on-taken.result c.hand_on-taken.ensures.err (λ e f mode read events k.
-    ends_in mode read c.args.ended.now c.requires.newline.0 bytes events c.args.self.now c.requires.newline.1 same k e f)
+    ends_in mode read c.args.ended.now c.requires.newline.0 bytes events c.args.self.now c.requires.newline.1 same k e
+    f)

@@ -25,22 +25,27 @@ pub returns-in_err-touched-clause-built : goal.returns-in_err-touched-clause-bui
 returns-in_err-touched-clause-built g c = inl refl
 
 pub returns-in_err-rebuilt-clause-applied : goal.returns-in_err-rebuilt-clause-applied
-returns-in_err-rebuilt-clause-applied g c = no_ok _ c.from_residual-in_err-rebuilt.result c.from_residual-in_err-rebuilt.ensures.0
+returns-in_err-rebuilt-clause-applied g c = no_ok _ c.from_residual-in_err-rebuilt.result
+    c.from_residual-in_err-rebuilt.ensures.0
 
 pub returns-in_err-rebuilt-clause-err : goal.returns-in_err-rebuilt-clause-err
 returns-in_err-rebuilt-clause-err g c = at_err c.from_residual-in_err-rebuilt.result c.in_err-rebuilt.ensures.err
 
 pub returns-in_err-rebuilt-clause-touched : goal.returns-in_err-rebuilt-clause-touched
-returns-in_err-rebuilt-clause-touched g c = no_value _ c.from_residual-in_err-rebuilt.result c.from_residual-in_err-rebuilt.ensures.0
+returns-in_err-rebuilt-clause-touched g c = no_value _ c.from_residual-in_err-rebuilt.result
+    c.from_residual-in_err-rebuilt.ensures.0
 
 pub returns-in_err-rebuilt-clause-rebuilt : goal.returns-in_err-rebuilt-clause-rebuilt
-returns-in_err-rebuilt-clause-rebuilt g c = no_value _ c.from_residual-in_err-rebuilt.result c.from_residual-in_err-rebuilt.ensures.0
+returns-in_err-rebuilt-clause-rebuilt g c = no_value _ c.from_residual-in_err-rebuilt.result
+    c.from_residual-in_err-rebuilt.ensures.0
 
 pub returns-in_err-rebuilt-clause-few : goal.returns-in_err-rebuilt-clause-few
-returns-in_err-rebuilt-clause-few g c = no_value _ c.from_residual-in_err-rebuilt.result c.from_residual-in_err-rebuilt.ensures.0
+returns-in_err-rebuilt-clause-few g c = no_value _ c.from_residual-in_err-rebuilt.result
+    c.from_residual-in_err-rebuilt.ensures.0
 
 pub returns-in_err-rebuilt-clause-ways : goal.returns-in_err-rebuilt-clause-ways
-returns-in_err-rebuilt-clause-ways g c = no_ok _ c.from_residual-in_err-rebuilt.result c.from_residual-in_err-rebuilt.ensures.0
+returns-in_err-rebuilt-clause-ways g c = no_ok _ c.from_residual-in_err-rebuilt.result
+    c.from_residual-in_err-rebuilt.ensures.0
 
 pub returns-in_err-rebuilt-clause-built : goal.returns-in_err-rebuilt-clause-built
 returns-in_err-rebuilt-clause-built g c = c.follow.ensures.built

@@ -12,7 +12,8 @@ returns g c after ways applied are =
     let M = c.args.self.now.world in
     let prepared = c.in_ok-prepared.prepared in
     let here : c.in_ok-world.world ≡ M = c.in_ok-world.ensures ∙ ap (λ f. f.world) c.self.view_is in
-    let own = subst (λ (x : Objects). IsApplied x c.args.events.now prepared.after) here c.in_ok-prepared.ensures.after in
+    let own = subst (λ (x : Objects). IsApplied x c.args.events.now prepared.after) here c.in_ok-prepared.ensures.after
+    in
     let next : prepared.after ≡ after =
     c.one_map.ensures M prepared.after after c.args.events.now own applied in
     let found = c.in_ok-touched.touched in
@@ -20,5 +21,6 @@ returns g c after ways applied are =
     subst (λ (x : Objects). AreTouched x after found) (c.in_ok-prepared.ensures.before ∙ here)
     (subst (λ (x : Objects). AreTouched prepared.before x found) next c.in_ok-touched.ensures) in
     ap length c.items.ensures
-    ∙ ap length (lists_unique (λ (w : WayId). w) way_cmp c.name_order.ensures.ways (IsTouched M after) found ways touched
+    ∙ ap length (lists_unique (λ (w : WayId). w) way_cmp c.name_order.ensures.ways (IsTouched M after) found ways
+    touched
     are)

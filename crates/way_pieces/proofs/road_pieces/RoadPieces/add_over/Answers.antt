@@ -20,7 +20,8 @@ returns-in-Some g c =
     let M = g.M.World.objects c.args.network.now.world.now in
     let P = g.P.Profile.rules c.args.network.now.profile in
     on_ok_weaker c.add_items.result
-    (λ added. gained (λ d. d.piece) (λ v. IsOver M P v c.args.way) c.args.node c.in-Some.starts.now c.standing_at.result.now
+    (λ added. gained (λ d. d.piece) (λ v. IsOver M P v c.args.way) c.args.node c.in-Some.starts.now
+    c.standing_at.result.now
     c.args.departures.now.items c.add_items.new.list.items (c.in-Some.ensures M P c.requires)
     c.standing_at.ensures added) c.add_items.ensures
 
